@@ -1,0 +1,3 @@
+pub mod Molecule
+pub mod Shape
+pub mod Schema

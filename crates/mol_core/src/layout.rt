@@ -1,0 +1,73 @@
+ghost use Rattle.std.specs.Prelude.{◌≡◌, ℕ, ◌+◌, ◌*◌, ◌<◌, ◌≤◌, ◌^◌, ◌↔◌, length, IsTrue};
+ghost use Rattle.codec_defs.specs.Molecule.{part_count, part_start, part_of};
+ghost use Rattle.mol_core.specs.Layout.{IsLaidOut};
+
+use crate::number::read_u32;
+
+/// How many offsets the header has, by the first one.
+pub(crate) fn count_parts(bytes: &[u8]) -> usize
+    requires { length bytes.now < 8 → length bytes.now ≡ 4 }
+    ensures value { result ≡ part_count bytes.now }
+    ensures fits { 4 * result < 2 ^ 32 }
+{
+    if bytes.len() == 4 {
+        return 0;
+    }
+    let words = read_u32(bytes, 4) / 4;
+    if words == 0 { 0 } else { words - 1 }
+}
+
+/// Where part `i` starts; at the count, the end.
+fn start(bytes: &[u8], count: usize, i: usize) -> usize
+    requires counted { count ≡ part_count bytes.now }
+    requires header { 4 + 4 * count ≤ length bytes.now }
+    ensures { result ≡ part_start bytes.now i }
+{
+    if i < count {
+        read_u32(bytes, 4 + 4 * i)
+    } else {
+        bytes.len()
+    }
+}
+
+fn rises(bytes: &[u8], count: usize) -> bool
+    requires counted { count ≡ part_count bytes.now }
+    requires header { 4 + 4 * count ≤ length bytes.now }
+    ensures { IsTrue result ↔ ((i : ℕ) → i < count → part_start bytes.now i ≤ part_start bytes.now (i + 1)) }
+{
+    let mut from = start(bytes, count, 0);
+    for i in 0..count {
+        let to = start(bytes, count, i + 1);
+        if to < from {
+            return false;
+        }
+        from = to;
+    }
+    true
+}
+
+/// Whether the header is that of a dynvec or a table: one pass over the offsets.
+pub(crate) fn is_laid_out(bytes: &[u8]) -> bool
+    ensures { IsTrue result ↔ IsLaidOut bytes.now }
+{
+    let len = bytes.len();
+    if len < 4 || read_u32(bytes, 0) != len {
+        return false;
+    }
+    if len < 8 {
+        return len == 4;
+    }
+    let count = count_parts(bytes);
+    let header = 4 + 4 * count;
+    header <= len && start(bytes, count, 0) == header && rises(bytes, count)
+}
+
+/// Part `i` of `count`.
+pub(crate) fn part<'a>(bytes: &'a [u8], count: usize, i: usize) -> &'a [u8]
+    requires laid_out { IsLaidOut bytes.now }
+    requires counted { count ≡ part_count bytes.now }
+    requires within { i < count }
+    ensures { result.now ≡ part_of bytes.now i }
+{
+    &bytes[start(bytes, count, i)..start(bytes, count, i + 1)]
+}
