@@ -1,0 +1,5 @@
+//! What the bytes of the chain mean: definitions that the crates of the codec and all above them
+//! cite in their contracts. The crate has no code.
+//!
+//! - `CkbHash`: the hash of a message, after RFC 7693.
+#![tactic(auto)]
