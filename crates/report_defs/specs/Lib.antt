@@ -1,2 +1,5 @@
 pub mod Status
 pub mod Items
+pub mod Text
+pub mod Words
+pub mod Report
