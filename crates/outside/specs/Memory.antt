@@ -1,7 +1,7 @@
 -- What contracts see of the forms in memory.
-use Rattle.std.specs.Prelude.{ℕ, ◌+◌, ◌-◌, ◌^◌, ◌==◌, min, Bool, List, if◌then◌else◌}
+use Rattle.std.specs.Prelude.{ℕ, ◌+◌, ◌==◌, Bool, List, if◌then◌else◌}
 use Rattle.std.specs.List.{list_any}
-use Rattle.outside.specs.Causes.{counted}
+use Rattle.outside.specs.Causes.{counted, up_to_last}
 
 -- the numbers of the calls that fail, how many calls were made, and how many of them failed for that
 pub record Plan : Type 0 where
@@ -35,6 +35,9 @@ pub record Writing : Type 0 where
   pub plan : Plan
   pub starved : ℕ
 
+abbrev pub reading_faults : Reading → ℕ
+reading_faults source = up_to_last source.plan.failed
+
 -- want of memory is a part of the count of faults
 abbrev pub writing_faults : Writing → ℕ
-writing_faults sink = min (sink.plan.failed + sink.starved) (2 ^ 64 - 1)
+writing_faults sink = up_to_last (sink.plan.failed + sink.starved)

@@ -1,5 +1,5 @@
 // A disk of three areas: what each reads as, and what a crash may leave of them.
-ghost use Rattle.std.specs.Prelude.{◌≡◌, ◌≤◌, ◌⊎◌, List, Option, ℕ, length, take, drop, IsSome, IfSome, IfOk, OnOk, OnErr};
+ghost use Rattle.std.specs.Prelude.{◌≡◌, ◌-◌, ◌^◌, ◌≤◌, ◌⊎◌, List, Option, ℕ, length, take, drop, IsSome, IfSome, IfOk, OnOk, OnErr};
 ghost use Rattle.std.specs.Option.{option_map};
 ghost use Rattle.outside.specs.Causes.{HasCause};
 ghost use Rattle.outside.specs.Image.{Image, content, InArea};
@@ -107,6 +107,9 @@ pub trait Disk {
 
     /// A disk that does not tell its content has no image, so what is said of each image says nothing of it.
     ghost images_told: { (disk : Self) (image : Image) → images disk image → IsSome (reads_as disk) };
+
+    /// The last value of the count.
+    ghost last_fault: { (disk : Self) → faults disk ≤ 2 ^ 64 - 1 };
 
     /// This moment is one of those since an earlier one.
     ghost counts_now: { (disk : Self) (t : ℕ) (image : Image) → t ≤ moment disk → images disk image → left_since disk t image };

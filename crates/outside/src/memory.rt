@@ -1,10 +1,10 @@
 // Streams in memory, which fail at the calls that they are told to.
-ghost use Rattle.std.specs.Prelude.{◌≡◌, ◌<◌, ◌≤◌, ◌||◌, ◌↔◌, ◌++◌, ◌==◌, [], ℕ, List, Some, length, take, drop, min, is_ok, IsTrue, IsErr, IfOk, OnOk, OnErr, if◌then◌else◌};
+ghost use Rattle.std.specs.Prelude.{◌≡◌, ◌<◌, ◌≤◌, ◌||◌, ◌↔◌, ◌+◌, ◌++◌, ◌==◌, [], ℕ, List, Some, length, take, drop, min, is_ok, IsTrue, IsErr, IfOk, OnOk, OnErr, if◌then◌else◌};
 ghost use Rattle.std.specs.List.{list_any};
 ghost use Rattle.std.specs.Io.KnownBytes.{IsAtEnd};
-ghost use Rattle.outside.specs.Causes.{counted, HasCause};
+ghost use Rattle.outside.specs.Causes.{counted, up_to_last, within_last, HasCause};
 ghost use Rattle.outside.specs.Streams.{Gives, Takes};
-ghost use Rattle.outside.specs.Memory.{Plan, Reading, Writing, fresh_plan, fails_next, after_call, writing_faults};
+ghost use Rattle.outside.specs.Memory.{Plan, Reading, Writing, fresh_plan, fails_next, after_call, reading_faults, writing_faults};
 
 use crate::{Failed, Sink, Source};
 use std::alloc::Global;
@@ -39,7 +39,7 @@ impl FailurePlan {
     fn call(&mut self) -> Result<(), Failed>
         ensures listed { IsErr result ↔ IsTrue (fails_next self.old) }
         ensures counted { self.new ≡ after_call self.old }
-        ensures cause { HasCause self.old.failed self.new.failed result }
+        ensures cause { HasCause (up_to_last self.old.failed) (up_to_last self.new.failed) result }
     {
         let fails = is_listed(&self.failing, self.calls);
         self.calls = self.calls.saturating_add(1);
@@ -90,14 +90,16 @@ impl MemSource {
 impl Source for MemSource {
     ghost left = { λ source. Some source.left };
 
-    ghost faults = { λ source. source.plan.failed };
+    ghost faults = { reading_faults };
+
+    ghost last_fault = { λ source. within_last source.plan.failed };
 
     fn read(&mut self, into: &mut [u8]) -> Result<usize, Failed>
         ensures fits { IfOk result (λ n. n ≤ length into.new) }
         ensures given { IfOk result (λ n. Gives (Some self.old.left) (Some self.new.left) (take n into.new)) }
         ensures end { IfOk result (λ n. n ≡ 0 → 0 < length into.new → IsAtEnd (Some self.new.left)) }
         ensures kept { OnErr result (self.new.left ≡ self.old.left) }
-        ensures cause { HasCause self.old.plan.failed self.new.plan.failed result }
+        ensures cause { HasCause (reading_faults self.old) (reading_faults self.new) result }
 
         // It fails exactly at the calls that are listed, and gives all that fits.
         ensures listed { IsErr result ↔ IsTrue (fails_next self.old.plan) }
@@ -160,6 +162,8 @@ impl Sink for MemSink {
     ghost taken = { λ sink. Some sink.taken };
 
     ghost faults = { writing_faults };
+
+    ghost last_fault = { λ sink. within_last (sink.plan.failed + sink.starved) };
 
     fn write(&mut self, piece: &[u8]) -> Result<usize, Failed>
         ensures fits { IfOk result (λ n. n ≤ length piece.now) }

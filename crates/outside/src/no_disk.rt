@@ -1,7 +1,7 @@
 // A disk that is not there.
 ghost use Rattle.std.specs.Prelude.{◌≡◌, ◌≤◌, ◌⊎◌, ℕ, List, length, take, drop, IsErr, IfSome, IfOk, OnOk, OnErr, None};
 ghost use Rattle.std.specs.Option.{option_map};
-ghost use Rattle.outside.specs.Causes.{counted, HasCause};
+ghost use Rattle.outside.specs.Causes.{counted, up_to_last, within_last, HasCause};
 ghost use Rattle.outside.specs.Image.{Image, content, InArea};
 ghost use Rattle.outside.specs.Disk.{CanWrite, write_area, cut_area, Torn, Cut, Follows, SameImages, NoneNew, IsDurable, OthersRead, Elapses};
 
@@ -30,7 +30,7 @@ impl NoDisk {
     fn refuse<T>(&mut self) -> Result<T, Failed>
         ensures refused { IsErr result }
         ensures counted { self.new ≡ counted self.old }
-        ensures cause { HasCause self.old self.new result }
+        ensures cause { HasCause (up_to_last self.old) (up_to_last self.new) result }
     {
         self.failed = self.failed.saturating_add(1);
         Err(Failed)
@@ -46,11 +46,13 @@ impl Disk for NoDisk {
 
     ghost left_since = { λ _ _ _. ⊥ };
 
-    ghost faults = { λ disk. disk };
+    ghost faults = { up_to_last };
 
     ghost reads_image = { λ _. tt };
 
     ghost images_told = { λ _ _ left. absurd left };
+
+    ghost last_fault = { λ disk. within_last disk };
 
     ghost counts_now = { λ _ _ _ _ left. absurd left };
 

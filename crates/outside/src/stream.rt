@@ -1,5 +1,5 @@
 // Streams of bytes: where they come from and where they go.
-ghost use Rattle.std.specs.Prelude.{◌≡◌, ◌<◌, ◌≤◌, List, Option, ℕ, length, take, IfOk, OnOk, OnErr};
+ghost use Rattle.std.specs.Prelude.{◌≡◌, ◌-◌, ◌^◌, ◌<◌, ◌≤◌, List, Option, ℕ, length, take, IfOk, OnOk, OnErr};
 ghost use Rattle.std.specs.Io.KnownBytes.{IsAtEnd};
 ghost use Rattle.outside.specs.Causes.{HasCause};
 ghost use Rattle.outside.specs.Streams.{Gives, Takes};
@@ -22,6 +22,9 @@ pub trait Source {
         ensures end { IfOk result (λ n. n ≡ 0 → 0 < length into.new → IsAtEnd (left self.new)) }
         ensures kept { OnErr result (left self.new ≡ left self.old) }
         ensures cause { HasCause (faults self.old) (faults self.new) result };
+
+    /// The last value of the count.
+    ghost last_fault: { (source : Self) → faults source ≤ 2 ^ 64 - 1 };
 }
 
 /// Takes bytes in order. What it took is out: no call takes it back.
@@ -39,6 +42,9 @@ pub trait Sink {
         ensures some { IfOk result (λ n. 0 < length piece.now → 1 ≤ n) }
         ensures kept { OnErr result (taken self.new ≡ taken self.old) }
         ensures cause { HasCause (faults self.old) (faults self.new) result };
+
+    /// The last value of the count.
+    ghost last_fault: { (sink : Self) → faults sink ≤ 2 ^ 64 - 1 };
 }
 
 /// Fills `into`, unless the source ends first, and answers how many bytes it gave.
