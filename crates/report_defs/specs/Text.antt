@@ -21,7 +21,10 @@ line (Known hash) = codes "known " ++ hash_text hash ++ line_feed
 line (Refused rule) = codes "refused J" ++ decimal rule ++ line_feed
 line Unbuilt = codes "unbuilt" ++ line_feed
 
--- the line of the tip
+-- the line of a tip of this number and hash
+abbrev pub tip_line_of : ℕ → List ℕ → List ℕ
+tip_line_of number hash = codes "tip " ++ decimal number ++ codes " " ++ hash_text hash ++ line_feed
+
 abbrev pub tip_line : Option Block → List ℕ
 tip_line None = []
-tip_line (Some block) = codes "tip " ++ decimal block.header.number ++ codes " " ++ hash_text (block_hash block) ++ line_feed
+tip_line (Some block) = tip_line_of block.header.number (block_hash block)
