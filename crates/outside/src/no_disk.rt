@@ -58,23 +58,38 @@ impl Disk for NoDisk {
 
     ghost only_now = { λ _ _ left. absurd left };
 
-    fn len(&mut self, area: Area) -> Result<u64, Failed> {
+    fn len(&mut self, area: Area) -> Result<u64, Failed>
+        ensures refused { IsErr result }
+        ensures counted { self.new ≡ counted self.old }
+    {
         self.refuse()
     }
 
-    fn read(&mut self, area: Area, at: u64, into: &mut [u8]) -> Result<usize, Failed> {
+    fn read(&mut self, area: Area, at: u64, into: &mut [u8]) -> Result<usize, Failed>
+        ensures refused { IsErr result }
+        ensures counted { self.new ≡ counted self.old }
+    {
         self.refuse()
     }
 
-    fn write(&mut self, area: Area, at: u64, piece: &[u8]) -> Result<(), Failed> {
+    fn write(&mut self, area: Area, at: u64, piece: &[u8]) -> Result<(), Failed>
+        ensures refused { IsErr result }
+        ensures counted { self.new ≡ counted self.old }
+    {
         self.refuse()
     }
 
-    fn cut(&mut self, area: Area, len: u64) -> Result<(), Failed> {
+    fn cut(&mut self, area: Area, len: u64) -> Result<(), Failed>
+        ensures refused { IsErr result }
+        ensures counted { self.new ≡ counted self.old }
+    {
         self.refuse()
     }
 
-    fn sync(&mut self, area: Area) -> Result<(), Failed> {
+    fn sync(&mut self, area: Area) -> Result<(), Failed>
+        ensures refused { IsErr result }
+        ensures counted { self.new ≡ counted self.old }
+    {
         self.refuse()
     }
 }
