@@ -1,3 +1,4 @@
 #![tactic(auto)]
+pub mod items;
 pub mod lines;
 pub mod words;

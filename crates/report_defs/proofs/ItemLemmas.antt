@@ -1,5 +1,5 @@
 -- Each input has one split, and `split_of` gives it.
-use Rattle.std.proofs.Common.{◌≡◌, ℕ, zero, suc, ◌+◌, ◌≤◌, ◌<◌, List, [], ◌∷◌, ◌++◌, length, take, drop, refl, ap, sym, ◌∙◌, arith, append_assoc, length-append, add-zero, zero-add, subst, length-drop, take-append-drop, length-take-le, take-take}
+use Rattle.std.proofs.Common.{◌≡◌, ℕ, zero, suc, ◌+◌, ◌≤◌, ◌<◌, List, [], ◌∷◌, ◌++◌, length, take, drop, refl, ap, sym, ◌∙◌, arith, append_assoc, length-append, add-zero, zero-add, subst, length-drop, take-append-drop, length-take-le, take-take, ◌⊎◌, inl, inr}
 use Rattle.std.specs.Prelude.{Option, Some, None}
 use Rattle.std.specs.List.{concat, AllByRecursion}
 use Rattle.std.proofs.lemmas.List.{take-append-le, drop-append-le}
@@ -7,6 +7,7 @@ use Rattle.std.proofs.lemmas.Bool.Decides.{nat_tests}
 use Rattle.std.proofs.lemmas.Grind.{common_steps}
 use Rattle.report_defs.specs.Items.{Limits, IsItem, size_word, end_at, Split, IsSplit, split_of, split_from, put_front}
 use Rattle.report_defs.specs.declared.end.End.{End}
+use Rattle.report_defs.specs.declared.end.End.TheVariants.{AtEnd, Cut, BadSize, Extra}
 
 -- the size word stands in the first four bytes
 pub size_word-append : (xs ys : List ℕ) → 4 ≤ length xs → size_word (xs ++ ys) ≡ size_word xs
@@ -58,6 +59,37 @@ split_of-is limits input split is =
     let enough : length (concat split.items) < suc (length input) = rw (is.whole, length-append) (omega arith) in
     ap (split_from (suc (length input)) limits 0) is.whole
       ∙ split_from-is (suc (length input)) limits 0 split.items split.rest split.end is.items (rw zero-add is.within) (rw zero-add is.ends) enough
+
+-- ---- How the reading ends
+
+pub end_at-nothing : (limits : Limits) (offset : ℕ) → end_at limits offset [] ≡ Some AtEnd
+unfolding end_at
+end_at-nothing limits offset = refl
+
+-- a few bytes
+pub end_at-few : (limits : Limits) (offset : ℕ) (bytes : List ℕ) → 0 < length bytes → length bytes < 4
+    → end_at limits offset bytes ≡ Some Cut
+unfolding end_at
+end_at-few limits offset bytes some few = grind (arith, nat_tests)
+
+pub end_at-bad_size : (limits : Limits) (offset : ℕ) (bytes : List ℕ) → 4 ≤ length bytes
+    → (size_word bytes < 4) ⊎ (limits.item < size_word bytes) → end_at limits offset bytes ≡ Some BadSize
+unfolding end_at
+end_at-bad_size limits offset bytes long (inl small) = grind (arith, nat_tests)
+end_at-bad_size limits offset bytes long (inr large) = grind (arith, nat_tests)
+
+pub end_at-extra : (limits : Limits) (offset : ℕ) (bytes : List ℕ) → 4 ≤ length bytes
+    → 4 ≤ size_word bytes → size_word bytes ≤ limits.item → limits.input < offset + size_word bytes
+    → end_at limits offset bytes ≡ Some Extra
+unfolding end_at
+end_at-extra limits offset bytes long least most past = grind (arith, nat_tests)
+
+-- the front of an item
+pub end_at-front : (limits : Limits) (offset : ℕ) (bytes : List ℕ) → 4 ≤ length bytes
+    → 4 ≤ size_word bytes → size_word bytes ≤ limits.item → offset + size_word bytes ≤ limits.input
+    → length bytes < size_word bytes → end_at limits offset bytes ≡ Some Cut
+unfolding end_at
+end_at-front limits offset bytes long least most within short = grind (arith, nat_tests)
 
 -- what stands where the reading does not end
 pub record IsWhole (limits : Limits) (offset : ℕ) (bytes : List ℕ) : Type 0 where
