@@ -1,0 +1,2 @@
+//! Views of the chain's values over the bytes that encode them.
+#![tactic(auto)]
