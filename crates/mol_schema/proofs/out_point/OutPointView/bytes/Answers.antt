@@ -1,0 +1,4 @@
+use Rattle.mol_schema.proofs.out_point.OutPointView.bytes.Goals as goal
+
+pub returns : goal.returns
+returns c = ?
