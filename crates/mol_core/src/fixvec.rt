@@ -25,18 +25,15 @@ impl<'a> Model for FixView<'a> {
 
 /// The view of bytes that are a fixvec of items of `item` bytes each; the strict reading of RFC 0008.
 pub fn check_fixvec(b: &[u8], item: usize) -> Option<FixView<'_>>
-    requires { 0 < item }
     ensures found { IfSome result (IsFixvec item b.now) }
     ensures only { (items : List (List ℕ)) → IsFixvec item b.now items → result ≡ Some items }
 {
     if b.len() < 4 {
         return None;
     }
-    let content = b.len() - 4;
-    if content % item == 0 && content / item == read_u32(b, 0) {
-        Some(FixView { bytes: b, item })
-    } else {
-        None
+    match read_u32(b, 0).checked_mul(item) {
+        Some(content) if content == b.len() - 4 => Some(FixView { bytes: b, item }),
+        _ => None,
     }
 }
 

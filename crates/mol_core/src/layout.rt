@@ -5,19 +5,21 @@ ghost use Rattle.mol_core.specs.Layout.{IsLaidOut};
 use crate::number::read_u32;
 
 /// How many offsets the header has, by the first one.
+#[tactic(auto, unfolding(codec_defs::specs::Molecule::part_count))]
 pub(crate) fn count_parts(bytes: &[u8]) -> usize
     requires { length bytes.now < 8 → length bytes.now ≡ 4 }
     ensures value { result ≡ part_count bytes.now }
     ensures fits { 4 * result < 2 ^ 32 }
 {
     if bytes.len() == 4 {
-        return 0;
+        0
+    } else {
+        (read_u32(bytes, 4) / 4).saturating_sub(1)
     }
-    let words = read_u32(bytes, 4) / 4;
-    if words == 0 { 0 } else { words - 1 }
 }
 
 /// Where part `i` starts; at the count, the end.
+#[tactic(auto, unfolding(codec_defs::specs::Molecule::part_start))]
 fn start(bytes: &[u8], count: usize, i: usize) -> usize
     requires counted { count ≡ part_count bytes.now }
     requires header { 4 + 4 * count ≤ length bytes.now }
@@ -59,7 +61,10 @@ pub(crate) fn is_laid_out(bytes: &[u8]) -> bool
     }
     let count = count_parts(bytes);
     let header = 4 + 4 * count;
-    header <= len && start(bytes, count, 0) == header && rises(bytes, count)
+    if header > len || start(bytes, count, 0) != header {
+        return false;
+    }
+    rises(bytes, count)
 }
 
 /// Part `i` of `count`.
@@ -69,5 +74,7 @@ pub(crate) fn part<'a>(bytes: &'a [u8], count: usize, i: usize) -> &'a [u8]
     requires within { i < count }
     ensures { result.now ≡ part_of bytes.now i }
 {
-    &bytes[start(bytes, count, i)..start(bytes, count, i + 1)]
+    let from = start(bytes, count, i);
+    let to = start(bytes, count, i + 1);
+    &bytes[from..to]
 }
