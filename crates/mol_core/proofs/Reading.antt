@@ -10,8 +10,8 @@ use Rattle.std.proofs.lemmas.Option.{slice_get-get_or}
 use Rattle.std.proofs.lemmas.Bool.{cases_lt}
 use Rattle.std.proofs.lemmas.Nat.{le_bytes_4}
 use Rattle.codec_defs.specs.Molecule.{fixvec, offsets, header_size, full_size, dynvec, IsFixvec, IsDynvec, IsTable, u32_at, item_of_fixvec, items_of_fixvec, part_count, part_start, part_of, parts_of}
-use Rattle.codec_defs.proofs.MoleculeLaws.{concat-append, length-dynvec, length-fixvec, length-concat, u32_at-dynvec, u32_at-fixvec, part_count-dynvec, part_start-dynvec}
-use Rattle.mol_core.specs.Layout.{IsLaidOut}
+use Rattle.codec_defs.proofs.MoleculeLaws.{concat-append, length-dynvec, length-fixvec, length-concat, u32_at-dynvec, u32_at-fixvec, part_count-dynvec, part_start-dynvec, IsTable_only}
+use Rattle.mol_core.specs.Layout.{IsLaidOut, IsCounted}
 
 abbrev pub IsBytes : List ℕ → Type 0
 IsBytes bytes = (i : ℕ) → get_or bytes i 0 < 256
@@ -106,7 +106,7 @@ offsets-parts bytes byte laid (suc k) i at =
     let room = header-within bytes laid in
     let number : to_le_bytes w32 (part_start bytes i) ≡ take 4 (drop (4 + 4 * i) bytes) = ap (to_le_bytes w32) (start-read bytes i lt) ∙ u32_bytes bytes (4 + 4 * i) byte (omega arith) in
     let next : part_start bytes i + length (slice_range bytes (part_start bytes i) (part_start bytes (i + 1))) ≡ part_start bytes (i + 1) =
-        length-range bytes (part_start bytes i) (part_start bytes (i + 1)) (laid.rises i lt) (start-within bytes laid (i + 1) (omega arith)) in
+    length-range bytes (part_start bytes i) (part_start bytes (i + 1)) (laid.rises i lt) (start-within bytes laid (i + 1) (omega arith)) in
     let more = map (part_of bytes) (range_with_len (i + 1) k) in
     let rest : offsets (part_start bytes (i + 1)) more ++ drop (4 + 4 * part_count bytes) bytes ≡ drop (4 + 4 * (i + 1)) bytes = offsets-parts bytes byte laid k (i + 1) (omega arith) in
     let four : drop (4 + 4 * (i + 1)) bytes ≡ drop 4 (drop (4 + 4 * i) bytes) = ap (λ (n : ℕ). drop n bytes) (omega arith) ∙ sym (drop-drop 4 (4 + 4 * i) bytes) in
@@ -130,7 +130,7 @@ dynvec-parts_of bytes byte laid =
     let size : 4 + 4 * length parts + length (concat parts) ≡ u32_at bytes 0 = omega (arith, ap length content, length-drop (4 + 4 * part_count bytes) bytes, header-within bytes laid, laid.size) in
     let number : to_le_bytes w32 (4 + 4 * length parts + length (concat parts)) ≡ take 4 bytes = ap (to_le_bytes w32) size ∙ u32_bytes bytes 0 byte laid.whole in
     let rest : offsets (4 + 4 * length parts) parts ++ concat parts ≡ drop 4 bytes =
-        ap (λ (n : ℕ). offsets n parts ++ concat parts) header ∙ ap (λ (l : List ℕ). offsets (part_start bytes 0) parts ++ l) content ∙ offsets-parts bytes byte laid (part_count bytes) 0 (omega arith) in
+    ap (λ (n : ℕ). offsets n parts ++ concat parts) header ∙ ap (λ (l : List ℕ). offsets (part_start bytes 0) parts ++ l) content ∙ offsets-parts bytes byte laid (part_count bytes) 0 (omega arith) in
     sym (append_assoc (to_le_bytes w32 (4 + 4 * length parts + length (concat parts))) (offsets (4 + 4 * length parts) parts) (concat parts)
     ∙ ap (λ (l : List ℕ). to_le_bytes w32 (4 + 4 * length parts + length (concat parts)) ++ l) rest
     ∙ ap (λ (l : List ℕ). l ++ drop 4 bytes) number
@@ -150,16 +150,16 @@ layout-dynvec parts fits =
       size = u32_at-dynvec parts fits ∙ sym len;
       header = omega (arith, part_start-dynvec [] parts parts refl fits);
       rises = λ i lt.
-        let from = part_start-dynvec (take i parts) (drop i parts) parts (take-append-drop i parts) fits in
-        let to = part_start-dynvec (take (i + 1) parts) (drop (i + 1) parts) parts (take-append-drop (i + 1) parts) fits in
-        let from_len : length (take i parts) ≡ i = omega (arith, length-take i parts) in
-        let to_len : length (take (i + 1) parts) ≡ i + 1 = omega (arith, length-take (i + 1) parts) in
-        let more : take (i + 1) parts ≡ take i parts ++ get_or parts i [] ∷ [] = take_more parts i [] (omega arith) in
-        let content : length (concat (take (i + 1) parts)) ≡ length (concat (take i parts)) + length (concat (get_or parts i [] ∷ [])) =
+          let from = part_start-dynvec (take i parts) (drop i parts) parts (take-append-drop i parts) fits in
+          let to = part_start-dynvec (take (i + 1) parts) (drop (i + 1) parts) parts (take-append-drop (i + 1) parts) fits in
+          let from_len : length (take i parts) ≡ i = omega (arith, length-take i parts) in
+          let to_len : length (take (i + 1) parts) ≡ i + 1 = omega (arith, length-take (i + 1) parts) in
+          let more : take (i + 1) parts ≡ take i parts ++ get_or parts i [] ∷ [] = take_more parts i [] (omega arith) in
+          let content : length (concat (take (i + 1) parts)) ≡ length (concat (take i parts)) + length (concat (get_or parts i [] ∷ [])) =
           ap (λ (l : List (List ℕ)). length (concat l)) more ∙ ap length (concat-append (take i parts) (get_or parts i [] ∷ [])) ∙ length-append (concat (take i parts)) (concat (get_or parts i [] ∷ [])) in
-        let from_is : part_start (dynvec parts) i ≡ header_size parts + length (concat (take i parts)) = ap (part_start (dynvec parts)) (sym from_len) ∙ from in
-        let to_is : part_start (dynvec parts) (i + 1) ≡ header_size parts + length (concat (take (i + 1) parts)) = ap (part_start (dynvec parts)) (sym to_len) ∙ to in
-        omega arith;
+          let from_is : part_start (dynvec parts) i ≡ header_size parts + length (concat (take i parts)) = ap (part_start (dynvec parts)) (sym from_len) ∙ from in
+          let to_is : part_start (dynvec parts) (i + 1) ≡ header_size parts + length (concat (take (i + 1) parts)) = ap (part_start (dynvec parts)) (sym to_len) ∙ to in
+          omega arith;
     }
 
 pub IsLaidOut-from_dynvec : (bytes : List ℕ) (items : List (List ℕ)) → IsDynvec bytes items → IsLaidOut bytes
@@ -186,12 +186,10 @@ IsTable-from_layout n bytes byte laid count =
 pub IsDynvec-from_table : (n : ℕ) (bytes : List ℕ) (fields : List (List ℕ)) → IsTable n bytes fields → IsDynvec bytes fields
 IsDynvec-from_table n bytes fields h = record { encoding = h.encoding; size = h.size }
 
--- ---- fixvec
+pub part_count-table : (n : ℕ) (bytes : List ℕ) (fields : List (List ℕ)) → IsTable n bytes fields → part_count bytes ≡ n
+part_count-table n bytes fields h = sym (length-parts_of bytes) ∙ ap length (IsTable_only n bytes fields h) ∙ h.count
 
--- The rules of a fixvec: a whole count of items, and nothing behind them.
-pub record IsCounted (size : ℕ) (bytes : List ℕ) : Type 0 where
-  pub whole : 4 ≤ length bytes
-  pub count : length bytes ≡ 4 + u32_at bytes 0 * size
+-- ---- fixvec
 
 concat-items : (size : ℕ) (bytes : List ℕ) → IsCounted size bytes → (k i : ℕ) → i + k ≡ u32_at bytes 0 → concat (map (item_of_fixvec size bytes) (range_with_len i k)) ≡ drop (4 + i * size) bytes
 unfolding item_of_fixvec
@@ -201,8 +199,11 @@ concat-items size bytes h zero i at =
 concat-items size bytes h (suc k) i at =
     rw (concat-items size bytes h k (i + 1) (omega arith)) (range-then-drop bytes (4 + i * size) (4 + (i + 1) * size) (omega arith))
 
-pub item-within : (size : ℕ) (bytes : List ℕ) → IsCounted size bytes → (i k : ℕ) → i + suc k ≡ u32_at bytes 0 → 4 + (i + 1) * size ≤ length bytes
+item-within : (size : ℕ) (bytes : List ℕ) → IsCounted size bytes → (i k : ℕ) → i + suc k ≡ u32_at bytes 0 → 4 + (i + 1) * size ≤ length bytes
 item-within size bytes h i k at = omega (arith, h.count, ap (λ (n : ℕ). n * size) at)
+
+pub item-ends-within : (size : ℕ) (bytes : List ℕ) → IsCounted size bytes → (i : ℕ) → i < u32_at bytes 0 → (4 + i * size) + size ≤ length bytes
+item-ends-within size bytes h i lt = omega (arith, item-within size bytes h i (u32_at bytes 0 - suc i) (omega arith))
 
 sizes-items : (size : ℕ) (bytes : List ℕ) → IsCounted size bytes → (k i : ℕ) → i + k ≡ u32_at bytes 0 → AllByRecursion (λ item. length item ≡ size) (map (item_of_fixvec size bytes) (range_with_len i k))
 unfolding item_of_fixvec

@@ -1,6 +1,6 @@
 ghost use Rattle.std.specs.Prelude.{◌≡◌, ℕ, ◌+◌, ◌*◌, ◌<◌, ◌≤◌, ◌^◌, ◌↔◌, length, IsTrue};
-ghost use Rattle.codec_defs.specs.Molecule.{part_count, part_start, part_of};
-ghost use Rattle.mol_core.specs.Layout.{IsLaidOut};
+ghost use Rattle.codec_defs.specs.Molecule.{u32_at, part_count, part_start, part_of, item_of_fixvec};
+ghost use Rattle.mol_core.specs.Layout.{IsLaidOut, IsCounted};
 
 use crate::number::read_u32;
 
@@ -76,5 +76,29 @@ pub(crate) fn part<'a>(bytes: &'a [u8], count: usize, i: usize) -> &'a [u8]
 {
     let from = start(bytes, count, i);
     let to = start(bytes, count, i + 1);
+    &bytes[from..to]
+}
+
+/// Whether the bytes are a count and so many items of `size` bytes. The product may pass 64 bits.
+pub(crate) fn is_counted(bytes: &[u8], size: usize) -> bool
+    ensures { IsTrue result ↔ IsCounted size bytes.now }
+{
+    if bytes.len() < 4 {
+        return false;
+    }
+    match read_u32(bytes, 0).checked_mul(size) {
+        Some(content) => content == bytes.len() - 4,
+        None => false,
+    }
+}
+
+/// Item `i` of a fixvec.
+pub(crate) fn item_at<'a>(bytes: &'a [u8], size: usize, i: usize) -> &'a [u8]
+    requires counted { IsCounted size bytes.now }
+    requires within { i < u32_at bytes.now 0 }
+    ensures { result.now ≡ item_of_fixvec size bytes.now i }
+{
+    let from = 4 + i * size;
+    let to = from + size;
     &bytes[from..to]
 }

@@ -14,19 +14,23 @@ returns-then-len-lt8 c =
     grind arith
 
 pub returns-then-header-len : goal.returns-then-header-len
-returns-then-header-len c =
-    (λ no. absurd cc, λ laid.
+returns-then-header-len c = (
+  λ no. absurd cc,
+  λ laid.
       elim c.then-header-len.branch [
         | then-header-len-via-then-header-len w ↦ absurd (omega (arith, header-within c.args.bytes.now laid, c.count_parts-count.ensures.value))
         | then-header-len-via-else-header-len+then-start-header w ↦ absurd (grind (arith, laid.header, c.count_parts-count.ensures.value, w.start.ensures))
-      ])
+      ],
+)
 
 pub returns : goal.returns
 returns c =
-    let bytes = c.args.bytes.now in
-    (λ yes. record {
-      whole = omega arith;
-      size = sym c.read_u32.ensures.value ∙ c.if-read_u32-len.false;
-      header = grind (arith, c.count_parts-count.ensures.value, c.start.ensures);
-      rises = λ i lt. c.rises.ensures.0 yes i (omega (arith, c.count_parts-count.ensures.value));
-    }, λ laid. c.rises.ensures.1 (λ i lt. laid.rises i (omega (arith, c.count_parts-count.ensures.value))))
+    let bytes = c.args.bytes.now in (
+      λ yes. record {
+        whole = omega arith;
+        size = sym c.read_u32.ensures.value ∙ c.if-read_u32-len.false;
+        header = grind (arith, c.count_parts-count.ensures.value, c.start.ensures);
+        rises = λ i lt. c.rises.ensures.0 yes i (omega (arith, c.count_parts-count.ensures.value));
+      },
+      λ laid. c.rises.ensures.1 (λ i lt. laid.rises i (omega (arith, c.count_parts-count.ensures.value))),
+    )
