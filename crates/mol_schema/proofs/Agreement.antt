@@ -1,6 +1,8 @@
 -- What is checked of bytes holds exactly where they encode a value of the shape.
 use Rattle.std.proofs.Common.{◌≡◌, ℕ, zero, suc, ◌+◌, ◌-◌, ◌*◌, ◌^◌, ◌<◌, ◌≤◌, Bool, true, false, cond, eqb, List, [], ◌∷◌, ◌++◌, length, map, take, drop, get_or, Option, Some, None, refl, sym, ap, subst, ◌∙◌, arith, inl, inr}
-use Rattle.std.specs.Prelude.{IsTrue, unwrap_or, slice_get}
+use Rattle.std.specs.Prelude.{IsTrue, IfSome, ◌↔◌, unwrap_or, slice_get}
+use Rattle.std.specs.Option.{is_some, option_map}
+use Rattle.std.proofs.lemmas.Option.{none-some, slice_get-map}
 use Rattle.std.specs.Int.{w32, w64, to_le_bytes, from_le_bytes}
 use Rattle.std.specs.List.{concat, slice_range, list_all, range_with_len, AllByRecursion}
 use Rattle.std.proofs.lemmas.Bool.{and_from, and_parts, ne_eqb, lt-ltb, ltb-true, eq-eqb, eqb-true, cases_lt}
@@ -83,32 +85,32 @@ single (x ∷ y ∷ b) len = absurd (omega arith)
 
 pub byte-agrees : Agrees (HasLength 1) byte
 byte-agrees = record {
-    sound = λ b small len. record { fits = lt-ltb _ 256 (small 0); encoding = single b len };
-    only = λ b v a. ap length a.encoding;
+  sound = λ b small len. record { fits = lt-ltb _ 256 (small 0); encoding = single b len };
+  only = λ b v a. ap length a.encoding;
 }
 
 pub u32-agrees : Agrees (HasLength 4) u32
 u32-agrees = record {
-    sound = λ b small len. record { fits = lt-ltb _ 4294967296 (omega (arith, small 0, small 1, small 2, small 3)); encoding = sym (le_bytes_4 b _ len small refl) };
-    only = λ b v a. ap length a.encoding;
+  sound = λ b small len. record { fits = lt-ltb _ 4294967296 (omega (arith, small 0, small 1, small 2, small 3)); encoding = sym (le_bytes_4 b _ len small refl) };
+  only = λ b v a. ap length a.encoding;
 }
 
 pub u64-agrees : Agrees (HasLength 8) u64
 u64-agrees = record {
-    sound = λ b small len. record { fits = lt-ltb _ 18446744073709551616 (omega (arith, small 0, small 1, small 2, small 3, small 4, small 5, small 6, small 7)); encoding = sym (le_bytes_8 b _ len small refl) };
-    only = λ b v a. ap length a.encoding;
+  sound = λ b small len. record { fits = lt-ltb _ 18446744073709551616 (omega (arith, small 0, small 1, small 2, small 3, small 4, small 5, small 6, small 7)); encoding = sym (le_bytes_8 b _ len small refl) };
+  only = λ b v a. ap length a.encoding;
 }
 
 pub u128-agrees : Agrees (HasLength 16) u128
 u128-agrees = record {
-    sound = λ b small len. record { fits = lt-ltb _ (256 ^ 16) (omega (arith, small 0, small 1, small 2, small 3, small 4, small 5, small 6, small 7, small 8, small 9, small 10, small 11, small 12, small 13, small 14, small 15)); encoding = sym (le_bytes_16 b len small) };
-    only = λ b v a. ap length a.encoding;
+  sound = λ b small len. record { fits = lt-ltb _ (256 ^ 16) (omega (arith, small 0, small 1, small 2, small 3, small 4, small 5, small 6, small 7, small 8, small 9, small 10, small 11, small 12, small 13, small 14, small 15)); encoding = sym (le_bytes_16 b len small) };
+  only = λ b v a. ap length a.encoding;
 }
 
 pub byte_array-agrees : (n : ℕ) → Agrees (HasLength n) (byte_array n)
 byte_array-agrees n = record {
-    sound = λ b small len. record { fits = and_from _ _ (eq-eqb (length b) n len) (are_bytes-from b small); encoding = refl };
-    only = λ b v a. ap length a.encoding ∙ eqb-true (length v) n (and_parts _ _ a.fits).0;
+  sound = λ b small len. record { fits = and_from _ _ (eq-eqb (length b) n len) (are_bytes-from b small); encoding = refl };
+  only = λ b v a. ap length a.encoding ∙ eqb-true (length v) n (and_parts _ _ a.fits).0;
 }
 
 -- ---- Bytes
@@ -133,17 +135,17 @@ reads_items size b items h = subst (λ (l : List (List ℕ)). IsFixvec size b l)
 
 pub bytes-agrees : Agrees IsBytes bytes
 bytes-agrees = record {
-    sound = λ b small p.
-        let items = molecule.items_of_fixvec 1 b in
-        let content : drop 4 b ≡ concat items = ap (drop 4) p.encoding ∙ content_of items in
-        let few : length (drop 4 b) < 2 ^ 32 = omega (arith, p.count, ap length content, length-concat 1 items p.sizes) in
-        record {
-            fits = and_from _ _ (lt-ltb _ 4294967296 few) (are_bytes-from (drop 4 b) (AreBytes-drop 4 b small));
-            encoding = p.encoding ∙ ap molecule.fixvec (sym (ap (map (λ x. x ∷ [])) content ∙ singles items p.sizes));
-        };
-    only = λ b v a.
-        let few = ltb-true (length v) 4294967296 (and_parts _ _ a.fits).0 in
-        reads_items 1 b (map (λ x. x ∷ []) v) (record { encoding = a.encoding; sizes = sizes_single v; count = omega (arith, length-map v (λ x. x ∷ [])) });
+  sound = λ b small p.
+      let items = molecule.items_of_fixvec 1 b in
+      let content : drop 4 b ≡ concat items = ap (drop 4) p.encoding ∙ content_of items in
+      let few : length (drop 4 b) < 2 ^ 32 = omega (arith, p.count, ap length content, length-concat 1 items p.sizes) in
+      record {
+        fits = and_from _ _ (lt-ltb _ 4294967296 few) (are_bytes-from (drop 4 b) (AreBytes-drop 4 b small));
+        encoding = p.encoding ∙ ap molecule.fixvec (sym (ap (map (λ x. x ∷ [])) content ∙ singles items p.sizes));
+      };
+  only = λ b v a.
+      let few = ltb-true (length v) 4294967296 (and_parts _ _ a.fits).0 in
+      reads_items 1 b (map (λ x. x ∷ []) v) (record { encoding = a.encoding; sizes = sizes_single v; count = omega (arith, length-map v (λ x. x ∷ [])) });
 }
 
 -- ---- lists and options
@@ -163,19 +165,19 @@ each-only P s agree (v ∷ vs) fit = (agree.only (encoded s v) v (record { fits 
 
 pub fixvec-agrees : {V : Type 0} (n : ℕ) (s : Shape V) → Agrees (HasLength n) s → Agrees (IsItems n) (fixvec n s)
 fixvec-agrees n s agree = record {
-    sound = λ b small p.
-        let items = molecule.items_of_fixvec n b in
-        let each = each-sound (HasLength n) s agree items (AreBytes-items n b small) p.sizes in
-        let few : length (map s.value_of items) < 2 ^ 32 = rw (length-map items s.value_of) p.count in
-        record {
-            fits = and_from _ _ (lt-ltb _ 4294967296 few) (all_fit-from _ each.1);
-            encoding = p.encoding ∙ ap molecule.fixvec each.0;
-        };
-    only = λ b vs a.
-        let both = and_parts _ _ a.fits in
-        let few = ltb-true (length vs) 4294967296 both.0 in
-        let sizes = each-only (HasLength n) s agree vs (AllFit-from (map s.encoding vs) both.1) in
-        reads_items n b (parts (map s.encoding vs)) (record { encoding = a.encoding; sizes = sizes; count = rw (length-parts s vs) few });
+  sound = λ b small p.
+      let items = molecule.items_of_fixvec n b in
+      let each = each-sound (HasLength n) s agree items (AreBytes-items n b small) p.sizes in
+      let few : length (map s.value_of items) < 2 ^ 32 = rw (length-map items s.value_of) p.count in
+      record {
+        fits = and_from _ _ (lt-ltb _ 4294967296 few) (all_fit-from _ each.1);
+        encoding = p.encoding ∙ ap molecule.fixvec each.0;
+      };
+  only = λ b vs a.
+      let both = and_parts _ _ a.fits in
+      let few = ltb-true (length vs) 4294967296 both.0 in
+      let sizes = each-only (HasLength n) s agree vs (AllFit-from (map s.encoding vs) both.1) in
+      reads_items n b (parts (map s.encoding vs)) (record { encoding = a.encoding; sizes = sizes; count = rw (length-parts s vs) few });
 }
 
 index-each : (P : List ℕ → Type 0) (xs : List (List ℕ)) → ((i : ℕ) → i < length xs → P (unwrap_or (slice_get xs i) [])) → AllByRecursion P xs
@@ -189,23 +191,23 @@ each-index P (x ∷ xs) a (suc i) lt = each-index P xs a.1 i (omega arith)
 
 pub dynvec-agrees : {V : Type 0} (P : List ℕ → Type 0) (s : Shape V) → Agrees P s → Agrees (IsListOf P) (dynvec s)
 dynvec-agrees P s agree = record {
-    sound = λ b small p.
-        let items = molecule.parts_of b in
-        let each = each-sound P s agree items (AreBytes-parts b small) (index-each P items p.items) in
-        let is : b ≡ molecule.dynvec (parts (map s.encoding (map s.value_of items))) = p.dynvec.encoding ∙ ap molecule.dynvec each.0 in
-        let short : length (molecule.dynvec (parts (map s.encoding (map s.value_of items)))) < 2 ^ 32 = subst (λ (l : List ℕ). length l < 2 ^ 32) is p.dynvec.size in
-        record { fits = and_from _ _ (lt-ltb _ 4294967296 short) (all_fit-from _ each.1); encoding = is };
-    only = λ b vs a.
-        let both = and_parts _ _ a.fits in
-        let ps = parts (map s.encoding vs) in
-        let short = ltb-true (length (molecule.dynvec ps)) 4294967296 both.0 in
-        let whole : IsDynvec b ps = record { encoding = a.encoding; size = subst (λ (l : List ℕ). length l < 2 ^ 32) (sym a.encoding) short } in
-        let read = sym (IsDynvec_only b ps whole) in
-        let each : AllByRecursion P ps = each-only P s agree vs (AllFit-from (map s.encoding vs) both.1) in
-        record {
-            dynvec = subst (λ (l : List (List ℕ)). IsDynvec b l) read whole;
-            items = subst (λ (l : List (List ℕ)). (i : ℕ) → i < length l → P (unwrap_or (slice_get l i) [])) read (each-index P ps each);
-        };
+  sound = λ b small p.
+      let items = molecule.parts_of b in
+      let each = each-sound P s agree items (AreBytes-parts b small) (index-each P items p.items) in
+      let is : b ≡ molecule.dynvec (parts (map s.encoding (map s.value_of items))) = p.dynvec.encoding ∙ ap molecule.dynvec each.0 in
+      let short : length (molecule.dynvec (parts (map s.encoding (map s.value_of items)))) < 2 ^ 32 = subst (λ (l : List ℕ). length l < 2 ^ 32) is p.dynvec.size in
+      record { fits = and_from _ _ (lt-ltb _ 4294967296 short) (all_fit-from _ each.1); encoding = is };
+  only = λ b vs a.
+      let both = and_parts _ _ a.fits in
+      let ps = parts (map s.encoding vs) in
+      let short = ltb-true (length (molecule.dynvec ps)) 4294967296 both.0 in
+      let whole : IsDynvec b ps = record { encoding = a.encoding; size = subst (λ (l : List ℕ). length l < 2 ^ 32) (sym a.encoding) short } in
+      let read = sym (IsDynvec_only b ps whole) in
+      let each : AllByRecursion P ps = each-only P s agree vs (AllFit-from (map s.encoding vs) both.1) in
+      record {
+        dynvec = subst (λ (l : List (List ℕ)). IsDynvec b l) read whole;
+        items = subst (λ (l : List (List ℕ)). (i : ℕ) → i < length l → P (unwrap_or (slice_get l i) [])) read (each-index P ps each);
+      };
 }
 
 option-only : {V : Type 0} (P : List ℕ → Type 0) (s : Shape V) → Agrees P s → (b : List ℕ) (o : Option V) → IsA (option s) b o → 0 < length b → P b
@@ -231,3 +233,16 @@ field-sound P s agree b small p = let a = agree.sound b small p in (a.fits, a.en
 
 pub field-only : {V : Type 0} (P : List ℕ → Type 0) (s : Shape V) → Agrees P s → (b : List ℕ) (v : V) → IsTrue (s.encoding v).fits × (b ≡ encoded s v) → P b
 field-only P s agree b v p = agree.only b v (record { fits = p.0; encoding = p.1 })
+
+-- the whole encoding of a view's value
+pub encoding-is : {V : Type 0} (P : List ℕ → Type 0) (s : Shape V) → Agrees P s → (whole b : List ℕ) (v : V) → AreBytes b → whole ≡ b → P b → s.value_of b ≡ v → IsA s whole v
+encoding-is P s agree whole b v small same p is = rw same (subst (IsA s b) is (agree.sound b small p))
+
+-- what the test of a fixvec tells
+pub checked-items : (size : ℕ) (b : List ℕ) (t : Bool) (r : Option (List (List ℕ))) → t ≡ is_some r → IfSome r (IsFixvec size b) → ((items : List (List ℕ)) → IsFixvec size b items → r ≡ Some items) → IsTrue t ↔ IsItems size b
+checked-items size b t None is found only = (λ h. absurd cc, λ p. absurd (none-some _ (only _ p)))
+checked-items size b t (Some xs) is found only = (λ h. reads_items size b xs found, λ p. is)
+
+-- an item of a list of values
+pub mapped_at : {V : Type 0} (f : List ℕ → V) (xs : List (List ℕ)) (i : ℕ) (p : List ℕ) → slice_get xs i ≡ Some p → slice_get (map f xs) i ≡ Some (f p)
+mapped_at f xs i p is = slice_get-map f xs i ∙ ap (option_map f) is

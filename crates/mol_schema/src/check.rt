@@ -1,6 +1,6 @@
 //! What a read checks, once: each part of the bytes by its shape.
 
-ghost use Rattle.std.specs.Prelude.{◌<◌, ◌↔◌, IsTrue};
+ghost use Rattle.std.specs.Prelude.{◌↔◌, IsTrue};
 ghost use Rattle.codec_defs.specs.Molecule.{IsDynvec, IsTable, parts_of};
 ghost use Rattle.mol_schema.specs.Checked.{IsBytes, IsItems, IsListOf, IsScript, IsScriptOption, IsCellOutput, IsRawTransaction, IsTransaction, IsUncleBlock, IsBlock};
 
@@ -20,7 +20,6 @@ fn is_list(b: &[u8]) -> bool
 }
 
 fn are_items(b: &[u8], size: usize) -> bool
-    requires { 0 < size }
     ensures { IsTrue result ↔ IsItems size b.now }
 {
     check_fixvec(b, size).is_some()

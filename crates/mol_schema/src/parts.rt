@@ -36,7 +36,8 @@ pub(crate) fn list_len(list: &[u8]) -> usize
 pub(crate) fn list_item(list: &[u8], i: usize) -> &[u8]
     requires is_list { IsDynvec list.now (parts_of list.now) }
     requires within { i < length (parts_of list.now) }
-    ensures { result.now ≡ part list.now i }
+    ensures at { slice_get (parts_of list.now) i ≡ Some result.now }
+    ensures is { result.now ≡ part list.now i }
 {
     DynView::of_encoding(list).item(i)
 }

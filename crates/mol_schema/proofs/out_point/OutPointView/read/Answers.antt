@@ -1,9 +1,9 @@
 use Rattle.std.proofs.Common.{arith}
-use Rattle.mol_schema.proofs.Agreement.{read-some, read-none}
-use Rattle.mol_schema.proofs.Rows.{out_point-agrees}
+use Rattle.codec_defs.specs.Schema.{out_point}
 use Rattle.codec_defs.proofs.SchemaLaws.{out_point-inverts}
 use Rattle.mol_schema.specs.Checked.{HasLength}
-use Rattle.codec_defs.specs.Schema.{out_point}
+use Rattle.mol_schema.proofs.Agreement.{read-some, read-none}
+use Rattle.mol_schema.proofs.Rows.{out_point-agrees}
 use Rattle.mol_schema.proofs.out_point.OutPointView.read.Goals as goal
 
 pub returns-then-b-eq36 : goal.returns-then-b-eq36
