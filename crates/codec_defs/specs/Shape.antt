@@ -33,15 +33,15 @@ decoded shape bytes =
 
 abbrev pub byte : Shape ℕ
 byte = record {
-    encoding = λ n. record { bytes = n ∷ []; fits = nat_lt n 256 };
-    value_of = λ bytes. slice_index bytes 0;
+  encoding = λ n. record { bytes = n ∷ []; fits = nat_lt n 256 };
+  value_of = λ bytes. slice_index bytes 0;
 }
 
 -- An unsigned integer, little-endian.
 abbrev pub uint : Width → Shape ℕ
 uint w = record {
-    encoding = λ n. record { bytes = to_le_bytes w n; fits = nat_lt n (256 ^ byte_len w) };
-    value_of = λ bytes. from_le_bytes w bytes;
+  encoding = λ n. record { bytes = to_le_bytes w n; fits = nat_lt n (256 ^ byte_len w) };
+  value_of = λ bytes. from_le_bytes w bytes;
 }
 
 abbrev pub u32 : Shape ℕ
@@ -59,8 +59,8 @@ are_bytes bytes = list_all (λ b. nat_lt b 256) bytes
 -- array [byte; n]
 abbrev pub byte_array : ℕ → Shape (List ℕ)
 byte_array n = record {
-    encoding = λ items. record { bytes = items; fits = (length items == n) && are_bytes items };
-    value_of = λ bytes. bytes;
+  encoding = λ items. record { bytes = items; fits = (length items == n) && are_bytes items };
+  value_of = λ bytes. bytes;
 }
 
 -- ---- Vectors and options
@@ -68,11 +68,11 @@ byte_array n = record {
 -- vector <byte>
 abbrev pub bytes : Shape (List ℕ)
 bytes = record {
-    encoding = λ content. record {
-        bytes = molecule.fixvec (map (λ b. b ∷ []) content);
-        fits = nat_lt (length content) (2 ^ 32) && are_bytes content;
-    };
-    value_of = λ encoding. drop 4 encoding;
+  encoding = λ content. record {
+    bytes = molecule.fixvec (map (λ b. b ∷ []) content);
+    fits = nat_lt (length content) (2 ^ 32) && are_bytes content;
+  };
+  value_of = λ encoding. drop 4 encoding;
 }
 
 abbrev pub parts : List Encoding → List (List ℕ)
@@ -84,25 +84,25 @@ all_fit encodings = list_all (λ e. e.fits) encodings
 -- vector <item>, of items that have `size` bytes each: "fixvec"
 abbrev pub fixvec : {V : Type 0} → ℕ → Shape V → Shape (List V)
 fixvec size item = record {
-    encoding = λ values. record {
-        bytes = molecule.fixvec (parts (map item.encoding values));
-        fits = nat_lt (length values) (2 ^ 32) && all_fit (map item.encoding values);
-    };
-    value_of = λ bytes. map item.value_of (molecule.items_of_fixvec size bytes);
+  encoding = λ values. record {
+    bytes = molecule.fixvec (parts (map item.encoding values));
+    fits = nat_lt (length values) (2 ^ 32) && all_fit (map item.encoding values);
+  };
+  value_of = λ bytes. map item.value_of (molecule.items_of_fixvec size bytes);
 }
 
 -- A table is laid out as a dynvec of its fields. Its full size is a u32.
 abbrev pub table : List Encoding → Encoding
 table fields = record {
-    bytes = molecule.dynvec (parts fields);
-    fits = nat_lt (length (molecule.dynvec (parts fields))) (2 ^ 32) && all_fit fields;
+  bytes = molecule.dynvec (parts fields);
+  fits = nat_lt (length (molecule.dynvec (parts fields))) (2 ^ 32) && all_fit fields;
 }
 
 -- vector <item>, of items of any size: "dynvec"
 abbrev pub dynvec : {V : Type 0} → Shape V → Shape (List V)
 dynvec item = record {
-    encoding = λ values. table (map item.encoding values);
-    value_of = λ bytes. map item.value_of (molecule.parts_of bytes);
+  encoding = λ values. table (map item.encoding values);
+  value_of = λ bytes. map item.value_of (molecule.parts_of bytes);
 }
 
 abbrev pub option_encoding : {V : Type 0} → Shape V → Option V → Encoding
@@ -111,8 +111,8 @@ option_encoding item (Some v) = item.encoding v
 
 abbrev pub option : {V : Type 0} → Shape V → Shape (Option V)
 option item = record {
-    encoding = option_encoding item;
-    value_of = λ bytes. if length bytes == 0 then None else Some (item.value_of bytes);
+  encoding = option_encoding item;
+  value_of = λ bytes. if length bytes == 0 then None else Some (item.value_of bytes);
 }
 
 -- ---- Rows of fields

@@ -1,6 +1,7 @@
 ghost use Rattle.std.specs.Prelude.{◌≡◌, ℕ, ◌<◌, ◌↔◌, List, [], length, Some, IfSome, IsTrue, slice_get};
 ghost use Rattle.codec_defs.specs.Molecule.{IsFixvec, fixvec};
 
+use crate::layout::{is_counted, item_at};
 use crate::number::read_u32;
 use std::marker::Model;
 
@@ -25,15 +26,10 @@ impl<'a> Model for FixView<'a> {
 
 /// The view of bytes that are a fixvec of items of `item` bytes each; the strict reading of RFC 0008.
 pub fn check_fixvec(b: &[u8], item: usize) -> Option<FixView<'_>>
-    requires { 0 < item }
     ensures found { IfSome result (IsFixvec item b.now) }
     ensures only { (items : List (List ℕ)) → IsFixvec item b.now items → result ≡ Some items }
 {
-    if b.len() < 4 {
-        return None;
-    }
-    let content = b.len() - 4;
-    if content % item == 0 && content / item == read_u32(b, 0) {
+    if is_counted(b, item) {
         Some(FixView { bytes: b, item })
     } else {
         None
@@ -74,7 +70,6 @@ impl<'a> FixView<'a> {
         requires { i < length self.now }
         ensures { slice_get self.now i ≡ Some result.now }
     {
-        let start = 4 + i * self.item;
-        &self.bytes[start..start + self.item]
+        item_at(self.bytes, self.item, i)
     }
 }

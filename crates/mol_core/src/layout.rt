@@ -1,23 +1,25 @@
 ghost use Rattle.std.specs.Prelude.{◌≡◌, ℕ, ◌+◌, ◌*◌, ◌<◌, ◌≤◌, ◌^◌, ◌↔◌, length, IsTrue};
-ghost use Rattle.codec_defs.specs.Molecule.{part_count, part_start, part_of};
-ghost use Rattle.mol_core.specs.Layout.{IsLaidOut};
+ghost use Rattle.codec_defs.specs.Molecule.{u32_at, part_count, part_start, part_of, item_of_fixvec};
+ghost use Rattle.mol_core.specs.Layout.{IsLaidOut, IsCounted};
 
 use crate::number::read_u32;
 
 /// How many offsets the header has, by the first one.
+#[tactic(auto, unfolding(codec_defs::specs::Molecule::part_count))]
 pub(crate) fn count_parts(bytes: &[u8]) -> usize
     requires { length bytes.now < 8 → length bytes.now ≡ 4 }
     ensures value { result ≡ part_count bytes.now }
     ensures fits { 4 * result < 2 ^ 32 }
 {
     if bytes.len() == 4 {
-        return 0;
+        0
+    } else {
+        (read_u32(bytes, 4) / 4).saturating_sub(1)
     }
-    let words = read_u32(bytes, 4) / 4;
-    if words == 0 { 0 } else { words - 1 }
 }
 
 /// Where part `i` starts; at the count, the end.
+#[tactic(auto, unfolding(codec_defs::specs::Molecule::part_start))]
 fn start(bytes: &[u8], count: usize, i: usize) -> usize
     requires counted { count ≡ part_count bytes.now }
     requires header { 4 + 4 * count ≤ length bytes.now }
@@ -59,7 +61,10 @@ pub(crate) fn is_laid_out(bytes: &[u8]) -> bool
     }
     let count = count_parts(bytes);
     let header = 4 + 4 * count;
-    header <= len && start(bytes, count, 0) == header && rises(bytes, count)
+    if header > len || start(bytes, count, 0) != header {
+        return false;
+    }
+    rises(bytes, count)
 }
 
 /// Part `i` of `count`.
@@ -69,5 +74,31 @@ pub(crate) fn part<'a>(bytes: &'a [u8], count: usize, i: usize) -> &'a [u8]
     requires within { i < count }
     ensures { result.now ≡ part_of bytes.now i }
 {
-    &bytes[start(bytes, count, i)..start(bytes, count, i + 1)]
+    let from = start(bytes, count, i);
+    let to = start(bytes, count, i + 1);
+    &bytes[from..to]
+}
+
+/// Whether the bytes are a count and so many items of `size` bytes. The product may pass 64 bits.
+pub(crate) fn is_counted(bytes: &[u8], size: usize) -> bool
+    ensures { IsTrue result ↔ IsCounted size bytes.now }
+{
+    if bytes.len() < 4 {
+        return false;
+    }
+    match read_u32(bytes, 0).checked_mul(size) {
+        Some(content) => content == bytes.len() - 4,
+        None => false,
+    }
+}
+
+/// Item `i` of a fixvec.
+pub(crate) fn item_at<'a>(bytes: &'a [u8], size: usize, i: usize) -> &'a [u8]
+    requires counted { IsCounted size bytes.now }
+    requires within { i < u32_at bytes.now 0 }
+    ensures { result.now ≡ item_of_fixvec size bytes.now i }
+{
+    let from = 4 + i * size;
+    let to = from + size;
+    &bytes[from..to]
 }
