@@ -34,4 +34,4 @@ returns c = λ m held.
     sym (append_assoc m (take room c.args.piece.now) rest
     ∙ rw c.split_at.ensures.back (ap (λ (x : List ℕ). m ++ x) (take-append-drop room c.args.piece.now))) in
     IsWhole_rest _ _ (m ++ take room c.args.piece.now) rest _ _ ((length m - 1) / 128 + 1) i (c.whole_blocks.invariant m held) (omega arith) (sym done)
-    (take_at _ _ _ (ap length (sym c.copy_from_slice-3.ensures.after)) ∙ written) message
+    (take_at _ _ _ (ap length c.copy_from_slice-3.ensures.after) ∙ written) message
