@@ -114,18 +114,78 @@ fn rounds(v: [u64; 16], m: [u64; 16]) -> [u64; 16]
         m14,
         m15,
     ] = m;
-    let v = round(v, [m0, m1, m2, m3, m4, m5, m6, m7, m8, m9, m10, m11, m12, m13, m14, m15]);
-    let v = round(v, [m14, m10, m4, m8, m9, m15, m13, m6, m1, m12, m0, m2, m11, m7, m5, m3]);
-    let v = round(v, [m11, m8, m12, m0, m5, m2, m15, m13, m10, m14, m3, m6, m7, m1, m9, m4]);
-    let v = round(v, [m7, m9, m3, m1, m13, m12, m11, m14, m2, m6, m5, m10, m4, m0, m15, m8]);
-    let v = round(v, [m9, m0, m5, m7, m2, m4, m10, m15, m14, m1, m11, m12, m6, m8, m3, m13]);
-    let v = round(v, [m2, m12, m6, m10, m0, m11, m8, m3, m4, m13, m7, m5, m15, m14, m1, m9]);
-    let v = round(v, [m12, m5, m1, m15, m14, m13, m4, m10, m0, m7, m6, m3, m9, m2, m8, m11]);
-    let v = round(v, [m13, m11, m7, m14, m12, m1, m3, m9, m5, m0, m15, m4, m8, m6, m2, m10]);
-    let v = round(v, [m6, m15, m14, m9, m11, m3, m0, m8, m12, m2, m13, m7, m1, m4, m10, m5]);
-    let v = round(v, [m10, m2, m8, m4, m7, m6, m1, m5, m15, m11, m9, m14, m3, m12, m13, m0]);
-    let v = round(v, [m0, m1, m2, m3, m4, m5, m6, m7, m8, m9, m10, m11, m12, m13, m14, m15]);
-    round(v, [m14, m10, m4, m8, m9, m15, m13, m6, m1, m12, m0, m2, m11, m7, m5, m3])
+    let v = round(
+        v,
+        [
+            m0, m1, m2, m3, m4, m5, m6, m7, m8, m9, m10, m11, m12, m13, m14, m15,
+        ],
+    );
+    let v = round(
+        v,
+        [
+            m14, m10, m4, m8, m9, m15, m13, m6, m1, m12, m0, m2, m11, m7, m5, m3,
+        ],
+    );
+    let v = round(
+        v,
+        [
+            m11, m8, m12, m0, m5, m2, m15, m13, m10, m14, m3, m6, m7, m1, m9, m4,
+        ],
+    );
+    let v = round(
+        v,
+        [
+            m7, m9, m3, m1, m13, m12, m11, m14, m2, m6, m5, m10, m4, m0, m15, m8,
+        ],
+    );
+    let v = round(
+        v,
+        [
+            m9, m0, m5, m7, m2, m4, m10, m15, m14, m1, m11, m12, m6, m8, m3, m13,
+        ],
+    );
+    let v = round(
+        v,
+        [
+            m2, m12, m6, m10, m0, m11, m8, m3, m4, m13, m7, m5, m15, m14, m1, m9,
+        ],
+    );
+    let v = round(
+        v,
+        [
+            m12, m5, m1, m15, m14, m13, m4, m10, m0, m7, m6, m3, m9, m2, m8, m11,
+        ],
+    );
+    let v = round(
+        v,
+        [
+            m13, m11, m7, m14, m12, m1, m3, m9, m5, m0, m15, m4, m8, m6, m2, m10,
+        ],
+    );
+    let v = round(
+        v,
+        [
+            m6, m15, m14, m9, m11, m3, m0, m8, m12, m2, m13, m7, m1, m4, m10, m5,
+        ],
+    );
+    let v = round(
+        v,
+        [
+            m10, m2, m8, m4, m7, m6, m1, m5, m15, m11, m9, m14, m3, m12, m13, m0,
+        ],
+    );
+    let v = round(
+        v,
+        [
+            m0, m1, m2, m3, m4, m5, m6, m7, m8, m9, m10, m11, m12, m13, m14, m15,
+        ],
+    );
+    round(
+        v,
+        [
+            m14, m10, m4, m8, m9, m15, m13, m6, m1, m12, m0, m2, m11, m7, m5, m3,
+        ],
+    )
 }
 
 fn final_flag(last: bool) -> u64

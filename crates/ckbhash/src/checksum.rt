@@ -13,7 +13,11 @@ use std::io::{Read, Write};
 const PIECE_LEN: usize = 65536;
 
 /// Reads to the end, and writes the line of what was read. Nothing is written where a read fails.
-pub fn print_checksum<R: Read, W: Write>(alloc: Global, input: &mut R, out: &mut W) -> io::Result<()>
+pub fn print_checksum<R: Read, W: Write>(
+    alloc: Global,
+    input: &mut R,
+    out: &mut W,
+) -> io::Result<()>
     ensures { OnOk result (IfSome (R.remaining input.old) (λ bytes.
         Appends (W.contents out.old) (W.contents out.new) (checksum_line bytes))) }
 {
