@@ -1,25 +1,15 @@
-//! x
+//! `ckbhash` prints the CKB hash of its standard input, as `b2sum` prints a hash: 64 lower-case hex
+//! digits, two spaces, `-` and a line feed. Its memory does not grow with the input.
+//!
+//! The contract of use: `print_checksum` has written the line of all the bytes that its reader had,
+//! where it answers `Ok`. What the system gives and takes is beyond any contract.
 #![tactic(auto)]
 
-use blake2b_ckb::Hasher;
-use std::io;
-use std::io::Read;
+mod checksum;
 
-const PIECE: usize = 65536;
+use checksum::print_checksum;
+use std::io;
 
 fn main(rt: HostRuntime) -> io::Result<()> {
-    let mut buffer = vec![in rt.alloc(); 0u8; PIECE]?;
-    let mut input = rt.stdin();
-    let mut hasher = Hasher::new();
-    for _ in 0..u64::MAX {
-        let n = input.read(&mut buffer)?;
-        if n == 0 {
-            break;
-        }
-        hasher.update(&buffer[..n]);
-    }
-    let digest = hasher.finalize();
-    let mut text = [0u8; 64];
-    println!(rt; "{:?}", digest)?;
-    Ok(())
+    print_checksum(rt.alloc(), &mut rt.stdin(), &mut rt.stdout())
 }
