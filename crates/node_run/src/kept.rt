@@ -139,9 +139,10 @@ impl Kept {
             return Ok(Verdict::Refused(1));
         };
         let verdict = judge(&self.entries, &outline);
-        if joins(&verdict) {
-            self.push(item, outline.entry)?;
+        if !joins(&verdict) {
+            return Ok(verdict);
         }
+        self.push(item, outline.entry)?;
         Ok(verdict)
     }
 
@@ -151,11 +152,13 @@ impl Kept {
         ensures kept { OnOk result (self.new ≡ self.old ++ kept_from (decoded block_shape item.items)) }
         ensures err { OnErr result (self.new ≡ self.old) }
     {
+        let place = self.entries.len();
+        let is_higher = self.entries[self.tip].number < entry.number;
         self.entries.reserve(1)?;
         self.blocks.push(item)?;
         self.entries.push(entry).unwrap();
-        if self.entries[self.tip].number < entry.number {
-            self.tip = self.entries.len() - 1;
+        if is_higher {
+            self.tip = place;
         }
         Ok(())
     }
