@@ -32,7 +32,17 @@ pub record EndsAt (offset : ℕ) (left : Option (List ℕ)) (end : End) (given :
   pub nothing : end ≡ AtEnd → given ≡ []
   pub to_end : end ≡ AtEnd → IsAtEnd left
 
--- a fault or want of memory stopped a run
+-- what stops reading, writing, or both: a fault or want of memory
+abbrev pub IsReadingStop : Status → Type 0
+IsReadingStop InputFault = Unit {0}
+IsReadingStop NoMemory = Unit {0}
+IsReadingStop _ = ⊥
+
+abbrev pub IsWritingStop : Status → Type 0
+IsWritingStop SinkFault = Unit {0}
+IsWritingStop NoMemory = Unit {0}
+IsWritingStop _ = ⊥
+
 abbrev pub IsStop : Status → Type 0
 IsStop InputFault = Unit {0}
 IsStop SinkFault = Unit {0}
@@ -42,4 +52,4 @@ IsStop _ = ⊥
 abbrev pub IsNext : ℕ → Option (List ℕ) → Result Next Status → List ℕ → Type 0
 IsNext offset left (Ok (next.Item item)) given = IsItemAt offset item.items given
 IsNext offset left (Ok (next.End end)) given = EndsAt offset left end given
-IsNext offset left (Err status) given = IsStop status × HoldsOneAtMost given
+IsNext offset left (Err status) given = IsReadingStop status × HoldsOneAtMost given

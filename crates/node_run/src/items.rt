@@ -28,6 +28,7 @@ pub enum Next {
 pub fn next_item<S: Source>(alloc: Global, input: &mut S, offset: u64) -> Result<Next, Status>
     requires { offset ≤ import_limits.input }
     ensures next { Gave (S.left input.old) (S.left input.new) (IsNext offset (S.left input.new) result) }
+    ensures later { S.faults input.old ≤ S.faults input.new }
     ensures fault { result ≡ Err Status.InputFault → Rose (S.faults input.old) (S.faults input.new) }
 {
     let mut word = [0u8; 4];
@@ -53,6 +54,7 @@ fn item_of_word<S: Source>(
 ) -> Result<Next, Status>
     requires { offset ≤ import_limits.input }
     ensures next { Gave (S.left input.old) (S.left input.new) (λ given. IsNext offset (S.left input.new) result (word.now ++ given)) }
+    ensures later { S.faults input.old ≤ S.faults input.new }
     ensures fault { result ≡ Err Status.InputFault → Rose (S.faults input.old) (S.faults input.new) }
 {
     let size = u32::from_le_bytes(*word) as usize;
@@ -78,6 +80,7 @@ fn item_of_size<S: Source>(
     requires most { size ≤ import_limits.item }
     requires within { _offset + size ≤ import_limits.input }
     ensures next { Gave (S.left input.old) (S.left input.new) (λ given. IsNext _offset (S.left input.new) result (word.now ++ given)) }
+    ensures later { S.faults input.old ≤ S.faults input.new }
     ensures fault { result ≡ Err Status.InputFault → Rose (S.faults input.old) (S.faults input.new) }
 {
     let mut item = match vec![in alloc; 0u8; size] {

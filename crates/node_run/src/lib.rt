@@ -1,4 +1,5 @@
 #![tactic(auto)]
+pub mod import;
 pub mod items;
 pub mod kept;
 pub mod lines;

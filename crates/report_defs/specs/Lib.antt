@@ -3,3 +3,4 @@ pub mod Items
 pub mod Text
 pub mod Words
 pub mod Report
+pub mod Promise

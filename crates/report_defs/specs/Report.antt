@@ -31,33 +31,32 @@ abbrev pub kept_from : Option Block → List Block
 kept_from None = []
 kept_from (Some genesis) = genesis ∷ []
 
--- the kept blocks after the items that follow a genesis
-abbrev pub kept_by : List ℕ → List (List ℕ) → List Block
-kept_by genesis items = keep kept_after (kept_from (decoded block genesis)) items
+-- over kept blocks: the verdicts on the items that follow, a line for each, and what is kept after them
+abbrev pub verdicts_over : List Block → List (List ℕ) → List Verdict
+verdicts_over kept items = verdicts kept_after verdict kept items
 
-abbrev pub verdicts_on : List ℕ → List (List ℕ) → List Verdict
-verdicts_on genesis items = verdicts kept_after verdict (kept_from (decoded block genesis)) items
+abbrev pub lines_over : List Block → List (List ℕ) → List ℕ
+lines_over kept items = flat_map line (verdicts_over kept items)
 
--- a line for each item that follows the genesis
-abbrev pub lines : List ℕ → List (List ℕ) → List ℕ
-lines genesis items = flat_map line (verdicts_on genesis items)
+abbrev pub kept_over : List Block → List (List ℕ) → List Block
+kept_over kept items = keep kept_after kept items
 
 abbrev pub status_of_items : List Verdict → Status
 status_of_items judged = if list_any refuses judged then SomeRefused else Done
 
--- After the last line, where the input ends between two items, the line of the tip.
-abbrev pub report_of_blocks : List ℕ → List (List ℕ) → End → Report
-report_of_blocks genesis items AtEnd = record {
-  text = lines genesis items ++ tip_line (tip (kept_by genesis items));
-  status = status_of_items (verdicts_on genesis items);
+-- A line for each item, and where the input ends between two items the line of the tip.
+abbrev pub report_of_blocks : List Block → List (List ℕ) → End → Report
+report_of_blocks kept items AtEnd = record {
+  text = lines_over kept items ++ tip_line (tip (kept_over kept items));
+  status = status_of_items (verdicts_over kept items);
 }
-report_of_blocks genesis items Cut = record { text = lines genesis items; status = CutInput }
-report_of_blocks genesis items BadSize = record { text = lines genesis items; status = CutInput }
-report_of_blocks genesis items Extra = record { text = lines genesis items; status = CutInput }
+report_of_blocks kept items Cut = record { text = lines_over kept items; status = CutInput }
+report_of_blocks kept items BadSize = record { text = lines_over kept items; status = CutInput }
+report_of_blocks kept items Extra = record { text = lines_over kept items; status = CutInput }
 
 abbrev pub report_of_genesis : Option ℕ → List ℕ → List (List ℕ) → End → Report
 report_of_genesis (Some rule) genesis items end = record { text = []; status = BadGenesis }
-report_of_genesis None genesis items end = report_of_blocks genesis items end
+report_of_genesis None genesis items end = report_of_blocks (kept_from (decoded block genesis)) items end
 
 -- The first item is the genesis, and each further item is a block.
 abbrev pub report_of_items : List (List ℕ) → End → Report
@@ -67,9 +66,13 @@ report_of_items (genesis ∷ items) end = report_of_genesis (broken_genesis_rule
 abbrev pub report_of_split : Split → Report
 report_of_split split = report_of_items split.items split.end
 
+-- the report of `import` over an input
+abbrev pub report_of_input : List ℕ → Report
+report_of_input input = report_of_split (split_of import_limits input)
+
 abbrev pub report_of_command : Option Command → List ℕ → Report
 report_of_command None input = record { text = []; status = BadWords }
-report_of_command (Some Import) input = report_of_split (split_of import_limits input)
+report_of_command (Some Import) input = report_of_input input
 
 abbrev pub report : List (List ℕ) → List ℕ → Report
 report words input = report_of_command (command_of words) input
