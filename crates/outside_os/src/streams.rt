@@ -6,6 +6,12 @@ use outside::{Failed, Sink, Source};
 use std::io::Read;
 use std::marker::Model;
 
+fn fail(failed: &mut u64) -> Failed
+    ensures { failed.new ≡ counted failed.old }
+{
+    *failed = failed.saturating_add(1);
+    Failed
+}
 
 /// Standard input. A clause sees how often it has failed.
 #[derive(Drop)]
@@ -42,10 +48,7 @@ impl<R: Input + Drop> Source for StdinSource<R> {
     {
         match self.rt.reader().read(into) {
             Ok(n) => Ok(n),
-            Err(_) => {
-                self.failed = self.failed.saturating_add(1);
-                Err(Failed)
-            }
+            Err(_) => Err(fail(&mut self.failed)),
         }
     }
 }
@@ -87,10 +90,7 @@ impl<R: Print + Drop> Sink for StdoutSink<R> {
     {
         match self.rt.write_some(piece) {
             Ok(n) if n > 0 || piece.is_empty() => Ok(n),
-            _ => {
-                self.failed = self.failed.saturating_add(1);
-                Err(Failed)
-            }
+            _ => Err(fail(&mut self.failed)),
         }
     }
 }

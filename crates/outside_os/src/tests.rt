@@ -80,6 +80,8 @@ fn broken_streams_fail(rt: HostRuntime) {
         assert_eq!(rt; StdoutSink::new(broken).write(b"text"), Err(Failed));
     }
     // Nothing of nothing is all of it.
-    let mut silent = StdoutSink::new(Broken { output_fails: false });
+    let mut silent = StdoutSink::new(Broken {
+        output_fails: false,
+    });
     assert_eq!(rt; silent.write(b""), Ok(0));
 }
