@@ -68,8 +68,8 @@ pub taken_further : (a b c : Option (List ℕ)) (before now later n m : ℕ) (by
 taken_further a b c before now later n m bytes piece so_far is fits takes rises = record {
   within = omega (arith, so_far.within, fits, ap length is, length-drop n bytes);
   takes =
-    let both = takes_more a b c (take n bytes) (take m piece) so_far.takes takes in
-    subst (Takes a c) (ap (λ l. take n bytes ++ take m l) is ∙ sym (take-add n m bytes)) both;
+      let both = takes_more a b c (take n bytes) (take m piece) so_far.takes takes in
+      subst (Takes a c) (ap (λ l. take n bytes ++ take m l) is ∙ sym (take-add n m bytes)) both;
   later = omega (arith, so_far.later, rises);
 }
 

@@ -13,6 +13,8 @@ mod memory;
 mod no_disk;
 mod steps;
 mod stream;
+#[cfg(test)]
+mod tests;
 
 pub use disk::{Area, Damage, Disk, ReadStop, WriteStop};
 pub use fault::{Failed, NoMemory};

@@ -95,16 +95,12 @@ impl Source for MemSource {
     ghost last_fault = { λ source. within_last source.plan.failed };
 
     fn read(&mut self, into: &mut [u8]) -> Result<usize, Failed>
-        ensures fits { IfOk result (λ n. n ≤ length into.new) }
-        ensures given { IfOk result (λ n. Gives (Some self.old.left) (Some self.new.left) (take n into.new)) }
-        ensures end { IfOk result (λ n. n ≡ 0 → 0 < length into.new → IsAtEnd (Some self.new.left)) }
-        ensures kept { OnErr result (self.new.left ≡ self.old.left) }
-        ensures cause { HasCause (reading_faults self.old) (reading_faults self.new) result }
-
-        // It fails exactly at the calls that are listed, and gives all that fits.
+        // It fails exactly at the calls that are listed, and otherwise gives all that fits.
         ensures listed { IsErr result ↔ IsTrue (fails_next self.old.plan) }
         ensures counted { self.new.plan ≡ after_call self.old.plan }
         ensures all { IfOk result (λ n. n ≡ min (length into.new) (length self.old.left)) }
+        ensures given { IfOk result (λ n. self.old.left ≡ take n into.new ++ self.new.left) }
+        ensures kept { OnErr result (self.new.left ≡ self.old.left) }
     {
         self.plan.call()?;
         let left = &self.bytes[self.given..];
@@ -166,18 +162,14 @@ impl Sink for MemSink {
     ghost last_fault = { λ sink. within_last (sink.plan.failed + sink.starved) };
 
     fn write(&mut self, piece: &[u8]) -> Result<usize, Failed>
-        ensures fits { IfOk result (λ n. n ≤ length piece.now) }
-        ensures taken { IfOk result (λ n. Takes (Some self.old.taken) (Some self.new.taken) (take n piece.now)) }
-        ensures some { IfOk result (λ n. 0 < length piece.now → 1 ≤ n) }
-        ensures kept { OnErr result (self.new.taken ≡ self.old.taken) }
-        ensures cause { HasCause (writing_faults self.old) (writing_faults self.new) result }
-
-        // It fails exactly at the calls that are listed, or for want of memory, and takes all.
+        // It fails exactly at the calls that are listed, or for want of memory, and otherwise takes all.
         ensures listed { IsTrue (fails_next self.old.plan) → IsErr result }
         ensures counted { self.new.plan ≡ after_call self.old.plan }
         ensures starved { self.new.starved
             ≡ (if is_ok result || fails_next self.old.plan then self.old.starved else counted self.old.starved) }
         ensures all { IfOk result (λ n. n ≡ length piece.now) }
+        ensures taken { OnOk result (self.new.taken ≡ self.old.taken ++ piece.now) }
+        ensures kept { OnErr result (self.new.taken ≡ self.old.taken) }
     {
         self.plan.call()?;
         if self.taken.extend_from_slice(piece).is_err() {
