@@ -1,5 +1,5 @@
 -- Molecule's laws: the sizes of the encodings, where each part stands, and that an encoding has one list of parts.
-use Rattle.std.proofs.Common.{◌≡◌, ℕ, zero, suc, ◌+◌, ◌-◌, ◌*◌, ◌/◌, ◌^◌, ◌<◌, ◌≤◌, Bool, true, false, cond, ltb, eqb, List, [], ◌∷◌, ◌++◌, length, map, take, drop, refl, sym, ap, subst, ◌∙◌, append_assoc, arith, add-zero, add_assoc}
+use Rattle.std.proofs.Common.{◌≡◌, ℕ, ◌+◌, ◌-◌, ◌*◌, ◌^◌, ◌<◌, true, false, ltb, eqb, List, [], ◌∷◌, ◌++◌, length, map, take, refl, sym, ap, subst, ◌∙◌, append_assoc, arith, add-zero}
 use Rattle.std.specs.Int.{w32, to_le_bytes, from_le_bytes}
 use Rattle.std.specs.List.{concat, slice_range, range_with_len, AllByRecursion}
 use Rattle.std.proofs.lemmas.Bool.{lt-ltb, le-ltb}
@@ -75,9 +75,9 @@ offset_at front part back parts is fits =
     let tail = offsets (at + length part) back ++ concat parts in
     let split : offsets H parts ≡ offsets H front ++ offsets at (part ∷ back) = ap (offsets H) (sym is) ∙ offsets-append H front (part ∷ back) in
     let whole : dynvec parts ≡ (size ++ offsets H front) ++ (to_le_bytes w32 at ++ tail) =
-        sized parts ∙ ap (λ (l : List ℕ). size ++ (l ++ concat parts)) split
-        ∙ ap (λ (l : List ℕ). size ++ l) (append_assoc (offsets H front) (offsets at (part ∷ back)) (concat parts))
-        ∙ sym (append_assoc size (offsets H front) (to_le_bytes w32 at ++ tail)) in
+    sized parts ∙ ap (λ (l : List ℕ). size ++ (l ++ concat parts)) split
+    ∙ ap (λ (l : List ℕ). size ++ l) (append_assoc (offsets H front) (offsets at (part ∷ back)) (concat parts))
+    ∙ sym (append_assoc size (offsets H front) (to_le_bytes w32 at ++ tail)) in
     let len : length (size ++ offsets H front) ≡ 4 + 4 * length front = length-append size (offsets H front) ∙ ap (λ (n : ℕ). 4 + n) (length-offsets H front) in
     let parts_len : length (concat parts) ≡ length (concat front) + length (part ++ concat back) = ap (λ (l : List (List ℕ)). length (concat l)) (sym is) ∙ ap length (concat-append front (part ∷ back)) ∙ length-append (concat front) (part ++ concat back) in
     let small : at < 2 ^ 32 = omega arith in
@@ -118,11 +118,11 @@ part_of-dynvec front part back parts is fits =
     let next_len : length (front ++ part ∷ []) ≡ length front + 1 = length-append front (part ∷ []) in
     let next_concat : concat (front ++ part ∷ []) ≡ concat front ++ part = concat-append front (part ∷ []) ∙ ap (λ (l : List ℕ). concat front ++ l) (append-nil part) in
     let to_is : part_start (dynvec parts) (length front + 1) ≡ (H + length (concat front)) + length part =
-        ap (part_start (dynvec parts)) (sym next_len) ∙ to ∙ omega (arith, ap length next_concat, length-append (concat front) part) in
+    ap (part_start (dynvec parts)) (sym next_len) ∙ to ∙ omega (arith, ap length next_concat, length-append (concat front) part) in
     let content : concat parts ≡ concat front ++ (part ++ concat back) = ap concat (sym is) ∙ concat-append front (part ∷ back) in
     let whole : dynvec parts ≡ (header ++ concat front) ++ (part ++ concat back) = ap (λ (l : List ℕ). header ++ l) content ∙ sym (append_assoc header (concat front) (part ++ concat back)) in
     let len : length (header ++ concat front) ≡ H + length (concat front) =
-        omega (arith, length-append header (concat front), length-append (to_le_bytes w32 (full_size parts)) (offsets H parts), length-offsets H parts) in
+    omega (arith, length-append header (concat front), length-append (to_le_bytes w32 (full_size parts)) (offsets H parts), length-offsets H parts) in
     rw (from, to_is) (ap (λ (b : List ℕ). slice_range b (H + length (concat front)) ((H + length (concat front)) + length part)) whole ∙ slice-mid (header ++ concat front) part (concat back) (H + length (concat front)) len)
 
 parts_from-dynvec : (front back parts : List (List ℕ)) → front ++ back ≡ parts → full_size parts < 2 ^ 32 → map (part_of (dynvec parts)) (range_with_len (length front) (length back)) ≡ back

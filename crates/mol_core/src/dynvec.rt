@@ -51,6 +51,7 @@ impl<'a> DynView<'a> {
         self.bytes
     }
 
+    /// How many items there are.
     pub fn len(&self) -> usize
         ensures { result ≡ length self.now }
     {

@@ -53,6 +53,7 @@ impl<'a> FixView<'a> {
         self.bytes
     }
 
+    /// How many items there are.
     pub fn len(&self) -> usize
         ensures { result ≡ length self.now }
     {

@@ -32,6 +32,7 @@ fn start(bytes: &[u8], count: usize, i: usize) -> usize
     }
 }
 
+/// Whether no offset is above the next one or the end.
 fn rises(bytes: &[u8], count: usize) -> bool
     requires counted { count ≡ part_count bytes.now }
     requires header { 4 + 4 * count ≤ length bytes.now }
@@ -56,6 +57,7 @@ pub(crate) fn is_laid_out(bytes: &[u8]) -> bool
     if len < 4 || read_u32(bytes, 0) != len {
         return false;
     }
+    // Where there is no room for an offset, only the empty dynvec is left.
     if len < 8 {
         return len == 4;
     }

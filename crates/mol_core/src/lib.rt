@@ -15,3 +15,6 @@ mod table;
 pub use dynvec::{DynView, check_dynvec};
 pub use fixvec::{FixView, check_fixvec};
 pub use table::{TableView, check_table};
+
+#[cfg(test)]
+mod tests;

@@ -1,4 +1,4 @@
-use Rattle.std.proofs.Common.{ℕ, ◌≡◌, ◌+◌, ◌*◌, arith, ap, sym, ◌∙◌, length}
+use Rattle.std.proofs.Common.{◌≡◌, arith, sym, ◌∙◌, length}
 use Rattle.codec_defs.specs.Molecule.{u32_at}
 use Rattle.mol_core.specs.Layout.{IsLaidOut}
 use Rattle.mol_core.proofs.Reading.{layout-short, layout-empty, header-within}

@@ -1,4 +1,4 @@
-use Rattle.std.proofs.Common.{ℕ, ◌≡◌, ◌+◌, ◌*◌, ◌-◌, ◌≤◌, length, take, drop, ap, sym, arith, rules}
+use Rattle.std.proofs.Common.{ℕ, ◌≡◌, ◌+◌, ◌*◌, ◌-◌, ◌≤◌, length, take, drop, ap, arith, rules}
 use Rattle.codec_defs.specs.Molecule.{item_of_fixvec}
 use Rattle.mol_core.proofs.Reading.{item-ends-within}
 use Rattle.mol_core.proofs.layout.item_at.Goals as goal

@@ -1,4 +1,4 @@
-use Rattle.std.proofs.Common.{List, ℕ, ◌≡◌, ◌<◌, length, ap, sym, ◌∙◌, arith, Some}
+use Rattle.std.proofs.Common.{List, ℕ, ◌≡◌, ◌<◌, ap, sym, ◌∙◌, arith, Some}
 use Rattle.std.specs.Prelude.{slice_get}
 use Rattle.codec_defs.specs.Molecule.{parts_of, part_count}
 use Rattle.mol_core.proofs.Reading.{IsDynvec-from_table, IsLaidOut-from_dynvec, slice_get-parts_of, part_count-table}
