@@ -1,12 +1,12 @@
 -- Laws of the schema's rows: an encoding has one value, and the structs have their sizes.
-use Rattle.std.proofs.Common.{◌≡◌, ℕ, List, [], ◌∷◌, refl, arith}
+use Rattle.std.proofs.Common.{◌≡◌, ℕ, List, [], ◌∷◌, length, map, refl, arith}
 use Rattle.std.specs.Prelude.{IsTrue, ◌++◌}
 use Rattle.std.specs.Int.{w32, to_le_bytes}
 use Rattle.std.specs.List.{concat}
 use Rattle.std.proofs.lemmas.List.{length-append}
 use Rattle.codec_defs.specs.Molecule as molecule
 use Rattle.codec_defs.specs.Shape.{Encoding, Shape, IsA, encoded, byte, u32, u64, u128, bytes, fixvec, dynvec, option, field, parts}
-use Rattle.codec_defs.specs.Schema.{byte32, proposal_short_id, Script, script, OutPoint, out_point, CellInput, cell_input, CellDep, cell_dep, CellOutput, cell_output, RawTransaction, raw_transaction, Transaction, transaction, Header, header, UncleBlock, uncle_block, Block, block}
+use Rattle.codec_defs.specs.Schema.{byte32, proposal_short_id, Script, script, OutPoint, out_point, CellInput, cell_input, CellDep, cell_dep, CellOutput, cell_output, RawTransaction, raw_transaction, Transaction, transaction, Header, header, UncleBlock, uncle_block, Block, block, CellbaseWitness, cellbase_witness, WitnessArgs, witness_args, out_points}
 use Rattle.codec_defs.proofs.ShapeLaws.{Inverts, HasSize, IsNeverEmpty, AllSized, encodings, PlacedAt, TableOf, AllFit, AllFit-from, table-parts, struct-parts, byte-inverts, u32-inverts, u64-inverts, u128-inverts, byte_array-inverts, bytes-inverts, fixvec-inverts, dynvec-inverts, option-inverts, byte-size, u32-size, u64-size, u128-size, byte_array-size}
 
 -- the bytes are the encoding of a value, where they are its bytes
@@ -261,4 +261,53 @@ block-inverts = record {
       let transactions = field-back (dynvec transaction) (dynvec-inverts transaction transaction-inverts) _ v.transactions p.1.1.0 in
       let proposals = field-back (fixvec 10 proposal_short_id) proposals-inverts _ v.proposals p.1.1.1.0 in
       λ i. record { header = header i; uncles = uncles i; transactions = transactions i; proposals = proposals i };
+}
+
+-- ---- the rows of witnesses, and a list of out-points
+
+pub bytes-some : IsNeverEmpty bytes
+unfolding molecule.fixvec
+bytes-some = record { some = λ content f. omega (arith, length-append (to_le_bytes w32 (length (map (λ b. b ∷ []) content))) (concat (map (λ b. b ∷ []) content))) }
+
+pub out_points-inverts : Inverts out_points
+out_points-inverts = fixvec-inverts 36 out_point out_point-inverts out_point-size
+
+-- ---- CellbaseWitness
+
+abbrev pub cellbase_witness_fields : CellbaseWitness → List Encoding
+cellbase_witness_fields v = field script v.lock ∷ field bytes v.message ∷ []
+
+pub cellbase_witness-parts : (b : List ℕ) (v : CellbaseWitness) → IsA cellbase_witness b v → TableOf b (cellbase_witness_fields v)
+unfolding cellbase_witness
+cellbase_witness-parts b v a = table-parts b (cellbase_witness_fields v) a.encoding a.fits
+
+pub cellbase_witness-inverts : Inverts cellbase_witness
+unfolding cellbase_witness
+cellbase_witness-inverts = record {
+    back = λ b v a.
+        let p = (cellbase_witness-parts b v a).fields in
+        let lock = field-back script script-inverts _ v.lock p.0 in
+        let message = field-back bytes bytes-inverts _ v.message p.1.0 in
+        λ i. record { lock = lock i; message = message i };
+}
+
+
+-- ---- WitnessArgs
+
+abbrev pub witness_args_fields : WitnessArgs → List Encoding
+witness_args_fields v = field (option bytes) v.lock ∷ field (option bytes) v.input_type ∷ field (option bytes) v.output_type ∷ []
+
+pub witness_args-parts : (b : List ℕ) (v : WitnessArgs) → IsA witness_args b v → TableOf b (witness_args_fields v)
+unfolding witness_args
+witness_args-parts b v a = table-parts b (witness_args_fields v) a.encoding a.fits
+
+pub witness_args-inverts : Inverts witness_args
+unfolding witness_args
+witness_args-inverts = record {
+    back = λ b v a.
+        let p = (witness_args-parts b v a).fields in
+        let lock = field-back (option bytes) (option-inverts bytes bytes-inverts bytes-some) _ v.lock p.0 in
+        let input_type = field-back (option bytes) (option-inverts bytes bytes-inverts bytes-some) _ v.input_type p.1.0 in
+        let output_type = field-back (option bytes) (option-inverts bytes bytes-inverts bytes-some) _ v.output_type p.1.1.0 in
+        λ i. record { lock = lock i; input_type = input_type i; output_type = output_type i };
 }

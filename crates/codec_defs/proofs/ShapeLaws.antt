@@ -57,6 +57,10 @@ decoded-none s b none = elim (decoded s b) as (λ o. decoded s b ≡ o → o ≡
 pub decoded-iff : {V : Type 0} (s : Shape V) → Inverts s → (b : List ℕ) (v : V) → (decoded s b ≡ Some v) ↔ IsA s b v
 decoded-iff s law b v = (IsA-decoded s b v, decoded-is s law b v)
 
+-- an answer that is `decoded` is a value exactly where the bytes encode it
+pub decoded-exact : {V : Type 0} (s : Shape V) → Inverts s → (b : List ℕ) (r : Option V) → r ≡ decoded s b → (v : V) → (r ≡ Some v) ↔ IsA s b v
+decoded-exact s law b r is v = subst (λ (o : Option _). (o ≡ Some v) ↔ IsA s b v) (sym is) (decoded-iff s law b v)
+
 -- ---- numbers and arrays
 
 pub byte-inverts : Inverts byte

@@ -191,3 +191,34 @@ block = record {
     proposals = value (fixvec 10 proposal_short_id) (part b 3);
   };
 }
+
+pub record CellbaseWitness : Type 0 where
+  pub lock : Script
+  pub message : List ℕ
+
+-- table CellbaseWitness { lock: Script, message: Bytes }
+unfoldable pub cellbase_witness : Shape CellbaseWitness
+cellbase_witness = record {
+  encoding = λ w. table (field script w.lock ∷ field bytes w.message ∷ []);
+  value_of = λ b. record { lock = value script (part b 0); message = value bytes (part b 1) };
+}
+
+pub record WitnessArgs : Type 0 where
+  pub lock : Option (List ℕ)
+  pub input_type : Option (List ℕ)
+  pub output_type : Option (List ℕ)
+
+-- table WitnessArgs { lock: BytesOpt, input_type: BytesOpt, output_type: BytesOpt }
+unfoldable pub witness_args : Shape WitnessArgs
+witness_args = record {
+  encoding = λ w. table (field (option bytes) w.lock ∷ field (option bytes) w.input_type ∷ field (option bytes) w.output_type ∷ []);
+  value_of = λ b. record {
+    lock = value (option bytes) (part b 0);
+    input_type = value (option bytes) (part b 1);
+    output_type = value (option bytes) (part b 2);
+  };
+}
+
+-- vector OutPointVec <OutPoint>
+abbrev pub out_points : Shape (List OutPoint)
+out_points = fixvec 36 out_point

@@ -23,7 +23,7 @@ pub record IsA {V : Type 0} (shape : Shape V) (bytes : List ℕ) (v : V) : Type 
   pub fits : IsTrue (shape.encoding v).fits
   pub encoding : bytes ≡ encoded shape v
 
--- The value that the bytes encode, if there is one. Law: decoded shape bytes ≡ Some v ↔ IsA shape bytes v (proofs/Decoded.antt).
+-- The value that the bytes encode, if there is one: `decoded shape bytes ≡ Some v` exactly where `IsA shape bytes v` (`decoded-iff` of proofs/ShapeLaws.antt).
 unfoldable pub decoded : {V : Type 0} → Shape V → List ℕ → Option V
 decoded shape bytes =
     let v = shape.value_of bytes in

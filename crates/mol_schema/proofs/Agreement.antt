@@ -13,7 +13,7 @@ use Rattle.codec_defs.specs.Molecule.{IsFixvec, IsDynvec, IsTable}
 use Rattle.codec_defs.specs.Shape.{Encoding, Shape, IsA, encoded, decoded, byte, u32, u64, u128, are_bytes, byte_array, bytes, fixvec, dynvec, option, table, parts, all_fit, part}
 use Rattle.codec_defs.proofs.MoleculeLaws.{IsFixvec_only, IsDynvec_only, length-concat}
 use Rattle.codec_defs.proofs.Numbers.{le_bytes_16}
-use Rattle.codec_defs.proofs.ShapeLaws.{Inverts, length-parts, AllFit, AllFit-from, all_fit-from, TableOf, table-whole, table-parts, concat-singles, decoded-is, decoded-none}
+use Rattle.codec_defs.proofs.ShapeLaws.{Inverts, length-parts, AllFit, AllFit-from, all_fit-from, TableOf, table-whole, table-parts, concat-singles, decoded-is, decoded-none, decoded-exact}
 use Rattle.mol_schema.specs.Checked.{HasLength, IsItems, IsBytes, IsListOf}
 
 -- each is a byte
@@ -25,11 +25,18 @@ pub record Agrees {V : Type 0} (P : List ℕ → Type 0) (s : Shape V) : Type 0 
   pub only : (b : List ℕ) (v : V) → IsA s b v → P b
 
 -- what `read` answers
-pub read-some : {V : Type 0} (P : List ℕ → Type 0) (s : Shape V) → Agrees P s → Inverts s → (b : List ℕ) → AreBytes b → P b → Some (s.value_of b) ≡ decoded s b
-read-some P s agree law b small p = sym (decoded-is s law b (s.value_of b) (agree.sound b small p))
+abbrev pub Answers : {V : Type 0} → Shape V → List ℕ → Option V → Type 0
+Answers s b r = record { value : r ≡ decoded s b; exact : (v : _) → (r ≡ Some v) ↔ IsA s b v }
 
-pub read-none : {V : Type 0} (P : List ℕ → Type 0) (s : Shape V) → Agrees P s → (b : List ℕ) → (P b → ⊥) → None ≡ decoded s b
-read-none P s agree b none = sym (decoded-none s b (λ v a. none (agree.only b v a)))
+pub read-some : {V : Type 0} (P : List ℕ → Type 0) (s : Shape V) → Agrees P s → Inverts s → (b : List ℕ) → AreBytes b → P b → Answers s b (Some (s.value_of b))
+read-some P s agree law b small p =
+    let is = sym (decoded-is s law b (s.value_of b) (agree.sound b small p)) in
+    record { value = is; exact = decoded-exact s law b (Some (s.value_of b)) is }
+
+pub read-none : {V : Type 0} (P : List ℕ → Type 0) (s : Shape V) → Agrees P s → Inverts s → (b : List ℕ) → (P b → ⊥) → Answers s b None
+read-none P s agree law b none =
+    let is = sym (decoded-none s b (λ v a. none (agree.only b v a))) in
+    record { value = is; exact = decoded-exact s law b None is }
 
 -- ---- parts of bytes are bytes
 

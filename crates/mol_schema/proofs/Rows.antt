@@ -3,10 +3,10 @@ use Rattle.std.proofs.Common.{◌≡◌, ℕ, ◌+◌, ◌-◌, ◌<◌, ◌≤�
 use Rattle.std.specs.List.{slice_range}
 use Rattle.std.proofs.lemmas.List.{length-take, length-drop}
 use Rattle.codec_defs.specs.Shape.{IsA, byte, u32, u64, u128, bytes, fixvec, dynvec, option, part}
-use Rattle.codec_defs.specs.Schema.{byte32, proposal_short_id, script, out_point, cell_input, cell_dep, cell_output, raw_transaction, transaction, header, uncle_block, block}
+use Rattle.codec_defs.specs.Schema.{byte32, proposal_short_id, script, out_point, cell_input, cell_dep, cell_output, raw_transaction, transaction, header, uncle_block, block, cellbase_witness, witness_args, out_points}
 use Rattle.codec_defs.proofs.ShapeLaws.{PlacedAt, TableOf, struct-whole, table-whole}
-use Rattle.codec_defs.proofs.SchemaLaws.{is_a, out_point_fields, cell_input_fields, cell_dep_fields, header_fields, script_fields, cell_output_fields, raw_transaction_fields, transaction_fields, uncle_block_fields, block_fields, script-parts, cell_output-parts, raw_transaction-parts, transaction-parts, uncle_block-parts, block-parts, out_point-size, cell_input-size, cell_dep-size, header-size}
-use Rattle.mol_schema.specs.Checked.{HasLength, IsItems, IsBytes, IsListOf, IsScript, IsScriptOption, IsCellOutput, IsRawTransaction, IsTransaction, IsUncleBlock, IsBlock}
+use Rattle.codec_defs.proofs.SchemaLaws.{is_a, out_point_fields, cell_input_fields, cell_dep_fields, header_fields, script_fields, cell_output_fields, raw_transaction_fields, transaction_fields, uncle_block_fields, block_fields, cellbase_witness_fields, witness_args_fields, script-parts, cell_output-parts, raw_transaction-parts, transaction-parts, uncle_block-parts, block-parts, cellbase_witness-parts, witness_args-parts, out_point-size, cell_input-size, cell_dep-size, header-size}
+use Rattle.mol_schema.specs.Checked.{HasLength, IsItems, IsBytes, IsBytesOption, IsListOf, IsScript, IsScriptOption, IsCellOutput, IsRawTransaction, IsTransaction, IsUncleBlock, IsBlock, IsCellbaseWitness, IsWitnessArgs}
 use Rattle.mol_schema.proofs.Agreement.{AreBytes, AreBytes-range, AreBytes-part, Agrees, byte-agrees, u32-agrees, u64-agrees, u128-agrees, byte_array-agrees, bytes-agrees, fixvec-agrees, dynvec-agrees, option-agrees, field-sound, field-only}
 
 pub length-range : (b : List ℕ) (i j n : ℕ) {m : ℕ} → length b ≡ m → j ≤ m → j ≡ i + n → length (slice_range b i j) ≡ n
@@ -314,3 +314,68 @@ block-agrees = record {
         proposals = field-only (IsItems 10) (fixvec 10 proposal_short_id) (fixvec-agrees 10 proposal_short_id (byte_array-agrees 10)) (part b 3) v.proposals t.fields.1.1.1.0;
       };
 }
+
+-- ---- CellbaseWitness
+
+cellbase_witness_table : (b : List ℕ) → AreBytes b → IsCellbaseWitness b → TableOf b (cellbase_witness_fields (cellbase_witness.value_of b))
+unfolding cellbase_witness
+cellbase_witness_table b small p = record {
+  table = p.table;
+  fields = (
+    field-sound IsScript script script-agrees (part b 0) (AreBytes-part b 0 small) p.lock,
+    (
+      field-sound IsBytes bytes bytes-agrees (part b 1) (AreBytes-part b 1 small) p.message,
+      tt,
+    ),
+  );
+}
+
+pub cellbase_witness-agrees : Agrees IsCellbaseWitness cellbase_witness
+unfolding cellbase_witness
+cellbase_witness-agrees = record {
+  sound = λ b small p. is_a cellbase_witness b (cellbase_witness.value_of b) (table-whole b (cellbase_witness_fields (cellbase_witness.value_of b)) (cellbase_witness_table b small p));
+  only = λ b v a.
+      let t = cellbase_witness-parts b v a in
+      record {
+        table = t.table;
+        lock = field-only IsScript script script-agrees (part b 0) v.lock t.fields.0;
+        message = field-only IsBytes bytes bytes-agrees (part b 1) v.message t.fields.1.0;
+      };
+}
+
+-- ---- WitnessArgs
+
+witness_args_table : (b : List ℕ) → AreBytes b → IsWitnessArgs b → TableOf b (witness_args_fields (witness_args.value_of b))
+unfolding witness_args
+witness_args_table b small p = record {
+  table = p.table;
+  fields = (
+    field-sound IsBytesOption (option bytes) (option-agrees IsBytes bytes bytes-agrees) (part b 0) (AreBytes-part b 0 small) p.lock,
+    (
+      field-sound IsBytesOption (option bytes) (option-agrees IsBytes bytes bytes-agrees) (part b 1) (AreBytes-part b 1 small) p.input_type,
+      (
+        field-sound IsBytesOption (option bytes) (option-agrees IsBytes bytes bytes-agrees) (part b 2) (AreBytes-part b 2 small) p.output_type,
+        tt,
+      ),
+    ),
+  );
+}
+
+pub witness_args-agrees : Agrees IsWitnessArgs witness_args
+unfolding witness_args
+witness_args-agrees = record {
+  sound = λ b small p. is_a witness_args b (witness_args.value_of b) (table-whole b (witness_args_fields (witness_args.value_of b)) (witness_args_table b small p));
+  only = λ b v a.
+      let t = witness_args-parts b v a in
+      record {
+        table = t.table;
+        lock = field-only IsBytesOption (option bytes) (option-agrees IsBytes bytes bytes-agrees) (part b 0) v.lock t.fields.0;
+        input_type = field-only IsBytesOption (option bytes) (option-agrees IsBytes bytes bytes-agrees) (part b 1) v.input_type t.fields.1.0;
+        output_type = field-only IsBytesOption (option bytes) (option-agrees IsBytes bytes bytes-agrees) (part b 2) v.output_type t.fields.1.1.0;
+      };
+}
+
+-- ---- OutPoints
+
+pub out_points-agrees : Agrees (IsItems 36) out_points
+out_points-agrees = fixvec-agrees 36 out_point out_point-agrees

@@ -13,6 +13,10 @@ IsItems size b = IsFixvec size b (items_of_fixvec size b)
 abbrev pub IsBytes : List ℕ → Type 0
 IsBytes b = IsItems 1 b
 
+-- No bytes, or a `Bytes`.
+abbrev pub IsBytesOption : List ℕ → Type 0
+IsBytesOption b = 0 < length b → IsBytes b
+
 -- A dynvec, each item of which P holds.
 pub record IsListOf (P : List ℕ → Type 0) (b : List ℕ) : Type 0 where
   pub dynvec : IsDynvec b (parts_of b)
@@ -59,3 +63,14 @@ pub record IsBlock (b : List ℕ) : Type 0 where
   pub uncles : IsListOf IsUncleBlock (part b 1)
   pub transactions : IsListOf IsTransaction (part b 2)
   pub proposals : IsItems 10 (part b 3)
+
+pub record IsCellbaseWitness (b : List ℕ) : Type 0 where
+  pub table : IsTable 2 b (parts_of b)
+  pub lock : IsScript (part b 0)
+  pub message : IsBytes (part b 1)
+
+pub record IsWitnessArgs (b : List ℕ) : Type 0 where
+  pub table : IsTable 3 b (parts_of b)
+  pub lock : IsBytesOption (part b 0)
+  pub input_type : IsBytesOption (part b 1)
+  pub output_type : IsBytesOption (part b 2)

@@ -1,8 +1,8 @@
 //! A block and its uncles.
 
-ghost use Rattle.std.specs.Prelude.{◌≡◌, ◌<◌, Some, length, slice_get};
+ghost use Rattle.std.specs.Prelude.{◌≡◌, ◌<◌, ◌↔◌, Some, length, slice_get};
 ghost use Rattle.codec_defs.specs.Shape.{IsA, decoded};
-ghost use Rattle.codec_defs.specs.Schema.{block, uncle_block};
+ghost use Rattle.codec_defs.specs.Schema.{Block, block, UncleBlock, uncle_block};
 ghost use Rattle.mol_schema.specs.Checked.{IsUncleBlock};
 
 use crate::check::{is_block, is_uncle_block};
@@ -32,7 +32,8 @@ impl<'a> Model for UncleView<'a> {
 impl<'a> UncleView<'a> {
     /// The view of bytes that encode an `UncleBlock`.
     pub fn read(b: &'a [u8]) -> Option<Self>
-        ensures { result ≡ decoded uncle_block b.now }
+        ensures value { result ≡ decoded uncle_block b.now }
+        ensures exact { (v : UncleBlock) → (result ≡ Some v) ↔ IsA uncle_block b.now v }
     {
         if is_uncle_block(b) {
             Some(UncleView { bytes: b })
@@ -45,6 +46,14 @@ impl<'a> UncleView<'a> {
     pub(crate) fn known(b: &'a [u8]) -> Self
         requires { IsUncleBlock b.now }
         ensures { result ≡ uncle_block.value_of b.now }
+    {
+        UncleView { bytes: b }
+    }
+
+    /// The view of bytes that are known to encode an `UncleBlock`: nothing is checked again.
+    pub fn of_encoding(b: &'a [u8]) -> Self
+        requires { (v : UncleBlock) × IsA uncle_block b.now v }
+        ensures { (v : UncleBlock) → IsA uncle_block b.now v → result ≡ v }
     {
         UncleView { bytes: b }
     }
@@ -97,13 +106,22 @@ impl<'a> Model for BlockView<'a> {
 impl<'a> BlockView<'a> {
     /// The view of bytes that encode a `Block`.
     pub fn read(b: &'a [u8]) -> Option<Self>
-        ensures { result ≡ decoded block b.now }
+        ensures value { result ≡ decoded block b.now }
+        ensures exact { (v : Block) → (result ≡ Some v) ↔ IsA block b.now v }
     {
         if is_block(b) {
             Some(BlockView { bytes: b })
         } else {
             None
         }
+    }
+
+    /// The view of bytes that are known to encode a `Block`: nothing is checked again.
+    pub fn of_encoding(b: &'a [u8]) -> Self
+        requires { (v : Block) × IsA block b.now v }
+        ensures { (v : Block) → IsA block b.now v → result ≡ v }
+    {
+        BlockView { bytes: b }
     }
 
     /// The whole encoding.

@@ -2,7 +2,7 @@
 
 ghost use Rattle.std.specs.Prelude.{◌↔◌, IsTrue};
 ghost use Rattle.codec_defs.specs.Molecule.{IsDynvec, IsTable, parts_of};
-ghost use Rattle.mol_schema.specs.Checked.{IsBytes, IsItems, IsListOf, IsScript, IsScriptOption, IsCellOutput, IsRawTransaction, IsTransaction, IsUncleBlock, IsBlock};
+ghost use Rattle.mol_schema.specs.Checked.{IsBytes, IsBytesOption, IsItems, IsListOf, IsScript, IsScriptOption, IsCellOutput, IsRawTransaction, IsTransaction, IsUncleBlock, IsBlock, IsCellbaseWitness, IsWitnessArgs};
 
 use crate::parts::{field, list_item, list_len};
 use mol_core::{check_dynvec, check_fixvec, check_table};
@@ -19,7 +19,7 @@ fn is_list(b: &[u8]) -> bool
     check_dynvec(b).is_some()
 }
 
-fn are_items(b: &[u8], size: usize) -> bool
+pub(crate) fn are_items(b: &[u8], size: usize) -> bool
     ensures { IsTrue result ↔ IsItems size b.now }
 {
     check_fixvec(b, size).is_some()
@@ -173,4 +173,33 @@ pub(crate) fn is_block(b: &[u8]) -> bool
         && are_uncle_blocks(uncles)
         && are_transactions(transactions)
         && are_items(proposals, 10)
+}
+
+fn is_bytes_option(b: &[u8]) -> bool
+    ensures { IsTrue result ↔ IsBytesOption b.now }
+{
+    b.is_empty() || is_bytes(b)
+}
+
+pub(crate) fn is_cellbase_witness(b: &[u8]) -> bool
+    ensures { IsTrue result ↔ IsCellbaseWitness b.now }
+{
+    if !is_table::<2>(b) {
+        return false;
+    }
+    let lock = field::<2>(b, 0);
+    let message = field::<2>(b, 1);
+    is_script(lock) && is_bytes(message)
+}
+
+pub(crate) fn is_witness_args(b: &[u8]) -> bool
+    ensures { IsTrue result ↔ IsWitnessArgs b.now }
+{
+    if !is_table::<3>(b) {
+        return false;
+    }
+    let lock = field::<3>(b, 0);
+    let input_type = field::<3>(b, 1);
+    let output_type = field::<3>(b, 2);
+    is_bytes_option(lock) && is_bytes_option(input_type) && is_bytes_option(output_type)
 }

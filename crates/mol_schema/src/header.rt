@@ -1,8 +1,8 @@
 //! A block's header.
 
-ghost use Rattle.std.specs.Prelude.{◌≡◌};
+ghost use Rattle.std.specs.Prelude.{◌≡◌, ◌↔◌, Some};
 ghost use Rattle.codec_defs.specs.Shape.{IsA, decoded};
-ghost use Rattle.codec_defs.specs.Schema.{header};
+ghost use Rattle.codec_defs.specs.Schema.{Header, header};
 ghost use Rattle.mol_schema.specs.Checked.{HasLength};
 
 use crate::number::{u32_of, u64_of, u128_of};
@@ -30,7 +30,8 @@ impl<'a> Model for HeaderView<'a> {
 impl<'a> HeaderView<'a> {
     /// The view of bytes that encode a `Header`.
     pub fn read(b: &'a [u8]) -> Option<Self>
-        ensures { result ≡ decoded header b.now }
+        ensures value { result ≡ decoded header b.now }
+        ensures exact { (v : Header) → (result ≡ Some v) ↔ IsA header b.now v }
     {
         if b.len() == 208 {
             Some(HeaderView { bytes: b })
@@ -43,6 +44,14 @@ impl<'a> HeaderView<'a> {
     pub(crate) fn known(b: &'a [u8]) -> Self
         requires { HasLength 208 b.now }
         ensures { result ≡ header.value_of b.now }
+    {
+        HeaderView { bytes: b }
+    }
+
+    /// The view of bytes that are known to encode a `Header`: nothing is checked again.
+    pub fn of_encoding(b: &'a [u8]) -> Self
+        requires { (v : Header) × IsA header b.now v }
+        ensures { (v : Header) → IsA header b.now v → result ≡ v }
     {
         HeaderView { bytes: b }
     }

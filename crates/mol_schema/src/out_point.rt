@@ -1,8 +1,8 @@
 //! The structs of a transaction: an out-point, an input, a cell dep.
 
-ghost use Rattle.std.specs.Prelude.{◌≡◌};
+ghost use Rattle.std.specs.Prelude.{◌≡◌, ◌↔◌, Some};
 ghost use Rattle.codec_defs.specs.Shape.{IsA, decoded};
-ghost use Rattle.codec_defs.specs.Schema.{out_point, cell_input, cell_dep};
+ghost use Rattle.codec_defs.specs.Schema.{OutPoint, out_point, CellInput, cell_input, CellDep, cell_dep};
 ghost use Rattle.mol_schema.specs.Checked.{HasLength};
 
 use crate::number::{u32_of, u64_of};
@@ -30,13 +30,30 @@ impl<'a> Model for OutPointView<'a> {
 impl<'a> OutPointView<'a> {
     /// The view of bytes that encode an `OutPoint`.
     pub fn read(b: &'a [u8]) -> Option<Self>
-        ensures { result ≡ decoded out_point b.now }
+        ensures value { result ≡ decoded out_point b.now }
+        ensures exact { (v : OutPoint) → (result ≡ Some v) ↔ IsA out_point b.now v }
     {
         if b.len() == 36 {
             Some(OutPointView { bytes: b })
         } else {
             None
         }
+    }
+
+    /// The view of bytes that were checked before.
+    pub(crate) fn known(b: &'a [u8]) -> Self
+        requires { HasLength 36 b.now }
+        ensures { result ≡ out_point.value_of b.now }
+    {
+        OutPointView { bytes: b }
+    }
+
+    /// The view of bytes that are known to encode an `OutPoint`: nothing is checked again.
+    pub fn of_encoding(b: &'a [u8]) -> Self
+        requires { (v : OutPoint) × IsA out_point b.now v }
+        ensures { (v : OutPoint) → IsA out_point b.now v → result ≡ v }
+    {
+        OutPointView { bytes: b }
     }
 
     /// The whole encoding.
@@ -82,7 +99,8 @@ impl<'a> Model for InputView<'a> {
 impl<'a> InputView<'a> {
     /// The view of bytes that encode a `CellInput`.
     pub fn read(b: &'a [u8]) -> Option<Self>
-        ensures { result ≡ decoded cell_input b.now }
+        ensures value { result ≡ decoded cell_input b.now }
+        ensures exact { (v : CellInput) → (result ≡ Some v) ↔ IsA cell_input b.now v }
     {
         if b.len() == 44 {
             Some(InputView { bytes: b })
@@ -95,6 +113,14 @@ impl<'a> InputView<'a> {
     pub(crate) fn known(b: &'a [u8]) -> Self
         requires { HasLength 44 b.now }
         ensures { result ≡ cell_input.value_of b.now }
+    {
+        InputView { bytes: b }
+    }
+
+    /// The view of bytes that are known to encode a `CellInput`: nothing is checked again.
+    pub fn of_encoding(b: &'a [u8]) -> Self
+        requires { (v : CellInput) × IsA cell_input b.now v }
+        ensures { (v : CellInput) → IsA cell_input b.now v → result ≡ v }
     {
         InputView { bytes: b }
     }
@@ -142,7 +168,8 @@ impl<'a> Model for DepView<'a> {
 impl<'a> DepView<'a> {
     /// The view of bytes that encode a `CellDep`.
     pub fn read(b: &'a [u8]) -> Option<Self>
-        ensures { result ≡ decoded cell_dep b.now }
+        ensures value { result ≡ decoded cell_dep b.now }
+        ensures exact { (v : CellDep) → (result ≡ Some v) ↔ IsA cell_dep b.now v }
     {
         if b.len() == 37 {
             Some(DepView { bytes: b })
@@ -155,6 +182,14 @@ impl<'a> DepView<'a> {
     pub(crate) fn known(b: &'a [u8]) -> Self
         requires { HasLength 37 b.now }
         ensures { result ≡ cell_dep.value_of b.now }
+    {
+        DepView { bytes: b }
+    }
+
+    /// The view of bytes that are known to encode a `CellDep`: nothing is checked again.
+    pub fn of_encoding(b: &'a [u8]) -> Self
+        requires { (v : CellDep) × IsA cell_dep b.now v }
+        ensures { (v : CellDep) → IsA cell_dep b.now v → result ≡ v }
     {
         DepView { bytes: b }
     }

@@ -1,9 +1,10 @@
 //! The parts of bytes that are known to be an encoding. Nothing is checked again.
 
-ghost use Rattle.std.specs.Prelude.{◌≡◌, ℕ, ◌<◌, Some, drop, length, slice_get, slice_index};
+ghost use Rattle.std.specs.Prelude.{◌≡◌, ℕ, ◌<◌, ◌==◌, if◌then◌else◌, None, Some, drop, length, slice_get, slice_index};
+ghost use Rattle.std.specs.Option.{option_copied};
 ghost use Rattle.codec_defs.specs.Molecule.{IsDynvec, IsTable, items_of_fixvec, parts_of};
 ghost use Rattle.codec_defs.specs.Shape.{part};
-ghost use Rattle.mol_schema.specs.Checked.{IsBytes, IsItems};
+ghost use Rattle.mol_schema.specs.Checked.{IsBytes, IsBytesOption, IsItems};
 
 use mol_core::{DynView, FixView, TableView};
 
@@ -66,4 +67,16 @@ pub(crate) fn content(bytes: &[u8]) -> &[u8]
     ensures { result.now ≡ drop 4 bytes.now }
 {
     &bytes[4..]
+}
+
+/// What a `Bytes` holds, where there is one.
+pub(crate) fn optional_content(bytes: &[u8]) -> Option<&[u8]>
+    requires { IsBytesOption bytes.now }
+    ensures { option_copied result ≡ (if length bytes.now == 0 then None else Some (drop 4 bytes.now)) }
+{
+    if bytes.is_empty() {
+        None
+    } else {
+        Some(content(bytes))
+    }
 }

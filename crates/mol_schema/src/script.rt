@@ -1,8 +1,8 @@
 //! A script: a program by its hash, and its arguments.
 
-ghost use Rattle.std.specs.Prelude.{◌≡◌};
+ghost use Rattle.std.specs.Prelude.{◌≡◌, ◌↔◌, Some};
 ghost use Rattle.codec_defs.specs.Shape.{IsA, decoded};
-ghost use Rattle.codec_defs.specs.Schema.{script};
+ghost use Rattle.codec_defs.specs.Schema.{Script, script};
 ghost use Rattle.mol_schema.specs.Checked.{IsScript};
 
 use crate::check::is_script;
@@ -30,7 +30,8 @@ impl<'a> Model for ScriptView<'a> {
 impl<'a> ScriptView<'a> {
     /// The view of bytes that encode a `Script`.
     pub fn read(b: &'a [u8]) -> Option<Self>
-        ensures { result ≡ decoded script b.now }
+        ensures value { result ≡ decoded script b.now }
+        ensures exact { (v : Script) → (result ≡ Some v) ↔ IsA script b.now v }
     {
         if is_script(b) {
             Some(ScriptView { bytes: b })
@@ -43,6 +44,14 @@ impl<'a> ScriptView<'a> {
     pub(crate) fn known(b: &'a [u8]) -> Self
         requires { IsScript b.now }
         ensures { result ≡ script.value_of b.now }
+    {
+        ScriptView { bytes: b }
+    }
+
+    /// The view of bytes that are known to encode a `Script`: nothing is checked again.
+    pub fn of_encoding(b: &'a [u8]) -> Self
+        requires { (v : Script) × IsA script b.now v }
+        ensures { (v : Script) → IsA script b.now v → result ≡ v }
     {
         ScriptView { bytes: b }
     }

@@ -1,8 +1,8 @@
 //! A transaction, its outputs, and what its hash is of.
 
-ghost use Rattle.std.specs.Prelude.{◌≡◌, ◌<◌, Some, length, slice_get};
+ghost use Rattle.std.specs.Prelude.{◌≡◌, ◌<◌, ◌↔◌, Some, length, slice_get};
 ghost use Rattle.codec_defs.specs.Shape.{IsA, decoded};
-ghost use Rattle.codec_defs.specs.Schema.{cell_output, raw_transaction, transaction};
+ghost use Rattle.codec_defs.specs.Schema.{CellOutput, cell_output, RawTransaction, raw_transaction, Transaction, transaction};
 ghost use Rattle.mol_schema.specs.Checked.{IsCellOutput, IsRawTransaction, IsTransaction};
 
 use crate::check::{is_cell_output, is_raw_transaction, is_transaction};
@@ -33,7 +33,8 @@ impl<'a> Model for OutputView<'a> {
 impl<'a> OutputView<'a> {
     /// The view of bytes that encode a `CellOutput`.
     pub fn read(b: &'a [u8]) -> Option<Self>
-        ensures { result ≡ decoded cell_output b.now }
+        ensures value { result ≡ decoded cell_output b.now }
+        ensures exact { (v : CellOutput) → (result ≡ Some v) ↔ IsA cell_output b.now v }
     {
         if is_cell_output(b) {
             Some(OutputView { bytes: b })
@@ -46,6 +47,14 @@ impl<'a> OutputView<'a> {
     pub(crate) fn known(b: &'a [u8]) -> Self
         requires { IsCellOutput b.now }
         ensures { result ≡ cell_output.value_of b.now }
+    {
+        OutputView { bytes: b }
+    }
+
+    /// The view of bytes that are known to encode a `CellOutput`: nothing is checked again.
+    pub fn of_encoding(b: &'a [u8]) -> Self
+        requires { (v : CellOutput) × IsA cell_output b.now v }
+        ensures { (v : CellOutput) → IsA cell_output b.now v → result ≡ v }
     {
         OutputView { bytes: b }
     }
@@ -104,7 +113,8 @@ impl<'a> Model for RawTxView<'a> {
 impl<'a> RawTxView<'a> {
     /// The view of bytes that encode a `RawTransaction`.
     pub fn read(b: &'a [u8]) -> Option<Self>
-        ensures { result ≡ decoded raw_transaction b.now }
+        ensures value { result ≡ decoded raw_transaction b.now }
+        ensures exact { (v : RawTransaction) → (result ≡ Some v) ↔ IsA raw_transaction b.now v }
     {
         if is_raw_transaction(b) {
             Some(RawTxView { bytes: b })
@@ -117,6 +127,14 @@ impl<'a> RawTxView<'a> {
     pub(crate) fn known(b: &'a [u8]) -> Self
         requires { IsRawTransaction b.now }
         ensures { result ≡ raw_transaction.value_of b.now }
+    {
+        RawTxView { bytes: b }
+    }
+
+    /// The view of bytes that are known to encode a `RawTransaction`: nothing is checked again.
+    pub fn of_encoding(b: &'a [u8]) -> Self
+        requires { (v : RawTransaction) × IsA raw_transaction b.now v }
+        ensures { (v : RawTransaction) → IsA raw_transaction b.now v → result ≡ v }
     {
         RawTxView { bytes: b }
     }
@@ -221,7 +239,8 @@ impl<'a> Model for TxView<'a> {
 impl<'a> TxView<'a> {
     /// The view of bytes that encode a `Transaction`.
     pub fn read(b: &'a [u8]) -> Option<Self>
-        ensures { result ≡ decoded transaction b.now }
+        ensures value { result ≡ decoded transaction b.now }
+        ensures exact { (v : Transaction) → (result ≡ Some v) ↔ IsA transaction b.now v }
     {
         if is_transaction(b) {
             Some(TxView { bytes: b })
@@ -234,6 +253,14 @@ impl<'a> TxView<'a> {
     pub(crate) fn known(b: &'a [u8]) -> Self
         requires { IsTransaction b.now }
         ensures { result ≡ transaction.value_of b.now }
+    {
+        TxView { bytes: b }
+    }
+
+    /// The view of bytes that are known to encode a `Transaction`: nothing is checked again.
+    pub fn of_encoding(b: &'a [u8]) -> Self
+        requires { (v : Transaction) × IsA transaction b.now v }
+        ensures { (v : Transaction) → IsA transaction b.now v → result ≡ v }
     {
         TxView { bytes: b }
     }

@@ -11,4 +11,4 @@ pub returns-then-is_block : goal.returns-then-is_block
 returns-then-is_block c = read-some IsBlock block block-agrees block-inverts c.args.b.now (λ i. omega (arith, c.type_inv.b i)) (c.is_block.ensures.0 c.if-is_block.true)
 
 pub returns-else-is_block : goal.returns-else-is_block
-returns-else-is_block c = read-none IsBlock block block-agrees c.args.b.now (iff_false c.is_block.ensures c.if-is_block.false)
+returns-else-is_block c = read-none IsBlock block block-agrees block-inverts c.args.b.now (iff_false c.is_block.ensures c.if-is_block.false)

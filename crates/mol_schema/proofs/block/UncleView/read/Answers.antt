@@ -11,4 +11,4 @@ pub returns-then-is_uncle_block : goal.returns-then-is_uncle_block
 returns-then-is_uncle_block c = read-some IsUncleBlock uncle_block uncle_block-agrees uncle_block-inverts c.args.b.now (λ i. omega (arith, c.type_inv.b i)) (c.is_uncle_block.ensures.0 c.if-is_uncle_block.true)
 
 pub returns-else-is_uncle_block : goal.returns-else-is_uncle_block
-returns-else-is_uncle_block c = read-none IsUncleBlock uncle_block uncle_block-agrees c.args.b.now (iff_false c.is_uncle_block.ensures c.if-is_uncle_block.false)
+returns-else-is_uncle_block c = read-none IsUncleBlock uncle_block uncle_block-agrees uncle_block-inverts c.args.b.now (iff_false c.is_uncle_block.ensures c.if-is_uncle_block.false)

@@ -10,4 +10,4 @@ pub returns-then-b-eq208 : goal.returns-then-b-eq208
 returns-then-b-eq208 c = read-some (HasLength 208) header header-agrees header-inverts c.args.b.now (λ i. omega (arith, c.type_inv.b i)) c.if-b-eq208.true
 
 pub returns-else-b-eq208 : goal.returns-else-b-eq208
-returns-else-b-eq208 c = read-none (HasLength 208) header header-agrees c.args.b.now c.if-b-eq208.false
+returns-else-b-eq208 c = read-none (HasLength 208) header header-agrees header-inverts c.args.b.now c.if-b-eq208.false

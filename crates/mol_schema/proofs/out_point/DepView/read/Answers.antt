@@ -10,4 +10,4 @@ pub returns-then-b-eq37 : goal.returns-then-b-eq37
 returns-then-b-eq37 c = read-some (HasLength 37) cell_dep cell_dep-agrees cell_dep-inverts c.args.b.now (λ i. omega (arith, c.type_inv.b i)) c.if-b-eq37.true
 
 pub returns-else-b-eq37 : goal.returns-else-b-eq37
-returns-else-b-eq37 c = read-none (HasLength 37) cell_dep cell_dep-agrees c.args.b.now c.if-b-eq37.false
+returns-else-b-eq37 c = read-none (HasLength 37) cell_dep cell_dep-agrees cell_dep-inverts c.args.b.now c.if-b-eq37.false

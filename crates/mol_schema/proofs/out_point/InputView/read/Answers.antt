@@ -10,4 +10,4 @@ pub returns-then-b-eq44 : goal.returns-then-b-eq44
 returns-then-b-eq44 c = read-some (HasLength 44) cell_input cell_input-agrees cell_input-inverts c.args.b.now (λ i. omega (arith, c.type_inv.b i)) c.if-b-eq44.true
 
 pub returns-else-b-eq44 : goal.returns-else-b-eq44
-returns-else-b-eq44 c = read-none (HasLength 44) cell_input cell_input-agrees c.args.b.now c.if-b-eq44.false
+returns-else-b-eq44 c = read-none (HasLength 44) cell_input cell_input-agrees cell_input-inverts c.args.b.now c.if-b-eq44.false

@@ -10,4 +10,4 @@ pub returns-then-b-eq36 : goal.returns-then-b-eq36
 returns-then-b-eq36 c = read-some (HasLength 36) out_point out_point-agrees out_point-inverts c.args.b.now (λ i. omega (arith, c.type_inv.b i)) c.if-b-eq36.true
 
 pub returns-else-b-eq36 : goal.returns-else-b-eq36
-returns-else-b-eq36 c = read-none (HasLength 36) out_point out_point-agrees c.args.b.now c.if-b-eq36.false
+returns-else-b-eq36 c = read-none (HasLength 36) out_point out_point-agrees out_point-inverts c.args.b.now c.if-b-eq36.false

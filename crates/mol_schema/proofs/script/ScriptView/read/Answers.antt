@@ -11,4 +11,4 @@ pub returns-then-is_script : goal.returns-then-is_script
 returns-then-is_script c = read-some IsScript script script-agrees script-inverts c.args.b.now (λ i. omega (arith, c.type_inv.b i)) (c.is_script.ensures.0 c.if-is_script.true)
 
 pub returns-else-is_script : goal.returns-else-is_script
-returns-else-is_script c = read-none IsScript script script-agrees c.args.b.now (iff_false c.is_script.ensures c.if-is_script.false)
+returns-else-is_script c = read-none IsScript script script-agrees script-inverts c.args.b.now (iff_false c.is_script.ensures c.if-is_script.false)

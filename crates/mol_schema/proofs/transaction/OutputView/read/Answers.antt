@@ -11,4 +11,4 @@ pub returns-then-is_cell_output : goal.returns-then-is_cell_output
 returns-then-is_cell_output c = read-some IsCellOutput cell_output cell_output-agrees cell_output-inverts c.args.b.now (λ i. omega (arith, c.type_inv.b i)) (c.is_cell_output.ensures.0 c.if-is_cell_output.true)
 
 pub returns-else-is_cell_output : goal.returns-else-is_cell_output
-returns-else-is_cell_output c = read-none IsCellOutput cell_output cell_output-agrees c.args.b.now (iff_false c.is_cell_output.ensures c.if-is_cell_output.false)
+returns-else-is_cell_output c = read-none IsCellOutput cell_output cell_output-agrees cell_output-inverts c.args.b.now (iff_false c.is_cell_output.ensures c.if-is_cell_output.false)

@@ -11,4 +11,4 @@ pub returns-then-is_raw_transaction : goal.returns-then-is_raw_transaction
 returns-then-is_raw_transaction c = read-some IsRawTransaction raw_transaction raw_transaction-agrees raw_transaction-inverts c.args.b.now (λ i. omega (arith, c.type_inv.b i)) (c.is_raw_transaction.ensures.0 c.if-is_raw_transaction.true)
 
 pub returns-else-is_raw_transaction : goal.returns-else-is_raw_transaction
-returns-else-is_raw_transaction c = read-none IsRawTransaction raw_transaction raw_transaction-agrees c.args.b.now (iff_false c.is_raw_transaction.ensures c.if-is_raw_transaction.false)
+returns-else-is_raw_transaction c = read-none IsRawTransaction raw_transaction raw_transaction-agrees raw_transaction-inverts c.args.b.now (iff_false c.is_raw_transaction.ensures c.if-is_raw_transaction.false)

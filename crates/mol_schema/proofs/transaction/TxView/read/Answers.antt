@@ -11,4 +11,4 @@ pub returns-then-is_transaction : goal.returns-then-is_transaction
 returns-then-is_transaction c = read-some IsTransaction transaction transaction-agrees transaction-inverts c.args.b.now (λ i. omega (arith, c.type_inv.b i)) (c.is_transaction.ensures.0 c.if-is_transaction.true)
 
 pub returns-else-is_transaction : goal.returns-else-is_transaction
-returns-else-is_transaction c = read-none IsTransaction transaction transaction-agrees c.args.b.now (iff_false c.is_transaction.ensures c.if-is_transaction.false)
+returns-else-is_transaction c = read-none IsTransaction transaction transaction-agrees transaction-inverts c.args.b.now (iff_false c.is_transaction.ensures c.if-is_transaction.false)
