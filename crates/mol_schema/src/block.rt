@@ -79,7 +79,8 @@ impl<'a> UncleView<'a> {
 
     pub fn proposals_item(&self, i: usize) -> &'a [u8]
         requires { i < length self.now.proposals }
-        ensures { slice_get self.now.proposals i ≡ Some result.now }
+        ensures at { slice_get self.now.proposals i ≡ Some result.now }
+        ensures len { length result.now ≡ 10 }
     {
         item(field::<2>(self.bytes, 1), 10, i)
     }
@@ -171,7 +172,8 @@ impl<'a> BlockView<'a> {
 
     pub fn proposals_item(&self, i: usize) -> &'a [u8]
         requires { i < length self.now.proposals }
-        ensures { slice_get self.now.proposals i ≡ Some result.now }
+        ensures at { slice_get self.now.proposals i ≡ Some result.now }
+        ensures len { length result.now ≡ 10 }
     {
         item(field::<4>(self.bytes, 3), 10, i)
     }

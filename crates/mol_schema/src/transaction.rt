@@ -173,7 +173,8 @@ impl<'a> RawTxView<'a> {
 
     pub fn header_deps_item(&self, i: usize) -> &'a [u8]
         requires { i < length self.now.header_deps }
-        ensures { slice_get self.now.header_deps i ≡ Some result.now }
+        ensures at { slice_get self.now.header_deps i ≡ Some result.now }
+        ensures len { length result.now ≡ 32 }
     {
         item(field::<6>(self.bytes, 2), 32, i)
     }
