@@ -164,3 +164,7 @@ read_whole offset size n word item four is least most within long front all =
 -- what a `Vec` holds after a write of its whole length
 pub written_whole : (n : ℕ) (new old : List ℕ) → length new ≡ n → take n (new ++ drop (length new) old) ≡ new
 written_whole n new old e = grind (arith, common_steps)
+
+-- an item holds no other behind it
+pub one_item : (item : List ℕ) → IsItem import_limits item → HoldsOneAtMost item
+one_item item is_item = no_more_than_one item (omega (arith, is_item.size))

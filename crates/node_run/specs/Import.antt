@@ -1,5 +1,5 @@
 -- What the parts of `import` come to: what the source gave, what the sink took, and what is kept.
-use Rattle.std.specs.Prelude.{◌≡◌, ◌⊎◌, ℕ, ◌+◌, ◌≤◌, List, [], ◌∷◌, ◌++◌, length, Option, Some, None, Result, Ok, Err}
+use Rattle.std.specs.Prelude.{◌≡◌, ◌⊎◌, ℕ, Bool, ◌+◌, ◌≤◌, List, [], ◌∷◌, ◌++◌, length, Option, Some, None, Result, Ok, Err}
 use Rattle.std.specs.List.{concat, list_any, AllByRecursion}
 use Rattle.std.specs.Io.KnownBytes.{IsAtEnd}
 use Rattle.outside.specs.Streams.{Gives, Takes}
@@ -46,11 +46,18 @@ IsGenesis left (Err InputFault) given = HoldsOneAtMost given
 IsGenesis left (Err NoMemory) given = HoldsOneAtMost given
 IsGenesis left (Err _) given = ⊥
 
--- an item was judged, and the sink took its line or a part of it
-abbrev pub IsImported : List Block → List Block → List ℕ → Result Verdict Status → List ℕ → Type 0
-IsImported old new item (Ok verdict) taken =
-    (verdict ≡ rules.verdict old item) × (new ≡ rules.kept_after old item) × (taken ≡ line (rules.verdict old item))
-IsImported old new item (Err status) taken = IsWritingStop status × IsPrefix taken (line (rules.verdict old item))
+-- a text was taken, or a part of it
+abbrev pub IsWritten : {V : Type 0} → List ℕ → Result V Status → List ℕ → Type 0
+IsWritten text (Ok v) taken = taken ≡ text
+IsWritten text (Err status) taken = IsWritingStop status × IsPrefix taken text
+
+abbrev pub tip_line_of_kept : List Block → List ℕ
+tip_line_of_kept kept = tip_line (tip kept)
+
+-- an item was judged
+abbrev pub IsJudged : List Block → List Block → List ℕ → Result Verdict Status → Type 0
+IsJudged old new item (Ok verdict) = (verdict ≡ rules.verdict old item) × (new ≡ rules.kept_after old item)
+IsJudged old new item (Err status) = Unit {0}
 
 -- Items from an offset on, all but the last with their lines: what was given behind them, and what was taken behind those lines.
 pub record Progress (kept : List Block) (offset : ℕ) (items : List (List ℕ)) (part piece given taken : List ℕ) : Type 0 where
@@ -80,7 +87,14 @@ pub record AreImported (old new : List Block) (offset : ℕ) (left : Option (Lis
   pub progress : Progress old offset items part piece given taken
   pub end : IsEnd old new offset left result items part piece
 
--- the line of the tip was taken, or a part of it
-abbrev pub IsTipWritten : List Block → Result Unit Status → List ℕ → Type 0
-IsTipWritten kept (Ok _) taken = taken ≡ tip_line (tip kept)
-IsTipWritten kept (Err status) taken = IsWritingStop status × IsPrefix taken (tip_line (tip kept))
+-- Whole items were imported, and nothing of a next one was read.
+pub record Whole (kept : List Block) (start offset : ℕ) (left_old left_new taken_old taken_new : Option (List ℕ))
+    (now : List Block) (refused : Bool) : Type 0 where
+  pub items : List (List ℕ)
+  pub gives : Gives left_old left_new (concat items)
+  pub takes : Takes taken_old taken_new (lines_over kept items)
+  pub all : AllByRecursion (IsItem import_limits) items
+  pub place : offset ≡ start + length (concat items)
+  pub within : offset ≤ import_limits.input
+  pub kept_now : now ≡ kept_over kept items
+  pub any_refused : refused ≡ list_any rules.refuses (verdicts_over kept items)

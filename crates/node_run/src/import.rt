@@ -2,10 +2,12 @@
 ghost use Rattle.std.specs.Prelude.{◌≡◌, ◌+◌, ◌≤◌, Err};
 ghost use Rattle.outside.specs.Causes.{Rose};
 ghost use Rattle.rule_defs.specs.Verdict as rules;
+ghost use Rattle.report_defs.specs.Text.{line};
 ghost use Rattle.report_defs.specs.Report.{import_limits, report_of_input};
+ghost use Rattle.node_run.specs.Import.{tip_line_of_kept};
 ghost use Rattle.report_defs.specs.Promise.{TellsReport, ImportsInOrder};
 ghost use Rattle.node_run.specs.Items.{Gave};
-ghost use Rattle.node_run.specs.Import.{Took, Passed, IsGenesis, IsImported, AreImported, IsTipWritten};
+ghost use Rattle.node_run.specs.Import.{Took, Passed, IsGenesis, IsWritten, IsJudged, AreImported};
 
 use crate::items::{Next, next_item};
 use crate::kept::{GenesisError, Kept};
@@ -41,6 +43,18 @@ fn read_genesis<S: Source>(alloc: Global, input: &mut S) -> Result<(Kept, u64), 
     }
 }
 
+/// Hands all of a text to the sink.
+fn write_text<K: Sink>(out: &mut K, text: &[u8]) -> Result<(), Status>
+    ensures written { Took (K.taken out.old) (K.taken out.new) (IsWritten text.now result) }
+    ensures later { K.faults out.old ≤ K.faults out.new }
+    ensures fault { result ≡ Err Status.SinkFault → Rose (K.faults out.old) (K.faults out.new) }
+{
+    match write_all(out, text) {
+        Ok(()) => Ok(()),
+        Err(_) => Err(Status::SinkFault),
+    }
+}
+
 /// Judges an item and writes its line.
 fn import_item<K: Sink>(
     alloc: Global,
@@ -48,7 +62,8 @@ fn import_item<K: Sink>(
     kept: &mut Kept,
     item: Vec<u8>,
 ) -> Result<Verdict, Status>
-    ensures imported { Took (K.taken out.old) (K.taken out.new) (IsImported kept.old kept.new item.items result) }
+    ensures judged { IsJudged kept.old kept.new item.items result }
+    ensures written { Took (K.taken out.old) (K.taken out.new) (IsWritten (line (rules.verdict kept.old item.items)) result) }
     ensures later { K.faults out.old ≤ K.faults out.new }
     ensures fault { result ≡ Err Status.SinkFault → Rose (K.faults out.old) (K.faults out.new) }
 {
@@ -60,9 +75,9 @@ fn import_item<K: Sink>(
         Ok(text) => text,
         Err(_) => return Err(Status::NoMemory),
     };
-    match write_all(out, text.as_bytes()) {
+    match write_text(out, text.as_bytes()) {
         Ok(()) => Ok(verdict),
-        Err(_) => Err(Status::SinkFault),
+        Err(status) => Err(status),
     }
 }
 
@@ -114,7 +129,7 @@ fn import_items<S: Source, K: Sink>(
 
 /// Writes the line of the tip.
 fn write_tip<K: Sink>(alloc: Global, out: &mut K, kept: &Kept) -> Result<(), Status>
-    ensures tip { Took (K.taken out.old) (K.taken out.new) (IsTipWritten kept.now result) }
+    ensures tip { Took (K.taken out.old) (K.taken out.new) (IsWritten (tip_line_of_kept kept.now) result) }
     ensures later { K.faults out.old ≤ K.faults out.new }
     ensures fault { result ≡ Err Status.SinkFault → Rose (K.faults out.old) (K.faults out.new) }
 {
@@ -123,10 +138,7 @@ fn write_tip<K: Sink>(alloc: Global, out: &mut K, kept: &Kept) -> Result<(), Sta
         Ok(text) => text,
         Err(_) => return Err(Status::NoMemory),
     };
-    match write_all(out, text.as_bytes()) {
-        Ok(()) => Ok(()),
-        Err(_) => Err(Status::SinkFault),
-    }
+    write_text(out, text.as_bytes())
 }
 
 /// Imports what the input holds.
