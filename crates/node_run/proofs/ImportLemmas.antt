@@ -45,7 +45,7 @@ all-push : (items : List (List ℕ)) (item : List ℕ) → AllByRecursion (IsIte
 all-push [] item all last = (last, tt)
 all-push (x ∷ xs) item all last = (all.0, all-push xs item all.1 last)
 
-lines-push : (kept : List Block) (items : List (List ℕ)) (item : List ℕ)
+pub lines-push : (kept : List Block) (items : List (List ℕ)) (item : List ℕ)
     → lines_over kept (items ++ item ∷ []) ≡ lines_over kept items ++ line (rules.verdict (kept_over kept items) item)
 lines-push kept items item =
     ap (flat_map line) (verdicts-push rules.kept_after rules.verdict kept items item)

@@ -143,10 +143,8 @@ fn write_tip<K: Sink>(alloc: Global, out: &mut K, kept: &Kept) -> Result<(), Sta
 
 /// Imports what the input holds.
 pub fn import<S: Source, K: Sink>(alloc: Global, input: &mut S, out: &mut K) -> Status
-    ensures report { Passed (S.left input.old) (S.left input.new) (K.taken out.old) (K.taken out.new)
-        (λ given taken. TellsReport report_of_input given (S.left input.new) taken result) }
-    ensures order { Passed (S.left input.old) (S.left input.new) (K.taken out.old) (K.taken out.new)
-        (λ given taken. ImportsInOrder given (S.left input.new) taken result) }
+    ensures text { Passed (S.left input.old) (S.left input.new) (K.taken out.old) (K.taken out.new)
+        (λ given taken. TellsReport report_of_input given (S.left input.new) taken result × ImportsInOrder given (S.left input.new) taken result) }
     ensures input_fault { result ≡ Status.InputFault → Rose (S.faults input.old) (S.faults input.new) }
     ensures sink_fault { result ≡ Status.SinkFault → Rose (K.faults out.old) (K.faults out.new) }
     ensures no_disk_fault { result ≡ Status.DiskFault → ⊥ }
