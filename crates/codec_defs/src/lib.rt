@@ -1,5 +1,6 @@
-//! What the bytes of the chain mean: definitions that the crates of the codec and all above them
-//! cite in their contracts. The crate has no code.
+//! What the bytes of the chain mean, as definitions alone: functions on lists of bytes, which the
+//! crates that read and write them cite in their contracts.
 //!
+//! - `Molecule`, `Shape`: the encodings of RFC 0008. `Schema`: the values of CKB's blockchain.mol.
 //! - `CkbHash`: the hash of a message, after RFC 7693.
 #![tactic(auto)]

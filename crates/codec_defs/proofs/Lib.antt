@@ -1,0 +1,4 @@
+pub mod MoleculeLaws
+pub mod Numbers
+pub mod ShapeLaws
+pub mod SchemaLaws

@@ -1,0 +1,12 @@
+use Rattle.std.proofs.Common.{ℕ, get_or, ap, add-zero, arith}
+use Rattle.codec_defs.specs.Molecule.{u32_at}
+use Rattle.mol_core.proofs.Reading.{get_or-four_bytes}
+use Rattle.mol_core.proofs.number.read_u32.Goals as goal
+
+pub returns-clause-value : goal.returns-clause-value
+unfolding u32_at
+returns-clause-value c =
+    let bytes = c.args.bytes.now in
+    let at = c.args.at in
+    let byte = get_or-four_bytes bytes at in
+    omega (arith, c.from_le_bytes.ensures, byte 0 (omega arith), byte 1 (omega arith), byte 2 (omega arith), byte 3 (omega arith), ap (λ (n : ℕ). get_or bytes n 0) (add-zero at))

@@ -1,0 +1,106 @@
+ghost use Rattle.std.specs.Prelude.{◌≡◌, ℕ, ◌+◌, ◌*◌, ◌<◌, ◌≤◌, ◌^◌, ◌↔◌, length, IsTrue};
+ghost use Rattle.codec_defs.specs.Molecule.{u32_at, part_count, part_start, part_of, item_of_fixvec};
+ghost use Rattle.mol_core.specs.Layout.{IsLaidOut, IsCounted};
+
+use crate::number::read_u32;
+
+/// How many offsets the header has, by the first one.
+#[tactic(auto, unfolding(codec_defs::specs::Molecule::part_count))]
+pub(crate) fn count_parts(bytes: &[u8]) -> usize
+    requires { length bytes.now < 8 → length bytes.now ≡ 4 }
+    ensures value { result ≡ part_count bytes.now }
+    ensures fits { 4 * result < 2 ^ 32 }
+{
+    if bytes.len() == 4 {
+        0
+    } else {
+        (read_u32(bytes, 4) / 4).saturating_sub(1)
+    }
+}
+
+/// Where part `i` starts; at the count, the end.
+#[tactic(auto, unfolding(codec_defs::specs::Molecule::part_start))]
+fn start(bytes: &[u8], count: usize, i: usize) -> usize
+    requires counted { count ≡ part_count bytes.now }
+    requires header { 4 + 4 * count ≤ length bytes.now }
+    ensures { result ≡ part_start bytes.now i }
+{
+    if i < count {
+        read_u32(bytes, 4 + 4 * i)
+    } else {
+        bytes.len()
+    }
+}
+
+/// Whether no offset is above the next one or the end.
+fn rises(bytes: &[u8], count: usize) -> bool
+    requires counted { count ≡ part_count bytes.now }
+    requires header { 4 + 4 * count ≤ length bytes.now }
+    ensures { IsTrue result ↔ ((i : ℕ) → i < count → part_start bytes.now i ≤ part_start bytes.now (i + 1)) }
+{
+    let mut from = start(bytes, count, 0);
+    for i in 0..count {
+        let to = start(bytes, count, i + 1);
+        if to < from {
+            return false;
+        }
+        from = to;
+    }
+    true
+}
+
+/// Whether the header is that of a dynvec or a table: one pass over the offsets.
+pub(crate) fn is_laid_out(bytes: &[u8]) -> bool
+    ensures { IsTrue result ↔ IsLaidOut bytes.now }
+{
+    let len = bytes.len();
+    if len < 4 || read_u32(bytes, 0) != len {
+        return false;
+    }
+    // Where there is no room for an offset, only the empty dynvec is left.
+    if len < 8 {
+        return len == 4;
+    }
+    let count = count_parts(bytes);
+    let header = 4 + 4 * count;
+    if header > len || start(bytes, count, 0) != header {
+        return false;
+    }
+    rises(bytes, count)
+}
+
+/// Part `i` of `count`.
+pub(crate) fn part<'a>(bytes: &'a [u8], count: usize, i: usize) -> &'a [u8]
+    requires laid_out { IsLaidOut bytes.now }
+    requires counted { count ≡ part_count bytes.now }
+    requires within { i < count }
+    ensures { result.now ≡ part_of bytes.now i }
+{
+    let from = start(bytes, count, i);
+    let to = start(bytes, count, i + 1);
+    &bytes[from..to]
+}
+
+/// Whether the bytes are a count and so many items of `size` bytes. The product may pass 64 bits.
+pub(crate) fn is_counted(bytes: &[u8], size: usize) -> bool
+    ensures { IsTrue result ↔ IsCounted size bytes.now }
+{
+    if bytes.len() < 4 {
+        return false;
+    }
+    match read_u32(bytes, 0).checked_mul(size) {
+        Some(content) => content == bytes.len() - 4,
+        None => false,
+    }
+}
+
+/// Item `i` of a fixvec.
+pub(crate) fn item_at<'a>(bytes: &'a [u8], size: usize, i: usize) -> &'a [u8]
+    requires counted { IsCounted size bytes.now }
+    requires within { i < u32_at bytes.now 0 }
+    ensures { result.now ≡ item_of_fixvec size bytes.now i }
+{
+    let from = 4 + i * size;
+    let to = from + size;
+    &bytes[from..to]
+}
