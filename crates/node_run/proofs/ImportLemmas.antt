@@ -36,7 +36,7 @@ whole_none kept start left taken fits = record {
   any_refused = refl;
 }
 
-concat-push : (items : List (List ℕ)) (item : List ℕ) → concat (items ++ item ∷ []) ≡ concat items ++ item
+pub concat-push : (items : List (List ℕ)) (item : List ℕ) → concat (items ++ item ∷ []) ≡ concat items ++ item
 concat-push [] item = append-nil item
 concat-push (x ∷ xs) item = ap (λ bs. x ++ bs) (concat-push xs item) ∙ sym (append_assoc x (concat xs) item)
 
