@@ -18,11 +18,12 @@ use Rattle.report_defs.specs.declared.end.End.TheVariants as ends
 use Rattle.report_defs.specs.Items.{IsItem, Split, IsSplit, split_of, end_at, end_offset}
 use Rattle.report_defs.specs.Text.{line, tip_line}
 use Rattle.report_defs.specs.Report.{Report, import_limits, kept_from, verdicts_over, lines_over, kept_over, report_of_blocks, report_of_genesis, report_of_split, report_of_input}
-use Rattle.report_defs.specs.Promise.{IsPrefix, IsReported, lines_but_last, TellsReport, ImportsInOrder}
-use Rattle.report_defs.proofs.ItemLemmas.{Splits, split_of-is, split_of-append, all_items-append}
+use Rattle.report_defs.specs.Promise.{IsPrefix, IsReported, all_but_last, lines_of, TellsReport, WritesInOrder, ImportsInOrder}
+use Rattle.report_defs.proofs.ItemLemmas.{Splits, split_of-is, split_of-append, all_items-append, end_at-nothing}
 use Rattle.node_run.specs.Items.{HoldsOneAtMost, IsItemAt, EndsAt, IsWritingStop, IsStop}
 use Rattle.node_run.proofs.Reading.{one_item}
-use Rattle.node_run.specs.Import.{IsGenesis, IsGenesisRead, IsBadGenesis, Progress, IsEnded, tip_line_of_kept}
+use Rattle.node_run.specs.Import.{IsGenesis, IsGenesisRead, IsBadGenesis, Progress, IsEnded, AreImported, tip_line_of_kept}
+use Rattle.node_run.specs.declared.import.Ended.{Ended}
 use Rattle.node_run.proofs.ImportLemmas.{concat-push, lines-push, writing_stops}
 
 -- ---- Prefixes
@@ -130,32 +131,72 @@ at_most_one offset part split splits one = by_items split.items splits.whole spl
             one x ((y ++ concat more) ++ split.rest) all.0 (whole ∙ append_assoc x (y ++ concat more) split.rest) in
         absurd (omega (arith, all.1.0.least, ap length behind, length-append (y ++ concat more) split.rest, length-append y (concat more)))
 
--- of what was given, each item but the last has its line
-pub whole_lines : (genesis : List ℕ) (items : List (List ℕ)) (part : List ℕ) → IsRead genesis items → HoldsOneAtMost part
-    → IsPrefix (lines_but_last (split_of import_limits ((genesis ++ concat items) ++ part)).items) (lines_over (kept_by genesis) items)
-whole_lines genesis items part read one =
-    let split = split_of-append import_limits (genesis ∷ items) part (read.is_item, read.all) (rw length-append read.within) in
-    rw split.2 (by_count split.0.items (at_most_one (length (genesis ++ concat items)) part split.0 split.1 one))
-  where
-    by_count : (others : List (List ℕ)) → (others ≡ []) ⊎ (others ≡ part ∷ [])
-        → IsPrefix (lines_but_last (genesis ∷ (items ++ others))) (lines_over (kept_by genesis) items)
-    by_count others (inl none) =
-        let same : items ++ others ≡ items = ap (λ xs. items ++ xs) none ∙ append-nil items in
-        rw same (lines_front (kept_by genesis) (length items - 1) items)
-    by_count others (inr last) =
-        let count : length (items ++ part ∷ []) - 1 ≡ length items = omega (arith, length-append items (part ∷ [])) in
-        let front : take (length items) (items ++ part ∷ []) ≡ items = grind (arith, common_steps) in
-        rw (last, count, front) (prefix_refl (lines_over (kept_by genesis) items))
+-- what stands behind a part that is one item
+nothing_behind : (offset : ℕ) (part : List ℕ) (split : Split) → Splits import_limits offset part split → split.items ≡ part ∷ [] → length split.rest ≡ 0
+nothing_behind offset part split splits last =
+    let whole : length part ≡ length (concat (part ∷ [])) + length split.rest =
+        ap length splits.whole ∙ length-append (concat split.items) split.rest ∙ ap (λ (xs : List (List ℕ)). length (concat xs) + length split.rest) last in
+    omega (arith, whole, length-append part [])
 
--- nothing but a part of the genesis was given
-no_lines : (given : List ℕ) → HoldsOneAtMost given → lines_but_last (split_of import_limits given).items ≡ []
-no_lines given one =
-    let split = split_of-append import_limits [] given tt (omega arith) in
-    rw split.2 (by_count split.0.items (at_most_one 0 given split.0 split.1 one))
+-- of what was given, each item has its line before a byte of the next is read
+front_lines : (genesis : List ℕ) (items : List (List ℕ)) → IsPrefix (lines_of (all_but_last (genesis ∷ items))) (lines_over (kept_by genesis) items)
+front_lines genesis [] = ([], refl)
+front_lines genesis (x ∷ xs) =
+    let count : length (genesis ∷ x ∷ xs) - 1 ≡ suc (length xs) = omega arith in
+    rw count (lines_front (kept_by genesis) (length xs) (x ∷ xs))
+
+but_the_last : (genesis : List ℕ) (items : List (List ℕ)) (last : List ℕ) → all_but_last (genesis ∷ (items ++ last ∷ [])) ≡ genesis ∷ items
+but_the_last genesis items last =
+    let count : length (genesis ∷ (items ++ last ∷ [])) - 1 ≡ suc (length items) = omega (arith, length-append items (last ∷ [])) in
+    let front : take (length items) (items ++ last ∷ []) ≡ items = grind (arith, common_steps) in
+    rw (count, front) refl
+
+pub items_in_order : (genesis : List ℕ) (items : List (List ℕ)) (part behind : List ℕ) → IsRead genesis items → HoldsOneAtMost part
+    → WritesInOrder ((genesis ++ concat items) ++ part) (lines_over (kept_by genesis) items ++ behind)
+items_in_order genesis items part behind read one =
+    let split = split_of-append import_limits (genesis ∷ items) part (read.is_item, read.all) (rw length-append read.within) in
+    let count = at_most_one (length (genesis ++ concat items)) part split.0 split.1 one in
+    record {
+      lines = rw split.2 (but_last split.0.items count);
+      lines_first = rw split.2 (λ more. first split.0.items split.0.rest count (nothing_behind (length (genesis ++ concat items)) part split.0 split.1) more);
+    }
   where
-    by_count : (items : List (List ℕ)) → (items ≡ []) ⊎ (items ≡ given ∷ []) → lines_but_last items ≡ []
-    by_count items (inl none) = rw none refl
-    by_count items (inr last) = rw last refl
+    written : List ℕ
+    written = lines_over (kept_by genesis) items
+
+    but_last : (others : List (List ℕ)) → (others ≡ []) ⊎ (others ≡ part ∷ [])
+        → IsPrefix (lines_of (all_but_last (genesis ∷ (items ++ others)))) (lines_over (kept_by genesis) items ++ behind)
+    but_last others (inl none) =
+        let same : items ++ others ≡ items = ap (λ xs. items ++ xs) none ∙ append-nil items in
+        rw same (prefix_trans (lines_of (all_but_last (genesis ∷ items))) (lines_over (kept_by genesis) items) (lines_over (kept_by genesis) items ++ behind)
+          (front_lines genesis items) (prefix_front (lines_over (kept_by genesis) items) behind))
+    but_last others (inr last) =
+        rw (last, but_the_last genesis items part) (prefix_front (lines_over (kept_by genesis) items) behind)
+
+    first : (others : List (List ℕ)) (rest : List ℕ) → (others ≡ []) ⊎ (others ≡ part ∷ []) → (others ≡ part ∷ [] → length rest ≡ 0) → 0 < length rest
+        → IsPrefix (lines_over (kept_by genesis) (items ++ others)) (lines_over (kept_by genesis) items ++ behind)
+    first others rest (inl none) empty more =
+        let same : items ++ others ≡ items = ap (λ xs. items ++ xs) none ∙ append-nil items in
+        rw same (prefix_front (lines_over (kept_by genesis) items) behind)
+    first others rest (inr last) empty more = absurd (omega (arith, empty last))
+
+-- nothing but a part of the genesis was given, or the genesis alone
+no_lines : (given taken : List ℕ) → HoldsOneAtMost given → WritesInOrder given taken
+no_lines given taken one =
+    let split = split_of-append import_limits [] given tt (omega arith) in
+    let count = at_most_one 0 given split.0 split.1 one in
+    record {
+      lines = rw split.2 (but_last split.0.items count);
+      lines_first = rw split.2 (λ more. first split.0.items count);
+    }
+  where
+    but_last : (items : List (List ℕ)) → (items ≡ []) ⊎ (items ≡ given ∷ []) → IsPrefix (lines_of (all_but_last items)) taken
+    but_last items (inl none) = rw none (taken, refl)
+    but_last items (inr last) = rw last (taken, refl)
+
+    first : (items : List (List ℕ)) → (items ≡ []) ⊎ (items ≡ given ∷ []) → IsPrefix (lines_of items) taken
+    first items (inl none) = rw none (taken, refl)
+    first items (inr last) = rw last (taken, refl)
 
 -- ---- The statuses
 
@@ -168,18 +209,18 @@ stop_not_reported _ stop reported = stop
 -- a run that was stopped, with a text that the report's begins with
 pub stopped : (given : List ℕ) (left : Option (List ℕ)) (taken : List ℕ) (status : Status) → IsStop status
     → ((more : List ℕ) → left ≡ Some more → IsPrefix taken (report_of_input (given ++ more)).text)
-    → IsPrefix (lines_but_last (split_of import_limits given).items) taken
+    → WritesInOrder given taken
     → TellsReport report_of_input given left taken status × ImportsInOrder given left taken status
-stopped given left taken status stop front lines = (
+stopped given left taken status stop front written = (
   record {
     front = front;
     whole_text = λ more is reported. absurd (stop_not_reported status stop reported);
     same_status = λ more is reported. absurd (stop_not_reported status stop reported);
   },
   record {
-    lines = lines;
+    written = written;
     to_end = λ ended. absurd (elim ended [ inl e ↦ subst IsStop e stop | inr e ↦ subst IsStop e stop ]);
-    genesis_read = λ e. absurd (subst IsStop e stop);
+    genesis_alone = λ e. absurd (subst IsStop e stop);
     to_cut = λ e. absurd (subst IsStop e stop);
   })
 
@@ -188,21 +229,21 @@ stopped given left taken status stop front lines = (
 -- nothing was written, and the report says nothing either, whatever follows
 silent : (given : List ℕ) (left : Option (List ℕ)) (status : Status)
     → ((more : List ℕ) → left ≡ Some more → report_of_input (given ++ more) ≡ record { text = []; status = status })
-    → lines_but_last (split_of import_limits given).items ≡ []
+    → WritesInOrder given []
     → ((status ≡ Done) ⊎ (status ≡ SomeRefused) → ⊥)
-    → (status ≡ BadGenesis → 0 < length (split_of import_limits given).items)
+    → (status ≡ BadGenesis → (split_of import_limits given).items ≡ given ∷ [])
     → (status ≡ CutInput → (more : List ℕ) → left ≡ Some more → end_offset (split_of import_limits (given ++ more)) ≤ length given)
     → TellsReport report_of_input given left [] status × ImportsInOrder given left [] status
-silent given left status says lines unended genesis_read to_cut = (
+silent given left status says written unended genesis_alone to_cut = (
   record {
     front = λ more is. ((report_of_input (given ++ more)).text, refl);
     whole_text = λ more is reported. sym (ap (λ (r : Report). r.text) (says more is));
     same_status = λ more is reported. sym (ap (λ (r : Report). r.status) (says more is));
   },
   record {
-    lines = rw lines (prefix_refl []);
+    written = written;
     to_end = λ ended. absurd (unended ended);
-    genesis_read = genesis_read;
+    genesis_alone = genesis_alone;
     to_cut = to_cut;
   })
 
@@ -212,7 +253,7 @@ cut_at_once : (given : List ℕ) (left : Option (List ℕ)) (end : End) → Ends
 cut_at_once given left end ends =
     silent given left CutInput
       (λ more is. ap report_of_split (split more is))
-      (no_lines given ends.one)
+      (no_lines given [] ends.one)
       (λ ended. elim ended [ inl e ↦ (cc) | inr e ↦ (cc) ])
       (λ e. absurd (cc))
       (λ e more is. rw (split more is) (omega arith))
@@ -225,15 +266,27 @@ cut_at_once given left end ends =
         ends = ends.ends more is;
       })
 
+-- an item alone is cut into itself
+alone_item : (item : List ℕ) → IsItem import_limits item → length item ≤ import_limits.input → (split_of import_limits item).items ≡ item ∷ []
+alone_item item is_item fits =
+    let split : split_of import_limits item ≡ record { items = item ∷ []; rest = []; end = ends.AtEnd } =
+        split_of-is import_limits item (record { items = item ∷ []; rest = []; end = ends.AtEnd }) (record {
+          whole = sym (append-nil (item ++ []) ∙ append-nil item);
+          items = (is_item, tt);
+          within = rw append-nil fits;
+          ends = end_at-nothing import_limits (length (item ++ []));
+        }) in
+    ap (λ (s : Split). s.items) split
+
 -- a genesis was read that breaks a rule
 bad_genesis : (given : List ℕ) (left : Option (List ℕ)) → IsBadGenesis given
     → TellsReport report_of_input given left [] BadGenesis × ImportsInOrder given left [] BadGenesis
 bad_genesis given left bad =
     silent given left BadGenesis
       (λ more is. ap report_of_split (split more).1 ∙ ap (λ (broken : Option ℕ). report_of_genesis broken given (split more).0.items (split more).0.end) bad.broken)
-      (no_lines given (one_item given bad.there.is_item))
+      (no_lines given [] (one_item given bad.there.is_item))
       (λ ended. elim ended [ inl e ↦ (cc) | inr e ↦ (cc) ])
-      (λ e. rw (alone.1) (omega arith))
+      (λ e. alone)
       (λ e. absurd (cc))
   where
     cut : (tail : List ℕ) → (split : Split) × (split_of import_limits ((given ++ []) ++ tail) ≡ record { items = given ∷ split.items; rest = split.rest; end = split.end })
@@ -243,14 +296,14 @@ bad_genesis given left bad =
     split : (more : List ℕ) → (split : Split) × (split_of import_limits (given ++ more) ≡ record { items = given ∷ split.items; rest = split.rest; end = split.end })
     split more = let found = cut more in (found.0, rw append-nil at found.1)
 
-    alone : (split : Split) × (split_of import_limits given ≡ record { items = given ∷ split.items; rest = split.rest; end = split.end })
-    alone = let found = split [] in (found.0, rw append-nil at found.1)
+    alone : (split_of import_limits given).items ≡ given ∷ []
+    alone = alone_item given bad.there.is_item (omega (arith, bad.there.within))
 
 -- the run was stopped before a genesis was read
 stopped_at_once : (given : List ℕ) (left : Option (List ℕ)) (status : Status) → IsStop status → HoldsOneAtMost given
     → TellsReport report_of_input given left [] status × ImportsInOrder given left [] status
 stopped_at_once given left status stop one =
-    stopped given left [] status stop (λ more is. ((report_of_input (given ++ more)).text, refl)) (rw (no_lines given one) (prefix_refl []))
+    stopped given left [] status stop (λ more is. ((report_of_input (given ++ more)).text, refl)) (no_lines given [] one)
 
 -- no good genesis was read
 pub no_genesis : (given : List ℕ) (left : Option (List ℕ)) (status : Status) → IsGenesis left (Err status) given
@@ -310,16 +363,14 @@ begun_front genesis items part piece more read (inr begun) =
     rw input (prefix_trans (lines_over (kept_by genesis) items ++ piece) (lines_over (kept_by genesis) (items ++ part ∷ []))
       (report_of_input ((genesis ++ concat (items ++ part ∷ [])) ++ more)).text written (lines_begin genesis (items ++ part ∷ []) more further))
 
--- each item that was given whole, but the last, has its line in what was taken
-taken_lines : (genesis : List ℕ) (items : List (List ℕ)) (part piece given taken behind : List ℕ) → IsRead genesis items
+-- the lines keep up with the items
+taken_in_order : (genesis : List ℕ) (items : List (List ℕ)) (part piece given taken behind : List ℕ) → IsRead genesis items
     → Progress (kept_by genesis) (length genesis) items part piece given taken
-    → IsPrefix (lines_but_last (split_of import_limits (genesis ++ given)).items) (taken ++ behind)
-taken_lines genesis items part piece given taken behind read progress =
-    let lines = lines_over (kept_by genesis) items in
-    let all : taken ++ behind ≡ lines ++ (piece ++ behind) = ap (λ bs. bs ++ behind) progress.taken_is ∙ append_assoc lines piece behind in
-    rw (given_parts genesis items part piece given taken progress, all)
-      (prefix_trans (lines_but_last (split_of import_limits ((genesis ++ concat items) ++ part)).items) lines (lines ++ (piece ++ behind))
-        (whole_lines genesis items part read progress.one) (prefix_front lines (piece ++ behind)))
+    → WritesInOrder (genesis ++ given) (taken ++ behind)
+taken_in_order genesis items part piece given taken behind read progress =
+    let all : taken ++ behind ≡ lines_over (kept_by genesis) items ++ (piece ++ behind) =
+        ap (λ bs. bs ++ behind) progress.taken_is ∙ append_assoc (lines_over (kept_by genesis) items) piece behind in
+    rw (given_parts genesis items part piece given taken progress, all) (items_in_order genesis items part (piece ++ behind) read progress.one)
 
 -- the run was stopped among the items
 pub stopped_in_items : (genesis : List ℕ) (items : List (List ℕ)) (part piece given taken : List ℕ) (left : Option (List ℕ)) (status : Status)
@@ -329,7 +380,7 @@ stopped_in_items genesis items part piece given taken left status good progress 
     let read = is_read genesis items part piece given taken good progress in
     stopped (genesis ++ given) left taken status stop
       (λ more is. rw (parted genesis items part piece given taken more progress, progress.taken_is) (begun_front genesis items part piece more read progress.begun))
-      (rw (← append-nil taken) (taken_lines genesis items part piece given taken [] read progress))
+      (rw (← append-nil taken) (taken_in_order genesis items part piece given taken [] read progress))
 
 -- the items ended otherwise than between two of them: the lines are all, and no tip
 cut_report : (kept : List Block) (items : List (List ℕ)) (end : End) → (end ≡ ends.AtEnd → ⊥)
@@ -350,9 +401,9 @@ cut_behind_items genesis items part piece given taken left end good progress non
     same_status = λ more is reported. sym (ap (λ (r : Report). r.status) (says more is));
   },
   record {
-    lines = rw (← append-nil taken) (taken_lines genesis items part piece given taken [] read progress);
+    written = rw (← append-nil taken) (taken_in_order genesis items part piece given taken [] read progress);
     to_end = λ ended. absurd (elim ended [ inl e ↦ (cc) | inr e ↦ (cc) ]);
-    genesis_read = λ e. absurd (cc);
+    genesis_alone = λ e. absurd (cc);
     to_cut = λ e more is.
         let split = ap (split_of import_limits) (parted genesis items part piece given taken more progress)
               ∙ split_ends genesis items (part ++ more) end read (ends_here.ends more is) in
@@ -403,7 +454,7 @@ stopped_at_tip genesis items part piece given taken written left kept status thr
         rw (through_report genesis items part piece given taken more left through is, through_lines genesis items part piece given taken left through)
           (prefix_behind (lines_over (kept_by genesis) items) written (tip_line_of_kept (kept_over (kept_by genesis) items))
             (subst (λ (k : List Block). IsPrefix written (tip_line_of_kept k)) kept_is begins)))
-      (taken_lines genesis items part piece given taken written (is_read genesis items part piece given taken through.good through.progress) through.progress)
+      (taken_in_order genesis items part piece given taken written (is_read genesis items part piece given taken through.good through.progress) through.progress)
 
 pub done : (genesis : List ℕ) (items : List (List ℕ)) (part piece given taken written : List ℕ) (left : Option (List ℕ)) (kept : List Block) (refused : Bool) (status : Status)
     → IsThrough genesis items part piece given taken left → kept ≡ kept_over (kept_by genesis) items
@@ -419,9 +470,9 @@ done genesis items part piece given taken written left kept refused status throu
         ∙ sym (ap (λ (r : Report). r.status) (through_report genesis items part piece given taken more left through is));
   },
   record {
-    lines = taken_lines genesis items part piece given taken written (is_read genesis items part piece given taken through.good through.progress) through.progress;
+    written = taken_in_order genesis items part piece given taken written (is_read genesis items part piece given taken through.good through.progress) through.progress;
     to_end = λ ended. through.ends.to_end refl;
-    genesis_read = λ e. absurd (neither refused (sym status_is ∙ e));
+    genesis_alone = λ e. absurd (neither refused (sym status_is ∙ e));
     to_cut = λ e. absurd (uncut refused (sym status_is ∙ e));
   })
   where
@@ -438,3 +489,11 @@ done genesis items part piece given taken written left kept refused status throu
     uncut : (b : Bool) → cond b SomeRefused Done ≡ CutInput → ⊥
     uncut true e = cc
     uncut false e = cc
+
+-- the items behind the genesis that was read
+pub behind_genesis : (genesis : List ℕ) (old new : List Block) (start : ℕ) (left : Option (List ℕ)) (result : Result Ended Status) (given taken : List ℕ)
+    → old ≡ kept_by genesis → start ≡ length genesis → AreImported old new start left result given taken
+    → AreImported (kept_by genesis) new (length genesis) left result given taken
+behind_genesis genesis old new start left result given taken kept_is start_is imported =
+    subst (λ (k : List Block). AreImported k new (length genesis) left result given taken) kept_is
+      (subst (λ n. AreImported old new n left result given taken) start_is imported)

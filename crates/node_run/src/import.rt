@@ -1,5 +1,5 @@
 // The command `import`: a genesis and blocks, each answered by a line.
-ghost use Rattle.std.specs.Prelude.{◌≡◌, ◌+◌, ◌≤◌, Err};
+ghost use Rattle.std.specs.Prelude.{◌≡◌, ◌↔◌, ◌≤◌, Err, IsTrue};
 ghost use Rattle.outside.specs.Causes.{Rose};
 ghost use Rattle.rule_defs.specs.Verdict as rules;
 ghost use Rattle.report_defs.specs.Text.{line};
@@ -141,6 +141,18 @@ fn write_tip<K: Sink>(alloc: Global, out: &mut K, kept: &Kept) -> Result<(), Sta
     write_text(out, text.as_bytes())
 }
 
+/// Whether the input ended between two items.
+fn is_between_items(end: End) -> bool
+    ensures { IsTrue result ↔ (end ≡ End.AtEnd) }
+{
+    match end {
+        End::AtEnd => true,
+        End::Cut => false,
+        End::BadSize => false,
+        End::Extra => false,
+    }
+}
+
 /// Imports what the input holds.
 pub fn import<S: Source, K: Sink>(alloc: Global, input: &mut S, out: &mut K) -> Status
     ensures text { Passed (S.left input.old) (S.left input.new) (K.taken out.old) (K.taken out.new)
@@ -157,12 +169,15 @@ pub fn import<S: Source, K: Sink>(alloc: Global, input: &mut S, out: &mut K) -> 
         Ok(ended) => ended,
         Err(status) => return status,
     };
-    if ended.end != End::AtEnd {
+    if !is_between_items(ended.end) {
         return Status::CutInput;
     }
-    match write_tip(alloc, out, &kept) {
-        Ok(()) if ended.refused => Status::SomeRefused,
-        Ok(()) => Status::Done,
-        Err(status) => status,
+    if let Err(status) = write_tip(alloc, out, &kept) {
+        return status;
+    }
+    if ended.refused {
+        Status::SomeRefused
+    } else {
+        Status::Done
     }
 }
