@@ -17,11 +17,13 @@ use Rattle.report_defs.specs.declared.end.End.{End}
 use Rattle.report_defs.specs.declared.end.End.TheVariants as ends
 use Rattle.report_defs.specs.Items.{IsItem, Split, IsSplit, split_of, end_at, end_offset}
 use Rattle.report_defs.specs.Text.{line, tip_line}
-use Rattle.report_defs.specs.Report.{Report, import_limits, kept_from, verdicts_over, lines_over, kept_over, report_of_blocks, report_of_genesis, report_of_split, report_of_input}
-use Rattle.report_defs.specs.Promise.{IsPrefix, IsReported, all_but_last, lines_of, TellsReport, WritesInOrder, ImportsInOrder}
+use Rattle.report_defs.specs.Report.{Report, import_limits, kept_from, verdicts_over, lines_over, kept_over, report_of_blocks, report_of_genesis, report_of_split, report_of_input, report_of_command, report}
+use Rattle.report_defs.specs.Words.{command_of}
+use Rattle.report_defs.specs.declared.command.Command.{Command}
+use Rattle.report_defs.specs.Promise.{IsPrefix, IsReported, IsImportStatus, all_but_last, lines_of, TellsReport, WritesInOrder, ImportsInOrder}
 use Rattle.report_defs.proofs.ItemLemmas.{Splits, split_of-is, split_of-append, all_items-append, end_at-nothing}
 use Rattle.node_run.specs.Items.{HoldsOneAtMost, IsItemAt, EndsAt, IsWritingStop, IsStop}
-use Rattle.node_run.proofs.Reading.{one_item}
+use Rattle.node_run.proofs.Reading.{one_item, few_hold_none}
 use Rattle.node_run.specs.Import.{IsGenesis, IsGenesisRead, IsBadGenesis, Progress, IsEnded, AreImported, tip_line_of_kept}
 use Rattle.node_run.specs.declared.import.Ended.{Ended}
 use Rattle.node_run.proofs.ImportLemmas.{concat-push, lines-push, writing_stops}
@@ -497,3 +499,33 @@ pub behind_genesis : (genesis : List ℕ) (old new : List Block) (start : ℕ) (
 behind_genesis genesis old new start left result given taken kept_is start_is imported =
     subst (λ (k : List Block). AreImported k new (length genesis) left result given taken) kept_is
       (subst (λ n. AreImported old new n left result given taken) start_is imported)
+
+-- the statuses of the parts are those of `import`
+pub genesis_status : (left : Option (List ℕ)) (given : List ℕ) (status : Status) → IsGenesis left (Err status) given → IsImportStatus status
+genesis_status left given CutInput read = tt
+genesis_status left given BadGenesis read = tt
+genesis_status left given InputFault read = tt
+genesis_status left given NoMemory read = tt
+genesis_status left given _ read = absurd read
+
+pub stop_status : (status : Status) → IsStop status → IsImportStatus status
+stop_status InputFault stop = tt
+stop_status SinkFault stop = tt
+stop_status NoMemory stop = tt
+stop_status _ stop = absurd stop
+
+-- words that are not in the grammar
+pub bad_words : (words : List (List ℕ)) (left : Option (List ℕ)) → command_of words ≡ None
+    → TellsReport (report words) [] left [] BadWords × ImportsInOrder [] left [] BadWords
+bad_words words left none = (
+  record {
+    front = λ more is. ((report words ([] ++ more)).text, refl);
+    whole_text = λ more is reported. sym (ap (λ (command : Option Command). (report_of_command command ([] ++ more)).text) none);
+    same_status = λ more is reported. sym (ap (λ (command : Option Command). (report_of_command command ([] ++ more)).status) none);
+  },
+  record {
+    written = no_lines [] [] (few_hold_none [] (omega arith));
+    to_end = λ ended. absurd (elim ended [ inl e ↦ (cc) | inr e ↦ (cc) ]);
+    genesis_alone = λ e. absurd (cc);
+    to_cut = λ e. absurd (cc);
+  })

@@ -5,7 +5,7 @@ ghost use Rattle.rule_defs.specs.Verdict as rules;
 ghost use Rattle.report_defs.specs.Text.{line};
 ghost use Rattle.report_defs.specs.Report.{import_limits, report_of_input};
 ghost use Rattle.node_run.specs.Import.{tip_line_of_kept};
-ghost use Rattle.report_defs.specs.Promise.{TellsReport, ImportsInOrder};
+ghost use Rattle.report_defs.specs.Promise.{TellsReport, ImportsInOrder, IsImportStatus};
 ghost use Rattle.node_run.specs.Items.{Gave};
 ghost use Rattle.node_run.specs.Import.{Took, Passed, IsGenesis, IsWritten, IsJudged, AreImported};
 
@@ -157,9 +157,11 @@ fn is_between_items(end: End) -> bool
 pub fn import<S: Source, K: Sink>(alloc: Global, input: &mut S, out: &mut K) -> Status
     ensures text { Passed (S.left input.old) (S.left input.new) (K.taken out.old) (K.taken out.new)
         (λ given taken. TellsReport report_of_input given (S.left input.new) taken result × ImportsInOrder given (S.left input.new) taken result) }
+    ensures status { IsImportStatus result }
+    ensures input_later { S.faults input.old ≤ S.faults input.new }
+    ensures out_later { K.faults out.old ≤ K.faults out.new }
     ensures input_fault { result ≡ Status.InputFault → Rose (S.faults input.old) (S.faults input.new) }
     ensures sink_fault { result ≡ Status.SinkFault → Rose (K.faults out.old) (K.faults out.new) }
-    ensures no_disk_fault { result ≡ Status.DiskFault → ⊥ }
 {
     let (mut kept, start) = match read_genesis(alloc, input) {
         Ok(genesis) => genesis,

@@ -73,3 +73,8 @@ pub record ImportsInOrder (given : List ℕ) (left : Option (List ℕ)) (taken :
   -- the genesis is judged before a byte of the next item is read
   pub genesis_alone : status ≡ BadGenesis → (split_of import_limits given).items ≡ given ∷ []
   pub to_cut : status ≡ CutInput → (more : List ℕ) → left ≡ Some more → end_offset (split_of import_limits (given ++ more)) ≤ length given
+
+-- how a run may end, by what is built
+abbrev pub IsRunStatus : Status → Type 0
+IsRunStatus BadWords = Unit {0}
+IsRunStatus status = IsImportStatus status
