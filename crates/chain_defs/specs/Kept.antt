@@ -13,15 +13,14 @@ block_hash block = ckbhash (encoded header block.header)
 abbrev pub find_kept : List Block → List ℕ → Option Block
 find_kept kept hash = find (λ block. bytes_eq (block_hash block) hash) kept
 
--- The tip: a block of the greatest number, and of these the earliest. Each block has one and the same
--- target, so the greatest number is the most work.
-abbrev pub earlier_of : Block → Option Block → Block
-earlier_of block None = block
-earlier_of block (Some later) = if nat_lt block.header.number later.header.number then later else block
+-- The tip: a block of the greatest number, and of these the earliest.
+abbrev pub higher_of : Block → Option Block → Block
+higher_of block None = block
+higher_of block (Some later) = if nat_lt block.header.number later.header.number then later else block
 
 abbrev pub tip : List Block → Option Block
 tip [] = None
-tip (block ∷ later) = Some (earlier_of block (tip later))
+tip (block ∷ later) = Some (higher_of block (tip later))
 
 -- The tip in words: it stands at a place, no number is above its own, and before it each is below.
 pub record IsTip (kept : List Block) (place : ℕ) (block : Block) : Type 0 where

@@ -81,18 +81,6 @@ fn import_item<K: Sink>(
     }
 }
 
-/// Whether an item was refused: it broke a rule, or its form is not judged yet.
-fn is_refusal(verdict: &Verdict) -> bool
-    ensures { result ≡ rules.refuses verdict.now }
-{
-    match verdict {
-        Verdict::Joined(_, _) => false,
-        Verdict::Known(_) => false,
-        Verdict::Refused(_) => true,
-        Verdict::Unbuilt => true,
-    }
-}
-
 /// Reads the items from an offset on, judges each and writes its line before the next is read.
 fn import_items<S: Source, K: Sink>(
     alloc: Global,
@@ -123,7 +111,7 @@ fn import_items<S: Source, K: Sink>(
             Err(status) => return Err(status),
         };
         offset += size;
-        refused = refused || is_refusal(&verdict);
+        refused = refused || verdict.refuses();
     }
 }
 

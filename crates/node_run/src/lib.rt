@@ -9,7 +9,7 @@ mod import;
 mod items;
 mod kept;
 mod lines;
-mod outline;
+mod summary;
 mod top;
 mod words;
 

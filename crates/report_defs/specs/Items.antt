@@ -61,6 +61,6 @@ split_from (suc most) limits offset bytes = elim (end_at limits offset bytes) [
       put_front (take size bytes) (split_from most limits (offset + size) (drop size bytes))
   ]
 
--- the one split of an input
+-- The one split of an input: it keeps `IsSplit`, and no other does (proofs/ItemLemmas).
 unfoldable pub split_of : Limits → List ℕ → Split
 split_of limits input = split_from (suc (length input)) limits 0 input

@@ -96,7 +96,7 @@ items-preserved g c =
     record {
       whole = whole_more c.args.kept.now c.args.start c.items.offset (g.S.Source.left c.args.input.now) (g.S.Source.left c.items.input) (g.S.Source.left c.next_item.new.input)
         (g.K.Sink.taken c.args.out.now) (g.K.Sink.taken c.items.out) (g.K.Sink.taken c.import_item.new.out) c.items.kept c.import_item.new.kept c.items.refused
-        c.in-Ok-Item.item.items next.0 written.0 c.in-Ok.verdict c.len-size.result c.is_refusal-refused.result size (c.is_refusal-refused.ensures ∙ sym (or_else c.items.refused (rules.refuses c.in-Ok.verdict) c.if-refused.false))
+        c.in-Ok-Item.item.items next.0 written.0 c.in-Ok.verdict c.len-size.result c.refuses-refused.result size (c.refuses-refused.ensures ∙ sym (or_else c.items.refused (rules.refuses c.in-Ok.verdict) c.if-refused.false))
         c.items.invariant.whole next.2 next.1 written.1 c.in-Ok.ensures.judged.0 c.in-Ok.ensures.judged.1 written.2;
       input_later = omega (arith, c.items.invariant.input_later, c.next_item.ensures.later);
       out_later = omega (arith, c.items.invariant.out_later, c.import_item.ensures.later);
