@@ -1,19 +1,18 @@
 -- What is checked of bytes holds exactly where they encode a value of the shape.
-use Rattle.std.proofs.Common.{◌≡◌, ℕ, zero, suc, ◌+◌, ◌-◌, ◌*◌, ◌^◌, ◌<◌, ◌≤◌, Bool, true, false, cond, eqb, List, [], ◌∷◌, ◌++◌, length, map, take, drop, get_or, Option, Some, None, refl, sym, ap, subst, ◌∙◌, arith, inl, inr}
+use Rattle.std.proofs.Common.{◌≡◌, ℕ, zero, suc, ◌+◌, ◌-◌, ◌*◌, ◌^◌, ◌<◌, Bool, false, eqb, List, [], ◌∷◌, length, map, take, drop, get_or, Option, Some, None, refl, sym, ap, subst, ◌∙◌, arith, inl, inr}
 use Rattle.std.specs.Prelude.{IsTrue, IfSome, ◌↔◌, unwrap_or, slice_get}
 use Rattle.std.specs.Option.{is_some, option_map}
 use Rattle.std.proofs.lemmas.Option.{none-some, slice_get-map}
-use Rattle.std.specs.Int.{w32, w64, to_le_bytes, from_le_bytes}
-use Rattle.std.specs.List.{concat, slice_range, list_all, range_with_len, AllByRecursion}
+use Rattle.std.specs.List.{concat, slice_range, range_with_len, AllByRecursion}
 use Rattle.std.proofs.lemmas.Bool.{and_from, and_parts, ne_eqb, lt-ltb, ltb-true, eq-eqb, eqb-true, cases_lt}
-use Rattle.std.proofs.lemmas.List.{length-take, length-drop, length-map, get_or-drop, get_or-take, get_or_past, nil_from_length}
+use Rattle.std.proofs.lemmas.List.{length-take, length-map, get_or-drop, get_or-take, get_or_past}
 use Rattle.std.proofs.lemmas.Nat.{le_bytes_4, le_bytes_8}
 use Rattle.codec_defs.specs.Molecule as molecule
 use Rattle.codec_defs.specs.Molecule.{IsFixvec, IsDynvec, IsTable}
-use Rattle.codec_defs.specs.Shape.{Encoding, Shape, IsA, encoded, decoded, byte, u32, u64, u128, are_bytes, byte_array, bytes, fixvec, dynvec, option, table, parts, all_fit, part}
+use Rattle.codec_defs.specs.Shape.{Shape, IsA, encoded, decoded, byte, u32, u64, u128, are_bytes, byte_array, bytes, fixvec, dynvec, option, parts, part}
 use Rattle.codec_defs.proofs.MoleculeLaws.{IsFixvec_only, IsDynvec_only, length-concat}
 use Rattle.codec_defs.proofs.Numbers.{le_bytes_16}
-use Rattle.codec_defs.proofs.ShapeLaws.{Inverts, length-parts, AllFit, AllFit-from, all_fit-from, TableOf, table-whole, table-parts, concat-singles, decoded-is, decoded-none, decoded-exact}
+use Rattle.codec_defs.proofs.ShapeLaws.{Inverts, length-parts, AllFit, AllFit-from, all_fit-from, decoded-is, decoded-none, decoded-exact}
 use Rattle.mol_schema.specs.Checked.{HasLength, IsItems, IsBytes, IsListOf}
 
 -- each is a byte

@@ -1,5 +1,4 @@
-use Rattle.std.proofs.Common.{◌≤◌, length, ap, arith}
-use Rattle.codec_defs.specs.Molecule as molecule
+use Rattle.std.proofs.Common.{length, ap, arith}
 use Rattle.codec_defs.specs.Molecule.{items_of_fixvec}
 use Rattle.codec_defs.proofs.MoleculeLaws.{length-fixvec}
 use Rattle.mol_schema.proofs.parts.content.Goals as goal
