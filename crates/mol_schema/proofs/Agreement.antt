@@ -10,7 +10,7 @@ use Rattle.std.proofs.lemmas.Nat.{le_bytes_4, le_bytes_8}
 use Rattle.codec_defs.specs.Molecule as molecule
 use Rattle.codec_defs.specs.Molecule.{IsFixvec, IsDynvec, IsTable}
 use Rattle.codec_defs.specs.Shape.{Shape, IsA, encoded, decoded, byte, u32, u64, u128, are_bytes, byte_array, bytes, fixvec, dynvec, option, parts, part}
-use Rattle.codec_defs.proofs.MoleculeLaws.{IsFixvec_only, IsDynvec_only, length-concat}
+use Rattle.codec_defs.proofs.MoleculeLaws.{IsFixvec_only, IsDynvec_only, length-concat, length-dynvec}
 use Rattle.codec_defs.proofs.Numbers.{le_bytes_16}
 use Rattle.codec_defs.proofs.ShapeLaws.{Inverts, length-parts, AllFit, AllFit-from, all_fit-from, decoded-is, decoded-none, decoded-exact}
 use Rattle.mol_schema.specs.Checked.{HasLength, IsItems, IsBytes, IsListOf}
@@ -138,6 +138,17 @@ sizes_single (b ∷ content) = (refl, sizes_single content)
 -- a fixvec as `items_of_fixvec` reads it
 reads_items : (size : ℕ) (b : List ℕ) (items : List (List ℕ)) → IsFixvec size b items → IsItems size b
 reads_items size b items h = subst (λ (l : List (List ℕ)). IsFixvec size b l) (sym (IsFixvec_only size b items h)) h
+
+pub length-content : (b : List ℕ) → IsItems 1 b → length (drop 4 b) < 2 ^ 32
+length-content b p =
+    let items = molecule.items_of_fixvec 1 b in
+    let content : drop 4 b ≡ concat items = ap (drop 4) p.encoding ∙ content_of items in
+    omega (arith, p.count, ap length content, length-concat 1 items p.sizes)
+
+-- each part has an offset of four bytes
+pub length-items : (b : List ℕ) (items : List (List ℕ)) → IsDynvec b items → length items < 2 ^ 30
+unfolding molecule.full_size molecule.header_size
+length-items b items p = omega (arith, p.size, ap length p.encoding, length-dynvec items)
 
 pub bytes-agrees : Agrees IsBytes bytes
 bytes-agrees = record {
