@@ -1,3 +1,6 @@
-//! The formats that the node reads and writes, as definitions alone: functions on lists of bytes.
-//! The crates that read and write them cite the definitions in their contracts.
+//! What the bytes of the chain mean, as definitions alone: functions on lists of bytes, which the
+//! crates that read and write them cite in their contracts.
+//!
+//! - `Molecule`, `Shape`: the encodings of RFC 0008. `Schema`: the values of CKB's blockchain.mol.
+//! - `CkbHash`: the hash of a message, after RFC 7693.
 #![tactic(auto)]

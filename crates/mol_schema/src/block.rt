@@ -80,7 +80,7 @@ impl<'a> UncleView<'a> {
 
     pub fn proposals_item(&self, i: usize) -> &'a [u8]
         requires { i < length self.now.proposals }
-        ensures value { slice_get self.now.proposals i ≡ Some result.now }
+        ensures at { slice_get self.now.proposals i ≡ Some result.now }
         ensures len { length result.now ≡ 10 }
     {
         item(field::<2>(self.bytes, 1), 10, i)
@@ -176,7 +176,7 @@ impl<'a> BlockView<'a> {
 
     pub fn proposals_item(&self, i: usize) -> &'a [u8]
         requires { i < length self.now.proposals }
-        ensures value { slice_get self.now.proposals i ≡ Some result.now }
+        ensures at { slice_get self.now.proposals i ≡ Some result.now }
         ensures len { length result.now ≡ 10 }
     {
         item(field::<4>(self.bytes, 3), 10, i)

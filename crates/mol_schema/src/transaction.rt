@@ -175,7 +175,7 @@ impl<'a> RawTxView<'a> {
 
     pub fn header_deps_item(&self, i: usize) -> &'a [u8]
         requires { i < length self.now.header_deps }
-        ensures value { slice_get self.now.header_deps i ≡ Some result.now }
+        ensures at { slice_get self.now.header_deps i ≡ Some result.now }
         ensures len { length result.now ≡ 32 }
     {
         item(field::<6>(self.bytes, 2), 32, i)
@@ -218,7 +218,7 @@ impl<'a> RawTxView<'a> {
 
     pub fn outputs_data_item(&self, i: usize) -> &'a [u8]
         requires { i < length self.now.outputs_data }
-        ensures value { slice_get self.now.outputs_data i ≡ Some result.now }
+        ensures at { slice_get self.now.outputs_data i ≡ Some result.now }
         ensures fits { length result.now < 2 ^ 32 }
     {
         content(list_item(field::<6>(self.bytes, 5), i))
@@ -294,7 +294,7 @@ impl<'a> TxView<'a> {
 
     pub fn witnesses_item(&self, i: usize) -> &'a [u8]
         requires { i < length self.now.witnesses }
-        ensures value { slice_get self.now.witnesses i ≡ Some result.now }
+        ensures at { slice_get self.now.witnesses i ≡ Some result.now }
         ensures fits { length result.now < 2 ^ 32 }
     {
         content(list_item(field::<2>(self.bytes, 1), i))

@@ -1,0 +1,7 @@
+use Rattle.std.proofs.Common.{refl}
+use Rattle.codec_defs.specs.CkbHash.{compress}
+use Rattle.blake2b_ckb.proofs.compression.compress.Goals as goal
+
+pub returns : goal.returns
+unfolding compress
+returns c = rw (c.rounds-v.ensures, c.work_vector.ensures, c.words.ensures) refl

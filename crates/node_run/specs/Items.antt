@@ -1,0 +1,55 @@
+-- What reading the next item comes to: which bytes the source gave for it.
+use Rattle.std.specs.Prelude.{◌≡◌, ℕ, ◌+◌, ◌≤◌, List, [], ◌++◌, length, Option, Some, Result, Ok, Err}
+use Rattle.std.specs.Io.KnownBytes.{IsAtEnd}
+use Rattle.outside.specs.Streams.{Gives}
+use Rattle.report_defs.specs.Items.{IsItem, end_at}
+use Rattle.report_defs.specs.Report.{import_limits}
+use Rattle.report_defs.specs.declared.end.End.{End}
+use Rattle.report_defs.specs.declared.end.End.TheVariants.{AtEnd}
+use Rattle.report_defs.specs.declared.status.Status.{Status}
+use Rattle.report_defs.specs.declared.status.Status.TheVariants.{InputFault, SinkFault, NoMemory}
+use Rattle.node_run.specs.declared.items.Next.{Next}
+use Rattle.node_run.specs.declared.items.Next.TheVariants as next
+
+-- the source gave some bytes, which are no longer left, and P holds of them
+abbrev pub Gave : Option (List ℕ) → Option (List ℕ) → (List ℕ → Type 0) → Type 0
+Gave left_old left_new P = (given : List ℕ) × Gives left_old left_new given × P given
+
+-- the bytes hold one item at most: no byte follows one that stands at their front
+abbrev pub HoldsOneAtMost : List ℕ → Type 0
+HoldsOneAtMost given = (item more : List ℕ) → IsItem import_limits item → given ≡ item ++ more → more ≡ []
+
+-- the bytes are an item, within the limit of the input
+pub record IsItemAt (offset : ℕ) (item given : List ℕ) : Type 0 where
+  pub same : given ≡ item
+  pub is_item : IsItem import_limits item
+  pub within : offset + length item ≤ import_limits.input
+
+-- the reading ends at this offset, whatever is left behind the bytes that were given there
+pub record EndsAt (offset : ℕ) (left : Option (List ℕ)) (end : End) (given : List ℕ) : Type 0 where
+  pub ends : (more : List ℕ) → left ≡ Some more → end_at import_limits offset (given ++ more) ≡ Some end
+  pub one : HoldsOneAtMost given
+  pub nothing : end ≡ AtEnd → given ≡ []
+  pub to_end : end ≡ AtEnd → IsAtEnd left
+
+-- what stops reading, writing, or both: a fault or want of memory
+abbrev pub IsReadingStop : Status → Type 0
+IsReadingStop InputFault = Unit {0}
+IsReadingStop NoMemory = Unit {0}
+IsReadingStop _ = ⊥
+
+abbrev pub IsWritingStop : Status → Type 0
+IsWritingStop SinkFault = Unit {0}
+IsWritingStop NoMemory = Unit {0}
+IsWritingStop _ = ⊥
+
+abbrev pub IsStop : Status → Type 0
+IsStop InputFault = Unit {0}
+IsStop SinkFault = Unit {0}
+IsStop NoMemory = Unit {0}
+IsStop _ = ⊥
+
+abbrev pub IsNext : ℕ → Option (List ℕ) → Result Next Status → List ℕ → Type 0
+IsNext offset left (Ok (next.Item item)) given = IsItemAt offset item.items given
+IsNext offset left (Ok (next.End end)) given = EndsAt offset left end given
+IsNext offset left (Err status) given = IsReadingStop status × HoldsOneAtMost given

@@ -1,0 +1,168 @@
+// The command `import`: a genesis and blocks, each answered by a line.
+ghost use Rattle.std.specs.Prelude.{◌≡◌, ◌+◌, ◌≤◌, Err};
+ghost use Rattle.outside.specs.Causes.{Rose};
+ghost use Rattle.rule_defs.specs.Verdict as rules;
+ghost use Rattle.report_defs.specs.Text.{line};
+ghost use Rattle.report_defs.specs.Report.{import_limits, report_of_input};
+ghost use Rattle.node_run.specs.Import.{tip_line_of_kept};
+ghost use Rattle.report_defs.specs.Promise.{TellsReport, ImportsInOrder};
+ghost use Rattle.node_run.specs.Items.{Gave};
+ghost use Rattle.node_run.specs.Import.{Took, Passed, IsGenesis, IsWritten, IsJudged, AreImported};
+
+use crate::items::{Next, next_item};
+use crate::kept::{GenesisError, Kept};
+use crate::lines::{tip_line, verdict_line};
+use outside::{Sink, Source, write_all};
+use report_defs::{End, Status};
+use rule_defs::Verdict;
+use std::alloc::Global;
+
+/// How the items ended, and whether one of them was refused.
+#[derive(Clone, Copy)]
+struct Ended {
+    end: End,
+    refused: bool,
+}
+
+/// Reads the genesis, and answers what is kept and the offset behind it.
+fn read_genesis<S: Source>(alloc: Global, input: &mut S) -> Result<(Kept, u64), Status>
+    ensures genesis { Gave (S.left input.old) (S.left input.new) (IsGenesis (S.left input.new) result) }
+    ensures later { S.faults input.old ≤ S.faults input.new }
+    ensures fault { result ≡ Err Status.InputFault → Rose (S.faults input.old) (S.faults input.new) }
+{
+    let item = match next_item(alloc, input, 0) {
+        Ok(Next::Item(item)) => item,
+        Ok(Next::End(_)) => return Err(Status::CutInput),
+        Err(status) => return Err(status),
+    };
+    let size = item.len() as u64;
+    match Kept::from_genesis(alloc, item) {
+        Ok(kept) => Ok((kept, size)),
+        Err(GenesisError::Broken(_)) => Err(Status::BadGenesis),
+        Err(GenesisError::NoMemory) => Err(Status::NoMemory),
+    }
+}
+
+/// Hands all of a text to the sink.
+fn write_text<K: Sink>(out: &mut K, text: &[u8]) -> Result<(), Status>
+    ensures written { Took (K.taken out.old) (K.taken out.new) (IsWritten text.now result) }
+    ensures later { K.faults out.old ≤ K.faults out.new }
+    ensures fault { result ≡ Err Status.SinkFault → Rose (K.faults out.old) (K.faults out.new) }
+{
+    match write_all(out, text) {
+        Ok(()) => Ok(()),
+        Err(_) => Err(Status::SinkFault),
+    }
+}
+
+/// Judges an item and writes its line.
+fn import_item<K: Sink>(
+    alloc: Global,
+    out: &mut K,
+    kept: &mut Kept,
+    item: Vec<u8>,
+) -> Result<Verdict, Status>
+    ensures judged { IsJudged kept.old kept.new item.items result }
+    ensures written { Took (K.taken out.old) (K.taken out.new) (IsWritten (line (rules.verdict kept.old item.items)) result) }
+    ensures later { K.faults out.old ≤ K.faults out.new }
+    ensures fault { result ≡ Err Status.SinkFault → Rose (K.faults out.old) (K.faults out.new) }
+{
+    let verdict = match kept.import(item) {
+        Ok(verdict) => verdict,
+        Err(_) => return Err(Status::NoMemory),
+    };
+    let text = match verdict_line(alloc, &verdict) {
+        Ok(text) => text,
+        Err(_) => return Err(Status::NoMemory),
+    };
+    match write_text(out, text.as_bytes()) {
+        Ok(()) => Ok(verdict),
+        Err(status) => Err(status),
+    }
+}
+
+/// Whether an item was refused: it broke a rule, or its form is not judged yet.
+fn is_refusal(verdict: &Verdict) -> bool
+    ensures { result ≡ rules.refuses verdict.now }
+{
+    match verdict {
+        Verdict::Joined(_, _) => false,
+        Verdict::Known(_) => false,
+        Verdict::Refused(_) => true,
+        Verdict::Unbuilt => true,
+    }
+}
+
+/// Reads the items from an offset on, judges each and writes its line before the next is read.
+fn import_items<S: Source, K: Sink>(
+    alloc: Global,
+    input: &mut S,
+    out: &mut K,
+    kept: &mut Kept,
+    start: u64,
+) -> Result<Ended, Status>
+    requires { start ≤ import_limits.input }
+    ensures imported { Passed (S.left input.old) (S.left input.new) (K.taken out.old) (K.taken out.new)
+        (AreImported kept.old kept.new start (S.left input.new) result) }
+    ensures input_later { S.faults input.old ≤ S.faults input.new }
+    ensures out_later { K.faults out.old ≤ K.faults out.new }
+    ensures input_fault { result ≡ Err Status.InputFault → Rose (S.faults input.old) (S.faults input.new) }
+    ensures sink_fault { result ≡ Err Status.SinkFault → Rose (K.faults out.old) (K.faults out.new) }
+{
+    let mut offset = start;
+    let mut refused = false;
+    'items: loop {
+        let item = match next_item(alloc, input, offset) {
+            Ok(Next::Item(item)) => item,
+            Ok(Next::End(end)) => return Ok(Ended { end, refused }),
+            Err(status) => return Err(status),
+        };
+        let size = item.len() as u64;
+        let verdict = match import_item(alloc, out, kept, item) {
+            Ok(verdict) => verdict,
+            Err(status) => return Err(status),
+        };
+        offset += size;
+        refused = refused || is_refusal(&verdict);
+    }
+}
+
+/// Writes the line of the tip.
+fn write_tip<K: Sink>(alloc: Global, out: &mut K, kept: &Kept) -> Result<(), Status>
+    ensures tip { Took (K.taken out.old) (K.taken out.new) (IsWritten (tip_line_of_kept kept.now) result) }
+    ensures later { K.faults out.old ≤ K.faults out.new }
+    ensures fault { result ≡ Err Status.SinkFault → Rose (K.faults out.old) (K.faults out.new) }
+{
+    let tip = kept.tip();
+    let text = match tip_line(alloc, tip.number, &tip.hash) {
+        Ok(text) => text,
+        Err(_) => return Err(Status::NoMemory),
+    };
+    write_text(out, text.as_bytes())
+}
+
+/// Imports what the input holds.
+pub fn import<S: Source, K: Sink>(alloc: Global, input: &mut S, out: &mut K) -> Status
+    ensures text { Passed (S.left input.old) (S.left input.new) (K.taken out.old) (K.taken out.new)
+        (λ given taken. TellsReport report_of_input given (S.left input.new) taken result × ImportsInOrder given (S.left input.new) taken result) }
+    ensures input_fault { result ≡ Status.InputFault → Rose (S.faults input.old) (S.faults input.new) }
+    ensures sink_fault { result ≡ Status.SinkFault → Rose (K.faults out.old) (K.faults out.new) }
+    ensures no_disk_fault { result ≡ Status.DiskFault → ⊥ }
+{
+    let (mut kept, start) = match read_genesis(alloc, input) {
+        Ok(genesis) => genesis,
+        Err(status) => return status,
+    };
+    let ended = match import_items(alloc, input, out, &mut kept, start) {
+        Ok(ended) => ended,
+        Err(status) => return status,
+    };
+    if ended.end != End::AtEnd {
+        return Status::CutInput;
+    }
+    match write_tip(alloc, out, &kept) {
+        Ok(()) if ended.refused => Status::SomeRefused,
+        Ok(()) => Status::Done,
+        Err(status) => status,
+    }
+}

@@ -1,0 +1,113 @@
+// The next item of an input.
+ghost use Rattle.std.specs.Prelude.{◌≡◌, ◌+◌, ◌<◌, ◌≤◌, ◌++◌, ℕ, List, length, take, drop, IfOk, OnErr};
+ghost use Rattle.std.specs.Int.{w32, from_le_bytes};
+ghost use Rattle.std.specs.Io.KnownBytes.{IsAtEnd};
+ghost use Rattle.outside.specs.Causes.{HasCause, Rose};
+ghost use Rattle.outside.specs.Streams.{Gives};
+ghost use Rattle.report_defs.specs.Report.{import_limits};
+ghost use Rattle.node_run.specs.Items.{Gave, IsNext};
+
+use outside::{Failed, Source, read_full};
+use report_defs::{End, Status};
+use std::alloc::Global;
+
+/// The most bytes of an item.
+pub const ITEM_LIMIT: usize = 1 << 20;
+
+/// The most bytes of an input.
+pub const INPUT_LIMIT: u64 = 1 << 40;
+
+/// What stands next in an input.
+#[derive(Drop)]
+pub enum Next {
+    Item(Vec<u8>),
+    End(End),
+}
+
+/// Reads the next item, which stands at this offset. The status is `InputFault` or `NoMemory`.
+pub fn next_item<S: Source>(alloc: Global, input: &mut S, offset: u64) -> Result<Next, Status>
+    requires { offset ≤ import_limits.input }
+    ensures next { Gave (S.left input.old) (S.left input.new) (IsNext offset (S.left input.new) result) }
+    ensures later { S.faults input.old ≤ S.faults input.new }
+    ensures fault { result ≡ Err Status.InputFault → Rose (S.faults input.old) (S.faults input.new) }
+{
+    let mut word = [0u8; 4];
+    let n = match read_full(input, &mut word) {
+        Ok(n) => n,
+        Err(_) => return Err(Status::InputFault),
+    };
+    if n == 0 {
+        return Ok(Next::End(End::AtEnd));
+    }
+    if n < 4 {
+        return Ok(Next::End(End::Cut));
+    }
+    item_of_word(alloc, input, offset, &word)
+}
+
+/// Reads the rest of an item whose size word was read.
+fn item_of_word<S: Source>(
+    alloc: Global,
+    input: &mut S,
+    offset: u64,
+    word: &[u8; 4],
+) -> Result<Next, Status>
+    requires { offset ≤ import_limits.input }
+    ensures next { Gave (S.left input.old) (S.left input.new) (λ given. IsNext offset (S.left input.new) result (word.now ++ given)) }
+    ensures later { S.faults input.old ≤ S.faults input.new }
+    ensures fault { result ≡ Err Status.InputFault → Rose (S.faults input.old) (S.faults input.new) }
+{
+    let size = u32::from_le_bytes(*word) as usize;
+    if size < 4 || size > ITEM_LIMIT {
+        return Ok(Next::End(End::BadSize));
+    }
+    if offset + size as u64 > INPUT_LIMIT {
+        return Ok(Next::End(End::Extra));
+    }
+    item_of_size(alloc, input, offset, word, size)
+}
+
+/// Reads the rest of an item of this size.
+fn item_of_size<S: Source>(
+    alloc: Global,
+    input: &mut S,
+    _offset: u64,
+    word: &[u8; 4],
+    size: usize,
+) -> Result<Next, Status>
+    requires word { from_le_bytes w32 word.now ≡ size }
+    requires least { 4 ≤ size }
+    requires most { size ≤ import_limits.item }
+    requires within { _offset + size ≤ import_limits.input }
+    ensures next { Gave (S.left input.old) (S.left input.new) (λ given. IsNext _offset (S.left input.new) result (word.now ++ given)) }
+    ensures later { S.faults input.old ≤ S.faults input.new }
+    ensures fault { result ≡ Err Status.InputFault → Rose (S.faults input.old) (S.faults input.new) }
+{
+    let mut item = match vec![in alloc; 0u8; size] {
+        Ok(item) => item,
+        Err(_) => return Err(Status::NoMemory),
+    };
+    let n = match fill(input, word, &mut item) {
+        Ok(n) => n,
+        Err(_) => return Err(Status::InputFault),
+    };
+    if n < size - 4 {
+        return Ok(Next::End(End::Cut));
+    }
+    Ok(Next::Item(item))
+}
+
+/// Puts the size word at the front of an item and reads what is behind it.
+fn fill<S: Source>(input: &mut S, word: &[u8; 4], item: &mut [u8]) -> Result<usize, Failed>
+    requires { 4 ≤ length item.old }
+    ensures read { IfOk result (λ n. n + 4 ≤ length item.old) }
+    ensures given { IfOk result (λ n. Gives (S.left input.old) (S.left input.new) (take n (drop 4 item.new))) }
+    ensures front { IfOk result (λ n. take 4 item.new ≡ word.now) }
+    ensures end { IfOk result (λ n. n + 4 < length item.old → IsAtEnd (S.left input.new)) }
+    ensures given_before { OnErr result ((given : List ℕ) × (length given + 4 < length item.old)
+        × Gives (S.left input.old) (S.left input.new) given) }
+    ensures cause { HasCause (S.faults input.old) (S.faults input.new) result }
+{
+    item[..4].copy_from_slice(word);
+    read_full(input, &mut item[4..])
+}

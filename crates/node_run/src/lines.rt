@@ -1,0 +1,76 @@
+// The lines of a run.
+ghost use Rattle.std.specs.Prelude.{◌≡◌, ◌++◌, codes, string_bytes, IfOk, OnOk};
+ghost use Rattle.std.specs.Fmt.{decimal};
+ghost use Rattle.report_defs.specs.Text as text;
+
+use rule_defs::Verdict;
+use std::alloc::{AllocError, Global};
+
+/// Adds a hash: `0x` and its bytes in lower-case hex digits.
+fn push_hash(alloc: Global, line: &mut String, hash: &[u8; 32]) -> Result<(), AllocError>
+    ensures { OnOk result (string_bytes line.new ≡ string_bytes line.old ++ text.hash_text hash.now) }
+{
+    let digits = hex::encode(alloc, hash)?;
+    line.push_str("0x")?;
+    line.push_str(&digits)
+}
+
+/// A word, a number and a hash.
+fn numbered_line(
+    alloc: Global,
+    word: &str,
+    number: u64,
+    hash: &[u8; 32],
+) -> Result<String, AllocError>
+    ensures { IfOk result (λ line. string_bytes line
+        ≡ word.now ++ codes " " ++ decimal number ++ codes " " ++ text.hash_text hash.now ++ text.line_feed) }
+{
+    let number = number.to_string(alloc)?;
+    let mut line = String::from_str(alloc, word)?;
+    line.push_str(" ")?;
+    line.push_str(&number)?;
+    line.push_str(" ")?;
+    push_hash(alloc, &mut line, hash)?;
+    line.push_str("\n")?;
+    Ok(line)
+}
+
+/// The line of a known block.
+fn known_line(alloc: Global, hash: &[u8; 32]) -> Result<String, AllocError>
+    ensures { IfOk result (λ line. string_bytes line ≡ codes "known " ++ text.hash_text hash.now ++ text.line_feed) }
+{
+    let mut line = String::from_str(alloc, "known ")?;
+    push_hash(alloc, &mut line, hash)?;
+    line.push_str("\n")?;
+    Ok(line)
+}
+
+/// The line of a refused item.
+fn refused_line(alloc: Global, rule: u8) -> Result<String, AllocError>
+    ensures { IfOk result (λ line. string_bytes line ≡ codes "refused J" ++ decimal rule ++ text.line_feed) }
+{
+    let rule = rule.to_string(alloc)?;
+    let mut line = String::from_str(alloc, "refused J")?;
+    line.push_str(&rule)?;
+    line.push_str("\n")?;
+    Ok(line)
+}
+
+/// The line of an item that was imported.
+pub fn verdict_line(alloc: Global, verdict: &Verdict) -> Result<String, AllocError>
+    ensures { IfOk result (λ line. string_bytes line ≡ text.line verdict.now) }
+{
+    match verdict {
+        Verdict::Joined(number, hash) => numbered_line(alloc, "joined", *number, hash),
+        Verdict::Known(hash) => known_line(alloc, hash),
+        Verdict::Refused(rule) => refused_line(alloc, *rule),
+        Verdict::Unbuilt => String::from_str(alloc, "unbuilt\n"),
+    }
+}
+
+/// The line of a tip of this number and hash.
+pub fn tip_line(alloc: Global, number: u64, hash: &[u8; 32]) -> Result<String, AllocError>
+    ensures { IfOk result (λ line. string_bytes line ≡ text.tip_line_of number hash.now) }
+{
+    numbered_line(alloc, "tip", number, hash)
+}

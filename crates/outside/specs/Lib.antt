@@ -1,0 +1,5 @@
+pub mod Causes
+pub mod Streams
+pub mod Image
+pub mod Disk
+pub mod Memory

@@ -1,0 +1,96 @@
+// The standard streams.
+ghost use Rattle.std.specs.Prelude.{◌≡◌, ◌≤◌, ◌<◌, ℕ, None, length, IsErr, IfOk, OnOk, OnErr};
+ghost use Rattle.outside.specs.Causes.{counted, up_to_last, within_last};
+
+use outside::{Failed, Sink, Source};
+use std::io::Read;
+use std::marker::Model;
+
+fn fail(failed: &mut u64) -> Failed
+    ensures { failed.new ≡ counted failed.old }
+{
+    *failed = failed.saturating_add(1);
+    Failed
+}
+
+/// Standard input. A clause sees how often it has failed.
+#[derive(Drop)]
+pub struct StdinSource<R: Drop> {
+    rt: R,
+    failed: u64,
+}
+
+impl<R: Drop> Model for StdinSource<R> {
+    ghost Value = { ℕ };
+
+    ghost view = { λ source. source.failed };
+}
+
+impl<R: Input + Drop> StdinSource<R> {
+    pub fn new(rt: R) -> StdinSource<R>
+        ensures { result ≡ 0 }
+    {
+        StdinSource { rt, failed: 0 }
+    }
+}
+
+impl<R: Input + Drop> Source for StdinSource<R> {
+    ghost left = { λ _. None };
+
+    ghost faults = { up_to_last };
+
+    ghost last_fault = { within_last };
+
+    fn read(&mut self, into: &mut [u8]) -> Result<usize, Failed>
+        ensures fits { IfOk result (λ n. n ≤ length into.new) }
+        ensures calm { OnOk result (self.new ≡ self.old) }
+        ensures counted { OnErr result (self.new ≡ counted self.old) }
+    {
+        match self.rt.reader().read(into) {
+            Ok(n) => Ok(n),
+            Err(_) => Err(fail(&mut self.failed)),
+        }
+    }
+}
+
+/// Standard output. A clause sees how often it has failed.
+#[derive(Drop)]
+pub struct StdoutSink<R: Drop> {
+    rt: R,
+    failed: u64,
+}
+
+impl<R: Drop> Model for StdoutSink<R> {
+    ghost Value = { ℕ };
+
+    ghost view = { λ sink. sink.failed };
+}
+
+impl<R: Print + Drop> StdoutSink<R> {
+    pub fn new(rt: R) -> StdoutSink<R>
+        ensures { result ≡ 0 }
+    {
+        StdoutSink { rt, failed: 0 }
+    }
+}
+
+impl<R: Print + Drop> Sink for StdoutSink<R> {
+    ghost taken = { λ _. None };
+
+    ghost faults = { up_to_last };
+
+    ghost last_fault = { within_last };
+
+    /// A write that took nothing of a piece that is not empty is a fault.
+    fn write(&mut self, piece: &[u8]) -> Result<usize, Failed>
+        ensures fits { IfOk result (λ n. n ≤ length piece.now) }
+        ensures some { IfOk result (λ n. 0 < length piece.now → 1 ≤ n) }
+        ensures calm { OnOk result (self.new ≡ self.old) }
+        ensures counted { OnErr result (self.new ≡ counted self.old) }
+    {
+        match self.rt.write_some(piece) {
+            Ok(n) if n > 0 || piece.is_empty() => Ok(n),
+            _ => Err(fail(&mut self.failed)),
+        }
+    }
+}

@@ -1,0 +1,6 @@
+pub mod Status
+pub mod Items
+pub mod Text
+pub mod Words
+pub mod Report
+pub mod Promise

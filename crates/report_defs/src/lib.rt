@@ -1,0 +1,12 @@
+//! What a run of the program prints and how it ends: the statuses, the grammar of words, how an
+//! input is cut into items, the lines, and the report of a whole run. Definitions, and the enums
+//! that code and definitions share.
+#![tactic(auto)]
+
+mod command;
+mod end;
+mod status;
+
+pub use command::Command;
+pub use end::End;
+pub use status::Status;

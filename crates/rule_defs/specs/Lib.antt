@@ -1,0 +1,2 @@
+pub mod Genesis
+pub mod Verdict
