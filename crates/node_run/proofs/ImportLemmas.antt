@@ -19,8 +19,20 @@ use Rattle.report_defs.specs.Text.{line}
 use Rattle.report_defs.specs.Report.{import_limits, verdicts_over, lines_over, kept_over}
 use Rattle.report_defs.specs.Promise.{IsPrefix}
 use Rattle.node_run.specs.Items.{HoldsOneAtMost, IsItemAt, EndsAt, IsReadingStop, IsWritingStop, IsStop}
-use Rattle.node_run.specs.Import.{Whole, Passed, Progress, IsEnded, AreImported}
+use Rattle.node_run.specs.Import.{Passed, Progress, IsEnded, AreImported}
 use Rattle.node_run.specs.declared.import.Ended.{Ended}
+
+-- Whole items were imported, and nothing of a next one was read.
+pub record Whole (kept : List Block) (start offset : ℕ) (left_old left_new taken_old taken_new : Option (List ℕ))
+    (now : List Block) (refused : Bool) : Type 0 where
+  pub items : List (List ℕ)
+  pub gives : Gives left_old left_new (concat items)
+  pub takes : Takes taken_old taken_new (lines_over kept items)
+  pub all : AllByRecursion (IsItem import_limits) items
+  pub place : offset ≡ start + length (concat items)
+  pub within : offset ≤ import_limits.input
+  pub kept_now : now ≡ kept_over kept items
+  pub any_refused : refused ≡ list_any rules.refuses (verdicts_over kept items)
 
 -- nothing was imported yet
 pub whole_none : (kept : List Block) (start : ℕ) (left taken : Option (List ℕ)) → start ≤ import_limits.input

@@ -1,5 +1,5 @@
--- What the parts of `import` come to: what the source gave, what the sink took, and what is kept.
-use Rattle.std.specs.Prelude.{◌≡◌, ◌⊎◌, ℕ, Bool, ◌+◌, ◌≤◌, List, [], ◌∷◌, ◌++◌, length, Option, Some, None, Result, Ok, Err}
+-- The parts of `import`: what the source gave in each, what the sink took, and what is kept.
+use Rattle.std.specs.Prelude.{◌≡◌, ◌⊎◌, ℕ, ◌+◌, ◌≤◌, List, [], ◌∷◌, ◌++◌, length, Option, Some, None, Result, Ok, Err}
 use Rattle.std.specs.List.{concat, list_any, AllByRecursion}
 use Rattle.std.specs.Io.KnownBytes.{IsAtEnd}
 use Rattle.outside.specs.Streams.{Gives, Takes}
@@ -86,15 +86,3 @@ pub record AreImported (old new : List Block) (offset : ℕ) (left : Option (Lis
   pub piece : List ℕ
   pub progress : Progress old offset items part piece given taken
   pub end : IsEnd old new offset left result items part piece
-
--- Whole items were imported, and nothing of a next one was read.
-pub record Whole (kept : List Block) (start offset : ℕ) (left_old left_new taken_old taken_new : Option (List ℕ))
-    (now : List Block) (refused : Bool) : Type 0 where
-  pub items : List (List ℕ)
-  pub gives : Gives left_old left_new (concat items)
-  pub takes : Takes taken_old taken_new (lines_over kept items)
-  pub all : AllByRecursion (IsItem import_limits) items
-  pub place : offset ≡ start + length (concat items)
-  pub within : offset ≤ import_limits.input
-  pub kept_now : now ≡ kept_over kept items
-  pub any_refused : refused ≡ list_any rules.refuses (verdicts_over kept items)

@@ -1,6 +1,6 @@
 use Rattle.std.proofs.Common.{◌-◌, ◌≤◌}
 use Rattle.report_defs.specs.Report.{import_limits}
-use Rattle.node_run.specs.Import.{Whole}
+use Rattle.node_run.proofs.ImportLemmas.{Whole}
 use Rattle.node_run.proofs.import.import_items.Given as goal
 
 abbrev pub invariant-items : goal.invariant-items
