@@ -3,7 +3,7 @@ use Rattle.std.specs.Prelude.{◌≡◌, ℕ, ◌<◌, ◌≤◌, List, [], ◌�
 use Rattle.std.specs.Str.{bytes_eq}
 use Rattle.codec_defs.specs.CkbHash.{ckbhash}
 use Rattle.codec_defs.specs.Shape.{encoded}
-use Rattle.codec_defs.specs.Schema.{Header, header, Block}
+use Rattle.codec_defs.specs.Schema.{header, Block}
 
 -- The hash of a block is that of the 208 bytes of its header (RFC 0027).
 unfoldable pub block_hash : Block → List ℕ

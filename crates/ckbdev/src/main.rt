@@ -39,7 +39,14 @@ fn run_with<L: Ledger>(rt: HostRuntime, words: &[String], blank: Blank) -> Statu
     let mut input = StdinSource::new(rt);
     let mut out = StdoutSink::new(rt);
     let mut disk = NoDisk::new();
-    run(rt.alloc(), words, &mut input, &mut out, &mut disk, &mut steps)
+    run(
+        rt.alloc(),
+        words,
+        &mut input,
+        &mut out,
+        &mut disk,
+        &mut steps,
+    )
 }
 
 fn main(rt: HostRuntime) -> ExitCode {

@@ -9,7 +9,7 @@ keep-append kept_after kept (x ∷ xs) ys = keep-append kept_after (kept_after k
 
 pub verdicts-append : {K I V : Type 0} (kept_after : K → I → K) (verdict : K → I → V) (kept : K) (xs ys : List I)
     → verdicts kept_after verdict kept (xs ++ ys)
-      ≡ verdicts kept_after verdict kept xs ++ verdicts kept_after verdict (keep kept_after kept xs) ys
+    ≡ verdicts kept_after verdict kept xs ++ verdicts kept_after verdict (keep kept_after kept xs) ys
 verdicts-append kept_after verdict kept [] ys = refl
 verdicts-append kept_after verdict kept (x ∷ xs) ys =
     ap (λ vs. verdict kept x ∷ vs) (verdicts-append kept_after verdict (kept_after kept x) xs ys)
@@ -21,5 +21,5 @@ keep-push kept_after kept items item = keep-append kept_after kept items (item �
 
 pub verdicts-push : {K I V : Type 0} (kept_after : K → I → K) (verdict : K → I → V) (kept : K) (items : List I) (item : I)
     → verdicts kept_after verdict kept (items ++ item ∷ [])
-      ≡ verdicts kept_after verdict kept items ++ verdict (keep kept_after kept items) item ∷ []
+    ≡ verdicts kept_after verdict kept items ++ verdict (keep kept_after kept items) item ∷ []
 verdicts-push kept_after verdict kept items item = verdicts-append kept_after verdict kept items (item ∷ [])

@@ -1,8 +1,7 @@
 -- Items imported one after the other.
-use Rattle.std.proofs.Common.{◌≡◌, ◌⊎◌, inl, inr, ℕ, ◌+◌, ◌-◌, ◌≤◌, ◌<◌, Bool, true, false, ◌||◌, List, [], ◌∷◌, ◌++◌, length, refl, ap, sym, ◌∙◌, subst, arith, append_assoc, append-nil, length-append}
-use Rattle.std.specs.Prelude.{Option, Some, None, Result, Ok, Err}
+use Rattle.std.proofs.Common.{◌≡◌, inl, inr, ℕ, ◌+◌, ◌≤◌, Bool, true, false, ◌||◌, List, [], ◌∷◌, ◌++◌, length, refl, ap, sym, ◌∙◌, subst, arith, append_assoc, append-nil, length-append}
+use Rattle.std.specs.Prelude.{Option, Ok, Err}
 use Rattle.std.specs.List.{concat, list_any, flat_map, AllByRecursion}
-use Rattle.std.specs.Io.KnownBytes.{IsAtEnd}
 use Rattle.std.proofs.lemmas.List.Concat.{flat_map-append}
 use Rattle.std.proofs.lemmas.List.Folds.{list_any-append}
 use Rattle.outside.specs.Causes.{Rose}
@@ -19,7 +18,7 @@ use Rattle.report_defs.specs.Text.{line}
 use Rattle.report_defs.specs.Report.{import_limits, verdicts_over, lines_over, kept_over}
 use Rattle.report_defs.specs.Promise.{IsPrefix}
 use Rattle.node_run.specs.Items.{HoldsOneAtMost, IsItemAt, EndsAt, IsReadingStop, IsWritingStop, IsStop}
-use Rattle.node_run.specs.Import.{Passed, Progress, IsEnded, AreImported}
+use Rattle.node_run.specs.Import.{Passed, AreImported}
 use Rattle.node_run.specs.declared.import.Ended.{Ended}
 
 -- Whole items were imported, and nothing of a next one was read.
@@ -61,8 +60,8 @@ pub lines-push : (kept : List Block) (items : List (List ℕ)) (item : List ℕ)
     → lines_over kept (items ++ item ∷ []) ≡ lines_over kept items ++ line (rules.verdict (kept_over kept items) item)
 lines-push kept items item =
     ap (flat_map line) (verdicts-push rules.kept_after rules.verdict kept items item)
-      ∙ flat_map-append line (verdicts_over kept items) (rules.verdict (kept_over kept items) item ∷ [])
-      ∙ ap (λ bs. lines_over kept items ++ bs) (append-nil (line (rules.verdict (kept_over kept items) item)))
+    ∙ flat_map-append line (verdicts_over kept items) (rules.verdict (kept_over kept items) item ∷ [])
+    ∙ ap (λ bs. lines_over kept items ++ bs) (append-nil (line (rules.verdict (kept_over kept items) item)))
 
 or_false : (b : Bool) → (b || false) ≡ b
 or_false true = refl
@@ -90,59 +89,67 @@ whole_more kept start offset left_old left left_new taken_old taken taken_new no
       within = rw long at.within;
       kept_now = kept_is ∙ ap (λ (k : List Block). rules.kept_after k item) same ∙ sym (keep-push rules.kept_after kept whole.items item);
       any_refused =
-        either ∙ ap (λ b. b || rules.refuses verdict) whole.any_refused
-        ∙ ap (λ (v : Verdict). list_any rules.refuses (verdicts_over kept whole.items) || rules.refuses v) (judged ∙ ap (λ (k : List Block). rules.verdict k item) same)
-        ∙ sym (any-push (verdicts_over kept whole.items) (rules.verdict (kept_over kept whole.items) item))
-        ∙ sym (ap (list_any rules.refuses) (verdicts-push rules.kept_after rules.verdict kept whole.items item));
+          either ∙ ap (λ b. b || rules.refuses verdict) whole.any_refused
+          ∙ ap (λ (v : Verdict). list_any rules.refuses (verdicts_over kept whole.items) || rules.refuses v) (judged ∙ ap (λ (k : List Block). rules.verdict k item) same)
+          ∙ sym (any-push (verdicts_over kept whole.items) (rules.verdict (kept_over kept whole.items) item))
+          ∙ sym (ap (list_any rules.refuses) (verdicts-push rules.kept_after rules.verdict kept whole.items item));
     }
 
 -- the reading ended behind whole items
 pub imported_to_end : (kept : List Block) (start offset : ℕ) (left_old left left_new taken_old taken : Option (List ℕ)) (now : List Block) (ended : Ended)
     (given : List ℕ) → Whole kept start offset left_old left taken_old taken now ended.refused → Gives left left_new given → EndsAt offset left_new ended.end given
     → Passed left_old left_new taken_old taken (AreImported kept now start left_new (Ok ended))
-imported_to_end kept start offset left_old left left_new taken_old taken now ended given whole gives ends =
-    (concat whole.items ++ given, lines_over kept whole.items, gives_more left_old left left_new (concat whole.items) given whole.gives gives, whole.takes,
-      record {
-        items = whole.items;
-        part = given;
-        piece = [];
-        progress = record {
-          given_is = refl;
-          taken_is = sym (append-nil (lines_over kept whole.items));
-          all = whole.all;
-          within = rw (← whole.place) whole.within;
-          one = ends.one;
-          begun = inl refl;
-        };
-        end = record {
-          nothing = refl;
-          kept = whole.kept_now;
-          refused = whole.any_refused;
-          ends = rw (← whole.place) ends;
-        };
-      })
+imported_to_end kept start offset left_old left left_new taken_old taken now ended given whole gives ends = (
+  concat whole.items ++ given,
+  lines_over kept whole.items,
+  gives_more left_old left left_new (concat whole.items) given whole.gives gives,
+  whole.takes,
+  record {
+    items = whole.items;
+    part = given;
+    piece = [];
+    progress = record {
+      given_is = refl;
+      taken_is = sym (append-nil (lines_over kept whole.items));
+      all = whole.all;
+      within = rw (← whole.place) whole.within;
+      one = ends.one;
+      begun = inl refl;
+    };
+    end = record {
+      nothing = refl;
+      kept = whole.kept_now;
+      refused = whole.any_refused;
+      ends = rw (← whole.place) ends;
+    };
+  },
+)
 
 -- the reading was stopped behind whole items
 pub imported_to_fault : (kept : List Block) (start offset : ℕ) (left_old left left_new taken_old taken : Option (List ℕ)) (now new : List Block) (refused : Bool)
     (status : Status) (given : List ℕ) → Whole kept start offset left_old left taken_old taken now refused → Gives left left_new given
     → HoldsOneAtMost given → IsStop status
     → Passed left_old left_new taken_old taken (AreImported kept new start left_new (Err status))
-imported_to_fault kept start offset left_old left left_new taken_old taken now new refused status given whole gives one stop =
-    (concat whole.items ++ given, lines_over kept whole.items, gives_more left_old left left_new (concat whole.items) given whole.gives gives, whole.takes,
-      record {
-        items = whole.items;
-        part = given;
-        piece = [];
-        progress = record {
-          given_is = refl;
-          taken_is = sym (append-nil (lines_over kept whole.items));
-          all = whole.all;
-          within = rw (← whole.place) whole.within;
-          one = one;
-          begun = inl refl;
-        };
-        end = stop;
-      })
+imported_to_fault kept start offset left_old left left_new taken_old taken now new refused status given whole gives one stop = (
+  concat whole.items ++ given,
+  lines_over kept whole.items,
+  gives_more left_old left left_new (concat whole.items) given whole.gives gives,
+  whole.takes,
+  record {
+    items = whole.items;
+    part = given;
+    piece = [];
+    progress = record {
+      given_is = refl;
+      taken_is = sym (append-nil (lines_over kept whole.items));
+      all = whole.all;
+      within = rw (← whole.place) whole.within;
+      one = one;
+      begun = inl refl;
+    };
+    end = stop;
+  },
+)
 
 -- an item was read, and the writing of its line was stopped
 pub imported_to_line : (kept : List Block) (start offset : ℕ) (left_old left left_new taken_old taken taken_new : Option (List ℕ)) (now new : List Block) (refused : Bool)
@@ -150,8 +157,9 @@ pub imported_to_line : (kept : List Block) (start offset : ℕ) (left_old left l
     → Gives left left_new given → HoldsOneAtMost given → Takes taken taken_new piece → IsPrefix piece (line (rules.verdict now item)) → IsStop status
     → Passed left_old left_new taken_old taken_new (AreImported kept new start left_new (Err status))
 imported_to_line kept start offset left_old left left_new taken_old taken taken_new now new refused status item given piece whole at gives one takes begins stop =
-    let same : now ≡ kept_over kept whole.items = whole.kept_now in
-    (concat whole.items ++ given, lines_over kept whole.items ++ piece,
+    let same : now ≡ kept_over kept whole.items = whole.kept_now in (
+      concat whole.items ++ given,
+      lines_over kept whole.items ++ piece,
       gives_more left_old left left_new (concat whole.items) given whole.gives gives,
       takes_more taken_old taken taken_new (lines_over kept whole.items) piece whole.takes takes,
       record {
@@ -167,10 +175,12 @@ imported_to_line kept start offset left_old left left_new taken_old taken taken_
           begun = inr (
             rw (← whole.place) (subst (λ bs. IsItemAt offset bs given) (sym at.same) at),
             subst (λ (k : List Block). IsPrefix piece (line (rules.verdict k given))) same
-              (subst (λ bs. IsPrefix piece (line (rules.verdict now bs))) (sym at.same) begins));
+                (subst (λ bs. IsPrefix piece (line (rules.verdict now bs))) (sym at.same) begins),
+          );
         };
         end = stop;
-      })
+      },
+    )
 
 -- what stops reading or writing stops a run
 pub reading_stops : (status : Status) → IsReadingStop status → IsStop status

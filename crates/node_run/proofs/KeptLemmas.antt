@@ -1,9 +1,9 @@
 -- The entries of the kept blocks find the blocks, and the tip moves as blocks join.
-use Rattle.std.proofs.Common.{◌≡◌, ℕ, ◌+◌, ◌≤◌, ◌<◌, List, [], ◌∷◌, ◌++◌, length, map, refl, ap, sym, ◌∙◌, arith, Bool, true, false, cond, zero, suc, subst, get_or, lit<}
-use Rattle.std.specs.Prelude.{Option, Some, None, find, is_some, option_map, slice_get, nat_lt, not, if◌then◌else◌}
+use Rattle.std.proofs.Common.{◌≡◌, ℕ, ◌≤◌, ◌<◌, List, [], ◌∷◌, ◌++◌, length, map, refl, ap, sym, ◌∙◌, arith, Bool, true, false, cond, zero, suc, subst, get_or, lit<}
+use Rattle.std.specs.Prelude.{Option, Some, None, is_some, option_map, slice_get, nat_lt, not, if◌then◌else◌}
 use Rattle.std.specs.Str.{bytes_eq}
 use Rattle.std.proofs.lemmas.Bool.Decides.{nat_tests}
-use Rattle.std.specs.List.{filter_map, cons_option}
+use Rattle.std.specs.List.{cons_option}
 use Rattle.std.proofs.lemmas.Option.{slice_get_read}
 use Rattle.std.proofs.lemmas.List.{length_push, map-append}
 use Rattle.std.proofs.lemmas.List.Elements.{filter_map-append}
@@ -26,7 +26,7 @@ find_entry-map (block ∷ later) hash = by_test (bytes_eq (block_hash block) has
   where
     by_test : (same : Bool) → find_entry (map entry_value later) hash ≡ option_map entry_value (find_kept later hash)
         → cond same (Some (entry_value block)) (find_entry (map entry_value later) hash)
-          ≡ option_map entry_value (cond same (Some block) (find_kept later hash))
+        ≡ option_map entry_value (cond same (Some block) (find_kept later hash))
     by_test true after = refl
     by_test false after = after
 
@@ -46,12 +46,12 @@ verdict_by_entries entries summary =
 pub verdict_by_entries-is : (kept : List Block) (b : Block) → verdict_by_entries (map entry_value kept) (summary_value b) ≡ verdict_of_block kept b
 verdict_by_entries-is kept b =
     rw (find_entry-map kept (block_hash b), find_entry-map kept b.header.parent_hash)
-      (by_found (find_kept kept (block_hash b)) (find_kept kept b.header.parent_hash))
+    (by_found (find_kept kept (block_hash b)) (find_kept kept b.header.parent_hash))
   where
     by_found : (known parent : Option Block)
         → cond (is_some (option_map entry_value known)) (Known (block_hash b))
-            (cond (not (has_judged_form b)) Unbuilt (verdict_by_entry (summary_value b) (option_map entry_value parent)))
-          ≡ cond (is_some known) (Known (block_hash b)) (cond (not (has_judged_form b)) Unbuilt (verdict_by_parent b parent))
+        (cond (not (has_judged_form b)) Unbuilt (verdict_by_entry (summary_value b) (option_map entry_value parent)))
+        ≡ cond (is_some known) (Known (block_hash b)) (cond (not (has_judged_form b)) Unbuilt (verdict_by_parent b parent))
     by_found None None = refl
     by_found None (Some parent) = refl
     by_found (Some known) None = refl
@@ -105,7 +105,7 @@ Indexes-raised kept entries place b entry indexed reads higher =
       each = ap (λ es. es ++ entry_value b ∷ []) indexed.each ∙ sym (map-append entry_value kept (b ∷ []));
       there = rw length_push (omega arith);
       tip = slice_get-here entries (entry_value b)
-        ∙ sym (ap (option_map entry_value) (tip-push kept b ∙ ap Some (raised_moves (tip kept) entry b top higher)));
+          ∙ sym (ap (option_map entry_value) (tip-push kept b ∙ ap Some (raised_moves (tip kept) entry b top higher)));
     }
 
 -- a block joins, and the tip stays
@@ -118,7 +118,7 @@ Indexes-stays kept entries place b entry indexed reads lower =
       each = ap (λ es. es ++ entry_value b ∷ []) indexed.each ∙ sym (map-append entry_value kept (b ∷ []));
       there = rw length_push (omega (arith, indexed.there));
       tip = slice_get-before entries (entry_value b ∷ []) place indexed.there ∙ reads
-        ∙ raised_stays (tip kept) entry b top lower ∙ sym (ap (option_map entry_value) (tip-push kept b));
+          ∙ raised_stays (tip kept) entry b top lower ∙ sym (ap (option_map entry_value) (tip-push kept b));
     }
 
 -- the blocks of one more item
@@ -134,7 +134,7 @@ blocks-push : (items : List (List ℕ)) (item : List ℕ) (b : Block) → map (d
     → map (decoded block) (items ++ item ∷ []) ≡ map Some (blocks_of items ++ b ∷ [])
 blocks-push items item b whole is =
     map-append (decoded block) items (item ∷ []) ∙ ap (λ (fs : List (Option Block)). fs ++ decoded block item ∷ []) whole
-      ∙ ap (λ (f : Option Block). map Some (blocks_of items) ++ f ∷ []) is ∙ sym (map-append Some (blocks_of items) (b ∷ []))
+    ∙ ap (λ (f : Option Block). map Some (blocks_of items) ++ f ∷ []) is ∙ sym (map-append Some (blocks_of items) (b ∷ []))
 
 -- the block with this entry
 block_of_entry : (found : Option Block) (entry : Entry) → option_map entry_value found ≡ Some entry → (b : Block) × (found ≡ Some b) × (entry_value b ≡ entry)
@@ -158,9 +158,9 @@ AreIndexed-push items item entries place entry top indexed is read =
     by_block : (b : Block) × (decoded block item ≡ Some b) × (entry_value b ≡ entry) → IndexedWith (items ++ item ∷ []) entries entry top place
     by_block found =
         let blocks : blocks_of (items ++ item ∷ []) ≡ blocks_of items ++ found.0 ∷ [] =
-            blocks_of-push items item ∙ ap (λ (f : Option Block). blocks_of items ++ kept_from f) found.1 in
+        blocks_of-push items item ∙ ap (λ (f : Option Block). blocks_of items ++ kept_from f) found.1 in
         let whole : map (decoded block) (items ++ item ∷ []) ≡ map Some (blocks_of (items ++ item ∷ [])) =
-            blocks-push items item found.0 indexed.blocks found.1 ∙ ap (map Some) (sym blocks) in
+        blocks-push items item found.0 indexed.blocks found.1 ∙ ap (map Some) (sym blocks) in
         subst (λ (x : Entry). IndexedWith (items ++ item ∷ []) entries x top place) found.2 (record {
           raised = λ higher. record { blocks = whole; index = rw blocks (Indexes-raised (blocks_of items) entries place found.0 top indexed.index reads higher) };
           stays = λ lower. record { blocks = whole; index = rw blocks (Indexes-stays (blocks_of items) entries place found.0 top indexed.index reads lower) };
@@ -181,7 +181,7 @@ pub verdict_by_index : (old kept : List Block) (entries : List Entry) (place : �
     → old ≡ kept → summary ≡ summary_value b → verdict ≡ verdict_by_entries entries summary → verdict ≡ verdict_of_block kept b
 verdict_by_index old kept entries place b summary verdict indexes seen same by =
     by ∙ ap (λ (es : List Entry). verdict_by_entries es summary) indexes.each ∙ ap (verdict_by_entries (map entry_value old)) same ∙ verdict_by_entries-is old b
-      ∙ ap (λ (k : List Block). verdict_of_block k b) seen
+    ∙ ap (λ (k : List Block). verdict_of_block k b) seen
 
 -- what a verdict says of an item that is a block with this summary
 pub record Judged (kept : List Block) (found : Option Block) (verdict : Verdict) : Type 0 where

@@ -1,8 +1,7 @@
 -- What was given and taken at each exit of `import`, against the report of the whole input.
-use Rattle.std.proofs.Common.{◌≡◌, ◌⊎◌, inl, inr, ℕ, zero, suc, ◌+◌, ◌-◌, ◌≤◌, ◌<◌, Bool, true, false, cond, List, [], ◌∷◌, ◌++◌, length, take, drop, refl, ap, sym, ◌∙◌, subst, arith, append_assoc, append-nil, length-append, take-append-drop}
-use Rattle.std.specs.Prelude.{Option, Some, None, Result, Ok, Err}
+use Rattle.std.proofs.Common.{◌≡◌, ◌⊎◌, inl, inr, ℕ, suc, ◌+◌, ◌-◌, ◌≤◌, ◌<◌, Bool, true, false, cond, List, [], ◌∷◌, ◌++◌, length, take, drop, refl, ap, sym, ◌∙◌, subst, arith, append_assoc, append-nil, length-append, take-append-drop}
+use Rattle.std.specs.Prelude.{Option, Some, None, Result, Err}
 use Rattle.std.specs.List.{concat, list_any, flat_map, AllByRecursion}
-use Rattle.std.specs.Io.KnownBytes.{IsAtEnd}
 use Rattle.std.proofs.lemmas.List.Concat.{flat_map-append}
 use Rattle.std.proofs.lemmas.Grind.{common_steps}
 use Rattle.codec_defs.specs.Shape.{decoded}
@@ -12,10 +11,10 @@ use Rattle.rule_defs.specs.Genesis.{broken_genesis_rule}
 use Rattle.rule_defs.specs.Verdict as rules
 use Rattle.fold_defs.proofs.FoldLemmas.{verdicts-append}
 use Rattle.report_defs.specs.declared.status.Status.{Status}
-use Rattle.report_defs.specs.declared.status.Status.TheVariants.{Done, SomeRefused, BadWords, InputFault, SinkFault, DiskFault, NoMemory, NotAStore, CutInput, BadSize, StoreThere, BadGenesis, ExtraInput}
+use Rattle.report_defs.specs.declared.status.Status.TheVariants.{Done, SomeRefused, BadWords, InputFault, SinkFault, NoMemory, CutInput, BadGenesis}
 use Rattle.report_defs.specs.declared.end.End.{End}
 use Rattle.report_defs.specs.declared.end.End.TheVariants as ends
-use Rattle.report_defs.specs.Items.{IsItem, Split, IsSplit, split_of, end_at, end_offset}
+use Rattle.report_defs.specs.Items.{IsItem, Split, split_of, end_at, end_offset}
 use Rattle.report_defs.specs.Text.{line, tip_line}
 use Rattle.report_defs.specs.Report.{Report, import_limits, kept_from, verdicts_over, lines_over, kept_over, report_of_blocks, report_of_genesis, report_of_split, report_of_input, report_of_command, report}
 use Rattle.report_defs.specs.Words.{command_of}
@@ -24,7 +23,7 @@ use Rattle.report_defs.specs.Promise.{IsPrefix, IsReported, IsImportStatus, all_
 use Rattle.report_defs.proofs.ItemLemmas.{Splits, split_of-is, split_of-append, all_items-append, end_at-nothing}
 use Rattle.node_run.specs.Items.{HoldsOneAtMost, IsItemAt, EndsAt, IsWritingStop, IsStop}
 use Rattle.node_run.proofs.Reading.{one_item, few_hold_none}
-use Rattle.node_run.specs.Import.{IsGenesis, IsGenesisRead, IsBadGenesis, Progress, IsEnded, AreImported, tip_line_of_kept}
+use Rattle.node_run.specs.Import.{IsGenesis, IsGenesisRead, IsBadGenesis, Progress, AreImported, tip_line_of_kept}
 use Rattle.node_run.specs.declared.import.Ended.{Ended}
 use Rattle.node_run.proofs.ImportLemmas.{concat-push, lines-push, writing_stops}
 
@@ -47,13 +46,14 @@ prefix_behind a b c begins = (begins.0, ap (λ xs. a ++ xs) begins.1 ∙ sym (ap
 pub lines-append : (kept : List Block) (xs ys : List (List ℕ)) → lines_over kept (xs ++ ys) ≡ lines_over kept xs ++ lines_over (kept_over kept xs) ys
 lines-append kept xs ys =
     ap (flat_map line) (verdicts-append rules.kept_after rules.verdict kept xs ys)
-      ∙ flat_map-append line (verdicts_over kept xs) (verdicts_over (kept_over kept xs) ys)
+    ∙ flat_map-append line (verdicts_over kept xs) (verdicts_over (kept_over kept xs) ys)
 
 -- the lines of the first items
 lines_front : (kept : List Block) (n : ℕ) (items : List (List ℕ)) → IsPrefix (lines_over kept (take n items)) (lines_over kept items)
-lines_front kept n items =
-    (lines_over (kept_over kept (take n items)) (drop n items),
-     ap (lines_over kept) (sym (take-append-drop n items)) ∙ lines-append kept (take n items) (drop n items))
+lines_front kept n items = (
+  lines_over (kept_over kept (take n items)) (drop n items),
+  ap (lines_over kept) (sym (take-append-drop n items)) ∙ lines-append kept (take n items) (drop n items),
+)
 
 -- the lines stand at the front of a report's text
 text_front : (kept : List Block) (items : List (List ℕ)) (end : End) → IsPrefix (lines_over kept items) (report_of_blocks kept items end).text
@@ -82,9 +82,11 @@ good_report genesis items end good = ap (λ (broken : Option ℕ). report_of_gen
 report_on : (genesis : List ℕ) (items : List (List ℕ)) (tail : List ℕ) → IsRead genesis items
     → (others : List (List ℕ)) × (end : End) × (report_of_input ((genesis ++ concat items) ++ tail) ≡ report_of_blocks (kept_by genesis) (items ++ others) end)
 report_on genesis items tail read =
-    let split = split_of-append import_limits (genesis ∷ items) tail (read.is_item, read.all) (rw length-append read.within) in
-    (split.0.items, split.0.end,
-      ap report_of_split split.2 ∙ good_report genesis (items ++ split.0.items) split.0.end read.good)
+    let split = split_of-append import_limits (genesis ∷ items) tail (read.is_item, read.all) (rw length-append read.within) in (
+      split.0.items,
+      split.0.end,
+      ap report_of_split split.2 ∙ good_report genesis (items ++ split.0.items) split.0.end read.good,
+    )
 
 -- where the reading ends behind what was read, the input has just these items
 split_ends : (genesis : List ℕ) (items : List (List ℕ)) (tail : List ℕ) (end : End) → IsRead genesis items
@@ -111,8 +113,8 @@ pub lines_begin : (genesis : List ℕ) (items : List (List ℕ)) (tail : List �
 lines_begin genesis items tail read =
     let on = report_on genesis items tail read in
     rw on.2 (prefix_trans (lines_over (kept_by genesis) items) (lines_over (kept_by genesis) (items ++ on.0)) (report_of_blocks (kept_by genesis) (items ++ on.0) on.1).text
-      (lines_over (kept_over (kept_by genesis) items) on.0, lines-append (kept_by genesis) items on.0)
-      (text_front (kept_by genesis) (items ++ on.0) on.1))
+    (lines_over (kept_over (kept_by genesis) items) on.0, lines-append (kept_by genesis) items on.0)
+    (text_front (kept_by genesis) (items ++ on.0) on.1))
 
 -- ---- What was given, cut by itself
 
@@ -130,14 +132,14 @@ at_most_one offset part split splits one = by_items split.items splits.whole spl
         inr (ap (λ (y : List ℕ). y ∷ []) (sym same))
     by_items (x ∷ y ∷ more) whole all =
         let behind : (y ++ concat more) ++ split.rest ≡ [] =
-            one x ((y ++ concat more) ++ split.rest) all.0 (whole ∙ append_assoc x (y ++ concat more) split.rest) in
+        one x ((y ++ concat more) ++ split.rest) all.0 (whole ∙ append_assoc x (y ++ concat more) split.rest) in
         absurd (omega (arith, all.1.0.least, ap length behind, length-append (y ++ concat more) split.rest, length-append y (concat more)))
 
 -- what stands behind a part that is one item
 nothing_behind : (offset : ℕ) (part : List ℕ) (split : Split) → Splits import_limits offset part split → split.items ≡ part ∷ [] → length split.rest ≡ 0
 nothing_behind offset part split splits last =
     let whole : length part ≡ length (concat (part ∷ [])) + length split.rest =
-        ap length splits.whole ∙ length-append (concat split.items) split.rest ∙ ap (λ (xs : List (List ℕ)). length (concat xs) + length split.rest) last in
+    ap length splits.whole ∙ length-append (concat split.items) split.rest ∙ ap (λ (xs : List (List ℕ)). length (concat xs) + length split.rest) last in
     omega (arith, whole, length-append part [])
 
 -- of what was given, each item has its line before a byte of the next is read
@@ -171,7 +173,7 @@ items_in_order genesis items part behind read one =
     but_last others (inl none) =
         let same : items ++ others ≡ items = ap (λ xs. items ++ xs) none ∙ append-nil items in
         rw same (prefix_trans (lines_of (all_but_last (genesis ∷ items))) (lines_over (kept_by genesis) items) (lines_over (kept_by genesis) items ++ behind)
-          (front_lines genesis items) (prefix_front (lines_over (kept_by genesis) items) behind))
+        (front_lines genesis items) (prefix_front (lines_over (kept_by genesis) items) behind))
     but_last others (inr last) =
         rw (last, but_the_last genesis items part) (prefix_front (lines_over (kept_by genesis) items) behind)
 
@@ -224,7 +226,8 @@ stopped given left taken status stop front written = (
     to_end = λ ended. absurd (elim ended [ inl e ↦ subst IsStop e stop | inr e ↦ subst IsStop e stop ]);
     genesis_alone = λ e. absurd (subst IsStop e stop);
     to_cut = λ e. absurd (subst IsStop e stop);
-  })
+  },
+)
 
 -- ---- The exits
 
@@ -247,37 +250,38 @@ silent given left status says written unended genesis_alone to_cut = (
     to_end = λ ended. absurd (unended ended);
     genesis_alone = genesis_alone;
     to_cut = to_cut;
-  })
+  },
+)
 
 -- no genesis stands at the input's front
 cut_at_once : (given : List ℕ) (left : Option (List ℕ)) (end : End) → EndsAt 0 left end given
     → TellsReport report_of_input given left [] CutInput × ImportsInOrder given left [] CutInput
 cut_at_once given left end ends =
     silent given left CutInput
-      (λ more is. ap report_of_split (split more is))
-      (no_lines given [] ends.one)
-      (λ ended. elim ended [ inl e ↦ (cc) | inr e ↦ (cc) ])
-      (λ e. absurd (cc))
-      (λ e more is. rw (split more is) (omega arith))
+    (λ more is. ap report_of_split (split more is))
+    (no_lines given [] ends.one)
+    (λ ended. elim ended [ inl e ↦ (cc) | inr e ↦ (cc) ])
+    (λ e. absurd (cc))
+    (λ e more is. rw (split more is) (omega arith))
   where
     split : (more : List ℕ) → left ≡ Some more → split_of import_limits (given ++ more) ≡ record { items = []; rest = given ++ more; end = end }
     split more is = split_of-is import_limits (given ++ more) (record { items = []; rest = given ++ more; end = end }) (record {
-        whole = refl;
-        items = tt;
-        within = omega arith;
-        ends = ends.ends more is;
-      })
+      whole = refl;
+      items = tt;
+      within = omega arith;
+      ends = ends.ends more is;
+    })
 
 -- an item alone is cut into itself
 alone_item : (item : List ℕ) → IsItem import_limits item → length item ≤ import_limits.input → (split_of import_limits item).items ≡ item ∷ []
 alone_item item is_item fits =
     let split : split_of import_limits item ≡ record { items = item ∷ []; rest = []; end = ends.AtEnd } =
-        split_of-is import_limits item (record { items = item ∷ []; rest = []; end = ends.AtEnd }) (record {
-          whole = sym (append-nil (item ++ []) ∙ append-nil item);
-          items = (is_item, tt);
-          within = rw append-nil fits;
-          ends = end_at-nothing import_limits (length (item ++ []));
-        }) in
+    split_of-is import_limits item (record { items = item ∷ []; rest = []; end = ends.AtEnd }) (record {
+      whole = sym (append-nil (item ++ []) ∙ append-nil item);
+      items = (is_item, tt);
+      within = rw append-nil fits;
+      ends = end_at-nothing import_limits (length (item ++ []));
+    }) in
     ap (λ (s : Split). s.items) split
 
 -- a genesis was read that breaks a rule
@@ -285,11 +289,11 @@ bad_genesis : (given : List ℕ) (left : Option (List ℕ)) → IsBadGenesis giv
     → TellsReport report_of_input given left [] BadGenesis × ImportsInOrder given left [] BadGenesis
 bad_genesis given left bad =
     silent given left BadGenesis
-      (λ more is. ap report_of_split (split more).1 ∙ ap (λ (broken : Option ℕ). report_of_genesis broken given (split more).0.items (split more).0.end) bad.broken)
-      (no_lines given [] (one_item given bad.there.is_item))
-      (λ ended. elim ended [ inl e ↦ (cc) | inr e ↦ (cc) ])
-      (λ e. alone)
-      (λ e. absurd (cc))
+    (λ more is. ap report_of_split (split more).1 ∙ ap (λ (broken : Option ℕ). report_of_genesis broken given (split more).0.items (split more).0.end) bad.broken)
+    (no_lines given [] (one_item given bad.there.is_item))
+    (λ ended. elim ended [ inl e ↦ (cc) | inr e ↦ (cc) ])
+    (λ e. alone)
+    (λ e. absurd (cc))
   where
     cut : (tail : List ℕ) → (split : Split) × (split_of import_limits ((given ++ []) ++ tail) ≡ record { items = given ∷ split.items; rest = split.rest; end = split.end })
     cut tail =
@@ -332,8 +336,8 @@ parted : (genesis : List ℕ) (items : List (List ℕ)) (part piece given taken 
     → (genesis ++ given) ++ more ≡ (genesis ++ concat items) ++ (part ++ more)
 parted genesis items part piece given taken more progress =
     ap (λ bs. (genesis ++ bs) ++ more) progress.given_is
-      ∙ ap (λ bs. bs ++ more) (sym (append_assoc genesis (concat items) part))
-      ∙ append_assoc (genesis ++ concat items) part more
+    ∙ ap (λ bs. bs ++ more) (sym (append_assoc genesis (concat items) part))
+    ∙ append_assoc (genesis ++ concat items) part more
 
 given_parts : (genesis : List ℕ) (items : List (List ℕ)) (part piece given taken : List ℕ)
     → Progress (kept_by genesis) (length genesis) items part piece given taken
@@ -347,23 +351,23 @@ begun_front : (genesis : List ℕ) (items : List (List ℕ)) (part piece more : 
     → IsPrefix (lines_over (kept_by genesis) items ++ piece) (report_of_input ((genesis ++ concat items) ++ (part ++ more))).text
 begun_front genesis items part piece more read (inl none) =
     let same : lines_over (kept_by genesis) items ++ piece ≡ lines_over (kept_by genesis) items =
-        ap (λ bs. lines_over (kept_by genesis) items ++ bs) none ∙ append-nil (lines_over (kept_by genesis) items) in
+    ap (λ bs. lines_over (kept_by genesis) items ++ bs) none ∙ append-nil (lines_over (kept_by genesis) items) in
     rw same (lines_begin genesis items (part ++ more) read)
 begun_front genesis items part piece more read (inr begun) =
     let joined : concat (items ++ part ∷ []) ≡ concat items ++ part = concat-push items part in
     let input : (genesis ++ concat items) ++ (part ++ more) ≡ (genesis ++ concat (items ++ part ∷ [])) ++ more =
-        sym (append_assoc (genesis ++ concat items) part more)
-          ∙ ap (λ bs. bs ++ more) (append_assoc genesis (concat items) part ∙ ap (λ bs. genesis ++ bs) (sym joined)) in
+    sym (append_assoc (genesis ++ concat items) part more)
+    ∙ ap (λ bs. bs ++ more) (append_assoc genesis (concat items) part ∙ ap (λ bs. genesis ++ bs) (sym joined)) in
     let further : IsRead genesis (items ++ part ∷ []) = record {
-          is_item = read.is_item;
-          good = read.good;
-          all = all_items-append import_limits items (part ∷ []) read.all (begun.0.is_item, tt);
-          within = rw joined (omega (arith, begun.0.within, length-append (concat items) part));
-        } in
+      is_item = read.is_item;
+      good = read.good;
+      all = all_items-append import_limits items (part ∷ []) read.all (begun.0.is_item, tt);
+      within = rw joined (omega (arith, begun.0.within, length-append (concat items) part));
+    } in
     let written : IsPrefix (lines_over (kept_by genesis) items ++ piece) (lines_over (kept_by genesis) (items ++ part ∷ [])) =
-        rw (lines-push (kept_by genesis) items part) (prefix_behind (lines_over (kept_by genesis) items) piece (line (rules.verdict (kept_over (kept_by genesis) items) part)) begun.1) in
+    rw (lines-push (kept_by genesis) items part) (prefix_behind (lines_over (kept_by genesis) items) piece (line (rules.verdict (kept_over (kept_by genesis) items) part)) begun.1) in
     rw input (prefix_trans (lines_over (kept_by genesis) items ++ piece) (lines_over (kept_by genesis) (items ++ part ∷ []))
-      (report_of_input ((genesis ++ concat (items ++ part ∷ [])) ++ more)).text written (lines_begin genesis (items ++ part ∷ []) more further))
+    (report_of_input ((genesis ++ concat (items ++ part ∷ [])) ++ more)).text written (lines_begin genesis (items ++ part ∷ []) more further))
 
 -- the lines keep up with the items
 taken_in_order : (genesis : List ℕ) (items : List (List ℕ)) (part piece given taken behind : List ℕ) → IsRead genesis items
@@ -371,7 +375,7 @@ taken_in_order : (genesis : List ℕ) (items : List (List ℕ)) (part piece give
     → WritesInOrder (genesis ++ given) (taken ++ behind)
 taken_in_order genesis items part piece given taken behind read progress =
     let all : taken ++ behind ≡ lines_over (kept_by genesis) items ++ (piece ++ behind) =
-        ap (λ bs. bs ++ behind) progress.taken_is ∙ append_assoc (lines_over (kept_by genesis) items) piece behind in
+    ap (λ bs. bs ++ behind) progress.taken_is ∙ append_assoc (lines_over (kept_by genesis) items) piece behind in
     rw (given_parts genesis items part piece given taken progress, all) (items_in_order genesis items part (piece ++ behind) read progress.one)
 
 -- the run was stopped among the items
@@ -381,8 +385,8 @@ pub stopped_in_items : (genesis : List ℕ) (items : List (List ℕ)) (part piec
 stopped_in_items genesis items part piece given taken left status good progress stop =
     let read = is_read genesis items part piece given taken good progress in
     stopped (genesis ++ given) left taken status stop
-      (λ more is. rw (parted genesis items part piece given taken more progress, progress.taken_is) (begun_front genesis items part piece more read progress.begun))
-      (rw (← append-nil taken) (taken_in_order genesis items part piece given taken [] read progress))
+    (λ more is. rw (parted genesis items part piece given taken more progress, progress.taken_is) (begun_front genesis items part piece more read progress.begun))
+    (rw (← append-nil taken) (taken_in_order genesis items part piece given taken [] read progress))
 
 -- the items ended otherwise than between two of them: the lines are all, and no tip
 cut_report : (kept : List Block) (items : List (List ℕ)) (end : End) → (end ≡ ends.AtEnd → ⊥)
@@ -408,11 +412,12 @@ cut_behind_items genesis items part piece given taken left end good progress non
     genesis_alone = λ e. absurd (cc);
     to_cut = λ e more is.
         let split = ap (split_of import_limits) (parted genesis items part piece given taken more progress)
-              ∙ split_ends genesis items (part ++ more) end read (ends_here.ends more is) in
+        ∙ split_ends genesis items (part ++ more) end read (ends_here.ends more is) in
         let size : length (genesis ++ given) ≡ length (genesis ++ concat items) + length part =
-            ap length (given_parts genesis items part piece given taken progress) ∙ length-append (genesis ++ concat items) part in
+        ap length (given_parts genesis items part piece given taken progress) ∙ length-append (genesis ++ concat items) part in
         rw split (omega (arith, size));
-  })
+  },
+)
   where
     read : IsRead genesis items
     read = is_read genesis items part piece given taken good progress
@@ -423,8 +428,8 @@ cut_behind_items genesis items part piece given taken left end good progress non
     says : (more : List ℕ) → left ≡ Some more
         → report_of_input ((genesis ++ given) ++ more) ≡ record { text = lines_over (kept_by genesis) items; status = CutInput }
     says more is = ap report_of_input (parted genesis items part piece given taken more progress)
-      ∙ report_ends genesis items (part ++ more) end read (ends_here.ends more is)
-      ∙ cut_report (kept_by genesis) items end not_end
+        ∙ report_ends genesis items (part ++ more) end read (ends_here.ends more is)
+        ∙ cut_report (kept_by genesis) items end not_end
 
 -- all the items were imported, and then the line of the tip was taken or a part of it
 pub record IsThrough (genesis : List ℕ) (items : List (List ℕ)) (part piece given taken : List ℕ) (left : Option (List ℕ)) : Type 0 where
@@ -439,7 +444,7 @@ through_report : (genesis : List ℕ) (items : List (List ℕ)) (part piece give
     → report_of_input ((genesis ++ given) ++ more) ≡ report_of_blocks (kept_by genesis) items ends.AtEnd
 through_report genesis items part piece given taken more left through is =
     ap report_of_input (parted genesis items part piece given taken more through.progress)
-      ∙ report_ends genesis items (part ++ more) ends.AtEnd (is_read genesis items part piece given taken through.good through.progress) (through.ends.ends more is)
+    ∙ report_ends genesis items (part ++ more) ends.AtEnd (is_read genesis items part piece given taken through.good through.progress) (through.ends.ends more is)
 
 through_lines : (genesis : List ℕ) (items : List (List ℕ)) (part piece given taken : List ℕ) (left : Option (List ℕ))
     → IsThrough genesis items part piece given taken left → taken ≡ lines_over (kept_by genesis) items
@@ -452,11 +457,11 @@ pub stopped_at_tip : (genesis : List ℕ) (items : List (List ℕ)) (part piece 
     → TellsReport report_of_input (genesis ++ given) left (taken ++ written) status × ImportsInOrder (genesis ++ given) left (taken ++ written) status
 stopped_at_tip genesis items part piece given taken written left kept status through kept_is stop begins =
     stopped (genesis ++ given) left (taken ++ written) status (writing_stops status stop)
-      (λ more is.
-        rw (through_report genesis items part piece given taken more left through is, through_lines genesis items part piece given taken left through)
-          (prefix_behind (lines_over (kept_by genesis) items) written (tip_line_of_kept (kept_over (kept_by genesis) items))
-            (subst (λ (k : List Block). IsPrefix written (tip_line_of_kept k)) kept_is begins)))
-      (taken_in_order genesis items part piece given taken written (is_read genesis items part piece given taken through.good through.progress) through.progress)
+    (λ more is.
+    rw (through_report genesis items part piece given taken more left through is, through_lines genesis items part piece given taken left through)
+    (prefix_behind (lines_over (kept_by genesis) items) written (tip_line_of_kept (kept_over (kept_by genesis) items))
+    (subst (λ (k : List Block). IsPrefix written (tip_line_of_kept k)) kept_is begins)))
+    (taken_in_order genesis items part piece given taken written (is_read genesis items part piece given taken through.good through.progress) through.progress)
 
 pub done : (genesis : List ℕ) (items : List (List ℕ)) (part piece given taken written : List ℕ) (left : Option (List ℕ)) (kept : List Block) (refused : Bool) (status : Status)
     → IsThrough genesis items part piece given taken left → kept ≡ kept_over (kept_by genesis) items
@@ -476,7 +481,8 @@ done genesis items part piece given taken written left kept refused status throu
     to_end = λ ended. through.ends.to_end refl;
     genesis_alone = λ e. absurd (neither refused (sym status_is ∙ e));
     to_cut = λ e. absurd (uncut refused (sym status_is ∙ e));
-  })
+  },
+)
   where
     text : (more : List ℕ) → left ≡ Some more → (report_of_input ((genesis ++ given) ++ more)).text ≡ taken ++ written
     text more is =
@@ -498,7 +504,7 @@ pub behind_genesis : (genesis : List ℕ) (old new : List Block) (start : ℕ) (
     → AreImported (kept_by genesis) new (length genesis) left result given taken
 behind_genesis genesis old new start left result given taken kept_is start_is imported =
     subst (λ (k : List Block). AreImported k new (length genesis) left result given taken) kept_is
-      (subst (λ n. AreImported old new n left result given taken) start_is imported)
+    (subst (λ n. AreImported old new n left result given taken) start_is imported)
 
 -- the statuses of the parts are those of `import`
 pub genesis_status : (left : Option (List ℕ)) (given : List ℕ) (status : Status) → IsGenesis left (Err status) given → IsImportStatus status
@@ -528,4 +534,5 @@ bad_words words left none = (
     to_end = λ ended. absurd (elim ended [ inl e ↦ (cc) | inr e ↦ (cc) ]);
     genesis_alone = λ e. absurd (cc);
     to_cut = λ e. absurd (cc);
-  })
+  },
+)

@@ -1,7 +1,6 @@
 -- The parts of `import`: what the source gave in each, what the sink took, and what is kept.
-use Rattle.std.specs.Prelude.{◌≡◌, ◌⊎◌, ℕ, ◌+◌, ◌≤◌, List, [], ◌∷◌, ◌++◌, length, Option, Some, None, Result, Ok, Err}
+use Rattle.std.specs.Prelude.{◌≡◌, ◌⊎◌, ℕ, ◌+◌, ◌≤◌, List, [], ◌++◌, length, Option, Some, None, Result, Ok, Err}
 use Rattle.std.specs.List.{concat, list_any, AllByRecursion}
-use Rattle.std.specs.Io.KnownBytes.{IsAtEnd}
 use Rattle.outside.specs.Streams.{Gives, Takes}
 use Rattle.codec_defs.specs.Shape.{decoded}
 use Rattle.codec_defs.specs.Schema.{Block, block}
@@ -10,13 +9,13 @@ use Rattle.rule_defs.specs.declared.verdict.Verdict.{Verdict}
 use Rattle.rule_defs.specs.Genesis.{broken_genesis_rule}
 use Rattle.rule_defs.specs.Verdict as rules
 use Rattle.report_defs.specs.declared.status.Status.{Status}
-use Rattle.report_defs.specs.declared.status.Status.TheVariants.{InputFault, SinkFault, NoMemory, CutInput, BadGenesis}
+use Rattle.report_defs.specs.declared.status.Status.TheVariants.{InputFault, NoMemory, CutInput, BadGenesis}
 use Rattle.report_defs.specs.declared.end.End.{End}
 use Rattle.report_defs.specs.Items.{IsItem}
 use Rattle.report_defs.specs.Text.{line, tip_line}
 use Rattle.report_defs.specs.Report.{import_limits, kept_from, verdicts_over, lines_over, kept_over}
 use Rattle.report_defs.specs.Promise.{IsPrefix}
-use Rattle.node_run.specs.Items.{HoldsOneAtMost, IsItemAt, EndsAt, IsReadingStop, IsWritingStop, IsStop}
+use Rattle.node_run.specs.Items.{HoldsOneAtMost, IsItemAt, EndsAt, IsWritingStop, IsStop}
 use Rattle.node_run.specs.declared.import.Ended.{Ended}
 
 -- the sink took some bytes, and P holds of them

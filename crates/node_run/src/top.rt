@@ -27,7 +27,7 @@ pub fn run<S: Source, K: Sink, D: Disk, L: Ledger>(
     // stopped the run. Each item is answered before a byte of the next is read.
     ensures text { Passed (S.left input.old) (S.left input.new) (K.taken out.old) (K.taken out.new)
         (λ given taken. TellsReport (report (map string_bytes words.now)) given (S.left input.new) taken result
-            × ImportsInOrder given (S.left input.new) taken result) }
+        × ImportsInOrder given (S.left input.new) taken result) }
 
     // The words alone decide on `BadWords`, and with them nothing is read and nothing written.
     ensures words { (result ≡ Status.BadWords) ↔ (command_of (map string_bytes words.now) ≡ None) }

@@ -2,7 +2,7 @@
 use Rattle.std.proofs.Common.{◌≡◌, ℕ, zero, suc, ◌+◌, ◌≤◌, ◌<◌, List, [], ◌∷◌, ◌++◌, length, take, drop, refl, ap, sym, ◌∙◌, arith, append_assoc, length-append, add-zero, zero-add, subst, length-drop, take-append-drop, length-take-le, take-take, ◌⊎◌, inl, inr}
 use Rattle.std.specs.Prelude.{Option, Some, None}
 use Rattle.std.specs.List.{concat, AllByRecursion}
-use Rattle.std.proofs.lemmas.List.{take-append-le, drop-append-le}
+use Rattle.std.proofs.lemmas.List.{take-append-le}
 use Rattle.std.proofs.lemmas.Bool.Decides.{nat_tests}
 use Rattle.std.proofs.lemmas.Grind.{common_steps}
 use Rattle.report_defs.specs.Items.{Limits, IsItem, size_word, end_at, Split, IsSplit, split_of, split_from, put_front}
@@ -50,7 +50,7 @@ split_from-is (suc n) limits offset (item ∷ items) rest end all fits ends enou
     let place : offset + length (item ++ concat items) ≡ (offset + length item) + length (concat items) = omega (arith, long) in
     rw append_assoc
     (split_from-item n limits offset item (concat items ++ rest) all.0 (omega (arith, long))
-      ∙ ap (put_front item) (split_from-is n limits (offset + length item) items rest end all.1 (omega (arith, long)) (rw place at ends) (omega (arith, long))))
+    ∙ ap (put_front item) (split_from-is n limits (offset + length item) items rest end all.1 (omega (arith, long)) (rw place at ends) (omega (arith, long))))
 
 -- `split_of` gives each split of an input
 pub split_of-is : (limits : Limits) (input : List ℕ) (split : Split) → IsSplit limits input split → split_of limits input ≡ split
@@ -58,7 +58,7 @@ unfolding split_of
 split_of-is limits input split is =
     let enough : length (concat split.items) < suc (length input) = rw (is.whole, length-append) (omega arith) in
     ap (split_from (suc (length input)) limits 0) is.whole
-      ∙ split_from-is (suc (length input)) limits 0 split.items split.rest split.end is.items (rw zero-add is.within) (rw zero-add is.ends) enough
+    ∙ split_from-is (suc (length input)) limits 0 split.items split.rest split.end is.items (rw zero-add is.within) (rw zero-add is.ends) enough
 
 -- ---- How the reading ends
 
@@ -167,8 +167,8 @@ split_from-splits (suc n) limits offset bytes enough fits =
         let joined : item ++ more ≡ bytes = take-append-drop size bytes in
         let after = after_splits (offset + length item) more left (rw long whole.within) in
         subst (λ bs. Splits limits offset bs (split_from (suc n) limits offset bs)) joined
-          (rw (split_from-item n limits offset item more is_item (rw long whole.within))
-            (splits_front limits offset item more (split_from n limits (offset + length item) more) is_item after))
+        (rw (split_from-item n limits offset item more is_item (rw long whole.within))
+        (splits_front limits offset item more (split_from n limits (offset + length item) more) is_item after))
 
 -- `split_of` gives a split of every input
 pub split_of-splits : (limits : Limits) (input : List ℕ) → IsSplit limits input (split_of limits input)
@@ -195,17 +195,20 @@ all_items-append limits (x ∷ xs) ys all more = (all.0, all_items-append limits
 pub split_of-append : (limits : Limits) (items : List (List ℕ)) (tail : List ℕ) → AllByRecursion (IsItem limits) items
     → length (concat items) ≤ limits.input
     → (split : Split) × Splits limits (length (concat items)) tail split
-      × (split_of limits (concat items ++ tail) ≡ record { items = items ++ split.items; rest = split.rest; end = split.end })
+    × (split_of limits (concat items ++ tail) ≡ record { items = items ++ split.items; rest = split.rest; end = split.end })
 split_of-append limits items tail all fits =
     let split = split_from (suc (length tail)) limits (length (concat items)) tail in
     let after = split_from-splits (suc (length tail)) limits (length (concat items)) tail (omega arith) fits in
     let joined = concat-append items split.items in
     let place : length (concat (items ++ split.items)) ≡ length (concat items) + length (concat split.items) =
-        ap length joined ∙ length-append (concat items) (concat split.items) in
-    (split, after, split_of-is limits (concat items ++ tail) (record { items = items ++ split.items; rest = split.rest; end = split.end }) (record {
-      whole = ap (λ bs. concat items ++ bs) after.whole ∙ sym (append_assoc (concat items) (concat split.items) split.rest)
-        ∙ ap (λ bs. bs ++ split.rest) (sym joined);
-      items = all_items-append limits items split.items all after.items;
-      within = rw place after.within;
-      ends = rw place after.ends;
-    }))
+    ap length joined ∙ length-append (concat items) (concat split.items) in (
+      split,
+      after,
+      split_of-is limits (concat items ++ tail) (record { items = items ++ split.items; rest = split.rest; end = split.end }) (record {
+        whole = ap (λ bs. concat items ++ bs) after.whole ∙ sym (append_assoc (concat items) (concat split.items) split.rest)
+            ∙ ap (λ bs. bs ++ split.rest) (sym joined);
+        items = all_items-append limits items split.items all after.items;
+        within = rw place after.within;
+        ends = rw place after.ends;
+      }),
+    )

@@ -5,8 +5,8 @@ use Rattle.codec_defs.specs.Shape.{decoded}
 use Rattle.codec_defs.specs.Schema.{block}
 use Rattle.report_defs.specs.declared.status.Status.{Status}
 use Rattle.report_defs.specs.declared.status.Status.TheVariants.{Done, SomeRefused, BadWords, InputFault, SinkFault, DiskFault, NoMemory, NotAStore, CutInput, BadSize, StoreThere, BadGenesis, ExtraInput}
-use Rattle.report_defs.specs.Items.{Split, split_of, end_offset}
-use Rattle.report_defs.specs.Report.{Report, report, import_limits, kept_from, lines_over}
+use Rattle.report_defs.specs.Items.{split_of, end_offset}
+use Rattle.report_defs.specs.Report.{Report, import_limits, kept_from, lines_over}
 
 -- the list without its last element
 abbrev pub all_but_last : List (List ℕ) → List (List ℕ)
