@@ -23,6 +23,7 @@ tip [] = None
 tip (block ∷ later) = Some (higher_of block (tip later))
 
 -- The tip in words: it stands at a place, no number is above its own, and before it each is below.
+-- Law: a block that is the tip stands so at some place (proofs/TipLaw).
 pub record IsTip (kept : List Block) (place : ℕ) (block : Block) : Type 0 where
   pub there : slice_get kept place ≡ Some block
   pub greatest : (i : ℕ) → IfSome (slice_get kept i) (λ other. other.header.number ≤ block.header.number)
