@@ -1,13 +1,11 @@
-// A library with one function.
+//! The since of an input (RFC 0017): from when on the input may be spent.
+//!
+//! `meets` answers Ok, Invalid or Immature exactly by the definitions of `time_defs`, and allocates
+//! nothing. The median times that it compares are handed in; taking them is left to the chain.
 #![tactic(auto)]
 
-ghost use Rattle.std.specs.Prelude.{◌≡◌};
-ghost use Rattle.since_rules.specs.Echo.{echo_of};
+mod fields;
+mod rules;
 
-// The `ensures` clause is the contract: what `echo` returns is `echo_of` of its argument, a definition
-// in `specs/Echo.antt`, which a caller's clause can cite too.
-pub fn echo(x: usize) -> usize
-    ensures { result ≡ echo_of x }
-{
-    x
-}
+pub use rules::{SinceAt, SinceFault, meets};
+
