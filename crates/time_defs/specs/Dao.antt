@@ -2,6 +2,17 @@
 use Rattle.std.specs.Prelude.{ℕ, ◌+◌, ◌-◌, ◌*◌, ◌/◌, ◌^◌, ℤ, pos, negsuc, ◌-ℤ◌, nat_abs, Bool, false, ◌&&◌, nat_lt, Option, Some, None, if◌then◌else◌, List, ◌++◌}
 use Rattle.std.specs.Int.{w64, to_le_bytes}
 
+-- ---- 64 bits
+
+-- a number from 0 to the greatest u64
+abbrev pub fits_u64 : ℤ → Bool
+fits_u64 (pos n) = nat_lt n (2 ^ 64)
+fits_u64 (negsuc n) = false
+
+-- the number, where a u64 holds it
+abbrev pub as_u64 : ℤ → Option ℕ
+as_u64 z = if fits_u64 z then Some (nat_abs z) else None
+
 -- ---- Capacity (RFC 0019, "Cell": what a cell takes)
 
 -- A byte takes 10^8 shannons: 8 bytes of capacity, 33 and the args of the lock, as many of a type, the data.
@@ -54,11 +65,6 @@ next_savings old move = pos (old.savings + move.secondary) -ℤ pos (miner_part 
 
 abbrev pub next_occupied : DaoField → Movement → ℤ
 next_occupied old move = pos (old.occupied + move.made) -ℤ pos move.freed
-
--- a number from 0 to the greatest of 64 bits
-abbrev pub fits_u64 : ℤ → Bool
-fits_u64 (pos n) = nat_lt n (2 ^ 64)
-fits_u64 (negsuc n) = false
 
 -- The field after a block. There is none where one of the four is below 0 or above the greatest u64.
 unfoldable pub next_field : DaoField → Movement → Option DaoField
