@@ -84,7 +84,10 @@ fn fraction_of(value: u64) -> Fraction
 {
     let e = parts(value);
     if e.length == 0 {
-        return Fraction { numerator: e.number, denominator: 1 };
+        return Fraction {
+            numerator: e.number,
+            denominator: 1,
+        };
     }
     let length = u64::from(e.length);
     Fraction {

@@ -16,3 +16,5 @@ pub use epoch_values::{Epoch, epoch_of, field, parts, span_over, well_formed};
 pub use issuance::{primary, share};
 pub use specification::Spec;
 
+#[cfg(test)]
+mod tests;

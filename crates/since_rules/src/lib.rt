@@ -9,3 +9,6 @@ mod rules;
 
 pub use rules::{SinceAt, SinceFault, meets};
 
+
+#[cfg(test)]
+mod tests;
