@@ -14,6 +14,5 @@ pub use dao_field::Dao;
 pub use movement::{DaoMove, miner_share, next_field};
 pub use withdrawal::max_withdraw;
 
-
 #[cfg(test)]
 mod tests;

@@ -70,7 +70,9 @@ fn next_savings(old: &Dao, move_: &DaoMove) -> Option<u64>
     } else {
         (gains, interest)
     };
-    let left = gains.checked_sub(miner_share(old, move_.secondary))?.checked_sub(interest)?;
+    let left = gains
+        .checked_sub(miner_share(old, move_.secondary))?
+        .checked_sub(interest)?;
     u64::try_from(left).ok()
 }
 

@@ -9,6 +9,5 @@ mod rules;
 
 pub use rules::{SinceAt, SinceFault, meets};
 
-
 #[cfg(test)]
 mod tests;
