@@ -20,8 +20,8 @@ pub struct DaoMove {
     pub freed: u128,
 }
 
-#[tactic(auto, unfolding(time_defs::specs::Dao::next_field))]
 /// The field after a block. None where one of its four numbers is below 0 or above the greatest u64.
+#[tactic(auto, unfolding(time_defs::specs::Dao::next_field))]
 pub fn next_field(old: &Dao, move_: &DaoMove) -> Option<Dao>
     requires { 0 < old.now.c }
     ensures { option_map dao_field result ≡ rules.next_field (dao_field old.now) (movement move_.now) }
