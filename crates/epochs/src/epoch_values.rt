@@ -44,7 +44,7 @@ pub fn field(e: Epoch) -> u64
     e.number + (u64::from(e.index) << 24) + (u64::from(e.length) << 40)
 }
 
-/// The parts of an epoch value.
+/// The parts of an epoch value. Bits 56 to 63 are not looked at.
 pub fn parts(value: u64) -> Epoch
     ensures number { result.number ≡ number_of value }
     ensures index { result.index ≡ index_of value }

@@ -2,3 +2,4 @@ pub mod Numbers
 pub mod Shares
 pub mod FirstBroken
 pub mod Withdrawals
+pub mod Examples

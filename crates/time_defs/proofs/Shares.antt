@@ -1,5 +1,5 @@
 -- The shares of an epoch's blocks add up to its reward.
-use Rattle.std.proofs.Common.{◌≡◌, ℕ, zero, suc, ◌+◌, ◌-◌, ◌*◌, ◌/◌, ◌%◌, ◌<◌, ◌≤◌, min, map, ◌∙◌, ap, arith, suc-mul, add-one}
+use Rattle.std.proofs.Common.{◌≡◌, ℕ, zero, suc, ◌+◌, ◌*◌, ◌/◌, ◌%◌, ◌<◌, min, map, ◌∙◌, ap, arith, suc-mul, add-one}
 use Rattle.std.specs.Prelude.{sum, nat_lt, if◌then◌else◌}
 use Rattle.std.specs.List.{range_with_len}
 use Rattle.std.proofs.lemmas.Bool.Decides.{nat_tests}
@@ -18,9 +18,9 @@ first_shares whole extra (suc count) =
     let one_of : ℕ → ℕ = λ index. whole + (if nat_lt index extra then 1 else 0) in
     let before : sum (map one_of (range_with_len 0 count)) ≡ count * whole + min count extra = first_shares whole extra count in
     let step : sum (map one_of (range_with_len 0 (count + 1))) ≡ sum (map one_of (range_with_len 0 count)) + one_of count =
-        sum_by-map-range_with_len_more (λ x. x) one_of 0 count count (omega arith) in
+    sum_by-map-range_with_len_more (λ x. x) one_of 0 count count (omega arith) in
     let same : sum (map one_of (range_with_len 0 (count + 1))) ≡ sum (map one_of (range_with_len 0 (suc count))) =
-        ap (λ n. sum (map one_of (range_with_len 0 n))) (add-one count) in
+    ap (λ n. sum (map one_of (range_with_len 0 n))) (add-one count) in
     let here = one_more extra count in
     let more : suc count * whole ≡ count * whole + whole = suc-mul count whole in
     omega (arith, before, step, same, here, more)

@@ -13,13 +13,14 @@ fits_u64 (negsuc n) = false
 abbrev pub as_u64 : ℤ → Option ℕ
 as_u64 z = if fits_u64 z then Some (nat_abs z) else None
 
--- ---- Capacity (RFC 0019, "Cell": what a cell takes)
+-- ---- Capacity (RFC 0019, "Cell")
 
--- A byte takes 10^8 shannons: 8 bytes of capacity, 33 and the args of the lock, as many of a type, the data.
+-- the bytes of the type script, where there is one: code hash, hash type and args
 abbrev pub occupied_by_type : Option ℕ → ℕ
 occupied_by_type None = 0
 occupied_by_type (Some type_args) = 33 + type_args
 
+-- Each byte takes 10^8 shannons: the 8 of the capacity, the lock script, the type script, the data.
 abbrev pub occupied_capacity : ℕ → Option ℕ → ℕ → ℕ
 occupied_capacity lock_args type_args content = (8 + 33 + lock_args + occupied_by_type type_args + content) * 10 ^ 8
 
@@ -29,7 +30,7 @@ abbrev pub counted_capacity : ℕ → ℕ → ℕ → ℕ → ℕ
 counted_capacity capacity occupied rate_withdrawing rate_deposit =
     (capacity - occupied) * rate_withdrawing / rate_deposit + occupied
 
--- ---- The DAO field (RFC 0023, "DAO field")
+-- ---- The DAO field (RFC 0023, "Calculation")
 
 pub record DaoField : Type 0 where
   -- C: all that was issued
@@ -50,7 +51,7 @@ pub record Movement : Type 0 where
   pub made : ℕ
   pub freed : ℕ
 
--- the miner's part of a secondary share, by the old field
+-- the miner's part of a secondary share: by what the cells occupied before the block
 abbrev pub miner_part : DaoField → ℕ → ℕ
 miner_part old secondary = secondary * old.occupied / old.issued
 
@@ -70,7 +71,7 @@ next_occupied old move = pos (old.occupied + move.made) -ℤ pos move.freed
 unfoldable pub next_field : DaoField → Movement → Option DaoField
 next_field old move =
     if fits_u64 (pos (next_issued old move)) && fits_u64 (pos (next_rate old move))
-        && fits_u64 (next_savings old move) && fits_u64 (next_occupied old move)
+    && fits_u64 (next_savings old move) && fits_u64 (next_occupied old move)
     then Some (record {
       issued = next_issued old move;
       rate = next_rate old move;

@@ -1,7 +1,7 @@
 -- Epochs, epoch values and issuance. Every epoch has `length` blocks.
 use Rattle.std.specs.Prelude.{ℕ, ◌+◌, ◌-◌, ◌*◌, ◌/◌, ◌%◌, ◌^◌, Bool, ◌==◌, ◌&&◌, ◌||◌, nat_lt, nat_le, if◌then◌else◌}
 
--- ---- Epochs (RFC 0020, "Epoch")
+-- ---- Epochs (RFC 0020)
 
 -- the epoch in which the block of this height stands, and its index there
 abbrev pub epoch_number : ℕ → ℕ → ℕ
@@ -10,7 +10,7 @@ epoch_number length height = height / length
 abbrev pub epoch_index : ℕ → ℕ → ℕ
 epoch_index length height = height % length
 
--- ---- Epoch values (RFC 0017, "since": the epoch metric; RFC 0027, the header's epoch)
+-- ---- Epoch values (RFC 0027, "epoch" of the header; RFC 0017, the metric epoch)
 
 -- the number in bits 0 to 23, the index in bits 24 to 39, the length in bits 40 to 55
 abbrev pub epoch_value : ℕ → ℕ → ℕ → ℕ
@@ -57,7 +57,7 @@ abbrev pub is_span_over : ℕ → ℕ → ℕ → ℕ → Bool
 is_span_over value length made now =
     is_at_least (record { numerator = now - made; denominator = length }) (epochs_in value)
 
--- ---- Issuance (RFC 0020, "Block reward"; RFC 0023, "Secondary issuance")
+-- ---- Issuance (RFC 0020, the reward of each block)
 
 -- The share that the block of this index has in the reward of its epoch: the blocks share alike, and the
 -- first ones take one more each, as many as the division leaves.
@@ -67,7 +67,7 @@ share_of_index length index reward = reward / length + (if nat_lt index (reward 
 abbrev pub share : ℕ → ℕ → ℕ → ℕ
 share length height reward = share_of_index length (epoch_index length height) reward
 
--- The primary reward of an epoch halves each `interval` epochs.
+-- The primary reward of an epoch is halved once for each `interval` epochs before it.
 abbrev pub primary_reward_of : ℕ → ℕ → ℕ → ℕ
 primary_reward_of reward interval epoch = reward / 2 ^ (epoch / interval)
 

@@ -1,8 +1,8 @@
--- The since of an input (RFC 0017): 64 bits that say from when on it may be spent.
+-- The since of an input (RFC 0017, "Specification"): 64 bits that say from when on it may be spent.
 use Rattle.std.specs.Prelude.{◌≡◌, ℕ, ◌+◌, ◌*◌, ◌/◌, ◌%◌, ◌^◌, Bool, true, false, ◌==◌, ◌&&◌, ◌≤◌, nat_le, if◌then◌else◌}
 use Rattle.time_defs.specs.Epochs.{is_well_formed, is_span_over}
 
--- Bit 63: the since counts from the block that made the cell, and otherwise from the chain's begin.
+-- Bit 63: relative to the block that made the cell, and otherwise absolute.
 abbrev pub is_relative : ℕ → Bool
 is_relative since = since / 2 ^ 63 % 2 == 1
 

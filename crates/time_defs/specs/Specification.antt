@@ -86,11 +86,11 @@ abbrev pub first_broken : List ℕ → Option ℕ
 first_broken bytes =
     let spec = fields_of bytes in
     first_failing 1 (
-      keeps_s1 bytes
-      ∷ keeps_s2 spec.epoch_length
-      ∷ keeps_s3 spec.w_close spec.w_far
-      ∷ keeps_s4 spec.max_block_bytes
-      ∷ keeps_s5 spec.max_cycles
-      ∷ keeps_s6 spec.maturity
-      ∷ keeps_s7 spec.halving_interval
-      ∷ [])
+    keeps_s1 bytes
+    ∷ keeps_s2 spec.epoch_length
+    ∷ keeps_s3 spec.w_close spec.w_far
+    ∷ keeps_s4 spec.max_block_bytes
+    ∷ keeps_s5 spec.max_cycles
+    ∷ keeps_s6 spec.maturity
+    ∷ keeps_s7 spec.halving_interval
+    ∷ [])

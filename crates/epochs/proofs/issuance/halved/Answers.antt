@@ -1,5 +1,5 @@
 use Rattle.time_defs.proofs.Numbers.{halved-away}
-use Rattle.std.proofs.Common.{◌≡◌, sym}
+use Rattle.std.proofs.Common.{sym}
 use Rattle.epochs.proofs.issuance.halved.Goals as goal
 
 pub returns-else-halvings-lt64 : goal.returns-else-halvings-lt64
