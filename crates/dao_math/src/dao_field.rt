@@ -2,7 +2,7 @@
 
 ghost use Rattle.std.specs.Prelude.{◌≡◌, length};
 ghost use Rattle.std.specs.Int.{w64, to_le_bytes, from_le_bytes};
-ghost use Rattle.time_defs.specs.Dao.{field_bytes};
+ghost use Rattle.time_defs.specs.Dao.{field_bytes, field_of_bytes};
 
 /// The four numbers of a header's DAO field (RFC 0023), in shannons but for the rate.
 #[derive(Clone, Copy, Debug, PartialEq, Eq)]
@@ -17,12 +17,14 @@ pub struct Dao {
     pub u: u64,
 }
 
+#[tactic(auto, unfolding(time_defs::specs::Dao::field_of_bytes))]
 impl Dao {
     ghost use Rattle.dao_math.specs.Fields.{dao_field};
 
     /// The field that the bytes hold.
     pub fn read(b: &[u8; 32]) -> Dao
-        ensures { field_bytes (dao_field result) ≡ b.now }
+        ensures field { dao_field result ≡ field_of_bytes b.now }
+        ensures bytes { field_bytes (dao_field result) ≡ b.now }
     {
         Dao {
             c: u64_of(&b[0..8]),
@@ -32,15 +34,17 @@ impl Dao {
         }
     }
 
-    /// The bytes of the field: `read` of them is the field again.
+    /// The bytes of the field.
     pub fn write(&self) -> [u8; 32]
-        ensures { result ≡ field_bytes (dao_field self.now) }
+        ensures bytes { result ≡ field_bytes (dao_field self.now) }
+        ensures field { field_of_bytes result ≡ dao_field self.now }
     {
+        let Dao { c, ar, s, u } = *self;
         let mut bytes = [0; 32];
-        bytes[0..8].copy_from_slice(&self.c.to_le_bytes());
-        bytes[8..16].copy_from_slice(&self.ar.to_le_bytes());
-        bytes[16..24].copy_from_slice(&self.s.to_le_bytes());
-        bytes[24..32].copy_from_slice(&self.u.to_le_bytes());
+        bytes[0..8].copy_from_slice(&c.to_le_bytes());
+        bytes[8..16].copy_from_slice(&ar.to_le_bytes());
+        bytes[16..24].copy_from_slice(&s.to_le_bytes());
+        bytes[24..32].copy_from_slice(&u.to_le_bytes());
         bytes
     }
 }

@@ -3,3 +3,4 @@ pub mod Shares
 pub mod FirstBroken
 pub mod Withdrawals
 pub mod Examples
+pub mod FieldBytes

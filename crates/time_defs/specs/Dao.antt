@@ -1,6 +1,7 @@
 -- Capacity and the Nervos DAO (RFC 0023). Capacities are in shannons; divisions round down.
 use Rattle.std.specs.Prelude.{ℕ, ◌+◌, ◌-◌, ◌*◌, ◌/◌, ◌^◌, ℤ, pos, negsuc, ◌-ℤ◌, nat_abs, Bool, false, ◌&&◌, nat_lt, Option, Some, None, if◌then◌else◌, List, ◌++◌}
-use Rattle.std.specs.Int.{w64, to_le_bytes}
+use Rattle.std.specs.Int.{w64, to_le_bytes, from_le_bytes}
+use Rattle.std.specs.List.{slice_range}
 
 -- ---- 64 bits
 
@@ -85,3 +86,12 @@ unfoldable pub field_bytes : DaoField → List ℕ
 field_bytes field =
     to_le_bytes w64 field.issued ++ to_le_bytes w64 field.rate
     ++ to_le_bytes w64 field.savings ++ to_le_bytes w64 field.occupied
+
+-- the field that 32 bytes hold
+unfoldable pub field_of_bytes : List ℕ → DaoField
+field_of_bytes bytes = record {
+  issued = from_le_bytes w64 (slice_range bytes 0 8);
+  rate = from_le_bytes w64 (slice_range bytes 8 16);
+  savings = from_le_bytes w64 (slice_range bytes 16 24);
+  occupied = from_le_bytes w64 (slice_range bytes 24 32);
+}
