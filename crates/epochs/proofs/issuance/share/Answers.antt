@@ -1,0 +1,9 @@
+use Rattle.time_defs.proofs.FirstBroken.{keeps_s2-some}
+use Rattle.time_defs.proofs.Shares.{shares-sum}
+use Rattle.epochs.proofs.issuance.share.Goals as goal
+
+pub returns-then-number-blocks-clause-whole : goal.returns-then-number-blocks-clause-whole
+returns-then-number-blocks-clause-whole c = shares-sum c.args.length c.args.reward (keeps_s2-some _ c.requires)
+
+pub returns-else-number-blocks-clause-whole : goal.returns-else-number-blocks-clause-whole
+returns-else-number-blocks-clause-whole c = shares-sum c.args.length c.args.reward (keeps_s2-some _ c.requires)

@@ -1,0 +1,135 @@
+//! The chain specification and its rules S1 to S7.
+
+ghost use Rattle.std.specs.Prelude.{◌≡◌, IsTrue, length};
+ghost use Rattle.time_defs.specs.Specification as rules;
+
+use crate::epoch_values::well_formed;
+use crate::number::{hash_of, u32_of, u64_of};
+
+/// What a chain is set up with. Wherever there is one, it keeps S2 to S7.
+#[derive(Clone, Copy, Debug, PartialEq, Eq)]
+pub struct Spec {
+    /// The target of every block, as its header has it.
+    pub compact_target: u32,
+    /// Blocks in an epoch, 1 to 65,535.
+    pub epoch_length: u32,
+    /// Closest and farthest commitment after a proposal, in blocks: 1 <= w_close <= w_far <= 100.
+    pub w_close: u32,
+    pub w_far: u32,
+    /// Bytes in a block, 1 to 1,048,576.
+    pub max_block_bytes: u32,
+    /// Proposals in a block or an uncle.
+    pub max_proposals: u32,
+    /// Cycles in a block, 1 to 2^40.
+    pub max_cycles: u64,
+    /// The span after which a cellbase output or a header may be used: a well-formed epoch value.
+    pub maturity: u64,
+    /// Shannons an epoch, before any halving.
+    pub primary_reward: u64,
+    /// Shannons an epoch.
+    pub secondary_reward: u64,
+    /// Epochs between two halvings of the primary reward, at least 1.
+    pub halving_interval: u64,
+    /// The code hash of the DAO script.
+    pub dao_code_hash: [u8; 32],
+    pub ghost epoch_length_keeps: { IsTrue (rules.keeps_s2 epoch_length) },
+    pub ghost window_keeps: { IsTrue (rules.keeps_s3 w_close w_far) },
+    pub ghost block_bytes_keep: { IsTrue (rules.keeps_s4 max_block_bytes) },
+    pub ghost cycles_keep: { IsTrue (rules.keeps_s5 max_cycles) },
+    pub ghost maturity_keeps: { IsTrue (rules.keeps_s6 maturity) },
+    pub ghost halving_interval_keeps: { IsTrue (rules.keeps_s7 halving_interval) },
+}
+
+#[tactic(auto, unfolding(time_defs::specs::Specification::fields_of))]
+impl Spec {
+    ghost use Rattle.std.specs.Prelude.{Some, None, IfOk, IfErr};
+    ghost use Rattle.time_defs.specs.Specification.{first_broken, fields_of};
+    ghost use Rattle.epochs.specs.Fields.{specification};
+
+    /// The specification that the bytes hold, or the number of the first rule that they break.
+    pub fn read(b: &[u8]) -> Result<Spec, u8>
+        ensures sound { IfOk result (λ spec. first_broken b.now ≡ None) }
+        ensures fields { IfOk result (λ spec. specification spec ≡ fields_of b.now) }
+        ensures broken { IfErr result (λ rule. first_broken b.now ≡ Some rule) }
+    {
+        if !keeps_s1(b) {
+            return Err(1);
+        }
+        let epoch_length = u32_of(&b[8..12]);
+        if !keeps_s2(epoch_length) {
+            return Err(2);
+        }
+        let w_close = u32_of(&b[12..16]);
+        let w_far = u32_of(&b[16..20]);
+        if !keeps_s3(w_close, w_far) {
+            return Err(3);
+        }
+        let max_block_bytes = u32_of(&b[20..24]);
+        if !keeps_s4(max_block_bytes) {
+            return Err(4);
+        }
+        let max_cycles = u64_of(&b[28..36]);
+        if !keeps_s5(max_cycles) {
+            return Err(5);
+        }
+        let maturity = u64_of(&b[36..44]);
+        if !keeps_s6(maturity) {
+            return Err(6);
+        }
+        let halving_interval = u64_of(&b[60..68]);
+        if halving_interval == 0 {
+            return Err(7);
+        }
+        Ok(Spec {
+            compact_target: u32_of(&b[4..8]),
+            epoch_length,
+            w_close,
+            w_far,
+            max_block_bytes,
+            max_proposals: u32_of(&b[24..28]),
+            max_cycles,
+            maturity,
+            primary_reward: u64_of(&b[44..52]),
+            secondary_reward: u64_of(&b[52..60]),
+            halving_interval,
+            dao_code_hash: hash_of(&b[68..100]),
+        })
+    }
+}
+
+fn keeps_s1(b: &[u8]) -> bool
+    ensures value { result ≡ rules.keeps_s1 b.now }
+    ensures length { IsTrue result → length b.now ≡ 100 }
+{
+    b.len() == 100 && u32_of(&b[0..4]) == 100
+}
+
+fn keeps_s2(epoch_length: u32) -> bool
+    ensures { result ≡ rules.keeps_s2 epoch_length }
+{
+    epoch_length >= 1 && epoch_length < 1 << 16
+}
+
+fn keeps_s3(w_close: u32, w_far: u32) -> bool
+    ensures { result ≡ rules.keeps_s3 w_close w_far }
+{
+    w_close >= 1 && w_close <= w_far && w_far <= 100
+}
+
+fn keeps_s4(max_block_bytes: u32) -> bool
+    ensures { result ≡ rules.keeps_s4 max_block_bytes }
+{
+    max_block_bytes >= 1 && max_block_bytes <= 1 << 20
+}
+
+fn keeps_s5(max_cycles: u64) -> bool
+    ensures { result ≡ rules.keeps_s5 max_cycles }
+{
+    max_cycles >= 1 && max_cycles <= 1 << 40
+}
+
+fn keeps_s6(maturity: u64) -> bool
+    ensures { result ≡ rules.keeps_s6 maturity }
+{
+    maturity < 1 << 56 && well_formed(maturity)
+}

@@ -1,0 +1,4 @@
+pub mod Epochs
+pub mod Specification
+pub mod Since
+pub mod Dao

@@ -1,0 +1,96 @@
+-- The chain specification: 100 bytes, little-endian, and the rules S1 to S7 that it keeps.
+use Rattle.std.specs.Prelude.{ℕ, ◌+◌, ◌^◌, Bool, true, false, ◌==◌, ◌&&◌, nat_lt, nat_le, List, [], ◌∷◌, length, Option, Some, None}
+use Rattle.std.specs.List.{slice_range}
+use Rattle.std.specs.Int.{w32, w64, from_le_bytes}
+use Rattle.time_defs.specs.Epochs.{is_well_formed}
+
+pub record Specification : Type 0 where
+  pub compact_target : ℕ
+  -- blocks in an epoch
+  pub epoch_length : ℕ
+  -- the proposal window, in blocks: closest and farthest
+  pub w_close : ℕ
+  pub w_far : ℕ
+  pub max_block_bytes : ℕ
+  pub max_proposals : ℕ
+  pub max_cycles : ℕ
+  -- an epoch value
+  pub maturity : ℕ
+  -- shannons an epoch
+  pub primary_reward : ℕ
+  pub secondary_reward : ℕ
+  -- epochs
+  pub halving_interval : ℕ
+  pub dao_code_hash : List ℕ
+
+-- the numbers of 4 and of 8 bytes at a place
+abbrev pub u32_at : List ℕ → ℕ → ℕ
+u32_at bytes place = from_le_bytes w32 (slice_range bytes place (place + 4))
+
+abbrev pub u64_at : List ℕ → ℕ → ℕ
+u64_at bytes place = from_le_bytes w64 (slice_range bytes place (place + 8))
+
+-- The fields of the bytes, in their order; the first four bytes hold the size.
+unfoldable pub fields_of : List ℕ → Specification
+fields_of bytes = record {
+  compact_target = u32_at bytes 4;
+  epoch_length = u32_at bytes 8;
+  w_close = u32_at bytes 12;
+  w_far = u32_at bytes 16;
+  max_block_bytes = u32_at bytes 20;
+  max_proposals = u32_at bytes 24;
+  max_cycles = u64_at bytes 28;
+  maturity = u64_at bytes 36;
+  primary_reward = u64_at bytes 44;
+  secondary_reward = u64_at bytes 52;
+  halving_interval = u64_at bytes 60;
+  dao_code_hash = slice_range bytes 68 100;
+}
+
+-- S1: there are 100 bytes, and the size says so.
+abbrev pub keeps_s1 : List ℕ → Bool
+keeps_s1 bytes = (length bytes == 100) && (u32_at bytes 0 == 100)
+
+-- S2: an epoch has 1 to 65,535 blocks.
+abbrev pub keeps_s2 : ℕ → Bool
+keeps_s2 epoch_length = nat_le 1 epoch_length && nat_lt epoch_length (2 ^ 16)
+
+-- S3: the proposal window is not empty, begins after its block, and reaches at most 100 blocks.
+abbrev pub keeps_s3 : ℕ → ℕ → Bool
+keeps_s3 w_close w_far = nat_le 1 w_close && nat_le w_close w_far && nat_le w_far 100
+
+-- S4: a block has 1 to 1,048,576 bytes.
+abbrev pub keeps_s4 : ℕ → Bool
+keeps_s4 max_block_bytes = nat_le 1 max_block_bytes && nat_le max_block_bytes (2 ^ 20)
+
+-- S5: a block has 1 to 2^40 cycles.
+abbrev pub keeps_s5 : ℕ → Bool
+keeps_s5 max_cycles = nat_le 1 max_cycles && nat_le max_cycles (2 ^ 40)
+
+-- S6: the maturity is a well-formed epoch value, and nothing stands above it.
+abbrev pub keeps_s6 : ℕ → Bool
+keeps_s6 maturity = nat_lt maturity (2 ^ 56) && is_well_formed maturity
+
+-- S7: the primary reward halves each so many epochs, at least 1.
+abbrev pub keeps_s7 : ℕ → Bool
+keeps_s7 halving_interval = nat_le 1 halving_interval
+
+-- the place of the first test that fails, counted from a number on
+unfoldable pub first_failing : ℕ → List Bool → Option ℕ
+first_failing place [] = None
+first_failing place (true ∷ tests) = first_failing (place + 1) tests
+first_failing place (false ∷ tests) = Some place
+
+-- the number of the first of S1 to S7 that the bytes break
+abbrev pub first_broken : List ℕ → Option ℕ
+first_broken bytes =
+    let spec = fields_of bytes in
+    first_failing 1 (
+    keeps_s1 bytes
+    ∷ keeps_s2 spec.epoch_length
+    ∷ keeps_s3 spec.w_close spec.w_far
+    ∷ keeps_s4 spec.max_block_bytes
+    ∷ keeps_s5 spec.max_cycles
+    ∷ keeps_s6 spec.maturity
+    ∷ keeps_s7 spec.halving_interval
+    ∷ [])
