@@ -74,16 +74,16 @@ abbrev pub row : ℕ → ℕ → (ℕ → Ins) → Row
 row mask value instruction =
     record { pattern = record { mask = mask; value = value }; except = []; instruction = instruction }
 
-abbrev pub upper_immediate_forms : List Row
-upper_immediate_forms =
+abbrev pub opcode_forms : List Row
+opcode_forms =
     row 0x0000007f 0x00000037 (u_type Lui)
     ∷ row 0x0000007f 0x00000017 (u_type Auipc)
+    ∷ row 0x0000007f 0x0000006f (j_type Jal)
     ∷ []
 
-abbrev pub jump_forms : List Row
-jump_forms =
-    row 0x0000007f 0x0000006f (j_type Jal)
-    ∷ row 0x0000707f 0x00000067 (i_type Jalr)
+abbrev pub jump_register_forms : List Row
+jump_register_forms =
+    row 0x0000707f 0x00000067 (i_type Jalr)
     ∷ []
 
 abbrev pub branch_forms : List Row
@@ -123,7 +123,11 @@ immediate_forms =
     ∷ row 0x0000707f 0x00004013 (i_type Xori)
     ∷ row 0x0000707f 0x00006013 (i_type Ori)
     ∷ row 0x0000707f 0x00007013 (i_type Andi)
-    ∷ row 0xfc00707f 0x00001013 (shift Slli)
+    ∷ []
+
+abbrev pub shift_forms : List Row
+shift_forms =
+    row 0xfc00707f 0x00001013 (shift Slli)
     ∷ row 0xfc00707f 0x00005013 (shift Srli)
     ∷ row 0xfc00707f 0x40005013 (shift Srai)
     ∷ []
@@ -131,7 +135,11 @@ immediate_forms =
 abbrev pub word_immediate_forms : List Row
 word_immediate_forms =
     row 0x0000707f 0x0000001b (i_type Addiw)
-    ∷ row 0xfe00707f 0x0000101b (word_shift Slliw)
+    ∷ []
+
+abbrev pub word_shift_forms : List Row
+word_shift_forms =
+    row 0xfe00707f 0x0000101b (word_shift Slliw)
     ∷ row 0xfe00707f 0x0000501b (word_shift Srliw)
     ∷ row 0xfe00707f 0x4000501b (word_shift Sraiw)
     ∷ []
@@ -186,6 +194,6 @@ system_forms =
 
 unfoldable pub full_forms : List Row
 full_forms =
-    upper_immediate_forms ++ jump_forms ++ branch_forms ++ load_forms ++ store_forms
-    ++ immediate_forms ++ word_immediate_forms ++ register_forms ++ word_register_forms
+    opcode_forms ++ jump_register_forms ++ branch_forms ++ load_forms ++ store_forms
+    ++ immediate_forms ++ shift_forms ++ word_immediate_forms ++ word_shift_forms ++ register_forms ++ word_register_forms
     ++ fence_forms ++ system_forms
