@@ -2,7 +2,7 @@
 
 ghost use Rattle.std.specs.Prelude.{◌≡◌, ◌++◌};
 ghost use Rattle.vm_defs.specs.Row.{encoded_in};
-ghost use Rattle.vm_defs.specs.Table.{rd, rs1, rs2, i_immediate, s_immediate, b_immediate, u_immediate, j_immediate, shift_amount, word_shift_amount};
+ghost use Rattle.vm_defs.specs.Table.{u_type, j_type, rd, rs1, rs2, i_immediate, s_immediate, b_immediate, u_immediate, j_immediate, shift_amount, word_shift_amount};
 ghost use Rattle.vm_defs.specs.Table.{full_forms, jump_register_forms, branch_forms, load_forms, store_forms, immediate_forms, shift_forms, word_immediate_forms, word_shift_forms, register_forms, word_register_forms, fence_forms, system_forms};
 
 use crate::fields::{bits, part, sign_extended};
@@ -281,6 +281,33 @@ fn system(word: u32) -> Option<Ins>
     }
 }
 
+fn lui(word: u32) -> Ins
+    ensures { result ≡ u_type Ins.Lui word }
+{
+    Ins::Lui {
+        rd: rd(word),
+        imm: u_immediate(word),
+    }
+}
+
+fn auipc(word: u32) -> Ins
+    ensures { result ≡ u_type Ins.Auipc word }
+{
+    Ins::Auipc {
+        rd: rd(word),
+        imm: u_immediate(word),
+    }
+}
+
+fn jal(word: u32) -> Ins
+    ensures { result ≡ j_type Ins.Jal word }
+{
+    Ins::Jal {
+        rd: rd(word),
+        imm: j_immediate(word),
+    }
+}
+
 /// The instruction that a word of four bytes encodes.
 pub(crate) fn instruction(word: u32) -> Option<Ins>
     ensures { result ≡ encoded_in full_forms word }
@@ -289,24 +316,15 @@ pub(crate) fn instruction(word: u32) -> Option<Ins>
         0x03 => load(word),
         0x0f => fence(word),
         0x13 => immediate(word),
-        0x17 => Some(Ins::Auipc {
-            rd: rd(word),
-            imm: u_immediate(word),
-        }),
+        0x17 => Some(auipc(word)),
         0x1b => word_immediate(word),
         0x23 => store(word),
         0x33 => register(word),
-        0x37 => Some(Ins::Lui {
-            rd: rd(word),
-            imm: u_immediate(word),
-        }),
+        0x37 => Some(lui(word)),
         0x3b => word_register(word),
         0x63 => branch(word),
         0x67 => jump_register(word),
-        0x6f => Some(Ins::Jal {
-            rd: rd(word),
-            imm: j_immediate(word),
-        }),
+        0x6f => Some(jal(word)),
         0x73 => system(word),
         _ => None,
     }
