@@ -5,5 +5,26 @@
 //! words come from, is left to the machine above.
 #![tactic(auto)]
 
+ghost use Rattle.std.specs.Prelude.{◌≡◌};
+ghost use Rattle.vm_defs.specs.Decode.{decode};
+
+mod compressed;
 mod fields;
 mod full;
+
+use vm_defs::Ins;
+
+/// The instruction at the start of a word of code, and its length in bytes, 2 or 4.
+///
+/// A compressed form is given as the full form that it stands for, and leaves the upper half of the word
+/// unread. None comes exactly where no row of the table matches.
+#[tactic(auto, unfolding(vm_defs::specs::Decode::decode))]
+pub fn decode(word: u32) -> Option<(Ins, u8)>
+    ensures { result ≡ decode word }
+{
+    if word % 4 == 3 {
+        Some((full::instruction(word)?, 4))
+    } else {
+        Some((compressed::instruction(word % 0x1_0000)?, 2))
+    }
+}

@@ -1,9 +1,12 @@
 -- What the bits that are known of a word tell of the row that it matches.
-use Rattle.std.proofs.Common.{◌≡◌, ◌≢◌, ℕ, Bool, true, false, cond, ◌&&◌, ◌||◌, ◌==◌, List, [], ◌∷◌, Some, None, bit_and, inl, inr, refl, sym, ap, ◌∙◌}
+use Rattle.std.proofs.Common.{◌≡◌, ◌≢◌, ℕ, Bool, true, false, cond, ◌&&◌, ◌||◌, ◌==◌, List, [], ◌∷◌, ◌++◌, Option, Some, None, bit_and, bit_or, inl, inr, refl, sym, ap, ◌∙◌, arith}
 use Rattle.std.specs.List.{list_any, list_all, filter}
 use Rattle.std.proofs.lemmas.Nat.{and_assoc, and_comm}
+use Rattle.std.proofs.lemmas.Nat.Bits.{same_from_bits, bit_at_and, bit_at_or}
 use Rattle.std.proofs.lemmas.Bool.{eq-eqb}
 use Rattle.std.proofs.lemmas.Bool.Decides.{eqb_tells}
+use Rattle.std.specs.Option.{option_or}
+use Rattle.vm_defs.specs.declared.ins.Ins.{Ins}
 use Rattle.vm_defs.specs.Row.{Row, Pattern, fits, matches, encoded_in}
 
 and_swap : (w m n : ℕ) → bit_and (bit_and w m) n ≡ bit_and (bit_and w n) m
@@ -94,3 +97,38 @@ unfolding encoded_in
 hit w row all e =
     let found : fits w row.pattern ≡ true = eq-eqb _ _ e in
     rw all (rw found refl)
+
+-- ---- the bits under two masks
+
+-- what is known under a mask is known under each part of it
+pub implied : (w mask value part : ℕ) → bit_and w mask ≡ value → bit_and mask part ≡ part → bit_and w part ≡ bit_and value part
+implied w mask value part e within =
+    ap (bit_and w) (sym within) ∙ sym (and_assoc part w mask) ∙ ap (λ v. bit_and v part) e
+
+-- what is known under two masks is known under both together
+pub joined : (w m n : ℕ) → bit_and w (bit_or m n) ≡ bit_or (bit_and w m) (bit_and w n)
+joined w m n = same_from_bits _ _ (λ i.
+    simp (bit_at_and, bit_at_or) (omega arith))
+
+-- ---- rows side by side
+
+or_else : (b : Bool) (i : Ins) (first second : Option Ins)
+    → cond b (Some i) (option_or first second) ≡ option_or (cond b (Some i) first) second
+or_else true i first second = refl
+or_else false i first second = refl
+
+pub encoded_in-append : (xs ys : List Row) (w : ℕ) → encoded_in (xs ++ ys) w ≡ option_or (encoded_in xs w) (encoded_in ys w)
+unfolding encoded_in
+encoded_in-append [] ys w = refl
+encoded_in-append (row ∷ xs) ys w =
+    ap (λ r. cond (matches w row) (Some (row.instruction w)) r) (encoded_in-append xs ys w)
+    ∙ or_else (matches w row) (row.instruction w) (encoded_in xs w) (encoded_in ys w)
+
+option_or-none : (o : Option Ins) → option_or o None ≡ o
+option_or-none (Some i) = refl
+option_or-none None = refl
+
+-- rows that the word does not match, behind others
+pub encoded_in-before : (xs ys : List Row) (w : ℕ) → encoded_in ys w ≡ None → encoded_in (xs ++ ys) w ≡ encoded_in xs w
+encoded_in-before xs ys w none =
+    encoded_in-append xs ys w ∙ ap (option_or (encoded_in xs w)) none ∙ option_or-none (encoded_in xs w)

@@ -18,11 +18,11 @@ unfoldable pub c_rs2 : ℕ → ℕ
 c_rs2 half = bits 6 2 half
 
 -- x8 to x15, of the forms with three bits for a register: rd' or rs1', and rs2'
-unfoldable pub c_rs1' : ℕ → ℕ
-c_rs1' half = 8 + bits 9 7 half
+unfoldable pub c_short_rs1 : ℕ → ℕ
+c_short_rs1 half = 8 + bits 9 7 half
 
-unfoldable pub c_rs2' : ℕ → ℕ
-c_rs2' half = 8 + bits 4 2 half
+unfoldable pub c_short_rs2 : ℕ → ℕ
+c_short_rs2 half = 8 + bits 4 2 half
 
 -- x0, the return address and the stack pointer
 abbrev pub zero_register : ℕ
@@ -110,25 +110,31 @@ abbrev pub quadrant_0_forms : List Row
 quadrant_0_forms =
     -- C.ADDI4SPN
     compressed_row 0xe003 0x0000 (wide_immediate_zero ∷ [])
-        (λ c. Addi (c_rs2' c) stack_pointer (c_addi4spn_immediate c))
+        (λ c. Addi (c_short_rs2 c) stack_pointer (c_addi4spn_immediate c))
     -- C.LW
-    ∷ compressed_row 0xe003 0x4000 [] (λ c. Lw (c_rs2' c) (c_rs1' c) (c_word_offset c))
+    ∷ compressed_row 0xe003 0x4000 [] (λ c. Lw (c_short_rs2 c) (c_short_rs1 c) (c_word_offset c))
     -- C.LD
-    ∷ compressed_row 0xe003 0x6000 [] (λ c. Ld (c_rs2' c) (c_rs1' c) (c_double_offset c))
+    ∷ compressed_row 0xe003 0x6000 [] (λ c. Ld (c_short_rs2 c) (c_short_rs1 c) (c_double_offset c))
     -- C.SW
-    ∷ compressed_row 0xe003 0xc000 [] (λ c. Sw (c_rs1' c) (c_rs2' c) (c_word_offset c))
+    ∷ compressed_row 0xe003 0xc000 [] (λ c. Sw (c_short_rs1 c) (c_short_rs2 c) (c_word_offset c))
     -- C.SD
-    ∷ compressed_row 0xe003 0xe000 [] (λ c. Sd (c_rs1' c) (c_rs2' c) (c_double_offset c))
+    ∷ compressed_row 0xe003 0xe000 [] (λ c. Sd (c_short_rs1 c) (c_short_rs2 c) (c_double_offset c))
     ∷ []
 
-abbrev pub c_immediate_forms : List Row
-c_immediate_forms =
+abbrev pub c_immediate_and_jump_forms : List Row
+c_immediate_and_jump_forms =
     -- C.ADDI, and C.NOP
     compressed_row 0xe003 0x0001 [] (λ c. Addi (c_rd c) (c_rd c) (c_immediate c))
     -- C.ADDIW
     ∷ compressed_row 0xe003 0x2001 (rd_zero ∷ []) (λ c. Addiw (c_rd c) (c_rd c) (c_immediate c))
     -- C.LI
     ∷ compressed_row 0xe003 0x4001 [] (λ c. Addi (c_rd c) zero_register (c_immediate c))
+    -- C.J
+    ∷ compressed_row 0xe003 0xa001 [] (λ c. Jal zero_register (c_jump_offset c))
+    -- C.BEQZ
+    ∷ compressed_row 0xe003 0xc001 [] (λ c. Beq (c_short_rs1 c) zero_register (c_branch_offset c))
+    -- C.BNEZ
+    ∷ compressed_row 0xe003 0xe001 [] (λ c. Bne (c_short_rs1 c) zero_register (c_branch_offset c))
     ∷ []
 
 abbrev pub c_upper_forms : List Row
@@ -144,50 +150,45 @@ c_upper_forms =
 abbrev pub c_arithmetic_forms : List Row
 c_arithmetic_forms =
     -- C.SRLI
-    compressed_row 0xec03 0x8001 [] (λ c. Srli (c_rs1' c) (c_rs1' c) (c_shift_amount c))
+    compressed_row 0xec03 0x8001 [] (λ c. Srli (c_short_rs1 c) (c_short_rs1 c) (c_shift_amount c))
     -- C.SRAI
-    ∷ compressed_row 0xec03 0x8401 [] (λ c. Srai (c_rs1' c) (c_rs1' c) (c_shift_amount c))
+    ∷ compressed_row 0xec03 0x8401 [] (λ c. Srai (c_short_rs1 c) (c_short_rs1 c) (c_shift_amount c))
     -- C.ANDI
-    ∷ compressed_row 0xec03 0x8801 [] (λ c. Andi (c_rs1' c) (c_rs1' c) (c_immediate c))
-    -- C.SUB
-    ∷ compressed_row 0xfc63 0x8c01 [] (λ c. Sub (c_rs1' c) (c_rs1' c) (c_rs2' c))
-    -- C.XOR
-    ∷ compressed_row 0xfc63 0x8c21 [] (λ c. Xor (c_rs1' c) (c_rs1' c) (c_rs2' c))
-    -- C.OR
-    ∷ compressed_row 0xfc63 0x8c41 [] (λ c. Or (c_rs1' c) (c_rs1' c) (c_rs2' c))
-    -- C.AND
-    ∷ compressed_row 0xfc63 0x8c61 [] (λ c. And (c_rs1' c) (c_rs1' c) (c_rs2' c))
-    -- C.SUBW
-    ∷ compressed_row 0xfc63 0x9c01 [] (λ c. Subw (c_rs1' c) (c_rs1' c) (c_rs2' c))
-    -- C.ADDW
-    ∷ compressed_row 0xfc63 0x9c21 [] (λ c. Addw (c_rs1' c) (c_rs1' c) (c_rs2' c))
+    ∷ compressed_row 0xec03 0x8801 [] (λ c. Andi (c_short_rs1 c) (c_short_rs1 c) (c_immediate c))
     ∷ []
 
-abbrev pub c_jump_forms : List Row
-c_jump_forms =
-    -- C.J
-    compressed_row 0xe003 0xa001 [] (λ c. Jal zero_register (c_jump_offset c))
-    -- C.BEQZ
-    ∷ compressed_row 0xe003 0xc001 [] (λ c. Beq (c_rs1' c) zero_register (c_branch_offset c))
-    -- C.BNEZ
-    ∷ compressed_row 0xe003 0xe001 [] (λ c. Bne (c_rs1' c) zero_register (c_branch_offset c))
+abbrev pub c_register_arithmetic_forms : List Row
+c_register_arithmetic_forms =
+    -- C.SUB
+    compressed_row 0xfc63 0x8c01 [] (λ c. Sub (c_short_rs1 c) (c_short_rs1 c) (c_short_rs2 c))
+    -- C.XOR
+    ∷ compressed_row 0xfc63 0x8c21 [] (λ c. Xor (c_short_rs1 c) (c_short_rs1 c) (c_short_rs2 c))
+    -- C.OR
+    ∷ compressed_row 0xfc63 0x8c41 [] (λ c. Or (c_short_rs1 c) (c_short_rs1 c) (c_short_rs2 c))
+    -- C.AND
+    ∷ compressed_row 0xfc63 0x8c61 [] (λ c. And (c_short_rs1 c) (c_short_rs1 c) (c_short_rs2 c))
+    -- C.SUBW
+    ∷ compressed_row 0xfc63 0x9c01 [] (λ c. Subw (c_short_rs1 c) (c_short_rs1 c) (c_short_rs2 c))
+    -- C.ADDW
+    ∷ compressed_row 0xfc63 0x9c21 [] (λ c. Addw (c_short_rs1 c) (c_short_rs1 c) (c_short_rs2 c))
     ∷ []
 
 abbrev pub quadrant_1_forms : List Row
-quadrant_1_forms = c_immediate_forms ++ c_upper_forms ++ c_arithmetic_forms ++ c_jump_forms
+quadrant_1_forms =
+    c_immediate_and_jump_forms ++ c_upper_forms ++ c_arithmetic_forms ++ c_register_arithmetic_forms
 
-abbrev pub c_shift_forms : List Row
-c_shift_forms =
+abbrev pub c_shift_and_stack_forms : List Row
+c_shift_and_stack_forms =
     -- C.SLLI
     compressed_row 0xe003 0x0002 [] (λ c. Slli (c_rd c) (c_rd c) (c_shift_amount c))
-    ∷ []
-
-abbrev pub c_stack_load_forms : List Row
-c_stack_load_forms =
     -- C.LWSP
-    compressed_row 0xe003 0x4002 (rd_zero ∷ []) (λ c. Lw (c_rd c) stack_pointer (c_lwsp_offset c))
+    ∷ compressed_row 0xe003 0x4002 (rd_zero ∷ []) (λ c. Lw (c_rd c) stack_pointer (c_lwsp_offset c))
     -- C.LDSP
     ∷ compressed_row 0xe003 0x6002 (rd_zero ∷ []) (λ c. Ld (c_rd c) stack_pointer (c_ldsp_offset c))
+    -- C.SWSP
+    ∷ compressed_row 0xe003 0xc002 [] (λ c. Sw stack_pointer (c_rs2 c) (c_swsp_offset c))
+    -- C.SDSP
+    ∷ compressed_row 0xe003 0xe002 [] (λ c. Sd stack_pointer (c_rs2 c) (c_sdsp_offset c))
     ∷ []
 
 abbrev pub c_register_forms : List Row
@@ -204,16 +205,8 @@ c_register_forms =
     ∷ compressed_row 0xf003 0x9002 (rs2_zero ∷ []) (λ c. Add (c_rd c) (c_rd c) (c_rs2 c))
     ∷ []
 
-abbrev pub c_stack_store_forms : List Row
-c_stack_store_forms =
-    -- C.SWSP
-    compressed_row 0xe003 0xc002 [] (λ c. Sw stack_pointer (c_rs2 c) (c_swsp_offset c))
-    -- C.SDSP
-    ∷ compressed_row 0xe003 0xe002 [] (λ c. Sd stack_pointer (c_rs2 c) (c_sdsp_offset c))
-    ∷ []
-
 abbrev pub quadrant_2_forms : List Row
-quadrant_2_forms = c_shift_forms ++ c_stack_load_forms ++ c_register_forms ++ c_stack_store_forms
+quadrant_2_forms = c_shift_and_stack_forms ++ c_register_forms
 
 unfoldable pub compressed_forms : List Row
 compressed_forms = quadrant_0_forms ++ quadrant_1_forms ++ quadrant_2_forms
