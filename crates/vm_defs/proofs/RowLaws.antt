@@ -9,7 +9,7 @@ use Rattle.std.specs.Option.{option_or}
 use Rattle.vm_defs.specs.declared.ins.Ins.{Ins}
 use Rattle.vm_defs.specs.Row.{Row, Pattern, fits, matches, encoded_in}
 
-and_swap : (w m n : ℕ) → bit_and (bit_and w m) n ≡ bit_and (bit_and w n) m
+pub and_swap : (w m n : ℕ) → bit_and (bit_and w m) n ≡ bit_and (bit_and w n) m
 and_swap w m n = and_assoc n w m ∙ ap (bit_and w) (and_comm m n) ∙ sym (and_assoc m w n)
 
 unless_false : (b c : Bool) → c ≡ false → cond b false c ≡ false
@@ -29,11 +29,11 @@ apart : (w : ℕ) (known : Pattern) (row : Row) → bit_and w known.mask ≡ kno
     → matches w row ≡ false
 apart w known row e h =
     unless_false (list_any (fits w) row.except) (fits w row.pattern) (not_equal _ _ (λ equal.
-        let both : bit_and row.pattern.value known.mask ≡ bit_and known.value row.pattern.mask =
-            ap (λ v. bit_and v known.mask) (sym equal) ∙ and_swap w row.pattern.mask known.mask
-            ∙ ap (λ v. bit_and v row.pattern.mask) e in
-        let may : may_match known row ≡ true = eq-eqb _ _ both in
-        cc))
+    let both : bit_and row.pattern.value known.mask ≡ bit_and known.value row.pattern.mask =
+    ap (λ v. bit_and v known.mask) (sym equal) ∙ and_swap w row.pattern.mask known.mask
+    ∙ ap (λ v. bit_and v row.pattern.mask) e in
+    let may : may_match known row ≡ true = eq-eqb _ _ both in
+    cc))
 
 keep : (w : ℕ) (known : Pattern) (row : Row) (rows : List Row) → bit_and w known.mask ≡ known.value
     → encoded_in rows w ≡ encoded_in (filter (may_match known) rows) w
@@ -58,24 +58,24 @@ abbrev pub has_code : ℕ → List ℕ → Row → Bool
 has_code field codes row =
     (bit_and row.pattern.mask field == field) && list_any (λ code. bit_and row.pattern.value field == code) codes
 
-both_true : (a b : Bool) → (a && b) ≡ true → (a ≡ true) × (b ≡ true)
+pub both_true : (a b : Bool) → (a && b) ≡ true → (a ≡ true) × (b ≡ true)
 both_true true b e = (refl, e)
 both_true false b e = cc
 
-equal_from_true : (a b : ℕ) → (a == b) ≡ true → a ≡ b
+pub equal_from_true : (a b : ℕ) → (a == b) ≡ true → a ≡ b
 equal_from_true a b e = elim (eqb_tells a b) [ inl t ↦ t.1 | inr f ↦ (let differ = f.0 in cc) ]
 
 other_code : (w field : ℕ) (codes : List ℕ) (row : Row) → has_code field codes row ≡ true
     → list_any (λ code. bit_and w field == code) codes ≡ false → matches w row ≡ false
 other_code w field codes row has none =
     unless_false (list_any (fits w) row.except) (fits w row.pattern) (not_equal _ _ (λ equal.
-        let parts = both_true (bit_and row.pattern.mask field == field) (list_any (λ code. bit_and row.pattern.value field == code) codes) has in
-        let whole : bit_and row.pattern.mask field ≡ field = equal_from_true _ _ parts.0 in
-        let same : bit_and row.pattern.value field ≡ bit_and w field =
-            ap (λ v. bit_and v field) (sym equal) ∙ and_assoc field w row.pattern.mask ∙ ap (bit_and w) whole in
-        let some : list_any (λ code. bit_and w field == code) codes ≡ true =
-            ap (λ v. list_any (λ code. v == code) codes) (sym same) ∙ parts.1 in
-        cc))
+    let parts = both_true (bit_and row.pattern.mask field == field) (list_any (λ code. bit_and row.pattern.value field == code) codes) has in
+    let whole : bit_and row.pattern.mask field ≡ field = equal_from_true _ _ parts.0 in
+    let same : bit_and row.pattern.value field ≡ bit_and w field =
+    ap (λ v. bit_and v field) (sym equal) ∙ and_assoc field w row.pattern.mask ∙ ap (bit_and w) whole in
+    let some : list_any (λ code. bit_and w field == code) codes ≡ true =
+    ap (λ v. list_any (λ code. v == code) codes) (sym same) ∙ parts.1 in
+    cc))
 
 pub none_of : (rows : List Row) (w field : ℕ) (codes : List ℕ) → list_all (has_code field codes) rows ≡ true
     → list_any (λ code. bit_and w field == code) codes ≡ false → encoded_in rows w ≡ None

@@ -110,7 +110,7 @@ abbrev pub quadrant_0_forms : List Row
 quadrant_0_forms =
     -- C.ADDI4SPN
     compressed_row 0xe003 0x0000 (wide_immediate_zero ∷ [])
-        (λ c. Addi (c_short_rs2 c) stack_pointer (c_addi4spn_immediate c))
+    (λ c. Addi (c_short_rs2 c) stack_pointer (c_addi4spn_immediate c))
     -- C.LW
     ∷ compressed_row 0xe003 0x4000 [] (λ c. Lw (c_short_rs2 c) (c_short_rs1 c) (c_word_offset c))
     -- C.LD
@@ -141,10 +141,10 @@ abbrev pub c_upper_forms : List Row
 c_upper_forms =
     -- C.ADDI16SP
     compressed_row 0xef83 0x6101 (immediate_zero ∷ [])
-        (λ c. Addi stack_pointer stack_pointer (c_addi16sp_immediate c))
+    (λ c. Addi stack_pointer stack_pointer (c_addi16sp_immediate c))
     -- C.LUI
     ∷ compressed_row 0xe003 0x6001 (rd_stack_pointer ∷ immediate_zero ∷ [])
-        (λ c. Lui (c_rd c) (c_lui_immediate c))
+    (λ c. Lui (c_rd c) (c_lui_immediate c))
     ∷ []
 
 abbrev pub c_arithmetic_forms : List Row

@@ -1,5 +1,5 @@
 -- A row of the instruction table, and the row that a word matches.
-use Rattle.std.specs.Prelude.{ℕ, Bool, false, List, [], ◌∷◌, Option, Some, None, bit_and, ◌==◌, if◌then◌else◌}
+use Rattle.std.specs.Prelude.{◌≡◌, ◌<◌, ◌^◌, IsTrue, slice_get, ℕ, Bool, false, List, [], ◌∷◌, Option, Some, None, bit_and, ◌==◌, if◌then◌else◌}
 use Rattle.std.specs.List.{list_any}
 use Rattle.vm_defs.specs.declared.ins.Ins.{Ins}
 
@@ -26,3 +26,13 @@ matches word row = if list_any (fits word) row.except then false else fits word 
 unfoldable pub encoded_in : List Row → ℕ → Option Ins
 encoded_in [] word = None
 encoded_in (row ∷ rows) word = if matches word row then Some (row.instruction word) else encoded_in rows word
+
+-- no word matches the rows at two places of a table
+abbrev pub IsUnambiguous : List Row → Type 0
+IsUnambiguous rows = (word i j : ℕ) (row other : Row) → slice_get rows i ≡ Some row → slice_get rows j ≡ Some other
+    → IsTrue (matches word row) → IsTrue (matches word other) → i ≡ j
+
+-- each row of a table is matched by some word of so many bits
+abbrev pub HasWords : ℕ → List Row → Type 0
+HasWords width rows = (i : ℕ) (row : Row) → slice_get rows i ≡ Some row
+    → (word : ℕ) × (word < 2 ^ width) × IsTrue (matches word row)
