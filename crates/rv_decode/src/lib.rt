@@ -5,13 +5,16 @@
 //! words come from, is left to the machine above.
 #![tactic(auto)]
 
-ghost use Rattle.std.specs.Prelude.{◌≡◌};
+ghost use Rattle.std.specs.Prelude.{◌≡◌, ◌≢◌, ℕ, ◌%◌, ◌^◌, IfSome};
+ghost use Rattle.vm_defs.specs.Instruction.{HasRegisters};
 ghost use Rattle.vm_defs.specs.Decode.{decode};
 
 mod compressed;
 mod fields;
 mod full;
+mod table;
 
+pub use table::table_laws;
 use vm_defs::Ins;
 
 /// The instruction at the start of a word of code, and its length in bytes, 2 or 4.
@@ -20,7 +23,10 @@ use vm_defs::Ins;
 /// unread. None comes exactly where no row of the table matches.
 #[tactic(auto, unfolding(vm_defs::specs::Decode::decode))]
 pub fn decode(word: u32) -> Option<(Ins, u8)>
-    ensures { result ≡ decode word }
+    ensures exact { result ≡ decode word }
+    // Of a compressed form the low two bytes alone are read.
+    ensures low_half { word % 4 ≢ 3 → (other : ℕ) → other % 2 ^ 16 ≡ word % 2 ^ 16 → decode other ≡ result }
+    ensures registers { IfSome result (λ decoded. HasRegisters decoded.0) }
 {
     if word % 4 == 3 {
         Some((full::instruction(word)?, 4))

@@ -1,12 +1,12 @@
 -- The laws of decoding: which bytes it reads, and which registers an instruction names.
-use Rattle.std.proofs.Common.{◌≡◌, ◌≢◌, ℕ, ◌/◌, ◌%◌, ◌^◌, ◌<◌, Bool, true, false, cond, ◌==◌, List, [], ◌∷◌, Option, Some, None, IfSome, ap, lit<, arith}
+use Rattle.std.proofs.Common.{subst, sym, ◌≡◌, ◌≢◌, ℕ, ◌/◌, ◌%◌, ◌^◌, ◌<◌, Bool, true, false, cond, ◌==◌, List, [], ◌∷◌, Option, Some, None, IfSome, ap, lit<, arith}
 use Rattle.std.specs.Option.{option_map}
 use Rattle.std.proofs.lemmas.Nat.{mod_below}
 use Rattle.vm_defs.specs.declared.ins.Ins.{Ins}
 use Rattle.vm_defs.specs.Instruction.{bits, HasRegisters}
 use Rattle.vm_defs.specs.Row.{Row, matches, encoded_in}
 use Rattle.vm_defs.specs.Table.{rd, rs1, rs2, full_forms}
-use Rattle.vm_defs.specs.Compressed.{c_rd, c_rs2, c_short_rs1, c_short_rs2, compressed_forms}
+use Rattle.vm_defs.specs.Compressed.{c_rd, c_rs2, c_short_rs1, c_short_rs2, zero_register, return_address, stack_pointer, compressed_forms}
 use Rattle.vm_defs.specs.Decode.{decode, with_length}
 use Rattle.vm_defs.proofs.RowLaws.{not_equal}
 
@@ -52,10 +52,46 @@ below-c_short_rs2 : (c : ℕ) → c_short_rs2 c < 32
 unfolding c_short_rs2 bits
 below-c_short_rs2 c = let small : c / 2 ^ 2 % 8 < 8 = mod_below (c / 2 ^ 2) 8 (lit< tt) in omega arith
 
+-- a fact for each word: what the instructions of a row name
+two : {p q : ℕ → ℕ} → ((w : ℕ) → p w < 32) → ((w : ℕ) → q w < 32) → (w : ℕ) → (p w < 32) × (q w < 32)
+two p q w = (p w, q w)
+
+three : {p q r : ℕ → ℕ} → ((w : ℕ) → p w < 32) → ((w : ℕ) → q w < 32) → ((w : ℕ) → r w < 32)
+    → (w : ℕ) → (p w < 32) × (q w < 32) × (r w < 32)
+three p q r w = (p w, q w, r w)
+
+r_names : (w : ℕ) → (rd w < 32) × (rs1 w < 32) × (rs2 w < 32)
+r_names = three below-rd below-rs1 below-rs2
+
+i_names : (w : ℕ) → (rd w < 32) × (rs1 w < 32)
+i_names = two below-rd below-rs1
+
+s_names : (w : ℕ) → (rs1 w < 32) × (rs2 w < 32)
+s_names = two below-rs1 below-rs2
+
+u_names : (w : ℕ) → rd w < 32
+u_names = below-rd
+
+no_names : (w : ℕ) → Unit {0}
+no_names w = tt
+
+below-zero : (w : ℕ) → zero_register < 32
+below-zero w = lit< tt
+
+below-ra : (w : ℕ) → return_address < 32
+below-ra w = lit< tt
+
+below-sp : (w : ℕ) → stack_pointer < 32
+below-sp w = lit< tt
+
 -- each row's instructions name registers
 abbrev pub EachNames : List Row → Type 0
 EachNames [] = Unit {0}
 EachNames (row ∷ rows) = ((w : ℕ) → HasRegisters (row.instruction w)) × EachNames rows
+
+infixr 5 ◌also◌
+◌also◌ : {A B : Type 0} → A → B → A × B
+first also rest = (first, rest)
 
 one_names : (b : Bool) (i : Ins) (rest : Option Ins) → HasRegisters i → IfSome rest HasRegisters → IfSome (cond b (Some i) rest) HasRegisters
 one_names true i rest here later = here
@@ -69,305 +105,54 @@ named (row ∷ rows) each w =
 
 full_forms_name : EachNames full_forms
 unfolding full_forms
-full_forms_name = (
-  (λ w. below-rd w),
-  (
-    (λ w. below-rd w),
-    (
-      (λ w. below-rd w),
-      (
-        (λ w. (below-rd w, below-rs1 w)),
-        (
-          (λ w. (below-rs1 w, below-rs2 w)),
-          (
-            (λ w. (below-rs1 w, below-rs2 w)),
-            (
-              (λ w. (below-rs1 w, below-rs2 w)),
-              (
-                (λ w. (below-rs1 w, below-rs2 w)),
-                (
-                  (λ w. (below-rs1 w, below-rs2 w)),
-                  (
-                    (λ w. (below-rs1 w, below-rs2 w)),
-                    (
-                      (λ w. (below-rd w, below-rs1 w)),
-                      (
-                        (λ w. (below-rd w, below-rs1 w)),
-                        (
-                          (λ w. (below-rd w, below-rs1 w)),
-                          (
-                            (λ w. (below-rd w, below-rs1 w)),
-                            (
-                              (λ w. (below-rd w, below-rs1 w)),
-                              (
-                                (λ w. (below-rd w, below-rs1 w)),
-                                (
-                                  (λ w. (below-rd w, below-rs1 w)),
-                                  (
-                                    (λ w. (below-rs1 w, below-rs2 w)),
-                                    (
-                                      (λ w. (below-rs1 w, below-rs2 w)),
-                                      (
-                                        (λ w. (below-rs1 w, below-rs2 w)),
-                                        (
-                                          (λ w. (below-rs1 w, below-rs2 w)),
-                                          (
-                                            (λ w. (below-rd w, below-rs1 w)),
-                                            (
-                                              (λ w. (below-rd w, below-rs1 w)),
-                                              (
-                                                (λ w. (below-rd w, below-rs1 w)),
-                                                (
-                                                  (λ w. (below-rd w, below-rs1 w)),
-                                                  (
-                                                    (λ w. (below-rd w, below-rs1 w)),
-                                                    (
-                                                      (λ w. (below-rd w, below-rs1 w)),
-                                                      (
-                                                        (λ w. (below-rd w, below-rs1 w)),
-                                                        (
-                                                          (λ w. (below-rd w, below-rs1 w)),
-                                                          (
-                                                            (λ w. (below-rd w, below-rs1 w)),
-                                                            (
-                                                              (λ w. (below-rd w, below-rs1 w)),
-                                                              (
-                                                                (λ w. (below-rd w, below-rs1 w)),
-                                                                (
-                                                                  (λ w. (below-rd w, below-rs1 w)),
-                                                                  (
-                                                                    (λ w. (below-rd w, below-rs1 w)),
-                                                                    (
-                                                                      (λ w. (below-rd w, below-rs1 w, below-rs2 w)),
-                                                                      (
-                                                                        (λ w. (below-rd w, below-rs1 w, below-rs2 w)),
-                                                                        (
-                                                                          (λ w. (below-rd w, below-rs1 w, below-rs2 w)),
-                                                                          (
-                                                                            (λ w. (below-rd w, below-rs1 w, below-rs2 w)),
-                                                                            (
-                                                                              (λ w. (below-rd w, below-rs1 w, below-rs2 w)),
-                                                                              (
-                                                                                (λ w. (below-rd w, below-rs1 w, below-rs2 w)),
-                                                                                (
-                                                                                  (λ w. (below-rd w, below-rs1 w, below-rs2 w)),
-                                                                                  (
-                                                                                    (λ w. (below-rd w, below-rs1 w, below-rs2 w)),
-                                                                                    (
-                                                                                      (λ w. (below-rd w, below-rs1 w, below-rs2 w)),
-                                                                                      (
-                                                                                        (λ w. (below-rd w, below-rs1 w, below-rs2 w)),
-                                                                                        (
-                                                                                          (λ w. (below-rd w, below-rs1 w, below-rs2 w)),
-                                                                                          (
-                                                                                            (λ w. (below-rd w, below-rs1 w, below-rs2 w)),
-                                                                                            (
-                                                                                              (λ w. (below-rd w, below-rs1 w, below-rs2 w)),
-                                                                                              (
-                                                                                                (λ w. (below-rd w, below-rs1 w, below-rs2 w)),
-                                                                                                (
-                                                                                                  (λ w. (below-rd w, below-rs1 w, below-rs2 w)),
-                                                                                                  (
-                                                                                                    (λ w. (below-rd w, below-rs1 w, below-rs2 w)),
-                                                                                                    (
-                                                                                                      (λ w. (below-rd w, below-rs1 w, below-rs2 w)),
-                                                                                                      (
-                                                                                                        (λ w. (below-rd w, below-rs1 w, below-rs2 w)),
-                                                                                                        (
-                                                                                                          (λ w. (below-rd w, below-rs1 w, below-rs2 w)),
-                                                                                                          (
-                                                                                                            (λ w. (below-rd w, below-rs1 w, below-rs2 w)),
-                                                                                                            (
-                                                                                                              (λ w. (below-rd w, below-rs1 w, below-rs2 w)),
-                                                                                                              (
-                                                                                                                (λ w. (below-rd w, below-rs1 w, below-rs2 w)),
-                                                                                                                (
-                                                                                                                  (λ w. (below-rd w, below-rs1 w, below-rs2 w)),
-                                                                                                                  (
-                                                                                                                    (λ w. (below-rd w, below-rs1 w, below-rs2 w)),
-                                                                                                                    (
-                                                                                                                      (λ w. (below-rd w, below-rs1 w, below-rs2 w)),
-                                                                                                                      (
-                                                                                                                        (λ w. (below-rd w, below-rs1 w, below-rs2 w)),
-                                                                                                                        (
-                                                                                                                          (λ w. (below-rd w, below-rs1 w, below-rs2 w)),
-                                                                                                                          (
-                                                                                                                            (λ w. (below-rd w, below-rs1 w, below-rs2 w)),
-                                                                                                                            (
-                                                                                                                              (λ w. tt),
-                                                                                                                              (
-                                                                                                                                (λ w. tt),
-                                                                                                                                (
-                                                                                                                                  (λ w. tt),
-                                                                                                                                  (
-                                                                                                                                    (λ w. tt),
-                                                                                                                                    tt,
-                                                                                                                                  ),
-                                                                                                                                ),
-                                                                                                                              ),
-                                                                                                                            ),
-                                                                                                                          ),
-                                                                                                                        ),
-                                                                                                                      ),
-                                                                                                                    ),
-                                                                                                                  ),
-                                                                                                                ),
-                                                                                                              ),
-                                                                                                            ),
-                                                                                                          ),
-                                                                                                        ),
-                                                                                                      ),
-                                                                                                    ),
-                                                                                                  ),
-                                                                                                ),
-                                                                                              ),
-                                                                                            ),
-                                                                                          ),
-                                                                                        ),
-                                                                                      ),
-                                                                                    ),
-                                                                                  ),
-                                                                                ),
-                                                                              ),
-                                                                            ),
-                                                                          ),
-                                                                        ),
-                                                                      ),
-                                                                    ),
-                                                                  ),
-                                                                ),
-                                                              ),
-                                                            ),
-                                                          ),
-                                                        ),
-                                                      ),
-                                                    ),
-                                                  ),
-                                                ),
-                                              ),
-                                            ),
-                                          ),
-                                        ),
-                                      ),
-                                    ),
-                                  ),
-                                ),
-                              ),
-                            ),
-                          ),
-                        ),
-                      ),
-                    ),
-                  ),
-                ),
-              ),
-            ),
-          ),
-        ),
-      ),
-    ),
-  ),
-)
+full_forms_name =
+    u_names also u_names also u_names also i_names also s_names also s_names also s_names
+    also s_names also s_names also s_names also i_names also i_names also i_names also i_names
+    also i_names also i_names also i_names also s_names also s_names also s_names also s_names
+    also i_names also i_names also i_names also i_names also i_names also i_names also i_names
+    also i_names also i_names also i_names also i_names also i_names also i_names also r_names
+    also r_names also r_names also r_names also r_names also r_names also r_names also r_names
+    also r_names also r_names also r_names also r_names also r_names also r_names also r_names
+    also r_names also r_names also r_names also r_names also r_names also r_names also r_names
+    also r_names also r_names also r_names also r_names also r_names also r_names also no_names
+    also no_names also no_names also no_names also tt
 
 compressed_forms_name : EachNames compressed_forms
 unfolding compressed_forms
-compressed_forms_name = (
-  (λ c. (below-c_short_rs2 c, lit< tt)),
-  (
-    (λ c. (below-c_short_rs2 c, below-c_short_rs1 c)),
-    (
-      (λ c. (below-c_short_rs2 c, below-c_short_rs1 c)),
-      (
-        (λ c. (below-c_short_rs1 c, below-c_short_rs2 c)),
-        (
-          (λ c. (below-c_short_rs1 c, below-c_short_rs2 c)),
-          (
-            (λ c. (below-c_rd c, below-c_rd c)),
-            (
-              (λ c. (below-c_rd c, below-c_rd c)),
-              (
-                (λ c. (below-c_rd c, lit< tt)),
-                (
-                  (λ c. lit< tt),
-                  (
-                    (λ c. (below-c_short_rs1 c, lit< tt)),
-                    (
-                      (λ c. (below-c_short_rs1 c, lit< tt)),
-                      (
-                        (λ c. (lit< tt, lit< tt)),
-                        (
-                          (λ c. below-c_rd c),
-                          (
-                            (λ c. (below-c_short_rs1 c, below-c_short_rs1 c)),
-                            (
-                              (λ c. (below-c_short_rs1 c, below-c_short_rs1 c)),
-                              (
-                                (λ c. (below-c_short_rs1 c, below-c_short_rs1 c)),
-                                (
-                                  (λ c. (below-c_short_rs1 c, below-c_short_rs1 c, below-c_short_rs2 c)),
-                                  (
-                                    (λ c. (below-c_short_rs1 c, below-c_short_rs1 c, below-c_short_rs2 c)),
-                                    (
-                                      (λ c. (below-c_short_rs1 c, below-c_short_rs1 c, below-c_short_rs2 c)),
-                                      (
-                                        (λ c. (below-c_short_rs1 c, below-c_short_rs1 c, below-c_short_rs2 c)),
-                                        (
-                                          (λ c. (below-c_short_rs1 c, below-c_short_rs1 c, below-c_short_rs2 c)),
-                                          (
-                                            (λ c. (below-c_short_rs1 c, below-c_short_rs1 c, below-c_short_rs2 c)),
-                                            (
-                                              (λ c. (below-c_rd c, below-c_rd c)),
-                                              (
-                                                (λ c. (below-c_rd c, lit< tt)),
-                                                (
-                                                  (λ c. (below-c_rd c, lit< tt)),
-                                                  (
-                                                    (λ c. (lit< tt, below-c_rs2 c)),
-                                                    (
-                                                      (λ c. (lit< tt, below-c_rs2 c)),
-                                                      (
-                                                        (λ c. (lit< tt, below-c_rd c)),
-                                                        (
-                                                          (λ c. (below-c_rd c, lit< tt, below-c_rs2 c)),
-                                                          (
-                                                            (λ c. tt),
-                                                            (
-                                                              (λ c. (lit< tt, below-c_rd c)),
-                                                              (
-                                                                (λ c. (below-c_rd c, below-c_rd c, below-c_rs2 c)),
-                                                                tt,
-                                                              ),
-                                                            ),
-                                                          ),
-                                                        ),
-                                                      ),
-                                                    ),
-                                                  ),
-                                                ),
-                                              ),
-                                            ),
-                                          ),
-                                        ),
-                                      ),
-                                    ),
-                                  ),
-                                ),
-                              ),
-                            ),
-                          ),
-                        ),
-                      ),
-                    ),
-                  ),
-                ),
-              ),
-            ),
-          ),
-        ),
-      ),
-    ),
-  ),
-)
+compressed_forms_name =
+    two below-c_short_rs2 below-sp
+    also two below-c_short_rs2 below-c_short_rs1
+    also two below-c_short_rs2 below-c_short_rs1
+    also two below-c_short_rs1 below-c_short_rs2
+    also two below-c_short_rs1 below-c_short_rs2
+    also two below-c_rd below-c_rd
+    also two below-c_rd below-c_rd
+    also two below-c_rd below-zero
+    also below-zero
+    also two below-c_short_rs1 below-zero
+    also two below-c_short_rs1 below-zero
+    also two below-sp below-sp
+    also below-c_rd
+    also two below-c_short_rs1 below-c_short_rs1
+    also two below-c_short_rs1 below-c_short_rs1
+    also two below-c_short_rs1 below-c_short_rs1
+    also three below-c_short_rs1 below-c_short_rs1 below-c_short_rs2
+    also three below-c_short_rs1 below-c_short_rs1 below-c_short_rs2
+    also three below-c_short_rs1 below-c_short_rs1 below-c_short_rs2
+    also three below-c_short_rs1 below-c_short_rs1 below-c_short_rs2
+    also three below-c_short_rs1 below-c_short_rs1 below-c_short_rs2
+    also three below-c_short_rs1 below-c_short_rs1 below-c_short_rs2
+    also two below-c_rd below-c_rd
+    also two below-c_rd below-sp
+    also two below-c_rd below-sp
+    also two below-sp below-c_rs2
+    also two below-sp below-c_rs2
+    also two below-zero below-c_rd
+    also three below-c_rd below-zero below-c_rs2
+    also no_names
+    also two below-ra below-c_rd
+    also three below-c_rd below-c_rd below-c_rs2
+    also tt
 
 with_registers : (length : ℕ) (i : Option Ins) → IfSome i HasRegisters → IfSome (option_map (with_length length) i) (λ d. HasRegisters d.0)
 with_registers length (Some i) h = h
@@ -384,3 +169,11 @@ decode-registers word =
     either (word % 4 == 3) _ _
     (with_registers 4 (encoded_in full_forms word) (named full_forms full_forms_name word))
     (with_registers 2 (encoded_in compressed_forms (word % 2 ^ 16)) (named compressed_forms compressed_forms_name (word % 2 ^ 16)))
+
+pub full-registers : (word : ℕ) (i : Ins) → Some i ≡ encoded_in full_forms word → HasRegisters i
+full-registers word i e =
+    subst (λ (o : Option Ins). IfSome o HasRegisters) (sym e) (named full_forms full_forms_name word)
+
+pub compressed-registers : (half : ℕ) (i : Ins) → Some i ≡ encoded_in compressed_forms half → HasRegisters i
+compressed-registers half i e =
+    subst (λ (o : Option Ins). IfSome o HasRegisters) (sym e) (named compressed_forms compressed_forms_name half)

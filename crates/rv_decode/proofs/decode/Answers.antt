@@ -1,0 +1,12 @@
+use Rattle.std.proofs.Common.{◌%◌, ◌^◌}
+use Rattle.vm_defs.proofs.DecodeLaws.{full-registers, compressed-registers}
+use Rattle.rv_decode.proofs.decode.Goals as goal
+
+pub returns-in_ok-instruction-clause-registers : goal.returns-in_ok-instruction-clause-registers
+returns-in_ok-instruction-clause-registers c =
+    full-registers c.args.word c.in_ok-instruction.field-0 c.in_ok-instruction.ensures
+
+pub returns-in_ok-instruction-2-clause-registers :
+    goal.returns-in_ok-instruction-2-clause-registers
+returns-in_ok-instruction-2-clause-registers c =
+    compressed-registers (c.args.word % 2 ^ 16) c.in_ok-instruction-2.field-0 c.in_ok-instruction-2.ensures
