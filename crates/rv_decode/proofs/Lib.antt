@@ -1,1 +1,2 @@
 pub mod RegisterForms
+pub mod FullForms
