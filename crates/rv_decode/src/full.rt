@@ -270,11 +270,11 @@ fn fence(word: u32) -> Option<Ins>
     }
 }
 
-#[tactic(auto, unfolding(vm_defs::specs::Row::encoded_in))]
+#[tactic(auto, unfolding(vm_defs::specs::Row::encoded_in), using(crate::proofs::WholeWord::whole_word))]
 fn system(word: u32) -> Option<Ins>
     ensures { result ≡ encoded_in system_forms word }
 {
-    match word & 0xffff_ffff {
+    match word {
         0x0000_0073 => Some(Ins::Ecall),
         0x0010_0073 => Some(Ins::Ebreak),
         _ => None,

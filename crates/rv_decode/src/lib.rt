@@ -7,7 +7,7 @@
 
 ghost use Rattle.std.specs.Prelude.{◌≡◌, ◌≢◌, ℕ, ◌%◌, ◌^◌, IfSome};
 ghost use Rattle.vm_defs.specs.Instruction.{HasRegisters};
-ghost use Rattle.vm_defs.specs.Decode.{decode};
+ghost use Rattle.vm_defs.specs.Decode.{HasFullForm, decode};
 
 mod compressed;
 mod fields;
@@ -26,6 +26,8 @@ pub fn decode(word: u32) -> Option<(Ins, u8)>
     ensures exact { result ≡ decode word }
     // Of a compressed form the low two bytes alone are read.
     ensures low_half { word % 4 ≢ 3 → (other : ℕ) → other % 2 ^ 16 ≡ word % 2 ^ 16 → decode other ≡ result }
+    // The instruction is a full form, also where a compressed form stands for it.
+    ensures full_form { IfSome result (λ decoded. HasFullForm decoded.0) }
     ensures registers { IfSome result (λ decoded. HasRegisters decoded.0) }
 {
     if word % 4 == 3 {

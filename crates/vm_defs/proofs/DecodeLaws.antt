@@ -24,31 +24,31 @@ decode-low_half word other short same =
 below_32 : (n : ℕ) → n % 32 < 32
 below_32 n = mod_below n 32 (lit< tt)
 
-below-rd : (w : ℕ) → rd w < 32
+pub below-rd : (w : ℕ) → rd w < 32
 unfolding rd bits
 below-rd w = below_32 (w / 2 ^ 7)
 
-below-rs1 : (w : ℕ) → rs1 w < 32
+pub below-rs1 : (w : ℕ) → rs1 w < 32
 unfolding rs1 bits
 below-rs1 w = below_32 (w / 2 ^ 15)
 
-below-rs2 : (w : ℕ) → rs2 w < 32
+pub below-rs2 : (w : ℕ) → rs2 w < 32
 unfolding rs2 bits
 below-rs2 w = below_32 (w / 2 ^ 20)
 
-below-c_rd : (c : ℕ) → c_rd c < 32
+pub below-c_rd : (c : ℕ) → c_rd c < 32
 unfolding c_rd bits
 below-c_rd c = below_32 (c / 2 ^ 7)
 
-below-c_rs2 : (c : ℕ) → c_rs2 c < 32
+pub below-c_rs2 : (c : ℕ) → c_rs2 c < 32
 unfolding c_rs2 bits
 below-c_rs2 c = below_32 (c / 2 ^ 2)
 
-below-c_short_rs1 : (c : ℕ) → c_short_rs1 c < 32
+pub below-c_short_rs1 : (c : ℕ) → c_short_rs1 c < 32
 unfolding c_short_rs1 bits
 below-c_short_rs1 c = let small : c / 2 ^ 7 % 8 < 8 = mod_below (c / 2 ^ 7) 8 (lit< tt) in omega arith
 
-below-c_short_rs2 : (c : ℕ) → c_short_rs2 c < 32
+pub below-c_short_rs2 : (c : ℕ) → c_short_rs2 c < 32
 unfolding c_short_rs2 bits
 below-c_short_rs2 c = let small : c / 2 ^ 2 % 8 < 8 = mod_below (c / 2 ^ 2) 8 (lit< tt) in omega arith
 
@@ -75,13 +75,13 @@ u_names = below-rd
 no_names : (w : ℕ) → Unit {0}
 no_names w = tt
 
-below-zero : (w : ℕ) → zero_register < 32
+pub below-zero : (w : ℕ) → zero_register < 32
 below-zero w = lit< tt
 
-below-ra : (w : ℕ) → return_address < 32
+pub below-ra : (w : ℕ) → return_address < 32
 below-ra w = lit< tt
 
-below-sp : (w : ℕ) → stack_pointer < 32
+pub below-sp : (w : ℕ) → stack_pointer < 32
 below-sp w = lit< tt
 
 -- each row's instructions name registers
@@ -90,7 +90,7 @@ EachNames [] = Unit {0}
 EachNames (row ∷ rows) = ((w : ℕ) → HasRegisters (row.instruction w)) × EachNames rows
 
 infixr 5 ◌also◌
-◌also◌ : {A B : Type 0} → A → B → A × B
+pub ◌also◌ : {A B : Type 0} → A → B → A × B
 first also rest = (first, rest)
 
 one_names : (b : Bool) (i : Ins) (rest : Option Ins) → HasRegisters i → IfSome rest HasRegisters → IfSome (cond b (Some i) rest) HasRegisters
