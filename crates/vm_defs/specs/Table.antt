@@ -195,5 +195,5 @@ system_forms =
 unfoldable pub full_forms : List Row
 full_forms =
     opcode_forms ++ jump_register_forms ++ branch_forms ++ load_forms ++ store_forms
-    ++ immediate_forms ++ shift_forms ++ word_immediate_forms ++ word_shift_forms ++ register_forms ++ word_register_forms
-    ++ fence_forms ++ system_forms
+    ++ immediate_forms ++ shift_forms ++ word_immediate_forms ++ word_shift_forms
+    ++ register_forms ++ word_register_forms ++ fence_forms ++ system_forms

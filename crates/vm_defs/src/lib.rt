@@ -2,8 +2,8 @@
 //! contracts. The machine is RV64IMC (RFC 0003), and its costs are those of RFC 0014.
 //!
 //! - `Ins`: an instruction, with its operands. `Alu`: an operation on two registers.
-//! - specs/Instruction.antt: the fields of a word, its immediates, and what an instruction costs.
-//! - specs/Table.antt and specs/Compressed.antt: the instruction table, a row for each form.
+//! - specs/Instruction.antt: the fields of a word, and what an instruction costs.
+//! - specs/Row.antt, specs/Table.antt, specs/Compressed.antt: the instruction table, a row for each form.
 //!   specs/Decode.antt: the instruction that a word encodes.
 //! - specs/Alu.antt: the values of the operations.
 #![tactic(auto)]
