@@ -17,6 +17,7 @@ use vm_defs::Alu;
 
 /// What the operation gives of two registers. A form with an immediate has it as `b`.
 #[tactic(auto, using(crate::proofs::Wrapping::wrapped))]
+#[inline(always)]
 pub fn op(k: Alu, a: u64, b: u64) -> u64
     ensures { result ≡ value k a b }
 {
