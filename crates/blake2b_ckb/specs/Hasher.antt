@@ -2,7 +2,7 @@
 use Rattle.std.specs.Prelude.{◌≡◌, ℕ, zero, suc, ◌+◌, ◌-◌, ◌*◌, ◌/◌, ◌%◌, ◌^◌, false, List, length, take, drop}
 use Rattle.codec_defs.specs.CkbHash.{compress, initial_state}
 
--- a hash in the making: the state after some whole blocks, the count of their bytes, and the bytes
+-- the state of a hash: that after some whole blocks, the count of their bytes, and the bytes
 -- after them that wait
 pub record Absorbed : Type 0 where
   pub state : List ℕ

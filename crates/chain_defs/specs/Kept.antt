@@ -3,7 +3,7 @@ use Rattle.std.specs.Prelude.{◌≡◌, ℕ, ◌<◌, ◌≤◌, List, [], ◌�
 use Rattle.std.specs.Str.{bytes_eq}
 use Rattle.codec_defs.specs.CkbHash.{ckbhash}
 use Rattle.codec_defs.specs.Shape.{encoded}
-use Rattle.codec_defs.specs.Schema.{Header, header, Block}
+use Rattle.codec_defs.specs.Schema.{header, Block}
 
 -- The hash of a block is that of the 208 bytes of its header (RFC 0027).
 unfoldable pub block_hash : Block → List ℕ
@@ -13,17 +13,17 @@ block_hash block = ckbhash (encoded header block.header)
 abbrev pub find_kept : List Block → List ℕ → Option Block
 find_kept kept hash = find (λ block. bytes_eq (block_hash block) hash) kept
 
--- The tip: a block of the greatest number, and of these the earliest. Each block has one and the same
--- target, so the greatest number is the most work.
-abbrev pub earlier_of : Block → Option Block → Block
-earlier_of block None = block
-earlier_of block (Some later) = if nat_lt block.header.number later.header.number then later else block
+-- The tip: a block of the greatest number, and of these the earliest.
+abbrev pub higher_of : Block → Option Block → Block
+higher_of block None = block
+higher_of block (Some later) = if nat_lt block.header.number later.header.number then later else block
 
 abbrev pub tip : List Block → Option Block
 tip [] = None
-tip (block ∷ later) = Some (earlier_of block (tip later))
+tip (block ∷ later) = Some (higher_of block (tip later))
 
 -- The tip in words: it stands at a place, no number is above its own, and before it each is below.
+-- Law: a block that is the tip stands so at some place (proofs/TipLaw).
 pub record IsTip (kept : List Block) (place : ℕ) (block : Block) : Type 0 where
   pub there : slice_get kept place ≡ Some block
   pub greatest : (i : ℕ) → IfSome (slice_get kept i) (λ other. other.header.number ≤ block.header.number)

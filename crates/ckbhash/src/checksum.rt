@@ -13,6 +13,7 @@ use std::io::{Read, Write};
 const PIECE_LEN: usize = 65536;
 
 /// Reads to the end, and writes the line of what was read. Nothing is written where a read fails.
+/// std does not say when a read or a write fails, so no clause tells when this one does.
 pub fn print_checksum<R: Read, W: Write>(
     alloc: Global,
     input: &mut R,

@@ -284,13 +284,12 @@ cellbase_witness-parts b v a = table-parts b (cellbase_witness_fields v) a.encod
 pub cellbase_witness-inverts : Inverts cellbase_witness
 unfolding cellbase_witness
 cellbase_witness-inverts = record {
-    back = λ b v a.
-        let p = (cellbase_witness-parts b v a).fields in
-        let lock = field-back script script-inverts _ v.lock p.0 in
-        let message = field-back bytes bytes-inverts _ v.message p.1.0 in
-        λ i. record { lock = lock i; message = message i };
+  back = λ b v a.
+      let p = (cellbase_witness-parts b v a).fields in
+      let lock = field-back script script-inverts _ v.lock p.0 in
+      let message = field-back bytes bytes-inverts _ v.message p.1.0 in
+      λ i. record { lock = lock i; message = message i };
 }
-
 
 -- ---- WitnessArgs
 
@@ -304,10 +303,10 @@ witness_args-parts b v a = table-parts b (witness_args_fields v) a.encoding a.fi
 pub witness_args-inverts : Inverts witness_args
 unfolding witness_args
 witness_args-inverts = record {
-    back = λ b v a.
-        let p = (witness_args-parts b v a).fields in
-        let lock = field-back (option bytes) (option-inverts bytes bytes-inverts bytes-some) _ v.lock p.0 in
-        let input_type = field-back (option bytes) (option-inverts bytes bytes-inverts bytes-some) _ v.input_type p.1.0 in
-        let output_type = field-back (option bytes) (option-inverts bytes bytes-inverts bytes-some) _ v.output_type p.1.1.0 in
-        λ i. record { lock = lock i; input_type = input_type i; output_type = output_type i };
+  back = λ b v a.
+      let p = (witness_args-parts b v a).fields in
+      let lock = field-back (option bytes) (option-inverts bytes bytes-inverts bytes-some) _ v.lock p.0 in
+      let input_type = field-back (option bytes) (option-inverts bytes bytes-inverts bytes-some) _ v.input_type p.1.0 in
+      let output_type = field-back (option bytes) (option-inverts bytes bytes-inverts bytes-some) _ v.output_type p.1.1.0 in
+      λ i. record { lock = lock i; input_type = input_type i; output_type = output_type i };
 }

@@ -61,6 +61,13 @@ decoded-iff s law b v = (IsA-decoded s b v, decoded-is s law b v)
 pub decoded-exact : {V : Type 0} (s : Shape V) → Inverts s → (b : List ℕ) (r : Option V) → r ≡ decoded s b → (v : V) → (r ≡ Some v) ↔ IsA s b v
 decoded-exact s law b r is v = subst (λ (o : Option _). (o ≡ Some v) ↔ IsA s b v) (sym is) (decoded-iff s law b v)
 
+-- a round trip, and that bytes encode one value at most
+pub decoded-encoded : {V : Type 0} (s : Shape V) → Inverts s → (v : V) → IsTrue (s.encoding v).fits → decoded s (encoded s v) ≡ Some v
+decoded-encoded s law v f = decoded-is s law (encoded s v) v (record { fits = f; encoding = refl })
+
+pub IsA-unique : {V : Type 0} (s : Shape V) → Inverts s → (b : List ℕ) (v w : V) → IsA s b v → IsA s b w → v ≡ w
+IsA-unique s law b v w a c = sym (law.back b v a) ∙ law.back b w c
+
 -- ---- numbers and arrays
 
 pub byte-inverts : Inverts byte

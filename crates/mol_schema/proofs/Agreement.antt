@@ -1,19 +1,18 @@
 -- What is checked of bytes holds exactly where they encode a value of the shape.
-use Rattle.std.proofs.Common.{◌≡◌, ℕ, zero, suc, ◌+◌, ◌-◌, ◌*◌, ◌^◌, ◌<◌, ◌≤◌, Bool, true, false, cond, eqb, List, [], ◌∷◌, ◌++◌, length, map, take, drop, get_or, Option, Some, None, refl, sym, ap, subst, ◌∙◌, arith, inl, inr}
+use Rattle.std.proofs.Common.{◌≡◌, ℕ, zero, suc, ◌+◌, ◌-◌, ◌*◌, ◌^◌, ◌<◌, Bool, false, eqb, List, [], ◌∷◌, length, map, take, drop, get_or, Option, Some, None, refl, sym, ap, subst, ◌∙◌, arith, inl, inr}
 use Rattle.std.specs.Prelude.{IsTrue, IfSome, ◌↔◌, unwrap_or, slice_get}
 use Rattle.std.specs.Option.{is_some, option_map}
 use Rattle.std.proofs.lemmas.Option.{none-some, slice_get-map}
-use Rattle.std.specs.Int.{w32, w64, to_le_bytes, from_le_bytes}
-use Rattle.std.specs.List.{concat, slice_range, list_all, range_with_len, AllByRecursion}
+use Rattle.std.specs.List.{concat, slice_range, range_with_len, AllByRecursion}
 use Rattle.std.proofs.lemmas.Bool.{and_from, and_parts, ne_eqb, lt-ltb, ltb-true, eq-eqb, eqb-true, cases_lt}
-use Rattle.std.proofs.lemmas.List.{length-take, length-drop, length-map, get_or-drop, get_or-take, get_or_past, nil_from_length}
+use Rattle.std.proofs.lemmas.List.{length-take, length-map, get_or-drop, get_or-take, get_or_past}
 use Rattle.std.proofs.lemmas.Nat.{le_bytes_4, le_bytes_8}
 use Rattle.codec_defs.specs.Molecule as molecule
 use Rattle.codec_defs.specs.Molecule.{IsFixvec, IsDynvec, IsTable}
-use Rattle.codec_defs.specs.Shape.{Encoding, Shape, IsA, encoded, decoded, byte, u32, u64, u128, are_bytes, byte_array, bytes, fixvec, dynvec, option, table, parts, all_fit, part}
-use Rattle.codec_defs.proofs.MoleculeLaws.{IsFixvec_only, IsDynvec_only, length-concat}
+use Rattle.codec_defs.specs.Shape.{Shape, IsA, encoded, decoded, byte, u32, u64, u128, are_bytes, byte_array, bytes, fixvec, dynvec, option, parts, part}
+use Rattle.codec_defs.proofs.MoleculeLaws.{IsFixvec_only, IsDynvec_only, length-concat, length-dynvec}
 use Rattle.codec_defs.proofs.Numbers.{le_bytes_16}
-use Rattle.codec_defs.proofs.ShapeLaws.{Inverts, length-parts, AllFit, AllFit-from, all_fit-from, TableOf, table-whole, table-parts, concat-singles, decoded-is, decoded-none, decoded-exact}
+use Rattle.codec_defs.proofs.ShapeLaws.{Inverts, length-parts, AllFit, AllFit-from, all_fit-from, decoded-is, decoded-none, decoded-exact}
 use Rattle.mol_schema.specs.Checked.{HasLength, IsItems, IsBytes, IsListOf}
 
 -- each is a byte
@@ -139,6 +138,17 @@ sizes_single (b ∷ content) = (refl, sizes_single content)
 -- a fixvec as `items_of_fixvec` reads it
 reads_items : (size : ℕ) (b : List ℕ) (items : List (List ℕ)) → IsFixvec size b items → IsItems size b
 reads_items size b items h = subst (λ (l : List (List ℕ)). IsFixvec size b l) (sym (IsFixvec_only size b items h)) h
+
+pub length-content : (b : List ℕ) → IsItems 1 b → length (drop 4 b) < 2 ^ 32
+length-content b p =
+    let items = molecule.items_of_fixvec 1 b in
+    let content : drop 4 b ≡ concat items = ap (drop 4) p.encoding ∙ content_of items in
+    omega (arith, p.count, ap length content, length-concat 1 items p.sizes)
+
+-- each part has an offset of four bytes
+pub length-items : (b : List ℕ) (items : List (List ℕ)) → IsDynvec b items → length items < 2 ^ 30
+unfolding molecule.full_size molecule.header_size
+length-items b items p = omega (arith, p.size, ap length p.encoding, length-dynvec items)
 
 pub bytes-agrees : Agrees IsBytes bytes
 bytes-agrees = record {

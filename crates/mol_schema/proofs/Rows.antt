@@ -1,8 +1,8 @@
 -- The rows of the schema: what is checked of bytes holds exactly where they encode a value of the row.
-use Rattle.std.proofs.Common.{◌≡◌, ℕ, ◌+◌, ◌-◌, ◌<◌, ◌≤◌, List, [], ◌∷◌, length, take, drop, ap, ◌∙◌, arith}
+use Rattle.std.proofs.Common.{◌≡◌, ℕ, ◌+◌, ◌-◌, ◌≤◌, List, length, drop, ap, ◌∙◌, arith}
 use Rattle.std.specs.List.{slice_range}
 use Rattle.std.proofs.lemmas.List.{length-take, length-drop}
-use Rattle.codec_defs.specs.Shape.{IsA, byte, u32, u64, u128, bytes, fixvec, dynvec, option, part}
+use Rattle.codec_defs.specs.Shape.{byte, u32, u64, u128, bytes, fixvec, dynvec, option, part}
 use Rattle.codec_defs.specs.Schema.{byte32, proposal_short_id, script, out_point, cell_input, cell_dep, cell_output, raw_transaction, transaction, header, uncle_block, block, cellbase_witness, witness_args, out_points}
 use Rattle.codec_defs.proofs.ShapeLaws.{PlacedAt, TableOf, struct-whole, table-whole}
 use Rattle.codec_defs.proofs.SchemaLaws.{is_a, out_point_fields, cell_input_fields, cell_dep_fields, header_fields, script_fields, cell_output_fields, raw_transaction_fields, transaction_fields, uncle_block_fields, block_fields, cellbase_witness_fields, witness_args_fields, script-parts, cell_output-parts, raw_transaction-parts, transaction-parts, uncle_block-parts, block-parts, cellbase_witness-parts, witness_args-parts, out_point-size, cell_input-size, cell_dep-size, header-size}

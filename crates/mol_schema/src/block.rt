@@ -1,6 +1,6 @@
 //! A block and its uncles.
 
-ghost use Rattle.std.specs.Prelude.{◌≡◌, ◌<◌, ◌↔◌, Some, length, slice_get};
+ghost use Rattle.std.specs.Prelude.{◌≡◌, ◌<◌, ◌↔◌, Some, length, slice_get, ◌^◌};
 ghost use Rattle.codec_defs.specs.Shape.{IsA, decoded};
 ghost use Rattle.codec_defs.specs.Schema.{Block, block, UncleBlock, uncle_block};
 ghost use Rattle.mol_schema.specs.Checked.{IsUncleBlock};
@@ -72,14 +72,16 @@ impl<'a> UncleView<'a> {
     }
 
     pub fn proposals_count(&self) -> usize
-        ensures { result ≡ length self.now.proposals }
+        ensures value { result ≡ length self.now.proposals }
+        ensures fits { result < 2 ^ 32 }
     {
         items_len(field::<2>(self.bytes, 1), 10)
     }
 
     pub fn proposals_item(&self, i: usize) -> &'a [u8]
         requires { i < length self.now.proposals }
-        ensures { slice_get self.now.proposals i ≡ Some result.now }
+        ensures at { slice_get self.now.proposals i ≡ Some result.now }
+        ensures len { length result.now ≡ 10 }
     {
         item(field::<2>(self.bytes, 1), 10, i)
     }
@@ -138,7 +140,8 @@ impl<'a> BlockView<'a> {
     }
 
     pub fn uncles_count(&self) -> usize
-        ensures { result ≡ length self.now.uncles }
+        ensures value { result ≡ length self.now.uncles }
+        ensures fits { result < 2 ^ 30 }
     {
         list_len(field::<4>(self.bytes, 1))
     }
@@ -151,7 +154,8 @@ impl<'a> BlockView<'a> {
     }
 
     pub fn transactions_count(&self) -> usize
-        ensures { result ≡ length self.now.transactions }
+        ensures value { result ≡ length self.now.transactions }
+        ensures fits { result < 2 ^ 30 }
     {
         list_len(field::<4>(self.bytes, 2))
     }
@@ -164,14 +168,16 @@ impl<'a> BlockView<'a> {
     }
 
     pub fn proposals_count(&self) -> usize
-        ensures { result ≡ length self.now.proposals }
+        ensures value { result ≡ length self.now.proposals }
+        ensures fits { result < 2 ^ 32 }
     {
         items_len(field::<4>(self.bytes, 3), 10)
     }
 
     pub fn proposals_item(&self, i: usize) -> &'a [u8]
         requires { i < length self.now.proposals }
-        ensures { slice_get self.now.proposals i ≡ Some result.now }
+        ensures at { slice_get self.now.proposals i ≡ Some result.now }
+        ensures len { length result.now ≡ 10 }
     {
         item(field::<4>(self.bytes, 3), 10, i)
     }

@@ -1,6 +1,6 @@
 //! A `Bytes` by itself.
 
-ghost use Rattle.std.specs.Prelude.{◌≡◌, ◌↔◌, ℕ, List, Some};
+ghost use Rattle.std.specs.Prelude.{◌≡◌, ◌↔◌, ℕ, List, Some, ◌^◌, ◌<◌, length};
 ghost use Rattle.codec_defs.specs.Shape.{IsA, decoded, bytes};
 
 use crate::check::is_bytes;
@@ -55,7 +55,8 @@ impl<'a> Bytes<'a> {
 
     /// What it holds: all after the count.
     pub fn content(&self) -> &'a [u8]
-        ensures { result.now ≡ self.now }
+        ensures value { result.now ≡ self.now }
+        ensures fits { length result.now < 2 ^ 32 }
     {
         content(self.bytes)
     }

@@ -1,6 +1,6 @@
 //! A block's header.
 
-ghost use Rattle.std.specs.Prelude.{◌≡◌, ◌↔◌, Some};
+ghost use Rattle.std.specs.Prelude.{◌≡◌, ◌↔◌, Some, length};
 ghost use Rattle.codec_defs.specs.Shape.{IsA, decoded};
 ghost use Rattle.codec_defs.specs.Schema.{Header, header};
 ghost use Rattle.mol_schema.specs.Checked.{HasLength};
@@ -97,31 +97,36 @@ impl<'a> HeaderView<'a> {
     }
 
     pub fn parent_hash(&self) -> &'a [u8]
-        ensures { result.now ≡ self.now.parent_hash }
+        ensures value { result.now ≡ self.now.parent_hash }
+        ensures len { length result.now ≡ 32 }
     {
         &self.bytes[32..64]
     }
 
     pub fn transactions_root(&self) -> &'a [u8]
-        ensures { result.now ≡ self.now.transactions_root }
+        ensures value { result.now ≡ self.now.transactions_root }
+        ensures len { length result.now ≡ 32 }
     {
         &self.bytes[64..96]
     }
 
     pub fn proposals_hash(&self) -> &'a [u8]
-        ensures { result.now ≡ self.now.proposals_hash }
+        ensures value { result.now ≡ self.now.proposals_hash }
+        ensures len { length result.now ≡ 32 }
     {
         &self.bytes[96..128]
     }
 
     pub fn uncles_hash(&self) -> &'a [u8]
-        ensures { result.now ≡ self.now.uncles_hash }
+        ensures value { result.now ≡ self.now.uncles_hash }
+        ensures len { length result.now ≡ 32 }
     {
         &self.bytes[128..160]
     }
 
     pub fn dao(&self) -> &'a [u8]
-        ensures { result.now ≡ self.now.dao }
+        ensures value { result.now ≡ self.now.dao }
+        ensures len { length result.now ≡ 32 }
     {
         &self.bytes[160..192]
     }

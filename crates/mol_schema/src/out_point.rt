@@ -1,6 +1,6 @@
 //! The structs of a transaction: an out-point, an input, a cell dep.
 
-ghost use Rattle.std.specs.Prelude.{◌≡◌, ◌↔◌, Some};
+ghost use Rattle.std.specs.Prelude.{◌≡◌, ◌↔◌, Some, length};
 ghost use Rattle.codec_defs.specs.Shape.{IsA, decoded};
 ghost use Rattle.codec_defs.specs.Schema.{OutPoint, out_point, CellInput, cell_input, CellDep, cell_dep};
 ghost use Rattle.mol_schema.specs.Checked.{HasLength};
@@ -65,7 +65,8 @@ impl<'a> OutPointView<'a> {
 
     /// The transaction's hash, 32 bytes.
     pub fn tx_hash(&self) -> &'a [u8]
-        ensures { result.now ≡ self.now.tx_hash }
+        ensures value { result.now ≡ self.now.tx_hash }
+        ensures len { length result.now ≡ 32 }
     {
         &self.bytes[0..32]
     }

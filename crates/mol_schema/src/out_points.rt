@@ -1,6 +1,6 @@
 //! A list of out-points.
 
-ghost use Rattle.std.specs.Prelude.{◌≡◌, ◌<◌, ◌↔◌, List, Some, length, slice_get};
+ghost use Rattle.std.specs.Prelude.{◌≡◌, ◌<◌, ◌↔◌, List, Some, length, slice_get, ◌^◌};
 ghost use Rattle.codec_defs.specs.Shape.{IsA, decoded};
 ghost use Rattle.codec_defs.specs.Schema.{OutPoint, out_points};
 
@@ -56,7 +56,8 @@ impl<'a> OutPointsView<'a> {
     }
 
     pub fn count(&self) -> usize
-        ensures { result ≡ length self.now }
+        ensures value { result ≡ length self.now }
+        ensures fits { result < 2 ^ 32 }
     {
         items_len(self.bytes, 36)
     }

@@ -1,6 +1,6 @@
 //! The parts of bytes that are known to be an encoding. Nothing is checked again.
 
-ghost use Rattle.std.specs.Prelude.{◌≡◌, ℕ, ◌<◌, ◌==◌, if◌then◌else◌, None, Some, drop, length, slice_get, slice_index};
+ghost use Rattle.std.specs.Prelude.{◌≡◌, ℕ, ◌^◌, ◌<◌, ◌==◌, if◌then◌else◌, None, Some, drop, length, slice_get, slice_index};
 ghost use Rattle.std.specs.Option.{option_copied};
 ghost use Rattle.codec_defs.specs.Molecule.{IsDynvec, IsTable, items_of_fixvec, parts_of};
 ghost use Rattle.codec_defs.specs.Shape.{part};
@@ -28,7 +28,8 @@ pub(crate) fn field<const N: usize>(table: &[u8], i: usize) -> &[u8]
 /// How many items a dynvec has.
 pub(crate) fn list_len(list: &[u8]) -> usize
     requires { IsDynvec list.now (parts_of list.now) }
-    ensures { result ≡ length (parts_of list.now) }
+    ensures value { result ≡ length (parts_of list.now) }
+    ensures fits { result < 2 ^ 30 }
 {
     DynView::of_encoding(list).len()
 }
@@ -46,7 +47,8 @@ pub(crate) fn list_item(list: &[u8], i: usize) -> &[u8]
 /// How many items of `size` bytes a fixvec has.
 pub(crate) fn items_len(items: &[u8], size: usize) -> usize
     requires { IsItems size items.now }
-    ensures { result ≡ length (items_of_fixvec size items.now) }
+    ensures value { result ≡ length (items_of_fixvec size items.now) }
+    ensures fits { result < 2 ^ 32 }
 {
     FixView::of_encoding(items, size).len()
 }
@@ -64,7 +66,8 @@ pub(crate) fn item(items: &[u8], size: usize, i: usize) -> &[u8]
 /// What a `Bytes` holds: all after its count.
 pub(crate) fn content(bytes: &[u8]) -> &[u8]
     requires { IsBytes bytes.now }
-    ensures { result.now ≡ drop 4 bytes.now }
+    ensures value { result.now ≡ drop 4 bytes.now }
+    ensures fits { length result.now < 2 ^ 32 }
 {
     &bytes[4..]
 }

@@ -1,6 +1,6 @@
 //! A script: a program by its hash, and its arguments.
 
-ghost use Rattle.std.specs.Prelude.{◌≡◌, ◌↔◌, Some};
+ghost use Rattle.std.specs.Prelude.{◌≡◌, ◌↔◌, Some, ◌^◌, ◌<◌, length};
 ghost use Rattle.codec_defs.specs.Shape.{IsA, decoded};
 ghost use Rattle.codec_defs.specs.Schema.{Script, script};
 ghost use Rattle.mol_schema.specs.Checked.{IsScript};
@@ -64,7 +64,8 @@ impl<'a> ScriptView<'a> {
     }
 
     pub fn code_hash(&self) -> &'a [u8]
-        ensures { result.now ≡ self.now.code_hash }
+        ensures value { result.now ≡ self.now.code_hash }
+        ensures len { length result.now ≡ 32 }
     {
         field::<3>(self.bytes, 0)
     }
@@ -76,7 +77,8 @@ impl<'a> ScriptView<'a> {
     }
 
     pub fn args(&self) -> &'a [u8]
-        ensures { result.now ≡ self.now.args }
+        ensures value { result.now ≡ self.now.args }
+        ensures fits { length result.now < 2 ^ 32 }
     {
         content(field::<3>(self.bytes, 2))
     }

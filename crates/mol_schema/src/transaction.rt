@@ -1,6 +1,6 @@
 //! A transaction, its outputs, and what its hash is of.
 
-ghost use Rattle.std.specs.Prelude.{◌≡◌, ◌<◌, ◌↔◌, Some, length, slice_get};
+ghost use Rattle.std.specs.Prelude.{◌≡◌, ◌<◌, ◌↔◌, Some, length, slice_get, ◌^◌};
 ghost use Rattle.codec_defs.specs.Shape.{IsA, decoded};
 ghost use Rattle.codec_defs.specs.Schema.{CellOutput, cell_output, RawTransaction, raw_transaction, Transaction, transaction};
 ghost use Rattle.mol_schema.specs.Checked.{IsCellOutput, IsRawTransaction, IsTransaction};
@@ -153,7 +153,8 @@ impl<'a> RawTxView<'a> {
     }
 
     pub fn cell_deps_count(&self) -> usize
-        ensures { result ≡ length self.now.cell_deps }
+        ensures value { result ≡ length self.now.cell_deps }
+        ensures fits { result < 2 ^ 32 }
     {
         items_len(field::<6>(self.bytes, 1), 37)
     }
@@ -166,20 +167,23 @@ impl<'a> RawTxView<'a> {
     }
 
     pub fn header_deps_count(&self) -> usize
-        ensures { result ≡ length self.now.header_deps }
+        ensures value { result ≡ length self.now.header_deps }
+        ensures fits { result < 2 ^ 32 }
     {
         items_len(field::<6>(self.bytes, 2), 32)
     }
 
     pub fn header_deps_item(&self, i: usize) -> &'a [u8]
         requires { i < length self.now.header_deps }
-        ensures { slice_get self.now.header_deps i ≡ Some result.now }
+        ensures at { slice_get self.now.header_deps i ≡ Some result.now }
+        ensures len { length result.now ≡ 32 }
     {
         item(field::<6>(self.bytes, 2), 32, i)
     }
 
     pub fn inputs_count(&self) -> usize
-        ensures { result ≡ length self.now.inputs }
+        ensures value { result ≡ length self.now.inputs }
+        ensures fits { result < 2 ^ 32 }
     {
         items_len(field::<6>(self.bytes, 3), 44)
     }
@@ -192,7 +196,8 @@ impl<'a> RawTxView<'a> {
     }
 
     pub fn outputs_count(&self) -> usize
-        ensures { result ≡ length self.now.outputs }
+        ensures value { result ≡ length self.now.outputs }
+        ensures fits { result < 2 ^ 30 }
     {
         list_len(field::<6>(self.bytes, 4))
     }
@@ -205,14 +210,16 @@ impl<'a> RawTxView<'a> {
     }
 
     pub fn outputs_data_count(&self) -> usize
-        ensures { result ≡ length self.now.outputs_data }
+        ensures value { result ≡ length self.now.outputs_data }
+        ensures fits { result < 2 ^ 30 }
     {
         list_len(field::<6>(self.bytes, 5))
     }
 
     pub fn outputs_data_item(&self, i: usize) -> &'a [u8]
         requires { i < length self.now.outputs_data }
-        ensures { slice_get self.now.outputs_data i ≡ Some result.now }
+        ensures at { slice_get self.now.outputs_data i ≡ Some result.now }
+        ensures fits { length result.now < 2 ^ 32 }
     {
         content(list_item(field::<6>(self.bytes, 5), i))
     }
@@ -279,14 +286,16 @@ impl<'a> TxView<'a> {
     }
 
     pub fn witnesses_count(&self) -> usize
-        ensures { result ≡ length self.now.witnesses }
+        ensures value { result ≡ length self.now.witnesses }
+        ensures fits { result < 2 ^ 30 }
     {
         list_len(field::<2>(self.bytes, 1))
     }
 
     pub fn witnesses_item(&self, i: usize) -> &'a [u8]
         requires { i < length self.now.witnesses }
-        ensures { slice_get self.now.witnesses i ≡ Some result.now }
+        ensures at { slice_get self.now.witnesses i ≡ Some result.now }
+        ensures fits { length result.now < 2 ^ 32 }
     {
         content(list_item(field::<2>(self.bytes, 1), i))
     }

@@ -1,6 +1,6 @@
 //! What the witnesses of a transaction hold.
 
-ghost use Rattle.std.specs.Prelude.{◌≡◌, ◌↔◌, Some};
+ghost use Rattle.std.specs.Prelude.{◌≡◌, ◌↔◌, Some, ◌^◌, ◌<◌, length};
 ghost use Rattle.std.specs.Option.{option_copied};
 ghost use Rattle.codec_defs.specs.Shape.{IsA, decoded};
 ghost use Rattle.codec_defs.specs.Schema.{CellbaseWitness, cellbase_witness, WitnessArgs, witness_args};
@@ -64,7 +64,8 @@ impl<'a> CellbaseWitnessView<'a> {
     }
 
     pub fn message(&self) -> &'a [u8]
-        ensures { result.now ≡ self.now.message }
+        ensures value { result.now ≡ self.now.message }
+        ensures fits { length result.now < 2 ^ 32 }
     {
         content(field::<2>(self.bytes, 1))
     }

@@ -223,3 +223,51 @@ fn cut_blocks(rt: HostRuntime) -> Result<(), Fail> {
     }
     Ok(())
 }
+
+/// What the witnesses hold, and a list of out-points.
+#[test]
+fn witness_fields(rt: HostRuntime) -> Result<(), Fail> {
+    let args = joined(
+        rt.alloc(),
+        &[(
+            "1c00000010000000160000001600000002000000aabb02000000ccdd",
+            0,
+            0,
+        )],
+    )?;
+    let Some(args) = WitnessArgsView::read(&args) else {
+        return Err("no witness args")?;
+    };
+    assert_eq!(rt; args.lock(), Some([0xaa, 0xbb].as_slice()));
+    assert!(rt; args.input_type().is_none());
+    assert_eq!(rt; args.output_type(), Some([0xcc, 0xdd].as_slice()));
+    let witness = joined(
+        rt.alloc(),
+        &[
+            ("460000000c00000041000000", 0, 0),
+            ("35000000100000003000000031000000", 0x44, 32),
+            ("0100000000", 0, 0),
+            ("0100000099", 0, 0),
+        ],
+    )?;
+    let Some(witness) = CellbaseWitnessView::read(&witness) else {
+        return Err("no cellbase witness")?;
+    };
+    assert_eq!(rt; witness.lock().code_hash(), [0x44; 32].as_slice());
+    assert_eq!(rt; witness.message(), [0x99].as_slice());
+    let list = joined(
+        rt.alloc(),
+        &[
+            ("02000000", 0x11, 32),
+            ("05000000", 0x22, 32),
+            ("06000000", 0, 0),
+        ],
+    )?;
+    let Some(list) = OutPointsView::read(&list) else {
+        return Err("no out-points")?;
+    };
+    assert_eq!(rt; list.count(), 2);
+    assert_eq!(rt; list.item(1).tx_hash(), [0x22; 32].as_slice());
+    assert_eq!(rt; list.item(1).index(), 6);
+    Ok(())
+}

@@ -1,23 +1,23 @@
 -- The entries of the kept blocks find the blocks, and the tip moves as blocks join.
-use Rattle.std.proofs.Common.{◌≡◌, ℕ, ◌+◌, ◌≤◌, ◌<◌, List, [], ◌∷◌, ◌++◌, length, map, refl, ap, sym, ◌∙◌, arith, Bool, true, false, cond, zero, suc, subst, get_or}
-use Rattle.std.specs.Prelude.{Option, Some, None, find, is_some, option_map, slice_get, nat_lt, not}
+use Rattle.std.proofs.Common.{◌≡◌, ℕ, ◌≤◌, ◌<◌, List, [], ◌∷◌, ◌++◌, length, map, refl, ap, sym, ◌∙◌, arith, Bool, true, false, cond, zero, suc, subst, get_or, lit<}
+use Rattle.std.specs.Prelude.{Option, Some, None, is_some, option_map, slice_get, nat_lt, not, if◌then◌else◌}
 use Rattle.std.specs.Str.{bytes_eq}
 use Rattle.std.proofs.lemmas.Bool.Decides.{nat_tests}
-use Rattle.std.specs.List.{filter_map, cons_option}
+use Rattle.std.specs.List.{cons_option}
 use Rattle.std.proofs.lemmas.Option.{slice_get_read}
 use Rattle.std.proofs.lemmas.List.{length_push, map-append}
 use Rattle.std.proofs.lemmas.List.Elements.{filter_map-append}
 use Rattle.codec_defs.specs.Shape.{decoded}
 use Rattle.codec_defs.specs.Schema.{Block, block}
-use Rattle.chain_defs.specs.Kept.{block_hash, find_kept, tip, earlier_of}
-use Rattle.rule_defs.specs.Verdict.{is_built, joins, kept_with, verdict_by_parent, verdict_of, verdict_of_block}
+use Rattle.chain_defs.specs.Kept.{block_hash, find_kept, tip, higher_of}
+use Rattle.rule_defs.specs.Verdict.{has_judged_form, joins, kept_with, verdict_by_parent, verdict_of, verdict_of_block}
 use Rattle.report_defs.specs.Report.{kept_from}
-use Rattle.rule_defs.specs.declared.verdict.Verdict.TheVariants.{Known, Unbuilt}
-use Rattle.node_run.specs.Outline.{entry_value, outline_value, find_entry, verdict_by_entry, verdict_by_entries}
+use Rattle.rule_defs.specs.declared.verdict.Verdict.TheVariants.{Known, Refused, Unbuilt}
+use Rattle.node_run.specs.Summary.{entry_value, summary_value, find_entry, verdict_over_entry}
 use Rattle.rule_defs.specs.declared.verdict.Verdict.{Verdict}
-use Rattle.node_run.specs.declared.outline.Entry.{Entry}
-use Rattle.node_run.specs.declared.outline.Outline.{Outline}
-use Rattle.node_run.specs.Kept.{IsIndexed, blocks_of}
+use Rattle.node_run.specs.declared.summary.Entry.{Entry}
+use Rattle.node_run.specs.declared.summary.Summary.{Summary}
+use Rattle.node_run.specs.Kept.{Indexes, AreIndexed, blocks_of}
 
 -- the first entry with a hash is that of the first block with it
 pub find_entry-map : (kept : List Block) (hash : List ℕ) → find_entry (map entry_value kept) hash ≡ option_map entry_value (find_kept kept hash)
@@ -26,20 +26,32 @@ find_entry-map (block ∷ later) hash = by_test (bytes_eq (block_hash block) has
   where
     by_test : (same : Bool) → find_entry (map entry_value later) hash ≡ option_map entry_value (find_kept later hash)
         → cond same (Some (entry_value block)) (find_entry (map entry_value later) hash)
-          ≡ option_map entry_value (cond same (Some block) (find_kept later hash))
+        ≡ option_map entry_value (cond same (Some block) (find_kept later hash))
     by_test true after = refl
     by_test false after = after
 
+-- the verdict by what is known of the block's parent
+abbrev pub verdict_by_entry : Summary → Option Entry → Verdict
+verdict_by_entry summary None = Refused 3
+verdict_by_entry summary (Some parent) = verdict_over_entry parent summary.entry
+
+-- the verdict on a block by its summary and the entries of the kept blocks
+abbrev pub verdict_by_entries : List Entry → Summary → Verdict
+verdict_by_entries entries summary =
+    if is_some (find_entry entries summary.entry.hash) then Known summary.entry.hash
+    else if not summary.has_judged_form then Unbuilt
+    else verdict_by_entry summary (find_entry entries summary.parent_hash)
+
 -- the verdict by entries is that of the rules
-pub verdict_by_entries-is : (kept : List Block) (b : Block) → verdict_by_entries (map entry_value kept) (outline_value b) ≡ verdict_of_block kept b
+pub verdict_by_entries-is : (kept : List Block) (b : Block) → verdict_by_entries (map entry_value kept) (summary_value b) ≡ verdict_of_block kept b
 verdict_by_entries-is kept b =
     rw (find_entry-map kept (block_hash b), find_entry-map kept b.header.parent_hash)
-      (by_found (find_kept kept (block_hash b)) (find_kept kept b.header.parent_hash))
+    (by_found (find_kept kept (block_hash b)) (find_kept kept b.header.parent_hash))
   where
     by_found : (known parent : Option Block)
         → cond (is_some (option_map entry_value known)) (Known (block_hash b))
-            (cond (not (is_built b)) Unbuilt (verdict_by_entry (outline_value b) (option_map entry_value parent)))
-          ≡ cond (is_some known) (Known (block_hash b)) (cond (not (is_built b)) Unbuilt (verdict_by_parent b parent))
+        (cond (not (has_judged_form b)) Unbuilt (verdict_by_entry (summary_value b) (option_map entry_value parent)))
+        ≡ cond (is_some known) (Known (block_hash b)) (cond (not (has_judged_form b)) Unbuilt (verdict_by_parent b parent))
     by_found None None = refl
     by_found None (Some parent) = refl
     by_found (Some known) None = refl
@@ -50,7 +62,7 @@ abbrev pub raised : Option Block → Block → Block
 raised None b = b
 raised (Some top) b = cond (nat_lt top.header.number b.header.number) b top
 
-raised-earlier : (block b : Block) (later : Option Block) → earlier_of block (Some (raised later b)) ≡ raised (Some (earlier_of block later)) b
+raised-earlier : (block b : Block) (later : Option Block) → higher_of block (Some (raised later b)) ≡ raised (Some (higher_of block later)) b
 raised-earlier block b None = refl
 raised-earlier block b (Some top) = grind (arith, nat_tests)
 
@@ -84,29 +96,29 @@ raised_stays (Some top) entry b e lower =
     ap Some (same ∙ ap entry_value (sym stays))
 
 -- a block joins, and its number is greater than the tip's
-pub IsIndexed-raised : (kept : List Block) (entries : List Entry) (place : ℕ) (b : Block) (entry : Entry) → IsIndexed kept entries place
+pub Indexes-raised : (kept : List Block) (entries : List Entry) (place : ℕ) (b : Block) (entry : Entry) → Indexes kept entries place
     → slice_get entries place ≡ Some entry → entry.number < b.header.number
-    → IsIndexed (kept ++ b ∷ []) (entries ++ entry_value b ∷ []) (length entries)
-IsIndexed-raised kept entries place b entry indexed reads higher =
+    → Indexes (kept ++ b ∷ []) (entries ++ entry_value b ∷ []) (length entries)
+Indexes-raised kept entries place b entry indexed reads higher =
     let top : Some entry ≡ option_map entry_value (tip kept) = sym reads ∙ indexed.tip in
     record {
       each = ap (λ es. es ++ entry_value b ∷ []) indexed.each ∙ sym (map-append entry_value kept (b ∷ []));
       there = rw length_push (omega arith);
       tip = slice_get-here entries (entry_value b)
-        ∙ sym (ap (option_map entry_value) (tip-push kept b ∙ ap Some (raised_moves (tip kept) entry b top higher)));
+          ∙ sym (ap (option_map entry_value) (tip-push kept b ∙ ap Some (raised_moves (tip kept) entry b top higher)));
     }
 
 -- a block joins, and the tip stays
-pub IsIndexed-stays : (kept : List Block) (entries : List Entry) (place : ℕ) (b : Block) (entry : Entry) → IsIndexed kept entries place
+pub Indexes-stays : (kept : List Block) (entries : List Entry) (place : ℕ) (b : Block) (entry : Entry) → Indexes kept entries place
     → slice_get entries place ≡ Some entry → b.header.number ≤ entry.number
-    → IsIndexed (kept ++ b ∷ []) (entries ++ entry_value b ∷ []) place
-IsIndexed-stays kept entries place b entry indexed reads lower =
+    → Indexes (kept ++ b ∷ []) (entries ++ entry_value b ∷ []) place
+Indexes-stays kept entries place b entry indexed reads lower =
     let top : Some entry ≡ option_map entry_value (tip kept) = sym reads ∙ indexed.tip in
     record {
       each = ap (λ es. es ++ entry_value b ∷ []) indexed.each ∙ sym (map-append entry_value kept (b ∷ []));
       there = rw length_push (omega (arith, indexed.there));
       tip = slice_get-before entries (entry_value b ∷ []) place indexed.there ∙ reads
-        ∙ raised_stays (tip kept) entry b top lower ∙ sym (ap (option_map entry_value) (tip-push kept b));
+          ∙ raised_stays (tip kept) entry b top lower ∙ sym (ap (option_map entry_value) (tip-push kept b));
     }
 
 -- the blocks of one more item
@@ -117,46 +129,88 @@ blocks_of-push items item = filter_map-append (decoded block) items (item ∷ []
     one None = refl
     one (Some b) = refl
 
+-- the items are blocks, with one more
+blocks-push : (items : List (List ℕ)) (item : List ℕ) (b : Block) → map (decoded block) items ≡ map Some (blocks_of items) → decoded block item ≡ Some b
+    → map (decoded block) (items ++ item ∷ []) ≡ map Some (blocks_of items ++ b ∷ [])
+blocks-push items item b whole is =
+    map-append (decoded block) items (item ∷ []) ∙ ap (λ (fs : List (Option Block)). fs ++ decoded block item ∷ []) whole
+    ∙ ap (λ (f : Option Block). map Some (blocks_of items) ++ f ∷ []) is ∙ sym (map-append Some (blocks_of items) (b ∷ []))
+
+-- the block with this entry
+block_of_entry : (found : Option Block) (entry : Entry) → option_map entry_value found ≡ Some entry → (b : Block) × (found ≡ Some b) × (entry_value b ≡ entry)
+block_of_entry None entry e = absurd (cc)
+block_of_entry (Some b) entry e = (b, refl, (cc))
+
 -- One more item, whose block has this entry: the indexes after it, where the tip moves and where it stays.
-pub IsIndexed-push : (items : List (List ℕ)) (item : List ℕ) (entries : List Entry) (place : ℕ) (entry top : Entry)
-    → IsIndexed (blocks_of items) entries place → option_map entry_value (decoded block item) ≡ Some entry
-    → top ≡ get_or entries place top
-    → (top.number < entry.number → IsIndexed (blocks_of (items ++ item ∷ [])) (entries ++ entry ∷ []) (length entries))
-      × (entry.number ≤ top.number → IsIndexed (blocks_of (items ++ item ∷ [])) (entries ++ entry ∷ []) place)
-IsIndexed-push items item entries place entry top indexed is read =
-    rw (blocks_of-push items item) (by_block (decoded block item) is)
+pub record IndexedWith (items : List (List ℕ)) (entries : List Entry) (entry top : Entry) (place : ℕ) : Type 0 where
+  pub raised : top.number < entry.number → AreIndexed items (entries ++ entry ∷ []) (length entries)
+  pub stays : entry.number ≤ top.number → AreIndexed items (entries ++ entry ∷ []) place
+
+pub AreIndexed-push : (items : List (List ℕ)) (item : List ℕ) (entries : List Entry) (place : ℕ) (entry top : Entry)
+    → AreIndexed items entries place → option_map entry_value (decoded block item) ≡ Some entry
+    → top ≡ get_or entries place top → IndexedWith (items ++ item ∷ []) entries entry top place
+AreIndexed-push items item entries place entry top indexed is read =
+    by_block (block_of_entry (decoded block item) entry is)
   where
     reads : slice_get entries place ≡ Some top
-    reads = slice_get_read entries (length entries) place top refl indexed.there read
+    reads = slice_get_read entries (length entries) place top refl indexed.index.there read
 
-    by_block : (found : Option Block) → option_map entry_value found ≡ Some entry
-        → (top.number < entry.number → IsIndexed (blocks_of items ++ kept_from found) (entries ++ entry ∷ []) (length entries))
-          × (entry.number ≤ top.number → IsIndexed (blocks_of items ++ kept_from found) (entries ++ entry ∷ []) place)
-    by_block None e = absurd (cc)
-    by_block (Some b) e =
-        let same : entry_value b ≡ entry = cc in
-        subst (λ (x : Entry). (top.number < x.number → IsIndexed (blocks_of items ++ b ∷ []) (entries ++ x ∷ []) (length entries))
-            × (x.number ≤ top.number → IsIndexed (blocks_of items ++ b ∷ []) (entries ++ x ∷ []) place))
-          same
-          (λ higher. IsIndexed-raised (blocks_of items) entries place b top indexed reads higher,
-           λ lower. IsIndexed-stays (blocks_of items) entries place b top indexed reads lower)
+    by_block : (b : Block) × (decoded block item ≡ Some b) × (entry_value b ≡ entry) → IndexedWith (items ++ item ∷ []) entries entry top place
+    by_block found =
+        let blocks : blocks_of (items ++ item ∷ []) ≡ blocks_of items ++ found.0 ∷ [] =
+        blocks_of-push items item ∙ ap (λ (f : Option Block). blocks_of items ++ kept_from f) found.1 in
+        let whole : map (decoded block) (items ++ item ∷ []) ≡ map Some (blocks_of (items ++ item ∷ [])) =
+        blocks-push items item found.0 indexed.blocks found.1 ∙ ap (map Some) (sym blocks) in
+        subst (λ (x : Entry). IndexedWith (items ++ item ∷ []) entries x top place) found.2 (record {
+          raised = λ higher. record { blocks = whole; index = rw blocks (Indexes-raised (blocks_of items) entries place found.0 top indexed.index reads higher) };
+          stays = λ lower. record { blocks = whole; index = rw blocks (Indexes-stays (blocks_of items) entries place found.0 top indexed.index reads lower) };
+        })
 
--- what a verdict by entries says of an item that is a block with this outline
+-- a genesis alone
+pub AreIndexed-one : (item : List ℕ) (entry : Entry) → option_map entry_value (decoded block item) ≡ Some entry → AreIndexed (item ∷ []) (entry ∷ []) 0
+AreIndexed-one item entry is =
+    let found = block_of_entry (decoded block item) entry is in
+    let blocks : blocks_of (item ∷ []) ≡ found.0 ∷ [] = ap (λ (f : Option Block). cons_option f []) found.1 in
+    record {
+      blocks = ap (λ (f : Option Block). f ∷ []) found.1 ∙ ap (map Some) (sym blocks);
+      index = rw blocks (subst (λ (x : Entry). Indexes (found.0 ∷ []) (x ∷ []) 0) found.2 (record { each = refl; there = lit< tt; tip = refl }));
+    }
+
+-- the verdict by the entries of the kept blocks
+pub verdict_by_index : (old kept : List Block) (entries : List Entry) (place : ℕ) (b : Block) (summary : Summary) (verdict : Verdict) → Indexes old entries place
+    → old ≡ kept → summary ≡ summary_value b → verdict ≡ verdict_by_entries entries summary → verdict ≡ verdict_of_block kept b
+verdict_by_index old kept entries place b summary verdict indexes seen same by =
+    by ∙ ap (λ (es : List Entry). verdict_by_entries es summary) indexes.each ∙ ap (verdict_by_entries (map entry_value old)) same ∙ verdict_by_entries-is old b
+    ∙ ap (λ (k : List Block). verdict_of_block k b) seen
+
+-- what a verdict says of an item that is a block with this summary
 pub record Judged (kept : List Block) (found : Option Block) (verdict : Verdict) : Type 0 where
   pub is : verdict ≡ verdict_of kept found
   pub left : joins verdict ≡ false → kept ≡ kept_with kept found
   pub joined : joins verdict ≡ true → kept ++ kept_from found ≡ kept_with kept found
 
-pub judged : (kept : List Block) (found : Option Block) (entries : List Entry) (outline : Outline) (verdict : Verdict)
-    → Some outline ≡ option_map outline_value found → entries ≡ map entry_value kept → verdict ≡ verdict_by_entries entries outline
-    → Judged kept found verdict
-judged kept None entries outline verdict is each by = absurd (cc)
-judged kept (Some b) entries outline verdict is each by =
-    let same : outline ≡ outline_value b = cc in
-    let rule : verdict ≡ verdict_of_block kept b =
-        by ∙ ap (λ (es : List Entry). verdict_by_entries es outline) each ∙ ap (verdict_by_entries (map entry_value kept)) same ∙ verdict_by_entries-is kept b in
+pub judged : (kept : List Block) (found : Option Block) (summary : Summary) (verdict : Verdict) → Some summary ≡ option_map summary_value found
+    → ((b : Block) → summary ≡ summary_value b → verdict ≡ verdict_of_block kept b) → Judged kept found verdict
+judged kept None summary verdict is by = absurd (cc)
+judged kept (Some b) summary verdict is by =
+    let same : summary ≡ summary_value b = cc in
+    let rule : verdict ≡ verdict_of_block kept b = by b same in
     record {
       is = rule;
       left = λ no. let test : joins (verdict_of_block kept b) ≡ false = sym (ap joins rule) ∙ no in rw test refl;
       joined = λ yes. let test : joins (verdict_of_block kept b) ≡ true = sym (ap joins rule) ∙ yes in rw test refl;
     }
+
+-- the verdict by entries, where the tests are known
+pub by_known : (entries : List Entry) (summary : Summary) → is_some (find_entry entries summary.entry.hash) ≡ true
+    → Known summary.entry.hash ≡ verdict_by_entries entries summary
+by_known entries summary known = rw known refl
+
+pub by_form : (entries : List Entry) (summary : Summary) → is_some (find_entry entries summary.entry.hash) ≡ false → summary.has_judged_form ≡ false
+    → Unbuilt ≡ verdict_by_entries entries summary
+by_form entries summary new form = rw (new, form) refl
+
+pub by_parent : (entries : List Entry) (summary : Summary) (parent : Option Entry) → is_some (find_entry entries summary.entry.hash) ≡ false
+    → summary.has_judged_form ≡ true → parent ≡ find_entry entries summary.parent_hash
+    → verdict_by_entry summary parent ≡ verdict_by_entries entries summary
+by_parent entries summary parent new form is = rw (new, form) (ap (verdict_by_entry summary) is)

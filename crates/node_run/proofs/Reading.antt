@@ -1,13 +1,11 @@
 -- What was given where the reading of an item stopped.
-use Rattle.std.proofs.Common.{◌≡◌, ◌≢◌, ℕ, ◌+◌, ◌-◌, ◌*◌, ◌≤◌, ◌<◌, ◌⊎◌, inl, inr, List, [], ◌∷◌, ◌++◌, length, take, drop, refl, ap, sym, ◌∙◌, arith, append-nil, length-append, length-drop, length-take-le, take-append-drop}
+use Rattle.std.proofs.Common.{◌≡◌, ℕ, ◌+◌, ◌≤◌, ◌<◌, ◌⊎◌, inl, inr, List, [], ◌++◌, length, take, drop, refl, ap, sym, ◌∙◌, arith, append-nil, length-append, length-drop, length-take-le, take-append-drop}
 use Rattle.std.specs.Prelude.{Option, Some, None}
-use Rattle.std.proofs.lemmas.List.{take-append-le}
 use Rattle.std.proofs.lemmas.Grind.{common_steps}
 use Rattle.std.specs.Int.{w32, from_le_bytes}
 use Rattle.std.specs.Io.KnownBytes.{IsAtEnd}
-use Rattle.report_defs.specs.Items.{IsItem, size_word, end_at}
+use Rattle.report_defs.specs.Items.{IsItem, size_word}
 use Rattle.report_defs.specs.Report.{import_limits}
-use Rattle.report_defs.specs.declared.end.End.{End}
 use Rattle.report_defs.specs.declared.end.End.TheVariants.{AtEnd, Cut, BadSize, Extra}
 use Rattle.report_defs.proofs.ItemLemmas.{size_word-append, end_at-nothing, end_at-few, end_at-bad_size, end_at-extra, end_at-front}
 use Rattle.node_run.specs.Items.{HoldsOneAtMost, IsItemAt, EndsAt}
@@ -164,3 +162,7 @@ read_whole offset size n word item four is least most within long front all =
 -- what a `Vec` holds after a write of its whole length
 pub written_whole : (n : ℕ) (new old : List ℕ) → length new ≡ n → take n (new ++ drop (length new) old) ≡ new
 written_whole n new old e = grind (arith, common_steps)
+
+-- an item holds no other behind it
+pub one_item : (item : List ℕ) → IsItem import_limits item → HoldsOneAtMost item
+one_item item is_item = no_more_than_one item (omega (arith, is_item.size))

@@ -1,7 +1,6 @@
--- What the parts of `import` come to: what the source gave, what the sink took, and what is kept.
-use Rattle.std.specs.Prelude.{◌≡◌, ◌⊎◌, ℕ, ◌+◌, ◌≤◌, List, [], ◌∷◌, ◌++◌, length, Option, Some, None, Result, Ok, Err}
+-- The parts of `import`: what the source gave in each, what the sink took, and what is kept.
+use Rattle.std.specs.Prelude.{◌≡◌, ◌⊎◌, ℕ, ◌+◌, ◌≤◌, List, [], ◌++◌, length, Option, Some, None, Result, Ok, Err}
 use Rattle.std.specs.List.{concat, list_any, AllByRecursion}
-use Rattle.std.specs.Io.KnownBytes.{IsAtEnd}
 use Rattle.outside.specs.Streams.{Gives, Takes}
 use Rattle.codec_defs.specs.Shape.{decoded}
 use Rattle.codec_defs.specs.Schema.{Block, block}
@@ -10,13 +9,13 @@ use Rattle.rule_defs.specs.declared.verdict.Verdict.{Verdict}
 use Rattle.rule_defs.specs.Genesis.{broken_genesis_rule}
 use Rattle.rule_defs.specs.Verdict as rules
 use Rattle.report_defs.specs.declared.status.Status.{Status}
-use Rattle.report_defs.specs.declared.status.Status.TheVariants.{InputFault, SinkFault, NoMemory, CutInput, BadGenesis}
+use Rattle.report_defs.specs.declared.status.Status.TheVariants.{InputFault, NoMemory, CutInput, BadGenesis}
 use Rattle.report_defs.specs.declared.end.End.{End}
 use Rattle.report_defs.specs.Items.{IsItem}
 use Rattle.report_defs.specs.Text.{line, tip_line}
 use Rattle.report_defs.specs.Report.{import_limits, kept_from, verdicts_over, lines_over, kept_over}
 use Rattle.report_defs.specs.Promise.{IsPrefix}
-use Rattle.node_run.specs.Items.{HoldsOneAtMost, IsItemAt, EndsAt, IsReadingStop, IsWritingStop, IsStop}
+use Rattle.node_run.specs.Items.{HoldsOneAtMost, IsItemAt, EndsAt, IsWritingStop, IsStop}
 use Rattle.node_run.specs.declared.import.Ended.{Ended}
 
 -- the sink took some bytes, and P holds of them
@@ -46,11 +45,18 @@ IsGenesis left (Err InputFault) given = HoldsOneAtMost given
 IsGenesis left (Err NoMemory) given = HoldsOneAtMost given
 IsGenesis left (Err _) given = ⊥
 
--- an item was judged, and the sink took its line or a part of it
-abbrev pub IsImported : List Block → List Block → List ℕ → Result Verdict Status → List ℕ → Type 0
-IsImported old new item (Ok verdict) taken =
-    (verdict ≡ rules.verdict old item) × (new ≡ rules.kept_after old item) × (taken ≡ line (rules.verdict old item))
-IsImported old new item (Err status) taken = IsWritingStop status × IsPrefix taken (line (rules.verdict old item))
+-- a text was taken, or a part of it
+abbrev pub IsWritten : {V : Type 0} → List ℕ → Result V Status → List ℕ → Type 0
+IsWritten text (Ok v) taken = taken ≡ text
+IsWritten text (Err status) taken = IsWritingStop status × IsPrefix taken text
+
+abbrev pub tip_line_of_kept : List Block → List ℕ
+tip_line_of_kept kept = tip_line (tip kept)
+
+-- an item was judged
+abbrev pub IsJudged : List Block → List Block → List ℕ → Result Verdict Status → Type 0
+IsJudged old new item (Ok verdict) = (verdict ≡ rules.verdict old item) × (new ≡ rules.kept_after old item)
+IsJudged old new item (Err status) = Unit {0}
 
 -- Items from an offset on, all but the last with their lines: what was given behind them, and what was taken behind those lines.
 pub record Progress (kept : List Block) (offset : ℕ) (items : List (List ℕ)) (part piece given taken : List ℕ) : Type 0 where
@@ -79,8 +85,3 @@ pub record AreImported (old new : List Block) (offset : ℕ) (left : Option (Lis
   pub piece : List ℕ
   pub progress : Progress old offset items part piece given taken
   pub end : IsEnd old new offset left result items part piece
-
--- the line of the tip was taken, or a part of it
-abbrev pub IsTipWritten : List Block → Result Unit Status → List ℕ → Type 0
-IsTipWritten kept (Ok _) taken = taken ≡ tip_line (tip kept)
-IsTipWritten kept (Err status) taken = IsWritingStop status × IsPrefix taken (tip_line (tip kept))

@@ -1,4 +1,4 @@
--- What reading the next item comes to: which bytes the source gave for it.
+-- The next item of an input: which bytes the source gave for it.
 use Rattle.std.specs.Prelude.{◌≡◌, ℕ, ◌+◌, ◌≤◌, List, [], ◌++◌, length, Option, Some, Result, Ok, Err}
 use Rattle.std.specs.Io.KnownBytes.{IsAtEnd}
 use Rattle.outside.specs.Streams.{Gives}

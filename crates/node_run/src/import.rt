@@ -1,11 +1,13 @@
 // The command `import`: a genesis and blocks, each answered by a line.
-ghost use Rattle.std.specs.Prelude.{◌≡◌, ◌+◌, ◌≤◌, Err};
+ghost use Rattle.std.specs.Prelude.{◌≡◌, ◌↔◌, ◌≤◌, Err, IsTrue};
 ghost use Rattle.outside.specs.Causes.{Rose};
 ghost use Rattle.rule_defs.specs.Verdict as rules;
+ghost use Rattle.report_defs.specs.Text.{line};
 ghost use Rattle.report_defs.specs.Report.{import_limits, report_of_input};
-ghost use Rattle.report_defs.specs.Promise.{TellsReport, ImportsInOrder};
+ghost use Rattle.node_run.specs.Import.{tip_line_of_kept};
+ghost use Rattle.report_defs.specs.Promise.{TellsReport, ImportsInOrder, IsImportStatus};
 ghost use Rattle.node_run.specs.Items.{Gave};
-ghost use Rattle.node_run.specs.Import.{Took, Passed, IsGenesis, IsImported, AreImported, IsTipWritten};
+ghost use Rattle.node_run.specs.Import.{Took, Passed, IsGenesis, IsWritten, IsJudged, AreImported};
 
 use crate::items::{Next, next_item};
 use crate::kept::{GenesisError, Kept};
@@ -41,6 +43,18 @@ fn read_genesis<S: Source>(alloc: Global, input: &mut S) -> Result<(Kept, u64), 
     }
 }
 
+/// Hands all of a text to the sink.
+fn write_text<K: Sink>(out: &mut K, text: &[u8]) -> Result<(), Status>
+    ensures written { Took (K.taken out.old) (K.taken out.new) (IsWritten text.now result) }
+    ensures later { K.faults out.old ≤ K.faults out.new }
+    ensures fault { result ≡ Err Status.SinkFault → Rose (K.faults out.old) (K.faults out.new) }
+{
+    match write_all(out, text) {
+        Ok(()) => Ok(()),
+        Err(_) => Err(Status::SinkFault),
+    }
+}
+
 /// Judges an item and writes its line.
 fn import_item<K: Sink>(
     alloc: Global,
@@ -48,7 +62,8 @@ fn import_item<K: Sink>(
     kept: &mut Kept,
     item: Vec<u8>,
 ) -> Result<Verdict, Status>
-    ensures imported { Took (K.taken out.old) (K.taken out.new) (IsImported kept.old kept.new item.items result) }
+    ensures judged { IsJudged kept.old kept.new item.items result }
+    ensures written { Took (K.taken out.old) (K.taken out.new) (IsWritten (line (rules.verdict kept.old item.items)) result) }
     ensures later { K.faults out.old ≤ K.faults out.new }
     ensures fault { result ≡ Err Status.SinkFault → Rose (K.faults out.old) (K.faults out.new) }
 {
@@ -60,21 +75,9 @@ fn import_item<K: Sink>(
         Ok(text) => text,
         Err(_) => return Err(Status::NoMemory),
     };
-    match write_all(out, text.as_bytes()) {
+    match write_text(out, text.as_bytes()) {
         Ok(()) => Ok(verdict),
-        Err(_) => Err(Status::SinkFault),
-    }
-}
-
-/// Whether an item was refused: it broke a rule, or its form is not judged yet.
-fn is_refusal(verdict: &Verdict) -> bool
-    ensures { result ≡ rules.refuses verdict.now }
-{
-    match verdict {
-        Verdict::Joined(_, _) => false,
-        Verdict::Known(_) => false,
-        Verdict::Refused(_) => true,
-        Verdict::Unbuilt => true,
+        Err(status) => Err(status),
     }
 }
 
@@ -108,13 +111,13 @@ fn import_items<S: Source, K: Sink>(
             Err(status) => return Err(status),
         };
         offset += size;
-        refused = refused || is_refusal(&verdict);
+        refused = refused || verdict.refuses();
     }
 }
 
 /// Writes the line of the tip.
 fn write_tip<K: Sink>(alloc: Global, out: &mut K, kept: &Kept) -> Result<(), Status>
-    ensures tip { Took (K.taken out.old) (K.taken out.new) (IsTipWritten kept.now result) }
+    ensures tip { Took (K.taken out.old) (K.taken out.new) (IsWritten (tip_line_of_kept kept.now) result) }
     ensures later { K.faults out.old ≤ K.faults out.new }
     ensures fault { result ≡ Err Status.SinkFault → Rose (K.faults out.old) (K.faults out.new) }
 {
@@ -123,21 +126,30 @@ fn write_tip<K: Sink>(alloc: Global, out: &mut K, kept: &Kept) -> Result<(), Sta
         Ok(text) => text,
         Err(_) => return Err(Status::NoMemory),
     };
-    match write_all(out, text.as_bytes()) {
-        Ok(()) => Ok(()),
-        Err(_) => Err(Status::SinkFault),
+    write_text(out, text.as_bytes())
+}
+
+/// Whether the input ended between two items.
+fn is_between_items(end: End) -> bool
+    ensures { IsTrue result ↔ (end ≡ End.AtEnd) }
+{
+    match end {
+        End::AtEnd => true,
+        End::Cut => false,
+        End::BadSize => false,
+        End::Extra => false,
     }
 }
 
 /// Imports what the input holds.
 pub fn import<S: Source, K: Sink>(alloc: Global, input: &mut S, out: &mut K) -> Status
-    ensures report { Passed (S.left input.old) (S.left input.new) (K.taken out.old) (K.taken out.new)
-        (λ given taken. TellsReport report_of_input given (S.left input.new) taken result) }
-    ensures order { Passed (S.left input.old) (S.left input.new) (K.taken out.old) (K.taken out.new)
-        (λ given taken. ImportsInOrder given (S.left input.new) taken result) }
+    ensures text { Passed (S.left input.old) (S.left input.new) (K.taken out.old) (K.taken out.new)
+        (λ given taken. TellsReport report_of_input given (S.left input.new) taken result × ImportsInOrder given (S.left input.new) taken result) }
+    ensures status { IsImportStatus result }
+    ensures input_later { S.faults input.old ≤ S.faults input.new }
+    ensures out_later { K.faults out.old ≤ K.faults out.new }
     ensures input_fault { result ≡ Status.InputFault → Rose (S.faults input.old) (S.faults input.new) }
     ensures sink_fault { result ≡ Status.SinkFault → Rose (K.faults out.old) (K.faults out.new) }
-    ensures no_disk_fault { result ≡ Status.DiskFault → ⊥ }
 {
     let (mut kept, start) = match read_genesis(alloc, input) {
         Ok(genesis) => genesis,
@@ -147,12 +159,15 @@ pub fn import<S: Source, K: Sink>(alloc: Global, input: &mut S, out: &mut K) -> 
         Ok(ended) => ended,
         Err(status) => return status,
     };
-    if ended.end != End::AtEnd {
+    if !is_between_items(ended.end) {
         return Status::CutInput;
     }
-    match write_tip(alloc, out, &kept) {
-        Ok(()) if ended.refused => Status::SomeRefused,
-        Ok(()) => Status::Done,
-        Err(status) => status,
+    if let Err(status) = write_tip(alloc, out, &kept) {
+        return status;
+    }
+    if ended.refused {
+        Status::SomeRefused
+    } else {
+        Status::Done
     }
 }

@@ -61,9 +61,6 @@ fn item_of_word<S: Source>(
     if size < 4 || size > ITEM_LIMIT {
         return Ok(Next::End(End::BadSize));
     }
-    if offset + size as u64 > INPUT_LIMIT {
-        return Ok(Next::End(End::Extra));
-    }
     item_of_size(alloc, input, offset, word, size)
 }
 
@@ -71,18 +68,21 @@ fn item_of_word<S: Source>(
 fn item_of_size<S: Source>(
     alloc: Global,
     input: &mut S,
-    _offset: u64,
+    offset: u64,
     word: &[u8; 4],
     size: usize,
 ) -> Result<Next, Status>
     requires word { from_le_bytes w32 word.now ≡ size }
     requires least { 4 ≤ size }
     requires most { size ≤ import_limits.item }
-    requires within { _offset + size ≤ import_limits.input }
-    ensures next { Gave (S.left input.old) (S.left input.new) (λ given. IsNext _offset (S.left input.new) result (word.now ++ given)) }
+    requires within { offset ≤ import_limits.input }
+    ensures next { Gave (S.left input.old) (S.left input.new) (λ given. IsNext offset (S.left input.new) result (word.now ++ given)) }
     ensures later { S.faults input.old ≤ S.faults input.new }
     ensures fault { result ≡ Err Status.InputFault → Rose (S.faults input.old) (S.faults input.new) }
 {
+    if offset + size as u64 > INPUT_LIMIT {
+        return Ok(Next::End(End::Extra));
+    }
     let mut item = match vec![in alloc; 0u8; size] {
         Ok(item) => item,
         Err(_) => return Err(Status::NoMemory),

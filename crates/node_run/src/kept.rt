@@ -7,11 +7,10 @@ ghost use Rattle.chain_defs.specs.Kept as chain;
 ghost use Rattle.rule_defs.specs.Genesis.{broken_genesis_rule};
 ghost use Rattle.rule_defs.specs.Verdict as rules;
 ghost use Rattle.report_defs.specs.Report.{kept_from};
-ghost use Rattle.node_run.specs.Outline as outlines;
-ghost use Rattle.node_run.specs.Outline.{entry_value, verdict_by_entries};
-ghost use Rattle.node_run.specs.Kept.{blocks_of, IsIndexed};
+ghost use Rattle.node_run.specs.Summary as summaries;
+ghost use Rattle.node_run.specs.Summary.{entry_value, summary_value, verdict_over_entry};
 
-use crate::outline::{Entry, Outline, genesis_entry, outline_of};
+use crate::summary::{Entry, Summary, genesis_entry, summary_of};
 use outside::NoMemory;
 use rule_defs::Verdict;
 use std::alloc::Global;
@@ -27,7 +26,7 @@ pub enum GenesisError {
 
 /// The first entry with this hash.
 fn find_entry(entries: &[Entry], hash: &[u8; 32]) -> Option<Entry>
-    ensures { result ≡ outlines.find_entry entries.now hash.now }
+    ensures { result ≡ summaries.find_entry entries.now hash.now }
 {
     'entries: for entry in entries {
         if entry.hash == *hash {
@@ -43,36 +42,14 @@ fn is_next(number: u64, parent: u64) -> bool
     0 < number && number - 1 == parent
 }
 
-/// The verdict on a block over the kept blocks, of which these are the entries.
-fn judge(entries: &[Entry], outline: &Outline) -> Verdict
-    ensures { result ≡ verdict_by_entries entries.now outline.now }
+/// The verdict on a block over its parent.
+fn verdict_over(parent: &Entry, entry: &Entry) -> Verdict
+    ensures { result ≡ verdict_over_entry parent.now entry.now }
 {
-    let hash = outline.entry.hash;
-    if find_entry(entries, &hash).is_some() {
-        return Verdict::Known(hash);
-    }
-    if !outline.built {
-        return Verdict::Unbuilt;
-    }
-    let Some(parent) = find_entry(entries, &outline.parent_hash) else {
-        return Verdict::Refused(3);
-    };
-    if is_next(outline.entry.number, parent.number) {
-        Verdict::Joined(outline.entry.number, hash)
+    if is_next(entry.number, parent.number) {
+        Verdict::Joined(entry.number, entry.hash)
     } else {
         Verdict::Refused(5)
-    }
-}
-
-/// Whether an item of this verdict is kept from now on.
-fn joins(verdict: &Verdict) -> bool
-    ensures { result ≡ rules.joins verdict.now }
-{
-    match verdict {
-        Verdict::Joined(_, _) => true,
-        Verdict::Known(_) => false,
-        Verdict::Refused(_) => false,
-        Verdict::Unbuilt => false,
     }
 }
 
@@ -87,13 +64,13 @@ pub struct Kept {
 impl Model for Kept {
     ghost use Rattle.std.specs.Prelude.{List, map};
     ghost use Rattle.codec_defs.specs.Schema.{Block};
-    ghost use Rattle.node_run.specs.Kept.{blocks_of, IsIndexed};
+    ghost use Rattle.node_run.specs.Kept.{blocks_of, AreIndexed};
 
     ghost Value = { List Block };
 
     ghost view = { λ kept. blocks_of (map (λ item. item.items) kept.blocks.items) };
 
-    ghost invariant = { λ kept. IsIndexed (blocks_of (map (λ item. item.items) kept.blocks.items)) kept.entries.items kept.tip };
+    ghost invariant = { λ kept. AreIndexed (map (λ item. item.items) kept.blocks.items) kept.entries.items kept.tip };
 }
 
 impl Kept {
@@ -129,20 +106,37 @@ impl Kept {
         self.entries[self.tip]
     }
 
+    /// The verdict on a block with this summary.
+    fn judge(&self, summary: &Summary) -> Verdict
+        ensures { (b : Block) → summary.now ≡ summary_value b → result ≡ rules.verdict_of_block self.now b }
+    {
+        let hash = summary.entry.hash;
+        if find_entry(&self.entries, &hash).is_some() {
+            return Verdict::Known(hash);
+        }
+        if !summary.has_judged_form {
+            return Verdict::Unbuilt;
+        }
+        match find_entry(&self.entries, &summary.parent_hash) {
+            None => Verdict::Refused(3),
+            Some(parent) => verdict_over(&parent, &summary.entry),
+        }
+    }
+
     /// Judges an item, and keeps it where it joins.
     pub fn import(&mut self, item: Vec<u8>) -> Result<Verdict, NoMemory>
         ensures verdict { IfOk result (λ verdict. verdict ≡ rules.verdict self.old item.items) }
         ensures kept { OnOk result (self.new ≡ rules.kept_after self.old item.items) }
         ensures err { OnErr result (self.new ≡ self.old) }
     {
-        let Some(outline) = outline_of(&item) else {
+        let Some(summary) = summary_of(&item) else {
             return Ok(Verdict::Refused(1));
         };
-        let verdict = judge(&self.entries, &outline);
-        if !joins(&verdict) {
+        let verdict = self.judge(&summary);
+        if !verdict.joins() {
             return Ok(verdict);
         }
-        self.push(item, outline.entry)?;
+        self.push(item, summary.entry)?;
         Ok(verdict)
     }
 

@@ -1,7 +1,17 @@
+//! One run of the program: its words, its input item by item, its text and its status.
+//!
+//! [`run`] is the one call. Its contract says what the sink takes and how the run ends, by the
+//! report that `report_defs` defines, for every source, sink and disk. Streams and files of the
+//! machine are left to `outside_os`, and `main` to the program `ckbdev`.
 #![tactic(auto)]
-pub mod import;
-pub mod items;
-pub mod kept;
-pub mod lines;
-pub mod outline;
-pub mod words;
+
+mod import;
+mod items;
+mod kept;
+mod lines;
+mod summary;
+mod top;
+mod words;
+
+pub use report_defs::Status;
+pub use top::run;

@@ -55,7 +55,7 @@ IsDurable area images now = (image : Image) → images image → content area im
 abbrev pub OthersRead : Area → Option Image → Option Image → Type 0
 OthersRead area old new = (bytes : List ℕ) × (new ≡ option_map (with_content area bytes) old)
 
--- Time goes on: a crash since a moment might have left what it might have left before the call, or what it may leave now.
+-- A call moves the clock on: a crash since a moment might have left what it might have left before the call, or what it may leave now.
 pub record Elapses (before now : ℕ) (past since : ℕ → Image → Type 0) (images : Image → Type 0) : Type 0 where
   pub later : before ≤ now
   pub nothing_else : (t : ℕ) (image : Image) → t ≤ before → since t image → past t image ⊎ images image

@@ -2,7 +2,7 @@
 use Rattle.std.proofs.Common.{◌≡◌, ℕ, zero, suc, ◌+◌, ◌≤◌, ◌<◌, List, [], ◌∷◌, ◌++◌, length, take, drop, refl, ap, sym, ◌∙◌, arith, append_assoc, length-append, add-zero, zero-add, subst, length-drop, take-append-drop, length-take-le, take-take, ◌⊎◌, inl, inr}
 use Rattle.std.specs.Prelude.{Option, Some, None}
 use Rattle.std.specs.List.{concat, AllByRecursion}
-use Rattle.std.proofs.lemmas.List.{take-append-le, drop-append-le}
+use Rattle.std.proofs.lemmas.List.{take-append-le}
 use Rattle.std.proofs.lemmas.Bool.Decides.{nat_tests}
 use Rattle.std.proofs.lemmas.Grind.{common_steps}
 use Rattle.report_defs.specs.Items.{Limits, IsItem, size_word, end_at, Split, IsSplit, split_of, split_from, put_front}
@@ -50,7 +50,7 @@ split_from-is (suc n) limits offset (item ∷ items) rest end all fits ends enou
     let place : offset + length (item ++ concat items) ≡ (offset + length item) + length (concat items) = omega (arith, long) in
     rw append_assoc
     (split_from-item n limits offset item (concat items ++ rest) all.0 (omega (arith, long))
-      ∙ ap (put_front item) (split_from-is n limits (offset + length item) items rest end all.1 (omega (arith, long)) (rw place at ends) (omega (arith, long))))
+    ∙ ap (put_front item) (split_from-is n limits (offset + length item) items rest end all.1 (omega (arith, long)) (rw place at ends) (omega (arith, long))))
 
 -- `split_of` gives each split of an input
 pub split_of-is : (limits : Limits) (input : List ℕ) (split : Split) → IsSplit limits input split → split_of limits input ≡ split
@@ -58,7 +58,7 @@ unfolding split_of
 split_of-is limits input split is =
     let enough : length (concat split.items) < suc (length input) = rw (is.whole, length-append) (omega arith) in
     ap (split_from (suc (length input)) limits 0) is.whole
-      ∙ split_from-is (suc (length input)) limits 0 split.items split.rest split.end is.items (rw zero-add is.within) (rw zero-add is.ends) enough
+    ∙ split_from-is (suc (length input)) limits 0 split.items split.rest split.end is.items (rw zero-add is.within) (rw zero-add is.ends) enough
 
 -- ---- How the reading ends
 
@@ -123,7 +123,7 @@ IsItem-take limits offset bytes whole =
     }
 
 -- from an offset on, bytes are the items of their split and its rest
-record Splits (limits : Limits) (offset : ℕ) (bytes : List ℕ) (split : Split) : Type 0 where
+pub record Splits (limits : Limits) (offset : ℕ) (bytes : List ℕ) (split : Split) : Type 0 where
   pub whole : bytes ≡ concat split.items ++ split.rest
   pub items : AllByRecursion (IsItem limits) split.items
   pub within : offset + length (concat split.items) ≤ limits.input
@@ -141,7 +141,7 @@ splits_front limits offset item bytes split is_item after =
       ends = rw place after.ends;
     }
 
-split_from-splits : (n : ℕ) (limits : Limits) (offset : ℕ) (bytes : List ℕ) → length bytes < n → offset ≤ limits.input
+pub split_from-splits : (n : ℕ) (limits : Limits) (offset : ℕ) (bytes : List ℕ) → length bytes < n → offset ≤ limits.input
     → Splits limits offset bytes (split_from n limits offset bytes)
 split_from-splits zero limits offset bytes enough fits = absurd (omega arith)
 split_from-splits (suc n) limits offset bytes enough fits =
@@ -167,8 +167,8 @@ split_from-splits (suc n) limits offset bytes enough fits =
         let joined : item ++ more ≡ bytes = take-append-drop size bytes in
         let after = after_splits (offset + length item) more left (rw long whole.within) in
         subst (λ bs. Splits limits offset bs (split_from (suc n) limits offset bs)) joined
-          (rw (split_from-item n limits offset item more is_item (rw long whole.within))
-            (splits_front limits offset item more (split_from n limits (offset + length item) more) is_item after))
+        (rw (split_from-item n limits offset item more is_item (rw long whole.within))
+        (splits_front limits offset item more (split_from n limits (offset + length item) more) is_item after))
 
 -- `split_of` gives a split of every input
 pub split_of-splits : (limits : Limits) (input : List ℕ) → IsSplit limits input (split_of limits input)
@@ -181,3 +181,34 @@ split_of-splits limits input =
       within = rw zero-add at splits.within;
       ends = rw zero-add at splits.ends;
     }
+
+concat-append : (xs ys : List (List ℕ)) → concat (xs ++ ys) ≡ concat xs ++ concat ys
+concat-append [] ys = refl
+concat-append (x ∷ xs) ys = ap (λ bs. x ++ bs) (concat-append xs ys) ∙ sym (append_assoc x (concat xs) (concat ys))
+
+pub all_items-append : (limits : Limits) (xs ys : List (List ℕ)) → AllByRecursion (IsItem limits) xs → AllByRecursion (IsItem limits) ys
+    → AllByRecursion (IsItem limits) (xs ++ ys)
+all_items-append limits [] ys all more = more
+all_items-append limits (x ∷ xs) ys all more = (all.0, all_items-append limits xs ys all.1 more)
+
+-- items, and then what the rest is cut into from their end on
+pub split_of-append : (limits : Limits) (items : List (List ℕ)) (tail : List ℕ) → AllByRecursion (IsItem limits) items
+    → length (concat items) ≤ limits.input
+    → (split : Split) × Splits limits (length (concat items)) tail split
+    × (split_of limits (concat items ++ tail) ≡ record { items = items ++ split.items; rest = split.rest; end = split.end })
+split_of-append limits items tail all fits =
+    let split = split_from (suc (length tail)) limits (length (concat items)) tail in
+    let after = split_from-splits (suc (length tail)) limits (length (concat items)) tail (omega arith) fits in
+    let joined = concat-append items split.items in
+    let place : length (concat (items ++ split.items)) ≡ length (concat items) + length (concat split.items) =
+    ap length joined ∙ length-append (concat items) (concat split.items) in (
+      split,
+      after,
+      split_of-is limits (concat items ++ tail) (record { items = items ++ split.items; rest = split.rest; end = split.end }) (record {
+        whole = ap (λ bs. concat items ++ bs) after.whole ∙ sym (append_assoc (concat items) (concat split.items) split.rest)
+            ∙ ap (λ bs. bs ++ split.rest) (sym joined);
+        items = all_items-append limits items split.items all after.items;
+        within = rw place after.within;
+        ends = rw place after.ends;
+      }),
+    )

@@ -1,5 +1,5 @@
 -- How an input is cut into items. An item begins with its size as a little-endian u32, which counts itself.
-use Rattle.std.specs.Prelude.{◌≡◌, ℕ, zero, suc, ◌+◌, ◌≤◌, ◌<◌, List, [], ◌∷◌, ◌++◌, length, take, drop, Option, Some, None, IsTrue, nat_lt, ◌==◌, ◌||◌, if◌then◌else◌, All}
+use Rattle.std.specs.Prelude.{◌≡◌, ℕ, zero, suc, ◌+◌, ◌≤◌, List, [], ◌∷◌, ◌++◌, length, take, drop, Option, Some, None, nat_lt, ◌==◌, ◌||◌, if◌then◌else◌}
 use Rattle.std.specs.List.{concat, AllByRecursion}
 use Rattle.std.specs.Int.{w32, from_le_bytes}
 use Rattle.report_defs.specs.declared.end.End.{End}
@@ -55,12 +55,12 @@ put_front item split = record { items = item ∷ split.items; rest = split.rest;
 abbrev pub split_from : ℕ → Limits → ℕ → List ℕ → Split
 split_from zero limits offset bytes = record { items = []; rest = bytes; end = Cut }
 split_from (suc most) limits offset bytes = elim (end_at limits offset bytes) [
-    Some end ↦ record { items = []; rest = bytes; end = end }
+  | Some end ↦ record { items = []; rest = bytes; end = end }
   | None ↦
       let size = size_word bytes in
       put_front (take size bytes) (split_from most limits (offset + size) (drop size bytes))
-  ]
+]
 
--- the one split of an input
+-- The one split of an input: it keeps `IsSplit`, and no other does (proofs/ItemLemmas).
 unfoldable pub split_of : Limits → List ℕ → Split
 split_of limits input = split_from (suc (length input)) limits 0 input

@@ -1,12 +1,16 @@
--- What a run promises, whatever befalls it, of the bytes that its source gave and its sink took.
+-- What a run promises of the bytes that its source gave and its sink took, whether it was stopped or not.
 use Rattle.std.specs.Prelude.{◌≡◌, ◌⊎◌, ℕ, ◌-◌, ◌<◌, ◌≤◌, List, [], ◌∷◌, ◌++◌, length, take, Option, Some}
 use Rattle.std.specs.Io.KnownBytes.{IsAtEnd}
 use Rattle.codec_defs.specs.Shape.{decoded}
 use Rattle.codec_defs.specs.Schema.{block}
 use Rattle.report_defs.specs.declared.status.Status.{Status}
 use Rattle.report_defs.specs.declared.status.Status.TheVariants.{Done, SomeRefused, BadWords, InputFault, SinkFault, DiskFault, NoMemory, NotAStore, CutInput, BadSize, StoreThere, BadGenesis, ExtraInput}
-use Rattle.report_defs.specs.Items.{Split, split_of, end_offset}
-use Rattle.report_defs.specs.Report.{Report, report, import_limits, kept_from, lines_over}
+use Rattle.report_defs.specs.Items.{split_of, end_offset}
+use Rattle.report_defs.specs.Report.{Report, import_limits, kept_from, lines_over}
+
+-- the list without its last element
+abbrev pub all_but_last : List (List ℕ) → List (List ℕ)
+all_but_last items = take (length items - 1) items
 
 -- the first is the front of the second
 abbrev pub IsPrefix : List ℕ → List ℕ → Type 0
@@ -28,21 +32,49 @@ IsReported StoreThere = Unit {0}
 IsReported BadGenesis = Unit {0}
 IsReported ExtraInput = Unit {0}
 
--- the lines of the items but the last, of which the first is the genesis and has none
-abbrev pub lines_but_last : List (List ℕ) → List ℕ
-lines_but_last [] = []
-lines_but_last (genesis ∷ items) = lines_over (kept_from (decoded block genesis)) (take (length items - 1) items)
+-- how `import` may end
+abbrev pub IsImportStatus : Status → Type 0
+IsImportStatus Done = Unit {0}
+IsImportStatus SomeRefused = Unit {0}
+IsImportStatus BadWords = ⊥
+IsImportStatus InputFault = Unit {0}
+IsImportStatus SinkFault = Unit {0}
+IsImportStatus DiskFault = ⊥
+IsImportStatus NoMemory = Unit {0}
+IsImportStatus NotAStore = ⊥
+IsImportStatus CutInput = Unit {0}
+IsImportStatus BadSize = ⊥
+IsImportStatus StoreThere = ⊥
+IsImportStatus BadGenesis = Unit {0}
+IsImportStatus ExtraInput = ⊥
+
+-- the lines of items, of which the first is the genesis and has none
+abbrev pub lines_of : List (List ℕ) → List ℕ
+lines_of [] = []
+lines_of (genesis ∷ items) = lines_over (kept_from (decoded block genesis)) items
 
 -- The text is the report's as far as it was written, and all of it where nothing stopped the run.
-pub record TellsReport (report : List ℕ → Report) (given : List ℕ) (left : Option (List ℕ)) (taken : List ℕ) (status : Status) : Type 0 where
-  pub front : (more : List ℕ) → left ≡ Some more → IsPrefix taken (report (given ++ more)).text
-  pub whole_text : (more : List ℕ) → left ≡ Some more → IsReported status → taken ≡ (report (given ++ more)).text
-  pub same_status : (more : List ℕ) → left ≡ Some more → IsReported status → status ≡ (report (given ++ more)).status
+pub record TellsReport (full : List ℕ → Report) (given : List ℕ) (left : Option (List ℕ)) (taken : List ℕ) (status : Status) : Type 0 where
+  pub front : (more : List ℕ) → left ≡ Some more → IsPrefix taken (full (given ++ more)).text
+  pub whole_text : (more : List ℕ) → left ≡ Some more → IsReported status → taken ≡ (full (given ++ more)).text
+  pub same_status : (more : List ℕ) → left ≡ Some more → IsReported status → status ≡ (full (given ++ more)).status
+
+-- How the lines keep up with the items that the source gave whole.
+pub record WritesInOrder (given taken : List ℕ) : Type 0 where
+  -- each item but the last has its whole line
+  pub lines : IsPrefix (lines_of (all_but_last (split_of import_limits given).items)) taken
+  -- each has it before a byte of the next item is read
+  pub lines_first : 0 < length (split_of import_limits given).rest → IsPrefix (lines_of (split_of import_limits given).items) taken
 
 -- How far `import` has read and written.
 pub record ImportsInOrder (given : List ℕ) (left : Option (List ℕ)) (taken : List ℕ) (status : Status) : Type 0 where
-  -- of each item that the source gave whole, but the last, the whole line was taken
-  pub lines : IsPrefix (lines_but_last (split_of import_limits given).items) taken
+  pub written : WritesInOrder given taken
   pub to_end : (status ≡ Done) ⊎ (status ≡ SomeRefused) → IsAtEnd left
-  pub genesis_read : status ≡ BadGenesis → 0 < length (split_of import_limits given).items
+  -- the genesis is judged before a byte of the next item is read
+  pub genesis_alone : status ≡ BadGenesis → (split_of import_limits given).items ≡ given ∷ []
   pub to_cut : status ≡ CutInput → (more : List ℕ) → left ≡ Some more → end_offset (split_of import_limits (given ++ more)) ≤ length given
+
+-- how a run may end, by what is built
+abbrev pub IsRunStatus : Status → Type 0
+IsRunStatus BadWords = Unit {0}
+IsRunStatus status = IsImportStatus status

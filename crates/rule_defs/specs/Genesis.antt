@@ -1,4 +1,4 @@
--- What a genesis keeps: it is taken as handed in where it breaks none of these rules.
+-- The rules of a genesis. It is accepted where it breaks none of them, whatever else it holds.
 use Rattle.std.specs.Prelude.{ℕ, ◌==◌, ◌&&◌, not, List, length, Option, Some, None, if◌then◌else◌}
 use Rattle.codec_defs.specs.Shape.{decoded}
 use Rattle.codec_defs.specs.Schema.{Block, block}

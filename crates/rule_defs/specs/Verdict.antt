@@ -1,5 +1,5 @@
 -- The verdict on an item, over the kept blocks. The first case that holds decides.
-use Rattle.std.specs.Prelude.{◌≡◌, ℕ, ◌+◌, ◌==◌, ◌&&◌, not, Bool, true, false, List, [], ◌∷◌, ◌++◌, length, Option, Some, None, is_some, if◌then◌else◌}
+use Rattle.std.specs.Prelude.{ℕ, ◌+◌, ◌==◌, ◌&&◌, not, Bool, true, false, List, [], ◌∷◌, ◌++◌, length, Option, Some, None, is_some, if◌then◌else◌}
 use Rattle.codec_defs.specs.Shape.{decoded}
 use Rattle.codec_defs.specs.Schema.{Block, block}
 use Rattle.chain_defs.specs.Kept.{block_hash, find_kept}
@@ -7,8 +7,8 @@ use Rattle.rule_defs.specs.declared.verdict.Verdict.{Verdict}
 use Rattle.rule_defs.specs.declared.verdict.Verdict.TheVariants.{Joined, Known, Refused, Unbuilt}
 
 -- The forms that are judged: one transaction, no uncle and no proposal.
-abbrev pub is_built : Block → Bool
-is_built b = (length b.transactions == 1) && (length b.uncles == 0) && (length b.proposals == 0)
+abbrev pub has_judged_form : Block → Bool
+has_judged_form b = (length b.transactions == 1) && (length b.uncles == 0) && (length b.proposals == 0)
 
 -- J5: its number is its parent's plus 1.
 abbrev pub verdict_over_parent : Block → Block → Verdict
@@ -23,7 +23,7 @@ verdict_by_parent b (Some parent) = verdict_over_parent b parent
 abbrev pub verdict_of_block : List Block → Block → Verdict
 verdict_of_block kept b =
     if is_some (find_kept kept (block_hash b)) then Known (block_hash b)
-    else if not (is_built b) then Unbuilt
+    else if not (has_judged_form b) then Unbuilt
     else verdict_by_parent b (find_kept kept b.header.parent_hash)
 
 -- J1: the item is a canonical `Block`.

@@ -1,3 +1,5 @@
+ghost use Rattle.std.specs.Prelude.{◌≡◌};
+
 /// What becomes of an item that was handed in as a block.
 #[derive(Clone, Copy, Debug, PartialEq, Eq)]
 pub enum Verdict {
@@ -5,8 +7,36 @@ pub enum Verdict {
     Joined(u64, [u8; 32]),
     /// A block with this hash is kept already.
     Known([u8; 32]),
-    /// It breaks the rule of this number, J1 to J32, and none before it.
+    /// The first that it breaks of the rules that are judged, J1 to J32.
     Refused(u8),
     /// It is a block of a form that this node does not judge yet.
     Unbuilt,
+}
+
+impl Verdict {
+    ghost use Rattle.rule_defs.specs.Verdict as rules;
+
+    /// Whether the item is kept from now on.
+    pub fn joins(&self) -> bool
+        ensures { result ≡ rules.joins self.now }
+    {
+        match self {
+            Verdict::Joined(_, _) => true,
+            Verdict::Known(_) => false,
+            Verdict::Refused(_) => false,
+            Verdict::Unbuilt => false,
+        }
+    }
+
+    /// Whether the item was refused: it broke a rule, or its form is not judged yet.
+    pub fn refuses(&self) -> bool
+        ensures { result ≡ rules.refuses self.now }
+    {
+        match self {
+            Verdict::Joined(_, _) => false,
+            Verdict::Known(_) => false,
+            Verdict::Refused(_) => true,
+            Verdict::Unbuilt => true,
+        }
+    }
 }

@@ -1,4 +1,4 @@
-use Rattle.std.proofs.Common.{◌≡◌, ℕ, ◌+◌, ◌%◌, ◌^◌, arith, refl}
+use Rattle.std.proofs.Common.{◌≡◌, ℕ, ◌+◌, ◌%◌, ◌^◌, arith}
 use Rattle.codec_defs.specs.CkbHash.{mix}
 use Rattle.blake2b_ckb.proofs.compression.mix.Goals as goal
 

@@ -1,4 +1,4 @@
-use Rattle.std.proofs.Common.{◌≡◌, ℕ, zero, suc, List, refl}
+use Rattle.std.proofs.Common.{◌≡◌, ℕ, suc, List, refl}
 use Rattle.codec_defs.specs.CkbHash.{round, round_words, rounds, sigma}
 use Rattle.blake2b_ckb.proofs.compression.rounds.Goals as goal
 

@@ -1,4 +1,4 @@
-use Rattle.std.proofs.Common.{rules, ◌≡◌, ◌*◌, length, arith, sym, ◌∙◌}
+use Rattle.std.proofs.Common.{rules, ◌≡◌, arith, sym, ◌∙◌}
 use Rattle.std.proofs.lemmas.List.{take_all}
 use Rattle.std.proofs.lemmas.Slice.{overwrites}
 use Rattle.blake2b_ckb.proofs.Absorbing.{digest_more}

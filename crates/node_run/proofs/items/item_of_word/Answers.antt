@@ -1,10 +1,8 @@
-use Rattle.std.proofs.Common.{◌≡◌, ℕ, ◌+◌, ◌<◌, ◌≤◌, ◌⊎◌, inl, inr, ◌++◌, List, [], length, arith, refl, sym, ◌∙◌, append-nil}
+use Rattle.std.proofs.Common.{◌≡◌, ◌<◌, ◌⊎◌, inl, inr, [], arith, sym, ◌∙◌, append-nil}
 use Rattle.outside.proofs.Streams.{gives_none}
 use Rattle.report_defs.specs.Items.{size_word}
 use Rattle.report_defs.specs.Report.{import_limits}
-use Rattle.report_defs.specs.declared.end.End.TheVariants.{BadSize, Extra}
-use Rattle.node_run.specs.Items.{EndsAt}
-use Rattle.node_run.proofs.Reading.{size_of_word, item_limit, input_limit, ends_bad_size, ends_extra}
+use Rattle.node_run.proofs.Reading.{size_of_word, item_limit, ends_bad_size}
 use Rattle.node_run.proofs.items.item_of_word.Goals as goal
 use Rattle.node_run.proofs.items.item_of_word.Goals.{then-size-lt4-via-then-size-lt4, then-size-lt4-via-else-size-lt4+then-size-gt-ITEM_LIMIT}
 
@@ -13,24 +11,10 @@ returns-then-size-lt4-clause-next g c =
     let word = c.args.word.now in
     let says : size_word word ≡ c.from_le_bytes-size.result = size_of_word word c.told-word ∙ sym c.from_le_bytes-size.ensures in
     let bad : (size_word word < 4) ⊎ (import_limits.item < size_word word) = rw says (elim c.then-size-lt4.branch [
-        then-size-lt4-via-then-size-lt4 w ↦ inl w.if-size-lt4.true
+      | then-size-lt4-via-then-size-lt4 w ↦ inl w.if-size-lt4.true
       | then-size-lt4-via-else-size-lt4+then-size-gt-ITEM_LIMIT w ↦ inr (omega (arith, item_limit, w.if-size-gt-ITEM_LIMIT.true))
-      ]) in
+    ]) in
     ([], gives_none _, rw append-nil (ends_bad_size c.args.offset word (g.S.Source.left c.args.input.now) c.told-word bad))
-
-pub overflow_add-offset : goal.overflow_add-offset
-overflow_add-offset g c = omega (arith, input_limit, item_limit, c.requires, c.if-size-gt-ITEM_LIMIT.false)
-
-pub returns-then-offset-size-gt-INPUT_LIMIT-clause-next : goal.returns-then-offset-size-gt-INPUT_LIMIT-clause-next
-returns-then-offset-size-gt-INPUT_LIMIT-clause-next g c =
-    let word = c.args.word.now in
-    let says : size_word word ≡ c.from_le_bytes-size.result = size_of_word word c.told-word ∙ sym c.from_le_bytes-size.ensures in
-    ([], gives_none _, rw append-nil (ends_extra c.args.offset word (g.S.Source.left c.args.input.now) c.told-word
-      (omega (arith, says, c.if-size-lt4.false)) (omega (arith, says, item_limit, c.if-size-gt-ITEM_LIMIT.false))
-      (omega (arith, says, input_limit, c.if-offset-size-gt-INPUT_LIMIT.true))))
 
 pub item_of_size-requires-clause-most : goal.item_of_size-requires-clause-most
 item_of_size-requires-clause-most g c = omega (arith, item_limit, c.if-size-gt-ITEM_LIMIT.false)
-
-pub item_of_size-requires-clause-within : goal.item_of_size-requires-clause-within
-item_of_size-requires-clause-within g c = omega (arith, input_limit, c.if-offset-size-gt-INPUT_LIMIT.false)

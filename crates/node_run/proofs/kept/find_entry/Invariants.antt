@@ -1,5 +1,5 @@
 use Rattle.std.proofs.Common.{◌≡◌, drop}
-use Rattle.node_run.specs.Outline.{find_entry}
+use Rattle.node_run.specs.Summary.{find_entry}
 use Rattle.node_run.proofs.kept.find_entry.Given as goal
 
 -- the entry is not among those that were passed

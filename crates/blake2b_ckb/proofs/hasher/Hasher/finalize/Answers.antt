@@ -1,4 +1,4 @@
-use Rattle.std.proofs.Common.{refl, arith}
+use Rattle.std.proofs.Common.{arith}
 use Rattle.std.proofs.lemmas.List.{length-take-le}
 use Rattle.blake2b_ckb.proofs.Absorbing.{Holds-ckbhash, zero_rest}
 use Rattle.blake2b_ckb.proofs.hasher.Hasher.finalize.Goals as goal

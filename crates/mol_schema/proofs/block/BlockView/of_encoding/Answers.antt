@@ -1,4 +1,3 @@
-use Rattle.codec_defs.specs.Schema.{block}
 use Rattle.codec_defs.proofs.SchemaLaws.{block-inverts}
 use Rattle.mol_schema.proofs.Rows.{block-agrees}
 use Rattle.mol_schema.proofs.block.BlockView.of_encoding.Goals as goal

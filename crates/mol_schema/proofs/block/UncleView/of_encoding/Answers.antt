@@ -1,4 +1,3 @@
-use Rattle.codec_defs.specs.Schema.{uncle_block}
 use Rattle.codec_defs.proofs.SchemaLaws.{uncle_block-inverts}
 use Rattle.mol_schema.proofs.Rows.{uncle_block-agrees}
 use Rattle.mol_schema.proofs.block.UncleView.of_encoding.Goals as goal

@@ -1,4 +1,3 @@
-use Rattle.codec_defs.specs.Schema.{header}
 use Rattle.codec_defs.proofs.SchemaLaws.{header-inverts}
 use Rattle.mol_schema.proofs.Rows.{header-agrees}
 use Rattle.mol_schema.proofs.header.HeaderView.of_encoding.Goals as goal

@@ -1,4 +1,3 @@
-use Rattle.codec_defs.specs.Schema.{cell_dep}
 use Rattle.codec_defs.proofs.SchemaLaws.{cell_dep-inverts}
 use Rattle.mol_schema.proofs.Rows.{cell_dep-agrees}
 use Rattle.mol_schema.proofs.out_point.DepView.of_encoding.Goals as goal

@@ -1,4 +1,3 @@
-use Rattle.codec_defs.specs.Schema.{cell_input}
 use Rattle.codec_defs.proofs.SchemaLaws.{cell_input-inverts}
 use Rattle.mol_schema.proofs.Rows.{cell_input-agrees}
 use Rattle.mol_schema.proofs.out_point.InputView.of_encoding.Goals as goal

@@ -1,4 +1,3 @@
-use Rattle.codec_defs.specs.Schema.{out_point}
 use Rattle.codec_defs.proofs.SchemaLaws.{out_point-inverts}
 use Rattle.mol_schema.proofs.Rows.{out_point-agrees}
 use Rattle.mol_schema.proofs.out_point.OutPointView.of_encoding.Goals as goal

@@ -1,4 +1,3 @@
-use Rattle.codec_defs.specs.Schema.{script}
 use Rattle.codec_defs.proofs.SchemaLaws.{script-inverts}
 use Rattle.mol_schema.proofs.Rows.{script-agrees}
 use Rattle.mol_schema.proofs.script.ScriptView.of_encoding.Goals as goal

@@ -1,4 +1,3 @@
-use Rattle.codec_defs.specs.Schema.{cell_output}
 use Rattle.codec_defs.proofs.SchemaLaws.{cell_output-inverts}
 use Rattle.mol_schema.proofs.Rows.{cell_output-agrees}
 use Rattle.mol_schema.proofs.transaction.OutputView.of_encoding.Goals as goal

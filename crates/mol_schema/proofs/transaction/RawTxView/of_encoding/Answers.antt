@@ -1,4 +1,3 @@
-use Rattle.codec_defs.specs.Schema.{raw_transaction}
 use Rattle.codec_defs.proofs.SchemaLaws.{raw_transaction-inverts}
 use Rattle.mol_schema.proofs.Rows.{raw_transaction-agrees}
 use Rattle.mol_schema.proofs.transaction.RawTxView.of_encoding.Goals as goal

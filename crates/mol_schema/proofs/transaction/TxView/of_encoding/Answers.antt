@@ -1,4 +1,3 @@
-use Rattle.codec_defs.specs.Schema.{transaction}
 use Rattle.codec_defs.proofs.SchemaLaws.{transaction-inverts}
 use Rattle.mol_schema.proofs.Rows.{transaction-agrees}
 use Rattle.mol_schema.proofs.transaction.TxView.of_encoding.Goals as goal

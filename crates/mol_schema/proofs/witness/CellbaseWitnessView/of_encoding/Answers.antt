@@ -1,4 +1,3 @@
-use Rattle.codec_defs.specs.Schema.{cellbase_witness}
 use Rattle.codec_defs.proofs.SchemaLaws.{cellbase_witness-inverts}
 use Rattle.mol_schema.proofs.Rows.{cellbase_witness-agrees}
 use Rattle.mol_schema.proofs.witness.CellbaseWitnessView.of_encoding.Goals as goal

@@ -1,4 +1,3 @@
-use Rattle.codec_defs.specs.Schema.{witness_args}
 use Rattle.codec_defs.proofs.SchemaLaws.{witness_args-inverts}
 use Rattle.mol_schema.proofs.Rows.{witness_args-agrees}
 use Rattle.mol_schema.proofs.witness.WitnessArgsView.of_encoding.Goals as goal

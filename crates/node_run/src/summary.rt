@@ -3,7 +3,7 @@ ghost use Rattle.std.specs.Prelude.{◌≡◌, ◌==◌, ◌&&◌, not, length, 
 ghost use Rattle.codec_defs.specs.Shape.{decoded};
 ghost use Rattle.codec_defs.specs.Schema.{block as block_shape};
 ghost use Rattle.rule_defs.specs.Genesis.{broken_genesis_rule, broken_by_block};
-ghost use Rattle.node_run.specs.Outline.{entry_value, outline_value};
+ghost use Rattle.node_run.specs.Summary.{entry_value, summary_value};
 
 use blake2b_ckb::ckbhash;
 use mol_schema::BlockView;
@@ -17,11 +17,11 @@ pub struct Entry {
 
 /// What the verdict on a block looks at.
 #[derive(Clone, Copy, Debug)]
-pub struct Outline {
+pub struct Summary {
     pub entry: Entry,
     pub parent_hash: [u8; 32],
     /// Its form is judged: it has one transaction, no uncle and no proposal.
-    pub built: bool,
+    pub has_judged_form: bool,
 }
 
 #[tactic(auto, unfolding(chain_defs::specs::Kept::block_hash))]
@@ -62,25 +62,25 @@ pub fn genesis_entry(item: &[u8]) -> Result<Entry, u8>
     }
 }
 
-fn outline_of_block(block: &BlockView<'_>) -> Outline
-    ensures { result ≡ outline_value block.now }
+fn summary_of_block(block: &BlockView<'_>) -> Summary
+    ensures { result ≡ summary_value block.now }
 {
-    let built = block.transactions_count() == 1
+    let has_judged_form = block.transactions_count() == 1
         && block.uncles_count() == 0
         && block.proposals_count() == 0;
     let mut parent_hash = [0u8; 32];
     parent_hash.copy_from_slice(block.header().parent_hash());
-    Outline {
+    Summary {
         entry: entry_of(block),
         parent_hash,
-        built,
+        has_judged_form,
     }
 }
 
 /// What the verdict looks at, if the item is a canonical `Block`.
-pub fn outline_of(item: &[u8]) -> Option<Outline>
-    ensures { result ≡ option_map outline_value (decoded block_shape item.now) }
+pub fn summary_of(item: &[u8]) -> Option<Summary>
+    ensures { result ≡ option_map summary_value (decoded block_shape item.now) }
 {
     let block = BlockView::read(item)?;
-    Some(outline_of_block(&block))
+    Some(summary_of_block(&block))
 }

@@ -1,0 +1,197 @@
+#!/usr/bin/env python3
+"""A generated chain, in plain Python: one specification, one genesis, n blocks
+with a fork now and then.
+
+    python3 bench/chaingen.py SEED COUNT PREFIX [--plain]
+
+writes PREFIX.init (the input of `init`) and PREFIX.blocks (the input of
+`import`).  With --plain no block proposes or commits anything, so that each
+has its cellbase alone; the chain is valid under all rules either way.
+"""
+
+import hashlib
+import sys
+
+COIN, FEE, OCCUPIED = 10 ** 15, 1000, 41 * 10 ** 8
+L, W_FAR, PRIMARY, SECONDARY, HALVING = 10, 10, 10 ** 12, 10 ** 11, 1000
+NULL = bytes(32) + b'\xff' * 4
+ZERO = bytes(32)
+CODE = bytes.fromhex('9308d0051305000073000000')       # exits with 0
+
+
+def ckbhash(b):
+    return hashlib.blake2b(b, digest_size=32, person=b'ckb-default-hash').digest()
+
+
+def le(v, n):
+    return v.to_bytes(n, 'little')
+
+
+# ------------------------------------------------------------------ encoding
+
+def table(fields):
+    """A table, or a dynvec."""
+    at = 4 + 4 * len(fields)
+    heads = []
+    for f in fields:
+        heads.append(le(at, 4))
+        at += len(f)
+    return le(at, 4) + b''.join(heads) + b''.join(fields)
+
+
+def fixvec(items):
+    return le(len(items), 4) + b''.join(items)
+
+
+def as_bytes(b):
+    return le(len(b), 4) + b
+
+
+def elf(code):
+    n = le(len(code), 8)
+    return bytes.fromhex(
+        '7f454c460201010000000000000000000200f300010000007800010000000000'
+        '4000000000000000000000000000000000000000400038000100000000000000'
+        '0100000005000000780000000000000078000100000000007800010000000000'
+    ) + n + n + le(4096, 8) + code
+
+
+FILE = elf(CODE)
+LOCK = table([ckbhash(FILE), b'\0', as_bytes(b'')])
+WITNESS = table([LOCK, as_bytes(b'')])
+
+
+def output(capacity):
+    return table([le(capacity, 8), LOCK, b''])
+
+
+def transaction(deps, inputs, outputs, data, witnesses):
+    """(bytes, hash, witness hash)"""
+    raw = table([le(0, 4), fixvec(deps), fixvec([]), fixvec(inputs), table(outputs),
+                 table([as_bytes(d) for d in data])])
+    whole = table([raw, table([as_bytes(w) for w in witnesses])])
+    return whole, ckbhash(raw), ckbhash(whole)
+
+
+def root(items):
+    heap = [b''] * (len(items) - 1) + items
+    for j in range(len(items) - 2, -1, -1):
+        heap[j] = ckbhash(heap[2 * j + 1] + heap[2 * j + 2])
+    return heap[0]
+
+
+def block(number, epoch, timestamp, parent, dao, nonce, txs, ids):
+    """(bytes, hash)"""
+    roots = root([root([t[1] for t in txs]), root([t[2] for t in txs])])
+    header = (le(0, 4) + le(0x20000000, 4) + le(timestamp, 8) + le(number, 8)
+              + le(epoch, 8) + parent + roots
+              + (ckbhash(b''.join(ids)) if ids else ZERO) + ZERO
+              + b''.join(le(x, 8) for x in dao) + le(nonce, 16))
+    return table([header, le(4, 4), table([t[0] for t in txs]), fixvec(ids)]), ckbhash(header)
+
+
+# --------------------------------------------------------------------- rules
+
+def share(h, reward):
+    return reward // L + (1 if h % L < reward % L else 0)
+
+
+def primary(h):
+    return share(h, PRIMARY >> (h // L // HALVING))
+
+
+SPEC = (le(100, 4) + le(0x20000000, 4) + le(L, 4) + le(2, 4) + le(W_FAR, 4)
+        + le(597000, 4) + le(1500, 4) + le(10 ** 9, 8) + le(0, 8) + le(PRIMARY, 8)
+        + le(SECONDARY, 8) + le(HALVING, 8) + b'\xda' * 32)
+
+
+class Heights:
+    """What a block holds by its height alone.  Forks are one block deep and
+    both their blocks commit and pay the same, so a branch has no say in it."""
+
+    def __init__(self, genesis_tx, plain):
+        self.plain = plain
+        self.dep = genesis_tx[1] + le(0, 4) + b'\0'
+        self.coin, self.capacity = genesis_tx[1] + le(1, 4), COIN
+        self.dao = [(1_000_017_300_000_000, 10 ** 16, 0, 21_400_000_000)]
+        self.coming = {}        # height: the transaction that it commits
+        self.made = {}          # height: (transactions, ids)
+
+    def commit_at(self, h):
+        """Heights are asked for in rising order."""
+        if h not in self.coming:
+            self.capacity -= FEE
+            tx = transaction([self.dep], [le(0, 8) + self.coin], [output(self.capacity)],
+                             [b''], [])
+            self.coin = tx[1] + le(0, 4)
+            self.coming[h] = tx
+        return self.coming[h]
+
+    def reward(self, t):
+        c, _, _, u = self.dao[t - 1]
+        fees = 0
+        if not self.plain and t % 4 == 2 and t >= 6:
+            fees = FEE - 4 * FEE // 10
+        if not self.plain and t % 4 == 0 and t >= 4:
+            fees = 4 * FEE // 10
+        return primary(t) + share(t, SECONDARY) * u // c + fees
+
+    def at(self, h):
+        if h in self.made:
+            return self.made[h]
+        outputs, made = [], 0
+        if h > W_FAR + 1:
+            reward = self.reward(h - W_FAR - 1)
+            if reward >= OCCUPIED:
+                outputs, made = [output(reward)], OCCUPIED
+        txs = [transaction([], [le(h, 8) + NULL], outputs, [b''] * len(outputs), [WITNESS])]
+        ids = []
+        if not self.plain and h % 4 == 2 and h >= 6:
+            txs.append(self.commit_at(h))
+        if not self.plain and h % 4 == 0 and h >= 4:
+            ids = [self.commit_at(h + 2)[1][:10]]
+        c, ar, s, u = self.dao[h - 1]
+        second = share(h, SECONDARY)
+        self.dao.append((c + primary(h) + second, ar + ar * second // c,
+                         s + second - second * u // c, u + made))
+        self.made[h] = txs, ids
+        return self.made[h]
+
+
+def make(seed, n, plain=False):
+    """(specification, genesis, blocks, [(number, hash)] of genesis and blocks,
+    the tip's place)"""
+    first = transaction([], [le(0, 8) + NULL], [output(17_300_000_000), output(COIN)],
+                        [FILE, b''], [])
+    heights = Heights(first, plain)
+    genesis, top = block(0, 0, 1000, ZERO, heights.dao[0], 0, [first], [])
+    kept = [(0, top)]
+    parents = [0]
+    blocks = []
+    tip, sibling = 0, False
+    for i in range(1, n + 1):
+        if sibling:
+            parent, sibling = i - 1, False
+        elif i >= 2 and (seed + 3 * i) % 7 == 0:
+            parent, sibling = parents[tip], True
+        else:
+            parent = tip
+        h = kept[parent][0] + 1
+        txs, ids = heights.at(h)
+        item, top = block(h, h // L + (h % L << 24) + (L << 40), 1000 + 1000 * h,
+                          kept[parent][1], heights.dao[h], i, txs, ids)
+        blocks.append(item)
+        kept.append((h, top))
+        parents.append(parent)
+        if h > kept[tip][0]:
+            tip = i
+    return SPEC, genesis, blocks, kept, tip
+
+
+if __name__ == '__main__':
+    seed, n, prefix = int(sys.argv[1]), int(sys.argv[2]), sys.argv[3]
+    spec, genesis, blocks, _, _ = make(seed, n, '--plain' in sys.argv[4:])
+    with open(prefix + '.init', 'wb') as f:
+        f.write(spec + genesis)
+    with open(prefix + '.blocks', 'wb') as f:
+        f.write(b''.join(blocks))

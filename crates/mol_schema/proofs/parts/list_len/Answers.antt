@@ -1,0 +1,6 @@
+use Rattle.std.proofs.Common.{arith}
+use Rattle.mol_schema.proofs.Agreement.{length-items}
+use Rattle.mol_schema.proofs.parts.list_len.Goals as goal
+
+pub returns-clause-fits : goal.returns-clause-fits
+returns-clause-fits c = omega (arith, c.len.ensures, length-items c.args.list.now c.of_encoding.result c.of_encoding.ensures.found)

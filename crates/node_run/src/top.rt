@@ -1,0 +1,53 @@
+// The one call.
+ghost use Rattle.std.specs.Prelude.{◌≡◌, ◌↔◌, ◌≤◌, None, Some, map, string_bytes};
+ghost use Rattle.outside.specs.Causes.{Rose};
+ghost use Rattle.report_defs.specs.Words.{command_of};
+ghost use Rattle.report_defs.specs.Report.{report};
+ghost use Rattle.report_defs.specs.Promise.{TellsReport, ImportsInOrder, IsRunStatus};
+ghost use Rattle.node_run.specs.Import.{Passed};
+
+use crate::import::import;
+use crate::words::command_of;
+use outside::{Disk, Sink, Source, Steps};
+use report_defs::{Command, Status};
+use std::alloc::Global;
+use std::sync::ledger::Ledger;
+
+/// Does what the words ask for: reads the input, writes its text, and answers how it ended.
+/// The words are a folder, which is any word that is not empty, and `import`.
+pub fn run<S: Source, K: Sink, D: Disk, L: Ledger>(
+    alloc: Global,
+    words: &[String],
+    input: &mut S,
+    out: &mut K,
+    disk: &mut D,
+    steps: &mut Steps<L>,
+) -> Status
+    // What the sink took is the report's text, as far as it was written, and the status is the report's where nothing
+    // stopped the run. Each item is answered before a byte of the next is read.
+    ensures text { Passed (S.left input.old) (S.left input.new) (K.taken out.old) (K.taken out.new)
+        (λ given taken. TellsReport (report (map string_bytes words.now)) given (S.left input.new) taken result
+        × ImportsInOrder given (S.left input.new) taken result) }
+
+    // The words alone decide on `BadWords`, and with them nothing is read and nothing written.
+    ensures words { (result ≡ Status.BadWords) ↔ (command_of (map string_bytes words.now) ≡ None) }
+    ensures silent { result ≡ Status.BadWords → (input.new ≡ input.old) × (out.new ≡ out.old) }
+
+    // A fault is answered only where its count rose, and no other status comes yet.
+    ensures status { IsRunStatus result }
+    ensures input_fault { result ≡ Status.InputFault → Rose (S.faults input.old) (S.faults input.new) }
+    ensures sink_fault { result ≡ Status.SinkFault → Rose (K.faults out.old) (K.faults out.new) }
+    ensures input_later { S.faults input.old ≤ S.faults input.new }
+    ensures out_later { K.faults out.old ≤ K.faults out.new }
+
+    // The disk is not called, and no step is counted.
+    ensures disk { disk.new ≡ disk.old }
+    ensures steps { steps.new ≡ steps.old }
+{
+    let _ = disk;
+    let _ = steps;
+    match command_of(words) {
+        Some(Command::Import) => import(alloc, input, out),
+        None => Status::BadWords,
+    }
+}
