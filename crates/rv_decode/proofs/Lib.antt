@@ -1,0 +1,4 @@
+pub mod RegisterForms
+pub mod WholeWord
+pub mod FullForms
+pub mod CompressedForms

@@ -1,0 +1,15 @@
+//! The CKB machine, as definitions: what the crates that decode and run its programs cite in their
+//! contracts. The machine is RV64IMC (RFC 0003), and its costs are those of RFC 0014.
+//!
+//! - `Ins`: an instruction, with its operands. `Alu`: an operation on two registers.
+//! - specs/Instruction.antt: the fields of a word, and what an instruction costs.
+//! - specs/Row.antt, specs/Table.antt, specs/Compressed.antt: the instruction table, a row for each form.
+//!   specs/Decode.antt: the instruction that a word encodes.
+//! - specs/Alu.antt: the values of the operations.
+#![tactic(auto)]
+
+mod alu;
+mod ins;
+
+pub use alu::Alu;
+pub use ins::Ins;
