@@ -10,6 +10,8 @@ mod items;
 mod kept;
 mod lines;
 mod summary;
+#[cfg(test)]
+mod tests;
 mod top;
 mod words;
 

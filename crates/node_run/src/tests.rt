@@ -1,0 +1,340 @@
+// The happy path, short reads and writes, and failures in mid-stream, which no clause shows to be met.
+ghost use Rattle.std.specs.Prelude.{◌≡◌, ◌<◌};
+
+use crate::{Status, run};
+use outside::{Failed, MemSink, MemSource, NoDisk, Sink, Source, Steps, read_full};
+use std::alloc::Global;
+use std::marker::Brand;
+use std::sync::ledger::{Blank, Ledger};
+use std::test::Fail;
+
+/// Bytes in hex, and how many zero bytes follow.
+type Piece = (&'static str, usize);
+
+// The parts of examples/first-blocks.bin: a header up to its number, the hash of the genesis, and the lists with one
+// transaction up to its input and from there on.
+const HEAD: &str = "6401000014000000e4000000e8000000600100000000000000000020e803000000000000";
+
+const ON_GENESIS: &str = "0c4abd033af734a9d398aac1acf04e6908513d68b9f99e9ec795b419bd05ce1b";
+
+const UNKNOWN: &str = "1111111111111111111111111111111111111111111111111111111111111111";
+
+const LISTS: &str =
+    "040000007800000008000000700000000c0000006c000000600000001c000000200000002400000028000000580000005c000000";
+
+const TAIL: &str = "ffffffff04000000040000000400000000000000";
+
+/// The genesis, a block on it, that block again, one of number 3, one on an unknown parent, one with no transaction, and the
+/// first block with a fifth field.
+const ITEMS: [[Piece; 6]; 7] = [
+    [
+        (HEAD, 16),
+        ("", 32),
+        ("", 144),
+        (LISTS, 12),
+        ("01000000", 40),
+        (TAIL, 0),
+    ],
+    [
+        (HEAD, 0),
+        ("01", 15),
+        (ON_GENESIS, 144),
+        (LISTS, 12),
+        ("0100000001", 39),
+        (TAIL, 0),
+    ],
+    [
+        (HEAD, 0),
+        ("01", 15),
+        (ON_GENESIS, 144),
+        (LISTS, 12),
+        ("0100000001", 39),
+        (TAIL, 0),
+    ],
+    [
+        (HEAD, 0),
+        ("03", 15),
+        (ON_GENESIS, 144),
+        (LISTS, 12),
+        ("0100000003", 39),
+        (TAIL, 0),
+    ],
+    [
+        (HEAD, 0),
+        ("01", 15),
+        (UNKNOWN, 144),
+        (LISTS, 12),
+        ("0100000001", 39),
+        (TAIL, 0),
+    ],
+    [
+        (
+            "f000000014000000e4000000e8000000ec0000000000000000000020e803000000000000",
+            0,
+        ),
+        ("01", 15),
+        (ON_GENESIS, 128),
+        ("01", 15),
+        ("", 0),
+        ("040000000400000000000000", 0),
+    ],
+    [
+        (
+            "6c01000018000000e8000000ec00000064010000680100000000000000000020e803000000000000",
+            0,
+        ),
+        ("01", 15),
+        (ON_GENESIS, 144),
+        (LISTS, 12),
+        ("0100000001", 39),
+        ("ffffffff0400000004000000040000000000000000000000", 0),
+    ],
+];
+
+/// examples/first-blocks.txt, whose hashes are those of Python's Blake2b.
+const TEXT: &str = "joined 1 0x19f4bc94c6d8efae73c3da25bca125107bcd85b5f66f3c1f01d0af4d21aaa043
+known 0x19f4bc94c6d8efae73c3da25bca125107bcd85b5f66f3c1f01d0af4d21aaa043
+refused J5
+refused J3
+unbuilt
+refused J1
+tip 1 0x19f4bc94c6d8efae73c3da25bca125107bcd85b5f66f3c1f01d0af4d21aaa043
+";
+
+// A source or a sink that moves a byte a call.
+#[derive(Drop)]
+struct Trickle<T>(T);
+
+impl<S: Source> Source for Trickle<S> {
+    ghost left = { λ trickle. S.left trickle.0 };
+
+    ghost faults = { λ trickle. S.faults trickle.0 };
+
+    ghost last_fault = { λ trickle. S.last_fault trickle.0 };
+
+    fn read(&mut self, into: &mut [u8]) -> Result<usize, Failed> {
+        let n = into.len().min(1);
+        self.0.read(&mut into[..n])
+    }
+}
+
+impl<K: Sink> Sink for Trickle<K> {
+    ghost taken = { λ trickle. K.taken trickle.0 };
+
+    ghost faults = { λ trickle. K.faults trickle.0 };
+
+    ghost last_fault = { λ trickle. K.last_fault trickle.0 };
+
+    fn write(&mut self, piece: &[u8]) -> Result<usize, Failed> {
+        let n = piece.len().min(1);
+        self.0.write(&piece[..n])
+    }
+}
+
+fn push_pieces(alloc: Global, bytes: &mut Vec<u8>, pieces: &[Piece]) -> Result<(), Fail> {
+    for (digits, zeros) in pieces {
+        bytes.extend_from_slice(&hex::decode(alloc, *digits)?)?;
+        for _ in 0..*zeros {
+            bytes.push(0)?;
+        }
+    }
+    Ok(())
+}
+
+/// The bytes of `ITEMS`, and how many they are by the example's README.
+fn items(alloc: Global) -> Result<(Vec<u8>, usize), Fail> {
+    let mut bytes = Vec::new(alloc);
+    for item in &ITEMS {
+        push_pieces(alloc, &mut bytes, item)?;
+    }
+    Ok((bytes, 2384))
+}
+
+fn words_of(alloc: Global, words: &[&str]) -> Result<Vec<String>, Fail> {
+    let mut owned = Vec::new(alloc);
+    for word in words {
+        owned.push(String::from_str(alloc, *word)?)?;
+    }
+    Ok(owned)
+}
+
+fn run_counting<S: Source, K: Sink, L: Ledger>(
+    alloc: Global,
+    words: &[String],
+    input: &mut S,
+    out: &mut K,
+    blank: Blank,
+) -> Status
+    requires name { blank.name ≡ L.name }
+    requires parts { blank.parts ≡ L.parts }
+    requires some { 0 < L.parts }
+{
+    let mut steps = Steps::<L>::new(blank);
+    run(alloc, words, input, out, &mut NoDisk::new(), &mut steps)
+}
+
+fn run_over<S: Source, K: Sink>(
+    alloc: Global,
+    words: &[&str],
+    input: &mut S,
+    out: &mut K,
+) -> Result<Status, Fail> {
+    let words = words_of(alloc, words)?;
+    Ok(run_counting::<S, K, Brand>(alloc, &words, input, out, Blank::new(1)))
+}
+
+#[test]
+fn answers_each_item(rt: HostRuntime) -> Result<(), Fail> {
+    let alloc = rt.alloc();
+    let (bytes, length) = items(alloc)?;
+    assert_eq!(rt; bytes.len(), length);
+    let mut input = MemSource::new(bytes, Vec::new(alloc));
+    let mut out = MemSink::new(alloc, Vec::new(alloc));
+    let status = run_over(alloc, &["any", "import"], &mut input, &mut out)?;
+    assert_eq!(rt; status, Status::SomeRefused);
+    assert_eq!(rt; out.taken(), TEXT.as_bytes());
+    Ok(())
+}
+
+/// A byte a call: where the read or the write of one number fails, the status and the length of the text up to there.
+#[test]
+fn stops_at_a_fault(rt: HostRuntime) -> Result<(), Fail> {
+    let alloc = rt.alloc();
+    let none = [].as_slice();
+    for (reads, writes, status, length) in [
+        (none, none, Status::SomeRefused, 263),
+        // in the genesis, at its end, in the third item, and where the end is read
+        ([0].as_slice(), none, Status::InputFault, 0),
+        ([200].as_slice(), none, Status::InputFault, 0),
+        ([356].as_slice(), none, Status::InputFault, 0),
+        ([900].as_slice(), none, Status::InputFault, 76),
+        ([2384].as_slice(), none, Status::InputFault, 190),
+        // in the first line, before the second, and at the last byte
+        (none, [0].as_slice(), Status::SinkFault, 0),
+        (none, [10].as_slice(), Status::SinkFault, 10),
+        (none, [76].as_slice(), Status::SinkFault, 76),
+        (none, [262].as_slice(), Status::SinkFault, 262),
+        // the fault that comes first
+        ([900].as_slice(), [10].as_slice(), Status::SinkFault, 10),
+        ([900].as_slice(), [76].as_slice(), Status::InputFault, 76),
+    ] {
+        let (bytes, _) = items(alloc)?;
+        let mut input = Trickle(MemSource::new(bytes, reads.to_vec(alloc)?));
+        let mut out = Trickle(MemSink::new(alloc, writes.to_vec(alloc)?));
+        let came = run_over(alloc, &["any", "import"], &mut input, &mut out)?;
+        assert_eq!(rt; came, status, "{reads:?} {writes:?}");
+        assert_eq!(rt;
+            Some(out.0.taken()),
+            TEXT.as_bytes().get(..length),
+            "{reads:?} {writes:?}"
+        );
+    }
+    Ok(())
+}
+
+const GENESIS: Piece = ("f000000014000000e4000000e8000000ec000000", 208);
+
+const NO_LISTS: Piece = ("040000000400000000000000", 0);
+
+const TIP: &str = "tip 0 0x103c1c1e728b979cfa7994b7229149ede71709cab730d80de51ef829ea218bf3\n";
+
+const REFUSED_AND_TIP: &str =
+    "refused J1\ntip 0 0x103c1c1e728b979cfa7994b7229149ede71709cab730d80de51ef829ea218bf3\n";
+
+#[test]
+fn ends_with_the_input(rt: HostRuntime) -> Result<(), Fail> {
+    let alloc = rt.alloc();
+    for (pieces, status, text) in [
+        ([].as_slice(), Status::CutInput, ""),
+        ([GENESIS].as_slice(), Status::CutInput, ""),
+        ([GENESIS, NO_LISTS].as_slice(), Status::Done, TIP),
+        // no block, number 2^56, a proposal
+        ([("04000000", 0)].as_slice(), Status::BadGenesis, ""),
+        (
+            [(GENESIS.0, 23), ("01", 184), NO_LISTS].as_slice(),
+            Status::BadGenesis,
+            "",
+        ),
+        (
+            [
+                ("fa00000014000000e4000000e8000000ec000000", 208),
+                ("040000000400000001000000", 10),
+            ]
+            .as_slice(),
+            Status::BadGenesis,
+            "",
+        ),
+        // the sizes of an item
+        (
+            [GENESIS, NO_LISTS, ("040000", 0)].as_slice(),
+            Status::CutInput,
+            "",
+        ),
+        (
+            [GENESIS, NO_LISTS, ("03000000", 0)].as_slice(),
+            Status::CutInput,
+            "",
+        ),
+        (
+            [GENESIS, NO_LISTS, ("04000000", 0)].as_slice(),
+            Status::SomeRefused,
+            REFUSED_AND_TIP,
+        ),
+        (
+            [GENESIS, NO_LISTS, ("05000000", 0)].as_slice(),
+            Status::CutInput,
+            "",
+        ),
+        (
+            [GENESIS, NO_LISTS, ("00001000", 1_048_571)].as_slice(),
+            Status::CutInput,
+            "",
+        ),
+        (
+            [GENESIS, NO_LISTS, ("00001000", 1_048_572)].as_slice(),
+            Status::SomeRefused,
+            REFUSED_AND_TIP,
+        ),
+        (
+            [GENESIS, NO_LISTS, ("01001000", 1_048_573)].as_slice(),
+            Status::CutInput,
+            "",
+        ),
+    ] {
+        let mut bytes = Vec::new(alloc);
+        push_pieces(alloc, &mut bytes, pieces)?;
+        let mut input = MemSource::new(bytes, Vec::new(alloc));
+        let mut out = MemSink::new(alloc, Vec::new(alloc));
+        let came = run_over(alloc, &["any", "import"], &mut input, &mut out)?;
+        assert_eq!(rt; came, status, "{pieces:?}");
+        assert_eq!(rt; out.taken(), text.as_bytes(), "{pieces:?}");
+    }
+    Ok(())
+}
+
+#[test]
+fn takes_two_words(rt: HostRuntime) -> Result<(), Fail> {
+    let alloc = rt.alloc();
+    for words in [
+        [].as_slice(),
+        ["any"].as_slice(),
+        ["import"].as_slice(),
+        ["", "import"].as_slice(),
+        ["any", ""].as_slice(),
+        ["any", "Import"].as_slice(),
+        ["any", "imports"].as_slice(),
+        ["import", "any"].as_slice(),
+        ["any", "import", ""].as_slice(),
+    ] {
+        let (bytes, length) = items(alloc)?;
+        let mut input = MemSource::new(bytes, Vec::new(alloc));
+        let mut out = MemSink::new(alloc, Vec::new(alloc));
+        let status = run_over(alloc, words, &mut input, &mut out)?;
+        assert_eq!(rt; status, Status::BadWords, "{words:?}");
+        assert_eq!(rt; out.taken().len(), 0, "{words:?}");
+        // nothing was read
+        let mut rest = vec![in alloc; 0u8; 3000]?;
+        assert_eq!(rt; read_full(&mut input, &mut rest), Ok(length), "{words:?}");
+    }
+    Ok(())
+}
