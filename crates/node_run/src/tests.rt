@@ -312,20 +312,22 @@ fn ends_with_the_input(rt: HostRuntime) -> Result<(), Fail> {
     Ok(())
 }
 
+const OUTSIDE_THE_GRAMMAR: [&[&str]; 9] = [
+    &[],
+    &["any"],
+    &["import"],
+    &["", "import"],
+    &["any", ""],
+    &["any", "Import"],
+    &["any", "imports"],
+    &["import", "any"],
+    &["any", "import", ""],
+];
+
 #[test]
 fn takes_two_words(rt: HostRuntime) -> Result<(), Fail> {
     let alloc = rt.alloc();
-    for words in [
-        [].as_slice(),
-        ["any"].as_slice(),
-        ["import"].as_slice(),
-        ["", "import"].as_slice(),
-        ["any", ""].as_slice(),
-        ["any", "Import"].as_slice(),
-        ["any", "imports"].as_slice(),
-        ["import", "any"].as_slice(),
-        ["any", "import", ""].as_slice(),
-    ] {
+    for words in OUTSIDE_THE_GRAMMAR {
         let (bytes, length) = items(alloc)?;
         let mut input = MemSource::new(bytes, Vec::new(alloc));
         let mut out = MemSink::new(alloc, Vec::new(alloc));
