@@ -241,18 +241,20 @@ const TIP: &str = "tip 0 0x103c1c1e728b979cfa7994b7229149ede71709cab730d80de51ef
 const REFUSED_AND_TIP: &str =
     "refused J1\ntip 0 0x103c1c1e728b979cfa7994b7229149ede71709cab730d80de51ef829ea218bf3\n";
 
+/// The status, how many bytes are left, and the text, by the pieces of the input.
 #[test]
 fn ends_with_the_input(rt: HostRuntime) -> Result<(), Fail> {
     let alloc = rt.alloc();
-    for (pieces, status, text) in [
-        ([].as_slice(), Status::CutInput, ""),
-        ([GENESIS].as_slice(), Status::CutInput, ""),
-        ([GENESIS, NO_LISTS].as_slice(), Status::Done, TIP),
+    for (pieces, status, left, text) in [
+        ([].as_slice(), Status::CutInput, 0, ""),
+        ([GENESIS].as_slice(), Status::CutInput, 0, ""),
+        ([GENESIS, NO_LISTS].as_slice(), Status::Done, 0, TIP),
         // no block, number 2^56, a proposal
-        ([("04000000", 0)].as_slice(), Status::BadGenesis, ""),
+        ([("04000000", 3)].as_slice(), Status::BadGenesis, 3, ""),
         (
             [(GENESIS.0, 23), ("01", 184), NO_LISTS].as_slice(),
             Status::BadGenesis,
+            0,
             "",
         ),
         (
@@ -262,42 +264,50 @@ fn ends_with_the_input(rt: HostRuntime) -> Result<(), Fail> {
             ]
             .as_slice(),
             Status::BadGenesis,
+            0,
             "",
         ),
-        // the sizes of an item
+        // the size of an item: cut, too low, lowest, cut behind it, greatest, too great
         (
             [GENESIS, NO_LISTS, ("040000", 0)].as_slice(),
             Status::CutInput,
+            0,
             "",
         ),
         (
-            [GENESIS, NO_LISTS, ("03000000", 0)].as_slice(),
+            [GENESIS, NO_LISTS, ("03000000", 5)].as_slice(),
             Status::CutInput,
+            5,
             "",
         ),
         (
             [GENESIS, NO_LISTS, ("04000000", 0)].as_slice(),
             Status::SomeRefused,
+            0,
             REFUSED_AND_TIP,
         ),
         (
             [GENESIS, NO_LISTS, ("05000000", 0)].as_slice(),
             Status::CutInput,
+            0,
             "",
         ),
         (
             [GENESIS, NO_LISTS, ("00001000", 1_048_571)].as_slice(),
             Status::CutInput,
+            0,
             "",
         ),
         (
             [GENESIS, NO_LISTS, ("00001000", 1_048_572)].as_slice(),
             Status::SomeRefused,
+            0,
             REFUSED_AND_TIP,
         ),
         (
-            [GENESIS, NO_LISTS, ("01001000", 1_048_573)].as_slice(),
+            [GENESIS, NO_LISTS, ("01001000", 5)].as_slice(),
             Status::CutInput,
+            5,
             "",
         ),
     ] {
@@ -308,6 +318,8 @@ fn ends_with_the_input(rt: HostRuntime) -> Result<(), Fail> {
         let came = run_over(alloc, &["any", "import"], &mut input, &mut out)?;
         assert_eq!(rt; came, status, "{pieces:?}");
         assert_eq!(rt; out.taken(), text.as_bytes(), "{pieces:?}");
+        let mut rest = [0; 8];
+        assert_eq!(rt; read_full(&mut input, &mut rest), Ok(left), "{pieces:?}");
     }
     Ok(())
 }
