@@ -32,7 +32,8 @@ impl Model for Builder {
 impl Builder {
     /// A builder with no field.
     pub fn new(alloc: Global) -> Builder
-        ensures { result ≡ [] }
+        ensures empty { result ≡ [] }
+        ensures size { full_size result ≡ 4 }
     {
         Builder {
             alloc,
@@ -41,10 +42,19 @@ impl Builder {
         }
     }
 
-    /// Puts a field, as its encoding, behind the others.
+    /// How many bytes the table, or the dynvec, of the fields has. It is below 2^32.
+    pub fn size(&self) -> u32
+        ensures { result ≡ full_size self.now }
+    {
+        (4 + 4 * self.lengths.len() + self.content.len()) as u32
+    }
+
+    /// Puts a field, as its encoding, behind the others. The whole has to stay below 2^32 bytes: a field
+    /// takes its bytes and an offset.
     pub fn push(&mut self, field: &[u8]) -> Result<(), NoMemory>
-        requires { full_size (self.old ++ field.now ∷ []) < 2 ^ 32 }
+        requires { full_size self.old + 4 + length field.now < 2 ^ 32 }
         ensures ok { OnOk result (self.new ≡ self.old ++ field.now ∷ []) }
+        ensures size { OnOk result (full_size self.new ≡ full_size self.old + 4 + length field.now) }
         ensures err { OnErr result (self.new ≡ self.old) }
     {
         self.lengths.reserve(1)?;

@@ -5,14 +5,6 @@ use Rattle.mol_write.specs.Builder.{fields_of}
 use Rattle.mol_write.proofs.Fields.{sum-push, fields_of-push, full_size-push, full_size-fields_of}
 use Rattle.mol_write.proofs.builder.Builder.push.Goals as goal
 
-pub overflow_cast-field : goal.overflow_cast-field
-overflow_cast-field c = omega (arith, c.requires, full_size-push c.args.self.now c.args.field.now)
-
--- the size of what is held and of one more field
-pushed_size : (sizes content : List ℕ) (fields : List (List ℕ)) (field : List ℕ) → sum sizes ≡ length content → fields_of sizes content ≡ fields
-    → full_size (fields ++ field ∷ []) ≡ 4 + 4 * (length sizes + 1) + (length content + length field)
-pushed_size sizes content fields field fits is = omega (arith, full_size-push fields field, ap full_size is, full_size-fields_of sizes content fits)
-
 pub invariant_of-self-2 : goal.invariant_of-self-2
 invariant_of-self-2 c =
     let sizes : List ℕ = c.self.inside.lengths.items in
@@ -24,7 +16,7 @@ invariant_of-self-2 c =
     let content_len : length c.extend_from_slice.new.self.items ≡ length content + length field = ap length more_content ∙ length-append content field in
     let summed : sum c.push.new.self.items ≡ sum sizes + length field = ap sum more_sizes ∙ sum-push sizes (length field) in (
       omega (arith, c.self.invariant.0),
-      omega (arith, c.requires, pushed_size sizes content c.args.self.now field c.self.invariant.0 c.self.view_is),
+      omega (arith, c.requires, ap full_size c.self.view_is, full_size-fields_of sizes content c.self.invariant.0),
     )
 
 pub returns-clause-ok : goal.returns-clause-ok
@@ -37,3 +29,6 @@ returns-clause-ok c =
     ∙ ap (λ (l : List ℕ). fields_of (sizes ++ length field ∷ []) l) c.in_ok-extend_from_slice.ensures.items
     ∙ fields_of-push sizes content field c.self.invariant.0
     ∙ ap (λ (l : List (List ℕ)). l ++ field ∷ []) c.self.view_is
+
+pub returns-clause-size : goal.returns-clause-size
+returns-clause-size c = ap full_size (returns-clause-ok c) ∙ full_size-push c.args.self.now c.args.field.now
