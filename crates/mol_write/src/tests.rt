@@ -43,10 +43,7 @@ fn empty_block(rt: HostRuntime) -> Result<(), Fail> {
         b"\xf0\0\0\0\x14\0\0\0\xe4\0\0\0\xe8\0\0\0\xec\0\0\0".as_slice()
     );
     assert_eq!(rt; &bytes[20..228], [7; 208].as_slice());
-    assert_eq!(rt;
-        &bytes[228..],
-        b"\x04\0\0\0\x04\0\0\0\0\0\0\0".as_slice()
-    );
+    assert_eq!(rt; &bytes[228..], b"\x04\0\0\0\x04\0\0\0\0\0\0\0".as_slice());
     Ok(())
 }
 
@@ -63,7 +60,8 @@ fn examples(rt: HostRuntime) -> Result<(), Fail> {
     assert_eq!(rt;
         built(&rt, rt.alloc(), &strings)?.dynvec()?.as_slice(),
         b"\x34\0\0\0\x18\0\0\0\x1e\0\0\0\x22\0\0\0\x28\0\0\0\x2d\0\0\0\
-          \x02\0\0\0\x12\x34\0\0\0\0\x02\0\0\0\x05\x67\x01\0\0\0\x89\x03\0\0\0\xab\xcd\xef".as_slice()
+          \x02\0\0\0\x12\x34\0\0\0\0\x02\0\0\0\x05\x67\x01\0\0\0\x89\x03\0\0\0\xab\xcd\xef"
+            .as_slice()
     );
     let mixed: [&[u8]; 5] = [
         b"\0\0\0\0",
@@ -75,7 +73,8 @@ fn examples(rt: HostRuntime) -> Result<(), Fail> {
     assert_eq!(rt;
         built(&rt, rt.alloc(), &mixed)?.table()?.as_slice(),
         b"\x2b\0\0\0\x18\0\0\0\x1c\0\0\0\x1d\0\0\0\x21\0\0\0\x24\0\0\0\
-          \0\0\0\0\xab\x23\x01\0\0\x45\x67\x89\x03\0\0\0\xab\xcd\xef".as_slice()
+          \0\0\0\0\xab\x23\x01\0\0\x45\x67\x89\x03\0\0\0\xab\xcd\xef"
+            .as_slice()
     );
     let mut numbers = Builder::new(rt.alloc());
     numbers.push(b"\x23\x01\0\0")?;

@@ -23,10 +23,10 @@ within-same (suc height) (suc more) items j low high =
     let left = within-same height more items (2 * j + 1) (omega arith) (omega arith) in
     let right = within-same height more items (2 * j + 2) (omega arith) (omega arith) in
     elim (cases_lt j (length items - 1)) [
-      inl inner ↦ within-inner height items j inner
-      ∙ (ap (λ (hash : List ℕ). ckbhash (hash ++ node_within height items (2 * j + 2))) left
-      ∙ ap (λ (hash : List ℕ). ckbhash (node_within more items (2 * j + 1) ++ hash)) right)
-      ∙ sym (within-inner more items j inner)
+      | inl inner ↦ within-inner height items j inner
+          ∙ (ap (λ (hash : List ℕ). ckbhash (hash ++ node_within height items (2 * j + 2))) left
+          ∙ ap (λ (hash : List ℕ). ckbhash (node_within more items (2 * j + 1) ++ hash)) right)
+          ∙ sym (within-inner more items j inner)
       | inr past ↦ within-leaf (suc height) items j past ∙ sym (within-leaf (suc more) items j past)
     ]
 

@@ -12,7 +12,7 @@ known_more : (items inner : List (List ℕ)) (i : ℕ) (hash : List ℕ) → i <
     → (k : ℕ) → i ≤ k → k < length inner → slice_index_or (slice_set inner i hash) k [] ≡ node items k
 known_more items inner i hash within is known k from to =
     elim (cases_eq k i) [
-      inl same ↦ get_or-set_at inner i k hash [] same within ∙ is ∙ ap (node items) (sym same)
+      | inl same ↦ get_or-set_at inner i k hash [] same within ∙ is ∙ ap (node items) (sym same)
       | inr other ↦ let other_is : k ≢ i = other in rw get_or-set_other (known k (omega arith) to)
     ]
 
@@ -27,8 +27,7 @@ inner_nodes-preserved c =
     let children : c.hash_pair.result ≡ ckbhash (node items (2 * (j - 1) + 1) ++ node items (2 * (j - 1) + 2)) =
     c.hash_pair.ensures ∙ ap (λ (hash : List ℕ). ckbhash (hash ++ c.node_at-in-inner_nodes.result.now)) c.node_at.ensures
     ∙ ap (λ (hash : List ℕ). ckbhash (node items (2 * (j - 1) + 1) ++ hash)) c.node_at-in-inner_nodes.ensures in
-    let is : c.hash_pair.result ≡ node items (j - 1) = children ∙ sym (node-inner items (j - 1) (omega (arith, keeps.0))) in
-    (
+    let is : c.hash_pair.result ≡ node items (j - 1) = children ∙ sym (node-inner items (j - 1) (omega (arith, keeps.0))) in (
       omega (arith, keeps.0),
       omega (arith, keeps.1),
       λ k from to. known_more items inner (j - 1) c.hash_pair.result within is (λ i low high. keeps.2 i (omega arith) high) k from (omega arith),

@@ -1,8 +1,7 @@
-use Rattle.std.proofs.Common.{◌≡◌, ℕ, suc, ◌+◌, ◌<◌, List, [], ◌∷◌, ◌++◌, length, map, drop, slice_index_or, refl, sym, ap, ◌∙◌, append_assoc, arith, add-one, drop-cons}
+use Rattle.std.proofs.Common.{◌≡◌, ℕ, ◌+◌, ◌<◌, List, [], ◌∷◌, ◌++◌, length, drop, slice_index_or, sym, ap, ◌∙◌, append_assoc, arith, add-one, drop-cons}
 use Rattle.std.specs.Prelude.{sum}
 use Rattle.std.specs.Int.{w32, to_le_bytes}
 use Rattle.std.proofs.lemmas.List.{append-nil, drop_all}
-use Rattle.codec_defs.specs.Molecule.{offsets}
 use Rattle.mol_write.proofs.Fields.{offsets_by, offsets-lengths, sum-cons}
 use Rattle.mol_write.proofs.builder.push_offsets.Goals as goal
 
@@ -32,13 +31,12 @@ offsets-preserved c =
     let at = c.offsets.at in
     let within : i < length lengths = c.offsets-test.true in
     let others = offsets_by (at + slice_index_or lengths i 0) (drop (i + 1) lengths) in
-    let written : c.extend_from_slice.new.self.items ≡ c.offsets.bytes.items ++ to_le_bytes w32 at = c.in_ok-extend_from_slice.ensures.items ∙ ap (λ (l : List ℕ). c.offsets.bytes.items ++ l) c.to_le_bytes.ensures in
-    (
+    let written : c.extend_from_slice.new.self.items ≡ c.offsets.bytes.items ++ to_le_bytes w32 at = c.in_ok-extend_from_slice.ensures.items ∙ ap (λ (l : List ℕ). c.offsets.bytes.items ++ l) c.to_le_bytes.ensures in (
       omega (arith, c.offsets.invariant.0, sum-left lengths i within),
       ap (λ (l : List ℕ). l ++ others) written
-      ∙ append_assoc c.offsets.bytes.items (to_le_bytes w32 at) others
-      ∙ ap (λ (l : List ℕ). c.offsets.bytes.items ++ l) (sym (offsets-left at lengths i within))
-      ∙ c.offsets.invariant.1,
+          ∙ append_assoc c.offsets.bytes.items (to_le_bytes w32 at) others
+          ∙ ap (λ (l : List ℕ). c.offsets.bytes.items ++ l) (sym (offsets-left at lengths i within))
+          ∙ c.offsets.invariant.1,
     )
 
 pub returns : goal.returns

@@ -1,4 +1,4 @@
-use Rattle.std.proofs.Common.{◌≡◌, ℕ, List, [], ◌∷◌, ◌++◌, length, ap, subst, ◌∙◌, arith}
+use Rattle.std.proofs.Common.{◌≡◌, ℕ, List, ◌++◌, length, ap, subst, ◌∙◌, arith}
 use Rattle.std.specs.Int.{w32, to_le_bytes}
 use Rattle.codec_defs.specs.Molecule.{IsFixvec}
 use Rattle.mol_write.specs.Builder.{AllHaveSize}
@@ -17,4 +17,4 @@ returns c =
     c.in_ok-extend_from_slice-2.ensures.items ∙ ap (λ (l : List ℕ). l ++ c.deref.result.now) counted
     ∙ ap (λ (l : List ℕ). to_le_bytes w32 (length sizes) ++ l) c.deref.ensures.value in
     subst (λ (fields : List (List ℕ)). (size : ℕ) → AllHaveSize size fields → IsFixvec size c.extend_from_slice-2.new.self.items fields) c.self.view_is
-        (is_fixvec sizes content c.extend_from_slice-2.new.self.items c.self.invariant.0 (omega (arith, c.self.invariant.1)) whole)
+    (is_fixvec sizes content c.extend_from_slice-2.new.self.items c.self.invariant.0 (omega (arith, c.self.invariant.1)) whole)

@@ -1,4 +1,4 @@
-use Rattle.std.proofs.Common.{◌≡◌, ap, sym, ◌∙◌, arith}
+use Rattle.std.proofs.Common.{ap, arith}
 use Rattle.codec_defs.specs.Molecule.{full_size}
 use Rattle.mol_write.proofs.Fields.{full_size-fields_of}
 use Rattle.mol_write.proofs.builder.Builder.size.Goals as goal
