@@ -1,0 +1,15 @@
+use Rattle.std.proofs.Common.{rules, ◌≡◌, [], refl, ap, ◌∙◌}
+use Rattle.codec_defs.specs.Molecule.{full_size, header_size}
+use Rattle.mol_write.specs.Builder.{fields_of}
+use Rattle.mol_write.proofs.builder.Builder.new.Goals as goal
+
+pub returns-clause-empty : goal.returns-clause-empty
+unfolding fields_of
+returns-clause-empty c = search rules
+
+none_size : full_size [] ≡ 4
+unfolding full_size header_size
+none_size = refl
+
+pub returns-clause-size : goal.returns-clause-size
+returns-clause-size c = ap full_size (returns-clause-empty c) ∙ none_size

@@ -1,0 +1,12 @@
+-- What a `Builder` holds.
+use Rattle.std.specs.Prelude.{◌≡◌, ℕ, List, [], ◌∷◌, length, take, drop}
+use Rattle.std.specs.List.{AllByRecursion}
+
+-- the fields that lie side by side in the content, by their lengths
+unfoldable pub fields_of : List ℕ → List ℕ → List (List ℕ)
+fields_of [] content = []
+fields_of (size ∷ sizes) content = take size content ∷ fields_of sizes (drop size content)
+
+-- each field has `size` bytes
+abbrev pub AllHaveSize : ℕ → List (List ℕ) → Type 0
+AllHaveSize size fields = AllByRecursion (λ field. length field ≡ size) fields
