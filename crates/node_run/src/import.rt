@@ -1,6 +1,6 @@
 // The command `import`: a genesis and blocks, each answered by a line.
 ghost use Rattle.std.specs.Prelude.{◌≡◌, ◌↔◌, ◌≤◌, Err, IsTrue};
-ghost use Rattle.outside.specs.Causes.{Rose};
+ghost use Rattle.outside.specs.Causes.{CountsFault};
 ghost use Rattle.rule_defs.specs.Verdict as rules;
 ghost use Rattle.report_defs.specs.Text.{line};
 ghost use Rattle.report_defs.specs.Report.{import_limits, report_of_input};
@@ -27,8 +27,7 @@ struct Ended {
 /// Reads the genesis, and answers what is kept and the offset behind it.
 fn read_genesis<S: Source>(alloc: Global, input: &mut S) -> Result<(Kept, u64), Status>
     ensures genesis { Gave (S.left input.old) (S.left input.new) (IsGenesis (S.left input.new) result) }
-    ensures later { S.faults input.old ≤ S.faults input.new }
-    ensures fault { result ≡ Err Status.InputFault → Rose (S.faults input.old) (S.faults input.new) }
+    ensures faults { CountsFault (S.faults input.old) (S.faults input.new) (result ≡ Err Status.InputFault) }
 {
     let item = match next_item(alloc, input, 0) {
         Ok(Next::Item(item)) => item,
@@ -46,8 +45,7 @@ fn read_genesis<S: Source>(alloc: Global, input: &mut S) -> Result<(Kept, u64), 
 /// Hands all of a text to the sink.
 fn write_text<K: Sink>(out: &mut K, text: &[u8]) -> Result<(), Status>
     ensures written { Took (K.taken out.old) (K.taken out.new) (IsWritten text.now result) }
-    ensures later { K.faults out.old ≤ K.faults out.new }
-    ensures fault { result ≡ Err Status.SinkFault → Rose (K.faults out.old) (K.faults out.new) }
+    ensures faults { CountsFault (K.faults out.old) (K.faults out.new) (result ≡ Err Status.SinkFault) }
 {
     match write_all(out, text) {
         Ok(()) => Ok(()),
@@ -64,8 +62,7 @@ fn import_item<K: Sink>(
 ) -> Result<Verdict, Status>
     ensures judged { IsJudged kept.old kept.new item.items result }
     ensures written { Took (K.taken out.old) (K.taken out.new) (IsWritten (line (rules.verdict kept.old item.items)) result) }
-    ensures later { K.faults out.old ≤ K.faults out.new }
-    ensures fault { result ≡ Err Status.SinkFault → Rose (K.faults out.old) (K.faults out.new) }
+    ensures faults { CountsFault (K.faults out.old) (K.faults out.new) (result ≡ Err Status.SinkFault) }
 {
     let verdict = match kept.import(item) {
         Ok(verdict) => verdict,
@@ -92,10 +89,8 @@ fn import_items<S: Source, K: Sink>(
     requires { start ≤ import_limits.input }
     ensures imported { Passed (S.left input.old) (S.left input.new) (K.taken out.old) (K.taken out.new)
         (AreImported kept.old kept.new start (S.left input.new) result) }
-    ensures input_later { S.faults input.old ≤ S.faults input.new }
-    ensures out_later { K.faults out.old ≤ K.faults out.new }
-    ensures input_fault { result ≡ Err Status.InputFault → Rose (S.faults input.old) (S.faults input.new) }
-    ensures sink_fault { result ≡ Err Status.SinkFault → Rose (K.faults out.old) (K.faults out.new) }
+    ensures input_faults { CountsFault (S.faults input.old) (S.faults input.new) (result ≡ Err Status.InputFault) }
+    ensures out_faults { CountsFault (K.faults out.old) (K.faults out.new) (result ≡ Err Status.SinkFault) }
 {
     let mut offset = start;
     let mut refused = false;
@@ -118,8 +113,7 @@ fn import_items<S: Source, K: Sink>(
 /// Writes the line of the tip.
 fn write_tip<K: Sink>(alloc: Global, out: &mut K, kept: &Kept) -> Result<(), Status>
     ensures tip { Took (K.taken out.old) (K.taken out.new) (IsWritten (tip_line_of_kept kept.now) result) }
-    ensures later { K.faults out.old ≤ K.faults out.new }
-    ensures fault { result ≡ Err Status.SinkFault → Rose (K.faults out.old) (K.faults out.new) }
+    ensures faults { CountsFault (K.faults out.old) (K.faults out.new) (result ≡ Err Status.SinkFault) }
 {
     let tip = kept.tip();
     let text = match tip_line(alloc, tip.number, &tip.hash) {
@@ -146,10 +140,8 @@ pub fn import<S: Source, K: Sink>(alloc: Global, input: &mut S, out: &mut K) -> 
     ensures text { Passed (S.left input.old) (S.left input.new) (K.taken out.old) (K.taken out.new)
         (λ given taken. TellsReport report_of_input given (S.left input.new) taken result × ImportsInOrder given (S.left input.new) taken result) }
     ensures status { IsImportStatus result }
-    ensures input_later { S.faults input.old ≤ S.faults input.new }
-    ensures out_later { K.faults out.old ≤ K.faults out.new }
-    ensures input_fault { result ≡ Status.InputFault → Rose (S.faults input.old) (S.faults input.new) }
-    ensures sink_fault { result ≡ Status.SinkFault → Rose (K.faults out.old) (K.faults out.new) }
+    ensures input_faults { CountsFault (S.faults input.old) (S.faults input.new) (result ≡ Status.InputFault) }
+    ensures out_faults { CountsFault (K.faults out.old) (K.faults out.new) (result ≡ Status.SinkFault) }
 {
     let (mut kept, start) = match read_genesis(alloc, input) {
         Ok(genesis) => genesis,

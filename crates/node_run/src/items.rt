@@ -2,7 +2,7 @@
 ghost use Rattle.std.specs.Prelude.{◌≡◌, ◌+◌, ◌<◌, ◌≤◌, ◌++◌, ℕ, List, length, take, drop, IfOk, OnErr};
 ghost use Rattle.std.specs.Int.{w32, from_le_bytes};
 ghost use Rattle.std.specs.Io.KnownBytes.{IsAtEnd};
-ghost use Rattle.outside.specs.Causes.{HasCause, Rose};
+ghost use Rattle.outside.specs.Causes.{HasCause, CountsFault};
 ghost use Rattle.outside.specs.Streams.{Gives};
 ghost use Rattle.report_defs.specs.Report.{import_limits};
 ghost use Rattle.node_run.specs.Items.{Gave, IsNext};
@@ -28,8 +28,7 @@ pub enum Next {
 pub fn next_item<S: Source>(alloc: Global, input: &mut S, offset: u64) -> Result<Next, Status>
     requires { offset ≤ import_limits.input }
     ensures next { Gave (S.left input.old) (S.left input.new) (IsNext offset (S.left input.new) result) }
-    ensures later { S.faults input.old ≤ S.faults input.new }
-    ensures fault { result ≡ Err Status.InputFault → Rose (S.faults input.old) (S.faults input.new) }
+    ensures faults { CountsFault (S.faults input.old) (S.faults input.new) (result ≡ Err Status.InputFault) }
 {
     let mut word = [0u8; 4];
     let n = match read_full(input, &mut word) {
@@ -54,8 +53,7 @@ fn item_of_word<S: Source>(
 ) -> Result<Next, Status>
     requires { offset ≤ import_limits.input }
     ensures next { Gave (S.left input.old) (S.left input.new) (λ given. IsNext offset (S.left input.new) result (word.now ++ given)) }
-    ensures later { S.faults input.old ≤ S.faults input.new }
-    ensures fault { result ≡ Err Status.InputFault → Rose (S.faults input.old) (S.faults input.new) }
+    ensures faults { CountsFault (S.faults input.old) (S.faults input.new) (result ≡ Err Status.InputFault) }
 {
     let size = u32::from_le_bytes(*word) as usize;
     if size < 4 || size > ITEM_LIMIT {
@@ -77,8 +75,7 @@ fn item_of_size<S: Source>(
     requires most { size ≤ import_limits.item }
     requires within { offset ≤ import_limits.input }
     ensures next { Gave (S.left input.old) (S.left input.new) (λ given. IsNext offset (S.left input.new) result (word.now ++ given)) }
-    ensures later { S.faults input.old ≤ S.faults input.new }
-    ensures fault { result ≡ Err Status.InputFault → Rose (S.faults input.old) (S.faults input.new) }
+    ensures faults { CountsFault (S.faults input.old) (S.faults input.new) (result ≡ Err Status.InputFault) }
 {
     if offset + size as u64 > INPUT_LIMIT {
         return Ok(Next::End(End::Extra));

@@ -1,6 +1,6 @@
 // The one call.
-ghost use Rattle.std.specs.Prelude.{◌≡◌, ◌↔◌, ◌≤◌, None, Some, map, string_bytes};
-ghost use Rattle.outside.specs.Causes.{Rose};
+ghost use Rattle.std.specs.Prelude.{◌≡◌, ◌↔◌, None, Some, map, string_bytes};
+ghost use Rattle.outside.specs.Causes.{CountsFault};
 ghost use Rattle.report_defs.specs.Words.{command_of};
 ghost use Rattle.report_defs.specs.Report.{report};
 ghost use Rattle.report_defs.specs.Promise.{TellsReport, ImportsInOrder, IsRunStatus};
@@ -33,12 +33,12 @@ pub fn run<S: Source, K: Sink, D: Disk, L: Ledger>(
     ensures words { (result ≡ Status.BadWords) ↔ (command_of (map string_bytes words.now) ≡ None) }
     ensures silent { result ≡ Status.BadWords → (input.new ≡ input.old) × (out.new ≡ out.old) }
 
-    // A fault is answered only where its count rose, and no other status comes yet.
+    // A fault is answered where its count rose, and the count stands still with every other answer.
+    ensures input_faults { CountsFault (S.faults input.old) (S.faults input.new) (result ≡ Status.InputFault) }
+    ensures out_faults { CountsFault (K.faults out.old) (K.faults out.new) (result ≡ Status.SinkFault) }
+
+    // No other status comes yet than those of `import`.
     ensures status { IsRunStatus result }
-    ensures input_fault { result ≡ Status.InputFault → Rose (S.faults input.old) (S.faults input.new) }
-    ensures sink_fault { result ≡ Status.SinkFault → Rose (K.faults out.old) (K.faults out.new) }
-    ensures input_later { S.faults input.old ≤ S.faults input.new }
-    ensures out_later { K.faults out.old ≤ K.faults out.new }
 
     // The disk is not called, and no step is counted.
     ensures disk { disk.new ≡ disk.old }
