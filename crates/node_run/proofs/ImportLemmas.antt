@@ -4,7 +4,7 @@ use Rattle.std.specs.Prelude.{Option, Ok, Err}
 use Rattle.std.specs.List.{concat, list_any, flat_map, AllByRecursion}
 use Rattle.std.proofs.lemmas.List.Concat.{flat_map-append}
 use Rattle.std.proofs.lemmas.List.Folds.{list_any-append}
-use Rattle.outside.specs.Causes.{Rose}
+use Rattle.outside.specs.Causes.{CountsFault}
 use Rattle.outside.specs.Streams.{Gives, Takes}
 use Rattle.outside.proofs.Streams.{gives_none, gives_more, takes_none, takes_more}
 use Rattle.codec_defs.specs.Schema.{Block}
@@ -193,9 +193,22 @@ writing_stops SinkFault stop = tt
 writing_stops NoMemory stop = tt
 writing_stops _ stop = absurd stop
 
--- a count that rose since later has risen
-pub rose_since : (before later now : ℕ) → before ≤ later → Rose later now → Rose before now
-rose_since before later now first second = omega arith
+-- no fault was met
+pub no_fault : {Fault : Type 0} (before now : ℕ) → now ≡ before → (Fault → ⊥) → CountsFault before now Fault
+no_fault before now calm never = record {
+  later = omega (arith, calm);
+  rose = λ fault. absurd (never fault);
+  calm = λ _. calm;
+}
+
+-- a count that stood still, and then counts the same fault
+pub then_counts : {First Fault : Type 0} (before still now : ℕ) → still ≡ before → CountsFault still now First → (Fault → First) → (First → Fault)
+    → CountsFault before now Fault
+then_counts before still now calm counts there back = record {
+  later = omega (arith, calm, counts.later);
+  rose = λ fault. rw (← calm) (counts.rose (there fault));
+  calm = λ never. counts.calm (λ first. never (back first)) ∙ calm;
+}
 
 -- `a || b` where a is known
 pub or_then : (a b : Bool) → a ≡ true → (a || b) ≡ a

@@ -1,4 +1,4 @@
-use Rattle.std.proofs.Common.{◌-◌, ◌≤◌}
+use Rattle.std.proofs.Common.{◌≡◌, ◌-◌}
 use Rattle.report_defs.specs.Report.{import_limits}
 use Rattle.node_run.proofs.ImportLemmas.{Whole}
 use Rattle.node_run.proofs.import.import_items.Given as goal
@@ -6,8 +6,8 @@ use Rattle.node_run.proofs.import.import_items.Given as goal
 abbrev pub invariant-items : goal.invariant-items
 invariant-items g l = record {
   whole : Whole l.fn.kept l.fn.start l.offset (g.S.Source.left l.fn.input) (g.S.Source.left l.input) (g.K.Sink.taken l.fn.out) (g.K.Sink.taken l.out) l.kept l.refused;
-  input_later : g.S.Source.faults l.fn.input ≤ g.S.Source.faults l.input;
-  out_later : g.K.Sink.faults l.fn.out ≤ g.K.Sink.faults l.out;
+  input_calm : g.S.Source.faults l.input ≡ g.S.Source.faults l.fn.input;
+  out_calm : g.K.Sink.faults l.out ≡ g.K.Sink.faults l.fn.out;
 }
 
 -- the input has a limit, and each item takes some of it
