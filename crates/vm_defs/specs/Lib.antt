@@ -4,3 +4,4 @@ pub mod Table
 pub mod Compressed
 pub mod Decode
 pub mod Alu
+pub mod Memory

@@ -6,10 +6,13 @@
 //! - specs/Row.antt, specs/Table.antt, specs/Compressed.antt: the instruction table, a row for each form.
 //!   specs/Decode.antt: the instruction that a word encodes.
 //! - specs/Alu.antt: the values of the operations.
+//! - specs/Memory.antt: memory, and what is loaded, stored and fetched.
 #![tactic(auto)]
 
 mod alu;
 mod ins;
+mod memory;
 
 pub use alu::Alu;
 pub use ins::Ins;
+pub use memory::{MemFault, PageKind, Width};
