@@ -1,6 +1,6 @@
 -- What contracts see of a `Memory`: the machine's memory, and which of its pages have room of their own.
-use Rattle.std.specs.Prelude.{◌≡◌, ℕ, ◌+◌, ◌/◌, ◌<◌, Bool, true, false, List, IsTrue, slice_index_or, Result, Ok, Err}
-use Rattle.vm_defs.specs.Memory.{Memory, page_size}
+use Rattle.std.specs.Prelude.{◌≡◌, Bool, List, Result, Ok, Err}
+use Rattle.vm_defs.specs.Memory.{Memory}
 use Rattle.vm_defs.specs.declared.memory.MemFault.{MemFault}
 use Rattle.vm_mem.specs.declared.stop.MemStop.{MemStop}
 use Rattle.vm_mem.specs.declared.stop.MemStop.TheVariants.{Fault, NoMemory}
@@ -8,14 +8,6 @@ use Rattle.vm_mem.specs.declared.stop.MemStop.TheVariants.{Fault, NoMemory}
 pub record PagedMemory : Type 0 where
   pub memory : Memory
   pub made : List Bool
-
--- the page of an address was stored to before
-abbrev pub IsMadeAt : PagedMemory → ℕ → Type 0
-IsMadeAt paged at = IsTrue (slice_index_or paged.made (at / page_size) false)
-
--- and so were the pages of a range of bytes
-abbrev pub AreMade : PagedMemory → ℕ → ℕ → Type 0
-AreMade paged at count = (i : ℕ) → i < count → IsMadeAt paged (at + i)
 
 -- A store: what the machine's memory is to become, or the fault; memory before and after; the answer. A
 -- fault is found before memory is taken, and a refused store leaves each byte as it was.

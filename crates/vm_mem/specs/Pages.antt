@@ -1,5 +1,5 @@
 -- Pages that take memory only once they are stored to: the bytes of such a page, or none.
-use Rattle.std.specs.Prelude.{◌≡◌, ℕ, ◌+◌, ◌==◌, nat_lt, Bool, List, [], ◌∷◌, length, map, replicate, if◌then◌else◌, ◌⊎◌}
+use Rattle.std.specs.Prelude.{◌≡◌, ℕ, ◌+◌, ◌/◌, ◌<◌, ◌==◌, nat_lt, Bool, false, IsTrue, slice_index_or, List, [], ◌∷◌, length, map, replicate, if◌then◌else◌, ◌⊎◌}
 use Rattle.std.specs.List.{concat, All}
 use Rattle.vm_defs.specs.Memory.{page_size, overwritten}
 
@@ -23,3 +23,10 @@ pages_of contents = record { bytes = concat (map whole contents); made = map is_
 
 abbrev pub written : Pages → ℕ → List ℕ → Pages
 written pages at bytes = record pages { bytes = overwritten pages.bytes at bytes }
+
+-- a page has room of its own, and so have the pages of a range of bytes
+abbrev pub IsMade : List Bool → ℕ → Type 0
+IsMade made page = IsTrue (slice_index_or made page false)
+
+abbrev pub AreMade : List Bool → ℕ → ℕ → Type 0
+AreMade made at count = (i : ℕ) → i < count → IsMade made ((at + i) / page_size)
