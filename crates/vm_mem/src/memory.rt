@@ -1,5 +1,5 @@
 // The machine's memory.
-ghost use Rattle.std.specs.Prelude.{◌≡◌, ◌≢◌, ℕ, ◌+◌, ◌*◌, ◌%◌, ◌≤◌, length, false, replicate, Ok, Err, if◌then◌else◌, OnOk, IfOk};
+ghost use Rattle.std.specs.Prelude.{◌≡◌, ◌≢◌, ℕ, ◌+◌, ◌*◌, ◌%◌, ◌≤◌, length, false, replicate, Ok, Err, if◌then◌else◌, OnOk, OnErr, IfOk, ◌↔◌};
 ghost use Rattle.std.specs.List.{list_any};
 ghost use Rattle.vm_defs.specs.Memory.{byte_count, bytes_of, fetch, fetch_pair, is_code, is_out_of_range, kinds_under, load, memory_size, new_memory, page_size, page_count, set_code, store};
 ghost use Rattle.vm_mem.specs.Pages.{AreMade, IsMade};

@@ -44,6 +44,7 @@ impl Pages {
         Ok(Pages { pages })
     }
 
+    #[tactic(auto, unfolding(vm_defs::specs::Memory::memory_size, vm_defs::specs::Memory::page_count))]
     #[inline]
     pub(crate) fn read_u8(&self, at: usize) -> u8
         requires { at + 1 ≤ memory_size }
@@ -52,6 +53,7 @@ impl Pages {
         page::read_u8(&self.pages[at / PAGE_SIZE], at % PAGE_SIZE)
     }
 
+    #[tactic(auto, unfolding(vm_defs::specs::Memory::memory_size, vm_defs::specs::Memory::page_count))]
     #[inline]
     pub(crate) fn read_u16(&self, at: usize) -> u16
         requires { at + 2 ≤ memory_size }
@@ -63,6 +65,7 @@ impl Pages {
         page::read_u16(&self.pages[at / PAGE_SIZE], at % PAGE_SIZE)
     }
 
+    #[tactic(auto, unfolding(vm_defs::specs::Memory::memory_size, vm_defs::specs::Memory::page_count))]
     #[inline]
     pub(crate) fn read_u32(&self, at: usize) -> u32
         requires { at + 4 ≤ memory_size }
@@ -74,6 +77,7 @@ impl Pages {
         page::read_u32(&self.pages[at / PAGE_SIZE], at % PAGE_SIZE)
     }
 
+    #[tactic(auto, unfolding(vm_defs::specs::Memory::memory_size, vm_defs::specs::Memory::page_count))]
     #[inline]
     pub(crate) fn read_u64(&self, at: usize) -> u64
         requires { at + 8 ≤ memory_size }

@@ -1,0 +1,4 @@
+pub mod Numbers
+pub mod Paging
+pub mod Wholes
+pub mod Placed
