@@ -2,3 +2,4 @@ pub mod Numbers
 pub mod Paging
 pub mod Wholes
 pub mod Placed
+pub mod Edited

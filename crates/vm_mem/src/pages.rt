@@ -33,6 +33,7 @@ impl Model for Pages {
 
 impl Pages {
     /// Pages that are all zero.
+    #[tactic(auto, unfolding(vm_defs::specs::Memory::page_count))]
     pub(crate) fn new(alloc: Global) -> Result<Pages, NoMemory>
         ensures bytes { IfOk result (λ pages. pages.bytes ≡ replicate memory_size 0) }
         ensures made { IfOk result (λ pages. pages.made ≡ replicate page_count false) }
@@ -90,6 +91,7 @@ impl Pages {
     }
 
     // Gives one page room of its own.
+    #[tactic(auto, unfolding(vm_defs::specs::Memory::memory_size, vm_defs::specs::Memory::page_count))]
     #[inline]
     fn make_page(&mut self, alloc: Global, page: usize) -> Result<(), NoMemory>
         requires { page < page_count }
@@ -104,6 +106,7 @@ impl Pages {
     }
 
     /// Gives the pages of a range of bytes room of their own.
+    #[tactic(auto, unfolding(vm_defs::specs::Memory::memory_size, vm_defs::specs::Memory::page_count))]
     #[inline]
     pub(crate) fn make(&mut self, alloc: Global, at: usize, count: usize) -> Result<(), NoMemory>
         requires { at + count ≤ memory_size }
@@ -124,6 +127,7 @@ impl Pages {
     }
 
     // Writes bytes within one page.
+    #[tactic(auto, unfolding(vm_defs::specs::Memory::memory_size, vm_defs::specs::Memory::page_count))]
     #[inline]
     fn write_page(&mut self, at: usize, bytes: &[u8])
         requires made { IsMade self.old.made (at / page_size) }
@@ -131,12 +135,11 @@ impl Pages {
         requires within { at % page_size + length bytes.now ≤ page_size }
         ensures { self.new ≡ written self.old at bytes.now }
     {
-        let offset = at % PAGE_SIZE;
-        let page = &mut self.pages[at / PAGE_SIZE];
-        page[offset..offset + bytes.len()].copy_from_slice(bytes);
+        page::overwrite(&mut self.pages[at / PAGE_SIZE], at % PAGE_SIZE, bytes);
     }
 
     /// Writes bytes to pages that have room of their own.
+    #[tactic(auto, unfolding(vm_defs::specs::Memory::memory_size, vm_defs::specs::Memory::page_count))]
     #[inline]
     pub(crate) fn write(&mut self, at: usize, bytes: &[u8])
         requires memory { at + length bytes.now ≤ memory_size }
