@@ -75,6 +75,13 @@ made-full f pages page i all is h made =
     let sized' : IsPage (f page) = subst (λ p. IsPage (f p)) (sym is) sized in
     elim sized' [ inl none ↦ absurd (false≢true (sym (rw none refl) ∙ it)) | inr full ↦ full ]
 
+pub page-full : {X : Type 0} (f : X → List ℕ) (pages : List X) (page : X) (at : ℕ) (paged : Pages) → AreSound f pages
+    → page ≡ get_or pages (at / page_size) page → at < memory_size → pages_of (map f pages) ≡ paged → IsMade paged.made (at / page_size)
+    → length (f page) ≡ page_size
+page-full f pages page at paged all is h view made =
+    let made' = subst (λ p. IsMade p.made (at / page_size)) (sym view) made in
+    made-full f pages page (at / page_size) all is (page-below at (length pages) all.0 h) made'
+
 -- a page is written
 length-overwritten : (page : List ℕ) (o : ℕ) (bytes : List ℕ) → o + length bytes ≤ length page → length (overwritten page o bytes) ≡ length page
 length-overwritten page o bytes h =
@@ -116,3 +123,14 @@ pub same-pages : (contents contents' : List (List ℕ)) (at : ℕ) (bytes : List
     → concat (map whole contents') ≡ overwritten (concat (map whole contents)) at bytes → map is_made contents' ≡ map is_made contents
     → pages_of contents' ≡ written (pages_of contents) at bytes
 same-pages contents contents' at bytes b m = rw (b, m) refl
+
+pub write-pages : {X : Type 0} (f : X → List ℕ) (pages : List X) (page new : X) (at : ℕ) (bytes : List ℕ) (paged : Pages) → AreSound f pages
+    → page ≡ get_or pages (at / page_size) page → at < memory_size → at % page_size + length bytes ≤ page_size
+    → length (f page) ≡ page_size → f new ≡ overwritten (f page) (at % page_size) bytes → pages_of (map f pages) ≡ paged
+    → pages_of (map f (set pages (at / page_size) new)) ≡ written paged at bytes
+write-pages f pages page new at bytes paged all is h le full edit view =
+    let below = page-below at (length pages) all.0 h in
+    let full' = written-is-page (f page) (f new) (at % page_size) bytes full le edit in
+    rw (← view) (same-pages (map f pages) (map f (set pages (at / page_size) new)) at bytes
+        (write-bytes f pages page new at bytes all is h le full edit)
+        (write-made f pages page new (at / page_size) is below full full'))

@@ -3,3 +3,4 @@ pub mod Paging
 pub mod Wholes
 pub mod Placed
 pub mod Edited
+pub mod Zeros
