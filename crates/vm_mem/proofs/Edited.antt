@@ -1,9 +1,9 @@
 -- A page that is made, or written, among the pages of memory.
 use Rattle.std.proofs.Common.{◌≡◌, ℕ, zero, suc, ◌+◌, ◌-◌, ◌*◌, ◌/◌, ◌%◌, ◌<◌, ◌≤◌, Bool, true, false, ◌==◌, nat_lt, IsTrue, List, [], ◌∷◌, ◌++◌, length, take, drop, set, replicate, get_or, map, refl, sym, ◌∙◌, ap, subst, arith, rules, inl, inr, length-set}
 use Rattle.std.specs.List.{concat, All}
-use Rattle.std.proofs.lemmas.List.{get_or-map, get_or_default, length-map, map-set, set-get_or, length-replicate, length-append, length-take-le, length-drop}
+use Rattle.std.proofs.lemmas.List.{get_or-map, get_or_default, length-map, map-set, set-get_or, get_or-set_same, get_or-set_other, length-replicate, length-append, length-take-le, length-drop}
 use Rattle.std.proofs.lemmas.List.Elements.{All-set, All-get_or}
-use Rattle.std.proofs.lemmas.Bool.{false≢true}
+use Rattle.std.proofs.lemmas.Bool.{false≢true, cases_eq}
 use Rattle.vm_defs.specs.Memory.{page_size, page_count, memory_size, overwritten}
 use Rattle.vm_mem.specs.Pages.{IsPage, IsMade, whole, is_made, Pages, pages_of, written}
 use Rattle.vm_mem.proofs.Paging.{write-concat}
@@ -57,10 +57,23 @@ is_made-full page h = grind arith
 is_made-empty : (page : List ℕ) → true ≡ (length page == 0) → is_made page ≡ false
 is_made-empty page h = grind arith
 
-pub made-again : {X : Type 0} (f : X → List ℕ) (pages : List X) (page : X) (i : ℕ) → page ≡ get_or pages i page → i < length pages
-    → false ≡ (length (f page) == 0) → map is_made (map f pages) ≡ set (map is_made (map f pages)) i true
-made-again f pages page i is h full =
-    rw (← is_made-full (f page) full, ← through f is_made pages page i true is h) (sym (set-get_or (map is_made (map f pages)) i true))
+pub full-is-made : {X : Type 0} (f : X → List ℕ) (pages : List X) (page : X) (i : ℕ) → page ≡ get_or pages i page → i < length pages
+    → false ≡ (length (f page) == 0) → IsMade (map is_made (map f pages)) i
+full-is-made f pages page i is h full = through f is_made pages page i false is h ∙ is_made-full (f page) full
+
+pub make-is-made : {X : Type 0} (f : X → List ℕ) (pages : List X) (new : X) (i : ℕ) → i < length pages → f new ≡ replicate page_size 0
+    → IsMade (map is_made (map f (set pages i new))) i
+make-is-made f pages new i h zeros =
+    rw (make-made f pages new i zeros)
+    (get_or-set_same (map is_made (map f pages)) i true false (rw (length-map (map f pages) is_made, length-map pages f) h))
+
+pub make-stays : {X : Type 0} (f : X → List ℕ) (pages : List X) (new : X) (i : ℕ) → i < length pages → f new ≡ replicate page_size 0
+    → (other : ℕ) → IsMade (map is_made (map f pages)) other → IsMade (map is_made (map f (set pages i new))) other
+make-stays f pages new i h zeros other made =
+    elim (cases_eq other i) [
+        inl same ↦ rw same (make-is-made f pages new i h zeros)
+      | inr apart ↦ rw (make-made f pages new i zeros, get_or-set_other (map is_made (map f pages)) i other true false apart) made
+    ]
 
 pub empty-not-made : {X : Type 0} (f : X → List ℕ) (pages : List X) (page : X) (i : ℕ) → page ≡ get_or pages i page → i < length pages
     → true ≡ (length (f page) == 0) → IsMade (map is_made (map f pages)) i → ⊥

@@ -4,3 +4,5 @@ pub mod Wholes
 pub mod Placed
 pub mod Edited
 pub mod Zeros
+pub mod Making
+pub mod Overwriting

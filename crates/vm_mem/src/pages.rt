@@ -1,6 +1,5 @@
 // Bytes in pages that take memory at their first store.
-ghost use Rattle.std.specs.Prelude.{◌≡◌, ℕ, ◌+◌, ◌*◌, ◌/◌, ◌%◌, ◌<◌, ◌≤◌, length, false, true, replicate, slice_range, slice_set, IsOk, OnOk, IfOk, if◌then◌else◌};
-ghost use Rattle.std.specs.Result.{is_ok};
+ghost use Rattle.std.specs.Prelude.{◌≡◌, ℕ, ◌+◌, ◌*◌, ◌/◌, ◌%◌, ◌<◌, ◌≤◌, length, false, replicate, slice_range, IsOk, OnOk, IfOk};
 ghost use Rattle.vm_defs.specs.Memory.{number_of, memory_size, page_size, page_count};
 ghost use Rattle.vm_mem.specs.Pages.{AreMade, IsMade, written};
 
@@ -96,7 +95,8 @@ impl Pages {
     fn make_page(&mut self, alloc: Global, page: usize) -> Result<(), NoMemory>
         requires { page < page_count }
         ensures bytes { self.new.bytes ≡ self.old.bytes }
-        ensures made { self.new.made ≡ (if is_ok result then slice_set self.old.made page true else self.old.made) }
+        ensures made { OnOk result (IsMade self.new.made page) }
+        ensures stay { (other : ℕ) → IsMade self.old.made other → IsMade self.new.made other }
         ensures again { IsMade self.old.made page → IsOk result }
     {
         if self.pages[page].is_empty() {

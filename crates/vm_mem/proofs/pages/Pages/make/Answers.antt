@@ -1,37 +1,30 @@
-use Rattle.std.proofs.Common.{rules, ◌≡◌, ℕ, ◌+◌, ◌*◌, ◌/◌, ◌%◌, ◌<◌, ◌≤◌, length, false, true, replicate, slice_range, slice_set, IsOk, OnOk, IfOk, if◌then◌else◌, ◌-◌, Bool, nat_eq, nat_lt, List, [], ◌∷◌, ◌++◌, slice_index_or, bit_and, bit_or, Fits, w8, w32, w64, Bor, MutBor}
-use Rattle.std.specs.Result.{is_ok}
-use Rattle.vm_defs.specs.Memory.{number_of, memory_size, page_size, page_count}
-use Rattle.vm_mem.specs.Pages.{AreMade, IsMade, written}
+use Rattle.std.proofs.Common.{◌∙◌, rules, arith}
+use Rattle.std.proofs.lemmas.Bool.{false≢true}
+use Rattle.vm_mem.proofs.Making.{making-none, making-more, making-all, made-of}
 use Rattle.vm_mem.proofs.pages.Pages.make.Goals as goal
 
--- src/pages.rt:123:9
 pub loop-page-init : goal.loop-page-init
-loop-page-init c = ?
+loop-page-init c = making-none c.args.self.now _
 
--- src/pages.rt:124:13
 pub returns-in_err-make_page-clause-bytes : goal.returns-in_err-make_page-clause-bytes
-returns-in_err-make_page-clause-bytes c = ?
+returns-in_err-make_page-clause-bytes c = c.make_page.ensures.bytes ∙ c.loop-page.invariant.bytes
 
--- src/pages.rt:124:13
 pub returns-in_err-make_page-clause-stay : goal.returns-in_err-make_page-clause-stay
-returns-in_err-make_page-clause-stay c = ?
+returns-in_err-make_page-clause-stay c page was = c.make_page.ensures.stay page (c.loop-page.invariant.stay page was)
 
--- src/pages.rt:124:13
 pub returns-in_err-make_page-clause-again : goal.returns-in_err-make_page-clause-again
-returns-in_err-make_page-clause-again c = ?
+returns-in_err-make_page-clause-again c all = absurd (false≢true (c.in_err-make_page.ensures.again (c.loop-page.invariant.stay c.loop-page.page
+    (made-of c.args.self.now c.args.at c.args.count c.loop-page.page (search rules) (search rules) (search rules) all))))
 
--- src/pages.rt:123:9
 pub loop-page-preserved : goal.loop-page-preserved
-loop-page-preserved c = ?
+loop-page-preserved c = making-more c.args.self.now c.loop-page.self c.make_page.new.self _ _ c.loop-page.invariant c.make_page.ensures.bytes
+    c.make_page.ensures.stay c.in_ok-make_page.ensures.made
 
--- src/pages.rt:109:5
 pub returns-clause-bytes : goal.returns-clause-bytes
-returns-clause-bytes c = ?
+returns-clause-bytes c = c.loop-page.invariant.bytes
 
--- src/pages.rt:109:5
 pub returns-clause-made : goal.returns-clause-made
-returns-clause-made c = ?
+returns-clause-made c = making-all c.args.self.now c.loop-page.self c.args.at c.args.count c.loop-page.page c.loop-page.invariant (omega (arith, c.loop-page-test.false))
 
--- src/pages.rt:109:5
 pub returns-clause-stay : goal.returns-clause-stay
-returns-clause-stay c = ?
+returns-clause-stay c = c.loop-page.invariant.stay

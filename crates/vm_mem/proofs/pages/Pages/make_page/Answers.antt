@@ -1,6 +1,6 @@
-use Rattle.std.proofs.Common.{◌≡◌, replicate, ◌<◌, length, rules, refl, sym, ◌∙◌}
-use Rattle.vm_defs.specs.Memory.{page_count, page_size}
-use Rattle.vm_mem.proofs.Edited.{empty-not-made, make-bytes, make-made, made-again, sound, zeros-are-page}
+use Rattle.std.proofs.Common.{rules}
+use Rattle.vm_defs.specs.Memory.{page_count}
+use Rattle.vm_mem.proofs.Edited.{empty-not-made, full-is-made, make-bytes, make-is-made, make-stays, sound, zeros-are-page}
 use Rattle.vm_mem.proofs.pages.Pages.make_page.Goals as goal
 
 pub returns-in_err-self-inside-clause-again : goal.returns-in_err-self-inside-clause-again
@@ -19,10 +19,16 @@ returns-in_ok-self-inside-clause-bytes c = rw (← c.self.view_is)
     (make-bytes (λ page. page.items) c.self.inside.pages.items c.index.result.now c.in_ok-self-inside.field-0 c.args.page c.index.ensures (search rules) (search rules) (search rules))
 
 pub returns-in_ok-self-inside-clause-made : goal.returns-in_ok-self-inside-clause-made
-returns-in_ok-self-inside-clause-made c = rw (← c.self.view_is)
-    (make-made (λ page. page.items) c.self.inside.pages.items c.in_ok-self-inside.field-0 c.args.page (search rules))
+unfolding page_count
+returns-in_ok-self-inside-clause-made c =
+    make-is-made (λ page. page.items) c.self.inside.pages.items c.in_ok-self-inside.field-0 c.args.page (search rules) (search rules)
+
+pub returns-in_ok-self-inside-clause-stay : goal.returns-in_ok-self-inside-clause-stay
+unfolding page_count
+returns-in_ok-self-inside-clause-stay c = rw (← c.self.view_is)
+    (make-stays (λ page. page.items) c.self.inside.pages.items c.in_ok-self-inside.field-0 c.args.page (search rules) (search rules))
 
 pub returns-else-is_empty-clause-made : goal.returns-else-is_empty-clause-made
 unfolding page_count
 returns-else-is_empty-clause-made c = rw (← c.self.view_is)
-    (made-again (λ page. page.items) c.self.inside.pages.items c.index.result.now c.args.page c.index.ensures (search rules) (search rules))
+    (full-is-made (λ page. page.items) c.self.inside.pages.items c.index.result.now c.args.page c.index.ensures (search rules) (search rules))
