@@ -2,10 +2,15 @@
 use Rattle.std.proofs.Common.{◌≡◌, ℕ, zero, suc, ◌+◌, ◌-◌, ◌<◌, ◌≤◌, List, [], ◌∷◌, ◌++◌, length, take, drop, slice_range, refl, sym, ◌∙◌, ap, subst, arith}
 use Rattle.std.proofs.lemmas.List.{append_assoc, append-nil, drop-drop, length-append, length-take-le, take-append-drop}
 use Rattle.std.proofs.Math.Seq.{drop-append-add, take-append_seam, take-add}
-use Rattle.std.proofs.Math.ListN.{drop_of_length-le, take_of_length-le}
+use Rattle.std.proofs.Math.ListN.{drop_of_length-le}
 use Rattle.vm_defs.specs.Memory.{overwritten}
 use Rattle.vm_mem.specs.Pages.{Pages, written}
 use Rattle.vm_mem.proofs.Numbers.{take-nil}
+
+take-past : (xs : List ℕ) (n : ℕ) → length xs ≤ n → take n xs ≡ xs
+take-past [] n h = take-nil n
+take-past (x ∷ xs) zero h = absurd (omega (arith, h))
+take-past (x ∷ xs) (suc n) h = ap (λ rest. x ∷ rest) (take-past xs n (omega (arith, h)))
 
 drop-nil : (n : ℕ) → drop {A = ℕ} n [] ≡ []
 drop-nil zero = refl
@@ -26,7 +31,7 @@ overwritten-start xs ys =
 
 past : (ys zs : List ℕ) (at : ℕ) → length ys ≤ at → overwritten ys at zs ≡ ys ++ zs
 past ys zs at h =
-    rw (take_of_length-le ys {i = at} h, drop_of_length-le ys {i = at + length zs} (omega (arith, h))) (append-nil (ys ++ zs))
+    rw (take-past ys at h, drop_of_length-le ys {i = at + length zs} (omega (arith, h))) (append-nil (ys ++ zs))
 
 pub overwritten-more : (xs : List ℕ) (at : ℕ) (ys zs : List ℕ)
     → overwritten (overwritten xs at ys) (at + length ys) zs ≡ overwritten xs at (ys ++ zs)
@@ -63,4 +68,4 @@ written-more old now new at done size bytes h before after =
 
 pub written-all : (old now : Pages) (at done : ℕ) (bytes : List ℕ) → length bytes ≤ done
     → now ≡ written old at (take done bytes) → now ≡ written old at bytes
-written-all old now at done bytes h is = is ∙ rw (take_of_length-le bytes {i = done} h) refl
+written-all old now at done bytes h is = is ∙ rw (take-past bytes done h) refl
