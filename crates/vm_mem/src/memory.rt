@@ -1,7 +1,7 @@
 // The machine's memory.
-ghost use Rattle.std.specs.Prelude.{◌≡◌, ◌≢◌, ℕ, ◌+◌, ◌*◌, ◌%◌, ◌≤◌, length, false, replicate, Ok, Err, if◌then◌else◌, OnOk, OnErr, IfOk, ◌↔◌};
-ghost use Rattle.std.specs.List.{list_any};
-ghost use Rattle.vm_defs.specs.Memory.{byte_count, bytes_of, fetch, fetch_pair, is_code, is_out_of_range, kinds_under, load, memory_size, new_memory, page_size, page_count, set_code, store};
+ghost use Rattle.std.specs.Prelude.{◌≡◌, ◌≢◌, ℕ, ◌+◌, ◌*◌, ◌%◌, ◌≤◌, length, false, replicate, Ok, Err, true, OnOk, OnErr, IfOk, IfErr, ◌↔◌};
+ghost use Rattle.std.specs.List.{list_all, list_any};
+ghost use Rattle.vm_defs.specs.Memory.{byte_count, bytes_of, fetch, fetch_pair, is_code, is_out_of_range, kinds_under, load, memory_size, new_memory, overwritten, page_size, page_count, set_code, store};
 ghost use Rattle.vm_mem.specs.Pages.{AreMade, IsMade};
 ghost use Rattle.vm_mem.specs.Paged.{Stores};
 
@@ -36,6 +36,7 @@ impl Model for Memory {
 
 impl Memory {
     /// Memory that is zero, with all its pages of data.
+    #[tactic(auto, unfolding(vm_defs::specs::Memory::new_memory))]
     pub fn new(alloc: Global) -> Result<Memory, NoMemory>
         ensures memory { IfOk result (λ made. made.memory ≡ new_memory) }
         ensures made { IfOk result (λ made. made.made ≡ replicate page_count false) }
@@ -50,6 +51,7 @@ impl Memory {
     }
 
     /// The number at an address, of the lowest byte first. A page of code may be read.
+    #[tactic(auto, unfolding(vm_defs::specs::Memory::load))]
     #[inline]
     pub fn load(&self, at: u64, width: Width) -> Result<u64, MemFault>
         ensures { result ≡ load self.now.memory at (byte_count width) }
@@ -80,6 +82,7 @@ impl Memory {
     }
 
     /// Writes bytes at an address, all or none.
+    #[tactic(auto, unfolding(vm_defs::specs::Memory::store))]
     #[inline]
     pub fn copy_in(&mut self, at: u64, bytes: &[u8]) -> Result<(), MemStop>
         ensures stores { Stores (store self.old.memory at bytes.now) self.old.memory self.new.memory result }
@@ -102,6 +105,7 @@ impl Memory {
     }
 
     /// The four bytes at an address where the low two bits are 11, and else the two bytes there.
+    #[tactic(auto, unfolding(vm_defs::specs::Memory::fetch, vm_defs::specs::Memory::memory_size))]
     #[inline]
     pub fn fetch(&self, at: u64) -> Result<u32, MemFault>
         ensures { result ≡ fetch self.now.memory at }
@@ -115,6 +119,7 @@ impl Memory {
     }
 
     /// Makes whole pages code that are data.
+    #[tactic(auto, unfolding(vm_defs::specs::Memory::set_code, vm_defs::specs::Memory::memory_size, vm_defs::specs::Memory::page_count))]
     pub fn set_code(&mut self, at: u64, pages: u32) -> Result<(), MemFault>
         requires { at % page_size ≡ 0 }
         ensures code { OnOk result (Ok self.new.memory ≡ set_code self.old.memory at pages) }
@@ -127,26 +132,38 @@ impl Memory {
         if self.has_code(at, size as usize) {
             return Err(MemFault::WriteCode);
         }
-        let first = at / PAGE_SIZE;
-        self.kinds[first..first + pages as usize].fill(PageKind::Code);
+        mark_code(&mut self.kinds, at / PAGE_SIZE, pages as usize);
         Ok(())
     }
 
     // Two bytes of code.
+    #[tactic(auto, unfolding(vm_defs::specs::Memory::fetch_pair))]
     #[inline]
     fn fetch_pair(&self, at: u64) -> Result<u16, MemFault>
-        ensures { result ≡ fetch_pair self.now.memory at }
+        ensures pair { result ≡ fetch_pair self.now.memory at }
+        ensures bound { OnOk result (at + 2 ≤ memory_size) }
     {
         let at = place(at, 2)?;
-        let first = at / PAGE_SIZE;
-        let last = (at + 1) / PAGE_SIZE;
-        if self.kinds[first] != PageKind::Code || self.kinds[last] != PageKind::Code {
+        if !self.is_code(at) {
             return Err(MemFault::RunData);
         }
         Ok(self.pages.read_u16(at))
     }
 
+    // Whether two bytes lie in pages of code.
+    #[tactic(auto, unfolding(vm_defs::specs::Memory::kinds_under, vm_defs::specs::Memory::memory_size, vm_defs::specs::Memory::page_count))]
+    #[inline]
+    fn is_code(&self, at: usize) -> bool
+        requires { at + 2 ≤ memory_size }
+        ensures { result ≡ list_all is_code (kinds_under self.now.memory at 2) }
+    {
+        let first = at / PAGE_SIZE;
+        let last = (at + 1) / PAGE_SIZE;
+        self.kinds[first..last + 1].iter().all(|kind| *kind == PageKind::Code)
+    }
+
     // Whether a byte of the range lies in a page of code.
+    #[tactic(auto, unfolding(vm_defs::specs::Memory::kinds_under, vm_defs::specs::Memory::memory_size, vm_defs::specs::Memory::page_count))]
     #[inline]
     fn has_code(&self, at: usize, count: usize) -> bool
         requires { at + count ≤ memory_size }
@@ -162,12 +179,23 @@ impl Memory {
 }
 
 // Where a range of bytes begins, if it lies in memory.
+#[tactic(auto, unfolding(vm_defs::specs::Memory::is_out_of_range, vm_defs::specs::Memory::memory_size))]
 #[inline]
 fn place(at: u64, count: u64) -> Result<usize, MemFault>
-    ensures { result ≡ (if is_out_of_range at count then Err MemFault.Range else Ok at) }
+    ensures inside { IfOk result (λ place. (place ≡ at) × (is_out_of_range at count ≡ false)) }
+    ensures outside { IfErr result (λ fault. (fault ≡ MemFault.Range) × (is_out_of_range at count ≡ true)) }
+    ensures bound { OnOk result (at + count ≤ memory_size) }
 {
     if at > MEMORY_SIZE || count > MEMORY_SIZE - at {
         return Err(MemFault::Range);
     }
     Ok(at as usize)
+}
+
+// So many pages from one on become code.
+fn mark_code(kinds: &mut [PageKind], first: usize, count: usize)
+    requires { first + count ≤ length kinds.old }
+    ensures { kinds.new ≡ overwritten kinds.old first (replicate count PageKind.Code) }
+{
+    kinds[first..first + count].fill(PageKind::Code);
 }
