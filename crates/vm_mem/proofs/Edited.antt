@@ -1,14 +1,14 @@
 -- A page that is made, or written, among the pages of memory.
-use Rattle.std.proofs.Common.{◌≡◌, ℕ, zero, suc, ◌+◌, ◌-◌, ◌*◌, ◌/◌, ◌%◌, ◌<◌, ◌≤◌, Bool, true, false, ◌==◌, nat_lt, IsTrue, List, [], ◌∷◌, ◌++◌, length, take, drop, set, replicate, get_or, map, refl, sym, ◌∙◌, ap, subst, arith, rules, inl, inr, length-set}
+use Rattle.std.proofs.Common.{◌≡◌, ℕ, ◌+◌, ◌/◌, ◌%◌, ◌<◌, ◌≤◌, true, false, ◌==◌, List, [], ◌++◌, length, take, drop, set, replicate, get_or, map, refl, sym, ◌∙◌, ap, subst, arith, inl, inr, length-set}
 use Rattle.std.specs.List.{concat, All}
-use Rattle.std.proofs.lemmas.List.{get_or-map, get_or_default, length-map, map-set, set-get_or, get_or-set_same, get_or-set_other, length-replicate, length-append, length-take-le, length-drop}
-use Rattle.std.proofs.lemmas.List.Elements.{All-set, All-get_or}
+use Rattle.std.proofs.lemmas.List.{get_or-map, length-map, map-set, set-get_or, get_or-set_same, get_or-set_other, length-append, length-take-le, length-drop}
+use Rattle.std.proofs.lemmas.List.Elements.{All-set}
 use Rattle.std.proofs.lemmas.Bool.{false≢true, cases_eq}
 use Rattle.vm_defs.specs.Memory.{page_size, page_count, memory_size, overwritten}
 use Rattle.vm_mem.specs.Pages.{IsPage, IsMade, whole, is_made, Pages, pages_of, written}
 use Rattle.vm_mem.proofs.Paging.{write-concat}
 use Rattle.vm_mem.proofs.Placed.{wholes, below-wholes, page-below, place-is}
-use Rattle.vm_mem.proofs.Wholes.{whole-empty, whole-made, length-made}
+use Rattle.vm_mem.proofs.Wholes.{whole-empty}
 
 abbrev pub AreSound : {X : Type 0} → (X → List ℕ) → List X → Type 0
 AreSound f pages = (length pages ≡ page_count) × All (λ page. IsPage (f page)) pages
@@ -71,7 +71,7 @@ pub make-stays : {X : Type 0} (f : X → List ℕ) (pages : List X) (new : X) (i
     → (other : ℕ) → IsMade (map is_made (map f pages)) other → IsMade (map is_made (map f (set pages i new))) other
 make-stays f pages new i h zeros other made =
     elim (cases_eq other i) [
-        inl same ↦ rw same (make-is-made f pages new i h zeros)
+      | inl same ↦ rw same (make-is-made f pages new i h zeros)
       | inr apart ↦ rw (make-made f pages new i zeros, get_or-set_other (map is_made (map f pages)) i other true false apart) made
     ]
 
@@ -98,8 +98,12 @@ page-full f pages page at paged all is h view made =
 -- a page is written
 length-overwritten : (page : List ℕ) (o : ℕ) (bytes : List ℕ) → o + length bytes ≤ length page → length (overwritten page o bytes) ≡ length page
 length-overwritten page o bytes h =
-    rw (length-append (take o page ++ bytes) (drop (o + length bytes) page), length-append (take o page) bytes,
-        length-take-le o page (omega (arith, h)), length-drop (o + length bytes) page)
+    rw (
+      length-append (take o page ++ bytes) (drop (o + length bytes) page),
+      length-append (take o page) bytes,
+      length-take-le o page (omega (arith, h)),
+      length-drop (o + length bytes) page,
+    )
     (omega (arith, h))
 
 whole-full : (page : List ℕ) → length page ≡ page_size → whole page ≡ page
@@ -119,11 +123,11 @@ write-bytes f pages page new at bytes all is h le full edit =
     let o = at % page_size in
     let below = page-below at (length pages) all.0 h in
     let whole-new : whole (f new) ≡ overwritten (f page) o bytes =
-        whole-full (f new) (written-is-page (f page) (f new) o bytes full le edit) ∙ edit in
+    whole-full (f new) (written-is-page (f page) (f new) o bytes full le edit) ∙ edit in
     let old : get_or (map whole (map f pages)) i [] ≡ f page = through f whole pages page i [] is below ∙ whole-full (f page) full in
     let e = write-concat page_size (map whole (map f pages)) i o bytes (wholes f pages all.1) (below-wholes f pages i below) le in
     let e' : overwritten (concat (map whole (map f pages))) at bytes ≡ concat (set (map whole (map f pages)) i (overwritten (get_or (map whole (map f pages)) i []) o bytes)) =
-        subst (λ a. overwritten (concat (map whole (map f pages))) a bytes ≡ concat (set (map whole (map f pages)) i (overwritten (get_or (map whole (map f pages)) i []) o bytes))) (place-is at) e in
+    subst (λ a. overwritten (concat (map whole (map f pages))) a bytes ≡ concat (set (map whole (map f pages)) i (overwritten (get_or (map whole (map f pages)) i []) o bytes))) (place-is at) e in
     rw (e', old, map-set f pages i new, map-set whole (map f pages) i (f new), whole-new) refl
 
 pub write-made : {X : Type 0} (f : X → List ℕ) (pages : List X) (page new : X) (i : ℕ) → page ≡ get_or pages i page → i < length pages
@@ -145,5 +149,5 @@ write-pages f pages page new at bytes paged all is h le full edit view =
     let below = page-below at (length pages) all.0 h in
     let full' = written-is-page (f page) (f new) (at % page_size) bytes full le edit in
     rw (← view) (same-pages (map f pages) (map f (set pages (at / page_size) new)) at bytes
-        (write-bytes f pages page new at bytes all is h le full edit)
-        (write-made f pages page new (at / page_size) is below full full'))
+    (write-bytes f pages page new at bytes all is h le full edit)
+    (write-made f pages page new (at / page_size) is below full full'))

@@ -1,5 +1,5 @@
 -- Numbers that stand in a list of bytes, the lowest byte first.
-use Rattle.std.proofs.Common.{◌≡◌, ℕ, zero, suc, ◌+◌, ◌-◌, ◌*◌, ◌/◌, ◌%◌, ◌^◌, ◌<◌, ◌≤◌, List, [], ◌∷◌, ◌++◌, length, take, drop, replicate, get_or, slice_range, refl, sym, ◌∙◌, ap, arith, inl, inr}
+use Rattle.std.proofs.Common.{◌≡◌, ℕ, zero, suc, ◌+◌, ◌-◌, ◌*◌, ◌≤◌, List, [], length, take, replicate, get_or, slice_range, refl, arith, inl, inr}
 use Rattle.std.proofs.lemmas.List.{drop_more, get_or_past}
 use Rattle.std.proofs.Math.ListN.{drop_of_length-le}
 use Rattle.std.proofs.lemmas.Bool.{cases_lt}
@@ -19,7 +19,7 @@ pub number-step : (xs : List ℕ) (at next end : ℕ) → next ≡ at + 1 → ne
 number-step xs at next end is h =
     let more : end - at ≡ suc (end - next) = omega (arith, is, h) in
     elim (cases_lt at (length xs)) [
-        inl below ↦ rw (more, drop_more xs at 0 below, ← is) refl
+      | inl below ↦ rw (more, drop_more xs at 0 below, ← is) refl
       | inr past ↦ rw (more, drop_of_length-le xs {i = at} past, drop_of_length-le xs {i = next} (omega (arith, is, past)), get_or_past xs at 0 past, take-nil (end - next)) refl
     ]
 

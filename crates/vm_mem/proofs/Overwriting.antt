@@ -1,6 +1,6 @@
 -- Bytes written one piece after another.
-use Rattle.std.proofs.Common.{◌≡◌, ℕ, zero, suc, ◌+◌, ◌-◌, ◌<◌, ◌≤◌, List, [], ◌∷◌, ◌++◌, length, take, drop, slice_range, refl, sym, ◌∙◌, ap, subst, arith}
-use Rattle.std.proofs.lemmas.List.{append_assoc, append-nil, drop-drop, length-append, length-take-le, take-append-drop}
+use Rattle.std.proofs.Common.{◌≡◌, ℕ, zero, suc, ◌+◌, ◌-◌, ◌≤◌, List, [], ◌∷◌, ◌++◌, length, take, drop, slice_range, refl, sym, ◌∙◌, ap, subst, arith}
+use Rattle.std.proofs.lemmas.List.{append-nil, drop-drop, length-append, length-take-le, take-append-drop}
 use Rattle.std.proofs.Math.Seq.{drop-append-add, take-append_seam, take-add}
 use Rattle.std.proofs.Math.ListN.{drop_of_length-le}
 use Rattle.vm_defs.specs.Memory.{overwritten}
@@ -40,13 +40,25 @@ overwritten-more [] at ys zs =
 overwritten-more (x ∷ xs) zero ys zs =
     let e : 0 + length ys ≡ length ys = omega arith in
     let f : length (ys ++ zs) ≡ length ys + length zs = length-append ys zs in
-    rw (overwritten-start (x ∷ xs) ys, overwritten-start (x ∷ xs) (ys ++ zs), e, f, take-append_seam ys (drop (length ys) (x ∷ xs)),
-        drop-append-add ys (drop (length ys) (x ∷ xs)) (length zs), drop-drop (length zs) (length ys) (x ∷ xs))
+    rw (
+      overwritten-start (x ∷ xs) ys,
+      overwritten-start (x ∷ xs) (ys ++ zs),
+      e,
+      f,
+      take-append_seam ys (drop (length ys) (x ∷ xs)),
+      drop-append-add ys (drop (length ys) (x ∷ xs)) (length zs),
+      drop-drop (length zs) (length ys) (x ∷ xs),
+    )
     refl
 overwritten-more (x ∷ xs) (suc at) ys zs =
     let e : suc at + length ys ≡ suc (at + length ys) = omega arith in
-    rw (overwritten-cons x xs at ys, e, overwritten-cons x (overwritten xs at ys) (at + length ys) zs,
-        overwritten-cons x xs at (ys ++ zs), overwritten-more xs at ys zs)
+    rw (
+      overwritten-cons x xs at ys,
+      e,
+      overwritten-cons x (overwritten xs at ys) (at + length ys) zs,
+      overwritten-cons x xs at (ys ++ zs),
+      overwritten-more xs at ys zs,
+    )
     refl
 
 pub written-none : (old : Pages) (at : ℕ) (bytes : List ℕ) → old ≡ written old at (take 0 bytes)
@@ -62,8 +74,8 @@ written-more old now new at done size bytes h before after =
     let some : done + size - done ≡ size = omega arith in
     let more = overwritten-more old.bytes at (take done bytes) (take size (drop done bytes)) in
     let joined : overwritten (overwritten old.bytes at (take done bytes)) (at + done) (take size (drop done bytes)) ≡ overwritten old.bytes at (take (done + size) bytes) =
-        subst (λ n. overwritten (overwritten old.bytes at (take done bytes)) (at + n) (take size (drop done bytes)) ≡ overwritten old.bytes at (take (done + size) bytes)) count
-        (more ∙ ap (overwritten old.bytes at) (sym (take-add done size bytes))) in
+    subst (λ n. overwritten (overwritten old.bytes at (take done bytes)) (at + n) (take size (drop done bytes)) ≡ overwritten old.bytes at (take (done + size) bytes)) count
+    (more ∙ ap (overwritten old.bytes at) (sym (take-add done size bytes))) in
     rw (after, before, some) (ap (λ b. record old { bytes = b }) joined)
 
 pub written-all : (old now : Pages) (at done : ℕ) (bytes : List ℕ) → length bytes ≤ done

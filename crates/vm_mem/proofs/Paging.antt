@@ -1,5 +1,5 @@
 -- Bytes in pages of n: where a byte of the whole lies in its page.
-use Rattle.std.proofs.Common.{◌≡◌, ℕ, zero, suc, ◌+◌, ◌-◌, ◌*◌, ◌/◌, ◌%◌, ◌<◌, ◌≤◌, List, [], ◌∷◌, ◌++◌, length, take, drop, set, get_or, slice_range, map, refl, sym, ◌∙◌, ap, arith, rules}
+use Rattle.std.proofs.Common.{◌≡◌, ℕ, zero, suc, ◌+◌, ◌-◌, ◌*◌, ◌<◌, ◌≤◌, List, [], ◌∷◌, ◌++◌, length, take, drop, set, get_or, slice_range, refl, sym, arith}
 use Rattle.std.specs.List.{concat}
 use Rattle.std.proofs.lemmas.List.{drop-append-le, take-append-le, set_split, append_assoc, length-drop, length-append}
 use Rattle.std.proofs.lemmas.List.Folds.{concat-append}
@@ -66,7 +66,11 @@ pub write-concat : (n : ℕ) (pages : List (List ℕ)) (i o : ℕ) (bytes : List
 write-concat n pages i o bytes all h le =
     let place : n * i + o + length bytes ≡ n * i + (o + length bytes) = omega arith in
     let page = get_or pages i [] in
-    rw (place, drop-concat n pages i (o + length bytes) all h le, take-concat n pages i o all h (omega arith),
-        set_split pages i (overwritten page o bytes) h,
-        concat-append (take i pages) (overwritten page o bytes ∷ drop (suc i) pages))
+    rw (
+      place,
+      drop-concat n pages i (o + length bytes) all h le,
+      take-concat n pages i o all h (omega arith),
+      set_split pages i (overwritten page o bytes) h,
+      concat-append (take i pages) (overwritten page o bytes ∷ drop (suc i) pages),
+    )
     (regrouped (concat (take i pages)) (take o page) bytes (drop (o + length bytes) page) (concat (drop (suc i) pages)))

@@ -1,10 +1,10 @@
 -- A page by its place among those that hold memory, and what its bytes are of the whole.
-use Rattle.std.proofs.Common.{◌≡◌, ℕ, suc, ◌+◌, ◌-◌, ◌*◌, ◌/◌, ◌%◌, ◌<◌, ◌≤◌, List, [], ◌∷◌, ◌++◌, length, take, drop, get_or, slice_range, map, refl, sym, ◌∙◌, ap, subst, arith, rules}
+use Rattle.std.proofs.Common.{◌≡◌, ℕ, suc, ◌+◌, ◌*◌, ◌/◌, ◌%◌, ◌<◌, ◌≤◌, List, [], ◌∷◌, length, get_or, slice_range, map, sym, ◌∙◌, ap, subst, arith}
 use Rattle.std.specs.List.{concat, All}
 use Rattle.std.proofs.lemmas.List.{get_or-map, length-map}
-use Rattle.vm_defs.specs.Memory.{page_size, page_count, memory_size, overwritten, number_of}
-use Rattle.vm_mem.specs.Pages.{IsPage, whole, pages_of}
-use Rattle.vm_mem.proofs.Paging.{AreOf, range-concat, write-concat}
+use Rattle.vm_defs.specs.Memory.{page_size, page_count, memory_size, number_of}
+use Rattle.vm_mem.specs.Pages.{IsPage, whole}
+use Rattle.vm_mem.proofs.Paging.{AreOf, range-concat}
 use Rattle.vm_mem.proofs.Wholes.{length-whole}
 
 pub wholes : {X : Type 0} (f : X → List ℕ) (pages : List X) → All (λ page. IsPage (f page)) pages
@@ -39,9 +39,9 @@ pub range-page : {X : Type 0} (f : X → List ℕ) (pages : List X) (page : X) (
 range-page f pages page at count all is h le =
     let below = page-below at (length pages) all.0 h in
     let e = range-concat page_size (map whole (map f pages)) (at / page_size) (at % page_size) count (wholes f pages all.1)
-        (below-wholes f pages (at / page_size) below) le in
+    (below-wholes f pages (at / page_size) below) le in
     let e' : slice_range (concat (map whole (map f pages))) at (at + count) ≡ slice_range (get_or (map whole (map f pages)) (at / page_size) []) (at % page_size) (at % page_size + count) =
-        subst (λ a. slice_range (concat (map whole (map f pages))) a (a + count) ≡ slice_range (get_or (map whole (map f pages)) (at / page_size) []) (at % page_size) (at % page_size + count)) (place-is at) e in
+    subst (λ a. slice_range (concat (map whole (map f pages))) a (a + count) ≡ slice_range (get_or (map whole (map f pages)) (at / page_size) []) (at % page_size) (at % page_size + count)) (place-is at) e in
     e' ∙ ap (λ bytes. slice_range bytes (at % page_size) (at % page_size + count)) (page-at f pages page (at / page_size) is below)
 
 pub number-page : {X : Type 0} (f : X → List ℕ) (pages : List X) (page : X) (at count : ℕ)

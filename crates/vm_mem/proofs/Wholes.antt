@@ -1,5 +1,5 @@
 -- The bytes of a page, with room of its own or without.
-use Rattle.std.proofs.Common.{◌≡◌, ℕ, ◌+◌, ◌-◌, ◌≤◌, Bool, true, false, ◌==◌, List, length, take, drop, replicate, slice_range, if◌then◌else◌, refl, sym, ◌∙◌, ap, arith, inl, inr}
+use Rattle.std.proofs.Common.{◌≡◌, ℕ, ◌+◌, ◌-◌, ◌≤◌, true, false, ◌==◌, List, length, replicate, slice_range, refl, sym, arith, inl, inr}
 use Rattle.std.proofs.lemmas.List.{take-replicate, drop-replicate, length-replicate}
 use Rattle.vm_defs.specs.Memory.{number_of, page_size}
 use Rattle.vm_mem.specs.Pages.{IsPage, whole}
@@ -29,6 +29,6 @@ number-empty page at count empty h =
 pub length-whole : (page : List ℕ) → IsPage page → length (whole page) ≡ page_size
 unfolding whole
 length-whole page is = elim is [
-    inl none ↦ rw none (length-replicate {A = ℕ} page_size 0)
+  | inl none ↦ rw none (length-replicate {A = ℕ} page_size 0)
   | inr full ↦ rw (full) full
 ]

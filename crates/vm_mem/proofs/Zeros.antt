@@ -1,9 +1,9 @@
 -- Pages that were never stored to.
-use Rattle.std.proofs.Common.{◌≡◌, ℕ, zero, suc, ◌+◌, ◌*◌, ◌<◌, ◌≤◌, Bool, false, List, [], ◌∷◌, ◌++◌, length, replicate, get_or, map, refl, sym, ◌∙◌, ap, subst, arith, inl}
-use Rattle.std.specs.List.{concat, All}
+use Rattle.std.proofs.Common.{◌≡◌, ℕ, zero, suc, ◌+◌, ◌*◌, ◌<◌, ◌≤◌, false, List, [], ◌∷◌, ◌++◌, length, replicate, get_or, map, refl, sym, ◌∙◌, ap, arith, inl}
+use Rattle.std.specs.List.{concat}
 use Rattle.std.proofs.lemmas.List.{length-map, length-replicate, get_or-map, get_or-replicate, map-append}
 use Rattle.vm_defs.specs.Memory.{page_size, page_count, memory_size}
-use Rattle.vm_mem.specs.Pages.{IsPage, whole, is_made}
+use Rattle.vm_mem.specs.Pages.{whole, is_made}
 use Rattle.vm_mem.proofs.Edited.{AreSound}
 use Rattle.vm_mem.proofs.Wholes.{whole-empty}
 
@@ -24,9 +24,10 @@ all-empty f pages n k d is h =
     sym (get_or-map f pages k d [] h) ∙ ap (λ xs. get_or xs k []) is ∙ get_or-replicate n k [] [] (rw (← size) h)
 
 pub new-sound : {X : Type 0} (f : X → List ℕ) (pages : List X) → map f pages ≡ replicate page_count [] → AreSound f pages
-new-sound f pages is =
-    (sym (length-map pages f) ∙ ap length is ∙ length-replicate page_count [],
-     λ k d h. inl (ap length (all-empty f pages page_count k d is h)))
+new-sound f pages is = (
+  sym (length-map pages f) ∙ ap length is ∙ length-replicate page_count [],
+  λ k d h. inl (ap length (all-empty f pages page_count k d is h)),
+)
 
 whole-nil : whole [] ≡ replicate page_size 0
 whole-nil = whole-empty [] refl

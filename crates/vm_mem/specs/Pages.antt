@@ -1,6 +1,6 @@
 -- Pages that take memory only once they are stored to: the bytes of such a page, or none.
-use Rattle.std.specs.Prelude.{◌≡◌, ℕ, ◌+◌, ◌/◌, ◌<◌, ◌==◌, nat_lt, Bool, false, IsTrue, slice_index_or, List, [], ◌∷◌, length, map, replicate, if◌then◌else◌, ◌⊎◌}
-use Rattle.std.specs.List.{concat, All}
+use Rattle.std.specs.Prelude.{◌≡◌, ℕ, ◌+◌, ◌/◌, ◌<◌, ◌==◌, nat_lt, Bool, false, IsTrue, slice_index_or, List, length, map, replicate, if◌then◌else◌, ◌⊎◌}
+use Rattle.std.specs.List.{concat}
 use Rattle.vm_defs.specs.Memory.{page_size, overwritten}
 
 -- all bytes one after another, and which pages have room of their own

@@ -10,6 +10,8 @@ mod memory;
 mod page;
 mod pages;
 mod stop;
+#[cfg(test)]
+mod tests;
 
 pub use memory::Memory;
 pub use stop::MemStop;

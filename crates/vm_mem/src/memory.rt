@@ -159,7 +159,9 @@ impl Memory {
     {
         let first = at / PAGE_SIZE;
         let last = (at + 1) / PAGE_SIZE;
-        self.kinds[first..last + 1].iter().all(|kind| *kind == PageKind::Code)
+        self.kinds[first..last + 1]
+            .iter()
+            .all(|kind| *kind == PageKind::Code)
     }
 
     // Whether a byte of the range lies in a page of code.
@@ -174,7 +176,9 @@ impl Memory {
         }
         let first = at / PAGE_SIZE;
         let last = (at + count - 1) / PAGE_SIZE;
-        self.kinds[first..last + 1].iter().any(|kind| *kind == PageKind::Code)
+        self.kinds[first..last + 1]
+            .iter()
+            .any(|kind| *kind == PageKind::Code)
     }
 }
 

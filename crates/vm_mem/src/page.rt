@@ -36,7 +36,12 @@ pub(crate) fn read_u32(page: &[u8], offset: usize) -> u32
     if page.is_empty() {
         return 0;
     }
-    u32::from_le_bytes([page[offset], page[offset + 1], page[offset + 2], page[offset + 3]])
+    u32::from_le_bytes([
+        page[offset],
+        page[offset + 1],
+        page[offset + 2],
+        page[offset + 3],
+    ])
 }
 
 #[inline]

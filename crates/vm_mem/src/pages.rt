@@ -9,6 +9,7 @@ use std::alloc::Global;
 use std::marker::Model;
 
 pub(crate) const PAGE_SIZE: usize = 4096;
+
 pub(crate) const PAGE_COUNT: usize = 1024;
 
 /// All bytes of memory, and which pages have room of their own.

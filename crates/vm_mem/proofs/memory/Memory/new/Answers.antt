@@ -1,4 +1,4 @@
-use Rattle.std.proofs.Common.{◌≡◌, ℕ, replicate, refl, ap, ◌∙◌, rules, length}
+use Rattle.std.proofs.Common.{◌≡◌, replicate, refl, ap, ◌∙◌, rules, length}
 use Rattle.vm_defs.specs.declared.memory.PageKind.TheVariants.{Data}
 use Rattle.vm_defs.specs.Memory.{new_memory, page_count}
 use Rattle.vm_mem.proofs.Zeros.{count-is}

@@ -1,4 +1,4 @@
-use Rattle.std.proofs.Common.{◌≡◌, replicate, map, [], List, ℕ}
+use Rattle.std.proofs.Common.{◌≡◌, replicate, map, []}
 use Rattle.vm_mem.proofs.pages.Pages.new.Given as goal
 
 abbrev pub invariant-loop : goal.invariant-loop

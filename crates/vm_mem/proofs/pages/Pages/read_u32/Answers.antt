@@ -1,5 +1,5 @@
-use Rattle.std.proofs.Common.{◌≡◌, ◌+◌, ◌*◌, ◌%◌, ◌∙◌, sym, arith, rules, slice_range}
-use Rattle.vm_defs.specs.Memory.{number_of, memory_size, page_count}
+use Rattle.std.proofs.Common.{◌≡◌, ◌+◌, sym, arith, rules, slice_range}
+use Rattle.vm_defs.specs.Memory.{number_of, memory_size}
 use Rattle.vm_mem.proofs.Numbers.{halves-4}
 use Rattle.vm_mem.proofs.Placed.{number-page}
 use Rattle.vm_mem.proofs.pages.Pages.read_u32.Goals as goal
@@ -10,7 +10,7 @@ returns-then-at c =
     let halves = halves-4 bytes c.args.at in
     let place : c.args.at + 2 + 2 ≡ c.args.at + 4 = omega arith in
     let high : c.read_u16-then-at.result ≡ number_of (slice_range bytes (c.args.at + 2) (c.args.at + 4)) =
-        rw (← place) c.read_u16-then-at.ensures in
+    rw (← place) c.read_u16-then-at.ensures in
     omega (arith, halves, high, c.from.ensures, c.from-then-at.ensures, c.read_u16.ensures, c.read_u16-then-at.type_inv)
 
 pub returns : goal.returns

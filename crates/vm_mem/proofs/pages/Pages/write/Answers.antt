@@ -1,4 +1,4 @@
-use Rattle.std.proofs.Common.{◌≡◌, ◌+◌, ◌≤◌, ap, length, rules, arith}
+use Rattle.std.proofs.Common.{◌+◌, ◌≤◌, ap, length, rules, arith}
 use Rattle.vm_mem.proofs.Overwriting.{written-none, written-more, written-all}
 use Rattle.vm_mem.proofs.pages.Pages.write.Goals as goal
 
@@ -11,9 +11,11 @@ write_page-requires-clause-made c =
 
 pub loop-done-preserved : goal.loop-done-preserved
 loop-done-preserved c =
-    let fits : c.loop-done.done + c.min-size.result ≤ length c.args.bytes.now = search rules in
-    (written-more c.args.self.now c.loop-done.self c.write_page.new.self c.args.at c.loop-done.done c.min-size.result c.args.bytes.now
-        fits c.loop-done.invariant.0 c.write_page.ensures, fits)
+    let fits : c.loop-done.done + c.min-size.result ≤ length c.args.bytes.now = search rules in (
+      written-more c.args.self.now c.loop-done.self c.write_page.new.self c.args.at c.loop-done.done c.min-size.result c.args.bytes.now
+          fits c.loop-done.invariant.0 c.write_page.ensures,
+      fits,
+    )
 
 pub returns : goal.returns
 returns c = written-all c.args.self.now c.loop-done.self c.args.at c.loop-done.done c.args.bytes.now (search rules) c.loop-done.invariant.0

@@ -7,8 +7,11 @@ use Rattle.vm_mem.proofs.pages.Pages.write_page.Goals as goal
 
 pub overwrite-requires : goal.overwrite-requires
 overwrite-requires c =
-    rw (c.deref_mut.ensures.value, page-full (λ page. page.items) c.self.inside.pages.items c.index_mut.result.now c.args.at c.args.self.now
-        c.self.invariant c.index_mut.ensures.value c.requires.memory c.self.view_is c.requires.made)
+    rw (
+      c.deref_mut.ensures.value,
+      page-full (λ page. page.items) c.self.inside.pages.items c.index_mut.result.now c.args.at c.args.self.now
+          c.self.invariant c.index_mut.ensures.value c.requires.memory c.self.view_is c.requires.made,
+    )
     c.requires.within
 
 -- the page that was written, the same bytes in the `Vec`, and their count
@@ -22,7 +25,7 @@ wrote : (c : goal.After-self-1) → Written c
 wrote c =
     let page = c.index_mut.result.now in
     let full = page-full (λ page. page.items) c.self.inside.pages.items page c.args.at c.args.self.now
-        c.self.invariant c.index_mut.ensures.value c.requires.memory c.self.view_is c.requires.made in
+    c.self.invariant c.index_mut.ensures.value c.requires.memory c.self.view_is c.requires.made in
     let edit = c.overwrite.ensures ∙ ap (λ page. overwritten page (c.args.at % page_size) c.args.bytes.now) c.deref_mut.ensures.value in
     let size = written-is-page page.items c.overwrite.new.page (c.args.at % page_size) c.args.bytes.now full c.requires.within edit in
     let same = with_items_is page c.overwrite.new.page (size ∙ sym full ∙ sym (ap length c.deref_mut.ensures.value) ∙ c.deref_mut.ensures.len) in
