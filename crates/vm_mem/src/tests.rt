@@ -2,7 +2,7 @@
 use super::MemFault::{Range, RunData, WriteCode};
 use super::Width::{B1, B2, B4, B8};
 use super::{MemFault, MemStop, Memory, Width};
-use std::test::Fail;
+use std::process::Abort;
 
 const PAGE: u64 = 4096;
 
@@ -10,12 +10,8 @@ const SIZE: u64 = 4_194_304;
 
 const TOP: u64 = u64::MAX;
 
-fn memory(rt: &HostRuntime) -> Memory {
-    Memory::new(rt.alloc()).expect(rt, "memory")
-}
-
 fn check_load(
-    rt: &HostRuntime,
+    rt: &impl Abort,
     memory: &Memory,
     at: u64,
     width: Width,
@@ -24,7 +20,7 @@ fn check_load(
     assert!(rt; memory.load(at, width) == expected, "load {at}");
 }
 
-fn check_fetch(rt: &HostRuntime, memory: &Memory, at: u64, expected: Result<u32, MemFault>) {
+fn check_fetch(rt: &impl Abort, memory: &Memory, at: u64, expected: Result<u32, MemFault>) {
     assert!(rt; memory.fetch(at) == expected, "fetch {at}");
 }
 
@@ -34,7 +30,7 @@ fn refused(fault: MemFault) -> Result<(), MemStop> {
 
 #[test]
 fn numbers_over_two_pages_and_at_the_end(rt: HostRuntime) {
-    let mut memory = memory(&rt);
+    let mut memory = Memory::new(rt.alloc()).expect(&rt, "memory");
     let stored = memory.store(PAGE - 4, B8, 0x0807_0605_0403_0201);
     assert!(&rt; stored == Ok(()));
     check_load(&rt, &memory, PAGE - 4, B8, Ok(0x0807_0605_0403_0201));
@@ -59,7 +55,7 @@ fn numbers_over_two_pages_and_at_the_end(rt: HostRuntime) {
 
 #[test]
 fn pages_of_code(rt: HostRuntime) {
-    let mut memory = memory(&rt);
+    let mut memory = Memory::new(rt.alloc()).expect(&rt, "memory");
     let mut bytes = [0; 5000];
     bytes[0] = 0x93;
     bytes[1] = 0x08;
