@@ -5,3 +5,4 @@ pub mod Compressed
 pub mod Decode
 pub mod Alu
 pub mod Memory
+pub mod Step
