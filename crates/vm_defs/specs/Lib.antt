@@ -4,3 +4,5 @@ pub mod Table
 pub mod Compressed
 pub mod Decode
 pub mod Alu
+pub mod Memory
+pub mod Step

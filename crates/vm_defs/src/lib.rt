@@ -6,10 +6,16 @@
 //! - specs/Row.antt, specs/Table.antt, specs/Compressed.antt: the instruction table, a row for each form.
 //!   specs/Decode.antt: the instruction that a word encodes.
 //! - specs/Alu.antt: the values of the operations.
+//! - specs/Memory.antt: memory, and what is loaded, stored and fetched.
+//! - specs/Step.antt: one step of the machine in its order, and a run.
 #![tactic(auto)]
 
 mod alu;
 mod ins;
+mod memory;
+mod step;
 
 pub use alu::Alu;
 pub use ins::Ins;
+pub use memory::{MemFault, PageKind, Width};
+pub use step::Step;

@@ -1,0 +1,28 @@
+/// What a page of memory is for.
+#[derive(Clone, Copy, Debug, PartialEq, Eq)]
+pub enum PageKind {
+    /// It may be written, and not run.
+    Data,
+    /// It may be run, and not written.
+    Code,
+}
+
+/// How many bytes a load or a store moves.
+#[derive(Clone, Copy, Debug, PartialEq, Eq)]
+pub enum Width {
+    B1,
+    B2,
+    B4,
+    B8,
+}
+
+/// Why an access to memory is refused.
+#[derive(Clone, Copy, Debug, PartialEq, Eq)]
+pub enum MemFault {
+    /// A byte of the range lies past memory.
+    Range,
+    /// A byte that would be written lies in a page of code.
+    WriteCode,
+    /// A byte that would be run lies in a page of data.
+    RunData,
+}

@@ -1,0 +1,20 @@
+-- What contracts see of a `Memory`: the machine's memory, and which of its pages have room of their own.
+use Rattle.std.specs.Prelude.{◌≡◌, Bool, List, Result, Ok, Err}
+use Rattle.vm_defs.specs.Memory.{Memory}
+use Rattle.vm_defs.specs.declared.memory.MemFault.{MemFault}
+use Rattle.vm_mem.specs.declared.stop.MemStop.{MemStop}
+use Rattle.vm_mem.specs.declared.stop.MemStop.TheVariants.{Fault, NoMemory}
+
+pub record PagedMemory : Type 0 where
+  pub memory : Memory
+  pub made : List Bool
+
+-- A store: what the machine's memory is to become, or the fault; memory before and after; the answer. A
+-- fault is found before memory is taken, and a refused store leaves each byte as it was.
+abbrev pub Stores : Result Memory MemFault → Memory → Memory → Result (Unit {0}) MemStop → Type 0
+Stores (Ok stored) old new (Ok done) = new ≡ stored
+Stores (Ok stored) old new (Err NoMemory) = new ≡ old
+Stores (Ok stored) old new (Err (Fault fault)) = ⊥
+Stores (Err expected) old new (Ok done) = ⊥
+Stores (Err expected) old new (Err NoMemory) = ⊥
+Stores (Err expected) old new (Err (Fault fault)) = (fault ≡ expected) × (new ≡ old)

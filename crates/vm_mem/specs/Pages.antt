@@ -1,0 +1,32 @@
+-- Pages that take memory only once they are stored to: the bytes of such a page, or none.
+use Rattle.std.specs.Prelude.{◌≡◌, ℕ, ◌+◌, ◌/◌, ◌<◌, ◌==◌, nat_lt, Bool, false, IsTrue, slice_index_or, List, length, map, replicate, if◌then◌else◌, ◌⊎◌}
+use Rattle.std.specs.List.{concat}
+use Rattle.vm_defs.specs.Memory.{page_size, overwritten}
+
+-- all bytes one after another, and which pages have room of their own
+pub record Pages : Type 0 where
+  pub bytes : List ℕ
+  pub made : List Bool
+
+-- a page that was never stored to is zero
+unfoldable pub whole : List ℕ → List ℕ
+whole page = if length page == 0 then replicate page_size 0 else page
+
+abbrev pub is_made : List ℕ → Bool
+is_made page = nat_lt 0 (length page)
+
+abbrev pub IsPage : List ℕ → Type 0
+IsPage page = (length page ≡ 0) ⊎ (length page ≡ page_size)
+
+abbrev pub pages_of : List (List ℕ) → Pages
+pages_of contents = record { bytes = concat (map whole contents); made = map is_made contents }
+
+abbrev pub written : Pages → ℕ → List ℕ → Pages
+written pages at bytes = record pages { bytes = overwritten pages.bytes at bytes }
+
+-- a page has room of its own, and so have the pages of a range of bytes
+abbrev pub IsMade : List Bool → ℕ → Type 0
+IsMade made page = IsTrue (slice_index_or made page false)
+
+abbrev pub AreMade : List Bool → ℕ → ℕ → Type 0
+AreMade made at count = (i : ℕ) → i < count → IsMade made ((at + i) / page_size)

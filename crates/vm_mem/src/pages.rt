@@ -1,0 +1,158 @@
+// Bytes in pages that take memory at their first store.
+ghost use Rattle.std.specs.Prelude.{◌≡◌, ℕ, ◌+◌, ◌*◌, ◌/◌, ◌%◌, ◌<◌, ◌≤◌, length, false, replicate, slice_range, IsOk, OnOk, IfOk};
+ghost use Rattle.vm_defs.specs.Memory.{number_of, memory_size, page_size, page_count};
+ghost use Rattle.vm_mem.specs.Pages.{AreMade, IsMade, written};
+
+use super::page;
+use outside::NoMemory;
+use std::alloc::Global;
+use std::marker::Model;
+
+pub(crate) const PAGE_SIZE: usize = 4096;
+
+pub(crate) const PAGE_COUNT: usize = 1024;
+
+/// All bytes of memory, and which pages have room of their own.
+#[derive(Drop)]
+pub(crate) struct Pages {
+    pages: Vec<Vec<u8>>,
+}
+
+impl Model for Pages {
+    ghost use Rattle.std.specs.Prelude.{◌≡◌, length, map};
+    ghost use Rattle.std.specs.List.{All};
+    ghost use Rattle.vm_defs.specs.Memory.{page_count};
+    ghost use Rattle.vm_mem.specs.Pages as spec;
+
+    ghost Value = { spec.Pages };
+
+    ghost view = { λ p. spec.pages_of (map (λ page. page.items) p.pages.items) };
+
+    ghost invariant = { λ p. (length p.pages.items ≡ page_count) × All (λ page. spec.IsPage page.items) p.pages.items };
+}
+
+impl Pages {
+    /// Pages that are all zero.
+    #[tactic(auto, unfolding(vm_defs::specs::Memory::page_count))]
+    pub(crate) fn new(alloc: Global) -> Result<Pages, NoMemory>
+        ensures bytes { IfOk result (λ pages. pages.bytes ≡ replicate memory_size 0) }
+        ensures made { IfOk result (λ pages. pages.made ≡ replicate page_count false) }
+    {
+        let mut pages = Vec::with_capacity(alloc, PAGE_COUNT)?;
+        for _ in 0..PAGE_COUNT {
+            pages.push(Vec::new(alloc))?;
+        }
+        Ok(Pages { pages })
+    }
+
+    #[tactic(auto, unfolding(vm_defs::specs::Memory::memory_size, vm_defs::specs::Memory::page_count))]
+    #[inline]
+    pub(crate) fn read_u8(&self, at: usize) -> u8
+        requires { at + 1 ≤ memory_size }
+        ensures { result ≡ number_of (slice_range self.now.bytes at (at + 1)) }
+    {
+        page::read_u8(&self.pages[at / PAGE_SIZE], at % PAGE_SIZE)
+    }
+
+    #[tactic(auto, unfolding(vm_defs::specs::Memory::memory_size, vm_defs::specs::Memory::page_count))]
+    #[inline]
+    pub(crate) fn read_u16(&self, at: usize) -> u16
+        requires { at + 2 ≤ memory_size }
+        ensures { result ≡ number_of (slice_range self.now.bytes at (at + 2)) }
+    {
+        if at % PAGE_SIZE > PAGE_SIZE - 2 {
+            return u16::from(self.read_u8(at)) + (u16::from(self.read_u8(at + 1)) << 8);
+        }
+        page::read_u16(&self.pages[at / PAGE_SIZE], at % PAGE_SIZE)
+    }
+
+    #[tactic(auto, unfolding(vm_defs::specs::Memory::memory_size, vm_defs::specs::Memory::page_count))]
+    #[inline]
+    pub(crate) fn read_u32(&self, at: usize) -> u32
+        requires { at + 4 ≤ memory_size }
+        ensures { result ≡ number_of (slice_range self.now.bytes at (at + 4)) }
+    {
+        if at % PAGE_SIZE > PAGE_SIZE - 4 {
+            return u32::from(self.read_u16(at)) + (u32::from(self.read_u16(at + 2)) << 16);
+        }
+        page::read_u32(&self.pages[at / PAGE_SIZE], at % PAGE_SIZE)
+    }
+
+    #[tactic(auto, unfolding(vm_defs::specs::Memory::memory_size, vm_defs::specs::Memory::page_count))]
+    #[inline]
+    pub(crate) fn read_u64(&self, at: usize) -> u64
+        requires { at + 8 ≤ memory_size }
+        ensures { result ≡ number_of (slice_range self.now.bytes at (at + 8)) }
+    {
+        if at % PAGE_SIZE > PAGE_SIZE - 8 {
+            return u64::from(self.read_u32(at)) + (u64::from(self.read_u32(at + 4)) << 32);
+        }
+        page::read_u64(&self.pages[at / PAGE_SIZE], at % PAGE_SIZE)
+    }
+
+    // Gives one page room of its own.
+    #[tactic(auto, unfolding(vm_defs::specs::Memory::memory_size, vm_defs::specs::Memory::page_count))]
+    #[inline]
+    fn make_page(&mut self, alloc: Global, page: usize) -> Result<(), NoMemory>
+        requires { page < page_count }
+        ensures bytes { self.new.bytes ≡ self.old.bytes }
+        ensures made { OnOk result (IsMade self.new.made page) }
+        ensures stay { (other : ℕ) → IsMade self.old.made other → IsMade self.new.made other }
+        ensures again { IsMade self.old.made page → IsOk result }
+    {
+        if self.pages[page].is_empty() {
+            self.pages[page] = vec![in alloc; 0u8; PAGE_SIZE]?;
+        }
+        Ok(())
+    }
+
+    /// Gives the pages of a range of bytes room of their own.
+    #[tactic(auto, unfolding(vm_defs::specs::Memory::memory_size, vm_defs::specs::Memory::page_count))]
+    #[inline]
+    pub(crate) fn make(&mut self, alloc: Global, at: usize, count: usize) -> Result<(), NoMemory>
+        requires { at + count ≤ memory_size }
+        ensures bytes { self.new.bytes ≡ self.old.bytes }
+        ensures made { OnOk result (AreMade self.new.made at count) }
+        ensures stay { (page : ℕ) → IsMade self.old.made page → IsMade self.new.made page }
+        ensures again { AreMade self.old.made at count → IsOk result }
+    {
+        if count == 0 {
+            return Ok(());
+        }
+        let first = at / PAGE_SIZE;
+        let last = (at + count - 1) / PAGE_SIZE;
+        for page in first..last + 1 {
+            self.make_page(alloc, page)?;
+        }
+        Ok(())
+    }
+
+    // Writes bytes within one page.
+    #[tactic(auto, unfolding(vm_defs::specs::Memory::memory_size, vm_defs::specs::Memory::page_count))]
+    #[inline]
+    fn write_page(&mut self, at: usize, bytes: &[u8])
+        requires made { IsMade self.old.made (at / page_size) }
+        requires memory { at < memory_size }
+        requires within { at % page_size + length bytes.now ≤ page_size }
+        ensures { self.new ≡ written self.old at bytes.now }
+    {
+        page::overwrite(&mut self.pages[at / PAGE_SIZE], at % PAGE_SIZE, bytes);
+    }
+
+    /// Writes bytes to pages that have room of their own.
+    #[tactic(auto, unfolding(vm_defs::specs::Memory::memory_size, vm_defs::specs::Memory::page_count))]
+    #[inline]
+    pub(crate) fn write(&mut self, at: usize, bytes: &[u8])
+        requires memory { at + length bytes.now ≤ memory_size }
+        requires made { AreMade self.old.made at (length bytes.now) }
+        ensures { self.new ≡ written self.old at bytes.now }
+    {
+        let mut done = 0;
+        while done < bytes.len() {
+            let start = at + done;
+            let size = (PAGE_SIZE - start % PAGE_SIZE).min(bytes.len() - done);
+            self.write_page(start, &bytes[done..done + size]);
+            done += size;
+        }
+    }
+}
