@@ -6,7 +6,7 @@ use Rattle.std.specs.Int.RustNames.{int_lt, int_div, int_rem}
 use Rattle.vm_defs.specs.declared.alu.Alu.{Alu}
 use Rattle.vm_defs.specs.declared.alu.Alu.TheVariants.{Add, Sub, Sll, Slt, Sltu, Xor, Srl, Sra, Or, And, Addw, Subw, Sllw, Srlw, Sraw, Mul, Mulh, Mulhsu, Mulhu, Div, Divu, Rem, Remu, Mulw, Divw, Divuw, Remw, Remuw}
 
--- the bits of a number of 64 or 32 bits in two's complement, and the number that bits stand for
+-- the bits of a number in two's complement, from -2 ^ (width - 1) to 2 ^ width - 1, and the number that bits stand for
 abbrev pub bits_of : Width → ℤ → ℕ
 bits_of width z = cast_unsigned width z
 

@@ -6,3 +6,5 @@ pub mod Decode
 pub mod Alu
 pub mod Memory
 pub mod Step
+pub mod Elf
+pub mod Program

@@ -51,7 +51,7 @@ overwritten items at others = take at items ++ others ++ drop (at + length other
 
 -- ---- ranges
 
--- `count` bytes from an address on leave memory
+-- the end of `count` bytes from an address on is past memory, also where they are none
 unfoldable pub is_out_of_range : ℕ → ℕ → Bool
 is_out_of_range at count = nat_lt memory_size (at + count)
 
@@ -94,7 +94,7 @@ with_next_pair memory at (Err fault) = Err fault
 unfoldable pub fetch : Memory → ℕ → Result ℕ MemFault
 fetch memory at = with_next_pair memory at (fetch_pair memory at)
 
--- whole pages become code, which were data
+-- So many whole pages become code, which were data. The address is a multiple of the page size.
 unfoldable pub set_code : Memory → ℕ → ℕ → Result Memory MemFault
 set_code memory at pages =
     if is_out_of_range at (page_size * pages) then Err Range

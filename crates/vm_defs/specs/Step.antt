@@ -1,5 +1,5 @@
--- One step of the machine, and a run (RFC 0003; RFC 0014 for the cycles).
-use Rattle.std.specs.Prelude.{ℕ, zero, suc, ◌+◌, ◌-◌, ◌*◌, ◌/◌, ◌%◌, ◌^◌, ◌==◌, nat_lt, ℤ, Bool, true, false, not, List, slice_index, slice_set, Option, Some, None, Result, Ok, Err, if◌then◌else◌}
+-- One step of the machine (RFC 0003; RFC 0014 for the cycles).
+use Rattle.std.specs.Prelude.{ℕ, ◌+◌, ◌*◌, ◌/◌, ◌%◌, ◌^◌, ◌==◌, nat_lt, ℤ, Bool, not, List, slice_index, slice_set, Option, Some, None, Result, Ok, Err, if◌then◌else◌}
 use Rattle.std.specs.Int.{Width, w8, w16, w32, w64}
 use Rattle.std.specs.Int.RustNames.{int_lt}
 use Rattle.vm_defs.specs.declared.ins.Ins.{Ins}
@@ -75,8 +75,8 @@ branch machine length taken imm =
     (step.Went, if taken then (record machine { pc = moved machine.pc imm }) else past_instruction machine length)
 
 -- a number of so many bits, extended by its sign to 64
-unfoldable pub sign_extended : Width → ℕ → ℕ
-sign_extended width n = bits_of w64 (signed width n)
+unfoldable pub extended_from : Width → ℕ → ℕ
+extended_from width n = bits_of w64 (signed width n)
 
 abbrev pub loaded : Machine → ℕ → ℕ → (ℕ → ℕ) → Result ℕ MemFault → Step × Machine
 loaded machine length rd extend (Ok n) = write machine length rd (extend n)
@@ -114,9 +114,9 @@ effect machine length (Bge rs1 rs2 imm) =
 effect machine length (Bltu rs1 rs2 imm) = branch machine length (nat_lt (register machine rs1) (register machine rs2)) imm
 effect machine length (Bgeu rs1 rs2 imm) =
     branch machine length (not (nat_lt (register machine rs1) (register machine rs2))) imm
-effect machine length (Lb rd rs1 imm) = load machine length rd rs1 imm 1 (sign_extended w8)
-effect machine length (Lh rd rs1 imm) = load machine length rd rs1 imm 2 (sign_extended w16)
-effect machine length (Lw rd rs1 imm) = load machine length rd rs1 imm 4 (sign_extended w32)
+effect machine length (Lb rd rs1 imm) = load machine length rd rs1 imm 1 (extended_from w8)
+effect machine length (Lh rd rs1 imm) = load machine length rd rs1 imm 2 (extended_from w16)
+effect machine length (Lw rd rs1 imm) = load machine length rd rs1 imm 4 (extended_from w32)
 effect machine length (Ld rd rs1 imm) = load machine length rd rs1 imm 8 unextended
 effect machine length (Lbu rd rs1 imm) = load machine length rd rs1 imm 1 unextended
 effect machine length (Lhu rd rs1 imm) = load machine length rd rs1 imm 2 unextended
@@ -194,21 +194,3 @@ with_word machine (Err fault) = (step.Fault (fault_number fault), machine)
 unfoldable pub step_of : Machine → Step × Machine
 step_of machine =
     if machine.pc % 2 == 1 then (step.Fault 4, machine) else with_word machine (memory.fetch machine.memory machine.pc)
-
--- ---- a run: steps until one does not go on. Each costs at least 1, so there are no more than the budget has
--- cycles left, and one.
-
-abbrev pub goes_on : Step → Bool
-goes_on step.Went = true
-goes_on step.Ecall = false
-goes_on (step.Fault number) = false
-goes_on step.Spent = false
-goes_on step.NoMemory = false
-
-unfoldable pub run_for : ℕ → Machine → Step × Machine
-run_for zero machine = step_of machine
-run_for (suc steps) machine =
-    let next = step_of machine in if goes_on next.0 then run_for steps next.1 else next
-
-abbrev pub run : Machine → Step × Machine
-run machine = run_for (machine.budget - machine.cycles) machine

@@ -7,15 +7,19 @@
 //!   specs/Decode.antt: the instruction that a word encodes.
 //! - specs/Alu.antt: the values of the operations.
 //! - specs/Memory.antt: memory, and what is loaded, stored and fetched.
-//! - specs/Step.antt: one step of the machine in its order, and a run.
+//! - specs/Step.antt: one step of the machine in its order.
+//! - specs/Elf.antt: a program as an ELF file, and the memory that it is loaded into.
+//! - specs/Program.antt: a program from its first step to its end.
 #![tactic(auto)]
 
 mod alu;
 mod ins;
 mod memory;
+mod outcome;
 mod step;
 
 pub use alu::Alu;
 pub use ins::Ins;
 pub use memory::{MemFault, PageKind, Width};
+pub use outcome::Outcome;
 pub use step::Step;

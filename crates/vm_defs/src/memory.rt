@@ -19,7 +19,7 @@ pub enum Width {
 /// Why an access to memory is refused.
 #[derive(Clone, Copy, Debug, PartialEq, Eq)]
 pub enum MemFault {
-    /// A byte of the range lies past memory.
+    /// The end of the range lies past memory, also where the range is empty.
     Range,
     /// A byte that would be written lies in a page of code.
     WriteCode,
