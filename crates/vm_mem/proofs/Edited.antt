@@ -1,5 +1,6 @@
 -- A page that is made, or written, among the pages of memory.
-use Rattle.std.proofs.Common.{◌≡◌, ℕ, ◌+◌, ◌/◌, ◌%◌, ◌<◌, ◌≤◌, true, false, ◌==◌, List, [], ◌++◌, length, take, drop, set, replicate, get_or, map, refl, sym, ◌∙◌, ap, subst, arith, inl, inr, length-set}
+use Rattle.std.proofs.Common.{◌≡◌, ℕ, ◌+◌, ◌/◌, ◌%◌, ◌<◌, ◌≤◌, Bool, true, false, ◌==◌, List, [], ◌++◌, length, take, drop, set, replicate, get_or, map, ◌⊎◌, refl, sym, ◌∙◌, ap, subst, arith, inl, inr, length-set}
+use Rattle.std.proofs.Math.Bool.{not}
 use Rattle.std.specs.List.{concat, All}
 use Rattle.std.proofs.lemmas.List.{get_or-map, length-map, map-set, set-get_or, get_or-set_same, get_or-set_other, length-append, length-take-le, length-drop}
 use Rattle.std.proofs.lemmas.List.Elements.{All-set}
@@ -61,6 +62,14 @@ pub full-is-made : {X : Type 0} (f : X → List ℕ) (pages : List X) (page : X)
     → false ≡ (length (f page) == 0) → IsMade (map is_made (map f pages)) i
 full-is-made f pages page i is h full = through f is_made pages page i false is h ∙ is_made-full (f page) full
 
+pub made-is : {X : Type 0} (f : X → List ℕ) (pages : List X) (page : X) (i : ℕ) (empty : Bool) → page ≡ get_or pages i page → i < length pages
+    → empty ≡ (length (f page) == 0) → not empty ≡ get_or (map is_made (map f pages)) i false
+made-is f pages page i empty is h =
+    elim empty as (λ e. e ≡ (length (f page) == 0) → not e ≡ get_or (map is_made (map f pages)) i false) [
+      | true ↦ λ none. sym (through f is_made pages page i false is h ∙ is_made-empty (f page) none)
+      | false ↦ λ some. sym (through f is_made pages page i false is h ∙ is_made-full (f page) some)
+    ]
+
 pub make-is-made : {X : Type 0} (f : X → List ℕ) (pages : List X) (new : X) (i : ℕ) → i < length pages → f new ≡ replicate page_size 0
     → IsMade (map is_made (map f (set pages i new))) i
 make-is-made f pages new i h zeros =
@@ -73,6 +82,15 @@ make-stays f pages new i h zeros other made =
     elim (cases_eq other i) [
       | inl same ↦ rw same (make-is-made f pages new i h zeros)
       | inr apart ↦ rw (make-made f pages new i zeros, get_or-set_other (map is_made (map f pages)) i other true false apart) made
+    ]
+
+pub make-only : {X : Type 0} (f : X → List ℕ) (pages : List X) (new : X) (i : ℕ) → f new ≡ replicate page_size 0
+    → (other : ℕ) → IsMade (map is_made (map f (set pages i new))) other → IsMade (map is_made (map f pages)) other ⊎ (other ≡ i)
+make-only f pages new i zeros other made =
+    elim (cases_eq other i) [
+      | inl same ↦ inr same
+      | inr apart ↦ inl (sym (ap (λ m. get_or m other false) (make-made f pages new i zeros)
+          ∙ get_or-set_other (map is_made (map f pages)) i other true false apart) ∙ made)
     ]
 
 pub empty-not-made : {X : Type 0} (f : X → List ℕ) (pages : List X) (page : X) (i : ℕ) → page ≡ get_or pages i page → i < length pages
@@ -96,7 +114,7 @@ page-full f pages page at paged all is h view made =
     made-full f pages page (at / page_size) all is (page-below at (length pages) all.0 h) made'
 
 -- a page is written
-length-overwritten : (page : List ℕ) (o : ℕ) (bytes : List ℕ) → o + length bytes ≤ length page → length (overwritten page o bytes) ≡ length page
+pub length-overwritten : (page : List ℕ) (o : ℕ) (bytes : List ℕ) → o + length bytes ≤ length page → length (overwritten page o bytes) ≡ length page
 length-overwritten page o bytes h =
     rw (
       length-append (take o page ++ bytes) (drop (o + length bytes) page),
@@ -106,7 +124,7 @@ length-overwritten page o bytes h =
     )
     (omega (arith, h))
 
-whole-full : (page : List ℕ) → length page ≡ page_size → whole page ≡ page
+pub whole-full : (page : List ℕ) → length page ≡ page_size → whole page ≡ page
 unfolding whole
 whole-full page h = rw h refl
 

@@ -1,4 +1,3 @@
-pub mod Numbers
 pub mod Paging
 pub mod Wholes
 pub mod Placed
@@ -6,3 +5,5 @@ pub mod Edited
 pub mod Zeros
 pub mod Making
 pub mod Overwriting
+pub mod Cleared
+pub mod WithinPage

@@ -3,7 +3,7 @@ use Rattle.std.proofs.Common.{◌≡◌, ℕ, ◌+◌, ◌-◌, ◌≤◌, true,
 use Rattle.std.proofs.lemmas.List.{take-replicate, drop-replicate, length-replicate}
 use Rattle.vm_defs.specs.Memory.{number_of, page_size}
 use Rattle.vm_mem.specs.Pages.{IsPage, whole}
-use Rattle.vm_mem.proofs.Numbers.{number_of-zeros}
+use Rattle.vm_defs.proofs.Numbers.{number_of-zeros}
 
 pub whole-empty : (page : List ℕ) → true ≡ (length page == 0) → whole page ≡ replicate page_size 0
 unfolding whole

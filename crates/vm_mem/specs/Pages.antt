@@ -30,3 +30,7 @@ IsMade made page = IsTrue (slice_index_or made page false)
 
 abbrev pub AreMade : List Bool → ℕ → ℕ → Type 0
 AreMade made at count = (i : ℕ) → i < count → IsMade made ((at + i) / page_size)
+
+-- a byte of a range lies in the page
+abbrev pub IsUnder : ℕ → ℕ → ℕ → Type 0
+IsUnder page at count = (i : ℕ) × (i < count) × ((at + i) / page_size ≡ page)

@@ -1,9 +1,9 @@
 // The machine's memory.
-ghost use Rattle.std.specs.Prelude.{◌≡◌, ◌≢◌, ℕ, ◌+◌, ◌*◌, ◌%◌, ◌≤◌, length, false, replicate, Ok, Err, true, OnOk, OnErr, IfOk, IfErr, ◌↔◌};
+ghost use Rattle.std.specs.Prelude.{◌≡◌, ◌≢◌, ℕ, ◌+◌, ◌*◌, ◌%◌, ◌<◌, ◌≤◌, length, false, replicate, Ok, Err, true, OnOk, OnErr, IfOk, IfErr, IsTrue, ◌↔◌, ◌⊎◌};
 ghost use Rattle.std.specs.List.{list_all, list_any};
 ghost use Rattle.vm_defs.specs.Memory.{byte_count, bytes_of, fetch, fetch_pair, is_code, is_out_of_range, kinds_under, load, memory_size, new_memory, overwritten, page_size, page_count, set_code, store};
-ghost use Rattle.vm_mem.specs.Pages.{AreMade, IsMade};
-ghost use Rattle.vm_mem.specs.Paged.{Stores};
+ghost use Rattle.vm_mem.specs.Pages.{AreMade, IsMade, IsUnder};
+ghost use Rattle.vm_mem.specs.Paged.{IsReady, Stores};
 
 use super::pages::{PAGE_COUNT, PAGE_SIZE, Pages};
 use super::stop::MemStop;
@@ -13,6 +13,9 @@ use std::marker::Model;
 use vm_defs::{MemFault, PageKind, Width};
 
 const MEMORY_SIZE: u64 = 4_194_304;
+
+// The bytes of a page, as addresses count them.
+const PAGE: u64 = 4096;
 
 /// 4,194,304 bytes in 1,024 pages, each of data or of code.
 #[derive(Drop)]
@@ -52,7 +55,7 @@ impl Memory {
 
     /// The number at an address, of the lowest byte first. A page of code may be read.
     #[tactic(auto, unfolding(vm_defs::specs::Memory::load))]
-    #[inline]
+    #[inline(always)]
     pub fn load(&self, at: u64, width: Width) -> Result<u64, MemFault>
         ensures { result ≡ load self.now.memory at (byte_count width) }
     {
@@ -65,20 +68,28 @@ impl Memory {
     }
 
     /// Writes the low bytes of a number at an address, the lowest first.
-    #[inline]
+    #[tactic(auto, unfolding(vm_defs::specs::Memory::memory_size))]
+    #[inline(always)]
     pub fn store(&mut self, at: u64, width: Width, value: u64) -> Result<(), MemStop>
         ensures stores { Stores (store self.old.memory at (bytes_of (byte_count width) value)) self.old.memory self.new.memory result }
         ensures again { AreMade self.old.made at (byte_count width) → result ≢ Err MemStop.NoMemory }
         ensures made { OnOk result (AreMade self.new.made at (byte_count width)) }
         ensures stay { (page : ℕ) → IsMade self.old.made page → IsMade self.new.made page }
+        ensures only { (page : ℕ) → IsMade self.new.made page → IsMade self.old.made page ⊎ IsUnder page at (byte_count width) }
+        ensures refused { (fault : MemFault) → result ≡ Err (MemStop.Fault fault) → self.new ≡ self.old }
     {
+        if !self.is_ready(at, size(width)) {
+            return self.store_slow(at, width, value);
+        }
+        let at = at as usize;
         let bytes = value.to_le_bytes();
         match width {
-            Width::B1 => self.copy_in(at, &bytes[..1]),
-            Width::B2 => self.copy_in(at, &bytes[..2]),
-            Width::B4 => self.copy_in(at, &bytes[..4]),
-            Width::B8 => self.copy_in(at, &bytes),
+            Width::B1 => self.write_ready(at, &bytes[..1]),
+            Width::B2 => self.write_ready(at, &bytes[..2]),
+            Width::B4 => self.write_ready(at, &bytes[..4]),
+            Width::B8 => self.write_ready(at, &bytes),
         }
+        Ok(())
     }
 
     /// Writes bytes at an address, all or none.
@@ -89,6 +100,8 @@ impl Memory {
         ensures again { AreMade self.old.made at (length bytes.now) → result ≢ Err MemStop.NoMemory }
         ensures made { OnOk result (AreMade self.new.made at (length bytes.now)) }
         ensures stay { (page : ℕ) → IsMade self.old.made page → IsMade self.new.made page }
+        ensures only { (page : ℕ) → IsMade self.new.made page → IsMade self.old.made page ⊎ IsUnder page at (length bytes.now) }
+        ensures refused { (fault : MemFault) → result ≡ Err (MemStop.Fault fault) → self.new ≡ self.old }
     {
         let at = match place(at, bytes.len() as u64) {
             Ok(at) => at,
@@ -104,18 +117,34 @@ impl Memory {
         Ok(())
     }
 
+    /// Makes a range of bytes zero, all or none, and takes no memory: a page that has none is zero.
+    #[tactic(auto, unfolding(vm_defs::specs::Memory::store))]
+    pub fn clear(&mut self, at: u64, count: u64) -> Result<(), MemFault>
+        ensures cleared { OnOk result (Ok self.new.memory ≡ store self.old.memory at (replicate count 0)) }
+        ensures fault { (fault : MemFault) → (result ≡ Err fault) ↔ (store self.old.memory at (replicate count 0) ≡ Err fault) }
+        ensures kept { OnErr result (self.new ≡ self.old) }
+        ensures made { self.new.made ≡ self.old.made }
+    {
+        let at = place(at, count)?;
+        let count = count as usize;
+        if self.has_code(at, count) {
+            Err(MemFault::WriteCode)
+        } else {
+            self.pages.clear(at, count);
+            Ok(())
+        }
+    }
+
     /// The four bytes at an address where the low two bits are 11, and else the two bytes there.
-    #[tactic(auto, unfolding(vm_defs::specs::Memory::fetch, vm_defs::specs::Memory::memory_size))]
-    #[inline]
+    #[tactic(auto, unfolding(vm_defs::specs::Memory::memory_size))]
+    #[inline(always)]
     pub fn fetch(&self, at: u64) -> Result<u32, MemFault>
         ensures { result ≡ fetch self.now.memory at }
     {
-        let low = self.fetch_pair(at)?;
-        if low % 4 != 3 {
-            return Ok(u32::from(low));
+        if at >= MEMORY_SIZE || at % PAGE > PAGE - 4 {
+            return self.fetch_pairs(at);
         }
-        let high = self.fetch_pair(at + 2)?;
-        Ok(u32::from(low) + (u32::from(high) << 16))
+        self.fetch_in_page(at as usize)
     }
 
     /// Makes whole pages code that are data.
@@ -134,6 +163,85 @@ impl Memory {
         }
         mark_code(&mut self.kinds, at / PAGE_SIZE, pages as usize);
         Ok(())
+    }
+
+    // A store over two pages, to a page with no room of its own, or that is refused. It is rare, and takes
+    // the number by value so that the common store keeps it in a register.
+    #[cold]
+    #[inline(never)]
+    fn store_slow(&mut self, at: u64, width: Width, value: u64) -> Result<(), MemStop>
+        ensures stores { Stores (store self.old.memory at (bytes_of (byte_count width) value)) self.old.memory self.new.memory result }
+        ensures again { AreMade self.old.made at (byte_count width) → result ≢ Err MemStop.NoMemory }
+        ensures made { OnOk result (AreMade self.new.made at (byte_count width)) }
+        ensures stay { (page : ℕ) → IsMade self.old.made page → IsMade self.new.made page }
+        ensures only { (page : ℕ) → IsMade self.new.made page → IsMade self.old.made page ⊎ IsUnder page at (byte_count width) }
+        ensures refused { (fault : MemFault) → result ≡ Err (MemStop.Fault fault) → self.new ≡ self.old }
+    {
+        let bytes = value.to_le_bytes();
+        match width {
+            Width::B1 => self.copy_in(at, &bytes[..1]),
+            Width::B2 => self.copy_in(at, &bytes[..2]),
+            Width::B4 => self.copy_in(at, &bytes[..4]),
+            Width::B8 => self.copy_in(at, &bytes),
+        }
+    }
+
+    // Whether bytes lie in one page of data that has room of its own.
+    #[tactic(auto, unfolding(vm_defs::specs::Memory::memory_size, vm_defs::specs::Memory::page_count))]
+    #[inline(always)]
+    fn is_ready(&self, at: u64, count: u64) -> bool
+        requires { count ≤ page_size }
+        ensures { IsTrue result ↔ IsReady self.now at count }
+    {
+        if at >= MEMORY_SIZE || at % PAGE + count > PAGE {
+            return false;
+        }
+        let page = at as usize / PAGE_SIZE;
+        self.kinds[page] == PageKind::Data && self.pages.is_made(page)
+    }
+
+    // Writes some bytes in one page of data that has room of its own.
+    #[inline(always)]
+    fn write_ready(&mut self, at: usize, bytes: &[u8])
+        requires some { 0 < length bytes.now }
+        requires ready { IsReady self.old at (length bytes.now) }
+        ensures store { store self.old.memory at bytes.now ≡ Ok self.new.memory }
+        ensures made { AreMade self.new.made at (length bytes.now) }
+        ensures kept { self.new.made ≡ self.old.made }
+    {
+        self.pages.write_page(at, bytes);
+    }
+
+    // A word whose four bytes lie in one page. They are read at once, and the high half is cut off where it
+    // is no part of the word.
+    #[tactic(auto, unfolding(vm_defs::specs::Memory::memory_size, vm_defs::specs::Memory::page_count))]
+    #[inline(always)]
+    fn fetch_in_page(&self, at: usize) -> Result<u32, MemFault>
+        requires memory { at < memory_size }
+        requires within { at % page_size + 4 ≤ page_size }
+        ensures { result ≡ fetch self.now.memory at }
+    {
+        match self.kinds[at / PAGE_SIZE] {
+            PageKind::Data => return Err(MemFault::RunData),
+            PageKind::Code => {}
+        }
+        let word = self.pages.read_u32(at);
+        Ok(if word % 4 == 3 { word } else { word % 0x1_0000 })
+    }
+
+    // A word pair by pair, each with its own fault: at the end of a page, or past memory.
+    #[tactic(auto, unfolding(vm_defs::specs::Memory::fetch, vm_defs::specs::Memory::memory_size))]
+    #[cold]
+    #[inline(never)]
+    fn fetch_pairs(&self, at: u64) -> Result<u32, MemFault>
+        ensures { result ≡ fetch self.now.memory at }
+    {
+        let low = self.fetch_pair(at)?;
+        if low % 4 != 3 {
+            return Ok(u32::from(low));
+        }
+        let high = self.fetch_pair(at + 2)?;
+        Ok(u32::from(low) + (u32::from(high) << 16))
     }
 
     // Two bytes of code.
@@ -182,9 +290,22 @@ impl Memory {
     }
 }
 
+// How many bytes a load or a store moves.
+#[inline(always)]
+fn size(width: Width) -> u64
+    ensures { result ≡ byte_count width }
+{
+    match width {
+        Width::B1 => 1,
+        Width::B2 => 2,
+        Width::B4 => 4,
+        Width::B8 => 8,
+    }
+}
+
 // Where a range of bytes begins, if it lies in memory.
 #[tactic(auto, unfolding(vm_defs::specs::Memory::is_out_of_range, vm_defs::specs::Memory::memory_size))]
-#[inline]
+#[inline(always)]
 fn place(at: u64, count: u64) -> Result<usize, MemFault>
     ensures inside { IfOk result (λ place. (place ≡ at) × (is_out_of_range at count ≡ false)) }
     ensures outside { IfErr result (λ fault. (fault ≡ MemFault.Range) × (is_out_of_range at count ≡ true)) }

@@ -1,9 +1,9 @@
 // Numbers in one page. A page with no room of its own is zero.
-ghost use Rattle.std.specs.Prelude.{◌≡◌, ◌+◌, ◌≤◌, length, slice_range};
+ghost use Rattle.std.specs.Prelude.{◌≡◌, ◌+◌, ◌%◌, ◌^◌, ◌≤◌, length, replicate, slice_range};
 ghost use Rattle.vm_defs.specs.Memory.{number_of, overwritten, page_size};
 ghost use Rattle.vm_mem.specs.Pages.{IsPage, whole};
 
-#[inline]
+#[inline(always)]
 pub(crate) fn read_u8(page: &[u8], offset: usize) -> u8
     requires page { IsPage page.now }
     requires within { offset + 1 ≤ page_size }
@@ -15,7 +15,7 @@ pub(crate) fn read_u8(page: &[u8], offset: usize) -> u8
     page[offset]
 }
 
-#[inline]
+#[inline(always)]
 pub(crate) fn read_u16(page: &[u8], offset: usize) -> u16
     requires page { IsPage page.now }
     requires within { offset + 2 ≤ page_size }
@@ -27,11 +27,12 @@ pub(crate) fn read_u16(page: &[u8], offset: usize) -> u16
     u16::from_le_bytes([page[offset], page[offset + 1]])
 }
 
-#[inline]
+#[inline(always)]
 pub(crate) fn read_u32(page: &[u8], offset: usize) -> u32
     requires page { IsPage page.now }
     requires within { offset + 4 ≤ page_size }
-    ensures { result ≡ number_of (slice_range (whole page.now) offset (offset + 4)) }
+    ensures number { result ≡ number_of (slice_range (whole page.now) offset (offset + 4)) }
+    ensures low_half { result % 2 ^ 16 ≡ number_of (slice_range (whole page.now) offset (offset + 2)) }
 {
     if page.is_empty() {
         return 0;
@@ -44,7 +45,7 @@ pub(crate) fn read_u32(page: &[u8], offset: usize) -> u32
     ])
 }
 
-#[inline]
+#[inline(always)]
 pub(crate) fn read_u64(page: &[u8], offset: usize) -> u64
     requires page { IsPage page.now }
     requires within { offset + 8 ≤ page_size }
@@ -66,10 +67,31 @@ pub(crate) fn read_u64(page: &[u8], offset: usize) -> u64
 }
 
 // Other bytes from an offset on.
-#[inline]
+#[inline(always)]
 pub(crate) fn overwrite(page: &mut [u8], offset: usize, bytes: &[u8])
     requires { offset + length bytes.now ≤ length page.old }
     ensures { page.new ≡ overwritten page.old offset bytes.now }
 {
     page[offset..offset + bytes.len()].copy_from_slice(bytes);
+}
+
+// Zeros from an offset on.
+#[inline]
+pub(crate) fn overwrite_with_zeros(page: &mut [u8], offset: usize, count: usize)
+    requires { offset + count ≤ length page.old }
+    ensures { page.new ≡ overwritten page.old offset (replicate count 0) }
+{
+    page[offset..offset + count].fill(0);
+}
+
+// Makes bytes of a page zero. One with no room of its own has no other.
+#[inline]
+pub(crate) fn clear(page: &mut [u8], offset: usize, count: usize)
+    requires page { IsPage page.old }
+    requires within { offset + count ≤ page_size }
+    ensures { whole page.new ≡ overwritten (whole page.old) offset (replicate count 0) }
+{
+    if !page.is_empty() {
+        overwrite_with_zeros(page, offset, count);
+    }
 }

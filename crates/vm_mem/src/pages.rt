@@ -1,7 +1,7 @@
 // Bytes in pages that take memory at their first store.
-ghost use Rattle.std.specs.Prelude.{◌≡◌, ℕ, ◌+◌, ◌*◌, ◌/◌, ◌%◌, ◌<◌, ◌≤◌, length, false, replicate, slice_range, IsOk, OnOk, IfOk};
+ghost use Rattle.std.specs.Prelude.{◌≡◌, ℕ, ◌+◌, ◌*◌, ◌/◌, ◌%◌, ◌^◌, ◌<◌, ◌≤◌, ◌⊎◌, length, false, replicate, slice_index_or, slice_range, IsOk, OnOk, IfOk};
 ghost use Rattle.vm_defs.specs.Memory.{number_of, memory_size, page_size, page_count};
-ghost use Rattle.vm_mem.specs.Pages.{AreMade, IsMade, written};
+ghost use Rattle.vm_mem.specs.Pages.{AreMade, IsMade, IsUnder, written};
 
 use super::page;
 use outside::NoMemory;
@@ -46,7 +46,7 @@ impl Pages {
     }
 
     #[tactic(auto, unfolding(vm_defs::specs::Memory::memory_size, vm_defs::specs::Memory::page_count))]
-    #[inline]
+    #[inline(always)]
     pub(crate) fn read_u8(&self, at: usize) -> u8
         requires { at + 1 ≤ memory_size }
         ensures { result ≡ number_of (slice_range self.now.bytes at (at + 1)) }
@@ -55,39 +55,84 @@ impl Pages {
     }
 
     #[tactic(auto, unfolding(vm_defs::specs::Memory::memory_size, vm_defs::specs::Memory::page_count))]
-    #[inline]
+    #[inline(always)]
     pub(crate) fn read_u16(&self, at: usize) -> u16
         requires { at + 2 ≤ memory_size }
         ensures { result ≡ number_of (slice_range self.now.bytes at (at + 2)) }
     {
         if at % PAGE_SIZE > PAGE_SIZE - 2 {
-            return u16::from(self.read_u8(at)) + (u16::from(self.read_u8(at + 1)) << 8);
+            return self.read_u16_over_pages(at);
         }
         page::read_u16(&self.pages[at / PAGE_SIZE], at % PAGE_SIZE)
     }
 
+    // A number over two pages is rare, and stays out of the code that reads one.
+    #[tactic(auto, unfolding(vm_defs::specs::Memory::memory_size))]
+    #[cold]
+    #[inline(never)]
+    fn read_u16_over_pages(&self, at: usize) -> u16
+        requires { at + 2 ≤ memory_size }
+        ensures { result ≡ number_of (slice_range self.now.bytes at (at + 2)) }
+    {
+        u16::from(self.read_u8(at)) + (u16::from(self.read_u8(at + 1)) << 8)
+    }
+
     #[tactic(auto, unfolding(vm_defs::specs::Memory::memory_size, vm_defs::specs::Memory::page_count))]
-    #[inline]
+    #[inline(always)]
     pub(crate) fn read_u32(&self, at: usize) -> u32
         requires { at + 4 ≤ memory_size }
-        ensures { result ≡ number_of (slice_range self.now.bytes at (at + 4)) }
+        ensures number { result ≡ number_of (slice_range self.now.bytes at (at + 4)) }
+        ensures low_half { result % 2 ^ 16 ≡ number_of (slice_range self.now.bytes at (at + 2)) }
     {
         if at % PAGE_SIZE > PAGE_SIZE - 4 {
-            return u32::from(self.read_u16(at)) + (u32::from(self.read_u16(at + 2)) << 16);
+            return self.read_u32_over_pages(at);
         }
         page::read_u32(&self.pages[at / PAGE_SIZE], at % PAGE_SIZE)
     }
 
+    // As for two bytes.
+    #[tactic(auto, unfolding(vm_defs::specs::Memory::memory_size))]
+    #[cold]
+    #[inline(never)]
+    fn read_u32_over_pages(&self, at: usize) -> u32
+        requires { at + 4 ≤ memory_size }
+        ensures number { result ≡ number_of (slice_range self.now.bytes at (at + 4)) }
+        ensures low_half { result % 2 ^ 16 ≡ number_of (slice_range self.now.bytes at (at + 2)) }
+    {
+        u32::from(self.read_u16(at)) + (u32::from(self.read_u16(at + 2)) << 16)
+    }
+
     #[tactic(auto, unfolding(vm_defs::specs::Memory::memory_size, vm_defs::specs::Memory::page_count))]
-    #[inline]
+    #[inline(always)]
     pub(crate) fn read_u64(&self, at: usize) -> u64
         requires { at + 8 ≤ memory_size }
         ensures { result ≡ number_of (slice_range self.now.bytes at (at + 8)) }
     {
         if at % PAGE_SIZE > PAGE_SIZE - 8 {
-            return u64::from(self.read_u32(at)) + (u64::from(self.read_u32(at + 4)) << 32);
+            return self.read_u64_over_pages(at);
         }
         page::read_u64(&self.pages[at / PAGE_SIZE], at % PAGE_SIZE)
+    }
+
+    // As for two bytes.
+    #[tactic(auto, unfolding(vm_defs::specs::Memory::memory_size))]
+    #[cold]
+    #[inline(never)]
+    fn read_u64_over_pages(&self, at: usize) -> u64
+        requires { at + 8 ≤ memory_size }
+        ensures { result ≡ number_of (slice_range self.now.bytes at (at + 8)) }
+    {
+        u64::from(self.read_u32(at)) + (u64::from(self.read_u32(at + 4)) << 32)
+    }
+
+    /// Whether a page has room of its own.
+    #[tactic(auto, unfolding(vm_defs::specs::Memory::page_count))]
+    #[inline(always)]
+    pub(crate) fn is_made(&self, page: usize) -> bool
+        requires { page < page_count }
+        ensures { result ≡ slice_index_or self.now.made page false }
+    {
+        !self.pages[page].is_empty()
     }
 
     // Gives one page room of its own.
@@ -98,6 +143,7 @@ impl Pages {
         ensures bytes { self.new.bytes ≡ self.old.bytes }
         ensures made { OnOk result (IsMade self.new.made page) }
         ensures stay { (other : ℕ) → IsMade self.old.made other → IsMade self.new.made other }
+        ensures only { (other : ℕ) → IsMade self.new.made other → IsMade self.old.made other ⊎ (other ≡ page) }
         ensures again { IsMade self.old.made page → IsOk result }
     {
         if self.pages[page].is_empty() {
@@ -114,6 +160,7 @@ impl Pages {
         ensures bytes { self.new.bytes ≡ self.old.bytes }
         ensures made { OnOk result (AreMade self.new.made at count) }
         ensures stay { (page : ℕ) → IsMade self.old.made page → IsMade self.new.made page }
+        ensures only { (page : ℕ) → IsMade self.new.made page → IsMade self.old.made page ⊎ IsUnder page at count }
         ensures again { AreMade self.old.made at count → IsOk result }
     {
         if count == 0 {
@@ -127,10 +174,10 @@ impl Pages {
         Ok(())
     }
 
-    // Writes bytes within one page.
+    /// Writes bytes within one page.
     #[tactic(auto, unfolding(vm_defs::specs::Memory::memory_size, vm_defs::specs::Memory::page_count))]
-    #[inline]
-    fn write_page(&mut self, at: usize, bytes: &[u8])
+    #[inline(always)]
+    pub(crate) fn write_page(&mut self, at: usize, bytes: &[u8])
         requires made { IsMade self.old.made (at / page_size) }
         requires memory { at < memory_size }
         requires within { at % page_size + length bytes.now ≤ page_size }
@@ -153,6 +200,33 @@ impl Pages {
             let size = (PAGE_SIZE - start % PAGE_SIZE).min(bytes.len() - done);
             self.write_page(start, &bytes[done..done + size]);
             done += size;
+        }
+    }
+
+    // Makes bytes within one page zero.
+    #[tactic(auto, unfolding(vm_defs::specs::Memory::memory_size, vm_defs::specs::Memory::page_count))]
+    #[inline]
+    fn clear_page(&mut self, at: usize, count: usize)
+        requires memory { at < memory_size }
+        requires within { at % page_size + count ≤ page_size }
+        ensures { self.new ≡ written self.old at (replicate count 0) }
+    {
+        page::clear(&mut self.pages[at / PAGE_SIZE], at % PAGE_SIZE, count);
+    }
+
+    /// Makes bytes zero, and takes no memory.
+    #[tactic(auto, unfolding(vm_defs::specs::Memory::memory_size, vm_defs::specs::Memory::page_count))]
+    #[inline]
+    pub(crate) fn clear(&mut self, at: usize, count: usize)
+        requires { at + count ≤ memory_size }
+        ensures { self.new ≡ written self.old at (replicate count 0) }
+    {
+        let mut cleared = 0;
+        while cleared < count {
+            let start = at + cleared;
+            let size = (PAGE_SIZE - start % PAGE_SIZE).min(count - cleared);
+            self.clear_page(start, size);
+            cleared += size;
         }
     }
 }

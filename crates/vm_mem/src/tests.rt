@@ -24,6 +24,18 @@ fn check_fetch(rt: &impl Abort, memory: &Memory, at: u64, expected: Result<u32, 
     assert!(rt; memory.fetch(at) == expected, "fetch {at}");
 }
 
+fn check_store(
+    rt: &impl Abort,
+    memory: &mut Memory,
+    at: u64,
+    width: Width,
+    value: u64,
+    expected: Result<(), MemStop>,
+) {
+    let stored = memory.store(at, width, value);
+    assert!(rt; stored == expected, "store {at}");
+}
+
 fn refused(fault: MemFault) -> Result<(), MemStop> {
     Err(MemStop::Fault(fault))
 }
@@ -51,6 +63,42 @@ fn numbers_over_two_pages_and_at_the_end(rt: HostRuntime) {
     assert!(&rt; past == refused(Range));
     let wrapped = memory.store(TOP, B1, 1);
     assert!(&rt; wrapped == refused(Range));
+}
+
+#[test]
+fn ranges_made_zero(rt: HostRuntime) {
+    let mut memory = Memory::new(rt.alloc()).expect(&rt, "memory");
+    // from page 0 to page 3, where page 1 and page 2 have no room of their own
+    let low = memory.store(PAGE - 8, B8, TOP);
+    assert!(&rt; low == Ok(()));
+    let high = memory.store(3 * PAGE, B8, TOP);
+    assert!(&rt; high == Ok(()));
+    let over_pages = memory.clear(PAGE - 4, 2 * PAGE + 7);
+    assert!(&rt; over_pages == Ok(()));
+    check_load(&rt, &memory, PAGE - 8, B8, Ok(0x0000_0000_ffff_ffff));
+    check_load(&rt, &memory, 2 * PAGE - 4, B8, Ok(0));
+    check_load(&rt, &memory, 3 * PAGE, B8, Ok(0xffff_ffff_ff00_0000));
+    let to_the_end = memory.clear(SIZE - 1, 1);
+    assert!(&rt; to_the_end == Ok(()));
+    let none_at_the_end = memory.clear(SIZE, 0);
+    assert!(&rt; none_at_the_end == Ok(()));
+    let past = memory.clear(SIZE - 1, 2);
+    assert!(&rt; past == Err(Range));
+    let wrapped = memory.clear(TOP, 2);
+    assert!(&rt; wrapped == Err(Range));
+    let code = memory.set_code(3 * PAGE, 1);
+    assert!(&rt; code == Ok(()));
+    let into_code = memory.clear(PAGE - 8, 2 * PAGE + 9);
+    assert!(&rt; into_code == Err(WriteCode));
+    check_load(&rt, &memory, PAGE - 8, B8, Ok(0x0000_0000_ffff_ffff));
+    let before_code = memory.clear(PAGE - 8, 2 * PAGE + 8);
+    assert!(&rt; before_code == Ok(()));
+    check_load(&rt, &memory, PAGE - 8, B8, Ok(0));
+    let none_in_code = memory.clear(3 * PAGE + 1, 0);
+    assert!(&rt; none_in_code == Ok(()));
+    // past memory and in a page of code: the range comes first
+    let both = memory.clear(3 * PAGE, SIZE);
+    assert!(&rt; both == Err(Range));
 }
 
 #[test]
@@ -98,4 +146,99 @@ fn pages_of_code(rt: HostRuntime) {
     // past memory and in a page of code: the range comes first
     let both = memory.store(SIZE - 4, B8, 1);
     assert!(&rt; both == refused(Range));
+}
+
+#[test]
+fn words_at_the_end_of_a_page(rt: HostRuntime) {
+    let mut memory = Memory::new(rt.alloc()).expect(&rt, "memory");
+    let end = 2 * PAGE;
+    let bytes = [0x13, 0x02, 0x83, 0x45, 0x97, 0xab, 0xcf, 0x02, 0x14, 0x25];
+    let copied = memory.copy_in(end - 6, &bytes);
+    assert!(&rt; copied == Ok(()));
+    let code = memory.set_code(PAGE, 1);
+    assert!(&rt; code == Ok(()));
+    // a page of data behind one of code: what lies in the page of code alone is run
+    check_fetch(&rt, &memory, end - 6, Ok(0x4583_0213));
+    check_fetch(&rt, &memory, end - 5, Ok(0x8302));
+    check_fetch(&rt, &memory, end - 4, Ok(0xab97_4583));
+    check_fetch(&rt, &memory, end - 3, Ok(0x9745));
+    check_fetch(&rt, &memory, end - 2, Err(RunData));
+    check_fetch(&rt, &memory, end - 1, Err(RunData));
+    check_fetch(&rt, &memory, end, Err(RunData));
+    let code = memory.set_code(end, 1);
+    assert!(&rt; code == Ok(()));
+    // two pages of code
+    check_fetch(&rt, &memory, end - 4, Ok(0xab97_4583));
+    check_fetch(&rt, &memory, end - 3, Ok(0x9745));
+    check_fetch(&rt, &memory, end - 2, Ok(0x02cf_ab97));
+    check_fetch(&rt, &memory, end - 1, Ok(0x1402_cfab));
+    check_fetch(&rt, &memory, end, Ok(0x2514_02cf));
+    // a page of code that was never stored to
+    let code = memory.set_code(0, 1);
+    assert!(&rt; code == Ok(()));
+    check_fetch(&rt, &memory, 0, Ok(0));
+}
+
+#[test]
+fn words_at_the_end_of_memory(rt: HostRuntime) {
+    let mut memory = Memory::new(rt.alloc()).expect(&rt, "memory");
+    let copied = memory.copy_in(SIZE - 4, &[0x97, 0x03, 0x82, 0x44]);
+    assert!(&rt; copied == Ok(()));
+    check_fetch(&rt, &memory, SIZE - 4, Err(RunData));
+    check_fetch(&rt, &memory, SIZE - 1, Err(Range));
+    let code = memory.set_code(SIZE - PAGE, 1);
+    assert!(&rt; code == Ok(()));
+    check_fetch(&rt, &memory, SIZE - 4, Ok(0x4482_0397));
+    check_fetch(&rt, &memory, SIZE - 3, Err(Range));
+    check_fetch(&rt, &memory, SIZE - 2, Ok(0x4482));
+    check_fetch(&rt, &memory, SIZE - 1, Err(Range));
+    check_fetch(&rt, &memory, SIZE, Err(Range));
+}
+
+#[test]
+fn stores_at_the_end_of_a_page(rt: HostRuntime) {
+    let mut memory = Memory::new(rt.alloc()).expect(&rt, "memory");
+    let code = memory.set_code(2 * PAGE, 1);
+    assert!(&rt; code == Ok(()));
+    // the page before has no room yet
+    check_store(&rt, &mut memory, 2 * PAGE - 3, B4, 1, refused(WriteCode));
+    check_store(&rt, &mut memory, 2 * PAGE - 4, B4, 0x4433_2211, Ok(()));
+    // and now it has
+    check_store(&rt, &mut memory, 2 * PAGE - 4, B4, 0x8877_6655, Ok(()));
+    check_store(&rt, &mut memory, 2 * PAGE - 3, B4, 1, refused(WriteCode));
+    check_store(&rt, &mut memory, 2 * PAGE - 2, B4, 1, refused(WriteCode));
+    check_store(&rt, &mut memory, 2 * PAGE - 1, B4, 1, refused(WriteCode));
+    check_store(&rt, &mut memory, 2 * PAGE, B1, 1, refused(WriteCode));
+    check_load(&rt, &memory, 2 * PAGE - 8, B8, Ok(0x8877_6655_0000_0000));
+    check_load(&rt, &memory, 2 * PAGE, B8, Ok(0));
+    // the page before that has none: a store over both, and then again
+    check_store(&rt, &mut memory, PAGE - 1, B4, 0x0403_0201, Ok(()));
+    check_store(&rt, &mut memory, PAGE - 3, B4, 0x1413_1211, Ok(()));
+    check_load(&rt, &memory, PAGE - 4, B8, Ok(0x0004_0314_1312_1100));
+    check_store(&rt, &mut memory, PAGE - 2, B2, 0xabcd, Ok(()));
+    check_store(&rt, &mut memory, PAGE - 1, B1, 0x5a, Ok(()));
+    check_store(&rt, &mut memory, PAGE, B8, 0x8070_6050_4030_2010, Ok(()));
+    check_load(&rt, &memory, PAGE - 4, B8, Ok(0x4030_2010_5acd_1100));
+    check_load(&rt, &memory, PAGE + 4, B8, Ok(0x8070_6050));
+}
+
+#[test]
+fn stores_at_the_end_of_memory(rt: HostRuntime) {
+    let mut memory = Memory::new(rt.alloc()).expect(&rt, "memory");
+    check_store(
+        &rt,
+        &mut memory,
+        SIZE - 8,
+        B8,
+        0x0807_0605_0403_0201,
+        Ok(()),
+    );
+    check_store(&rt, &mut memory, SIZE - 7, B8, 1, refused(Range));
+    check_store(&rt, &mut memory, SIZE - 4, B4, 0x1413_1211, Ok(()));
+    check_store(&rt, &mut memory, SIZE - 3, B4, 1, refused(Range));
+    check_store(&rt, &mut memory, SIZE - 2, B2, 0x2221, Ok(()));
+    check_store(&rt, &mut memory, SIZE - 1, B2, 1, refused(Range));
+    check_store(&rt, &mut memory, SIZE - 1, B1, 0x33, Ok(()));
+    check_store(&rt, &mut memory, SIZE, B1, 1, refused(Range));
+    check_load(&rt, &memory, SIZE - 8, B8, Ok(0x3321_1211_0403_0201));
 }

@@ -1,6 +1,6 @@
 use Rattle.std.proofs.Common.{◌∙◌}
 use Rattle.vm_mem.proofs.Wholes.{whole-made, number-empty}
-use Rattle.vm_mem.proofs.Numbers.{number-2}
+use Rattle.vm_defs.proofs.Numbers.{number-2}
 use Rattle.vm_mem.proofs.page.read_u16.Goals as goal
 
 pub returns-then-is_empty : goal.returns-then-is_empty

@@ -1,5 +1,5 @@
 use Rattle.vm_mem.proofs.Wholes.{whole-made, number-empty}
-use Rattle.vm_mem.proofs.Numbers.{number-1}
+use Rattle.vm_defs.proofs.Numbers.{number-1}
 use Rattle.vm_mem.proofs.page.read_u8.Goals as goal
 
 pub returns-then-is_empty : goal.returns-then-is_empty

@@ -1,6 +1,6 @@
 use Rattle.std.proofs.Common.{rules}
 use Rattle.vm_defs.specs.Memory.{page_count}
-use Rattle.vm_mem.proofs.Edited.{empty-not-made, full-is-made, make-bytes, make-is-made, make-stays, sound, zeros-are-page}
+use Rattle.vm_mem.proofs.Edited.{empty-not-made, full-is-made, make-bytes, make-is-made, make-only, make-stays, sound, zeros-are-page}
 use Rattle.vm_mem.proofs.pages.Pages.make_page.Goals as goal
 
 pub returns-in_err-self-inside-clause-again : goal.returns-in_err-self-inside-clause-again
@@ -27,6 +27,10 @@ pub returns-in_ok-self-inside-clause-stay : goal.returns-in_ok-self-inside-claus
 unfolding page_count
 returns-in_ok-self-inside-clause-stay c = rw (← c.self.view_is)
     (make-stays (λ page. page.items) c.self.inside.pages.items c.in_ok-self-inside.field-0 c.args.page (search rules) (search rules))
+
+pub returns-in_ok-self-inside-clause-only : goal.returns-in_ok-self-inside-clause-only
+returns-in_ok-self-inside-clause-only c = rw (← c.self.view_is)
+    (make-only (λ page. page.items) c.self.inside.pages.items c.in_ok-self-inside.field-0 c.args.page (search rules))
 
 pub returns-else-is_empty-clause-made : goal.returns-else-is_empty-clause-made
 unfolding page_count

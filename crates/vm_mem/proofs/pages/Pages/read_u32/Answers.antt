@@ -1,19 +1,14 @@
-use Rattle.std.proofs.Common.{◌≡◌, ◌+◌, sym, arith, rules, slice_range}
-use Rattle.vm_defs.specs.Memory.{number_of, memory_size}
-use Rattle.vm_mem.proofs.Numbers.{halves-4}
+use Rattle.std.proofs.Common.{sym, arith, rules}
+use Rattle.vm_defs.specs.Memory.{memory_size}
 use Rattle.vm_mem.proofs.Placed.{number-page}
 use Rattle.vm_mem.proofs.pages.Pages.read_u32.Goals as goal
 
-pub returns-then-at : goal.returns-then-at
-returns-then-at c =
-    let bytes = c.args.self.now.bytes in
-    let halves = halves-4 bytes c.args.at in
-    let place : c.args.at + 2 + 2 ≡ c.args.at + 4 = omega arith in
-    let high : c.read_u16-then-at.result ≡ number_of (slice_range bytes (c.args.at + 2) (c.args.at + 4)) =
-    rw (← place) c.read_u16-then-at.ensures in
-    omega (arith, halves, high, c.from.ensures, c.from-then-at.ensures, c.read_u16.ensures, c.read_u16-then-at.type_inv)
-
-pub returns : goal.returns
+pub returns-clause-number : goal.returns-clause-number
 unfolding memory_size
-returns c = rw (← c.self.view_is, c.read_u32.ensures, c.deref.ensures.value)
+returns-clause-number c = rw (← c.self.view_is, c.read_u32.ensures.number, c.deref.ensures.value)
     (sym (number-page (λ page. page.items) c.self.inside.pages.items c.index.result.now c.args.at 4 c.self.invariant c.index.ensures (search rules) (search rules)))
+
+pub returns-clause-low_half : goal.returns-clause-low_half
+unfolding memory_size
+returns-clause-low_half c = rw (← c.self.view_is, c.read_u32.ensures.low_half, c.deref.ensures.value)
+    (sym (number-page (λ page. page.items) c.self.inside.pages.items c.index.result.now c.args.at 2 c.self.invariant c.index.ensures (search rules) (omega arith)))
