@@ -1,0 +1,83 @@
+-- A machine that runs: what contracts see of it, and what a step of it does.
+use Rattle.std.specs.Prelude.{◌≡◌, ◌≢◌, ℕ, ℤ, Bool, true, false, List, Option, Some, None, IfSome, Result, Ok, Err, if◌then◌else◌}
+use Rattle.vm_defs.specs.declared.ins.Ins.{Ins}
+use Rattle.vm_defs.specs.declared.ins.Ins.TheVariants.{Sb, Sh, Sw, Sd}
+use Rattle.vm_defs.specs.declared.memory.MemFault.{MemFault}
+use Rattle.vm_defs.specs.declared.step.Step.{Step}
+use Rattle.vm_defs.specs.declared.step.Step.TheVariants.{Went, Ecall, Fault, Spent, NoMemory}
+use Rattle.vm_defs.specs.Decode.{decode}
+use Rattle.vm_defs.specs.Memory.{fetch}
+use Rattle.vm_defs.specs.Step.{Machine, charged, is_spent, moved, register}
+use Rattle.vm_mem.specs.Pages.{IsMade, AreMade}
+
+-- the machine, which of its pages have room of their own, and whether it may make another step
+pub record RunningMachine : Type 0 where
+  pub machine : Machine
+  pub made : List Bool
+  pub goes_on : Bool
+
+-- the answers of a step after which the machine goes on
+abbrev pub goes_on_after : Step → Bool
+goes_on_after Went = true
+goes_on_after Ecall = true
+goes_on_after (Fault number) = false
+goes_on_after Spent = false
+goes_on_after NoMemory = false
+
+-- A step: what the definitions make of the machine, the machine before and after, and the answer. Where a page that is
+-- stored to could not be made, the instruction is paid for, and has no effect.
+abbrev pub Steps : Step × Machine → Machine → Machine → Step → Type 0
+Steps expected old new Went = (Went, new) ≡ expected
+Steps expected old new Ecall = (Ecall, new) ≡ expected
+Steps expected old new (Fault number) = (Fault number, new) ≡ expected
+Steps expected old new Spent = (Spent, new) ≡ expected
+Steps expected old new NoMemory = (expected.0 ≡ Went) × (new ≡ record old { cycles = expected.1.cycles })
+
+-- An instruction is paid for before it has the effect that is expected of it.
+abbrev pub paying : ℕ → Machine → Step × Machine → Step × Machine
+paying cost machine expected =
+    let paid = charged machine cost in if is_spent paid then (Spent, paid) else expected
+
+-- ---- room for a store
+
+pub record ByteRange : Type 0 where
+  pub at : ℕ
+  pub count : ℕ
+
+abbrev pub range_at : Machine → ℕ → ℤ → ℕ → Option ByteRange
+range_at machine rs1 imm count = Some (record { at = moved (register machine rs1) imm; count = count })
+
+-- the bytes that an instruction stores to
+abbrev pub stored_range : Machine → Ins → Option ByteRange
+stored_range machine (Sb rs1 rs2 imm) = range_at machine rs1 imm 1
+stored_range machine (Sh rs1 rs2 imm) = range_at machine rs1 imm 2
+stored_range machine (Sw rs1 rs2 imm) = range_at machine rs1 imm 4
+stored_range machine (Sd rs1 rs2 imm) = range_at machine rs1 imm 8
+stored_range machine _ = None
+
+abbrev pub decoded_range : Machine → Option (Ins × ℕ) → Option ByteRange
+decoded_range machine (Some decoded) = stored_range machine decoded.0
+decoded_range machine None = None
+
+abbrev pub fetched_range : Machine → Result ℕ MemFault → Option ByteRange
+fetched_range machine (Ok word) = decoded_range machine (decode word)
+fetched_range machine (Err fault) = None
+
+-- those of the instruction at the program counter
+unfoldable pub next_range : Machine → Option ByteRange
+next_range machine = fetched_range machine (fetch machine.memory machine.pc)
+
+-- the pages of the bytes, if any are stored to, have room of their own
+abbrev pub HasRoom : List Bool → Option ByteRange → Type 0
+HasRoom made range = IfSome range (λ bytes. AreMade made bytes.at bytes.count)
+
+-- ---- one instruction
+
+-- An instruction: what it is to do, the bytes that it stores to, the machine before and after, and
+-- the answer.
+pub record Executes (expected : Step × Machine) (range : Option ByteRange) (old new : RunningMachine) (result : Step) : Type 0 where
+  pub machine : Steps expected old.machine new.machine result
+  pub room : HasRoom old.made range → result ≢ NoMemory
+  pub made : result ≡ Went → HasRoom new.made range
+  pub stay : (page : ℕ) → IsMade old.made page → IsMade new.made page
+  pub goes_on : new.goes_on ≡ goes_on_after result

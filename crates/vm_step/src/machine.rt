@@ -1,0 +1,166 @@
+// The machine, and what its user sees and changes of it.
+ghost use Rattle.std.specs.Borrow.{sem};
+ghost use Rattle.std.specs.Prelude.{◌≡◌, ◌≢◌, ℕ, ◌^◌, ◌<◌, ◌≤◌, true, false, not};
+ghost use Rattle.vm_defs.specs.Program.{new_machine};
+ghost use Rattle.vm_defs.specs.Step.{charged, is_spent, register, step_of, with_register};
+ghost use Rattle.vm_mem.specs.Pages.{IsMade};
+ghost use Rattle.vm_step.specs.Lending.{LendsMemory};
+ghost use Rattle.vm_step.specs.Running.{HasRoom, Steps, goes_on_after, next_range};
+
+use super::fault::{NO_INSTRUCTION, fault_number};
+use rv_decode::decode;
+use std::marker::Model;
+use vm_defs::Step;
+use vm_mem::Memory;
+
+const STACK_POINTER: u64 = 0x3f_fff0;
+
+/// A machine: its registers, memory and program counter, the cycles so far and the most that there may be.
+///
+/// It goes on until a step answers anything but `Went` and `Ecall`, or `charge` answers false. Then its
+/// registers, memory and cycles can still be looked at, and no step can be made.
+#[derive(Drop)]
+pub struct Machine {
+    pub(crate) memory: Memory,
+    // x0 is never written, so that it reads as 0.
+    pub(crate) registers: [u64; 32],
+    pub(crate) pc: u64,
+    pub(crate) cycles: u64,
+    pub(crate) budget: u64,
+    pub(crate) goes_on: bool,
+}
+
+impl Model for Machine {
+    ghost use Rattle.std.specs.Prelude.{◌≡◌, ◌^◌, ◌≤◌, slice_index, true};
+    ghost use Rattle.vm_step.specs.Running.{RunningMachine};
+
+    ghost Value = { RunningMachine };
+
+    ghost view = { λ m. record {
+      machine = record { pc = m.pc; registers = m.registers; memory = m.memory.memory; cycles = m.cycles; budget = m.budget };
+      made = m.memory.made;
+      goes_on = m.goes_on;
+    } };
+
+    ghost invariant = { λ m. (slice_index m.registers 0 ≡ 0) × (m.budget ≤ 2 ^ 40) × (m.goes_on ≡ true → m.cycles ≤ m.budget) };
+}
+
+impl Machine {
+    /// A machine before its first step, with its program in memory and `pc` at the program's entry.
+    ///
+    /// All registers are 0 but the stack pointer, x2, which is 0x3ffff0. The budget is the most cycles that the
+    /// program may take.
+    #[tactic(auto, unfolding(vm_defs::specs::Program::new_machine, vm_defs::specs::Program::initial_registers))]
+    pub fn new(memory: Memory, pc: u64, budget: u64) -> Machine
+        requires { budget ≤ 2 ^ 40 }
+        ensures machine { result.machine ≡ new_machine memory.memory pc budget }
+        ensures made { result.made ≡ memory.made }
+        ensures goes_on { result.goes_on ≡ true }
+    {
+        let mut registers = [0u64; 32];
+        registers[2] = STACK_POINTER;
+        Machine {
+            memory,
+            registers,
+            pc,
+            cycles: 0,
+            budget,
+            goes_on: true,
+        }
+    }
+
+    /// One step: the instruction at the program counter.
+    ///
+    /// Its cycles are added first, and where they pass the budget the answer is `Spent` and the instruction has
+    /// no effect. An odd program counter, or one where no instruction is, is a fault and costs nothing.
+    #[inline(always)]
+    pub fn step(&mut self) -> Step
+        requires { self.old.goes_on ≡ true }
+        ensures steps { Steps (step_of self.old.machine) self.old.machine self.new.machine result }
+        ensures goes_on { self.new.goes_on ≡ goes_on_after result }
+
+        // With room for what the instruction stores, NoMemory does not come. A store leaves room there, and no
+        // page loses its own.
+        ensures room { HasRoom self.old.made (next_range self.old.machine) → result ≢ Step.NoMemory }
+        ensures made { result ≡ Step.Went → HasRoom self.new.made (next_range self.old.machine) }
+        ensures stay { (page : ℕ) → IsMade self.old.made page → IsMade self.new.made page }
+    {
+        if self.pc % 2 == 1 {
+            return self.stop(Step::Fault(NO_INSTRUCTION));
+        }
+        let word = match self.memory.fetch(self.pc) {
+            Ok(word) => word,
+            Err(fault) => return self.stop(Step::Fault(fault_number(fault))),
+        };
+        let (ins, length) = match decode(word) {
+            Some(decoded) => decoded,
+            None => return self.stop(Step::Fault(NO_INSTRUCTION)),
+        };
+        self.execute(ins, u64::from(length))
+    }
+
+    /// Adds cycles, and says whether they are still within the budget.
+    #[inline(always)]
+    pub fn charge(&mut self, cycles: u64) -> bool
+        requires goes_on { self.old.goes_on ≡ true }
+        requires bound { cycles ≤ 2 ^ 40 }
+        ensures machine { self.new.machine ≡ charged self.old.machine cycles }
+        ensures made { self.new.made ≡ self.old.made }
+        ensures goes_on { self.new.goes_on ≡ result }
+        ensures within { result ≡ not (is_spent self.new.machine) }
+    {
+        self.cycles += cycles;
+        if self.cycles > self.budget {
+            self.goes_on = false;
+            return false;
+        }
+        true
+    }
+
+    /// Register `i`; x0 is 0.
+    #[inline(always)]
+    #[tactic(auto, unfolding(vm_defs::specs::Step::register))]
+    pub fn reg(&self, i: u8) -> u64
+        requires { i < 32 }
+        ensures { result ≡ register self.now.machine i }
+    {
+        self.registers[i as usize]
+    }
+
+    /// Writes register `i`; what is written to x0 is dropped.
+    #[inline(always)]
+    #[tactic(auto, unfolding(vm_defs::specs::Step::with_register))]
+    pub fn set_reg(&mut self, i: u8, value: u64)
+        requires { i < 32 }
+        ensures { self.new ≡ record self.old { machine = with_register self.old.machine i value } }
+    {
+        if i != 0 {
+            self.registers[i as usize] = value;
+        }
+    }
+
+    /// The cycles so far.
+    pub fn cycles(&self) -> u64
+        ensures { result ≡ self.now.machine.cycles }
+    {
+        self.cycles
+    }
+
+    /// The machine's memory, to be read and written.
+    pub fn memory_mut(&mut self) -> &mut Memory
+        ensures* lends { sem 𝓛 (LendsMemory self.entry result) }
+        ensures memory { result.now ≡ record { memory = self.old.machine.memory; made = self.old.made } }
+    {
+        &mut self.memory
+    }
+
+    // The machine goes on no more.
+    #[inline]
+    pub(crate) fn stop(&mut self, answer: Step) -> Step
+        ensures result { result ≡ answer }
+        ensures machine { self.new ≡ record self.old { goes_on = false } }
+    {
+        self.goes_on = false;
+        answer
+    }
+}
