@@ -1,0 +1,4 @@
+pub mod Lists
+pub mod Touching
+pub mod Placing
+pub mod Segments

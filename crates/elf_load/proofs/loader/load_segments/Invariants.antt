@@ -1,0 +1,12 @@
+use Rattle.std.proofs.Common.{◌+◌, ◌-◌, ◌*◌, ◌≤◌}
+use Rattle.vm_defs.specs.Elf.{e_phnum, e_phoff, program_header_size, segments_from}
+use Rattle.elf_load.specs.Loads.{AllMade}
+use Rattle.elf_load.proofs.Segments.{Loading}
+use Rattle.elf_load.proofs.loader.load_segments.Given as goal
+
+abbrev pub invariant-loop-index : goal.invariant-loop-index
+invariant-loop-index l = record {
+  loading : Loading l.file (segments_from (e_phnum l.file - l.index) l.file (e_phoff l.file + program_header_size * l.index)) l.touched.kinds l.memory.memory l.file_bytes;
+  bound : l.file_bytes ≤ 4194304 * l.index;
+  stay : AllMade l.fn.memory.made → AllMade l.memory.made;
+}
