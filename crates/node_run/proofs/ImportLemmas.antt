@@ -16,7 +16,7 @@ use Rattle.report_defs.specs.declared.status.Status.TheVariants.{InputFault, Sin
 use Rattle.report_defs.specs.Items.{IsItem}
 use Rattle.report_defs.specs.Text.{line}
 use Rattle.report_defs.specs.Report.{import_limits, verdicts_over, lines_over, kept_over}
-use Rattle.report_defs.specs.Promise.{IsPrefix}
+use Rattle.report_defs.specs.Promise.{IsPrefix, IsStoppedEarly}
 use Rattle.node_run.specs.Items.{HoldsOneAtMost, IsItemAt, EndsAt, IsReadingStop, IsWritingStop, IsStop}
 use Rattle.node_run.specs.Import.{Passed, AreImported}
 use Rattle.node_run.specs.declared.import.Ended.{Ended}
@@ -147,16 +147,16 @@ imported_to_fault kept start offset left_old left left_new taken_old taken now n
       one = one;
       begun = inl refl;
     };
-    end = stop;
+    end = (stop, λ early. refl);
   },
 )
 
 -- an item was read, and the writing of its line was stopped
 pub imported_to_line : (kept : List Block) (start offset : ℕ) (left_old left left_new taken_old taken taken_new : Option (List ℕ)) (now new : List Block) (refused : Bool)
     (status : Status) (item given piece : List ℕ) → Whole kept start offset left_old left taken_old taken now refused → IsItemAt offset item given
-    → Gives left left_new given → HoldsOneAtMost given → Takes taken taken_new piece → IsPrefix piece (line (rules.verdict now item)) → IsStop status
+    → Gives left left_new given → HoldsOneAtMost given → Takes taken taken_new piece → IsPrefix piece (line (rules.verdict now item)) → IsStop status → (IsStoppedEarly status → piece ≡ [])
     → Passed left_old left_new taken_old taken_new (AreImported kept new start left_new (Err status))
-imported_to_line kept start offset left_old left left_new taken_old taken taken_new now new refused status item given piece whole at gives one takes begins stop =
+imported_to_line kept start offset left_old left left_new taken_old taken taken_new now new refused status item given piece whole at gives one takes begins stop silent =
     let same : now ≡ kept_over kept whole.items = whole.kept_now in (
       concat whole.items ++ given,
       lines_over kept whole.items ++ piece,
@@ -178,7 +178,7 @@ imported_to_line kept start offset left_old left left_new taken_old taken taken_
                 (subst (λ bs. IsPrefix piece (line (rules.verdict now bs))) (sym at.same) begins),
           );
         };
-        end = stop;
+        end = (stop, silent);
       },
     )
 

@@ -2,3 +2,6 @@ pub mod ImportLemmas
 pub mod KeptLemmas
 pub mod Reading
 pub mod RunLemmas
+pub mod WordLemmas
+pub mod ExecLemmas
+pub mod ProgramLemmas

@@ -54,7 +54,7 @@ bad_size_holds_none given (inr large) item more is_item e =
 -- ---- The ends
 
 -- nothing is left
-left_nothing : (left : Option (List ℕ)) (more : List ℕ) → IsAtEnd left → left ≡ Some more → more ≡ []
+pub left_nothing : (left : Option (List ℕ)) (more : List ℕ) → IsAtEnd left → left ≡ Some more → more ≡ []
 left_nothing None more at_end is = absurd (cc)
 left_nothing (Some xs) more at_end is = let same : xs ≡ more = cc in sym same ∙ at_end
 

@@ -19,11 +19,11 @@ use Rattle.report_defs.specs.Text.{line, tip_line}
 use Rattle.report_defs.specs.Report.{Report, import_limits, kept_from, verdicts_over, lines_over, kept_over, report_of_blocks, report_of_genesis, report_of_split, report_of_input, report_of_command, report}
 use Rattle.report_defs.specs.Words.{command_of}
 use Rattle.report_defs.specs.declared.command.Command.{Command}
-use Rattle.report_defs.specs.Promise.{IsPrefix, IsReported, IsImportStatus, all_but_last, lines_of, TellsReport, WritesInOrder, ImportsInOrder}
+use Rattle.report_defs.specs.Promise.{IsPrefix, IsReported, IsStoppedEarly, IsImportStatus, all_but_last, lines_of, TellsReport, WritesInOrder, ImportsInOrder, KeepsOrder}
 use Rattle.report_defs.proofs.ItemLemmas.{Splits, split_of-is, split_of-append, all_items-append, end_at-nothing}
-use Rattle.node_run.specs.Items.{HoldsOneAtMost, IsItemAt, EndsAt, IsWritingStop, IsStop}
-use Rattle.node_run.proofs.Reading.{one_item, few_hold_none}
-use Rattle.node_run.specs.Import.{IsGenesis, IsGenesisRead, IsBadGenesis, Progress, AreImported, tip_line_of_kept}
+use Rattle.node_run.specs.Items.{HoldsOneAtMost, IsItemAt, EndsAt, IsStop}
+use Rattle.node_run.proofs.Reading.{one_item}
+use Rattle.node_run.specs.Import.{IsGenesis, IsGenesisRead, IsBadGenesis, IsCutShort, Progress, AreImported, tip_line_of_kept}
 use Rattle.node_run.specs.declared.import.Ended.{Ended}
 use Rattle.node_run.proofs.ImportLemmas.{concat-push, lines-push, writing_stops}
 
@@ -204,7 +204,7 @@ no_lines given taken one =
 
 -- ---- The statuses
 
-stop_not_reported : (status : Status) → IsStop status → IsReported status → ⊥
+pub stop_not_reported : (status : Status) → IsStop status → IsReported status → ⊥
 stop_not_reported InputFault stop reported = reported
 stop_not_reported SinkFault stop reported = reported
 stop_not_reported NoMemory stop reported = reported
@@ -214,8 +214,9 @@ stop_not_reported _ stop reported = stop
 pub stopped : (given : List ℕ) (left : Option (List ℕ)) (taken : List ℕ) (status : Status) → IsStop status
     → ((more : List ℕ) → left ≡ Some more → IsPrefix taken (report_of_input (given ++ more)).text)
     → WritesInOrder given taken
+    → (IsStoppedEarly status → (count : ℕ) × (taken ≡ lines_of (take count (split_of import_limits given).items)))
     → TellsReport report_of_input given left taken status × ImportsInOrder given left taken status
-stopped given left taken status stop front written = (
+stopped given left taken status stop front written whole_lines = (
   record {
     front = front;
     whole_text = λ more is reported. absurd (stop_not_reported status stop reported);
@@ -223,6 +224,7 @@ stopped given left taken status stop front written = (
   },
   record {
     written = written;
+    whole_lines = whole_lines;
     to_end = λ ended. absurd (elim ended [ inl e ↦ subst IsStop e stop | inr e ↦ subst IsStop e stop ]);
     genesis_alone = λ e. absurd (subst IsStop e stop);
     to_cut = λ e. absurd (subst IsStop e stop);
@@ -235,11 +237,12 @@ stopped given left taken status stop front written = (
 silent : (given : List ℕ) (left : Option (List ℕ)) (status : Status)
     → ((more : List ℕ) → left ≡ Some more → report_of_input (given ++ more) ≡ record { text = []; status = status })
     → WritesInOrder given []
+    → (IsStoppedEarly status → ⊥)
     → ((status ≡ Done) ⊎ (status ≡ SomeRefused) → ⊥)
     → (status ≡ BadGenesis → (split_of import_limits given).items ≡ given ∷ [])
     → (status ≡ CutInput → (more : List ℕ) → left ≡ Some more → end_offset (split_of import_limits (given ++ more)) ≤ length given)
     → TellsReport report_of_input given left [] status × ImportsInOrder given left [] status
-silent given left status says written unended genesis_alone to_cut = (
+silent given left status says written unstopped unended genesis_alone to_cut = (
   record {
     front = λ more is. ((report_of_input (given ++ more)).text, refl);
     whole_text = λ more is reported. sym (ap (λ (r : Report). r.text) (says more is));
@@ -247,6 +250,7 @@ silent given left status says written unended genesis_alone to_cut = (
   },
   record {
     written = written;
+    whole_lines = λ early. absurd (unstopped early);
     to_end = λ ended. absurd (unended ended);
     genesis_alone = genesis_alone;
     to_cut = to_cut;
@@ -260,6 +264,7 @@ cut_at_once given left end ends =
     silent given left CutInput
     (λ more is. ap report_of_split (split more is))
     (no_lines given [] ends.one)
+    (λ early. elim early [ inl e ↦ (cc) | inr e ↦ (cc) ])
     (λ ended. elim ended [ inl e ↦ (cc) | inr e ↦ (cc) ])
     (λ e. absurd (cc))
     (λ e more is. rw (split more is) (omega arith))
@@ -291,6 +296,7 @@ bad_genesis given left bad =
     silent given left BadGenesis
     (λ more is. ap report_of_split (split more).1 ∙ ap (λ (broken : Option ℕ). report_of_genesis broken given (split more).0.items (split more).0.end) bad.broken)
     (no_lines given [] (one_item given bad.there.is_item))
+    (λ early. elim early [ inl e ↦ (cc) | inr e ↦ (cc) ])
     (λ ended. elim ended [ inl e ↦ (cc) | inr e ↦ (cc) ])
     (λ e. alone)
     (λ e. absurd (cc))
@@ -309,7 +315,7 @@ bad_genesis given left bad =
 stopped_at_once : (given : List ℕ) (left : Option (List ℕ)) (status : Status) → IsStop status → HoldsOneAtMost given
     → TellsReport report_of_input given left [] status × ImportsInOrder given left [] status
 stopped_at_once given left status stop one =
-    stopped given left [] status stop (λ more is. ((report_of_input (given ++ more)).text, refl)) (no_lines given [] one)
+    stopped given left [] status stop (λ more is. ((report_of_input (given ++ more)).text, refl)) (no_lines given [] one) (λ early. (0, refl))
 
 -- no good genesis was read
 pub no_genesis : (given : List ℕ) (left : Option (List ℕ)) (status : Status) → IsGenesis left (Err status) given
@@ -378,15 +384,35 @@ taken_in_order genesis items part piece given taken behind read progress =
     ap (λ bs. bs ++ behind) progress.taken_is ∙ append_assoc (lines_over (kept_by genesis) items) piece behind in
     rw (given_parts genesis items part piece given taken progress, all) (items_in_order genesis items part (piece ++ behind) read progress.one)
 
+-- the lines of what was read are those of the first items that were given
+lines_whole : (genesis : List ℕ) (items : List (List ℕ)) (part given : List ℕ) → IsRead genesis items → given ≡ (genesis ++ concat items) ++ part
+    → (count : ℕ) × (lines_over (kept_by genesis) items ≡ lines_of (take count (split_of import_limits given).items))
+lines_whole genesis items part given read parts =
+    let split = split_of-append import_limits (genesis ∷ items) part (read.is_item, read.all) (rw length-append read.within) in
+    let front : take (length items) (items ++ split.0.items) ≡ items = grind (arith, common_steps) in
+    (suc (length items), rw (parts, split.2, front) refl)
+
+-- with no part of a further one
+taken_whole : (genesis : List ℕ) (items : List (List ℕ)) (part piece given taken behind : List ℕ) → IsRead genesis items
+    → Progress (kept_by genesis) (length genesis) items part piece given taken → piece ≡ [] → behind ≡ []
+    → (count : ℕ) × (taken ++ behind ≡ lines_of (take count (split_of import_limits (genesis ++ given)).items))
+taken_whole genesis items part piece given taken behind read progress none nothing =
+    let lines = lines_whole genesis items part (genesis ++ given) read (given_parts genesis items part piece given taken progress) in (
+      lines.0,
+      ap (λ bs. taken ++ bs) nothing ∙ append-nil taken ∙ progress.taken_is
+          ∙ ap (λ bs. lines_over (kept_by genesis) items ++ bs) none ∙ append-nil (lines_over (kept_by genesis) items) ∙ lines.1,
+    )
+
 -- the run was stopped among the items
 pub stopped_in_items : (genesis : List ℕ) (items : List (List ℕ)) (part piece given taken : List ℕ) (left : Option (List ℕ)) (status : Status)
-    → IsGenesisRead genesis genesis → Progress (kept_by genesis) (length genesis) items part piece given taken → IsStop status
+    → IsGenesisRead genesis genesis → Progress (kept_by genesis) (length genesis) items part piece given taken → IsStop status → (IsStoppedEarly status → piece ≡ [])
     → TellsReport report_of_input (genesis ++ given) left taken status × ImportsInOrder (genesis ++ given) left taken status
-stopped_in_items genesis items part piece given taken left status good progress stop =
+stopped_in_items genesis items part piece given taken left status good progress stop silent =
     let read = is_read genesis items part piece given taken good progress in
     stopped (genesis ++ given) left taken status stop
     (λ more is. rw (parted genesis items part piece given taken more progress, progress.taken_is) (begun_front genesis items part piece more read progress.begun))
     (rw (← append-nil taken) (taken_in_order genesis items part piece given taken [] read progress))
+    (λ early. rw append-nil at (taken_whole genesis items part piece given taken [] read progress (silent early) refl))
 
 -- the items ended otherwise than between two of them: the lines are all, and no tip
 cut_report : (kept : List Block) (items : List (List ℕ)) (end : End) → (end ≡ ends.AtEnd → ⊥)
@@ -408,6 +434,7 @@ cut_behind_items genesis items part piece given taken left end good progress non
   },
   record {
     written = rw (← append-nil taken) (taken_in_order genesis items part piece given taken [] read progress);
+    whole_lines = λ early. absurd (elim early [ inl e ↦ (cc) | inr e ↦ (cc) ]);
     to_end = λ ended. absurd (elim ended [ inl e ↦ (cc) | inr e ↦ (cc) ]);
     genesis_alone = λ e. absurd (cc);
     to_cut = λ e more is.
@@ -453,15 +480,16 @@ through_lines genesis items part piece given taken left through =
 
 pub stopped_at_tip : (genesis : List ℕ) (items : List (List ℕ)) (part piece given taken written : List ℕ) (left : Option (List ℕ)) (kept : List Block) (status : Status)
     → IsThrough genesis items part piece given taken left → kept ≡ kept_over (kept_by genesis) items
-    → IsWritingStop status → IsPrefix written (tip_line_of_kept kept)
+    → IsCutShort (tip_line_of_kept kept) status written
     → TellsReport report_of_input (genesis ++ given) left (taken ++ written) status × ImportsInOrder (genesis ++ given) left (taken ++ written) status
-stopped_at_tip genesis items part piece given taken written left kept status through kept_is stop begins =
-    stopped (genesis ++ given) left (taken ++ written) status (writing_stops status stop)
+stopped_at_tip genesis items part piece given taken written left kept status through kept_is short =
+    stopped (genesis ++ given) left (taken ++ written) status (writing_stops status short.stop)
     (λ more is.
     rw (through_report genesis items part piece given taken more left through is, through_lines genesis items part piece given taken left through)
     (prefix_behind (lines_over (kept_by genesis) items) written (tip_line_of_kept (kept_over (kept_by genesis) items))
-    (subst (λ (k : List Block). IsPrefix written (tip_line_of_kept k)) kept_is begins)))
+    (subst (λ (k : List Block). IsPrefix written (tip_line_of_kept k)) kept_is short.front)))
     (taken_in_order genesis items part piece given taken written (is_read genesis items part piece given taken through.good through.progress) through.progress)
+    (λ early. taken_whole genesis items part piece given taken written (is_read genesis items part piece given taken through.good through.progress) through.progress through.none (short.silent early))
 
 pub done : (genesis : List ℕ) (items : List (List ℕ)) (part piece given taken written : List ℕ) (left : Option (List ℕ)) (kept : List Block) (refused : Bool) (status : Status)
     → IsThrough genesis items part piece given taken left → kept ≡ kept_over (kept_by genesis) items
@@ -478,6 +506,7 @@ done genesis items part piece given taken written left kept refused status throu
   },
   record {
     written = taken_in_order genesis items part piece given taken written (is_read genesis items part piece given taken through.good through.progress) through.progress;
+    whole_lines = λ early. absurd (elim early [ inl e ↦ faultless refused (sym status_is ∙ e) | inr e ↦ spared refused (sym status_is ∙ e) ]);
     to_end = λ ended. through.ends.to_end refl;
     genesis_alone = λ e. absurd (neither refused (sym status_is ∙ e));
     to_cut = λ e. absurd (uncut refused (sym status_is ∙ e));
@@ -489,6 +518,14 @@ done genesis items part piece given taken written left kept refused status throu
         ap (λ (r : Report). r.text) (through_report genesis items part piece given taken more left through is)
         ∙ ap (λ bs. bs ++ tip_line_of_kept (kept_over (kept_by genesis) items)) (sym (through_lines genesis items part piece given taken left through))
         ∙ ap (λ bs. taken ++ bs) (sym (written_is ∙ ap (λ (k : List Block). tip_line_of_kept k) kept_is))
+
+    faultless : (b : Bool) → cond b SomeRefused Done ≡ InputFault → ⊥
+    faultless true e = cc
+    faultless false e = cc
+
+    spared : (b : Bool) → cond b SomeRefused Done ≡ NoMemory → ⊥
+    spared true e = cc
+    spared false e = cc
 
     neither : (b : Bool) → cond b SomeRefused Done ≡ BadGenesis → ⊥
     neither true e = cc
@@ -522,17 +559,12 @@ stop_status _ stop = absurd stop
 
 -- words that are not in the grammar
 pub bad_words : (words : List (List ℕ)) (left : Option (List ℕ)) → command_of words ≡ None
-    → TellsReport (report words) [] left [] BadWords × ImportsInOrder [] left [] BadWords
+    → TellsReport (report words) [] left [] BadWords × KeepsOrder (command_of words) [] left [] BadWords
 bad_words words left none = (
   record {
     front = λ more is. ((report words ([] ++ more)).text, refl);
     whole_text = λ more is reported. sym (ap (λ (command : Option Command). (report_of_command command ([] ++ more)).text) none);
     same_status = λ more is reported. sym (ap (λ (command : Option Command). (report_of_command command ([] ++ more)).status) none);
   },
-  record {
-    written = no_lines [] [] (few_hold_none [] (omega arith));
-    to_end = λ ended. absurd (elim ended [ inl e ↦ (cc) | inr e ↦ (cc) ]);
-    genesis_alone = λ e. absurd (cc);
-    to_cut = λ e. absurd (cc);
-  },
+  rw none (record { unread = refl; unwritten = refl }),
 )

@@ -14,7 +14,7 @@ use Rattle.report_defs.specs.declared.end.End.{End}
 use Rattle.report_defs.specs.Items.{IsItem}
 use Rattle.report_defs.specs.Text.{line, tip_line}
 use Rattle.report_defs.specs.Report.{import_limits, kept_from, verdicts_over, lines_over, kept_over}
-use Rattle.report_defs.specs.Promise.{IsPrefix}
+use Rattle.report_defs.specs.Promise.{IsPrefix, IsStoppedEarly}
 use Rattle.node_run.specs.Items.{HoldsOneAtMost, IsItemAt, EndsAt, IsWritingStop, IsStop}
 use Rattle.node_run.specs.declared.import.Ended.{Ended}
 
@@ -45,10 +45,16 @@ IsGenesis left (Err InputFault) given = HoldsOneAtMost given
 IsGenesis left (Err NoMemory) given = HoldsOneAtMost given
 IsGenesis left (Err _) given = ⊥
 
+-- The writing of a text was stopped: only a fault leaves a part of it.
+pub record IsCutShort (text : List ℕ) (status : Status) (taken : List ℕ) : Type 0 where
+  pub stop : IsWritingStop status
+  pub front : IsPrefix taken text
+  pub silent : IsStoppedEarly status → taken ≡ []
+
 -- a text was taken, or a part of it
 abbrev pub IsWritten : {V : Type 0} → List ℕ → Result V Status → List ℕ → Type 0
 IsWritten text (Ok v) taken = taken ≡ text
-IsWritten text (Err status) taken = IsWritingStop status × IsPrefix taken text
+IsWritten text (Err status) taken = IsCutShort text status taken
 
 abbrev pub tip_line_of_kept : List Block → List ℕ
 tip_line_of_kept kept = tip_line (tip kept)
@@ -76,7 +82,7 @@ pub record IsEnded (old new : List Block) (offset : ℕ) (left : Option (List �
 
 abbrev pub IsEnd : List Block → List Block → ℕ → Option (List ℕ) → Result Ended Status → List (List ℕ) → List ℕ → List ℕ → Type 0
 IsEnd old new offset left (Ok ended) items part piece = IsEnded old new offset left ended items part piece
-IsEnd old new offset left (Err status) items part piece = IsStop status
+IsEnd old new offset left (Err status) items part piece = IsStop status × (IsStoppedEarly status → piece ≡ [])
 
 -- Items were imported one after the other.
 pub record AreImported (old new : List Block) (offset : ℕ) (left : Option (List ℕ)) (result : Result Ended Status) (given taken : List ℕ) : Type 0 where

@@ -12,7 +12,8 @@ ghost use Rattle.node_run.specs.Import.{Took, Passed, IsGenesis, IsWritten, IsJu
 use crate::items::{Next, next_item};
 use crate::kept::{GenesisError, Kept};
 use crate::lines::{tip_line, verdict_line};
-use outside::{Sink, Source, write_all};
+use crate::output::write_text;
+use outside::{Sink, Source};
 use report_defs::{End, Status};
 use rule_defs::Verdict;
 use std::alloc::Global;
@@ -39,17 +40,6 @@ fn read_genesis<S: Source>(alloc: Global, input: &mut S) -> Result<(Kept, u64), 
         Ok(kept) => Ok((kept, size)),
         Err(GenesisError::Broken(_)) => Err(Status::BadGenesis),
         Err(GenesisError::NoMemory) => Err(Status::NoMemory),
-    }
-}
-
-/// Hands all of a text to the sink.
-fn write_text<K: Sink>(out: &mut K, text: &[u8]) -> Result<(), Status>
-    ensures written { Took (K.taken out.old) (K.taken out.new) (IsWritten text.now result) }
-    ensures faults { CountsFault (K.faults out.old) (K.faults out.new) (result ≡ Err Status.SinkFault) }
-{
-    match write_all(out, text) {
-        Ok(()) => Ok(()),
-        Err(_) => Err(Status::SinkFault),
     }
 }
 

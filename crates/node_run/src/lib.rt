@@ -1,14 +1,17 @@
-//! One run of the program: its words, its input item by item, its text and its status.
+//! One run of the program: its words, its input item by item or as one file, its text and its status.
 //!
 //! [`run`] is the one call. Its contract says what the sink takes and how the run ends, by the
 //! report that `report_defs` defines, for every source, sink and disk. Streams and files of the
 //! machine are left to `outside_os`, and `main` to the program `ckbdev`.
 #![tactic(auto)]
 
+mod exec;
 mod import;
 mod items;
 mod kept;
 mod lines;
+mod output;
+mod program;
 mod summary;
 #[cfg(test)]
 mod tests;

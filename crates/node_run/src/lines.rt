@@ -1,10 +1,13 @@
 // The lines of a run.
 ghost use Rattle.std.specs.Prelude.{◌≡◌, ◌++◌, codes, string_bytes, IfOk, OnOk};
-ghost use Rattle.std.specs.Fmt.{decimal};
+ghost use Rattle.std.specs.Fmt.{decimal, signed_decimal};
 ghost use Rattle.report_defs.specs.Text as text;
+ghost use Rattle.node_run.specs.Exec.{execution_of};
 
+use crate::program::Execution;
 use rule_defs::Verdict;
 use std::alloc::{AllocError, Global};
+use vm_defs::Outcome;
 
 /// Adds a hash: `0x` and its bytes in lower-case hex digits.
 fn push_hash(alloc: Global, line: &mut String, hash: &[u8; 32]) -> Result<(), AllocError>
@@ -73,4 +76,77 @@ pub fn tip_line(alloc: Global, number: u64, hash: &[u8; 32]) -> Result<String, A
     ensures { IfOk result (λ line. string_bytes line ≡ text.tip_line_of number hash.now) }
 {
     numbered_line(alloc, "tip", number, hash)
+}
+
+/// The line of a program that exited.
+fn exit_line(alloc: Global, code: i8, cycles: u64) -> Result<String, AllocError>
+    ensures { IfOk result (λ line. string_bytes line
+        ≡ codes "exit " ++ signed_decimal code ++ codes " " ++ decimal cycles ++ text.line_feed) }
+{
+    let code = code.to_string(alloc)?;
+    let cycles = cycles.to_string(alloc)?;
+    let mut line = String::from_str(alloc, "exit ")?;
+    line.push_str(&code)?;
+    line.push_str(" ")?;
+    line.push_str(&cycles)?;
+    line.push_str("\n")?;
+    Ok(line)
+}
+
+/// The line of a program that met a fault.
+fn fault_line(alloc: Global, number: u8, cycles: u64) -> Result<String, AllocError>
+    ensures { IfOk result (λ line. string_bytes line
+        ≡ codes "fault " ++ decimal number ++ codes " " ++ decimal cycles ++ text.line_feed) }
+{
+    let number = number.to_string(alloc)?;
+    let cycles = cycles.to_string(alloc)?;
+    let mut line = String::from_str(alloc, "fault ")?;
+    line.push_str(&number)?;
+    line.push_str(" ")?;
+    line.push_str(&cycles)?;
+    line.push_str("\n")?;
+    Ok(line)
+}
+
+/// The line of a program that ended.
+fn outcome_line(alloc: Global, outcome: Outcome, cycles: u64) -> Result<String, AllocError>
+    ensures { IfOk result (λ line. string_bytes line ≡ text.outcome_line outcome cycles) }
+{
+    match outcome {
+        Outcome::Exit(code) => exit_line(alloc, code, cycles),
+        Outcome::Fault(number) => fault_line(alloc, number, cycles),
+        Outcome::Spent => String::from_str(alloc, "spent\n"),
+    }
+}
+
+/// The line of a file that is no program.
+fn bad_elf_line(alloc: Global, condition: u8) -> Result<String, AllocError>
+    ensures { IfOk result (λ line. string_bytes line ≡ codes "bad elf " ++ decimal condition ++ text.line_feed) }
+{
+    let condition = condition.to_string(alloc)?;
+    let mut line = String::from_str(alloc, "bad elf ")?;
+    line.push_str(&condition)?;
+    line.push_str("\n")?;
+    Ok(line)
+}
+
+/// The line of what came of a file.
+pub fn execution_line(alloc: Global, came: &Execution) -> Result<String, AllocError>
+    ensures { IfOk result (λ line. string_bytes line ≡ text.execution_line (execution_of came.now)) }
+{
+    match came {
+        Execution::Ended { outcome, cycles } => outcome_line(alloc, *outcome, *cycles),
+        Execution::BadElf(condition) => bad_elf_line(alloc, *condition),
+    }
+}
+
+/// The line of an input that goes on at this place.
+pub fn extra_line(alloc: Global, place: u64) -> Result<String, AllocError>
+    ensures { IfOk result (λ line. string_bytes line ≡ text.extra_line place) }
+{
+    let place = place.to_string(alloc)?;
+    let mut line = String::from_str(alloc, "extra ")?;
+    line.push_str(&place)?;
+    line.push_str("\n")?;
+    Ok(line)
 }

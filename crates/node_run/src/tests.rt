@@ -1,12 +1,15 @@
 // The happy path, short reads and writes, and failures in mid-stream, which no clause shows to be met.
 ghost use Rattle.std.specs.Prelude.{◌≡◌, ◌<◌};
 
+use crate::lines::execution_line;
+use crate::program::Execution;
 use crate::{Status, run};
 use outside::{Failed, MemSink, MemSource, NoDisk, Sink, Source, Steps, read_full};
 use std::alloc::Global;
 use std::marker::Brand;
 use std::sync::ledger::{Blank, Ledger};
 use std::test::Fail;
+use vm_defs::Outcome;
 
 /// Bytes in hex, and how many zero bytes follow.
 type Piece = (&'static str, usize);
@@ -324,7 +327,7 @@ fn ends_with_the_input(rt: HostRuntime) -> Result<(), Fail> {
     Ok(())
 }
 
-const OUTSIDE_THE_GRAMMAR: [&[&str]; 9] = [
+const OUTSIDE_THE_GRAMMAR: [&[&str]; 29] = [
     &[],
     &["any"],
     &["import"],
@@ -334,10 +337,30 @@ const OUTSIDE_THE_GRAMMAR: [&[&str]; 9] = [
     &["any", "imports"],
     &["import", "any"],
     &["any", "import", ""],
+    &["any", "import", "5"],
+    &["exec", "5"],
+    &["", "exec", "5"],
+    &["any", "exec"],
+    &["any", "exec", ""],
+    &["any", "exec", "01"],
+    &["any", "exec", "00"],
+    &["any", "exec", "-1"],
+    &["any", "exec", "-0"],
+    &["any", "exec", "+5"],
+    &["any", "exec", " 5"],
+    &["any", "exec", "5 "],
+    &["any", "exec", "0x5"],
+    &["any", "exec", "5a"],
+    &["any", "exec", "1099511627777"],
+    &["any", "exec", "18446744073709551617"],
+    &["any", "exec", "5", "6"],
+    &["any", "exec", "5", ""],
+    &["any", "Exec", "5"],
+    &["any", "5", "exec"],
 ];
 
 #[test]
-fn takes_two_words(rt: HostRuntime) -> Result<(), Fail> {
+fn takes_no_other_words(rt: HostRuntime) -> Result<(), Fail> {
     let alloc = rt.alloc();
     for words in OUTSIDE_THE_GRAMMAR {
         let (bytes, length) = items(alloc)?;
@@ -349,6 +372,143 @@ fn takes_two_words(rt: HostRuntime) -> Result<(), Fail> {
         // nothing was read
         let mut rest = vec![in alloc; 0u8; 3000]?;
         assert_eq!(rt; read_full(&mut input, &mut rest), Ok(length), "{words:?}");
+    }
+    Ok(())
+}
+
+const EXTRA: &str = "extra 1048576\n";
+
+/// Each budget is one, and a file that is too long is not run.
+#[test]
+fn takes_each_budget(rt: HostRuntime) -> Result<(), Fail> {
+    let alloc = rt.alloc();
+    for (budget, length) in [
+        ("0", 1_048_577),
+        ("1", 1_048_577),
+        ("10", 1_048_577),
+        ("1099511627775", 1_048_577),
+        ("1099511627776", 1_048_577),
+        ("5", 1_048_578),
+        ("5", 3_000_000),
+    ] {
+        let mut input = MemSource::new(vec![in alloc; 0u8; length]?, Vec::new(alloc));
+        let mut out = MemSink::new(alloc, Vec::new(alloc));
+        let status = run_over(alloc, &["any", "exec", budget], &mut input, &mut out)?;
+        assert_eq!(rt; status, Status::ExtraInput, "{budget} {length}");
+        assert_eq!(rt; out.taken(), EXTRA.as_bytes(), "{budget} {length}");
+    }
+    Ok(())
+}
+
+/// A byte a call: where the read or the write of one number fails, the status and the length of the text up to there.
+#[test]
+fn exec_stops_at_a_fault(rt: HostRuntime) -> Result<(), Fail> {
+    let alloc = rt.alloc();
+    let none = [].as_slice();
+    for (length, reads, writes, status, written) in [
+        // at the first byte, in the file, and where its end is read
+        (5, [0].as_slice(), none, Status::InputFault, 0),
+        (5, [3].as_slice(), none, Status::InputFault, 0),
+        (5, [5].as_slice(), none, Status::InputFault, 0),
+        (0, [0].as_slice(), none, Status::InputFault, 0),
+        // in the longest file, where its end is read, and at the byte behind it
+        (
+            1_048_576,
+            [1_048_576].as_slice(),
+            none,
+            Status::InputFault,
+            0,
+        ),
+        (
+            1_048_577,
+            [1_048_576].as_slice(),
+            none,
+            Status::InputFault,
+            0,
+        ),
+        // at the first byte of the line, in it, and at the last
+        (1_048_577, none, [0].as_slice(), Status::SinkFault, 0),
+        (1_048_577, none, [5].as_slice(), Status::SinkFault, 5),
+        (1_048_577, none, [13].as_slice(), Status::SinkFault, 13),
+    ] {
+        let bytes = vec![in alloc; 0u8; length]?;
+        let mut input = Trickle(MemSource::new(bytes, reads.to_vec(alloc)?));
+        let mut out = Trickle(MemSink::new(alloc, writes.to_vec(alloc)?));
+        let came = run_over(alloc, &["any", "exec", "5"], &mut input, &mut out)?;
+        assert_eq!(rt; came, status, "{length} {reads:?} {writes:?}");
+        assert_eq!(rt;
+            Some(out.0.taken()),
+            EXTRA.as_bytes().get(..written),
+            "{length} {reads:?} {writes:?}"
+        );
+    }
+    Ok(())
+}
+
+#[test]
+fn tells_how_a_program_ended(rt: HostRuntime) -> Result<(), Fail> {
+    let alloc = rt.alloc();
+    for (outcome, cycles, text) in [
+        (Outcome::Exit(0), 0, "exit 0 0\n"),
+        (Outcome::Exit(-1), 505, "exit -1 505\n"),
+        (Outcome::Exit(-128), 70, "exit -128 70\n"),
+        (
+            Outcome::Exit(127),
+            1_099_511_627_776,
+            "exit 127 1099511627776\n",
+        ),
+        (Outcome::Fault(1), 10, "fault 1 10\n"),
+        (Outcome::Fault(5), 1234, "fault 5 1234\n"),
+        (Outcome::Spent, 11, "spent\n"),
+    ] {
+        let came = Execution::Ended { outcome, cycles };
+        assert_eq!(rt; execution_line(alloc, &came)?.as_str(), text, "{came:?}");
+    }
+    for (condition, text) in [(1, "bad elf 1\n"), (8, "bad elf 8\n")] {
+        let came = Execution::BadElf(condition);
+        assert_eq!(rt; execution_line(alloc, &came)?.as_str(), text, "{came:?}");
+    }
+    Ok(())
+}
+
+/// The header of a file, one segment of twelve bytes that can run, and a program that exits with 0: ADDI x17, x0, 93;
+/// ADDI x10, x0, 0; ECALL.
+const PROGRAM: [Piece; 7] = [
+    ("7f454c46020101", 9),
+    ("0200f300010000007800010000000000400000", 17),
+    ("4000380001", 7),
+    ("01000000050000007800000000000000", 0),
+    ("78000100000000007800010000000000", 0),
+    ("0c000000000000000c000000000000000010", 6),
+    ("9308d0051305000073000000", 0),
+];
+
+/// The budget, how many zero bytes follow the program, the write that fails, the status and the text.
+#[test]
+fn runs_a_program(rt: HostRuntime) -> Result<(), Fail> {
+    let alloc = rt.alloc();
+    let none = [].as_slice();
+    for (budget, zeros, writes, status, text) in [
+        ("505", 0, none, Status::Done, "exit 0 505\n"),
+        ("504", 0, none, Status::Done, "spent\n"),
+        ("505", 1_048_444, none, Status::Done, "exit 0 505\n"),
+        ("505", 1_048_445, none, Status::ExtraInput, EXTRA),
+        ("505", 0, [0].as_slice(), Status::SinkFault, ""),
+        ("505", 0, [6].as_slice(), Status::SinkFault, "exit 0"),
+        ("505", 0, [10].as_slice(), Status::SinkFault, "exit 0 505"),
+    ] {
+        let mut bytes = Vec::new(alloc);
+        push_pieces(alloc, &mut bytes, &PROGRAM)?;
+        push_pieces(alloc, &mut bytes, &[("", zeros)])?;
+        let mut input = MemSource::new(bytes, Vec::new(alloc));
+        let mut out = Trickle(MemSink::new(alloc, writes.to_vec(alloc)?));
+        let came = run_over(alloc, &["any", "exec", budget], &mut input, &mut out)?;
+        assert_eq!(rt; came, status, "{budget} {zeros} {writes:?}");
+        assert_eq!(rt;
+            out.0.taken(),
+            text.as_bytes(),
+            "{budget} {zeros} {writes:?}"
+        );
     }
     Ok(())
 }

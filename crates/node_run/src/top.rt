@@ -1,11 +1,12 @@
 // The one call.
 ghost use Rattle.std.specs.Prelude.{◌≡◌, ◌↔◌, None, Some, map, string_bytes};
 ghost use Rattle.outside.specs.Causes.{CountsFault};
-ghost use Rattle.report_defs.specs.Words.{command_of};
+ghost use Rattle.report_defs.specs.Words as grammar;
 ghost use Rattle.report_defs.specs.Report.{report};
-ghost use Rattle.report_defs.specs.Promise.{TellsReport, ImportsInOrder, IsRunStatus};
+ghost use Rattle.report_defs.specs.Promise.{TellsReport, KeepsOrder, IsRunStatus};
 ghost use Rattle.node_run.specs.Import.{Passed};
 
+use crate::exec::exec;
 use crate::import::import;
 use crate::words::command_of;
 use outside::{Disk, Sink, Source, Steps};
@@ -14,7 +15,8 @@ use std::alloc::Global;
 use std::sync::ledger::Ledger;
 
 /// Does what the words ask for: reads the input, writes its text, and answers how it ended.
-/// The words are a folder, which is any word that is not empty, and `import`.
+/// The words are a folder, which is any word that is not empty, and a command: `import`, or `exec` and a budget in
+/// cycles, at most 2^40.
 pub fn run<S: Source, K: Sink, D: Disk, L: Ledger>(
     alloc: Global,
     words: &[String],
@@ -24,21 +26,21 @@ pub fn run<S: Source, K: Sink, D: Disk, L: Ledger>(
     steps: &mut Steps<L>,
 ) -> Status
     // What the sink took is the report's text, as far as it was written, and the status is the report's where nothing
-    // stopped the run. Each item is answered before a byte of the next is read.
+    // stopped the run. `import` answers each item before a byte of the next is read, `exec` reads the file before it writes.
     ensures text { Passed (S.left input.old) (S.left input.new) (K.taken out.old) (K.taken out.new)
         (λ given taken. TellsReport (report (map string_bytes words.now)) given (S.left input.new) taken result
-        × ImportsInOrder given (S.left input.new) taken result) }
+        × KeepsOrder (grammar.command_of (map string_bytes words.now)) given (S.left input.new) taken result) }
 
     // The words alone decide on `BadWords`, and with them nothing is read and nothing written.
-    ensures words { (result ≡ Status.BadWords) ↔ (command_of (map string_bytes words.now) ≡ None) }
+    ensures words { (result ≡ Status.BadWords) ↔ (grammar.command_of (map string_bytes words.now) ≡ None) }
     ensures silent { result ≡ Status.BadWords → (input.new ≡ input.old) × (out.new ≡ out.old) }
 
     // A fault is answered where its count rose, and the count stands still with every other answer.
     ensures input_faults { CountsFault (S.faults input.old) (S.faults input.new) (result ≡ Status.InputFault) }
     ensures out_faults { CountsFault (K.faults out.old) (K.faults out.new) (result ≡ Status.SinkFault) }
 
-    // No other status comes yet than those of `import`.
-    ensures status { IsRunStatus result }
+    // No other status comes than those of the command.
+    ensures status { IsRunStatus (grammar.command_of (map string_bytes words.now)) result }
 
     // The disk is not called, and no step is counted.
     ensures disk { disk.new ≡ disk.old }
@@ -48,6 +50,7 @@ pub fn run<S: Source, K: Sink, D: Disk, L: Ledger>(
     let _ = steps;
     match command_of(words) {
         Some(Command::Import) => import(alloc, input, out),
+        Some(Command::Exec { budget }) => exec(alloc, input, out, budget),
         None => Status::BadWords,
     }
 }

@@ -1,28 +1,91 @@
 // The grammar of a run's words.
-ghost use Rattle.std.specs.Prelude.{◌≡◌, [], ◌∷◌, map, string_bytes};
+ghost use Rattle.std.specs.Prelude.{◌≡◌, ◌^◌, ◌≤◌, ◌↔◌, ℕ, [], ◌∷◌, map, string_bytes, Some, IfSome};
+ghost use Rattle.std.specs.Fmt.{decimal};
 ghost use Rattle.report_defs.specs.Words as grammar;
+ghost use Rattle.node_run.specs.Words as parts;
+ghost use Rattle.node_run.specs.Words.{IsWithinLimit};
 
 use report_defs::Command;
 
+/// The most cycles of a budget.
+const BUDGET_LIMIT: u64 = 1 << 40;
+
 /// What the words ask for, if they are in the grammar.
 pub fn command_of(words: &[String]) -> Option<Command>
-    ensures { result ≡ grammar.command_of (map string_bytes words.now) }
+    ensures command { result ≡ grammar.command_of (map string_bytes words.now) }
+    ensures within { IfSome result IsWithinLimit }
 {
-    let [folder, name] = words else {
+    let [folder, name, arguments @ ..] = words else {
         return None;
     };
     if folder.is_empty() {
         return None;
     }
-    command_named(name.as_bytes())
+    command_named(name.as_bytes(), arguments)
 }
 
-fn command_named(name: &[u8]) -> Option<Command>
-    ensures { result ≡ grammar.command_named (name.now ∷ []) }
+fn command_named(name: &[u8], arguments: &[String]) -> Option<Command>
+    ensures command { result ≡ grammar.command_named (name.now ∷ map string_bytes arguments.now) }
+    ensures within { IfSome result IsWithinLimit }
+{
+    match arguments {
+        [] => command_alone(name),
+        [argument] => command_with(name, argument.as_str()),
+        [_, _, ..] => None,
+    }
+}
+
+/// The command of this name that takes no argument.
+fn command_alone(name: &[u8]) -> Option<Command>
+    ensures command { result ≡ grammar.command_named (name.now ∷ []) }
+    ensures within { IfSome result IsWithinLimit }
 {
     if name == b"import".as_slice() {
         Some(Command::Import)
     } else {
         None
+    }
+}
+
+/// The command of this name that takes one argument.
+fn command_with(name: &[u8], argument: &str) -> Option<Command>
+    ensures command { result ≡ grammar.command_named (name.now ∷ argument.now ∷ []) }
+    ensures within { IfSome result IsWithinLimit }
+{
+    if name != b"exec".as_slice() {
+        return None;
+    }
+    let budget = budget_of(argument)?;
+    Some(Command::Exec { budget })
+}
+
+/// The budget that a word spells.
+fn budget_of(word: &str) -> Option<u64>
+    ensures budget { result ≡ grammar.budget_of word.now }
+    ensures spelled { (number : ℕ) → (result ≡ Some number) ↔ ((word.now ≡ decimal number) × (number ≤ 2 ^ 40)) }
+    ensures within { IfSome result (λ number. number ≤ 2 ^ 40) }
+{
+    if is_padded(word.as_bytes()) {
+        return None;
+    }
+    let number = match word.parse::<u64>() {
+        Ok(number) => number,
+        Err(_) => return None,
+    };
+    if number > BUDGET_LIMIT {
+        return None;
+    }
+    Some(number)
+}
+
+/// Whether a word begins with a plus, or with a zero that is not all of it.
+fn is_padded(word: &[u8]) -> bool
+    ensures { result ≡ parts.is_padded word.now }
+{
+    match word {
+        [b'+', ..] => true,
+        [b'0', _, ..] => true,
+        [] => false,
+        [_, ..] => false,
     }
 }

@@ -1,5 +1,5 @@
 -- The report of a run that meets no fault and no want of memory: its text and its status.
-use Rattle.std.specs.Prelude.{ℕ, ◌^◌, List, [], ◌∷◌, ◌++◌, Option, Some, None, if◌then◌else◌}
+use Rattle.std.specs.Prelude.{ℕ, ◌^◌, nat_lt, List, [], ◌∷◌, ◌++◌, length, Option, Some, None, if◌then◌else◌}
 use Rattle.std.specs.List.{flat_map, list_any}
 use Rattle.codec_defs.specs.Shape.{decoded}
 use Rattle.codec_defs.specs.Schema.{Block, block}
@@ -8,14 +8,15 @@ use Rattle.rule_defs.specs.declared.verdict.Verdict.{Verdict}
 use Rattle.rule_defs.specs.Genesis.{broken_genesis_rule}
 use Rattle.rule_defs.specs.Verdict.{verdict, kept_after, refuses}
 use Rattle.fold_defs.specs.Fold.{keep, verdicts}
+use Rattle.vm_defs.specs.Program.{execution}
 use Rattle.report_defs.specs.declared.command.Command.{Command}
-use Rattle.report_defs.specs.declared.command.Command.TheVariants.{Import}
+use Rattle.report_defs.specs.declared.command.Command.TheVariants.{Import, Exec}
 use Rattle.report_defs.specs.declared.end.End.{End}
 use Rattle.report_defs.specs.declared.end.End.TheVariants.{AtEnd, Cut, BadSize, Extra}
 use Rattle.report_defs.specs.declared.status.Status.{Status}
-use Rattle.report_defs.specs.declared.status.Status.TheVariants.{Done, SomeRefused, BadWords, CutInput, BadGenesis}
+use Rattle.report_defs.specs.declared.status.Status.TheVariants.{Done, SomeRefused, BadWords, CutInput, BadGenesis, ExtraInput}
 use Rattle.report_defs.specs.Items.{Limits, Split, split_of}
-use Rattle.report_defs.specs.Text.{line, tip_line}
+use Rattle.report_defs.specs.Text.{line, tip_line, execution_line, extra_line}
 use Rattle.report_defs.specs.Words.{command_of}
 
 pub record Report : Type 0 where
@@ -70,9 +71,20 @@ report_of_split split = report_of_items split.items split.end
 abbrev pub report_of_input : List ℕ → Report
 report_of_input input = report_of_split (split_of import_limits input)
 
+-- A file of `exec` has at most 1,048,576 bytes.
+unfoldable pub file_limit : ℕ
+file_limit = 2 ^ 20
+
+-- The report of `exec` over an input: the input is the file, all of it. One that is too long is not run.
+abbrev pub report_of_file : ℕ → List ℕ → Report
+report_of_file budget file =
+    if nat_lt file_limit (length file) then record { text = extra_line file_limit; status = ExtraInput }
+    else record { text = execution_line (execution budget file); status = Done }
+
 abbrev pub report_of_command : Option Command → List ℕ → Report
 report_of_command None input = record { text = []; status = BadWords }
 report_of_command (Some Import) input = report_of_input input
+report_of_command (Some (Exec budget)) input = report_of_file budget input
 
 abbrev pub report : List (List ℕ) → List ℕ → Report
 report words input = report_of_command (command_of words) input

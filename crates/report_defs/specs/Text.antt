@@ -1,11 +1,14 @@
 -- The lines that a run prints. Each ends with a line feed.
-use Rattle.std.specs.Prelude.{ℕ, List, [], ◌∷◌, ◌++◌, codes, Option, Some, None}
-use Rattle.std.specs.Fmt.{decimal}
+use Rattle.std.specs.Prelude.{ℕ, List, [], ◌∷◌, ◌++◌, codes, Option, Some, None, Result, Ok, Err}
+use Rattle.std.specs.Fmt.{decimal, signed_decimal}
 use Rattle.hex.specs.Hex.{encode_lower}
 use Rattle.codec_defs.specs.Schema.{Block}
 use Rattle.chain_defs.specs.Kept.{block_hash}
 use Rattle.rule_defs.specs.declared.verdict.Verdict.{Verdict}
 use Rattle.rule_defs.specs.declared.verdict.Verdict.TheVariants.{Joined, Known, Refused, Unbuilt}
+use Rattle.vm_defs.specs.declared.outcome.Outcome.{Outcome}
+use Rattle.vm_defs.specs.declared.outcome.Outcome.TheVariants.{Exit, Fault, Spent}
+use Rattle.vm_defs.specs.Program.{Ending}
 
 abbrev pub line_feed : List ℕ
 line_feed = 10 ∷ []
@@ -28,3 +31,20 @@ tip_line_of number hash = codes "tip " ++ decimal number ++ codes " " ++ hash_te
 abbrev pub tip_line : Option Block → List ℕ
 tip_line None = []
 tip_line (Some block) = tip_line_of block.header.number (block_hash block)
+
+-- ---- `exec`
+
+-- the line of a program that ended so, after so many cycles
+abbrev pub outcome_line : Outcome → ℕ → List ℕ
+outcome_line (Exit code) cycles = codes "exit " ++ signed_decimal code ++ codes " " ++ decimal cycles ++ line_feed
+outcome_line (Fault number) cycles = codes "fault " ++ decimal number ++ codes " " ++ decimal cycles ++ line_feed
+outcome_line Spent cycles = codes "spent" ++ line_feed
+
+-- the line of a file that was run, or in which something is wrong
+abbrev pub execution_line : Result Ending ℕ → List ℕ
+execution_line (Ok ending) = outcome_line ending.0 ending.1
+execution_line (Err condition) = codes "bad elf " ++ decimal condition ++ line_feed
+
+-- the line of an input that goes on at a place where it should have ended
+abbrev pub extra_line : ℕ → List ℕ
+extra_line place = codes "extra " ++ decimal place ++ line_feed

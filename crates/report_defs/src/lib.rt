@@ -6,7 +6,9 @@
 mod command;
 mod end;
 mod status;
+mod words;
 
 pub use command::Command;
 pub use end::End;
 pub use status::Status;
+pub use words::word_laws;

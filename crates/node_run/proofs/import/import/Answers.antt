@@ -29,7 +29,7 @@ returns-in-Err-import_items-clause-text g c =
       items.1,
       gives_more (g.S.Source.left c.args.input.now) (g.S.Source.left c.read_genesis.new.input) left read.0 items.0 read.1 items.2,
       items.3,
-      stopped_in_items read.0 are.items are.part are.piece items.0 items.1 left c.in-Err-import_items.status read.2.0 are.progress are.end,
+      stopped_in_items read.0 are.items are.part are.piece items.0 items.1 left c.in-Err-import_items.status read.2.0 are.progress are.end.0 are.end.1,
     )
 
 pub returns-then-not-is_between_items-clause-text : goal.returns-then-not-is_between_items-clause-text
@@ -62,7 +62,7 @@ returns-in-Err-write_tip-clause-text g c =
       items.1 ++ tip.0,
       given,
       takes_more (g.K.Sink.taken c.args.out.now) (g.K.Sink.taken c.import_items.new.out) (g.K.Sink.taken c.write_tip.new.out) items.1 tip.0 items.3 tip.1,
-      stopped_at_tip read.0 are.items are.part are.piece items.0 items.1 tip.0 left c.import_items.new.kept c.in-Err-write_tip.status through are.end.kept tip.2.0 tip.2.1,
+      stopped_at_tip read.0 are.items are.part are.piece items.0 items.1 tip.0 left c.import_items.new.kept c.in-Err-write_tip.status through are.end.kept tip.2,
     )
 
 pub returns-then-ended-clause-text : goal.returns-then-ended-clause-text
@@ -107,7 +107,7 @@ pub returns-in-Err-clause-status : goal.returns-in-Err-clause-status
 returns-in-Err-clause-status g c = genesis_status (g.S.Source.left c.read_genesis.new.input) c.in-Err.ensures.genesis.0 c.in-Err.status c.in-Err.ensures.genesis.2
 
 pub returns-in-Err-import_items-clause-status : goal.returns-in-Err-import_items-clause-status
-returns-in-Err-import_items-clause-status g c = stop_status c.in-Err-import_items.status c.in-Err-import_items.ensures.imported.4.end
+returns-in-Err-import_items-clause-status g c = stop_status c.in-Err-import_items.status c.in-Err-import_items.ensures.imported.4.end.0
 
 pub returns-in-Err-write_tip-clause-status : goal.returns-in-Err-write_tip-clause-status
-returns-in-Err-write_tip-clause-status g c = stop_status c.in-Err-write_tip.status (writing_stops c.in-Err-write_tip.status c.in-Err-write_tip.ensures.tip.2.0)
+returns-in-Err-write_tip-clause-status g c = stop_status c.in-Err-write_tip.status (writing_stops c.in-Err-write_tip.status c.in-Err-write_tip.ensures.tip.2.stop)

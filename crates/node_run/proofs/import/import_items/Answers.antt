@@ -37,7 +37,7 @@ returns-in-Err-import_item-clause-imported g c =
     imported_to_line c.args.kept.now c.args.start c.items.offset (g.S.Source.left c.args.input.now) (g.S.Source.left c.items.input) (g.S.Source.left c.next_item.new.input)
     (g.K.Sink.taken c.args.out.now) (g.K.Sink.taken c.items.out) (g.K.Sink.taken c.import_item.new.out) c.items.kept c.import_item.new.kept c.items.refused
     c.in-Err-import_item.status c.in-Ok-Item.item.items next.0 written.0 c.items.invariant.whole next.2 next.1
-    (rw next.2.same (one_item c.in-Ok-Item.item.items next.2.is_item)) written.1 written.2.1 (writing_stops c.in-Err-import_item.status written.2.0)
+    (rw next.2.same (one_item c.in-Ok-Item.item.items next.2.is_item)) written.1 written.2.front (writing_stops c.in-Err-import_item.status written.2.stop) written.2.silent
 
 pub overflow_add-offset : goal.overflow_add-offset
 overflow_add-offset g c =
@@ -96,7 +96,7 @@ pub returns-in-Err-import_item-clause-input_faults : goal.returns-in-Err-import_
 returns-in-Err-import_item-clause-input_faults g c =
     no_fault (g.S.Source.faults c.args.input.now) (g.S.Source.faults c.next_item.new.input)
     (c.in-Ok-Item.ensures.faults.calm (λ e. (cc)) ∙ c.items.invariant.input_calm)
-    (λ e. let is : c.in-Err-import_item.status ≡ InputFault = cc in subst IsWritingStop is c.in-Err-import_item.ensures.written.2.0)
+    (λ e. let is : c.in-Err-import_item.status ≡ InputFault = cc in subst IsWritingStop is c.in-Err-import_item.ensures.written.2.stop)
 
 pub returns-in-Err-import_item-clause-out_faults : goal.returns-in-Err-import_item-clause-out_faults
 returns-in-Err-import_item-clause-out_faults g c =

@@ -9,5 +9,5 @@ returns-in-None-clause-text g c = (
   [],
   gives_none (g.S.Source.left c.args.input.now),
   takes_none (g.K.Sink.taken c.args.out.now),
-  bad_words (map string_bytes c.args.words.now) (g.S.Source.left c.args.input.now) (sym c.in-None.ensures),
+  bad_words (map string_bytes c.args.words.now) (g.S.Source.left c.args.input.now) (sym c.in-None.ensures.command),
 )

@@ -1,7 +1,0 @@
-use Rattle.std.proofs.Common.{take, drop, sym, take-append-drop}
-use Rattle.node_run.proofs.import.write_text.Goals as goal
-
-pub returns-in-Err-clause-written : goal.returns-in-Err-clause-written
-returns-in-Err-clause-written g c =
-    let before = c.in-Err.ensures.taken_before in
-    (take before.0 c.args.text.now, before.2, (tt, (drop before.0 c.args.text.now, sym (take-append-drop before.0 c.args.text.now))))

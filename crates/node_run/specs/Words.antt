@@ -1,0 +1,13 @@
+-- The parts of the grammar of words.
+use Rattle.std.specs.Prelude.{ℕ, ◌^◌, ◌≤◌, ◌==◌, nat_lt, ◌&&◌, ◌||◌, Bool, List, length, slice_index}
+use Rattle.report_defs.specs.declared.command.Command.{Command}
+use Rattle.report_defs.specs.declared.command.Command.TheVariants.{Import, Exec}
+
+-- a budget is at most 2^40 cycles
+abbrev pub IsWithinLimit : Command → Type 0
+IsWithinLimit Import = Unit {0}
+IsWithinLimit (Exec budget) = budget ≤ 2 ^ 40
+
+-- It begins with a plus, or with a zero and is longer: a number may be read from such a word, but no number is written so.
+abbrev pub is_padded : List ℕ → Bool
+is_padded word = slice_index word 0 == 43 || (slice_index word 0 == 48 && nat_lt 1 (length word))

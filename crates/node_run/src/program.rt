@@ -1,0 +1,123 @@
+// A program's run: what alone touches the machine.
+ghost use Rattle.std.specs.Prelude.{◌≡◌, ◌^◌, ◌≤◌, Some, true, IfOk};
+ghost use Rattle.vm_defs.specs.Program as programs;
+ghost use Rattle.vm_defs.specs.Program.{execution};
+ghost use Rattle.node_run.specs.Exec.{Advances, execution_of};
+
+use elf_load::{ElfStop, load};
+use outside::NoMemory;
+use std::alloc::Global;
+use vm_defs::{Outcome, Step};
+use vm_mem::Memory;
+use vm_step::Machine;
+
+/// The registers of a call of the system: its first argument, and its number.
+const A0: u8 = 10;
+
+const A7: u8 = 17;
+
+/// The calls that there are (RFC 0009).
+const EXIT: u64 = 93;
+
+const DEBUG: u64 = 2177;
+
+/// The fault of any other call.
+const UNKNOWN_CALL: u8 = 5;
+
+/// What came of a file that was to be run.
+#[derive(Clone, Copy, Debug, PartialEq, Eq)]
+pub enum Execution {
+    /// Its program ended, after so many cycles.
+    Ended { outcome: Outcome, cycles: u64 },
+    /// It is no program: the number of the first condition that it meets.
+    BadElf(u8),
+}
+
+/// Loads the program of a file and runs it to its end, within a budget in cycles.
+#[tactic(auto, unfolding(vm_defs::specs::Program::execution))]
+pub fn execute(alloc: Global, file: &[u8], budget: u64) -> Result<Execution, NoMemory>
+    requires { budget ≤ 2 ^ 40 }
+    ensures { IfOk result (λ came. execution_of came ≡ execution budget file.now) }
+{
+    let mut memory = Memory::new(alloc)?;
+    let entry = match load(file, &mut memory) {
+        Ok(entry) => entry,
+        Err(ElfStop::Bad(condition)) => return Ok(Execution::BadElf(condition)),
+        Err(ElfStop::NoMemory) => return Err(NoMemory),
+    };
+    let mut machine = Machine::new(memory, entry.pc, budget);
+    let outcome = run_after(&mut machine, loading_cycles(entry.file_bytes))?;
+    Ok(Execution::Ended {
+        outcome,
+        cycles: machine.cycles(),
+    })
+}
+
+/// What bytes cost that are loaded.
+fn loading_cycles(count: u64) -> u64
+    requires { count ≤ 2 ^ 38 }
+    ensures cycles { result ≡ programs.loading_cycles count }
+    ensures bound { result ≤ 2 ^ 40 }
+{
+    (count + 3) / 4
+}
+
+/// Pays for what was loaded, and runs the machine to its end.
+fn run_after(machine: &mut Machine, cost: u64) -> Result<Outcome, NoMemory>
+    requires goes_on { machine.old.goes_on ≡ true }
+    requires bound { cost ≤ 2 ^ 40 }
+    ensures { IfOk result (λ outcome. (outcome, machine.new.machine.cycles) ≡ programs.run_after cost machine.old.machine) }
+{
+    if !machine.charge(cost) {
+        return Ok(Outcome::Spent);
+    }
+    run(machine)
+}
+
+/// Runs the machine to its end.
+fn run(machine: &mut Machine) -> Result<Outcome, NoMemory>
+    requires { machine.old.goes_on ≡ true }
+    ensures { IfOk result (λ outcome. (outcome, machine.new.machine.cycles) ≡ programs.run machine.old.machine) }
+{
+    'steps: loop {
+        if let Some(outcome) = advance(machine)? {
+            return Ok(outcome);
+        }
+    }
+}
+
+/// Makes one step, and answers how it ended the program, if it did.
+#[inline(always)]
+fn advance(machine: &mut Machine) -> Result<Option<Outcome>, NoMemory>
+    requires { machine.old.goes_on ≡ true }
+    ensures { IfOk result (Advances machine.old machine.new) }
+{
+    match machine.step() {
+        Step::Went => Ok(None),
+        Step::Ecall => Ok(called(machine)),
+        Step::Fault(number) => Ok(Some(Outcome::Fault(number))),
+        Step::Spent => Ok(Some(Outcome::Spent)),
+        Step::NoMemory => Err(NoMemory),
+    }
+}
+
+/// How a call of the system ends the program, if it does.
+fn called(machine: &Machine) -> Option<Outcome>
+    ensures { result ≡ programs.called machine.now.machine }
+{
+    let number = machine.reg(A7);
+    if number == EXIT {
+        return Some(Outcome::Exit(low_byte(machine.reg(A0))));
+    }
+    if number == DEBUG {
+        return None;
+    }
+    Some(Outcome::Fault(UNKNOWN_CALL))
+}
+
+/// The low byte of a register, as a signed number.
+fn low_byte(register: u64) -> i8
+    ensures { result ≡ programs.exit_code register }
+{
+    ((register % 0x100) as u8).cast_signed()
+}
