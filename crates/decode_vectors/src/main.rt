@@ -3,7 +3,8 @@
 //! A row has three columns: a word in hex, the instruction that it encodes as an assembler's text, or
 //! `none`, and its length in bytes, or 0. The rows were made by a program that was written from the
 //! instruction table alone, and agree with binutils and LLVM. At the end the program tells how many of
-//! the 49,152 patterns of a compressed form are instructions.
+//! the 49,152 patterns of a compressed form are instructions, and of the 32,768 patterns of opcode, funct3 and
+//! funct7 with x0 for each register.
 #![tactic(auto)]
 
 mod text;
@@ -32,6 +33,8 @@ fn main(rt: HostRuntime) -> io::Result<ExitCode> {
     println!(rt; "{agreed} of {rows} rows agree")?;
     let found = compressed_count();
     println!(rt; "{found} of 49152 compressed patterns are instructions")?;
+    let found = full_count();
+    println!(rt; "{found} of 32768 full patterns are instructions")?;
     Ok(if agreed == rows {
         ExitCode::SUCCESS
     } else {
@@ -59,6 +62,21 @@ fn compressed_count() -> u32 {
     for half in 0..0x1_0000u32 {
         if half % 4 != 3 && decode(half).is_some() {
             found = found.saturating_add(1);
+        }
+    }
+    found
+}
+
+fn full_count() -> u32 {
+    let mut found = 0u32;
+    for opcode in 0..32u32 {
+        for funct3 in 0..8u32 {
+            for funct7 in 0..128u32 {
+                let word = funct7 << 25 | funct3 << 12 | opcode << 2 | 3;
+                if decode(word).is_some() {
+                    found = found.saturating_add(1);
+                }
+            }
         }
     }
     found

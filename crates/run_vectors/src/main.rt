@@ -1,9 +1,10 @@
-//! Runs `import` on each row of its standard input.
+//! Runs the program on each row of its standard input.
 //!
-//! A row has four columns, with a tab between two: a name, the number of the status that is wanted, the input and the text
-//! that is wanted, both in hex (`-` for no bytes). The rows were made by a program that was written from the rules of
-//! docs/COMMANDS.md alone. Each row is run over streams in memory. The program prints each row that differs with the status
-//! that it got, and how many agree; its status is 1 where one differs.
+//! A row has five columns, with a tab between two: a name, the words behind the folder, the number of the status that is
+//! wanted, the input and the text that is wanted, both in hex (`-` for no bytes, `=` for the input of the row before). The
+//! rows were made by a program that was written from the rules of docs/COMMANDS.md and docs/MACHINE.md alone, and by
+//! compilers. Each row is run over streams in memory. The program prints each row that differs with the status that it got,
+//! and how many agree; its status is 1 where one differs.
 #![tactic(auto)]
 
 ghost use Rattle.std.specs.Prelude.{◌≡◌, ◌<◌};
@@ -19,6 +20,7 @@ use std::sync::ledger::{Blank, Ledger};
 
 #[derive(Drop)]
 struct Row {
+    words: Vec<String>,
     status: u8,
     input: Vec<u8>,
     text: Vec<u8>,
@@ -31,39 +33,47 @@ fn bytes_of(alloc: Global, digits: &str) -> Option<Vec<u8>> {
     hex::decode(alloc, digits).ok()
 }
 
+/// A folder, and the words behind it.
+fn words_of(alloc: Global, words: &str) -> Result<Vec<String>, AllocError> {
+    let mut owned = Vec::new(alloc);
+    owned.push(String::from_str(alloc, "any")?)?;
+    for word in words.split(' ') {
+        owned.push(String::from_str(alloc, word)?)?;
+    }
+    Ok(owned)
+}
+
 /// The row that a line spells, without its name.
-fn row_of(alloc: Global, columns: &str) -> Option<Row> {
-    let (status, rest) = columns.split_once('\t')?;
+fn row_of(alloc: Global, columns: &str, last_input: &[u8]) -> Option<Row> {
+    let (words, rest) = columns.split_once('\t')?;
+    let (status, rest) = rest.split_once('\t')?;
     let (input, text) = rest.split_once('\t')?;
     Some(Row {
+        words: words_of(alloc, words).ok()?,
         status: status.parse().ok()?,
-        input: bytes_of(alloc, input)?,
+        input: if input == "=" {
+            last_input.to_vec(alloc).ok()?
+        } else {
+            bytes_of(alloc, input)?
+        },
         text: bytes_of(alloc, text)?,
     })
 }
 
-fn words(alloc: Global) -> Result<[String; 2], AllocError> {
-    Ok([
-        String::from_str(alloc, "any")?,
-        String::from_str(alloc, "import")?,
-    ])
-}
-
-/// The status that `import` ends with, and whether that and its text are the row's.
+/// The status that the run ends with, and whether that and its text are the row's.
 fn compare<L: Ledger>(
     alloc: Global,
     steps: &mut Steps<L>,
-    words: &[String],
-    row: Row,
-) -> (u8, bool) {
-    let mut input = MemSource::new(row.input, Vec::new(alloc));
+    row: &Row,
+) -> Result<(u8, bool), AllocError> {
+    let mut input = MemSource::new(row.input.clone()?, Vec::new(alloc));
     let mut out = MemSink::new(alloc, Vec::new(alloc));
     let mut disk = NoDisk::new();
-    let status = run(alloc, words, &mut input, &mut out, &mut disk, steps).number();
-    (
+    let status = run(alloc, &row.words, &mut input, &mut out, &mut disk, steps).number();
+    Ok((
         status,
         status == row.status && out.taken() == row.text.as_slice(),
-    )
+    ))
 }
 
 fn run_rows<L: Ledger>(rt: HostRuntime, blank: Blank) -> io::Result<ExitCode>
@@ -73,9 +83,9 @@ fn run_rows<L: Ledger>(rt: HostRuntime, blank: Blank) -> io::Result<ExitCode>
 {
     let alloc = rt.alloc();
     let mut steps = Steps::<L>::new(blank);
-    let words = words(alloc)?;
     let mut rows = 0u64;
     let mut agreed = 0u64;
+    let mut input = Vec::new(alloc);
     for line in BufReader::new(alloc, rt.reader())?.lines(alloc) {
         let line = line?;
         rows = rows.saturating_add(1);
@@ -83,16 +93,17 @@ fn run_rows<L: Ledger>(rt: HostRuntime, blank: Blank) -> io::Result<ExitCode>
             println!(rt; "no row: {line}")?;
             continue;
         };
-        let Some(row) = row_of(alloc, columns) else {
+        let Some(row) = row_of(alloc, columns, &input) else {
             println!(rt; "no row: {name}")?;
             continue;
         };
-        let (status, agrees) = compare(alloc, &mut steps, &words, row);
+        let (status, agrees) = compare(alloc, &mut steps, &row)?;
         if agrees {
             agreed = agreed.saturating_add(1);
         } else {
             println!(rt; "differs: {name}, with status {status}")?;
         }
+        input = row.input;
     }
     println!(rt; "{agreed} of {rows} rows agree")?;
     Ok(if agreed == rows {

@@ -1,4 +1,4 @@
-use Rattle.import_vectors.proofs.main.Given as goal
+use Rattle.run_vectors.proofs.main.Given as goal
 
 -- the ledger is that of the blank
 abbrev pub ghosts-run_rows : goal.ghosts-run_rows
