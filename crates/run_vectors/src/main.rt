@@ -2,9 +2,9 @@
 //!
 //! A row has five columns, with a tab between two: a name, the words behind the folder, the number of the status that is
 //! wanted, the input and the text that is wanted, both in hex (`-` for no bytes, `=` for the input of the row before). The
-//! rows were made by a program that was written from the rules of docs/COMMANDS.md and docs/MACHINE.md alone, and by
-//! compilers. Each row is run over streams in memory. The program prints each row that differs with the status that it got,
-//! and how many agree; its status is 1 where one differs.
+//! wanted texts were made by a program that was written from the rules of docs/COMMANDS.md and docs/MACHINE.md alone, those
+//! of the last 22 rows by hand from the same rules. Each row is run over streams in memory. The program prints each row
+//! that differs with the status that it got, and how many agree; its status is 1 where one differs.
 #![tactic(auto)]
 
 ghost use Rattle.std.specs.Prelude.{◌≡◌, ◌<◌};
