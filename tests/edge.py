@@ -12,6 +12,7 @@ made by bench/chaingen.py and examples/make_first_blocks.py.
 
 import argparse
 import contextlib
+import functools
 import os
 import re
 import resource
@@ -136,6 +137,7 @@ def must_answer(ran, status, text, what):
 
 # ------------------------------------------------------------------- inputs
 
+@functools.lru_cache(maxsize=None)
 def generated(count, **sizes):
     """The input of `import` and its text: a generated chain, in which each block joins."""
     _, genesis, blocks, kept, tip = chaingen.make(1, count, plain=True, **sizes)
@@ -249,7 +251,8 @@ def check_failing_input(program):
 
 
 def check_failing_output(program):
-    given, text = generated(300)
+    # more text than a pipe holds
+    given, text = generated(3000)
     for piece in (0, 1, 100, 5000):
         # the reader goes when it has so many bytes
         with file_with(given) as stdin:
