@@ -526,7 +526,7 @@ def main():
     program = a.program and os.path.abspath(a.program)
     if not program:
         subprocess.run([SCRIPT], stdin=subprocess.DEVNULL, stdout=subprocess.DEVNULL, stderr=subprocess.PIPE)
-        program = os.path.join(TOP, 'crates', 'ckbdev', 'out', 'ckbdev')
+        program = os.path.join(TOP, 'build', 'ckbdev')
     failed = []
     if not os.access(program, os.X_OK):
         failed.append('there is no program %s' % program)
