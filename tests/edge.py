@@ -365,7 +365,7 @@ def check_script_ends_by_a_signal(_):
 
 # ------------------------------------------------- how the script builds
 
-PROGRAM_OF_A_FAKE = '#!/bin/sh\n[ "$2" = import ] || exit 2\necho "$0 of %s"\n'
+PROGRAM_OF_A_FAKE = '#!/bin/sh\n[ "$2" = import ] || exit 2\necho "in $(basename "$PWD"): program %s"\n'
 # a toolchain that proves nothing, is slow, and may be told to fail or never to end
 FAKE_RT = r'''#!/bin/sh
 echo "$1" >>"$FAKE_LOG"
@@ -395,6 +395,7 @@ class Checkout:
         self.write('crates/other/src/lib.rt', '')
         self.write('bin/rt', FAKE_RT)
         os.chmod(self.at('bin/rt'), 0o755)
+        os.mkdir(self.at('elsewhere'))
 
     def at(self, name):
         return os.path.join(self.top, name)
@@ -407,8 +408,8 @@ class Checkout:
     def start(self, seconds=0, status=0):
         environment = {**os.environ, 'PATH': self.at('bin') + ':' + os.environ['PATH'], 'FAKE_LOG': self.log,
                        'FAKE_SECONDS': str(seconds), 'FAKE_STATUS': str(status), 'TMPDIR': self.top}
-        return subprocess.Popen([self.at('ckbdev'), 'any', 'import'], env=environment, stdin=subprocess.DEVNULL,
-                                stdout=subprocess.PIPE, stderr=subprocess.PIPE)
+        return subprocess.Popen([self.at('ckbdev'), 'any', 'import'], env=environment, cwd=self.at('elsewhere'),
+                                stdin=subprocess.DEVNULL, stdout=subprocess.PIPE, stderr=subprocess.PIPE)
 
     def run(self, **how):
         process = self.start(**how)
@@ -425,7 +426,7 @@ class Checkout:
     def must_run(self, which, builds, what, **how):
         status, out, err = self.run(**how)
         must_be(status, 0, what + ': status')
-        must(out.endswith(b' of %s\n' % which), '%s: it is not program %r that ran' % (what, which))
+        must_be(out, b'in elsewhere: program %s\n' % which, what)
         must_be(self.builds(), builds, what + ': builds')
         return err
 
@@ -452,7 +453,7 @@ def check_script_builds_once_for_two(_):
         for process in both:
             out, _ = process.communicate(timeout=SECONDS)
             must_be(process.returncode, 0, 'status')
-            must(out.endswith(b' of one\n'), 'it is not the program that ran')
+            must_be(out, b'in elsewhere: program one\n', 'standard output')
         must_be(it.builds(), 1, 'builds of two runs at once')
 
 
