@@ -1,0 +1,26 @@
+-- A chain: the rules of a store and the blocks that it keeps. Items are judged one after the other, each over what is kept by then.
+use Rattle.std.specs.Prelude.{ℕ, List, [], ◌∷◌}
+use Rattle.codec_defs.specs.Schema.{Block}
+use Rattle.fold_defs.specs.Fold.{keep, verdicts}
+use Rattle.rule_defs.specs.Rules.{Rules}
+use Rattle.rule_defs.specs.Verdict.{verdict, kept_after, blocks_of_item}
+use Rattle.rule_defs.specs.declared.verdict.Verdict.{Verdict}
+
+pub record Chain : Type 0 where
+  pub rules : Rules
+  pub blocks : List Block
+
+-- the chain where a genesis stands alone
+abbrev pub chain_of_genesis : Rules → List ℕ → Chain
+chain_of_genesis rules genesis = record { rules = rules; blocks = blocks_of_item genesis }
+
+-- the chain after one item
+abbrev pub chain_after : Chain → List ℕ → Chain
+chain_after chain item = record { rules = chain.rules; blocks = kept_after chain.rules chain.blocks item }
+
+-- the chain after items, and the verdict on each of them
+abbrev pub kept_over : Chain → List (List ℕ) → Chain
+kept_over chain items = keep chain_after chain items
+
+abbrev pub verdicts_over : Chain → List (List ℕ) → List Verdict
+verdicts_over chain items = verdicts chain_after (λ now. verdict now.rules now.blocks) chain items
