@@ -3,6 +3,7 @@ use Rattle.std.proofs.Common.{◌≡◌, ℕ, zero, suc, ◌+◌, ◌≤◌, ◌
 use Rattle.std.specs.Prelude.{◌==◌, Option, Some, None}
 use Rattle.std.specs.List.{concat}
 use Rattle.std.proofs.lemmas.List.{take-append-le}
+use Rattle.std.proofs.lemmas.List.Folds.{concat-append}
 use Rattle.std.proofs.lemmas.Bool.Decides.{nat_tests}
 use Rattle.std.proofs.lemmas.Grind.{common_steps}
 use Rattle.report_defs.specs.Items.{Limits, IsItem, IsTaken, AreItems, IsWithin, size_word, end_at, Split, IsSplit, SplitsAreOne, split_of, split_from, put_front}
@@ -240,10 +241,6 @@ splits-are-one limits input split = (
   λ is. subst (λ (s : Split). IsSplit limits input s) is (split_of-splits limits input),
   λ is. split_of-is limits input split is,
 )
-
-concat-append : (xs ys : List (List ℕ)) → concat (xs ++ ys) ≡ concat xs ++ concat ys
-concat-append [] ys = refl
-concat-append (x ∷ xs) ys = ap (λ bs. x ++ bs) (concat-append xs ys) ∙ sym (append_assoc x (concat xs) (concat ys))
 
 pub all_items-append : (limits : Limits) (place : ℕ) (xs ys : List (List ℕ)) → AreItems limits place xs → AreItems limits (place + length xs) ys
     → AreItems limits place (xs ++ ys)

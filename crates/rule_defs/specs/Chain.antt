@@ -14,13 +14,16 @@ pub record Chain : Type 0 where
 abbrev pub chain_of_genesis : Rules → List ℕ → Chain
 chain_of_genesis rules genesis = record { rules = rules; blocks = blocks_of_item genesis }
 
--- the chain after one item
+-- the verdict on an item, and the chain after it
+abbrev pub verdict_over : Chain → List ℕ → Verdict
+verdict_over chain item = verdict chain.rules chain.blocks item
+
 abbrev pub chain_after : Chain → List ℕ → Chain
 chain_after chain item = record { rules = chain.rules; blocks = kept_after chain.rules chain.blocks item }
 
--- the chain after items, and the verdict on each of them
+-- the verdict on each of several items, and the chain after them
+abbrev pub verdicts_over : Chain → List (List ℕ) → List Verdict
+verdicts_over chain items = verdicts chain_after verdict_over chain items
+
 abbrev pub kept_over : Chain → List (List ℕ) → Chain
 kept_over chain items = keep chain_after chain items
-
-abbrev pub verdicts_over : Chain → List (List ℕ) → List Verdict
-verdicts_over chain items = verdicts chain_after (λ now. verdict now.rules now.blocks) chain items
