@@ -1,16 +1,13 @@
 // The kept blocks, and the verdict on an item over them.
 ghost use Rattle.std.specs.Prelude.{◌≡◌, ◌<◌, nat_lt, ◌++◌, List, Some, None, map, option_map, length, IfOk, OnOk, OnErr, IfSome};
-ghost use Rattle.std.specs.List.{position};
-ghost use Rattle.std.specs.Str.{bytes_eq};
 ghost use Rattle.codec_defs.specs.Shape.{decoded};
 ghost use Rattle.codec_defs.specs.Schema.{Block, block as block_shape};
-ghost use Rattle.chain_defs.specs.Kept.{place_of};
 ghost use Rattle.chain_defs.specs.Tip as chain;
 ghost use Rattle.rule_defs.specs.Chain.{Chain, chain_of_genesis, chain_after};
 ghost use Rattle.rule_defs.specs.Genesis.{broken_genesis_rule};
 ghost use Rattle.rule_defs.specs.Rules.{Rules, first_broken as first_broken_rule};
 ghost use Rattle.rule_defs.specs.Verdict as rules;
-ghost use Rattle.node_core.specs.Summary.{block_id, summary_value, EndsWith};
+ghost use Rattle.node_core.specs.Summary.{block_id, summary_value, place_of_id, EndsWith};
 
 use crate::genesis::{GenesisError, genesis_id};
 use crate::rules::first_broken;
@@ -31,9 +28,9 @@ fn has_room(count: usize) -> bool
     count < KEPT_LIMIT
 }
 
-/// The place of the first block with this hash.
+/// The place of the first of these with this hash.
 fn place_of_hash(ids: &[BlockId], hash: &[u8; 32]) -> Option<usize>
-    ensures place { (kept : List Block) → ids.now ≡ map block_id kept → result ≡ place_of kept hash.now }
+    ensures place { result ≡ place_of_id ids.now hash.now }
     ensures within { IfSome result (λ place. place < length ids.now) }
 {
     ids.iter().position(|id| id.hash == *hash)
