@@ -3,4 +3,6 @@
 //! [`branch_laws`] and [`tip_laws`].
 #![tactic(auto)]
 
+mod laws;
 
+pub use laws::{branch_laws, kept_laws, tip_laws};
