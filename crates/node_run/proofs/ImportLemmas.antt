@@ -83,7 +83,7 @@ whole_more chain start offset left_old left left_new taken_old taken taken_new n
     record {
       items = whole.items ++ item ∷ [];
       gives = rw concat-push (gives_more left_old left left_new (concat whole.items) item whole.gives (subst (Gives left left_new) at.same gives));
-      takes = rw lines-push (takes_more taken_old taken taken_new (text_over chain whole.items) (line_over (kept_over chain whole.items) item)) whole.takes
+      takes = rw lines-push (takes_more taken_old taken taken_new (text_over chain whole.items) (line_over (kept_over chain whole.items) item) whole.takes
           (subst (Takes taken taken_new) (text_is ∙ ap (λ (k : Chain). line_over k item) same) takes));
       all = all-push whole.items item whole.all at.is_item;
       place = omega (arith, long, whole.place, ap length (concat-push whole.items item), length-append (concat whole.items) item);
