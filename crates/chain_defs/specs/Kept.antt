@@ -1,7 +1,7 @@
 -- The kept blocks, genesis first, in the order in which they joined.
 use Rattle.std.specs.Prelude.{◌≡◌, ℕ, ◌<◌, ◌≤◌, List, [], ◌∷◌, Option, Some, None, find, nat_lt, if◌then◌else◌, slice_get, IfSome}
 use Rattle.std.specs.Str.{bytes_eq}
-use Rattle.codec_defs.specs.CkbHash.{ckbhash}
+use Rattle.hash_defs.specs.CkbHash.{ckbhash}
 use Rattle.codec_defs.specs.Shape.{encoded}
 use Rattle.codec_defs.specs.Schema.{header, Block}
 

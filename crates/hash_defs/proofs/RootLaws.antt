@@ -1,8 +1,8 @@
 -- What a node of the tree is, with no height.
 use Rattle.std.proofs.Common.{◌≡◌, ℕ, zero, suc, ◌+◌, ◌-◌, ◌*◌, ◌<◌, ◌≤◌, true, false, ltb, List, [], ◌++◌, length, refl, sym, ap, inl, inr, ◌∙◌, arith}
 use Rattle.std.proofs.lemmas.Bool.{lt-ltb, le-ltb, cases_lt}
-use Rattle.codec_defs.specs.CkbHash.{ckbhash}
-use Rattle.root_defs.specs.Root.{leaf, node_within, node}
+use Rattle.hash_defs.specs.CkbHash.{ckbhash}
+use Rattle.hash_defs.specs.Root.{leaf, node_within, node, InnerIsHashOfChildren, OuterIsItem}
 
 within-leaf : (height : ℕ) (items : List (List ℕ)) (j : ℕ) → length items - 1 ≤ j → node_within height items j ≡ leaf items j
 unfolding node_within
@@ -31,14 +31,13 @@ within-same (suc height) (suc more) items j low high =
     ]
 
 -- an inner node is the hash of its children
-pub node-inner : (items : List (List ℕ)) (j : ℕ) → j < length items - 1
-    → node items j ≡ ckbhash (node items (2 * j + 1) ++ node items (2 * j + 2))
+pub node-inner : InnerIsHashOfChildren
 unfolding node
 node-inner items j inner =
     let n = length items in
     within-same n (suc n) items j (omega arith) (omega arith) ∙ within-inner n items j inner
 
 -- each other node is an item
-pub node-leaf : (items : List (List ℕ)) (j : ℕ) → length items - 1 ≤ j → node items j ≡ leaf items j
+pub node-leaf : OuterIsItem
 unfolding node
 node-leaf items j past = within-leaf (length items) items j past
