@@ -13,6 +13,7 @@ use Rattle.chain_defs.proofs.KeptLaws.{place_of-below, place_of-there, IsKept-on
 use Rattle.chain_defs.proofs.BranchLaws.{branch-last}
 use Rattle.rule_defs.specs.Rules.{Rules, parent_of, follows, rows, first_broken}
 use Rattle.rule_defs.specs.Verdict.{verdict, verdict_of, verdict_on, verdict_by_rules, joins, has_built_form, has_room, kept_limit, kept_after, blocks_of_item, block_list}
+use Rattle.rule_defs.specs.Chain.{Chain, chain_after, kept_over}
 use Rattle.rule_defs.specs.Laws.{IsGood, JoinsExactly, KeepingKeeps}
 use Rattle.rule_defs.specs.declared.verdict.Verdict.TheVariants.{Joined, Known, Unbuilt, Full}
 
@@ -122,6 +123,11 @@ IsKept-after rules kept item is_kept = by_joins (joins (verdict rules kept item)
         let more : kept ++ is.block ∷ [] ≡ kept_after rules kept item =
         sym (kept_after-joins rules kept item joined ∙ ap (λ (found : Option Block). kept ++ block_list found) is.canonical) in
         subst IsKept more (IsKept-push kept is.block is_kept (good-stands rules kept item is) is.new)
+
+-- and after any items
+pub IsKept-over : (chain : Chain) (items : List (List ℕ)) → IsKept chain.blocks → IsKept (kept_over chain items).blocks
+IsKept-over chain [] is_kept = is_kept
+IsKept-over chain (item ∷ items) is_kept = IsKept-over (chain_after chain item) items (IsKept-after chain.rules chain.blocks item is_kept)
 
 pub keeping-keeps : KeepingKeeps
 keeping-keeps = (IsKept-one, IsKept-after)
