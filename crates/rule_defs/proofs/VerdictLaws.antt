@@ -1,6 +1,7 @@
--- An item joins exactly where it is good, and what is kept after it are kept blocks.
+-- An item joins exactly where it can, and what is kept after it are kept blocks.
 use Rattle.std.proofs.Common.{◌≡◌, ℕ, ◌+◌, Bool, true, false, cond, List, [], ◌∷◌, ◌++◌, length, Option, Some, None, refl, sym, ap, ◌∙◌, subst}
 use Rattle.std.specs.Prelude.{is_some, not, IsTrue}
+use Rattle.std.proofs.lemmas.Bool.{false_from_ne_true}
 use Rattle.std.proofs.lemmas.Bool.Decides.{Decides-ltb, Decides-eqb}
 use Rattle.std.proofs.lemmas.List.Elements.{All-head}
 use Rattle.codec_defs.specs.Shape.{decoded}
@@ -14,21 +15,21 @@ use Rattle.chain_defs.proofs.BranchLaws.{branch-last}
 use Rattle.rule_defs.specs.Rules.{Rules, parent_of, follows, rows, first_broken}
 use Rattle.rule_defs.specs.Verdict.{verdict, verdict_of, verdict_on, verdict_by_rules, joins, has_built_form, has_room, kept_limit, kept_after, blocks_of_item, block_list}
 use Rattle.rule_defs.specs.Chain.{Chain, chain_after, kept_over}
-use Rattle.rule_defs.specs.Laws.{IsGood, JoinsExactly, KeepingKeeps}
+use Rattle.rule_defs.specs.Laws.{CanJoin, JoinsExactly, KeepsWhatJoins, KeepingKeeps}
 use Rattle.rule_defs.specs.declared.verdict.Verdict.TheVariants.{Joined, Known, Unbuilt, Full}
 
 -- where an item joins, each case before has not held
-good : (rules : Rules) (kept : List Block) (item : List ℕ) → IsTrue (joins (verdict rules kept item)) → IsGood rules kept item
+can_join : (rules : Rules) (kept : List Block) (item : List ℕ) → IsTrue (joins (verdict rules kept item)) → CanJoin rules kept item
 unfolding verdict
-good rules kept item joined = by_block (decoded shapes.block item) refl joined
+can_join rules kept item joined = by_block (decoded shapes.block item) refl joined
   where
-    by_block : (found : Option Block) → decoded shapes.block item ≡ found → IsTrue (joins (verdict_of rules kept found)) → IsGood rules kept item
+    by_block : (found : Option Block) → decoded shapes.block item ≡ found → IsTrue (joins (verdict_of rules kept found)) → CanJoin rules kept item
     by_block None is joined = absurd (cc)
     by_block (Some b) is joined = by_hash (place_of kept (block_hash b)) refl joined
       where
         by_room : (parent : ℕ) → place_of kept (block_hash b) ≡ None → has_built_form b ≡ true → place_of kept b.header.parent_hash ≡ Some parent
             → first_broken rules (branch kept parent) b ≡ None → (room : Bool) → has_room kept ≡ room
-            → IsTrue (joins (cond room (Joined b.header.number (block_hash b)) Full)) → IsGood rules kept item
+            → IsTrue (joins (cond room (Joined b.header.number (block_hash b)) Full)) → CanJoin rules kept item
         by_room parent new built on unbroken true room joined = record {
           block = b;
           canonical = is;
@@ -43,31 +44,31 @@ good rules kept item joined = by_block (decoded shapes.block item) refl joined
 
         by_rule : (parent : ℕ) → place_of kept (block_hash b) ≡ None → has_built_form b ≡ true → place_of kept b.header.parent_hash ≡ Some parent
             → (broken : Option ℕ) → first_broken rules (branch kept parent) b ≡ broken
-            → IsTrue (joins (verdict_by_rules kept b broken)) → IsGood rules kept item
+            → IsTrue (joins (verdict_by_rules kept b broken)) → CanJoin rules kept item
         by_rule parent new built on None unbroken joined = by_room parent new built on unbroken (has_room kept) refl joined
         by_rule parent new built on (Some rule) unbroken joined = absurd (cc)
 
         by_parent : place_of kept (block_hash b) ≡ None → has_built_form b ≡ true → (on : Option ℕ) → place_of kept b.header.parent_hash ≡ on
-            → IsTrue (joins (verdict_on rules kept b on)) → IsGood rules kept item
+            → IsTrue (joins (verdict_on rules kept b on)) → CanJoin rules kept item
         by_parent new built None on joined = absurd (cc)
         by_parent new built (Some parent) on joined = by_rule parent new built on (first_broken rules (branch kept parent) b) refl joined
 
         by_form : place_of kept (block_hash b) ≡ None → (built : Bool) → has_built_form b ≡ built
-            → IsTrue (joins (cond (not built) Unbuilt (verdict_on rules kept b (place_of kept b.header.parent_hash)))) → IsGood rules kept item
+            → IsTrue (joins (cond (not built) Unbuilt (verdict_on rules kept b (place_of kept b.header.parent_hash)))) → CanJoin rules kept item
         by_form new true built joined = by_parent new built (place_of kept b.header.parent_hash) refl joined
         by_form new false built joined = absurd (cc)
 
         by_hash : (known : Option ℕ) → place_of kept (block_hash b) ≡ known
             → IsTrue (joins (cond (is_some known) (Known (block_hash b))
-            (cond (not (has_built_form b)) Unbuilt (verdict_on rules kept b (place_of kept b.header.parent_hash))))) → IsGood rules kept item
+            (cond (not (has_built_form b)) Unbuilt (verdict_on rules kept b (place_of kept b.header.parent_hash))))) → CanJoin rules kept item
         by_hash None new joined = by_form new (has_built_form b) refl joined
         by_hash (Some place) new joined = absurd (cc)
 
--- A good item has this verdict.
-pub verdict-good : (rules : Rules) (kept : List Block) (item : List ℕ) (is : IsGood rules kept item)
+-- Where it can join, this is the verdict.
+pub verdict-joined : (rules : Rules) (kept : List Block) (item : List ℕ) (is : CanJoin rules kept item)
     → verdict rules kept item ≡ Joined is.block.header.number (block_hash is.block)
 unfolding verdict
-verdict-good rules kept item is =
+verdict-joined rules kept item is =
     ap (verdict_of rules kept) is.canonical
     ∙ ap (λ (known : Option ℕ). cond (is_some known) (Known (block_hash is.block))
     (cond (not (has_built_form is.block)) Unbuilt (verdict_on rules kept is.block (place_of kept is.block.header.parent_hash)))) is.new
@@ -77,7 +78,7 @@ verdict-good rules kept item is =
     ∙ ap (λ (room : Bool). cond room (Joined is.block.header.number (block_hash is.block)) Full) ((Decides-ltb (length kept) kept_limit).1 is.room)
 
 pub joins-exactly : JoinsExactly
-joins-exactly rules kept item = (good rules kept item, λ is. ap joins (verdict-good rules kept item is))
+joins-exactly rules kept item = (can_join rules kept item, λ is. ap joins (verdict-joined rules kept item is))
 
 -- What is kept after an item that joins, and after another.
 pub kept_after-joins : (rules : Rules) (kept : List Block) (item : List ℕ) → joins (verdict rules kept item) ≡ true
@@ -96,9 +97,9 @@ unfolding first_broken
 follows-unbroken rules blocks b unbroken =
     All-head (λ rule. IsTrue rule.1) (5, follows b (parent_of blocks)) [] ((finds_none (rows rules blocks b)).0 unbroken)
 
--- A good block stands on a kept one.
-good-stands : (rules : Rules) (kept : List Block) (item : List ℕ) (is : IsGood rules kept item) → StandsOn kept is.block
-good-stands rules kept item is =
+-- A block that joins stands on a kept one.
+stands-on-kept : (rules : Rules) (kept : List Block) (item : List ℕ) (is : CanJoin rules kept item) → StandsOn kept is.block
+stands-on-kept rules kept item is =
     let found = place_of-there kept is.block.header.parent_hash is.parent is.on_kept in
     let below = place_of-below kept is.block.header.parent_hash is.parent is.on_kept in
     let last : parent_of (branch kept is.parent) ≡ Some found.0 = branch-last kept is.parent below ∙ found.1 in
@@ -112,19 +113,33 @@ good-stands rules kept item is =
       next = (Decides-eqb is.block.header.number (found.0.header.number + 1)).0 next;
     }
 
--- Kept blocks stay so after any item.
+-- The block of an item that can join is put at the end, and any other item leaves what is kept.
+kept_after-can_join : (rules : Rules) (kept : List Block) (item : List ℕ) (can : CanJoin rules kept item)
+    → kept_after rules kept item ≡ kept ++ can.block ∷ []
+kept_after-can_join rules kept item can =
+    kept_after-joins rules kept item (ap joins (verdict-joined rules kept item can))
+    ∙ ap (λ (found : Option Block). kept ++ block_list found) can.canonical
+
+kept_after-cannot_join : (rules : Rules) (kept : List Block) (item : List ℕ) → (CanJoin rules kept item → ⊥) → kept_after rules kept item ≡ kept
+kept_after-cannot_join rules kept item cannot =
+    kept_after-stays rules kept item
+    (false_from_ne_true (joins (verdict rules kept item)) (λ joined. cannot (can_join rules kept item joined)))
+
+pub keeps-what-joins : KeepsWhatJoins
+keeps-what-joins rules kept item =
+    (λ can. (verdict-joined rules kept item can, kept_after-can_join rules kept item can), kept_after-cannot_join rules kept item)
+
+-- Kept blocks stay so after any item,
 pub IsKept-after : (rules : Rules) (kept : List Block) (item : List ℕ) → IsKept kept → IsKept (kept_after rules kept item)
 IsKept-after rules kept item is_kept = by_joins (joins (verdict rules kept item)) refl
   where
     by_joins : (b : Bool) → joins (verdict rules kept item) ≡ b → IsKept (kept_after rules kept item)
     by_joins false left = subst IsKept (sym (kept_after-stays rules kept item left)) is_kept
     by_joins true joined =
-        let is : IsGood rules kept item = good rules kept item joined in
-        let more : kept ++ is.block ∷ [] ≡ kept_after rules kept item =
-        sym (kept_after-joins rules kept item joined ∙ ap (λ (found : Option Block). kept ++ block_list found) is.canonical) in
-        subst IsKept more (IsKept-push kept is.block is_kept (good-stands rules kept item is) is.new)
+        let can : CanJoin rules kept item = can_join rules kept item joined in
+        subst IsKept (sym (kept_after-can_join rules kept item can)) (IsKept-push kept can.block is_kept (stands-on-kept rules kept item can) can.new)
 
--- and after any items
+-- and after any items.
 pub IsKept-over : (chain : Chain) (items : List (List ℕ)) → IsKept chain.blocks → IsKept (kept_over chain items).blocks
 IsKept-over chain [] is_kept = is_kept
 IsKept-over chain (item ∷ items) is_kept = IsKept-over (chain_after chain item) items (IsKept-after chain.rules chain.blocks item is_kept)
