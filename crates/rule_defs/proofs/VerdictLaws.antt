@@ -1,5 +1,5 @@
 -- An item joins exactly where it can, and what is kept after it are kept blocks.
-use Rattle.std.proofs.Common.{◌≡◌, ℕ, ◌+◌, Bool, true, false, cond, List, [], ◌∷◌, ◌++◌, length, Option, Some, None, refl, sym, ap, ◌∙◌, subst}
+use Rattle.std.proofs.Common.{◌≡◌, ℕ, ◌+◌, ◌<◌, Bool, true, false, cond, List, [], ◌∷◌, ◌++◌, length, Option, Some, None, refl, sym, ap, ◌∙◌, subst}
 use Rattle.std.specs.Prelude.{is_some, not, IsTrue}
 use Rattle.std.proofs.lemmas.Bool.{false_from_ne_true}
 use Rattle.std.proofs.lemmas.Bool.Decides.{Decides-ltb, Decides-eqb}
@@ -8,7 +8,7 @@ use Rattle.codec_defs.specs.Shape.{decoded}
 use Rattle.codec_defs.specs.Schema.{Block}
 use Rattle.codec_defs.specs.Schema as shapes
 use Rattle.fold_defs.proofs.FirstLemmas.{finds_none}
-use Rattle.chain_defs.specs.Kept.{block_hash, place_of, StandsOn, IsKept}
+use Rattle.chain_defs.specs.Kept.{block_hash, block_at, place_of, StandsOn, IsKept}
 use Rattle.chain_defs.specs.Branch.{branch}
 use Rattle.chain_defs.proofs.KeptLaws.{place_of-below, place_of-there, IsKept-one, IsKept-push}
 use Rattle.chain_defs.proofs.BranchLaws.{branch-last}
@@ -97,12 +97,16 @@ unfolding first_broken
 follows-unbroken rules blocks b unbroken =
     All-head (λ rule. IsTrue rule.1) (5, follows b (parent_of blocks)) [] ((finds_none (rows rules blocks b)).0 unbroken)
 
+-- The block that a branch of a place ends with is the one at it.
+pub parent_of-branch : (kept : List Block) (place : ℕ) → place < length kept → parent_of (branch kept place) ≡ block_at kept place
+parent_of-branch kept place below = branch-last kept place below
+
 -- A block that joins stands on a kept one.
 stands-on-kept : (rules : Rules) (kept : List Block) (item : List ℕ) (is : CanJoin rules kept item) → StandsOn kept is.block
 stands-on-kept rules kept item is =
     let found = place_of-there kept is.block.header.parent_hash is.parent is.on_kept in
     let below = place_of-below kept is.block.header.parent_hash is.parent is.on_kept in
-    let last : parent_of (branch kept is.parent) ≡ Some found.0 = branch-last kept is.parent below ∙ found.1 in
+    let last : parent_of (branch kept is.parent) ≡ Some found.0 = parent_of-branch kept is.parent below ∙ found.1 in
     let after : follows is.block (parent_of (branch kept is.parent)) ≡ true = follows-unbroken rules (branch kept is.parent) is.block is.unbroken in
     let next : follows is.block (Some found.0) ≡ true = ap (follows is.block) (sym last) ∙ after in
     record {
