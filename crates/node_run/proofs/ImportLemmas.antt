@@ -51,7 +51,7 @@ pub concat-push : (items : List (List ℕ)) (item : List ℕ) → concat (items 
 concat-push [] item = append-nil item
 concat-push (x ∷ xs) item = ap (λ bs. x ++ bs) (concat-push xs item) ∙ sym (append_assoc x (concat xs) item)
 
-all-push : (items : List (List ℕ)) (item : List ℕ) → AllByRecursion (IsItem item_limit) items → IsItem item_limit item
+pub all-push : (items : List (List ℕ)) (item : List ℕ) → AllByRecursion (IsItem item_limit) items → IsItem item_limit item
     → AllByRecursion (IsItem item_limit) (items ++ item ∷ [])
 all-push [] item all last = (last, tt)
 all-push (x ∷ xs) item all last = (all.0, all-push xs item all.1 last)
@@ -155,7 +155,7 @@ imported_to_fault chain start offset left_old left left_new taken_old taken now 
 -- an item was read, and the writing of its line was stopped
 pub imported_to_line : (chain : Chain) (start offset : ℕ) (left_old left left_new taken_old taken taken_new : Option (List ℕ)) (now new : Chain) (refused : Bool)
     (status : Status) (item given partial_line : List ℕ) → Whole chain start offset left_old left taken_old taken now refused → IsItemAt offset item given
-    → Gives left left_new given → HoldsOneAtMost given → Takes taken taken_new partial_line → IsPrefix partial_line (line_over now item)) → IsStop status → (IsInputFaultOrNoMemory status → partial_line ≡ [])
+    → Gives left left_new given → HoldsOneAtMost given → Takes taken taken_new partial_line → IsPrefix partial_line (line_over now item) → IsStop status → (IsInputFaultOrNoMemory status → partial_line ≡ [])
     → Transfers left_old left_new taken_old taken_new (AreImported chain new start left_new (Err status))
 imported_to_line chain start offset left_old left left_new taken_old taken taken_new now new refused status item given partial_line whole at gives one takes begins stop silent =
     let same : now ≡ kept_over chain whole.items = whole.kept_now in (
@@ -175,8 +175,8 @@ imported_to_line chain start offset left_old left left_new taken_old taken taken
           one = one;
           partial_line_is = inr (
             rw (← whole.place) (subst (λ bs. IsItemAt offset bs given) (sym at.same) at),
-            subst (λ (k : Chain). IsPrefix partial_line (line_over k given))) same
-                (subst (λ bs. IsPrefix partial_line (line_over now bs))) (sym at.same) begins),
+            subst (λ (k : Chain). IsPrefix partial_line (line_over k given)) same
+                (subst (λ bs. IsPrefix partial_line (line_over now bs)) (sym at.same) begins),
           );
         };
         end = (stop, silent);

@@ -21,12 +21,12 @@ use Rattle.report_defs.specs.Report.{Report, report_without_lines, text_of, item
 use Rattle.report_defs.specs.Words.{command_of}
 use Rattle.report_defs.specs.declared.command.Command.{Command}
 use Rattle.report_defs.specs.Promise.{IsPrefix, IsReported, IsInputFaultOrNoMemory, reported, import_statuses, all_but_last, MatchesReport, WritesInOrder, AreWholeLines, ImportsInOrder, KeepsOrder}
-use Rattle.report_defs.proofs.ItemLemmas.{Splits, split_of-is, split_of-append, all_items-append, end_at-nothing}
+use Rattle.report_defs.proofs.ItemLemmas.{Splits, split_of-is, split_of-append, end_at-nothing}
 use Rattle.node_run.specs.Items.{HoldsOneAtMost, IsItemAt, EndsAt, IsStop}
 use Rattle.node_run.proofs.Reading.{one_item}
-use Rattle.node_run.specs.Import.{IsGenesis, IsGenesisRead, IsBadGenesis, IsCutShort, Progress, AreImported, tip_line_of, line_over, text_over}
+use Rattle.node_run.specs.Import.{IsGenesis, IsGenesisRead, IsBadGenesis, IsCutShort, Progress, AreImported, tip_line_over, line_over, text_over}
 use Rattle.node_run.specs.declared.import.Ended.{Ended}
-use Rattle.node_run.proofs.ImportLemmas.{concat-push, lines-push, writing_stops}
+use Rattle.node_run.proofs.ImportLemmas.{concat-push, all-push, lines-push, writing_stops}
 
 -- ---- Prefixes
 
@@ -59,7 +59,7 @@ lines_front chain n items = (
 
 -- the lines stand at the front of a report's text
 text_front : (chain : Chain) (items : List (List ℕ)) (end : End) → IsPrefix (text_over chain items) (text_of (report_over chain items end))
-text_front chain items ends.AtEnd = prefix_front (text_over chain items) (tip_line_of (kept_over chain items))
+text_front chain items ends.AtEnd = prefix_front (text_over chain items) (tip_line_over (kept_over chain items))
 text_front chain items ends.Cut = prefix_front (text_over chain items) []
 text_front chain items ends.BadSize = prefix_front (text_over chain items) []
 text_front chain items ends.Extra = prefix_front (text_over chain items) []
@@ -379,7 +379,7 @@ begun_front genesis items unfinished partial_line more read (inr begun) =
     let further : IsRead genesis (items ++ unfinished ∷ []) = record {
       is_item = read.is_item;
       good = read.good;
-      all = all_items-append import_limits items (unfinished ∷ []) read.all (begun.0.is_item, tt);
+      all = all-push items unfinished read.all begun.0.is_item;
       within = rw joined (omega (arith, begun.0.within, length-append (concat items) unfinished));
     } in
     let written : IsPrefix (text_over (start_of genesis) items ++ partial_line) (text_over (start_of genesis) (items ++ unfinished ∷ [])) =
@@ -464,14 +464,14 @@ cut_behind_items genesis items unfinished partial_line given taken left end good
     whole : taken ≡ text_over (start_of genesis) items
     whole = progress.taken_is ∙ ap (λ bs. text_over (start_of genesis) items ++ bs) none ∙ append-nil (text_over (start_of genesis) items)
 
-    text : (more : List ℕ) → left ≡ Some more → taken ≡ text_of (import_report ((genesis ++ given) ++ more))
-    text more is = whole ∙ sym (append-nil (text_over (start_of genesis) items)) ∙ sym (ap (λ (r : Report). text_of r) (says more is))
-
     says : (more : List ℕ) → left ≡ Some more
         → import_report ((genesis ++ given) ++ more) ≡ record { lines = lines_over (start_of genesis) items; closing = []; status = CutInput }
     says more is = ap import_report (parted genesis items unfinished partial_line given taken more progress)
         ∙ report_ends genesis items (unfinished ++ more) end read (ends_here.ends more is)
         ∙ cut_report (start_of genesis) items end not_end
+
+    text : (more : List ℕ) → left ≡ Some more → taken ≡ text_of (import_report ((genesis ++ given) ++ more))
+    text more is = whole ∙ sym (append-nil (text_over (start_of genesis) items)) ∙ sym (ap (λ (r : Report). text_of r) (says more is))
 
 -- all the items were imported, and then the line of the tip was taken or a unfinished of it
 pub record IsThrough (genesis : List ℕ) (items : List (List ℕ)) (unfinished partial_line given taken : List ℕ) (left : Option (List ℕ)) : Type 0 where
@@ -495,20 +495,20 @@ through_lines genesis items unfinished partial_line given taken left through =
 
 pub stopped_at_tip : (genesis : List ℕ) (items : List (List ℕ)) (unfinished partial_line given taken written : List ℕ) (left : Option (List ℕ)) (chain : Chain) (status : Status)
     → IsThrough genesis items unfinished partial_line given taken left → chain ≡ kept_over (start_of genesis) items
-    → IsCutShort (tip_line_of chain) status written
+    → IsCutShort (tip_line_over chain) status written
     → MatchesReport import_report (genesis ++ given) left (taken ++ written) status × ImportsInOrder (genesis ++ given) left (taken ++ written) status
 stopped_at_tip genesis items unfinished partial_line given taken written left chain status through kept_is short =
     stopped (genesis ++ given) left (taken ++ written) status (writing_stops status short.stop)
     (λ more is.
     rw (through_report genesis items unfinished partial_line given taken more left through is, through_lines genesis items unfinished partial_line given taken left through)
-    (prefix_behind (text_over (start_of genesis) items) written (tip_line_of (kept_over (start_of genesis) items))
-    (subst (λ (k : Chain). IsPrefix written (tip_line_of k)) kept_is short.front)))
+    (prefix_behind (text_over (start_of genesis) items) written (tip_line_over (kept_over (start_of genesis) items))
+    (subst (λ (k : Chain). IsPrefix written (tip_line_over k)) kept_is short.front)))
     (taken_in_order genesis items unfinished partial_line given taken written (is_read genesis items unfinished partial_line given taken through.good through.progress) through.progress)
     (λ early. taken_whole genesis items unfinished partial_line given taken written (is_read genesis items unfinished partial_line given taken through.good through.progress) through.progress through.none (short.silent early))
 
 pub done : (genesis : List ℕ) (items : List (List ℕ)) (unfinished partial_line given taken written : List ℕ) (left : Option (List ℕ)) (chain : Chain) (refused : Bool) (status : Status)
     → IsThrough genesis items unfinished partial_line given taken left → chain ≡ kept_over (start_of genesis) items
-    → refused ≡ list_any rules.refuses (verdicts_over (start_of genesis) items) → written ≡ tip_line_of chain
+    → refused ≡ list_any rules.refuses (verdicts_over (start_of genesis) items) → written ≡ tip_line_over chain
     → status ≡ cond refused SomeRefused Done
     → MatchesReport import_report (genesis ++ given) left (taken ++ written) status × ImportsInOrder (genesis ++ given) left (taken ++ written) status
 done genesis items unfinished partial_line given taken written left chain refused status through kept_is refused_is written_is status_is = (
@@ -531,8 +531,8 @@ done genesis items unfinished partial_line given taken written left chain refuse
     text : (more : List ℕ) → left ≡ Some more → (text_of (import_report ((genesis ++ given) ++ more))) ≡ taken ++ written
     text more is =
         ap (λ (r : Report). text_of r) (through_report genesis items unfinished partial_line given taken more left through is)
-        ∙ ap (λ bs. bs ++ tip_line_of (kept_over (start_of genesis) items)) (sym (through_lines genesis items unfinished partial_line given taken left through))
-        ∙ ap (λ bs. taken ++ bs) (sym (written_is ∙ ap (λ (k : Chain). tip_line_of k) kept_is))
+        ∙ ap (λ bs. bs ++ tip_line_over (kept_over (start_of genesis) items)) (sym (through_lines genesis items unfinished partial_line given taken left through))
+        ∙ ap (λ bs. taken ++ bs) (sym (written_is ∙ ap (λ (k : Chain). tip_line_over k) kept_is))
 
     faultless : (b : Bool) → cond b SomeRefused Done ≡ InputFault → ⊥
     faultless true e = cc

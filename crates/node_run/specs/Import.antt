@@ -55,8 +55,8 @@ abbrev pub IsWritten : {V : Type 0} → List ℕ → Result V Status → List �
 IsWritten text (Ok v) taken = taken ≡ text
 IsWritten text (Err status) taken = IsCutShort text status taken
 
-abbrev pub tip_line_of : Chain → List ℕ
-tip_line_of chain = tip_line (tip chain.blocks)
+abbrev pub tip_line_over : Chain → List ℕ
+tip_line_over chain = tip_line (tip chain.blocks)
 
 -- the line of an item over a chain, and the lines of items one after the other
 abbrev pub line_over : Chain → List ℕ → List ℕ

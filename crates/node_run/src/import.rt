@@ -5,7 +5,7 @@ ghost use Rattle.report_defs.specs.Report.{input_limit, import_report};
 ghost use Rattle.report_defs.specs.Status.{IsOneOf};
 ghost use Rattle.report_defs.specs.Promise.{MatchesReport, ImportsInOrder, import_statuses};
 ghost use Rattle.node_run.specs.Items.{Gave};
-ghost use Rattle.node_run.specs.Import.{Took, Transfers, IsGenesis, IsWritten, IsJudged, AreImported, line_over, tip_line_of};
+ghost use Rattle.node_run.specs.Import.{Took, Transfers, IsGenesis, IsWritten, IsJudged, AreImported, line_over, tip_line_over};
 
 use crate::items::{Next, next_item};
 use crate::lines::{tip_line, verdict_line};
@@ -100,7 +100,7 @@ fn import_items<S: Source, K: Sink>(
 
 /// Writes the line of the tip.
 fn write_tip<K: Sink>(alloc: Global, out: &mut K, kept: &Kept) -> Result<(), Status>
-    ensures tip { Took (K.taken out.old) (K.taken out.new) (IsWritten (tip_line_of kept.now) result) }
+    ensures tip { Took (K.taken out.old) (K.taken out.new) (IsWritten (tip_line_over kept.now) result) }
     ensures faults { CountsFault (K.faults out.old) (K.faults out.new) (result ≡ Err Status.SinkFault) }
 {
     let tip = kept.tip();
