@@ -1,5 +1,5 @@
 -- The index of the kept blocks finds the blocks, and the tip moves as blocks join.
-use Rattle.std.proofs.Common.{◌≡◌, ℕ, suc, ◌+◌, ◌≤◌, ◌<◌, List, [], ◌∷◌, ◌++◌, length, map, refl, ap, sym, ◌∙◌, arith, Bool, true, false, cond, subst, get_or, lit<}
+use Rattle.std.proofs.Common.{◌≡◌, ℕ, suc, ◌+◌, ◌≤◌, ◌<◌, List, [], ◌∷◌, ◌++◌, length, map, refl, ap, sym, ◌∙◌, arith, Bool, true, false, cond, subst, get_or}
 use Rattle.std.specs.Prelude.{Option, Some, None, is_some, option_map, slice_get, nat_lt, not}
 use Rattle.std.specs.List.{cons_option, position_or_len}
 use Rattle.std.specs.Str.{bytes_eq}
@@ -13,7 +13,7 @@ use Rattle.chain_defs.specs.Kept.{block_hash, block_at, place_of}
 use Rattle.chain_defs.specs.Branch.{branch}
 use Rattle.chain_defs.specs.Tip.{tip_place}
 use Rattle.chain_defs.proofs.BranchLaws.{branch-last}
-use Rattle.chain_defs.proofs.TipLaws.{tip_place-one, tip_place-push}
+use Rattle.chain_defs.proofs.TipLaws.{tip_place-push}
 use Rattle.rule_defs.specs.Rules.{Rules, first_broken}
 use Rattle.rule_defs.specs.Verdict as rules
 use Rattle.rule_defs.specs.Verdict.{has_built_form, joins, block_list, blocks_of_item, kept_after, verdict, verdict_by_rules, verdict_of_block}
