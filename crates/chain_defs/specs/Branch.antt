@@ -1,5 +1,5 @@
 -- Branches: a block and all its ancestors (RFC 0020, "chain").
-use Rattle.std.specs.Prelude.{◌≡◌, ℕ, zero, suc, ◌+◌, ◌-◌, ◌<◌, ◌==◌, not, List, [], ◌∷◌, ◌++◌, length, Some, None}
+use Rattle.std.specs.Prelude.{◌≡◌, ◌↔◌, ℕ, zero, suc, ◌+◌, ◌-◌, ◌<◌, ◌==◌, not, List, [], ◌∷◌, ◌++◌, length, Some, None}
 use Rattle.std.specs.List.{filter, filter_map, list_any}
 use Rattle.codec_defs.specs.Schema.{Block}
 use Rattle.chain_defs.specs.Kept.{block_hash, block_at, parent_place, IsKept}
@@ -31,6 +31,8 @@ distance kept from to =
 
 -- What a branch of kept blocks is, in words.
 pub record IsBranch (kept : List Block) (place : ℕ) (blocks : List Block) : Type 0 where
+  -- each of its blocks is kept
+  pub among : (height : ℕ) (block : Block) → block_at blocks height ≡ Some block → (other : ℕ) × (block_at kept other ≡ Some block)
   -- it begins with the genesis and ends with the block at the place
   pub first : block_at blocks 0 ≡ block_at kept 0
   pub last : block_at blocks (length blocks - 1) ≡ block_at kept place
@@ -41,6 +43,7 @@ pub record IsBranch (kept : List Block) (place : ℕ) (blocks : List Block) : Ty
   pub numbered : (height : ℕ) (genesis block : Block) → block_at kept 0 ≡ Some genesis → block_at blocks height ≡ Some block
       → block.header.number ≡ genesis.header.number + height
 
--- Law: of kept blocks each place has such a branch.
+-- Law: of kept blocks a list is the branch of a place exactly where that holds of it.
 abbrev pub BranchesAreBranches : Type 0
-BranchesAreBranches = (kept : List Block) (place : ℕ) → IsKept kept → place < length kept → IsBranch kept place (branch kept place)
+BranchesAreBranches = (kept : List Block) (place : ℕ) (blocks : List Block) → IsKept kept → place < length kept
+    → (blocks ≡ branch kept place) ↔ IsBranch kept place blocks

@@ -8,8 +8,9 @@ pub fn kept_laws()
     ensures hashes_differ { HashesDiffer }
 {}
 
-/// States what a branch of kept blocks is: it begins with the genesis, ends with its block, has one
-/// block a height, and each is the parent of the next. It does nothing.
+/// States what a branch of kept blocks is: its blocks are kept, it begins with the genesis, ends with
+/// its block, has one block a height, and each is the parent of the next. No other list is so. It
+/// does nothing.
 pub fn branch_laws()
     ensures are_branches { BranchesAreBranches }
 {}

@@ -1,5 +1,6 @@
--- A chain: the rules of a store and the blocks that it keeps. Items are judged one after the other, each over what is kept by then.
-use Rattle.std.specs.Prelude.{ℕ, List, [], ◌∷◌}
+-- A chain: the rules of a store and the blocks that it keeps. Items are judged one after the other, each over what is kept by then
+-- (docs/COMMANDS.md, "The verdicts").
+use Rattle.std.specs.Prelude.{ℕ, List}
 use Rattle.codec_defs.specs.Schema.{Block}
 use Rattle.fold_defs.specs.Fold.{keep, verdicts}
 use Rattle.rule_defs.specs.Rules.{Rules}

@@ -1,5 +1,5 @@
--- What the verdict is for, in words.
-use Rattle.std.specs.Prelude.{◌≡◌, ◌↔◌, ℕ, ◌<◌, List, [], ◌∷◌, length, Option, Some, None, IsTrue}
+-- What the verdict is for, in words (docs/COMMANDS.md, "The verdicts").
+use Rattle.std.specs.Prelude.{◌≡◌, ◌↔◌, ℕ, ◌<◌, List, [], ◌∷◌, ◌++◌, length, Some, None, IsTrue}
 use Rattle.codec_defs.specs.Shape.{decoded}
 use Rattle.codec_defs.specs.Schema.{Block}
 use Rattle.codec_defs.specs.Schema as shapes
@@ -7,9 +7,10 @@ use Rattle.chain_defs.specs.Kept.{block_hash, place_of, IsKept}
 use Rattle.chain_defs.specs.Branch.{branch}
 use Rattle.rule_defs.specs.Rules.{Rules, first_broken}
 use Rattle.rule_defs.specs.Verdict.{verdict, joins, kept_after, kept_limit, has_built_form}
+use Rattle.rule_defs.specs.declared.verdict.Verdict.TheVariants.{Joined}
 
 -- An item is a canonical `Block`, not kept yet, of a form that is judged, on a kept parent, and it breaks no rule, and there is room.
-pub record IsGood (rules : Rules) (kept : List Block) (item : List ℕ) : Type 0 where
+pub record CanJoin (rules : Rules) (kept : List Block) (item : List ℕ) : Type 0 where
   pub block : Block
   pub canonical : decoded shapes.block item ≡ Some block
   pub new : place_of kept (block_hash block) ≡ None
@@ -21,7 +22,14 @@ pub record IsGood (rules : Rules) (kept : List Block) (item : List ℕ) : Type 0
 
 -- Law: an item joins exactly where it is so.
 abbrev pub JoinsExactly : Type 0
-JoinsExactly = (rules : Rules) (kept : List Block) (item : List ℕ) → IsTrue (joins (verdict rules kept item)) ↔ IsGood rules kept item
+JoinsExactly = (rules : Rules) (kept : List Block) (item : List ℕ) → IsTrue (joins (verdict rules kept item)) ↔ CanJoin rules kept item
+
+-- Law: such an item is answered with its number and its hash, and its block is put at the end. Any other leaves what is kept.
+abbrev pub KeepsWhatJoins : Type 0
+KeepsWhatJoins = (rules : Rules) (kept : List Block) (item : List ℕ)
+    → ((can : CanJoin rules kept item) → (verdict rules kept item ≡ Joined can.block.header.number (block_hash can.block))
+    × (kept_after rules kept item ≡ kept ++ can.block ∷ []))
+    × ((CanJoin rules kept item → ⊥) → kept_after rules kept item ≡ kept)
 
 -- Law: a genesis alone is kept, and kept blocks stay so after any item.
 abbrev pub KeepingKeeps : Type 0

@@ -1,6 +1,6 @@
 -- The rules on a block, as rows of a list, in the order in which they are tried. A row has the rule's number and whether the block keeps it.
--- docs/RULES.md explains each.
-use Rattle.std.specs.Prelude.{ℕ, ◌+◌, ◌-◌, ◌==◌, Bool, true, false, List, [], ◌∷◌, length, Option, Some, None}
+-- docs/COMMANDS.md, "The verdicts", has them.
+use Rattle.std.specs.Prelude.{ℕ, ◌+◌, ◌-◌, ◌==◌, Bool, false, List, [], ◌∷◌, length, Option, Some, None}
 use Rattle.codec_defs.specs.Schema.{Block}
 use Rattle.chain_defs.specs.Kept.{block_at}
 use Rattle.fold_defs.specs.First.{first_failing}

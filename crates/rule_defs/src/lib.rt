@@ -4,6 +4,8 @@
 //! [`verdict_laws`].
 #![tactic(auto)]
 
+mod laws;
 mod verdict;
 
+pub use laws::verdict_laws;
 pub use verdict::Verdict;
