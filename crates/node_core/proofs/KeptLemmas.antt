@@ -1,5 +1,5 @@
 -- The index of the kept blocks finds the blocks, and the tip moves as blocks join.
-use Rattle.std.proofs.Common.{◌≡◌, ℕ, suc, ◌+◌, ◌≤◌, ◌<◌, List, [], ◌∷◌, ◌++◌, length, map, refl, ap, sym, ◌∙◌, arith, Bool, true, false, cond, subst, get_or, lit<}
+use Rattle.std.proofs.Common.{◌≡◌, ℕ, suc, ◌+◌, ◌≤◌, ◌<◌, List, [], ◌∷◌, ◌++◌, length, map, refl, ap, sym, ◌∙◌, arith, Bool, true, false, cond, subst, get_or}
 use Rattle.std.specs.Prelude.{Option, Some, None, is_some, option_map, slice_get, nat_lt, not}
 use Rattle.std.specs.List.{cons_option, position_or_len}
 use Rattle.std.specs.Str.{bytes_eq}
@@ -12,14 +12,14 @@ use Rattle.codec_defs.specs.Schema.{Block, block}
 use Rattle.chain_defs.specs.Kept.{block_hash, block_at, place_of}
 use Rattle.chain_defs.specs.Branch.{branch}
 use Rattle.chain_defs.specs.Tip.{tip_place}
-use Rattle.chain_defs.proofs.BranchLaws.{branch-last}
-use Rattle.chain_defs.proofs.TipLaws.{tip_place-one, tip_place-push}
+use Rattle.chain_defs.proofs.TipLaws.{tip_place-push}
 use Rattle.rule_defs.specs.Rules.{Rules, first_broken}
 use Rattle.rule_defs.specs.Verdict as rules
-use Rattle.rule_defs.specs.Verdict.{has_built_form, joins, block_list, blocks_of_item, kept_after, verdict, verdict_by_rules, verdict_of_block}
+use Rattle.rule_defs.specs.Verdict.{has_built_form, joins, block_list, blocks_of_item, verdict, verdict_by_rules, verdict_of_block}
 use Rattle.rule_defs.specs.Chain.{Chain, chain_after}
 use Rattle.rule_defs.specs.declared.verdict.Verdict.{Verdict}
 use Rattle.rule_defs.specs.declared.verdict.Verdict.TheVariants.{Known, Refused, Unbuilt}
+use Rattle.rule_defs.proofs.VerdictLaws.{parent_of-branch, kept_after-joins, kept_after-stays}
 use Rattle.node_core.specs.declared.summary.BlockId.{BlockId}
 use Rattle.node_core.specs.declared.summary.Summary.{Summary}
 use Rattle.node_core.specs.Summary.{block_id, summary_value, place_of_id, EndsWith}
@@ -77,7 +77,7 @@ pub branch_ends : (kept : List Block) (ids : List BlockId) (place : ℕ) (id : B
     → id ≡ get_or ids place id → EndsWith (branch kept place) id
 branch_ends kept ids place id each below read =
     let within : place < length kept = omega (arith, below, ap length each, length-map kept block_id) in
-    ap (option_map block_id) (branch-last kept place within) ∙ id_at kept ids place id each below read
+    ap (option_map block_id) (parent_of-branch kept place within) ∙ id_at kept ids place id each below read
 
 -- the verdict on a block, where the tests before it are known
 pub known : (of_store : Rules) (kept : List Block) (b : Block) → is_some (place_of kept (block_hash b)) ≡ true
@@ -104,16 +104,14 @@ pub record Judged (chain : Chain) (item : List ℕ) (judged : Verdict) : Type 0 
   pub joined : joins judged ≡ true → record { rules = chain.rules; blocks = chain.blocks ++ blocks_of_item item } ≡ chain_after chain item
 
 judged_is : (chain : Chain) (item : List ℕ) (judged : Verdict) → judged ≡ verdict chain.rules chain.blocks item → Judged chain item judged
-unfolding kept_after
 judged_is chain item judged is = record {
   is = is;
-  left = λ no.
-      let test : false ≡ joins (verdict chain.rules chain.blocks item) = sym no ∙ ap joins is in
-      ap (λ (b : Bool). record { rules = chain.rules; blocks = cond b (chain.blocks ++ blocks_of_item item) chain.blocks }) test;
-  joined = λ yes.
-      let test : true ≡ joins (verdict chain.rules chain.blocks item) = sym yes ∙ ap joins is in
-      ap (λ (b : Bool). record { rules = chain.rules; blocks = cond b (chain.blocks ++ blocks_of_item item) chain.blocks }) test;
+  left = λ no. ap with_blocks (sym (kept_after-stays chain.rules chain.blocks item (ap joins (sym is) ∙ no)));
+  joined = λ yes. ap with_blocks (sym (kept_after-joins chain.rules chain.blocks item (ap joins (sym is) ∙ yes)));
 }
+  where
+    with_blocks : List Block → Chain
+    with_blocks blocks = record { rules = chain.rules; blocks = blocks }
 
 verdict_of_found : (of_store : Rules) (kept : List Block) (found : Option Block) (summary : Summary) (judged : Verdict)
     → Some summary ≡ option_map summary_value found → ((b : Block) → summary ≡ summary_value b → judged ≡ verdict_of_block of_store kept b)

@@ -74,7 +74,8 @@ impl Model for Kept {
 }
 
 impl Kept {
-    /// The chain where a genesis stands alone.
+    /// The chain where a genesis stands alone. The item is accepted where it breaks none of G1 to
+    /// G3 (docs/COMMANDS.md, "The genesis"); else the error names the first that it breaks.
     pub fn from_genesis(alloc: Global, item: Vec<u8>) -> Result<Kept, GenesisError>
         ensures kept { IfOk result (λ kept. kept ≡ chain_of_genesis (record {}) item.items) }
         ensures good { OnOk result (broken_genesis_rule item.items ≡ None) }
@@ -123,7 +124,8 @@ impl Kept {
         }
     }
 
-    /// Judges an item, and keeps it where it joins.
+    /// Judges an item over the kept blocks (docs/COMMANDS.md, "The verdicts"), and keeps it where
+    /// it joins. Out of memory, nothing has changed.
     pub fn import(&mut self, item: Vec<u8>) -> Result<Verdict, NoMemory>
         ensures verdict { IfOk result (λ verdict. verdict ≡ rules.verdict self.old.rules self.old.blocks item.items) }
         ensures kept { OnOk result (self.new ≡ chain_after self.old item.items) }
