@@ -1,1 +1,3 @@
-pub mod TipLaw
+pub mod KeptLaws
+pub mod BranchLaws
+pub mod TipLaws

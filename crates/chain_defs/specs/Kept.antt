@@ -1,30 +1,46 @@
--- The kept blocks, genesis first, in the order in which they joined.
-use Rattle.std.specs.Prelude.{◌≡◌, ℕ, ◌<◌, ◌≤◌, List, [], ◌∷◌, Option, Some, None, find, nat_lt, if◌then◌else◌, slice_get, IfSome}
+-- The kept blocks of a chain, genesis first, in the order in which they joined. A block is named by its place in this list.
+use Rattle.std.specs.Prelude.{◌≡◌, ℕ, suc, ◌+◌, ◌<◌, List, [], ◌∷◌, take, Option, Some, None, if◌then◌else◌, slice_get}
+use Rattle.std.specs.Option.{option_map, option_and_then}
 use Rattle.std.specs.Str.{bytes_eq}
-use Rattle.codec_defs.specs.CkbHash.{ckbhash}
+use Rattle.hash_defs.specs.CkbHash.{ckbhash}
 use Rattle.codec_defs.specs.Shape.{encoded}
-use Rattle.codec_defs.specs.Schema.{header, Block}
+use Rattle.codec_defs.specs.Schema.{Header, header, Block}
 
--- The hash of a block is that of the 208 bytes of its header (RFC 0027).
-unfoldable pub block_hash : Block → List ℕ
-block_hash block = ckbhash (encoded header block.header)
+-- The hash of a header is that of its 208 bytes (RFC 0027).
+unfoldable pub header_hash : Header → List ℕ
+header_hash h = ckbhash (encoded header h)
 
--- the kept block with this hash
-abbrev pub find_kept : List Block → List ℕ → Option Block
-find_kept kept hash = find (λ block. bytes_eq (block_hash block) hash) kept
+-- The hash of a block is that of its header.
+abbrev pub block_hash : Block → List ℕ
+block_hash block = header_hash block.header
 
--- The tip: a block of the greatest number, and of these the earliest.
-abbrev pub higher_of : Block → Option Block → Block
-higher_of block None = block
-higher_of block (Some later) = if nat_lt block.header.number later.header.number then later else block
+-- the place of the first block with this hash
+abbrev pub place_of : List Block → List ℕ → Option ℕ
+place_of [] hash = None
+place_of (block ∷ later) hash = if bytes_eq (block_hash block) hash then Some 0 else option_map suc (place_of later hash)
 
-abbrev pub tip : List Block → Option Block
-tip [] = None
-tip (block ∷ later) = Some (higher_of block (tip later))
+-- the block at a place
+abbrev pub block_at : List Block → ℕ → Option Block
+block_at kept place = slice_get kept place
 
--- The tip in words: it stands at a place, no number is above its own, and before it each is below.
--- Law: a block that is the tip stands so at some place (proofs/TipLaw).
-pub record IsTip (kept : List Block) (place : ℕ) (block : Block) : Type 0 where
-  pub there : slice_get kept place ≡ Some block
-  pub greatest : (i : ℕ) → IfSome (slice_get kept i) (λ other. other.header.number ≤ block.header.number)
-  pub earliest : (i : ℕ) → i < place → IfSome (slice_get kept i) (λ other. other.header.number < block.header.number)
+-- the place of the parent of the block at a place: of the earlier block that it names. A genesis has none.
+abbrev pub parent_place : List Block → ℕ → Option ℕ
+parent_place kept place = option_and_then (λ block. place_of (take place kept) block.header.parent_hash) (block_at kept place)
+
+-- A block stands on an earlier one: it names its hash, and its number is that one's plus 1.
+pub record StandsOn (earlier : List Block) (block : Block) : Type 0 where
+  pub place : ℕ
+  pub parent : Block
+  pub named : place_of earlier block.header.parent_hash ≡ Some place
+  pub there : block_at earlier place ≡ Some parent
+  pub next : block.header.number ≡ parent.header.number + 1
+
+-- A list of blocks is kept where each behind the genesis stands on an earlier one, and has a hash that no earlier one has.
+pub record IsKept (kept : List Block) : Type 0 where
+  pub stands : (place : ℕ) (block : Block) → 0 < place → block_at kept place ≡ Some block → StandsOn (take place kept) block
+  pub new : (place : ℕ) (block : Block) → block_at kept place ≡ Some block → place_of (take place kept) (block_hash block) ≡ None
+
+-- Law: the hashes of kept blocks all differ.
+abbrev pub HashesDiffer : Type 0
+HashesDiffer = (kept : List Block) (i j : ℕ) (one other : Block) → IsKept kept → i < j → block_at kept i ≡ Some one → block_at kept j ≡ Some other
+    → block_hash one ≡ block_hash other → ⊥

@@ -3,7 +3,7 @@
 #![tactic(auto)]
 
 ghost use Rattle.std.specs.Prelude.{◌≡◌, ◌<◌};
-ghost use Rattle.codec_defs.specs.CkbHash.{ckbhash};
+ghost use Rattle.hash_defs.specs.CkbHash.{ckbhash};
 
 use blake2b_ckb::{Hasher, ckbhash};
 use std::alloc::Global;

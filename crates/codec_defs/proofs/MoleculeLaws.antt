@@ -5,16 +5,16 @@ use Rattle.std.specs.List.{concat, slice_range, range_with_len, AllByRecursion}
 use Rattle.std.proofs.lemmas.Bool.{lt-ltb, le-ltb}
 use Rattle.std.proofs.lemmas.List.{append-nil, take_at, drop_at, length-append}
 use Rattle.std.proofs.lemmas.Nat.{from_le_bytes-to_le_bytes_4}
-use Rattle.codec_defs.specs.Molecule.{fixvec, offsets, header_size, full_size, dynvec, IsFixvec, IsDynvec, IsTable, u32_at, item_of_fixvec, items_of_fixvec, part_count, part_start, part_of, parts_of}
+use Rattle.codec_defs.specs.Molecule.{fixvec, offsets, header_size, full_size, dynvec, IsFixvec, IsDynvec, IsTable, header_number, item_of_fixvec, items_of_fixvec, part_count, part_start, part_of, parts_of}
 
 pub concat-append : (xs ys : List (List ℕ)) → concat (xs ++ ys) ≡ concat xs ++ concat ys
 concat-append [] ys = refl
 concat-append (x ∷ xs) ys = ap (λ (l : List ℕ). x ++ l) (concat-append xs ys) ∙ sym (append_assoc x (concat xs) (concat ys))
 
 -- the number that was written at a place is read there
-pub u32_at-written : (front : List ℕ) (n : ℕ) (rest : List ℕ) (at : ℕ) → length front ≡ at → n < 2 ^ 32 → u32_at (front ++ (to_le_bytes w32 n ++ rest)) at ≡ n
-unfolding u32_at
-u32_at-written front n rest at len fits =
+pub header_number-written : (front : List ℕ) (n : ℕ) (rest : List ℕ) (at : ℕ) → length front ≡ at → n < 2 ^ 32 → header_number (front ++ (to_le_bytes w32 n ++ rest)) at ≡ n
+unfolding header_number
+header_number-written front n rest at len fits =
     ap (λ (l : List ℕ). from_le_bytes w32 (take 4 l)) (drop_at front (to_le_bytes w32 n ++ rest) at len) ∙ from_le_bytes-to_le_bytes_4 n fits
 
 slice-mid : (front mid back : List ℕ) (at : ℕ) → length front ≡ at → slice_range (front ++ (mid ++ back)) at (at + length mid) ≡ mid
@@ -61,12 +61,12 @@ sized : (parts : List (List ℕ)) → dynvec parts ≡ to_le_bytes w32 (full_siz
 unfolding dynvec
 sized parts = append_assoc (to_le_bytes w32 (full_size parts)) (offsets (header_size parts) parts) (concat parts)
 
-pub u32_at-dynvec : (parts : List (List ℕ)) → full_size parts < 2 ^ 32 → u32_at (dynvec parts) 0 ≡ full_size parts
-u32_at-dynvec parts fits = ap (λ (b : List ℕ). u32_at b 0) (sized parts) ∙ u32_at-written [] (full_size parts) (offsets (header_size parts) parts ++ concat parts) 0 refl fits
+pub header_number-dynvec : (parts : List (List ℕ)) → full_size parts < 2 ^ 32 → header_number (dynvec parts) 0 ≡ full_size parts
+header_number-dynvec parts fits = ap (λ (b : List ℕ). header_number b 0) (sized parts) ∙ header_number-written [] (full_size parts) (offsets (header_size parts) parts ++ concat parts) 0 refl fits
 
 -- the offset of the part after `front`
 offset_at : (front : List (List ℕ)) (part : List ℕ) (back : List (List ℕ)) (parts : List (List ℕ)) → front ++ part ∷ back ≡ parts → full_size parts < 2 ^ 32
-    → u32_at (dynvec parts) (4 + 4 * length front) ≡ header_size parts + length (concat front)
+    → header_number (dynvec parts) (4 + 4 * length front) ≡ header_size parts + length (concat front)
 unfolding offsets full_size
 offset_at front part back parts is fits =
     let H = header_size parts in
@@ -81,7 +81,7 @@ offset_at front part back parts is fits =
     let len : length (size ++ offsets H front) ≡ 4 + 4 * length front = length-append size (offsets H front) ∙ ap (λ (n : ℕ). 4 + n) (length-offsets H front) in
     let parts_len : length (concat parts) ≡ length (concat front) + length (part ++ concat back) = ap (λ (l : List (List ℕ)). length (concat l)) (sym is) ∙ ap length (concat-append front (part ∷ back)) ∙ length-append (concat front) (part ++ concat back) in
     let small : at < 2 ^ 32 = omega arith in
-    ap (λ (b : List ℕ). u32_at b (4 + 4 * length front)) whole ∙ u32_at-written (size ++ offsets H front) at tail (4 + 4 * length front) len small
+    ap (λ (b : List ℕ). header_number b (4 + 4 * length front)) whole ∙ header_number-written (size ++ offsets H front) at tail (4 + 4 * length front) len small
 
 part_count-none : part_count (dynvec []) ≡ 0
 unfolding part_count dynvec offsets full_size header_size
@@ -91,7 +91,7 @@ pub part_count-dynvec : (parts : List (List ℕ)) → full_size parts < 2 ^ 32 �
 unfolding part_count full_size header_size
 part_count-dynvec [] fits = part_count-none
 part_count-dynvec (part ∷ parts) fits =
-    let first : u32_at (dynvec (part ∷ parts)) 4 ≡ header_size (part ∷ parts) + 0 = offset_at [] part parts (part ∷ parts) refl fits in
+    let first : header_number (dynvec (part ∷ parts)) 4 ≡ header_size (part ∷ parts) + 0 = offset_at [] part parts (part ∷ parts) refl fits in
     let len = length-dynvec (part ∷ parts) in
     let more : eqb (length (dynvec (part ∷ parts))) 4 ≡ false = grind arith in
     rw (more, first) (omega arith)
@@ -150,9 +150,9 @@ IsTable_only n bytes fields h = ap parts_of h.encoding ∙ parts_of-dynvec field
 
 -- ---- where the items of a fixvec stand
 
-pub u32_at-fixvec : (items : List (List ℕ)) → length items < 2 ^ 32 → u32_at (fixvec items) 0 ≡ length items
+pub header_number-fixvec : (items : List (List ℕ)) → length items < 2 ^ 32 → header_number (fixvec items) 0 ≡ length items
 unfolding fixvec
-u32_at-fixvec items fits = u32_at-written [] (length items) (concat items) 0 refl fits
+header_number-fixvec items fits = header_number-written [] (length items) (concat items) 0 refl fits
 
 sizes-append : (size : ℕ) (xs ys : List (List ℕ)) → AllByRecursion (λ item. length item ≡ size) (xs ++ ys) → AllByRecursion (λ item. length item ≡ size) xs × AllByRecursion (λ item. length item ≡ size) ys
 sizes-append size [] ys sizes = (tt, sizes)
@@ -181,7 +181,7 @@ items_from-fixvec size front (item ∷ back) items is sizes =
 -- the items of an encoding are read from it
 pub items_of_fixvec-fixvec : (size : ℕ) (items : List (List ℕ)) → AllByRecursion (λ item. length item ≡ size) items → length items < 2 ^ 32 → items_of_fixvec size (fixvec items) ≡ items
 unfolding items_of_fixvec
-items_of_fixvec-fixvec size items sizes fits = rw (u32_at-fixvec items fits) (items_from-fixvec size [] items items refl sizes)
+items_of_fixvec-fixvec size items sizes fits = rw (header_number-fixvec items fits) (items_from-fixvec size [] items items refl sizes)
 
 pub IsFixvec_only : (size : ℕ) (bytes : List ℕ) (items : List (List ℕ)) → IsFixvec size bytes items → items_of_fixvec size bytes ≡ items
 IsFixvec_only size bytes items h = ap (items_of_fixvec size) h.encoding ∙ items_of_fixvec-fixvec size items h.sizes h.count

@@ -5,7 +5,7 @@ use Rattle.std.specs.Int.{w32, to_le_bytes}
 use Rattle.std.specs.List.{concat}
 use Rattle.std.proofs.lemmas.List.{length-append}
 use Rattle.codec_defs.specs.Molecule as molecule
-use Rattle.codec_defs.specs.Shape.{Encoding, Shape, IsA, encoded, byte, u32, u64, u128, bytes, fixvec, dynvec, option, field, parts}
+use Rattle.codec_defs.specs.Shape.{Encoding, Shape, IsA, encoded, byte, u32, u64, u128, bytes, fixvec, dynvec, option, encode_field, parts}
 use Rattle.codec_defs.specs.Schema.{byte32, proposal_short_id, Script, script, OutPoint, out_point, CellInput, cell_input, CellDep, cell_dep, CellOutput, cell_output, RawTransaction, raw_transaction, Transaction, transaction, Header, header, UncleBlock, uncle_block, Block, block, CellbaseWitness, cellbase_witness, WitnessArgs, witness_args, out_points}
 use Rattle.codec_defs.proofs.ShapeLaws.{Inverts, HasSize, IsNeverEmpty, AllSized, encodings, PlacedAt, TableOf, AllFit, AllFit-from, table-parts, struct-parts, byte-inverts, u32-inverts, u64-inverts, u128-inverts, byte_array-inverts, bytes-inverts, fixvec-inverts, dynvec-inverts, option-inverts, byte-size, u32-size, u64-size, u128-size, byte_array-size}
 
@@ -14,7 +14,7 @@ pub is_a : {V : Type 0} (s : Shape V) (b : List ℕ) (v : V) → IsTrue (s.encod
 is_a s b v p = record { fits = p.0; encoding = p.1 }
 
 -- the value that a field of a row holds
-pub field-back : {V : Type 0} (s : Shape V) → Inverts s → (b : List ℕ) (v : V) → IsTrue (s.encoding v).fits × (b ≡ encoded s v) → s.value_of b ≡ v
+pub field-back : {V : Type 0} (s : Shape V) → Inverts s → (b : List ℕ) (v : V) → IsTrue (s.encoding v).fits × (b ≡ encoded s v) → s.decoding b ≡ v
 field-back s law b v p = law.back b v (is_a s b v p)
 
 pub byte32-inverts : Inverts byte32
@@ -26,7 +26,7 @@ byte32-size = byte_array-size 32
 -- ---- Script
 
 abbrev pub script_fields : Script → List Encoding
-script_fields s = field byte32 s.code_hash ∷ field byte s.hash_type ∷ field bytes s.args ∷ []
+script_fields s = encode_field byte32 s.code_hash ∷ encode_field byte s.hash_type ∷ encode_field bytes s.args ∷ []
 
 pub script-parts : (b : List ℕ) (s : Script) → IsA script b s → TableOf b (script_fields s)
 unfolding script
@@ -46,7 +46,7 @@ script-inverts = record {
 -- ---- OutPoint
 
 abbrev pub out_point_fields : OutPoint → List (ℕ × Encoding)
-out_point_fields v = (32, field byte32 v.tx_hash) ∷ (4, field u32 v.index) ∷ []
+out_point_fields v = (32, encode_field byte32 v.tx_hash) ∷ (4, encode_field u32 v.index) ∷ []
 
 out_point-sized : (v : OutPoint) → AllFit (encodings (out_point_fields v)) → AllSized (out_point_fields v)
 out_point-sized v f = (byte32-size.size v.tx_hash f.0, (u32-size.size v.index f.1.0, tt))
@@ -71,7 +71,7 @@ out_point-size = record { size = λ v f. (out_point-parts (encoded out_point v) 
 -- ---- CellInput
 
 abbrev pub cell_input_fields : CellInput → List (ℕ × Encoding)
-cell_input_fields v = (8, field u64 v.since) ∷ (36, field out_point v.previous_output) ∷ []
+cell_input_fields v = (8, encode_field u64 v.since) ∷ (36, encode_field out_point v.previous_output) ∷ []
 
 cell_input-sized : (v : CellInput) → AllFit (encodings (cell_input_fields v)) → AllSized (cell_input_fields v)
 cell_input-sized v f = (u64-size.size v.since f.0, (out_point-size.size v.previous_output f.1.0, tt))
@@ -96,7 +96,7 @@ cell_input-size = record { size = λ v f. (cell_input-parts (encoded cell_input 
 -- ---- CellDep
 
 abbrev pub cell_dep_fields : CellDep → List (ℕ × Encoding)
-cell_dep_fields v = (36, field out_point v.out_point) ∷ (1, field byte v.dep_type) ∷ []
+cell_dep_fields v = (36, encode_field out_point v.out_point) ∷ (1, encode_field byte v.dep_type) ∷ []
 
 cell_dep-sized : (v : CellDep) → AllFit (encodings (cell_dep_fields v)) → AllSized (cell_dep_fields v)
 cell_dep-sized v f = (out_point-size.size v.out_point f.0, (byte-size.size v.dep_type f.1.0, tt))
@@ -121,7 +121,7 @@ cell_dep-size = record { size = λ v f. (cell_dep-parts (encoded cell_dep v) v (
 -- ---- Header
 
 abbrev pub header_fields : Header → List (ℕ × Encoding)
-header_fields v = (4, field u32 v.version) ∷ (4, field u32 v.compact_target) ∷ (8, field u64 v.timestamp) ∷ (8, field u64 v.number) ∷ (8, field u64 v.epoch) ∷ (32, field byte32 v.parent_hash) ∷ (32, field byte32 v.transactions_root) ∷ (32, field byte32 v.proposals_hash) ∷ (32, field byte32 v.uncles_hash) ∷ (32, field byte32 v.dao) ∷ (16, field u128 v.nonce) ∷ []
+header_fields v = (4, encode_field u32 v.version) ∷ (4, encode_field u32 v.compact_target) ∷ (8, encode_field u64 v.timestamp) ∷ (8, encode_field u64 v.number) ∷ (8, encode_field u64 v.epoch) ∷ (32, encode_field byte32 v.parent_hash) ∷ (32, encode_field byte32 v.transactions_root) ∷ (32, encode_field byte32 v.proposals_hash) ∷ (32, encode_field byte32 v.uncles_hash) ∷ (32, encode_field byte32 v.dao) ∷ (16, encode_field u128 v.nonce) ∷ []
 
 header-sized : (v : Header) → AllFit (encodings (header_fields v)) → AllSized (header_fields v)
 header-sized v f = (u32-size.size v.version f.0, (u32-size.size v.compact_target f.1.0, (u64-size.size v.timestamp f.1.1.0, (u64-size.size v.number f.1.1.1.0, (u64-size.size v.epoch f.1.1.1.1.0, (byte32-size.size v.parent_hash f.1.1.1.1.1.0, (byte32-size.size v.transactions_root f.1.1.1.1.1.1.0, (byte32-size.size v.proposals_hash f.1.1.1.1.1.1.1.0, (byte32-size.size v.uncles_hash f.1.1.1.1.1.1.1.1.0, (byte32-size.size v.dao f.1.1.1.1.1.1.1.1.1.0, (u128-size.size v.nonce f.1.1.1.1.1.1.1.1.1.1.0, tt)))))))))))
@@ -164,7 +164,7 @@ script-some = record { some = λ s f. let ps = parts (script_fields s) in omega 
 -- ---- CellOutput
 
 abbrev pub cell_output_fields : CellOutput → List Encoding
-cell_output_fields v = field u64 v.capacity ∷ field script v.lock ∷ field (option script) v.type_script ∷ []
+cell_output_fields v = encode_field u64 v.capacity ∷ encode_field script v.lock ∷ encode_field (option script) v.type_script ∷ []
 
 pub cell_output-parts : (b : List ℕ) (v : CellOutput) → IsA cell_output b v → TableOf b (cell_output_fields v)
 unfolding cell_output
@@ -184,7 +184,7 @@ cell_output-inverts = record {
 -- ---- RawTransaction
 
 abbrev pub raw_transaction_fields : RawTransaction → List Encoding
-raw_transaction_fields v = field u32 v.version ∷ field (fixvec 37 cell_dep) v.cell_deps ∷ field (fixvec 32 byte32) v.header_deps ∷ field (fixvec 44 cell_input) v.inputs ∷ field (dynvec cell_output) v.outputs ∷ field (dynvec bytes) v.outputs_data ∷ []
+raw_transaction_fields v = encode_field u32 v.version ∷ encode_field (fixvec 37 cell_dep) v.cell_deps ∷ encode_field (fixvec 32 byte32) v.header_deps ∷ encode_field (fixvec 44 cell_input) v.inputs ∷ encode_field (dynvec cell_output) v.outputs ∷ encode_field (dynvec bytes) v.outputs_data ∷ []
 
 pub raw_transaction-parts : (b : List ℕ) (v : RawTransaction) → IsA raw_transaction b v → TableOf b (raw_transaction_fields v)
 unfolding raw_transaction
@@ -207,7 +207,7 @@ raw_transaction-inverts = record {
 -- ---- Transaction
 
 abbrev pub transaction_fields : Transaction → List Encoding
-transaction_fields v = field raw_transaction v.raw ∷ field (dynvec bytes) v.witnesses ∷ []
+transaction_fields v = encode_field raw_transaction v.raw ∷ encode_field (dynvec bytes) v.witnesses ∷ []
 
 pub transaction-parts : (b : List ℕ) (v : Transaction) → IsA transaction b v → TableOf b (transaction_fields v)
 unfolding transaction
@@ -226,7 +226,7 @@ transaction-inverts = record {
 -- ---- UncleBlock
 
 abbrev pub uncle_block_fields : UncleBlock → List Encoding
-uncle_block_fields v = field header v.header ∷ field (fixvec 10 proposal_short_id) v.proposals ∷ []
+uncle_block_fields v = encode_field header v.header ∷ encode_field (fixvec 10 proposal_short_id) v.proposals ∷ []
 
 pub uncle_block-parts : (b : List ℕ) (v : UncleBlock) → IsA uncle_block b v → TableOf b (uncle_block_fields v)
 unfolding uncle_block
@@ -245,7 +245,7 @@ uncle_block-inverts = record {
 -- ---- Block
 
 abbrev pub block_fields : Block → List Encoding
-block_fields v = field header v.header ∷ field (dynvec uncle_block) v.uncles ∷ field (dynvec transaction) v.transactions ∷ field (fixvec 10 proposal_short_id) v.proposals ∷ []
+block_fields v = encode_field header v.header ∷ encode_field (dynvec uncle_block) v.uncles ∷ encode_field (dynvec transaction) v.transactions ∷ encode_field (fixvec 10 proposal_short_id) v.proposals ∷ []
 
 pub block-parts : (b : List ℕ) (v : Block) → IsA block b v → TableOf b (block_fields v)
 unfolding block
@@ -275,7 +275,7 @@ out_points-inverts = fixvec-inverts 36 out_point out_point-inverts out_point-siz
 -- ---- CellbaseWitness
 
 abbrev pub cellbase_witness_fields : CellbaseWitness → List Encoding
-cellbase_witness_fields v = field script v.lock ∷ field bytes v.message ∷ []
+cellbase_witness_fields v = encode_field script v.lock ∷ encode_field bytes v.message ∷ []
 
 pub cellbase_witness-parts : (b : List ℕ) (v : CellbaseWitness) → IsA cellbase_witness b v → TableOf b (cellbase_witness_fields v)
 unfolding cellbase_witness
@@ -294,7 +294,7 @@ cellbase_witness-inverts = record {
 -- ---- WitnessArgs
 
 abbrev pub witness_args_fields : WitnessArgs → List Encoding
-witness_args_fields v = field (option bytes) v.lock ∷ field (option bytes) v.input_type ∷ field (option bytes) v.output_type ∷ []
+witness_args_fields v = encode_field (option bytes) v.lock ∷ encode_field (option bytes) v.input_type ∷ encode_field (option bytes) v.output_type ∷ []
 
 pub witness_args-parts : (b : List ℕ) (v : WitnessArgs) → IsA witness_args b v → TableOf b (witness_args_fields v)
 unfolding witness_args

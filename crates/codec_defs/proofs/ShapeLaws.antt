@@ -12,13 +12,13 @@ use Rattle.std.proofs.lemmas.Nat.{from_le_bytes-to_le_bytes_4, from_le_bytes-to_
 use Rattle.std.proofs.lemmas.Slice.Eq.{bytes_eq-Decides}
 use Rattle.codec_defs.specs.Molecule as molecule
 use Rattle.codec_defs.specs.Molecule.{IsTable}
-use Rattle.codec_defs.specs.Shape.{Encoding, Shape, IsA, encoded, decoded, byte, u32, u64, u128, byte_array, bytes, fixvec, dynvec, option, table, parts, all_fit, part}
+use Rattle.codec_defs.specs.Shape.{Encoding, Shape, IsA, encoded, decoded, byte, u32, u64, u128, byte_array, bytes, fixvec, dynvec, option, table, parts, all_fit, table_field}
 use Rattle.codec_defs.proofs.MoleculeLaws.{length-dynvec, parts_of-dynvec, items_of_fixvec-fixvec}
 use Rattle.codec_defs.proofs.Numbers.{from_le_bytes-to_le_bytes_16}
 
--- An encoding of the shape has one value, and `value_of` takes it out.
+-- An encoding of the shape has one value, and `decoding` takes it out.
 pub record Inverts {V : Type 0} (s : Shape V) : Type 0 where
-  pub back : (b : List ℕ) (v : V) → IsA s b v → s.value_of b ≡ v
+  pub back : (b : List ℕ) (v : V) → IsA s b v → s.decoding b ≡ v
 
 -- Each value of the shape has this many bytes.
 pub record HasSize (n : ℕ) {V : Type 0} (s : Shape V) : Type 0 where
@@ -37,7 +37,7 @@ test_some false v w e = absurd cc
 pub IsA-decoded : {V : Type 0} (s : Shape V) (b : List ℕ) (v : V) → decoded s b ≡ Some v → IsA s b v
 unfolding decoded
 IsA-decoded s b v e =
-    let u = s.value_of b in
+    let u = s.decoding b in
     let t = test_some ((s.encoding u).fits && bytes_eq (encoded s u) b) u v e in
     let both = and_parts _ _ t.0 in
     let found : IsA s b u = record { fits = both.0; encoding = sym ((bytes_eq-Decides (encoded s u) b).0 both.1) } in
@@ -47,8 +47,8 @@ pub decoded-is : {V : Type 0} (s : Shape V) → Inverts s → (b : List ℕ) (v 
 unfolding decoded
 decoded-is s law b v a =
     let same = law.back b v a in
-    let whole : IsA s b (s.value_of b) = subst (IsA s b) (sym same) a in
-    let test : ((s.encoding (s.value_of b)).fits && bytes_eq (encoded s (s.value_of b)) b) ≡ true = and_from _ _ whole.fits ((bytes_eq-Decides (encoded s (s.value_of b)) b).1 (sym whole.encoding)) in
+    let whole : IsA s b (s.decoding b) = subst (IsA s b) (sym same) a in
+    let test : ((s.encoding (s.decoding b)).fits && bytes_eq (encoded s (s.decoding b)) b) ≡ true = and_from _ _ whole.fits ((bytes_eq-Decides (encoded s (s.decoding b)) b).1 (sym whole.encoding)) in
     rw test (ap (λ (u : _). Some u) same)
 
 pub decoded-none : {V : Type 0} (s : Shape V) (b : List ℕ) → ((v : V) → IsA s b v → ⊥) → decoded s b ≡ None
@@ -129,7 +129,7 @@ pub sizes_are : {V : Type 0} (n : ℕ) (s : Shape V) → HasSize n s → (vs : L
 sizes_are n s law [] f = tt
 sizes_are n s law (v ∷ vs) f = (law.size v f.0, sizes_are n s law vs f.1)
 
-pub values_back : {V : Type 0} (s : Shape V) → Inverts s → (vs : List V) → AllFit (map s.encoding vs) → map s.value_of (parts (map s.encoding vs)) ≡ vs
+pub values_back : {V : Type 0} (s : Shape V) → Inverts s → (vs : List V) → AllFit (map s.encoding vs) → map s.decoding (parts (map s.encoding vs)) ≡ vs
 values_back s law [] f = refl
 values_back s law (v ∷ vs) f =
     let here = law.back (encoded s v) v (record { fits = f.0; encoding = refl }) in
@@ -146,7 +146,7 @@ fixvec-inverts n s law size = record {
       let fit = AllFit-from (map s.encoding vs) p.1 in
       let few : length (parts (map s.encoding vs)) < 2 ^ 32 = rw (length-parts s vs) (ltb-true (length vs) (2 ^ 32) p.0) in
       let items = ap (molecule.items_of_fixvec n) a.encoding ∙ items_of_fixvec-fixvec n (parts (map s.encoding vs)) (sizes_are n s size vs fit) few in
-      ap (map s.value_of) items ∙ values_back s law vs fit;
+      ap (map s.decoding) items ∙ values_back s law vs fit;
 }
 
 pub parts_of-table : (b : List ℕ) (fs : List Encoding) → b ≡ (table fs).bytes → IsTrue (table fs).fits → molecule.parts_of b ≡ parts fs
@@ -158,10 +158,10 @@ pub dynvec-inverts : {V : Type 0} (s : Shape V) → Inverts s → Inverts (dynve
 dynvec-inverts s law = record {
   back = λ b vs a.
       let fit = AllFit-from (map s.encoding vs) (and_parts _ _ a.fits).1 in
-      ap (map s.value_of) (parts_of-table b (map s.encoding vs) a.encoding a.fits) ∙ values_back s law vs fit;
+      ap (map s.decoding) (parts_of-table b (map s.encoding vs) a.encoding a.fits) ∙ values_back s law vs fit;
 }
 
-option_back : {V : Type 0} (s : Shape V) → Inverts s → IsNeverEmpty s → (b : List ℕ) (o : Option V) → IsA (option s) b o → (option s).value_of b ≡ o
+option_back : {V : Type 0} (s : Shape V) → Inverts s → IsNeverEmpty s → (b : List ℕ) (o : Option V) → IsA (option s) b o → (option s).decoding b ≡ o
 option_back s law some b None a = rw a.encoding refl
 option_back s law some b (Some v) a =
     let here : IsA s b v = record { fits = a.fits; encoding = a.encoding } in
@@ -176,7 +176,7 @@ option-inverts s law some = record { back = option_back s law some }
 -- From field k on, the parts of a table are the encodings of these fields.
 abbrev pub FieldsAt : List ℕ → ℕ → List Encoding → Type 0
 FieldsAt b k [] = Unit {0}
-FieldsAt b k (f ∷ fs) = (IsTrue f.fits × (part b k ≡ f.bytes)) × FieldsAt b (k + 1) fs
+FieldsAt b k (f ∷ fs) = (IsTrue f.fits × (table_field b k ≡ f.bytes)) × FieldsAt b (k + 1) fs
 
 get_at : (front : List (List ℕ)) (p : List ℕ) (back : List (List ℕ)) (k : ℕ) → length front ≡ k → unwrap_or (slice_get (front ++ p ∷ back) k) [] ≡ p
 get_at front p back k len = unwrap_or-slice_get (front ++ p ∷ back) k [] ∙ get_or_at front p back [] k len
@@ -184,7 +184,7 @@ get_at front p back k len = unwrap_or-slice_get (front ++ p ∷ back) k [] ∙ g
 fields_from : (b : List ℕ) (front : List (List ℕ)) (fs : List Encoding) (k : ℕ) → length front ≡ k → molecule.parts_of b ≡ front ++ parts fs → AllFit fs → FieldsAt b k fs
 fields_from b front [] k len is f = tt
 fields_from b front (e ∷ fs) k len is f =
-    let here : part b k ≡ e.bytes = ap (λ (ps : List (List ℕ)). unwrap_or (slice_get ps k) []) is ∙ get_at front e.bytes (parts fs) k len in
+    let here : table_field b k ≡ e.bytes = ap (λ (ps : List (List ℕ)). unwrap_or (slice_get ps k) []) is ∙ get_at front e.bytes (parts fs) k len in
     let next : molecule.parts_of b ≡ (front ++ e.bytes ∷ []) ++ parts fs = is ∙ sym (append_assoc front (e.bytes ∷ []) (parts fs)) in
     let longer : length (front ++ e.bytes ∷ []) ≡ k + 1 = omega (arith, length-append front (e.bytes ∷ [])) in
     ((f.0, here), fields_from b (front ++ e.bytes ∷ []) fs (k + 1) longer next f.1)

@@ -1,4 +1,3 @@
 pub mod Molecule
 pub mod Shape
 pub mod Schema
-pub mod CkbHash

@@ -49,23 +49,23 @@ pub record IsTable (n : ℕ) (bytes : List ℕ) (fields : List (List ℕ)) : Typ
 -- ---- Deserialization: the parts of bytes that are an encoding, by their places
 
 -- The u32 at a place.
-unfoldable pub u32_at : List ℕ → ℕ → ℕ
-u32_at bytes at = from_le_bytes w32 (take 4 (drop at bytes))
+unfoldable pub header_number : List ℕ → ℕ → ℕ
+header_number bytes at = from_le_bytes w32 (take 4 (drop at bytes))
 
 -- The items of a fixvec lie side by side after the count.
 unfoldable pub item_of_fixvec : ℕ → List ℕ → ℕ → List ℕ
 item_of_fixvec size bytes i = slice_range bytes (4 + i * size) (4 + (i + 1) * size)
 
 unfoldable pub items_of_fixvec : ℕ → List ℕ → List (List ℕ)
-items_of_fixvec size bytes = map (item_of_fixvec size bytes) (range_with_len 0 (u32_at bytes 0))
+items_of_fixvec size bytes = map (item_of_fixvec size bytes) (range_with_len 0 (header_number bytes 0))
 
 -- The first offset is the size of the header, so it tells the count. With no offset the full size is 4.
 unfoldable pub part_count : List ℕ → ℕ
-part_count bytes = if length bytes == 4 then 0 else u32_at bytes 4 / 4 - 1
+part_count bytes = if length bytes == 4 then 0 else header_number bytes 4 / 4 - 1
 
 -- A part reaches from its offset to the next one, and the last part to the end.
 unfoldable pub part_start : List ℕ → ℕ → ℕ
-part_start bytes i = if nat_lt i (part_count bytes) then u32_at bytes (4 + 4 * i) else length bytes
+part_start bytes i = if nat_lt i (part_count bytes) then header_number bytes (4 + 4 * i) else length bytes
 
 unfoldable pub part_of : List ℕ → ℕ → List ℕ
 part_of bytes i = slice_range bytes (part_start bytes i) (part_start bytes (i + 1))

@@ -1,7 +1,7 @@
 -- The chain's values and their shapes, as CKB's schema blockchain.mol has them.
 use Rattle.std.specs.Prelude.{ℕ, List, [], ◌∷◌, Option}
 use Rattle.std.specs.List.{slice_range}
-use Rattle.codec_defs.specs.Shape.{Shape, byte, u32, u64, u128, byte_array, bytes, fixvec, dynvec, option, struct, table, field, value, part}
+use Rattle.codec_defs.specs.Shape.{Shape, byte, u32, u64, u128, byte_array, bytes, fixvec, dynvec, option, struct, table, encode_field, decode_field, table_field}
 
 -- array Byte32 [byte; 32]
 abbrev pub byte32 : Shape (List ℕ)
@@ -19,8 +19,8 @@ pub record Script : Type 0 where
 -- table Script { code_hash: Byte32, hash_type: byte, args: Bytes }
 unfoldable pub script : Shape Script
 script = record {
-  encoding = λ s. table (field byte32 s.code_hash ∷ field byte s.hash_type ∷ field bytes s.args ∷ []);
-  value_of = λ b. record { code_hash = value byte32 (part b 0); hash_type = value byte (part b 1); args = value bytes (part b 2) };
+  encoding = λ s. table (encode_field byte32 s.code_hash ∷ encode_field byte s.hash_type ∷ encode_field bytes s.args ∷ []);
+  decoding = λ b. record { code_hash = decode_field byte32 (table_field b 0); hash_type = decode_field byte (table_field b 1); args = decode_field bytes (table_field b 2) };
 }
 
 pub record OutPoint : Type 0 where
@@ -30,8 +30,8 @@ pub record OutPoint : Type 0 where
 -- struct OutPoint { tx_hash: Byte32, index: Uint32 }
 unfoldable pub out_point : Shape OutPoint
 out_point = record {
-  encoding = λ o. struct (field byte32 o.tx_hash ∷ field u32 o.index ∷ []);
-  value_of = λ b. record { tx_hash = value byte32 (slice_range b 0 32); index = value u32 (slice_range b 32 36) };
+  encoding = λ o. struct (encode_field byte32 o.tx_hash ∷ encode_field u32 o.index ∷ []);
+  decoding = λ b. record { tx_hash = decode_field byte32 (slice_range b 0 32); index = decode_field u32 (slice_range b 32 36) };
 }
 
 pub record CellInput : Type 0 where
@@ -41,8 +41,8 @@ pub record CellInput : Type 0 where
 -- struct CellInput { since: Uint64, previous_output: OutPoint }
 unfoldable pub cell_input : Shape CellInput
 cell_input = record {
-  encoding = λ i. struct (field u64 i.since ∷ field out_point i.previous_output ∷ []);
-  value_of = λ b. record { since = value u64 (slice_range b 0 8); previous_output = value out_point (slice_range b 8 44) };
+  encoding = λ i. struct (encode_field u64 i.since ∷ encode_field out_point i.previous_output ∷ []);
+  decoding = λ b. record { since = decode_field u64 (slice_range b 0 8); previous_output = decode_field out_point (slice_range b 8 44) };
 }
 
 pub record CellDep : Type 0 where
@@ -52,8 +52,8 @@ pub record CellDep : Type 0 where
 -- struct CellDep { out_point: OutPoint, dep_type: byte }
 unfoldable pub cell_dep : Shape CellDep
 cell_dep = record {
-  encoding = λ d. struct (field out_point d.out_point ∷ field byte d.dep_type ∷ []);
-  value_of = λ b. record { out_point = value out_point (slice_range b 0 36); dep_type = value byte (slice_range b 36 37) };
+  encoding = λ d. struct (encode_field out_point d.out_point ∷ encode_field byte d.dep_type ∷ []);
+  decoding = λ b. record { out_point = decode_field out_point (slice_range b 0 36); dep_type = decode_field byte (slice_range b 36 37) };
 }
 
 pub record CellOutput : Type 0 where
@@ -64,11 +64,11 @@ pub record CellOutput : Type 0 where
 -- table CellOutput { capacity: Uint64, lock: Script, type: ScriptOpt }
 unfoldable pub cell_output : Shape CellOutput
 cell_output = record {
-  encoding = λ o. table (field u64 o.capacity ∷ field script o.lock ∷ field (option script) o.type_script ∷ []);
-  value_of = λ b. record {
-    capacity = value u64 (part b 0);
-    lock = value script (part b 1);
-    type_script = value (option script) (part b 2);
+  encoding = λ o. table (encode_field u64 o.capacity ∷ encode_field script o.lock ∷ encode_field (option script) o.type_script ∷ []);
+  decoding = λ b. record {
+    capacity = decode_field u64 (table_field b 0);
+    lock = decode_field script (table_field b 1);
+    type_script = decode_field (option script) (table_field b 2);
   };
 }
 
@@ -85,20 +85,20 @@ pub record RawTransaction : Type 0 where
 unfoldable pub raw_transaction : Shape RawTransaction
 raw_transaction = record {
   encoding = λ t. table (
-      field u32 t.version
-      ∷ field (fixvec 37 cell_dep) t.cell_deps
-      ∷ field (fixvec 32 byte32) t.header_deps
-      ∷ field (fixvec 44 cell_input) t.inputs
-      ∷ field (dynvec cell_output) t.outputs
-      ∷ field (dynvec bytes) t.outputs_data
+      encode_field u32 t.version
+      ∷ encode_field (fixvec 37 cell_dep) t.cell_deps
+      ∷ encode_field (fixvec 32 byte32) t.header_deps
+      ∷ encode_field (fixvec 44 cell_input) t.inputs
+      ∷ encode_field (dynvec cell_output) t.outputs
+      ∷ encode_field (dynvec bytes) t.outputs_data
       ∷ []);
-  value_of = λ b. record {
-    version = value u32 (part b 0);
-    cell_deps = value (fixvec 37 cell_dep) (part b 1);
-    header_deps = value (fixvec 32 byte32) (part b 2);
-    inputs = value (fixvec 44 cell_input) (part b 3);
-    outputs = value (dynvec cell_output) (part b 4);
-    outputs_data = value (dynvec bytes) (part b 5);
+  decoding = λ b. record {
+    version = decode_field u32 (table_field b 0);
+    cell_deps = decode_field (fixvec 37 cell_dep) (table_field b 1);
+    header_deps = decode_field (fixvec 32 byte32) (table_field b 2);
+    inputs = decode_field (fixvec 44 cell_input) (table_field b 3);
+    outputs = decode_field (dynvec cell_output) (table_field b 4);
+    outputs_data = decode_field (dynvec bytes) (table_field b 5);
   };
 }
 
@@ -109,8 +109,8 @@ pub record Transaction : Type 0 where
 -- table Transaction { raw: RawTransaction, witnesses: BytesVec }
 unfoldable pub transaction : Shape Transaction
 transaction = record {
-  encoding = λ t. table (field raw_transaction t.raw ∷ field (dynvec bytes) t.witnesses ∷ []);
-  value_of = λ b. record { raw = value raw_transaction (part b 0); witnesses = value (dynvec bytes) (part b 1) };
+  encoding = λ t. table (encode_field raw_transaction t.raw ∷ encode_field (dynvec bytes) t.witnesses ∷ []);
+  decoding = λ b. record { raw = decode_field raw_transaction (table_field b 0); witnesses = decode_field (dynvec bytes) (table_field b 1) };
 }
 
 pub record Header : Type 0 where
@@ -131,30 +131,30 @@ pub record Header : Type 0 where
 unfoldable pub header : Shape Header
 header = record {
   encoding = λ h. struct (
-      field u32 h.version
-      ∷ field u32 h.compact_target
-      ∷ field u64 h.timestamp
-      ∷ field u64 h.number
-      ∷ field u64 h.epoch
-      ∷ field byte32 h.parent_hash
-      ∷ field byte32 h.transactions_root
-      ∷ field byte32 h.proposals_hash
-      ∷ field byte32 h.uncles_hash
-      ∷ field byte32 h.dao
-      ∷ field u128 h.nonce
+      encode_field u32 h.version
+      ∷ encode_field u32 h.compact_target
+      ∷ encode_field u64 h.timestamp
+      ∷ encode_field u64 h.number
+      ∷ encode_field u64 h.epoch
+      ∷ encode_field byte32 h.parent_hash
+      ∷ encode_field byte32 h.transactions_root
+      ∷ encode_field byte32 h.proposals_hash
+      ∷ encode_field byte32 h.uncles_hash
+      ∷ encode_field byte32 h.dao
+      ∷ encode_field u128 h.nonce
       ∷ []);
-  value_of = λ b. record {
-    version = value u32 (slice_range b 0 4);
-    compact_target = value u32 (slice_range b 4 8);
-    timestamp = value u64 (slice_range b 8 16);
-    number = value u64 (slice_range b 16 24);
-    epoch = value u64 (slice_range b 24 32);
-    parent_hash = value byte32 (slice_range b 32 64);
-    transactions_root = value byte32 (slice_range b 64 96);
-    proposals_hash = value byte32 (slice_range b 96 128);
-    uncles_hash = value byte32 (slice_range b 128 160);
-    dao = value byte32 (slice_range b 160 192);
-    nonce = value u128 (slice_range b 192 208);
+  decoding = λ b. record {
+    version = decode_field u32 (slice_range b 0 4);
+    compact_target = decode_field u32 (slice_range b 4 8);
+    timestamp = decode_field u64 (slice_range b 8 16);
+    number = decode_field u64 (slice_range b 16 24);
+    epoch = decode_field u64 (slice_range b 24 32);
+    parent_hash = decode_field byte32 (slice_range b 32 64);
+    transactions_root = decode_field byte32 (slice_range b 64 96);
+    proposals_hash = decode_field byte32 (slice_range b 96 128);
+    uncles_hash = decode_field byte32 (slice_range b 128 160);
+    dao = decode_field byte32 (slice_range b 160 192);
+    nonce = decode_field u128 (slice_range b 192 208);
   };
 }
 
@@ -165,8 +165,8 @@ pub record UncleBlock : Type 0 where
 -- table UncleBlock { header: Header, proposals: ProposalShortIdVec }
 unfoldable pub uncle_block : Shape UncleBlock
 uncle_block = record {
-  encoding = λ u. table (field header u.header ∷ field (fixvec 10 proposal_short_id) u.proposals ∷ []);
-  value_of = λ b. record { header = value header (part b 0); proposals = value (fixvec 10 proposal_short_id) (part b 1) };
+  encoding = λ u. table (encode_field header u.header ∷ encode_field (fixvec 10 proposal_short_id) u.proposals ∷ []);
+  decoding = λ b. record { header = decode_field header (table_field b 0); proposals = decode_field (fixvec 10 proposal_short_id) (table_field b 1) };
 }
 
 pub record Block : Type 0 where
@@ -179,16 +179,16 @@ pub record Block : Type 0 where
 unfoldable pub block : Shape Block
 block = record {
   encoding = λ b. table (
-      field header b.header
-      ∷ field (dynvec uncle_block) b.uncles
-      ∷ field (dynvec transaction) b.transactions
-      ∷ field (fixvec 10 proposal_short_id) b.proposals
+      encode_field header b.header
+      ∷ encode_field (dynvec uncle_block) b.uncles
+      ∷ encode_field (dynvec transaction) b.transactions
+      ∷ encode_field (fixvec 10 proposal_short_id) b.proposals
       ∷ []);
-  value_of = λ b. record {
-    header = value header (part b 0);
-    uncles = value (dynvec uncle_block) (part b 1);
-    transactions = value (dynvec transaction) (part b 2);
-    proposals = value (fixvec 10 proposal_short_id) (part b 3);
+  decoding = λ b. record {
+    header = decode_field header (table_field b 0);
+    uncles = decode_field (dynvec uncle_block) (table_field b 1);
+    transactions = decode_field (dynvec transaction) (table_field b 2);
+    proposals = decode_field (fixvec 10 proposal_short_id) (table_field b 3);
   };
 }
 
@@ -199,8 +199,8 @@ pub record CellbaseWitness : Type 0 where
 -- table CellbaseWitness { lock: Script, message: Bytes }
 unfoldable pub cellbase_witness : Shape CellbaseWitness
 cellbase_witness = record {
-  encoding = λ w. table (field script w.lock ∷ field bytes w.message ∷ []);
-  value_of = λ b. record { lock = value script (part b 0); message = value bytes (part b 1) };
+  encoding = λ w. table (encode_field script w.lock ∷ encode_field bytes w.message ∷ []);
+  decoding = λ b. record { lock = decode_field script (table_field b 0); message = decode_field bytes (table_field b 1) };
 }
 
 pub record WitnessArgs : Type 0 where
@@ -211,11 +211,11 @@ pub record WitnessArgs : Type 0 where
 -- table WitnessArgs { lock: BytesOpt, input_type: BytesOpt, output_type: BytesOpt }
 unfoldable pub witness_args : Shape WitnessArgs
 witness_args = record {
-  encoding = λ w. table (field (option bytes) w.lock ∷ field (option bytes) w.input_type ∷ field (option bytes) w.output_type ∷ []);
-  value_of = λ b. record {
-    lock = value (option bytes) (part b 0);
-    input_type = value (option bytes) (part b 1);
-    output_type = value (option bytes) (part b 2);
+  encoding = λ w. table (encode_field (option bytes) w.lock ∷ encode_field (option bytes) w.input_type ∷ encode_field (option bytes) w.output_type ∷ []);
+  decoding = λ b. record {
+    lock = decode_field (option bytes) (table_field b 0);
+    input_type = decode_field (option bytes) (table_field b 1);
+    output_type = decode_field (option bytes) (table_field b 2);
   };
 }
 

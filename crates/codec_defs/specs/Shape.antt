@@ -13,7 +13,7 @@ pub record Encoding : Type 0 where
 -- A shape encodes values, and takes the value out of bytes that encode one.
 pub record Shape (V : Type 0) : Type 0 where
   pub encoding : V → Encoding
-  pub value_of : List ℕ → V
+  pub decoding : List ℕ → V
 
 abbrev pub encoded : {V : Type 0} → Shape V → V → List ℕ
 encoded shape v = (shape.encoding v).bytes
@@ -26,7 +26,7 @@ pub record IsA {V : Type 0} (shape : Shape V) (bytes : List ℕ) (v : V) : Type 
 -- The value that the bytes encode, if there is one: `decoded shape bytes ≡ Some v` exactly where `IsA shape bytes v` (`decoded-iff` of proofs/ShapeLaws.antt).
 unfoldable pub decoded : {V : Type 0} → Shape V → List ℕ → Option V
 decoded shape bytes =
-    let v = shape.value_of bytes in
+    let v = shape.decoding bytes in
     if (shape.encoding v).fits && bytes_eq (encoded shape v) bytes then Some v else None
 
 -- ---- Numbers and arrays of bytes: "fixed size"
@@ -34,14 +34,14 @@ decoded shape bytes =
 abbrev pub byte : Shape ℕ
 byte = record {
   encoding = λ n. record { bytes = n ∷ []; fits = nat_lt n 256 };
-  value_of = λ bytes. slice_index bytes 0;
+  decoding = λ bytes. slice_index bytes 0;
 }
 
 -- An unsigned integer, little-endian.
 abbrev pub uint : Width → Shape ℕ
 uint w = record {
   encoding = λ n. record { bytes = to_le_bytes w n; fits = nat_lt n (256 ^ byte_len w) };
-  value_of = λ bytes. from_le_bytes w bytes;
+  decoding = λ bytes. from_le_bytes w bytes;
 }
 
 abbrev pub u32 : Shape ℕ
@@ -60,7 +60,7 @@ are_bytes bytes = list_all (λ b. nat_lt b 256) bytes
 abbrev pub byte_array : ℕ → Shape (List ℕ)
 byte_array n = record {
   encoding = λ items. record { bytes = items; fits = (length items == n) && are_bytes items };
-  value_of = λ bytes. bytes;
+  decoding = λ bytes. bytes;
 }
 
 -- ---- Vectors and options
@@ -72,7 +72,7 @@ bytes = record {
     bytes = molecule.fixvec (map (λ b. b ∷ []) content);
     fits = nat_lt (length content) (2 ^ 32) && are_bytes content;
   };
-  value_of = λ encoding. drop 4 encoding;
+  decoding = λ encoding. drop 4 encoding;
 }
 
 abbrev pub parts : List Encoding → List (List ℕ)
@@ -88,7 +88,7 @@ fixvec size item = record {
     bytes = molecule.fixvec (parts (map item.encoding values));
     fits = nat_lt (length values) (2 ^ 32) && all_fit (map item.encoding values);
   };
-  value_of = λ bytes. map item.value_of (molecule.items_of_fixvec size bytes);
+  decoding = λ bytes. map item.decoding (molecule.items_of_fixvec size bytes);
 }
 
 -- A table is laid out as a dynvec of its fields. Its full size is a u32.
@@ -102,7 +102,7 @@ table fields = record {
 abbrev pub dynvec : {V : Type 0} → Shape V → Shape (List V)
 dynvec item = record {
   encoding = λ values. table (map item.encoding values);
-  value_of = λ bytes. map item.value_of (molecule.parts_of bytes);
+  decoding = λ bytes. map item.decoding (molecule.parts_of bytes);
 }
 
 abbrev pub option_encoding : {V : Type 0} → Shape V → Option V → Encoding
@@ -112,7 +112,7 @@ option_encoding item (Some v) = item.encoding v
 abbrev pub option : {V : Type 0} → Shape V → Shape (Option V)
 option item = record {
   encoding = option_encoding item;
-  value_of = λ bytes. if length bytes == 0 then None else Some (item.value_of bytes);
+  decoding = λ bytes. if length bytes == 0 then None else Some (item.decoding bytes);
 }
 
 -- ---- Rows of fields
@@ -122,12 +122,12 @@ abbrev pub struct : List Encoding → Encoding
 struct fields = record { bytes = concat (parts fields); fits = all_fit fields }
 
 -- A field of a row, and the value of a field.
-abbrev pub field : {V : Type 0} → Shape V → V → Encoding
-field shape v = shape.encoding v
+abbrev pub encode_field : {V : Type 0} → Shape V → V → Encoding
+encode_field shape v = shape.encoding v
 
-abbrev pub value : {V : Type 0} → Shape V → List ℕ → V
-value shape bytes = shape.value_of bytes
+abbrev pub decode_field : {V : Type 0} → Shape V → List ℕ → V
+decode_field shape bytes = shape.decoding bytes
 
 -- The bytes of field i of a table.
-abbrev pub part : List ℕ → ℕ → List ℕ
-part bytes i = unwrap_or (slice_get (molecule.parts_of bytes) i) []
+abbrev pub table_field : List ℕ → ℕ → List ℕ
+table_field bytes i = unwrap_or (slice_get (molecule.parts_of bytes) i) []

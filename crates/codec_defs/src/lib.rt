@@ -2,5 +2,6 @@
 //! crates that read and write them cite in their contracts.
 //!
 //! - `Molecule`, `Shape`: the encodings of RFC 0008. `Schema`: the values of CKB's blockchain.mol.
-//! - `CkbHash`: the hash of a message, after RFC 7693.
+//!
+//! How bytes are hashed is left to `hash_defs`.
 #![tactic(auto)]

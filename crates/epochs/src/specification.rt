@@ -43,14 +43,14 @@ pub struct Spec {
 #[tactic(auto, unfolding(time_defs::specs::Specification::fields_of))]
 impl Spec {
     ghost use Rattle.std.specs.Prelude.{Some, None, IfOk, IfErr};
-    ghost use Rattle.time_defs.specs.Specification.{first_broken, fields_of};
+    ghost use Rattle.time_defs.specs.Specification.{broken_specification_rule, fields_of};
     ghost use Rattle.epochs.specs.Fields.{specification};
 
     /// The specification that the bytes hold, or the number of the first rule that they break.
     pub fn read(b: &[u8]) -> Result<Spec, u8>
-        ensures sound { IfOk result (λ spec. first_broken b.now ≡ None) }
+        ensures sound { IfOk result (λ spec. broken_specification_rule b.now ≡ None) }
         ensures fields { IfOk result (λ spec. specification spec ≡ fields_of b.now) }
-        ensures broken { IfErr result (λ rule. first_broken b.now ≡ Some rule) }
+        ensures broken { IfErr result (λ rule. broken_specification_rule b.now ≡ Some rule) }
     {
         if !keeps_s1(b) {
             return Err(1);

@@ -9,8 +9,8 @@ use Rattle.std.proofs.lemmas.List.FromFn.{length-map-range_with_len, get_or-map-
 use Rattle.std.proofs.lemmas.Option.{slice_get-get_or}
 use Rattle.std.proofs.lemmas.Bool.{cases_lt}
 use Rattle.std.proofs.lemmas.Nat.{le_bytes_4}
-use Rattle.codec_defs.specs.Molecule.{fixvec, offsets, header_size, full_size, dynvec, IsFixvec, IsDynvec, IsTable, u32_at, item_of_fixvec, items_of_fixvec, part_count, part_start, part_of, parts_of}
-use Rattle.codec_defs.proofs.MoleculeLaws.{concat-append, length-dynvec, length-fixvec, length-concat, u32_at-dynvec, u32_at-fixvec, part_count-dynvec, part_start-dynvec, IsTable_only}
+use Rattle.codec_defs.specs.Molecule.{fixvec, offsets, header_size, full_size, dynvec, IsFixvec, IsDynvec, IsTable, header_number, item_of_fixvec, items_of_fixvec, part_count, part_start, part_of, parts_of}
+use Rattle.codec_defs.proofs.MoleculeLaws.{concat-append, length-dynvec, length-fixvec, length-concat, header_number-dynvec, header_number-fixvec, part_count-dynvec, part_start-dynvec, IsTable_only}
 use Rattle.mol_core.specs.Layout.{IsLaidOut, IsCounted}
 
 abbrev pub IsBytes : List ℕ → Type 0
@@ -28,15 +28,15 @@ pub get_or-four_bytes : (bytes : List ℕ) (at k : ℕ) → k < 4 → get_or (ta
 get_or-four_bytes bytes at k lt = get_or-take 4 (drop at bytes) k 0 lt ∙ get_or-drop at bytes k 0
 
 -- four bytes are the u32 that is read there
-u32_bytes : (bytes : List ℕ) (at : ℕ) → IsBytes bytes → at + 4 ≤ length bytes → to_le_bytes w32 (u32_at bytes at) ≡ take 4 (drop at bytes)
-unfolding u32_at
+u32_bytes : (bytes : List ℕ) (at : ℕ) → IsBytes bytes → at + 4 ≤ length bytes → to_le_bytes w32 (header_number bytes at) ≡ take 4 (drop at bytes)
+unfolding header_number
 u32_bytes bytes at byte within =
     let len : length (take 4 (drop at bytes)) ≡ 4 = omega (arith, length-take 4 (drop at bytes), length-drop at bytes) in
     le_bytes_4 (take 4 (drop at bytes)) (from_le_bytes w32 (take 4 (drop at bytes))) len (four_bytes bytes at byte) refl
 
-pub u32_at-fits : (bytes : List ℕ) (at : ℕ) → IsBytes bytes → u32_at bytes at < 2 ^ 32
-unfolding u32_at
-u32_at-fits bytes at byte = let each = four_bytes bytes at byte in omega (arith, each 0, each 1, each 2, each 3)
+pub header_number-fits : (bytes : List ℕ) (at : ℕ) → IsBytes bytes → header_number bytes at < 2 ^ 32
+unfolding header_number
+header_number-fits bytes at byte = let each = four_bytes bytes at byte in omega (arith, each 0, each 1, each 2, each 3)
 
 range-then-drop : (bytes : List ℕ) (a b : ℕ) → a ≤ b → slice_range bytes a b ++ drop b bytes ≡ drop a bytes
 range-then-drop bytes a b le =
@@ -72,7 +72,7 @@ layout-short bytes laid short =
     let none : part_count bytes ≡ 0 = omega (arith, header-within bytes laid) in
     omega (arith, ap (part_start bytes) none, start-end bytes, laid.header)
 
-pub layout-empty : (bytes : List ℕ) → length bytes ≡ 4 → u32_at bytes 0 ≡ length bytes → IsLaidOut bytes
+pub layout-empty : (bytes : List ℕ) → length bytes ≡ 4 → header_number bytes 0 ≡ length bytes → IsLaidOut bytes
 unfolding part_count part_start
 layout-empty bytes len size =
     let none : part_count bytes ≡ 0 = rw len refl in
@@ -83,7 +83,7 @@ layout-empty bytes len size =
       rises = λ i lt. absurd (omega arith);
     }
 
-start-read : (bytes : List ℕ) (i : ℕ) → i < part_count bytes → part_start bytes i ≡ u32_at bytes (4 + 4 * i)
+start-read : (bytes : List ℕ) (i : ℕ) → i < part_count bytes → part_start bytes i ≡ header_number bytes (4 + 4 * i)
 unfolding part_start
 start-read bytes i lt = grind arith
 
@@ -127,7 +127,7 @@ dynvec-parts_of bytes byte laid =
     let content : concat parts ≡ drop (4 + 4 * part_count bytes) bytes = concat-parts bytes laid (part_count bytes) 0 (omega arith) ∙ ap (λ (n : ℕ). drop n bytes) laid.header in
     let count : length parts ≡ part_count bytes = length-map-range_with_len (part_of bytes) 0 (part_count bytes) in
     let header : 4 + 4 * length parts ≡ part_start bytes 0 = omega (arith, laid.header) in
-    let size : 4 + 4 * length parts + length (concat parts) ≡ u32_at bytes 0 = omega (arith, ap length content, length-drop (4 + 4 * part_count bytes) bytes, header-within bytes laid, laid.size) in
+    let size : 4 + 4 * length parts + length (concat parts) ≡ header_number bytes 0 = omega (arith, ap length content, length-drop (4 + 4 * part_count bytes) bytes, header-within bytes laid, laid.size) in
     let number : to_le_bytes w32 (4 + 4 * length parts + length (concat parts)) ≡ take 4 bytes = ap (to_le_bytes w32) size ∙ u32_bytes bytes 0 byte laid.whole in
     let rest : offsets (4 + 4 * length parts) parts ++ concat parts ≡ drop 4 bytes =
     ap (λ (n : ℕ). offsets n parts ++ concat parts) header ∙ ap (λ (l : List ℕ). offsets (part_start bytes 0) parts ++ l) content ∙ offsets-parts bytes byte laid (part_count bytes) 0 (omega arith) in
@@ -137,7 +137,7 @@ dynvec-parts_of bytes byte laid =
     ∙ take-append-drop 4 bytes)
 
 pub IsDynvec-from_layout : (bytes : List ℕ) → IsBytes bytes → IsLaidOut bytes → IsDynvec bytes (parts_of bytes)
-IsDynvec-from_layout bytes byte laid = record { encoding = dynvec-parts_of bytes byte laid; size = omega (arith, u32_at-fits bytes 0 byte, laid.size) }
+IsDynvec-from_layout bytes byte laid = record { encoding = dynvec-parts_of bytes byte laid; size = omega (arith, header_number-fits bytes 0 byte, laid.size) }
 
 -- an encoding keeps the rules
 layout-dynvec : (parts : List (List ℕ)) → full_size parts < 2 ^ 32 → IsLaidOut (dynvec parts)
@@ -147,7 +147,7 @@ layout-dynvec parts fits =
     let count = part_count-dynvec parts fits in
     record {
       whole = omega arith;
-      size = u32_at-dynvec parts fits ∙ sym len;
+      size = header_number-dynvec parts fits ∙ sym len;
       header = omega (arith, part_start-dynvec [] parts parts refl fits);
       rises = λ i lt.
           let from = part_start-dynvec (take i parts) (drop i parts) parts (take-append-drop i parts) fits in
@@ -191,52 +191,52 @@ part_count-table n bytes fields h = sym (length-parts_of bytes) ∙ ap length (I
 
 -- ---- fixvec
 
-concat-items : (size : ℕ) (bytes : List ℕ) → IsCounted size bytes → (k i : ℕ) → i + k ≡ u32_at bytes 0 → concat (map (item_of_fixvec size bytes) (range_with_len i k)) ≡ drop (4 + i * size) bytes
+concat-items : (size : ℕ) (bytes : List ℕ) → IsCounted size bytes → (k i : ℕ) → i + k ≡ header_number bytes 0 → concat (map (item_of_fixvec size bytes) (range_with_len i k)) ≡ drop (4 + i * size) bytes
 unfolding item_of_fixvec
 concat-items size bytes h zero i at =
-    let is : i ≡ u32_at bytes 0 = omega arith in
-    rw is (sym (drop_all (4 + u32_at bytes 0 * size) bytes (omega (arith, h.count))))
+    let is : i ≡ header_number bytes 0 = omega arith in
+    rw is (sym (drop_all (4 + header_number bytes 0 * size) bytes (omega (arith, h.count))))
 concat-items size bytes h (suc k) i at =
     rw (concat-items size bytes h k (i + 1) (omega arith)) (range-then-drop bytes (4 + i * size) (4 + (i + 1) * size) (omega arith))
 
-item-within : (size : ℕ) (bytes : List ℕ) → IsCounted size bytes → (i k : ℕ) → i + suc k ≡ u32_at bytes 0 → 4 + (i + 1) * size ≤ length bytes
+item-within : (size : ℕ) (bytes : List ℕ) → IsCounted size bytes → (i k : ℕ) → i + suc k ≡ header_number bytes 0 → 4 + (i + 1) * size ≤ length bytes
 item-within size bytes h i k at = omega (arith, h.count, ap (λ (n : ℕ). n * size) at)
 
-pub item-ends-within : (size : ℕ) (bytes : List ℕ) → IsCounted size bytes → (i : ℕ) → i < u32_at bytes 0 → (4 + i * size) + size ≤ length bytes
-item-ends-within size bytes h i lt = omega (arith, item-within size bytes h i (u32_at bytes 0 - suc i) (omega arith))
+pub item-ends-within : (size : ℕ) (bytes : List ℕ) → IsCounted size bytes → (i : ℕ) → i < header_number bytes 0 → (4 + i * size) + size ≤ length bytes
+item-ends-within size bytes h i lt = omega (arith, item-within size bytes h i (header_number bytes 0 - suc i) (omega arith))
 
-sizes-items : (size : ℕ) (bytes : List ℕ) → IsCounted size bytes → (k i : ℕ) → i + k ≡ u32_at bytes 0 → AllByRecursion (λ item. length item ≡ size) (map (item_of_fixvec size bytes) (range_with_len i k))
+sizes-items : (size : ℕ) (bytes : List ℕ) → IsCounted size bytes → (k i : ℕ) → i + k ≡ header_number bytes 0 → AllByRecursion (λ item. length item ≡ size) (map (item_of_fixvec size bytes) (range_with_len i k))
 unfolding item_of_fixvec
 sizes-items size bytes h zero i at = tt
 sizes-items size bytes h (suc k) i at =
     let len = length-range bytes (4 + i * size) (4 + (i + 1) * size) (omega arith) (item-within size bytes h i k at) in
     (omega arith, sizes-items size bytes h k (i + 1) (omega arith))
 
-pub length-items_of_fixvec : (size : ℕ) (bytes : List ℕ) → length (items_of_fixvec size bytes) ≡ u32_at bytes 0
+pub length-items_of_fixvec : (size : ℕ) (bytes : List ℕ) → length (items_of_fixvec size bytes) ≡ header_number bytes 0
 unfolding items_of_fixvec
-length-items_of_fixvec size bytes = length-map-range_with_len (item_of_fixvec size bytes) 0 (u32_at bytes 0)
+length-items_of_fixvec size bytes = length-map-range_with_len (item_of_fixvec size bytes) 0 (header_number bytes 0)
 
 pub IsFixvec-from_count : (size : ℕ) (bytes : List ℕ) → IsBytes bytes → IsCounted size bytes → IsFixvec size bytes (items_of_fixvec size bytes)
 unfolding items_of_fixvec fixvec
 IsFixvec-from_count size bytes byte h =
-    let items = map (item_of_fixvec size bytes) (range_with_len 0 (u32_at bytes 0)) in
-    let count : length items ≡ u32_at bytes 0 = length-map-range_with_len (item_of_fixvec size bytes) 0 (u32_at bytes 0) in
+    let items = map (item_of_fixvec size bytes) (range_with_len 0 (header_number bytes 0)) in
+    let count : length items ≡ header_number bytes 0 = length-map-range_with_len (item_of_fixvec size bytes) 0 (header_number bytes 0) in
     let number : to_le_bytes w32 (length items) ≡ take 4 bytes = ap (to_le_bytes w32) count ∙ u32_bytes bytes 0 byte h.whole in
     let front : 4 + 0 * size ≡ 4 = omega arith in
-    let content : concat items ≡ drop 4 bytes = concat-items size bytes h (u32_at bytes 0) 0 (omega arith) ∙ ap (λ (n : ℕ). drop n bytes) front in
+    let content : concat items ≡ drop 4 bytes = concat-items size bytes h (header_number bytes 0) 0 (omega arith) ∙ ap (λ (n : ℕ). drop n bytes) front in
     record {
       encoding = sym (ap (λ (l : List ℕ). to_le_bytes w32 (length items) ++ l) content ∙ ap (λ (l : List ℕ). l ++ drop 4 bytes) number ∙ take-append-drop 4 bytes);
-      sizes = sizes-items size bytes h (u32_at bytes 0) 0 (omega arith);
-      count = omega (arith, count, u32_at-fits bytes 0 byte);
+      sizes = sizes-items size bytes h (header_number bytes 0) 0 (omega arith);
+      count = omega (arith, count, header_number-fits bytes 0 byte);
     }
 
 pub IsCounted-from_fixvec : (size : ℕ) (bytes : List ℕ) (items : List (List ℕ)) → IsFixvec size bytes items → IsCounted size bytes
 IsCounted-from_fixvec size bytes items h =
     let len = ap length h.encoding ∙ length-fixvec items in
-    let number : u32_at bytes 0 ≡ length items = ap (λ (b : List ℕ). u32_at b 0) h.encoding ∙ u32_at-fixvec items h.count in
+    let number : header_number bytes 0 ≡ length items = ap (λ (b : List ℕ). header_number b 0) h.encoding ∙ header_number-fixvec items h.count in
     record { whole = omega arith; count = omega (arith, length-concat size items h.sizes, ap (λ (n : ℕ). n * size) number) }
 
-pub slice_get-items_of_fixvec : (size : ℕ) (bytes : List ℕ) (i : ℕ) → i < u32_at bytes 0 → slice_get (items_of_fixvec size bytes) i ≡ Some (item_of_fixvec size bytes i)
+pub slice_get-items_of_fixvec : (size : ℕ) (bytes : List ℕ) (i : ℕ) → i < header_number bytes 0 → slice_get (items_of_fixvec size bytes) i ≡ Some (item_of_fixvec size bytes i)
 unfolding items_of_fixvec
 slice_get-items_of_fixvec size bytes i lt =
-    slice_get-get_or (items_of_fixvec size bytes) i [] (omega (arith, length-items_of_fixvec size bytes)) ∙ ap (λ (l : List ℕ). Some l) (get_or-map-range_with_len (item_of_fixvec size bytes) 0 (u32_at bytes 0) i i [] lt (omega arith))
+    slice_get-get_or (items_of_fixvec size bytes) i [] (omega (arith, length-items_of_fixvec size bytes)) ∙ ap (λ (l : List ℕ). Some l) (get_or-map-range_with_len (item_of_fixvec size bytes) 0 (header_number bytes 0) i i [] lt (omega arith))

@@ -36,7 +36,7 @@ pub fn check_dynvec(b: &[u8]) -> Option<DynView<'_>>
 
 impl<'a> DynView<'a> {
     /// The view of bytes that are known to be a dynvec: nothing is checked again.
-    pub fn of_encoding(b: &'a [u8]) -> Self
+    pub fn from_encoding(b: &'a [u8]) -> Self
         requires { (items : List (List ℕ)) × IsDynvec b.now items }
         ensures found { IsDynvec b.now result }
         ensures only { (items : List (List ℕ)) → IsDynvec b.now items → result ≡ items }

@@ -38,7 +38,7 @@ pub fn check_fixvec(b: &[u8], item: usize) -> Option<FixView<'_>>
 
 impl<'a> FixView<'a> {
     /// The view of bytes that are known to be a fixvec of such items: nothing is checked again.
-    pub fn of_encoding(b: &'a [u8], item: usize) -> Self
+    pub fn from_encoding(b: &'a [u8], item: usize) -> Self
         requires { (items : List (List ℕ)) × IsFixvec item b.now items }
         ensures found { IsFixvec item b.now result }
         ensures only { (items : List (List ℕ)) → IsFixvec item b.now items → result ≡ items }

@@ -1,5 +1,5 @@
 ghost use Rattle.std.specs.Prelude.{◌≡◌, ℕ, ◌+◌, ◌*◌, ◌<◌, ◌≤◌, ◌^◌, ◌↔◌, length, IsTrue};
-ghost use Rattle.codec_defs.specs.Molecule.{u32_at, part_count, part_start, part_of, item_of_fixvec};
+ghost use Rattle.codec_defs.specs.Molecule.{header_number, part_count, part_start, part_of, item_of_fixvec};
 ghost use Rattle.mol_core.specs.Layout.{IsLaidOut, IsCounted};
 
 use crate::number::read_u32;
@@ -97,7 +97,7 @@ pub(crate) fn is_counted(bytes: &[u8], size: usize) -> bool
 /// Item `i` of a fixvec.
 pub(crate) fn item_at<'a>(bytes: &'a [u8], size: usize, i: usize) -> &'a [u8]
     requires counted { IsCounted size bytes.now }
-    requires within { i < u32_at bytes.now 0 }
+    requires within { i < header_number bytes.now 0 }
     ensures { result.now ≡ item_of_fixvec size bytes.now i }
 {
     let from = 4 + i * size;

@@ -36,7 +36,7 @@ pub fn check_table<const N: usize>(b: &[u8]) -> Option<TableView<'_, N>>
 
 impl<'a, const N: usize> TableView<'a, N> {
     /// The view of bytes that are known to be a table of `N` fields: nothing is checked again.
-    pub fn of_encoding(b: &'a [u8]) -> Self
+    pub fn from_encoding(b: &'a [u8]) -> Self
         requires { (fields : List (List ℕ)) × IsTable N b.now fields }
         ensures found { IsTable N b.now result }
         ensures only { (fields : List (List ℕ)) → IsTable N b.now fields → result ≡ fields }

@@ -9,7 +9,7 @@ use Rattle.std.proofs.lemmas.List.{length-take, length-map, get_or-drop, get_or-
 use Rattle.std.proofs.lemmas.Nat.{le_bytes_4, le_bytes_8}
 use Rattle.codec_defs.specs.Molecule as molecule
 use Rattle.codec_defs.specs.Molecule.{IsFixvec, IsDynvec, IsTable}
-use Rattle.codec_defs.specs.Shape.{Shape, IsA, encoded, decoded, byte, u32, u64, u128, are_bytes, byte_array, bytes, fixvec, dynvec, option, parts, part}
+use Rattle.codec_defs.specs.Shape.{Shape, IsA, encoded, decoded, byte, u32, u64, u128, are_bytes, byte_array, bytes, fixvec, dynvec, option, parts, table_field}
 use Rattle.codec_defs.proofs.MoleculeLaws.{IsFixvec_only, IsDynvec_only, length-concat, length-dynvec}
 use Rattle.codec_defs.proofs.Numbers.{le_bytes_16}
 use Rattle.codec_defs.proofs.ShapeLaws.{Inverts, length-parts, AllFit, AllFit-from, all_fit-from, decoded-is, decoded-none, decoded-exact}
@@ -20,17 +20,17 @@ abbrev pub AreBytes : List ℕ → Type 0
 AreBytes b = (i : ℕ) → get_or b i 0 < 256
 
 pub record Agrees {V : Type 0} (P : List ℕ → Type 0) (s : Shape V) : Type 0 where
-  pub sound : (b : List ℕ) → AreBytes b → P b → IsA s b (s.value_of b)
+  pub sound : (b : List ℕ) → AreBytes b → P b → IsA s b (s.decoding b)
   pub only : (b : List ℕ) (v : V) → IsA s b v → P b
 
 -- what `read` answers
 abbrev pub Answers : {V : Type 0} → Shape V → List ℕ → Option V → Type 0
 Answers s b r = record { value : r ≡ decoded s b; exact : (v : _) → (r ≡ Some v) ↔ IsA s b v }
 
-pub read-some : {V : Type 0} (P : List ℕ → Type 0) (s : Shape V) → Agrees P s → Inverts s → (b : List ℕ) → AreBytes b → P b → Answers s b (Some (s.value_of b))
+pub read-some : {V : Type 0} (P : List ℕ → Type 0) (s : Shape V) → Agrees P s → Inverts s → (b : List ℕ) → AreBytes b → P b → Answers s b (Some (s.decoding b))
 read-some P s agree law b small p =
-    let is = sym (decoded-is s law b (s.value_of b) (agree.sound b small p)) in
-    record { value = is; exact = decoded-exact s law b (Some (s.value_of b)) is }
+    let is = sym (decoded-is s law b (s.decoding b) (agree.sound b small p)) in
+    record { value = is; exact = decoded-exact s law b (Some (s.decoding b)) is }
 
 pub read-none : {V : Type 0} (P : List ℕ → Type 0) (s : Shape V) → Agrees P s → Inverts s → (b : List ℕ) → (P b → ⊥) → Answers s b None
 read-none P s agree law b none =
@@ -65,7 +65,7 @@ each_mapped P f (x ∷ xs) h = (h x, each_mapped P f xs h)
 
 pub AreBytes-items : (size : ℕ) (b : List ℕ) → AreBytes b → AllByRecursion AreBytes (molecule.items_of_fixvec size b)
 unfolding molecule.items_of_fixvec molecule.item_of_fixvec
-AreBytes-items size b h = each_mapped AreBytes (molecule.item_of_fixvec size b) (range_with_len 0 (molecule.u32_at b 0)) (λ i. AreBytes-range b (4 + i * size) (4 + (i + 1) * size) h)
+AreBytes-items size b h = each_mapped AreBytes (molecule.item_of_fixvec size b) (range_with_len 0 (molecule.header_number b 0)) (λ i. AreBytes-range b (4 + i * size) (4 + (i + 1) * size) h)
 
 pub AreBytes-parts : (b : List ℕ) → AreBytes b → AllByRecursion AreBytes (molecule.parts_of b)
 unfolding molecule.parts_of molecule.part_of
@@ -79,8 +79,8 @@ get-each P (x ∷ xs) d (suc i) h a = get-each P xs d i h a.1
 AreBytes-nil : AreBytes []
 AreBytes-nil i = omega arith
 
-pub AreBytes-part : (b : List ℕ) (i : ℕ) → AreBytes b → AreBytes (part b i)
-AreBytes-part b i h = get-each AreBytes (molecule.parts_of b) [] i AreBytes-nil (AreBytes-parts b h)
+pub AreBytes-table_field : (b : List ℕ) (i : ℕ) → AreBytes b → AreBytes (table_field b i)
+AreBytes-table_field b i h = get-each AreBytes (molecule.parts_of b) [] i AreBytes-nil (AreBytes-parts b h)
 
 -- ---- numbers and arrays
 
@@ -168,12 +168,12 @@ bytes-agrees = record {
 -- ---- lists and options
 
 each-sound : {V : Type 0} (P : List ℕ → Type 0) (s : Shape V) → Agrees P s → (items : List (List ℕ)) → AllByRecursion AreBytes items → AllByRecursion P items
-    → (items ≡ parts (map s.encoding (map s.value_of items))) × AllFit (map s.encoding (map s.value_of items))
+    → (items ≡ parts (map s.encoding (map s.decoding items))) × AllFit (map s.encoding (map s.decoding items))
 each-sound P s agree [] small p = (refl, tt)
 each-sound P s agree (item ∷ items) small p =
     let here = agree.sound item small.0 p.0 in
     let rest = each-sound P s agree items small.1 p.1 in
-    let both : item ∷ items ≡ encoded s (s.value_of item) ∷ parts (map s.encoding (map s.value_of items)) = λ i. here.encoding i ∷ rest.0 i in
+    let both : item ∷ items ≡ encoded s (s.decoding item) ∷ parts (map s.encoding (map s.decoding items)) = λ i. here.encoding i ∷ rest.0 i in
     (both, (here.fits, rest.1))
 
 each-only : {V : Type 0} (P : List ℕ → Type 0) (s : Shape V) → Agrees P s → (vs : List V) → AllFit (map s.encoding vs) → AllByRecursion P (parts (map s.encoding vs))
@@ -185,7 +185,7 @@ fixvec-agrees n s agree = record {
   sound = λ b small p.
       let items = molecule.items_of_fixvec n b in
       let each = each-sound (HasLength n) s agree items (AreBytes-items n b small) p.sizes in
-      let few : length (map s.value_of items) < 2 ^ 32 = rw (length-map items s.value_of) p.count in
+      let few : length (map s.decoding items) < 2 ^ 32 = rw (length-map items s.decoding) p.count in
       record {
         fits = and_from _ _ (lt-ltb _ 4294967296 few) (all_fit-from _ each.1);
         encoding = p.encoding ∙ ap molecule.fixvec each.0;
@@ -211,8 +211,8 @@ dynvec-agrees P s agree = record {
   sound = λ b small p.
       let items = molecule.parts_of b in
       let each = each-sound P s agree items (AreBytes-parts b small) (index-each P items p.items) in
-      let is : b ≡ molecule.dynvec (parts (map s.encoding (map s.value_of items))) = p.dynvec.encoding ∙ ap molecule.dynvec each.0 in
-      let short : length (molecule.dynvec (parts (map s.encoding (map s.value_of items)))) < 2 ^ 32 = subst (λ (l : List ℕ). length l < 2 ^ 32) is p.dynvec.size in
+      let is : b ≡ molecule.dynvec (parts (map s.encoding (map s.decoding items))) = p.dynvec.encoding ∙ ap molecule.dynvec each.0 in
+      let short : length (molecule.dynvec (parts (map s.encoding (map s.decoding items)))) < 2 ^ 32 = subst (λ (l : List ℕ). length l < 2 ^ 32) is p.dynvec.size in
       record { fits = and_from _ _ (lt-ltb _ 4294967296 short) (all_fit-from _ each.1); encoding = is };
   only = λ b vs a.
       let both = and_parts _ _ a.fits in
@@ -231,12 +231,12 @@ option-only : {V : Type 0} (P : List ℕ → Type 0) (s : Shape V) → Agrees P 
 option-only P s agree b None a long = absurd (omega (arith, ap length a.encoding))
 option-only P s agree b (Some v) a long = agree.only b v (record { fits = a.fits; encoding = a.encoding })
 
-option-sound : {V : Type 0} (P : List ℕ → Type 0) (s : Shape V) → Agrees P s → (b : List ℕ) → AreBytes b → (0 < length b → P b) → IsA (option s) b ((option s).value_of b)
+option-sound : {V : Type 0} (P : List ℕ → Type 0) (s : Shape V) → Agrees P s → (b : List ℕ) → AreBytes b → (0 < length b → P b) → IsA (option s) b ((option s).decoding b)
 option-sound P s agree [] small p = record { fits = refl; encoding = refl }
 option-sound P s agree (x ∷ b) small p =
     let some = agree.sound (x ∷ b) small (p (omega arith)) in
     let long : eqb (length (x ∷ b)) 0 ≡ false = ne_eqb _ 0 (λ e. absurd (omega arith)) in
-    let here : IsA (option s) (x ∷ b) (Some (s.value_of (x ∷ b))) = record { fits = some.fits; encoding = some.encoding } in
+    let here : IsA (option s) (x ∷ b) (Some (s.decoding (x ∷ b))) = record { fits = some.fits; encoding = some.encoding } in
     rw long here
 
 pub option-agrees : {V : Type 0} (P : List ℕ → Type 0) (s : Shape V) → Agrees P s → Agrees (λ b. 0 < length b → P b) (option s)
@@ -245,14 +245,14 @@ option-agrees P s agree = record { sound = option-sound P s agree; only = option
 -- ---- the bytes of a field
 
 -- a field that was checked is a value's encoding
-pub field-sound : {V : Type 0} (P : List ℕ → Type 0) (s : Shape V) → Agrees P s → (b : List ℕ) → AreBytes b → P b → IsTrue (s.encoding (s.value_of b)).fits × (b ≡ encoded s (s.value_of b))
+pub field-sound : {V : Type 0} (P : List ℕ → Type 0) (s : Shape V) → Agrees P s → (b : List ℕ) → AreBytes b → P b → IsTrue (s.encoding (s.decoding b)).fits × (b ≡ encoded s (s.decoding b))
 field-sound P s agree b small p = let a = agree.sound b small p in (a.fits, a.encoding)
 
 pub field-only : {V : Type 0} (P : List ℕ → Type 0) (s : Shape V) → Agrees P s → (b : List ℕ) (v : V) → IsTrue (s.encoding v).fits × (b ≡ encoded s v) → P b
 field-only P s agree b v p = agree.only b v (record { fits = p.0; encoding = p.1 })
 
 -- the whole encoding of a view's value
-pub encoding-is : {V : Type 0} (P : List ℕ → Type 0) (s : Shape V) → Agrees P s → (whole b : List ℕ) (v : V) → AreBytes b → whole ≡ b → P b → s.value_of b ≡ v → IsA s whole v
+pub encoding-is : {V : Type 0} (P : List ℕ → Type 0) (s : Shape V) → Agrees P s → (whole b : List ℕ) (v : V) → AreBytes b → whole ≡ b → P b → s.decoding b ≡ v → IsA s whole v
 encoding-is P s agree whole b v small same p is = rw same (subst (IsA s b) is (agree.sound b small p))
 
 -- what the test of a fixvec tells

@@ -23,7 +23,7 @@ impl<'a> Model for UncleView<'a> {
 
     ghost Value = { UncleBlock };
 
-    ghost view = { λ v. uncle_block.value_of v.bytes.now };
+    ghost view = { λ v. uncle_block.decoding v.bytes.now };
 
     ghost invariant = { λ v. IsUncleBlock v.bytes.now };
 }
@@ -43,15 +43,15 @@ impl<'a> UncleView<'a> {
     }
 
     /// The view of bytes that were checked before.
-    pub(crate) fn known(b: &'a [u8]) -> Self
+    pub(crate) fn from_checked(b: &'a [u8]) -> Self
         requires { IsUncleBlock b.now }
-        ensures { result ≡ uncle_block.value_of b.now }
+        ensures { result ≡ uncle_block.decoding b.now }
     {
         UncleView { bytes: b }
     }
 
     /// The view of bytes that are known to encode an `UncleBlock`: nothing is checked again.
-    pub fn of_encoding(b: &'a [u8]) -> Self
+    pub fn from_encoding(b: &'a [u8]) -> Self
         requires { (v : UncleBlock) × IsA uncle_block b.now v }
         ensures { (v : UncleBlock) → IsA uncle_block b.now v → result ≡ v }
     {
@@ -68,7 +68,7 @@ impl<'a> UncleView<'a> {
     pub fn header(&self) -> HeaderView<'a>
         ensures { result ≡ self.now.header }
     {
-        HeaderView::known(field::<2>(self.bytes, 0))
+        HeaderView::from_checked(field::<2>(self.bytes, 0))
     }
 
     pub fn proposals_count(&self) -> usize
@@ -99,7 +99,7 @@ impl<'a> Model for BlockView<'a> {
 
     ghost Value = { Block };
 
-    ghost view = { λ v. block.value_of v.bytes.now };
+    ghost view = { λ v. block.decoding v.bytes.now };
 
     ghost invariant = { λ v. IsBlock v.bytes.now };
 }
@@ -119,7 +119,7 @@ impl<'a> BlockView<'a> {
     }
 
     /// The view of bytes that are known to encode a `Block`: nothing is checked again.
-    pub fn of_encoding(b: &'a [u8]) -> Self
+    pub fn from_encoding(b: &'a [u8]) -> Self
         requires { (v : Block) × IsA block b.now v }
         ensures { (v : Block) → IsA block b.now v → result ≡ v }
     {
@@ -136,7 +136,7 @@ impl<'a> BlockView<'a> {
     pub fn header(&self) -> HeaderView<'a>
         ensures { result ≡ self.now.header }
     {
-        HeaderView::known(field::<4>(self.bytes, 0))
+        HeaderView::from_checked(field::<4>(self.bytes, 0))
     }
 
     pub fn uncles_count(&self) -> usize
@@ -150,7 +150,7 @@ impl<'a> BlockView<'a> {
         requires { i < length self.now.uncles }
         ensures { slice_get self.now.uncles i ≡ Some result }
     {
-        UncleView::known(list_item(field::<4>(self.bytes, 1), i))
+        UncleView::from_checked(list_item(field::<4>(self.bytes, 1), i))
     }
 
     pub fn transactions_count(&self) -> usize
@@ -164,7 +164,7 @@ impl<'a> BlockView<'a> {
         requires { i < length self.now.transactions }
         ensures { slice_get self.now.transactions i ≡ Some result }
     {
-        TxView::known(list_item(field::<4>(self.bytes, 2), i))
+        TxView::from_checked(list_item(field::<4>(self.bytes, 2), i))
     }
 
     pub fn proposals_count(&self) -> usize

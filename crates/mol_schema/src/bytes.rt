@@ -20,7 +20,7 @@ impl<'a> Model for Bytes<'a> {
 
     ghost Value = { List ℕ };
 
-    ghost view = { λ v. shape.bytes.value_of v.bytes.now };
+    ghost view = { λ v. shape.bytes.decoding v.bytes.now };
 
     ghost invariant = { λ v. IsBytes v.bytes.now };
 }
@@ -39,7 +39,7 @@ impl<'a> Bytes<'a> {
     }
 
     /// The view of bytes that are known to encode a `Bytes`: nothing is checked again.
-    pub fn of_encoding(b: &'a [u8]) -> Self
+    pub fn from_encoding(b: &'a [u8]) -> Self
         requires { (v : List ℕ) × IsA bytes b.now v }
         ensures { (v : List ℕ) → IsA bytes b.now v → result ≡ v }
     {

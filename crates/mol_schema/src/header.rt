@@ -5,7 +5,7 @@ ghost use Rattle.codec_defs.specs.Shape.{IsA, decoded};
 ghost use Rattle.codec_defs.specs.Schema.{Header, header};
 ghost use Rattle.mol_schema.specs.Checked.{HasLength};
 
-use crate::number::{u32_of, u64_of, u128_of};
+use crate::number::{decode_u32, decode_u64, decode_u128};
 use crate::parts::whole;
 use std::marker::Model;
 
@@ -21,7 +21,7 @@ impl<'a> Model for HeaderView<'a> {
 
     ghost Value = { Header };
 
-    ghost view = { λ v. header.value_of v.bytes.now };
+    ghost view = { λ v. header.decoding v.bytes.now };
 
     ghost invariant = { λ v. HasLength 208 v.bytes.now };
 }
@@ -41,15 +41,15 @@ impl<'a> HeaderView<'a> {
     }
 
     /// The view of bytes that were checked before.
-    pub(crate) fn known(b: &'a [u8]) -> Self
+    pub(crate) fn from_checked(b: &'a [u8]) -> Self
         requires { HasLength 208 b.now }
-        ensures { result ≡ header.value_of b.now }
+        ensures { result ≡ header.decoding b.now }
     {
         HeaderView { bytes: b }
     }
 
     /// The view of bytes that are known to encode a `Header`: nothing is checked again.
-    pub fn of_encoding(b: &'a [u8]) -> Self
+    pub fn from_encoding(b: &'a [u8]) -> Self
         requires { (v : Header) × IsA header b.now v }
         ensures { (v : Header) → IsA header b.now v → result ≡ v }
     {
@@ -66,34 +66,34 @@ impl<'a> HeaderView<'a> {
     pub fn version(&self) -> u32
         ensures { result ≡ self.now.version }
     {
-        u32_of(&self.bytes[0..4])
+        decode_u32(&self.bytes[0..4])
     }
 
     pub fn compact_target(&self) -> u32
         ensures { result ≡ self.now.compact_target }
     {
-        u32_of(&self.bytes[4..8])
+        decode_u32(&self.bytes[4..8])
     }
 
     /// Milliseconds since 1970.
     pub fn timestamp(&self) -> u64
         ensures { result ≡ self.now.timestamp }
     {
-        u64_of(&self.bytes[8..16])
+        decode_u64(&self.bytes[8..16])
     }
 
     /// The block's height.
     pub fn number(&self) -> u64
         ensures { result ≡ self.now.number }
     {
-        u64_of(&self.bytes[16..24])
+        decode_u64(&self.bytes[16..24])
     }
 
     /// The epoch field: number, index and length in one.
     pub fn epoch(&self) -> u64
         ensures { result ≡ self.now.epoch }
     {
-        u64_of(&self.bytes[24..32])
+        decode_u64(&self.bytes[24..32])
     }
 
     pub fn parent_hash(&self) -> &'a [u8]
@@ -134,6 +134,6 @@ impl<'a> HeaderView<'a> {
     pub fn nonce(&self) -> u128
         ensures { result ≡ self.now.nonce }
     {
-        u128_of(&self.bytes[192..208])
+        decode_u128(&self.bytes[192..208])
     }
 }

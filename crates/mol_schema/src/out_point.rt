@@ -5,7 +5,7 @@ ghost use Rattle.codec_defs.specs.Shape.{IsA, decoded};
 ghost use Rattle.codec_defs.specs.Schema.{OutPoint, out_point, CellInput, cell_input, CellDep, cell_dep};
 ghost use Rattle.mol_schema.specs.Checked.{HasLength};
 
-use crate::number::{u32_of, u64_of};
+use crate::number::{decode_u32, decode_u64};
 use crate::parts::whole;
 use std::marker::Model;
 
@@ -21,7 +21,7 @@ impl<'a> Model for OutPointView<'a> {
 
     ghost Value = { OutPoint };
 
-    ghost view = { λ v. out_point.value_of v.bytes.now };
+    ghost view = { λ v. out_point.decoding v.bytes.now };
 
     ghost invariant = { λ v. HasLength 36 v.bytes.now };
 }
@@ -41,15 +41,15 @@ impl<'a> OutPointView<'a> {
     }
 
     /// The view of bytes that were checked before.
-    pub(crate) fn known(b: &'a [u8]) -> Self
+    pub(crate) fn from_checked(b: &'a [u8]) -> Self
         requires { HasLength 36 b.now }
-        ensures { result ≡ out_point.value_of b.now }
+        ensures { result ≡ out_point.decoding b.now }
     {
         OutPointView { bytes: b }
     }
 
     /// The view of bytes that are known to encode an `OutPoint`: nothing is checked again.
-    pub fn of_encoding(b: &'a [u8]) -> Self
+    pub fn from_encoding(b: &'a [u8]) -> Self
         requires { (v : OutPoint) × IsA out_point b.now v }
         ensures { (v : OutPoint) → IsA out_point b.now v → result ≡ v }
     {
@@ -75,7 +75,7 @@ impl<'a> OutPointView<'a> {
     pub fn index(&self) -> u32
         ensures { result ≡ self.now.index }
     {
-        u32_of(&self.bytes[32..36])
+        decode_u32(&self.bytes[32..36])
     }
 }
 
@@ -91,7 +91,7 @@ impl<'a> Model for InputView<'a> {
 
     ghost Value = { CellInput };
 
-    ghost view = { λ v. cell_input.value_of v.bytes.now };
+    ghost view = { λ v. cell_input.decoding v.bytes.now };
 
     ghost invariant = { λ v. HasLength 44 v.bytes.now };
 }
@@ -111,15 +111,15 @@ impl<'a> InputView<'a> {
     }
 
     /// The view of bytes that were checked before.
-    pub(crate) fn known(b: &'a [u8]) -> Self
+    pub(crate) fn from_checked(b: &'a [u8]) -> Self
         requires { HasLength 44 b.now }
-        ensures { result ≡ cell_input.value_of b.now }
+        ensures { result ≡ cell_input.decoding b.now }
     {
         InputView { bytes: b }
     }
 
     /// The view of bytes that are known to encode a `CellInput`: nothing is checked again.
-    pub fn of_encoding(b: &'a [u8]) -> Self
+    pub fn from_encoding(b: &'a [u8]) -> Self
         requires { (v : CellInput) × IsA cell_input b.now v }
         ensures { (v : CellInput) → IsA cell_input b.now v → result ≡ v }
     {
@@ -136,7 +136,7 @@ impl<'a> InputView<'a> {
     pub fn since(&self) -> u64
         ensures { result ≡ self.now.since }
     {
-        u64_of(&self.bytes[0..8])
+        decode_u64(&self.bytes[0..8])
     }
 
     pub fn previous_output(&self) -> OutPointView<'a>
@@ -160,7 +160,7 @@ impl<'a> Model for DepView<'a> {
 
     ghost Value = { CellDep };
 
-    ghost view = { λ v. cell_dep.value_of v.bytes.now };
+    ghost view = { λ v. cell_dep.decoding v.bytes.now };
 
     ghost invariant = { λ v. HasLength 37 v.bytes.now };
 }
@@ -180,15 +180,15 @@ impl<'a> DepView<'a> {
     }
 
     /// The view of bytes that were checked before.
-    pub(crate) fn known(b: &'a [u8]) -> Self
+    pub(crate) fn from_checked(b: &'a [u8]) -> Self
         requires { HasLength 37 b.now }
-        ensures { result ≡ cell_dep.value_of b.now }
+        ensures { result ≡ cell_dep.decoding b.now }
     {
         DepView { bytes: b }
     }
 
     /// The view of bytes that are known to encode a `CellDep`: nothing is checked again.
-    pub fn of_encoding(b: &'a [u8]) -> Self
+    pub fn from_encoding(b: &'a [u8]) -> Self
         requires { (v : CellDep) × IsA cell_dep b.now v }
         ensures { (v : CellDep) → IsA cell_dep b.now v → result ≡ v }
     {

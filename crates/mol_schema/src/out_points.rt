@@ -22,7 +22,7 @@ impl<'a> Model for OutPointsView<'a> {
 
     ghost Value = { List OutPoint };
 
-    ghost view = { λ v. out_points.value_of v.bytes.now };
+    ghost view = { λ v. out_points.decoding v.bytes.now };
 
     ghost invariant = { λ v. IsItems 36 v.bytes.now };
 }
@@ -41,7 +41,7 @@ impl<'a> OutPointsView<'a> {
     }
 
     /// The view of bytes that are known to encode a list of out-points: nothing is checked again.
-    pub fn of_encoding(b: &'a [u8]) -> Self
+    pub fn from_encoding(b: &'a [u8]) -> Self
         requires { (v : List OutPoint) × IsA out_points b.now v }
         ensures { (v : List OutPoint) → IsA out_points b.now v → result ≡ v }
     {
@@ -66,6 +66,6 @@ impl<'a> OutPointsView<'a> {
         requires { i < length self.now }
         ensures { slice_get self.now i ≡ Some result }
     {
-        OutPointView::known(item(self.bytes, 36, i))
+        OutPointView::from_checked(item(self.bytes, 36, i))
     }
 }

@@ -3,7 +3,7 @@
 ghost use Rattle.std.specs.Prelude.{◌≡◌, ℕ, ◌^◌, ◌<◌, ◌==◌, if◌then◌else◌, None, Some, drop, length, slice_get, slice_index};
 ghost use Rattle.std.specs.Option.{option_copied};
 ghost use Rattle.codec_defs.specs.Molecule.{IsDynvec, IsTable, items_of_fixvec, parts_of};
-ghost use Rattle.codec_defs.specs.Shape.{part};
+ghost use Rattle.codec_defs.specs.Shape.{table_field};
 ghost use Rattle.mol_schema.specs.Checked.{IsBytes, IsBytesOption, IsItems};
 
 use mol_core::{DynView, FixView, TableView};
@@ -20,9 +20,9 @@ pub(crate) fn whole(bytes: &[u8]) -> &[u8]
 pub(crate) fn field<const N: usize>(table: &[u8], i: usize) -> &[u8]
     requires is_table { IsTable N table.now (parts_of table.now) }
     requires within { i < N }
-    ensures { result.now ≡ part table.now i }
+    ensures { result.now ≡ table_field table.now i }
 {
-    TableView::<N>::of_encoding(table).field(i)
+    TableView::<N>::from_encoding(table).field(i)
 }
 
 /// How many items a dynvec has.
@@ -31,7 +31,7 @@ pub(crate) fn list_len(list: &[u8]) -> usize
     ensures value { result ≡ length (parts_of list.now) }
     ensures fits { result < 2 ^ 30 }
 {
-    DynView::of_encoding(list).len()
+    DynView::from_encoding(list).len()
 }
 
 /// Item `i` of a dynvec.
@@ -39,9 +39,9 @@ pub(crate) fn list_item(list: &[u8], i: usize) -> &[u8]
     requires is_list { IsDynvec list.now (parts_of list.now) }
     requires within { i < length (parts_of list.now) }
     ensures at { slice_get (parts_of list.now) i ≡ Some result.now }
-    ensures is { result.now ≡ part list.now i }
+    ensures is { result.now ≡ table_field list.now i }
 {
-    DynView::of_encoding(list).item(i)
+    DynView::from_encoding(list).item(i)
 }
 
 /// How many items of `size` bytes a fixvec has.
@@ -50,7 +50,7 @@ pub(crate) fn items_len(items: &[u8], size: usize) -> usize
     ensures value { result ≡ length (items_of_fixvec size items.now) }
     ensures fits { result < 2 ^ 32 }
 {
-    FixView::of_encoding(items, size).len()
+    FixView::from_encoding(items, size).len()
 }
 
 /// Item `i` of a fixvec of items of `size` bytes.
@@ -60,7 +60,7 @@ pub(crate) fn item(items: &[u8], size: usize, i: usize) -> &[u8]
     ensures at { slice_get (items_of_fixvec size items.now) i ≡ Some result.now }
     ensures len { length result.now ≡ size }
 {
-    FixView::of_encoding(items, size).item(i)
+    FixView::from_encoding(items, size).item(i)
 }
 
 /// What a `Bytes` holds: all after its count.

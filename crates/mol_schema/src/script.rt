@@ -21,7 +21,7 @@ impl<'a> Model for ScriptView<'a> {
 
     ghost Value = { Script };
 
-    ghost view = { λ v. script.value_of v.bytes.now };
+    ghost view = { λ v. script.decoding v.bytes.now };
 
     ghost invariant = { λ v. IsScript v.bytes.now };
 }
@@ -41,15 +41,15 @@ impl<'a> ScriptView<'a> {
     }
 
     /// The view of bytes that were checked before.
-    pub(crate) fn known(b: &'a [u8]) -> Self
+    pub(crate) fn from_checked(b: &'a [u8]) -> Self
         requires { IsScript b.now }
-        ensures { result ≡ script.value_of b.now }
+        ensures { result ≡ script.decoding b.now }
     {
         ScriptView { bytes: b }
     }
 
     /// The view of bytes that are known to encode a `Script`: nothing is checked again.
-    pub fn of_encoding(b: &'a [u8]) -> Self
+    pub fn from_encoding(b: &'a [u8]) -> Self
         requires { (v : Script) × IsA script b.now v }
         ensures { (v : Script) → IsA script b.now v → result ≡ v }
     {

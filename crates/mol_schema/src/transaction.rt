@@ -6,7 +6,7 @@ ghost use Rattle.codec_defs.specs.Schema.{CellOutput, cell_output, RawTransactio
 ghost use Rattle.mol_schema.specs.Checked.{IsCellOutput, IsRawTransaction, IsTransaction};
 
 use crate::check::{is_cell_output, is_raw_transaction, is_transaction};
-use crate::number::{u32_of, u64_of};
+use crate::number::{decode_u32, decode_u64};
 use crate::out_point::{DepView, InputView};
 use crate::parts::{content, field, item, items_len, list_item, list_len, whole};
 use crate::script::ScriptView;
@@ -24,7 +24,7 @@ impl<'a> Model for OutputView<'a> {
 
     ghost Value = { CellOutput };
 
-    ghost view = { λ v. cell_output.value_of v.bytes.now };
+    ghost view = { λ v. cell_output.decoding v.bytes.now };
 
     ghost invariant = { λ v. IsCellOutput v.bytes.now };
 }
@@ -44,15 +44,15 @@ impl<'a> OutputView<'a> {
     }
 
     /// The view of bytes that were checked before.
-    pub(crate) fn known(b: &'a [u8]) -> Self
+    pub(crate) fn from_checked(b: &'a [u8]) -> Self
         requires { IsCellOutput b.now }
-        ensures { result ≡ cell_output.value_of b.now }
+        ensures { result ≡ cell_output.decoding b.now }
     {
         OutputView { bytes: b }
     }
 
     /// The view of bytes that are known to encode a `CellOutput`: nothing is checked again.
-    pub fn of_encoding(b: &'a [u8]) -> Self
+    pub fn from_encoding(b: &'a [u8]) -> Self
         requires { (v : CellOutput) × IsA cell_output b.now v }
         ensures { (v : CellOutput) → IsA cell_output b.now v → result ≡ v }
     {
@@ -70,13 +70,13 @@ impl<'a> OutputView<'a> {
     pub fn capacity(&self) -> u64
         ensures { result ≡ self.now.capacity }
     {
-        u64_of(field::<3>(self.bytes, 0))
+        decode_u64(field::<3>(self.bytes, 0))
     }
 
     pub fn lock(&self) -> ScriptView<'a>
         ensures { result ≡ self.now.lock }
     {
-        ScriptView::known(field::<3>(self.bytes, 1))
+        ScriptView::from_checked(field::<3>(self.bytes, 1))
     }
 
     /// The field `type`.
@@ -87,7 +87,7 @@ impl<'a> OutputView<'a> {
         if script.is_empty() {
             None
         } else {
-            Some(ScriptView::known(script))
+            Some(ScriptView::from_checked(script))
         }
     }
 }
@@ -104,7 +104,7 @@ impl<'a> Model for RawTxView<'a> {
 
     ghost Value = { RawTransaction };
 
-    ghost view = { λ v. raw_transaction.value_of v.bytes.now };
+    ghost view = { λ v. raw_transaction.decoding v.bytes.now };
 
     ghost invariant = { λ v. IsRawTransaction v.bytes.now };
 }
@@ -124,15 +124,15 @@ impl<'a> RawTxView<'a> {
     }
 
     /// The view of bytes that were checked before.
-    pub(crate) fn known(b: &'a [u8]) -> Self
+    pub(crate) fn from_checked(b: &'a [u8]) -> Self
         requires { IsRawTransaction b.now }
-        ensures { result ≡ raw_transaction.value_of b.now }
+        ensures { result ≡ raw_transaction.decoding b.now }
     {
         RawTxView { bytes: b }
     }
 
     /// The view of bytes that are known to encode a `RawTransaction`: nothing is checked again.
-    pub fn of_encoding(b: &'a [u8]) -> Self
+    pub fn from_encoding(b: &'a [u8]) -> Self
         requires { (v : RawTransaction) × IsA raw_transaction b.now v }
         ensures { (v : RawTransaction) → IsA raw_transaction b.now v → result ≡ v }
     {
@@ -149,7 +149,7 @@ impl<'a> RawTxView<'a> {
     pub fn version(&self) -> u32
         ensures { result ≡ self.now.version }
     {
-        u32_of(field::<6>(self.bytes, 0))
+        decode_u32(field::<6>(self.bytes, 0))
     }
 
     pub fn cell_deps_count(&self) -> usize
@@ -163,7 +163,7 @@ impl<'a> RawTxView<'a> {
         requires { i < length self.now.cell_deps }
         ensures { slice_get self.now.cell_deps i ≡ Some result }
     {
-        DepView::known(item(field::<6>(self.bytes, 1), 37, i))
+        DepView::from_checked(item(field::<6>(self.bytes, 1), 37, i))
     }
 
     pub fn header_deps_count(&self) -> usize
@@ -192,7 +192,7 @@ impl<'a> RawTxView<'a> {
         requires { i < length self.now.inputs }
         ensures { slice_get self.now.inputs i ≡ Some result }
     {
-        InputView::known(item(field::<6>(self.bytes, 3), 44, i))
+        InputView::from_checked(item(field::<6>(self.bytes, 3), 44, i))
     }
 
     pub fn outputs_count(&self) -> usize
@@ -206,7 +206,7 @@ impl<'a> RawTxView<'a> {
         requires { i < length self.now.outputs }
         ensures { slice_get self.now.outputs i ≡ Some result }
     {
-        OutputView::known(list_item(field::<6>(self.bytes, 4), i))
+        OutputView::from_checked(list_item(field::<6>(self.bytes, 4), i))
     }
 
     pub fn outputs_data_count(&self) -> usize
@@ -237,7 +237,7 @@ impl<'a> Model for TxView<'a> {
 
     ghost Value = { Transaction };
 
-    ghost view = { λ v. transaction.value_of v.bytes.now };
+    ghost view = { λ v. transaction.decoding v.bytes.now };
 
     ghost invariant = { λ v. IsTransaction v.bytes.now };
 }
@@ -257,15 +257,15 @@ impl<'a> TxView<'a> {
     }
 
     /// The view of bytes that were checked before.
-    pub(crate) fn known(b: &'a [u8]) -> Self
+    pub(crate) fn from_checked(b: &'a [u8]) -> Self
         requires { IsTransaction b.now }
-        ensures { result ≡ transaction.value_of b.now }
+        ensures { result ≡ transaction.decoding b.now }
     {
         TxView { bytes: b }
     }
 
     /// The view of bytes that are known to encode a `Transaction`: nothing is checked again.
-    pub fn of_encoding(b: &'a [u8]) -> Self
+    pub fn from_encoding(b: &'a [u8]) -> Self
         requires { (v : Transaction) × IsA transaction b.now v }
         ensures { (v : Transaction) → IsA transaction b.now v → result ≡ v }
     {
@@ -282,7 +282,7 @@ impl<'a> TxView<'a> {
     pub fn raw(&self) -> RawTxView<'a>
         ensures { result ≡ self.now.raw }
     {
-        RawTxView::known(field::<2>(self.bytes, 0))
+        RawTxView::from_checked(field::<2>(self.bytes, 0))
     }
 
     pub fn witnesses_count(&self) -> usize

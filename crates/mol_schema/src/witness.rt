@@ -22,7 +22,7 @@ impl<'a> Model for CellbaseWitnessView<'a> {
 
     ghost Value = { CellbaseWitness };
 
-    ghost view = { λ v. cellbase_witness.value_of v.bytes.now };
+    ghost view = { λ v. cellbase_witness.decoding v.bytes.now };
 
     ghost invariant = { λ v. IsCellbaseWitness v.bytes.now };
 }
@@ -42,7 +42,7 @@ impl<'a> CellbaseWitnessView<'a> {
     }
 
     /// The view of bytes that are known to encode a `CellbaseWitness`: nothing is checked again.
-    pub fn of_encoding(b: &'a [u8]) -> Self
+    pub fn from_encoding(b: &'a [u8]) -> Self
         requires { (v : CellbaseWitness) × IsA cellbase_witness b.now v }
         ensures { (v : CellbaseWitness) → IsA cellbase_witness b.now v → result ≡ v }
     {
@@ -60,7 +60,7 @@ impl<'a> CellbaseWitnessView<'a> {
     pub fn lock(&self) -> ScriptView<'a>
         ensures { result ≡ self.now.lock }
     {
-        ScriptView::known(field::<2>(self.bytes, 0))
+        ScriptView::from_checked(field::<2>(self.bytes, 0))
     }
 
     pub fn message(&self) -> &'a [u8]
@@ -83,7 +83,7 @@ impl<'a> Model for WitnessArgsView<'a> {
 
     ghost Value = { WitnessArgs };
 
-    ghost view = { λ v. witness_args.value_of v.bytes.now };
+    ghost view = { λ v. witness_args.decoding v.bytes.now };
 
     ghost invariant = { λ v. IsWitnessArgs v.bytes.now };
 }
@@ -103,7 +103,7 @@ impl<'a> WitnessArgsView<'a> {
     }
 
     /// The view of bytes that are known to encode a `WitnessArgs`: nothing is checked again.
-    pub fn of_encoding(b: &'a [u8]) -> Self
+    pub fn from_encoding(b: &'a [u8]) -> Self
         requires { (v : WitnessArgs) × IsA witness_args b.now v }
         ensures { (v : WitnessArgs) → IsA witness_args b.now v → result ≡ v }
     {

@@ -185,7 +185,7 @@ fn empty_blocks(rt: HostRuntime) -> Result<(), Fail> {
     assert_eq!(rt; empty.len(), 240);
     assert_eq!(rt; block.transactions_count(), 0);
     assert_eq!(rt; block.proposals_count(), 0);
-    let again = BlockView::of_encoding(block.bytes());
+    let again = BlockView::from_encoding(block.bytes());
     assert_eq!(rt; again.uncles_count(), 0);
     let five = joined(
         rt.alloc(),

@@ -7,7 +7,7 @@ use Rattle.std.proofs.lemmas.List.{take_all, take-append-le, drop-append-le, tak
 use Rattle.std.proofs.lemmas.List.Sums.{sum_by-cons, sum_by-append}
 use Rattle.codec_defs.specs.Molecule.{fixvec, offsets, header_size, full_size, dynvec, IsFixvec, IsDynvec}
 use Rattle.codec_defs.proofs.MoleculeLaws.{concat-append, length-dynvec}
-use Rattle.mol_write.specs.Builder.{fields_of, AllHaveSize}
+use Rattle.mol_write.specs.Builder.{fields_by_lengths, AllHaveSize}
 
 pub sum-cons : (size : ℕ) (sizes : List ℕ) → sum (size ∷ sizes) ≡ size + sum sizes
 sum-cons size sizes = sum_by-cons (λ (n : ℕ). n) size sizes
@@ -25,39 +25,39 @@ rest_fits n sizes content fits = omega (arith, length-drop n content, sum-cons n
 
 -- ---- the fields
 
-pub length-fields_of : (sizes content : List ℕ) → length (fields_of sizes content) ≡ length sizes
-unfolding fields_of
-length-fields_of [] content = refl
-length-fields_of (n ∷ sizes) content = omega (arith, length-fields_of sizes (drop n content))
+pub length-fields_by_lengths : (sizes content : List ℕ) → length (fields_by_lengths sizes content) ≡ length sizes
+unfolding fields_by_lengths
+length-fields_by_lengths [] content = refl
+length-fields_by_lengths (n ∷ sizes) content = omega (arith, length-fields_by_lengths sizes (drop n content))
 
-pub concat-fields_of : (sizes content : List ℕ) → sum sizes ≡ length content → concat (fields_of sizes content) ≡ content
-unfolding fields_of
-concat-fields_of [] content fits = sym (none content (omega arith))
-concat-fields_of (n ∷ sizes) content fits =
-    ap (λ (l : List ℕ). take n content ++ l) (concat-fields_of sizes (drop n content) (rest_fits n sizes content fits)) ∙ take-append-drop n content
+pub concat-fields_by_lengths : (sizes content : List ℕ) → sum sizes ≡ length content → concat (fields_by_lengths sizes content) ≡ content
+unfolding fields_by_lengths
+concat-fields_by_lengths [] content fits = sym (none content (omega arith))
+concat-fields_by_lengths (n ∷ sizes) content fits =
+    ap (λ (l : List ℕ). take n content ++ l) (concat-fields_by_lengths sizes (drop n content) (rest_fits n sizes content fits)) ∙ take-append-drop n content
 
-pub lengths-fields_of : (sizes content : List ℕ) → sum sizes ≡ length content → map length (fields_of sizes content) ≡ sizes
-unfolding fields_of
-lengths-fields_of [] content fits = refl
-lengths-fields_of (n ∷ sizes) content fits =
+pub lengths-fields_by_lengths : (sizes content : List ℕ) → sum sizes ≡ length content → map length (fields_by_lengths sizes content) ≡ sizes
+unfolding fields_by_lengths
+lengths-fields_by_lengths [] content fits = refl
+lengths-fields_by_lengths (n ∷ sizes) content fits =
     let first : length (take n content) ≡ n = length-take-le n content (omega (arith, sum-cons n sizes)) in
-    rw (first, lengths-fields_of sizes (drop n content) (rest_fits n sizes content fits)) refl
+    rw (first, lengths-fields_by_lengths sizes (drop n content) (rest_fits n sizes content fits)) refl
 
 -- a field more
-pub fields_of-push : (sizes content field : List ℕ) → sum sizes ≡ length content
-    → fields_of (sizes ++ length field ∷ []) (content ++ field) ≡ fields_of sizes content ++ field ∷ []
-unfolding fields_of
-fields_of-push [] content field fits =
+pub fields_by_lengths-push : (sizes content field : List ℕ) → sum sizes ≡ length content
+    → fields_by_lengths (sizes ++ length field ∷ []) (content ++ field) ≡ fields_by_lengths sizes content ++ field ∷ []
+unfolding fields_by_lengths
+fields_by_lengths-push [] content field fits =
     ap (λ (l : List ℕ). take (length field) (l ++ field) ∷ []) (none content (omega arith)) ∙ ap (λ (l : List ℕ). l ∷ []) (take_all (length field) field (omega arith))
-fields_of-push (n ∷ sizes) content field fits =
+fields_by_lengths-push (n ∷ sizes) content field fits =
     let within : n ≤ length content = omega (arith, sum-cons n sizes) in
-    rw (take-append-le n content field within, drop-append-le n content field within, fields_of-push sizes (drop n content) field (rest_fits n sizes content fits)) refl
+    rw (take-append-le n content field within, drop-append-le n content field within, fields_by_lengths-push sizes (drop n content) field (rest_fits n sizes content fits)) refl
 
 -- ---- sizes
 
-pub full_size-fields_of : (sizes content : List ℕ) → sum sizes ≡ length content → full_size (fields_of sizes content) ≡ 4 + 4 * length sizes + length content
+pub full_size-fields_by_lengths : (sizes content : List ℕ) → sum sizes ≡ length content → full_size (fields_by_lengths sizes content) ≡ 4 + 4 * length sizes + length content
 unfolding full_size header_size
-full_size-fields_of sizes content fits = omega (arith, length-fields_of sizes content, ap length (concat-fields_of sizes content fits))
+full_size-fields_by_lengths sizes content fits = omega (arith, length-fields_by_lengths sizes content, ap length (concat-fields_by_lengths sizes content fits))
 
 pub full_size-push : (fields : List (List ℕ)) (field : List ℕ) → full_size (fields ++ field ∷ []) ≡ full_size fields + 4 + length field
 unfolding full_size header_size
@@ -79,14 +79,14 @@ offsets-lengths start (part ∷ parts) = ap (λ (l : List ℕ). to_le_bytes w32 
 -- ---- the encodings
 
 pub is_dynvec : (sizes content bytes : List ℕ) → sum sizes ≡ length content → 4 + 4 * length sizes + length content < 2 ^ 32
-    → bytes ≡ (to_le_bytes w32 (4 + 4 * length sizes + length content) ++ offsets (4 + 4 * length sizes) (fields_of sizes content)) ++ content
-    → IsDynvec bytes (fields_of sizes content)
+    → bytes ≡ (to_le_bytes w32 (4 + 4 * length sizes + length content) ++ offsets (4 + 4 * length sizes) (fields_by_lengths sizes content)) ++ content
+    → IsDynvec bytes (fields_by_lengths sizes content)
 unfolding dynvec header_size
 is_dynvec sizes content bytes sums fits is =
-    let fields = fields_of sizes content in
-    let full : full_size fields ≡ 4 + 4 * length sizes + length content = full_size-fields_of sizes content sums in
-    let header : header_size fields ≡ 4 + 4 * length sizes = ap (λ (n : ℕ). 4 + 4 * n) (length-fields_of sizes content) in
-    let items : concat fields ≡ content = concat-fields_of sizes content sums in
+    let fields = fields_by_lengths sizes content in
+    let full : full_size fields ≡ 4 + 4 * length sizes + length content = full_size-fields_by_lengths sizes content sums in
+    let header : header_size fields ≡ 4 + 4 * length sizes = ap (λ (n : ℕ). 4 + 4 * n) (length-fields_by_lengths sizes content) in
+    let items : concat fields ≡ content = concat-fields_by_lengths sizes content sums in
     let encoding : bytes ≡ dynvec fields = is
     ∙ ap (λ (l : List ℕ). (to_le_bytes w32 (4 + 4 * length sizes + length content) ++ offsets (4 + 4 * length sizes) fields) ++ l) (sym items)
     ∙ ap (λ (n : ℕ). (to_le_bytes w32 (4 + 4 * length sizes + length content) ++ offsets n fields) ++ concat fields) (sym header)
@@ -94,12 +94,12 @@ is_dynvec sizes content bytes sums fits is =
     record { encoding = encoding; size = omega (arith, ap length encoding, length-dynvec fields) }
 
 pub is_fixvec : (sizes content bytes : List ℕ) → sum sizes ≡ length content → length sizes < 2 ^ 32 → bytes ≡ to_le_bytes w32 (length sizes) ++ content
-    → (size : ℕ) → AllHaveSize size (fields_of sizes content) → IsFixvec size bytes (fields_of sizes content)
+    → (size : ℕ) → AllHaveSize size (fields_by_lengths sizes content) → IsFixvec size bytes (fields_by_lengths sizes content)
 unfolding fixvec
 is_fixvec sizes content bytes sums fits is size each =
-    let fields = fields_of sizes content in
-    let count : length fields ≡ length sizes = length-fields_of sizes content in
+    let fields = fields_by_lengths sizes content in
+    let count : length fields ≡ length sizes = length-fields_by_lengths sizes content in
     let encoding : bytes ≡ fixvec fields = is
-    ∙ ap (λ (l : List ℕ). to_le_bytes w32 (length sizes) ++ l) (sym (concat-fields_of sizes content sums))
+    ∙ ap (λ (l : List ℕ). to_le_bytes w32 (length sizes) ++ l) (sym (concat-fields_by_lengths sizes content sums))
     ∙ ap (λ (n : ℕ). to_le_bytes w32 n ++ concat fields) (sym count) in
     record { encoding = encoding; sizes = each; count = omega (arith, count) }

@@ -3,9 +3,9 @@ use Rattle.std.specs.Prelude.{◌≡◌, ℕ, List, [], ◌∷◌, length, take,
 use Rattle.std.specs.List.{AllByRecursion}
 
 -- the fields that lie side by side in the content, by their lengths
-unfoldable pub fields_of : List ℕ → List ℕ → List (List ℕ)
-fields_of [] content = []
-fields_of (size ∷ sizes) content = take size content ∷ fields_of sizes (drop size content)
+unfoldable pub fields_by_lengths : List ℕ → List ℕ → List (List ℕ)
+fields_by_lengths [] content = []
+fields_by_lengths (size ∷ sizes) content = take size content ∷ fields_by_lengths sizes (drop size content)
 
 -- each field has `size` bytes
 abbrev pub AllHaveSize : ℕ → List (List ℕ) → Type 0

@@ -19,11 +19,11 @@ pub struct Builder {
 
 impl Model for Builder {
     ghost use Rattle.std.specs.Prelude.{◌≡◌, ℕ, ◌+◌, ◌*◌, ◌^◌, ◌<◌, List, length, sum};
-    ghost use Rattle.mol_write.specs.Builder.{fields_of};
+    ghost use Rattle.mol_write.specs.Builder.{fields_by_lengths};
 
     ghost Value = { List (List ℕ) };
 
-    ghost view = { λ b. fields_of b.lengths.items b.content.items };
+    ghost view = { λ b. fields_by_lengths b.lengths.items b.content.items };
 
     ghost invariant = { λ b. (sum b.lengths.items ≡ length b.content.items)
         × (4 + 4 * length b.lengths.items + length b.content.items < 2 ^ 32) };

@@ -8,8 +8,8 @@ use Rattle.vm_defs.specs.Program.{execution}
 use Rattle.report_defs.specs.declared.status.Status.{Status}
 use Rattle.report_defs.specs.declared.status.Status.TheVariants.{Done, InputFault, SinkFault, NoMemory, ExtraInput}
 use Rattle.report_defs.specs.Text.{execution_line, extra_line}
-use Rattle.report_defs.specs.Report.{Report, file_limit, report_of_file}
-use Rattle.report_defs.specs.Promise.{IsPrefix, TellsReport, ExecutesInOrder}
+use Rattle.report_defs.specs.Report.{Report, text_of, report_without_lines, file_limit, exec_report}
+use Rattle.report_defs.specs.Promise.{IsPrefix, MatchesReport, ExecutesInOrder}
 use Rattle.node_run.specs.Items.{IsStop}
 use Rattle.node_run.specs.Exec.{IsFile}
 use Rattle.node_run.proofs.Reading.{left_nothing}
@@ -35,22 +35,22 @@ is_longer : (a b : ℕ) → (b < a) ⊎ (a ≤ b)
 is_longer a b = elim (leb_tells a b) [ inl fits ↦ inr fits.1 | inr longer ↦ inl longer.1 ]
 
 pub too_long : (budget : ℕ) (file : List ℕ) → file_limit < length file
-    → report_of_file budget file ≡ record { text = extra_line file_limit; status = ExtraInput }
+    → exec_report budget file ≡ report_without_lines (extra_line file_limit) ExtraInput
 too_long budget file long = let test : nat_lt file_limit (length file) ≡ true = grind (arith, nat_tests) in rw test refl
 
 pub fits : (budget : ℕ) (file : List ℕ) → length file ≤ file_limit
-    → report_of_file budget file ≡ record { text = execution_line (execution budget file); status = Done }
+    → exec_report budget file ≡ report_without_lines (execution_line (execution budget file)) Done
 fits budget file short = let test : nat_lt file_limit (length file) ≡ false = grind (arith, nat_tests) in rw test refl
 
 -- The input has the report of what was read of it.
 pub same_report : (budget : ℕ) (left : Option (List ℕ)) (file given more : List ℕ) → IsFile left file given → left ≡ Some more
-    → report_of_file budget (given ++ more) ≡ report_of_file budget file
+    → exec_report budget (given ++ more) ≡ exec_report budget file
 same_report budget left file given more read is = elim (is_longer (length file) file_limit) [
   | inl long ↦
       too_long budget (given ++ more) (omega (arith, long, ap length read.same, length-append given more)) ∙ sym (too_long budget file long)
   | inr short ↦
       let nothing : more ≡ [] = left_nothing left more (read.to_end short) is in
-      ap (report_of_file budget) (ap (λ xs. given ++ xs) nothing ∙ append-nil given ∙ read.same)
+      ap (exec_report budget) (ap (λ xs. given ++ xs) nothing ∙ append-nil given ∙ read.same)
 ]
 
 -- it was read to its end or past the longest file
@@ -66,11 +66,11 @@ given_most left file given read = omega (arith, read.most, ap length read.same)
 -- ---- The exits
 
 pub stopped : (budget : ℕ) (given : List ℕ) (left : Option (List ℕ)) (taken : List ℕ) (status : Status) → IsStop status
-    → ((more : List ℕ) → left ≡ Some more → IsPrefix taken (report_of_file budget (given ++ more)).text)
+    → ((more : List ℕ) → left ≡ Some more → IsPrefix taken (text_of (exec_report budget (given ++ more))))
     → length given ≤ file_limit + 1
     → (0 < length taken → IsAtEnd left ⊎ (file_limit < length given))
     → ((status ≡ InputFault) ⊎ (status ≡ NoMemory) → taken ≡ [])
-    → TellsReport (report_of_file budget) given left taken status × ExecutesInOrder given left taken status
+    → MatchesReport (exec_report budget) given left taken status × ExecutesInOrder given left taken status
 stopped budget given left taken status stop front most first silent = (
   record {
     front = front;
@@ -88,25 +88,25 @@ stopped budget given left taken status stop front most first silent = (
 
 -- nothing was written yet
 pub stopped_at_once : (budget : ℕ) (given : List ℕ) (left : Option (List ℕ)) (status : Status) → IsStop status → length given ≤ file_limit + 1
-    → TellsReport (report_of_file budget) given left [] status × ExecutesInOrder given left [] status
+    → MatchesReport (exec_report budget) given left [] status × ExecutesInOrder given left [] status
 stopped_at_once budget given left status stop most =
-    stopped budget given left [] status stop (λ more is. ((report_of_file budget (given ++ more)).text, refl)) most (λ some. absurd (omega arith)) (λ early. refl)
+    stopped budget given left [] status stop (λ more is. ((text_of (exec_report budget (given ++ more))), refl)) most (λ some. absurd (omega arith)) (λ early. refl)
 
 -- the line was written in part
 pub stopped_in_line : (budget : ℕ) (given : List ℕ) (left : Option (List ℕ)) (file line taken : List ℕ) (status : Status)
-    → IsFile left file given → line ≡ (report_of_file budget file).text → status ≡ SinkFault → IsPrefix taken line
-    → TellsReport (report_of_file budget) given left taken status × ExecutesInOrder given left taken status
+    → IsFile left file given → line ≡ (text_of (exec_report budget file)) → status ≡ SinkFault → IsPrefix taken line
+    → MatchesReport (exec_report budget) given left taken status × ExecutesInOrder given left taken status
 stopped_in_line budget given left file line taken status read says sink begins =
     stopped budget given left taken status (subst IsStop (sym sink) tt)
-    (λ more is. subst (IsPrefix taken) (says ∙ sym (ap (λ (r : Report). r.text) (same_report budget left file given more read is))) begins)
+    (λ more is. subst (IsPrefix taken) (says ∙ sym (ap (λ (r : Report). text_of r) (same_report budget left file given more read is))) begins)
     (given_most left file given read)
     (λ some. read_all left file given read)
     (λ early. absurd (elim early [ inl e ↦ (cc) | inr e ↦ (cc) ]))
 
 -- the line was written
 pub answered : (budget : ℕ) (given : List ℕ) (left : Option (List ℕ)) (file taken : List ℕ) (status : Status)
-    → IsFile left file given → taken ≡ (report_of_file budget file).text → status ≡ (report_of_file budget file).status
-    → TellsReport (report_of_file budget) given left taken status × ExecutesInOrder given left taken status
+    → IsFile left file given → taken ≡ (text_of (exec_report budget file)) → status ≡ (exec_report budget file).status
+    → MatchesReport (exec_report budget) given left taken status × ExecutesInOrder given left taken status
 answered budget given left file taken status read text_is status_is = (
   record {
     front = λ more is. ([], text more is ∙ sym (append-nil taken));
@@ -134,17 +134,17 @@ answered budget given left file taken status read text_is status_is = (
       | inr short ↦ let done : status ≡ Done = status_is ∙ ap (λ (r : Report). r.status) (fits budget file short) in elim early [ inl e ↦ (cc) | inr e ↦ (cc) ]
     ]
 
-    report : (more : List ℕ) → left ≡ Some more → report_of_file budget (given ++ more) ≡ report_of_file budget file
+    report : (more : List ℕ) → left ≡ Some more → exec_report budget (given ++ more) ≡ exec_report budget file
     report more is = same_report budget left file given more read is
 
-    text : (more : List ℕ) → left ≡ Some more → (report_of_file budget (given ++ more)).text ≡ taken
-    text more is = ap (λ (r : Report). r.text) (report more is) ∙ sym text_is
+    text : (more : List ℕ) → left ≡ Some more → (text_of (exec_report budget (given ++ more))) ≡ taken
+    text more is = ap (λ (r : Report). text_of r) (report more is) ∙ sym text_is
 
 -- the parts of a report
 pub extra_report : (budget : ℕ) (file line : List ℕ) (status : Status) → file_limit < length file → line ≡ extra_line file_limit → status ≡ ExtraInput
-    → (line ≡ (report_of_file budget file).text) × (status ≡ (report_of_file budget file).status)
+    → (line ≡ (text_of (exec_report budget file))) × (status ≡ (exec_report budget file).status)
 extra_report budget file line status long line_is status_is = rw (too_long budget file long) (line_is, status_is)
 
 pub done_report : (budget : ℕ) (file line : List ℕ) (status : Status) → length file ≤ file_limit → line ≡ execution_line (execution budget file) → status ≡ Done
-    → (line ≡ (report_of_file budget file).text) × (status ≡ (report_of_file budget file).status)
+    → (line ≡ (text_of (exec_report budget file))) × (status ≡ (exec_report budget file).status)
 done_report budget file line status short line_is status_is = rw (fits budget file short) (line_is, status_is)

@@ -1,5 +1,4 @@
 pub mod ImportLemmas
-pub mod KeptLemmas
 pub mod Reading
 pub mod RunLemmas
 pub mod WordLemmas

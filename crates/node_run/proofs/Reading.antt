@@ -5,18 +5,18 @@ use Rattle.std.proofs.lemmas.Grind.{common_steps}
 use Rattle.std.specs.Int.{w32, from_le_bytes}
 use Rattle.std.specs.Io.KnownBytes.{IsAtEnd}
 use Rattle.report_defs.specs.Items.{IsItem, size_word}
-use Rattle.report_defs.specs.Report.{import_limits}
+use Rattle.report_defs.specs.Report.{item_limit, input_limit}
 use Rattle.report_defs.specs.declared.end.End.TheVariants.{AtEnd, Cut, BadSize, Extra}
 use Rattle.report_defs.proofs.ItemLemmas.{size_word-append, end_at-nothing, end_at-few, end_at-bad_size, end_at-extra, end_at-front}
 use Rattle.node_run.specs.Items.{HoldsOneAtMost, IsItemAt, EndsAt}
 
-pub item_limit : import_limits.item ≡ 1048576
-unfolding import_limits
-item_limit = refl
+pub item_limit-is : item_limit ≡ 1048576
+unfolding item_limit
+item_limit-is = refl
 
-pub input_limit : import_limits.input ≡ 1099511627776
-unfolding import_limits
-input_limit = refl
+pub input_limit-is : input_limit ≡ 1099511627776
+unfolding input_limit
+input_limit-is = refl
 
 nil_of_length : (xs : List ℕ) → length xs ≡ 0 → xs ≡ []
 nil_of_length xs none = grind (arith, common_steps)
@@ -37,7 +37,7 @@ few_hold_none given few item more is_item e =
     absurd (omega (arith, is_item.least, ap length e, length-append item more))
 
 -- an item at the front has the size that the bytes say
-front_size : (given item more : List ℕ) → IsItem import_limits item → given ≡ item ++ more → size_word given ≡ length item
+front_size : (given item more : List ℕ) → IsItem item_limit item → given ≡ item ++ more → size_word given ≡ length item
 front_size given item more is_item e = ap size_word e ∙ size_word-append item more is_item.least ∙ is_item.size
 
 pub no_more_than_one : (given : List ℕ) → length given ≤ size_word given → HoldsOneAtMost given
@@ -45,7 +45,7 @@ no_more_than_one given short item more is_item e =
     let size = front_size given item more is_item e in
     nil_of_length more (omega (arith, size, short, ap length e, length-append item more))
 
-pub bad_size_holds_none : (given : List ℕ) → (size_word given < 4) ⊎ (import_limits.item < size_word given) → HoldsOneAtMost given
+pub bad_size_holds_none : (given : List ℕ) → (size_word given < 4) ⊎ (item_limit < size_word given) → HoldsOneAtMost given
 bad_size_holds_none given (inl small) item more is_item e =
     let size = front_size given item more is_item e in absurd (omega (arith, size, small, is_item.least))
 bad_size_holds_none given (inr large) item more is_item e =
@@ -60,7 +60,7 @@ left_nothing (Some xs) more at_end is = let same : xs ≡ more = cc in sym same 
 
 pub ends_at_end : (offset : ℕ) (left : Option (List ℕ)) → IsAtEnd left → EndsAt offset left AtEnd []
 ends_at_end offset left at_end = record {
-  ends = λ more is. rw (left_nothing left more at_end is) (end_at-nothing import_limits offset);
+  ends = λ more is. rw (left_nothing left more at_end is) (end_at-nothing (Some item_limit) (Some input_limit) offset);
   one = few_hold_none [] (omega arith);
   nothing = λ _. refl;
   to_end = λ _. at_end;
@@ -73,7 +73,7 @@ all_given given left more at_end is = ap (λ xs. given ++ xs) (left_nothing left
 pub ends_few : (offset : ℕ) (given : List ℕ) (left : Option (List ℕ)) → 0 < length given → length given < 4 → IsAtEnd left
     → EndsAt offset left Cut given
 ends_few offset given left some few at_end = record {
-  ends = λ more is. rw (all_given given left more at_end is) (end_at-few import_limits offset given some few);
+  ends = λ more is. rw (all_given given left more at_end is) (end_at-few item_limit (Some input_limit) offset given some few);
   one = few_hold_none given few;
   nothing = λ e. cc;
   to_end = λ _. at_end;
@@ -81,33 +81,33 @@ ends_few offset given left some few at_end = record {
 
 -- a size word alone
 pub ends_bad_size : (offset : ℕ) (word : List ℕ) (left : Option (List ℕ)) → length word ≡ 4
-    → (size_word word < 4) ⊎ (import_limits.item < size_word word) → EndsAt offset left BadSize word
+    → (size_word word < 4) ⊎ (item_limit < size_word word) → EndsAt offset left BadSize word
 ends_bad_size offset word left four bad = record {
   ends = λ more is.
       let size : size_word (word ++ more) ≡ size_word word = size_word-append word more (omega arith) in
-      end_at-bad_size import_limits offset (word ++ more) (omega (arith, length-append word more)) (rw size bad);
+      end_at-bad_size item_limit (Some input_limit) offset (word ++ more) (omega (arith, length-append word more)) (rw size bad);
   one = bad_size_holds_none word bad;
   nothing = λ e. cc;
   to_end = λ e. cc;
 }
 
 pub ends_extra : (offset : ℕ) (word : List ℕ) (left : Option (List ℕ)) → length word ≡ 4
-    → 4 ≤ size_word word → size_word word ≤ import_limits.item → import_limits.input < offset + size_word word
+    → 4 ≤ size_word word → size_word word ≤ item_limit → input_limit < offset + size_word word
     → EndsAt offset left Extra word
 ends_extra offset word left four least most past = record {
   ends = λ more is.
       let size : size_word (word ++ more) ≡ size_word word = size_word-append word more (omega arith) in
-      end_at-extra import_limits offset (word ++ more) (omega (arith, length-append word more)) (rw size least) (rw size most) (rw size past);
+      end_at-extra item_limit input_limit offset (word ++ more) (omega (arith, length-append word more)) (rw size least) (rw size most) (rw size past);
   one = no_more_than_one word (omega arith);
   nothing = λ e. cc;
   to_end = λ e. cc;
 }
 
 pub ends_front : (offset : ℕ) (given : List ℕ) (left : Option (List ℕ)) → 4 ≤ length given
-    → 4 ≤ size_word given → size_word given ≤ import_limits.item → offset + size_word given ≤ import_limits.input
+    → 4 ≤ size_word given → size_word given ≤ item_limit → offset + size_word given ≤ input_limit
     → length given < size_word given → IsAtEnd left → EndsAt offset left Cut given
 ends_front offset given left long least most within short at_end = record {
-  ends = λ more is. rw (all_given given left more at_end is) (end_at-front import_limits offset given long least most within short);
+  ends = λ more is. rw (all_given given left more at_end is) (end_at-front item_limit input_limit offset given long least most within short);
   one = no_more_than_one given (omega arith);
   nothing = λ e. cc;
   to_end = λ _. at_end;
@@ -130,7 +130,7 @@ pub length_read : (n : ℕ) (item : List ℕ) → n + 4 ≤ length item → leng
 length_read n item fits = length-take-le n (drop 4 item) (omega (arith, length-drop 4 item))
 
 pub ends_in_item : (offset size n : ℕ) (word item : List ℕ) (left : Option (List ℕ)) → length word ≡ 4 → from_le_bytes w32 word ≡ size
-    → 4 ≤ size → size ≤ import_limits.item → offset + size ≤ import_limits.input → length item ≡ size → n + 4 < size → IsAtEnd left
+    → 4 ≤ size → size ≤ item_limit → offset + size ≤ input_limit → length item ≡ size → n + 4 < size → IsAtEnd left
     → EndsAt offset left Cut (word ++ take n (drop 4 item))
 ends_in_item offset size n word item left four is least most within long short at_end =
     let given = word ++ take n (drop 4 item) in
@@ -143,7 +143,7 @@ unfolding size_word
 word_of_front item word front = ap (from_le_bytes w32) front
 
 pub read_whole : (offset size n : ℕ) (word item : List ℕ) → length word ≡ 4 → from_le_bytes w32 word ≡ size
-    → 4 ≤ size → size ≤ import_limits.item → offset + size ≤ import_limits.input → length item ≡ size → take 4 item ≡ word → n + 4 ≡ size
+    → 4 ≤ size → size ≤ item_limit → offset + size ≤ input_limit → length item ≡ size → take 4 item ≡ word → n + 4 ≡ size
     → IsItemAt offset item (word ++ take n (drop 4 item))
 read_whole offset size n word item four is least most within long front all =
     let rest : take n (drop 4 item) ≡ drop 4 item = take_whole n (drop 4 item) (omega (arith, length-drop 4 item)) in
@@ -164,5 +164,5 @@ pub written_whole : (n : ℕ) (new old : List ℕ) → length new ≡ n → take
 written_whole n new old e = grind (arith, common_steps)
 
 -- an item holds no other behind it
-pub one_item : (item : List ℕ) → IsItem import_limits item → HoldsOneAtMost item
+pub one_item : (item : List ℕ) → IsItem item_limit item → HoldsOneAtMost item
 one_item item is_item = no_more_than_one item (omega (arith, is_item.size))

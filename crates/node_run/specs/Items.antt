@@ -3,7 +3,7 @@ use Rattle.std.specs.Prelude.{◌≡◌, ℕ, ◌+◌, ◌≤◌, List, [], ◌+
 use Rattle.std.specs.Io.KnownBytes.{IsAtEnd}
 use Rattle.outside.specs.Streams.{Gives}
 use Rattle.report_defs.specs.Items.{IsItem, end_at}
-use Rattle.report_defs.specs.Report.{import_limits}
+use Rattle.report_defs.specs.Report.{item_limit, input_limit}
 use Rattle.report_defs.specs.declared.end.End.{End}
 use Rattle.report_defs.specs.declared.end.End.TheVariants.{AtEnd}
 use Rattle.report_defs.specs.declared.status.Status.{Status}
@@ -17,22 +17,22 @@ Gave left_old left_new P = (given : List ℕ) × Gives left_old left_new given �
 
 -- the bytes hold one item at most: no byte follows one that stands at their front
 abbrev pub HoldsOneAtMost : List ℕ → Type 0
-HoldsOneAtMost given = (item more : List ℕ) → IsItem import_limits item → given ≡ item ++ more → more ≡ []
+HoldsOneAtMost given = (item more : List ℕ) → IsItem item_limit item → given ≡ item ++ more → more ≡ []
 
 -- the bytes are an item, within the limit of the input
 pub record IsItemAt (offset : ℕ) (item given : List ℕ) : Type 0 where
   pub same : given ≡ item
-  pub is_item : IsItem import_limits item
-  pub within : offset + length item ≤ import_limits.input
+  pub is_item : IsItem item_limit item
+  pub within : offset + length item ≤ input_limit
 
 -- the reading ends at this offset, whatever is left behind the bytes that were given there
 pub record EndsAt (offset : ℕ) (left : Option (List ℕ)) (end : End) (given : List ℕ) : Type 0 where
-  pub ends : (more : List ℕ) → left ≡ Some more → end_at import_limits offset (given ++ more) ≡ Some end
+  pub ends : (more : List ℕ) → left ≡ Some more → end_at (Some item_limit) (Some input_limit) offset (given ++ more) ≡ Some end
   pub one : HoldsOneAtMost given
   pub nothing : end ≡ AtEnd → given ≡ []
   pub to_end : end ≡ AtEnd → IsAtEnd left
 
--- what stops reading, writing, or both: a fault or want of memory
+-- what stops reading, writing, or both: a fault, or missing memory
 abbrev pub IsReadingStop : Status → Type 0
 IsReadingStop InputFault = Unit {0}
 IsReadingStop NoMemory = Unit {0}

@@ -3,7 +3,7 @@ use Rattle.std.specs.Prelude.{ℕ, ◌^◌, ◌≤◌, ◌==◌, nat_lt, ◌&&�
 use Rattle.report_defs.specs.declared.command.Command.{Command}
 use Rattle.report_defs.specs.declared.command.Command.TheVariants.{Import, Exec}
 
--- a budget is at most 2^40 cycles
+-- a budget is within its limit
 abbrev pub IsWithinLimit : Command → Type 0
 IsWithinLimit Import = Unit {0}
 IsWithinLimit (Exec budget) = budget ≤ 2 ^ 40

@@ -1,10 +1,11 @@
 // The command `exec`: the program of a file, run to its end.
 ghost use Rattle.std.specs.Prelude.{◌≡◌, ◌^◌, ◌≤◌, string_bytes, Err, IfOk, MatchResult};
 ghost use Rattle.outside.specs.Causes.{CountsFault};
-ghost use Rattle.report_defs.specs.Report.{report_of_file};
-ghost use Rattle.report_defs.specs.Promise.{TellsReport, ExecutesInOrder, IsExecStatus};
+ghost use Rattle.report_defs.specs.Report.{text_of, exec_report};
+ghost use Rattle.report_defs.specs.Status.{IsOneOf};
+ghost use Rattle.report_defs.specs.Promise.{MatchesReport, ExecutesInOrder, exec_statuses};
 ghost use Rattle.node_run.specs.Items.{Gave};
-ghost use Rattle.node_run.specs.Import.{Passed};
+ghost use Rattle.node_run.specs.Import.{Transfers};
 ghost use Rattle.node_run.specs.Exec.{IsFile, IsUnread};
 
 use crate::lines::{execution_line, extra_line};
@@ -45,8 +46,8 @@ fn read_file<S: Source>(alloc: Global, input: &mut S) -> Result<Vec<u8>, Status>
 /// Runs a file, unless it is too long.
 fn answer_to(alloc: Global, file: &[u8], budget: u64) -> Result<Answer, NoMemory>
     requires { budget ≤ 2 ^ 40 }
-    ensures line { IfOk result (λ answer. string_bytes answer.line ≡ (report_of_file budget file.now).text) }
-    ensures status { IfOk result (λ answer. answer.status ≡ (report_of_file budget file.now).status) }
+    ensures line { IfOk result (λ answer. string_bytes answer.line ≡ text_of (exec_report budget file.now)) }
+    ensures status { IfOk result (λ answer. answer.status ≡ (exec_report budget file.now).status) }
 {
     if file.len() > FILE_LIMIT {
         let line = extra_line(alloc, FILE_LIMIT as u64)?;
@@ -66,9 +67,9 @@ fn answer_to(alloc: Global, file: &[u8], budget: u64) -> Result<Answer, NoMemory
 /// Runs the program that the input holds, within a budget in cycles.
 pub fn exec<S: Source, K: Sink>(alloc: Global, input: &mut S, out: &mut K, budget: u64) -> Status
     requires { budget ≤ 2 ^ 40 }
-    ensures text { Passed (S.left input.old) (S.left input.new) (K.taken out.old) (K.taken out.new)
-        (λ given taken. TellsReport (report_of_file budget) given (S.left input.new) taken result × ExecutesInOrder given (S.left input.new) taken result) }
-    ensures status { IsExecStatus result }
+    ensures text { Transfers (S.left input.old) (S.left input.new) (K.taken out.old) (K.taken out.new)
+        (λ given taken. MatchesReport (exec_report budget) given (S.left input.new) taken result × ExecutesInOrder given (S.left input.new) taken result) }
+    ensures status { IsOneOf exec_statuses result }
     ensures input_faults { CountsFault (S.faults input.old) (S.faults input.new) (result ≡ Status.InputFault) }
     ensures out_faults { CountsFault (K.faults out.old) (K.faults out.new) (result ≡ Status.SinkFault) }
 {

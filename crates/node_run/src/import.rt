@@ -1,18 +1,16 @@
 // The command `import`: a genesis and blocks, each answered by a line.
 ghost use Rattle.std.specs.Prelude.{◌≡◌, ◌↔◌, ◌≤◌, Err, IsTrue};
 ghost use Rattle.outside.specs.Causes.{CountsFault};
-ghost use Rattle.rule_defs.specs.Verdict as rules;
-ghost use Rattle.report_defs.specs.Text.{line};
-ghost use Rattle.report_defs.specs.Report.{import_limits, report_of_input};
-ghost use Rattle.node_run.specs.Import.{tip_line_of_kept};
-ghost use Rattle.report_defs.specs.Promise.{TellsReport, ImportsInOrder, IsImportStatus};
+ghost use Rattle.report_defs.specs.Report.{input_limit, import_report};
+ghost use Rattle.report_defs.specs.Status.{IsOneOf};
+ghost use Rattle.report_defs.specs.Promise.{MatchesReport, ImportsInOrder, import_statuses};
 ghost use Rattle.node_run.specs.Items.{Gave};
-ghost use Rattle.node_run.specs.Import.{Took, Passed, IsGenesis, IsWritten, IsJudged, AreImported};
+ghost use Rattle.node_run.specs.Import.{Took, Transfers, IsGenesis, IsWritten, IsJudged, AreImported, line_over, tip_line_over};
 
 use crate::items::{Next, next_item};
-use crate::kept::{GenesisError, Kept};
 use crate::lines::{tip_line, verdict_line};
 use crate::output::write_text;
+use node_core::{GenesisError, Kept};
 use outside::{Sink, Source};
 use report_defs::{End, Status};
 use rule_defs::Verdict;
@@ -51,7 +49,7 @@ fn import_item<K: Sink>(
     item: Vec<u8>,
 ) -> Result<Verdict, Status>
     ensures judged { IsJudged kept.old kept.new item.items result }
-    ensures written { Took (K.taken out.old) (K.taken out.new) (IsWritten (line (rules.verdict kept.old item.items)) result) }
+    ensures written { Took (K.taken out.old) (K.taken out.new) (IsWritten (line_over kept.old item.items) result) }
     ensures faults { CountsFault (K.faults out.old) (K.faults out.new) (result ≡ Err Status.SinkFault) }
 {
     let verdict = match kept.import(item) {
@@ -76,8 +74,8 @@ fn import_items<S: Source, K: Sink>(
     kept: &mut Kept,
     start: u64,
 ) -> Result<Ended, Status>
-    requires { start ≤ import_limits.input }
-    ensures imported { Passed (S.left input.old) (S.left input.new) (K.taken out.old) (K.taken out.new)
+    requires { start ≤ input_limit }
+    ensures imported { Transfers (S.left input.old) (S.left input.new) (K.taken out.old) (K.taken out.new)
         (AreImported kept.old kept.new start (S.left input.new) result) }
     ensures input_faults { CountsFault (S.faults input.old) (S.faults input.new) (result ≡ Err Status.InputFault) }
     ensures out_faults { CountsFault (K.faults out.old) (K.faults out.new) (result ≡ Err Status.SinkFault) }
@@ -102,7 +100,7 @@ fn import_items<S: Source, K: Sink>(
 
 /// Writes the line of the tip.
 fn write_tip<K: Sink>(alloc: Global, out: &mut K, kept: &Kept) -> Result<(), Status>
-    ensures tip { Took (K.taken out.old) (K.taken out.new) (IsWritten (tip_line_of_kept kept.now) result) }
+    ensures tip { Took (K.taken out.old) (K.taken out.new) (IsWritten (tip_line_over kept.now) result) }
     ensures faults { CountsFault (K.faults out.old) (K.faults out.new) (result ≡ Err Status.SinkFault) }
 {
     let tip = kept.tip();
@@ -127,9 +125,9 @@ fn is_between_items(end: End) -> bool
 
 /// Imports what the input holds.
 pub fn import<S: Source, K: Sink>(alloc: Global, input: &mut S, out: &mut K) -> Status
-    ensures text { Passed (S.left input.old) (S.left input.new) (K.taken out.old) (K.taken out.new)
-        (λ given taken. TellsReport report_of_input given (S.left input.new) taken result × ImportsInOrder given (S.left input.new) taken result) }
-    ensures status { IsImportStatus result }
+    ensures text { Transfers (S.left input.old) (S.left input.new) (K.taken out.old) (K.taken out.new)
+        (λ given taken. MatchesReport import_report given (S.left input.new) taken result × ImportsInOrder given (S.left input.new) taken result) }
+    ensures status { IsOneOf import_statuses result }
     ensures input_faults { CountsFault (S.faults input.old) (S.faults input.new) (result ≡ Status.InputFault) }
     ensures out_faults { CountsFault (K.faults out.old) (K.faults out.new) (result ≡ Status.SinkFault) }
 {

@@ -4,7 +4,7 @@ ghost use Rattle.std.specs.Int.{w32, from_le_bytes};
 ghost use Rattle.std.specs.Io.KnownBytes.{IsAtEnd};
 ghost use Rattle.outside.specs.Causes.{HasCause, CountsFault};
 ghost use Rattle.outside.specs.Streams.{Gives};
-ghost use Rattle.report_defs.specs.Report.{import_limits};
+ghost use Rattle.report_defs.specs.Report.{item_limit, input_limit};
 ghost use Rattle.node_run.specs.Items.{Gave, IsNext};
 
 use outside::{Failed, Source, read_full};
@@ -26,7 +26,7 @@ pub enum Next {
 
 /// Reads the next item, which stands at this offset. The status is `InputFault` or `NoMemory`.
 pub fn next_item<S: Source>(alloc: Global, input: &mut S, offset: u64) -> Result<Next, Status>
-    requires { offset ≤ import_limits.input }
+    requires { offset ≤ input_limit }
     ensures next { Gave (S.left input.old) (S.left input.new) (IsNext offset (S.left input.new) result) }
     ensures faults { CountsFault (S.faults input.old) (S.faults input.new) (result ≡ Err Status.InputFault) }
 {
@@ -51,7 +51,7 @@ fn item_of_word<S: Source>(
     offset: u64,
     word: &[u8; 4],
 ) -> Result<Next, Status>
-    requires { offset ≤ import_limits.input }
+    requires { offset ≤ input_limit }
     ensures next { Gave (S.left input.old) (S.left input.new) (λ given. IsNext offset (S.left input.new) result (word.now ++ given)) }
     ensures faults { CountsFault (S.faults input.old) (S.faults input.new) (result ≡ Err Status.InputFault) }
 {
@@ -72,8 +72,8 @@ fn item_of_size<S: Source>(
 ) -> Result<Next, Status>
     requires word { from_le_bytes w32 word.now ≡ size }
     requires least { 4 ≤ size }
-    requires most { size ≤ import_limits.item }
-    requires within { offset ≤ import_limits.input }
+    requires most { size ≤ item_limit }
+    requires within { offset ≤ input_limit }
     ensures next { Gave (S.left input.old) (S.left input.new) (λ given. IsNext offset (S.left input.new) result (word.now ++ given)) }
     ensures faults { CountsFault (S.faults input.old) (S.faults input.new) (result ≡ Err Status.InputFault) }
 {

@@ -8,11 +8,9 @@
 mod exec;
 mod import;
 mod items;
-mod kept;
 mod lines;
 mod output;
 mod program;
-mod summary;
 #[cfg(test)]
 mod tests;
 mod top;

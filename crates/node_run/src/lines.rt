@@ -68,6 +68,7 @@ pub fn verdict_line(alloc: Global, verdict: &Verdict) -> Result<String, AllocErr
         Verdict::Known(hash) => known_line(alloc, hash),
         Verdict::Refused(rule) => refused_line(alloc, *rule),
         Verdict::Unbuilt => String::from_str(alloc, "unbuilt\n"),
+        Verdict::Full => String::from_str(alloc, "full\n"),
     }
 }
 

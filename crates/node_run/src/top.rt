@@ -3,8 +3,9 @@ ghost use Rattle.std.specs.Prelude.{◌≡◌, ◌↔◌, None, Some, map, strin
 ghost use Rattle.outside.specs.Causes.{CountsFault};
 ghost use Rattle.report_defs.specs.Words as grammar;
 ghost use Rattle.report_defs.specs.Report.{report};
-ghost use Rattle.report_defs.specs.Promise.{TellsReport, KeepsOrder, IsRunStatus};
-ghost use Rattle.node_run.specs.Import.{Passed};
+ghost use Rattle.report_defs.specs.Status.{IsOneOf};
+ghost use Rattle.report_defs.specs.Promise.{MatchesReport, KeepsOrder, statuses_of};
+ghost use Rattle.node_run.specs.Import.{Transfers};
 
 use crate::exec::exec;
 use crate::import::import;
@@ -27,20 +28,20 @@ pub fn run<S: Source, K: Sink, D: Disk, L: Ledger>(
 ) -> Status
     // What the sink took is the report's text, as far as it was written, and the status is the report's where nothing
     // stopped the run. `import` answers each item before a byte of the next is read, `exec` reads the file before it writes.
-    ensures text { Passed (S.left input.old) (S.left input.new) (K.taken out.old) (K.taken out.new)
-        (λ given taken. TellsReport (report (map string_bytes words.now)) given (S.left input.new) taken result
+    ensures text { Transfers (S.left input.old) (S.left input.new) (K.taken out.old) (K.taken out.new)
+        (λ given taken. MatchesReport (λ whole. report (map string_bytes words.now) whole None) given (S.left input.new) taken result
         × KeepsOrder (grammar.command_of (map string_bytes words.now)) given (S.left input.new) taken result) }
 
     // The words alone decide on `BadWords`, and with them nothing is read and nothing written.
     ensures words { (result ≡ Status.BadWords) ↔ (grammar.command_of (map string_bytes words.now) ≡ None) }
     ensures silent { result ≡ Status.BadWords → (input.new ≡ input.old) × (out.new ≡ out.old) }
 
-    // A fault is answered where its count rose, and the count stands still with every other answer.
+    // A fault is answered where its count rose, and the count is unchanged with every other answer.
     ensures input_faults { CountsFault (S.faults input.old) (S.faults input.new) (result ≡ Status.InputFault) }
     ensures out_faults { CountsFault (K.faults out.old) (K.faults out.new) (result ≡ Status.SinkFault) }
 
     // No other status comes than those of the command.
-    ensures status { IsRunStatus (grammar.command_of (map string_bytes words.now)) result }
+    ensures status { IsOneOf (statuses_of (grammar.command_of (map string_bytes words.now))) result }
 
     // The disk is not called, and no step is counted.
     ensures disk { disk.new ≡ disk.old }

@@ -48,6 +48,7 @@ fn command_alone(name: &[u8]) -> Option<Command>
 }
 
 /// The command of this name that takes one argument.
+#[tactic(auto, unfolding(report_defs::specs::Words::budget_limit))]
 fn command_with(name: &[u8], argument: &str) -> Option<Command>
     ensures command { result ≡ grammar.command_named (name.now ∷ argument.now ∷ []) }
     ensures within { IfSome result IsWithinLimit }
@@ -55,15 +56,14 @@ fn command_with(name: &[u8], argument: &str) -> Option<Command>
     if name != b"exec".as_slice() {
         return None;
     }
-    let budget = budget_of(argument)?;
+    let budget = number_up_to(BUDGET_LIMIT, argument)?;
     Some(Command::Exec { budget })
 }
 
-/// The budget that a word spells.
-fn budget_of(word: &str) -> Option<u64>
-    ensures budget { result ≡ grammar.budget_of word.now }
-    ensures spelled { (number : ℕ) → (result ≡ Some number) ↔ ((word.now ≡ decimal number) × (number ≤ 2 ^ 40)) }
-    ensures within { IfSome result (λ number. number ≤ 2 ^ 40) }
+/// The number that a word spells, if it is within the limit.
+fn number_up_to(limit: u64, word: &str) -> Option<u64>
+    ensures number { result ≡ grammar.number_up_to limit word.now }
+    ensures within { IfSome result (λ number. number ≤ limit) }
 {
     if is_padded(word.as_bytes()) {
         return None;
@@ -72,7 +72,7 @@ fn budget_of(word: &str) -> Option<u64>
         Ok(number) => number,
         Err(_) => return None,
     };
-    if number > BUDGET_LIMIT {
+    if number > limit {
         return None;
     }
     Some(number)

@@ -26,13 +26,13 @@ pub takes_more : (a b c : Option (List ℕ)) (xs ys : List ℕ) → Takes a b xs
 takes_more None b c xs ys first second = second ∙ ap (λ known. append_known known ys) first
 takes_more (Some taken) b c xs ys first second = second ∙ ap (λ known. append_known known ys) first ∙ ap Some (append_assoc taken xs ys)
 
--- what a loop of reads keeps: the first n bytes of `into` were given, and the count of faults stands still
+-- what a loop of reads keeps: the first n bytes of `into` were given, and the count of faults is unchanged
 pub record HasGiven (left_old left_new : Option (List ℕ)) (faults_old faults_new n : ℕ) (into : List ℕ) : Type 0 where
   pub within : n ≤ length into
   pub gives : Gives left_old left_new (take n into)
   pub calm : faults_new ≡ faults_old
 
--- what a loop of writes keeps: the first n bytes were taken, and the count of faults stands still
+-- what a loop of writes keeps: the first n bytes were taken, and the count of faults is unchanged
 pub record HasTaken (taken_old taken_new : Option (List ℕ)) (faults_old faults_new n : ℕ) (bytes : List ℕ) : Type 0 where
   pub within : n ≤ length bytes
   pub takes : Takes taken_old taken_new (take n bytes)

@@ -17,14 +17,14 @@ counted n = up_to_last (n + 1)
 abbrev pub Rose : ℕ → ℕ → Type 0
 Rose before now = counted before ≤ now
 
--- the count of faults never falls, an `Err` comes only where it rose, and at an `Ok` it stands still
+-- the count of faults never falls, an `Err` comes only where it rose, and at an `Ok` it is unchanged
 pub record HasCause {T E : Type 0} (before now : ℕ) (result : Result T E) : Type 0 where
   pub later : before ≤ now
   pub failed : IsErr result → Rose before now
   pub calm : IsOk result → now ≡ before
 
 -- what a call does to the count that stands for one of its answers: with that answer it rose, and
--- with every other it stands still
+-- with every other it is unchanged
 pub record CountsFault (before now : ℕ) (Fault : Type 0) : Type 0 where
   pub later : before ≤ now
   pub rose : Fault → Rose before now

@@ -1,5 +1,5 @@
 -- What the calls of a disk do to what it reads as, and to the images that a crash may leave.
-use Rattle.std.specs.Prelude.{◌≡◌, ◌⊎◌, ◌↔◌, ℕ, ◌+◌, ◌^◌, ◌≤◌, min, max, List, ◌++◌, length, take, drop}
+use Rattle.std.specs.Prelude.{◌≡◌, ◌⊎◌, ◌↔◌, ℕ, ◌+◌, ◌^◌, ◌≤◌, min, max, List, ◌++◌, length, take, drop, IfSome}
 use Rattle.std.specs.Option.{option_map}
 use Rattle.std.specs.declared.option.Option.{Option}
 use Rattle.outside.specs.declared.disk.Area.{Area}
@@ -17,10 +17,13 @@ write_area area at piece image = with_content area (written at piece (content ar
 abbrev pub cut_area : Area → ℕ → Image → Image
 cut_area area len image = with_content area (take len (content area image)) image
 
--- a write begins within the area or at its end, and ends within the areas' limit
-pub record CanWrite (area : Area) (at size : ℕ) (image : Image) : Type 0 where
-  pub within : at ≤ length (content area image)
-  pub limit : at + size ≤ 2 ^ 62
+-- a write ends within the limit of an area
+abbrev pub IsWithinLimit : ℕ → ℕ → Type 0
+IsWithinLimit at size = at + size ≤ 2 ^ 62
+
+-- a write begins within the area or at its end
+abbrev pub BeginsWithin : Area → ℕ → Image → Type 0
+BeginsWithin area at image = at ≤ length (content area image)
 
 -- A write of `size` bytes that no sync has followed: any bytes in its range, any length between the old end and the new,
 -- and all else as it was.
@@ -35,9 +38,13 @@ pub record Cut (len : ℕ) (old new : List ℕ) : Type 0 where
   pub no_shorter : min (length old) len ≤ length new
   pub prefix : new ≡ take (length new) old
 
+-- an image that one of these becomes by this step
+abbrev pub ComesBy : (Image → Image → Type 0) → (Image → Type 0) → Image → Type 0
+ComesBy step images image = (before : Image) × images before × step before image
+
 -- each new image is an old image after this step
 abbrev pub Follows : (Image → Image → Type 0) → (Image → Type 0) → (Image → Type 0) → Type 0
-Follows step old new = (image : Image) → new image → (before : Image) × old before × step before image
+Follows step old new = (image : Image) → new image → ComesBy step old image
 
 -- a crash may leave the same images
 abbrev pub SameImages : (Image → Type 0) → (Image → Type 0) → Type 0
@@ -50,6 +57,14 @@ NoneNew old new = (image : Image) → new image → old image
 -- a crash leaves this area as it reads in this image
 abbrev pub IsDurable : Area → (Image → Type 0) → Image → Type 0
 IsDurable area images now = (image : Image) → images image → content area image ≡ content area now
+
+-- a crash leaves what the disk reads as and nothing else
+abbrev pub HasOneImage : Option Image → (Image → Type 0) → Type 0
+HasOneImage reads images = IfSome reads (λ now. (image : Image) → images image → image ≡ now)
+
+-- a step that leaves the bytes of this area as they were
+abbrev pub AreaKept : Area → Image → Image → Type 0
+AreaKept area old new = content area new ≡ content area old
 
 -- whether the disk tells what it reads as is the same, and no other area reads otherwise
 abbrev pub OthersRead : Area → Option Image → Option Image → Type 0
@@ -67,3 +82,10 @@ pub record LeavesOnly {D : Type 0} (moment : D → ℕ) (left_since : D → ℕ 
   pub each : (image : Image) → left_since new (moment old) image → P image
   -- for a run that began earlier
   pub before : (t : ℕ) (image : Image) → t ≤ moment old → left_since new t image → left_since old t image ⊎ P image
+
+-- The disk reads as it did, a crash now may leave what it might have left before, and a crash at any moment since
+-- old leaves an image of old.
+pub record IsAsBefore {D : Type 0} (reads_as : D → Option Image) (may_leave : D → Image → Type 0) (moment : D → ℕ) (left_since : D → ℕ → Image → Type 0) (old new : D) : Type 0 where
+  pub reads : reads_as new ≡ reads_as old
+  pub images : SameImages (may_leave old) (may_leave new)
+  pub moments : LeavesOnly moment left_since old new (may_leave old)

@@ -29,7 +29,7 @@ pub record Reading : Type 0 where
   pub left : List ℕ
   pub plan : Plan
 
--- a `MemSink`: the bytes taken, and how many calls failed for want of memory
+-- a `MemSink`: the bytes taken, and how many calls ran out of memory
 pub record Writing : Type 0 where
   pub taken : List ℕ
   pub plan : Plan
@@ -38,6 +38,6 @@ pub record Writing : Type 0 where
 abbrev pub reading_faults : Reading → ℕ
 reading_faults source = up_to_last source.plan.failed
 
--- want of memory is a part of the count of faults
+-- calls that ran out of memory are a part of the count of faults
 abbrev pub writing_faults : Writing → ℕ
 writing_faults sink = up_to_last (sink.plan.failed + sink.starved)

@@ -3,7 +3,7 @@ ghost use Rattle.std.specs.Prelude.{◌≡◌, ◌-◌, ◌^◌, ◌≤◌, ◌�
 ghost use Rattle.std.specs.Option.{option_map};
 ghost use Rattle.outside.specs.Causes.{HasCause};
 ghost use Rattle.outside.specs.Image.{Image, content, InArea};
-ghost use Rattle.outside.specs.Disk.{write_area, cut_area, CanWrite, Torn, Cut, Follows, SameImages, NoneNew, IsDurable, OthersRead, Elapses};
+ghost use Rattle.outside.specs.Disk.{write_area, cut_area, IsWithinLimit, BeginsWithin, Torn, Cut, Follows, SameImages, NoneNew, IsDurable, OthersRead, Elapses};
 
 use crate::Failed;
 
@@ -76,7 +76,8 @@ pub trait Disk {
     /// Writes over what is there, and past the end. Until a sync a crash may leave any bytes in the range.
     /// After `Failed` the area reads as in one of the images that the call may leave.
     fn write(&mut self, area: Area, at: u64, piece: &[u8]) -> Result<(), Failed>
-        requires { IfSome (reads_as self.old) (CanWrite area at (length piece.now)) }
+        requires limit { IsWithinLimit at (length piece.now) }
+        requires within { IfSome (reads_as self.old) (BeginsWithin area at) }
         ensures written { OnOk result (reads_as self.new ≡ option_map (write_area area at piece.now) (reads_as self.old)) }
         ensures others { OnErr result (OthersRead area (reads_as self.old) (reads_as self.new)) }
         ensures images { Follows (InArea area (Torn at (length piece.now))) (images self.old) (images self.new) }

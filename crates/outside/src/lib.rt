@@ -8,7 +8,10 @@
 #![tactic(auto)]
 
 mod disk;
+mod durable;
+mod failure_plan;
 mod fault;
+mod laws;
 mod memory;
 mod no_disk;
 mod steps;
@@ -17,7 +20,9 @@ mod stream;
 mod tests;
 
 pub use disk::{Area, Damage, Disk, ReadStop, WriteStop};
+pub use durable::write_durably;
 pub use fault::{Failed, NoMemory};
+pub use laws::disk_laws;
 pub use memory::{MemSink, MemSource};
 pub use no_disk::NoDisk;
 pub use steps::Steps;

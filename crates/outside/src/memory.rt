@@ -1,61 +1,14 @@
 // Streams in memory, which fail at the calls that they are told to.
-ghost use Rattle.std.specs.Prelude.{◌≡◌, ◌<◌, ◌≤◌, ◌||◌, ◌↔◌, ◌+◌, ◌++◌, ◌==◌, [], ℕ, List, Some, length, take, drop, min, is_ok, IsTrue, IsErr, IfOk, OnOk, OnErr, if◌then◌else◌};
-ghost use Rattle.std.specs.List.{list_any};
+ghost use Rattle.std.specs.Prelude.{◌≡◌, ◌<◌, ◌≤◌, ◌||◌, ◌↔◌, ◌+◌, ◌++◌, [], ℕ, List, Some, length, take, drop, min, is_ok, IsTrue, IsErr, IfOk, OnOk, OnErr, if◌then◌else◌};
 ghost use Rattle.std.specs.Io.KnownBytes.{IsAtEnd};
-ghost use Rattle.outside.specs.Causes.{counted, up_to_last, within_last, HasCause};
+ghost use Rattle.outside.specs.Causes.{counted, within_last, HasCause};
 ghost use Rattle.outside.specs.Streams.{Gives, Takes};
-ghost use Rattle.outside.specs.Memory.{Plan, Reading, Writing, fresh_plan, fails_next, after_call, reading_faults, writing_faults};
+ghost use Rattle.outside.specs.Memory.{Reading, Writing, fresh_plan, fails_next, after_call, reading_faults, writing_faults};
 
+use crate::failure_plan::FailurePlan;
 use crate::{Failed, Sink, Source};
 use std::alloc::Global;
 use std::marker::Model;
-
-/// Which calls fail. The numbers of calls and of failures stop at `u64::MAX`.
-#[derive(Drop)]
-struct FailurePlan {
-    failing: Vec<u64>,
-    calls: u64,
-    failed: u64,
-}
-
-impl Model for FailurePlan {
-    ghost Value = { Plan };
-
-    ghost view = { λ plan. record { failing = plan.failing.items; calls = plan.calls; failed = plan.failed } };
-}
-
-impl FailurePlan {
-    fn new(failing: Vec<u64>) -> FailurePlan
-        ensures { result ≡ fresh_plan failing.items }
-    {
-        FailurePlan {
-            failing,
-            calls: 0,
-            failed: 0,
-        }
-    }
-
-    /// Counts a call, which fails if its number is listed.
-    fn call(&mut self) -> Result<(), Failed>
-        ensures listed { IsErr result ↔ IsTrue (fails_next self.old) }
-        ensures counted { self.new ≡ after_call self.old }
-        ensures cause { HasCause (up_to_last self.old.failed) (up_to_last self.new.failed) result }
-    {
-        let fails = is_listed(&self.failing, self.calls);
-        self.calls = self.calls.saturating_add(1);
-        if fails {
-            self.failed = self.failed.saturating_add(1);
-            return Err(Failed);
-        }
-        Ok(())
-    }
-}
-
-fn is_listed(numbers: &[u64], number: u64) -> bool
-    ensures { result ≡ list_any (λ n. n == number) numbers.now }
-{
-    numbers.iter().any(|n| *n == number)
-}
 
 /// Gives the bytes of a `Vec`, and fails at the calls that it is told to.
 #[derive(Drop)]
@@ -146,7 +99,7 @@ impl MemSink {
         &self.taken
     }
 
-    /// How many of its calls failed for want of memory, up to `u64::MAX`. They count among its faults.
+    /// How many of its calls ran out of memory, up to `u64::MAX`. They count among its faults.
     pub fn starved(&self) -> u64
         ensures { result ≡ self.now.starved }
     {
@@ -162,7 +115,7 @@ impl Sink for MemSink {
     ghost last_fault = { λ sink. within_last (sink.plan.failed + sink.starved) };
 
     fn write(&mut self, piece: &[u8]) -> Result<usize, Failed>
-        // It fails exactly at the calls that are listed, or for want of memory, and otherwise takes all.
+        // It fails exactly at the calls that are listed, or out of memory, and otherwise takes all.
         ensures listed { IsTrue (fails_next self.old.plan) → IsErr result }
         ensures counted { self.new.plan ≡ after_call self.old.plan }
         ensures starved { self.new.starved

@@ -3,7 +3,7 @@ ghost use Rattle.std.specs.Prelude.{◌≡◌, ◌≤◌, ◌⊎◌, ℕ, List, 
 ghost use Rattle.std.specs.Option.{option_map};
 ghost use Rattle.outside.specs.Causes.{counted, up_to_last, within_last, HasCause};
 ghost use Rattle.outside.specs.Image.{Image, content, InArea};
-ghost use Rattle.outside.specs.Disk.{CanWrite, write_area, cut_area, Torn, Cut, Follows, SameImages, NoneNew, IsDurable, OthersRead, Elapses};
+ghost use Rattle.outside.specs.Disk.{IsWithinLimit, BeginsWithin, write_area, cut_area, Torn, Cut, Follows, SameImages, NoneNew, IsDurable, OthersRead, Elapses};
 
 use crate::{Area, Disk, Failed};
 use std::marker::Model;

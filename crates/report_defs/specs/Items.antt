@@ -1,32 +1,53 @@
--- How an input is cut into items. An item begins with its size as a little-endian u32, which counts itself.
-use Rattle.std.specs.Prelude.{◌≡◌, ℕ, zero, suc, ◌+◌, ◌≤◌, List, [], ◌∷◌, ◌++◌, length, take, drop, Option, Some, None, nat_lt, ◌==◌, ◌||◌, if◌then◌else◌}
-use Rattle.std.specs.List.{concat, AllByRecursion}
+-- How an input is cut into items. An item begins with its size as a little-endian u32, which counts itself
+-- (docs/FORMATS.md, "Items of an input").
+use Rattle.std.specs.Prelude.{◌≡◌, ◌↔◌, ℕ, zero, suc, ◌+◌, ◌≤◌, List, [], ◌∷◌, ◌++◌, length, take, drop, Option, Some, None, Bool, false, nat_lt, ◌==◌, ◌||◌, if◌then◌else◌}
+use Rattle.std.specs.List.{concat}
 use Rattle.std.specs.Int.{w32, from_le_bytes}
 use Rattle.report_defs.specs.declared.end.End.{End}
 use Rattle.report_defs.specs.declared.end.End.TheVariants.{AtEnd, Cut, BadSize, Extra}
 
--- the most bytes of an item and of the input
+-- What a command takes of its input.
 pub record Limits : Type 0 where
-  pub item : ℕ
-  pub input : ℕ
+  -- the most bytes of the item at a place, counted from 0, or that no item is taken there
+  pub item : ℕ → Option ℕ
+  -- the most bytes of all items, if there is a limit
+  pub input : Option ℕ
 
 -- what the first four bytes say
 unfoldable pub size_word : List ℕ → ℕ
 size_word bytes = from_le_bytes w32 (take 4 bytes)
 
-pub record IsItem (limits : Limits) (item : List ℕ) : Type 0 where
+pub record IsItem (limit : ℕ) (item : List ℕ) : Type 0 where
   pub size : size_word item ≡ length item
   pub least : 4 ≤ length item
-  pub most : length item ≤ limits.item
+  pub most : length item ≤ limit
 
--- How the reading ends at an offset where these bytes are left: by the first of these that holds. None
--- where a whole item stands there.
-unfoldable pub end_at : Limits → ℕ → List ℕ → Option End
-end_at limits offset bytes =
+abbrev pub IsTaken : Option ℕ → List ℕ → Type 0
+IsTaken None item = ⊥
+IsTaken (Some limit) item = IsItem limit item
+
+-- items that are taken from a place on
+abbrev pub AreItems : Limits → ℕ → List (List ℕ) → Type 0
+AreItems limits place [] = Unit {0}
+AreItems limits place (item ∷ items) = IsTaken (limits.item place) item × AreItems limits (place + 1) items
+
+abbrev pub is_past : Option ℕ → ℕ → Bool
+is_past None offset = false
+is_past (Some limit) offset = nat_lt limit offset
+
+abbrev pub IsWithin : Option ℕ → ℕ → Type 0
+IsWithin None offset = Unit {0}
+IsWithin (Some limit) offset = offset ≤ limit
+
+-- How the reading ends at an offset where these bytes are left, under the limits of the next item and of the input: by the
+-- first of these that holds. None where a whole item stands there.
+unfoldable pub end_at : Option ℕ → Option ℕ → ℕ → List ℕ → Option End
+end_at None input offset bytes = if length bytes == 0 then Some AtEnd else Some Extra
+end_at (Some limit) input offset bytes =
     if length bytes == 0 then Some AtEnd
     else if nat_lt (length bytes) 4 then Some Cut
-    else if nat_lt (size_word bytes) 4 || nat_lt limits.item (size_word bytes) then Some BadSize
-    else if nat_lt limits.input (offset + size_word bytes) then Some Extra
+    else if nat_lt (size_word bytes) 4 || nat_lt limit (size_word bytes) then Some BadSize
+    else if is_past input (offset + size_word bytes) then Some Extra
     else if nat_lt (length bytes) (size_word bytes) then Some Cut
     else None
 
@@ -43,24 +64,28 @@ end_offset split = length (concat split.items)
 -- The input is these items one after the other, and then a rest at which the reading ends.
 pub record IsSplit (limits : Limits) (input : List ℕ) (split : Split) : Type 0 where
   pub whole : input ≡ concat split.items ++ split.rest
-  pub items : AllByRecursion (IsItem limits) split.items
-  pub within : end_offset split ≤ limits.input
-  pub ends : end_at limits (end_offset split) split.rest ≡ Some split.end
+  pub items : AreItems limits 0 split.items
+  pub within : IsWithin limits.input (end_offset split)
+  pub ends : end_at (limits.item (length split.items)) limits.input (end_offset split) split.rest ≡ Some split.end
 
 -- the split with an item before it
 abbrev pub put_front : List ℕ → Split → Split
 put_front item split = record { items = item ∷ split.items; rest = split.rest; end = split.end }
 
--- the items from an offset on, at most so many
-abbrev pub split_from : ℕ → Limits → ℕ → List ℕ → Split
-split_from zero limits offset bytes = record { items = []; rest = bytes; end = Cut }
-split_from (suc most) limits offset bytes = elim (end_at limits offset bytes) [
+-- the items from a place and an offset on, at most so many
+abbrev pub split_from : ℕ → Limits → ℕ → ℕ → List ℕ → Split
+split_from zero limits place offset bytes = record { items = []; rest = bytes; end = Cut }
+split_from (suc most) limits place offset bytes = elim (end_at (limits.item place) limits.input offset bytes) [
   | Some end ↦ record { items = []; rest = bytes; end = end }
   | None ↦
       let size = size_word bytes in
-      put_front (take size bytes) (split_from most limits (offset + size) (drop size bytes))
+      put_front (take size bytes) (split_from most limits (place + 1) (offset + size) (drop size bytes))
 ]
 
--- The one split of an input: it keeps `IsSplit`, and no other does (proofs/ItemLemmas).
+-- the split of an input
 unfoldable pub split_of : Limits → List ℕ → Split
-split_of limits input = split_from (suc (length input)) limits 0 input
+split_of limits input = split_from (suc (length input)) limits 0 0 input
+
+-- Law: it is a split of the input, and there is no other.
+abbrev pub SplitsAreOne : Type 0
+SplitsAreOne = (limits : Limits) (input : List ℕ) (split : Split) → (split_of limits input ≡ split) ↔ IsSplit limits input split

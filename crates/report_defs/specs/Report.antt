@@ -1,13 +1,11 @@
--- The report of a run that meets no fault and no want of memory: its text and its status.
-use Rattle.std.specs.Prelude.{ℕ, ◌^◌, nat_lt, List, [], ◌∷◌, ◌++◌, length, Option, Some, None, if◌then◌else◌}
-use Rattle.std.specs.List.{flat_map, list_any}
-use Rattle.codec_defs.specs.Shape.{decoded}
-use Rattle.codec_defs.specs.Schema.{Block, block}
-use Rattle.chain_defs.specs.Kept.{tip}
+-- The report of a run that meets no fault and has memory enough: what it prints and how it ends (docs/COMMANDS.md).
+use Rattle.std.specs.Prelude.{ℕ, ◌^◌, nat_lt, List, [], ◌∷◌, ◌++◌, map, length, drop, Option, Some, None, if◌then◌else◌}
+use Rattle.std.specs.List.{concat, list_any}
+use Rattle.chain_defs.specs.Tip.{tip}
 use Rattle.rule_defs.specs.declared.verdict.Verdict.{Verdict}
 use Rattle.rule_defs.specs.Genesis.{broken_genesis_rule}
-use Rattle.rule_defs.specs.Verdict.{verdict, kept_after, refuses}
-use Rattle.fold_defs.specs.Fold.{keep, verdicts}
+use Rattle.rule_defs.specs.Verdict.{refuses}
+use Rattle.rule_defs.specs.Chain.{Chain, chain_of_genesis, kept_over, verdicts_over}
 use Rattle.vm_defs.specs.Program.{execution}
 use Rattle.report_defs.specs.declared.command.Command.{Command}
 use Rattle.report_defs.specs.declared.command.Command.TheVariants.{Import, Exec}
@@ -20,71 +18,98 @@ use Rattle.report_defs.specs.Text.{line, tip_line, execution_line, extra_line}
 use Rattle.report_defs.specs.Words.{command_of}
 
 pub record Report : Type 0 where
-  pub text : List ℕ
+  -- a line for each item that is answered
+  pub lines : List (List ℕ)
+  -- what follows them
+  pub closing : List ℕ
   pub status : Status
 
--- An item of `import` has at most 1,048,576 bytes, and the input at most 2^40.
-unfoldable pub import_limits : Limits
-import_limits = record { item = 2 ^ 20; input = 2 ^ 40 }
+abbrev pub text_of : Report → List ℕ
+text_of report = concat report.lines ++ report.closing
 
--- the blocks that are kept where a genesis stands alone
-abbrev pub kept_from : Option Block → List Block
-kept_from None = []
-kept_from (Some genesis) = genesis ∷ []
+-- a report that answers no item
+abbrev pub report_without_lines : List ℕ → Status → Report
+report_without_lines closing status = record { lines = []; closing = closing; status = status }
 
--- over kept blocks: the verdicts on the items that follow, a line for each, and what is kept after them
-abbrev pub verdicts_over : List Block → List (List ℕ) → List Verdict
-verdicts_over kept items = verdicts kept_after verdict kept items
+-- ---- `import`
 
-abbrev pub lines_over : List Block → List (List ℕ) → List ℕ
-lines_over kept items = flat_map line (verdicts_over kept items)
+-- an item has at most 1,048,576 bytes
+unfoldable pub item_limit : ℕ
+item_limit = 2 ^ 20
 
-abbrev pub kept_over : List Block → List (List ℕ) → List Block
-kept_over kept items = keep kept_after kept items
+-- all items of `import` have at most 2^40 bytes
+unfoldable pub input_limit : ℕ
+input_limit = 2 ^ 40
 
-abbrev pub status_of_items : List Verdict → Status
-status_of_items judged = if list_any refuses judged then SomeRefused else Done
+abbrev pub import_limits : Limits
+import_limits = record { item = λ place. Some item_limit; input = Some input_limit }
 
--- A line for each item, and where the input ends between two items the line of the tip.
-abbrev pub report_of_blocks : List Block → List (List ℕ) → End → Report
-report_of_blocks kept items AtEnd = record {
-  text = lines_over kept items ++ tip_line (tip (kept_over kept items));
-  status = status_of_items (verdicts_over kept items);
+-- a line for each item, over a chain
+abbrev pub lines_over : Chain → List (List ℕ) → List (List ℕ)
+lines_over chain items = map line (verdicts_over chain items)
+
+-- where the reading ends so, what follows the lines
+abbrev pub closing_of_end : Chain → End → List ℕ
+closing_of_end chain AtEnd = tip_line (tip chain.blocks)
+closing_of_end chain Cut = []
+closing_of_end chain BadSize = []
+closing_of_end chain Extra = []
+
+-- and the status
+abbrev pub status_of_end : List Verdict → End → Status
+status_of_end judged AtEnd = if list_any refuses judged then SomeRefused else Done
+status_of_end judged Cut = CutInput
+status_of_end judged BadSize = CutInput
+status_of_end judged Extra = CutInput
+
+abbrev pub report_over : Chain → List (List ℕ) → End → Report
+report_over chain items end = record {
+  lines = lines_over chain items;
+  closing = closing_of_end (kept_over chain items) end;
+  status = status_of_end (verdicts_over chain items) end;
 }
-report_of_blocks kept items Cut = record { text = lines_over kept items; status = CutInput }
-report_of_blocks kept items BadSize = record { text = lines_over kept items; status = CutInput }
-report_of_blocks kept items Extra = record { text = lines_over kept items; status = CutInput }
 
-abbrev pub report_of_genesis : Option ℕ → List ℕ → List (List ℕ) → End → Report
-report_of_genesis (Some rule) genesis items end = record { text = []; status = BadGenesis }
-report_of_genesis None genesis items end = report_of_blocks (kept_from (decoded block genesis)) items end
+-- The first item is the genesis, on which the chain begins, and each further item is a block.
+abbrev pub chain_at_start : List (List ℕ) → Chain
+chain_at_start [] = record { rules = record { }; blocks = [] }
+chain_at_start (genesis ∷ items) = chain_of_genesis (record { }) genesis
 
--- The first item is the genesis, and each further item is a block.
+abbrev pub items_behind : List (List ℕ) → List (List ℕ)
+items_behind items = drop 1 items
+
+abbrev pub report_of_genesis : Option ℕ → List (List ℕ) → End → Report
+report_of_genesis (Some rule) items end = report_without_lines [] BadGenesis
+report_of_genesis None items end = report_over (chain_at_start items) (items_behind items) end
+
 abbrev pub report_of_items : List (List ℕ) → End → Report
-report_of_items [] end = record { text = []; status = CutInput }
-report_of_items (genesis ∷ items) end = report_of_genesis (broken_genesis_rule genesis) genesis items end
+report_of_items [] end = report_without_lines [] CutInput
+report_of_items (genesis ∷ items) end = report_of_genesis (broken_genesis_rule genesis) (genesis ∷ items) end
 
 abbrev pub report_of_split : Split → Report
 report_of_split split = report_of_items split.items split.end
 
--- the report of `import` over an input
-abbrev pub report_of_input : List ℕ → Report
-report_of_input input = report_of_split (split_of import_limits input)
+abbrev pub import_report : List ℕ → Report
+import_report input = report_of_split (split_of import_limits input)
 
--- A file of `exec` has at most 1,048,576 bytes.
+-- ---- `exec`
+
+-- a file has at most 1,048,576 bytes
 unfoldable pub file_limit : ℕ
 file_limit = 2 ^ 20
 
--- The report of `exec` over an input: the input is the file, all of it. One that is too long is not run.
-abbrev pub report_of_file : ℕ → List ℕ → Report
-report_of_file budget file =
-    if nat_lt file_limit (length file) then record { text = extra_line file_limit; status = ExtraInput }
-    else record { text = execution_line (execution budget file); status = Done }
+-- The input is the file, all of it. One that is too long is not run.
+abbrev pub exec_report : ℕ → List ℕ → Report
+exec_report budget file =
+    if nat_lt file_limit (length file) then report_without_lines (extra_line file_limit) ExtraInput
+    else report_without_lines (execution_line (execution budget file)) Done
 
-abbrev pub report_of_command : Option Command → List ℕ → Report
-report_of_command None input = record { text = []; status = BadWords }
-report_of_command (Some Import) input = report_of_input input
-report_of_command (Some (Exec budget)) input = report_of_file budget input
+-- ---- A run
 
-abbrev pub report : List (List ℕ) → List ℕ → Report
-report words input = report_of_command (command_of words) input
+-- The report by the words, the input, and the chain that the store holds, if there is one. No command looks at it yet.
+abbrev pub report_of_command : Option Command → List ℕ → Option Chain → Report
+report_of_command None input store = report_without_lines [] BadWords
+report_of_command (Some Import) input store = import_report input
+report_of_command (Some (Exec budget)) input store = exec_report budget input
+
+abbrev pub report : List (List ℕ) → List ℕ → Option Chain → Report
+report words input store = report_of_command (command_of words) input store

@@ -1,5 +1,5 @@
--- The number of each status, which the program ends with.
-use Rattle.std.specs.Prelude.{ℕ}
+-- The number of each status, which the program ends with (docs/COMMANDS.md, "Statuses").
+use Rattle.std.specs.Prelude.{◌≡◌, ◌⊎◌, ℕ, List, [], ◌∷◌}
 use Rattle.report_defs.specs.declared.status.Status.{Status}
 use Rattle.report_defs.specs.declared.status.Status.TheVariants.{Done, SomeRefused, BadWords, InputFault, SinkFault, DiskFault, NoMemory, NotAStore, CutInput, BadSize, StoreThere, BadGenesis, ExtraInput}
 
@@ -17,3 +17,8 @@ number_of BadSize = 9
 number_of StoreThere = 10
 number_of BadGenesis = 11
 number_of ExtraInput = 12
+
+-- it is one of these
+abbrev pub IsOneOf : List Status → Status → Type 0
+IsOneOf [] status = ⊥
+IsOneOf (one ∷ others) status = (status ≡ one) ⊎ IsOneOf others status

@@ -1,11 +1,11 @@
--- The lines that a run prints. Each ends with a line feed.
+-- The lines that a run prints. Each ends with a line feed (docs/COMMANDS.md).
 use Rattle.std.specs.Prelude.{ℕ, List, [], ◌∷◌, ◌++◌, codes, Option, Some, None, Result, Ok, Err}
 use Rattle.std.specs.Fmt.{decimal, signed_decimal}
 use Rattle.hex.specs.Hex.{encode_lower}
 use Rattle.codec_defs.specs.Schema.{Block}
 use Rattle.chain_defs.specs.Kept.{block_hash}
 use Rattle.rule_defs.specs.declared.verdict.Verdict.{Verdict}
-use Rattle.rule_defs.specs.declared.verdict.Verdict.TheVariants.{Joined, Known, Refused, Unbuilt}
+use Rattle.rule_defs.specs.declared.verdict.Verdict.TheVariants.{Joined, Known, Refused, Unbuilt, Full}
 use Rattle.vm_defs.specs.declared.outcome.Outcome.{Outcome}
 use Rattle.vm_defs.specs.declared.outcome.Outcome.TheVariants.{Exit, Fault, Spent}
 use Rattle.vm_defs.specs.Program.{Ending}
@@ -23,6 +23,7 @@ line (Joined number hash) = codes "joined " ++ decimal number ++ codes " " ++ ha
 line (Known hash) = codes "known " ++ hash_text hash ++ line_feed
 line (Refused rule) = codes "refused J" ++ decimal rule ++ line_feed
 line Unbuilt = codes "unbuilt" ++ line_feed
+line Full = codes "full" ++ line_feed
 
 -- the line of a tip of this number and hash
 abbrev pub tip_line_of : ℕ → List ℕ → List ℕ

@@ -5,10 +5,12 @@
 
 mod command;
 mod end;
+mod items;
 mod status;
 mod words;
 
 pub use command::Command;
 pub use end::End;
+pub use items::item_laws;
 pub use status::Status;
 pub use words::word_laws;

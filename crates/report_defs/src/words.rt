@@ -1,9 +1,9 @@
 // The law of the grammar of words.
 
-ghost use Rattle.report_defs.specs.Words.{SpellsBudgets};
+ghost use Rattle.report_defs.specs.Words.{SpellsNumbers};
 
-/// States what the words of budgets are: a word gives a budget exactly where it is the decimal text of
-/// one. It does nothing.
+/// States what the words of numbers are: a word gives a number exactly where it is the decimal text of
+/// one within the limit. It does nothing.
 pub fn word_laws()
-    ensures spells_budgets { SpellsBudgets }
+    ensures spells_numbers { SpellsNumbers }
 {}

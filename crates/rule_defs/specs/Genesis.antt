@@ -1,19 +1,28 @@
--- The rules of a genesis. It is accepted where it breaks none of them, whatever else it holds.
-use Rattle.std.specs.Prelude.{ℕ, ◌==◌, ◌&&◌, not, List, length, Option, Some, None, if◌then◌else◌}
+-- The rules on a genesis, as rows of a list. It is accepted where it breaks none of them, whatever else it holds.
+-- docs/COMMANDS.md, "The genesis", has them.
+use Rattle.std.specs.Prelude.{ℕ, ◌==◌, ◌&&◌, Bool, List, [], ◌∷◌, length, Option, Some, None}
 use Rattle.codec_defs.specs.Shape.{decoded}
 use Rattle.codec_defs.specs.Schema.{Block, block}
+use Rattle.fold_defs.specs.First.{first_failing}
 
--- G2: its number is 0. G3: it has no uncles and no proposals.
-abbrev pub broken_by_block : Block → Option ℕ
-broken_by_block genesis =
-    if not (genesis.header.number == 0) then Some 2
-    else if not ((length genesis.uncles == 0) && (length genesis.proposals == 0)) then Some 3
-    else None
+-- G2: its number is 0.
+abbrev pub is_first : Block → Bool
+is_first genesis = genesis.header.number == 0
+
+-- G3: it has no uncles and no proposals.
+abbrev pub stands_alone : Block → Bool
+stands_alone genesis = (length genesis.uncles == 0) && (length genesis.proposals == 0)
+
+abbrev pub genesis_rows : Block → List (ℕ × Bool)
+genesis_rows genesis =
+    (2, is_first genesis)
+    ∷ (3, stands_alone genesis)
+    ∷ []
 
 abbrev pub broken_by : Option Block → Option ℕ
 broken_by None = Some 1
-broken_by (Some genesis) = broken_by_block genesis
+broken_by (Some genesis) = first_failing (genesis_rows genesis)
 
 -- The first rule that an item breaks as the genesis. G1: it is a canonical `Block`.
-abbrev pub broken_genesis_rule : List ℕ → Option ℕ
+unfoldable pub broken_genesis_rule : List ℕ → Option ℕ
 broken_genesis_rule item = broken_by (decoded block item)

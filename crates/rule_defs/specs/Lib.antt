@@ -1,2 +1,5 @@
 pub mod Genesis
+pub mod Rules
 pub mod Verdict
+pub mod Chain
+pub mod Laws

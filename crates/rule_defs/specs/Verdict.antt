@@ -1,57 +1,73 @@
--- The verdict on an item, over the kept blocks. The first case that holds decides.
-use Rattle.std.specs.Prelude.{ℕ, ◌+◌, ◌==◌, ◌&&◌, not, Bool, true, false, List, [], ◌∷◌, ◌++◌, length, Option, Some, None, is_some, if◌then◌else◌}
+-- The verdict on an item, over the kept blocks: the frame around the rules on a block. The first case that holds decides
+-- (docs/COMMANDS.md, "The verdicts").
+use Rattle.std.specs.Prelude.{ℕ, ◌==◌, nat_lt, ◌&&◌, not, Bool, true, false, List, [], ◌∷◌, ◌++◌, length, Option, Some, None, is_some, if◌then◌else◌}
 use Rattle.codec_defs.specs.Shape.{decoded}
 use Rattle.codec_defs.specs.Schema.{Block, block}
-use Rattle.chain_defs.specs.Kept.{block_hash, find_kept}
+use Rattle.chain_defs.specs.Kept.{block_hash, place_of}
+use Rattle.chain_defs.specs.Branch.{branch}
+use Rattle.rule_defs.specs.Rules.{Rules, first_broken}
 use Rattle.rule_defs.specs.declared.verdict.Verdict.{Verdict}
-use Rattle.rule_defs.specs.declared.verdict.Verdict.TheVariants.{Joined, Known, Refused, Unbuilt}
+use Rattle.rule_defs.specs.declared.verdict.Verdict.TheVariants.{Joined, Known, Refused, Unbuilt, Full}
+
+-- the most kept blocks, genesis included (docs/COMMANDS.md, "The verdicts")
+unfoldable pub kept_limit : ℕ
+kept_limit = 1000000
+
+-- there is room for one more
+abbrev pub has_room : List Block → Bool
+has_room kept = nat_lt (length kept) kept_limit
 
 -- The forms that are judged: one transaction, no uncle and no proposal.
-abbrev pub has_judged_form : Block → Bool
-has_judged_form b = (length b.transactions == 1) && (length b.uncles == 0) && (length b.proposals == 0)
+abbrev pub has_built_form : Block → Bool
+has_built_form b = (length b.transactions == 1) && (length b.uncles == 0) && (length b.proposals == 0)
 
--- J5: its number is its parent's plus 1.
-abbrev pub verdict_over_parent : Block → Block → Verdict
-verdict_over_parent b parent =
-    if b.header.number == parent.header.number + 1 then Joined b.header.number (block_hash b) else Refused 5
+-- A block that breaks no rule joins where there is room.
+abbrev pub verdict_by_rules : List Block → Block → Option ℕ → Verdict
+verdict_by_rules kept b (Some rule) = Refused rule
+verdict_by_rules kept b None = if has_room kept then Joined b.header.number (block_hash b) else Full
 
--- J3: its parent hash is that of a kept block.
-abbrev pub verdict_by_parent : Block → Option Block → Verdict
-verdict_by_parent b None = Refused 3
-verdict_by_parent b (Some parent) = verdict_over_parent b parent
+-- J3: its parent hash is that of a kept block. The other rules are over the branch that ends with its parent.
+abbrev pub verdict_on : Rules → List Block → Block → Option ℕ → Verdict
+verdict_on rules kept b None = Refused 3
+verdict_on rules kept b (Some parent) = verdict_by_rules kept b (first_broken rules (branch kept parent) b)
 
-abbrev pub verdict_of_block : List Block → Block → Verdict
-verdict_of_block kept b =
-    if is_some (find_kept kept (block_hash b)) then Known (block_hash b)
-    else if not (has_judged_form b) then Unbuilt
-    else verdict_by_parent b (find_kept kept b.header.parent_hash)
+abbrev pub verdict_of_block : Rules → List Block → Block → Verdict
+verdict_of_block rules kept b =
+    if is_some (place_of kept (block_hash b)) then Known (block_hash b)
+    else if not (has_built_form b) then Unbuilt
+    else verdict_on rules kept b (place_of kept b.header.parent_hash)
 
 -- J1: the item is a canonical `Block`.
-abbrev pub verdict_of : List Block → Option Block → Verdict
-verdict_of kept None = Refused 1
-verdict_of kept (Some b) = verdict_of_block kept b
+abbrev pub verdict_of : Rules → List Block → Option Block → Verdict
+verdict_of rules kept None = Refused 1
+verdict_of rules kept (Some b) = verdict_of_block rules kept b
 
-abbrev pub verdict : List Block → List ℕ → Verdict
-verdict kept item = verdict_of kept (decoded block item)
+unfoldable pub verdict : Rules → List Block → List ℕ → Verdict
+verdict rules kept item = verdict_of rules kept (decoded block item)
 
 abbrev pub joins : Verdict → Bool
 joins (Joined number hash) = true
 joins (Known hash) = false
 joins (Refused rule) = false
 joins Unbuilt = false
+joins Full = false
 
--- the block put at the end, if it joins
-abbrev pub kept_with : List Block → Option Block → List Block
-kept_with kept None = kept
-kept_with kept (Some b) = if joins (verdict_of_block kept b) then kept ++ b ∷ [] else kept
-
--- what is kept after an item: a block that joins is put at the end, any other item leaves it
-abbrev pub kept_after : List Block → List ℕ → List Block
-kept_after kept item = kept_with kept (decoded block item)
-
--- whether an item was refused: it broke a rule, or its form is not judged yet
+-- whether an item was refused: it broke a rule, its form is not judged yet, or there was no room for it
 abbrev pub refuses : Verdict → Bool
 refuses (Joined number hash) = false
 refuses (Known hash) = false
 refuses (Refused rule) = true
 refuses Unbuilt = true
+refuses Full = true
+
+abbrev pub block_list : Option Block → List Block
+block_list None = []
+block_list (Some b) = b ∷ []
+
+-- the block of an item, alone, if it is one
+abbrev pub blocks_of_item : List ℕ → List Block
+blocks_of_item item = block_list (decoded block item)
+
+-- What is kept after an item: a block that joins is put at the end, any other item leaves it.
+unfoldable pub kept_after : Rules → List Block → List ℕ → List Block
+kept_after rules kept item = if joins (verdict rules kept item) then kept ++ blocks_of_item item else kept

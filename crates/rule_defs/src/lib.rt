@@ -1,7 +1,11 @@
-//! The rules of the chain: what a genesis keeps, and the verdict on a block over the kept blocks.
-//! Definitions, and the enum that code and definitions share.
+//! The rules of the chain: what a genesis keeps, the rules on a block as rows of a list, and the
+//! verdict on an item over the kept blocks as a frame around them. Definitions, the enum that code
+//! and definitions share, and the laws that say what the verdict is for, as a contract of
+//! [`verdict_laws`].
 #![tactic(auto)]
 
+mod laws;
 mod verdict;
 
+pub use laws::verdict_laws;
 pub use verdict::Verdict;

@@ -11,6 +11,8 @@ pub enum Verdict {
     Refused(u8),
     /// It is a block of a form that this node does not judge yet.
     Unbuilt,
+    /// It breaks no rule, and there is no room for it: as many blocks are kept as may be.
+    Full,
 }
 
 impl Verdict {
@@ -25,10 +27,12 @@ impl Verdict {
             Verdict::Known(_) => false,
             Verdict::Refused(_) => false,
             Verdict::Unbuilt => false,
+            Verdict::Full => false,
         }
     }
 
-    /// Whether the item was refused: it broke a rule, or its form is not judged yet.
+    /// Whether the item was refused: it broke a rule, its form is not judged yet, or there
+    /// was no room for it.
     pub fn refuses(&self) -> bool
         ensures { result ≡ rules.refuses self.now }
     {
@@ -37,6 +41,7 @@ impl Verdict {
             Verdict::Known(_) => false,
             Verdict::Refused(_) => true,
             Verdict::Unbuilt => true,
+            Verdict::Full => true,
         }
     }
 }

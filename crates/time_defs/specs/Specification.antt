@@ -1,7 +1,8 @@
 -- The chain specification: 100 bytes, little-endian, and the rules S1 to S7 that it keeps.
-use Rattle.std.specs.Prelude.{ℕ, ◌+◌, ◌^◌, Bool, true, false, ◌==◌, ◌&&◌, nat_lt, nat_le, List, [], ◌∷◌, length, Option, Some, None}
+use Rattle.std.specs.Prelude.{ℕ, ◌+◌, ◌^◌, Bool, ◌==◌, ◌&&◌, nat_lt, nat_le, List, [], ◌∷◌, length, Option}
 use Rattle.std.specs.List.{slice_range}
 use Rattle.std.specs.Int.{w32, w64, from_le_bytes}
+use Rattle.fold_defs.specs.First.{first_failing}
 use Rattle.time_defs.specs.Epochs.{is_well_formed}
 
 pub record Specification : Type 0 where
@@ -75,22 +76,16 @@ keeps_s6 maturity = nat_lt maturity (2 ^ 56) && is_well_formed maturity
 abbrev pub keeps_s7 : ℕ → Bool
 keeps_s7 halving_interval = nat_le 1 halving_interval
 
--- the place of the first test that fails, counted from a number on
-unfoldable pub first_failing : ℕ → List Bool → Option ℕ
-first_failing place [] = None
-first_failing place (true ∷ tests) = first_failing (place + 1) tests
-first_failing place (false ∷ tests) = Some place
-
 -- the number of the first of S1 to S7 that the bytes break
-abbrev pub first_broken : List ℕ → Option ℕ
-first_broken bytes =
+abbrev pub broken_specification_rule : List ℕ → Option ℕ
+broken_specification_rule bytes =
     let spec = fields_of bytes in
-    first_failing 1 (
-    keeps_s1 bytes
-    ∷ keeps_s2 spec.epoch_length
-    ∷ keeps_s3 spec.w_close spec.w_far
-    ∷ keeps_s4 spec.max_block_bytes
-    ∷ keeps_s5 spec.max_cycles
-    ∷ keeps_s6 spec.maturity
-    ∷ keeps_s7 spec.halving_interval
+    first_failing (
+    (1, keeps_s1 bytes)
+    ∷ (2, keeps_s2 spec.epoch_length)
+    ∷ (3, keeps_s3 spec.w_close spec.w_far)
+    ∷ (4, keeps_s4 spec.max_block_bytes)
+    ∷ (5, keeps_s5 spec.max_cycles)
+    ∷ (6, keeps_s6 spec.maturity)
+    ∷ (7, keeps_s7 spec.halving_interval)
     ∷ [])

@@ -1,5 +1,5 @@
 use Rattle.std.proofs.Common.{◌≡◌, ℕ, ◌+◌, ◌%◌, ◌^◌, arith}
-use Rattle.codec_defs.specs.CkbHash.{mix}
+use Rattle.hash_defs.specs.CkbHash.{mix}
 use Rattle.blake2b_ckb.proofs.compression.mix.Goals as goal
 
 -- the sum of three words, with the carries dropped at once or one after the other

@@ -1,9 +1,9 @@
 use Rattle.std.proofs.Common.{◌≡◌, ◌≢◌, ℕ, ◌+◌, ◌-◌, ◌*◌, ◌<◌, ◌≤◌, List, [], ◌++◌, length, slice_set, slice_index_or, inl, inr, sym, ap, ◌∙◌, arith, length-set, get_or-set_other}
 use Rattle.std.proofs.lemmas.Bool.{cases_eq}
 use Rattle.std.proofs.lemmas.Grind.{get_or-set_at}
-use Rattle.codec_defs.specs.CkbHash.{ckbhash}
-use Rattle.root_defs.specs.Root.{node}
-use Rattle.root_defs.proofs.RootLaws.{node-inner}
+use Rattle.hash_defs.specs.CkbHash.{ckbhash}
+use Rattle.hash_defs.specs.Root.{node}
+use Rattle.hash_defs.proofs.RootLaws.{node-inner}
 use Rattle.cbmt.proofs.tree.root.Goals as goal
 
 -- with node i written, the nodes from i on are known

@@ -1,4 +1,4 @@
-use Rattle.time_defs.proofs.FirstBroken.{keeps_s2-some}
+use Rattle.time_defs.proofs.EpochLength.{keeps_s2-some}
 use Rattle.time_defs.proofs.Shares.{shares-sum}
 use Rattle.epochs.proofs.issuance.share.Goals as goal
 

@@ -1,5 +1,5 @@
 use Rattle.std.proofs.Common.{◌≡◌, arith, sym, ◌∙◌, length}
-use Rattle.codec_defs.specs.Molecule.{u32_at}
+use Rattle.codec_defs.specs.Molecule.{header_number}
 use Rattle.mol_core.specs.Layout.{IsLaidOut}
 use Rattle.mol_core.proofs.Reading.{layout-short, layout-empty, header-within}
 use Rattle.mol_core.proofs.layout.is_laid_out.Goals as goal
@@ -8,7 +8,7 @@ use Rattle.mol_core.proofs.layout.is_laid_out.Goals.{then-header-len-via-then-he
 pub returns-then-len-lt8 : goal.returns-then-len-lt8
 returns-then-len-lt8 c =
     let bytes = c.args.bytes.now in
-    let size : u32_at bytes 0 ≡ length bytes = sym c.read_u32.ensures.value ∙ c.if-read_u32-len.false in
+    let size : header_number bytes 0 ≡ length bytes = sym c.read_u32.ensures.value ∙ c.if-read_u32-len.false in
     let empty : length bytes ≡ 4 → IsLaidOut bytes = λ len. layout-empty bytes len size in
     let short : IsLaidOut bytes → length bytes ≡ 4 = λ laid. layout-short bytes laid c.if-len-lt8.true in
     grind arith

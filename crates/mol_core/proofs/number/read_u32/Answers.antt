@@ -1,10 +1,10 @@
 use Rattle.std.proofs.Common.{ℕ, get_or, ap, add-zero, arith}
-use Rattle.codec_defs.specs.Molecule.{u32_at}
+use Rattle.codec_defs.specs.Molecule.{header_number}
 use Rattle.mol_core.proofs.Reading.{get_or-four_bytes}
 use Rattle.mol_core.proofs.number.read_u32.Goals as goal
 
 pub returns-clause-value : goal.returns-clause-value
-unfolding u32_at
+unfolding header_number
 returns-clause-value c =
     let bytes = c.args.bytes.now in
     let at = c.args.at in

@@ -3,4 +3,4 @@ use Rattle.mol_schema.proofs.Agreement.{length-items}
 use Rattle.mol_schema.proofs.parts.list_len.Goals as goal
 
 pub returns-clause-fits : goal.returns-clause-fits
-returns-clause-fits c = omega (arith, c.len.ensures, length-items c.args.list.now c.of_encoding.result c.of_encoding.ensures.found)
+returns-clause-fits c = omega (arith, c.len.ensures, length-items c.args.list.now c.from_encoding.result c.from_encoding.ensures.found)

@@ -29,7 +29,7 @@ returns-in-Err-import_items-clause-text g c =
       items.1,
       gives_more (g.S.Source.left c.args.input.now) (g.S.Source.left c.read_genesis.new.input) left read.0 items.0 read.1 items.2,
       items.3,
-      stopped_in_items read.0 are.items are.part are.piece items.0 items.1 left c.in-Err-import_items.status read.2.0 are.progress are.end.0 are.end.1,
+      stopped_in_items read.0 are.items are.unfinished_input are.partial_line items.0 items.1 left c.in-Err-import_items.status read.2.0 are.progress are.end.0 are.end.1,
     )
 
 pub returns-then-not-is_between_items-clause-text : goal.returns-then-not-is_between_items-clause-text
@@ -44,7 +44,7 @@ returns-then-not-is_between_items-clause-text g c =
       items.1,
       given,
       items.3,
-      cut_behind_items read.0 are.items are.part are.piece items.0 items.1 left c.in-Ok-import_items.ended.end read.2.0 are.progress are.end.nothing are.end.ends other,
+      cut_behind_items read.0 are.items are.unfinished_input are.partial_line items.0 items.1 left c.in-Ok-import_items.ended.end read.2.0 are.progress are.end.nothing are.end.ends other,
     )
 
 pub returns-in-Err-write_tip-clause-text : goal.returns-in-Err-write_tip-clause-text
@@ -55,14 +55,14 @@ returns-in-Err-write_tip-clause-text g c =
     let are = behind_genesis read.0 c.in-Ok.genesis.0 c.import_items.new.kept c.in-Ok.genesis.1 left _ items.0 items.1 read.2.1 read.2.2 items.4 in
     let given = gives_more (g.S.Source.left c.args.input.now) (g.S.Source.left c.read_genesis.new.input) left read.0 items.0 read.1 items.2 in
     let end : c.in-Ok-import_items.ended.end ≡ AtEnd = c.is_between_items.ensures.0 c.if-not-is_between_items.false in
-    let through : IsThrough read.0 are.items are.part are.piece items.0 items.1 left =
-    record { good = read.2.0; progress = are.progress; none = are.end.nothing; ends = subst (λ (e : End). EndsAt (length read.0 + length (concat are.items)) left e are.part) end are.end.ends } in
+    let through : IsThrough read.0 are.items are.unfinished_input are.partial_line items.0 items.1 left =
+    record { good = read.2.0; progress = are.progress; none = are.end.nothing; ends = subst (λ (e : End). EndsAt (length read.0 + length (concat are.items)) left e are.unfinished_input) end are.end.ends } in
     let tip = c.in-Err-write_tip.ensures.tip in (
       read.0 ++ items.0,
       items.1 ++ tip.0,
       given,
       takes_more (g.K.Sink.taken c.args.out.now) (g.K.Sink.taken c.import_items.new.out) (g.K.Sink.taken c.write_tip.new.out) items.1 tip.0 items.3 tip.1,
-      stopped_at_tip read.0 are.items are.part are.piece items.0 items.1 tip.0 left c.import_items.new.kept c.in-Err-write_tip.status through are.end.kept tip.2,
+      stopped_at_tip read.0 are.items are.unfinished_input are.partial_line items.0 items.1 tip.0 left c.import_items.new.kept c.in-Err-write_tip.status through are.end.kept tip.2,
     )
 
 pub returns-then-ended-clause-text : goal.returns-then-ended-clause-text
@@ -73,14 +73,14 @@ returns-then-ended-clause-text g c =
     let are = behind_genesis read.0 c.in-Ok.genesis.0 c.import_items.new.kept c.in-Ok.genesis.1 left _ items.0 items.1 read.2.1 read.2.2 items.4 in
     let given = gives_more (g.S.Source.left c.args.input.now) (g.S.Source.left c.read_genesis.new.input) left read.0 items.0 read.1 items.2 in
     let end : c.in-Ok-import_items.ended.end ≡ AtEnd = c.is_between_items.ensures.0 c.if-not-is_between_items.false in
-    let through : IsThrough read.0 are.items are.part are.piece items.0 items.1 left =
-    record { good = read.2.0; progress = are.progress; none = are.end.nothing; ends = subst (λ (e : End). EndsAt (length read.0 + length (concat are.items)) left e are.part) end are.end.ends } in
+    let through : IsThrough read.0 are.items are.unfinished_input are.partial_line items.0 items.1 left =
+    record { good = read.2.0; progress = are.progress; none = are.end.nothing; ends = subst (λ (e : End). EndsAt (length read.0 + length (concat are.items)) left e are.unfinished_input) end are.end.ends } in
     let tip = c.in_default.ensures.tip in (
       read.0 ++ items.0,
       items.1 ++ tip.0,
       given,
       takes_more (g.K.Sink.taken c.args.out.now) (g.K.Sink.taken c.import_items.new.out) (g.K.Sink.taken c.write_tip.new.out) items.1 tip.0 items.3 tip.1,
-      done read.0 are.items are.part are.piece items.0 items.1 tip.0 left c.import_items.new.kept c.in-Ok-import_items.ended.refused SomeRefused
+      done read.0 are.items are.unfinished_input are.partial_line items.0 items.1 tip.0 left c.import_items.new.kept c.in-Ok-import_items.ended.refused SomeRefused
           through are.end.kept are.end.refused tip.2 (sym (ap (λ b. cond b SomeRefused Done) c.if-ended.true)),
     )
 
@@ -92,14 +92,14 @@ returns-clause-text g c =
     let are = behind_genesis read.0 c.in-Ok.genesis.0 c.import_items.new.kept c.in-Ok.genesis.1 left _ items.0 items.1 read.2.1 read.2.2 items.4 in
     let given = gives_more (g.S.Source.left c.args.input.now) (g.S.Source.left c.read_genesis.new.input) left read.0 items.0 read.1 items.2 in
     let end : c.in-Ok-import_items.ended.end ≡ AtEnd = c.is_between_items.ensures.0 c.if-not-is_between_items.false in
-    let through : IsThrough read.0 are.items are.part are.piece items.0 items.1 left =
-    record { good = read.2.0; progress = are.progress; none = are.end.nothing; ends = subst (λ (e : End). EndsAt (length read.0 + length (concat are.items)) left e are.part) end are.end.ends } in
+    let through : IsThrough read.0 are.items are.unfinished_input are.partial_line items.0 items.1 left =
+    record { good = read.2.0; progress = are.progress; none = are.end.nothing; ends = subst (λ (e : End). EndsAt (length read.0 + length (concat are.items)) left e are.unfinished_input) end are.end.ends } in
     let tip = c.in_default.ensures.tip in (
       read.0 ++ items.0,
       items.1 ++ tip.0,
       given,
       takes_more (g.K.Sink.taken c.args.out.now) (g.K.Sink.taken c.import_items.new.out) (g.K.Sink.taken c.write_tip.new.out) items.1 tip.0 items.3 tip.1,
-      done read.0 are.items are.part are.piece items.0 items.1 tip.0 left c.import_items.new.kept c.in-Ok-import_items.ended.refused Done
+      done read.0 are.items are.unfinished_input are.partial_line items.0 items.1 tip.0 left c.import_items.new.kept c.in-Ok-import_items.ended.refused Done
           through are.end.kept are.end.refused tip.2 (sym (ap (λ b. cond b SomeRefused Done) c.if-ended.false)),
     )
 

@@ -2,11 +2,11 @@ use Rattle.std.proofs.Common.{◌≡◌, ◌+◌, ◌<◌, ◌++◌, length, tak
 use Rattle.outside.proofs.Streams.{gives_none}
 use Rattle.report_defs.specs.Items.{size_word}
 use Rattle.node_run.specs.Items.{IsItemAt}
-use Rattle.node_run.proofs.Reading.{size_of_word, item_limit, input_limit, ends_extra, stopped_in_item, ends_in_item, read_whole, written_whole}
+use Rattle.node_run.proofs.Reading.{size_of_word, item_limit-is, input_limit-is, ends_extra, stopped_in_item, ends_in_item, read_whole, written_whole}
 use Rattle.node_run.proofs.items.item_of_size.Goals as goal
 
 pub overflow_add-offset : goal.overflow_add-offset
-overflow_add-offset g c = omega (arith, input_limit, item_limit, c.requires.within, c.requires.most)
+overflow_add-offset g c = omega (arith, input_limit-is, item_limit-is, c.requires.within, c.requires.most)
 
 pub returns-then-offset-size-gt-INPUT_LIMIT-clause-next : goal.returns-then-offset-size-gt-INPUT_LIMIT-clause-next
 returns-then-offset-size-gt-INPUT_LIMIT-clause-next g c =
@@ -15,7 +15,7 @@ returns-then-offset-size-gt-INPUT_LIMIT-clause-next g c =
       [],
       gives_none _,
       rw append-nil (ends_extra c.args.offset word (g.S.Source.left c.args.input.now) c.told-word
-          (rw says c.requires.least) (rw says c.requires.most) (omega (arith, says, input_limit, c.if-offset-size-gt-INPUT_LIMIT.true))),
+          (rw says c.requires.least) (rw says c.requires.most) (omega (arith, says, input_limit-is, c.if-offset-size-gt-INPUT_LIMIT.true))),
     )
 
 pub returns-in-Err-fill-clause-next : goal.returns-in-Err-fill-clause-next
@@ -32,7 +32,7 @@ returns-then-n-size-clause-next g c =
       take c.in-Ok-fill.n (drop 4 c.fill.new.item),
       c.in-Ok-fill.ensures.given,
       ends_in_item c.args.offset c.args.size c.in-Ok-fill.n c.args.word.now c.fill.new.item (g.S.Source.left c.fill.new.input) c.told-word c.requires.word
-          c.requires.least c.requires.most (omega (arith, input_limit, c.if-offset-size-gt-INPUT_LIMIT.false)) same short (c.in-Ok-fill.ensures.end (omega (arith, long, short))),
+          c.requires.least c.requires.most (omega (arith, input_limit-is, c.if-offset-size-gt-INPUT_LIMIT.false)) same short (c.in-Ok-fill.ensures.end (omega (arith, long, short))),
     )
 
 pub returns-clause-next : goal.returns-clause-next
@@ -43,5 +43,5 @@ returns-clause-next g c =
     let whole : IsItemAt c.args.offset (take c.in-Ok.item.len (c.fill.new.item ++ drop (length c.fill.new.item) c.in-Ok.item.items)) (c.args.word.now ++ given) =
     rw (written_whole c.in-Ok.item.len c.fill.new.item c.in-Ok.item.items (omega (arith, same, c.in-Ok.ensures.len)))
     (read_whole c.args.offset c.args.size c.in-Ok-fill.n c.args.word.now c.fill.new.item c.told-word c.requires.word
-    c.requires.least c.requires.most (omega (arith, input_limit, c.if-offset-size-gt-INPUT_LIMIT.false)) same c.in-Ok-fill.ensures.front (omega (arith, c.if-n-size.false, c.in-Ok-fill.ensures.read, long))) in
+    c.requires.least c.requires.most (omega (arith, input_limit-is, c.if-offset-size-gt-INPUT_LIMIT.false)) same c.in-Ok-fill.ensures.front (omega (arith, c.if-n-size.false, c.in-Ok-fill.ensures.read, long))) in
     (given, c.in-Ok-fill.ensures.given, whole)

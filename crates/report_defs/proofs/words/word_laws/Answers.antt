@@ -1,5 +1,5 @@
-use Rattle.report_defs.proofs.WordLaws.{spells-budgets}
+use Rattle.report_defs.proofs.WordLaws.{spells-numbers}
 use Rattle.report_defs.proofs.words.word_laws.Goals as goal
 
 pub returns : goal.returns
-returns c = record { spells_budgets = spells-budgets }
+returns c = record { spells_numbers = spells-numbers }

@@ -1,7 +1,7 @@
 use Rattle.std.proofs.Common.{◌≡◌, ◌∙◌, ℕ, Bool, true, false, arith}
 use Rattle.std.proofs.lemmas.Bool.Decides.{nat_tests}
 use Rattle.time_defs.specs.Specification.{fields_of, keeps_s1, keeps_s2, keeps_s3, keeps_s4, keeps_s5, keeps_s6, keeps_s7}
-use Rattle.time_defs.proofs.FirstBroken.{first_failing-fails, first_failing-holds, first_failing-none}
+use Rattle.fold_defs.proofs.FirstLemmas.{first_failing-fails, first_failing-holds, first_failing-none}
 use Rattle.epochs.proofs.specification.Spec.read.Goals as goal
 
 -- what a test of a number says of the bytes that it was read from
@@ -81,4 +81,4 @@ returns-clause-sound c =
     let e5 : keeps_s5 (fields_of c.args.b.now).max_cycles ≡ true = cc in
     let e6 : keeps_s6 (fields_of c.args.b.now).maturity ≡ true = of_test keeps_s6 _ _ _ _ c.keeps_s6.ensures c.u64_of-maturity.ensures c.if-not-keeps_s6.false in
     let e7 : keeps_s7 (fields_of c.args.b.now).halving_interval ≡ true = grind (arith, nat_tests) in
-    first_failing-holds 1 _ _ e1 ∙ first_failing-holds 2 _ _ e2 ∙ first_failing-holds 3 _ _ e3 ∙ first_failing-holds 4 _ _ e4 ∙ first_failing-holds 5 _ _ e5 ∙ first_failing-holds 6 _ _ e6 ∙ first_failing-holds 7 _ _ e7 ∙ first_failing-none 8
+    first_failing-holds 1 _ _ e1 ∙ first_failing-holds 2 _ _ e2 ∙ first_failing-holds 3 _ _ e3 ∙ first_failing-holds 4 _ _ e4 ∙ first_failing-holds 5 _ _ e5 ∙ first_failing-holds 6 _ _ e6 ∙ first_failing-holds 7 _ _ e7 ∙ first_failing-none

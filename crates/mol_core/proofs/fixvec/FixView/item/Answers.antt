@@ -1,6 +1,6 @@
 use Rattle.std.proofs.Common.{List, ℕ, ◌<◌, length, ap, sym, ◌∙◌, arith, Some}
 use Rattle.std.specs.Prelude.{slice_get}
-use Rattle.codec_defs.specs.Molecule.{u32_at, items_of_fixvec}
+use Rattle.codec_defs.specs.Molecule.{header_number, items_of_fixvec}
 use Rattle.mol_core.proofs.Reading.{IsCounted-from_fixvec, length-items_of_fixvec, slice_get-items_of_fixvec}
 use Rattle.mol_core.proofs.fixvec.FixView.item.Goals as goal
 
@@ -17,5 +17,5 @@ pub returns : goal.returns
 returns c =
     let bytes = c.self.inside.bytes.now in
     let size = c.self.inside.item in
-    let within : c.args.i < u32_at bytes 0 = omega (arith, length-items_of_fixvec size bytes, ap length c.self.view_is, c.requires) in
+    let within : c.args.i < header_number bytes 0 = omega (arith, length-items_of_fixvec size bytes, ap length c.self.view_is, c.requires) in
     ap (λ (l : List (List ℕ)). slice_get l c.args.i) (sym c.self.view_is) ∙ slice_get-items_of_fixvec size bytes c.args.i within ∙ ap (λ (l : List ℕ). Some l) (sym c.item_at.ensures)

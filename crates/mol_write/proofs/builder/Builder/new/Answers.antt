@@ -1,10 +1,10 @@
 use Rattle.std.proofs.Common.{rules, ◌≡◌, [], refl, ap, ◌∙◌}
 use Rattle.codec_defs.specs.Molecule.{full_size, header_size}
-use Rattle.mol_write.specs.Builder.{fields_of}
+use Rattle.mol_write.specs.Builder.{fields_by_lengths}
 use Rattle.mol_write.proofs.builder.Builder.new.Goals as goal
 
 pub returns-clause-empty : goal.returns-clause-empty
-unfolding fields_of
+unfolding fields_by_lengths
 returns-clause-empty c = search rules
 
 none_size : full_size [] ≡ 4

@@ -1,0 +1,2 @@
+pub mod CkbHash
+pub mod Root

@@ -1,0 +1,11 @@
+use Rattle.rule_defs.proofs.VerdictLaws.{joins-exactly, keeps-what-joins, keeping-keeps}
+use Rattle.rule_defs.proofs.laws.verdict_laws.Goals as goal
+
+pub returns-clause-joins_exactly : goal.returns-clause-joins_exactly
+returns-clause-joins_exactly c = joins-exactly
+
+pub returns-clause-keeps_what_joins : goal.returns-clause-keeps_what_joins
+returns-clause-keeps_what_joins c = keeps-what-joins
+
+pub returns-clause-keeping_keeps : goal.returns-clause-keeping_keeps
+returns-clause-keeping_keeps c = keeping-keeps
