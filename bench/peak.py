@@ -54,7 +54,7 @@ def main():
     a = a.parse_args()
     program = os.path.abspath(shutil.which(a.ckbdev) or a.ckbdev)
     # a script that builds the program at its first use does so here
-    subprocess.run([program], stdin=subprocess.DEVNULL, stdout=subprocess.DEVNULL)
+    subprocess.run([program, 'any', 'import'], stdin=subprocess.DEVNULL, stdout=subprocess.DEVNULL)
     with tempfile.TemporaryDirectory() as folder:
         path = os.path.join(folder, 'items')
         kept, text = make(path, a.blocks, a.bytes)

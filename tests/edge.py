@@ -526,7 +526,7 @@ def main():
     checks = [it for it in checks if not a.words or any(word in it[0] for word in a.words)]
     program = a.program and os.path.abspath(a.program)
     if not program:
-        subprocess.run([SCRIPT], stdin=subprocess.DEVNULL, stdout=subprocess.DEVNULL, stderr=subprocess.PIPE)
+        subprocess.run([SCRIPT, 'any', 'import'], stdin=subprocess.DEVNULL, stdout=subprocess.DEVNULL)
         program = os.path.join(TOP, 'build', 'ckbdev')
     failed = []
     if not os.access(program, os.X_OK):
