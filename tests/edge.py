@@ -368,8 +368,10 @@ def check_script_ends_by_a_signal(_):
 PROGRAM_OF_A_FAKE = '#!/bin/sh\n[ "$2" = import ] || exit 2\necho "in $(basename "$PWD"): program %s"\n'
 # a toolchain that proves nothing, is slow, and may be told to fail or never to end
 FAKE_RT = r'''#!/bin/sh
+[ "$1" = fmt ] && exit 0
 echo "$1" >>"$FAKE_LOG"
 [ "$1" = ci ] || exit 1
+[ -d .git ] && ! grep -rq test crates && [ ! -e crates/other ] || exit 1
 echo 'rt: low proved'
 sleep "$FAKE_SECONDS"
 [ "$FAKE_STATUS" = 0 ] || exit "$FAKE_STATUS"
@@ -389,7 +391,9 @@ class Checkout:
             os.makedirs(os.path.dirname(self.at(name)), exist_ok=True)
             shutil.copy(os.path.join(TOP, name), self.at(name))
         self.write('crates.txt', 'low:\nckbdev: low\nother:\n')
-        self.write('crates/low/src/lib.rt', '//! low\n#[cfg(test)]\nmod tests;\n')
+        self.write('crates/low/src/lib.rt', '//! low\n\n#[cfg(test)]\nmod tests;\n')
+        self.write('crates/low/src/tests.rt', '#[test]\n')
+        self.write('crates/low/must-fail/one.edit', 'test\n')
         self.write('crates/ckbdev/src/program', PROGRAM_OF_A_FAKE % 'one')
         self.write('crates/ckbdev/src/main.rt', '')
         self.write('crates/other/src/lib.rt', '')

@@ -135,8 +135,20 @@ def put_in_place(made, wanted, begun):
 
 # ------------------------------------------------------------------- building
 
-def without_tests(text):
-    return re.sub(r'(?m)^#\[cfg\(test\)\]\n(?:pub )?mod \w+;\n', '', text)
+def leave_out_tests(crate):
+    """Takes the modules of tests out of a copied crate, with their proofs, and lays out what is left."""
+    roots = [os.path.join(crate, 'src', it) for it in ('lib.rt', 'main.rt')]
+    root = next(it for it in roots if os.path.isfile(it))
+    with open(root, encoding='utf-8') as f:
+        text = f.read()
+    tests = re.compile(r'(?m)^#\[cfg\(test\)\]\nmod (\w+);\n')
+    for name in tests.findall(text):
+        os.remove(os.path.join(crate, 'src', name + '.rt'))
+        shutil.rmtree(os.path.join(crate, 'proofs', name), ignore_errors=True)
+    if tests.search(text):
+        with open(root, 'w', encoding='utf-8') as f:
+            f.write(tests.sub('', text))
+        subprocess.run(['rt', 'fmt'], cwd=crate, stdin=subprocess.DEVNULL, stdout=subprocess.DEVNULL, check=True)
 
 
 def copy_to(room, uses):
@@ -151,12 +163,7 @@ def copy_to(room, uses):
         for part in SOURCES:
             if os.path.isdir(os.path.join(here, part)):
                 shutil.copytree(os.path.join(here, part), os.path.join(there, part))
-        root = os.path.join(there, 'src', 'lib.rt')
-        if os.path.isfile(root):
-            with open(root, encoding='utf-8') as f:
-                text = f.read()
-            with open(root, 'w', encoding='utf-8') as f:
-                f.write(without_tests(text))
+        leave_out_tests(there)
     for it in STORED_RUN:
         if os.path.isfile(os.path.join(TOP, 'crates', NAME, it)):
             shutil.copy(os.path.join(TOP, 'crates', NAME, it), os.path.join(room, 'crates', NAME))
@@ -176,6 +183,11 @@ def started(words, folder):
             process.wait()
 
 
+def what_failed(log):
+    """A log without what was said of each crate that is proved."""
+    return re.sub(r'(?ms)^== (\w+)\n(?:(?!^== |^rt: ).*?\n)*?rt: \1 proved\n', '', log)
+
+
 def run(words, folder, crates=(), status=0):
     """Runs a command of the kit, and says how many of the crates are done."""
     log, done, begun = [], [], time.monotonic()
@@ -189,7 +201,7 @@ def run(words, folder, crates=(), status=0):
                 say('%d of %d crates are proved; now at %s' % (len(done), len(crates), ', '.join(ready) or 'the end'))
         ended = process.wait()
     if ended != status:
-        sys.stderr.write(''.join(log))
+        sys.stderr.write(what_failed(''.join(log)))
         raise Failed('%s ended with status %d' % (' '.join(words), ended))
     say('built in %d seconds' % (time.monotonic() - begun))
 
@@ -252,7 +264,7 @@ def main():
         fcntl.flock(lock, fcntl.LOCK_EX)
     try:
         build()
-    except (Failed, OSError) as error:
+    except (Failed, OSError, subprocess.CalledProcessError) as error:
         say('the build failed: %s' % error)
         return 1
     except KeyboardInterrupt:
