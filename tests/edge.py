@@ -366,6 +366,7 @@ def check_script_ends_by_a_signal(_):
 # ------------------------------------------------- how the script builds
 
 PROGRAM_OF_A_FAKE = '#!/bin/sh\n[ "$2" = import ] || exit 2\necho "in $(basename "$PWD"): program %s"\n'
+LOW = '//! %s\n\n#[cfg(test)]\nmod tests;\n'
 # a toolchain that proves nothing, is slow, and may be told to fail or never to end
 FAKE_RT = r'''#!/bin/sh
 [ "$1" = fmt ] && exit 0
@@ -391,7 +392,7 @@ class Checkout:
             os.makedirs(os.path.dirname(self.at(name)), exist_ok=True)
             shutil.copy(os.path.join(TOP, name), self.at(name))
         self.write('crates.txt', 'low:\nckbdev: low\nother:\n')
-        self.write('crates/low/src/lib.rt', '//! low\n\n#[cfg(test)]\nmod tests;\n')
+        self.write('crates/low/src/lib.rt', LOW % 'low')
         self.write('crates/low/src/tests.rt', '#[test]\n')
         self.write('crates/low/must-fail/one.edit', 'test\n')
         self.write('crates/ckbdev/src/program', PROGRAM_OF_A_FAKE % 'one')
@@ -500,7 +501,7 @@ def check_script_takes_the_build_of_the_gate(_):
         it.write('crates/ckbdev/out/stdout.by-rattle', 'text')
         it.must_run(b'the gate', 1, 'after the gate')
         it.must_run(b'the gate', 1, 'a second time after the gate')
-        it.write('crates/low/src/lib.rt', '//! changed')
+        it.write('crates/low/src/lib.rt', LOW % 'changed')
         it.must_run(b'one', 2, 'after a change behind the gate')
 
 
