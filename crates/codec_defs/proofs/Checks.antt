@@ -1,13 +1,13 @@
 -- What there is to check, by kind of shape.
-use Rattle.std.proofs.Common.{◌≡◌, ℕ, zero, suc, ◌+◌, ◌-◌, ◌*◌, ◌^◌, ◌<◌, ◌≤◌, Bool, false, eqb, List, [], ◌∷◌, ◌++◌, length, map, take, drop, get_or, Option, Some, None, refl, sym, ap, subst, ◌∙◌, arith}
+use Rattle.std.proofs.Common.{◌≡◌, ℕ, zero, suc, ◌+◌, ◌-◌, ◌^◌, ◌<◌, ◌≤◌, Bool, false, eqb, List, [], ◌∷◌, ◌++◌, length, map, drop, get_or, Option, Some, None, refl, sym, ap, subst, ◌∙◌, arith}
 use Rattle.std.specs.Prelude.{IsTrue, IfSome, ◌↔◌, unwrap_or, slice_get, slice_index}
 use Rattle.std.specs.Int.{w32, w64, w128, from_le_bytes}
-use Rattle.std.specs.Option.{is_some, option_map}
+use Rattle.std.specs.Option.{is_some}
 use Rattle.std.specs.List.{concat, slice_range, AllByRecursion}
 use Rattle.std.proofs.lemmas.Bool.{and_from, and_parts, ne_eqb, lt-ltb, ltb-true, eq-eqb, eqb-true}
 use Rattle.std.proofs.lemmas.List.{length-append, length-map, length-take, length-drop, take_at, drop_at, drop_all, drop-drop}
 use Rattle.std.proofs.lemmas.List.Folds.{drop_split}
-use Rattle.std.proofs.lemmas.Option.{none-some, slice_get-map}
+use Rattle.std.proofs.lemmas.Option.{none-some}
 use Rattle.std.proofs.lemmas.Nat.{le_bytes_4, le_bytes_8, from_le_bytes-to_le_bytes_4, from_le_bytes-to_le_bytes_8}
 use Rattle.codec_defs.specs.Molecule as molecule
 use Rattle.codec_defs.specs.Molecule.{IsFixvec, IsDynvec, IsTable}
@@ -335,7 +335,3 @@ long_items n b items = omega (arith, ap length items.encoding, length-fixvec (mo
 pub checked-items : (size : ℕ) (b : List ℕ) (t : Bool) (r : Option (List (List ℕ))) → t ≡ is_some r → IfSome r (IsFixvec size b) → ((items : List (List ℕ)) → IsFixvec size b items → r ≡ Some items) → IsTrue t ↔ IsItems size b
 checked-items size b t None is found only = (λ h. absurd cc, λ p. absurd (none-some _ (only _ p)))
 checked-items size b t (Some xs) is found only = (λ h. reads_items size b xs found, λ p. is)
-
--- an item of a list of values
-pub mapped_at : {V : Type 0} (f : List ℕ → V) (xs : List (List ℕ)) (i : ℕ) (p : List ℕ) → slice_get xs i ≡ Some p → slice_get (map f xs) i ≡ Some (f p)
-mapped_at f xs i p is = slice_get-map f xs i ∙ ap (option_map f) is
