@@ -1,14 +1,14 @@
 -- A run goes step by step, within its budget.
 use Rattle.std.proofs.Common.{◌≡◌, ℕ, zero, suc, ◌+◌, ◌-◌, ◌%◌, ◌<◌, ◌≤◌, ◌==◌, Bool, true, false, cond, ℤ, Option, Some, None, Result, Ok, Err, refl, lit≤, arith}
 use Rattle.std.proofs.lemmas.Bool.Decides.{nat_tests}
-use Rattle.vm_defs.specs.declared.ins.Ins.{Ins}
-use Rattle.vm_defs.specs.declared.ins.Ins.TheVariants.{Jal, Jalr, Beq, Bne, Blt, Bge, Bltu, Bgeu, Lb, Lh, Lw, Ld, Lbu, Lhu, Lwu, Sb, Sh, Sw, Sd, Fence, FenceI, Ecall, Ebreak}
+use Rattle.isa_defs.specs.declared.ins.Ins.{Ins}
+use Rattle.isa_defs.specs.declared.ins.Ins.TheVariants.{Jal, Jalr, Beq, Bne, Blt, Bge, Bltu, Bgeu, Lb, Lh, Lw, Ld, Lbu, Lhu, Lwu, Sb, Sh, Sw, Sd, Fence, FenceI, Ecall, Ebreak}
 use Rattle.vm_defs.specs.declared.memory.MemFault.{MemFault}
 use Rattle.vm_defs.specs.declared.outcome.Outcome.{Outcome}
 use Rattle.vm_defs.specs.declared.step.Step.{Step}
 use Rattle.vm_defs.specs.declared.step.Step.TheVariants as step
-use Rattle.vm_defs.specs.Decode.{decode}
-use Rattle.vm_defs.specs.Instruction.{cycles}
+use Rattle.isa_defs.specs.Decode.{decode}
+use Rattle.isa_defs.specs.Instruction.{cycles}
 use Rattle.vm_defs.specs.Memory.{Memory, fetch}
 use Rattle.vm_defs.specs.Step.{Machine, with_register, write, jump, branch, loaded, stored, effect, execute, with_word, step_of, charged, is_spent}
 use Rattle.vm_defs.specs.Program.{ended_by, run_for, run, Ending, GoesOnWithinBudget, RunsStepByStep}

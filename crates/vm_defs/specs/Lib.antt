@@ -1,9 +1,3 @@
-pub mod Instruction
-pub mod Row
-pub mod Table
-pub mod Compressed
-pub mod Decode
-pub mod Alu
 pub mod Memory
 pub mod Step
 pub mod Elf

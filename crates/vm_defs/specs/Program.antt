@@ -6,7 +6,7 @@ use Rattle.vm_defs.specs.declared.step.Step.{Step}
 use Rattle.vm_defs.specs.declared.step.Step.TheVariants as step
 use Rattle.vm_defs.specs.declared.outcome.Outcome.{Outcome}
 use Rattle.vm_defs.specs.declared.outcome.Outcome.TheVariants.{Exit, Fault, Spent}
-use Rattle.vm_defs.specs.Alu.{signed}
+use Rattle.isa_defs.specs.Alu.{signed}
 use Rattle.vm_defs.specs.Memory.{Memory}
 use Rattle.vm_defs.specs.Step.{Machine, register, step_of, charged, is_spent}
 use Rattle.vm_defs.specs.Elf as elf

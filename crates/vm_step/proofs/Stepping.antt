@@ -1,14 +1,14 @@
 -- A step in its order.
 use Rattle.std.proofs.Common.{◌≡◌, ◌≢◌, ℕ, ◌%◌, Option, Some, None, Result, Ok, Err, refl, sym, ap, subst, ◌∙◌, eq-eqb}
-use Rattle.vm_defs.specs.declared.ins.Ins.{Ins}
+use Rattle.isa_defs.specs.declared.ins.Ins.{Ins}
 use Rattle.vm_defs.specs.declared.memory.MemFault.{MemFault}
 use Rattle.vm_defs.specs.declared.step.Step.{Step}
 use Rattle.vm_defs.specs.declared.step.Step.TheVariants.{Fault}
-use Rattle.vm_defs.specs.Decode.{decode}
-use Rattle.vm_defs.specs.Instruction.{cycles}
+use Rattle.isa_defs.specs.Decode.{decode}
+use Rattle.isa_defs.specs.Instruction.{cycles}
 use Rattle.vm_defs.specs.Memory.{fetch}
 use Rattle.vm_defs.specs.Step.{Machine, charged, effect, execute, fault_number, step_of, with_word}
-use Rattle.vm_defs.proofs.RowLaws.{not_equal}
+use Rattle.isa_defs.proofs.RowLaws.{not_equal}
 use Rattle.vm_step.specs.Running.{RunningMachine, Steps, decoded_range, fetched_range, next_range, paying, stored_range}
 
 -- ---- the instruction

@@ -1,11 +1,11 @@
 -- A machine that runs: what contracts see of it, and what a step of it does.
 use Rattle.std.specs.Prelude.{◌≡◌, ◌≢◌, ℕ, ℤ, Bool, true, false, List, Option, Some, None, IfSome, Result, Ok, Err, if◌then◌else◌}
-use Rattle.vm_defs.specs.declared.ins.Ins.{Ins}
-use Rattle.vm_defs.specs.declared.ins.Ins.TheVariants.{Sb, Sh, Sw, Sd}
+use Rattle.isa_defs.specs.declared.ins.Ins.{Ins}
+use Rattle.isa_defs.specs.declared.ins.Ins.TheVariants.{Sb, Sh, Sw, Sd}
 use Rattle.vm_defs.specs.declared.memory.MemFault.{MemFault}
 use Rattle.vm_defs.specs.declared.step.Step.{Step}
 use Rattle.vm_defs.specs.declared.step.Step.TheVariants.{Went, Ecall, Fault, Spent, NoMemory}
-use Rattle.vm_defs.specs.Decode.{decode}
+use Rattle.isa_defs.specs.Decode.{decode}
 use Rattle.vm_defs.specs.Memory.{fetch}
 use Rattle.vm_defs.specs.Step.{Machine, charged, is_spent, moved, register}
 use Rattle.vm_mem.specs.Pages.{IsMade, AreMade}

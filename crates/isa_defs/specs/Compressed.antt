@@ -3,10 +3,10 @@
 -- A row has the mask of the fields that are fixed, their value, and the patterns that are reserved or
 -- belong to another row.
 use Rattle.std.specs.Prelude.{ℕ, ℤ, pos, ◌+◌, List, [], ◌∷◌, ◌++◌}
-use Rattle.vm_defs.specs.declared.ins.Ins.{Ins}
-use Rattle.vm_defs.specs.declared.ins.Ins.TheVariants.{Lui, Jal, Jalr, Beq, Bne, Lw, Ld, Sw, Sd, Addi, Andi, Slli, Srli, Srai, Addiw, Add, Sub, Xor, Or, And, Addw, Subw, Ebreak}
-use Rattle.vm_defs.specs.Instruction.{bits, part, sign_extended}
-use Rattle.vm_defs.specs.Row.{Row, Pattern}
+use Rattle.isa_defs.specs.declared.ins.Ins.{Ins}
+use Rattle.isa_defs.specs.declared.ins.Ins.TheVariants.{Lui, Jal, Jalr, Beq, Bne, Lw, Ld, Sw, Sd, Addi, Andi, Slli, Srli, Srai, Addiw, Add, Sub, Xor, Or, And, Addw, Subw, Ebreak}
+use Rattle.isa_defs.specs.Instruction.{bits, part, sign_extended}
+use Rattle.isa_defs.specs.Row.{Row, Pattern}
 
 -- ---- registers ("Compressed Instruction Formats")
 

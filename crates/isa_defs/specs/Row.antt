@@ -1,7 +1,7 @@
 -- A row of the instruction table, and the row that a word matches.
 use Rattle.std.specs.Prelude.{◌≡◌, ◌<◌, ◌^◌, IsTrue, slice_get, ℕ, Bool, false, List, [], ◌∷◌, Option, Some, None, bit_and, ◌==◌, if◌then◌else◌}
 use Rattle.std.specs.List.{list_any}
-use Rattle.vm_defs.specs.declared.ins.Ins.{Ins}
+use Rattle.isa_defs.specs.declared.ins.Ins.{Ins}
 
 -- a word fits a pattern where its bits under the mask are those of the value
 pub record Pattern : Type 0 where

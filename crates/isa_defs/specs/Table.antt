@@ -2,10 +2,10 @@
 -- RISC-V manual lists them ("RV32/64G Instruction Set Listings"). A row has the mask of the fields
 -- that are fixed, their value, and the operands.
 use Rattle.std.specs.Prelude.{ℕ, ℤ, pos, ◌+◌, List, [], ◌∷◌, ◌++◌}
-use Rattle.vm_defs.specs.declared.ins.Ins.{Ins}
-use Rattle.vm_defs.specs.declared.ins.Ins.TheVariants.{Lui, Auipc, Jal, Jalr, Beq, Bne, Blt, Bge, Bltu, Bgeu, Lb, Lh, Lw, Ld, Lbu, Lhu, Lwu, Sb, Sh, Sw, Sd, Addi, Slti, Sltiu, Xori, Ori, Andi, Slli, Srli, Srai, Addiw, Slliw, Srliw, Sraiw, Add, Sub, Sll, Slt, Sltu, Xor, Srl, Sra, Or, And, Mul, Mulh, Mulhsu, Mulhu, Div, Divu, Rem, Remu, Addw, Subw, Sllw, Srlw, Sraw, Mulw, Divw, Divuw, Remw, Remuw, Fence, FenceI, Ecall, Ebreak}
-use Rattle.vm_defs.specs.Instruction.{bits, part, sign_extended}
-use Rattle.vm_defs.specs.Row.{Row}
+use Rattle.isa_defs.specs.declared.ins.Ins.{Ins}
+use Rattle.isa_defs.specs.declared.ins.Ins.TheVariants.{Lui, Auipc, Jal, Jalr, Beq, Bne, Blt, Bge, Bltu, Bgeu, Lb, Lh, Lw, Ld, Lbu, Lhu, Lwu, Sb, Sh, Sw, Sd, Addi, Slti, Sltiu, Xori, Ori, Andi, Slli, Srli, Srai, Addiw, Slliw, Srliw, Sraiw, Add, Sub, Sll, Slt, Sltu, Xor, Srl, Sra, Or, And, Mul, Mulh, Mulhsu, Mulhu, Div, Divu, Rem, Remu, Addw, Subw, Sllw, Srlw, Sraw, Mulw, Divw, Divuw, Remw, Remuw, Fence, FenceI, Ecall, Ebreak}
+use Rattle.isa_defs.specs.Instruction.{bits, part, sign_extended}
+use Rattle.isa_defs.specs.Row.{Row}
 
 -- ---- operands ("Base Instruction Formats")
 

@@ -2,13 +2,13 @@
 use Rattle.std.proofs.Common.{subst, sym, ◌≡◌, ◌≢◌, ℕ, ◌/◌, ◌%◌, ◌^◌, ◌<◌, Bool, true, false, cond, ◌==◌, List, [], ◌∷◌, Option, Some, None, IfSome, ap, lit<, arith}
 use Rattle.std.specs.Option.{option_map}
 use Rattle.std.proofs.lemmas.Nat.{mod_below}
-use Rattle.vm_defs.specs.declared.ins.Ins.{Ins}
-use Rattle.vm_defs.specs.Instruction.{bits, HasRegisters}
-use Rattle.vm_defs.specs.Row.{Row, matches, encoded_in}
-use Rattle.vm_defs.specs.Table.{rd, rs1, rs2, full_forms}
-use Rattle.vm_defs.specs.Compressed.{c_rd, c_rs2, c_short_rs1, c_short_rs2, zero_register, return_address, stack_pointer, compressed_forms}
-use Rattle.vm_defs.specs.Decode.{decode, with_length}
-use Rattle.vm_defs.proofs.RowLaws.{not_equal}
+use Rattle.isa_defs.specs.declared.ins.Ins.{Ins}
+use Rattle.isa_defs.specs.Instruction.{bits, HasRegisters}
+use Rattle.isa_defs.specs.Row.{Row, matches, encoded_in}
+use Rattle.isa_defs.specs.Table.{rd, rs1, rs2, full_forms}
+use Rattle.isa_defs.specs.Compressed.{c_rd, c_rs2, c_short_rs1, c_short_rs2, zero_register, return_address, stack_pointer, compressed_forms}
+use Rattle.isa_defs.specs.Decode.{decode, with_length}
+use Rattle.isa_defs.proofs.RowLaws.{not_equal}
 
 -- ---- a compressed form is decoded from its two bytes
 

@@ -3,10 +3,10 @@
 -- in a compressed form, of 2.
 use Rattle.std.specs.Prelude.{◌≡◌, ℕ, ◌%◌, ◌^◌, ◌<◌, ◌==◌, Option, Some, if◌then◌else◌}
 use Rattle.std.specs.Option.{option_map}
-use Rattle.vm_defs.specs.declared.ins.Ins.{Ins}
-use Rattle.vm_defs.specs.Row.{encoded_in}
-use Rattle.vm_defs.specs.Table.{full_forms}
-use Rattle.vm_defs.specs.Compressed.{compressed_forms}
+use Rattle.isa_defs.specs.declared.ins.Ins.{Ins}
+use Rattle.isa_defs.specs.Row.{encoded_in}
+use Rattle.isa_defs.specs.Table.{full_forms}
+use Rattle.isa_defs.specs.Compressed.{compressed_forms}
 
 abbrev pub with_length : ℕ → Ins → Ins × ℕ
 with_length length instruction = (instruction, length)

@@ -3,8 +3,8 @@
 use Rattle.std.specs.Prelude.{ℕ, ◌+◌, ◌-◌, ◌*◌, ◌/◌, ◌%◌, ◌^◌, ◌==◌, nat_lt, ℤ, pos, negsuc, ◌*ℤ◌, if◌then◌else◌, bit_and, bit_or, bit_xor}
 use Rattle.std.specs.Int.{Width, w32, w64, cast_signed, cast_unsigned, int_shr}
 use Rattle.std.specs.Int.RustNames.{int_lt, int_div, int_rem}
-use Rattle.vm_defs.specs.declared.alu.Alu.{Alu}
-use Rattle.vm_defs.specs.declared.alu.Alu.TheVariants.{Add, Sub, Sll, Slt, Sltu, Xor, Srl, Sra, Or, And, Addw, Subw, Sllw, Srlw, Sraw, Mul, Mulh, Mulhsu, Mulhu, Div, Divu, Rem, Remu, Mulw, Divw, Divuw, Remw, Remuw}
+use Rattle.isa_defs.specs.declared.alu.Alu.{Alu}
+use Rattle.isa_defs.specs.declared.alu.Alu.TheVariants.{Add, Sub, Sll, Slt, Sltu, Xor, Srl, Sra, Or, And, Addw, Subw, Sllw, Srlw, Sraw, Mul, Mulh, Mulhsu, Mulhu, Div, Divu, Rem, Remu, Mulw, Divw, Divuw, Remw, Remuw}
 
 -- the bits of a number in two's complement, from -2 ^ (width - 1) to 2 ^ width - 1, and the number that bits stand for
 abbrev pub bits_of : Width → ℤ → ℕ

@@ -3,10 +3,10 @@ use Rattle.std.proofs.Common.{◌≡◌, ℕ, zero, suc, ◌+◌, ◌-◌, ◌<�
 use Rattle.std.specs.List.{list_any, list_all}
 use Rattle.std.proofs.lemmas.Bool.{eq-eqb}
 use Rattle.std.proofs.lemmas.Bool.Decides.{nat_tests}
-use Rattle.vm_defs.specs.Row.{Row, Pattern, fits, matches, IsUnambiguous, HasWords}
-use Rattle.vm_defs.specs.Table.{full_forms}
-use Rattle.vm_defs.specs.Compressed.{compressed_forms}
-use Rattle.vm_defs.proofs.RowLaws.{and_swap, both_true, equal_from_true, implied}
+use Rattle.isa_defs.specs.Row.{Row, Pattern, fits, matches, IsUnambiguous, HasWords}
+use Rattle.isa_defs.specs.Table.{full_forms}
+use Rattle.isa_defs.specs.Compressed.{compressed_forms}
+use Rattle.isa_defs.proofs.RowLaws.{and_swap, both_true, equal_from_true, implied}
 
 -- ---- rows that no word matches both
 
