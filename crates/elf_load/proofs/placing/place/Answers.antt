@@ -1,7 +1,7 @@
 use Rattle.std.proofs.Common.{ap, ◌∙◌, arith}
-use Rattle.elf_load.specs.Loading.{with_code}
-use Rattle.elf_load.proofs.Placing.{no_code-part, segment-placed}
-use Rattle.elf_load.proofs.loader.place.Goals as goal
+use Rattle.elf_load.specs.Placing.{with_code}
+use Rattle.elf_load.proofs.InMemory.{no_code-part, segment-placed}
+use Rattle.elf_load.proofs.placing.place.Goals as goal
 
 pub make_code-requires-clause-no_code : goal.make_code-requires-clause-no_code
 make_code-requires-clause-no_code c =

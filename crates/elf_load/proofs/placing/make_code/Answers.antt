@@ -1,7 +1,7 @@
 use Rattle.std.proofs.Common.{◌*◌, ◌∙◌, sym, refl}
 use Rattle.vm_defs.specs.Memory.{page_size}
-use Rattle.elf_load.proofs.Placing.{done-ok, set_code-ok, unrefused}
-use Rattle.elf_load.proofs.loader.make_code.Goals as goal
+use Rattle.elf_load.proofs.InMemory.{done-ok, set_code-ok, unrefused}
+use Rattle.elf_load.proofs.placing.make_code.Goals as goal
 
 pub unwrap-requires : goal.unwrap-requires
 unwrap-requires c =

@@ -13,7 +13,8 @@ use Rattle.vm_mem.specs.Pages.{AreMade}
 use Rattle.elf_load.specs.Loads.{AllMade}
 use Rattle.vm_mem.specs.declared.stop.MemStop.{MemStop}
 use Rattle.vm_mem.specs.declared.stop.MemStop.TheVariants.{Fault, NoMemory}
-use Rattle.elf_load.specs.Loading.{HasCode, makes_code, with_code, with_contents}
+use Rattle.elf_load.specs.Judging.{makes_code}
+use Rattle.elf_load.specs.Placing.{HasCode, with_code, with_contents}
 use Rattle.elf_load.proofs.Lists.{any-of_passes, any-weaker, passes-of_any}
 use Rattle.elf_load.proofs.Touching.{clash-of_code, touches-from, touches-of_span, touches-parts}
 use Rattle.vm_defs.proofs.Overwritten.{overwritten-more}

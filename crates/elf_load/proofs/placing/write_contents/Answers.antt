@@ -1,7 +1,7 @@
 use Rattle.std.proofs.Common.{◌-◌, ◌∙◌, ℕ, Err, ap}
 use Rattle.vm_defs.specs.Memory.{store}
-use Rattle.elf_load.proofs.Placing.{bytes-made, bytes-stored, contents-stored, done-ok, stored-unrefused, unrefused}
-use Rattle.elf_load.proofs.loader.write_contents.Goals as goal
+use Rattle.elf_load.proofs.InMemory.{bytes-made, bytes-stored, contents-stored, done-ok, stored-unrefused, unrefused}
+use Rattle.elf_load.proofs.placing.write_contents.Goals as goal
 
 pub unreachable-requires : goal.unreachable-requires
 unreachable-requires c =
