@@ -3,7 +3,8 @@ use Rattle.std.specs.Prelude.{◌≡◌, ℕ, ◌+◌, ◌≤◌, List, length, 
 use Rattle.std.specs.Io.KnownBytes.{IsAtEnd}
 use Rattle.vm_defs.specs.declared.outcome.Outcome.{Outcome}
 use Rattle.vm_defs.specs.Step.{step_of}
-use Rattle.vm_defs.specs.Program.{Ending, ended_by}
+use Rattle.vm_defs.specs.Elf.{Program}
+use Rattle.vm_defs.specs.Program.{Ending, ended_by, loading_cycles}
 use Rattle.vm_step.specs.Running.{RunningMachine}
 use Rattle.report_defs.specs.declared.status.Status.{Status}
 use Rattle.report_defs.specs.Report.{file_limit}
@@ -25,6 +26,11 @@ pub record IsUnread (status : Status) (given : List ℕ) : Type 0 where
 abbrev pub execution_of : Execution → Result Ending ℕ
 execution_of (Ended outcome cycles) = Ok (outcome, cycles)
 execution_of (BadElf condition) = Err condition
+
+-- the budget pays for the loading of the program that a file holds
+abbrev pub PaysForLoading : ℕ → Result Program ℕ → Type 0
+PaysForLoading budget (Ok program) = loading_cycles program.file_bytes ≤ budget
+PaysForLoading budget (Err condition) = ⊥
 
 -- a step was made, which ended the program so, or after which the machine goes on
 pub record Advances (old new : RunningMachine) (end : Option Outcome) : Type 0 where
