@@ -2,3 +2,4 @@ pub mod Memory
 pub mod Step
 pub mod Elf
 pub mod Program
+pub mod Alone
