@@ -1,4 +1,4 @@
 pub mod Lists
 pub mod Touching
-pub mod Placing
+pub mod InMemory
 pub mod Segments

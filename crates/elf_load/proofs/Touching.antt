@@ -9,7 +9,8 @@ use Rattle.vm_defs.specs.declared.memory.PageKind.{PageKind}
 use Rattle.vm_defs.specs.declared.memory.PageKind.TheVariants.{Data, Code}
 use Rattle.vm_defs.specs.Memory.{Memory, is_code, new_memory, overwritten, page_count}
 use Rattle.vm_defs.specs.Elf.{Segment, can_run, clashes, first_page, kinds_with, last_page, page_span, share_a_page}
-use Rattle.elf_load.specs.Loading.{HasCode, Marks, is_closed, kind_after, kind_of, makes_code, touches}
+use Rattle.elf_load.specs.Judging.{Marks, is_closed, kind_after, kind_of, makes_code, touches}
+use Rattle.elf_load.specs.Placing.{HasCode}
 use Rattle.elf_load.proofs.Lists.{any-of_passes, any-weaker, filled-behind, filled-within, length-overwritten, overwritten-before, passes-of_any, same-tests}
 
 -- ---- the pages of a segment

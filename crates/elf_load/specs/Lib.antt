@@ -1,2 +1,3 @@
+pub mod Judging
+pub mod Placing
 pub mod Loads
-pub mod Loading

@@ -2,7 +2,7 @@
 ghost use Rattle.std.specs.Prelude.{◌≡◌, ◌+◌, ◌≤◌, length, false};
 ghost use Rattle.vm_defs.specs.Memory.{is_out_of_range, page_count};
 ghost use Rattle.vm_defs.specs.Elf.{can_be_read, can_be_written, can_run, first_page, page_span, program_header_size};
-ghost use Rattle.elf_load.specs.Loading.{kind_of, loaded_at};
+ghost use Rattle.elf_load.specs.Judging.{kind_of, loaded_at};
 
 use super::field::{u32_at, u64_at};
 use std::marker::Model;

@@ -6,7 +6,7 @@ use Rattle.std.proofs.lemmas.List.{get_or-map, length-map, map-set, set-get_or, 
 use Rattle.std.proofs.lemmas.List.Elements.{All-set}
 use Rattle.std.proofs.lemmas.Bool.{false≢true, cases_eq}
 use Rattle.vm_defs.specs.Memory.{page_size, page_count, memory_size, overwritten}
-use Rattle.vm_mem.specs.Pages.{IsPage, IsMade, whole, is_made, Pages, pages_of, written}
+use Rattle.vm_mem.specs.Pages.{IsPage, IsMade, IsMarked, whole, is_made, Pages, pages_of, written}
 use Rattle.vm_mem.proofs.Paging.{write-concat}
 use Rattle.vm_mem.proofs.Placed.{wholes, below-wholes, page-below, place-is}
 use Rattle.vm_mem.proofs.Wholes.{whole-empty}
@@ -31,9 +31,20 @@ through-same f g pages page new i is h same =
 pub sound : {X : Type 0} (f : X → List ℕ) (pages : List X) (new : X) (i : ℕ) → AreSound f pages → IsPage (f new) → AreSound f (set pages i new)
 sound f pages new i all is = (length-set pages i new ∙ all.0, All-set (λ page. IsPage (f page)) pages i new is all.1)
 
-whole-zeros : (page : List ℕ) → page ≡ replicate page_size 0 → whole page ≡ replicate page_size 0
+pub whole-zeros : (page : List ℕ) → page ≡ replicate page_size 0 → whole page ≡ replicate page_size 0
 unfolding whole
 whole-zeros page is = rw is refl
+
+-- a new page keeps the marks right
+pub marked : {X : Type 0} (f : X → List ℕ) (d : X → Bool) (pages : List X) (new : X) (i : ℕ) → All (λ page. IsMarked (d page) (f page)) pages
+    → IsMarked (d new) (f new) → All (λ page. IsMarked (d page) (f page)) (set pages i new)
+marked f d pages new i all is = All-set (λ page. IsMarked (d page) (f page)) pages i new is all
+
+pub zeros-are-marked : (dirty : Bool) (page : List ℕ) → dirty ≡ false → page ≡ replicate page_size 0 → IsMarked dirty page
+zeros-are-marked dirty page clean is = rw clean (whole-zeros page is)
+
+pub full-is-marked : (dirty : Bool) (page : List ℕ) → dirty ≡ true → length page ≡ page_size → IsMarked dirty page
+full-is-marked dirty page is full = rw is full
 
 pub zeros-are-page : (page : List ℕ) → page ≡ replicate page_size 0 → IsPage page
 zeros-are-page page is = inr (rw is refl)

@@ -1,9 +1,9 @@
 -- Pages that were never stored to.
-use Rattle.std.proofs.Common.{◌≡◌, ℕ, zero, suc, ◌+◌, ◌*◌, ◌<◌, ◌≤◌, false, List, [], ◌∷◌, ◌++◌, length, replicate, get_or, map, refl, sym, ◌∙◌, ap, arith, inl}
+use Rattle.std.proofs.Common.{◌≡◌, ℕ, zero, suc, ◌+◌, ◌*◌, ◌<◌, ◌≤◌, Bool, false, List, [], ◌∷◌, ◌++◌, length, replicate, get_or, map, refl, sym, ◌∙◌, ap, arith, inl}
 use Rattle.std.specs.List.{concat}
 use Rattle.std.proofs.lemmas.List.{length-map, length-replicate, get_or-map, get_or-replicate, map-append}
 use Rattle.vm_defs.specs.Memory.{page_size, page_count, memory_size}
-use Rattle.vm_mem.specs.Pages.{whole, is_made}
+use Rattle.vm_mem.specs.Pages.{IsMarked, whole, is_made}
 use Rattle.vm_mem.proofs.Edited.{AreSound}
 use Rattle.vm_mem.proofs.Wholes.{whole-empty}
 
@@ -31,6 +31,9 @@ new-sound f pages is = (
 
 whole-nil : whole [] ≡ replicate page_size 0
 whole-nil = whole-empty [] refl
+
+pub nothing-is-marked : (dirty : Bool) (page : List ℕ) → dirty ≡ false → page ≡ [] → IsMarked dirty page
+nothing-is-marked dirty page clean none = rw (clean, none) whole-nil
 
 zero-pages : (w : List ℕ → List ℕ) (n k : ℕ) → w [] ≡ replicate n 0 → concat (map w (replicate k [])) ≡ replicate (n * k) 0
 zero-pages w n zero is = let e : n * zero ≡ zero = omega arith in rw e refl

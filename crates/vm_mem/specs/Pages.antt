@@ -1,5 +1,5 @@
 -- Pages that take memory only once they are stored to: the bytes of such a page, or none.
-use Rattle.std.specs.Prelude.{◌≡◌, ℕ, ◌+◌, ◌/◌, ◌<◌, ◌==◌, nat_lt, Bool, false, IsTrue, slice_index_or, List, length, map, replicate, if◌then◌else◌, ◌⊎◌}
+use Rattle.std.specs.Prelude.{◌≡◌, ℕ, ◌+◌, ◌/◌, ◌<◌, ◌==◌, nat_lt, Bool, true, false, IsTrue, slice_index_or, List, length, map, replicate, if◌then◌else◌, ◌⊎◌}
 use Rattle.std.specs.List.{concat}
 use Rattle.vm_defs.specs.Memory.{page_size, overwritten}
 
@@ -17,6 +17,11 @@ is_made page = nat_lt 0 (length page)
 
 abbrev pub IsPage : List ℕ → Type 0
 IsPage page = (length page ≡ 0) ⊎ (length page ≡ page_size)
+
+-- A page that is dirty has room of its own, and any other is zero.
+abbrev pub IsMarked : Bool → List ℕ → Type 0
+IsMarked true page = length page ≡ page_size
+IsMarked false page = whole page ≡ replicate page_size 0
 
 abbrev pub pages_of : List (List ℕ) → Pages
 pages_of contents = record { bytes = concat (map whole contents); made = map is_made contents }

@@ -4,6 +4,7 @@ ghost use Rattle.vm_defs.specs.Memory.{number_of, memory_size, page_size, page_c
 ghost use Rattle.vm_mem.specs.Pages.{AreMade, IsMade, IsUnder, written};
 
 use super::page;
+use super::page::Page;
 use outside::NoMemory;
 use std::alloc::Global;
 use std::marker::Model;
@@ -15,7 +16,7 @@ pub(crate) const PAGE_COUNT: usize = 1024;
 /// All bytes of memory, and which pages have room of their own.
 #[derive(Drop)]
 pub(crate) struct Pages {
-    pages: Vec<Vec<u8>>,
+    pages: Vec<Page>,
 }
 
 impl Model for Pages {
@@ -26,9 +27,10 @@ impl Model for Pages {
 
     ghost Value = { spec.Pages };
 
-    ghost view = { λ p. spec.pages_of (map (λ page. page.items) p.pages.items) };
+    ghost view = { λ p. spec.pages_of (map (λ page. page.bytes.items) p.pages.items) };
 
-    ghost invariant = { λ p. (length p.pages.items ≡ page_count) × All (λ page. spec.IsPage page.items) p.pages.items };
+    ghost invariant = { λ p. ((length p.pages.items ≡ page_count) × All (λ page. spec.IsPage page.bytes.items) p.pages.items)
+        × All (λ page. spec.IsMarked page.is_dirty page.bytes.items) p.pages.items };
 }
 
 impl Pages {
@@ -40,7 +42,7 @@ impl Pages {
     {
         let mut pages = Vec::with_capacity(alloc, PAGE_COUNT)?;
         for _ in 0..PAGE_COUNT {
-            pages.push(Vec::new(alloc))?;
+            pages.push(Page::new(alloc))?;
         }
         Ok(Pages { pages })
     }
@@ -51,7 +53,7 @@ impl Pages {
         requires { at + 1 ≤ memory_size }
         ensures { result ≡ number_of (slice_range self.now.bytes at (at + 1)) }
     {
-        page::read_u8(&self.pages[at / PAGE_SIZE], at % PAGE_SIZE)
+        page::read_u8(&self.pages[at / PAGE_SIZE].bytes, at % PAGE_SIZE)
     }
 
     #[tactic(auto, unfolding(vm_defs::specs::Memory::memory_size, vm_defs::specs::Memory::page_count))]
@@ -63,7 +65,7 @@ impl Pages {
         if at % PAGE_SIZE > PAGE_SIZE - 2 {
             return self.read_u16_over_pages(at);
         }
-        page::read_u16(&self.pages[at / PAGE_SIZE], at % PAGE_SIZE)
+        page::read_u16(&self.pages[at / PAGE_SIZE].bytes, at % PAGE_SIZE)
     }
 
     // A number over two pages is rare, and stays out of the code that reads one.
@@ -87,7 +89,7 @@ impl Pages {
         if at % PAGE_SIZE > PAGE_SIZE - 4 {
             return self.read_u32_over_pages(at);
         }
-        page::read_u32(&self.pages[at / PAGE_SIZE], at % PAGE_SIZE)
+        page::read_u32(&self.pages[at / PAGE_SIZE].bytes, at % PAGE_SIZE)
     }
 
     // As for two bytes.
@@ -111,7 +113,7 @@ impl Pages {
         if at % PAGE_SIZE > PAGE_SIZE - 8 {
             return self.read_u64_over_pages(at);
         }
-        page::read_u64(&self.pages[at / PAGE_SIZE], at % PAGE_SIZE)
+        page::read_u64(&self.pages[at / PAGE_SIZE].bytes, at % PAGE_SIZE)
     }
 
     // As for two bytes.
@@ -132,7 +134,7 @@ impl Pages {
         requires { page < page_count }
         ensures { result ≡ slice_index_or self.now.made page false }
     {
-        !self.pages[page].is_empty()
+        !self.pages[page].bytes.is_empty()
     }
 
     // Gives one page room of its own.
@@ -146,8 +148,8 @@ impl Pages {
         ensures only { (other : ℕ) → IsMade self.new.made other → IsMade self.old.made other ⊎ (other ≡ page) }
         ensures again { IsMade self.old.made page → IsOk result }
     {
-        if self.pages[page].is_empty() {
-            self.pages[page] = vec![in alloc; 0u8; PAGE_SIZE]?;
+        if self.pages[page].bytes.is_empty() {
+            self.pages[page] = Page::zeros(alloc)?;
         }
         Ok(())
     }
@@ -183,7 +185,7 @@ impl Pages {
         requires within { at % page_size + length bytes.now ≤ page_size }
         ensures { self.new ≡ written self.old at bytes.now }
     {
-        page::overwrite(&mut self.pages[at / PAGE_SIZE], at % PAGE_SIZE, bytes);
+        self.pages[at / PAGE_SIZE].write(at % PAGE_SIZE, bytes);
     }
 
     /// Writes bytes to pages that have room of their own.
@@ -211,10 +213,10 @@ impl Pages {
         requires within { at % page_size + count ≤ page_size }
         ensures { self.new ≡ written self.old at (replicate count 0) }
     {
-        page::clear(&mut self.pages[at / PAGE_SIZE], at % PAGE_SIZE, count);
+        self.pages[at / PAGE_SIZE].clear(at % PAGE_SIZE, count);
     }
 
-    /// Makes bytes zero, and takes no memory.
+    /// Makes bytes zero, and takes no memory. The cost is that of the dirty pages, and one look at each other page.
     #[tactic(auto, unfolding(vm_defs::specs::Memory::memory_size, vm_defs::specs::Memory::page_count))]
     #[inline]
     pub(crate) fn clear(&mut self, at: usize, count: usize)

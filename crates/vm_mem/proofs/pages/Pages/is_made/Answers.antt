@@ -6,4 +6,4 @@ use Rattle.vm_mem.proofs.pages.Pages.is_made.Goals as goal
 pub returns : goal.returns
 unfolding page_count
 returns c = rw (← c.self.view_is)
-    (made-is (λ page. page.items) c.self.inside.pages.items c.index.result.now c.args.page c.is_empty.result c.index.ensures (search rules) (search rules))
+    (made-is (λ page. page.bytes.items) c.self.inside.pages.items c.index.result.now c.args.page c.is_empty.result c.index.ensures (search rules) (search rules))

@@ -1,38 +1,41 @@
 use Rattle.std.proofs.Common.{rules}
 use Rattle.vm_defs.specs.Memory.{page_count}
-use Rattle.vm_mem.proofs.Edited.{empty-not-made, full-is-made, make-bytes, make-is-made, make-only, make-stays, sound, zeros-are-page}
+use Rattle.vm_mem.proofs.Edited.{empty-not-made, full-is-made, make-bytes, make-is-made, make-only, make-stays, marked, sound, zeros-are-marked, zeros-are-page}
 use Rattle.vm_mem.proofs.pages.Pages.make_page.Goals as goal
 
 pub returns-in_err-self-inside-clause-again : goal.returns-in_err-self-inside-clause-again
 unfolding page_count
 returns-in_err-self-inside-clause-again c = rw (← c.self.view_is) (λ made. absurd
-    (empty-not-made (λ page. page.items) c.self.inside.pages.items c.index.result.now c.args.page c.index.ensures (search rules) (search rules) made))
+    (empty-not-made (λ page. page.bytes.items) c.self.inside.pages.items c.index.result.now c.args.page c.index.ensures (search rules) (search rules) made))
 
 pub invariant_of-self : goal.invariant_of-self
-invariant_of-self c =
-    sound (λ page. page.items) c.self.inside.pages.items c.in_ok-self-inside.field-0 c.args.page c.self.invariant
-    (zeros-are-page c.in_ok-self-inside.field-0.items (search rules))
+invariant_of-self c = (
+  sound (λ page. page.bytes.items) c.self.inside.pages.items c.in_ok-self-inside.field-0 c.args.page c.self.invariant.0
+      (zeros-are-page c.in_ok-self-inside.field-0.bytes.items c.in_ok-self-inside.ensures.bytes),
+  marked (λ page. page.bytes.items) (λ page. page.is_dirty) c.self.inside.pages.items c.in_ok-self-inside.field-0 c.args.page c.self.invariant.1
+      (zeros-are-marked c.in_ok-self-inside.field-0.is_dirty c.in_ok-self-inside.field-0.bytes.items c.in_ok-self-inside.ensures.clean c.in_ok-self-inside.ensures.bytes),
+)
 
 pub returns-in_ok-self-inside-clause-bytes : goal.returns-in_ok-self-inside-clause-bytes
 unfolding page_count
 returns-in_ok-self-inside-clause-bytes c = rw (← c.self.view_is)
-    (make-bytes (λ page. page.items) c.self.inside.pages.items c.index.result.now c.in_ok-self-inside.field-0 c.args.page c.index.ensures (search rules) (search rules) (search rules))
+    (make-bytes (λ page. page.bytes.items) c.self.inside.pages.items c.index.result.now c.in_ok-self-inside.field-0 c.args.page c.index.ensures (search rules) (search rules) (search rules))
 
 pub returns-in_ok-self-inside-clause-made : goal.returns-in_ok-self-inside-clause-made
 unfolding page_count
 returns-in_ok-self-inside-clause-made c =
-    make-is-made (λ page. page.items) c.self.inside.pages.items c.in_ok-self-inside.field-0 c.args.page (search rules) (search rules)
+    make-is-made (λ page. page.bytes.items) c.self.inside.pages.items c.in_ok-self-inside.field-0 c.args.page (search rules) (search rules)
 
 pub returns-in_ok-self-inside-clause-stay : goal.returns-in_ok-self-inside-clause-stay
 unfolding page_count
 returns-in_ok-self-inside-clause-stay c = rw (← c.self.view_is)
-    (make-stays (λ page. page.items) c.self.inside.pages.items c.in_ok-self-inside.field-0 c.args.page (search rules) (search rules))
+    (make-stays (λ page. page.bytes.items) c.self.inside.pages.items c.in_ok-self-inside.field-0 c.args.page (search rules) (search rules))
 
 pub returns-in_ok-self-inside-clause-only : goal.returns-in_ok-self-inside-clause-only
 returns-in_ok-self-inside-clause-only c = rw (← c.self.view_is)
-    (make-only (λ page. page.items) c.self.inside.pages.items c.in_ok-self-inside.field-0 c.args.page (search rules))
+    (make-only (λ page. page.bytes.items) c.self.inside.pages.items c.in_ok-self-inside.field-0 c.args.page (search rules))
 
 pub returns-else-is_empty-clause-made : goal.returns-else-is_empty-clause-made
 unfolding page_count
 returns-else-is_empty-clause-made c = rw (← c.self.view_is)
-    (full-is-made (λ page. page.items) c.self.inside.pages.items c.index.result.now c.args.page c.index.ensures (search rules) (search rules))
+    (full-is-made (λ page. page.bytes.items) c.self.inside.pages.items c.index.result.now c.args.page c.index.ensures (search rules) (search rules))
