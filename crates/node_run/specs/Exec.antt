@@ -2,9 +2,10 @@
 use Rattle.std.specs.Prelude.{◌≡◌, ℕ, ◌+◌, ◌≤◌, List, length, true, Option, None, Result, Ok, Err}
 use Rattle.std.specs.Io.KnownBytes.{IsAtEnd}
 use Rattle.vm_defs.specs.declared.outcome.Outcome.{Outcome}
-use Rattle.vm_defs.specs.Step.{step_of}
+use Rattle.vm_defs.specs.Alone.{answer_ecall}
 use Rattle.vm_defs.specs.Elf.{Program}
-use Rattle.vm_defs.specs.Program.{Ending, ended_by, loading_cycles}
+use Rattle.vm_defs.specs.Program as programs
+use Rattle.vm_defs.specs.Program.{advance, loading_cycles}
 use Rattle.vm_step.specs.Running.{RunningMachine}
 use Rattle.report_defs.specs.declared.status.Status.{Status}
 use Rattle.report_defs.specs.Report.{file_limit}
@@ -23,7 +24,7 @@ pub record IsUnread (status : Status) (given : List ℕ) : Type 0 where
   pub stop : IsReadingStop status
   pub most : length given ≤ file_limit
 
-abbrev pub execution_of : Execution → Result Ending ℕ
+abbrev pub execution_of : Execution → programs.Execution
 execution_of (Ended outcome cycles) = Ok (outcome, cycles)
 execution_of (BadElf condition) = Err condition
 
@@ -34,6 +35,5 @@ PaysForLoading budget (Err condition) = ⊥
 
 -- a step was made, which ended the program so, or after which the machine goes on
 pub record Advances (old new : RunningMachine) (end : Option Outcome) : Type 0 where
-  pub ended : end ≡ ended_by (step_of old.machine).0 (step_of old.machine).1
-  pub machine : new.machine ≡ (step_of old.machine).1
+  pub step : (end, new.machine) ≡ advance answer_ecall old.machine
   pub goes_on : end ≡ None → new.goes_on ≡ true

@@ -8,6 +8,7 @@ use Rattle.rule_defs.specs.declared.verdict.Verdict.{Verdict}
 use Rattle.rule_defs.specs.Genesis.{broken_genesis_rule}
 use Rattle.rule_defs.specs.Verdict.{verdict, kept_after, refuses}
 use Rattle.fold_defs.specs.Fold.{keep, verdicts}
+use Rattle.vm_defs.specs.Alone.{answer_ecall}
 use Rattle.vm_defs.specs.Program.{execution}
 use Rattle.report_defs.specs.declared.command.Command.{Command}
 use Rattle.report_defs.specs.declared.command.Command.TheVariants.{Import, Exec}
@@ -79,7 +80,7 @@ file_limit = 2 ^ 20
 abbrev pub report_of_file : ℕ → List ℕ → Report
 report_of_file budget file =
     if nat_lt file_limit (length file) then record { text = extra_line file_limit; status = ExtraInput }
-    else record { text = execution_line (execution budget file); status = Done }
+    else record { text = execution_line (execution answer_ecall budget file); status = Done }
 
 abbrev pub report_of_command : Option Command → List ℕ → Report
 report_of_command None input = record { text = []; status = BadWords }

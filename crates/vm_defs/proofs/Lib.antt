@@ -1,3 +1,4 @@
 pub mod Numbers
 pub mod Overwritten
 pub mod ProgramLaws
+pub mod CodeLaws
