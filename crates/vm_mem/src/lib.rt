@@ -8,6 +8,7 @@
 //! the start, is left to the layers above.
 #![tactic(auto)]
 
+mod laws;
 mod memory;
 mod page;
 mod pages;
@@ -15,6 +16,7 @@ mod stop;
 #[cfg(test)]
 mod tests;
 
+pub use laws::store_laws;
 pub use memory::Memory;
 pub use stop::MemStop;
 pub use vm_defs::{MemFault, PageKind, Width};
