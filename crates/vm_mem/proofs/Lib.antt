@@ -7,3 +7,4 @@ pub mod Making
 pub mod Overwriting
 pub mod Cleared
 pub mod WithinPage
+pub mod Slotted

@@ -8,7 +8,6 @@ ghost use Rattle.vm_step.specs.Lending.{LendsMemory};
 ghost use Rattle.vm_step.specs.Running.{HasRoom, Steps, goes_on_after, next_range};
 
 use super::fault::{NO_INSTRUCTION, fault_number};
-use rv_decode::decode;
 use std::marker::Model;
 use vm_defs::Step;
 use vm_mem::Memory;
@@ -88,13 +87,10 @@ impl Machine {
         if self.pc % 2 == 1 {
             return self.stop(Step::Fault(NO_INSTRUCTION));
         }
-        let word = match self.memory.fetch(self.pc) {
-            Ok(word) => word,
+        let (ins, length) = match self.memory.instruction(self.pc) {
+            Ok(Some(decoded)) => decoded,
+            Ok(None) => return self.stop(Step::Fault(NO_INSTRUCTION)),
             Err(fault) => return self.stop(Step::Fault(fault_number(fault))),
-        };
-        let (ins, length) = match decode(word) {
-            Some(decoded) => decoded,
-            None => return self.stop(Step::Fault(NO_INSTRUCTION)),
         };
         self.execute(ins, u64::from(length))
     }
