@@ -6,7 +6,8 @@ use Rattle.vm_defs.specs.declared.memory.MemFault.{MemFault}
 use Rattle.vm_defs.specs.declared.step.Step.{Step}
 use Rattle.vm_defs.specs.declared.step.Step.TheVariants.{Went, Ecall, Fault, Spent, NoMemory}
 use Rattle.vm_defs.specs.Code.{instruction_at}
-use Rattle.vm_defs.specs.Step.{Machine, charged, is_spent, moved, register}
+use Rattle.vm_defs.specs.Program.{Leads, stop_of}
+use Rattle.vm_defs.specs.Step.{Machine, charged, is_spent, moved, register, step_of}
 use Rattle.vm_mem.specs.Pages.{IsMade, AreMade}
 
 -- the machine, which of its pages have room of their own, and whether it may make another step
@@ -66,6 +67,25 @@ next_range machine = found_range machine (instruction_at machine.memory machine.
 -- the pages of the bytes, if any are stored to, have room of their own
 abbrev pub HasRoom : List Bool → Option ByteRange → Type 0
 HasRoom made range = IfSome range (λ bytes. AreMade made bytes.at bytes.count)
+
+-- ---- steps up to one that does not go
+
+-- They were made up to one that stores to a page which could not be made: the machine that they lead to, whose step
+-- would have gone, and what is left of it.
+pub record WantsPage (old : RunningMachine) (new : Machine) : Type 0 where
+  pub steps : ℕ
+  pub reached : Machine
+  pub leads : Leads steps old.machine reached
+  pub stores : Steps (step_of reached) reached new NoMemory
+  pub no_room : HasRoom old.made (next_range reached) → ⊥
+
+-- The machine before and after, and the answer to the last step.
+abbrev pub Stops : RunningMachine → Machine → Step → Type 0
+Stops old new Went = ⊥
+Stops old new Ecall = (Ecall, new) ≡ stop_of old.machine
+Stops old new (Fault number) = (Fault number, new) ≡ stop_of old.machine
+Stops old new Spent = (Spent, new) ≡ stop_of old.machine
+Stops old new NoMemory = WantsPage old new
 
 -- ---- one instruction
 
