@@ -7,10 +7,10 @@ use Rattle.vm_defs.specs.declared.memory.MemFault.{MemFault}
 use Rattle.vm_defs.specs.declared.outcome.Outcome.{Outcome}
 use Rattle.vm_defs.specs.declared.step.Step.{Step}
 use Rattle.vm_defs.specs.declared.step.Step.TheVariants as step
-use Rattle.isa_defs.specs.Decode.{decode}
 use Rattle.isa_defs.specs.Instruction.{cycles}
-use Rattle.vm_defs.specs.Memory.{Memory, fetch}
-use Rattle.vm_defs.specs.Step.{Machine, with_register, write, jump, branch, loaded, stored, effect, execute, with_word, step_of, charged, is_spent}
+use Rattle.vm_defs.specs.Memory.{Memory}
+use Rattle.vm_defs.specs.Code.{instruction_at}
+use Rattle.vm_defs.specs.Step.{Machine, with_register, write, jump, branch, loaded, stored, effect, execute, with_instruction, step_of, charged, is_spent}
 use Rattle.vm_defs.specs.Program.{Answer, answered, advance, followed, stop_within, stop_of, ended_or, run_for, run, Ended, KeepsAccount, StepKeepsAccount, GoesOnWithinBudget, HasStepsEnough, RunsStepByStep, RunsStopByStop, StopsStepByStep}
 use Rattle.vm_defs.specs.Alone.{answer_ecall, syscall_number}
 
@@ -132,14 +132,15 @@ unfolding execute
 execute-pays machine None = stopped-pays machine (step.Fault 4) (λ was. was)
 execute-pays machine (Some decoded) = paid-pays machine decoded.1 decoded.0 _ refl
 
-with_word-pays : (machine : Machine) (word : Result ℕ MemFault) → let next = with_word machine word in Pays machine next.0 next.1
-with_word-pays machine (Ok word) = execute-pays machine (decode word)
-with_word-pays machine (Err fault) = stopped-pays machine (step.Fault _) (λ was. was)
+with_instruction-pays : (machine : Machine) (found : Result (Option (Ins × ℕ)) MemFault)
+    → let next = with_instruction machine found in Pays machine next.0 next.1
+with_instruction-pays machine (Ok decoded) = execute-pays machine decoded
+with_instruction-pays machine (Err fault) = stopped-pays machine (step.Fault _) (λ was. was)
 
 even-pays : (machine : Machine) (odd : Bool)
-    → let next = cond odd (step.Fault 4, machine) (with_word machine (fetch machine.memory machine.pc)) in Pays machine next.0 next.1
+    → let next = cond odd (step.Fault 4, machine) (with_instruction machine (instruction_at machine.memory machine.pc)) in Pays machine next.0 next.1
 even-pays machine true = stopped-pays machine (step.Fault 4) (λ was. was)
-even-pays machine false = with_word-pays machine (fetch machine.memory machine.pc)
+even-pays machine false = with_instruction-pays machine (instruction_at machine.memory machine.pc)
 
 pub step-pays : (machine : Machine) → let next = step_of machine in Pays machine next.0 next.1
 unfolding step_of

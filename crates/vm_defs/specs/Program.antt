@@ -42,6 +42,11 @@ stop_within (suc steps) machine = let next = step_of machine in followed (stop_w
 abbrev pub stop_of : Machine → Step × Machine
 stop_of machine = stop_within (suc (machine.budget - machine.cycles)) machine
 
+-- So many steps, each of which went, lead from one machine to another.
+abbrev pub Leads : ℕ → Machine → Machine → Type 0
+Leads zero from to = to ≡ from
+Leads (suc steps) from to = (last : Machine) × Leads steps from last × ((step.Went, to) ≡ step_of last)
+
 -- ---- a run
 
 -- What an ECALL does: how it ends the program, if it does, and the machine after it.
@@ -59,6 +64,11 @@ answered answer step.NoMemory machine = (Some Spent, machine)
 
 abbrev pub advance : Answer → Machine → Option Outcome × Machine
 advance answer machine = let next = step_of machine in answered answer next.0 next.1
+
+-- So many steps, with their answers, lead a program from one machine to another.
+abbrev pub Reaches : Answer → ℕ → Machine → Machine → Type 0
+Reaches answer zero from to = to ≡ from
+Reaches answer (suc steps) from to = (last : Machine) × Reaches answer steps from last × ((None, to) ≡ advance answer last)
 
 -- how a program ended, and after how many cycles
 abbrev pub Ended : Type 0

@@ -11,8 +11,8 @@ use Rattle.vm_defs.specs.declared.memory.MemFault.TheVariants.{Range, WriteCode,
 use Rattle.vm_defs.specs.declared.step.Step.{Step}
 use Rattle.vm_defs.specs.declared.step.Step.TheVariants as step
 use Rattle.isa_defs.specs.Alu.{bits_of, signed, value}
-use Rattle.isa_defs.specs.Decode.{decode}
 use Rattle.isa_defs.specs.Instruction.{cycles}
+use Rattle.vm_defs.specs.Code.{instruction_at}
 use Rattle.vm_defs.specs.Memory as memory
 use Rattle.vm_defs.specs.Memory.{Memory}
 
@@ -186,11 +186,12 @@ execute machine (Some decoded) =
     let paid = charged machine (cycles decoded.0) in
     if is_spent paid then (step.Spent, paid) else effect paid decoded.1 decoded.0
 
-abbrev pub with_word : Machine → Result ℕ MemFault → Step × Machine
-with_word machine (Ok word) = execute machine (decode word)
-with_word machine (Err fault) = (step.Fault (fault_number fault), machine)
+abbrev pub with_instruction : Machine → Result (Option (Ins × ℕ)) MemFault → Step × Machine
+with_instruction machine (Ok decoded) = execute machine decoded
+with_instruction machine (Err fault) = (step.Fault (fault_number fault), machine)
 
 -- An odd address holds no instruction.
 unfoldable pub step_of : Machine → Step × Machine
 step_of machine =
-    if machine.pc % 2 == 1 then (step.Fault 4, machine) else with_word machine (memory.fetch machine.memory machine.pc)
+    if machine.pc % 2 == 1 then (step.Fault 4, machine)
+    else with_instruction machine (instruction_at machine.memory machine.pc)

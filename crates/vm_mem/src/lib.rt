@@ -11,12 +11,15 @@
 mod laws;
 mod memory;
 mod page;
+mod paged;
 mod pages;
+mod slot;
 mod stop;
 #[cfg(test)]
 mod tests;
 
 pub use laws::store_laws;
 pub use memory::Memory;
+pub use rv_decode::Ins;
 pub use stop::MemStop;
 pub use vm_defs::{MemFault, PageKind, Width};

@@ -5,10 +5,9 @@ ghost use Rattle.vm_defs.specs.Program.{new_machine};
 ghost use Rattle.vm_defs.specs.Step.{charged, is_spent, register, step_of, with_register};
 ghost use Rattle.vm_mem.specs.Pages.{IsMade};
 ghost use Rattle.vm_step.specs.Lending.{LendsMemory};
-ghost use Rattle.vm_step.specs.Running.{HasRoom, Steps, goes_on_after, next_range};
+ghost use Rattle.vm_step.specs.Running.{HasRoom, Steps, Stops, goes_on_after, next_range};
 
 use super::fault::{NO_INSTRUCTION, fault_number};
-use rv_decode::decode;
 use std::marker::Model;
 use vm_defs::Step;
 use vm_mem::Memory;
@@ -88,15 +87,30 @@ impl Machine {
         if self.pc % 2 == 1 {
             return self.stop(Step::Fault(NO_INSTRUCTION));
         }
-        let word = match self.memory.fetch(self.pc) {
-            Ok(word) => word,
+        let (ins, length) = match self.memory.instruction(self.pc) {
+            Ok(Some(decoded)) => decoded,
+            Ok(None) => return self.stop(Step::Fault(NO_INSTRUCTION)),
             Err(fault) => return self.stop(Step::Fault(fault_number(fault))),
         };
-        let (ins, length) = match decode(word) {
-            Some(decoded) => decoded,
-            None => return self.stop(Step::Fault(NO_INSTRUCTION)),
-        };
         self.execute(ins, u64::from(length))
+    }
+
+    /// Steps up to the first whose answer is not `Went`, and that answer.
+    ///
+    /// `NoMemory` comes only where the next step stores to a page that had no room of its own.
+    #[inline(never)]
+    pub fn run(&mut self) -> Step
+        requires { self.old.goes_on ≡ true }
+        ensures stops { Stops self.old self.new.machine result }
+        ensures goes_on { self.new.goes_on ≡ goes_on_after result }
+        ensures stay { (page : ℕ) → IsMade self.old.made page → IsMade self.new.made page }
+    {
+        'steps: loop {
+            match self.step() {
+                Step::Went => {}
+                answer => return answer,
+            }
+        }
     }
 
     /// Adds cycles, and says whether they are still within the budget.

@@ -1,6 +1,6 @@
 use Rattle.std.proofs.Common.{◌≢◌, ◌%◌, sym, subst}
 use Rattle.vm_mem.proofs.WithinPage.{page-of-kind, fetch-data, fetch-short, fetch-long}
-use Rattle.vm_mem.proofs.memory.Memory.fetch_in_page.Goals as goal
+use Rattle.vm_mem.proofs.paged.Paged.fetch_in_page.Goals as goal
 
 pub returns-in-Data : goal.returns-in-Data
 returns-in-Data c = rw (← c.self.view_is) (sym (fetch-data _ c.args.at

@@ -1,5 +1,5 @@
 use Rattle.vm_mem.proofs.WithinPage.{ready-store}
-use Rattle.vm_mem.proofs.memory.Memory.write_ready.Goals as goal
+use Rattle.vm_mem.proofs.paged.Paged.write_ready.Goals as goal
 
 pub returns-clause-store : goal.returns-clause-store
 returns-clause-store c =
