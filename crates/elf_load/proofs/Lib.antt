@@ -2,3 +2,4 @@ pub mod Lists
 pub mod Touching
 pub mod InMemory
 pub mod Segments
+pub mod ElfLaws

@@ -66,7 +66,7 @@ rest-next : (file : List ℕ) (count at : ℕ) → IsNext (loaded_at file at) (s
 unfolding segments_from
 rest-next file count at = by-test (is_loaded file at) (segment_at file at) (segments_from count file (at + program_header_size))
 
-both-none : (first later : Option ℕ) → first_of first later ≡ None → (first ≡ None) × (later ≡ None)
+pub both-none : (first later : Option ℕ) → first_of first later ≡ None → (first ≡ None) × (later ≡ None)
 both-none (Some condition) later h = absurd cc
 both-none None later h = (refl, h)
 

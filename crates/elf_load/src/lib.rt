@@ -10,6 +10,7 @@
 mod field;
 mod header;
 mod judging;
+mod laws;
 mod loader;
 mod placing;
 mod segment;
@@ -19,5 +20,6 @@ mod tests;
 mod touched;
 
 pub use judging::{Judged, judge};
+pub use laws::load_laws;
 pub use loader::{Entry, load};
 pub use stop::ElfStop;

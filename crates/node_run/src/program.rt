@@ -1,11 +1,12 @@
 // A program's run: what alone touches the machine.
-ghost use Rattle.std.specs.Prelude.{◌≡◌, ◌^◌, ◌≤◌, Some, true, IfOk};
+ghost use Rattle.std.specs.Prelude.{◌≡◌, ◌^◌, ◌≤◌, Some, Ok, true, IfOk, OnErr};
+ghost use Rattle.vm_defs.specs.Elf.{load_elf};
 ghost use Rattle.vm_defs.specs.Alone as alone;
 ghost use Rattle.vm_defs.specs.Program as programs;
-ghost use Rattle.vm_defs.specs.Program.{execution};
-ghost use Rattle.node_run.specs.Exec.{Advances, execution_of};
+ghost use Rattle.vm_defs.specs.Program.{execution, run_loaded};
+ghost use Rattle.node_run.specs.Exec.{Advances, PaysForLoading, execution_of};
 
-use elf_load::{ElfStop, load};
+use elf_load::{Judged, judge};
 use outside::NoMemory;
 use std::alloc::Global;
 use vm_defs::{Outcome, Step};
@@ -34,20 +35,41 @@ pub enum Execution {
     BadElf(u8),
 }
 
-/// Loads the program of a file and runs it to its end, within a budget in cycles.
+/// Runs the program of a file to its end, within a budget in cycles.
+///
+/// The file is judged, then its loading is paid for, and only then is memory taken and its bytes are copied. So a file
+/// that is no program, or whose loading spends the budget, costs a look at its headers.
 #[tactic(auto, unfolding(vm_defs::specs::Program::execution))]
 pub fn execute(alloc: Global, file: &[u8], budget: u64) -> Result<Execution, NoMemory>
     requires { budget ≤ 2 ^ 40 }
-    ensures { IfOk result (λ came. execution_of came ≡ execution alone.answer_ecall budget file.now) }
+    ensures came { IfOk result (λ came. execution_of came ≡ execution alone.answer_ecall budget file.now) }
+    ensures paid { OnErr result (PaysForLoading budget (load_elf file.now)) }
+{
+    let judged = match judge(file) {
+        Ok(judged) => judged,
+        Err(condition) => return Ok(Execution::BadElf(condition)),
+    };
+    let cost = loading_cycles(judged.file_bytes());
+    if cost > budget {
+        return Ok(Execution::Ended {
+            outcome: Outcome::Spent,
+            cycles: cost,
+        });
+    }
+    run_judged(alloc, &judged, budget, cost)
+}
+
+/// Places a file that was judged, and runs its program with the cost of loading paid.
+fn run_judged(alloc: Global, judged: &Judged, budget: u64, cost: u64) -> Result<Execution, NoMemory>
+    requires bound { budget ≤ 2 ^ 40 }
+    requires cost { cost ≡ programs.loading_cycles judged.now.file_bytes }
+    requires paid { cost ≤ budget }
+    ensures { IfOk result (λ came. execution_of came ≡ Ok (run_loaded alone.answer_ecall budget judged.now)) }
 {
     let mut memory = Memory::new(alloc)?;
-    let entry = match load(file, &mut memory) {
-        Ok(entry) => entry,
-        Err(ElfStop::Bad(condition)) => return Ok(Execution::BadElf(condition)),
-        Err(ElfStop::NoMemory) => return Err(NoMemory),
-    };
-    let mut machine = Machine::new(memory, entry.pc, budget);
-    let outcome = run_after(&mut machine, loading_cycles(entry.file_bytes))?;
+    judged.place(&mut memory)?;
+    let mut machine = Machine::new(memory, judged.pc(), budget);
+    let outcome = run_after(&mut machine, cost)?;
     Ok(Execution::Ended {
         outcome,
         cycles: machine.cycles(),
@@ -87,13 +109,13 @@ fn run(machine: &mut Machine) -> Result<Outcome, NoMemory>
     }
 }
 
-/// Makes one step, and answers how it ended the program, if it did.
+/// Runs the machine to the first step that does not go by itself, and answers how that ended the program, if it did.
 #[inline(always)]
 fn advance(machine: &mut Machine) -> Result<Option<Outcome>, NoMemory>
     requires { machine.old.goes_on ≡ true }
     ensures { IfOk result (Advances machine.old machine.new) }
 {
-    match machine.step() {
+    match machine.run() {
         Step::Went => Ok(None),
         Step::Ecall => Ok(answer_ecall(machine)),
         Step::Fault(number) => Ok(Some(Outcome::Fault(number))),

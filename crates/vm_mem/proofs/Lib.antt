@@ -8,3 +8,4 @@ pub mod Overwriting
 pub mod Cleared
 pub mod WithinPage
 pub mod Slotted
+pub mod StoreLaws

@@ -1,3 +1,4 @@
 pub mod Pages
 pub mod Paged
 pub mod Slots
+pub mod Laws
