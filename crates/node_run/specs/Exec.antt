@@ -5,7 +5,7 @@ use Rattle.vm_defs.specs.declared.outcome.Outcome.{Outcome}
 use Rattle.vm_defs.specs.Alone.{answer_ecall}
 use Rattle.vm_defs.specs.Elf.{Program}
 use Rattle.vm_defs.specs.Program as programs
-use Rattle.vm_defs.specs.Program.{advance, loading_cycles}
+use Rattle.vm_defs.specs.Program.{answered, loading_cycles, stop_of}
 use Rattle.vm_step.specs.Running.{RunningMachine}
 use Rattle.report_defs.specs.declared.status.Status.{Status}
 use Rattle.report_defs.specs.Report.{file_limit}
@@ -33,7 +33,7 @@ abbrev pub PaysForLoading : ℕ → Result Program ℕ → Type 0
 PaysForLoading budget (Ok program) = loading_cycles program.file_bytes ≤ budget
 PaysForLoading budget (Err condition) = ⊥
 
--- a step was made, which ended the program so, or after which the machine goes on
+-- the machine ran to a step that did not go by itself, which ended the program so, or after which the machine goes on
 pub record Advances (old new : RunningMachine) (end : Option Outcome) : Type 0 where
-  pub step : (end, new.machine) ≡ advance answer_ecall old.machine
+  pub stop : let stop = stop_of old.machine in (end, new.machine) ≡ answered answer_ecall stop.0 stop.1
   pub goes_on : end ≡ None → new.goes_on ≡ true

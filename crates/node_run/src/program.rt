@@ -109,13 +109,13 @@ fn run(machine: &mut Machine) -> Result<Outcome, NoMemory>
     }
 }
 
-/// Makes one step, and answers how it ended the program, if it did.
+/// Runs the machine to the first step that does not go by itself, and answers how that ended the program, if it did.
 #[inline(always)]
 fn advance(machine: &mut Machine) -> Result<Option<Outcome>, NoMemory>
     requires { machine.old.goes_on ≡ true }
     ensures { IfOk result (Advances machine.old machine.new) }
 {
-    match machine.step() {
+    match machine.run() {
         Step::Went => Ok(None),
         Step::Ecall => Ok(answer_ecall(machine)),
         Step::Fault(number) => Ok(Some(Outcome::Fault(number))),

@@ -268,6 +268,42 @@ stop-resumes answer keeps (suc n) machine h =
 pub runs-stop-by-stop : (answer : Answer) → KeepsAccount answer → RunsStopByStop answer
 runs-stop-by-stop answer keeps machine = stop-resumes answer keeps (suc (machine.budget - machine.cycles)) machine (omega arith)
 
+-- ---- a stop that is answered, after which the program goes on
+
+went-pays : (machine next : Machine) (stop : Step × Machine) → Pays machine step.Went next → Pays next stop.0 stop.1 → Pays machine stop.0 stop.1
+went-pays machine next stop first later =
+    let rose = first.rose tt in
+    record {
+      cycles = omega (arith, first.cycles, later.cycles);
+      budget = later.budget ∙ first.budget;
+      rose = λ was. omega (arith, rose, later.cycles);
+      within = later.within;
+    }
+
+followed-pays : (stop : Machine → Step × Machine) (machine : Machine) (result : Step) (next : Machine) → Pays machine result next
+    → (result ≡ step.Went → Pays next (stop next).0 (stop next).1)
+    → let last = followed stop result next in Pays machine last.0 last.1
+followed-pays stop machine step.Went next pays later = went-pays machine next (stop next) pays (later refl)
+followed-pays stop machine step.Ecall next pays later = pays
+followed-pays stop machine (step.Fault number) next pays later = pays
+followed-pays stop machine step.Spent next pays later = pays
+followed-pays stop machine step.NoMemory next pays later = pays
+
+stop-within-pays : (n : ℕ) (machine : Machine) → machine.budget - machine.cycles < n
+    → let last = stop_within n machine in Pays machine last.0 last.1
+unfolding stop_within
+stop-within-pays zero machine h = absurd (omega arith)
+stop-within-pays (suc n) machine h =
+    let next = step_of machine in
+    let pays = step-pays machine in
+    followed-pays (stop_within n) machine next.0 next.1 pays (λ went. stop-within-pays n next.1 (went-left machine next.0 next.1 n pays went h))
+
+pub stop-goes-on : (answer : Answer) → KeepsAccount answer → (machine : Machine)
+    → let stop = stop_of machine in GoesOn machine (answered answer stop.0 stop.1)
+stop-goes-on answer keeps machine =
+    let stop = stop_of machine in
+    answered-goes-on answer keeps machine stop.0 stop.1 (stop-within-pays (suc (machine.budget - machine.cycles)) machine (omega arith))
+
 -- ---- the answer of a program that runs alone
 
 chosen-keeps : (b : Bool) (machine : Machine) (one other : Option Outcome × Machine) → one.1 ≡ machine → other.1 ≡ machine
