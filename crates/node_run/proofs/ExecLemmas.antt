@@ -23,7 +23,7 @@ pub failed_counts : {T E Fault : Type 0} (before now : ℕ) (error : E) → HasC
 failed_counts before now error cause fault = record {
   later = cause.later;
   rose = λ _. cause.failed refl;
-  calm = λ never. absurd (never fault);
+  unchanged = λ never. absurd (never fault);
 }
 
 -- ---- The report of a file

@@ -43,7 +43,7 @@ impl<R: Input + Drop> Source for StdinSource<R> {
 
     fn read(&mut self, into: &mut [u8]) -> Result<usize, Failed>
         ensures fits { IfOk result (λ n. n ≤ length into.new) }
-        ensures calm { OnOk result (self.new ≡ self.old) }
+        ensures unchanged { OnOk result (self.new ≡ self.old) }
         ensures counted { OnErr result (self.new ≡ counted self.old) }
     {
         match self.rt.reader().read(into) {
@@ -85,7 +85,7 @@ impl<R: Print + Drop> Sink for StdoutSink<R> {
     fn write(&mut self, piece: &[u8]) -> Result<usize, Failed>
         ensures fits { IfOk result (λ n. n ≤ length piece.now) }
         ensures some { IfOk result (λ n. 0 < length piece.now → 1 ≤ n) }
-        ensures calm { OnOk result (self.new ≡ self.old) }
+        ensures unchanged { OnOk result (self.new ≡ self.old) }
         ensures counted { OnErr result (self.new ≡ counted self.old) }
     {
         match self.rt.write_some(piece) {
