@@ -75,7 +75,7 @@ impl Model for Kept {
 
 impl Kept {
     /// The chain where a genesis stands alone. The item is accepted where it breaks none of G1 to
-    /// G3 (docs/COMMANDS.md, "The genesis"); else the error names the first that it breaks.
+    /// G3 (docs/RULES.md, "The genesis"); else the error names the first that it breaks.
     pub fn from_genesis(alloc: Global, item: Vec<u8>) -> Result<Kept, GenesisError>
         ensures kept { IfOk result (λ kept. kept ≡ chain_of_genesis (record {}) item.items) }
         ensures good { OnOk result (broken_genesis_rule item.items ≡ None) }
@@ -124,7 +124,7 @@ impl Kept {
         }
     }
 
-    /// Judges an item over the kept blocks (docs/COMMANDS.md, "The verdicts"), and keeps it where
+    /// Judges an item over the kept blocks (docs/COMMANDS.md, "The text"), and keeps it where
     /// it joins. Out of memory, nothing has changed.
     pub fn import(&mut self, item: Vec<u8>) -> Result<Verdict, NoMemory>
         ensures verdict { IfOk result (λ verdict. verdict ≡ rules.verdict self.old.rules self.old.blocks item.items) }

@@ -196,19 +196,19 @@ writing_stops _ stop = absurd stop
 
 -- no fault was met
 pub no_fault : {Fault : Type 0} (before now : ℕ) → now ≡ before → (Fault → ⊥) → CountsFault before now Fault
-no_fault before now calm never = record {
-  later = omega (arith, calm);
+no_fault before now unchanged never = record {
+  later = omega (arith, unchanged);
   rose = λ fault. absurd (never fault);
-  calm = λ _. calm;
+  unchanged = λ _. unchanged;
 }
 
--- a count that stood still, and then counts the same fault
+-- a count that was unchanged, and then counts the same fault
 pub then_counts : {First Fault : Type 0} (before still now : ℕ) → still ≡ before → CountsFault still now First → (Fault → First) → (First → Fault)
     → CountsFault before now Fault
-then_counts before still now calm counts there back = record {
-  later = omega (arith, calm, counts.later);
-  rose = λ fault. rw (← calm) (counts.rose (there fault));
-  calm = λ never. counts.calm (λ first. never (back first)) ∙ calm;
+then_counts before still now unchanged counts there back = record {
+  later = omega (arith, unchanged, counts.later);
+  rose = λ fault. rw (← unchanged) (counts.rose (there fault));
+  unchanged = λ never. counts.unchanged (λ first. never (back first)) ∙ unchanged;
 }
 
 -- `a || b` where a is known

@@ -6,6 +6,7 @@ use Rattle.rule_defs.specs.declared.verdict.Verdict.{Verdict}
 use Rattle.rule_defs.specs.Genesis.{broken_genesis_rule}
 use Rattle.rule_defs.specs.Verdict.{refuses}
 use Rattle.rule_defs.specs.Chain.{Chain, chain_of_genesis, kept_over, verdicts_over}
+use Rattle.vm_defs.specs.Alone.{answer_ecall}
 use Rattle.vm_defs.specs.Program.{execution}
 use Rattle.report_defs.specs.declared.command.Command.{Command}
 use Rattle.report_defs.specs.declared.command.Command.TheVariants.{Import, Exec}
@@ -101,7 +102,7 @@ file_limit = 2 ^ 20
 abbrev pub exec_report : ℕ → List ℕ → Report
 exec_report budget file =
     if nat_lt file_limit (length file) then report_without_lines (extra_line file_limit) ExtraInput
-    else report_without_lines (execution_line (execution budget file)) Done
+    else report_without_lines (execution_line (execution answer_ecall budget file)) Done
 
 -- ---- A run
 

@@ -1,5 +1,5 @@
 -- A chain: the rules of a store and the blocks that it keeps. Items are judged one after the other, each over what is kept by then
--- (docs/COMMANDS.md, "The verdicts").
+-- (docs/COMMANDS.md, "The text").
 use Rattle.std.specs.Prelude.{ℕ, List}
 use Rattle.codec_defs.specs.Schema.{Block}
 use Rattle.fold_defs.specs.Fold.{keep, verdicts}

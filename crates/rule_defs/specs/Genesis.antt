@@ -1,5 +1,5 @@
 -- The rules on a genesis, as rows of a list. It is accepted where it breaks none of them, whatever else it holds.
--- docs/COMMANDS.md, "The genesis", has them.
+-- docs/RULES.md, "The genesis", has them.
 use Rattle.std.specs.Prelude.{ℕ, ◌==◌, ◌&&◌, Bool, List, [], ◌∷◌, length, Option, Some, None}
 use Rattle.codec_defs.specs.Shape.{decoded}
 use Rattle.codec_defs.specs.Schema.{Block, block}

@@ -1,5 +1,5 @@
 -- The rules on a block, as rows of a list, in the order in which they are tried. A row has the rule's number and whether the block keeps it.
--- docs/COMMANDS.md, "The verdicts", has them.
+-- docs/RULES.md, "A block", has them.
 use Rattle.std.specs.Prelude.{ℕ, ◌+◌, ◌-◌, ◌==◌, Bool, false, List, [], ◌∷◌, length, Option, Some, None}
 use Rattle.codec_defs.specs.Schema.{Block}
 use Rattle.chain_defs.specs.Kept.{block_at}

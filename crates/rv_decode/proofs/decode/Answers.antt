@@ -1,5 +1,5 @@
 use Rattle.std.proofs.Common.{◌%◌, ◌^◌, rules, arith}
-use Rattle.vm_defs.proofs.DecodeLaws.{full-registers, compressed-registers}
+use Rattle.isa_defs.proofs.DecodeLaws.{full-registers, compressed-registers}
 use Rattle.rv_decode.proofs.CompressedForms.{compressed-full, full-full}
 use Rattle.rv_decode.proofs.decode.Goals as goal
 
