@@ -383,8 +383,18 @@ echo 'rt: ckbdev proved'
 '''
 
 
+@contextlib.contextmanager
+def new_folder():
+    """A folder that goes, also where a build that was killed goes on for a moment."""
+    top = tempfile.mkdtemp()
+    try:
+        yield top
+    finally:
+        shutil.rmtree(top, ignore_errors=True)
+
+
 class Checkout:
-    """A checkout of two crates, with the script and the fake toolchain."""
+    """A checkout of a few crates, with the script and the fake toolchain."""
 
     def __init__(self, top):
         self.top, self.log = top, os.path.join(top, 'log')
@@ -428,6 +438,9 @@ class Checkout:
         with open(self.log, encoding='utf-8') as f:
             return len(f.read().split())
 
+    def copies(self):
+        return [name for name in os.listdir(self.top) if name.startswith('ckbdev-build')]
+
     def must_run(self, which, builds, what, **how):
         status, out, err = self.run(**how)
         must_be(status, 0, what + ': status')
@@ -437,7 +450,7 @@ class Checkout:
 
 
 def check_script_builds_once(_):
-    with tempfile.TemporaryDirectory() as top:
+    with new_folder() as top:
         it = Checkout(top)
         err = it.must_run(b'one', 1, 'the first run')
         must(b'1 of 2 crates' in err and b'now at ckbdev' in err, 'the first run does not say how far it is')
@@ -448,11 +461,11 @@ def check_script_builds_once(_):
         it.must_run(b'two', 2, 'after a change')
         os.remove(it.at('build/ckbdev'))
         it.must_run(b'two', 3, 'after the program was removed')
-        must_be([name for name in os.listdir(top) if name.startswith('ckbdev-build')], [], 'what is left of the builds')
+        must_be(it.copies(), [], 'what is left of the builds')
 
 
 def check_script_builds_once_for_two(_):
-    with tempfile.TemporaryDirectory() as top:
+    with new_folder() as top:
         it = Checkout(top)
         both = [it.start(seconds=2), it.start(seconds=2)]
         for process in both:
@@ -463,15 +476,16 @@ def check_script_builds_once_for_two(_):
 
 
 def check_script_survives_a_broken_build(_):
-    with tempfile.TemporaryDirectory() as top:
+    with new_folder() as top:
         it = Checkout(top)
         status, out, err = it.run(status=3)
         must_be((status, out), (70, b''), 'a build that fails')
         must(b'the build failed' in err, 'a build that fails says nothing')
         for number in (signal.SIGTERM, signal.SIGKILL):
-            builds = it.builds()
+            builds, ends = it.builds(), time.monotonic() + SECONDS
             process = it.start(seconds=3)
             while it.builds() == builds:
+                must(time.monotonic() < ends, 'no build begins')
                 time.sleep(0.01)
             build = children_of(process.pid)
             for pid in (process.pid, *build):
@@ -479,6 +493,7 @@ def check_script_survives_a_broken_build(_):
             process.communicate(timeout=SECONDS)
             must(not os.path.exists(it.at('build/stamp')), 'a build that was interrupted left a stamp')
         it.must_run(b'one', it.builds() + 1, 'after broken builds')
+        must_be(it.copies(), [], 'what is left of broken builds')
 
 
 def children_of(pid):
@@ -487,7 +502,7 @@ def children_of(pid):
 
 
 def check_script_takes_the_build_of_the_gate(_):
-    with tempfile.TemporaryDirectory() as top:
+    with new_folder() as top:
         it = Checkout(top)
         time.sleep(0.02)
         it.write('.git/rt-ci.lock', '')

@@ -11,6 +11,7 @@ up again. The program is put in place when it is whole, and its stamp last.
 
 import contextlib
 import fcntl
+import glob
 import hashlib
 import os
 import re
@@ -236,7 +237,11 @@ def build():
         raise Failed('the command rt of the toolchain is not on the path')
     uses = uses_of_crates()
     wanted = sum_of_sources(uses)
-    with tempfile.TemporaryDirectory(prefix='ckbdev-build-') as room:
+    # a copy that an earlier build of this checkout could not remove goes first
+    prefix = 'ckbdev-build-%s-' % hashlib.sha256(TOP.encode()).hexdigest()[:8]
+    for left in glob.glob(os.path.join(tempfile.gettempdir(), prefix + '*')):
+        shutil.rmtree(left, ignore_errors=True)
+    with tempfile.TemporaryDirectory(prefix=prefix) as room:
         begun = os.stat(room).st_mtime_ns
         if is_stamped(wanted):
             made = PROGRAM
