@@ -74,7 +74,7 @@ pub record IsRead (genesis : List ℕ) (items : List (List ℕ)) : Type 0 where
   pub within : length genesis + length (concat items) ≤ input_limit
 
 abbrev pub start_of : List ℕ → Chain
-start_of genesis = chain_of_genesis (record { }) genesis
+start_of genesis = chain_of_genesis (record {}) genesis
 
 good_report : (genesis : List ℕ) (items : List (List ℕ)) (end : End) → broken_genesis_rule genesis ≡ None
     → report_of_genesis (broken_genesis_rule genesis) (genesis ∷ items) end ≡ report_over (start_of genesis) items end

@@ -37,7 +37,7 @@ pub record IsBadGenesis (given : List ℕ) : Type 0 where
   pub broken : broken_genesis_rule given ≡ Some rule
 
 abbrev pub IsGenesis : Option (List ℕ) → Result (Chain × ℕ) Status → List ℕ → Type 0
-IsGenesis left (Ok (chain, offset)) given = IsGenesisRead given given × (chain ≡ chain_of_genesis (record { }) given) × (offset ≡ length given)
+IsGenesis left (Ok (chain, offset)) given = IsGenesisRead given given × (chain ≡ chain_of_genesis (record {}) given) × (offset ≡ length given)
 IsGenesis left (Err CutInput) given = (end : End) × EndsAt 0 left end given
 IsGenesis left (Err BadGenesis) given = IsBadGenesis given
 IsGenesis left (Err InputFault) given = HoldsOneAtMost given

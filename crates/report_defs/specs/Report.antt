@@ -72,8 +72,8 @@ report_over chain items end = record {
 
 -- The first item is the genesis, on which the chain begins, and each further item is a block.
 abbrev pub chain_at_start : List (List ℕ) → Chain
-chain_at_start [] = record { rules = record { }; blocks = [] }
-chain_at_start (genesis ∷ items) = chain_of_genesis (record { }) genesis
+chain_at_start [] = record { rules = record {}; blocks = [] }
+chain_at_start (genesis ∷ items) = chain_of_genesis (record {}) genesis
 
 abbrev pub items_behind : List (List ℕ) → List (List ℕ)
 items_behind items = drop 1 items
