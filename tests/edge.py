@@ -348,9 +348,17 @@ def check_script_on_bad_words(_):
 
 
 def check_script_ends_by_a_signal(_):
+    numbers = (signal.SIGTERM, signal.SIGINT, signal.SIGHUP)
+
+    def heed():
+        # they are ignored where this script was started so
+        for it in numbers:
+            signal.signal(it, signal.SIG_DFL)
+
     _, genesis, blocks, _, _ = chaingen.make(1, 1, plain=True)
-    for number in (signal.SIGTERM, signal.SIGINT, signal.SIGHUP):
-        process = subprocess.Popen([SCRIPT, 'any', 'import'], stdin=subprocess.PIPE, stdout=subprocess.PIPE, bufsize=0)
+    for number in numbers:
+        process = subprocess.Popen([SCRIPT, 'any', 'import'], stdin=subprocess.PIPE, stdout=subprocess.PIPE,
+                                   bufsize=0, preexec_fn=heed)
         try:
             process.stdin.write(genesis + blocks[0])
             line_of(process)
