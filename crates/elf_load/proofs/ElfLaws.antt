@@ -7,7 +7,7 @@ use Rattle.vm_defs.specs.Memory.{Memory, memory_size, new_memory, overwritten}
 use Rattle.vm_defs.specs.Elf.{Program, Segment, broken_elf, broken_segment, broken_segments, contents, load_elf, program_of, segments, unless_broken, with_segment}
 use Rattle.elf_load.specs.Laws.{LastSegmentCounts, byte_of, byte_or, covers, last_covering}
 use Rattle.elf_load.proofs.InMemory.{in-memory, length-inside}
-use Rattle.elf_load.proofs.Lists.{length-overwritten, overwritten-before, overwritten-behind, overwritten-within}
+use Rattle.vm_defs.proofs.CodeLaws.{get_or-before, get_or-behind, get_or-written, length-overwritten}
 use Rattle.elf_load.proofs.Segments.{Sound, both-none, sound-of_none, sound-parts}
 
 -- ---- one segment
@@ -70,16 +70,16 @@ byte-with file earlier s memory at sound whole =
     elim (cases_lt at s.address) [
       | inl before ↦
           let test : covers at s ≡ false = grind (arith, nat_tests, before) in
-          rw test (overwritten-before memory.bytes s.address (contents file s) at 0 start before)
+          rw test (get_or-before memory.bytes s.address (contents file s) at 0 start before)
       | inr from ↦ elim (cases_lt at (s.address + s.memory_size)) [
         | inl within ↦
             let test : covers at s ≡ true = grind (arith, nat_tests, from, within) in
             rw test
-            (overwritten-within memory.bytes s.address (contents file s) at 0 start from (omega (arith, within, size))
+            (get_or-written memory.bytes s.address (contents file s) at 0 start from (omega (arith, within, size))
             ∙ content-byte file earlier s at sound from within)
         | inr behind ↦
             let test : covers at s ≡ false = grind (arith, nat_tests, behind) in
-            rw test (overwritten-behind memory.bytes s.address (contents file s) at 0 start (omega (arith, behind, size)))
+            rw test (get_or-behind memory.bytes s.address (contents file s) at 0 start (omega (arith, behind, size)))
       ]
     ]
 

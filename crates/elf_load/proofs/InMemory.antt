@@ -9,8 +9,8 @@ use Rattle.vm_defs.specs.declared.memory.PageKind.TheVariants.{Data}
 use Rattle.vm_defs.specs.Memory.{Memory, is_code, is_out_of_range, kinds_under, memory_size, overwritten, page_count, page_size, set_code, store}
 use Rattle.vm_defs.specs.Elf.{Segment, can_run, clashes, contents, first_page, is_inside, last_page, page_span, with_segment}
 use Rattle.vm_mem.specs.Paged.{Stores}
-use Rattle.vm_mem.specs.Pages.{AreMade}
-use Rattle.elf_load.specs.Loads.{AllMade}
+use Rattle.vm_mem.specs.Pages.{AreAllocated}
+use Rattle.elf_load.specs.Loads.{AllAllocated}
 use Rattle.vm_mem.specs.declared.stop.MemStop.{MemStop}
 use Rattle.vm_mem.specs.declared.stop.MemStop.TheVariants.{Fault, NoMemory}
 use Rattle.elf_load.specs.Judging.{makes_code}
@@ -150,11 +150,11 @@ pub done-ok : (result : Result (Unit {0}) MemFault) (expected : Result Memory Me
 done-ok (Ok done) expected memory new is leaves ok = cc
 done-ok (Err fault) expected memory new is leaves ok = absurd (false≢true is)
 
-pub bytes-made : (made : List Bool) (file : List ℕ) (s : Segment) (address : ℕ) (bytes : List ℕ) → AllMade made → is_inside file s.offset s.file_size ≡ true
+pub bytes-made : (allocated : List Bool) (file : List ℕ) (s : Segment) (address : ℕ) (bytes : List ℕ) → AllAllocated allocated → is_inside file s.offset s.file_size ≡ true
     → s.file_size ≤ s.memory_size → is_out_of_range s.address s.memory_size ≡ false → address ≡ s.address
-    → bytes ≡ slice_range file s.offset (s.offset + s.file_size) → AreMade made address (length bytes)
+    → bytes ≡ slice_range file s.offset (s.offset + s.file_size) → AreAllocated allocated address (length bytes)
 unfolding page_count
-bytes-made made file s address bytes all inside sizes in_memory at is i below =
+bytes-made allocated file s address bytes all inside sizes in_memory at is i below =
     let room = in-memory s.address s.memory_size in_memory in
     let size = ap length is ∙ length-inside file s.offset s.file_size inside in
     all ((address + i) / page_size) (omega (arith, room, sizes, size, below, at))

@@ -2,7 +2,7 @@
 use Rattle.std.specs.Prelude.{◌≡◌, ℕ, ◌<◌, Bool, List, Result, Ok, Err}
 use Rattle.vm_defs.specs.Memory.{Memory, page_count}
 use Rattle.vm_defs.specs.Elf.{Program}
-use Rattle.vm_mem.specs.Pages.{IsMade}
+use Rattle.vm_mem.specs.Pages.{IsAllocated}
 use Rattle.elf_load.specs.declared.loader.Entry.{Entry}
 use Rattle.elf_load.specs.declared.stop.ElfStop.{ElfStop}
 use Rattle.elf_load.specs.declared.stop.ElfStop.TheVariants.{Bad, NoMemory}
@@ -18,6 +18,6 @@ Loads (Err condition) memory (Ok entry) = ⊥
 Loads (Err condition) memory (Err NoMemory) = ⊥
 Loads (Err condition) memory (Err (Bad number)) = number ≡ condition
 
--- each page has room of its own
-abbrev pub AllMade : List Bool → Type 0
-AllMade made = (page : ℕ) → page < page_count → IsMade made page
+-- each page is allocated
+abbrev pub AllAllocated : List Bool → Type 0
+AllAllocated allocated = (page : ℕ) → page < page_count → IsAllocated allocated page

@@ -4,7 +4,7 @@ ghost use Rattle.vm_defs.specs.Memory.{new_memory};
 ghost use Rattle.vm_defs.specs.Elf as elf;
 ghost use Rattle.vm_defs.specs.Elf.{broken_header, broken_segment, load_elf};
 ghost use Rattle.elf_load.specs.Judging.{JudgesSegment, JudgesSegments, Marks};
-ghost use Rattle.elf_load.specs.Loads.{AllMade};
+ghost use Rattle.elf_load.specs.Loads.{AllAllocated};
 
 use super::field::is_inside;
 use super::header::{Header, broken_header};
@@ -75,7 +75,7 @@ impl<'a> Judged<'a> {
         requires { memory.old.memory ≡ new_memory }
         ensures placed { OnOk result (memory.new.memory ≡ self.now.memory) }
         ensures some { OnErr result (0 < self.now.file_bytes) }
-        ensures again { AllMade memory.old.made → IsOk result }
+        ensures needs_no_memory { AllAllocated memory.old.allocated → IsOk result }
     {
         place_segments(self.file, memory)
     }

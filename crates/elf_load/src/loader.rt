@@ -2,7 +2,7 @@
 ghost use Rattle.std.specs.Prelude.{◌≡◌, ◌≢◌, ◌^◌, ◌≤◌, ℕ, Err, IfOk};
 ghost use Rattle.vm_defs.specs.Memory.{new_memory};
 ghost use Rattle.vm_defs.specs.Elf.{load_elf};
-ghost use Rattle.elf_load.specs.Loads.{AllMade, Loads};
+ghost use Rattle.elf_load.specs.Loads.{AllAllocated, Loads};
 
 use super::judging::judge;
 use super::stop::ElfStop;
@@ -25,7 +25,7 @@ pub fn load(file: &[u8], memory: &mut Memory) -> Result<Entry, ElfStop>
     requires { memory.old.memory ≡ new_memory }
     ensures loads { Loads (load_elf file.now) memory.new.memory result }
     ensures size { IfOk result (λ entry. entry.file_bytes ≤ 2 ^ 38) }
-    ensures again { AllMade memory.old.made → result ≢ Err ElfStop.NoMemory }
+    ensures needs_no_memory { AllAllocated memory.old.allocated → result ≢ Err ElfStop.NoMemory }
     ensures refused { (number : ℕ) → result ≡ Err (ElfStop.Bad number) → memory.new ≡ memory.old }
 {
     let judged = match judge(file) {

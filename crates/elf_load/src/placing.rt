@@ -4,11 +4,12 @@ ghost use Rattle.std.specs.List.{list_any};
 ghost use Rattle.vm_defs.specs.Memory.{is_code, is_out_of_range, kinds_under, new_memory};
 ghost use Rattle.vm_defs.specs.Elf.{broken_elf, is_inside, segments, with_segment};
 ghost use Rattle.elf_load.specs.Placing.{with_code, with_contents};
-ghost use Rattle.elf_load.specs.Loads.{AllMade};
+ghost use Rattle.elf_load.specs.Loads.{AllAllocated};
 
 use super::header::Header;
-use super::segment::{PAGE_SIZE, Segment};
+use super::segment::Segment;
 use outside::NoMemory;
+use vm_defs::PAGE_SIZE;
 use vm_mem::{MemStop, Memory};
 
 /// Places the segments of a file that meets none of the conditions.
@@ -17,7 +18,7 @@ pub(crate) fn place_segments(file: &[u8], memory: &mut Memory) -> Result<(), NoM
     requires new { memory.old.memory ≡ new_memory }
     ensures placed { OnOk result (memory.new.memory ≡ fold (with_segment file.now) new_memory (segments file.now)) }
     ensures some { OnErr result (0 < sum_by (λ segment. segment.file_size) (segments file.now)) }
-    ensures again { AllMade memory.old.made → IsOk result }
+    ensures needs_no_memory { AllAllocated memory.old.allocated → IsOk result }
 {
     let header = Header::of(file);
     let count = header.e_phnum();
@@ -40,8 +41,8 @@ fn place(file: &[u8], segment: &Segment, memory: &mut Memory) -> Result<(), NoMe
     requires no_code { list_any is_code (kinds_under memory.old.memory segment.now.address segment.now.memory_size) ≡ false }
     ensures placed { OnOk result (memory.new.memory ≡ with_segment file.now memory.old.memory segment.now) }
     ensures some { OnErr result (0 < segment.now.file_size) }
-    ensures again { AllMade memory.old.made → IsOk result }
-    ensures stay { AllMade memory.old.made → AllMade memory.new.made }
+    ensures needs_no_memory { AllAllocated memory.old.allocated → IsOk result }
+    ensures pages_kept { AllAllocated memory.old.allocated → AllAllocated memory.new.allocated }
 {
     write_contents(file, segment, memory)?;
     make_code(segment, memory);
@@ -57,8 +58,8 @@ fn write_contents(file: &[u8], segment: &Segment, memory: &mut Memory) -> Result
     requires no_code { list_any is_code (kinds_under memory.old.memory segment.now.address segment.now.memory_size) ≡ false }
     ensures written { OnOk result (memory.new.memory ≡ with_contents file.now memory.old.memory segment.now) }
     ensures some { OnErr result (0 < segment.now.file_size) }
-    ensures again { AllMade memory.old.made → IsOk result }
-    ensures stay { AllMade memory.old.made → AllMade memory.new.made }
+    ensures needs_no_memory { AllAllocated memory.old.allocated → IsOk result }
+    ensures pages_kept { AllAllocated memory.old.allocated → AllAllocated memory.new.allocated }
 {
     let address = segment.address();
     let file_size = segment.file_size();
@@ -88,7 +89,7 @@ fn make_code(segment: &Segment, memory: &mut Memory)
     requires in_memory { is_out_of_range segment.now.address segment.now.memory_size ≡ false }
     requires no_code { list_any is_code (kinds_under memory.old.memory segment.now.address segment.now.memory_size) ≡ false }
     ensures code { memory.new.memory ≡ with_code memory.old.memory segment.now }
-    ensures made { memory.new.made ≡ memory.old.made }
+    ensures allocated { memory.new.allocated ≡ memory.old.allocated }
 {
     if segment.can_run() {
         let pages = segment.page_span() as u32;

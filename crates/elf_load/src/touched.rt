@@ -9,7 +9,7 @@ ghost use Rattle.elf_load.specs.Judging.{Marks, is_closed};
 use super::segment::Segment;
 use vm_defs::PageKind;
 
-const PAGE_COUNT: usize = 1024;
+const PAGE_COUNT: usize = vm_defs::PAGE_COUNT as usize;
 
 /// The kind of each page that a segment touched.
 #[derive(Drop)]

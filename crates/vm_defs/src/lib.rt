@@ -11,6 +11,6 @@ mod memory;
 mod outcome;
 mod step;
 
-pub use memory::{MemFault, PageKind, Width};
+pub use memory::{MEMORY_SIZE, MemFault, PAGE_COUNT, PAGE_SIZE, PageKind, Width};
 pub use outcome::Outcome;
 pub use step::Step;

@@ -1,11 +1,11 @@
--- Bytes that are made zero, in pages with room of their own and without.
+-- Bytes that are made zero, in pages that are allocated and in others.
 use Rattle.std.proofs.Common.{◌≡◌, ℕ, ◌+◌, ◌-◌, ◌/◌, ◌%◌, ◌<◌, ◌≤◌, Bool, true, false, nat_lt, List, [], length, set, replicate, get_or, map, refl, sym, ◌∙◌, ap, subst, arith}
 use Rattle.std.specs.List.{concat}
 use Rattle.std.proofs.Math.ListN.{drop_of_length-le}
 use Rattle.std.proofs.lemmas.Bool.Decides.{nat_tests}
 use Rattle.std.proofs.lemmas.List.{append-nil, drop-replicate, length-replicate, map-set, take-replicate}
 use Rattle.vm_defs.specs.Memory.{page_size, memory_size, overwritten}
-use Rattle.vm_mem.specs.Pages.{IsMarked, IsPage, whole, is_made, Pages, pages_of, written}
+use Rattle.vm_mem.specs.Pages.{IsMarked, IsPage, whole, is_allocated, Pages, pages_of, written}
 use Rattle.vm_mem.proofs.Edited.{AreSound, length-overwritten, same-pages, through-same, whole-full, whole-zeros}
 use Rattle.vm_defs.proofs.Overwritten.{overwritten-more}
 use Rattle.vm_mem.proofs.Paging.{write-concat}
@@ -78,6 +78,6 @@ clear-pages f pages page new at bytes paged all is h le size edit view =
     subst (λ a. overwritten (concat (map whole (map f pages))) a bytes ≡ concat (set (map whole (map f pages)) i (overwritten (get_or (map whole (map f pages)) i []) o bytes))) (place-is at) e in
     let zeros : concat (map whole (map f (set pages i new))) ≡ overwritten (concat (map whole (map f pages))) at bytes =
     rw (e', old, map-set f pages i new, map-set whole (map f pages) i (f new), edit) refl in
-    let made : map is_made (map f (set pages i new)) ≡ map is_made (map f pages) =
-    through-same f is_made pages page new i is below (ap (λ n. nat_lt 0 n) size) in
-    rw (← view) (same-pages (map f pages) (map f (set pages i new)) at bytes zeros made)
+    let allocated : map is_allocated (map f (set pages i new)) ≡ map is_allocated (map f pages) =
+    through-same f is_allocated pages page new i is below (ap (λ n. nat_lt 0 n) size) in
+    rw (← view) (same-pages (map f pages) (map f (set pages i new)) at bytes zeros allocated)

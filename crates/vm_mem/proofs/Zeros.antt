@@ -3,7 +3,7 @@ use Rattle.std.proofs.Common.{◌≡◌, ℕ, zero, suc, ◌+◌, ◌*◌, ◌<�
 use Rattle.std.specs.List.{concat}
 use Rattle.std.proofs.lemmas.List.{length-map, length-replicate, get_or-map, get_or-replicate, map-append}
 use Rattle.vm_defs.specs.Memory.{page_size, page_count, memory_size}
-use Rattle.vm_mem.specs.Pages.{IsMarked, whole, is_made}
+use Rattle.vm_mem.specs.Pages.{IsMarked, whole, is_allocated}
 use Rattle.vm_mem.proofs.Edited.{AreSound}
 use Rattle.vm_mem.proofs.Wholes.{whole-empty}
 
@@ -48,11 +48,11 @@ size-is = refl
 pub new-bytes : (contents : List (List ℕ)) → contents ≡ replicate page_count [] → concat (map whole contents) ≡ replicate memory_size 0
 new-bytes contents is = rw (is, ← size-is) (zero-pages whole page_size page_count whole-nil)
 
-none-made : (k : ℕ) → map is_made (replicate k []) ≡ replicate k false
+none-made : (k : ℕ) → map is_allocated (replicate k []) ≡ replicate k false
 none-made zero = refl
 none-made (suc k) = rw (none-made k) refl
 
-pub new-made : (contents : List (List ℕ)) → contents ≡ replicate page_count [] → map is_made contents ≡ replicate page_count false
+pub new-made : (contents : List (List ℕ)) → contents ≡ replicate page_count [] → map is_allocated contents ≡ replicate page_count false
 new-made contents is = rw is (none-made page_count)
 
 pub count-is : (n : ℕ) → 1024 ≤ n → n ≤ 1024 → n ≡ page_count

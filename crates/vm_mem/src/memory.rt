@@ -3,7 +3,7 @@ ghost use Rattle.std.specs.Prelude.{◌≡◌, ◌≢◌, ℕ, ◌%◌, length, 
 ghost use Rattle.isa_defs.specs.Instruction.{HasRegisters};
 ghost use Rattle.vm_defs.specs.Memory.{byte_count, bytes_of, fetch, load, new_memory, page_size, page_count, set_code, store};
 ghost use Rattle.vm_defs.specs.Code.{instruction_at};
-ghost use Rattle.vm_mem.specs.Pages.{AreMade, IsMade, IsUnder};
+ghost use Rattle.vm_mem.specs.Pages.{AreAllocated, IsAllocated, IsUnder};
 ghost use Rattle.vm_mem.specs.Paged.{Stores};
 
 use super::paged::Paged;
@@ -38,8 +38,8 @@ impl Model for Memory {
 impl Memory {
     /// Memory that is zero, with all its pages of data.
     pub fn new(alloc: Global) -> Result<Memory, NoMemory>
-        ensures memory { IfOk result (λ made. made.memory ≡ new_memory) }
-        ensures made { IfOk result (λ made. made.made ≡ replicate page_count false) }
+        ensures memory { IfOk result (λ memory. memory.memory ≡ new_memory) }
+        ensures allocated { IfOk result (λ memory. memory.allocated ≡ replicate page_count false) }
     {
         let paged = Paged::new(alloc)?;
         let slots = empty_slots(alloc)?;
@@ -58,10 +58,10 @@ impl Memory {
     #[inline(always)]
     pub fn store(&mut self, at: u64, width: Width, value: u64) -> Result<(), MemStop>
         ensures stores { Stores (store self.old.memory at (bytes_of (byte_count width) value)) self.old.memory self.new.memory result }
-        ensures again { AreMade self.old.made at (byte_count width) → result ≢ Err MemStop.NoMemory }
-        ensures made { OnOk result (AreMade self.new.made at (byte_count width)) }
-        ensures stay { (page : ℕ) → IsMade self.old.made page → IsMade self.new.made page }
-        ensures only { (page : ℕ) → IsMade self.new.made page → IsMade self.old.made page ⊎ IsUnder page at (byte_count width) }
+        ensures needs_no_memory { AreAllocated self.old.allocated at (byte_count width) → result ≢ Err MemStop.NoMemory }
+        ensures allocated { OnOk result (AreAllocated self.new.allocated at (byte_count width)) }
+        ensures pages_kept { (page : ℕ) → IsAllocated self.old.allocated page → IsAllocated self.new.allocated page }
+        ensures pages_added { (page : ℕ) → IsAllocated self.new.allocated page → IsAllocated self.old.allocated page ⊎ IsUnder page at (byte_count width) }
         ensures refused { (fault : MemFault) → result ≡ Err (MemStop.Fault fault) → self.new ≡ self.old }
     {
         self.paged.store(at, width, value)
@@ -71,22 +71,22 @@ impl Memory {
     #[inline]
     pub fn copy_in(&mut self, at: u64, bytes: &[u8]) -> Result<(), MemStop>
         ensures stores { Stores (store self.old.memory at bytes.now) self.old.memory self.new.memory result }
-        ensures again { AreMade self.old.made at (length bytes.now) → result ≢ Err MemStop.NoMemory }
-        ensures made { OnOk result (AreMade self.new.made at (length bytes.now)) }
-        ensures stay { (page : ℕ) → IsMade self.old.made page → IsMade self.new.made page }
-        ensures only { (page : ℕ) → IsMade self.new.made page → IsMade self.old.made page ⊎ IsUnder page at (length bytes.now) }
+        ensures needs_no_memory { AreAllocated self.old.allocated at (length bytes.now) → result ≢ Err MemStop.NoMemory }
+        ensures allocated { OnOk result (AreAllocated self.new.allocated at (length bytes.now)) }
+        ensures pages_kept { (page : ℕ) → IsAllocated self.old.allocated page → IsAllocated self.new.allocated page }
+        ensures pages_added { (page : ℕ) → IsAllocated self.new.allocated page → IsAllocated self.old.allocated page ⊎ IsUnder page at (length bytes.now) }
         ensures refused { (fault : MemFault) → result ≡ Err (MemStop.Fault fault) → self.new ≡ self.old }
     {
         self.paged.copy_in(at, bytes)
     }
 
-    /// Makes a range of bytes zero, all or none, and takes no memory: a page that has none is zero.
+    /// Makes a range of bytes zero, all or none, and takes no memory: a page that is not allocated is zero.
     #[inline]
     pub fn clear(&mut self, at: u64, count: u64) -> Result<(), MemFault>
         ensures cleared { OnOk result (Ok self.new.memory ≡ store self.old.memory at (replicate count 0)) }
         ensures fault { (fault : MemFault) → (result ≡ Err fault) ↔ (store self.old.memory at (replicate count 0) ≡ Err fault) }
         ensures kept { OnErr result (self.new ≡ self.old) }
-        ensures made { self.new.made ≡ self.old.made }
+        ensures allocated { self.new.allocated ≡ self.old.allocated }
     {
         self.paged.clear(at, count)
     }
@@ -120,7 +120,7 @@ impl Memory {
         ensures code { OnOk result (Ok self.new.memory ≡ set_code self.old.memory at pages) }
         ensures fault { (fault : MemFault) → (result ≡ Err fault) ↔ (set_code self.old.memory at pages ≡ Err fault) }
         ensures kept { OnErr result (self.new ≡ self.old) }
-        ensures made { self.new.made ≡ self.old.made }
+        ensures allocated { self.new.allocated ≡ self.old.allocated }
     {
         self.paged.set_code(at, pages)
     }

@@ -1,4 +1,4 @@
-// One page: its bytes, and numbers in them. A page with no room of its own is zero.
+// One page: its bytes, and numbers in them. A page that is not allocated is zero.
 ghost use Rattle.std.specs.Prelude.{◌≡◌, ◌+◌, ◌%◌, ◌^◌, ◌≤◌, [], length, false, true, replicate, slice_range, IfOk};
 ghost use Rattle.vm_defs.specs.Memory.{number_of, overwritten, page_size};
 ghost use Rattle.vm_mem.specs.Pages.{IsMarked, IsPage, whole};
@@ -7,7 +7,7 @@ use super::pages::PAGE_SIZE;
 use outside::NoMemory;
 use std::alloc::Global;
 
-/// The bytes of a page, or none where it has no room of its own, and whether they may be other than zero.
+/// The bytes of a page, or none where it is not allocated, and whether they may be other than zero.
 #[derive(Drop)]
 pub(crate) struct Page {
     pub(crate) bytes: Vec<u8>,
@@ -15,7 +15,7 @@ pub(crate) struct Page {
 }
 
 impl Page {
-    /// A page with no room of its own.
+    /// A page that is not allocated.
     #[inline]
     pub(crate) fn new(alloc: Global) -> Page
         ensures bytes { result.bytes.items ≡ [] }
@@ -27,7 +27,7 @@ impl Page {
         }
     }
 
-    /// A page of zeros with room of its own.
+    /// An allocated page of zeros.
     #[inline]
     pub(crate) fn zeros(alloc: Global) -> Result<Page, NoMemory>
         ensures bytes { IfOk result (λ page. page.bytes.items ≡ replicate page_size 0) }
@@ -39,10 +39,10 @@ impl Page {
         })
     }
 
-    /// Writes bytes to a page that has room of its own.
+    /// Writes bytes to a page that is allocated.
     #[inline(always)]
     pub(crate) fn write(&mut self, offset: usize, bytes: &[u8])
-        requires made { length self.old.bytes.items ≡ page_size }
+        requires allocated { length self.old.bytes.items ≡ page_size }
         requires within { offset + length bytes.now ≤ page_size }
         ensures written { self.new.bytes.items ≡ overwritten self.old.bytes.items offset bytes.now }
         ensures dirty { self.new.is_dirty ≡ true }

@@ -2,7 +2,7 @@
 ghost use Rattle.std.specs.Prelude.{◌≡◌, ◌≢◌, ℕ, ◌+◌, ◌*◌, ◌%◌, ◌<◌, ◌≤◌, length, false, replicate, Ok, Err, true, OnOk, OnErr, IfOk, IfErr, IsTrue, ◌↔◌, ◌⊎◌};
 ghost use Rattle.std.specs.List.{list_all, list_any};
 ghost use Rattle.vm_defs.specs.Memory.{byte_count, bytes_of, fetch, fetch_pair, is_code, is_out_of_range, kinds_under, load, memory_size, new_memory, overwritten, page_size, page_count, set_code, store};
-ghost use Rattle.vm_mem.specs.Pages.{AreMade, IsMade, IsUnder};
+ghost use Rattle.vm_mem.specs.Pages.{AreAllocated, IsAllocated, IsUnder};
 ghost use Rattle.vm_mem.specs.Paged.{IsReady, Stores};
 
 use super::pages::{PAGE_COUNT, PAGE_SIZE, Pages};
@@ -10,12 +10,10 @@ use super::stop::MemStop;
 use outside::NoMemory;
 use std::alloc::Global;
 use std::marker::Model;
-use vm_defs::{MemFault, PageKind, Width};
-
-const MEMORY_SIZE: u64 = 4_194_304;
+use vm_defs::{MEMORY_SIZE, MemFault, PageKind, Width};
 
 // The bytes of a page, as addresses count them.
-const PAGE: u64 = 4096;
+const PAGE: u64 = vm_defs::PAGE_SIZE;
 
 /// 4,194,304 bytes in 1,024 pages, each of data or of code.
 #[derive(Drop)]
@@ -32,7 +30,7 @@ impl Model for Paged {
 
     ghost Value = { PagedMemory };
 
-    ghost view = { λ m. record { memory = record { bytes = m.pages.bytes; kinds = m.kinds.items }; made = m.pages.made } };
+    ghost view = { λ m. record { memory = record { bytes = m.pages.bytes; kinds = m.kinds.items }; allocated = m.pages.allocated } };
 
     ghost invariant = { λ m. length m.kinds.items ≡ page_count };
 }
@@ -41,8 +39,8 @@ impl Paged {
     /// Memory that is zero, with all its pages of data.
     #[tactic(auto, unfolding(vm_defs::specs::Memory::new_memory))]
     pub(crate) fn new(alloc: Global) -> Result<Paged, NoMemory>
-        ensures memory { IfOk result (λ made. made.memory ≡ new_memory) }
-        ensures made { IfOk result (λ made. made.made ≡ replicate page_count false) }
+        ensures memory { IfOk result (λ memory. memory.memory ≡ new_memory) }
+        ensures allocated { IfOk result (λ memory. memory.allocated ≡ replicate page_count false) }
     {
         let pages = Pages::new(alloc)?;
         let kinds = vec![in alloc; PageKind::Data; PAGE_COUNT]?;
@@ -72,10 +70,10 @@ impl Paged {
     #[inline(always)]
     pub(crate) fn store(&mut self, at: u64, width: Width, value: u64) -> Result<(), MemStop>
         ensures stores { Stores (store self.old.memory at (bytes_of (byte_count width) value)) self.old.memory self.new.memory result }
-        ensures again { AreMade self.old.made at (byte_count width) → result ≢ Err MemStop.NoMemory }
-        ensures made { OnOk result (AreMade self.new.made at (byte_count width)) }
-        ensures stay { (page : ℕ) → IsMade self.old.made page → IsMade self.new.made page }
-        ensures only { (page : ℕ) → IsMade self.new.made page → IsMade self.old.made page ⊎ IsUnder page at (byte_count width) }
+        ensures needs_no_memory { AreAllocated self.old.allocated at (byte_count width) → result ≢ Err MemStop.NoMemory }
+        ensures allocated { OnOk result (AreAllocated self.new.allocated at (byte_count width)) }
+        ensures pages_kept { (page : ℕ) → IsAllocated self.old.allocated page → IsAllocated self.new.allocated page }
+        ensures pages_added { (page : ℕ) → IsAllocated self.new.allocated page → IsAllocated self.old.allocated page ⊎ IsUnder page at (byte_count width) }
         ensures refused { (fault : MemFault) → result ≡ Err (MemStop.Fault fault) → self.new ≡ self.old }
     {
         if !self.is_ready(at, size(width)) {
@@ -97,10 +95,10 @@ impl Paged {
     #[inline]
     pub(crate) fn copy_in(&mut self, at: u64, bytes: &[u8]) -> Result<(), MemStop>
         ensures stores { Stores (store self.old.memory at bytes.now) self.old.memory self.new.memory result }
-        ensures again { AreMade self.old.made at (length bytes.now) → result ≢ Err MemStop.NoMemory }
-        ensures made { OnOk result (AreMade self.new.made at (length bytes.now)) }
-        ensures stay { (page : ℕ) → IsMade self.old.made page → IsMade self.new.made page }
-        ensures only { (page : ℕ) → IsMade self.new.made page → IsMade self.old.made page ⊎ IsUnder page at (length bytes.now) }
+        ensures needs_no_memory { AreAllocated self.old.allocated at (length bytes.now) → result ≢ Err MemStop.NoMemory }
+        ensures allocated { OnOk result (AreAllocated self.new.allocated at (length bytes.now)) }
+        ensures pages_kept { (page : ℕ) → IsAllocated self.old.allocated page → IsAllocated self.new.allocated page }
+        ensures pages_added { (page : ℕ) → IsAllocated self.new.allocated page → IsAllocated self.old.allocated page ⊎ IsUnder page at (length bytes.now) }
         ensures refused { (fault : MemFault) → result ≡ Err (MemStop.Fault fault) → self.new ≡ self.old }
     {
         let at = match place(at, bytes.len() as u64) {
@@ -110,20 +108,20 @@ impl Paged {
         if self.has_code(at, bytes.len()) {
             return Err(MemStop::Fault(MemFault::WriteCode));
         }
-        if self.pages.make(self.alloc, at, bytes.len()).is_err() {
+        if self.pages.allocate(self.alloc, at, bytes.len()).is_err() {
             return Err(MemStop::NoMemory);
         }
         self.pages.write(at, bytes);
         Ok(())
     }
 
-    /// Makes a range of bytes zero, all or none, and takes no memory: a page that has none is zero.
+    /// Makes a range of bytes zero, all or none, and takes no memory: a page that is not allocated is zero.
     #[tactic(auto, unfolding(vm_defs::specs::Memory::store))]
     pub(crate) fn clear(&mut self, at: u64, count: u64) -> Result<(), MemFault>
         ensures cleared { OnOk result (Ok self.new.memory ≡ store self.old.memory at (replicate count 0)) }
         ensures fault { (fault : MemFault) → (result ≡ Err fault) ↔ (store self.old.memory at (replicate count 0) ≡ Err fault) }
         ensures kept { OnErr result (self.new ≡ self.old) }
-        ensures made { self.new.made ≡ self.old.made }
+        ensures allocated { self.new.allocated ≡ self.old.allocated }
     {
         let at = place(at, count)?;
         let count = count as usize;
@@ -154,7 +152,7 @@ impl Paged {
         ensures code { OnOk result (Ok self.new.memory ≡ set_code self.old.memory at pages) }
         ensures fault { (fault : MemFault) → (result ≡ Err fault) ↔ (set_code self.old.memory at pages ≡ Err fault) }
         ensures kept { OnErr result (self.new ≡ self.old) }
-        ensures made { self.new.made ≡ self.old.made }
+        ensures allocated { self.new.allocated ≡ self.old.allocated }
     {
         let size = 4096 * u64::from(pages);
         let at = place(at, size)?;
@@ -165,16 +163,16 @@ impl Paged {
         Ok(())
     }
 
-    // A store over two pages, to a page with no room of its own, or that is refused. It is rare, and takes
+    // A store over two pages, to a page that is not allocated, or one that is refused. It is rare, and takes
     // the number by value so that the common store keeps it in a register.
     #[cold]
     #[inline(never)]
     fn store_slow(&mut self, at: u64, width: Width, value: u64) -> Result<(), MemStop>
         ensures stores { Stores (store self.old.memory at (bytes_of (byte_count width) value)) self.old.memory self.new.memory result }
-        ensures again { AreMade self.old.made at (byte_count width) → result ≢ Err MemStop.NoMemory }
-        ensures made { OnOk result (AreMade self.new.made at (byte_count width)) }
-        ensures stay { (page : ℕ) → IsMade self.old.made page → IsMade self.new.made page }
-        ensures only { (page : ℕ) → IsMade self.new.made page → IsMade self.old.made page ⊎ IsUnder page at (byte_count width) }
+        ensures needs_no_memory { AreAllocated self.old.allocated at (byte_count width) → result ≢ Err MemStop.NoMemory }
+        ensures allocated { OnOk result (AreAllocated self.new.allocated at (byte_count width)) }
+        ensures pages_kept { (page : ℕ) → IsAllocated self.old.allocated page → IsAllocated self.new.allocated page }
+        ensures pages_added { (page : ℕ) → IsAllocated self.new.allocated page → IsAllocated self.old.allocated page ⊎ IsUnder page at (byte_count width) }
         ensures refused { (fault : MemFault) → result ≡ Err (MemStop.Fault fault) → self.new ≡ self.old }
     {
         let bytes = value.to_le_bytes();
@@ -186,7 +184,7 @@ impl Paged {
         }
     }
 
-    // Whether bytes lie in one page of data that has room of its own.
+    // Whether bytes lie in one page of data that is allocated.
     #[tactic(auto, unfolding(vm_defs::specs::Memory::memory_size, vm_defs::specs::Memory::page_count))]
     #[inline(always)]
     fn is_ready(&self, at: u64, count: u64) -> bool
@@ -197,17 +195,17 @@ impl Paged {
             return false;
         }
         let page = at as usize / PAGE_SIZE;
-        self.kinds[page] == PageKind::Data && self.pages.is_made(page)
+        self.kinds[page] == PageKind::Data && self.pages.is_allocated(page)
     }
 
-    // Writes some bytes in one page of data that has room of its own.
+    // Writes some bytes in one page of data that is allocated.
     #[inline(always)]
     fn write_ready(&mut self, at: usize, bytes: &[u8])
         requires some { 0 < length bytes.now }
         requires ready { IsReady self.old at (length bytes.now) }
         ensures store { store self.old.memory at bytes.now ≡ Ok self.new.memory }
-        ensures made { AreMade self.new.made at (length bytes.now) }
-        ensures kept { self.new.made ≡ self.old.made }
+        ensures allocated { AreAllocated self.new.allocated at (length bytes.now) }
+        ensures kept { self.new.allocated ≡ self.old.allocated }
     {
         self.pages.write_page(at, bytes);
     }

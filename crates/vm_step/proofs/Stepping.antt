@@ -65,7 +65,7 @@ range-executed old decoded from = ap (found_range old) from.found_is
 
 -- An instruction is looked up without a change that is seen.
 pub looked-up : (old seen : RunningMachine) (memory : PagedMemory) → seen ≡ old
-    → memory ≡ record { memory = seen.machine.memory; made = seen.made } → with_memory seen memory ≡ old
+    → memory ≡ record { memory = seen.machine.memory; allocated = seen.allocated } → with_memory seen memory ≡ old
 looked-up old seen memory same unchanged = ap (with_memory seen) unchanged ∙ same
 
 -- The instruction that was looked up is executed.

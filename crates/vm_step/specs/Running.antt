@@ -8,12 +8,12 @@ use Rattle.vm_defs.specs.declared.step.Step.TheVariants.{Went, Ecall, Fault, Spe
 use Rattle.vm_defs.specs.Code.{instruction_at}
 use Rattle.vm_defs.specs.Program.{Leads, stop_of}
 use Rattle.vm_defs.specs.Step.{Machine, charged, is_spent, moved, register, step_of}
-use Rattle.vm_mem.specs.Pages.{IsMade, AreMade}
+use Rattle.vm_mem.specs.Pages.{IsAllocated, AreAllocated}
 
--- the machine, which of its pages have room of their own, and whether it may make another step
+-- the machine, which of its pages are allocated, and whether it may make another step
 pub record RunningMachine : Type 0 where
   pub machine : Machine
-  pub made : List Bool
+  pub allocated : List Bool
   pub goes_on : Bool
 
 -- the answers of a step after which the machine goes on
@@ -64,9 +64,9 @@ found_range machine (Err fault) = None
 unfoldable pub next_range : Machine → Option ByteRange
 next_range machine = found_range machine (instruction_at machine.memory machine.pc)
 
--- the pages of the bytes, if any are stored to, have room of their own
+-- the pages of the bytes, if any are stored to, are allocated
 abbrev pub HasRoom : List Bool → Option ByteRange → Type 0
-HasRoom made range = IfSome range (λ bytes. AreMade made bytes.at bytes.count)
+HasRoom allocated range = IfSome range (λ bytes. AreAllocated allocated bytes.at bytes.count)
 
 -- ---- steps up to one that does not go
 
@@ -77,7 +77,7 @@ pub record WantsPage (old : RunningMachine) (new : Machine) : Type 0 where
   pub reached : Machine
   pub leads : Leads steps old.machine reached
   pub stores : Steps (step_of reached) reached new NoMemory
-  pub no_room : HasRoom old.made (next_range reached) → ⊥
+  pub no_room : HasRoom old.allocated (next_range reached) → ⊥
 
 -- The machine before and after, and the answer to the last step.
 abbrev pub Stops : RunningMachine → Machine → Step → Type 0
@@ -93,7 +93,7 @@ Stops old new NoMemory = WantsPage old new
 -- the answer.
 pub record Executes (expected : Step × Machine) (range : Option ByteRange) (old new : RunningMachine) (result : Step) : Type 0 where
   pub machine : Steps expected old.machine new.machine result
-  pub room : HasRoom old.made range → result ≢ NoMemory
-  pub made : result ≡ Went → HasRoom new.made range
-  pub stay : (page : ℕ) → IsMade old.made page → IsMade new.made page
+  pub room : HasRoom old.allocated range → result ≢ NoMemory
+  pub allocated : result ≡ Went → HasRoom new.allocated range
+  pub pages_kept : (page : ℕ) → IsAllocated old.allocated page → IsAllocated new.allocated page
   pub goes_on : new.goes_on ≡ goes_on_after result

@@ -19,7 +19,7 @@ loop-index-init c =
     let place : e_phoff file + 0 ≡ e_phoff file = omega arith in
     record {
       placing = rw (count, place) (placing-none file c.args.memory.now.memory c.requires.new);
-      stay = λ made. made;
+      pages_kept = λ allocated. allocated;
     }
 
 pub segment-requires-clause-table : goal.segment-requires-clause-table
@@ -76,12 +76,12 @@ loop-index-preserved c =
           let sound = placing-sound file s _ c.loop-index.memory.memory p (sound-parts file c.requires.sound).1 in
           rw w.memory-is (record {
             placing = placing-more file s _ c.loop-index.memory.memory w.place.new.memory.memory p sound w.in-Ok.ensures.placed;
-            stay = λ made. w.place.ensures.stay (c.loop-index.invariant.stay made);
+            pages_kept = λ allocated. w.place.ensures.pages_kept (c.loop-index.invariant.pages_kept allocated);
           })
       | in_default w ↦
           rw w.memory-is (record {
             placing = subst (λ rest. Placing file rest c.loop-index.memory.memory) ((rest-step file count index at below).passed (sym found ∙ w.in_default.is)) placing;
-            stay = c.loop-index.invariant.stay;
+            pages_kept = c.loop-index.invariant.pages_kept;
           })
     ]
 

@@ -11,11 +11,11 @@ unreachable-requires c =
     stored-unrefused (store memory c.address-address.result c.bytes_in_file.result.now) _ memory c.copy_in.new.self.memory
     c.in-Err-Fault.field-0 c.in-Err-Fault.field-0-0 ok c.in-Err-Fault.field-0-is c.in-Err-Fault.ensures.stores
 
-pub returns-in-Err-NoMemory-clause-again : goal.returns-in-Err-NoMemory-clause-again
-returns-in-Err-NoMemory-clause-again c = λ all.
-    let made = bytes-made c.args.memory.now.made c.args.file.now c.args.segment.now c.address-address.result c.bytes_in_file.result.now all
+pub returns-in-Err-NoMemory-clause-needs_no_memory : goal.returns-in-Err-NoMemory-clause-needs_no_memory
+returns-in-Err-NoMemory-clause-needs_no_memory c = λ all.
+    let allocated = bytes-made c.args.memory.now.allocated c.args.file.now c.args.segment.now c.address-address.result c.bytes_in_file.result.now all
     c.requires.in_file c.requires.sizes c.requires.in_memory c.address-address.ensures c.bytes_in_file.ensures in
-    absurd (c.copy_in.ensures.again made (c.in-Err-NoMemory.is ∙ ap Err c.in-Err-NoMemory.field-0-is))
+    absurd (c.copy_in.ensures.needs_no_memory allocated (c.in-Err-NoMemory.is ∙ ap Err c.in-Err-NoMemory.field-0-is))
 
 pub unwrap-requires : goal.unwrap-requires
 unwrap-requires c =

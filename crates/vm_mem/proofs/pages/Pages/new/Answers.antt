@@ -24,7 +24,7 @@ returns-clause-bytes c =
     let count = count-is c.loop.counter c.loop-test.false c.loop.auto.counter-end in
     new-bytes _ (c.loop.invariant.0 ∙ ap (λ n. replicate {A = List ℕ} n []) count)
 
-pub returns-clause-made : goal.returns-clause-made
-returns-clause-made c =
+pub returns-clause-allocated : goal.returns-clause-allocated
+returns-clause-allocated c =
     let count = count-is c.loop.counter c.loop-test.false c.loop.auto.counter-end in
     new-made _ (c.loop.invariant.0 ∙ ap (λ n. replicate {A = List ℕ} n []) count)

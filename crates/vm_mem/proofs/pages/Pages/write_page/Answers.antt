@@ -3,20 +3,20 @@ use Rattle.vm_defs.specs.Memory.{page_size}
 use Rattle.vm_mem.proofs.Edited.{full-is-marked, marked, page-full, sound, write-pages, written-is-page}
 use Rattle.vm_mem.proofs.pages.Pages.write_page.Goals as goal
 
--- the page has room of its own, before and after
+-- the page is allocated, before and after
 full-page : (c : goal.After-self-1) → length c.index_mut.result.now.bytes.items ≡ page_size
 full-page c =
     page-full (λ page. page.bytes.items) c.self.inside.pages.items c.index_mut.result.now c.args.at c.args.self.now
-    c.self.invariant.0 c.index_mut.ensures.value c.requires.memory c.self.view_is c.requires.made
+    c.self.invariant.0 c.index_mut.ensures.value c.requires.memory c.self.view_is c.requires.allocated
 
 still-full : (c : goal.After-self-1) → length c.write.new.self.bytes.items ≡ page_size
 still-full c =
     written-is-page c.index_mut.result.now.bytes.items c.write.new.self.bytes.items _ c.args.bytes.now (full-page c) c.requires.within c.write.ensures.written
 
-pub write-requires-clause-made : goal.write-requires-clause-made
-write-requires-clause-made c =
+pub write-requires-clause-allocated : goal.write-requires-clause-allocated
+write-requires-clause-allocated c =
     page-full (λ page. page.bytes.items) c.self.inside.pages.items c.index_mut.result.now c.args.at c.args.self.now
-    c.self.invariant.0 c.index_mut.ensures.value c.requires.memory c.self.view_is c.requires.made
+    c.self.invariant.0 c.index_mut.ensures.value c.requires.memory c.self.view_is c.requires.allocated
 
 pub invariant_of-self : goal.invariant_of-self
 invariant_of-self c = (

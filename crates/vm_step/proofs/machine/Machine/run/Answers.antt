@@ -12,11 +12,11 @@ steps-smaller c = fewer-left c.steps.self.machine c.step.new.self.machine c.step
 pub steps-preserved : goal.steps-preserved
 steps-preserved c =
     going-more c.args.self.now c.steps.self c.step.new.self c.step.result c.steps.invariant c.in-Went.is c.step.ensures.steps
-    c.step.ensures.stay (c.step.ensures.goes_on ∙ ap goes_on_after c.in-Went.is)
+    c.step.ensures.pages_kept (c.step.ensures.goes_on ∙ ap goes_on_after c.in-Went.is)
 
 pub returns-in_default : goal.returns-in_default
 returns-in_default c = record {
   stops = stops c.args.self.now c.steps.self c.step.new.self c.step.result c.steps.invariant c.in_default.not-Went c.step.ensures.steps c.step.ensures.room;
   goes_on = c.step.ensures.goes_on;
-  stay = λ page made. c.step.ensures.stay page (c.steps.invariant.stay page made);
+  pages_kept = λ page allocated. c.step.ensures.pages_kept page (c.steps.invariant.pages_kept page allocated);
 }

@@ -47,11 +47,11 @@ returns-clause-room c has-room =
     let range = range-executed c.args.self.now.machine decoded from in
     executes.room (rw (← range) has-room)
 
-pub returns-clause-made : goal.returns-clause-made
-returns-clause-made c went =
+pub returns-clause-allocated : goal.returns-clause-allocated
+returns-clause-allocated c went =
     let seen = the_view c.self.inside in
     let decoded = c.in-Ok-Some.decoded in
     let from = finds _ seen (Ok (Some decoded)) _ c.self.view_is c.if-self-eq1.false c.instruction.ensures.exact (c.in-Ok-Some.is ∙ ap Ok c.in-Ok-Some.field-0-is) in
     let same = looked-up _ seen c.instruction.new.self c.self.view_is c.instruction.ensures.unchanged in
     let executes = executed _ (with_memory seen c.instruction.new.self) _ decoded.0 c.from.result _ same c.execute.ensures in
-    rw (range-executed c.args.self.now.machine decoded from) (executes.made went)
+    rw (range-executed c.args.self.now.machine decoded from) (executes.allocated went)

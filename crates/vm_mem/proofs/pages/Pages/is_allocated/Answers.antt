@@ -1,7 +1,7 @@
 use Rattle.std.proofs.Common.{rules}
 use Rattle.vm_defs.specs.Memory.{page_count}
 use Rattle.vm_mem.proofs.Edited.{made-is}
-use Rattle.vm_mem.proofs.pages.Pages.is_made.Goals as goal
+use Rattle.vm_mem.proofs.pages.Pages.is_allocated.Goals as goal
 
 pub returns : goal.returns
 unfolding page_count
