@@ -5,7 +5,7 @@ use Rattle.std.specs.Option.{option_and_then}
 use Rattle.std.proofs.lemmas.Option.{slice_get_within, slice_get-get_or, same_Some}
 use Rattle.chain_defs.proofs.KeptLaws.{slice_get-below, slice_get-before}
 use Rattle.chain_tree.specs.declared.entry.Entry.{Entry}
-use Rattle.chain_tree.specs.Entries.{entry_at, entry_limit, parent_of, place_up, IsAncestor, FollowsParent, IsTree}
+use Rattle.chain_tree.specs.Entries.{entry_at, parent_of, place_up, IsAncestor, FollowsParent, IsTree}
 use Rattle.chain_tree.specs.Indexed.{AreJumps}
 
 -- ---- Paths
@@ -226,8 +226,3 @@ number-exact entries place number d least most =
     let same : entry.0 ≡ slice_index_or entries place d = same_Some entry.0 (slice_index_or entries place d) (sym entry.1 ∙ slice_get-get_or entries place d within) in
     let read : entry.0.number ≡ (slice_index_or entries place d).number = ap (λ (e : Entry). e.number) same in
     and_some (entry_at entries place) (λ e. e.number ≡ number) entry.0 entry.1 (omega (arith, entry.2, read, most))
-
--- A place is a machine word.
-pub limit-fits : (n : ℕ) → n ≤ entry_limit → n < 4294967296
-unfolding entry_limit
-limit-fits n most = omega (arith, most)

@@ -1,5 +1,5 @@
 -- What a tree keeps beside its entries, at a genesis alone and with one more entry at the end.
-use Rattle.std.proofs.Common.{◌≡◌, ℕ, zero, suc, ◌+◌, ◌<◌, ◌≤◌, Bool, true, false, cond, List, [], ◌∷◌, ◌++◌, length, Option, Some, None, refl, sym, ap, ◌∙◌, subst, inl, inr, ◌⊎◌, arith}
+use Rattle.std.proofs.Common.{◌≡◌, ℕ, zero, suc, ◌+◌, ◌^◌, ◌<◌, ◌≤◌, Bool, true, false, cond, List, [], ◌∷◌, ◌++◌, length, Option, Some, None, refl, sym, ap, ◌∙◌, subst, inl, inr, ◌⊎◌, arith}
 use Rattle.std.specs.Prelude.{option_map, slice_get, slice_index_or, IsSomeAnd}
 use Rattle.std.specs.Option.{option_or}
 use Rattle.std.specs.Str.{bytes_eq}
@@ -8,7 +8,7 @@ use Rattle.std.proofs.lemmas.List.{length_push}
 use Rattle.std.proofs.lemmas.Option.{slice_get_within, slice_get-get_or, same_Some}
 use Rattle.chain_defs.proofs.KeptLaws.{slice_get-before, slice_get-push, slice_get-pushed}
 use Rattle.chain_tree.specs.declared.entry.Entry.{Entry}
-use Rattle.chain_tree.specs.Entries.{entry_at, entry_limit, place_of_hash, parent_of, IsAncestor, FollowsParent, IsTop, IsTree}
+use Rattle.chain_tree.specs.Entries.{entry_at, place_of_hash, parent_of, IsAncestor, FollowsParent, IsTop, IsTree}
 use Rattle.chain_tree.specs.Indexed.{AreJumps, IsIndexed}
 use Rattle.chain_tree.proofs.EntryLemmas.{ancestor-parent, ancestor-push, ancestor-below, parent_of-there, some_and, and_some, there-within}
 
@@ -60,7 +60,7 @@ follows-push entries entry other follows =
     and_some (entry_at (entries ++ entry ∷ []) other.parent) (λ p. other.number ≡ p.number + 1) parent.0
     (slice_get-before entries (entry ∷ []) other.parent below ∙ parent.1) parent.2
 
-pub IsTree-push : (entries : List Entry) (entry : Entry) → IsTree entries → length entries < entry_limit → FollowsParent entries entry
+pub IsTree-push : (entries : List Entry) (entry : Entry) → IsTree entries → length entries + 1 < 2 ^ 32 → FollowsParent entries entry
     → place_of_hash entries entry.hash ≡ None → IsTree (entries ++ entry ∷ [])
 IsTree-push entries entry tree few follows new = record {
   genesis = and_some (entry_at (entries ++ entry ∷ []) 0) (λ e. e.number ≡ 0) first.0
@@ -188,7 +188,6 @@ IsTop-stays entries entry tip d top lower = record {
 
 pub IsIndexed-one : (genesis : Entry) (places : List ℕ → Option ℕ) → genesis.number ≡ 0
     → ((hash : List ℕ) → places hash ≡ cond (bytes_eq genesis.hash hash) (Some 0) None) → IsIndexed (genesis ∷ []) (0 ∷ []) places 0
-unfolding entry_limit
 IsIndexed-one genesis places first finds = record {
   tree = record {
     genesis = first;
@@ -247,7 +246,7 @@ IsIndexed-same entries jumps places others tip indexed same = record {
 }
 
 pub IsIndexed-push : (entries : List Entry) (jumps : List ℕ) (places after : List ℕ → Option ℕ) (tip : ℕ) (entry : Entry) (place jump next : ℕ)
-    → IsIndexed entries jumps places tip → length entries < entry_limit → FollowsParent entries entry → place_of_hash entries entry.hash ≡ None
+    → IsIndexed entries jumps places tip → length entries + 1 < 2 ^ 32 → FollowsParent entries entry → place_of_hash entries entry.hash ≡ None
     → place ≡ length entries → ((hash : List ℕ) → after hash ≡ cond (bytes_eq entry.hash hash) (Some place) (places hash))
     → IsAncestor entries entry.parent jump → IsTop (entries ++ entry ∷ []) next
     → IsIndexed (entries ++ entry ∷ []) (jumps ++ jump ∷ []) after next

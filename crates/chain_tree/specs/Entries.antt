@@ -1,5 +1,5 @@
 -- The entries of a tree of blocks, genesis first, in the order in which they were added. An entry is named by its place.
-use Rattle.std.specs.Prelude.{◌≡◌, ℕ, zero, suc, ◌+◌, ◌<◌, ◌≤◌, List, [], ◌∷◌, length, Option, Some, None, if◌then◌else◌, option_map, IsSomeAnd, slice_get}
+use Rattle.std.specs.Prelude.{◌≡◌, ℕ, zero, suc, ◌+◌, ◌^◌, ◌<◌, ◌≤◌, List, [], ◌∷◌, length, Option, Some, None, if◌then◌else◌, option_map, IsSomeAnd, slice_get}
 use Rattle.std.specs.Option.{option_and_then}
 use Rattle.std.specs.Str.{bytes_eq}
 use Rattle.chain_tree.specs.declared.entry.Entry.{Entry}
@@ -8,10 +8,6 @@ use Rattle.chain_tree.specs.declared.entry.Entry.{Entry}
 pub record TreeValue : Type 0 where
   pub entries : List Entry
   pub spare : ℕ
-
--- the most entries, genesis included (docs/COMMANDS.md, "The verdicts")
-unfoldable pub entry_limit : ℕ
-entry_limit = 1000000
 
 -- the entry at a place
 abbrev pub entry_at : List Entry → ℕ → Option Entry
@@ -49,9 +45,9 @@ pub record IsTop (entries : List Entry) (place : ℕ) : Type 0 where
 
 -- What is so of the entries of every tree.
 pub record IsTree (entries : List Entry) : Type 0 where
-  -- the first is of number 0, and they are at most the limit
+  -- the first is of number 0, and a place is a u32
   pub genesis : IsSomeAnd (entry_at entries 0) (λ entry. entry.number ≡ 0)
-  pub few : length entries ≤ entry_limit
+  pub few : length entries < 2 ^ 32
   -- each other follows an earlier one
   pub earlier : (place : ℕ) (entry : Entry) → entry_at entries (suc place) ≡ Some entry → entry.parent < suc place
   pub follows : (place : ℕ) (entry : Entry) → entry_at entries (suc place) ≡ Some entry → FollowsParent entries entry

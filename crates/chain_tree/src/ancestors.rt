@@ -1,5 +1,5 @@
-// Places up the path of a place. Beside its parent each entry has a jump to an earlier ancestor, by Myers' skew-binary
-// rule ("An applicative random-access stack", 1983): from n entries up, the walk to any number takes about 2 log2 n steps.
+// Places up the path of a place. Beside its parent each entry has a jump to an ancestor, by the skew-binary rule of
+// Myers ("An applicative random-access stack", 1983): a walk takes at most about 3 log2 of the entry's number of steps.
 ghost use Rattle.std.specs.Prelude.{◌≡◌, ◌<◌, ◌≤◌, IsSomeAnd, length};
 ghost use Rattle.chain_tree.specs.Entries.{entry_at, IsAncestor, IsTree};
 ghost use Rattle.chain_tree.specs.Indexed.{AreJumps};

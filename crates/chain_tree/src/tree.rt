@@ -1,10 +1,10 @@
 // The tree of the kept blocks.
-ghost use Rattle.std.specs.Prelude.{◌≡◌, ◌+◌, ◌^◌, ◌<◌, ◌≤◌, ◌++◌, ◌∷◌, [], List, Some, None, length, IfOk, OnOk, OnErr, IsSomeAnd, slice_get};
+ghost use Rattle.std.specs.Prelude.{◌≡◌, ◌+◌, ◌^◌, ◌<◌, ◌≤◌, ◌++◌, ◌∷◌, [], List, Some, None, length, IfOk, IsOk, OnOk, OnErr, IsSomeAnd, slice_get};
 ghost use Rattle.codec_defs.specs.Schema.{Block};
 ghost use Rattle.chain_defs.specs.Kept.{place_of};
 ghost use Rattle.chain_defs.specs.Branch.{branch_places};
 ghost use Rattle.chain_defs.specs.Tip.{tip_place};
-ghost use Rattle.chain_tree.specs.Entries.{entry_at, entry_limit, place_of_hash, FollowsParent, IsAncestor, IsTop, IsTree};
+ghost use Rattle.chain_tree.specs.Entries.{entry_at, place_of_hash, FollowsParent, IsAncestor, IsTop, IsTree};
 ghost use Rattle.chain_tree.specs.Blocks.{Describes, IndexesBlocks};
 
 use crate::ancestors::{ancestor_of, jump_over};
@@ -106,8 +106,8 @@ impl Tree {
         self.places.get(hash).copied()
     }
 
-    /// The place on the path of a place, by parents, whose number is this one. It takes about 2 log2 n steps where
-    /// the number is n below the entry's, and never more than n.
+    /// The place on the path of a place, by parents, whose number is this one. It takes no more steps than there are
+    /// numbers between, and at most about 3 log2 of the entry's number.
     pub fn ancestor(&self, place: u32, number: u64) -> u32
         requires { IsSomeAnd (entry_at self.now.entries place) (λ entry. number ≤ entry.number) }
         ensures up { IsAncestor self.now.entries place result }
@@ -129,6 +129,7 @@ impl Tree {
     pub fn reserve(&mut self) -> Result<(), NoMemory>
         ensures entries { self.new.entries ≡ self.old.entries }
         ensures spare { OnOk result (0 < self.new.spare) }
+        ensures enough { 0 < self.old.spare → IsOk result }
         ensures err { OnErr result (self.new ≡ self.old) }
     {
         if self.spare == 0 {
@@ -140,10 +141,10 @@ impl Tree {
         Ok(())
     }
 
-    /// Adds an entry at the end. It takes no memory.
+    /// Adds an entry at the end, on a kept parent. It takes no memory.
     pub fn add(&mut self, entry: Entry)
         requires spare { 0 < self.old.spare }
-        requires few { length self.old.entries < entry_limit }
+        requires few { length self.old.entries + 1 < 2 ^ 32 }
         requires parent { FollowsParent self.old.entries entry }
         requires new { place_of_hash self.old.entries entry.hash ≡ None }
         ensures entries { self.new.entries ≡ self.old.entries ++ entry ∷ [] }

@@ -1,18 +1,17 @@
-use Rattle.std.proofs.Common.{◌≡◌, ◌≤◌, ◌<◌, ◌+◌, ◌-◌, ◌++◌, ◌∷◌, [], List, ℕ, None, length, ap, sym, ◌∙◌, subst, arith}
+use Rattle.std.proofs.Common.{◌≡◌, ◌≤◌, ◌<◌, ◌+◌, ◌^◌, ◌-◌, ◌++◌, ◌∷◌, [], List, ℕ, None, length, ap, sym, ◌∙◌, subst, arith}
 use Rattle.std.specs.Str.{bytes_eq}
 use Rattle.std.specs.HashMap.{get}
 use Rattle.chain_tree.specs.declared.entry.Entry.{Entry}
-use Rattle.chain_tree.specs.Entries.{TreeValue, entry_limit, place_of_hash, FollowsParent, IsAncestor, IsTop}
+use Rattle.chain_tree.specs.Entries.{TreeValue, place_of_hash, FollowsParent, IsAncestor, IsTop}
 use Rattle.chain_tree.specs.Blocks.{IndexesBlocks}
-use Rattle.chain_tree.proofs.EntryLemmas.{limit-fits, there-within}
+use Rattle.chain_tree.proofs.EntryLemmas.{there-within}
 use Rattle.chain_tree.proofs.IndexLemmas.{IsIndexed-push}
 use Rattle.chain_tree.proofs.BlockLemmas.{IndexesBlocks-push}
 use Rattle.chain_tree.proofs.tree.Tree.add.Goals as goal
 
 pub overflow_cast-place : goal.overflow_cast-place
 overflow_cast-place c =
-    let below = limit-fits c.len-place.result (omega (arith, c.len-place.ensures, c.self.inside.entries.ok, c.self.invariant.0.tree.few)) in
-    omega (arith, below)
+    omega (arith, c.len-place.ensures, c.self.inside.entries.ok, c.self.invariant.0.tree.few)
 
 pub jump_over-jump-requires-clause-within : goal.jump_over-jump-requires-clause-within
 jump_over-jump-requires-clause-within c =
@@ -22,7 +21,7 @@ jump_over-jump-requires-clause-within c =
 
 pub tip_after-self-inside-requires-clause-few : goal.tip_after-self-inside-requires-clause-few
 tip_after-self-inside-requires-clause-few c =
-    limit-fits (length c.deref-3.result.now) (omega (arith, ap length c.deref-3.ensures.value, c.self.invariant.0.tree.few))
+    omega (arith, ap length c.deref-3.ensures.value, c.self.invariant.0.tree.few)
 
 pub invariant_of-self : goal.invariant_of-self
 invariant_of-self c =
@@ -30,7 +29,7 @@ invariant_of-self c =
     let seen : old.entries.items ≡ c.args.self.now.entries = ap (λ (v : TreeValue). v.entries) c.self.view_is in
     let spare : old.spare ≡ c.args.self.now.spare = ap (λ (v : TreeValue). v.spare) c.self.view_is in
     let some : 0 < old.spare = omega (arith, spare, c.requires.spare) in
-    let few : length old.entries.items < entry_limit = omega (arith, ap length seen, c.requires.few) in
+    let few : length old.entries.items + 1 < 2 ^ 32 = omega (arith, ap length seen, c.requires.few) in
     let place : c.len-place.result ≡ length old.entries.items = omega (arith, c.len-place.ensures, old.entries.ok) in
     (
       rw (c.push_reserved.ensures.items, c.push_reserved-2.ensures.items)
