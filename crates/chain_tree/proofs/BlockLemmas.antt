@@ -1,16 +1,16 @@
 -- Entries that index kept blocks: finding, the tip, and branches are those of the blocks.
-use Rattle.std.proofs.Common.{◌≡◌, ℕ, zero, suc, ◌+◌, ◌-◌, ◌<◌, ◌≤◌, cond, List, [], ◌∷◌, ◌++◌, length, take, Option, Some, None, refl, sym, ap, ◌∙◌, subst, inl, inr, ◌⊎◌, arith}
+use Rattle.std.proofs.Common.{◌≡◌, ℕ, zero, suc, ◌+◌, ◌<◌, ◌≤◌, cond, List, [], ◌∷◌, ◌++◌, length, take, Option, Some, None, refl, sym, ap, ◌∙◌, subst, inl, inr, ◌⊎◌, arith}
 use Rattle.std.specs.Prelude.{option_map, slice_get, IsSomeAnd, IfSome}
 use Rattle.std.specs.Option.{option_and_then}
 use Rattle.std.specs.List.{AllZip}
 use Rattle.std.specs.Str.{bytes_eq}
-use Rattle.std.proofs.lemmas.List.{length_push, length-take-le}
+use Rattle.std.proofs.lemmas.List.{length_push}
 use Rattle.std.proofs.lemmas.Option.{slice_get_within, same_Some}
 use Rattle.codec_defs.specs.Schema.{Block}
 use Rattle.chain_defs.specs.Kept.{block_hash, block_at, place_of, parent_place, StandsOn, IsKept}
 use Rattle.chain_defs.specs.Branch.{places_within, branch_places}
 use Rattle.chain_defs.specs.Tip.{tip_place}
-use Rattle.chain_defs.proofs.KeptLaws.{slice_get-below, slice_get-take, slice_get-before, slice_get-push, slice_get-pushed, IsKept-push}
+use Rattle.chain_defs.proofs.KeptLaws.{slice_get-take, slice_get-before, slice_get-push, slice_get-pushed, IsKept-push}
 use Rattle.chain_defs.proofs.BranchLaws.{places_on, parent_place-below, parent_place-push, parent_place-last}
 use Rattle.chain_defs.proofs.TipLaws.{tips-are-tips}
 use Rattle.chain_tree.specs.declared.entry.Entry.{Entry}
@@ -61,6 +61,15 @@ describes-push [] [] block entry each last = (last, tt)
 describes-push [] (e ∷ es) block entry each last = absurd each
 describes-push (b ∷ bs) [] block entry each last = absurd each
 describes-push (b ∷ bs) (e ∷ es) block entry each last = (each.0, describes-push bs es block entry each.1 last)
+
+pub len-same : (kept : List Block) (entries : List Entry) → IndexesBlocks kept entries → length entries ≡ length kept
+len-same kept entries indexes = sym (lengths-same kept entries indexes.each)
+
+pub entry-same : (kept : List Block) (entries : List Entry) (place : ℕ) (entry : Entry) → IndexesBlocks kept entries → entry_at entries place ≡ Some entry
+    → IsSomeAnd (block_at kept place) (λ block. Describes block entry)
+entry-same kept entries place entry indexes there =
+    let here = described kept entries place entry indexes.each there in
+    subst (λ (found : Option Block). IsSomeAnd found (λ block. Describes block entry)) (sym here.there) here.is
 
 -- ---- Finding
 

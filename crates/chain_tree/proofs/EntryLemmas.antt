@@ -3,9 +3,9 @@ use Rattle.std.proofs.Common.{◌≡◌, ℕ, zero, suc, ◌+◌, ◌<◌, ◌�
 use Rattle.std.specs.Prelude.{option_map, slice_get, slice_index_or, IsSomeAnd}
 use Rattle.std.specs.Option.{option_and_then}
 use Rattle.std.proofs.lemmas.Option.{slice_get_within, slice_get-get_or, same_Some}
-use Rattle.chain_defs.proofs.KeptLaws.{slice_get-below, slice_get-before}
+use Rattle.chain_defs.proofs.KeptLaws.{slice_get-before}
 use Rattle.chain_tree.specs.declared.entry.Entry.{Entry}
-use Rattle.chain_tree.specs.Entries.{entry_at, parent_of, place_up, IsAncestor, FollowsParent, IsTree}
+use Rattle.chain_tree.specs.Entries.{entry_at, parent_of, place_up, IsAncestor, IsTree}
 use Rattle.chain_tree.specs.Indexed.{AreJumps}
 
 -- ---- Paths

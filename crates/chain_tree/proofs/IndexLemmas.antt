@@ -1,14 +1,14 @@
 -- What a tree keeps beside its entries, at a genesis alone and with one more entry at the end.
 use Rattle.std.proofs.Common.{◌≡◌, ℕ, zero, suc, ◌+◌, ◌^◌, ◌<◌, ◌≤◌, Bool, true, false, cond, List, [], ◌∷◌, ◌++◌, length, Option, Some, None, refl, sym, ap, ◌∙◌, subst, inl, inr, ◌⊎◌, arith}
-use Rattle.std.specs.Prelude.{option_map, slice_get, slice_index_or, IsSomeAnd}
+use Rattle.std.specs.Prelude.{option_map, slice_get, IfSome}
 use Rattle.std.specs.Option.{option_or}
 use Rattle.std.specs.Str.{bytes_eq}
 use Rattle.std.proofs.lemmas.Slice.Eq.{bytes_eq-Decides}
 use Rattle.std.proofs.lemmas.List.{length_push}
-use Rattle.std.proofs.lemmas.Option.{slice_get_within, slice_get-get_or, same_Some}
-use Rattle.chain_defs.proofs.KeptLaws.{slice_get-before, slice_get-push, slice_get-pushed}
+use Rattle.std.proofs.lemmas.Option.{slice_get_within, same_Some}
+use Rattle.chain_defs.proofs.KeptLaws.{slice_get-before, slice_get-push, slice_get-pushed, suc_of}
 use Rattle.chain_tree.specs.declared.entry.Entry.{Entry}
-use Rattle.chain_tree.specs.Entries.{entry_at, place_of_hash, parent_of, IsAncestor, FollowsParent, IsTop, IsTree}
+use Rattle.chain_tree.specs.Entries.{entry_at, place_of_hash, IsAncestor, FollowsParent, IsTop, IsTree}
 use Rattle.chain_tree.specs.Indexed.{AreJumps, IsIndexed}
 use Rattle.chain_tree.proofs.EntryLemmas.{ancestor-parent, ancestor-push, ancestor-below, parent_of-there, some_and, and_some, there-within}
 
@@ -32,6 +32,23 @@ place_of_hash-push (first ∷ later) entry hash =
     by_test false true None after = ap (option_map suc) after
     by_test false false None after = ap (option_map suc) after
     by_test false last (Some i) after = ap (option_map suc) after
+
+-- A place that is found is below the length.
+found-below : (entries : List Entry) (hash : List ℕ) (place : ℕ) → place_of_hash entries hash ≡ Some place → place < length entries
+found-below [] hash place found = absurd (cc)
+found-below (entry ∷ later) hash place found = by_test (bytes_eq entry.hash hash) found (found-below later hash)
+  where
+    by_test : (here : Bool) → cond here (Some 0) (option_map suc (place_of_hash later hash)) ≡ Some place
+        → ((i : ℕ) → place_of_hash later hash ≡ Some i → i < length later) → place < suc (length later)
+    by_test true found rest = let first : 0 ≡ place = grind arith in omega (arith, first)
+    by_test false found rest =
+        let behind = suc_of (place_of_hash later hash) place found in
+        let below : behind.0 < length later = rest behind.0 behind.2 in
+        omega (arith, below, behind.1)
+
+pub found-within : (entries : List Entry) (hash : List ℕ) (found : Option ℕ) → found ≡ place_of_hash entries hash → IfSome found (λ place. place < length entries)
+found-within entries hash None is = tt
+found-within entries hash (Some place) is = found-below entries hash place (sym is)
 
 own-hash : (hash : List ℕ) → bytes_eq hash hash ≡ true
 own-hash hash = (bytes_eq-Decides hash hash).1 refl
@@ -138,51 +155,6 @@ AreJumps-push entries jumps entry jump tree jumps_up follows up = record {
         → other < suc place
     earlier_at place other (inl before) = jumps_up.earlier place other before.1
     earlier_at place other (inr last) = omega (arith, last.0, last.1, jumps_up.each, below, most)
-
--- ---- The tip
-
-pub IsTop-raised : (entries : List Entry) (entry : Entry) (tip : ℕ) (d : Entry) → IsTop entries tip → (slice_index_or entries tip d).number < entry.number
-    → IsTop (entries ++ entry ∷ []) (length entries)
-IsTop-raised entries entry tip d top higher = record {
-  top = entry;
-  there = slice_get-push entries entry;
-  greatest = λ other e there. greatest_at other e (slice_get-pushed entries entry other e there);
-  earliest = λ other e below there. under other e (sym (slice_get-before entries (entry ∷ []) other below) ∙ there);
-}
-  where
-    above : top.top.number < entry.number
-    above =
-        let within : tip < length entries = slice_get_within entries tip top.top top.there in
-        let same : top.top ≡ slice_index_or entries tip d = same_Some top.top (slice_index_or entries tip d) (sym top.there ∙ slice_get-get_or entries tip d within) in
-        let number : top.top.number ≡ (slice_index_or entries tip d).number = ap (λ (e : Entry). e.number) same in
-        omega (arith, number, higher)
-
-    under : (other : ℕ) (e : Entry) → entry_at entries other ≡ Some e → e.number < entry.number
-    under other e there = let most : e.number ≤ top.top.number = top.greatest other e there in omega (arith, most, above)
-
-    greatest_at : (other : ℕ) (e : Entry) → IsPushed entries entry other e → e.number ≤ entry.number
-    greatest_at other e (inl before) = let less : e.number < entry.number = under other e before.1 in omega (arith, less)
-    greatest_at other e (inr last) = let same : entry.number ≡ e.number = ap (λ (x : Entry). x.number) last.1 in omega (arith, same)
-
-pub IsTop-stays : (entries : List Entry) (entry : Entry) (tip : ℕ) (d : Entry) → IsTop entries tip → entry.number ≤ (slice_index_or entries tip d).number
-    → IsTop (entries ++ entry ∷ []) tip
-IsTop-stays entries entry tip d top lower = record {
-  top = top.top;
-  there = slice_get-before entries (entry ∷ []) tip within ∙ top.there;
-  greatest = λ other e there. greatest_at other e (slice_get-pushed entries entry other e there);
-  earliest = λ other e below there. top.earliest other e below (sym (slice_get-before entries (entry ∷ []) other (omega (arith, below, within))) ∙ there);
-}
-  where
-    within : tip < length entries
-    within = slice_get_within entries tip top.top top.there
-
-    greatest_at : (other : ℕ) (e : Entry) → IsPushed entries entry other e → e.number ≤ top.top.number
-    greatest_at other e (inl before) = top.greatest other e before.1
-    greatest_at other e (inr last) =
-        let same : entry.number ≡ e.number = ap (λ (x : Entry). x.number) last.1 in
-        let read : top.top ≡ slice_index_or entries tip d = same_Some top.top (slice_index_or entries tip d) (sym top.there ∙ slice_get-get_or entries tip d within) in
-        let number : top.top.number ≡ (slice_index_or entries tip d).number = ap (λ (x : Entry). x.number) read in
-        omega (arith, same, number, lower)
 
 -- ---- A genesis alone
 

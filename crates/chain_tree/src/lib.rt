@@ -9,10 +9,9 @@
 
 mod ancestors;
 mod entry;
-mod tree;
-
 #[cfg(test)]
 mod tests;
+mod tree;
 
 pub use entry::Entry;
 pub use tree::Tree;

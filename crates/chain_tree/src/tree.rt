@@ -1,7 +1,7 @@
 // The tree of the kept blocks.
-ghost use Rattle.std.specs.Prelude.{◌≡◌, ◌+◌, ◌^◌, ◌<◌, ◌≤◌, ◌++◌, ◌∷◌, [], List, Some, None, length, IfOk, IsOk, OnOk, OnErr, IsSomeAnd, slice_get};
+ghost use Rattle.std.specs.Prelude.{◌≡◌, ◌+◌, ◌^◌, ◌<◌, ◌≤◌, ◌++◌, ◌∷◌, [], List, Some, None, length, IfOk, IsOk, OnOk, OnErr, IfSome, IsSomeAnd, slice_get};
 ghost use Rattle.codec_defs.specs.Schema.{Block};
-ghost use Rattle.chain_defs.specs.Kept.{place_of};
+ghost use Rattle.chain_defs.specs.Kept.{block_at, place_of};
 ghost use Rattle.chain_defs.specs.Branch.{branch_places};
 ghost use Rattle.chain_defs.specs.Tip.{tip_place};
 ghost use Rattle.chain_tree.specs.Entries.{entry_at, place_of_hash, FollowsParent, IsAncestor, IsTop, IsTree};
@@ -84,6 +84,7 @@ impl Tree {
     /// How many entries there are.
     pub fn len(&self) -> u32
         ensures len { result ≡ length self.now.entries }
+        ensures of_blocks { (kept : List Block) → IndexesBlocks kept self.now.entries → result ≡ length kept }
         ensures tree { IsTree self.now.entries }
     {
         self.entries.len() as u32
@@ -94,6 +95,7 @@ impl Tree {
         requires { place < length self.now.entries }
         ensures entry { entry_at self.now.entries place ≡ Some result.now }
         ensures number { result.now.number < length self.now.entries }
+        ensures of_block { (kept : List Block) → IndexesBlocks kept self.now.entries → IsSomeAnd (block_at kept place) (λ block. Describes block result.now) }
     {
         &self.entries[place as usize]
     }
@@ -101,6 +103,7 @@ impl Tree {
     /// The place of the entry with this hash.
     pub fn find(&self, hash: &[u8; 32]) -> Option<u32>
         ensures place { result ≡ place_of_hash self.now.entries hash.now }
+        ensures within { IfSome result (λ place. place < length self.now.entries) }
         ensures of_blocks { (kept : List Block) → IndexesBlocks kept self.now.entries → result ≡ place_of kept hash.now }
     {
         self.places.get(hash).copied()
@@ -112,6 +115,7 @@ impl Tree {
         requires { IsSomeAnd (entry_at self.now.entries place) (λ entry. number ≤ entry.number) }
         ensures up { IsAncestor self.now.entries place result }
         ensures number { IsSomeAnd (entry_at self.now.entries result) (λ entry. entry.number ≡ number) }
+        ensures within { result < length self.now.entries }
         ensures of_blocks { (kept : List Block) → IndexesBlocks kept self.now.entries → slice_get (branch_places kept place) number ≡ Some result }
     {
         ancestor_of(&self.entries, &self.jumps, place, number)
@@ -120,6 +124,7 @@ impl Tree {
     /// The place of the tip: the first of the entries with the greatest number.
     pub fn tip(&self) -> u32
         ensures top { IsTop self.now.entries result }
+        ensures within { result < length self.now.entries }
         ensures of_blocks { (kept : List Block) → IndexesBlocks kept self.now.entries → tip_place kept ≡ Some result }
     {
         self.tip

@@ -1,5 +1,5 @@
-use Rattle.std.proofs.Common.{ℕ, ◌≤◌, arith}
-use Rattle.chain_tree.proofs.EntryLemmas.{IsJump, IsAbove, jump-read, above-there, number-read, parent-high}
+use Rattle.std.proofs.Common.{◌≤◌, arith}
+use Rattle.chain_tree.proofs.EntryLemmas.{jump-read, above-there, number-read, parent-high}
 use Rattle.chain_tree.proofs.ancestors.next_up.Goals as goal
 
 pub bounds-entries-jump : goal.bounds-entries-jump

@@ -1,9 +1,8 @@
-use Rattle.std.proofs.Common.{◌≡◌, ◌≤◌, ◌<◌, ◌+◌, ◌^◌, ◌-◌, ◌++◌, ◌∷◌, [], List, ℕ, None, length, ap, sym, ◌∙◌, subst, arith}
+use Rattle.std.proofs.Common.{◌≡◌, ◌<◌, ◌+◌, ◌^◌, ◌++◌, ◌∷◌, [], List, length, ap, sym, ◌∙◌, subst, arith}
 use Rattle.std.specs.Str.{bytes_eq}
 use Rattle.std.specs.HashMap.{get}
 use Rattle.chain_tree.specs.declared.entry.Entry.{Entry}
 use Rattle.chain_tree.specs.Entries.{TreeValue, place_of_hash, FollowsParent, IsAncestor, IsTop}
-use Rattle.chain_tree.specs.Blocks.{IndexesBlocks}
 use Rattle.chain_tree.proofs.EntryLemmas.{there-within}
 use Rattle.chain_tree.proofs.IndexLemmas.{IsIndexed-push}
 use Rattle.chain_tree.proofs.BlockLemmas.{IndexesBlocks-push}
@@ -30,10 +29,9 @@ invariant_of-self c =
     let spare : old.spare ≡ c.args.self.now.spare = ap (λ (v : TreeValue). v.spare) c.self.view_is in
     let some : 0 < old.spare = omega (arith, spare, c.requires.spare) in
     let few : length old.entries.items + 1 < 2 ^ 32 = omega (arith, ap length seen, c.requires.few) in
-    let place : c.len-place.result ≡ length old.entries.items = omega (arith, c.len-place.ensures, old.entries.ok) in
-    (
+    let place : c.len-place.result ≡ length old.entries.items = omega (arith, c.len-place.ensures, old.entries.ok) in (
       rw (c.push_reserved.ensures.items, c.push_reserved-2.ensures.items)
-      (IsIndexed-push old.entries.items old.jumps.items (get bytes_eq old.places) (get bytes_eq c.insert-added.new.self) old.tip c.args.entry
+          (IsIndexed-push old.entries.items old.jumps.items (get bytes_eq old.places) (get bytes_eq c.insert-added.new.self) old.tip c.args.entry
           c.len-place.result c.jump_over-jump.result c.tip_after-self-inside.result c.self.invariant.0 few
           (subst (λ (es : List Entry). FollowsParent es c.args.entry) (sym seen) c.requires.parent)
           (ap (λ (es : List Entry). place_of_hash es c.args.entry.hash) seen ∙ c.requires.new) place

@@ -1,4 +1,4 @@
-use Rattle.std.proofs.Common.{◌≡◌, ◌∷◌, [], ◌++◌, List, ℕ, Option, Some, cond, ap, ◌∙◌, arith}
+use Rattle.std.proofs.Common.{◌≡◌, ◌∷◌, [], ◌++◌, List, ℕ, Some, cond, ap, ◌∙◌, arith}
 use Rattle.std.specs.Str.{bytes_eq}
 use Rattle.std.specs.Map.{lookup}
 use Rattle.std.specs.HashMap.{get}
@@ -11,8 +11,7 @@ invariant_of-result c =
     let entries : c.push.new.self.items ≡ c.args.genesis ∷ [] =
     (rw c.in_ok-push.was at c.push.ensures.items) ∙ ap (λ (es : List Entry). es ++ c.args.genesis ∷ []) c.new-entries.ensures.items in
     let jumps : c.push-2.new.self.items ≡ 0 ∷ [] =
-    (rw c.in_ok-push-2.was at c.push-2.ensures.items) ∙ ap (λ (js : List ℕ). js ++ 0 ∷ []) c.new-jumps.ensures.items in
-    (
+    (rw c.in_ok-push-2.was at c.push-2.ensures.items) ∙ ap (λ (js : List ℕ). js ++ 0 ∷ []) c.new-jumps.ensures.items in (
       rw (entries, jumps) (IsIndexed-one c.args.genesis (get bytes_eq c.insert.new.self) c.requires
           (λ hash. c.in_ok-insert.ensures.updates.0 hash
           ∙ ap (λ (es : List (List ℕ × ℕ)). cond (bytes_eq c.args.genesis.hash hash) (Some 0) (lookup (bytes_eq hash) es)) c.new-places.ensures.empty)),
