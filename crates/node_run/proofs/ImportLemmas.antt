@@ -17,7 +17,7 @@ use Rattle.report_defs.specs.Items.{IsItem}
 use Rattle.report_defs.specs.Text.{line}
 use Rattle.report_defs.specs.Report.{item_limit, input_limit, lines_over}
 use Rattle.report_defs.specs.Promise.{IsPrefix, IsInputFaultOrNoMemory}
-use Rattle.node_run.specs.Items.{HoldsOneAtMost, IsItemAt, EndsAt, IsReadingStop, IsWritingStop, IsStop}
+use Rattle.node_run.specs.Items.{IsUnfinished, IsItemAt, EndsAt, IsReadingStop, IsWritingStop, IsStop}
 use Rattle.node_run.specs.Import.{Transfers, AreImported, line_over, text_over}
 use Rattle.node_run.specs.declared.import.Ended.{Ended}
 
@@ -114,7 +114,7 @@ imported_to_end chain start offset left_old left left_new taken_old taken now en
       taken_is = sym (append-nil (text_over chain whole.items));
       all = whole.all;
       within = rw (← whole.place) whole.within;
-      one = ends.one;
+      unfinished = rw (← whole.place) ends.unfinished;
       partial_line_is = inl refl;
     };
     end = record {
@@ -129,9 +129,9 @@ imported_to_end chain start offset left_old left left_new taken_old taken now en
 -- the reading was stopped behind whole items
 pub imported_to_fault : (chain : Chain) (start offset : ℕ) (left_old left left_new taken_old taken : Option (List ℕ)) (now new : Chain) (refused : Bool)
     (status : Status) (given : List ℕ) → Whole chain start offset left_old left taken_old taken now refused → Gives left left_new given
-    → HoldsOneAtMost given → IsStop status
+    → IsUnfinished offset given → IsStop status
     → Transfers left_old left_new taken_old taken (AreImported chain new start left_new (Err status))
-imported_to_fault chain start offset left_old left left_new taken_old taken now new refused status given whole gives one stop = (
+imported_to_fault chain start offset left_old left left_new taken_old taken now new refused status given whole gives unfinished stop = (
   concat whole.items ++ given,
   text_over chain whole.items,
   gives_more left_old left left_new (concat whole.items) given whole.gives gives,
@@ -145,7 +145,7 @@ imported_to_fault chain start offset left_old left left_new taken_old taken now 
       taken_is = sym (append-nil (text_over chain whole.items));
       all = whole.all;
       within = rw (← whole.place) whole.within;
-      one = one;
+      unfinished = rw (← whole.place) unfinished;
       partial_line_is = inl refl;
     };
     end = (stop, λ early. refl);
@@ -155,9 +155,9 @@ imported_to_fault chain start offset left_old left left_new taken_old taken now 
 -- an item was read, and the writing of its line was stopped
 pub imported_to_line : (chain : Chain) (start offset : ℕ) (left_old left left_new taken_old taken taken_new : Option (List ℕ)) (now new : Chain) (refused : Bool)
     (status : Status) (item given partial_line : List ℕ) → Whole chain start offset left_old left taken_old taken now refused → IsItemAt offset item given
-    → Gives left left_new given → HoldsOneAtMost given → Takes taken taken_new partial_line → IsPrefix partial_line (line_over now item) → IsStop status → (IsInputFaultOrNoMemory status → partial_line ≡ [])
+    → Gives left left_new given → IsUnfinished offset given → Takes taken taken_new partial_line → IsPrefix partial_line (line_over now item) → IsStop status → (IsInputFaultOrNoMemory status → partial_line ≡ [])
     → Transfers left_old left_new taken_old taken_new (AreImported chain new start left_new (Err status))
-imported_to_line chain start offset left_old left left_new taken_old taken taken_new now new refused status item given partial_line whole at gives one takes begins stop silent =
+imported_to_line chain start offset left_old left left_new taken_old taken taken_new now new refused status item given partial_line whole at gives unfinished takes begins stop silent =
     let same : now ≡ chain_over chain whole.items = whole.kept_now in (
       concat whole.items ++ given,
       text_over chain whole.items ++ partial_line,
@@ -172,7 +172,7 @@ imported_to_line chain start offset left_old left left_new taken_old taken taken
           taken_is = refl;
           all = whole.all;
           within = rw (← whole.place) whole.within;
-          one = one;
+          unfinished = rw (← whole.place) unfinished;
           partial_line_is = inr (
             rw (← whole.place) (subst (λ bs. IsItemAt offset bs given) (sym at.same) at),
             subst (λ (k : Chain). IsPrefix partial_line (line_over k given)) same

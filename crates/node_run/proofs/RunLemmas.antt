@@ -16,15 +16,15 @@ use Rattle.report_defs.specs.declared.status.Status.{Status}
 use Rattle.report_defs.specs.declared.status.Status.TheVariants.{Done, SomeRefused, BadWords, InputFault, SinkFault, NoMemory, CutInput, BadGenesis}
 use Rattle.report_defs.specs.declared.end.End.{End}
 use Rattle.report_defs.specs.declared.end.End.TheVariants as ends
-use Rattle.report_defs.specs.Items.{IsItem, AreItems, Split, split_of, end_at, end_offset}
+use Rattle.report_defs.specs.Items.{IsItem, IsAtWord, AreItems, Split, split_of, end_at, end_offset}
 use Rattle.report_defs.specs.Text.{line, tip_line}
 use Rattle.report_defs.specs.Report.{Report, report_without_lines, text_of, item_limit, input_limit, import_limits, lines_over, chain_at_start, items_behind, report_over, report_of_genesis, report_of_split, import_report, report_of_command, report, NoLog}
 use Rattle.report_defs.specs.Words.{command_of}
 use Rattle.report_defs.specs.declared.command.Command.{Command}
 use Rattle.report_defs.specs.Promise.{IsPrefix, IsReported, IsInputFaultOrNoMemory, reported, import_statuses, all_but_last, MatchesReport, WritesInOrder, AreWholeLines, ImportsInOrder, KeepsOrder}
 use Rattle.report_defs.proofs.ItemLemmas.{Splits, split_of-is, split_of-append, end_at-nothing}
-use Rattle.node_run.specs.Items.{HoldsOneAtMost, IsItemAt, EndsAt, IsStop}
-use Rattle.node_run.proofs.Reading.{one_item}
+use Rattle.node_run.specs.Items.{IsUnfinished, IsItemAt, EndsAt, IsStop}
+use Rattle.node_run.proofs.Reading.{item_unfinished, nil_of_length}
 use Rattle.node_run.specs.Import.{IsGenesis, IsGenesisRead, IsBadGenesis, IsCutShort, Progress, AreImported, tip_line_over, line_over, text_over}
 use Rattle.node_run.specs.declared.import.Ended.{Ended}
 use Rattle.node_run.proofs.ImportLemmas.{concat-push, all-push, lines-push, writing_stops}
@@ -131,7 +131,7 @@ lines_begin genesis items tail read =
 -- ---- What was given, cut by itself
 
 -- of bytes that hold one item at most, the items
-at_most_one : (place offset : ℕ) (unfinished : List ℕ) (split : Split) → Splits import_limits place offset unfinished split → HoldsOneAtMost unfinished
+at_most_one : (place offset : ℕ) (unfinished : List ℕ) (split : Split) → Splits import_limits place offset unfinished split → IsUnfinished offset unfinished
     → (split.items ≡ []) ⊎ (split.items ≡ unfinished ∷ [])
 at_most_one place offset unfinished split splits one = by_items split.items splits.whole (items_of place split.items splits.items)
   where
@@ -139,12 +139,12 @@ at_most_one place offset unfinished split splits one = by_items split.items spli
         → (items ≡ []) ⊎ (items ≡ unfinished ∷ [])
     by_items [] whole all = inl refl
     by_items (x ∷ []) whole all =
-        let split_rest : split.rest ≡ [] = one x split.rest all.0 (whole ∙ ap (λ bs. bs ++ split.rest) (append-nil x)) in
+        let split_rest : split.rest ≡ [] = one.one x split.rest all.0 (whole ∙ ap (λ bs. bs ++ split.rest) (append-nil x)) in
         let same : unfinished ≡ x = whole ∙ ap (λ bs. (x ++ []) ++ bs) split_rest ∙ append-nil (x ++ []) ∙ append-nil x in
         inr (ap (λ (y : List ℕ). y ∷ []) (sym same))
     by_items (x ∷ y ∷ more) whole all =
         let behind : (y ++ concat more) ++ split.rest ≡ [] =
-        one x ((y ++ concat more) ++ split.rest) all.0 (whole ∙ append_assoc x (y ++ concat more) split.rest) in
+        one.one x ((y ++ concat more) ++ split.rest) all.0 (whole ∙ append_assoc x (y ++ concat more) split.rest) in
         absurd (omega (arith, all.1.0.least, ap length behind, length-append (y ++ concat more) split.rest, length-append y (concat more)))
 
 -- what stands behind an unfinished input that is one item
@@ -161,20 +161,43 @@ but_the_last items last =
     let front : take (length items) (items ++ last ∷ []) ≡ items = grind (arith, common_steps) in
     rw (count, front) refl
 
--- the lines keep up with the items of what was given
+-- behind a size word at which the reading ends nothing was read
+no_further : (place offset : ℕ) (unfinished : List ℕ) (split : Split) → Splits import_limits place offset unfinished split → IsUnfinished offset unfinished
+    → IsAtWord split.end → length split.rest ≡ 4
+no_further place offset unfinished split splits is at_word = elim (at_most_one place offset unfinished split splits is) [
+  | inl none ↦
+      let rest_is : unfinished ≡ split.rest = splits.whole ∙ ap (λ (xs : List (List ℕ)). concat xs ++ split.rest) none in
+      let there : offset + length (concat split.items) ≡ offset = omega (arith, ap (λ (xs : List (List ℕ)). length (concat xs)) none) in
+      let found : end_at (Some item_limit) (Some input_limit) offset unfinished ≡ Some split.end = rw rest_is (rw there at splits.ends) in
+      ap length (sym rest_is) ∙ is.word split.end at_word found
+  | inr last ↦
+      let nothing : split.rest ≡ [] = nil_of_length split.rest (nothing_behind place offset unfinished split splits last) in
+      let found : Some split.end ≡ Some ends.AtEnd =
+      sym splits.ends ∙ ap (end_at (Some item_limit) (Some input_limit) (offset + length (concat split.items))) nothing
+          ∙ end_at-nothing (Some item_limit) (Some input_limit) (offset + length (concat split.items)) in
+      let end : split.end ≡ ends.AtEnd = cc in
+      absurd (subst IsAtWord end at_word)
+]
+
+-- the lines keep up with the items of what was given, and no more was given than they ask for
 abbrev pub IsInOrder : List ℕ → List ℕ → Type 0
 IsInOrder given taken =
     WritesInOrder (chain_at_start (split_of import_limits given).items) (items_behind (split_of import_limits given).items) (split_of import_limits given).rest taken
+    × (IsAtWord (split_of import_limits given).end → length (split_of import_limits given).rest ≡ 4)
 
-pub items_in_order : (genesis : List ℕ) (items : List (List ℕ)) (unfinished behind : List ℕ) → IsRead genesis items → HoldsOneAtMost unfinished
+pub items_in_order : (genesis : List ℕ) (items : List (List ℕ)) (unfinished behind : List ℕ) → IsRead genesis items → IsUnfinished (length genesis + length (concat items)) unfinished
     → IsInOrder ((genesis ++ concat items) ++ unfinished) (text_over (start_of genesis) items ++ behind)
 items_in_order genesis items unfinished behind read one =
     let split = split_of-append import_limits (genesis ∷ items) unfinished (read.is_item, are_items 1 items read.all) (rw length-append read.within) in
-    let count = at_most_one (length (genesis ∷ items)) (length (genesis ++ concat items)) unfinished split.0 split.1 one in
-    rw split.2 (record {
-      lines = but_last split.0.items count;
-      lines_first = λ more. first split.0.items split.0.rest count (nothing_behind (length (genesis ∷ items)) (length (genesis ++ concat items)) unfinished split.0 split.1) more;
-    })
+    let within : IsUnfinished (length (genesis ++ concat items)) unfinished = rw length-append one in
+    let count = at_most_one (length (genesis ∷ items)) (length (genesis ++ concat items)) unfinished split.0 split.1 within in
+    rw split.2 (
+      record {
+        lines = but_last split.0.items count;
+        lines_first = λ more. first split.0.items split.0.rest count (nothing_behind (length (genesis ∷ items)) (length (genesis ++ concat items)) unfinished split.0 split.1) more;
+      },
+      no_further (length (genesis ∷ items)) (length (genesis ++ concat items)) unfinished split.0 split.1 within,
+    )
   where
     but_last : (others : List (List ℕ)) → (others ≡ []) ⊎ (others ≡ unfinished ∷ [])
         → IsPrefix (text_over (start_of genesis) (all_but_last (items ++ others))) (text_over (start_of genesis) items ++ behind)
@@ -193,11 +216,11 @@ items_in_order genesis items unfinished behind read one =
     first others rest (inr last) empty more = absurd (omega (arith, empty last, more))
 
 -- nothing but a part of the genesis was given, or the genesis alone
-no_lines : (given taken : List ℕ) → HoldsOneAtMost given → IsInOrder given taken
+no_lines : (given taken : List ℕ) → IsUnfinished 0 given → IsInOrder given taken
 no_lines given taken one =
     let split = split_of-append import_limits [] given tt (omega arith) in
     let count = at_most_one 0 0 given split.0 split.1 one in
-    rw split.2 (in_order split.0.items split.0.rest count)
+    rw split.2 (in_order split.0.items split.0.rest count, no_further 0 0 given split.0 split.1 one)
   where
     in_order : (items : List (List ℕ)) (rest : List ℕ) → (items ≡ []) ⊎ (items ≡ given ∷ []) → WritesInOrder (chain_at_start items) (items_behind items) rest taken
     in_order items rest (inl none) = rw none (record { lines = (taken, refl); lines_first = λ more. (taken, refl) })
@@ -236,7 +259,8 @@ stopped given left taken status stop front written whole_lines = (
     same_status = λ more is reported. absurd (stop_not_reported status stop reported);
   },
   record {
-    written = written;
+    written = written.0;
+    no_further = written.1;
     whole_lines = whole_lines;
     to_end = λ ended. absurd (elim ended [ inl e ↦ subst IsStop e stop | inr e ↦ subst IsStop e stop ]);
     genesis_alone = λ e. absurd (subst IsStop e stop);
@@ -262,7 +286,8 @@ silent given left status says written unstopped unended genesis_alone to_cut = (
     same_status = λ more is reported. sym (ap (λ (r : Report). r.status) (says more is));
   },
   record {
-    written = written;
+    written = written.0;
+    no_further = written.1;
     whole_lines = λ early. absurd (unstopped early);
     to_end = λ ended. absurd (unended ended);
     genesis_alone = genesis_alone;
@@ -276,7 +301,7 @@ cut_at_once : (given : List ℕ) (left : Option (List ℕ)) (end : End) → Ends
 cut_at_once given left end ends =
     silent given left CutInput
     (λ more is. ap report_of_split (split more is))
-    (no_lines given [] ends.one)
+    (no_lines given [] ends.unfinished)
     (λ early. elim early [ inl e ↦ (cc) | inr e ↦ (cc) ])
     (λ ended. elim ended [ inl e ↦ (cc) | inr e ↦ (cc) ])
     (λ e. absurd (cc))
@@ -308,7 +333,7 @@ bad_genesis : (given : List ℕ) (left : Option (List ℕ)) → IsBadGenesis giv
 bad_genesis given left bad =
     silent given left BadGenesis
     (λ more is. ap report_of_split (split more).1 ∙ ap (λ (broken : Option ℕ). report_of_genesis broken (given ∷ (split more).0.items) (split more).0.end) bad.broken)
-    (no_lines given [] (one_item given bad.there.is_item))
+    (no_lines given [] (item_unfinished 0 given bad.there.is_item bad.there.within))
     (λ early. elim early [ inl e ↦ (cc) | inr e ↦ (cc) ])
     (λ ended. elim ended [ inl e ↦ (cc) | inr e ↦ (cc) ])
     (λ e. alone)
@@ -325,7 +350,7 @@ bad_genesis given left bad =
     alone = alone_item given bad.there.is_item (omega (arith, bad.there.within))
 
 -- the run was stopped before a genesis was read
-stopped_at_once : (given : List ℕ) (left : Option (List ℕ)) (status : Status) → IsStop status → HoldsOneAtMost given
+stopped_at_once : (given : List ℕ) (left : Option (List ℕ)) (status : Status) → IsStop status → IsUnfinished 0 given
     → MatchesReport import_report given left [] status × ImportsInOrder given left [] status
 stopped_at_once given left status stop one =
     stopped given left [] status stop (λ more is. ((text_of (import_report (given ++ more))), refl)) (no_lines given [] one) (λ early. (0, refl))
@@ -395,7 +420,7 @@ taken_in_order : (genesis : List ℕ) (items : List (List ℕ)) (unfinished part
 taken_in_order genesis items unfinished partial_line given taken behind read progress =
     let all : taken ++ behind ≡ text_over (start_of genesis) items ++ (partial_line ++ behind) =
     ap (λ bs. bs ++ behind) progress.taken_is ∙ append_assoc (text_over (start_of genesis) items) partial_line behind in
-    rw (given_parts genesis items unfinished partial_line given taken progress, all) (items_in_order genesis items unfinished (partial_line ++ behind) read progress.one)
+    rw (given_parts genesis items unfinished partial_line given taken progress, all) (items_in_order genesis items unfinished (partial_line ++ behind) read progress.unfinished)
 
 -- the lines of what was read are those of the first items that were given
 lines_whole : (genesis : List ℕ) (items : List (List ℕ)) (unfinished given : List ℕ) → IsRead genesis items → given ≡ (genesis ++ concat items) ++ unfinished
@@ -446,7 +471,8 @@ cut_behind_items genesis items unfinished partial_line given taken left end good
     same_status = λ more is reported. sym (ap (λ (r : Report). r.status) (says more is));
   },
   record {
-    written = rw (← append-nil taken) (taken_in_order genesis items unfinished partial_line given taken [] read progress);
+    written = in_order.0;
+    no_further = in_order.1;
     whole_lines = λ early. absurd (elim early [ inl e ↦ (cc) | inr e ↦ (cc) ]);
     to_end = λ ended. absurd (elim ended [ inl e ↦ (cc) | inr e ↦ (cc) ]);
     genesis_alone = λ e. absurd (cc);
@@ -461,6 +487,9 @@ cut_behind_items genesis items unfinished partial_line given taken left end good
   where
     read : IsRead genesis items
     read = is_read genesis items unfinished partial_line given taken good progress
+
+    in_order : IsInOrder (genesis ++ given) taken
+    in_order = rw (← append-nil taken) (taken_in_order genesis items unfinished partial_line given taken [] read progress)
 
     whole : taken ≡ text_over (start_of genesis) items
     whole = progress.taken_is ∙ ap (λ bs. text_over (start_of genesis) items ++ bs) none ∙ append-nil (text_over (start_of genesis) items)
@@ -521,7 +550,8 @@ done genesis items unfinished partial_line given taken written left chain refuse
         ∙ sym (ap (λ (r : Report). r.status) (through_report genesis items unfinished partial_line given taken more left through is));
   },
   record {
-    written = taken_in_order genesis items unfinished partial_line given taken written (is_read genesis items unfinished partial_line given taken through.good through.progress) through.progress;
+    written = in_order.0;
+    no_further = in_order.1;
     whole_lines = λ early. absurd (elim early [ inl e ↦ faultless refused (sym status_is ∙ e) | inr e ↦ spared refused (sym status_is ∙ e) ]);
     to_end = λ ended. through.ends.to_end refl;
     genesis_alone = λ e. absurd (neither refused (sym status_is ∙ e));
@@ -529,6 +559,9 @@ done genesis items unfinished partial_line given taken written left chain refuse
   },
 )
   where
+    in_order : IsInOrder (genesis ++ given) (taken ++ written)
+    in_order = taken_in_order genesis items unfinished partial_line given taken written (is_read genesis items unfinished partial_line given taken through.good through.progress) through.progress
+
     text : (more : List ℕ) → left ≡ Some more → (text_of (import_report ((genesis ++ given) ++ more))) ≡ taken ++ written
     text more is =
         ap (λ (r : Report). text_of r) (through_report genesis items unfinished partial_line given taken more left through is)

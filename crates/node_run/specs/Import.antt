@@ -15,7 +15,7 @@ use Rattle.report_defs.specs.Items.{IsItem}
 use Rattle.report_defs.specs.Text.{line, tip_line}
 use Rattle.report_defs.specs.Report.{item_limit, input_limit, lines_over}
 use Rattle.report_defs.specs.Promise.{IsPrefix, IsInputFaultOrNoMemory}
-use Rattle.node_run.specs.Items.{HoldsOneAtMost, IsItemAt, EndsAt, IsWritingStop, IsStop}
+use Rattle.node_run.specs.Items.{IsUnfinished, IsItemAt, EndsAt, IsWritingStop, IsStop}
 use Rattle.node_run.specs.declared.import.Ended.{Ended}
 
 -- the sink took some bytes, and P holds of them
@@ -41,8 +41,8 @@ abbrev pub IsGenesis : Option (List ℕ) → Result (Chain × ℕ) Status → Li
 IsGenesis left (Ok (chain, offset)) given = IsGenesisRead given given × (chain ≡ chain_of_genesis no_specification given) × (offset ≡ length given)
 IsGenesis left (Err CutInput) given = (end : End) × EndsAt 0 left end given
 IsGenesis left (Err BadGenesis) given = IsBadGenesis given
-IsGenesis left (Err InputFault) given = HoldsOneAtMost given
-IsGenesis left (Err NoMemory) given = HoldsOneAtMost given
+IsGenesis left (Err InputFault) given = IsUnfinished 0 given
+IsGenesis left (Err NoMemory) given = IsUnfinished 0 given
 IsGenesis left (Err _) given = ⊥
 
 -- The writing of a text was stopped: only a fault leaves a part of it.
@@ -77,7 +77,7 @@ pub record Progress (chain : Chain) (offset : ℕ) (items : List (List ℕ)) (un
   pub taken_is : taken ≡ text_over chain items ++ partial_line
   pub all : AllByRecursion (IsItem item_limit) items
   pub within : offset + length (concat items) ≤ input_limit
-  pub one : HoldsOneAtMost unfinished_input
+  pub unfinished : IsUnfinished (offset + length (concat items)) unfinished_input
   -- a part of a line is that of an item that was given whole
   pub partial_line_is : (partial_line ≡ [])
       ⊎ (IsItemAt (offset + length (concat items)) unfinished_input unfinished_input × IsPrefix partial_line (line_over (chain_over chain items) unfinished_input))

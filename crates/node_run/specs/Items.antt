@@ -2,7 +2,7 @@
 use Rattle.std.specs.Prelude.{◌≡◌, ℕ, ◌+◌, ◌≤◌, List, [], ◌++◌, length, Option, Some, Result, Ok, Err}
 use Rattle.std.specs.Io.KnownBytes.{IsAtEnd}
 use Rattle.outside.specs.Streams.{Gives}
-use Rattle.report_defs.specs.Items.{IsItem, end_at}
+use Rattle.report_defs.specs.Items.{IsItem, IsAtWord, end_at}
 use Rattle.report_defs.specs.Report.{item_limit, input_limit}
 use Rattle.report_defs.specs.declared.end.End.{End}
 use Rattle.report_defs.specs.declared.end.End.TheVariants.{AtEnd}
@@ -15,9 +15,12 @@ use Rattle.node_run.specs.declared.items.Next.TheVariants as next
 abbrev pub Gave : Option (List ℕ) → Option (List ℕ) → (List ℕ → Type 0) → Type 0
 Gave left_old left_new P = (given : List ℕ) × Gives left_old left_new given × P given
 
--- the bytes hold one item at most: no byte follows one that stands at their front
-abbrev pub HoldsOneAtMost : List ℕ → Type 0
-HoldsOneAtMost given = (item more : List ℕ) → IsItem item_limit item → given ≡ item ++ more → more ≡ []
+-- No more was read at an offset than one item asks for.
+pub record IsUnfinished (offset : ℕ) (given : List ℕ) : Type 0 where
+  -- no byte follows an item that stands at the front
+  pub one : (item more : List ℕ) → IsItem item_limit item → given ≡ item ++ more → more ≡ []
+  -- none follows a size word at which the reading ends
+  pub word : (end : End) → IsAtWord end → end_at (Some item_limit) (Some input_limit) offset given ≡ Some end → length given ≡ 4
 
 -- the bytes are an item, within the limit of the input
 pub record IsItemAt (offset : ℕ) (item given : List ℕ) : Type 0 where
@@ -28,7 +31,7 @@ pub record IsItemAt (offset : ℕ) (item given : List ℕ) : Type 0 where
 -- the reading ends at this offset, whatever is left behind the bytes that were given there
 pub record EndsAt (offset : ℕ) (left : Option (List ℕ)) (end : End) (given : List ℕ) : Type 0 where
   pub ends : (more : List ℕ) → left ≡ Some more → end_at (Some item_limit) (Some input_limit) offset (given ++ more) ≡ Some end
-  pub one : HoldsOneAtMost given
+  pub unfinished : IsUnfinished offset given
   pub nothing : end ≡ AtEnd → given ≡ []
   pub to_end : end ≡ AtEnd → IsAtEnd left
 
@@ -52,4 +55,4 @@ IsStop _ = ⊥
 abbrev pub IsNext : ℕ → Option (List ℕ) → Result Next Status → List ℕ → Type 0
 IsNext offset left (Ok (next.Item item)) given = IsItemAt offset item.items given
 IsNext offset left (Ok (next.End end)) given = EndsAt offset left end given
-IsNext offset left (Err status) given = IsReadingStop status × HoldsOneAtMost given
+IsNext offset left (Err status) given = IsReadingStop status × IsUnfinished offset given

@@ -51,6 +51,13 @@ end_at (Some limit) input offset bytes =
     else if nat_lt (length bytes) (size_word bytes) then Some Cut
     else None
 
+-- The reading ends at a size word: it is outside its limits, or the item would end past the input's.
+abbrev pub IsAtWord : End → Type 0
+IsAtWord AtEnd = ⊥
+IsAtWord Cut = ⊥
+IsAtWord BadSize = Unit {0}
+IsAtWord Extra = Unit {0}
+
 pub record Split : Type 0 where
   pub items : List (List ℕ)
   -- what is left where the reading ends

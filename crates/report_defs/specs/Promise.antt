@@ -8,7 +8,7 @@ use Rattle.report_defs.specs.declared.command.Command.TheVariants.{Import, Exec}
 use Rattle.report_defs.specs.declared.status.Status.{Status}
 use Rattle.report_defs.specs.declared.status.Status.TheVariants.{Done, SomeRefused, BadWords, InputFault, SinkFault, NoMemory, NotAStore, CutInput, BadSize, StoreThere, BadGenesis, ExtraInput}
 use Rattle.report_defs.specs.Status.{IsOneOf}
-use Rattle.report_defs.specs.Items.{Split, split_of, end_offset}
+use Rattle.report_defs.specs.Items.{IsAtWord, split_of, end_offset}
 use Rattle.report_defs.specs.Report.{Report, text_of, import_limits, lines_over, chain_at_start, items_behind, file_limit}
 
 -- ---- Statuses
@@ -74,6 +74,8 @@ pub record ImportsInOrder (given : List ℕ) (left : Option (List ℕ)) (taken :
   pub to_end : (status ≡ Done) ⊎ (status ≡ SomeRefused) → IsAtEnd left
   -- the genesis is judged before a byte of the next item is read
   pub genesis_alone : status ≡ BadGenesis → (split_of import_limits given).items ≡ given ∷ []
+  -- nothing is read behind a size word at which the reading ends
+  pub no_further : IsAtWord (split_of import_limits given).end → length (split_of import_limits given).rest ≡ 4
   pub to_cut : status ≡ CutInput → (more : List ℕ) → left ≡ Some more → end_offset (split_of import_limits (given ++ more)) ≤ length given
 
 -- `exec`

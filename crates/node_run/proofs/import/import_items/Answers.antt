@@ -3,7 +3,7 @@ use Rattle.report_defs.specs.declared.status.Status.TheVariants.{InputFault, Sin
 use Rattle.rule_defs.specs.Verdict as rules
 use Rattle.node_run.proofs.ImportLemmas.{whole_none, whole_more, imported_to_end, imported_to_fault, imported_to_line, reading_stops, writing_stops, no_fault, then_counts, or_then, or_else}
 use Rattle.node_run.specs.Items.{IsReadingStop, IsWritingStop}
-use Rattle.node_run.proofs.Reading.{input_limit-is, one_item}
+use Rattle.node_run.proofs.Reading.{input_limit-is, item_unfinished}
 use Rattle.node_run.proofs.import.import_items.Goals as goal
 
 pub items-init : goal.items-init
@@ -37,7 +37,7 @@ returns-in-Err-import_item-clause-imported g c =
     imported_to_line c.args.kept.now c.args.start c.items.offset (g.S.Source.left c.args.input.now) (g.S.Source.left c.items.input) (g.S.Source.left c.next_item.new.input)
     (g.K.Sink.taken c.args.out.now) (g.K.Sink.taken c.items.out) (g.K.Sink.taken c.import_item.new.out) c.items.kept c.import_item.new.kept c.items.refused
     c.in-Err-import_item.status c.in-Ok-Item.item.items next.0 written.0 c.items.invariant.whole next.2 next.1
-    (rw next.2.same (one_item c.in-Ok-Item.item.items next.2.is_item)) written.1 written.2.front (writing_stops c.in-Err-import_item.status written.2.stop) written.2.silent
+    (rw next.2.same (item_unfinished c.items.offset c.in-Ok-Item.item.items next.2.is_item next.2.within)) written.1 written.2.front (writing_stops c.in-Err-import_item.status written.2.stop) written.2.silent
 
 pub overflow_add-offset : goal.overflow_add-offset
 overflow_add-offset g c =
