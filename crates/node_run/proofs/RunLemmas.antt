@@ -11,7 +11,7 @@ use Rattle.rule_defs.specs.Verdict as rules
 use Rattle.rule_defs.specs.Rules.{no_specification}
 use Rattle.rule_defs.specs.Chain.{Chain, chain_of_genesis, chain_after, verdict_over, verdicts_over, chain_over}
 use Rattle.fold_defs.proofs.FoldLemmas.{verdicts-append}
-use Rattle.report_defs.specs.Status.{number_of, IsOneOf}
+use Rattle.report_defs.specs.Status.{status_number, IsOneOf}
 use Rattle.report_defs.specs.declared.status.Status.{Status}
 use Rattle.report_defs.specs.declared.status.Status.TheVariants.{Done, SomeRefused, BadWords, InputFault, SinkFault, NoMemory, CutInput, BadGenesis}
 use Rattle.report_defs.specs.declared.end.End.{End}
@@ -234,11 +234,11 @@ or_true false = refl
 
 -- what is one of some statuses has the number of one of them
 one_of-number : (statuses : List Status) (status : Status) → IsOneOf statuses status
-    → list_any (λ one. number_of status == number_of one) statuses ≡ true
+    → list_any (λ one. status_number status == status_number one) statuses ≡ true
 one_of-number [] status member = absurd member
 one_of-number (one ∷ others) status (inl same) =
-    let equal : (number_of status == number_of one) ≡ true = eq-eqb (number_of status) (number_of one) (ap number_of same) in rw equal refl
-one_of-number (one ∷ others) status (inr later) = rw (one_of-number others status later) (or_true (number_of status == number_of one))
+    let equal : (status_number status == status_number one) ≡ true = eq-eqb (status_number status) (status_number one) (ap status_number same) in rw equal refl
+one_of-number (one ∷ others) status (inr later) = rw (one_of-number others status later) (or_true (status_number status == status_number one))
 
 pub stop_not_reported : (status : Status) → IsStop status → IsReported status → ⊥
 stop_not_reported InputFault stop member = let no : false ≡ true = one_of-number reported InputFault member in cc
