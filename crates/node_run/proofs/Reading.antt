@@ -34,7 +34,7 @@ size_of_word word four =
 -- ---- No more than one item asks for
 
 -- where the reading ends otherwise than at a size word, or does not end
-IsNotAtWord : Option End → Type 0
+abbrev IsNotAtWord : Option End → Type 0
 IsNotAtWord None = Unit {0}
 IsNotAtWord (Some end) = IsAtWord end → ⊥
 
