@@ -26,7 +26,7 @@ parent_place-below kept place parent found = by_block (block_at kept place) refl
         omega (arith, below, long)
 
 -- the places of a parent and the place itself
-abbrev places_on : ℕ → List Block → ℕ → Option ℕ → List ℕ
+abbrev pub places_on : ℕ → List Block → ℕ → Option ℕ → List ℕ
 places_on most kept place None = place ∷ []
 places_on most kept place (Some parent) = places_within most kept parent ++ place ∷ []
 

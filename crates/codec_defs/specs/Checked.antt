@@ -4,7 +4,7 @@ use Rattle.std.specs.Prelude.{◌≡◌, ℕ, ◌<◌, List, length, slice_index
 use Rattle.codec_defs.specs.Molecule.{IsFixvec, IsDynvec, IsTable, items_of_fixvec, parts_of}
 use Rattle.codec_defs.specs.Shape.{Shape, IsA, table_field}
 
--- each is a byte
+-- each is a byte ("byte" of RFC 0008)
 abbrev pub AreBytes : List ℕ → Type 0
 AreBytes b = (i : ℕ) → slice_index b i < 256
 
@@ -14,8 +14,9 @@ pub record IsCheckOf {V : Type 0} (P : List ℕ → Type 0) (shape : Shape V) : 
   pub sound : (b : List ℕ) → AreBytes b → P b → IsA shape b (shape.decoding b)
   pub complete : (b : List ℕ) (v : V) → IsA shape b v → P b
 
--- ---- by kind
+-- ---- by kind (docs/FORMATS.md, Strict reading)
 
+-- An array or a struct has exactly its size.
 abbrev pub HasLength : ℕ → List ℕ → Type 0
 HasLength n b = length b ≡ n
 
@@ -23,6 +24,7 @@ HasLength n b = length b ≡ n
 abbrev pub IsItems : ℕ → List ℕ → Type 0
 IsItems size b = IsFixvec size b (items_of_fixvec size b)
 
+-- A `Bytes`: a fixvec of single bytes.
 abbrev pub IsBytes : List ℕ → Type 0
 IsBytes b = IsItems 1 b
 
@@ -39,7 +41,7 @@ pub record IsListOf (P : List ℕ → Type 0) (b : List ℕ) : Type 0 where
 abbrev pub HasFields : ℕ → List ℕ → Type 0
 HasFields n b = IsTable n b (parts_of b)
 
--- ---- by row: a struct is checked by its length, a table field by field
+-- ---- by row: a struct is checked by its length, a table field by field (docs/FORMATS.md, The schema)
 
 abbrev pub IsScript : List ℕ → Type 0
 IsScript b =

@@ -1,9 +1,9 @@
 -- What stands in memory after a file was loaded.
-use Rattle.std.proofs.Common.{◌≡◌, ℕ, ◌+◌, ◌-◌, ◌<◌, ◌≤◌, ltb, Bool, true, false, List, [], ◌∷◌, ◌++◌, length, drop, replicate, get_or, slice_range, fold, Option, Some, None, Ok, if◌then◌else◌, refl, sym, ap, ◌∙◌, subst, arith, inl, inr}
+use Rattle.std.proofs.Common.{◌≡◌, ℕ, ◌+◌, ◌-◌, ◌<◌, ◌≤◌, ltb, Bool, true, false, List, [], ◌∷◌, ◌++◌, length, drop, replicate, get_or, slice_range, fold, Option, Some, None, Ok, if◌then◌else◌, refl, ap, ◌∙◌, arith, inl, inr}
 use Rattle.std.proofs.lemmas.Bool.{cases_lt}
 use Rattle.std.proofs.lemmas.Bool.Decides.{nat_tests}
 use Rattle.std.proofs.lemmas.List.{get_or-append_right, get_or-drop, get_or-replicate, get_or-take, get_or_append_left, length-append, length-replicate}
-use Rattle.vm_defs.specs.Memory.{Memory, memory_size, new_memory, overwritten}
+use Rattle.vm_defs.specs.Memory.{Memory, memory_size, new_memory}
 use Rattle.vm_defs.specs.Elf.{Program, Segment, broken_elf, broken_segment, broken_segments, contents, load_elf, program_of, segments, unless_broken, with_segment}
 use Rattle.elf_load.specs.Laws.{LastSegmentCounts, byte_of, byte_or, covers, last_covering}
 use Rattle.elf_load.proofs.InMemory.{in-memory, length-inside}

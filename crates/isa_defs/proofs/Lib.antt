@@ -1,3 +1,4 @@
 pub mod RowLaws
 pub mod TableLaws
 pub mod DecodeLaws
+pub mod Formats

@@ -1,5 +1,5 @@
 -- The fields and the numbers that a word of code holds, and what an instruction costs.
-use Rattle.std.specs.Prelude.{ℕ, ◌+◌, ◌-◌, ◌*◌, ◌/◌, ◌%◌, ◌^◌, ◌<◌, ℤ, pos, ◌-ℤ◌, nat_lt, if◌then◌else◌}
+use Rattle.std.specs.Prelude.{◌≡◌, ℕ, ◌+◌, ◌-◌, ◌*◌, ◌/◌, ◌%◌, ◌^◌, ◌<◌, ℤ, pos, ◌-ℤ◌, nat_lt, if◌then◌else◌}
 use Rattle.isa_defs.specs.declared.ins.Ins.{Ins}
 use Rattle.isa_defs.specs.declared.ins.Ins.TheVariants.{Lui, Auipc, Jal, Jalr, Beq, Bne, Blt, Bge, Bltu, Bgeu, Lb, Lh, Lw, Ld, Lbu, Lhu, Lwu, Sb, Sh, Sw, Sd, Addi, Slti, Sltiu, Xori, Ori, Andi, Slli, Srli, Srai, Addiw, Slliw, Srliw, Sraiw, Add, Sub, Sll, Slt, Sltu, Xor, Srl, Sra, Or, And, Mul, Mulh, Mulhsu, Mulhu, Div, Divu, Rem, Remu, Addw, Subw, Sllw, Srlw, Sraw, Mulw, Divw, Divuw, Remw, Remuw, Fence, FenceI, Ecall, Ebreak}
 
@@ -121,3 +121,54 @@ HasRegisters Fence = Unit {0}
 HasRegisters FenceI = Unit {0}
 HasRegisters Ecall = Unit {0}
 HasRegisters Ebreak = Unit {0}
+
+-- A signed immediate of so many bits, a multiple of `unit`.
+abbrev pub IsImmediate : ℕ → ℕ → ℤ → Type 0
+IsImmediate width unit imm = (n : ℕ) × (n < 2 ^ width) × (n % unit ≡ 0) × (imm ≡ sign_extended width n)
+
+-- the amount of a shift, below a bound
+abbrev pub IsAmount : ℕ → ℤ → Type 0
+IsAmount bound imm = (n : ℕ) × (n < bound) × (imm ≡ pos n)
+
+-- An immediate has the bits of its format ("Immediate Encoding Variants"): U has 32 of which the low 12 are zero, J has
+-- 21 and B 13 of which the lowest is zero, I and S have 12.
+abbrev pub HasImmediate : Ins → Type 0
+HasImmediate (Lui rd imm) = IsImmediate 32 4096 imm
+HasImmediate (Auipc rd imm) = IsImmediate 32 4096 imm
+HasImmediate (Jal rd imm) = IsImmediate 21 2 imm
+HasImmediate (Jalr rd rs1 imm) = IsImmediate 12 1 imm
+HasImmediate (Beq rs1 rs2 imm) = IsImmediate 13 2 imm
+HasImmediate (Bne rs1 rs2 imm) = IsImmediate 13 2 imm
+HasImmediate (Blt rs1 rs2 imm) = IsImmediate 13 2 imm
+HasImmediate (Bge rs1 rs2 imm) = IsImmediate 13 2 imm
+HasImmediate (Bltu rs1 rs2 imm) = IsImmediate 13 2 imm
+HasImmediate (Bgeu rs1 rs2 imm) = IsImmediate 13 2 imm
+HasImmediate (Lb rd rs1 imm) = IsImmediate 12 1 imm
+HasImmediate (Lh rd rs1 imm) = IsImmediate 12 1 imm
+HasImmediate (Lw rd rs1 imm) = IsImmediate 12 1 imm
+HasImmediate (Ld rd rs1 imm) = IsImmediate 12 1 imm
+HasImmediate (Lbu rd rs1 imm) = IsImmediate 12 1 imm
+HasImmediate (Lhu rd rs1 imm) = IsImmediate 12 1 imm
+HasImmediate (Lwu rd rs1 imm) = IsImmediate 12 1 imm
+HasImmediate (Sb rs1 rs2 imm) = IsImmediate 12 1 imm
+HasImmediate (Sh rs1 rs2 imm) = IsImmediate 12 1 imm
+HasImmediate (Sw rs1 rs2 imm) = IsImmediate 12 1 imm
+HasImmediate (Sd rs1 rs2 imm) = IsImmediate 12 1 imm
+HasImmediate (Addi rd rs1 imm) = IsImmediate 12 1 imm
+HasImmediate (Slti rd rs1 imm) = IsImmediate 12 1 imm
+HasImmediate (Sltiu rd rs1 imm) = IsImmediate 12 1 imm
+HasImmediate (Xori rd rs1 imm) = IsImmediate 12 1 imm
+HasImmediate (Ori rd rs1 imm) = IsImmediate 12 1 imm
+HasImmediate (Andi rd rs1 imm) = IsImmediate 12 1 imm
+HasImmediate (Slli rd rs1 imm) = IsAmount 64 imm
+HasImmediate (Srli rd rs1 imm) = IsAmount 64 imm
+HasImmediate (Srai rd rs1 imm) = IsAmount 64 imm
+HasImmediate (Addiw rd rs1 imm) = IsImmediate 12 1 imm
+HasImmediate (Slliw rd rs1 imm) = IsAmount 32 imm
+HasImmediate (Srliw rd rs1 imm) = IsAmount 32 imm
+HasImmediate (Sraiw rd rs1 imm) = IsAmount 32 imm
+HasImmediate _ = Unit {0}
+
+-- An instruction fits its format.
+abbrev pub FitsFormat : Ins → Type 0
+FitsFormat ins = HasRegisters ins × HasImmediate ins

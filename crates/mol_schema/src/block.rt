@@ -9,7 +9,7 @@ use crate::transaction::{Transaction, TxView};
 use crate::view::{Row, View};
 use std::marker::Model;
 
-/// `table UncleBlock`: an uncle's header and the ids that it proposes.
+/// The row `UncleBlock`.
 #[derive(Drop)]
 pub struct UncleBlock;
 
@@ -43,6 +43,7 @@ impl Row for UncleBlock {
     }
 }
 
+/// `table UncleBlock`: an uncle's header and the ids that it proposes.
 pub type UncleView<'a> = View<'a, UncleBlock>;
 
 #[tactic(auto, unfolding(codec_defs::specs::Schema::uncle_block))]
@@ -69,7 +70,7 @@ impl<'a> View<'a, UncleBlock> {
     }
 }
 
-/// `table Block`.
+/// The row `Block`.
 #[derive(Drop)]
 pub struct Block;
 
@@ -108,6 +109,7 @@ impl Row for Block {
     }
 }
 
+/// `table Block`.
 pub type BlockView<'a> = View<'a, Block>;
 
 #[tactic(auto, unfolding(codec_defs::specs::Schema::block))]

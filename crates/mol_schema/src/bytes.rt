@@ -7,7 +7,7 @@ use crate::parts::content;
 use crate::view::{Row, View};
 use std::marker::Model;
 
-/// `vector Bytes <byte>`. Contracts see it as what it holds.
+/// The row `Bytes`.
 #[derive(Drop)]
 pub struct ByteVec;
 
@@ -35,6 +35,7 @@ impl Row for ByteVec {
     }
 }
 
+/// `vector Bytes <byte>`. Contracts see it as what it holds.
 pub type Bytes<'a> = View<'a, ByteVec>;
 
 impl<'a> View<'a, ByteVec> {

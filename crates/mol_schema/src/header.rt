@@ -6,7 +6,7 @@ use crate::number::{decode_u32, decode_u64, decode_u128};
 use crate::view::{Row, View};
 use std::marker::Model;
 
-/// `struct Header`, 208 bytes.
+/// The row `Header`.
 #[derive(Drop)]
 pub struct Header;
 
@@ -35,6 +35,7 @@ impl Row for Header {
     }
 }
 
+/// `struct Header`, 208 bytes.
 pub type HeaderView<'a> = View<'a, Header>;
 
 #[tactic(auto, unfolding(codec_defs::specs::Schema::header))]

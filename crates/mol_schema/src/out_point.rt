@@ -6,7 +6,7 @@ use crate::number::{decode_u32, decode_u64};
 use crate::view::{Row, View};
 use std::marker::Model;
 
-/// `struct OutPoint`, 36 bytes: an output of a transaction.
+/// The row `OutPoint`.
 #[derive(Drop)]
 pub struct OutPoint;
 
@@ -35,6 +35,7 @@ impl Row for OutPoint {
     }
 }
 
+/// `struct OutPoint`, 36 bytes: an output of a transaction.
 pub type OutPointView<'a> = View<'a, OutPoint>;
 
 #[tactic(auto, unfolding(codec_defs::specs::Schema::out_point))]
@@ -55,7 +56,7 @@ impl<'a> View<'a, OutPoint> {
     }
 }
 
-/// `struct CellInput`, 44 bytes: an out-point that is spent, and since when it may be.
+/// The row `CellInput`.
 #[derive(Drop)]
 pub struct CellInput;
 
@@ -84,6 +85,7 @@ impl Row for CellInput {
     }
 }
 
+/// `struct CellInput`, 44 bytes: an out-point that is spent, and since when it may be.
 pub type InputView<'a> = View<'a, CellInput>;
 
 #[tactic(auto, unfolding(codec_defs::specs::Schema::cell_input))]
@@ -101,7 +103,7 @@ impl<'a> View<'a, CellInput> {
     }
 }
 
-/// `struct CellDep`, 37 bytes: a cell that the scripts may read.
+/// The row `CellDep`.
 #[derive(Drop)]
 pub struct CellDep;
 
@@ -130,6 +132,7 @@ impl Row for CellDep {
     }
 }
 
+/// `struct CellDep`, 37 bytes: a cell that the scripts may read.
 pub type DepView<'a> = View<'a, CellDep>;
 
 #[tactic(auto, unfolding(codec_defs::specs::Schema::cell_dep))]

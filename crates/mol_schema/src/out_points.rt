@@ -8,7 +8,7 @@ use crate::parts::{item, items_len};
 use crate::view::{Row, View};
 use std::marker::Model;
 
-/// `vector OutPointVec <OutPoint>`: what a dep group's cell holds.
+/// The row `OutPointVec`.
 #[derive(Drop)]
 pub struct OutPointVec;
 
@@ -37,6 +37,7 @@ impl Row for OutPointVec {
     }
 }
 
+/// `vector OutPointVec <OutPoint>`: what a dep group's cell holds.
 pub type OutPointsView<'a> = View<'a, OutPointVec>;
 
 impl<'a> View<'a, OutPointVec> {

@@ -8,7 +8,7 @@ use crate::parts::{content, field};
 use crate::view::{Row, View};
 use std::marker::Model;
 
-/// `table Script`: a program by its hash, and its arguments.
+/// The row `Script`.
 #[derive(Drop)]
 pub struct Script;
 
@@ -43,6 +43,7 @@ impl Row for Script {
     }
 }
 
+/// `table Script`: a program by its hash, and its arguments.
 pub type ScriptView<'a> = View<'a, Script>;
 
 #[tactic(auto, unfolding(codec_defs::specs::Schema::script))]

@@ -11,7 +11,7 @@ use crate::script::{Script, ScriptView};
 use crate::view::{Row, View};
 use std::marker::Model;
 
-/// `table CellOutput`.
+/// The row `CellOutput`.
 #[derive(Drop)]
 pub struct CellOutput;
 
@@ -46,6 +46,7 @@ impl Row for CellOutput {
     }
 }
 
+/// `table CellOutput`.
 pub type OutputView<'a> = View<'a, CellOutput>;
 
 #[tactic(auto, unfolding(codec_defs::specs::Schema::cell_output))]
@@ -76,7 +77,7 @@ impl<'a> View<'a, CellOutput> {
     }
 }
 
-/// `table RawTransaction`: what a transaction's hash is of.
+/// The row `RawTransaction`.
 #[derive(Drop)]
 pub struct RawTransaction;
 
@@ -119,6 +120,7 @@ impl Row for RawTransaction {
     }
 }
 
+/// `table RawTransaction`: what a transaction's hash is of.
 pub type RawTxView<'a> = View<'a, RawTransaction>;
 
 #[tactic(auto, unfolding(codec_defs::specs::Schema::raw_transaction))]
@@ -202,7 +204,7 @@ impl<'a> View<'a, RawTransaction> {
     }
 }
 
-/// `table Transaction`.
+/// The row `Transaction`.
 #[derive(Drop)]
 pub struct Transaction;
 
@@ -236,6 +238,7 @@ impl Row for Transaction {
     }
 }
 
+/// `table Transaction`.
 pub type TxView<'a> = View<'a, Transaction>;
 
 #[tactic(auto, unfolding(codec_defs::specs::Schema::transaction))]

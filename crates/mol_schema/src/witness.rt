@@ -10,7 +10,7 @@ use crate::script::{Script, ScriptView};
 use crate::view::{Row, View};
 use std::marker::Model;
 
-/// `table CellbaseWitness`: the first witness of a cellbase.
+/// The row `CellbaseWitness`.
 #[derive(Drop)]
 pub struct CellbaseWitness;
 
@@ -44,6 +44,7 @@ impl Row for CellbaseWitness {
     }
 }
 
+/// `table CellbaseWitness`: the first witness of a cellbase.
 pub type CellbaseWitnessView<'a> = View<'a, CellbaseWitness>;
 
 #[tactic(auto, unfolding(codec_defs::specs::Schema::cellbase_witness))]
@@ -63,7 +64,7 @@ impl<'a> View<'a, CellbaseWitness> {
     }
 }
 
-/// `table WitnessArgs`: what a witness gives the scripts.
+/// The row `WitnessArgs`.
 #[derive(Drop)]
 pub struct WitnessArgs;
 
@@ -100,6 +101,7 @@ impl Row for WitnessArgs {
     }
 }
 
+/// `table WitnessArgs`: what a witness gives the scripts.
 pub type WitnessArgsView<'a> = View<'a, WitnessArgs>;
 
 #[tactic(auto, unfolding(codec_defs::specs::Schema::witness_args))]

@@ -8,6 +8,9 @@ use Rattle.fold_defs.specs.First.{first_failing}
 -- What a store fixes for all its blocks. Nothing yet: no specification is read.
 pub record Rules : Type 0 where
 
+abbrev pub no_specification : Rules
+no_specification = record { }
+
 -- the last block of a branch, on which the next one stands
 abbrev pub parent_of : List Block → Option Block
 parent_of branch = block_at branch (length branch - 1)
@@ -18,11 +21,11 @@ follows b None = false
 follows b (Some parent) = b.header.number == parent.header.number + 1
 
 -- The rules on a block that stands on this branch, genesis to its parent.
-abbrev pub rows : Rules → List Block → Block → List (ℕ × Bool)
-rows rules branch b =
+abbrev pub rules_on : Rules → List Block → Block → List (ℕ × Bool)
+rules_on rules branch b =
     (5, follows b (parent_of branch))
     ∷ []
 
 -- The first rule that it breaks.
 unfoldable pub first_broken : Rules → List Block → Block → Option ℕ
-first_broken rules branch b = first_failing (rows rules branch b)
+first_broken rules branch b = first_failing (rules_on rules branch b)

@@ -3,7 +3,7 @@
 //! A row has five columns, with a tab between two: a name, the words behind the folder, the number of the status that is
 //! wanted, the input and the text that is wanted, both in hex (`-` for no bytes, `=` for the input of the row before). The
 //! wanted texts were made by a program that was written from the rules of docs/COMMANDS.md and docs/MACHINE.md alone, those
-//! of the last 22 rows by hand from the same rules. Four more rows, of two files of 1 MiB that were made to be slow to load,
+//! of the last 27 rows by hand from the same rules. Four more rows, of two files of 1 MiB that were made to be slow to load,
 //! are made here; bench/hostile.py works out their texts. Each row is run over streams in memory. The program prints each
 //! row that differs with the status that it got, and how many agree; its status is 1 where one differs.
 #![tactic(auto)]

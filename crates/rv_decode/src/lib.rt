@@ -6,7 +6,7 @@
 #![tactic(auto)]
 
 ghost use Rattle.std.specs.Prelude.{◌≡◌, ◌≢◌, ℕ, ◌%◌, ◌^◌, IfSome};
-ghost use Rattle.isa_defs.specs.Instruction.{HasRegisters};
+ghost use Rattle.isa_defs.specs.Instruction.{FitsFormat};
 ghost use Rattle.isa_defs.specs.Decode.{HasFullForm, decode};
 
 mod compressed;
@@ -28,7 +28,8 @@ pub fn decode(word: u32) -> Option<(Ins, u8)>
     ensures low_half { word % 4 ≢ 3 → (other : ℕ) → other % 2 ^ 16 ≡ word % 2 ^ 16 → decode other ≡ result }
     // The instruction is a full form, also where a compressed form stands for it.
     ensures full_form { IfSome result (λ decoded. HasFullForm decoded.0) }
-    ensures registers { IfSome result (λ decoded. HasRegisters decoded.0) }
+    // Its registers are below 32, and its immediate has the bits of its format.
+    ensures fits { IfSome result (λ decoded. FitsFormat decoded.0) }
 {
     if word % 4 == 3 {
         Some((full::instruction(word)?, 4))

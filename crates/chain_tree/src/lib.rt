@@ -1,0 +1,17 @@
+//! The tree of the kept blocks: for each an entry, at the place at which it joined.
+//!
+//! [`Tree`] is the contract of use. Its clauses see the list of the entries, and beside it how many more can be
+//! added without an allocation (`spare`). `find` answers the place of a hash, `ancestor` the place of a height on a
+//! branch, `tip` that of the tip; for every kept list of `chain_defs` that the entries index (`IndexesBlocks`), these
+//! are `place_of`, `branch_places` and `tip_place`. `add` needs a place that `reserve` made, and takes no memory.
+//! Where a block's bytes lie, and whether it may join, is left to the layers above.
+#![tactic(auto)]
+
+mod ancestors;
+mod entry;
+#[cfg(test)]
+mod tests;
+mod tree;
+
+pub use entry::Entry;
+pub use tree::Tree;

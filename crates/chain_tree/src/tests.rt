@@ -1,0 +1,80 @@
+// The happy path at real sizes: two branches of some thousand blocks, one of which overtakes the other.
+ghost use Rattle.std.specs.Prelude.{◌≡◌};
+
+use crate::{Entry, Tree};
+use std::process::Abort;
+use std::test::Fail;
+
+/// The first branch goes from the genesis to this number, which is also the place of its last block.
+const FIRST: u32 = 5000;
+/// The second leaves the first above this number.
+const FORK: u32 = 1000;
+
+/// A block on a parent. The hashes of all blocks begin alike.
+fn entry_on(branch: u8, number: u64, parent: u32) -> Entry
+    ensures number { result.number ≡ number }
+    ensures parent { result.parent ≡ parent }
+{
+    let mut hash = [branch; 32];
+    hash[0] = 7;
+    hash[24..].copy_from_slice(&number.to_le_bytes());
+    Entry {
+        hash,
+        parent,
+        number,
+        timestamp: number,
+        dao: [branch; 32],
+        at: number,
+        len: 240,
+    }
+}
+
+/// Adds a block on a parent that is there, and answers its place.
+fn join(rt: &impl Abort, tree: &mut Tree, branch: u8, parent: u32) -> Result<u32, Fail> {
+    assert!(rt; parent < tree.len());
+    assert!(rt; tree.len() < 1_000_000);
+    let entry = entry_on(branch, tree.entry(parent).number + 1, parent);
+    assert_eq!(rt; tree.find(&entry.hash), None);
+    tree.reserve()?;
+    let place = tree.len();
+    tree.add(entry);
+    assert_eq!(rt; tree.find(&entry.hash), Some(place));
+    Ok(place)
+}
+
+/// The place on the path of a place whose number is this one.
+fn place_at(rt: &impl Abort, tree: &Tree, place: u32, number: u32) -> u32 {
+    assert!(rt; place < tree.len());
+    assert!(rt; u64::from(number) <= tree.entry(place).number);
+    tree.ancestor(place, u64::from(number))
+}
+
+#[test]
+fn branches(rt: HostRuntime) -> Result<(), Fail> {
+    let mut tree = Tree::new(rt.alloc(), entry_on(1, 0, 0))?;
+    assert_eq!(rt; tree.tip(), 0);
+    let mut first = 0;
+    for number in 1..FIRST + 1 {
+        first = join(&rt, &mut tree, 1, first)?;
+        assert_eq!(rt; (first, tree.tip()), (number, number));
+    }
+    let mut second = FORK;
+    for number in FORK + 1..FIRST + 2 {
+        second = join(&rt, &mut tree, 2, second)?;
+        assert_eq!(rt; second, FIRST + (number - FORK));
+        // An equal number leaves the tip where it is, a greater one moves it.
+        assert_eq!(rt; tree.tip(), if number <= FIRST { FIRST } else { second });
+    }
+    for number in 0..FIRST + 1 {
+        assert_eq!(rt; place_at(&rt, &tree, first, number), number);
+        let place = if number <= FORK {
+            number
+        } else {
+            FIRST + (number - FORK)
+        };
+        assert_eq!(rt; place_at(&rt, &tree, second, number), place);
+    }
+    assert_eq!(rt; tree.find(&entry_on(3, 1, 0).hash), None);
+    assert_eq!(rt; tree.find(&entry_on(2, 1, 0).hash), None);
+    Ok(())
+}
