@@ -379,6 +379,11 @@ LOW = '//! %s\n\n#[cfg(test)]\nmod tests;\n'
 FAKE_RT = r'''#!/bin/sh
 [ "$1" = fmt ] && exit 0
 echo "$1" >>"$FAKE_LOG"
+if [ "$1" = run ]; then
+    [ "$FAKE_STATUS" = 0 ] || exit 2
+    cp src/program out/ckbdev && chmod 755 out/ckbdev
+    exit 2
+fi
 [ "$1" = ci ] || exit 1
 [ -d .git ] && ! grep -rq test crates && [ ! -e crates/other ] || exit 1
 echo 'rt: low proved'
@@ -507,6 +512,19 @@ def check_script_survives_a_broken_build(_):
 def children_of(pid):
     with open('/proc/%d/task/%d/children' % (pid, pid), encoding='utf-8') as f:
         return [int(it) for it in f.read().split()]
+
+
+def check_script_builds_over_earlier_work(_):
+    with new_folder() as top:
+        it = Checkout(top)
+        for name in ('low', 'ckbdev'):
+            os.makedirs(it.at('crates/%s/out/incremental' % name))
+        it.write('crates/ckbdev/out/ckbdev', PROGRAM_OF_A_FAKE % 'old')
+        os.chmod(it.at('crates/ckbdev/out/ckbdev'), 0o755)
+        must_be(it.run(status=1)[:2], (70, b''), 'a build that fails, beside an old program')
+        it.must_run(b'one', 2, 'over earlier work')
+        with open(it.log, encoding='utf-8') as f:
+            must_be(f.read(), 'run\nrun\n', 'what was asked of the toolchain')
 
 
 def check_script_takes_the_build_of_the_gate(_):

@@ -209,7 +209,9 @@ def run(words, folder, crates=(), status=0):
 
 def has_work(uses):
     """Whether earlier checks left work in each crate, over which a change is proved sooner than from nothing."""
-    return all(os.path.isdir(os.path.join(TOP, 'crates', it, 'out', 'incremental')) for it in crates_below(uses))
+    left = ('incremental', os.path.join('rlib', 'stamp'))
+    return all(any(os.path.exists(os.path.join(TOP, 'crates', name, 'out', it)) for it in left)
+               for name in crates_below(uses))
 
 
 def built_over_work():
