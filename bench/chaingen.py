@@ -58,7 +58,12 @@ def elf(code):
 
 FILE = elf(CODE)
 LOCK = table([ckbhash(FILE), b'\0', as_bytes(b'')])
-WITNESS = table([LOCK, as_bytes(b'')])
+DAO = (1_000_017_300_000_000, 10 ** 16, 0, 21_400_000_000)
+
+
+def witness(message=b''):
+    """The witness of a cellbase: who is paid, and a message."""
+    return table([LOCK, as_bytes(message)])
 
 
 def output(capacity):
@@ -109,11 +114,11 @@ class Heights:
     """What a block holds by its height alone.  Forks are one block deep and
     both their blocks commit and pay the same, so a branch has no say in it."""
 
-    def __init__(self, genesis_tx, plain):
-        self.plain = plain
+    def __init__(self, genesis_tx, plain, block_bytes):
+        self.plain, self.block_bytes = plain, block_bytes
         self.dep = genesis_tx[1] + le(0, 4) + b'\0'
         self.coin, self.capacity = genesis_tx[1] + le(1, 4), COIN
-        self.dao = [(1_000_017_300_000_000, 10 ** 16, 0, 21_400_000_000)]
+        self.dao = [DAO]
         self.coming = {}        # height: the transaction that it commits
         self.made = {}          # height: (transactions, ids)
 
@@ -144,12 +149,17 @@ class Heights:
             reward = self.reward(h - W_FAR - 1)
             if reward >= OCCUPIED:
                 outputs, made = [output(reward)], OCCUPIED
-        txs = [transaction([], [le(h, 8) + NULL], outputs, [b''] * len(outputs), [WITNESS])]
-        ids = []
+        others, ids = [], []
         if not self.plain and h % 4 == 2 and h >= 6:
-            txs.append(self.commit_at(h))
+            others.append(self.commit_at(h))
         if not self.plain and h % 4 == 0 and h >= 4:
             ids = [self.commit_at(h + 2)[1][:10]]
+
+        def with_cellbase(message):
+            return [transaction([], [le(h, 8) + NULL], outputs, [b''] * len(outputs),
+                                [witness(message)])] + others
+
+        txs = with_cellbase(bytes(lacking(self.block_bytes, with_cellbase(b''), ids)))
         c, ar, s, u = self.dao[h - 1]
         second = share(h, SECONDARY)
         self.dao.append((c + primary(h) + second, ar + ar * second // c,
@@ -158,12 +168,22 @@ class Heights:
         return self.made[h]
 
 
-def make(seed, n, plain=False):
+def lacking(size, txs, ids=()):
+    """How many bytes a block of these lacks to be as long as `size`."""
+    return max(0, size - len(block(0, 0, 0, ZERO, DAO, 0, txs, list(ids))[0]))
+
+
+def make(seed, n, plain=False, block_bytes=0, genesis_bytes=0):
     """(specification, genesis, blocks, [(number, hash)] of genesis and blocks,
-    the tip's place)"""
-    first = transaction([], [le(0, 8) + NULL], [output(17_300_000_000), output(COIN)],
-                        [FILE, b''], [])
-    heights = Heights(first, plain)
+    the tip's place).  The genesis, by data of a cell, and each block, by the
+    message of its cellbase, is made as long as is asked, if it is not longer."""
+
+    def first_with(data):
+        return transaction([], [le(0, 8) + NULL], [output(17_300_000_000), output(COIN)],
+                           [FILE, data], [])
+
+    first = first_with(bytes(lacking(genesis_bytes, [first_with(b'')])))
+    heights = Heights(first, plain, block_bytes)
     genesis, top = block(0, 0, 1000, ZERO, heights.dao[0], 0, [first], [])
     kept = [(0, top)]
     parents = [0]

@@ -189,7 +189,7 @@ def main():
     if not os.access(program, os.X_OK):
         sys.exit('there is no program %s' % a.ckbdev)
     # a script that builds the program at its first use does so here
-    subprocess.run([program], stdin=subprocess.DEVNULL, stdout=subprocess.DEVNULL)
+    subprocess.run([program, 'any', 'import'], stdin=subprocess.DEVNULL, stdout=subprocess.DEVNULL)
     plain = a.plain or a.memory
     sizes = [int(s) for s in a.sizes.split(',')]
     under = a.disk or ('/dev/shm' if a.tmpfs else tempfile.gettempdir())

@@ -3,7 +3,7 @@
 
     python3 bench/peak.py CKBDEV [--blocks 300] [--bytes 1000000]
 
-A genesis and blocks of the given size, each on the one before, go through
+A generated chain (chaingen.py) of blocks of the given size goes through
 `import`. Every line is checked. The last line has the peak of resident memory
 and what it may be: 1.2 times the kept bytes plus 64 MB. Above that the status
 is 1. A MB is 10^6 bytes.
@@ -17,27 +17,18 @@ import sys
 import tempfile
 
 sys.dont_write_bytecode = True
-from chaingen import NULL, ZERO, as_bytes, block, le, transaction  # noqa: E402
-
-DAO = (1, 1, 0, 0)
+import chaingen  # noqa: E402
 
 
 def make(path, blocks, size):
     """Writes the input, and answers the bytes of all blocks and the text that must come."""
-    text, kept = [], 0
-    parent = ZERO
-    bare = len(block(0, 0, 0, ZERO, DAO, 0, [transaction([], [le(0, 8) + NULL], [], [], [b''])], [])[0])
+    _, genesis, items, kept, tip = chaingen.make(0, blocks, plain=True, block_bytes=size)
     with open(path, 'wb') as f:
-        for h in range(blocks + 1):
-            witness = bytes(max(0, size - bare)) if h > 0 else b''
-            tx = transaction([], [le(h, 8) + NULL], [], [], [witness])
-            item, parent = block(h, 0, 1000 + 1000 * h, parent, DAO, 0, [tx], [])
-            f.write(item)
-            kept += len(item)
-            if h > 0:
-                text.append('joined %d 0x%s\n' % (h, parent.hex()))
-    text.append('tip %d 0x%s\n' % (blocks, parent.hex()))
-    return kept, ''.join(text)
+        f.write(genesis)
+        f.writelines(items)
+    lines = ['joined %d 0x%s\n' % (number, top.hex()) for number, top in kept[1:]]
+    lines.append('tip %d 0x%s\n' % (kept[tip][0], kept[tip][1].hex()))
+    return os.path.getsize(path), ''.join(lines)
 
 
 def peak_of(program, path):
@@ -63,7 +54,7 @@ def main():
     a = a.parse_args()
     program = os.path.abspath(shutil.which(a.ckbdev) or a.ckbdev)
     # a script that builds the program at its first use does so here
-    subprocess.run([program], stdin=subprocess.DEVNULL, stdout=subprocess.DEVNULL)
+    subprocess.run([program, 'any', 'import'], stdin=subprocess.DEVNULL, stdout=subprocess.DEVNULL)
     with tempfile.TemporaryDirectory() as folder:
         path = os.path.join(folder, 'items')
         kept, text = make(path, a.blocks, a.bytes)

@@ -4,11 +4,10 @@
 //! digits each. The rows were made by a program that was written from the RISC-V manual alone.
 #![tactic(auto)]
 
-use rv_alu::op;
+use rv_alu::{Alu, op};
 use std::io;
 use std::io::{BufRead, BufReader};
 use std::process::ExitCode;
-use vm_defs::Alu;
 
 fn main(rt: HostRuntime) -> io::Result<ExitCode> {
     let alloc = rt.alloc();

@@ -1,4 +1,4 @@
--- Branches: a block and all its ancestors (RFC 0020, "chain").
+-- Branches: a block and all its ancestors (docs/RULES.md, "Kept blocks and the tip").
 use Rattle.std.specs.Prelude.{◌≡◌, ◌↔◌, ℕ, zero, suc, ◌+◌, ◌-◌, ◌<◌, ◌==◌, not, List, [], ◌∷◌, ◌++◌, length, Some, None}
 use Rattle.std.specs.List.{filter, filter_map, list_any}
 use Rattle.codec_defs.specs.Schema.{Block}

@@ -1,8 +1,9 @@
--- The tip of the kept blocks: the earliest of those with the greatest number (RFC 0020, "main chain").
+-- The tip of the kept blocks: the earliest of those with the greatest number (docs/RULES.md, "Kept blocks and the tip").
 use Rattle.std.specs.Prelude.{◌≡◌, ◌↔◌, ℕ, suc, ◌<◌, ◌≤◌, max, ◌==◌, List, [], ◌∷◌, Option, Some, None, if◌then◌else◌, IfSome}
 use Rattle.std.specs.Option.{option_map, option_and_then}
 use Rattle.codec_defs.specs.Schema.{Block}
 use Rattle.chain_defs.specs.Kept.{block_at}
+use Rattle.chain_defs.specs.Branch.{branch}
 
 abbrev pub greatest_number : List Block → ℕ
 greatest_number [] = 0
@@ -21,6 +22,13 @@ tip_place kept = place_of_number kept (greatest_number kept)
 -- the tip
 abbrev pub tip : List Block → Option Block
 tip kept = option_and_then (block_at kept) (tip_place kept)
+
+-- The best branch, from which queries are answered: that of the tip.
+abbrev pub best_branch : List Block → List Block
+best_branch kept = elim (tip_place kept) [
+  | None ↦ []
+  | Some place ↦ branch kept place
+]
 
 -- The tip in words: no number is above its own, and before it each is below.
 pub record IsTip (kept : List Block) (place : ℕ) : Type 0 where

@@ -4,6 +4,8 @@ ghost use Rattle.std.specs.Prelude.{◌≡◌, length};
 ghost use Rattle.std.specs.Int.{w64, to_le_bytes, from_le_bytes};
 ghost use Rattle.time_defs.specs.Dao.{field_bytes, field_of_bytes};
 
+use std::marker::Model;
+
 /// The four numbers of a header's DAO field (RFC 0023), in shannons but for the rate.
 #[derive(Clone, Copy, Debug, PartialEq, Eq)]
 pub struct Dao {
@@ -17,14 +19,22 @@ pub struct Dao {
     pub u: u64,
 }
 
+impl Model for Dao {
+    ghost use Rattle.time_defs.specs.Dao.{DaoField};
+
+    ghost Value = { DaoField };
+
+    ghost view = { λ dao. record { issued = dao.c; rate = dao.ar; savings = dao.s; occupied = dao.u } };
+
+    ghost inverse = { λ field. record { c = field.issued; ar = field.rate; s = field.savings; u = field.occupied } };
+}
+
 #[tactic(auto, unfolding(time_defs::specs::Dao::field_of_bytes))]
 impl Dao {
-    ghost use Rattle.dao_math.specs.Fields.{dao_field};
-
     /// The field that the bytes hold.
     pub fn read(b: &[u8; 32]) -> Dao
-        ensures field { dao_field result ≡ field_of_bytes b.now }
-        ensures bytes { field_bytes (dao_field result) ≡ b.now }
+        ensures field { result ≡ field_of_bytes b.now }
+        ensures bytes { field_bytes result ≡ b.now }
     {
         Dao {
             c: u64_of(&b[0..8]),
@@ -36,8 +46,8 @@ impl Dao {
 
     /// The bytes of the field.
     pub fn write(&self) -> [u8; 32]
-        ensures bytes { result ≡ field_bytes (dao_field self.now) }
-        ensures field { field_of_bytes result ≡ dao_field self.now }
+        ensures bytes { result ≡ field_bytes self.now }
+        ensures field { field_of_bytes result ≡ self.now }
     {
         let Dao { c, ar, s, u } = *self;
         let mut bytes = [0; 32];

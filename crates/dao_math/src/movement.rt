@@ -1,11 +1,11 @@
 //! How a block moves the DAO field.
 
-ghost use Rattle.std.specs.Prelude.{◌≡◌, ◌+◌, ◌*◌, ◌/◌, ◌<◌, ◌-ℤ◌, pos, option_map};
+ghost use Rattle.std.specs.Prelude.{◌≡◌, ◌+◌, ◌*◌, ◌/◌, ◌<◌, ◌-ℤ◌, pos};
 ghost use Rattle.time_defs.specs.Dao as rules;
 ghost use Rattle.time_defs.specs.Dao.{as_u64};
-ghost use Rattle.dao_math.specs.Fields.{dao_field, movement};
 
 use crate::dao_field::Dao;
+use std::marker::Model;
 
 /// What a block moves, in shannons.
 #[derive(Clone, Copy, Debug, PartialEq, Eq)]
@@ -20,11 +20,21 @@ pub struct DaoMove {
     pub freed: u128,
 }
 
+impl Model for DaoMove {
+    ghost use Rattle.time_defs.specs.Dao.{Movement};
+
+    ghost Value = { Movement };
+
+    ghost view = { λ move. record { primary = move.primary; secondary = move.secondary; interest = move.interest; made = move.made; freed = move.freed } };
+
+    ghost inverse = { λ move. record { primary = move.primary; secondary = move.secondary; interest = move.interest; made = move.made; freed = move.freed } };
+}
+
 /// The field after a block. None where one of its four numbers is below 0 or above the greatest u64.
 #[tactic(auto, unfolding(time_defs::specs::Dao::next_field))]
 pub fn next_field(old: &Dao, move_: &DaoMove) -> Option<Dao>
-    requires { 0 < old.now.c }
-    ensures { option_map dao_field result ≡ rules.next_field (dao_field old.now) (movement move_.now) }
+    requires { 0 < old.now.issued }
+    ensures { result ≡ rules.next_field old.now move_.now }
 {
     Some(Dao {
         c: next_issued(old, move_)?,
@@ -36,14 +46,14 @@ pub fn next_field(old: &Dao, move_: &DaoMove) -> Option<Dao>
 
 /// The miner's part of the secondary share `s`, by the field before the block, in shannons.
 pub fn miner_share(old: &Dao, s: u64) -> u128
-    requires { 0 < old.now.c }
-    ensures { result ≡ rules.miner_part (dao_field old.now) s }
+    requires { 0 < old.now.issued }
+    ensures { result ≡ rules.miner_part old.now s }
 {
     u128::from(s) * u128::from(old.u) / u128::from(old.c)
 }
 
 fn next_issued(old: &Dao, move_: &DaoMove) -> Option<u64>
-    ensures { result ≡ as_u64 (pos (rules.next_issued (dao_field old.now) (movement move_.now))) }
+    ensures { result ≡ as_u64 (pos (rules.next_issued old.now move_.now)) }
 {
     old.c
         .checked_add(move_.primary)?
@@ -51,8 +61,8 @@ fn next_issued(old: &Dao, move_: &DaoMove) -> Option<u64>
 }
 
 fn next_rate(old: &Dao, secondary: u64) -> Option<u64>
-    requires { 0 < old.now.c }
-    ensures { result ≡ as_u64 (pos (old.now.ar + old.now.ar * secondary / old.now.c)) }
+    requires { 0 < old.now.issued }
+    ensures { result ≡ as_u64 (pos (old.now.rate + old.now.rate * secondary / old.now.issued)) }
 {
     let growth = u128::from(old.ar) * u128::from(secondary) / u128::from(old.c);
     u64::try_from(u128::from(old.ar) + growth).ok()
@@ -60,8 +70,8 @@ fn next_rate(old: &Dao, secondary: u64) -> Option<u64>
 
 /// Interest below 0 is a gain. The sum of all losses may leave 128 bits, so they are taken one by one.
 fn next_savings(old: &Dao, move_: &DaoMove) -> Option<u64>
-    requires { 0 < old.now.c }
-    ensures { result ≡ as_u64 (rules.next_savings (dao_field old.now) (movement move_.now)) }
+    requires { 0 < old.now.issued }
+    ensures { result ≡ as_u64 (rules.next_savings old.now move_.now) }
 {
     let gains = u128::from(old.s) + u128::from(move_.secondary);
     let interest = move_.interest.unsigned_abs();

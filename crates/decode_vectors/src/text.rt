@@ -1,8 +1,8 @@
 // The text of an instruction, as an assembler takes it.
 
+use rv_decode::Ins;
 use std::alloc::{AllocError, Global};
 use std::string::String;
-use vm_defs::Ins;
 
 /// How the operands of an instruction are written.
 #[derive(Clone, Copy)]

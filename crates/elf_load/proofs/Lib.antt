@@ -1,4 +1,5 @@
 pub mod Lists
 pub mod Touching
-pub mod Placing
+pub mod InMemory
 pub mod Segments
+pub mod ElfLaws

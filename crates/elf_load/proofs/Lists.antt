@@ -1,63 +1,27 @@
 -- Ranges of a list: what stands in one that was overwritten, and whether one of its items passes a test.
-use Rattle.std.proofs.Common.{◌≡◌, ℕ, ◌+◌, ◌-◌, ◌<◌, ◌≤◌, Bool, true, false, List, [], ◌∷◌, ◌++◌, length, take, drop, replicate, get_or, slice_range, refl, sym, ◌∙◌, ap, arith, inl, inr}
+use Rattle.std.proofs.Common.{◌≡◌, ℕ, ◌+◌, ◌-◌, ◌<◌, ◌≤◌, Bool, true, false, List, [], ◌∷◌, length, drop, replicate, get_or, slice_range, refl, sym, ◌∙◌, ap, arith, inl, inr}
 use Rattle.std.specs.List.{list_any}
 use Rattle.std.proofs.lemmas.Bool.{or_cases, or_left, or_right}
-use Rattle.std.proofs.lemmas.List.{get_or-append_right, get_or-drop, get_or-replicate, get_or-take, get_or_append_left, get_or_default, length-append, length-drop, length-replicate, length-take, length-take-le}
+use Rattle.std.proofs.lemmas.List.{get_or-drop, get_or-replicate, get_or-take, get_or_default, length-drop, length-replicate, length-take}
 use Rattle.std.proofs.lemmas.List.Folds.{Any-from_list_any, list_any_at}
 use Rattle.vm_defs.specs.Memory.{overwritten}
+use Rattle.vm_defs.proofs.CodeLaws.{get_or-behind, get_or-written}
 
 -- ---- an overwritten range
-
-pub length-overwritten : {X : Type 0} (xs : List X) (at : ℕ) (ys : List X) → at + length ys ≤ length xs → length (overwritten xs at ys) ≡ length xs
-length-overwritten xs at ys h =
-    rw (
-      length-append (take at xs ++ ys) (drop (at + length ys) xs),
-      length-append (take at xs) ys,
-      length-take-le at xs (omega (arith, h)),
-      length-drop (at + length ys) xs,
-    )
-    (omega (arith, h))
-
-front-size : {X : Type 0} (xs : List X) (at : ℕ) (ys : List X) → at ≤ length xs → length (take at xs ++ ys) ≡ at + length ys
-front-size xs at ys h = rw (length-append (take at xs) ys, length-take-le at xs h) refl
-
-pub overwritten-before : {X : Type 0} (xs : List X) (at : ℕ) (ys : List X) (i : ℕ) (d : X) → at ≤ length xs → i < at
-    → get_or (overwritten xs at ys) i d ≡ get_or xs i d
-overwritten-before xs at ys i d h before =
-    let size = front-size xs at ys h in
-    let size' = length-take-le at xs h in
-    get_or_append_left (take at xs ++ ys) (drop (at + length ys) xs) d i (omega (arith, size, before))
-    ∙ get_or_append_left (take at xs) ys d i (omega (arith, size', before))
-    ∙ get_or-take at xs i d before
-
-pub overwritten-within : {X : Type 0} (xs : List X) (at : ℕ) (ys : List X) (i : ℕ) (d : X) → at ≤ length xs → at ≤ i → i < at + length ys
-    → get_or (overwritten xs at ys) i d ≡ get_or ys (i - at) d
-overwritten-within xs at ys i d h from within =
-    let size = front-size xs at ys h in
-    get_or_append_left (take at xs ++ ys) (drop (at + length ys) xs) d i (omega (arith, size, within))
-    ∙ get_or-append_right (take at xs) ys at i d (length-take-le at xs h) from
-
-pub overwritten-behind : {X : Type 0} (xs : List X) (at : ℕ) (ys : List X) (i : ℕ) (d : X) → at ≤ length xs → at + length ys ≤ i
-    → get_or (overwritten xs at ys) i d ≡ get_or xs i d
-overwritten-behind xs at ys i d h behind =
-    let place : at + length ys + (i - (at + length ys)) ≡ i = omega (arith, behind) in
-    get_or-append_right (take at xs ++ ys) (drop (at + length ys) xs) (at + length ys) i d (front-size xs at ys h) behind
-    ∙ get_or-drop (at + length ys) xs (i - (at + length ys)) d
-    ∙ ap (λ k. get_or xs k d) place
 
 -- many times one item
 pub filled-within : {X : Type 0} (xs : List X) (at count : ℕ) (x : X) (i : ℕ) (d : X) → at ≤ length xs → at ≤ i → i < at + count
     → get_or (overwritten xs at (replicate count x)) i d ≡ x
 filled-within xs at count x i d h from within =
     let size = length-replicate count x in
-    overwritten-within xs at (replicate count x) i d h from (omega (arith, size, within))
+    get_or-written xs at (replicate count x) i d h from (omega (arith, size, within))
     ∙ get_or-replicate count (i - at) x d (omega (arith, from, within))
 
 pub filled-behind : {X : Type 0} (xs : List X) (at count : ℕ) (x : X) (i : ℕ) (d : X) → at ≤ length xs → at + count ≤ i
     → get_or (overwritten xs at (replicate count x)) i d ≡ get_or xs i d
 filled-behind xs at count x i d h behind =
     let size = length-replicate count x in
-    overwritten-behind xs at (replicate count x) i d h (omega (arith, size, behind))
+    get_or-behind xs at (replicate count x) i d h (omega (arith, size, behind))
 
 -- ---- a test of the items of a range
 

@@ -1,17 +1,15 @@
 -- The segments of a file, one after another.
-use Rattle.std.proofs.Common.{◌≡◌, ℕ, suc, ◌+◌, ◌-◌, ◌*◌, ◌<◌, ◌≤◌, Bool, true, false, ◌||◌, not, nat_lt, List, [], ◌∷◌, ◌++◌, length, Option, Some, None, Result, Ok, Err, if◌then◌else◌, fold, sum_by, refl, sym, ◌∙◌, ap, subst, arith, inl, inr}
+use Rattle.std.proofs.Common.{◌≡◌, ℕ, suc, ◌+◌, ◌-◌, ◌*◌, ◌<◌, ◌≤◌, Bool, true, false, ◌||◌, not, nat_lt, List, [], ◌∷◌, ◌++◌, length, Option, Some, None, Ok, Err, if◌then◌else◌, fold, sum_by, refl, sym, ◌∙◌, ap, subst, arith, inl, inr}
 use Rattle.std.specs.List.{list_any}
 use Rattle.std.proofs.lemmas.Bool.{cases_lt}
 use Rattle.std.proofs.lemmas.Bool.Decides.{nat_tests}
 use Rattle.std.proofs.lemmas.List.{append-nil, append_assoc}
 use Rattle.vm_defs.specs.declared.memory.PageKind.{PageKind}
-use Rattle.vm_defs.specs.Memory.{Memory, is_out_of_range, new_memory, page_count}
-use Rattle.vm_defs.specs.Elf.{Program, Segment, broken_header, broken_segment, broken_segments, clashes, e_entry, first_of, first_page, has_table, header_size, is_inside, is_loaded, last_page, load_elf, page_span, program_header_size, program_of, segment_at, segments, segments_from, with_segment}
-use Rattle.elf_load.specs.declared.stop.ElfStop.{ElfStop}
-use Rattle.elf_load.specs.declared.stop.ElfStop.TheVariants.{Bad, NoMemory}
-use Rattle.elf_load.specs.Loading.{Behind, LoadsSegment, LoadsSegments, Marks, Placed, loaded_at}
-use Rattle.elf_load.specs.Loads.{Loads}
-use Rattle.elf_load.proofs.Placing.{in-memory, is-zero, ne-zero}
+use Rattle.vm_defs.specs.Memory.{Memory, is_code, is_out_of_range, kinds_under, new_memory, page_count}
+use Rattle.vm_defs.specs.Elf.{Segment, broken_elf, broken_header, broken_segment, broken_segments, clashes, first_of, first_page, has_table, header_size, is_inside, is_loaded, last_page, load_elf, page_span, program_header_size, program_of, segment_at, segments, segments_from, with_segment}
+use Rattle.elf_load.specs.Judging.{JudgesSegment, JudgesSegments, Marks, loaded_at}
+use Rattle.elf_load.specs.Placing.{HasCode}
+use Rattle.elf_load.proofs.InMemory.{in-memory, is-zero, ne-zero, no_code-under}
 use Rattle.elf_load.proofs.Touching.{code-more, code-none}
 
 -- ---- what a sound segment is
@@ -44,7 +42,7 @@ sound-of_none file earlier s h =
     let sizes = parts.0 in
     record { in_file = parts.1; sizes = grind (arith, nat_tests); in_memory = parts.2; apart = parts.3 }
 
-pages-within : (s : Segment) → is_out_of_range s.address s.memory_size ≡ false → first_page s + page_span s ≤ page_count
+pub pages-within : (s : Segment) → is_out_of_range s.address s.memory_size ≡ false → first_page s + page_span s ≤ page_count
 unfolding first_page last_page page_span page_count
 pages-within s h =
     let room = in-memory s.address s.memory_size h in
@@ -52,17 +50,6 @@ pages-within s h =
       | inl some ↦ rw (ne-zero s.memory_size some) (omega (arith, room, some))
       | inr none ↦ rw (is-zero s.memory_size none) (omega (arith, room))
     ]
-
-pub placed-behind : (file : List ℕ) (earlier : List Segment) (s : Segment) (old new : Memory) (table marked : List (Option PageKind)) → Behind earlier table old
-    → broken_segment file earlier s ≡ None → new ≡ with_segment file old s → Marks marked (earlier ++ s ∷ []) → Placed file earlier s old new marked
-unfolding with_segment
-placed-behind file earlier s old new table marked behind none is marks =
-    let sound = sound-of_none file earlier s none in
-    record {
-      sound = none;
-      memory = is;
-      behind = record { marks = marks; code = code-more old new earlier s behind.code (pages-within s sound.in_memory) (ap (λ memory. memory.kinds) is) };
-    }
 
 -- ---- the program headers one after another
 
@@ -79,70 +66,102 @@ rest-next : (file : List ℕ) (count at : ℕ) → IsNext (loaded_at file at) (s
 unfolding segments_from
 rest-next file count at = by-test (is_loaded file at) (segment_at file at) (segments_from count file (at + program_header_size))
 
-both-none : (first later : Option ℕ) → first_of first later ≡ None → (first ≡ None) × (later ≡ None)
+pub both-none : (first later : Option ℕ) → first_of first later ≡ None → (first ≡ None) × (later ≡ None)
 both-none (Some condition) later h = absurd cc
 both-none None later h = (refl, h)
 
--- sound segments, and one more behind them
-sound-push : (file : List ℕ) (before segments : List Segment) (s : Segment) → broken_segments file before segments ≡ None
-    → broken_segment file (before ++ segments) s ≡ None → broken_segments file before (segments ++ s ∷ []) ≡ None
-unfolding broken_segments
-sound-push file before [] s sound one =
-    ap (λ earlier. first_of (broken_segment file earlier s) None) (sym (append-nil before)) ∙ ap (λ first. first_of first None) one
-sound-push file before (first ∷ others) s sound one =
-    let parts = both-none (broken_segment file before first) (broken_segments file (before ++ first ∷ []) others) sound in
-    ap (λ found. first_of found (broken_segments file (before ++ first ∷ []) (others ++ s ∷ []))) parts.0
-    ∙ sound-push file (before ++ first ∷ []) others s parts.1
-    (ap (λ earlier. broken_segment file earlier s) (append_assoc before (first ∷ []) others) ∙ one)
+-- ---- judging
 
--- how far a file is loaded: what is left of it, and what stands of it
-pub record Loading (file : List ℕ) (rest : List Segment) (table : List (Option PageKind)) (memory : Memory) (file_bytes : ℕ) : Type 0 where
+-- how far a file is judged: what is left of it, and what stands of it
+pub record Judging (file : List ℕ) (rest : List Segment) (table : List (Option PageKind)) (file_bytes : ℕ) : Type 0 where
   pub earlier : List Segment
-  pub behind : Behind earlier table memory
-  pub all : segments file ≡ earlier ++ rest
-  pub sound : broken_segments file [] earlier ≡ None
+  pub marks : Marks table earlier
   pub broken : broken_segments file [] (segments file) ≡ broken_segments file earlier rest
-  pub memory_is : fold (with_segment file) new_memory (segments file) ≡ fold (with_segment file) memory rest
   pub bytes : sum_by (λ s. s.file_size) (segments file) ≡ fold (λ bytes s. bytes + s.file_size) file_bytes rest
 
-pub loading-none : (file : List ℕ) (table : List (Option PageKind)) (memory : Memory) → Marks table [] → memory ≡ new_memory
-    → Loading file (segments file) table memory 0
-unfolding broken_segments
-loading-none file table memory marks is = rw is (record {
-  earlier = [];
-  behind = record { marks = marks; code = code-none };
-  all = refl;
-  sound = refl;
-  broken = refl;
-  memory_is = refl;
-  bytes = refl;
-})
+pub judging-none : (file : List ℕ) (table : List (Option PageKind)) → Marks table [] → Judging file (segments file) table 0
+judging-none file table marks = record { earlier = []; marks = marks; broken = refl; bytes = refl }
 
-pub loading-more : (file : List ℕ) (s : Segment) (rest : List Segment) (table marked : List (Option PageKind)) (old new : Memory) (file_bytes : ℕ)
-    → (l : Loading file (s ∷ rest) table old file_bytes) → Placed file l.earlier s old new marked → Loading file rest marked new (file_bytes + s.file_size)
+pub judging-more : (file : List ℕ) (s : Segment) (rest : List Segment) (table marked : List (Option PageKind)) (file_bytes : ℕ)
+    → (j : Judging file (s ∷ rest) table file_bytes) → JudgesSegment file j.earlier s marked (Ok tt) → Judging file rest marked (file_bytes + s.file_size)
 unfolding broken_segments
-loading-more file s rest table marked old new file_bytes l placed =
+judging-more file s rest table marked file_bytes j sound =
     record {
-      earlier = l.earlier ++ s ∷ [];
-      behind = placed.behind;
-      all = l.all ∙ sym (append_assoc l.earlier (s ∷ []) rest);
-      sound = sound-push file [] l.earlier s l.sound placed.sound;
-      broken = l.broken ∙ ap (λ first. first_of first (broken_segments file (l.earlier ++ s ∷ []) rest)) placed.sound;
-      memory_is = l.memory_is ∙ ap (λ memory. fold (with_segment file) memory rest) (sym placed.memory);
-      bytes = l.bytes;
+      earlier = j.earlier ++ s ∷ [];
+      marks = sound.1;
+      broken = j.broken ∙ ap (λ first. first_of first (broken_segments file (j.earlier ++ s ∷ []) rest)) sound.0;
+      bytes = j.bytes;
     }
 
-pub loading-broken : (file : List ℕ) (s : Segment) (rest : List Segment) (table : List (Option PageKind)) (memory : Memory) (file_bytes condition : ℕ)
-    → (l : Loading file (s ∷ rest) table memory file_bytes) → broken_segment file l.earlier s ≡ Some condition → broken_segments file [] (segments file) ≡ Some condition
+pub judging-refused : (file : List ℕ) (s : Segment) (rest : List Segment) (table : List (Option PageKind)) (file_bytes condition : ℕ)
+    → (j : Judging file (s ∷ rest) table file_bytes) → broken_segment file j.earlier s ≡ Some condition → JudgesSegments file (Err condition)
 unfolding broken_segments
-loading-broken file s rest table memory file_bytes condition l first =
-    l.broken ∙ ap (λ first. first_of first (broken_segments file (l.earlier ++ s ∷ []) rest)) first
+judging-refused file s rest table file_bytes condition j first =
+    j.broken ∙ ap (λ first. first_of first (broken_segments file (j.earlier ++ s ∷ []) rest)) first
 
-pub loading-all : (file : List ℕ) (table : List (Option PageKind)) (memory : Memory) (file_bytes : ℕ) → Loading file [] table memory file_bytes
-    → LoadsSegments file memory (Ok file_bytes)
+pub judging-all : (file : List ℕ) (table : List (Option PageKind)) (file_bytes : ℕ) → Judging file [] table file_bytes → JudgesSegments file (Ok file_bytes)
 unfolding broken_segments
-loading-all file table memory file_bytes l =
-    (l.broken, sym l.memory_is, sym l.bytes)
+judging-all file table file_bytes j = (j.broken, sym j.bytes)
+
+-- ---- placing
+
+-- a sound segment has the pages that its bytes go to for itself
+pub no_code-at : (file : List ℕ) (memory : Memory) (earlier : List Segment) (s : Segment) → HasCode memory earlier → broken_segment file earlier s ≡ None
+    → list_any is_code (kinds_under memory s.address s.memory_size) ≡ false
+no_code-at file memory earlier s has none = no_code-under memory earlier s has (sound-of_none file earlier s none).apart
+
+-- where all segments are sound, so is each behind the earlier ones
+pub sound-at : (file : List ℕ) (before earlier : List Segment) (s : Segment) (rest : List Segment)
+    → broken_segments file before (earlier ++ s ∷ rest) ≡ None → broken_segment file (before ++ earlier) s ≡ None
+unfolding broken_segments
+sound-at file before [] s rest sound =
+    ap (λ earlier. broken_segment file earlier s) (append-nil before) ∙ (both-none (broken_segment file before s) _ sound).0
+sound-at file before (first ∷ others) s rest sound =
+    ap (λ earlier. broken_segment file earlier s) (sym (append_assoc before (first ∷ []) others))
+    ∙ sound-at file (before ++ first ∷ []) others s rest (both-none (broken_segment file before first) _ sound).1
+
+-- how far a file is placed: what is left of it, and what stands of it
+pub record Placing (file : List ℕ) (rest : List Segment) (memory : Memory) : Type 0 where
+  pub earlier : List Segment
+  pub code : HasCode memory earlier
+  pub all : segments file ≡ earlier ++ rest
+  pub memory_is : fold (with_segment file) new_memory (segments file) ≡ fold (with_segment file) memory rest
+
+pub placing-none : (file : List ℕ) (memory : Memory) → memory ≡ new_memory → Placing file (segments file) memory
+placing-none file memory is = rw is (record { earlier = []; code = code-none; all = refl; memory_is = refl })
+
+pub placing-sound : (file : List ℕ) (s : Segment) (rest : List Segment) (memory : Memory) → (p : Placing file (s ∷ rest) memory)
+    → broken_segments file [] (segments file) ≡ None → broken_segment file p.earlier s ≡ None
+placing-sound file s rest memory p sound = sound-at file [] p.earlier s rest (ap (broken_segments file []) (sym p.all) ∙ sound)
+
+pub placing-more : (file : List ℕ) (s : Segment) (rest : List Segment) (old new : Memory) → (p : Placing file (s ∷ rest) old)
+    → broken_segment file p.earlier s ≡ None → new ≡ with_segment file old s → Placing file rest new
+unfolding with_segment
+placing-more file s rest old new p none is =
+    let sound = sound-of_none file p.earlier s none in
+    record {
+      earlier = p.earlier ++ s ∷ [];
+      code = code-more old new p.earlier s p.code (pages-within s sound.in_memory) (ap (λ memory. memory.kinds) is);
+      all = p.all ∙ sym (append_assoc p.earlier (s ∷ []) rest);
+      memory_is = p.memory_is ∙ ap (λ memory. fold (with_segment file) memory rest) (sym is);
+    }
+
+-- a segment with bytes is one of a file with bytes
+at-least : (bytes : ℕ) (xs : List Segment) → bytes ≤ fold (λ bytes s. bytes + s.file_size) bytes xs
+at-least bytes [] = omega arith
+at-least bytes (x ∷ xs) = let more = at-least (bytes + x.file_size) xs in omega (arith, more)
+
+some-bytes : (bytes : ℕ) (earlier : List Segment) (s : Segment) (rest : List Segment) → 0 < s.file_size
+    → 0 < fold (λ bytes s. bytes + s.file_size) bytes (earlier ++ s ∷ rest)
+some-bytes bytes [] s rest some = let more = at-least (bytes + s.file_size) rest in omega (arith, more, some)
+some-bytes bytes (first ∷ others) s rest some = some-bytes (bytes + first.file_size) others s rest some
+
+pub placing-some : (file : List ℕ) (s : Segment) (rest : List Segment) (memory : Memory) → Placing file (s ∷ rest) memory → 0 < s.file_size
+    → 0 < sum_by (λ s. s.file_size) (segments file)
+placing-some file s rest memory p some =
+    subst (λ all. 0 < fold (λ bytes s. bytes + s.file_size) 0 all) (sym p.all) (some-bytes 0 p.earlier s rest some)
+
+-- ---- the program headers that are left
 
 pub rest-step : (file : List ℕ) (count index at : ℕ) → index < count
     → IsNext (loaded_at file (at + program_header_size * index)) (segments_from (count - index) file (at + program_header_size * index))
@@ -158,15 +177,11 @@ rest-all file count index at h =
     let none : count - index ≡ 0 = omega (arith, h) in
     rw none refl
 
--- ---- the steps of the loop
-
 -- a program header that is loaded is the first of what is left
-pub loading-at : (file : List ℕ) (count index at : ℕ) → index < count → {table : List (Option PageKind)} → {memory : Memory} → {file_bytes : ℕ}
-    → Loading file (segments_from (count - index) file (at + program_header_size * index)) table memory file_bytes
-    → (found : Option Segment) (s : Segment) → found ≡ loaded_at file (at + program_header_size * index) → found ≡ Some s
-    → Loading file (s ∷ segments_from (count - (index + 1)) file (at + program_header_size * (index + 1))) table memory file_bytes
-loading-at file count index at below {table} {memory} {file_bytes} l found s is some =
-    subst (λ rest. Loading file rest table memory file_bytes) ((rest-step file count index at below).loaded s (sym is ∙ some)) l
+pub rest-at : (file : List ℕ) (count index at : ℕ) → index < count → (found : Option Segment) (s : Segment)
+    → found ≡ loaded_at file (at + program_header_size * index) → found ≡ Some s
+    → segments_from (count - index) file (at + program_header_size * index) ≡ s ∷ segments_from (count - (index + 1)) file (at + program_header_size * (index + 1))
+rest-at file count index at below found s is some = (rest-step file count index at below).loaded s (sym is ∙ some)
 
 pub size-bound : (file : List ℕ) (earlier : List Segment) (s : Segment) → broken_segment file earlier s ≡ None → s.file_size ≤ 4194304
 size-bound file earlier s none =
@@ -174,21 +189,6 @@ size-bound file earlier s none =
     let sizes = sound.sizes in
     let room = in-memory s.address s.memory_size sound.in_memory in
     omega (arith, sizes, room)
-
-pub loading-refused : (file : List ℕ) (s : Segment) (rest : List Segment) (table : List (Option PageKind)) (memory : Memory) (file_bytes : ℕ)
-    → (l : Loading file (s ∷ rest) table memory file_bytes) → broken_header file ≡ None → (new : Memory) (marked : List (Option PageKind)) (stop : ElfStop)
-    → LoadsSegment file l.earlier s memory new marked (Err stop) → LoadsSegments file new (Err stop)
-loading-refused file s rest table memory file_bytes l header new marked (Bad condition) broken = loading-broken file s rest table memory file_bytes condition l broken
-loading-refused file s rest table memory file_bytes l header new marked NoMemory wanting =
-    record {
-      header = header;
-      earlier = l.earlier;
-      segment = s;
-      later = rest;
-      all = l.all;
-      sound = sound-push file [] l.earlier s l.sound wanting.0;
-      some = wanting.1;
-    }
 
 -- ---- a sound header
 
@@ -216,22 +216,24 @@ sound-header file h =
 
 -- ---- the answer
 
-pub loads-broken : (file : List ℕ) (memory : Memory) (condition : ℕ) → broken_header file ≡ Some condition → Loads (load_elf file) memory (Err (Bad condition))
+pub sound-parts : (file : List ℕ) → broken_elf file ≡ None → (broken_header file ≡ None) × (broken_segments file [] (segments file) ≡ None)
+sound-parts file sound = both-none (broken_header file) _ sound
+
+pub judged-header : (file : List ℕ) (condition : ℕ) → broken_header file ≡ Some condition → Err condition ≡ load_elf file
 unfolding load_elf
-loads-broken file memory condition h = rw h refl
+judged-header file condition h = rw h refl
 
--- any answer may be a want of memory
-loads-nothing : (held : Result Program ℕ) (memory : Memory) → Loads held memory (Err NoMemory)
-loads-nothing (Ok program) memory = tt
-loads-nothing (Err condition) memory = tt
-
-pub loads-refused : (file : List ℕ) (memory : Memory) (stop : ElfStop) → broken_header file ≡ None → LoadsSegments file memory (Err stop)
-    → Loads (load_elf file) memory (Err stop)
+pub judged-segments : (file : List ℕ) (condition : ℕ) → broken_header file ≡ None → JudgesSegments file (Err condition) → Err condition ≡ load_elf file
 unfolding load_elf
-loads-refused file memory (Bad condition) sound broken = rw (sound, broken) refl
-loads-refused file memory NoMemory sound broken = loads-nothing (load_elf file) memory
+judged-segments file condition sound broken = rw (sound, broken) refl
 
-pub loads-program : (file : List ℕ) (memory : Memory) (pc file_bytes : ℕ) → broken_header file ≡ None → LoadsSegments file memory (Ok file_bytes)
-    → pc ≡ e_entry file → Loads (load_elf file) memory (Ok (record { pc = pc; file_bytes = file_bytes }))
-unfolding load_elf program_of
-loads-program file memory pc file_bytes sound loads is = rw (sound, loads.0) (sym loads.1, sym is, sym loads.2)
+pub judged-sound : (file : List ℕ) → broken_header file ≡ None → broken_segments file [] (segments file) ≡ None → broken_elf file ≡ None
+judged-sound file sound rest = rw (sound, rest) refl
+
+pub judged-program : (file : List ℕ) → broken_elf file ≡ None → Ok (program_of file) ≡ load_elf file
+unfolding load_elf
+judged-program file sound = rw sound refl
+
+pub judged-bytes : (file : List ℕ) (file_bytes : ℕ) → file_bytes ≡ sum_by (λ segment. segment.file_size) (segments file) → file_bytes ≡ (program_of file).file_bytes
+unfolding program_of
+judged-bytes file file_bytes is = is

@@ -9,8 +9,10 @@ use Rattle.vm_defs.specs.declared.memory.PageKind.{PageKind}
 use Rattle.vm_defs.specs.declared.memory.PageKind.TheVariants.{Data, Code}
 use Rattle.vm_defs.specs.Memory.{Memory, is_code, new_memory, overwritten, page_count}
 use Rattle.vm_defs.specs.Elf.{Segment, can_run, clashes, first_page, kinds_with, last_page, page_span, share_a_page}
-use Rattle.elf_load.specs.Loading.{HasCode, Marks, is_closed, kind_after, kind_of, makes_code, touches}
-use Rattle.elf_load.proofs.Lists.{any-of_passes, any-weaker, filled-behind, filled-within, length-overwritten, overwritten-before, passes-of_any, same-tests}
+use Rattle.elf_load.specs.Judging.{Marks, is_closed, kind_after, kind_of, makes_code, touches}
+use Rattle.elf_load.specs.Placing.{HasCode}
+use Rattle.vm_defs.proofs.CodeLaws.{get_or-before, length-overwritten}
+use Rattle.elf_load.proofs.Lists.{any-of_passes, any-weaker, filled-behind, filled-within, passes-of_any, same-tests}
 
 -- ---- the pages of a segment
 
@@ -209,7 +211,7 @@ marks-more table new earlier s marks within none is =
     let kinds : (page : ℕ) → page < page_count → get_or marked page None ≡ kind_after (earlier ++ s ∷ []) page = λ page below.
     elim (cases_lt page (first_page s)) [
       | inl before ↦
-          overwritten-before table (first_page s) (replicate (page_span s) (Some (kind_of s))) page None first before
+          get_or-before table (first_page s) (replicate (page_span s) (Some (kind_of s))) page None first before
           ∙ marks.kinds page below ∙ sym (kind-apart earlier s page (untouched page s (inl before)))
       | inr from ↦ elim (cases_lt page (first_page s + page_span s)) [
         | inl inside ↦
@@ -250,7 +252,7 @@ code-kinds kinds earlier s size code within run page below =
     let first : first_page s ≤ length kinds = omega (arith, size, within) in
     elim (cases_lt page (first_page s)) [
       | inl before ↦
-          ap is_code (overwritten-before kinds (first_page s) (replicate (page_span s) Code) page Data first before)
+          ap is_code (get_or-before kinds (first_page s) (replicate (page_span s) Code) page Data first before)
           ∙ code page below ∙ sym (code-apart earlier s page (and_left (touches page s) (can_run s) (untouched page s (inl before))))
       | inr from ↦ elim (cases_lt page (first_page s + page_span s)) [
         | inl inside ↦

@@ -1,2 +1,4 @@
+pub mod Judging
+pub mod Placing
 pub mod Loads
-pub mod Loading
+pub mod Laws

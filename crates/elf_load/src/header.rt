@@ -2,7 +2,7 @@
 ghost use Rattle.std.specs.Prelude.{◌≡◌, ◌+◌, ◌*◌, ◌<◌, ◌≤◌, length, take, true, None};
 ghost use Rattle.std.specs.Str.{bytes_eq};
 ghost use Rattle.vm_defs.specs.Elf.{broken_header, e_entry, e_phentsize, e_phnum, e_phoff, has_table, header_size, is_for_machine, magic, program_header_size};
-ghost use Rattle.elf_load.specs.Loading.{loaded_at};
+ghost use Rattle.elf_load.specs.Judging.{loaded_at};
 
 use super::field::{is_inside, u8_at, u16_at, u64_at};
 use super::segment::Segment;

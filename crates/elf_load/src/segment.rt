@@ -2,11 +2,11 @@
 ghost use Rattle.std.specs.Prelude.{◌≡◌, ◌+◌, ◌≤◌, length, false};
 ghost use Rattle.vm_defs.specs.Memory.{is_out_of_range, page_count};
 ghost use Rattle.vm_defs.specs.Elf.{can_be_read, can_be_written, can_run, first_page, page_span, program_header_size};
-ghost use Rattle.elf_load.specs.Loading.{kind_of, loaded_at};
+ghost use Rattle.elf_load.specs.Judging.{kind_of, loaded_at};
 
 use super::field::{u32_at, u64_at};
 use std::marker::Model;
-use vm_defs::PageKind;
+use vm_defs::{MEMORY_SIZE, PAGE_SIZE, PageKind};
 
 const PT_LOAD: u32 = 1;
 
@@ -15,10 +15,6 @@ const PF_X: u32 = 1;
 const PF_W: u32 = 2;
 
 const PF_R: u32 = 4;
-
-const MEMORY_SIZE: u64 = 4_194_304;
-
-pub(crate) const PAGE_SIZE: u64 = 4096;
 
 #[derive(Drop)]
 pub(crate) struct Segment {

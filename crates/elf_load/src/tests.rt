@@ -1,6 +1,6 @@
 // Files made by the rules of docs/MACHINE.md, each of which meets one condition first. The program is one that exits
 // with 0: ADDI x17, x0, 93; ADDI x10, x0, 0; ECALL.
-use super::{ElfStop, Entry, load};
+use super::{ElfStop, Entry, judge, load};
 use std::alloc::{AllocError, Global};
 use std::process::Abort;
 use std::test::Fail;
@@ -122,6 +122,14 @@ fn check(
     let mut memory = Memory::new(alloc).expect(rt, "memory");
     let loaded = load(file, &mut memory);
     assert!(rt; loaded == expected, "{name}");
+    let judged = match judge(file) {
+        Ok(judged) => Ok(Entry {
+            pc: judged.pc(),
+            file_bytes: judged.file_bytes(),
+        }),
+        Err(condition) => Err(ElfStop::Bad(condition)),
+    };
+    assert!(rt; judged == expected, "{name}, judged");
 }
 
 fn check_segments(

@@ -4,12 +4,12 @@ ghost use Rattle.std.specs.List.{list_any};
 ghost use Rattle.vm_defs.specs.Memory.{is_out_of_range, overwritten};
 ghost use Rattle.vm_defs.specs.Elf as elf;
 ghost use Rattle.vm_defs.specs.Elf.{clashes};
-ghost use Rattle.elf_load.specs.Loading.{Marks, is_closed};
+ghost use Rattle.elf_load.specs.Judging.{Marks, is_closed};
 
 use super::segment::Segment;
 use vm_defs::PageKind;
 
-const PAGE_COUNT: usize = 1024;
+const PAGE_COUNT: usize = vm_defs::PAGE_COUNT as usize;
 
 /// The kind of each page that a segment touched.
 #[derive(Drop)]

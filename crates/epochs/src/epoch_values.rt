@@ -1,7 +1,7 @@
 //! The epoch of a block, and epoch values: number, index and length in one number.
 
 ghost use Rattle.std.specs.Prelude.{◌≡◌, ◌+◌, ◌^◌, ◌<◌, ◌≤◌, IsTrue};
-ghost use Rattle.time_defs.specs.Epochs.{epoch_number, epoch_index, epoch_value, epoch_field, number_of, index_of, length_of, is_well_formed, epochs_in, is_span_over};
+ghost use Rattle.time_defs.specs.Epochs.{epoch_number, epoch_index, epoch_value, epoch_field, value_number, value_index, value_length, is_well_formed, epochs_in, is_span_over};
 ghost use Rattle.time_defs.specs.Specification.{keeps_s2};
 
 /// A block's place among the epochs: the epoch's number, the block's index there, the epoch's length.
@@ -18,6 +18,7 @@ pub fn epoch_of(length: u32, number: u64) -> Epoch
     ensures number { result.number ≡ epoch_number length number }
     ensures index { result.index ≡ epoch_index length number }
     ensures length { result.length ≡ length }
+    ensures bounded { result.number ≤ number }
     ensures within { result.index < result.length }
 {
     let blocks = u64::from(length);
@@ -37,18 +38,18 @@ pub fn field(e: Epoch) -> u64
     ensures well_formed { IsTrue (is_well_formed result) }
 
     // Its parts are those of the epoch.
-    ensures number { number_of result ≡ e.number }
-    ensures index { index_of result ≡ e.index }
-    ensures length { length_of result ≡ e.length }
+    ensures number { value_number result ≡ e.number }
+    ensures index { value_index result ≡ e.index }
+    ensures length { value_length result ≡ e.length }
 {
     e.number + (u64::from(e.index) << 24) + (u64::from(e.length) << 40)
 }
 
 /// The parts of an epoch value. Bits 56 to 63 are not looked at.
 pub fn parts(value: u64) -> Epoch
-    ensures number { result.number ≡ number_of value }
-    ensures index { result.index ≡ index_of value }
-    ensures length { result.length ≡ length_of value }
+    ensures number { result.number ≡ value_number value }
+    ensures index { result.index ≡ value_index value }
+    ensures length { result.length ≡ value_length value }
 
     // The value is that of its parts.
     ensures value { value < 2 ^ 56 → epoch_value result.number result.index result.length ≡ value }

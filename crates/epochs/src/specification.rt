@@ -5,6 +5,7 @@ ghost use Rattle.time_defs.specs.Specification as rules;
 
 use crate::epoch_values::well_formed;
 use crate::number::{hash_of, u32_of, u64_of};
+use std::marker::Model;
 
 /// What a chain is set up with. Wherever there is one, it keeps S2 to S7.
 #[derive(Clone, Copy, Debug, PartialEq, Eq)]
@@ -32,24 +33,55 @@ pub struct Spec {
     pub halving_interval: u64,
     /// The code hash of the DAO script.
     pub dao_code_hash: [u8; 32],
-    pub ghost epoch_length_keeps: { IsTrue (rules.keeps_s2 epoch_length) },
-    pub ghost window_keeps: { IsTrue (rules.keeps_s3 w_close w_far) },
-    pub ghost block_bytes_keep: { IsTrue (rules.keeps_s4 max_block_bytes) },
-    pub ghost cycles_keep: { IsTrue (rules.keeps_s5 max_cycles) },
-    pub ghost maturity_keeps: { IsTrue (rules.keeps_s6 maturity) },
-    pub ghost halving_interval_keeps: { IsTrue (rules.keeps_s7 halving_interval) },
 }
 
-#[tactic(auto, unfolding(time_defs::specs::Specification::fields_of))]
+impl Model for Spec {
+    ghost use Rattle.time_defs.specs.Specification.{Specification, KeepsItsRules};
+
+    ghost Value = { Specification };
+
+    ghost view = { λ spec. record {
+      compact_target = spec.compact_target;
+      epoch_length = spec.epoch_length;
+      w_close = spec.w_close;
+      w_far = spec.w_far;
+      max_block_bytes = spec.max_block_bytes;
+      max_proposals = spec.max_proposals;
+      max_cycles = spec.max_cycles;
+      maturity = spec.maturity;
+      primary_reward = spec.primary_reward;
+      secondary_reward = spec.secondary_reward;
+      halving_interval = spec.halving_interval;
+      dao_code_hash = spec.dao_code_hash;
+    } };
+
+    ghost invariant = { λ spec. KeepsItsRules spec.epoch_length spec.w_close spec.w_far spec.max_block_bytes spec.max_cycles spec.maturity spec.halving_interval };
+
+    ghost inverse = { λ spec. record {
+      compact_target = spec.compact_target;
+      epoch_length = spec.epoch_length;
+      w_close = spec.w_close;
+      w_far = spec.w_far;
+      max_block_bytes = spec.max_block_bytes;
+      max_proposals = spec.max_proposals;
+      max_cycles = spec.max_cycles;
+      maturity = spec.maturity;
+      primary_reward = spec.primary_reward;
+      secondary_reward = spec.secondary_reward;
+      halving_interval = spec.halving_interval;
+      dao_code_hash = spec.dao_code_hash;
+    } };
+}
+
+#[tactic(auto, unfolding(time_defs::specs::Specification::specification_of))]
 impl Spec {
     ghost use Rattle.std.specs.Prelude.{Some, None, IfOk, IfErr};
-    ghost use Rattle.time_defs.specs.Specification.{broken_specification_rule, fields_of};
-    ghost use Rattle.epochs.specs.Fields.{specification};
+    ghost use Rattle.time_defs.specs.Specification.{broken_specification_rule, specification_of};
 
     /// The specification that the bytes hold, or the number of the first rule that they break.
     pub fn read(b: &[u8]) -> Result<Spec, u8>
         ensures sound { IfOk result (λ spec. broken_specification_rule b.now ≡ None) }
-        ensures fields { IfOk result (λ spec. specification spec ≡ fields_of b.now) }
+        ensures fields { IfOk result (λ spec. spec ≡ specification_of b.now) }
         ensures broken { IfErr result (λ rule. broken_specification_rule b.now ≡ Some rule) }
     {
         if !keeps_s1(b) {

@@ -1,4 +1,4 @@
--- The first of a list of rules that is broken (docs/RULES.md: rules are looked at in their order).
+-- The first of a list of rules that is broken (docs/RULES.md, "The chain specification").
 use Rattle.std.specs.Prelude.{◌≡◌, ◌↔◌, ℕ, Bool, false, IsTrue, List, [], ◌∷◌, ◌++◌, All, Option, Some, None, if◌then◌else◌}
 
 -- Each pair is the number of a rule and whether it is kept: the number of the first that is not.

@@ -4,6 +4,7 @@ use Rattle.std.specs.List.{filter_map}
 use Rattle.codec_defs.specs.Shape.{decoded}
 use Rattle.codec_defs.specs.Schema.{Block, block}
 use Rattle.chain_defs.specs.Tip.{tip_place}
+use Rattle.rule_defs.specs.Rules.{no_specification}
 use Rattle.rule_defs.specs.Chain.{Chain}
 use Rattle.node_core.specs.declared.summary.BlockId.{BlockId}
 use Rattle.node_core.specs.Summary.{block_id}
@@ -14,7 +15,7 @@ blocks_of items = filter_map (decoded block) items
 
 -- the chain that keeps the blocks of these items
 abbrev pub chain_of : List (List ℕ) → Chain
-chain_of items = record { rules = record {}; blocks = blocks_of items }
+chain_of items = record { rules = no_specification; blocks = blocks_of items }
 
 -- the hashes and numbers of the kept blocks, each at its block's place, and the place of the tip
 pub record Indexes (kept : List Block) (ids : List BlockId) (tip : ℕ) : Type 0 where

@@ -24,8 +24,8 @@ fn is_first(block: &BlockView<'_>) -> bool
 }
 
 /// G3: it has no uncles and no proposals.
-fn stands_alone(block: &BlockView<'_>) -> bool
-    ensures { result ≡ genesis.stands_alone block.now }
+fn has_no_uncles_or_proposals(block: &BlockView<'_>) -> bool
+    ensures { result ≡ genesis.has_no_uncles_or_proposals block.now }
 {
     block.uncles_count() == 0 && block.proposals_count() == 0
 }
@@ -38,7 +38,7 @@ fn broken_by(block: &BlockView<'_>) -> Option<u8>
     if !is_first(block) {
         return Some(2);
     }
-    if !stands_alone(block) {
+    if !has_no_uncles_or_proposals(block) {
         return Some(3);
     }
     None

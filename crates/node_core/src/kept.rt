@@ -5,7 +5,7 @@ ghost use Rattle.codec_defs.specs.Schema.{Block, block as block_shape};
 ghost use Rattle.chain_defs.specs.Tip as chain;
 ghost use Rattle.rule_defs.specs.Chain.{Chain, chain_of_genesis, chain_after};
 ghost use Rattle.rule_defs.specs.Genesis.{broken_genesis_rule};
-ghost use Rattle.rule_defs.specs.Rules.{Rules, first_broken as first_broken_rule};
+ghost use Rattle.rule_defs.specs.Rules.{Rules, no_specification, first_broken as first_broken_rule};
 ghost use Rattle.rule_defs.specs.Verdict as rules;
 ghost use Rattle.node_core.specs.Summary.{block_id, summary_value, place_of_id, EndsWith};
 
@@ -55,7 +55,7 @@ fn verdict_by_rules(count: usize, parent: &BlockId, block: &BlockId) -> Verdict
 pub struct Kept {
     /// The encodings of the blocks.
     blocks: Vec<Vec<u8>>,
-    /// Of each block, at its place.
+    /// The hash and the number of each block, at its place.
     ids: Vec<BlockId>,
     /// The place of the tip.
     tip: usize,
@@ -75,9 +75,9 @@ impl Model for Kept {
 
 impl Kept {
     /// The chain where a genesis stands alone. The item is accepted where it breaks none of G1 to
-    /// G3 (docs/COMMANDS.md, "The genesis"); else the error names the first that it breaks.
+    /// G3 (docs/RULES.md, "The genesis"); else the error names the first that it breaks.
     pub fn from_genesis(alloc: Global, item: Vec<u8>) -> Result<Kept, GenesisError>
-        ensures kept { IfOk result (λ kept. kept ≡ chain_of_genesis (record {}) item.items) }
+        ensures kept { IfOk result (λ kept. kept ≡ chain_of_genesis no_specification item.items) }
         ensures good { OnOk result (broken_genesis_rule item.items ≡ None) }
         ensures broken { (rule : _) → result ≡ Err (GenesisError.Broken rule) → broken_genesis_rule item.items ≡ Some rule }
     {
@@ -124,7 +124,7 @@ impl Kept {
         }
     }
 
-    /// Judges an item over the kept blocks (docs/COMMANDS.md, "The verdicts"), and keeps it where
+    /// Judges an item over the kept blocks (docs/COMMANDS.md, "The text"), and keeps it where
     /// it joins. Out of memory, nothing has changed.
     pub fn import(&mut self, item: Vec<u8>) -> Result<Verdict, NoMemory>
         ensures verdict { IfOk result (λ verdict. verdict ≡ rules.verdict self.old.rules self.old.blocks item.items) }

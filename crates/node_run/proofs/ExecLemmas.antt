@@ -4,6 +4,7 @@ use Rattle.std.specs.Prelude.{Option, Some, Err, nat_lt}
 use Rattle.std.specs.Io.KnownBytes.{IsAtEnd}
 use Rattle.std.proofs.lemmas.Bool.Decides.{nat_tests, leb_tells}
 use Rattle.outside.specs.Causes.{HasCause, CountsFault}
+use Rattle.vm_defs.specs.Alone.{answer_ecall}
 use Rattle.vm_defs.specs.Program.{execution}
 use Rattle.report_defs.specs.declared.status.Status.{Status}
 use Rattle.report_defs.specs.declared.status.Status.TheVariants.{Done, InputFault, SinkFault, NoMemory, ExtraInput}
@@ -22,7 +23,7 @@ pub failed_counts : {T E Fault : Type 0} (before now : ℕ) (error : E) → HasC
 failed_counts before now error cause fault = record {
   later = cause.later;
   rose = λ _. cause.failed refl;
-  calm = λ never. absurd (never fault);
+  unchanged = λ never. absurd (never fault);
 }
 
 -- ---- The report of a file
@@ -39,7 +40,7 @@ pub too_long : (budget : ℕ) (file : List ℕ) → file_limit < length file
 too_long budget file long = let test : nat_lt file_limit (length file) ≡ true = grind (arith, nat_tests) in rw test refl
 
 pub fits : (budget : ℕ) (file : List ℕ) → length file ≤ file_limit
-    → exec_report budget file ≡ report_without_lines (execution_line (execution budget file)) Done
+    → exec_report budget file ≡ report_without_lines (execution_line (execution answer_ecall budget file)) Done
 fits budget file short = let test : nat_lt file_limit (length file) ≡ false = grind (arith, nat_tests) in rw test refl
 
 -- The input has the report of what was read of it.
@@ -145,6 +146,6 @@ pub extra_report : (budget : ℕ) (file line : List ℕ) (status : Status) → f
     → (line ≡ (text_of (exec_report budget file))) × (status ≡ (exec_report budget file).status)
 extra_report budget file line status long line_is status_is = rw (too_long budget file long) (line_is, status_is)
 
-pub done_report : (budget : ℕ) (file line : List ℕ) (status : Status) → length file ≤ file_limit → line ≡ execution_line (execution budget file) → status ≡ Done
+pub done_report : (budget : ℕ) (file line : List ℕ) (status : Status) → length file ≤ file_limit → line ≡ execution_line (execution answer_ecall budget file) → status ≡ Done
     → (line ≡ (text_of (exec_report budget file))) × (status ≡ (exec_report budget file).status)
 done_report budget file line status short line_is status_is = rw (fits budget file short) (line_is, status_is)

@@ -9,7 +9,7 @@ use Rattle.outside.specs.Streams.{Gives, Takes}
 use Rattle.outside.proofs.Streams.{gives_none, gives_more, takes_none, takes_more}
 use Rattle.rule_defs.specs.declared.verdict.Verdict.{Verdict}
 use Rattle.rule_defs.specs.Verdict as rules
-use Rattle.rule_defs.specs.Chain.{Chain, chain_after, verdict_over, kept_over, verdicts_over}
+use Rattle.rule_defs.specs.Chain.{Chain, chain_after, verdict_over, chain_over, verdicts_over}
 use Rattle.fold_defs.proofs.FoldLemmas.{keep-push, verdicts-push}
 use Rattle.report_defs.specs.declared.status.Status.{Status}
 use Rattle.report_defs.specs.declared.status.Status.TheVariants.{InputFault, SinkFault, NoMemory}
@@ -30,7 +30,7 @@ pub record Whole (chain : Chain) (start offset : ℕ) (left_old left_new taken_o
   pub all : AllByRecursion (IsItem item_limit) items
   pub place : offset ≡ start + length (concat items)
   pub within : offset ≤ input_limit
-  pub kept_now : now ≡ kept_over chain items
+  pub kept_now : now ≡ chain_over chain items
   pub any_refused : refused ≡ list_any rules.refuses (verdicts_over chain items)
 
 -- nothing was imported yet
@@ -57,12 +57,12 @@ all-push [] item all last = (last, tt)
 all-push (x ∷ xs) item all last = (all.0, all-push xs item all.1 last)
 
 pub lines-push : (chain : Chain) (items : List (List ℕ)) (item : List ℕ)
-    → text_over chain (items ++ item ∷ []) ≡ text_over chain items ++ line_over (kept_over chain items) item
+    → text_over chain (items ++ item ∷ []) ≡ text_over chain items ++ line_over (chain_over chain items) item
 lines-push chain items item =
     ap (λ (vs : List Verdict). concat (map line vs)) (verdicts-push chain_after verdict_over chain items item)
-    ∙ ap concat (map-append line (verdicts_over chain items) (verdict_over (kept_over chain items) item ∷ []))
-    ∙ concat-append (lines_over chain items) (line_over (kept_over chain items) item ∷ [])
-    ∙ ap (λ bs. text_over chain items ++ bs) (append-nil (line_over (kept_over chain items) item))
+    ∙ ap concat (map-append line (verdicts_over chain items) (verdict_over (chain_over chain items) item ∷ []))
+    ∙ concat-append (lines_over chain items) (line_over (chain_over chain items) item ∷ [])
+    ∙ ap (λ bs. text_over chain items ++ bs) (append-nil (line_over (chain_over chain items) item))
 
 or_false : (b : Bool) → (b || false) ≡ b
 or_false true = refl
@@ -79,11 +79,11 @@ pub whole_more : (chain : Chain) (start offset : ℕ) (left_old left left_new ta
     → text ≡ line_over now item
     → Whole chain start (offset + size) left_old left_new taken_old taken_new new any
 whole_more chain start offset left_old left left_new taken_old taken taken_new now new refused item given text verdict size any long either whole at gives takes judged kept_is text_is =
-    let same : now ≡ kept_over chain whole.items = whole.kept_now in
+    let same : now ≡ chain_over chain whole.items = whole.kept_now in
     record {
       items = whole.items ++ item ∷ [];
       gives = rw concat-push (gives_more left_old left left_new (concat whole.items) item whole.gives (subst (Gives left left_new) at.same gives));
-      takes = rw lines-push (takes_more taken_old taken taken_new (text_over chain whole.items) (line_over (kept_over chain whole.items) item) whole.takes
+      takes = rw lines-push (takes_more taken_old taken taken_new (text_over chain whole.items) (line_over (chain_over chain whole.items) item) whole.takes
           (subst (Takes taken taken_new) (text_is ∙ ap (λ (k : Chain). line_over k item) same) takes));
       all = all-push whole.items item whole.all at.is_item;
       place = omega (arith, long, whole.place, ap length (concat-push whole.items item), length-append (concat whole.items) item);
@@ -92,7 +92,7 @@ whole_more chain start offset left_old left left_new taken_old taken taken_new n
       any_refused =
           either ∙ ap (λ b. b || rules.refuses verdict) whole.any_refused
           ∙ ap (λ (v : Verdict). list_any rules.refuses (verdicts_over chain whole.items) || rules.refuses v) (judged ∙ ap (λ (k : Chain). verdict_over k item) same)
-          ∙ sym (any-push (verdicts_over chain whole.items) (verdict_over (kept_over chain whole.items) item))
+          ∙ sym (any-push (verdicts_over chain whole.items) (verdict_over (chain_over chain whole.items) item))
           ∙ sym (ap (list_any rules.refuses) (verdicts-push chain_after verdict_over chain whole.items item));
     }
 
@@ -158,7 +158,7 @@ pub imported_to_line : (chain : Chain) (start offset : ℕ) (left_old left left_
     → Gives left left_new given → HoldsOneAtMost given → Takes taken taken_new partial_line → IsPrefix partial_line (line_over now item) → IsStop status → (IsInputFaultOrNoMemory status → partial_line ≡ [])
     → Transfers left_old left_new taken_old taken_new (AreImported chain new start left_new (Err status))
 imported_to_line chain start offset left_old left left_new taken_old taken taken_new now new refused status item given partial_line whole at gives one takes begins stop silent =
-    let same : now ≡ kept_over chain whole.items = whole.kept_now in (
+    let same : now ≡ chain_over chain whole.items = whole.kept_now in (
       concat whole.items ++ given,
       text_over chain whole.items ++ partial_line,
       gives_more left_old left left_new (concat whole.items) given whole.gives gives,
@@ -196,19 +196,19 @@ writing_stops _ stop = absurd stop
 
 -- no fault was met
 pub no_fault : {Fault : Type 0} (before now : ℕ) → now ≡ before → (Fault → ⊥) → CountsFault before now Fault
-no_fault before now calm never = record {
-  later = omega (arith, calm);
+no_fault before now unchanged never = record {
+  later = omega (arith, unchanged);
   rose = λ fault. absurd (never fault);
-  calm = λ _. calm;
+  unchanged = λ _. unchanged;
 }
 
--- a count that stood still, and then counts the same fault
+-- a count that was unchanged, and then counts the same fault
 pub then_counts : {First Fault : Type 0} (before still now : ℕ) → still ≡ before → CountsFault still now First → (Fault → First) → (First → Fault)
     → CountsFault before now Fault
-then_counts before still now calm counts there back = record {
-  later = omega (arith, calm, counts.later);
-  rose = λ fault. rw (← calm) (counts.rose (there fault));
-  calm = λ never. counts.calm (λ first. never (back first)) ∙ calm;
+then_counts before still now unchanged counts there back = record {
+  later = omega (arith, unchanged, counts.later);
+  rose = λ fault. rw (← unchanged) (counts.rose (there fault));
+  unchanged = λ never. counts.unchanged (λ first. never (back first)) ∙ unchanged;
 }
 
 -- `a || b` where a is known

@@ -8,7 +8,8 @@ use Rattle.std.proofs.lemmas.Grind.{common_steps}
 use Rattle.rule_defs.specs.declared.verdict.Verdict.{Verdict}
 use Rattle.rule_defs.specs.Genesis.{broken_genesis_rule}
 use Rattle.rule_defs.specs.Verdict as rules
-use Rattle.rule_defs.specs.Chain.{Chain, chain_of_genesis, chain_after, verdict_over, verdicts_over, kept_over}
+use Rattle.rule_defs.specs.Rules.{no_specification}
+use Rattle.rule_defs.specs.Chain.{Chain, chain_of_genesis, chain_after, verdict_over, verdicts_over, chain_over}
 use Rattle.fold_defs.proofs.FoldLemmas.{verdicts-append}
 use Rattle.report_defs.specs.Status.{number_of, IsOneOf}
 use Rattle.report_defs.specs.declared.status.Status.{Status}
@@ -17,7 +18,7 @@ use Rattle.report_defs.specs.declared.end.End.{End}
 use Rattle.report_defs.specs.declared.end.End.TheVariants as ends
 use Rattle.report_defs.specs.Items.{IsItem, AreItems, Split, split_of, end_at, end_offset}
 use Rattle.report_defs.specs.Text.{line, tip_line}
-use Rattle.report_defs.specs.Report.{Report, report_without_lines, text_of, item_limit, input_limit, import_limits, lines_over, chain_at_start, items_behind, report_over, report_of_genesis, report_of_split, import_report, report_of_command, report}
+use Rattle.report_defs.specs.Report.{Report, report_without_lines, text_of, item_limit, input_limit, import_limits, lines_over, chain_at_start, items_behind, report_over, report_of_genesis, report_of_split, import_report, report_of_command, report, NoLog}
 use Rattle.report_defs.specs.Words.{command_of}
 use Rattle.report_defs.specs.declared.command.Command.{Command}
 use Rattle.report_defs.specs.Promise.{IsPrefix, IsReported, IsInputFaultOrNoMemory, reported, import_statuses, all_but_last, MatchesReport, WritesInOrder, AreWholeLines, ImportsInOrder, KeepsOrder}
@@ -44,25 +45,25 @@ prefix_behind a b c begins = (begins.0, ap (λ xs. a ++ xs) begins.1 ∙ sym (ap
 
 -- ---- Lines
 
-pub lines-append : (chain : Chain) (xs ys : List (List ℕ)) → text_over chain (xs ++ ys) ≡ text_over chain xs ++ text_over (kept_over chain xs) ys
+pub lines-append : (chain : Chain) (xs ys : List (List ℕ)) → text_over chain (xs ++ ys) ≡ text_over chain xs ++ text_over (chain_over chain xs) ys
 lines-append chain xs ys =
     ap (λ (vs : List Verdict). concat (map line vs)) (verdicts-append chain_after verdict_over chain xs ys)
-    ∙ ap concat (map-append line (verdicts_over chain xs) (verdicts_over (kept_over chain xs) ys))
-    ∙ concat-append (lines_over chain xs) (lines_over (kept_over chain xs) ys)
+    ∙ ap concat (map-append line (verdicts_over chain xs) (verdicts_over (chain_over chain xs) ys))
+    ∙ concat-append (lines_over chain xs) (lines_over (chain_over chain xs) ys)
 
 -- the lines of the first items
 lines_front : (chain : Chain) (n : ℕ) (items : List (List ℕ)) → IsPrefix (text_over chain (take n items)) (text_over chain items)
 lines_front chain n items = (
-  text_over (kept_over chain (take n items)) (drop n items),
+  text_over (chain_over chain (take n items)) (drop n items),
   ap (text_over chain) (sym (take-append-drop n items)) ∙ lines-append chain (take n items) (drop n items),
 )
 
 -- the lines stand at the front of a report's text
-text_front : (chain : Chain) (items : List (List ℕ)) (end : End) → IsPrefix (text_over chain items) (text_of (report_over chain items end))
-text_front chain items ends.AtEnd = prefix_front (text_over chain items) (tip_line_over (kept_over chain items))
-text_front chain items ends.Cut = prefix_front (text_over chain items) []
-text_front chain items ends.BadSize = prefix_front (text_over chain items) []
-text_front chain items ends.Extra = prefix_front (text_over chain items) []
+text_front : (chain : Chain) (items : List (List ℕ)) (offset : ℕ) (end : End) → IsPrefix (text_over chain items) (text_of (report_over chain items offset end))
+text_front chain items offset ends.AtEnd = prefix_front (text_over chain items) (tip_line_over (chain_over chain items))
+text_front chain items offset ends.Cut = prefix_front (text_over chain items) []
+text_front chain items offset ends.BadSize = prefix_front (text_over chain items) []
+text_front chain items offset ends.Extra = prefix_front (text_over chain items) []
 
 -- ---- The report of an input whose genesis is good
 
@@ -74,10 +75,10 @@ pub record IsRead (genesis : List ℕ) (items : List (List ℕ)) : Type 0 where
   pub within : length genesis + length (concat items) ≤ input_limit
 
 abbrev pub start_of : List ℕ → Chain
-start_of genesis = chain_of_genesis (record { }) genesis
+start_of genesis = chain_of_genesis no_specification genesis
 
 good_report : (genesis : List ℕ) (items : List (List ℕ)) (end : End) → broken_genesis_rule genesis ≡ None
-    → report_of_genesis (broken_genesis_rule genesis) (genesis ∷ items) end ≡ report_over (start_of genesis) items end
+    → report_of_genesis (broken_genesis_rule genesis) (genesis ∷ items) end ≡ report_over (start_of genesis) items (length (concat (genesis ∷ items))) end
 good_report genesis items end good = ap (λ (broken : Option ℕ). report_of_genesis broken (genesis ∷ items) end) good
 
 -- items that were read stand at places behind one another
@@ -91,7 +92,7 @@ items_of place (item ∷ items) all = (all.0, items_of (place + 1) items all.1)
 
 -- behind what was read the report goes on
 report_on : (genesis : List ℕ) (items : List (List ℕ)) (tail : List ℕ) → IsRead genesis items
-    → (others : List (List ℕ)) × (end : End) × (import_report ((genesis ++ concat items) ++ tail) ≡ report_over (start_of genesis) (items ++ others) end)
+    → (others : List (List ℕ)) × (end : End) × (import_report ((genesis ++ concat items) ++ tail) ≡ report_over (start_of genesis) (items ++ others) (length (concat (genesis ∷ items ++ others))) end)
 report_on genesis items tail read =
     let split = split_of-append import_limits (genesis ∷ items) tail (read.is_item, are_items 1 items read.all) (rw length-append read.within) in (
       split.0.items,
@@ -114,7 +115,7 @@ split_ends genesis items tail end read ends =
 
 report_ends : (genesis : List ℕ) (items : List (List ℕ)) (tail : List ℕ) (end : End) → IsRead genesis items
     → end_at (Some item_limit) (Some input_limit) (length genesis + length (concat items)) tail ≡ Some end
-    → import_report ((genesis ++ concat items) ++ tail) ≡ report_over (start_of genesis) items end
+    → import_report ((genesis ++ concat items) ++ tail) ≡ report_over (start_of genesis) items (length (concat (genesis ∷ items))) end
 report_ends genesis items tail end read ends =
     ap report_of_split (split_ends genesis items tail end read ends) ∙ good_report genesis items end read.good
 
@@ -123,9 +124,9 @@ pub lines_begin : (genesis : List ℕ) (items : List (List ℕ)) (tail : List �
     → IsPrefix (text_over (start_of genesis) items) (text_of (import_report ((genesis ++ concat items) ++ tail)))
 lines_begin genesis items tail read =
     let on = report_on genesis items tail read in
-    rw on.2 (prefix_trans (text_over (start_of genesis) items) (text_over (start_of genesis) (items ++ on.0)) (text_of (report_over (start_of genesis) (items ++ on.0) on.1))
-    (text_over (kept_over (start_of genesis) items) on.0, lines-append (start_of genesis) items on.0)
-    (text_front (start_of genesis) (items ++ on.0) on.1))
+    rw on.2 (prefix_trans (text_over (start_of genesis) items) (text_over (start_of genesis) (items ++ on.0)) (text_of (report_over (start_of genesis) (items ++ on.0) (length (concat (genesis ∷ items ++ on.0))) on.1))
+    (text_over (chain_over (start_of genesis) items) on.0, lines-append (start_of genesis) items on.0)
+    (text_front (start_of genesis) (items ++ on.0) (length (concat (genesis ∷ items ++ on.0))) on.1))
 
 -- ---- What was given, cut by itself
 
@@ -365,7 +366,7 @@ given_parts genesis items unfinished partial_line given taken progress =
 
 -- what was taken stands at the front of the report's text
 begun_front : (genesis : List ℕ) (items : List (List ℕ)) (unfinished partial_line more : List ℕ) → IsRead genesis items
-    → (partial_line ≡ []) ⊎ (IsItemAt (length genesis + length (concat items)) unfinished unfinished × IsPrefix partial_line (line_over (kept_over (start_of genesis) items) unfinished))
+    → (partial_line ≡ []) ⊎ (IsItemAt (length genesis + length (concat items)) unfinished unfinished × IsPrefix partial_line (line_over (chain_over (start_of genesis) items) unfinished))
     → IsPrefix (text_over (start_of genesis) items ++ partial_line) (text_of (import_report ((genesis ++ concat items) ++ (unfinished ++ more))))
 begun_front genesis items unfinished partial_line more read (inl none) =
     let same : text_over (start_of genesis) items ++ partial_line ≡ text_over (start_of genesis) items =
@@ -383,7 +384,7 @@ begun_front genesis items unfinished partial_line more read (inr begun) =
       within = rw joined (omega (arith, begun.0.within, length-append (concat items) unfinished));
     } in
     let written : IsPrefix (text_over (start_of genesis) items ++ partial_line) (text_over (start_of genesis) (items ++ unfinished ∷ [])) =
-    rw (lines-push (start_of genesis) items unfinished) (prefix_behind (text_over (start_of genesis) items) partial_line (line_over (kept_over (start_of genesis) items) unfinished) begun.1) in
+    rw (lines-push (start_of genesis) items unfinished) (prefix_behind (text_over (start_of genesis) items) partial_line (line_over (chain_over (start_of genesis) items) unfinished) begun.1) in
     rw input (prefix_trans (text_over (start_of genesis) items ++ partial_line) (text_over (start_of genesis) (items ++ unfinished ∷ []))
     (text_of (import_report ((genesis ++ concat (items ++ unfinished ∷ [])) ++ more))) written (lines_begin genesis (items ++ unfinished ∷ []) more further))
 
@@ -427,12 +428,12 @@ stopped_in_items genesis items unfinished partial_line given taken left status g
     (λ early. rw append-nil at (taken_whole genesis items unfinished partial_line given taken [] read progress (silent early) refl))
 
 -- the items ended otherwise than between two of them: the lines are all, and no tip
-cut_report : (chain : Chain) (items : List (List ℕ)) (end : End) → (end ≡ ends.AtEnd → ⊥)
-    → report_over chain items end ≡ record { lines = lines_over chain items; closing = []; status = CutInput }
-cut_report chain items ends.AtEnd not_end = absurd (not_end refl)
-cut_report chain items ends.Cut not_end = refl
-cut_report chain items ends.BadSize not_end = refl
-cut_report chain items ends.Extra not_end = refl
+cut_report : (chain : Chain) (items : List (List ℕ)) (offset : ℕ) (end : End) → (end ≡ ends.AtEnd → ⊥)
+    → report_over chain items offset end ≡ record { lines = lines_over chain items; closing = []; status = CutInput }
+cut_report chain items offset ends.AtEnd not_end = absurd (not_end refl)
+cut_report chain items offset ends.Cut not_end = refl
+cut_report chain items offset ends.BadSize not_end = refl
+cut_report chain items offset ends.Extra not_end = refl
 
 pub cut_behind_items : (genesis : List ℕ) (items : List (List ℕ)) (unfinished partial_line given taken : List ℕ) (left : Option (List ℕ)) (end : End)
     → IsGenesisRead genesis genesis → Progress (start_of genesis) (length genesis) items unfinished partial_line given taken → partial_line ≡ []
@@ -468,7 +469,7 @@ cut_behind_items genesis items unfinished partial_line given taken left end good
         → import_report ((genesis ++ given) ++ more) ≡ record { lines = lines_over (start_of genesis) items; closing = []; status = CutInput }
     says more is = ap import_report (parted genesis items unfinished partial_line given taken more progress)
         ∙ report_ends genesis items (unfinished ++ more) end read (ends_here.ends more is)
-        ∙ cut_report (start_of genesis) items end not_end
+        ∙ cut_report (start_of genesis) items (length (concat (genesis ∷ items))) end not_end
 
     text : (more : List ℕ) → left ≡ Some more → taken ≡ text_of (import_report ((genesis ++ given) ++ more))
     text more is = whole ∙ sym (append-nil (text_over (start_of genesis) items)) ∙ sym (ap (λ (r : Report). text_of r) (says more is))
@@ -483,7 +484,7 @@ pub record IsThrough (genesis : List ℕ) (items : List (List ℕ)) (unfinished 
 -- the report of an input that was imported to its end
 through_report : (genesis : List ℕ) (items : List (List ℕ)) (unfinished partial_line given taken more : List ℕ) (left : Option (List ℕ))
     → IsThrough genesis items unfinished partial_line given taken left → left ≡ Some more
-    → import_report ((genesis ++ given) ++ more) ≡ report_over (start_of genesis) items ends.AtEnd
+    → import_report ((genesis ++ given) ++ more) ≡ report_over (start_of genesis) items (length (concat (genesis ∷ items))) ends.AtEnd
 through_report genesis items unfinished partial_line given taken more left through is =
     ap import_report (parted genesis items unfinished partial_line given taken more through.progress)
     ∙ report_ends genesis items (unfinished ++ more) ends.AtEnd (is_read genesis items unfinished partial_line given taken through.good through.progress) (through.ends.ends more is)
@@ -494,20 +495,20 @@ through_lines genesis items unfinished partial_line given taken left through =
     through.progress.taken_is ∙ ap (λ bs. text_over (start_of genesis) items ++ bs) through.none ∙ append-nil (text_over (start_of genesis) items)
 
 pub stopped_at_tip : (genesis : List ℕ) (items : List (List ℕ)) (unfinished partial_line given taken written : List ℕ) (left : Option (List ℕ)) (chain : Chain) (status : Status)
-    → IsThrough genesis items unfinished partial_line given taken left → chain ≡ kept_over (start_of genesis) items
+    → IsThrough genesis items unfinished partial_line given taken left → chain ≡ chain_over (start_of genesis) items
     → IsCutShort (tip_line_over chain) status written
     → MatchesReport import_report (genesis ++ given) left (taken ++ written) status × ImportsInOrder (genesis ++ given) left (taken ++ written) status
 stopped_at_tip genesis items unfinished partial_line given taken written left chain status through kept_is short =
     stopped (genesis ++ given) left (taken ++ written) status (writing_stops status short.stop)
     (λ more is.
     rw (through_report genesis items unfinished partial_line given taken more left through is, through_lines genesis items unfinished partial_line given taken left through)
-    (prefix_behind (text_over (start_of genesis) items) written (tip_line_over (kept_over (start_of genesis) items))
+    (prefix_behind (text_over (start_of genesis) items) written (tip_line_over (chain_over (start_of genesis) items))
     (subst (λ (k : Chain). IsPrefix written (tip_line_over k)) kept_is short.front)))
     (taken_in_order genesis items unfinished partial_line given taken written (is_read genesis items unfinished partial_line given taken through.good through.progress) through.progress)
     (λ early. taken_whole genesis items unfinished partial_line given taken written (is_read genesis items unfinished partial_line given taken through.good through.progress) through.progress through.none (short.silent early))
 
 pub done : (genesis : List ℕ) (items : List (List ℕ)) (unfinished partial_line given taken written : List ℕ) (left : Option (List ℕ)) (chain : Chain) (refused : Bool) (status : Status)
-    → IsThrough genesis items unfinished partial_line given taken left → chain ≡ kept_over (start_of genesis) items
+    → IsThrough genesis items unfinished partial_line given taken left → chain ≡ chain_over (start_of genesis) items
     → refused ≡ list_any rules.refuses (verdicts_over (start_of genesis) items) → written ≡ tip_line_over chain
     → status ≡ cond refused SomeRefused Done
     → MatchesReport import_report (genesis ++ given) left (taken ++ written) status × ImportsInOrder (genesis ++ given) left (taken ++ written) status
@@ -531,7 +532,7 @@ done genesis items unfinished partial_line given taken written left chain refuse
     text : (more : List ℕ) → left ≡ Some more → (text_of (import_report ((genesis ++ given) ++ more))) ≡ taken ++ written
     text more is =
         ap (λ (r : Report). text_of r) (through_report genesis items unfinished partial_line given taken more left through is)
-        ∙ ap (λ bs. bs ++ tip_line_over (kept_over (start_of genesis) items)) (sym (through_lines genesis items unfinished partial_line given taken left through))
+        ∙ ap (λ bs. bs ++ tip_line_over (chain_over (start_of genesis) items)) (sym (through_lines genesis items unfinished partial_line given taken left through))
         ∙ ap (λ bs. taken ++ bs) (sym (written_is ∙ ap (λ (k : Chain). tip_line_over k) kept_is))
 
     faultless : (b : Bool) → cond b SomeRefused Done ≡ InputFault → ⊥
@@ -574,12 +575,12 @@ stop_status _ stop = absurd stop
 
 -- words that are not in the grammar
 pub bad_words : (words : List (List ℕ)) (left : Option (List ℕ)) → command_of words ≡ None
-    → MatchesReport (λ input. report words input None) [] left [] BadWords × KeepsOrder (command_of words) [] left [] BadWords
+    → MatchesReport (λ input. report words input NoLog) [] left [] BadWords × KeepsOrder (command_of words) [] left [] BadWords
 bad_words words left none = (
   record {
-    front = λ more is. (text_of (report words ([] ++ more) None), refl);
-    whole_text = λ more is told. sym (ap (λ (command : Option Command). text_of (report_of_command command ([] ++ more) None)) none);
-    same_status = λ more is told. sym (ap (λ (command : Option Command). (report_of_command command ([] ++ more) None).status) none);
+    front = λ more is. (text_of (report words ([] ++ more) NoLog), refl);
+    whole_text = λ more is told. sym (ap (λ (command : Option Command). text_of (report_of_command command ([] ++ more) NoLog)) none);
+    same_status = λ more is told. sym (ap (λ (command : Option Command). (report_of_command command ([] ++ more) NoLog).status) none);
   },
   rw none (record { unread = refl; unwritten = refl }),
 )

@@ -6,7 +6,8 @@ use Rattle.chain_defs.specs.Tip.{tip}
 use Rattle.rule_defs.specs.declared.verdict.Verdict.{Verdict}
 use Rattle.rule_defs.specs.Genesis.{broken_genesis_rule}
 use Rattle.rule_defs.specs.Verdict as rules
-use Rattle.rule_defs.specs.Chain.{Chain, chain_of_genesis, verdict_over, chain_after, verdicts_over, kept_over}
+use Rattle.rule_defs.specs.Rules.{no_specification}
+use Rattle.rule_defs.specs.Chain.{Chain, chain_of_genesis, verdict_over, chain_after, verdicts_over, chain_over}
 use Rattle.report_defs.specs.declared.status.Status.{Status}
 use Rattle.report_defs.specs.declared.status.Status.TheVariants.{InputFault, NoMemory, CutInput, BadGenesis}
 use Rattle.report_defs.specs.declared.end.End.{End}
@@ -37,7 +38,7 @@ pub record IsBadGenesis (given : List ℕ) : Type 0 where
   pub broken : broken_genesis_rule given ≡ Some rule
 
 abbrev pub IsGenesis : Option (List ℕ) → Result (Chain × ℕ) Status → List ℕ → Type 0
-IsGenesis left (Ok (chain, offset)) given = IsGenesisRead given given × (chain ≡ chain_of_genesis (record { }) given) × (offset ≡ length given)
+IsGenesis left (Ok (chain, offset)) given = IsGenesisRead given given × (chain ≡ chain_of_genesis no_specification given) × (offset ≡ length given)
 IsGenesis left (Err CutInput) given = (end : End) × EndsAt 0 left end given
 IsGenesis left (Err BadGenesis) given = IsBadGenesis given
 IsGenesis left (Err InputFault) given = HoldsOneAtMost given
@@ -79,11 +80,11 @@ pub record Progress (chain : Chain) (offset : ℕ) (items : List (List ℕ)) (un
   pub one : HoldsOneAtMost unfinished_input
   -- a part of a line is that of an item that was given whole
   pub partial_line_is : (partial_line ≡ [])
-      ⊎ (IsItemAt (offset + length (concat items)) unfinished_input unfinished_input × IsPrefix partial_line (line_over (kept_over chain items) unfinished_input))
+      ⊎ (IsItemAt (offset + length (concat items)) unfinished_input unfinished_input × IsPrefix partial_line (line_over (chain_over chain items) unfinished_input))
 
 pub record IsEnded (old new : Chain) (offset : ℕ) (left : Option (List ℕ)) (ended : Ended) (items : List (List ℕ)) (unfinished_input partial_line : List ℕ) : Type 0 where
   pub nothing : partial_line ≡ []
-  pub kept : new ≡ kept_over old items
+  pub kept : new ≡ chain_over old items
   pub refused : ended.refused ≡ list_any rules.refuses (verdicts_over old items)
   pub ends : EndsAt (offset + length (concat items)) left ended.end unfinished_input
 

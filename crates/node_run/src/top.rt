@@ -2,7 +2,7 @@
 ghost use Rattle.std.specs.Prelude.{◌≡◌, ◌↔◌, None, Some, map, string_bytes};
 ghost use Rattle.outside.specs.Causes.{CountsFault};
 ghost use Rattle.report_defs.specs.Words as grammar;
-ghost use Rattle.report_defs.specs.Report.{report};
+ghost use Rattle.report_defs.specs.Report.{report, NoLog};
 ghost use Rattle.report_defs.specs.Status.{IsOneOf};
 ghost use Rattle.report_defs.specs.Promise.{MatchesReport, KeepsOrder, statuses_of};
 ghost use Rattle.node_run.specs.Import.{Transfers};
@@ -29,7 +29,7 @@ pub fn run<S: Source, K: Sink, D: Disk, L: Ledger>(
     // What the sink took is the report's text, as far as it was written, and the status is the report's where nothing
     // stopped the run. `import` answers each item before a byte of the next is read, `exec` reads the file before it writes.
     ensures text { Transfers (S.left input.old) (S.left input.new) (K.taken out.old) (K.taken out.new)
-        (λ given taken. MatchesReport (λ whole. report (map string_bytes words.now) whole None) given (S.left input.new) taken result
+        (λ given taken. MatchesReport (λ whole. report (map string_bytes words.now) whole NoLog) given (S.left input.new) taken result
         × KeepsOrder (grammar.command_of (map string_bytes words.now)) given (S.left input.new) taken result) }
 
     // The words alone decide on `BadWords`, and with them nothing is read and nothing written.

@@ -30,13 +30,13 @@ takes_more (Some taken) b c xs ys first second = second ∙ ap (λ known. append
 pub record HasGiven (left_old left_new : Option (List ℕ)) (faults_old faults_new n : ℕ) (into : List ℕ) : Type 0 where
   pub within : n ≤ length into
   pub gives : Gives left_old left_new (take n into)
-  pub calm : faults_new ≡ faults_old
+  pub unchanged : faults_new ≡ faults_old
 
 -- what a loop of writes keeps: the first n bytes were taken, and the count of faults is unchanged
 pub record HasTaken (taken_old taken_new : Option (List ℕ)) (faults_old faults_new n : ℕ) (bytes : List ℕ) : Type 0 where
   pub within : n ≤ length bytes
   pub takes : Takes taken_old taken_new (take n bytes)
-  pub calm : faults_new ≡ faults_old
+  pub unchanged : faults_new ≡ faults_old
 
 take_beyond : (front rest : List ℕ) (n m : ℕ) → length front ≡ n → take (n + m) (front ++ rest) ≡ front ++ take m rest
 take_beyond front rest n m size = ap (λ k. take (k + m) (front ++ rest)) (sym size) ∙ take-append-add front rest m
@@ -44,10 +44,10 @@ take_beyond front rest n m size = ap (λ k. take (k + m) (front ++ rest)) (sym s
 -- one read more, which wrote into the part of `into` behind what was given
 pub given_further : (a b c : Option (List ℕ)) (before now later n m : ℕ) (into part : List ℕ) → HasGiven a b before now n into → length part ≡ length into - n
     → m ≤ length part → Gives b c (take m part) → later ≡ now → HasGiven a c before later (n + m) (put_mid n (length into - n) into part)
-given_further a b c before now later n m into part so_far size fits gives calm = record {
+given_further a b c before now later n m into part so_far size fits gives unchanged = record {
   within = omega (arith, so_far.within, size, fits, whole, length-append part (post_of n (length into - n) into));
   gives = subst (Gives a c) (sym front) (gives_more a b c (take n into) (take m part) so_far.gives gives);
-  calm = calm ∙ so_far.calm;
+  unchanged = unchanged ∙ so_far.unchanged;
 }
   where
     tail : List ℕ
@@ -65,12 +65,12 @@ given_further a b c before now later n m into part so_far size fits gives calm =
 -- one write more, of the front of the piece behind what was taken
 pub taken_further : (a b c : Option (List ℕ)) (before now later n m : ℕ) (bytes piece : List ℕ) → HasTaken a b before now n bytes → piece ≡ drop n bytes
     → m ≤ length piece → Takes b c (take m piece) → later ≡ now → HasTaken a c before later (n + m) bytes
-taken_further a b c before now later n m bytes piece so_far is fits takes calm = record {
+taken_further a b c before now later n m bytes piece so_far is fits takes unchanged = record {
   within = omega (arith, so_far.within, fits, ap length is, length-drop n bytes);
   takes =
       let both = takes_more a b c (take n bytes) (take m piece) so_far.takes takes in
       subst (Takes a c) (ap (λ l. take n bytes ++ take m l) is ∙ sym (take-add n m bytes)) both;
-  calm = calm ∙ so_far.calm;
+  unchanged = unchanged ∙ so_far.unchanged;
 }
 
 -- what was copied to the front, and then what is left, is what was left before

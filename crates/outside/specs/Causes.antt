@@ -21,11 +21,11 @@ Rose before now = counted before ≤ now
 pub record HasCause {T E : Type 0} (before now : ℕ) (result : Result T E) : Type 0 where
   pub later : before ≤ now
   pub failed : IsErr result → Rose before now
-  pub calm : IsOk result → now ≡ before
+  pub unchanged : IsOk result → now ≡ before
 
 -- what a call does to the count that stands for one of its answers: with that answer it rose, and
 -- with every other it is unchanged
 pub record CountsFault (before now : ℕ) (Fault : Type 0) : Type 0 where
   pub later : before ≤ now
   pub rose : Fault → Rose before now
-  pub calm : (Fault → ⊥) → now ≡ before
+  pub unchanged : (Fault → ⊥) → now ≡ before

@@ -3,8 +3,15 @@ ghost use Rattle.std.specs.Prelude.{◌≡◌, ◌≤◌, ◌<◌, ℕ, None, le
 ghost use Rattle.outside.specs.Causes.{counted, up_to_last, within_last};
 
 use outside::{Failed, Sink, Source};
-use std::io::Read;
+use std::io::{Error, ErrorKind, Read};
 use std::marker::Model;
+
+// How often a call is made again that the system interrupts: no run makes so many, and so each call returns.
+const TRIES: u64 = u64::MAX;
+
+fn is_interrupted(error: &Error) -> bool {
+    error.kind() == ErrorKind::Interrupted
+}
 
 fn fail(failed: &mut u64) -> Failed
     ensures { failed.new ≡ counted failed.old }
@@ -41,15 +48,20 @@ impl<R: Input + Drop> Source for StdinSource<R> {
 
     ghost last_fault = { within_last };
 
+    /// One read of the system. One that was interrupted gave nothing, and is made again.
     fn read(&mut self, into: &mut [u8]) -> Result<usize, Failed>
         ensures fits { IfOk result (λ n. n ≤ length into.new) }
-        ensures calm { OnOk result (self.new ≡ self.old) }
+        ensures unchanged { OnOk result (self.new ≡ self.old) }
         ensures counted { OnErr result (self.new ≡ counted self.old) }
     {
-        match self.rt.reader().read(into) {
-            Ok(n) => Ok(n),
-            Err(_) => Err(fail(&mut self.failed)),
+        for _ in 0..TRIES {
+            match self.rt.reader().read(into) {
+                Ok(n) => return Ok(n),
+                Err(error) if is_interrupted(&error) => {}
+                Err(_) => break,
+            }
         }
+        Err(fail(&mut self.failed))
     }
 }
 
@@ -81,16 +93,21 @@ impl<R: Print + Drop> Sink for StdoutSink<R> {
 
     ghost last_fault = { within_last };
 
-    /// A write that took nothing of a piece that is not empty is a fault.
+    /// One write of the system. One that was interrupted took nothing, and is made again. One that takes
+    /// nothing of a piece that is not empty is a fault.
     fn write(&mut self, piece: &[u8]) -> Result<usize, Failed>
         ensures fits { IfOk result (λ n. n ≤ length piece.now) }
         ensures some { IfOk result (λ n. 0 < length piece.now → 1 ≤ n) }
-        ensures calm { OnOk result (self.new ≡ self.old) }
+        ensures unchanged { OnOk result (self.new ≡ self.old) }
         ensures counted { OnErr result (self.new ≡ counted self.old) }
     {
-        match self.rt.write_some(piece) {
-            Ok(n) if n > 0 || piece.is_empty() => Ok(n),
-            _ => Err(fail(&mut self.failed)),
+        for _ in 0..TRIES {
+            match self.rt.write_some(piece) {
+                Ok(n) if n > 0 || piece.is_empty() => return Ok(n),
+                Err(error) if is_interrupted(&error) => {}
+                _ => break,
+            }
         }
+        Err(fail(&mut self.failed))
     }
 }

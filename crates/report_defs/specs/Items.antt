@@ -1,5 +1,5 @@
 -- How an input is cut into items. An item begins with its size as a little-endian u32, which counts itself
--- (docs/FORMATS.md, "Items of an input").
+-- (docs/COMMANDS.md, "The input").
 use Rattle.std.specs.Prelude.{◌≡◌, ◌↔◌, ℕ, zero, suc, ◌+◌, ◌≤◌, List, [], ◌∷◌, ◌++◌, length, take, drop, Option, Some, None, Bool, false, nat_lt, ◌==◌, ◌||◌, if◌then◌else◌}
 use Rattle.std.specs.List.{concat}
 use Rattle.std.specs.Int.{w32, from_le_bytes}

@@ -4,8 +4,10 @@ use Rattle.std.specs.List.{concat, list_any}
 use Rattle.chain_defs.specs.Tip.{tip}
 use Rattle.rule_defs.specs.declared.verdict.Verdict.{Verdict}
 use Rattle.rule_defs.specs.Genesis.{broken_genesis_rule}
+use Rattle.rule_defs.specs.Rules.{no_specification}
 use Rattle.rule_defs.specs.Verdict.{refuses}
-use Rattle.rule_defs.specs.Chain.{Chain, chain_of_genesis, kept_over, verdicts_over}
+use Rattle.rule_defs.specs.Chain.{Chain, chain_of_genesis, chain_over, verdicts_over}
+use Rattle.vm_defs.specs.Alone.{answer_ecall}
 use Rattle.vm_defs.specs.Program.{execution}
 use Rattle.report_defs.specs.declared.command.Command.{Command}
 use Rattle.report_defs.specs.declared.command.Command.TheVariants.{Import, Exec}
@@ -48,12 +50,12 @@ import_limits = record { item = λ place. Some item_limit; input = Some input_li
 abbrev pub lines_over : Chain → List (List ℕ) → List (List ℕ)
 lines_over chain items = map line (verdicts_over chain items)
 
--- where the reading ends so, what follows the lines
-abbrev pub closing_of_end : Chain → End → List ℕ
-closing_of_end chain AtEnd = tip_line (tip chain.blocks)
-closing_of_end chain Cut = []
-closing_of_end chain BadSize = []
-closing_of_end chain Extra = []
+-- where the reading ends so at an offset, what follows the lines
+abbrev pub closing_of_end : Chain → ℕ → End → List ℕ
+closing_of_end chain offset AtEnd = tip_line (tip chain.blocks)
+closing_of_end chain offset Cut = []
+closing_of_end chain offset BadSize = []
+closing_of_end chain offset Extra = []
 
 -- and the status
 abbrev pub status_of_end : List Verdict → End → Status
@@ -62,24 +64,24 @@ status_of_end judged Cut = CutInput
 status_of_end judged BadSize = CutInput
 status_of_end judged Extra = CutInput
 
-abbrev pub report_over : Chain → List (List ℕ) → End → Report
-report_over chain items end = record {
+abbrev pub report_over : Chain → List (List ℕ) → ℕ → End → Report
+report_over chain items offset end = record {
   lines = lines_over chain items;
-  closing = closing_of_end (kept_over chain items) end;
+  closing = closing_of_end (chain_over chain items) offset end;
   status = status_of_end (verdicts_over chain items) end;
 }
 
 -- The first item is the genesis, on which the chain begins, and each further item is a block.
 abbrev pub chain_at_start : List (List ℕ) → Chain
-chain_at_start [] = record { rules = record { }; blocks = [] }
-chain_at_start (genesis ∷ items) = chain_of_genesis (record { }) genesis
+chain_at_start [] = record { rules = no_specification; blocks = [] }
+chain_at_start (genesis ∷ items) = chain_of_genesis no_specification genesis
 
 abbrev pub items_behind : List (List ℕ) → List (List ℕ)
 items_behind items = drop 1 items
 
 abbrev pub report_of_genesis : Option ℕ → List (List ℕ) → End → Report
 report_of_genesis (Some rule) items end = report_without_lines [] BadGenesis
-report_of_genesis None items end = report_over (chain_at_start items) (items_behind items) end
+report_of_genesis None items end = report_over (chain_at_start items) (items_behind items) (length (concat items)) end
 
 abbrev pub report_of_items : List (List ℕ) → End → Report
 report_of_items [] end = report_without_lines [] CutInput
@@ -101,15 +103,24 @@ file_limit = 2 ^ 20
 abbrev pub exec_report : ℕ → List ℕ → Report
 exec_report budget file =
     if nat_lt file_limit (length file) then report_without_lines (extra_line file_limit) ExtraInput
-    else report_without_lines (execution_line (execution budget file)) Done
+    else report_without_lines (execution_line (execution answer_ecall budget file)) Done
 
 -- ---- A run
 
--- The report by the words, the input, and the chain that the store holds, if there is one. No command looks at it yet.
-abbrev pub report_of_command : Option Command → List ℕ → Option Chain → Report
+-- What stands in the folder when a run begins.
+pub data Store : Type 0 where
+  -- no log, or an empty one
+  NoLog : Store
+  -- a log that is none by its grammar
+  NotALog : Store
+  -- a log that keeps this chain
+  Keeps : Chain → Store
+
+-- The report by the words, the input and the store. No command looks at the store yet.
+abbrev pub report_of_command : Option Command → List ℕ → Store → Report
 report_of_command None input store = report_without_lines [] BadWords
 report_of_command (Some Import) input store = import_report input
 report_of_command (Some (Exec budget)) input store = exec_report budget input
 
-abbrev pub report : List (List ℕ) → List ℕ → Option Chain → Report
+abbrev pub report : List (List ℕ) → List ℕ → Store → Report
 report words input store = report_of_command (command_of words) input store

@@ -1,5 +1,5 @@
 -- The lines that a run prints. Each ends with a line feed (docs/COMMANDS.md).
-use Rattle.std.specs.Prelude.{ℕ, List, [], ◌∷◌, ◌++◌, codes, Option, Some, None, Result, Ok, Err}
+use Rattle.std.specs.Prelude.{ℕ, List, [], ◌∷◌, ◌++◌, codes, Option, Some, None, Ok, Err}
 use Rattle.std.specs.Fmt.{decimal, signed_decimal}
 use Rattle.hex.specs.Hex.{encode_lower}
 use Rattle.codec_defs.specs.Schema.{Block}
@@ -8,7 +8,7 @@ use Rattle.rule_defs.specs.declared.verdict.Verdict.{Verdict}
 use Rattle.rule_defs.specs.declared.verdict.Verdict.TheVariants.{Joined, Known, Refused, Unbuilt, Full}
 use Rattle.vm_defs.specs.declared.outcome.Outcome.{Outcome}
 use Rattle.vm_defs.specs.declared.outcome.Outcome.TheVariants.{Exit, Fault, Spent}
-use Rattle.vm_defs.specs.Program.{Ending}
+use Rattle.vm_defs.specs.Program.{Execution}
 
 abbrev pub line_feed : List ℕ
 line_feed = 10 ∷ []
@@ -42,8 +42,8 @@ outcome_line (Fault number) cycles = codes "fault " ++ decimal number ++ codes "
 outcome_line Spent cycles = codes "spent" ++ line_feed
 
 -- the line of a file that was run, or in which something is wrong
-abbrev pub execution_line : Result Ending ℕ → List ℕ
-execution_line (Ok ending) = outcome_line ending.0 ending.1
+abbrev pub execution_line : Execution → List ℕ
+execution_line (Ok ended) = outcome_line ended.0 ended.1
 execution_line (Err condition) = codes "bad elf " ++ decimal condition ++ line_feed
 
 -- the line of an input that goes on at a place where it should have ended

@@ -12,9 +12,9 @@ use Rattle.chain_defs.specs.Kept.{block_hash, block_at, place_of, StandsOn, IsKe
 use Rattle.chain_defs.specs.Branch.{branch}
 use Rattle.chain_defs.proofs.KeptLaws.{place_of-below, place_of-there, IsKept-one, IsKept-push}
 use Rattle.chain_defs.proofs.BranchLaws.{branch-last}
-use Rattle.rule_defs.specs.Rules.{Rules, parent_of, follows, rows, first_broken}
+use Rattle.rule_defs.specs.Rules.{Rules, parent_of, follows, rules_on, first_broken}
 use Rattle.rule_defs.specs.Verdict.{verdict, verdict_of, verdict_on, verdict_by_rules, joins, has_built_form, has_room, kept_limit, kept_after, blocks_of_item, block_list}
-use Rattle.rule_defs.specs.Chain.{Chain, chain_after, kept_over}
+use Rattle.rule_defs.specs.Chain.{Chain, chain_after, chain_over}
 use Rattle.rule_defs.specs.Laws.{CanJoin, JoinsExactly, KeepsWhatJoins, KeepingKeeps}
 use Rattle.rule_defs.specs.declared.verdict.Verdict.TheVariants.{Joined, Known, Unbuilt, Full}
 
@@ -95,7 +95,7 @@ kept_after-stays rules kept item left = ap (λ (b : Bool). cond b (kept ++ block
 pub follows-unbroken : (rules : Rules) (blocks : List Block) (b : Block) → first_broken rules blocks b ≡ None → IsTrue (follows b (parent_of blocks))
 unfolding first_broken
 follows-unbroken rules blocks b unbroken =
-    All-head (λ rule. IsTrue rule.1) (5, follows b (parent_of blocks)) [] ((finds_none (rows rules blocks b)).0 unbroken)
+    All-head (λ rule. IsTrue rule.1) (5, follows b (parent_of blocks)) [] ((finds_none (rules_on rules blocks b)).0 unbroken)
 
 -- The block that a branch of a place ends with is the one at it.
 pub parent_of-branch : (kept : List Block) (place : ℕ) → place < length kept → parent_of (branch kept place) ≡ block_at kept place
@@ -144,7 +144,7 @@ IsKept-after rules kept item is_kept = by_joins (joins (verdict rules kept item)
         subst IsKept (sym (kept_after-can_join rules kept item can)) (IsKept-push kept can.block is_kept (stands-on-kept rules kept item can) can.new)
 
 -- and after any items.
-pub IsKept-over : (chain : Chain) (items : List (List ℕ)) → IsKept chain.blocks → IsKept (kept_over chain items).blocks
+pub IsKept-over : (chain : Chain) (items : List (List ℕ)) → IsKept chain.blocks → IsKept (chain_over chain items).blocks
 IsKept-over chain [] is_kept = is_kept
 IsKept-over chain (item ∷ items) is_kept = IsKept-over (chain_after chain item) items (IsKept-after chain.rules chain.blocks item is_kept)
 

@@ -1,5 +1,5 @@
 -- A chain: the rules of a store and the blocks that it keeps. Items are judged one after the other, each over what is kept by then
--- (docs/COMMANDS.md, "The verdicts").
+-- (docs/COMMANDS.md, "The text").
 use Rattle.std.specs.Prelude.{ℕ, List}
 use Rattle.codec_defs.specs.Schema.{Block}
 use Rattle.fold_defs.specs.Fold.{keep, verdicts}
@@ -26,5 +26,5 @@ chain_after chain item = record { rules = chain.rules; blocks = kept_after chain
 abbrev pub verdicts_over : Chain → List (List ℕ) → List Verdict
 verdicts_over chain items = verdicts chain_after verdict_over chain items
 
-abbrev pub kept_over : Chain → List (List ℕ) → Chain
-kept_over chain items = keep chain_after chain items
+abbrev pub chain_over : Chain → List (List ℕ) → Chain
+chain_over chain items = keep chain_after chain items

@@ -1,5 +1,5 @@
 -- The rules on a genesis, as rows of a list. It is accepted where it breaks none of them, whatever else it holds.
--- docs/COMMANDS.md, "The genesis", has them.
+-- docs/RULES.md, "The genesis", has them.
 use Rattle.std.specs.Prelude.{ℕ, ◌==◌, ◌&&◌, Bool, List, [], ◌∷◌, length, Option, Some, None}
 use Rattle.codec_defs.specs.Shape.{decoded}
 use Rattle.codec_defs.specs.Schema.{Block, block}
@@ -10,18 +10,18 @@ abbrev pub is_first : Block → Bool
 is_first genesis = genesis.header.number == 0
 
 -- G3: it has no uncles and no proposals.
-abbrev pub stands_alone : Block → Bool
-stands_alone genesis = (length genesis.uncles == 0) && (length genesis.proposals == 0)
+abbrev pub has_no_uncles_or_proposals : Block → Bool
+has_no_uncles_or_proposals genesis = (length genesis.uncles == 0) && (length genesis.proposals == 0)
 
-abbrev pub genesis_rows : Block → List (ℕ × Bool)
-genesis_rows genesis =
+abbrev pub genesis_rules : Block → List (ℕ × Bool)
+genesis_rules genesis =
     (2, is_first genesis)
-    ∷ (3, stands_alone genesis)
+    ∷ (3, has_no_uncles_or_proposals genesis)
     ∷ []
 
 abbrev pub broken_by : Option Block → Option ℕ
 broken_by None = Some 1
-broken_by (Some genesis) = first_failing (genesis_rows genesis)
+broken_by (Some genesis) = first_failing (genesis_rules genesis)
 
 -- The first rule that an item breaks as the genesis. G1: it is a canonical `Block`.
 unfoldable pub broken_genesis_rule : List ℕ → Option ℕ

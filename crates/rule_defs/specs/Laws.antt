@@ -1,4 +1,4 @@
--- What the verdict is for, in words (docs/COMMANDS.md, "The verdicts").
+-- What the verdict is for, in words (docs/COMMANDS.md, "The text").
 use Rattle.std.specs.Prelude.{◌≡◌, ◌↔◌, ℕ, ◌<◌, List, [], ◌∷◌, ◌++◌, length, Some, None, IsTrue}
 use Rattle.codec_defs.specs.Shape.{decoded}
 use Rattle.codec_defs.specs.Schema.{Block}

@@ -1,5 +1,5 @@
 -- The rules on a block, as rows of a list, in the order in which they are tried. A row has the rule's number and whether the block keeps it.
--- docs/COMMANDS.md, "The verdicts", has them.
+-- docs/RULES.md, "A block", has them.
 use Rattle.std.specs.Prelude.{ℕ, ◌+◌, ◌-◌, ◌==◌, Bool, false, List, [], ◌∷◌, length, Option, Some, None}
 use Rattle.codec_defs.specs.Schema.{Block}
 use Rattle.chain_defs.specs.Kept.{block_at}
@@ -7,6 +7,9 @@ use Rattle.fold_defs.specs.First.{first_failing}
 
 -- What a store fixes for all its blocks. Nothing yet: no specification is read.
 pub record Rules : Type 0 where
+
+abbrev pub no_specification : Rules
+no_specification = record { }
 
 -- the last block of a branch, on which the next one stands
 abbrev pub parent_of : List Block → Option Block
@@ -18,11 +21,11 @@ follows b None = false
 follows b (Some parent) = b.header.number == parent.header.number + 1
 
 -- The rules on a block that stands on this branch, genesis to its parent.
-abbrev pub rows : Rules → List Block → Block → List (ℕ × Bool)
-rows rules branch b =
+abbrev pub rules_on : Rules → List Block → Block → List (ℕ × Bool)
+rules_on rules branch b =
     (5, follows b (parent_of branch))
     ∷ []
 
 -- The first rule that it breaks.
 unfoldable pub first_broken : Rules → List Block → Block → Option ℕ
-first_broken rules branch b = first_failing (rows rules branch b)
+first_broken rules branch b = first_failing (rules_on rules branch b)

@@ -1,5 +1,5 @@
 -- The verdict on an item, over the kept blocks: the frame around the rules on a block. The first case that holds decides
--- (docs/COMMANDS.md, "The verdicts").
+-- (docs/COMMANDS.md, "The text").
 use Rattle.std.specs.Prelude.{ℕ, ◌==◌, nat_lt, ◌&&◌, not, Bool, true, false, List, [], ◌∷◌, ◌++◌, length, Option, Some, None, is_some, if◌then◌else◌}
 use Rattle.codec_defs.specs.Shape.{decoded}
 use Rattle.codec_defs.specs.Schema.{Block, block}
@@ -9,7 +9,7 @@ use Rattle.rule_defs.specs.Rules.{Rules, first_broken}
 use Rattle.rule_defs.specs.declared.verdict.Verdict.{Verdict}
 use Rattle.rule_defs.specs.declared.verdict.Verdict.TheVariants.{Joined, Known, Refused, Unbuilt, Full}
 
--- the most kept blocks, genesis included (docs/COMMANDS.md, "The verdicts")
+-- the most kept blocks, genesis included (docs/COMMANDS.md, "The text")
 unfoldable pub kept_limit : ℕ
 kept_limit = 1000000
 

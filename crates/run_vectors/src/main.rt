@@ -3,9 +3,12 @@
 //! A row has five columns, with a tab between two: a name, the words behind the folder, the number of the status that is
 //! wanted, the input and the text that is wanted, both in hex (`-` for no bytes, `=` for the input of the row before). The
 //! wanted texts were made by a program that was written from the rules of docs/COMMANDS.md and docs/MACHINE.md alone, those
-//! of the last 22 rows by hand from the same rules. Each row is run over streams in memory. The program prints each row
-//! that differs with the status that it got, and how many agree; its status is 1 where one differs.
+//! of the last 27 rows by hand from the same rules. Four more rows, of two files of 1 MiB that were made to be slow to load,
+//! are made here; bench/hostile.py works out their texts. Each row is run over streams in memory. The program prints each
+//! row that differs with the status that it got, and how many agree; its status is 1 where one differs.
 #![tactic(auto)]
+
+mod hostile;
 
 ghost use Rattle.std.specs.Prelude.{◌≡◌, ◌<◌};
 
@@ -76,6 +79,42 @@ fn compare<L: Ledger>(
     ))
 }
 
+/// A row of `exec` within a budget, with its text.
+fn row_of_exec(
+    alloc: Global,
+    budget: &str,
+    input: Vec<u8>,
+    text: &[u8],
+) -> Result<Row, AllocError> {
+    let mut words = Vec::new(alloc);
+    for word in ["any", "exec", budget] {
+        words.push(String::from_str(alloc, word)?)?;
+    }
+    Ok(Row {
+        words,
+        status: 0,
+        input,
+        text: text.to_vec(alloc)?,
+    })
+}
+
+/// How many of the four rows that are made here agree.
+fn agreed_hostile<L: Ledger>(alloc: Global, steps: &mut Steps<L>) -> Result<u64, AllocError> {
+    let rows = [
+        row_of_exec(alloc, "0", hostile::copies(alloc)?, b"spent\n")?,
+        row_of_exec(alloc, "4908122111", hostile::copies(alloc)?, b"spent\n")?,
+        row_of_exec(alloc, "256", hostile::zeros(alloc)?, b"fault 3 256\n")?,
+        row_of_exec(alloc, "255", hostile::zeros(alloc)?, b"spent\n")?,
+    ];
+    let mut agreed = 0u64;
+    for row in &rows {
+        if compare(alloc, steps, row)?.1 {
+            agreed = agreed.saturating_add(1);
+        }
+    }
+    Ok(agreed)
+}
+
 fn run_rows<L: Ledger>(rt: HostRuntime, blank: Blank) -> io::Result<ExitCode>
     requires name { blank.name ≡ L.name }
     requires parts { blank.parts ≡ L.parts }
@@ -105,8 +144,10 @@ fn run_rows<L: Ledger>(rt: HostRuntime, blank: Blank) -> io::Result<ExitCode>
         }
         input = row.input;
     }
+    let of_hostile = agreed_hostile(alloc, &mut steps)?;
+    println!(rt; "{of_hostile} of 4 rows made here agree")?;
     println!(rt; "{agreed} of {rows} rows agree")?;
-    Ok(if agreed == rows {
+    Ok(if agreed == rows && of_hostile == 4 {
         ExitCode::SUCCESS
     } else {
         ExitCode::FAILURE

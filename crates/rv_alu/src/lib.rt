@@ -1,19 +1,19 @@
 //! The operations on two registers of RV64I and its extension M (RFC 0003).
 //!
-//! `op` is exact against the values of `vm_defs`, for every operation and every two registers: it wraps,
+//! `op` is exact against the values of `isa_defs`, for every operation and every two registers: it wraps,
 //! shifts, compares and divides as the RISC-V manual says, and has no fault. Which registers an
 //! instruction takes, and what it costs, is left to the machine above.
 #![tactic(auto)]
 
 ghost use Rattle.std.specs.Prelude.{◌≡◌, ◌%◌};
 ghost use Rattle.std.specs.Int.{w64};
-ghost use Rattle.vm_defs.specs.Alu.{value, signed_less, arithmetic_shift};
+ghost use Rattle.isa_defs.specs.Alu.{value, signed_less, arithmetic_shift};
 
 mod division;
 mod product;
 mod word;
 
-use vm_defs::Alu;
+pub use isa_defs::Alu;
 
 /// What the operation gives of two registers. A form with an immediate has it as `b`.
 #[tactic(auto, using(crate::proofs::Wrapping::wrapped))]
@@ -54,7 +54,7 @@ pub fn op(k: Alu, a: u64, b: u64) -> u64
 }
 
 // 1 where a is below b as signed numbers.
-#[tactic(auto, unfolding(vm_defs::specs::Alu::signed_less))]
+#[tactic(auto, unfolding(isa_defs::specs::Alu::signed_less))]
 fn signed_less(a: u64, b: u64) -> u64
     ensures { result ≡ signed_less a b }
 {
@@ -62,7 +62,7 @@ fn signed_less(a: u64, b: u64) -> u64
 }
 
 // A shift to the right that fills up with the sign.
-#[tactic(auto, unfolding(vm_defs::specs::Alu::arithmetic_shift))]
+#[tactic(auto, unfolding(isa_defs::specs::Alu::arithmetic_shift))]
 fn arithmetic_shift(a: u64, b: u64) -> u64
     ensures { result ≡ arithmetic_shift w64 a (b % 64) }
 {

@@ -1,8 +1,8 @@
 // The laws of the instruction table.
 
-ghost use Rattle.vm_defs.specs.Row.{HasWords, IsUnambiguous};
-ghost use Rattle.vm_defs.specs.Table.{full_forms};
-ghost use Rattle.vm_defs.specs.Compressed.{compressed_forms};
+ghost use Rattle.isa_defs.specs.Row.{HasWords, IsUnambiguous};
+ghost use Rattle.isa_defs.specs.Table.{full_forms};
+ghost use Rattle.isa_defs.specs.Compressed.{compressed_forms};
 
 /// States what the instruction table keeps: no word matches two rows, so that their order does not
 /// matter, and each row is matched by some word. It does nothing.

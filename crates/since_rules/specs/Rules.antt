@@ -1,12 +1,8 @@
 -- When each answer comes.
 use Rattle.std.specs.Prelude.{ℕ, IsTrue, IsFalse}
 use Rattle.time_defs.specs.Since.{Spending, is_valid, is_met}
-use Rattle.since_rules.specs.declared.rules.SinceAt.{SinceAt}
 use Rattle.since_rules.specs.declared.rules.SinceFault.{SinceFault}
 use Rattle.since_rules.specs.declared.rules.SinceFault.TheVariants.{Invalid, Immature}
-
-abbrev pub spending : SinceAt → Spending
-spending at = record { number = at.number; median = at.median; made = at.made; start = at.start; length = at.length }
 
 -- The input may be spent.
 pub record IsMature (since : ℕ) (at : Spending) : Type 0 where

@@ -39,8 +39,8 @@ pub(crate) fn reserved_of(since: u64) -> u64
 }
 
 /// Bits 55 to 0.
-pub(crate) fn value_of(since: u64) -> u64
-    ensures value { result ≡ rules.value_of since }
+pub(crate) fn since_value(since: u64) -> u64
+    ensures value { result ≡ rules.since_value since }
     ensures fits { result < 2 ^ 56 }
 {
     since % (1 << 56)

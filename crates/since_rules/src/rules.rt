@@ -5,10 +5,11 @@ ghost use Rattle.time_defs.specs.Since as rules;
 ghost use Rattle.time_defs.specs.Since.{Spending, IsLater};
 ghost use Rattle.time_defs.specs.Specification.{keeps_s2};
 ghost use Rattle.since_rules.specs.Fields.{meaning};
-ghost use Rattle.since_rules.specs.Rules.{spending, IsMature, HasFault};
+ghost use Rattle.since_rules.specs.Rules.{IsMature, HasFault};
 
-use crate::fields::{Metric, is_relative, metric_of, reserved_of, value_of};
+use crate::fields::{Metric, is_relative, metric_of, reserved_of, since_value};
 use epochs::{span_over, well_formed};
+use std::marker::Model;
 
 /// Where an input is spent, and since when its cell is there. Times are in milliseconds.
 #[derive(Clone, Copy, Debug, PartialEq, Eq)]
@@ -25,6 +26,16 @@ pub struct SinceAt {
     pub length: u32,
 }
 
+impl Model for SinceAt {
+    ghost use Rattle.time_defs.specs.Since.{Spending};
+
+    ghost Value = { Spending };
+
+    ghost view = { λ at. record { number = at.number; median = at.median; made = at.made; start = at.start; length = at.length } };
+
+    ghost inverse = { λ at. record { number = at.number; median = at.median; made = at.made; start = at.start; length = at.length } };
+}
+
 /// Why an input may not be spent.
 #[derive(Clone, Copy, Debug, PartialEq, Eq)]
 pub enum SinceFault {
@@ -39,11 +50,11 @@ pub fn meets(since: u64, at: &SinceAt) -> Result<(), SinceFault>
     requires length { IsTrue (keeps_s2 at.now.length) }
     requires made { at.now.made ≤ at.now.number }
     requires number { at.now.number < 2 ^ 24 }
-    ensures met { OnOk result (IsMature since (spending at.now)) }
-    ensures refused { IfErr result (HasFault since (spending at.now)) }
+    ensures met { OnOk result (IsMature since at.now) }
+    ensures refused { IfErr result (HasFault since at.now) }
 
     // It stays met at greater heights with no smaller median.
-    ensures stays { OnOk result ((later : Spending) → IsLater (spending at.now) later → IsTrue (rules.is_met since later)) }
+    ensures stays { OnOk result ((later : Spending) → IsLater at.now later → IsTrue (rules.is_met since later)) }
 {
     if reserved_of(since) != 0 {
         return Err(SinceFault::Invalid);
@@ -51,7 +62,7 @@ pub fn meets(since: u64, at: &SinceAt) -> Result<(), SinceFault>
     let Some(metric) = metric_of(since) else {
         return Err(SinceFault::Invalid);
     };
-    let value = value_of(since);
+    let value = since_value(since);
     if metric == Metric::Epoch && !well_formed(value) {
         return Err(SinceFault::Invalid);
     }
@@ -73,7 +84,7 @@ fn is_reached(metric: Metric, value: u64, at: &SinceAt) -> bool
     requires valid { IsTrue (rules.fits_metric (meaning metric) value) }
     requires length { IsTrue (keeps_s2 at.now.length) }
     requires number { at.now.number < 2 ^ 24 }
-    ensures { result ≡ rules.is_reached (meaning metric) value (spending at.now) }
+    ensures { result ≡ rules.is_reached (meaning metric) value at.now }
 {
     match metric {
         Metric::BlockNumber => at.number >= value,
@@ -89,7 +100,7 @@ fn is_passed(metric: Metric, value: u64, at: &SinceAt) -> bool
     requires length { IsTrue (keeps_s2 at.now.length) }
     requires made { at.now.made ≤ at.now.number }
     requires number { at.now.number < 2 ^ 24 }
-    ensures { result ≡ rules.is_passed (meaning metric) value (spending at.now) }
+    ensures { result ≡ rules.is_passed (meaning metric) value at.now }
 {
     match metric {
         Metric::BlockNumber => at.number >= at.made + value,

@@ -1,6 +1,6 @@
 pub mod Numbers
 pub mod Shares
 pub mod EpochLength
+pub mod Spans
 pub mod Withdrawals
-pub mod Examples
 pub mod FieldBytes

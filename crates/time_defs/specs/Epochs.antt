@@ -16,14 +16,14 @@ epoch_index length height = height % length
 abbrev pub epoch_value : ℕ → ℕ → ℕ → ℕ
 epoch_value number index length = number + index * 2 ^ 24 + length * 2 ^ 40
 
-abbrev pub number_of : ℕ → ℕ
-number_of value = value % 2 ^ 24
+abbrev pub value_number : ℕ → ℕ
+value_number value = value % 2 ^ 24
 
-abbrev pub index_of : ℕ → ℕ
-index_of value = value / 2 ^ 24 % 2 ^ 16
+abbrev pub value_index : ℕ → ℕ
+value_index value = value / 2 ^ 24 % 2 ^ 16
 
-abbrev pub length_of : ℕ → ℕ
-length_of value = value / 2 ^ 40 % 2 ^ 16
+abbrev pub value_length : ℕ → ℕ
+value_length value = value / 2 ^ 40 % 2 ^ 16
 
 -- the epoch field of the header of the block of this height
 abbrev pub epoch_field : ℕ → ℕ → ℕ
@@ -31,7 +31,7 @@ epoch_field length height = epoch_value (epoch_number length height) (epoch_inde
 
 -- the index is below the length, or both are zero
 abbrev pub is_well_formed : ℕ → Bool
-is_well_formed value = nat_lt (index_of value) (length_of value) || ((index_of value == 0) && (length_of value == 0))
+is_well_formed value = nat_lt (value_index value) (value_length value) || ((value_index value == 0) && (value_length value == 0))
 
 -- ---- Fractions
 
@@ -47,9 +47,9 @@ is_at_least x y = nat_le (y.numerator * x.denominator) (x.numerator * y.denomina
 -- number + index / length, and number where the length is zero
 abbrev pub epochs_in : ℕ → Fraction
 epochs_in value =
-    if length_of value == 0
-    then record { numerator = number_of value; denominator = 1 }
-    else record { numerator = number_of value * length_of value + index_of value; denominator = length_of value }
+    if value_length value == 0
+    then record { numerator = value_number value; denominator = 1 }
+    else record { numerator = value_number value * value_length value + value_index value; denominator = value_length value }
 
 -- The span of `value` epochs is over from the block of height `made` to that of height `now`:
 -- (now - made) / length is at least the value.

@@ -2,3 +2,4 @@ pub mod Epochs
 pub mod Specification
 pub mod Since
 pub mod Dao
+pub mod Laws

@@ -25,8 +25,8 @@ abbrev pub reserved_of : ℕ → ℕ
 reserved_of since = since / 2 ^ 56 % 2 ^ 5
 
 -- Bits 55 to 0: blocks, an epoch value, or seconds.
-abbrev pub value_of : ℕ → ℕ
-value_of since = since % 2 ^ 56
+abbrev pub since_value : ℕ → ℕ
+since_value since = since % 2 ^ 56
 
 -- a value that its metric can take
 abbrev pub fits_metric : Metric → ℕ → Bool
@@ -36,7 +36,7 @@ fits_metric timestamp value = true
 fits_metric no_metric value = false
 
 abbrev pub is_valid : ℕ → Bool
-is_valid since = (reserved_of since == 0) && fits_metric (metric_of since) (value_of since)
+is_valid since = (reserved_of since == 0) && fits_metric (metric_of since) (since_value since)
 
 -- An input that is spent. The block that spends it has the height `number`, and the median time at its
 -- parent is `median`; the block that made the cell has the height `made`, and the median time at its
@@ -48,24 +48,28 @@ pub record Spending : Type 0 where
   pub start : ℕ
   pub length : ℕ
 
+-- the median time has come to an instant, in milliseconds
+abbrev pub is_past : ℕ → Spending → Bool
+is_past instant at = nat_le instant at.median
+
 -- the absolute lock: height, fraction of epochs, or median time is at least the value
 abbrev pub is_reached : Metric → ℕ → Spending → Bool
 is_reached block_number value at = nat_le value at.number
 is_reached epoch value at = is_span_over value at.length 0 at.number
-is_reached timestamp value at = nat_le (1000 * value) at.median
+is_reached timestamp value at = is_past (1000 * value) at
 is_reached no_metric value at = false
 
 -- the relative lock: the same from the block that made the cell
 abbrev pub is_passed : Metric → ℕ → Spending → Bool
 is_passed block_number value at = nat_le (at.made + value) at.number
 is_passed epoch value at = is_span_over value at.length at.made at.number
-is_passed timestamp value at = nat_le (at.start + 1000 * value) at.median
+is_passed timestamp value at = is_past (at.start + 1000 * value) at
 is_passed no_metric value at = false
 
 abbrev pub is_met : ℕ → Spending → Bool
 is_met since at =
-    if is_relative since then is_passed (metric_of since) (value_of since) at
-    else is_reached (metric_of since) (value_of since) at
+    if is_relative since then is_passed (metric_of since) (since_value since) at
+    else is_reached (metric_of since) (since_value since) at
 
 -- The same cell spent later: no lower, with no smaller median.
 pub record IsLater (at later : Spending) : Type 0 where

@@ -1,5 +1,5 @@
 -- The chain specification: 100 bytes, little-endian, and the rules S1 to S7 that it keeps.
-use Rattle.std.specs.Prelude.{ℕ, ◌+◌, ◌^◌, Bool, ◌==◌, ◌&&◌, nat_lt, nat_le, List, [], ◌∷◌, length, Option}
+use Rattle.std.specs.Prelude.{ℕ, ◌+◌, ◌^◌, Bool, IsTrue, ◌==◌, ◌&&◌, nat_lt, nat_le, List, [], ◌∷◌, length, Option}
 use Rattle.std.specs.List.{slice_range}
 use Rattle.std.specs.Int.{w32, w64, from_le_bytes}
 use Rattle.fold_defs.specs.First.{first_failing}
@@ -25,32 +25,32 @@ pub record Specification : Type 0 where
   pub dao_code_hash : List ℕ
 
 -- the numbers of 4 and of 8 bytes at a place
-abbrev pub u32_at : List ℕ → ℕ → ℕ
-u32_at bytes place = from_le_bytes w32 (slice_range bytes place (place + 4))
+abbrev pub u32_field : List ℕ → ℕ → ℕ
+u32_field bytes place = from_le_bytes w32 (slice_range bytes place (place + 4))
 
-abbrev pub u64_at : List ℕ → ℕ → ℕ
-u64_at bytes place = from_le_bytes w64 (slice_range bytes place (place + 8))
+abbrev pub u64_field : List ℕ → ℕ → ℕ
+u64_field bytes place = from_le_bytes w64 (slice_range bytes place (place + 8))
 
 -- The fields of the bytes, in their order; the first four bytes hold the size.
-unfoldable pub fields_of : List ℕ → Specification
-fields_of bytes = record {
-  compact_target = u32_at bytes 4;
-  epoch_length = u32_at bytes 8;
-  w_close = u32_at bytes 12;
-  w_far = u32_at bytes 16;
-  max_block_bytes = u32_at bytes 20;
-  max_proposals = u32_at bytes 24;
-  max_cycles = u64_at bytes 28;
-  maturity = u64_at bytes 36;
-  primary_reward = u64_at bytes 44;
-  secondary_reward = u64_at bytes 52;
-  halving_interval = u64_at bytes 60;
+unfoldable pub specification_of : List ℕ → Specification
+specification_of bytes = record {
+  compact_target = u32_field bytes 4;
+  epoch_length = u32_field bytes 8;
+  w_close = u32_field bytes 12;
+  w_far = u32_field bytes 16;
+  max_block_bytes = u32_field bytes 20;
+  max_proposals = u32_field bytes 24;
+  max_cycles = u64_field bytes 28;
+  maturity = u64_field bytes 36;
+  primary_reward = u64_field bytes 44;
+  secondary_reward = u64_field bytes 52;
+  halving_interval = u64_field bytes 60;
   dao_code_hash = slice_range bytes 68 100;
 }
 
 -- S1: there are 100 bytes, and the size says so.
 abbrev pub keeps_s1 : List ℕ → Bool
-keeps_s1 bytes = (length bytes == 100) && (u32_at bytes 0 == 100)
+keeps_s1 bytes = (length bytes == 100) && (u32_field bytes 0 == 100)
 
 -- S2: an epoch has 1 to 65,535 blocks.
 abbrev pub keeps_s2 : ℕ → Bool
@@ -76,10 +76,19 @@ keeps_s6 maturity = nat_lt maturity (2 ^ 56) && is_well_formed maturity
 abbrev pub keeps_s7 : ℕ → Bool
 keeps_s7 halving_interval = nat_le 1 halving_interval
 
+-- what S2 to S7 say of a specification's fields
+pub record KeepsItsRules (epoch_length w_close w_far max_block_bytes max_cycles maturity halving_interval : ℕ) : Type 0 where
+  pub s2 : IsTrue (keeps_s2 epoch_length)
+  pub s3 : IsTrue (keeps_s3 w_close w_far)
+  pub s4 : IsTrue (keeps_s4 max_block_bytes)
+  pub s5 : IsTrue (keeps_s5 max_cycles)
+  pub s6 : IsTrue (keeps_s6 maturity)
+  pub s7 : IsTrue (keeps_s7 halving_interval)
+
 -- the number of the first of S1 to S7 that the bytes break
 abbrev pub broken_specification_rule : List ℕ → Option ℕ
 broken_specification_rule bytes =
-    let spec = fields_of bytes in
+    let spec = specification_of bytes in
     first_failing (
     (1, keeps_s1 bytes)
     ∷ (2, keeps_s2 spec.epoch_length)

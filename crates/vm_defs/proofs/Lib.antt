@@ -1,6 +1,4 @@
-pub mod RowLaws
-pub mod TableLaws
-pub mod DecodeLaws
-pub mod ProgramLaws
 pub mod Numbers
 pub mod Overwritten
+pub mod ProgramLaws
+pub mod CodeLaws

@@ -1,56 +1,57 @@
 -- A run goes step by step, within its budget.
-use Rattle.std.proofs.Common.{◌≡◌, ℕ, zero, suc, ◌+◌, ◌-◌, ◌%◌, ◌<◌, ◌≤◌, ◌==◌, Bool, true, false, cond, ℤ, Option, Some, None, Result, Ok, Err, refl, lit≤, arith}
+use Rattle.std.proofs.Common.{◌≡◌, ℕ, zero, suc, ◌+◌, ◌-◌, ◌%◌, ◌<◌, ◌≤◌, ◌==◌, Bool, true, false, cond, ℤ, Option, Some, None, Result, Ok, Err, refl, ap, ◌∙◌, lit≤, arith}
 use Rattle.std.proofs.lemmas.Bool.Decides.{nat_tests}
-use Rattle.vm_defs.specs.declared.ins.Ins.{Ins}
-use Rattle.vm_defs.specs.declared.ins.Ins.TheVariants.{Jal, Jalr, Beq, Bne, Blt, Bge, Bltu, Bgeu, Lb, Lh, Lw, Ld, Lbu, Lhu, Lwu, Sb, Sh, Sw, Sd, Fence, FenceI, Ecall, Ebreak}
+use Rattle.isa_defs.specs.declared.ins.Ins.{Ins}
+use Rattle.isa_defs.specs.declared.ins.Ins.TheVariants.{Jal, Jalr, Beq, Bne, Blt, Bge, Bltu, Bgeu, Lb, Lh, Lw, Ld, Lbu, Lhu, Lwu, Sb, Sh, Sw, Sd, Fence, FenceI, Ecall, Ebreak}
 use Rattle.vm_defs.specs.declared.memory.MemFault.{MemFault}
 use Rattle.vm_defs.specs.declared.outcome.Outcome.{Outcome}
 use Rattle.vm_defs.specs.declared.step.Step.{Step}
 use Rattle.vm_defs.specs.declared.step.Step.TheVariants as step
-use Rattle.vm_defs.specs.Decode.{decode}
-use Rattle.vm_defs.specs.Instruction.{cycles}
-use Rattle.vm_defs.specs.Memory.{Memory, fetch}
-use Rattle.vm_defs.specs.Step.{Machine, with_register, write, jump, branch, loaded, stored, effect, execute, with_word, step_of, charged, is_spent}
-use Rattle.vm_defs.specs.Program.{ended_by, run_for, run, Ending, GoesOnWithinBudget, RunsStepByStep}
+use Rattle.isa_defs.specs.Instruction.{cycles}
+use Rattle.vm_defs.specs.Memory.{Memory}
+use Rattle.vm_defs.specs.Code.{instruction_at}
+use Rattle.vm_defs.specs.Step.{Machine, with_register, write, jump, branch, loaded, stored, effect, execute, with_instruction, step_of, charged, is_spent}
+use Rattle.vm_defs.specs.Program.{Answer, answered, advance, followed, stop_within, stop_of, ended_or, run_for, run, Ended, KeepsAccount, StepKeepsAccount, GoesOnWithinBudget, HasStepsEnough, RunsStepByStep, RunsStopByStop, StopsStepByStep}
+use Rattle.vm_defs.specs.Alone.{answer_ecall, syscall_number}
 
 -- ---- no instruction touches the account
 
-pub record KeepsAccount (old new : Machine) : Type 0 where
+pub record SameAccount (old new : Machine) : Type 0 where
   pub cycles : new.cycles ≡ old.cycles
   pub budget : new.budget ≡ old.budget
 
-chosen : (b : Bool) (old one other : Machine) → KeepsAccount old one → KeepsAccount old other → KeepsAccount old (cond b one other)
+chosen : (b : Bool) (old one other : Machine) → SameAccount old one → SameAccount old other → SameAccount old (cond b one other)
 chosen true old one other keeps keeps' = keeps
 chosen false old one other keeps keeps' = keeps'
 
-with_register-keeps : (machine : Machine) (i n : ℕ) → KeepsAccount machine (with_register machine i n)
+with_register-keeps : (machine : Machine) (i n : ℕ) → SameAccount machine (with_register machine i n)
 unfolding with_register
 with_register-keeps machine i n =
     chosen (i == 0) machine machine _ (record { cycles = refl; budget = refl }) (record { cycles = refl; budget = refl })
 
-write-keeps : (machine : Machine) (length rd n : ℕ) → KeepsAccount machine (write machine length rd n).1
+write-keeps : (machine : Machine) (length rd n : ℕ) → SameAccount machine (write machine length rd n).1
 write-keeps machine length rd n =
     let keeps = with_register-keeps machine rd n in record { cycles = keeps.cycles; budget = keeps.budget }
 
-jump-keeps : (machine : Machine) (length rd target : ℕ) → KeepsAccount machine (jump machine length rd target).1
+jump-keeps : (machine : Machine) (length rd target : ℕ) → SameAccount machine (jump machine length rd target).1
 jump-keeps machine length rd target =
     let keeps = with_register-keeps machine rd _ in record { cycles = keeps.cycles; budget = keeps.budget }
 
-branch-keeps : (machine : Machine) (length : ℕ) (taken : Bool) (imm : ℤ) → KeepsAccount machine (branch machine length taken imm).1
+branch-keeps : (machine : Machine) (length : ℕ) (taken : Bool) (imm : ℤ) → SameAccount machine (branch machine length taken imm).1
 branch-keeps machine length taken imm =
     chosen taken machine _ _ (record { cycles = refl; budget = refl }) (record { cycles = refl; budget = refl })
 
 loaded-keeps : (machine : Machine) (length rd : ℕ) (extend : ℕ → ℕ) (result : Result ℕ MemFault)
-    → KeepsAccount machine (loaded machine length rd extend result).1
+    → SameAccount machine (loaded machine length rd extend result).1
 loaded-keeps machine length rd extend (Ok n) = write-keeps machine length rd (extend n)
 loaded-keeps machine length rd extend (Err fault) = record { cycles = refl; budget = refl }
 
 stored-keeps : (machine : Machine) (length : ℕ) (result : Result Memory MemFault)
-    → KeepsAccount machine (stored machine length result).1
+    → SameAccount machine (stored machine length result).1
 stored-keeps machine length (Ok memory) = record { cycles = refl; budget = refl }
 stored-keeps machine length (Err fault) = record { cycles = refl; budget = refl }
 
-effect-keeps : (machine : Machine) (length : ℕ) (ins : Ins) → KeepsAccount machine (effect machine length ins).1
+effect-keeps : (machine : Machine) (length : ℕ) (ins : Ins) → SameAccount machine (effect machine length ins).1
 unfolding effect
 effect-keeps machine length (Jal rd imm) = jump-keeps machine length rd _
 effect-keeps machine length (Jalr rd rs1 imm) = jump-keeps machine length rd _
@@ -77,74 +78,246 @@ effect-keeps machine length Ecall = record { cycles = refl; budget = refl }
 effect-keeps machine length Ebreak = record { cycles = refl; budget = refl }
 effect-keeps machine length _ = write-keeps machine length _ _
 
--- ---- a step that goes on
+-- ---- a step
 
 cost-positive : (ins : Ins) → 1 ≤ cycles ins
 cost-positive (Ld rd rs1 imm) = lit≤ tt
 cost-positive _ = lit≤ tt
 
--- what a step says of the machine where the program goes on
-abbrev pub GoesOn : Machine → Step × Machine → Type 0
-GoesOn machine next = ended_by next.0 next.1 ≡ None
-    → (machine.cycles < next.1.cycles) × (next.1.cycles ≤ next.1.budget) × (next.1.budget ≡ machine.budget)
+-- the step ran an instruction to its end
+abbrev pub WasRun : Step → Type 0
+WasRun step.Went = Unit {0}
+WasRun step.Ecall = Unit {0}
+WasRun (step.Fault number) = ⊥
+WasRun step.Spent = ⊥
+WasRun step.NoMemory = ⊥
 
-paid-goes-on : (machine : Machine) (length : ℕ) (ins : Ins) (spent : Bool)
-    → is_spent (charged machine (cycles ins)) ≡ spent
-    → GoesOn machine (cond spent (step.Spent, charged machine (cycles ins)) (effect (charged machine (cycles ins)) length ins))
-paid-goes-on machine length ins true is-spent none = cc
-paid-goes-on machine length ins false within none =
+-- the account after a step: of any, and of one that was run
+pub record Pays (machine : Machine) (result : Step) (next : Machine) : Type 0 where
+  pub cycles : machine.cycles ≤ next.cycles
+  pub budget : next.budget ≡ machine.budget
+  pub rose : WasRun result → machine.cycles < next.cycles
+  pub within : WasRun result → next.cycles ≤ next.budget
+
+stopped-pays : (machine : Machine) (result : Step) → (WasRun result → ⊥) → Pays machine result machine
+stopped-pays machine result stopped = record {
+  cycles = omega arith;
+  budget = refl;
+  rose = λ was. absurd (stopped was);
+  within = λ was. absurd (stopped was);
+}
+
+paid-pays : (machine : Machine) (length : ℕ) (ins : Ins) (spent : Bool) → is_spent (charged machine (cycles ins)) ≡ spent
+    → let next = cond spent (step.Spent, charged machine (cycles ins)) (effect (charged machine (cycles ins)) length ins) in
+    Pays machine next.0 next.1
+paid-pays machine length ins true is-spent = record {
+  cycles = omega arith;
+  budget = refl;
+  rose = λ was. absurd was;
+  within = λ was. absurd was;
+}
+paid-pays machine length ins false within =
     let keeps = effect-keeps (charged machine (cycles ins)) length ins in
     let cost = cost-positive ins in
     let inside : machine.cycles + cycles ins ≤ machine.budget = grind (arith, nat_tests) in
-    (omega (arith, keeps.cycles, cost), omega (arith, keeps.cycles, keeps.budget, inside), keeps.budget)
+    record {
+      cycles = omega (arith, keeps.cycles);
+      budget = keeps.budget;
+      rose = λ was. omega (arith, keeps.cycles, cost);
+      within = λ was. omega (arith, keeps.cycles, keeps.budget, inside);
+    }
 
-execute-goes-on : (machine : Machine) (decoded : Option (Ins × ℕ)) → GoesOn machine (execute machine decoded)
+execute-pays : (machine : Machine) (decoded : Option (Ins × ℕ)) → let next = execute machine decoded in Pays machine next.0 next.1
 unfolding execute
-execute-goes-on machine None none = cc
-execute-goes-on machine (Some decoded) none = paid-goes-on machine decoded.1 decoded.0 _ refl none
+execute-pays machine None = stopped-pays machine (step.Fault 4) (λ was. was)
+execute-pays machine (Some decoded) = paid-pays machine decoded.1 decoded.0 _ refl
 
-with_word-goes-on : (machine : Machine) (word : Result ℕ MemFault) → GoesOn machine (with_word machine word)
-with_word-goes-on machine (Ok word) none = execute-goes-on machine (decode word) none
-with_word-goes-on machine (Err fault) none = cc
+with_instruction-pays : (machine : Machine) (found : Result (Option (Ins × ℕ)) MemFault)
+    → let next = with_instruction machine found in Pays machine next.0 next.1
+with_instruction-pays machine (Ok decoded) = execute-pays machine decoded
+with_instruction-pays machine (Err fault) = stopped-pays machine (step.Fault _) (λ was. was)
 
-even-goes-on : (machine : Machine) (odd : Bool)
-    → GoesOn machine (cond odd (step.Fault 4, machine) (with_word machine (fetch machine.memory machine.pc)))
-even-goes-on machine true none = cc
-even-goes-on machine false none = with_word-goes-on machine (fetch machine.memory machine.pc) none
+even-pays : (machine : Machine) (odd : Bool)
+    → let next = cond odd (step.Fault 4, machine) (with_instruction machine (instruction_at machine.memory machine.pc)) in Pays machine next.0 next.1
+even-pays machine true = stopped-pays machine (step.Fault 4) (λ was. was)
+even-pays machine false = with_instruction-pays machine (instruction_at machine.memory machine.pc)
 
-pub goes-on-within-budget : GoesOnWithinBudget
+pub step-pays : (machine : Machine) → let next = step_of machine in Pays machine next.0 next.1
 unfolding step_of
-goes-on-within-budget machine none = even-goes-on machine (machine.pc % 2 == 1) none
+step-pays machine = even-pays machine (machine.pc % 2 == 1)
+
+pub step-keeps-account : StepKeepsAccount
+step-keeps-account machine = let pays = step-pays machine in (pays.cycles, pays.budget)
+
+-- ---- a step that is answered, after which the program goes on
+
+-- what such a step says of the machine before and after
+abbrev pub GoesOn : Machine → Option Outcome × Machine → Type 0
+GoesOn machine next = next.0 ≡ None
+    → (machine.cycles < next.1.cycles) × (next.1.cycles ≤ next.1.budget) × (next.1.budget ≡ machine.budget)
+
+answered-goes-on : (answer : Answer) → KeepsAccount answer → (machine : Machine) (result : Step) (next : Machine) → Pays machine result next
+    → GoesOn machine (answered answer result next)
+answered-goes-on answer keeps machine step.Went next pays none = (pays.rose tt, pays.within tt, pays.budget)
+answered-goes-on answer keeps machine step.Ecall next pays none =
+    let within = keeps.within next (pays.within tt) none in
+    let budget = keeps.budget next in
+    (omega (arith, pays.rose tt, keeps.cycles next), omega (arith, within, budget), budget ∙ pays.budget)
+answered-goes-on answer keeps machine (step.Fault number) next pays none = cc
+answered-goes-on answer keeps machine step.Spent next pays none = cc
+answered-goes-on answer keeps machine step.NoMemory next pays none = cc
+
+pub goes-on-within-budget : (answer : Answer) → KeepsAccount answer → GoesOnWithinBudget answer
+goes-on-within-budget answer keeps machine =
+    let next = step_of machine in answered-goes-on answer keeps machine next.0 next.1 (step-pays machine)
 
 -- ---- a run, step by step
 
--- the rest of a run, after a step with this outcome
-abbrev pub rest : (Machine → Ending) → Machine → Option Outcome → Ending
-rest continue machine (Some outcome) = (outcome, machine.cycles)
-rest continue machine None = continue machine
-
-rest-same : (one other : Machine → Ending) (machine : Machine) (outcome : Option Outcome)
-    → (outcome ≡ None → one machine ≡ other machine) → rest one machine outcome ≡ rest other machine outcome
-rest-same one other machine (Some outcome) same = refl
-rest-same one other machine None same = same refl
+ended_or-same : (one other : Machine → Ended) (outcome : Option Outcome) (machine : Machine)
+    → (outcome ≡ None → one machine ≡ other machine) → ended_or one outcome machine ≡ ended_or other outcome machine
+ended_or-same one other (Some outcome) machine same = refl
+ended_or-same one other None machine same = same refl
 
 -- more steps than enough give the same
-pub enough : (n m : ℕ) (machine : Machine) → machine.budget - machine.cycles < n → machine.budget - machine.cycles < m
-    → run_for n machine ≡ run_for m machine
+pub enough : (answer : Answer) → KeepsAccount answer → (n m : ℕ) (machine : Machine) → machine.budget - machine.cycles < n
+    → machine.budget - machine.cycles < m → run_for answer n machine ≡ run_for answer m machine
 unfolding run_for
-enough zero m machine first second = absurd (omega arith)
-enough (suc n) zero machine first second = absurd (omega arith)
-enough (suc n) (suc m) machine first second =
-    let next = step_of machine in
-    rest-same (run_for n) (run_for m) next.1 (ended_by next.0 next.1) (λ none.
-    let within = goes-on-within-budget machine none in
-    enough n m next.1 (omega (arith, within.0, within.1, within.2)) (omega (arith, within.0, within.1, within.2)))
+enough answer keeps zero m machine first second = absurd (omega arith)
+enough answer keeps (suc n) zero machine first second = absurd (omega arith)
+enough answer keeps (suc n) (suc m) machine first second =
+    let next = advance answer machine in
+    ended_or-same (run_for answer n) (run_for answer m) next.0 next.1 (λ none.
+    let within = goes-on-within-budget answer keeps machine none in
+    enough answer keeps n m next.1 (omega (arith, within.0, within.1, within.2)) (omega (arith, within.0, within.1, within.2)))
 
-pub runs-step-by-step : RunsStepByStep
+pub has-steps-enough : (answer : Answer) → KeepsAccount answer → HasStepsEnough answer
+has-steps-enough answer keeps steps machine h =
+    enough answer keeps steps (suc (machine.budget - machine.cycles)) machine h (omega arith)
+
+pub runs-step-by-step : (answer : Answer) → KeepsAccount answer → RunsStepByStep answer
 unfolding run_for
-runs-step-by-step machine =
-    let next = step_of machine in
-    rest-same (run_for (machine.budget - machine.cycles)) run next.1 (ended_by next.0 next.1) (λ none.
-    let within = goes-on-within-budget machine none in
-    enough (machine.budget - machine.cycles) (suc (next.1.budget - next.1.cycles)) next.1
+runs-step-by-step answer keeps machine =
+    let next = advance answer machine in
+    ended_or-same (run_for answer (machine.budget - machine.cycles)) (run answer) next.0 next.1 (λ none.
+    let within = goes-on-within-budget answer keeps machine none in
+    enough answer keeps (machine.budget - machine.cycles) (suc (next.1.budget - next.1.cycles)) next.1
     (omega (arith, within.0, within.1, within.2)) (omega arith))
+
+-- ---- a run, stop by stop
+
+followed-same : (one other : Machine → Step × Machine) (result : Step) (machine : Machine)
+    → (result ≡ step.Went → one machine ≡ other machine) → followed one result machine ≡ followed other result machine
+followed-same one other step.Went machine same = same refl
+followed-same one other step.Ecall machine same = refl
+followed-same one other (step.Fault number) machine same = refl
+followed-same one other step.Spent machine same = refl
+followed-same one other step.NoMemory machine same = refl
+
+-- a step that went leaves fewer cycles
+went-left : (machine : Machine) (result : Step) (next : Machine) (n : ℕ) → Pays machine result next → result ≡ step.Went
+    → machine.budget - machine.cycles < suc n → next.budget - next.cycles < n
+went-left machine result next n pays went h =
+    let was : WasRun result = rw went tt in
+    let rose = pays.rose was in
+    let within = pays.within was in
+    omega (arith, rose, within, pays.budget, h)
+
+enough-to-stop : (n m : ℕ) (machine : Machine) → machine.budget - machine.cycles < n → machine.budget - machine.cycles < m
+    → stop_within n machine ≡ stop_within m machine
+unfolding stop_within
+enough-to-stop zero m machine first second = absurd (omega arith)
+enough-to-stop (suc n) zero machine first second = absurd (omega arith)
+enough-to-stop (suc n) (suc m) machine first second =
+    let next = step_of machine in
+    let pays = step-pays machine in
+    followed-same (stop_within n) (stop_within m) next.0 next.1 (λ went.
+    enough-to-stop n m next.1 (went-left machine next.0 next.1 n pays went first) (went-left machine next.0 next.1 m pays went second))
+
+pub stops-step-by-step : StopsStepByStep
+unfolding stop_within
+stops-step-by-step machine =
+    let next = step_of machine in
+    let pays = step-pays machine in
+    followed-same (stop_within (machine.budget - machine.cycles)) stop_of next.0 next.1 (λ went.
+    enough-to-stop (machine.budget - machine.cycles) (suc (next.1.budget - next.1.cycles)) next.1
+    (went-left machine next.0 next.1 _ pays went (omega arith)) (omega arith))
+
+-- what comes of a stop, and the run from there
+abbrev resumed : Answer → Step × Machine → Ended
+resumed answer stop = let next = answered answer stop.0 stop.1 in ended_or (run answer) next.0 next.1
+
+followed-resumes : (answer : Answer) (stop : Machine → Step × Machine) (result : Step) (machine : Machine)
+    → (result ≡ step.Went → run answer machine ≡ resumed answer (stop machine))
+    → resumed answer (result, machine) ≡ resumed answer (followed stop result machine)
+followed-resumes answer stop step.Went machine same = same refl
+followed-resumes answer stop step.Ecall machine same = refl
+followed-resumes answer stop (step.Fault number) machine same = refl
+followed-resumes answer stop step.Spent machine same = refl
+followed-resumes answer stop step.NoMemory machine same = refl
+
+stop-resumes : (answer : Answer) → KeepsAccount answer → (n : ℕ) (machine : Machine) → machine.budget - machine.cycles < n
+    → run answer machine ≡ resumed answer (stop_within n machine)
+unfolding stop_within
+stop-resumes answer keeps zero machine h = absurd (omega arith)
+stop-resumes answer keeps (suc n) machine h =
+    let next = step_of machine in
+    runs-step-by-step answer keeps machine
+    ∙ followed-resumes answer (stop_within n) next.0 next.1 (λ went.
+    stop-resumes answer keeps n next.1 (went-left machine next.0 next.1 n (step-pays machine) went h))
+
+pub runs-stop-by-stop : (answer : Answer) → KeepsAccount answer → RunsStopByStop answer
+runs-stop-by-stop answer keeps machine = stop-resumes answer keeps (suc (machine.budget - machine.cycles)) machine (omega arith)
+
+-- ---- a stop that is answered, after which the program goes on
+
+went-pays : (machine next : Machine) (stop : Step × Machine) → Pays machine step.Went next → Pays next stop.0 stop.1 → Pays machine stop.0 stop.1
+went-pays machine next stop first later =
+    let rose = first.rose tt in
+    record {
+      cycles = omega (arith, first.cycles, later.cycles);
+      budget = later.budget ∙ first.budget;
+      rose = λ was. omega (arith, rose, later.cycles);
+      within = later.within;
+    }
+
+followed-pays : (stop : Machine → Step × Machine) (machine : Machine) (result : Step) (next : Machine) → Pays machine result next
+    → (result ≡ step.Went → Pays next (stop next).0 (stop next).1)
+    → let last = followed stop result next in Pays machine last.0 last.1
+followed-pays stop machine step.Went next pays later = went-pays machine next (stop next) pays (later refl)
+followed-pays stop machine step.Ecall next pays later = pays
+followed-pays stop machine (step.Fault number) next pays later = pays
+followed-pays stop machine step.Spent next pays later = pays
+followed-pays stop machine step.NoMemory next pays later = pays
+
+stop-within-pays : (n : ℕ) (machine : Machine) → machine.budget - machine.cycles < n
+    → let last = stop_within n machine in Pays machine last.0 last.1
+unfolding stop_within
+stop-within-pays zero machine h = absurd (omega arith)
+stop-within-pays (suc n) machine h =
+    let next = step_of machine in
+    let pays = step-pays machine in
+    followed-pays (stop_within n) machine next.0 next.1 pays (λ went. stop-within-pays n next.1 (went-left machine next.0 next.1 n pays went h))
+
+pub stop-goes-on : (answer : Answer) → KeepsAccount answer → (machine : Machine)
+    → let stop = stop_of machine in GoesOn machine (answered answer stop.0 stop.1)
+stop-goes-on answer keeps machine =
+    let stop = stop_of machine in
+    answered-goes-on answer keeps machine stop.0 stop.1 (stop-within-pays (suc (machine.budget - machine.cycles)) machine (omega arith))
+
+-- ---- the answer of a program that runs alone
+
+chosen-keeps : (b : Bool) (machine : Machine) (one other : Option Outcome × Machine) → one.1 ≡ machine → other.1 ≡ machine
+    → (cond b one other).1 ≡ machine
+chosen-keeps true machine one other is is' = is
+chosen-keeps false machine one other is is' = is'
+
+answer_ecall-same : (machine : Machine) → (answer_ecall machine).1 ≡ machine
+answer_ecall-same machine =
+    chosen-keeps (syscall_number machine == 93) machine _ _ refl (chosen-keeps (syscall_number machine == 2177) machine _ _ refl refl)
+
+pub answer_ecall-keeps : KeepsAccount answer_ecall
+answer_ecall-keeps = record {
+  budget = λ machine. ap (λ (m : Machine). m.budget) (answer_ecall-same machine);
+  cycles = λ machine. rw (answer_ecall-same machine) (omega arith);
+  within = λ machine within none. rw (answer_ecall-same machine) within;
+}

@@ -1,10 +1,6 @@
-pub mod Instruction
-pub mod Row
-pub mod Table
-pub mod Compressed
-pub mod Decode
-pub mod Alu
 pub mod Memory
+pub mod Code
 pub mod Step
 pub mod Elf
 pub mod Program
+pub mod Alone

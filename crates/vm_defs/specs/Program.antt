@@ -1,14 +1,12 @@
--- A program as `exec` runs it, alone, from its first step to its end (RFC 0003; RFC 0014 for the cycles; RFC 0009 for
--- the calls of the system, of which it has those that ask for nothing outside of the machine).
-use Rattle.std.specs.Prelude.{◌≡◌, ℕ, zero, suc, ◌<◌, ◌≤◌, ◌+◌, ◌-◌, ◌/◌, ◌%◌, ◌==◌, ℤ, List, replicate, slice_set, Option, Some, None, Result, Ok, Err, if◌then◌else◌}
-use Rattle.std.specs.Int.{w8}
+-- A program from its first step to its end (RFC 0003; RFC 0014 for the cycles). What an ECALL does is a parameter of a
+-- run, its answer: a program runs alone (specs/Alone.antt), or with the syscalls that a chain offers to it.
+use Rattle.std.specs.Prelude.{◌≡◌, ℕ, zero, suc, ◌<◌, ◌≤◌, ◌+◌, ◌-◌, ◌/◌, List, replicate, slice_set, Option, Some, None, Result, Ok, Err, if◌then◌else◌}
 use Rattle.vm_defs.specs.declared.step.Step.{Step}
 use Rattle.vm_defs.specs.declared.step.Step.TheVariants as step
 use Rattle.vm_defs.specs.declared.outcome.Outcome.{Outcome}
-use Rattle.vm_defs.specs.declared.outcome.Outcome.TheVariants.{Exit, Fault, Spent}
-use Rattle.vm_defs.specs.Alu.{signed}
+use Rattle.vm_defs.specs.declared.outcome.Outcome.TheVariants.{Fault, Spent}
 use Rattle.vm_defs.specs.Memory.{Memory}
-use Rattle.vm_defs.specs.Step.{Machine, register, step_of, charged, is_spent}
+use Rattle.vm_defs.specs.Step.{Machine, step_of, charged, is_spent}
 use Rattle.vm_defs.specs.Elf as elf
 
 -- ---- the start: all registers are 0 but the stack pointer, 16 bytes below the end of memory
@@ -27,83 +25,128 @@ new_machine memory pc budget =
 abbrev pub loading_cycles : ℕ → ℕ
 loading_cycles count = (count + 3) / 4
 
--- ---- the calls of the system
+-- ---- the first step whose answer is not Went
 
--- the number of the call, in a7, and its first argument, in a0
-abbrev pub call_number : Machine → ℕ
-call_number machine = register machine 17
+-- Steps follow a step that went.
+abbrev pub followed : (Machine → Step × Machine) → Step → Machine → Step × Machine
+followed continue step.Went machine = continue machine
+followed continue answer machine = (answer, machine)
 
-abbrev pub first_argument : Machine → ℕ
-first_argument machine = register machine 10
+-- at most so many steps (Where each of them goes, the value is not used: `stop_of` has steps enough.)
+unfoldable pub stop_within : ℕ → Machine → Step × Machine
+stop_within zero machine = (step.Spent, machine)
+stop_within (suc steps) machine = let next = step_of machine in followed (stop_within steps) next.0 next.1
 
--- the low byte of a register, signed
-abbrev pub exit_code : ℕ → ℤ
-exit_code n = signed w8 (n % 256)
+-- Each step that goes costs a cycle at least, so there are at most as many of those as the budget has cycles left, and
+-- one that does not (proofs/ProgramLaws).
+abbrev pub stop_of : Machine → Step × Machine
+stop_of machine = stop_within (suc (machine.budget - machine.cycles)) machine
 
--- There are two calls: 93 ends the program with the low byte of its argument, and 2177 (debug) changes nothing.
--- Any other is fault 5.
-abbrev pub called : Machine → Option Outcome
-called machine =
-    if call_number machine == 93 then Some (Exit (exit_code (first_argument machine)))
-    else if call_number machine == 2177 then None
-    else Some (Fault 5)
+-- So many steps, each of which went, lead from one machine to another.
+abbrev pub Leads : ℕ → Machine → Machine → Type 0
+Leads zero from to = to ≡ from
+Leads (suc steps) from to = (last : Machine) × Leads steps from last × ((step.Went, to) ≡ step_of last)
 
 -- ---- a run
 
--- how a step ended the program, or none where it goes on
-abbrev pub ended_by : Step → Machine → Option Outcome
-ended_by step.Went machine = None
-ended_by step.Ecall machine = called machine
-ended_by (step.Fault number) machine = Some (Fault number)
-ended_by step.Spent machine = Some Spent
+-- What an ECALL does: how it ends the program, if it does, and the machine after it.
+abbrev pub Answer : Type 0
+Answer = Machine → Option Outcome × Machine
+
+-- the same of a step, whose ECALL is answered
+abbrev pub answered : Answer → Step → Machine → Option Outcome × Machine
+answered answer step.Went machine = (None, machine)
+answered answer step.Ecall machine = answer machine
+answered answer (step.Fault number) machine = (Some (Fault number), machine)
+answered answer step.Spent machine = (Some Spent, machine)
 -- no step by the definitions ends so
-ended_by step.NoMemory machine = Some Spent
+answered answer step.NoMemory machine = (Some Spent, machine)
+
+abbrev pub advance : Answer → Machine → Option Outcome × Machine
+advance answer machine = let next = step_of machine in answered answer next.0 next.1
+
+-- So many steps, with their answers, lead a program from one machine to another.
+abbrev pub Reaches : Answer → ℕ → Machine → Machine → Type 0
+Reaches answer zero from to = to ≡ from
+Reaches answer (suc steps) from to = (last : Machine) × Reaches answer steps from last × ((None, to) ≡ advance answer last)
 
 -- how a program ended, and after how many cycles
-abbrev pub Ending : Type 0
-Ending = Outcome × ℕ
+abbrev pub Ended : Type 0
+Ended = Outcome × ℕ
+
+-- The program has ended, or goes on.
+abbrev pub ended_or : (Machine → Ended) → Option Outcome → Machine → Ended
+ended_or continue (Some outcome) machine = (outcome, machine.cycles)
+ended_or continue None machine = continue machine
 
 -- The machine goes step by step, at most so many, until one ends the program. (Where none of them does, the value is
 -- not used: `run` has steps enough.)
-unfoldable pub run_for : ℕ → Machine → Ending
-run_for zero machine = (Spent, machine.cycles)
-run_for (suc steps) machine =
-    let next = step_of machine in
-    elim (ended_by next.0 next.1) [ Some outcome ↦ (outcome, next.1.cycles) | None ↦ run_for steps next.1 ]
+unfoldable pub run_for : Answer → ℕ → Machine → Ended
+run_for answer zero machine = (Spent, machine.cycles)
+run_for answer (suc steps) machine = let next = advance answer machine in ended_or (run_for answer steps) next.0 next.1
 
--- Each step that goes on costs a cycle at least, so there are at most as many of those as the budget has cycles left, and
--- one that ends the program (proofs/ProgramLaws).
-abbrev pub run : Machine → Ending
-run machine = run_for (suc (machine.budget - machine.cycles)) machine
+-- There are steps enough, as for `stop_of`.
+abbrev pub run : Answer → Machine → Ended
+run answer machine = run_for answer (suc (machine.budget - machine.cycles)) machine
 
 -- ---- what a run keeps
 
+-- An answer keeps the account: it leaves the budget, takes no cycles back, and goes on within the budget alone.
+pub record KeepsAccount (answer : Answer) : Type 0 where
+  pub budget : (machine : Machine) → (answer machine).1.budget ≡ machine.budget
+  pub cycles : (machine : Machine) → machine.cycles ≤ (answer machine).1.cycles
+  pub within : (machine : Machine) → machine.cycles ≤ machine.budget → (answer machine).0 ≡ None
+      → (answer machine).1.cycles ≤ machine.budget
+
+-- No step takes cycles back, or changes the budget.
+abbrev pub StepKeepsAccount : Type 0
+StepKeepsAccount = (machine : Machine) → let next = (step_of machine).1 in
+    (machine.cycles ≤ next.cycles) × (next.budget ≡ machine.budget)
+
 -- A step after which the program goes on has raised the cycles, by 1 at least, within a budget that stays.
-abbrev pub GoesOnWithinBudget : Type 0
-GoesOnWithinBudget = (machine : Machine) → let next = step_of machine in
-    ended_by next.0 next.1 ≡ None
-    → (machine.cycles < next.1.cycles) × (next.1.cycles ≤ next.1.budget) × (next.1.budget ≡ machine.budget)
+abbrev pub GoesOnWithinBudget : Answer → Type 0
+GoesOnWithinBudget answer = (machine : Machine) → let next = advance answer machine in
+    next.0 ≡ None → (machine.cycles < next.1.cycles) × (next.1.cycles ≤ next.1.budget) × (next.1.budget ≡ machine.budget)
+
+-- More steps than a run has do not change it.
+abbrev pub HasStepsEnough : Answer → Type 0
+HasStepsEnough answer = (steps : ℕ) (machine : Machine) → machine.budget - machine.cycles < steps
+    → run_for answer steps machine ≡ run answer machine
 
 -- A run is one step and, where that goes on, the run from there.
-abbrev pub RunsStepByStep : Type 0
-RunsStepByStep = (machine : Machine) → let next = step_of machine in
-    run machine ≡ elim (ended_by next.0 next.1) [ Some outcome ↦ (outcome, next.1.cycles) | None ↦ run next.1 ]
+abbrev pub RunsStepByStep : Answer → Type 0
+RunsStepByStep answer = (machine : Machine) → let next = advance answer machine in
+    run answer machine ≡ ended_or (run answer) next.0 next.1
+
+-- It is also the first step that does not go by itself, what comes of that, and the run from there.
+abbrev pub RunsStopByStop : Answer → Type 0
+RunsStopByStop answer = (machine : Machine) → let stop = stop_of machine in let next = answered answer stop.0 stop.1 in
+    run answer machine ≡ ended_or (run answer) next.0 next.1
+
+-- The first step that does not go is this one, or that from the next machine.
+abbrev pub StopsStepByStep : Type 0
+StopsStepByStep = (machine : Machine) → let next = step_of machine in stop_of machine ≡ followed stop_of next.0 next.1
 
 -- ---- a program from its file
 
 -- a run that is paid for before its first step
-abbrev pub run_after : ℕ → Machine → Ending
-run_after cost machine = let paid = charged machine cost in if is_spent paid then (Spent, paid.cycles) else run paid
+abbrev pub run_after : Answer → ℕ → Machine → Ended
+run_after answer cost machine =
+    let paid = charged machine cost in if is_spent paid then (Spent, paid.cycles) else run answer paid
 
 -- The cost of loading comes before the first step.
-abbrev pub run_program : ℕ → elf.Program → Ending
-run_program budget program =
-    run_after (loading_cycles program.file_bytes) (new_machine program.memory program.pc budget)
+abbrev pub run_loaded : Answer → ℕ → elf.Program → Ended
+run_loaded answer budget program =
+    run_after answer (loading_cycles program.file_bytes) (new_machine program.memory program.pc budget)
 
--- how the program of a file ends within a budget, or what is wrong with the file
-abbrev pub run_loaded : ℕ → Result elf.Program ℕ → Result Ending ℕ
-run_loaded budget (Ok program) = Ok (run_program budget program)
-run_loaded budget (Err condition) = Err condition
+-- what came of a file: its program ended, or the number of the condition that the file meets
+abbrev pub Execution : Type 0
+Execution = Result Ended ℕ
 
-unfoldable pub execution : ℕ → List ℕ → Result Ending ℕ
-execution budget file = run_loaded budget (elf.load_elf file)
+abbrev pub executed : Answer → ℕ → Result elf.Program ℕ → Execution
+executed answer budget (Ok program) = Ok (run_loaded answer budget program)
+executed answer budget (Err condition) = Err condition
+
+-- within a budget
+unfoldable pub execution : Answer → ℕ → List ℕ → Execution
+execution answer budget file = executed answer budget (elf.load_elf file)

@@ -2,17 +2,17 @@
 use Rattle.std.specs.Prelude.{ℕ, ◌+◌, ◌*◌, ◌/◌, ◌%◌, ◌^◌, ◌==◌, nat_lt, ℤ, Bool, not, List, slice_index, slice_set, Option, Some, None, Result, Ok, Err, if◌then◌else◌}
 use Rattle.std.specs.Int.{Width, w8, w16, w32, w64}
 use Rattle.std.specs.Int.RustNames.{int_lt}
-use Rattle.vm_defs.specs.declared.ins.Ins.{Ins}
-use Rattle.vm_defs.specs.declared.ins.Ins.TheVariants.{Lui, Auipc, Jal, Jalr, Beq, Bne, Blt, Bge, Bltu, Bgeu, Lb, Lh, Lw, Ld, Lbu, Lhu, Lwu, Sb, Sh, Sw, Sd, Addi, Slti, Sltiu, Xori, Ori, Andi, Slli, Srli, Srai, Addiw, Slliw, Srliw, Sraiw, Add, Sub, Sll, Slt, Sltu, Xor, Srl, Sra, Or, And, Mul, Mulh, Mulhsu, Mulhu, Div, Divu, Rem, Remu, Addw, Subw, Sllw, Srlw, Sraw, Mulw, Divw, Divuw, Remw, Remuw, Fence, FenceI, Ecall, Ebreak}
-use Rattle.vm_defs.specs.declared.alu.Alu.{Alu}
-use Rattle.vm_defs.specs.declared.alu.Alu.TheVariants as alu
+use Rattle.isa_defs.specs.declared.ins.Ins.{Ins}
+use Rattle.isa_defs.specs.declared.ins.Ins.TheVariants.{Lui, Auipc, Jal, Jalr, Beq, Bne, Blt, Bge, Bltu, Bgeu, Lb, Lh, Lw, Ld, Lbu, Lhu, Lwu, Sb, Sh, Sw, Sd, Addi, Slti, Sltiu, Xori, Ori, Andi, Slli, Srli, Srai, Addiw, Slliw, Srliw, Sraiw, Add, Sub, Sll, Slt, Sltu, Xor, Srl, Sra, Or, And, Mul, Mulh, Mulhsu, Mulhu, Div, Divu, Rem, Remu, Addw, Subw, Sllw, Srlw, Sraw, Mulw, Divw, Divuw, Remw, Remuw, Fence, FenceI, Ecall, Ebreak}
+use Rattle.isa_defs.specs.declared.alu.Alu.{Alu}
+use Rattle.isa_defs.specs.declared.alu.Alu.TheVariants as alu
 use Rattle.vm_defs.specs.declared.memory.MemFault.{MemFault}
 use Rattle.vm_defs.specs.declared.memory.MemFault.TheVariants.{Range, WriteCode, RunData}
 use Rattle.vm_defs.specs.declared.step.Step.{Step}
 use Rattle.vm_defs.specs.declared.step.Step.TheVariants as step
-use Rattle.vm_defs.specs.Alu.{bits_of, signed, value}
-use Rattle.vm_defs.specs.Decode.{decode}
-use Rattle.vm_defs.specs.Instruction.{cycles}
+use Rattle.isa_defs.specs.Alu.{bits_of, signed, value}
+use Rattle.isa_defs.specs.Instruction.{cycles}
+use Rattle.vm_defs.specs.Code.{instruction_at}
 use Rattle.vm_defs.specs.Memory as memory
 use Rattle.vm_defs.specs.Memory.{Memory}
 
@@ -186,11 +186,12 @@ execute machine (Some decoded) =
     let paid = charged machine (cycles decoded.0) in
     if is_spent paid then (step.Spent, paid) else effect paid decoded.1 decoded.0
 
-abbrev pub with_word : Machine → Result ℕ MemFault → Step × Machine
-with_word machine (Ok word) = execute machine (decode word)
-with_word machine (Err fault) = (step.Fault (fault_number fault), machine)
+abbrev pub with_instruction : Machine → Result (Option (Ins × ℕ)) MemFault → Step × Machine
+with_instruction machine (Ok decoded) = execute machine decoded
+with_instruction machine (Err fault) = (step.Fault (fault_number fault), machine)
 
 -- An odd address holds no instruction.
 unfoldable pub step_of : Machine → Step × Machine
 step_of machine =
-    if machine.pc % 2 == 1 then (step.Fault 4, machine) else with_word machine (memory.fetch machine.memory machine.pc)
+    if machine.pc % 2 == 1 then (step.Fault 4, machine)
+    else with_instruction machine (instruction_at machine.memory machine.pc)

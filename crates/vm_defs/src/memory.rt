@@ -1,3 +1,12 @@
+/// How many bytes memory has, from address 0 on (RFC 0003).
+pub const MEMORY_SIZE: u64 = 4_194_304;
+
+/// How many bytes a page has.
+pub const PAGE_SIZE: u64 = 4096;
+
+/// How many pages memory has.
+pub const PAGE_COUNT: u64 = MEMORY_SIZE / PAGE_SIZE;
+
 /// What a page of memory is for.
 #[derive(Clone, Copy, Debug, PartialEq, Eq)]
 pub enum PageKind {

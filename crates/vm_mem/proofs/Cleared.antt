@@ -1,14 +1,15 @@
--- Bytes that are made zero, in pages with room of their own and without.
-use Rattle.std.proofs.Common.{◌≡◌, ℕ, ◌+◌, ◌-◌, ◌/◌, ◌%◌, ◌<◌, ◌≤◌, true, false, ◌==◌, nat_lt, List, [], length, set, replicate, get_or, map, refl, sym, ◌∙◌, ap, subst, arith}
+-- Bytes that are made zero, in pages that are allocated and in others.
+use Rattle.std.proofs.Common.{◌≡◌, ℕ, ◌+◌, ◌-◌, ◌/◌, ◌%◌, ◌<◌, ◌≤◌, Bool, true, false, nat_lt, List, [], length, set, replicate, get_or, map, refl, sym, ◌∙◌, ap, subst, arith}
 use Rattle.std.specs.List.{concat}
-use Rattle.std.proofs.lemmas.List.{drop-replicate, length-replicate, map-set, take-replicate}
+use Rattle.std.proofs.Math.ListN.{drop_of_length-le}
+use Rattle.std.proofs.lemmas.Bool.Decides.{nat_tests}
+use Rattle.std.proofs.lemmas.List.{append-nil, drop-replicate, length-replicate, map-set, take-replicate}
 use Rattle.vm_defs.specs.Memory.{page_size, memory_size, overwritten}
-use Rattle.vm_mem.specs.Pages.{IsPage, whole, is_made, Pages, pages_of, written}
-use Rattle.vm_mem.proofs.Edited.{AreSound, length-overwritten, same-pages, through-same, whole-full}
+use Rattle.vm_mem.specs.Pages.{IsMarked, IsPage, whole, is_allocated, Pages, pages_of, written}
+use Rattle.vm_mem.proofs.Edited.{AreSound, length-overwritten, same-pages, through-same, whole-full, whole-zeros}
 use Rattle.vm_defs.proofs.Overwritten.{overwritten-more}
 use Rattle.vm_mem.proofs.Paging.{write-concat}
 use Rattle.vm_mem.proofs.Placed.{below-wholes, page-at, page-below, place-is, wholes}
-use Rattle.vm_mem.proofs.Wholes.{length-made, whole-empty, whole-made}
 use Rattle.vm_mem.proofs.Zeros.{replicate-add}
 
 zeros-over-zeros : (n at count : ℕ) → at + count ≤ n → overwritten {X = ℕ} (replicate n 0) at (replicate count 0) ≡ replicate n 0
@@ -24,6 +25,12 @@ zeros-over-zeros n at count h =
     )
     refl
 
+pub length-cleared : (page new : List ℕ) (at count : ℕ) → length page ≡ page_size → at + count ≤ page_size
+    → new ≡ overwritten page at (replicate count 0) → length new ≡ page_size
+length-cleared page new at count full h edit =
+    let room : at + length (replicate {A = ℕ} count 0) ≤ length page = rw (length-replicate {A = ℕ} count 0, full) h in
+    rw edit (length-overwritten page at (replicate count 0) room ∙ full)
+
 -- more zeros behind those that were written
 pub clear-more : (old now new : Pages) (at cleared size : ℕ) → now ≡ written old at (replicate cleared 0)
     → new ≡ written now (at + cleared) (replicate size 0) → new ≡ written old at (replicate (cleared + size) 0)
@@ -34,18 +41,27 @@ clear-more old now new at cleared size before after =
     (length-replicate {A = ℕ} cleared 0) (more ∙ ap (overwritten old.bytes at) (replicate-add {X = ℕ} cleared size 0)) in
     rw (after, before) (ap (λ b. record old { bytes = b }) joined)
 
--- a page with room of its own, and one without
-pub clear-made : (page new : List ℕ) (at count : ℕ) → IsPage page → false ≡ (length page == 0) → at + count ≤ page_size
+-- a page that is dirty, and one that is not
+pub clear-dirty : (page new : List ℕ) (at count : ℕ) → length page ≡ page_size → at + count ≤ page_size
     → new ≡ overwritten page at (replicate count 0) → whole new ≡ overwritten (whole page) at (replicate count 0)
-clear-made page new at count is some h edit =
-    let full = length-made page is some in
-    let room : at + length (replicate {A = ℕ} count 0) ≤ length page = rw (length-replicate {A = ℕ} count 0, full) h in
-    let size : length new ≡ page_size = rw edit (length-overwritten page at (replicate count 0) room ∙ full) in
-    rw (whole-full new size, whole-made page some) edit
+clear-dirty page new at count full h edit = rw (whole-full new (length-cleared page new at count full h edit), whole-full page full) edit
 
-pub clear-empty : (page : List ℕ) (at count : ℕ) → true ≡ (length page == 0) → at + count ≤ page_size
+pub clear-clean : (page : List ℕ) (at count : ℕ) → whole page ≡ replicate page_size 0 → at + count ≤ page_size
     → whole page ≡ overwritten (whole page) at (replicate count 0)
-clear-empty page at count none h = rw (whole-empty page none) (sym (zeros-over-zeros page_size at count h))
+clear-clean page at count zeros h = rw zeros (sym (zeros-over-zeros page_size at count h))
+
+-- a page that was cleared whole is zero
+pub clear-marked : (page new : List ℕ) (at count : ℕ) (dirty : Bool) → length page ≡ page_size → at + count ≤ page_size
+    → new ≡ overwritten page at (replicate count 0) → dirty ≡ nat_lt count page_size → IsMarked dirty new
+clear-marked page new at count true full h edit part = length-cleared page new at count full h edit
+clear-marked page new at count false full h edit part =
+    let all : count ≡ page_size = grind (arith, nat_tests, part, h) in
+    let start : at ≡ 0 = omega (arith, all, h) in
+    let past : length page ≤ 0 + length (replicate {A = ℕ} page_size 0) = rw (length-replicate {A = ℕ} page_size 0, full) (omega arith) in
+    whole-zeros new (edit ∙ rw (start, all, drop_of_length-le page {i = 0 + length (replicate {A = ℕ} page_size 0)} past) (append-nil (replicate page_size 0)))
+
+pub sized-is-page : (page new : List ℕ) → IsPage page → length new ≡ length page → IsPage new
+sized-is-page page new is same = rw same is
 
 -- a page among the others
 pub clear-pages : {X : Type 0} (f : X → List ℕ) (pages : List X) (page new : X) (at : ℕ) (bytes : List ℕ) (paged : Pages) → AreSound f pages
@@ -62,6 +78,6 @@ clear-pages f pages page new at bytes paged all is h le size edit view =
     subst (λ a. overwritten (concat (map whole (map f pages))) a bytes ≡ concat (set (map whole (map f pages)) i (overwritten (get_or (map whole (map f pages)) i []) o bytes))) (place-is at) e in
     let zeros : concat (map whole (map f (set pages i new))) ≡ overwritten (concat (map whole (map f pages))) at bytes =
     rw (e', old, map-set f pages i new, map-set whole (map f pages) i (f new), edit) refl in
-    let made : map is_made (map f (set pages i new)) ≡ map is_made (map f pages) =
-    through-same f is_made pages page new i is below (ap (λ n. nat_lt 0 n) size) in
-    rw (← view) (same-pages (map f pages) (map f (set pages i new)) at bytes zeros made)
+    let allocated : map is_allocated (map f (set pages i new)) ≡ map is_allocated (map f pages) =
+    through-same f is_allocated pages page new i is below (ap (λ n. nat_lt 0 n) size) in
+    rw (← view) (same-pages (map f pages) (map f (set pages i new)) at bytes zeros allocated)

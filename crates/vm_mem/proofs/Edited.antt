@@ -6,7 +6,7 @@ use Rattle.std.proofs.lemmas.List.{get_or-map, length-map, map-set, set-get_or, 
 use Rattle.std.proofs.lemmas.List.Elements.{All-set}
 use Rattle.std.proofs.lemmas.Bool.{false≢true, cases_eq}
 use Rattle.vm_defs.specs.Memory.{page_size, page_count, memory_size, overwritten}
-use Rattle.vm_mem.specs.Pages.{IsPage, IsMade, whole, is_made, Pages, pages_of, written}
+use Rattle.vm_mem.specs.Pages.{IsPage, IsAllocated, IsMarked, whole, is_allocated, Pages, pages_of, written}
 use Rattle.vm_mem.proofs.Paging.{write-concat}
 use Rattle.vm_mem.proofs.Placed.{wholes, below-wholes, page-below, place-is}
 use Rattle.vm_mem.proofs.Wholes.{whole-empty}
@@ -31,14 +31,25 @@ through-same f g pages page new i is h same =
 pub sound : {X : Type 0} (f : X → List ℕ) (pages : List X) (new : X) (i : ℕ) → AreSound f pages → IsPage (f new) → AreSound f (set pages i new)
 sound f pages new i all is = (length-set pages i new ∙ all.0, All-set (λ page. IsPage (f page)) pages i new is all.1)
 
-whole-zeros : (page : List ℕ) → page ≡ replicate page_size 0 → whole page ≡ replicate page_size 0
+pub whole-zeros : (page : List ℕ) → page ≡ replicate page_size 0 → whole page ≡ replicate page_size 0
 unfolding whole
 whole-zeros page is = rw is refl
+
+-- a new page keeps the marks right
+pub marked : {X : Type 0} (f : X → List ℕ) (d : X → Bool) (pages : List X) (new : X) (i : ℕ) → All (λ page. IsMarked (d page) (f page)) pages
+    → IsMarked (d new) (f new) → All (λ page. IsMarked (d page) (f page)) (set pages i new)
+marked f d pages new i all is = All-set (λ page. IsMarked (d page) (f page)) pages i new is all
+
+pub zeros-are-marked : (dirty : Bool) (page : List ℕ) → dirty ≡ false → page ≡ replicate page_size 0 → IsMarked dirty page
+zeros-are-marked dirty page clean is = rw clean (whole-zeros page is)
+
+pub full-is-marked : (dirty : Bool) (page : List ℕ) → dirty ≡ true → length page ≡ page_size → IsMarked dirty page
+full-is-marked dirty page is full = rw is full
 
 pub zeros-are-page : (page : List ℕ) → page ≡ replicate page_size 0 → IsPage page
 zeros-are-page page is = inr (rw is refl)
 
--- a page is made
+-- a page is allocated
 pub make-bytes : {X : Type 0} (f : X → List ℕ) (pages : List X) (page new : X) (i : ℕ) → page ≡ get_or pages i page → i < length pages
     → true ≡ (length (f page) == 0) → f new ≡ replicate page_size 0
     → concat (map whole (map f (set pages i new))) ≡ concat (map whole (map f pages))
@@ -46,72 +57,72 @@ make-bytes f pages page new i is h empty zeros =
     ap concat (through-same f whole pages page new i is h (whole-zeros (f new) zeros ∙ sym (whole-empty (f page) empty)))
 
 pub make-made : {X : Type 0} (f : X → List ℕ) (pages : List X) (new : X) (i : ℕ) → f new ≡ replicate page_size 0
-    → map is_made (map f (set pages i new)) ≡ set (map is_made (map f pages)) i true
+    → map is_allocated (map f (set pages i new)) ≡ set (map is_allocated (map f pages)) i true
 make-made f pages new i zeros =
-    let made : is_made (f new) ≡ true = rw zeros refl in
-    rw (map-set f pages i new, map-set is_made (map f pages) i (f new), made) refl
+    let allocated : is_allocated (f new) ≡ true = rw zeros refl in
+    rw (map-set f pages i new, map-set is_allocated (map f pages) i (f new), allocated) refl
 
--- and a page that was made stays as it is
-is_made-full : (page : List ℕ) → false ≡ (length page == 0) → is_made page ≡ true
+-- and a page that was allocated stays as it is
+is_made-full : (page : List ℕ) → false ≡ (length page == 0) → is_allocated page ≡ true
 is_made-full page h = grind arith
 
-is_made-empty : (page : List ℕ) → true ≡ (length page == 0) → is_made page ≡ false
+is_made-empty : (page : List ℕ) → true ≡ (length page == 0) → is_allocated page ≡ false
 is_made-empty page h = grind arith
 
 pub full-is-made : {X : Type 0} (f : X → List ℕ) (pages : List X) (page : X) (i : ℕ) → page ≡ get_or pages i page → i < length pages
-    → false ≡ (length (f page) == 0) → IsMade (map is_made (map f pages)) i
-full-is-made f pages page i is h full = through f is_made pages page i false is h ∙ is_made-full (f page) full
+    → false ≡ (length (f page) == 0) → IsAllocated (map is_allocated (map f pages)) i
+full-is-made f pages page i is h full = through f is_allocated pages page i false is h ∙ is_made-full (f page) full
 
 pub made-is : {X : Type 0} (f : X → List ℕ) (pages : List X) (page : X) (i : ℕ) (empty : Bool) → page ≡ get_or pages i page → i < length pages
-    → empty ≡ (length (f page) == 0) → not empty ≡ get_or (map is_made (map f pages)) i false
+    → empty ≡ (length (f page) == 0) → not empty ≡ get_or (map is_allocated (map f pages)) i false
 made-is f pages page i empty is h =
-    elim empty as (λ e. e ≡ (length (f page) == 0) → not e ≡ get_or (map is_made (map f pages)) i false) [
-      | true ↦ λ none. sym (through f is_made pages page i false is h ∙ is_made-empty (f page) none)
-      | false ↦ λ some. sym (through f is_made pages page i false is h ∙ is_made-full (f page) some)
+    elim empty as (λ e. e ≡ (length (f page) == 0) → not e ≡ get_or (map is_allocated (map f pages)) i false) [
+      | true ↦ λ none. sym (through f is_allocated pages page i false is h ∙ is_made-empty (f page) none)
+      | false ↦ λ some. sym (through f is_allocated pages page i false is h ∙ is_made-full (f page) some)
     ]
 
 pub make-is-made : {X : Type 0} (f : X → List ℕ) (pages : List X) (new : X) (i : ℕ) → i < length pages → f new ≡ replicate page_size 0
-    → IsMade (map is_made (map f (set pages i new))) i
+    → IsAllocated (map is_allocated (map f (set pages i new))) i
 make-is-made f pages new i h zeros =
     rw (make-made f pages new i zeros)
-    (get_or-set_same (map is_made (map f pages)) i true false (rw (length-map (map f pages) is_made, length-map pages f) h))
+    (get_or-set_same (map is_allocated (map f pages)) i true false (rw (length-map (map f pages) is_allocated, length-map pages f) h))
 
 pub make-stays : {X : Type 0} (f : X → List ℕ) (pages : List X) (new : X) (i : ℕ) → i < length pages → f new ≡ replicate page_size 0
-    → (other : ℕ) → IsMade (map is_made (map f pages)) other → IsMade (map is_made (map f (set pages i new))) other
-make-stays f pages new i h zeros other made =
+    → (other : ℕ) → IsAllocated (map is_allocated (map f pages)) other → IsAllocated (map is_allocated (map f (set pages i new))) other
+make-stays f pages new i h zeros other allocated =
     elim (cases_eq other i) [
       | inl same ↦ rw same (make-is-made f pages new i h zeros)
-      | inr apart ↦ rw (make-made f pages new i zeros, get_or-set_other (map is_made (map f pages)) i other true false apart) made
+      | inr apart ↦ rw (make-made f pages new i zeros, get_or-set_other (map is_allocated (map f pages)) i other true false apart) allocated
     ]
 
 pub make-only : {X : Type 0} (f : X → List ℕ) (pages : List X) (new : X) (i : ℕ) → f new ≡ replicate page_size 0
-    → (other : ℕ) → IsMade (map is_made (map f (set pages i new))) other → IsMade (map is_made (map f pages)) other ⊎ (other ≡ i)
-make-only f pages new i zeros other made =
+    → (other : ℕ) → IsAllocated (map is_allocated (map f (set pages i new))) other → IsAllocated (map is_allocated (map f pages)) other ⊎ (other ≡ i)
+make-only f pages new i zeros other allocated =
     elim (cases_eq other i) [
       | inl same ↦ inr same
       | inr apart ↦ inl (sym (ap (λ m. get_or m other false) (make-made f pages new i zeros)
-          ∙ get_or-set_other (map is_made (map f pages)) i other true false apart) ∙ made)
+          ∙ get_or-set_other (map is_allocated (map f pages)) i other true false apart) ∙ allocated)
     ]
 
 pub empty-not-made : {X : Type 0} (f : X → List ℕ) (pages : List X) (page : X) (i : ℕ) → page ≡ get_or pages i page → i < length pages
-    → true ≡ (length (f page) == 0) → IsMade (map is_made (map f pages)) i → ⊥
-empty-not-made f pages page i is h empty made =
-    false≢true (sym (is_made-empty (f page) empty) ∙ sym (through f is_made pages page i false is h) ∙ made)
+    → true ≡ (length (f page) == 0) → IsAllocated (map is_allocated (map f pages)) i → ⊥
+empty-not-made f pages page i is h empty allocated =
+    false≢true (sym (is_made-empty (f page) empty) ∙ sym (through f is_allocated pages page i false is h) ∙ allocated)
 
 pub made-full : {X : Type 0} (f : X → List ℕ) (pages : List X) (page : X) (i : ℕ) → AreSound f pages → page ≡ get_or pages i page → i < length pages
-    → IsMade (map is_made (map f pages)) i → length (f page) ≡ page_size
-made-full f pages page i all is h made =
-    let it : is_made (f page) ≡ true = sym (through f is_made pages page i false is h) ∙ made in
+    → IsAllocated (map is_allocated (map f pages)) i → length (f page) ≡ page_size
+made-full f pages page i all is h allocated =
+    let it : is_allocated (f page) ≡ true = sym (through f is_allocated pages page i false is h) ∙ allocated in
     let sized : IsPage (f (get_or pages i page)) = all.1 i page h in
     let sized' : IsPage (f page) = subst (λ p. IsPage (f p)) (sym is) sized in
     elim sized' [ inl none ↦ absurd (false≢true (sym (rw none refl) ∙ it)) | inr full ↦ full ]
 
 pub page-full : {X : Type 0} (f : X → List ℕ) (pages : List X) (page : X) (at : ℕ) (paged : Pages) → AreSound f pages
-    → page ≡ get_or pages (at / page_size) page → at < memory_size → pages_of (map f pages) ≡ paged → IsMade paged.made (at / page_size)
+    → page ≡ get_or pages (at / page_size) page → at < memory_size → pages_of (map f pages) ≡ paged → IsAllocated paged.allocated (at / page_size)
     → length (f page) ≡ page_size
-page-full f pages page at paged all is h view made =
-    let made' = subst (λ p. IsMade p.made (at / page_size)) (sym view) made in
-    made-full f pages page (at / page_size) all is (page-below at (length pages) all.0 h) made'
+page-full f pages page at paged all is h view allocated =
+    let allocated' = subst (λ p. IsAllocated p.allocated (at / page_size)) (sym view) allocated in
+    made-full f pages page (at / page_size) all is (page-below at (length pages) all.0 h) allocated'
 
 -- a page is written
 pub length-overwritten : (page : List ℕ) (o : ℕ) (bytes : List ℕ) → o + length bytes ≤ length page → length (overwritten page o bytes) ≡ length page
@@ -150,12 +161,12 @@ write-bytes f pages page new at bytes all is h le full edit =
 
 pub write-made : {X : Type 0} (f : X → List ℕ) (pages : List X) (page new : X) (i : ℕ) → page ≡ get_or pages i page → i < length pages
     → length (f page) ≡ page_size → length (f new) ≡ page_size
-    → map is_made (map f (set pages i new)) ≡ map is_made (map f pages)
+    → map is_allocated (map f (set pages i new)) ≡ map is_allocated (map f pages)
 write-made f pages page new i is h full full' =
-    through-same f is_made pages page new i is h (rw (full, full') refl)
+    through-same f is_allocated pages page new i is h (rw (full, full') refl)
 
 pub same-pages : (contents contents' : List (List ℕ)) (at : ℕ) (bytes : List ℕ)
-    → concat (map whole contents') ≡ overwritten (concat (map whole contents)) at bytes → map is_made contents' ≡ map is_made contents
+    → concat (map whole contents') ≡ overwritten (concat (map whole contents)) at bytes → map is_allocated contents' ≡ map is_allocated contents
     → pages_of contents' ≡ written (pages_of contents) at bytes
 same-pages contents contents' at bytes b m = rw (b, m) refl
 

@@ -7,3 +7,5 @@ pub mod Making
 pub mod Overwriting
 pub mod Cleared
 pub mod WithinPage
+pub mod Slotted
+pub mod StoreLaws

@@ -1,4 +1,4 @@
--- The bytes of a page, with room of its own or without.
+-- The bytes of a page, allocated or not.
 use Rattle.std.proofs.Common.{◌≡◌, ℕ, ◌+◌, ◌-◌, ◌≤◌, true, false, ◌==◌, List, length, replicate, slice_range, refl, sym, arith, inl, inr}
 use Rattle.std.proofs.lemmas.List.{take-replicate, drop-replicate, length-replicate}
 use Rattle.vm_defs.specs.Memory.{number_of, page_size}

@@ -1,9 +1,9 @@
 -- Pages that were never stored to.
-use Rattle.std.proofs.Common.{◌≡◌, ℕ, zero, suc, ◌+◌, ◌*◌, ◌<◌, ◌≤◌, false, List, [], ◌∷◌, ◌++◌, length, replicate, get_or, map, refl, sym, ◌∙◌, ap, arith, inl}
+use Rattle.std.proofs.Common.{◌≡◌, ℕ, zero, suc, ◌+◌, ◌*◌, ◌<◌, ◌≤◌, Bool, false, List, [], ◌∷◌, ◌++◌, length, replicate, get_or, map, refl, sym, ◌∙◌, ap, arith, inl}
 use Rattle.std.specs.List.{concat}
 use Rattle.std.proofs.lemmas.List.{length-map, length-replicate, get_or-map, get_or-replicate, map-append}
 use Rattle.vm_defs.specs.Memory.{page_size, page_count, memory_size}
-use Rattle.vm_mem.specs.Pages.{whole, is_made}
+use Rattle.vm_mem.specs.Pages.{IsMarked, whole, is_allocated}
 use Rattle.vm_mem.proofs.Edited.{AreSound}
 use Rattle.vm_mem.proofs.Wholes.{whole-empty}
 
@@ -32,6 +32,9 @@ new-sound f pages is = (
 whole-nil : whole [] ≡ replicate page_size 0
 whole-nil = whole-empty [] refl
 
+pub nothing-is-marked : (dirty : Bool) (page : List ℕ) → dirty ≡ false → page ≡ [] → IsMarked dirty page
+nothing-is-marked dirty page clean none = rw (clean, none) whole-nil
+
 zero-pages : (w : List ℕ → List ℕ) (n k : ℕ) → w [] ≡ replicate n 0 → concat (map w (replicate k [])) ≡ replicate (n * k) 0
 zero-pages w n zero is = let e : n * zero ≡ zero = omega arith in rw e refl
 zero-pages w n (suc k) is =
@@ -45,11 +48,11 @@ size-is = refl
 pub new-bytes : (contents : List (List ℕ)) → contents ≡ replicate page_count [] → concat (map whole contents) ≡ replicate memory_size 0
 new-bytes contents is = rw (is, ← size-is) (zero-pages whole page_size page_count whole-nil)
 
-none-made : (k : ℕ) → map is_made (replicate k []) ≡ replicate k false
+none-made : (k : ℕ) → map is_allocated (replicate k []) ≡ replicate k false
 none-made zero = refl
 none-made (suc k) = rw (none-made k) refl
 
-pub new-made : (contents : List (List ℕ)) → contents ≡ replicate page_count [] → map is_made contents ≡ replicate page_count false
+pub new-made : (contents : List (List ℕ)) → contents ≡ replicate page_count [] → map is_allocated contents ≡ replicate page_count false
 new-made contents is = rw is (none-made page_count)
 
 pub count-is : (n : ℕ) → 1024 ≤ n → n ≤ 1024 → n ≡ page_count

@@ -1,2 +1,4 @@
 pub mod Pages
 pub mod Paged
+pub mod Slots
+pub mod Laws

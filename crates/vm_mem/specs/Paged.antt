@@ -1,15 +1,15 @@
--- What contracts see of a `Memory`: the machine's memory, and which of its pages have room of their own.
+-- What contracts see of a `Memory`: the machine's memory, and which of its pages are allocated.
 use Rattle.std.specs.Prelude.{◌≡◌, ℕ, ◌+◌, ◌/◌, ◌%◌, ◌<◌, ◌≤◌, Bool, List, slice_index_or, Result, Ok, Err}
 use Rattle.vm_defs.specs.Memory.{Memory, memory_size, page_size}
 use Rattle.vm_defs.specs.declared.memory.PageKind.TheVariants.{Data}
 use Rattle.vm_defs.specs.declared.memory.MemFault.{MemFault}
 use Rattle.vm_mem.specs.declared.stop.MemStop.{MemStop}
 use Rattle.vm_mem.specs.declared.stop.MemStop.TheVariants.{Fault, NoMemory}
-use Rattle.vm_mem.specs.Pages.{IsMade}
+use Rattle.vm_mem.specs.Pages.{IsAllocated}
 
 pub record PagedMemory : Type 0 where
   pub memory : Memory
-  pub made : List Bool
+  pub allocated : List Bool
 
 -- A store: what the machine's memory is to become, or the fault; memory before and after; the answer. A
 -- fault is found before memory is taken, and a refused store leaves each byte as it was.
@@ -21,9 +21,9 @@ Stores (Err expected) old new (Ok done) = ⊥
 Stores (Err expected) old new (Err NoMemory) = ⊥
 Stores (Err expected) old new (Err (Fault fault)) = (fault ≡ expected) × (new ≡ old)
 
--- Bytes at an address that lie in one page of data with room of its own.
+-- Bytes at an address that lie in one page of data that is allocated.
 pub record IsReady (paged : PagedMemory) (at count : ℕ) : Type 0 where
   pub inside : at < memory_size
   pub within : at % page_size + count ≤ page_size
   pub data_page : slice_index_or paged.memory.kinds (at / page_size) Data ≡ Data
-  pub made : IsMade paged.made (at / page_size)
+  pub allocated : IsAllocated paged.allocated (at / page_size)

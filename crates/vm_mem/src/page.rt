@@ -1,7 +1,71 @@
-// Numbers in one page. A page with no room of its own is zero.
-ghost use Rattle.std.specs.Prelude.{◌≡◌, ◌+◌, ◌%◌, ◌^◌, ◌≤◌, length, replicate, slice_range};
+// One page: its bytes, and numbers in them. A page that is not allocated is zero.
+ghost use Rattle.std.specs.Prelude.{◌≡◌, ◌+◌, ◌%◌, ◌^◌, ◌≤◌, [], length, false, true, replicate, slice_range, IfOk};
 ghost use Rattle.vm_defs.specs.Memory.{number_of, overwritten, page_size};
-ghost use Rattle.vm_mem.specs.Pages.{IsPage, whole};
+ghost use Rattle.vm_mem.specs.Pages.{IsMarked, IsPage, whole};
+
+use super::pages::PAGE_SIZE;
+use outside::NoMemory;
+use std::alloc::Global;
+
+/// The bytes of a page, or none where it is not allocated, and whether they may be other than zero.
+#[derive(Drop)]
+pub(crate) struct Page {
+    pub(crate) bytes: Vec<u8>,
+    pub(crate) is_dirty: bool,
+}
+
+impl Page {
+    /// A page that is not allocated.
+    #[inline]
+    pub(crate) fn new(alloc: Global) -> Page
+        ensures bytes { result.bytes.items ≡ [] }
+        ensures clean { result.is_dirty ≡ false }
+    {
+        Page {
+            bytes: Vec::new(alloc),
+            is_dirty: false,
+        }
+    }
+
+    /// An allocated page of zeros.
+    #[inline]
+    pub(crate) fn zeros(alloc: Global) -> Result<Page, NoMemory>
+        ensures bytes { IfOk result (λ page. page.bytes.items ≡ replicate page_size 0) }
+        ensures clean { IfOk result (λ page. page.is_dirty ≡ false) }
+    {
+        Ok(Page {
+            bytes: vec![in alloc; 0u8; PAGE_SIZE]?,
+            is_dirty: false,
+        })
+    }
+
+    /// Writes bytes to a page that is allocated.
+    #[inline(always)]
+    pub(crate) fn write(&mut self, offset: usize, bytes: &[u8])
+        requires allocated { length self.old.bytes.items ≡ page_size }
+        requires within { offset + length bytes.now ≤ page_size }
+        ensures written { self.new.bytes.items ≡ overwritten self.old.bytes.items offset bytes.now }
+        ensures dirty { self.new.is_dirty ≡ true }
+    {
+        overwrite(&mut self.bytes, offset, bytes);
+        self.is_dirty = true;
+    }
+
+    /// Makes bytes zero. A page that is not dirty has no other, and one is clean after it was cleared whole.
+    #[inline]
+    pub(crate) fn clear(&mut self, offset: usize, count: usize)
+        requires marked { IsMarked self.old.is_dirty self.old.bytes.items }
+        requires within { offset + count ≤ page_size }
+        ensures zeros { whole self.new.bytes.items ≡ overwritten (whole self.old.bytes.items) offset (replicate count 0) }
+        ensures size { length self.new.bytes.items ≡ length self.old.bytes.items }
+        ensures marked { IsMarked self.new.is_dirty self.new.bytes.items }
+    {
+        if self.is_dirty {
+            overwrite_with_zeros(&mut self.bytes, offset, count);
+            self.is_dirty = count < PAGE_SIZE;
+        }
+    }
+}
 
 #[inline(always)]
 pub(crate) fn read_u8(page: &[u8], offset: usize) -> u8
@@ -82,16 +146,4 @@ pub(crate) fn overwrite_with_zeros(page: &mut [u8], offset: usize, count: usize)
     ensures { page.new ≡ overwritten page.old offset (replicate count 0) }
 {
     page[offset..offset + count].fill(0);
-}
-
-// Makes bytes of a page zero. One with no room of its own has no other.
-#[inline]
-pub(crate) fn clear(page: &mut [u8], offset: usize, count: usize)
-    requires page { IsPage page.old }
-    requires within { offset + count ≤ page_size }
-    ensures { whole page.new ≡ overwritten (whole page.old) offset (replicate count 0) }
-{
-    if !page.is_empty() {
-        overwrite_with_zeros(page, offset, count);
-    }
 }

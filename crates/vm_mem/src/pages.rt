@@ -1,21 +1,22 @@
 // Bytes in pages that take memory at their first store.
 ghost use Rattle.std.specs.Prelude.{◌≡◌, ℕ, ◌+◌, ◌*◌, ◌/◌, ◌%◌, ◌^◌, ◌<◌, ◌≤◌, ◌⊎◌, length, false, replicate, slice_index_or, slice_range, IsOk, OnOk, IfOk};
 ghost use Rattle.vm_defs.specs.Memory.{number_of, memory_size, page_size, page_count};
-ghost use Rattle.vm_mem.specs.Pages.{AreMade, IsMade, IsUnder, written};
+ghost use Rattle.vm_mem.specs.Pages.{AreAllocated, IsAllocated, IsUnder, written};
 
 use super::page;
+use super::page::Page;
 use outside::NoMemory;
 use std::alloc::Global;
 use std::marker::Model;
 
-pub(crate) const PAGE_SIZE: usize = 4096;
+pub(crate) const PAGE_SIZE: usize = vm_defs::PAGE_SIZE as usize;
 
-pub(crate) const PAGE_COUNT: usize = 1024;
+pub(crate) const PAGE_COUNT: usize = vm_defs::PAGE_COUNT as usize;
 
-/// All bytes of memory, and which pages have room of their own.
+/// All bytes of memory, and which pages are allocated.
 #[derive(Drop)]
 pub(crate) struct Pages {
-    pages: Vec<Vec<u8>>,
+    pages: Vec<Page>,
 }
 
 impl Model for Pages {
@@ -26,9 +27,10 @@ impl Model for Pages {
 
     ghost Value = { spec.Pages };
 
-    ghost view = { λ p. spec.pages_of (map (λ page. page.items) p.pages.items) };
+    ghost view = { λ p. spec.pages_of (map (λ page. page.bytes.items) p.pages.items) };
 
-    ghost invariant = { λ p. (length p.pages.items ≡ page_count) × All (λ page. spec.IsPage page.items) p.pages.items };
+    ghost invariant = { λ p. ((length p.pages.items ≡ page_count) × All (λ page. spec.IsPage page.bytes.items) p.pages.items)
+        × All (λ page. spec.IsMarked page.is_dirty page.bytes.items) p.pages.items };
 }
 
 impl Pages {
@@ -36,11 +38,11 @@ impl Pages {
     #[tactic(auto, unfolding(vm_defs::specs::Memory::page_count))]
     pub(crate) fn new(alloc: Global) -> Result<Pages, NoMemory>
         ensures bytes { IfOk result (λ pages. pages.bytes ≡ replicate memory_size 0) }
-        ensures made { IfOk result (λ pages. pages.made ≡ replicate page_count false) }
+        ensures allocated { IfOk result (λ pages. pages.allocated ≡ replicate page_count false) }
     {
         let mut pages = Vec::with_capacity(alloc, PAGE_COUNT)?;
         for _ in 0..PAGE_COUNT {
-            pages.push(Vec::new(alloc))?;
+            pages.push(Page::new(alloc))?;
         }
         Ok(Pages { pages })
     }
@@ -51,7 +53,7 @@ impl Pages {
         requires { at + 1 ≤ memory_size }
         ensures { result ≡ number_of (slice_range self.now.bytes at (at + 1)) }
     {
-        page::read_u8(&self.pages[at / PAGE_SIZE], at % PAGE_SIZE)
+        page::read_u8(&self.pages[at / PAGE_SIZE].bytes, at % PAGE_SIZE)
     }
 
     #[tactic(auto, unfolding(vm_defs::specs::Memory::memory_size, vm_defs::specs::Memory::page_count))]
@@ -63,7 +65,7 @@ impl Pages {
         if at % PAGE_SIZE > PAGE_SIZE - 2 {
             return self.read_u16_over_pages(at);
         }
-        page::read_u16(&self.pages[at / PAGE_SIZE], at % PAGE_SIZE)
+        page::read_u16(&self.pages[at / PAGE_SIZE].bytes, at % PAGE_SIZE)
     }
 
     // A number over two pages is rare, and stays out of the code that reads one.
@@ -87,7 +89,7 @@ impl Pages {
         if at % PAGE_SIZE > PAGE_SIZE - 4 {
             return self.read_u32_over_pages(at);
         }
-        page::read_u32(&self.pages[at / PAGE_SIZE], at % PAGE_SIZE)
+        page::read_u32(&self.pages[at / PAGE_SIZE].bytes, at % PAGE_SIZE)
     }
 
     // As for two bytes.
@@ -111,7 +113,7 @@ impl Pages {
         if at % PAGE_SIZE > PAGE_SIZE - 8 {
             return self.read_u64_over_pages(at);
         }
-        page::read_u64(&self.pages[at / PAGE_SIZE], at % PAGE_SIZE)
+        page::read_u64(&self.pages[at / PAGE_SIZE].bytes, at % PAGE_SIZE)
     }
 
     // As for two bytes.
@@ -125,43 +127,48 @@ impl Pages {
         u64::from(self.read_u32(at)) + (u64::from(self.read_u32(at + 4)) << 32)
     }
 
-    /// Whether a page has room of its own.
+    /// Whether a page is allocated.
     #[tactic(auto, unfolding(vm_defs::specs::Memory::page_count))]
     #[inline(always)]
-    pub(crate) fn is_made(&self, page: usize) -> bool
+    pub(crate) fn is_allocated(&self, page: usize) -> bool
         requires { page < page_count }
-        ensures { result ≡ slice_index_or self.now.made page false }
+        ensures { result ≡ slice_index_or self.now.allocated page false }
     {
-        !self.pages[page].is_empty()
+        !self.pages[page].bytes.is_empty()
     }
 
-    // Gives one page room of its own.
+    // Allocates one page, if it is not.
     #[tactic(auto, unfolding(vm_defs::specs::Memory::memory_size, vm_defs::specs::Memory::page_count))]
     #[inline]
-    fn make_page(&mut self, alloc: Global, page: usize) -> Result<(), NoMemory>
+    fn allocate_page(&mut self, alloc: Global, page: usize) -> Result<(), NoMemory>
         requires { page < page_count }
         ensures bytes { self.new.bytes ≡ self.old.bytes }
-        ensures made { OnOk result (IsMade self.new.made page) }
-        ensures stay { (other : ℕ) → IsMade self.old.made other → IsMade self.new.made other }
-        ensures only { (other : ℕ) → IsMade self.new.made other → IsMade self.old.made other ⊎ (other ≡ page) }
-        ensures again { IsMade self.old.made page → IsOk result }
+        ensures allocated { OnOk result (IsAllocated self.new.allocated page) }
+        ensures pages_kept { (other : ℕ) → IsAllocated self.old.allocated other → IsAllocated self.new.allocated other }
+        ensures pages_added { (other : ℕ) → IsAllocated self.new.allocated other → IsAllocated self.old.allocated other ⊎ (other ≡ page) }
+        ensures needs_no_memory { IsAllocated self.old.allocated page → IsOk result }
     {
-        if self.pages[page].is_empty() {
-            self.pages[page] = vec![in alloc; 0u8; PAGE_SIZE]?;
+        if self.pages[page].bytes.is_empty() {
+            self.pages[page] = Page::zeros(alloc)?;
         }
         Ok(())
     }
 
-    /// Gives the pages of a range of bytes room of their own.
+    /// Allocates the pages of a range of bytes that are not.
     #[tactic(auto, unfolding(vm_defs::specs::Memory::memory_size, vm_defs::specs::Memory::page_count))]
     #[inline]
-    pub(crate) fn make(&mut self, alloc: Global, at: usize, count: usize) -> Result<(), NoMemory>
+    pub(crate) fn allocate(
+        &mut self,
+        alloc: Global,
+        at: usize,
+        count: usize,
+    ) -> Result<(), NoMemory>
         requires { at + count ≤ memory_size }
         ensures bytes { self.new.bytes ≡ self.old.bytes }
-        ensures made { OnOk result (AreMade self.new.made at count) }
-        ensures stay { (page : ℕ) → IsMade self.old.made page → IsMade self.new.made page }
-        ensures only { (page : ℕ) → IsMade self.new.made page → IsMade self.old.made page ⊎ IsUnder page at count }
-        ensures again { AreMade self.old.made at count → IsOk result }
+        ensures allocated { OnOk result (AreAllocated self.new.allocated at count) }
+        ensures pages_kept { (page : ℕ) → IsAllocated self.old.allocated page → IsAllocated self.new.allocated page }
+        ensures pages_added { (page : ℕ) → IsAllocated self.new.allocated page → IsAllocated self.old.allocated page ⊎ IsUnder page at count }
+        ensures needs_no_memory { AreAllocated self.old.allocated at count → IsOk result }
     {
         if count == 0 {
             return Ok(());
@@ -169,7 +176,7 @@ impl Pages {
         let first = at / PAGE_SIZE;
         let last = (at + count - 1) / PAGE_SIZE;
         for page in first..last + 1 {
-            self.make_page(alloc, page)?;
+            self.allocate_page(alloc, page)?;
         }
         Ok(())
     }
@@ -178,20 +185,20 @@ impl Pages {
     #[tactic(auto, unfolding(vm_defs::specs::Memory::memory_size, vm_defs::specs::Memory::page_count))]
     #[inline(always)]
     pub(crate) fn write_page(&mut self, at: usize, bytes: &[u8])
-        requires made { IsMade self.old.made (at / page_size) }
+        requires allocated { IsAllocated self.old.allocated (at / page_size) }
         requires memory { at < memory_size }
         requires within { at % page_size + length bytes.now ≤ page_size }
         ensures { self.new ≡ written self.old at bytes.now }
     {
-        page::overwrite(&mut self.pages[at / PAGE_SIZE], at % PAGE_SIZE, bytes);
+        self.pages[at / PAGE_SIZE].write(at % PAGE_SIZE, bytes);
     }
 
-    /// Writes bytes to pages that have room of their own.
+    /// Writes bytes to pages that are allocated.
     #[tactic(auto, unfolding(vm_defs::specs::Memory::memory_size, vm_defs::specs::Memory::page_count))]
     #[inline]
     pub(crate) fn write(&mut self, at: usize, bytes: &[u8])
         requires memory { at + length bytes.now ≤ memory_size }
-        requires made { AreMade self.old.made at (length bytes.now) }
+        requires allocated { AreAllocated self.old.allocated at (length bytes.now) }
         ensures { self.new ≡ written self.old at bytes.now }
     {
         let mut done = 0;
@@ -211,10 +218,10 @@ impl Pages {
         requires within { at % page_size + count ≤ page_size }
         ensures { self.new ≡ written self.old at (replicate count 0) }
     {
-        page::clear(&mut self.pages[at / PAGE_SIZE], at % PAGE_SIZE, count);
+        self.pages[at / PAGE_SIZE].clear(at % PAGE_SIZE, count);
     }
 
-    /// Makes bytes zero, and takes no memory.
+    /// Makes bytes zero, and takes no memory. The cost is that of the dirty pages, and one look at each other page.
     #[tactic(auto, unfolding(vm_defs::specs::Memory::memory_size, vm_defs::specs::Memory::page_count))]
     #[inline]
     pub(crate) fn clear(&mut self, at: usize, count: usize)

@@ -68,7 +68,7 @@ fn numbers_over_two_pages_and_at_the_end(rt: HostRuntime) {
 #[test]
 fn ranges_made_zero(rt: HostRuntime) {
     let mut memory = Memory::new(rt.alloc()).expect(&rt, "memory");
-    // from page 0 to page 3, where page 1 and page 2 have no room of their own
+    // from page 0 to page 3, where page 1 and page 2 are not allocated
     let low = memory.store(PAGE - 8, B8, TOP);
     assert!(&rt; low == Ok(()));
     let high = memory.store(3 * PAGE, B8, TOP);
@@ -132,8 +132,8 @@ fn pages_of_code(rt: HostRuntime) {
     assert!(&rt; beside == Ok(()));
     let none = memory.copy_in(PAGE, &[]);
     assert!(&rt; none == Ok(()));
-    let again = memory.set_code(0, 2);
-    assert!(&rt; again == Err(WriteCode));
+    let needs_no_memory = memory.set_code(0, 2);
+    assert!(&rt; needs_no_memory == Err(WriteCode));
     let last = memory.store(SIZE - 2, B2, 3);
     assert!(&rt; last == Ok(()));
     let end = memory.set_code(SIZE - PAGE, 2);
@@ -200,10 +200,10 @@ fn stores_at_the_end_of_a_page(rt: HostRuntime) {
     let mut memory = Memory::new(rt.alloc()).expect(&rt, "memory");
     let code = memory.set_code(2 * PAGE, 1);
     assert!(&rt; code == Ok(()));
-    // the page before has no room yet
+    // the page before is not allocated yet
     check_store(&rt, &mut memory, 2 * PAGE - 3, B4, 1, refused(WriteCode));
     check_store(&rt, &mut memory, 2 * PAGE - 4, B4, 0x4433_2211, Ok(()));
-    // and now it has
+    // and now it is
     check_store(&rt, &mut memory, 2 * PAGE - 4, B4, 0x8877_6655, Ok(()));
     check_store(&rt, &mut memory, 2 * PAGE - 3, B4, 1, refused(WriteCode));
     check_store(&rt, &mut memory, 2 * PAGE - 2, B4, 1, refused(WriteCode));
@@ -211,7 +211,7 @@ fn stores_at_the_end_of_a_page(rt: HostRuntime) {
     check_store(&rt, &mut memory, 2 * PAGE, B1, 1, refused(WriteCode));
     check_load(&rt, &memory, 2 * PAGE - 8, B8, Ok(0x8877_6655_0000_0000));
     check_load(&rt, &memory, 2 * PAGE, B8, Ok(0));
-    // the page before that has none: a store over both, and then again
+    // the page before that is not: a store over both, and then again
     check_store(&rt, &mut memory, PAGE - 1, B4, 0x0403_0201, Ok(()));
     check_store(&rt, &mut memory, PAGE - 3, B4, 0x1413_1211, Ok(()));
     check_load(&rt, &memory, PAGE - 4, B8, Ok(0x0004_0314_1312_1100));

@@ -4,7 +4,7 @@ use Rattle.vm_defs.specs.declared.memory.MemFault.{MemFault}
 use Rattle.vm_defs.specs.declared.step.Step.TheVariants.{Went, Ecall}
 use Rattle.vm_defs.specs.Memory.{Memory}
 use Rattle.vm_defs.specs.Step.{Machine, after, past_instruction, stored}
-use Rattle.vm_mem.specs.Pages.{IsMade}
+use Rattle.vm_mem.specs.Pages.{IsAllocated}
 use Rattle.vm_mem.specs.Paged.{PagedMemory, Stores}
 use Rattle.vm_step.specs.Running.{RunningMachine, ByteRange, Executes, HasRoom}
 
@@ -20,8 +20,8 @@ pub executes-went : (old new : RunningMachine) (machine : Machine) → old.goes_
 executes-went old new machine on changed = record {
   machine = ap (λ (running : RunningMachine). (Went, running.machine)) changed;
   room = λ has-room none. cc;
-  made = λ went. tt;
-  stay = λ page made. rw changed made;
+  allocated = λ went. tt;
+  pages_kept = λ page allocated. rw changed allocated;
   goes_on = ap (λ (running : RunningMachine). running.goes_on) changed ∙ on;
 }
 
@@ -31,8 +31,8 @@ pub executes-ecall : (old new : RunningMachine) (machine : Machine) → old.goes
 executes-ecall old new machine on changed = record {
   machine = ap (λ (running : RunningMachine). (Ecall, running.machine)) changed;
   room = λ has-room none. cc;
-  made = λ went. tt;
-  stay = λ page made. rw changed made;
+  allocated = λ went. tt;
+  pages_kept = λ page allocated. rw changed allocated;
   goes_on = ap (λ (running : RunningMachine). running.goes_on) changed ∙ on;
 }
 
@@ -44,16 +44,16 @@ advanced old seen length same = ap (λ (running : RunningMachine). with_pc runni
 -- The bytes were stored, and the next instruction follows.
 pub executes-stored : (expected : Result Memory MemFault) (range : Option ByteRange) (old seen : RunningMachine) (memory : PagedMemory) (length : ℕ)
     → seen ≡ old → old.goes_on ≡ true → Stores expected old.machine.memory memory.memory (Ok tt)
-    → HasRoom memory.made range → ((page : ℕ) → IsMade seen.made page → IsMade memory.made page)
+    → HasRoom memory.allocated range → ((page : ℕ) → IsAllocated seen.allocated page → IsAllocated memory.allocated page)
     → Executes (stored old.machine length expected) range old
-    (record seen { machine = past_instruction (record seen.machine { memory = memory.memory }) length; made = memory.made }) Went
-executes-stored (Ok changed) range old seen memory length same on is-stored made stay = record {
+    (record seen { machine = past_instruction (record seen.machine { memory = memory.memory }) length; allocated = memory.allocated }) Went
+executes-stored (Ok changed) range old seen memory length same on is-stored allocated pages_kept = record {
   machine =
       ap (λ (memory : Memory). (Went, past_instruction (record seen.machine { memory = memory }) length)) is-stored
       ∙ ap (λ (running : RunningMachine). (Went, past_instruction (record running.machine { memory = changed }) length)) same;
   room = λ has-room none. cc;
-  made = λ went. made;
-  stay = λ page made. stay page (rw same made);
+  allocated = λ went. allocated;
+  pages_kept = λ page allocated. pages_kept page (rw same allocated);
   goes_on = ap (λ (running : RunningMachine). running.goes_on) same ∙ on;
 }
-executes-stored (Err fault) range old seen memory length same on never made stay = absurd never
+executes-stored (Err fault) range old seen memory length same on never allocated pages_kept = absurd never

@@ -1,3 +1,4 @@
 pub mod Executing
 pub mod Stepping
 pub mod Paying
+pub mod Going

@@ -20,17 +20,17 @@ steps-paid expected old new cost NoMemory steps = steps
 
 -- The budget lasts, and the instruction has its effect.
 pub executes-paid : (expected_of : Machine → Step × Machine) (range_of : Machine → Option ByteRange) (cost : ℕ) (old paid new : RunningMachine)
-    (result : Step) → paid.machine ≡ charged old.machine cost → paid.made ≡ old.made → not (is_spent paid.machine) ≡ true
+    (result : Step) → paid.machine ≡ charged old.machine cost → paid.allocated ≡ old.allocated → not (is_spent paid.machine) ≡ true
     → range_of (charged old.machine cost) ≡ range_of old.machine
     → Executes (expected_of paid.machine) (range_of paid.machine) paid new result
     → Executes (paying cost old.machine (expected_of (charged old.machine cost))) (range_of old.machine) old new result
-executes-paid expected_of range_of cost old paid new result is-paid made within same executes =
+executes-paid expected_of range_of cost old paid new result is-paid allocated within same executes =
     let is-within : is_spent (charged old.machine cost) ≡ false = ap is_spent (sym is-paid) ∙ was_false _ within in
     let range : range_of paid.machine ≡ range_of old.machine = ap range_of is-paid ∙ same in
     rw is-within (record {
       machine = steps-paid _ old.machine new.machine cost result (rw is-paid at executes.machine);
-      room = λ has-room. executes.room (rw (made, range) has-room);
-      made = λ went. rw (← range) (executes.made went);
-      stay = λ page is-made. executes.stay page (rw made is-made);
+      room = λ has-room. executes.room (rw (allocated, range) has-room);
+      allocated = λ went. rw (← range) (executes.allocated went);
+      pages_kept = λ page is-made. executes.pages_kept page (rw allocated is-made);
       goes_on = executes.goes_on;
     })

@@ -7,7 +7,7 @@ use Rattle.vm_step.specs.contracts.machine.Machine.{the_row}
 
 abbrev pub with_memory : RunningMachine → PagedMemory → RunningMachine
 with_memory running memory =
-    record running { machine = record running.machine { memory = memory.memory }; made = memory.made }
+    record running { machine = record running.machine { memory = memory.memory }; allocated = memory.allocated }
 
 -- the machine ends with the memory that is left behind the reference, and is else as it was
 abbrev pub LendsMemory : MutBor RunningMachine → MutBor PagedMemory → Fml

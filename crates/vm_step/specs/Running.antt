@@ -1,19 +1,19 @@
 -- A machine that runs: what contracts see of it, and what a step of it does.
 use Rattle.std.specs.Prelude.{◌≡◌, ◌≢◌, ℕ, ℤ, Bool, true, false, List, Option, Some, None, IfSome, Result, Ok, Err, if◌then◌else◌}
-use Rattle.vm_defs.specs.declared.ins.Ins.{Ins}
-use Rattle.vm_defs.specs.declared.ins.Ins.TheVariants.{Sb, Sh, Sw, Sd}
+use Rattle.isa_defs.specs.declared.ins.Ins.{Ins}
+use Rattle.isa_defs.specs.declared.ins.Ins.TheVariants.{Sb, Sh, Sw, Sd}
 use Rattle.vm_defs.specs.declared.memory.MemFault.{MemFault}
 use Rattle.vm_defs.specs.declared.step.Step.{Step}
 use Rattle.vm_defs.specs.declared.step.Step.TheVariants.{Went, Ecall, Fault, Spent, NoMemory}
-use Rattle.vm_defs.specs.Decode.{decode}
-use Rattle.vm_defs.specs.Memory.{fetch}
-use Rattle.vm_defs.specs.Step.{Machine, charged, is_spent, moved, register}
-use Rattle.vm_mem.specs.Pages.{IsMade, AreMade}
+use Rattle.vm_defs.specs.Code.{instruction_at}
+use Rattle.vm_defs.specs.Program.{Leads, stop_of}
+use Rattle.vm_defs.specs.Step.{Machine, charged, is_spent, moved, register, step_of}
+use Rattle.vm_mem.specs.Pages.{IsAllocated, AreAllocated}
 
--- the machine, which of its pages have room of their own, and whether it may make another step
+-- the machine, which of its pages are allocated, and whether it may make another step
 pub record RunningMachine : Type 0 where
   pub machine : Machine
-  pub made : List Bool
+  pub allocated : List Bool
   pub goes_on : Bool
 
 -- the answers of a step after which the machine goes on
@@ -55,21 +55,37 @@ stored_range machine (Sw rs1 rs2 imm) = range_at machine rs1 imm 4
 stored_range machine (Sd rs1 rs2 imm) = range_at machine rs1 imm 8
 stored_range machine _ = None
 
-abbrev pub decoded_range : Machine → Option (Ins × ℕ) → Option ByteRange
-decoded_range machine (Some decoded) = stored_range machine decoded.0
-decoded_range machine None = None
-
-abbrev pub fetched_range : Machine → Result ℕ MemFault → Option ByteRange
-fetched_range machine (Ok word) = decoded_range machine (decode word)
-fetched_range machine (Err fault) = None
+abbrev pub found_range : Machine → Result (Option (Ins × ℕ)) MemFault → Option ByteRange
+found_range machine (Ok (Some decoded)) = stored_range machine decoded.0
+found_range machine (Ok None) = None
+found_range machine (Err fault) = None
 
 -- those of the instruction at the program counter
 unfoldable pub next_range : Machine → Option ByteRange
-next_range machine = fetched_range machine (fetch machine.memory machine.pc)
+next_range machine = found_range machine (instruction_at machine.memory machine.pc)
 
--- the pages of the bytes, if any are stored to, have room of their own
+-- the pages of the bytes, if any are stored to, are allocated
 abbrev pub HasRoom : List Bool → Option ByteRange → Type 0
-HasRoom made range = IfSome range (λ bytes. AreMade made bytes.at bytes.count)
+HasRoom allocated range = IfSome range (λ bytes. AreAllocated allocated bytes.at bytes.count)
+
+-- ---- steps up to one that does not go
+
+-- They were made up to one that stores to a page which could not be made: the machine that they lead to, whose step
+-- would have gone, and what is left of it.
+pub record WantsPage (old : RunningMachine) (new : Machine) : Type 0 where
+  pub steps : ℕ
+  pub reached : Machine
+  pub leads : Leads steps old.machine reached
+  pub stores : Steps (step_of reached) reached new NoMemory
+  pub no_room : HasRoom old.allocated (next_range reached) → ⊥
+
+-- The machine before and after, and the answer to the last step.
+abbrev pub Stops : RunningMachine → Machine → Step → Type 0
+Stops old new Went = ⊥
+Stops old new Ecall = (Ecall, new) ≡ stop_of old.machine
+Stops old new (Fault number) = (Fault number, new) ≡ stop_of old.machine
+Stops old new Spent = (Spent, new) ≡ stop_of old.machine
+Stops old new NoMemory = WantsPage old new
 
 -- ---- one instruction
 
@@ -77,7 +93,7 @@ HasRoom made range = IfSome range (λ bytes. AreMade made bytes.at bytes.count)
 -- the answer.
 pub record Executes (expected : Step × Machine) (range : Option ByteRange) (old new : RunningMachine) (result : Step) : Type 0 where
   pub machine : Steps expected old.machine new.machine result
-  pub room : HasRoom old.made range → result ≢ NoMemory
-  pub made : result ≡ Went → HasRoom new.made range
-  pub stay : (page : ℕ) → IsMade old.made page → IsMade new.made page
+  pub room : HasRoom old.allocated range → result ≢ NoMemory
+  pub allocated : result ≡ Went → HasRoom new.allocated range
+  pub pages_kept : (page : ℕ) → IsAllocated old.allocated page → IsAllocated new.allocated page
   pub goes_on : new.goes_on ≡ goes_on_after result

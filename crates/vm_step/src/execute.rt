@@ -1,7 +1,7 @@
 // An instruction: its cost, and then its effect. Each arm pays its own cost, the number that comes first in it (RFC 0014),
 // so that a step goes from what was decoded to its arm at once.
 ghost use Rattle.std.specs.Prelude.{◌≡◌, ◌^◌, ◌<◌, ◌≤◌, true, None};
-ghost use Rattle.vm_defs.specs.Instruction.{HasRegisters, cycles};
+ghost use Rattle.isa_defs.specs.Instruction.{HasRegisters, cycles};
 ghost use Rattle.vm_defs.specs.Memory.{byte_count};
 ghost use Rattle.vm_defs.specs.Step.{branch, by_immediate, by_registers, charged, effect, jump, load, past_instruction, store, write};
 ghost use Rattle.vm_step.specs.Extension.{extended};
@@ -11,9 +11,10 @@ use super::effect::moved;
 use super::extension::Extension;
 use super::extension::Extension::{Sign, Zero};
 use super::machine::Machine;
-use rv_alu::op;
+use rv_alu::{Alu, op};
+use rv_decode::Ins;
 use vm_defs::Width::{B1, B2, B4, B8};
-use vm_defs::{Alu, Ins, Step, Width};
+use vm_defs::{Step, Width};
 
 impl Machine {
     // The next instruction follows.

@@ -1,10 +1,20 @@
 // The laws of a run.
 
-ghost use Rattle.vm_defs.specs.Program.{GoesOnWithinBudget, RunsStepByStep};
+ghost use Rattle.vm_defs.specs.Alone.{answer_ecall};
+ghost use Rattle.vm_defs.specs.Program.{Answer, GoesOnWithinBudget, HasStepsEnough, KeepsAccount, RunsStepByStep, RunsStopByStop, StepKeepsAccount, StopsStepByStep};
 
-/// States what a run keeps: a step that goes on costs a cycle at least and stays within the budget, and a run
-/// is one step and the run from there. It does nothing.
+/// States what a run keeps, whatever ECALL does, as long as its answer keeps the account. It does nothing.
+///
+/// A step takes no cycles back, and one after which the program goes on costs a cycle at least and stays within
+/// the budget. A run is one step, with its answer, and the run from there, however many steps it may make beyond
+/// those that it has. It is also the first step that does not go by itself, with its answer, and the run from there.
 pub fn run_laws()
-    ensures within_budget { GoesOnWithinBudget }
-    ensures step_by_step { RunsStepByStep }
+    ensures account { StepKeepsAccount }
+    ensures within_budget { (answer : Answer) → KeepsAccount answer → GoesOnWithinBudget answer }
+    ensures steps_enough { (answer : Answer) → KeepsAccount answer → HasStepsEnough answer }
+    ensures step_by_step { (answer : Answer) → KeepsAccount answer → RunsStepByStep answer }
+    ensures stop_by_stop { (answer : Answer) → KeepsAccount answer → RunsStopByStop answer }
+    ensures to_the_stop { StopsStepByStep }
+    // The answer of a program that runs alone keeps the account.
+    ensures alone { KeepsAccount answer_ecall }
 {}

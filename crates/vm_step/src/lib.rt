@@ -1,9 +1,10 @@
-//! The machine that runs: one step of it (RFC 0003; RFC 0014 for the cycles).
+//! The machine that runs: one step of it, and the steps up to an ECALL (RFC 0003; RFC 0014 for the cycles).
 //!
 //! `Machine::step` is exact against `step_of` of `vm_defs`, for every state of the machine: its clause `steps`
-//! says the answer, the program counter, each register, memory and the cycles. Want of memory for a page that
+//! says the answer, the program counter, each register, memory and the cycles. Out of memory for a page that
 //! is stored to is the one answer that the definitions do not have; the clause `room` says where it never
-//! comes. `charge` adds cycles that no instruction costs. What an ECALL does, and how a program ends, is left
+//! comes. `Machine::run` makes the steps up to the first whose answer is not `Went`, exact against `stop_of`.
+//! `charge` adds cycles that no instruction costs. What an ECALL does, and how a program ends, is left
 //! to the layer above, and `run_laws` has the laws that its loop is proved with.
 #![tactic(auto)]
 

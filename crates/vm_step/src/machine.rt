@@ -3,12 +3,11 @@ ghost use Rattle.std.specs.Borrow.{sem};
 ghost use Rattle.std.specs.Prelude.{◌≡◌, ◌≢◌, ℕ, ◌^◌, ◌<◌, ◌≤◌, true, false, not};
 ghost use Rattle.vm_defs.specs.Program.{new_machine};
 ghost use Rattle.vm_defs.specs.Step.{charged, is_spent, register, step_of, with_register};
-ghost use Rattle.vm_mem.specs.Pages.{IsMade};
+ghost use Rattle.vm_mem.specs.Pages.{IsAllocated};
 ghost use Rattle.vm_step.specs.Lending.{LendsMemory};
-ghost use Rattle.vm_step.specs.Running.{HasRoom, Steps, goes_on_after, next_range};
+ghost use Rattle.vm_step.specs.Running.{HasRoom, Steps, Stops, goes_on_after, next_range};
 
 use super::fault::{NO_INSTRUCTION, fault_number};
-use rv_decode::decode;
 use std::marker::Model;
 use vm_defs::Step;
 use vm_mem::Memory;
@@ -38,7 +37,7 @@ impl Model for Machine {
 
     ghost view = { λ m. record {
       machine = record { pc = m.pc; registers = m.registers; memory = m.memory.memory; cycles = m.cycles; budget = m.budget };
-      made = m.memory.made;
+      allocated = m.memory.allocated;
       goes_on = m.goes_on;
     } };
 
@@ -54,7 +53,7 @@ impl Machine {
     pub fn new(memory: Memory, pc: u64, budget: u64) -> Machine
         requires { budget ≤ 2 ^ 40 }
         ensures machine { result.machine ≡ new_machine memory.memory pc budget }
-        ensures made { result.made ≡ memory.made }
+        ensures allocated { result.allocated ≡ memory.allocated }
         ensures goes_on { result.goes_on ≡ true }
     {
         let mut registers = [0u64; 32];
@@ -81,22 +80,33 @@ impl Machine {
 
         // With room for what the instruction stores, NoMemory does not come. A store leaves room there, and no
         // page loses its own.
-        ensures room { HasRoom self.old.made (next_range self.old.machine) → result ≢ Step.NoMemory }
-        ensures made { result ≡ Step.Went → HasRoom self.new.made (next_range self.old.machine) }
-        ensures stay { (page : ℕ) → IsMade self.old.made page → IsMade self.new.made page }
+        ensures room { HasRoom self.old.allocated (next_range self.old.machine) → result ≢ Step.NoMemory }
+        ensures allocated { result ≡ Step.Went → HasRoom self.new.allocated (next_range self.old.machine) }
+        ensures pages_kept { (page : ℕ) → IsAllocated self.old.allocated page → IsAllocated self.new.allocated page }
     {
-        if self.pc % 2 == 1 {
-            return self.stop(Step::Fault(NO_INSTRUCTION));
+        let slot = self.memory.kept(self.pc);
+        if u64::from(slot.at) == self.pc {
+            return self.execute(slot.ins, u64::from(slot.length));
         }
-        let word = match self.memory.fetch(self.pc) {
-            Ok(word) => word,
-            Err(fault) => return self.stop(Step::Fault(fault_number(fault))),
-        };
-        let (ins, length) = match decode(word) {
-            Some(decoded) => decoded,
-            None => return self.stop(Step::Fault(NO_INSTRUCTION)),
-        };
-        self.execute(ins, u64::from(length))
+        self.step_slow()
+    }
+
+    /// Steps up to the first whose answer is not `Went`, and that answer.
+    ///
+    /// `NoMemory` comes only where the next step stores to a page that was not allocated.
+    #[inline(never)]
+    pub fn run(&mut self) -> Step
+        requires { self.old.goes_on ≡ true }
+        ensures stops { Stops self.old self.new.machine result }
+        ensures goes_on { self.new.goes_on ≡ goes_on_after result }
+        ensures pages_kept { (page : ℕ) → IsAllocated self.old.allocated page → IsAllocated self.new.allocated page }
+    {
+        'steps: loop {
+            match self.step() {
+                Step::Went => {}
+                answer => return answer,
+            }
+        }
     }
 
     /// Adds cycles, and says whether they are still within the budget.
@@ -105,7 +115,7 @@ impl Machine {
         requires goes_on { self.old.goes_on ≡ true }
         requires bound { cycles ≤ 2 ^ 40 }
         ensures machine { self.new.machine ≡ charged self.old.machine cycles }
-        ensures made { self.new.made ≡ self.old.made }
+        ensures allocated { self.new.allocated ≡ self.old.allocated }
         ensures goes_on { self.new.goes_on ≡ result }
         ensures within { result ≡ not (is_spent self.new.machine) }
     {
@@ -149,9 +159,34 @@ impl Machine {
     /// The machine's memory, to be read and written.
     pub fn memory_mut(&mut self) -> &mut Memory
         ensures* lends { sem 𝓛 (LendsMemory self.entry result) }
-        ensures memory { result.now ≡ record { memory = self.old.machine.memory; made = self.old.made } }
+        ensures memory { result.now ≡ record { memory = self.old.machine.memory; allocated = self.old.allocated } }
     {
         &mut self.memory
+    }
+
+    // A step whose instruction was not kept.
+    #[cold]
+    #[inline(never)]
+    fn step_slow(&mut self) -> Step
+        requires { self.old.goes_on ≡ true }
+        ensures steps { Steps (step_of self.old.machine) self.old.machine self.new.machine result }
+        ensures goes_on { self.new.goes_on ≡ goes_on_after result }
+
+        // With room for what the instruction stores, NoMemory does not come. A store leaves room there, and no
+        // page loses its own.
+        ensures room { HasRoom self.old.allocated (next_range self.old.machine) → result ≢ Step.NoMemory }
+        ensures allocated { result ≡ Step.Went → HasRoom self.new.allocated (next_range self.old.machine) }
+        ensures pages_kept { (page : ℕ) → IsAllocated self.old.allocated page → IsAllocated self.new.allocated page }
+    {
+        if self.pc % 2 == 1 {
+            return self.stop(Step::Fault(NO_INSTRUCTION));
+        }
+        let (ins, length) = match self.memory.instruction(self.pc) {
+            Ok(Some(decoded)) => decoded,
+            Ok(None) => return self.stop(Step::Fault(NO_INSTRUCTION)),
+            Err(fault) => return self.stop(Step::Fault(fault_number(fault))),
+        };
+        self.execute(ins, u64::from(length))
     }
 
     // The machine goes on no more.

@@ -8,7 +8,7 @@ pub returns-in-Err-read_full-clause-faults : goal.returns-in-Err-read_full-claus
 returns-in-Err-read_full-clause-faults g c = failed_counts _ _ c.in-Err-read_full.field-0 c.in-Err-read_full.ensures.cause refl
 
 pub returns-clause-faults : goal.returns-clause-faults
-returns-clause-faults g c = no_fault _ _ (c.in-Ok-read_full.ensures.cause.calm refl) (λ e. cc)
+returns-clause-faults g c = no_fault _ _ (c.in-Ok-read_full.ensures.cause.unchanged refl) (λ e. cc)
 
 pub returns-clause-file : goal.returns-clause-file
 returns-clause-file g c =

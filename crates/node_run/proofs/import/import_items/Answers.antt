@@ -54,8 +54,8 @@ items-preserved-then-refused g c =
           (g.K.Sink.taken c.args.out.now) (g.K.Sink.taken c.items.out) (g.K.Sink.taken c.import_item.new.out) c.items.kept c.import_item.new.kept c.items.refused
           c.in-Ok-Item.item.items next.0 written.0 c.in-Ok.verdict c.len-size.result c.items.refused size (sym (or_then c.items.refused (rules.refuses c.in-Ok.verdict) c.if-refused.true))
           c.items.invariant.whole next.2 next.1 written.1 c.in-Ok.ensures.judged.0 c.in-Ok.ensures.judged.1 written.2;
-      input_unchanged = c.in-Ok-Item.ensures.faults.calm (λ e. (cc)) ∙ c.items.invariant.input_unchanged;
-      out_unchanged = c.in-Ok.ensures.faults.calm (λ e. (cc)) ∙ c.items.invariant.out_unchanged;
+      input_unchanged = c.in-Ok-Item.ensures.faults.unchanged (λ e. (cc)) ∙ c.items.invariant.input_unchanged;
+      out_unchanged = c.in-Ok.ensures.faults.unchanged (λ e. (cc)) ∙ c.items.invariant.out_unchanged;
     }
 
 pub items-preserved : goal.items-preserved
@@ -68,14 +68,14 @@ items-preserved g c =
           (g.K.Sink.taken c.args.out.now) (g.K.Sink.taken c.items.out) (g.K.Sink.taken c.import_item.new.out) c.items.kept c.import_item.new.kept c.items.refused
           c.in-Ok-Item.item.items next.0 written.0 c.in-Ok.verdict c.len-size.result c.refuses-refused.result size (c.refuses-refused.ensures ∙ sym (or_else c.items.refused (rules.refuses c.in-Ok.verdict) c.if-refused.false))
           c.items.invariant.whole next.2 next.1 written.1 c.in-Ok.ensures.judged.0 c.in-Ok.ensures.judged.1 written.2;
-      input_unchanged = c.in-Ok-Item.ensures.faults.calm (λ e. (cc)) ∙ c.items.invariant.input_unchanged;
-      out_unchanged = c.in-Ok.ensures.faults.calm (λ e. (cc)) ∙ c.items.invariant.out_unchanged;
+      input_unchanged = c.in-Ok-Item.ensures.faults.unchanged (λ e. (cc)) ∙ c.items.invariant.input_unchanged;
+      out_unchanged = c.in-Ok.ensures.faults.unchanged (λ e. (cc)) ∙ c.items.invariant.out_unchanged;
     }
 
 pub returns-in-Ok-End-clause-input_faults : goal.returns-in-Ok-End-clause-input_faults
 returns-in-Ok-End-clause-input_faults g c =
     no_fault (g.S.Source.faults c.args.input.now) (g.S.Source.faults c.next_item.new.input)
-    (c.in-Ok-End.ensures.faults.calm (λ e. (cc)) ∙ c.items.invariant.input_unchanged) (λ e. (cc))
+    (c.in-Ok-End.ensures.faults.unchanged (λ e. (cc)) ∙ c.items.invariant.input_unchanged) (λ e. (cc))
 
 pub returns-in-Ok-End-clause-out_faults : goal.returns-in-Ok-End-clause-out_faults
 returns-in-Ok-End-clause-out_faults g c =
@@ -95,7 +95,7 @@ returns-in-Err-clause-out_faults g c =
 pub returns-in-Err-import_item-clause-input_faults : goal.returns-in-Err-import_item-clause-input_faults
 returns-in-Err-import_item-clause-input_faults g c =
     no_fault (g.S.Source.faults c.args.input.now) (g.S.Source.faults c.next_item.new.input)
-    (c.in-Ok-Item.ensures.faults.calm (λ e. (cc)) ∙ c.items.invariant.input_unchanged)
+    (c.in-Ok-Item.ensures.faults.unchanged (λ e. (cc)) ∙ c.items.invariant.input_unchanged)
     (λ e. let is : c.in-Err-import_item.status ≡ InputFault = cc in subst IsWritingStop is c.in-Err-import_item.ensures.written.2.stop)
 
 pub returns-in-Err-import_item-clause-out_faults : goal.returns-in-Err-import_item-clause-out_faults

@@ -9,4 +9,4 @@ loop-given-preserved g c =
     let into = c.loop-given.into in
     let n = c.loop-given.given in
     let size = c.read.auto.into ∙ ap length (take_rest into n) ∙ length-drop n into in
-    given_further _ _ _ _ _ _ _ _ _ c.read.new.into c.loop-given.invariant size read.fits read.given (read.cause.calm refl)
+    given_further _ _ _ _ _ _ _ _ _ c.read.new.into c.loop-given.invariant size read.fits read.given (read.cause.unchanged refl)

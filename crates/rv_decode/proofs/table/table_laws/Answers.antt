@@ -1,4 +1,4 @@
-use Rattle.vm_defs.proofs.TableLaws.{full_forms_unambiguous, compressed_forms_unambiguous, full_forms_have_words, compressed_forms_have_words}
+use Rattle.isa_defs.proofs.TableLaws.{full_forms_unambiguous, compressed_forms_unambiguous, full_forms_have_words, compressed_forms_have_words}
 use Rattle.rv_decode.proofs.table.table_laws.Goals as goal
 
 pub returns-clause-full_forms_unambiguous : goal.returns-clause-full_forms_unambiguous

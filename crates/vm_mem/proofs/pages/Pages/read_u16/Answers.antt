@@ -6,4 +6,4 @@ use Rattle.vm_mem.proofs.pages.Pages.read_u16.Goals as goal
 pub returns : goal.returns
 unfolding memory_size
 returns c = rw (← c.self.view_is, c.read_u16.ensures, c.deref.ensures.value)
-    (sym (number-page (λ page. page.items) c.self.inside.pages.items c.index.result.now c.args.at 2 c.self.invariant c.index.ensures (search rules) (search rules)))
+    (sym (number-page (λ page. page.bytes.items) c.self.inside.pages.items c.index.result.now c.args.at 2 c.self.invariant.0 c.index.ensures (search rules) (search rules)))

@@ -5,9 +5,9 @@ use Rattle.vm_mem.proofs.pages.Pages.write.Goals as goal
 pub loop-done-init : goal.loop-done-init
 loop-done-init c = (written-none c.args.self.now c.args.at c.args.bytes.now, omega arith)
 
-pub write_page-requires-clause-made : goal.write_page-requires-clause-made
-write_page-requires-clause-made c =
-    rw (ap (λ pages. pages.made) c.loop-done.invariant.0) (c.requires.made c.loop-done.done c.loop-done-test.true)
+pub write_page-requires-clause-allocated : goal.write_page-requires-clause-allocated
+write_page-requires-clause-allocated c =
+    rw (ap (λ pages. pages.allocated) c.loop-done.invariant.0) (c.requires.allocated c.loop-done.done c.loop-done-test.true)
 
 pub loop-done-preserved : goal.loop-done-preserved
 loop-done-preserved c =

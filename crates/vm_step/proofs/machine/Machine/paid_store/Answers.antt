@@ -12,5 +12,5 @@ returns c =
     let count = byte_count c.args.width in
     executes-paid (λ machine. store machine c.args.length c.args.rs1 c.args.rs2 c.args.imm count)
     (λ machine. range_at machine c.args.rs1 c.args.imm count) c.args.cost c.args.self.now c.charge.new.self c.store.new.self
-    c.store.result c.charge.ensures.machine c.charge.ensures.made (sym c.charge.ensures.within ∙ c.if-not-charge.false) refl
+    c.store.result c.charge.ensures.machine c.charge.ensures.allocated (sym c.charge.ensures.within ∙ c.if-not-charge.false) refl
     (rw (to_z-of_z w64 c.args.imm c.ranges.imm) at c.store.ensures)

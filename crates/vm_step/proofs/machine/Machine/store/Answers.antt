@@ -13,6 +13,6 @@ returns-in-Ok c =
     let memory = ap (λ (running : RunningMachine). running.machine.memory) c.self.view_is in
     let stores =
     rw (c.in-Ok.is, c.moved-at.ensures, c.reg.ensures, c.reg-value.ensures, imm, memory) at c.store.ensures.stores in
-    let made = rw (c.moved-at.ensures, c.reg.ensures, imm) at c.in-Ok.ensures.made in
+    let allocated = rw (c.moved-at.ensures, c.reg.ensures, imm) at c.in-Ok.ensures.allocated in
     executes-stored _ _ c.args.self.now (the_view c.self.inside) c.store.new.self c.args.length c.self.view_is
-    c.requires.goes_on stores made c.store.ensures.stay
+    c.requires.goes_on stores allocated c.store.ensures.pages_kept

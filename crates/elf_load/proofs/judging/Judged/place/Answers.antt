@@ -1,0 +1,10 @@
+use Rattle.vm_defs.specs.Elf.{program_of}
+use Rattle.elf_load.proofs.judging.Judged.place.Goals as goal
+
+pub returns-clause-placed : goal.returns-clause-placed
+unfolding program_of
+returns-clause-placed c = rw (← c.self.view_is) c.place_segments.ensures.placed
+
+pub returns-clause-some : goal.returns-clause-some
+unfolding program_of
+returns-clause-some c = rw (← c.self.view_is) c.place_segments.ensures.some

@@ -1,0 +1,9 @@
+use Rattle.std.proofs.Common.{sym, ◌∙◌, ap}
+use Rattle.vm_defs.specs.Program.{loading_cycles}
+use Rattle.node_run.proofs.ProgramLemmas.{spent-loading}
+use Rattle.node_run.proofs.program.execute.Goals as goal
+
+pub returns-then-cost-budget-clause-came : goal.returns-then-cost-budget-clause-came
+returns-then-cost-budget-clause-came c =
+    spent-loading _ c.args.file.now c.in-Ok.judged _ (sym c.in-Ok.is ∙ c.judge.ensures)
+    (c.loading_cycles-cost.ensures.cycles ∙ ap loading_cycles c.file_bytes.ensures.bytes) c.if-cost-budget.true

@@ -1,0 +1,154 @@
+-- Slots that are right for a memory, and stay right.
+use Rattle.std.proofs.Common.{◌≡◌, ◌≢◌, ◌⊎◌, inl, inr, ℕ, zero, suc, ◌+◌, ◌/◌, ◌%◌, ◌^◌, ◌<◌, ◌≤◌, List, length, set, replicate, get_or, Option, Some, None, Result, Ok, Err, refl, sym, ap, ◌∙◌, subst, arith, length-set, OnOk, OnErr, IfOk, IfSome}
+use Rattle.std.proofs.lemmas.Bool.{cases_eq}
+use Rattle.std.proofs.lemmas.List.{get_or-replicate, get_or-set_other, get_or-set_same, length-replicate}
+use Rattle.isa_defs.specs.declared.ins.Ins.{Ins}
+use Rattle.vm_defs.specs.declared.memory.MemFault.{MemFault}
+use Rattle.isa_defs.specs.Instruction.{HasRegisters}
+use Rattle.isa_defs.specs.Decode.{decode}
+use Rattle.isa_defs.proofs.DecodeLaws.{decode-registers}
+use Rattle.vm_defs.specs.Memory.{Memory, memory_size, new_memory, fetch, store, set_code}
+use Rattle.vm_defs.specs.Code.{IsWhole, decoded, instruction_at}
+use Rattle.vm_defs.proofs.CodeLaws.{new-whole, store-whole, store-keeps-code, set_code-whole, set_code-keeps-code, instruction-kept, fetch-inside}
+use Rattle.vm_mem.specs.declared.slot.Slot.{Slot}
+use Rattle.vm_mem.specs.declared.stop.MemStop.{MemStop}
+use Rattle.vm_mem.specs.declared.stop.MemStop.TheVariants.{Fault, NoMemory}
+use Rattle.vm_mem.specs.Paged.{PagedMemory, Stores}
+use Rattle.vm_mem.specs.Slots.{slot_count, slot_of, AreEmpty, Holds, Holding}
+
+-- ---- a new memory
+
+pub empty-holding : (memory : Memory) (slots : List Slot) → memory ≡ new_memory → AreEmpty slots → Holding memory slots
+empty-holding memory slots new empty = record {
+  whole = rw new new-whole;
+  held = record { count = empty.count; each = λ i other below same. absurd (empty.each i other below same) };
+}
+
+-- all the same, and the one that they all fall to is another
+pub are-empty : (slots : List Slot) (empty first : Slot) → slots ≡ set (replicate slot_count empty) 0 first → empty.at ≡ 0 → first.at ≡ 2
+    → AreEmpty slots
+are-empty slots empty first is at-0 at-2 =
+    let size : length (replicate slot_count empty) ≡ slot_count = length-replicate slot_count empty in
+    record {
+      count = ap length is ∙ length-set (replicate slot_count empty) 0 first ∙ size;
+      each = λ i other below. elim (cases_eq i 0) [
+        | inl same ↦
+            let at : get_or slots i other ≡ first =
+            ap (λ xs. get_or xs i other) is ∙ ap (λ n. get_or (set (replicate slot_count empty) 0 first) n other) same
+            ∙ get_or-set_same (replicate slot_count empty) 0 first other (rw size (omega arith)) in
+            λ falls. absurd (omega (arith, ap slot_of (ap (λ (s : Slot). s.at) at ∙ at-2), falls, same))
+        | inr apart ↦
+            let at : get_or slots i other ≡ empty =
+            ap (λ xs. get_or xs i other) is
+            ∙ get_or-set_other (replicate slot_count empty) 0 i first other apart
+            ∙ get_or-replicate slot_count i empty other below in
+            λ falls. absurd (apart (sym falls ∙ ap slot_of (ap (λ (s : Slot). s.at) at ∙ at-0)))
+      ];
+    }
+
+-- ---- a memory that changed
+
+pub kept : (old new : Memory) (slots : List Slot) → IsWhole new → ((at word : ℕ) → fetch old at ≡ Ok word → fetch new at ≡ Ok word)
+    → Holding old slots → Holding new slots
+kept old new slots whole keeps holding = record {
+  whole = whole;
+  held = record {
+    count = holding.held.count;
+    each = λ i other below falls. let was = holding.held.each i other below falls in (was.0, instruction-kept old new _ _ (λ word. keeps _ word) was.1);
+  };
+}
+
+stored : (old new : Memory) (at : ℕ) (bytes : List ℕ) (slots : List Slot) → store old at bytes ≡ Ok new → Holding old slots → Holding new slots
+stored old new at bytes slots is holding =
+    kept old new slots (store-whole old new at bytes holding.whole is)
+    (λ place word fetched. store-keeps-code old new place word at bytes holding.whole fetched is) holding
+
+after-store : (expected : Result Memory MemFault) (old new : Memory) (at : ℕ) (bytes : List ℕ) (slots : List Slot) (result : Result (Unit {0}) MemStop)
+    → store old at bytes ≡ expected → Stores expected old new result → Holding old slots → Holding new slots
+after-store (Ok changed) old new at bytes slots (Ok done) is stores holding = stored old new at bytes slots (is ∙ ap Ok (sym stores)) holding
+after-store (Ok changed) old new at bytes slots (Err NoMemory) is stores holding = rw stores holding
+after-store (Ok changed) old new at bytes slots (Err (Fault fault)) is stores holding = absurd stores
+after-store (Err expected) old new at bytes slots (Ok done) is stores holding = absurd stores
+after-store (Err expected) old new at bytes slots (Err NoMemory) is stores holding = absurd stores
+after-store (Err expected) old new at bytes slots (Err (Fault fault)) is stores holding = rw stores.1 holding
+
+pub stores-holding : (old new : Memory) (at : ℕ) (bytes : List ℕ) (slots : List Slot) (result : Result (Unit {0}) MemStop)
+    → Stores (store old at bytes) old new result → Holding old slots → Holding new slots
+stores-holding old new at bytes slots result stores holding = after-store (store old at bytes) old new at bytes slots result refl stores holding
+
+pub changed-holding : (expected : Result Memory MemFault) (old new : PagedMemory) (slots : List Slot) (result : Result (Unit {0}) MemFault)
+    → OnOk result (Ok new.memory ≡ expected) → OnErr result (new ≡ old)
+    → (expected ≡ Ok new.memory → Holding old.memory slots → Holding new.memory slots) → Holding old.memory slots → Holding new.memory slots
+changed-holding expected old new slots (Ok done) changed same keeps holding = keeps (sym changed) holding
+changed-holding expected old new slots (Err fault) changed same keeps holding = rw same holding
+
+pub clear-holding : (old new : Memory) (at : ℕ) (bytes : List ℕ) (slots : List Slot) → store old at bytes ≡ Ok new → Holding old slots → Holding new slots
+clear-holding = stored
+
+pub set_code-holding : (old new : Memory) (at pages : ℕ) (slots : List Slot) → set_code old at pages ≡ Ok new → Holding old slots → Holding new slots
+set_code-holding old new at pages slots is holding =
+    kept old new slots (set_code-whole old new at pages holding.whole is)
+    (λ place word fetched. set_code-keeps-code old new place word at pages holding.whole fetched is) holding
+
+-- ---- what is decoded
+
+pub fault-is : (memory : Memory) (at : ℕ) (fault : MemFault) (fetched : Result ℕ MemFault) → fetched ≡ fetch memory at → fetched ≡ Err fault
+    → Err fault ≡ instruction_at memory at
+unfolding instruction_at
+fault-is memory at fault fetched is failed = sym (ap decoded (sym is ∙ failed))
+
+pub instruction-is : (memory : Memory) (at word : ℕ) (found : Option (Ins × ℕ)) (fetched : Result ℕ MemFault) (result : Option (Ins × ℕ))
+    → fetched ≡ fetch memory at → fetched ≡ Ok word → result ≡ decode word → result ≡ found
+    → Ok found ≡ instruction_at memory at
+unfolding instruction_at
+instruction-is memory at word found fetched result is done decodes same =
+    sym (ap decoded (sym is ∙ done) ∙ ap Ok (sym decodes ∙ same))
+
+pub cast-fits : (memory : Memory) (at word : ℕ) (fetched : Result ℕ MemFault) → fetched ≡ fetch memory at → fetched ≡ Ok word → at < 2 ^ 32
+unfolding memory_size
+cast-fits memory at word fetched is done = let inside = fetch-inside memory at word (sym is ∙ done) in omega (arith, inside)
+
+-- a slot that is filled with what is at its address
+pub filled : (memory : Memory) (slots : List Slot) (at i : ℕ) (slot : Slot) → Holding memory slots → slot.at ≡ at → i ≡ slot_of at
+    → at % 2 ≡ 0 → instruction_at memory at ≡ Ok (Some (slot.ins, slot.length)) → Holding memory (set slots i slot)
+filled memory slots at i slot holding at-is i-is even right = record {
+  whole = holding.whole;
+  held = record {
+    count = length-set slots i slot ∙ holding.held.count;
+    each = λ k other below. elim (cases_eq k i) [
+      | inl same ↦
+          let here : get_or (set slots i slot) k other ≡ slot =
+          ap (λ n. get_or (set slots i slot) n other) same
+          ∙ get_or-set_same slots i slot other (omega (arith, holding.held.count, below, same)) in
+          rw here (λ falls. rw at-is (even, right))
+      | inr apart ↦ rw (get_or-set_other slots i k slot other apart) (holding.held.each k other below)
+    ];
+  };
+}
+
+-- ---- what a slot holds
+
+pub slot-holds : (memory : Memory) (slots : List Slot) (at i : ℕ) (slot : Slot) → Holding memory slots → i ≡ slot_of at → i < slot_count
+    → slot ≡ get_or slots i slot → slot.at ≡ at → (at % 2 ≡ 0) × (instruction_at memory at ≡ Ok (Some (slot.ins, slot.length)))
+slot-holds memory slots at i slot holding i-is below is same =
+    let there : Holds memory i slot = subst (Holds memory i) (sym is) (holding.held.each i slot below) in
+    rw (← same) (there (ap slot_of same ∙ sym i-is))
+
+decoded-registers : (word : Result ℕ MemFault) (found : Ins × ℕ) → decoded word ≡ Ok (Some found) → HasRegisters found.0
+decoded-registers (Ok word) found is =
+    let decodes : decode word ≡ Some found = cc in
+    subst (λ (o : Option (Ins × ℕ)). IfSome o (λ d. HasRegisters d.0)) decodes (decode-registers word)
+decoded-registers (Err fault) found is = cc
+
+pub instruction-registers : (memory : Memory) (at : ℕ) (found : Ins × ℕ) → instruction_at memory at ≡ Ok (Some found) → HasRegisters found.0
+unfolding instruction_at
+instruction-registers memory at found is = decoded-registers (fetch memory at) found is
+
+pub all-registers : (memory : Memory) (at : ℕ) (result : Result (Option (Ins × ℕ)) MemFault) → result ≡ instruction_at memory at
+    → IfOk result (λ found. IfSome found (λ decoded. HasRegisters decoded.0))
+all-registers memory at (Ok (Some found)) is = instruction-registers memory at found (sym is)
+all-registers memory at (Ok None) is = tt
+all-registers memory at (Err fault) is = tt
+
+pub even-not-odd : (at : ℕ) → at % 2 ≡ 0 → at % 2 ≢ 1
+even-not-odd at even odd = omega (arith, even, odd)

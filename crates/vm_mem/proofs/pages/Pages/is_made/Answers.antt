@@ -1,9 +1,0 @@
-use Rattle.std.proofs.Common.{rules}
-use Rattle.vm_defs.specs.Memory.{page_count}
-use Rattle.vm_mem.proofs.Edited.{made-is}
-use Rattle.vm_mem.proofs.pages.Pages.is_made.Goals as goal
-
-pub returns : goal.returns
-unfolding page_count
-returns c = rw (← c.self.view_is)
-    (made-is (λ page. page.items) c.self.inside.pages.items c.index.result.now c.args.page c.is_empty.result c.index.ensures (search rules) (search rules))

@@ -1,0 +1,10 @@
+use Rattle.std.proofs.Common.{◌-◌}
+use Rattle.vm_step.proofs.Going.{Going}
+use Rattle.vm_step.proofs.machine.Machine.run.Given as goal
+
+abbrev pub invariant-steps : goal.invariant-steps
+invariant-steps l = Going l.fn.self l.self
+
+-- the cycles that are left
+abbrev pub decreases-steps : goal.decreases-steps
+decreases-steps l = l.self.machine.budget - l.self.machine.cycles
