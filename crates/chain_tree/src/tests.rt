@@ -64,6 +64,7 @@ fn branches(rt: HostRuntime) -> Result<(), Fail> {
         assert_eq!(rt; second, FIRST + (number - FORK));
         // An equal number leaves the tip where it is, a greater one moves it.
         assert_eq!(rt; tree.tip(), if number <= FIRST { FIRST } else { second });
+        assert_eq!(rt; tree.entry(tree.tip()).number, u64::from(number.max(FIRST)));
     }
     for number in 0..FIRST + 1 {
         assert_eq!(rt; place_at(&rt, &tree, first, number), number);
