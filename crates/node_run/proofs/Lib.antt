@@ -3,4 +3,3 @@ pub mod Reading
 pub mod RunLemmas
 pub mod WordLemmas
 pub mod ExecLemmas
-pub mod ProgramLemmas

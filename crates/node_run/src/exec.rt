@@ -10,8 +10,8 @@ ghost use Rattle.node_run.specs.Exec.{IsFile, IsUnread};
 
 use crate::lines::{execution_line, extra_line};
 use crate::output::write_text;
-use crate::program::execute;
 use outside::{NoMemory, Sink, Source, read_full};
+use program_run::execute;
 use report_defs::Status;
 use std::alloc::Global;
 

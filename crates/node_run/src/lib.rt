@@ -10,7 +10,6 @@ mod import;
 mod items;
 mod lines;
 mod output;
-mod program;
 #[cfg(test)]
 mod tests;
 mod top;

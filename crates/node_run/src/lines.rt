@@ -2,9 +2,9 @@
 ghost use Rattle.std.specs.Prelude.{◌≡◌, ◌++◌, codes, string_bytes, IfOk, OnOk};
 ghost use Rattle.std.specs.Fmt.{decimal, signed_decimal};
 ghost use Rattle.report_defs.specs.Text as text;
-ghost use Rattle.node_run.specs.Exec.{execution_of};
+ghost use Rattle.program_run.specs.Program.{execution_of};
 
-use crate::program::Execution;
+use program_run::Execution;
 use rule_defs::Verdict;
 use std::alloc::{AllocError, Global};
 use vm_defs::Outcome;

@@ -2,9 +2,9 @@
 ghost use Rattle.std.specs.Prelude.{◌≡◌, ◌<◌};
 
 use crate::lines::execution_line;
-use crate::program::Execution;
 use crate::{Status, run};
 use outside::{Failed, MemSink, MemSource, NoDisk, Sink, Source, Steps, read_full};
+use program_run::Execution;
 use std::alloc::Global;
 use std::marker::Brand;
 use std::sync::ledger::{Blank, Ledger};

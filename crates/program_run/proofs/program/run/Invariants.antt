@@ -1,7 +1,7 @@
 use Rattle.std.proofs.Common.{◌≡◌, ◌-◌, true}
 use Rattle.vm_defs.specs.Alone.{answer_ecall}
 use Rattle.vm_defs.specs.Program as programs
-use Rattle.node_run.proofs.program.run.Given as goal
+use Rattle.program_run.proofs.program.run.Given as goal
 
 -- what is left to run ends as the whole does
 abbrev pub invariant-steps : goal.invariant-steps

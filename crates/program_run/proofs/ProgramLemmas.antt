@@ -10,7 +10,7 @@ use Rattle.vm_defs.specs.Alone.{answer_ecall}
 use Rattle.vm_defs.specs.Program.{answered, ended_or, execution, loading_cycles, new_machine, run, stop_of, Ended}
 use Rattle.vm_defs.proofs.ProgramLaws.{answer_ecall-keeps, runs-stop-by-stop, stop-goes-on}
 use Rattle.vm_step.specs.Running.{RunningMachine}
-use Rattle.node_run.specs.Exec.{Advances}
+use Rattle.program_run.specs.Program.{Advances}
 
 -- what follows a stop: the end, or the run from there
 abbrev after : Option Outcome × Machine → Ended

@@ -1,6 +1,6 @@
 use Rattle.std.proofs.Common.{◌∙◌}
-use Rattle.node_run.proofs.ProgramLemmas.{run-ends, run-goes-on, cycles-left}
-use Rattle.node_run.proofs.program.run.Goals as goal
+use Rattle.program_run.proofs.ProgramLemmas.{run-ends, run-goes-on, cycles-left}
+use Rattle.program_run.proofs.program.run.Goals as goal
 
 pub returns-in-Some : goal.returns-in-Some
 returns-in-Some c = run-ends c.steps.machine c.advance.new.machine c.in_ok-outcome.field-0 c.in-Some.outcome c.in_ok-outcome.ensures c.in-Some.is

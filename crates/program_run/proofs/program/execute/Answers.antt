@@ -1,7 +1,7 @@
 use Rattle.std.proofs.Common.{sym, ◌∙◌, ap}
 use Rattle.vm_defs.specs.Program.{loading_cycles}
-use Rattle.node_run.proofs.ProgramLemmas.{spent-loading}
-use Rattle.node_run.proofs.program.execute.Goals as goal
+use Rattle.program_run.proofs.ProgramLemmas.{spent-loading}
+use Rattle.program_run.proofs.program.execute.Goals as goal
 
 pub returns-then-cost-budget-clause-came : goal.returns-then-cost-budget-clause-came
 returns-then-cost-budget-clause-came c =

@@ -4,7 +4,7 @@ ghost use Rattle.vm_defs.specs.Elf.{load_elf};
 ghost use Rattle.vm_defs.specs.Alone as alone;
 ghost use Rattle.vm_defs.specs.Program as programs;
 ghost use Rattle.vm_defs.specs.Program.{execution, run_loaded};
-ghost use Rattle.node_run.specs.Exec.{Advances, PaysForLoading, execution_of};
+ghost use Rattle.program_run.specs.Program.{Advances, PaysForLoading, execution_of};
 
 use elf_load::{Judged, judge};
 use outside::NoMemory;
