@@ -54,7 +54,7 @@ kept old new slots whole keeps holding = record {
   whole = whole;
   held = record {
     count = holding.held.count;
-    each = λ i other below falls. let was = holding.held.each i other below falls in (was.0, instruction-kept old new _ _ (λ word. keeps _ word) was.1);
+    each = λ i other below falls. instruction-kept old new _ _ (λ word. keeps _ word) (holding.held.each i other below falls);
   };
 }
 
@@ -110,8 +110,8 @@ cast-fits memory at word fetched is done = let inside = fetch-inside memory at w
 
 -- a slot that is filled with what is at its address
 pub filled : (memory : Memory) (slots : List Slot) (at i : ℕ) (slot : Slot) → Holding memory slots → slot.at ≡ at → i ≡ slot_of at
-    → at % 2 ≡ 0 → instruction_at memory at ≡ Ok (Some (slot.ins, slot.length)) → Holding memory (set slots i slot)
-filled memory slots at i slot holding at-is i-is even right = record {
+    → instruction_at memory at ≡ Ok (Some (slot.ins, slot.length)) → Holding memory (set slots i slot)
+filled memory slots at i slot holding at-is i-is right = record {
   whole = holding.whole;
   held = record {
     count = length-set slots i slot ∙ holding.held.count;
@@ -120,7 +120,7 @@ filled memory slots at i slot holding at-is i-is even right = record {
           let here : get_or (set slots i slot) k other ≡ slot =
           ap (λ n. get_or (set slots i slot) n other) same
           ∙ get_or-set_same slots i slot other (omega (arith, holding.held.count, below, same)) in
-          rw here (λ falls. rw at-is (even, right))
+          rw here (λ falls. rw at-is right)
       | inr apart ↦ rw (get_or-set_other slots i k slot other apart) (holding.held.each k other below)
     ];
   };
@@ -129,7 +129,7 @@ filled memory slots at i slot holding at-is i-is even right = record {
 -- ---- what a slot holds
 
 pub slot-holds : (memory : Memory) (slots : List Slot) (at i : ℕ) (slot : Slot) → Holding memory slots → i ≡ slot_of at → i < slot_count
-    → slot ≡ get_or slots i slot → slot.at ≡ at → (at % 2 ≡ 0) × (instruction_at memory at ≡ Ok (Some (slot.ins, slot.length)))
+    → slot ≡ get_or slots i slot → slot.at ≡ at → instruction_at memory at ≡ Ok (Some (slot.ins, slot.length))
 slot-holds memory slots at i slot holding i-is below is same =
     let there : Holds memory i slot = subst (Holds memory i) (sym is) (holding.held.each i slot below) in
     rw (← same) (there (ap slot_of same ∙ sym i-is))
@@ -149,6 +149,3 @@ pub all-registers : (memory : Memory) (at : ℕ) (result : Result (Option (Ins �
 all-registers memory at (Ok (Some found)) is = instruction-registers memory at found (sym is)
 all-registers memory at (Ok None) is = tt
 all-registers memory at (Err fault) is = tt
-
-pub even-not-odd : (at : ℕ) → at % 2 ≡ 0 → at % 2 ≢ 1
-even-not-odd at even odd = omega (arith, even, odd)

@@ -20,13 +20,9 @@ pub record AreSlots (Is : ℕ → Slot → Type 0) (slots : List Slot) : Type 0 
 abbrev pub AreEmpty : List Slot → Type 0
 AreEmpty slots = AreSlots (λ i slot. slot_of slot.at ≢ i) slots
 
--- the slot has the instruction at its address, which is even
-abbrev pub IsRight : Memory → Slot → Type 0
-IsRight memory slot = (slot.at % 2 ≡ 0) × (instruction_at memory slot.at ≡ Ok (Some (slot.ins, slot.length)))
-
--- One that is not empty is right.
+-- One that is not holds what is at its address.
 abbrev pub Holds : Memory → ℕ → Slot → Type 0
-Holds memory i slot = slot_of slot.at ≡ i → IsRight memory slot
+Holds memory i slot = slot_of slot.at ≡ i → instruction_at memory slot.at ≡ Ok (Some (slot.ins, slot.length))
 
 -- A memory that is whole, and slots that are right for it.
 pub record Holding (memory : Memory) (slots : List Slot) : Type 0 where

@@ -22,6 +22,5 @@ mod tests;
 pub use laws::{code_laws, store_laws};
 pub use memory::Memory;
 pub use rv_decode::Ins;
-pub use slot::Slot;
 pub use stop::MemStop;
 pub use vm_defs::{MemFault, PageKind, Width};

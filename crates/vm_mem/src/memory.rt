@@ -1,5 +1,5 @@
 // The machine's memory, with the instructions of its code that were decoded.
-ghost use Rattle.std.specs.Prelude.{◌≡◌, ◌≢◌, ℕ, ◌%◌, length, false, replicate, Some, Ok, Err, OnOk, OnErr, IfOk, IfSome, ◌↔◌, ◌⊎◌};
+ghost use Rattle.std.specs.Prelude.{◌≡◌, ◌≢◌, ℕ, ◌%◌, length, false, replicate, Ok, Err, OnOk, OnErr, IfOk, IfSome, ◌↔◌, ◌⊎◌};
 ghost use Rattle.isa_defs.specs.Instruction.{HasRegisters};
 ghost use Rattle.vm_defs.specs.Memory.{byte_count, bytes_of, fetch, load, new_memory, page_size, page_count, set_code, store};
 ghost use Rattle.vm_defs.specs.Code.{instruction_at};
@@ -99,16 +99,6 @@ impl Memory {
         self.paged.fetch(at)
     }
 
-    /// What the slot of an address has: the instruction there, where the slot's address is this one.
-    #[inline(always)]
-    pub fn kept(&self, at: u64) -> Slot
-        ensures exact { result.at ≡ at → instruction_at self.now.memory at ≡ Ok (Some (result.ins, result.length)) }
-        ensures even { result.at ≡ at → at % 2 ≢ 1 }
-        ensures registers { result.at ≡ at → HasRegisters result.ins }
-    {
-        self.slots[slot_of(at)]
-    }
-
     /// The instruction at an address, with its length, or none where the word there encodes none.
     #[inline(always)]
     pub fn instruction(&mut self, at: u64) -> Result<Option<(Ins, u8)>, MemFault>
@@ -116,7 +106,7 @@ impl Memory {
         ensures unchanged { self.new ≡ self.old }
         ensures registers { IfOk result (λ found. IfSome found (λ decoded. HasRegisters decoded.0)) }
     {
-        let slot = self.kept(at);
+        let slot = self.slots[slot_of(at)];
         if u64::from(slot.at) == at {
             return Ok(Some((slot.ins, slot.length)));
         }
@@ -135,7 +125,7 @@ impl Memory {
         self.paged.set_code(at, pages)
     }
 
-    // An instruction whose slot is empty or has another, which it then has, but at an odd address: none is run there.
+    // An instruction whose slot is empty or has another, and keeps it there.
     #[cold]
     #[inline(never)]
     fn decode_at(&mut self, at: u64) -> Result<Option<(Ins, u8)>, MemFault>
@@ -150,10 +140,11 @@ impl Memory {
             Some(decoded) => decoded,
             None => return Ok(None),
         };
-        if at % 2 == 0 {
-            let at = at as u32;
-            self.slots[slot_of(u64::from(at))] = Slot { at, length, ins };
-        }
+        self.slots[slot_of(at)] = Slot {
+            at: at as u32,
+            length,
+            ins,
+        };
         Ok(Some((ins, length)))
     }
 }

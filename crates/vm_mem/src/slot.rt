@@ -10,10 +10,10 @@ const SLOT_COUNT: usize = 4096;
 
 /// An instruction of so many bytes, and its address.
 #[derive(Clone, Copy)]
-pub struct Slot {
-    pub at: u32,
-    pub length: u8,
-    pub ins: Ins,
+pub(crate) struct Slot {
+    pub(crate) at: u32,
+    pub(crate) length: u8,
+    pub(crate) ins: Ins,
 }
 
 /// Slots that are all empty: each has an address that falls to another.

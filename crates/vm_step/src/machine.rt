@@ -84,11 +84,15 @@ impl Machine {
         ensures allocated { result ≡ Step.Went → HasRoom self.new.allocated (next_range self.old.machine) }
         ensures pages_kept { (page : ℕ) → IsAllocated self.old.allocated page → IsAllocated self.new.allocated page }
     {
-        let slot = self.memory.kept(self.pc);
-        if u64::from(slot.at) == self.pc {
-            return self.execute(slot.ins, u64::from(slot.length));
+        if self.pc % 2 == 1 {
+            return self.stop(Step::Fault(NO_INSTRUCTION));
         }
-        self.step_slow()
+        let (ins, length) = match self.memory.instruction(self.pc) {
+            Ok(Some(decoded)) => decoded,
+            Ok(None) => return self.stop(Step::Fault(NO_INSTRUCTION)),
+            Err(fault) => return self.stop(Step::Fault(fault_number(fault))),
+        };
+        self.execute(ins, u64::from(length))
     }
 
     /// Steps up to the first whose answer is not `Went`, and that answer.
@@ -162,31 +166,6 @@ impl Machine {
         ensures memory { result.now ≡ record { memory = self.old.machine.memory; allocated = self.old.allocated } }
     {
         &mut self.memory
-    }
-
-    // A step whose instruction was not kept.
-    #[cold]
-    #[inline(never)]
-    fn step_slow(&mut self) -> Step
-        requires { self.old.goes_on ≡ true }
-        ensures steps { Steps (step_of self.old.machine) self.old.machine self.new.machine result }
-        ensures goes_on { self.new.goes_on ≡ goes_on_after result }
-
-        // With room for what the instruction stores, NoMemory does not come. A store leaves room there, and no
-        // page loses its own.
-        ensures room { HasRoom self.old.allocated (next_range self.old.machine) → result ≢ Step.NoMemory }
-        ensures allocated { result ≡ Step.Went → HasRoom self.new.allocated (next_range self.old.machine) }
-        ensures pages_kept { (page : ℕ) → IsAllocated self.old.allocated page → IsAllocated self.new.allocated page }
-    {
-        if self.pc % 2 == 1 {
-            return self.stop(Step::Fault(NO_INSTRUCTION));
-        }
-        let (ins, length) = match self.memory.instruction(self.pc) {
-            Ok(Some(decoded)) => decoded,
-            Ok(None) => return self.stop(Step::Fault(NO_INSTRUCTION)),
-            Err(fault) => return self.stop(Step::Fault(fault_number(fault))),
-        };
-        self.execute(ins, u64::from(length))
     }
 
     // The machine goes on no more.

@@ -1,5 +1,4 @@
-use Rattle.std.proofs.Common.{None, Some, refl, rules, sym, ap, ◌∙◌}
-use Rattle.vm_mem.specs.Slots.{slot_of}
+use Rattle.std.proofs.Common.{None, Some, refl, rules, sym}
 use Rattle.vm_mem.proofs.Slotted.{cast-fits, fault-is, filled, instruction-is}
 use Rattle.vm_mem.proofs.memory.Memory.decode_at.Goals as goal
 
@@ -17,12 +16,8 @@ overflow_cast-at c =
 pub invariant_of-self : goal.invariant_of-self
 invariant_of-self c =
     let right = instruction-is _ _ _ (Some c.in-Some.decoded) _ _ c.fetch.ensures c.in-Ok.is c.decode.ensures.exact c.in-Some.is in
-    filled _ _ c.args.at _ _ c.self.invariant refl (c.slot_of.ensures.slot ∙ ap slot_of c.from.ensures) c.if-at-eq0.true (sym right)
+    filled _ _ c.args.at _ _ c.self.invariant refl c.slot_of.ensures.slot (sym right)
 
-pub returns-then-at-eq0-clause-exact : goal.returns-then-at-eq0-clause-exact
-returns-then-at-eq0-clause-exact c =
-    rw (← c.self.view_is) (instruction-is _ _ _ (Some c.in-Some.decoded) _ _ c.fetch.ensures c.in-Ok.is c.decode.ensures.exact c.in-Some.is)
-
-pub returns-else-at-eq0-clause-exact : goal.returns-else-at-eq0-clause-exact
-returns-else-at-eq0-clause-exact c =
+pub returns-clause-exact : goal.returns-clause-exact
+returns-clause-exact c =
     rw (← c.self.view_is) (instruction-is _ _ _ (Some c.in-Some.decoded) _ _ c.fetch.ensures c.in-Ok.is c.decode.ensures.exact c.in-Some.is)
