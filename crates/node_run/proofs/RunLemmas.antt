@@ -174,7 +174,7 @@ no_further place offset unfinished split splits is at_word = elim (at_most_one p
       let nothing : split.rest ≡ [] = nil_of_length split.rest (nothing_behind place offset unfinished split splits last) in
       let found : Some split.end ≡ Some ends.AtEnd =
       sym splits.ends ∙ ap (end_at (Some item_limit) (Some input_limit) (offset + length (concat split.items))) nothing
-          ∙ end_at-nothing (Some item_limit) (Some input_limit) (offset + length (concat split.items)) in
+      ∙ end_at-nothing (Some item_limit) (Some input_limit) (offset + length (concat split.items)) in
       let end : split.end ≡ ends.AtEnd = cc in
       absurd (subst IsAtWord end at_word)
 ]

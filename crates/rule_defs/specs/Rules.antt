@@ -9,7 +9,7 @@ use Rattle.fold_defs.specs.First.{first_failing}
 pub record Rules : Type 0 where
 
 abbrev pub no_specification : Rules
-no_specification = record { }
+no_specification = record {}
 
 -- the last block of a branch, on which the next one stands
 abbrev pub parent_of : List Block → Option Block

@@ -21,9 +21,15 @@ returns-then-offset-size-gt-INPUT_LIMIT-clause-next g c =
 pub returns-in-Err-fill-clause-next : goal.returns-in-Err-fill-clause-next
 returns-in-Err-fill-clause-next g c =
     let before = c.in-Err-fill.ensures.given_before in
-    let long : length c.deref_mut.result.now ≡ c.args.size = omega (arith, c.deref_mut.ensures.len, c.in-Ok.ensures.len) in
-    (before.0, before.2, (tt, stopped_in_item c.args.offset c.args.size c.args.word.now before.0 c.told-word c.requires.word c.requires.least c.requires.most
-        (omega (arith, input_limit-is, c.if-offset-size-gt-INPUT_LIMIT.false)) (omega (arith, before.1, long))))
+    let long : length c.deref_mut.result.now ≡ c.args.size = omega (arith, c.deref_mut.ensures.len, c.in-Ok.ensures.len) in (
+      before.0,
+      before.2,
+      (
+        tt,
+        stopped_in_item c.args.offset c.args.size c.args.word.now before.0 c.told-word c.requires.word c.requires.least c.requires.most
+            (omega (arith, input_limit-is, c.if-offset-size-gt-INPUT_LIMIT.false)) (omega (arith, before.1, long)),
+      ),
+    )
 
 pub returns-then-n-size-clause-next : goal.returns-then-n-size-clause-next
 returns-then-n-size-clause-next g c =
