@@ -28,7 +28,7 @@ abbrev pub place_up : List Entry → ℕ → ℕ → Option ℕ
 place_up entries zero place = Some place
 place_up entries (suc steps) place = option_and_then (place_up entries steps) (parent_of entries place)
 
--- One place is on the path of another, by parents; each is on its own (RFC 0020, "chain").
+-- One place is on the path of another, by parents; each is on its own (docs/RULES.md, "Kept blocks and the tip").
 abbrev pub IsAncestor : List Entry → ℕ → ℕ → Type 0
 IsAncestor entries place other = (steps : ℕ) × (place_up entries steps place ≡ Some other)
 
@@ -36,7 +36,7 @@ IsAncestor entries place other = (steps : ℕ) × (place_up entries steps place 
 abbrev pub FollowsParent : List Entry → Entry → Type 0
 FollowsParent entries entry = IsSomeAnd (entry_at entries entry.parent) (λ parent. entry.number ≡ parent.number + 1)
 
--- The tip: no number is above its own, and before it each is below (RFC 0020, "main chain").
+-- The tip: no number is above its own, and before it each is below (docs/RULES.md, "Kept blocks and the tip").
 pub record IsTop (entries : List Entry) (place : ℕ) : Type 0 where
   pub top : Entry
   pub there : entry_at entries place ≡ Some top
