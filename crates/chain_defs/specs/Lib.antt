@@ -1,3 +1,4 @@
 pub mod Kept
 pub mod Branch
 pub mod Tip
+pub mod Hashes

@@ -1,0 +1,4 @@
+pub mod Ext
+pub mod Genesis
+pub mod Log
+pub mod Store
