@@ -1,4 +1,5 @@
 pub mod MoleculeLaws
 pub mod Numbers
 pub mod ShapeLaws
-pub mod SchemaLaws
+pub mod Checks
+pub mod RowLaws

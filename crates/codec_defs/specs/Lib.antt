@@ -1,3 +1,4 @@
 pub mod Molecule
 pub mod Shape
 pub mod Schema
+pub mod Checked

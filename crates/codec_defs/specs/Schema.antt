@@ -1,4 +1,5 @@
--- The chain's values and their shapes, as CKB's schema blockchain.mol has them.
+-- The chain's values and their shapes, as CKB's schema blockchain.mol has them (docs/FORMATS.md, The schema). Above each
+-- row stands its declaration there. A row's encoding and its decoding name the fields in the declaration's order.
 use Rattle.std.specs.Prelude.{ℕ, List, [], ◌∷◌, Option}
 use Rattle.std.specs.List.{slice_range}
 use Rattle.codec_defs.specs.Shape.{Shape, byte, u32, u64, u128, byte_array, bytes, fixvec, dynvec, option, struct, table, encode_field, decode_field, table_field}

@@ -1,70 +1,52 @@
 //! A block and its uncles.
 
-ghost use Rattle.std.specs.Prelude.{◌≡◌, ◌<◌, ◌↔◌, Some, length, slice_get, ◌^◌};
-ghost use Rattle.codec_defs.specs.Shape.{IsA, decoded};
-ghost use Rattle.codec_defs.specs.Schema.{Block, block, UncleBlock, uncle_block};
-ghost use Rattle.mol_schema.specs.Checked.{IsUncleBlock};
+ghost use Rattle.std.specs.Prelude.{◌≡◌, ◌<◌, Some, length, slice_get, ◌^◌};
 
-use crate::check::{is_block, is_uncle_block};
+use crate::check::{are_items, has_fields, is_list_of};
 use crate::header::HeaderView;
-use crate::parts::{field, item, items_len, list_item, list_len, whole};
-use crate::transaction::TxView;
+use crate::parts::{field, item, items_len, list_item, list_len};
+use crate::transaction::{Transaction, TxView};
+use crate::view::{Row, View};
 use std::marker::Model;
 
 /// `table UncleBlock`: an uncle's header and the ids that it proposes.
 #[derive(Drop)]
-pub struct UncleView<'a> {
-    bytes: &'a [u8],
+pub struct UncleBlock;
+
+impl Model for UncleBlock {
+    ghost use Rattle.std.specs.Prelude.{[]};
+    ghost use Rattle.codec_defs.specs.Schema as schema;
+
+    ghost Value = { schema.UncleBlock };
+
+    ghost view = { λ _. schema.uncle_block.decoding [] };
 }
 
-impl<'a> Model for UncleView<'a> {
-    ghost use Rattle.codec_defs.specs.Schema.{UncleBlock, uncle_block};
-    ghost use Rattle.mol_schema.specs.Checked.{IsUncleBlock};
+impl Row for UncleBlock {
+    ghost use Rattle.codec_defs.specs.Schema.{uncle_block};
+    ghost use Rattle.codec_defs.specs.Checked.{IsUncleBlock};
+    ghost use Rattle.codec_defs.proofs.RowLaws.{uncle_block-check};
 
-    ghost Value = { UncleBlock };
+    ghost shape = { uncle_block };
 
-    ghost view = { λ v. uncle_block.decoding v.bytes.now };
+    ghost IsChecked = { IsUncleBlock };
 
-    ghost invariant = { λ v. IsUncleBlock v.bytes.now };
+    ghost is_check = { uncle_block-check };
+
+    fn is_encoding(b: &[u8]) -> bool {
+        if !has_fields::<2>(b) {
+            return false;
+        }
+        let header = field::<2>(b, 0);
+        let proposals = field::<2>(b, 1);
+        header.len() == 208 && are_items(proposals, 10)
+    }
 }
+
+pub type UncleView<'a> = View<'a, UncleBlock>;
 
 #[tactic(auto, unfolding(codec_defs::specs::Schema::uncle_block))]
-impl<'a> UncleView<'a> {
-    /// The view of bytes that encode an `UncleBlock`.
-    pub fn read(b: &'a [u8]) -> Option<Self>
-        ensures value { result ≡ decoded uncle_block b.now }
-        ensures exact { (v : UncleBlock) → (result ≡ Some v) ↔ IsA uncle_block b.now v }
-    {
-        if is_uncle_block(b) {
-            Some(UncleView { bytes: b })
-        } else {
-            None
-        }
-    }
-
-    /// The view of bytes that were checked before.
-    pub(crate) fn from_checked(b: &'a [u8]) -> Self
-        requires { IsUncleBlock b.now }
-        ensures { result ≡ uncle_block.decoding b.now }
-    {
-        UncleView { bytes: b }
-    }
-
-    /// The view of bytes that are known to encode an `UncleBlock`: nothing is checked again.
-    pub fn from_encoding(b: &'a [u8]) -> Self
-        requires { (v : UncleBlock) × IsA uncle_block b.now v }
-        ensures { (v : UncleBlock) → IsA uncle_block b.now v → result ≡ v }
-    {
-        UncleView { bytes: b }
-    }
-
-    /// The whole encoding.
-    pub fn bytes(&self) -> &'a [u8]
-        ensures { IsA uncle_block result.now self.now }
-    {
-        whole(self.bytes)
-    }
-
+impl<'a> View<'a, UncleBlock> {
     pub fn header(&self) -> HeaderView<'a>
         ensures { result ≡ self.now.header }
     {
@@ -89,50 +71,47 @@ impl<'a> UncleView<'a> {
 
 /// `table Block`.
 #[derive(Drop)]
-pub struct BlockView<'a> {
-    bytes: &'a [u8],
+pub struct Block;
+
+impl Model for Block {
+    ghost use Rattle.std.specs.Prelude.{[]};
+    ghost use Rattle.codec_defs.specs.Schema as schema;
+
+    ghost Value = { schema.Block };
+
+    ghost view = { λ _. schema.block.decoding [] };
 }
 
-impl<'a> Model for BlockView<'a> {
-    ghost use Rattle.codec_defs.specs.Schema.{Block, block};
-    ghost use Rattle.mol_schema.specs.Checked.{IsBlock};
+impl Row for Block {
+    ghost use Rattle.codec_defs.specs.Schema.{block};
+    ghost use Rattle.codec_defs.specs.Checked.{IsBlock};
+    ghost use Rattle.codec_defs.proofs.RowLaws.{block-check};
 
-    ghost Value = { Block };
+    ghost shape = { block };
 
-    ghost view = { λ v. block.decoding v.bytes.now };
+    ghost IsChecked = { IsBlock };
 
-    ghost invariant = { λ v. IsBlock v.bytes.now };
+    ghost is_check = { block-check };
+
+    fn is_encoding(b: &[u8]) -> bool {
+        if !has_fields::<4>(b) {
+            return false;
+        }
+        let header = field::<4>(b, 0);
+        let uncles = field::<4>(b, 1);
+        let transactions = field::<4>(b, 2);
+        let proposals = field::<4>(b, 3);
+        header.len() == 208
+            && is_list_of::<UncleBlock>(uncles)
+            && is_list_of::<Transaction>(transactions)
+            && are_items(proposals, 10)
+    }
 }
+
+pub type BlockView<'a> = View<'a, Block>;
 
 #[tactic(auto, unfolding(codec_defs::specs::Schema::block))]
-impl<'a> BlockView<'a> {
-    /// The view of bytes that encode a `Block`.
-    pub fn read(b: &'a [u8]) -> Option<Self>
-        ensures value { result ≡ decoded block b.now }
-        ensures exact { (v : Block) → (result ≡ Some v) ↔ IsA block b.now v }
-    {
-        if is_block(b) {
-            Some(BlockView { bytes: b })
-        } else {
-            None
-        }
-    }
-
-    /// The view of bytes that are known to encode a `Block`: nothing is checked again.
-    pub fn from_encoding(b: &'a [u8]) -> Self
-        requires { (v : Block) × IsA block b.now v }
-        ensures { (v : Block) → IsA block b.now v → result ≡ v }
-    {
-        BlockView { bytes: b }
-    }
-
-    /// The whole encoding.
-    pub fn bytes(&self) -> &'a [u8]
-        ensures { IsA block result.now self.now }
-    {
-        whole(self.bytes)
-    }
-
+impl<'a> View<'a, Block> {
     pub fn header(&self) -> HeaderView<'a>
         ensures { result ≡ self.now.header }
     {

@@ -1,68 +1,44 @@
 //! A block's header.
 
-ghost use Rattle.std.specs.Prelude.{◌≡◌, ◌↔◌, Some, length};
-ghost use Rattle.codec_defs.specs.Shape.{IsA, decoded};
-ghost use Rattle.codec_defs.specs.Schema.{Header, header};
-ghost use Rattle.mol_schema.specs.Checked.{HasLength};
+ghost use Rattle.std.specs.Prelude.{◌≡◌, length};
 
 use crate::number::{decode_u32, decode_u64, decode_u128};
-use crate::parts::whole;
+use crate::view::{Row, View};
 use std::marker::Model;
 
 /// `struct Header`, 208 bytes.
 #[derive(Drop)]
-pub struct HeaderView<'a> {
-    bytes: &'a [u8],
+pub struct Header;
+
+impl Model for Header {
+    ghost use Rattle.std.specs.Prelude.{[]};
+    ghost use Rattle.codec_defs.specs.Schema as schema;
+
+    ghost Value = { schema.Header };
+
+    ghost view = { λ _. schema.header.decoding [] };
 }
 
-impl<'a> Model for HeaderView<'a> {
-    ghost use Rattle.codec_defs.specs.Schema.{Header, header};
-    ghost use Rattle.mol_schema.specs.Checked.{HasLength};
+impl Row for Header {
+    ghost use Rattle.codec_defs.specs.Schema.{header};
+    ghost use Rattle.codec_defs.specs.Checked.{HasLength};
+    ghost use Rattle.codec_defs.proofs.RowLaws.{header-check};
 
-    ghost Value = { Header };
+    ghost shape = { header };
 
-    ghost view = { λ v. header.decoding v.bytes.now };
+    ghost IsChecked = { HasLength 208 };
 
-    ghost invariant = { λ v. HasLength 208 v.bytes.now };
+    ghost is_check = { header-check };
+
+    fn is_encoding(b: &[u8]) -> bool {
+        b.len() == 208
+    }
 }
+
+pub type HeaderView<'a> = View<'a, Header>;
 
 #[tactic(auto, unfolding(codec_defs::specs::Schema::header))]
-impl<'a> HeaderView<'a> {
-    /// The view of bytes that encode a `Header`.
-    pub fn read(b: &'a [u8]) -> Option<Self>
-        ensures value { result ≡ decoded header b.now }
-        ensures exact { (v : Header) → (result ≡ Some v) ↔ IsA header b.now v }
-    {
-        if b.len() == 208 {
-            Some(HeaderView { bytes: b })
-        } else {
-            None
-        }
-    }
-
-    /// The view of bytes that were checked before.
-    pub(crate) fn from_checked(b: &'a [u8]) -> Self
-        requires { HasLength 208 b.now }
-        ensures { result ≡ header.decoding b.now }
-    {
-        HeaderView { bytes: b }
-    }
-
-    /// The view of bytes that are known to encode a `Header`: nothing is checked again.
-    pub fn from_encoding(b: &'a [u8]) -> Self
-        requires { (v : Header) × IsA header b.now v }
-        ensures { (v : Header) → IsA header b.now v → result ≡ v }
-    {
-        HeaderView { bytes: b }
-    }
-
-    /// The whole encoding.
-    pub fn bytes(&self) -> &'a [u8]
-        ensures { IsA header result.now self.now }
-    {
-        whole(self.bytes)
-    }
-
+impl<'a> View<'a, Header> {
     pub fn version(&self) -> u32
         ensures { result ≡ self.now.version }
     {

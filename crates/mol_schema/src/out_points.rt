@@ -1,60 +1,45 @@
 //! A list of out-points.
 
-ghost use Rattle.std.specs.Prelude.{◌≡◌, ◌<◌, ◌↔◌, List, Some, length, slice_get, ◌^◌};
-ghost use Rattle.codec_defs.specs.Shape.{IsA, decoded};
-ghost use Rattle.codec_defs.specs.Schema.{OutPoint, out_points};
+ghost use Rattle.std.specs.Prelude.{◌≡◌, ◌<◌, Some, length, slice_get, ◌^◌};
 
 use crate::check::are_items;
 use crate::out_point::OutPointView;
-use crate::parts::{item, items_len, whole};
+use crate::parts::{item, items_len};
+use crate::view::{Row, View};
 use std::marker::Model;
 
 /// `vector OutPointVec <OutPoint>`: what a dep group's cell holds.
 #[derive(Drop)]
-pub struct OutPointsView<'a> {
-    bytes: &'a [u8],
+pub struct OutPointVec;
+
+impl Model for OutPointVec {
+    ghost use Rattle.std.specs.Prelude.{List, []};
+    ghost use Rattle.codec_defs.specs.Schema as schema;
+
+    ghost Value = { List schema.OutPoint };
+
+    ghost view = { λ _. [] };
 }
 
-impl<'a> Model for OutPointsView<'a> {
-    ghost use Rattle.std.specs.Prelude.{List};
-    ghost use Rattle.codec_defs.specs.Schema.{OutPoint, out_points};
-    ghost use Rattle.mol_schema.specs.Checked.{IsItems};
+impl Row for OutPointVec {
+    ghost use Rattle.codec_defs.specs.Schema.{out_points};
+    ghost use Rattle.codec_defs.specs.Checked.{IsItems};
+    ghost use Rattle.codec_defs.proofs.RowLaws.{out_points-check};
 
-    ghost Value = { List OutPoint };
+    ghost shape = { out_points };
 
-    ghost view = { λ v. out_points.decoding v.bytes.now };
+    ghost IsChecked = { IsItems 36 };
 
-    ghost invariant = { λ v. IsItems 36 v.bytes.now };
+    ghost is_check = { out_points-check };
+
+    fn is_encoding(b: &[u8]) -> bool {
+        are_items(b, 36)
+    }
 }
 
-impl<'a> OutPointsView<'a> {
-    /// The view of bytes that encode a list of out-points.
-    pub fn read(b: &'a [u8]) -> Option<Self>
-        ensures value { result ≡ decoded out_points b.now }
-        ensures exact { (v : List OutPoint) → (result ≡ Some v) ↔ IsA out_points b.now v }
-    {
-        if are_items(b, 36) {
-            Some(OutPointsView { bytes: b })
-        } else {
-            None
-        }
-    }
+pub type OutPointsView<'a> = View<'a, OutPointVec>;
 
-    /// The view of bytes that are known to encode a list of out-points: nothing is checked again.
-    pub fn from_encoding(b: &'a [u8]) -> Self
-        requires { (v : List OutPoint) × IsA out_points b.now v }
-        ensures { (v : List OutPoint) → IsA out_points b.now v → result ≡ v }
-    {
-        OutPointsView { bytes: b }
-    }
-
-    /// The whole encoding.
-    pub fn bytes(&self) -> &'a [u8]
-        ensures { IsA out_points result.now self.now }
-    {
-        whole(self.bytes)
-    }
-
+impl<'a> View<'a, OutPointVec> {
     pub fn count(&self) -> usize
         ensures value { result ≡ length self.now }
         ensures fits { result < 2 ^ 32 }

@@ -2,9 +2,9 @@
 
 ghost use Rattle.std.specs.Prelude.{◌≡◌, ℕ, ◌^◌, ◌<◌, ◌==◌, if◌then◌else◌, None, Some, drop, length, slice_get, slice_index};
 ghost use Rattle.std.specs.Option.{option_copied};
-ghost use Rattle.codec_defs.specs.Molecule.{IsDynvec, IsTable, items_of_fixvec, parts_of};
+ghost use Rattle.codec_defs.specs.Molecule.{IsDynvec, items_of_fixvec, parts_of};
 ghost use Rattle.codec_defs.specs.Shape.{table_field};
-ghost use Rattle.mol_schema.specs.Checked.{IsBytes, IsBytesOption, IsItems};
+ghost use Rattle.codec_defs.specs.Checked.{HasFields, IsBytes, IsItems, IsOptionOf};
 
 use mol_core::{DynView, FixView, TableView};
 
@@ -18,7 +18,7 @@ pub(crate) fn whole(bytes: &[u8]) -> &[u8]
 
 /// Field `i` of a table of `N` fields.
 pub(crate) fn field<const N: usize>(table: &[u8], i: usize) -> &[u8]
-    requires is_table { IsTable N table.now (parts_of table.now) }
+    requires is_table { HasFields N table.now }
     requires within { i < N }
     ensures { result.now ≡ table_field table.now i }
 {
@@ -74,7 +74,7 @@ pub(crate) fn content(bytes: &[u8]) -> &[u8]
 
 /// What a `Bytes` holds, where there is one.
 pub(crate) fn optional_content(bytes: &[u8]) -> Option<&[u8]>
-    requires { IsBytesOption bytes.now }
+    requires { IsOptionOf IsBytes bytes.now }
     ensures { option_copied result ≡ (if length bytes.now == 0 then None else Some (drop 4 bytes.now)) }
 {
     if bytes.is_empty() {

@@ -1,68 +1,52 @@
 //! A script: a program by its hash, and its arguments.
 
-ghost use Rattle.std.specs.Prelude.{◌≡◌, ◌↔◌, Some, ◌^◌, ◌<◌, length};
-ghost use Rattle.codec_defs.specs.Shape.{IsA, decoded};
-ghost use Rattle.codec_defs.specs.Schema.{Script, script};
-ghost use Rattle.mol_schema.specs.Checked.{IsScript};
+ghost use Rattle.std.specs.Prelude.{◌≡◌, ◌^◌, ◌<◌, length};
 
-use crate::check::is_script;
-use crate::parts::{content, field, whole};
+use crate::bytes::ByteVec;
+use crate::check::has_fields;
+use crate::parts::{content, field};
+use crate::view::{Row, View};
 use std::marker::Model;
 
 /// `table Script`: a program by its hash, and its arguments.
 #[derive(Drop)]
-pub struct ScriptView<'a> {
-    bytes: &'a [u8],
+pub struct Script;
+
+impl Model for Script {
+    ghost use Rattle.std.specs.Prelude.{[]};
+    ghost use Rattle.codec_defs.specs.Schema as schema;
+
+    ghost Value = { schema.Script };
+
+    ghost view = { λ _. schema.script.decoding [] };
 }
 
-impl<'a> Model for ScriptView<'a> {
-    ghost use Rattle.codec_defs.specs.Schema.{Script, script};
-    ghost use Rattle.mol_schema.specs.Checked.{IsScript};
+impl Row for Script {
+    ghost use Rattle.codec_defs.specs.Schema.{script};
+    ghost use Rattle.codec_defs.specs.Checked.{IsScript};
+    ghost use Rattle.codec_defs.proofs.RowLaws.{script-check};
 
-    ghost Value = { Script };
+    ghost shape = { script };
 
-    ghost view = { λ v. script.decoding v.bytes.now };
+    ghost IsChecked = { IsScript };
 
-    ghost invariant = { λ v. IsScript v.bytes.now };
+    ghost is_check = { script-check };
+
+    fn is_encoding(b: &[u8]) -> bool {
+        if !has_fields::<3>(b) {
+            return false;
+        }
+        let code_hash = field::<3>(b, 0);
+        let hash_type = field::<3>(b, 1);
+        let args = field::<3>(b, 2);
+        code_hash.len() == 32 && hash_type.len() == 1 && ByteVec::is_encoding(args)
+    }
 }
+
+pub type ScriptView<'a> = View<'a, Script>;
 
 #[tactic(auto, unfolding(codec_defs::specs::Schema::script))]
-impl<'a> ScriptView<'a> {
-    /// The view of bytes that encode a `Script`.
-    pub fn read(b: &'a [u8]) -> Option<Self>
-        ensures value { result ≡ decoded script b.now }
-        ensures exact { (v : Script) → (result ≡ Some v) ↔ IsA script b.now v }
-    {
-        if is_script(b) {
-            Some(ScriptView { bytes: b })
-        } else {
-            None
-        }
-    }
-
-    /// The view of bytes that were checked before.
-    pub(crate) fn from_checked(b: &'a [u8]) -> Self
-        requires { IsScript b.now }
-        ensures { result ≡ script.decoding b.now }
-    {
-        ScriptView { bytes: b }
-    }
-
-    /// The view of bytes that are known to encode a `Script`: nothing is checked again.
-    pub fn from_encoding(b: &'a [u8]) -> Self
-        requires { (v : Script) × IsA script b.now v }
-        ensures { (v : Script) → IsA script b.now v → result ≡ v }
-    {
-        ScriptView { bytes: b }
-    }
-
-    /// The whole encoding.
-    pub fn bytes(&self) -> &'a [u8]
-        ensures { IsA script result.now self.now }
-    {
-        whole(self.bytes)
-    }
-
+impl<'a> View<'a, Script> {
     pub fn code_hash(&self) -> &'a [u8]
         ensures value { result.now ≡ self.now.code_hash }
         ensures len { length result.now ≡ 32 }

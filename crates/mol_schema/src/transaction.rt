@@ -1,71 +1,55 @@
 //! A transaction, its outputs, and what its hash is of.
 
-ghost use Rattle.std.specs.Prelude.{◌≡◌, ◌<◌, ◌↔◌, Some, length, slice_get, ◌^◌};
-ghost use Rattle.codec_defs.specs.Shape.{IsA, decoded};
-ghost use Rattle.codec_defs.specs.Schema.{CellOutput, cell_output, RawTransaction, raw_transaction, Transaction, transaction};
-ghost use Rattle.mol_schema.specs.Checked.{IsCellOutput, IsRawTransaction, IsTransaction};
+ghost use Rattle.std.specs.Prelude.{◌≡◌, ◌<◌, Some, length, slice_get, ◌^◌};
 
-use crate::check::{is_cell_output, is_raw_transaction, is_transaction};
+use crate::bytes::ByteVec;
+use crate::check::{are_items, has_fields, is_list_of, is_option_of};
 use crate::number::{decode_u32, decode_u64};
 use crate::out_point::{DepView, InputView};
-use crate::parts::{content, field, item, items_len, list_item, list_len, whole};
-use crate::script::ScriptView;
+use crate::parts::{content, field, item, items_len, list_item, list_len};
+use crate::script::{Script, ScriptView};
+use crate::view::{Row, View};
 use std::marker::Model;
 
 /// `table CellOutput`.
 #[derive(Drop)]
-pub struct OutputView<'a> {
-    bytes: &'a [u8],
+pub struct CellOutput;
+
+impl Model for CellOutput {
+    ghost use Rattle.std.specs.Prelude.{[]};
+    ghost use Rattle.codec_defs.specs.Schema as schema;
+
+    ghost Value = { schema.CellOutput };
+
+    ghost view = { λ _. schema.cell_output.decoding [] };
 }
 
-impl<'a> Model for OutputView<'a> {
-    ghost use Rattle.codec_defs.specs.Schema.{CellOutput, cell_output};
-    ghost use Rattle.mol_schema.specs.Checked.{IsCellOutput};
+impl Row for CellOutput {
+    ghost use Rattle.codec_defs.specs.Schema.{cell_output};
+    ghost use Rattle.codec_defs.specs.Checked.{IsCellOutput};
+    ghost use Rattle.codec_defs.proofs.RowLaws.{cell_output-check};
 
-    ghost Value = { CellOutput };
+    ghost shape = { cell_output };
 
-    ghost view = { λ v. cell_output.decoding v.bytes.now };
+    ghost IsChecked = { IsCellOutput };
 
-    ghost invariant = { λ v. IsCellOutput v.bytes.now };
+    ghost is_check = { cell_output-check };
+
+    fn is_encoding(b: &[u8]) -> bool {
+        if !has_fields::<3>(b) {
+            return false;
+        }
+        let capacity = field::<3>(b, 0);
+        let lock = field::<3>(b, 1);
+        let type_script = field::<3>(b, 2);
+        capacity.len() == 8 && Script::is_encoding(lock) && is_option_of::<Script>(type_script)
+    }
 }
+
+pub type OutputView<'a> = View<'a, CellOutput>;
 
 #[tactic(auto, unfolding(codec_defs::specs::Schema::cell_output))]
-impl<'a> OutputView<'a> {
-    /// The view of bytes that encode a `CellOutput`.
-    pub fn read(b: &'a [u8]) -> Option<Self>
-        ensures value { result ≡ decoded cell_output b.now }
-        ensures exact { (v : CellOutput) → (result ≡ Some v) ↔ IsA cell_output b.now v }
-    {
-        if is_cell_output(b) {
-            Some(OutputView { bytes: b })
-        } else {
-            None
-        }
-    }
-
-    /// The view of bytes that were checked before.
-    pub(crate) fn from_checked(b: &'a [u8]) -> Self
-        requires { IsCellOutput b.now }
-        ensures { result ≡ cell_output.decoding b.now }
-    {
-        OutputView { bytes: b }
-    }
-
-    /// The view of bytes that are known to encode a `CellOutput`: nothing is checked again.
-    pub fn from_encoding(b: &'a [u8]) -> Self
-        requires { (v : CellOutput) × IsA cell_output b.now v }
-        ensures { (v : CellOutput) → IsA cell_output b.now v → result ≡ v }
-    {
-        OutputView { bytes: b }
-    }
-
-    /// The whole encoding.
-    pub fn bytes(&self) -> &'a [u8]
-        ensures { IsA cell_output result.now self.now }
-    {
-        whole(self.bytes)
-    }
-
+impl<'a> View<'a, CellOutput> {
     /// In shannons.
     pub fn capacity(&self) -> u64
         ensures { result ≡ self.now.capacity }
@@ -94,58 +78,51 @@ impl<'a> OutputView<'a> {
 
 /// `table RawTransaction`: what a transaction's hash is of.
 #[derive(Drop)]
-pub struct RawTxView<'a> {
-    bytes: &'a [u8],
+pub struct RawTransaction;
+
+impl Model for RawTransaction {
+    ghost use Rattle.std.specs.Prelude.{[]};
+    ghost use Rattle.codec_defs.specs.Schema as schema;
+
+    ghost Value = { schema.RawTransaction };
+
+    ghost view = { λ _. schema.raw_transaction.decoding [] };
 }
 
-impl<'a> Model for RawTxView<'a> {
-    ghost use Rattle.codec_defs.specs.Schema.{RawTransaction, raw_transaction};
-    ghost use Rattle.mol_schema.specs.Checked.{IsRawTransaction};
+impl Row for RawTransaction {
+    ghost use Rattle.codec_defs.specs.Schema.{raw_transaction};
+    ghost use Rattle.codec_defs.specs.Checked.{IsRawTransaction};
+    ghost use Rattle.codec_defs.proofs.RowLaws.{raw_transaction-check};
 
-    ghost Value = { RawTransaction };
+    ghost shape = { raw_transaction };
 
-    ghost view = { λ v. raw_transaction.decoding v.bytes.now };
+    ghost IsChecked = { IsRawTransaction };
 
-    ghost invariant = { λ v. IsRawTransaction v.bytes.now };
+    ghost is_check = { raw_transaction-check };
+
+    fn is_encoding(b: &[u8]) -> bool {
+        if !has_fields::<6>(b) {
+            return false;
+        }
+        let version = field::<6>(b, 0);
+        let cell_deps = field::<6>(b, 1);
+        let header_deps = field::<6>(b, 2);
+        let inputs = field::<6>(b, 3);
+        let outputs = field::<6>(b, 4);
+        let outputs_data = field::<6>(b, 5);
+        version.len() == 4
+            && are_items(cell_deps, 37)
+            && are_items(header_deps, 32)
+            && are_items(inputs, 44)
+            && is_list_of::<CellOutput>(outputs)
+            && is_list_of::<ByteVec>(outputs_data)
+    }
 }
+
+pub type RawTxView<'a> = View<'a, RawTransaction>;
 
 #[tactic(auto, unfolding(codec_defs::specs::Schema::raw_transaction))]
-impl<'a> RawTxView<'a> {
-    /// The view of bytes that encode a `RawTransaction`.
-    pub fn read(b: &'a [u8]) -> Option<Self>
-        ensures value { result ≡ decoded raw_transaction b.now }
-        ensures exact { (v : RawTransaction) → (result ≡ Some v) ↔ IsA raw_transaction b.now v }
-    {
-        if is_raw_transaction(b) {
-            Some(RawTxView { bytes: b })
-        } else {
-            None
-        }
-    }
-
-    /// The view of bytes that were checked before.
-    pub(crate) fn from_checked(b: &'a [u8]) -> Self
-        requires { IsRawTransaction b.now }
-        ensures { result ≡ raw_transaction.decoding b.now }
-    {
-        RawTxView { bytes: b }
-    }
-
-    /// The view of bytes that are known to encode a `RawTransaction`: nothing is checked again.
-    pub fn from_encoding(b: &'a [u8]) -> Self
-        requires { (v : RawTransaction) × IsA raw_transaction b.now v }
-        ensures { (v : RawTransaction) → IsA raw_transaction b.now v → result ≡ v }
-    {
-        RawTxView { bytes: b }
-    }
-
-    /// The whole encoding.
-    pub fn bytes(&self) -> &'a [u8]
-        ensures { IsA raw_transaction result.now self.now }
-    {
-        whole(self.bytes)
-    }
-
+impl<'a> View<'a, RawTransaction> {
     pub fn version(&self) -> u32
         ensures { result ≡ self.now.version }
     {
@@ -227,58 +204,42 @@ impl<'a> RawTxView<'a> {
 
 /// `table Transaction`.
 #[derive(Drop)]
-pub struct TxView<'a> {
-    bytes: &'a [u8],
+pub struct Transaction;
+
+impl Model for Transaction {
+    ghost use Rattle.std.specs.Prelude.{[]};
+    ghost use Rattle.codec_defs.specs.Schema as schema;
+
+    ghost Value = { schema.Transaction };
+
+    ghost view = { λ _. schema.transaction.decoding [] };
 }
 
-impl<'a> Model for TxView<'a> {
-    ghost use Rattle.codec_defs.specs.Schema.{Transaction, transaction};
-    ghost use Rattle.mol_schema.specs.Checked.{IsTransaction};
+impl Row for Transaction {
+    ghost use Rattle.codec_defs.specs.Schema.{transaction};
+    ghost use Rattle.codec_defs.specs.Checked.{IsTransaction};
+    ghost use Rattle.codec_defs.proofs.RowLaws.{transaction-check};
 
-    ghost Value = { Transaction };
+    ghost shape = { transaction };
 
-    ghost view = { λ v. transaction.decoding v.bytes.now };
+    ghost IsChecked = { IsTransaction };
 
-    ghost invariant = { λ v. IsTransaction v.bytes.now };
+    ghost is_check = { transaction-check };
+
+    fn is_encoding(b: &[u8]) -> bool {
+        if !has_fields::<2>(b) {
+            return false;
+        }
+        let raw = field::<2>(b, 0);
+        let witnesses = field::<2>(b, 1);
+        RawTransaction::is_encoding(raw) && is_list_of::<ByteVec>(witnesses)
+    }
 }
+
+pub type TxView<'a> = View<'a, Transaction>;
 
 #[tactic(auto, unfolding(codec_defs::specs::Schema::transaction))]
-impl<'a> TxView<'a> {
-    /// The view of bytes that encode a `Transaction`.
-    pub fn read(b: &'a [u8]) -> Option<Self>
-        ensures value { result ≡ decoded transaction b.now }
-        ensures exact { (v : Transaction) → (result ≡ Some v) ↔ IsA transaction b.now v }
-    {
-        if is_transaction(b) {
-            Some(TxView { bytes: b })
-        } else {
-            None
-        }
-    }
-
-    /// The view of bytes that were checked before.
-    pub(crate) fn from_checked(b: &'a [u8]) -> Self
-        requires { IsTransaction b.now }
-        ensures { result ≡ transaction.decoding b.now }
-    {
-        TxView { bytes: b }
-    }
-
-    /// The view of bytes that are known to encode a `Transaction`: nothing is checked again.
-    pub fn from_encoding(b: &'a [u8]) -> Self
-        requires { (v : Transaction) × IsA transaction b.now v }
-        ensures { (v : Transaction) → IsA transaction b.now v → result ≡ v }
-    {
-        TxView { bytes: b }
-    }
-
-    /// The whole encoding.
-    pub fn bytes(&self) -> &'a [u8]
-        ensures { IsA transaction result.now self.now }
-    {
-        whole(self.bytes)
-    }
-
+impl<'a> View<'a, Transaction> {
     pub fn raw(&self) -> RawTxView<'a>
         ensures { result ≡ self.now.raw }
     {

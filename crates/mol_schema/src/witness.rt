@@ -1,61 +1,53 @@
 //! What the witnesses of a transaction hold.
 
-ghost use Rattle.std.specs.Prelude.{◌≡◌, ◌↔◌, Some, ◌^◌, ◌<◌, length};
+ghost use Rattle.std.specs.Prelude.{◌≡◌, ◌^◌, ◌<◌, length};
 ghost use Rattle.std.specs.Option.{option_copied};
-ghost use Rattle.codec_defs.specs.Shape.{IsA, decoded};
-ghost use Rattle.codec_defs.specs.Schema.{CellbaseWitness, cellbase_witness, WitnessArgs, witness_args};
 
-use crate::check::{is_cellbase_witness, is_witness_args};
-use crate::parts::{content, field, optional_content, whole};
-use crate::script::ScriptView;
+use crate::bytes::ByteVec;
+use crate::check::{has_fields, is_option_of};
+use crate::parts::{content, field, optional_content};
+use crate::script::{Script, ScriptView};
+use crate::view::{Row, View};
 use std::marker::Model;
 
 /// `table CellbaseWitness`: the first witness of a cellbase.
 #[derive(Drop)]
-pub struct CellbaseWitnessView<'a> {
-    bytes: &'a [u8],
+pub struct CellbaseWitness;
+
+impl Model for CellbaseWitness {
+    ghost use Rattle.std.specs.Prelude.{[]};
+    ghost use Rattle.codec_defs.specs.Schema as schema;
+
+    ghost Value = { schema.CellbaseWitness };
+
+    ghost view = { λ _. schema.cellbase_witness.decoding [] };
 }
 
-impl<'a> Model for CellbaseWitnessView<'a> {
-    ghost use Rattle.codec_defs.specs.Schema.{CellbaseWitness, cellbase_witness};
-    ghost use Rattle.mol_schema.specs.Checked.{IsCellbaseWitness};
+impl Row for CellbaseWitness {
+    ghost use Rattle.codec_defs.specs.Schema.{cellbase_witness};
+    ghost use Rattle.codec_defs.specs.Checked.{IsCellbaseWitness};
+    ghost use Rattle.codec_defs.proofs.RowLaws.{cellbase_witness-check};
 
-    ghost Value = { CellbaseWitness };
+    ghost shape = { cellbase_witness };
 
-    ghost view = { λ v. cellbase_witness.decoding v.bytes.now };
+    ghost IsChecked = { IsCellbaseWitness };
 
-    ghost invariant = { λ v. IsCellbaseWitness v.bytes.now };
+    ghost is_check = { cellbase_witness-check };
+
+    fn is_encoding(b: &[u8]) -> bool {
+        if !has_fields::<2>(b) {
+            return false;
+        }
+        let lock = field::<2>(b, 0);
+        let message = field::<2>(b, 1);
+        Script::is_encoding(lock) && ByteVec::is_encoding(message)
+    }
 }
+
+pub type CellbaseWitnessView<'a> = View<'a, CellbaseWitness>;
 
 #[tactic(auto, unfolding(codec_defs::specs::Schema::cellbase_witness))]
-impl<'a> CellbaseWitnessView<'a> {
-    /// The view of bytes that encode a `CellbaseWitness`.
-    pub fn read(b: &'a [u8]) -> Option<Self>
-        ensures value { result ≡ decoded cellbase_witness b.now }
-        ensures exact { (v : CellbaseWitness) → (result ≡ Some v) ↔ IsA cellbase_witness b.now v }
-    {
-        if is_cellbase_witness(b) {
-            Some(CellbaseWitnessView { bytes: b })
-        } else {
-            None
-        }
-    }
-
-    /// The view of bytes that are known to encode a `CellbaseWitness`: nothing is checked again.
-    pub fn from_encoding(b: &'a [u8]) -> Self
-        requires { (v : CellbaseWitness) × IsA cellbase_witness b.now v }
-        ensures { (v : CellbaseWitness) → IsA cellbase_witness b.now v → result ≡ v }
-    {
-        CellbaseWitnessView { bytes: b }
-    }
-
-    /// The whole encoding.
-    pub fn bytes(&self) -> &'a [u8]
-        ensures { IsA cellbase_witness result.now self.now }
-    {
-        whole(self.bytes)
-    }
-
+impl<'a> View<'a, CellbaseWitness> {
     /// Whom the reward goes to.
     pub fn lock(&self) -> ScriptView<'a>
         ensures { result ≡ self.now.lock }
@@ -73,50 +65,45 @@ impl<'a> CellbaseWitnessView<'a> {
 
 /// `table WitnessArgs`: what a witness gives the scripts.
 #[derive(Drop)]
-pub struct WitnessArgsView<'a> {
-    bytes: &'a [u8],
+pub struct WitnessArgs;
+
+impl Model for WitnessArgs {
+    ghost use Rattle.std.specs.Prelude.{[]};
+    ghost use Rattle.codec_defs.specs.Schema as schema;
+
+    ghost Value = { schema.WitnessArgs };
+
+    ghost view = { λ _. schema.witness_args.decoding [] };
 }
 
-impl<'a> Model for WitnessArgsView<'a> {
-    ghost use Rattle.codec_defs.specs.Schema.{WitnessArgs, witness_args};
-    ghost use Rattle.mol_schema.specs.Checked.{IsWitnessArgs};
+impl Row for WitnessArgs {
+    ghost use Rattle.codec_defs.specs.Schema.{witness_args};
+    ghost use Rattle.codec_defs.specs.Checked.{IsWitnessArgs};
+    ghost use Rattle.codec_defs.proofs.RowLaws.{witness_args-check};
 
-    ghost Value = { WitnessArgs };
+    ghost shape = { witness_args };
 
-    ghost view = { λ v. witness_args.decoding v.bytes.now };
+    ghost IsChecked = { IsWitnessArgs };
 
-    ghost invariant = { λ v. IsWitnessArgs v.bytes.now };
+    ghost is_check = { witness_args-check };
+
+    fn is_encoding(b: &[u8]) -> bool {
+        if !has_fields::<3>(b) {
+            return false;
+        }
+        let lock = field::<3>(b, 0);
+        let input_type = field::<3>(b, 1);
+        let output_type = field::<3>(b, 2);
+        is_option_of::<ByteVec>(lock)
+            && is_option_of::<ByteVec>(input_type)
+            && is_option_of::<ByteVec>(output_type)
+    }
 }
+
+pub type WitnessArgsView<'a> = View<'a, WitnessArgs>;
 
 #[tactic(auto, unfolding(codec_defs::specs::Schema::witness_args))]
-impl<'a> WitnessArgsView<'a> {
-    /// The view of bytes that encode a `WitnessArgs`.
-    pub fn read(b: &'a [u8]) -> Option<Self>
-        ensures value { result ≡ decoded witness_args b.now }
-        ensures exact { (v : WitnessArgs) → (result ≡ Some v) ↔ IsA witness_args b.now v }
-    {
-        if is_witness_args(b) {
-            Some(WitnessArgsView { bytes: b })
-        } else {
-            None
-        }
-    }
-
-    /// The view of bytes that are known to encode a `WitnessArgs`: nothing is checked again.
-    pub fn from_encoding(b: &'a [u8]) -> Self
-        requires { (v : WitnessArgs) × IsA witness_args b.now v }
-        ensures { (v : WitnessArgs) → IsA witness_args b.now v → result ≡ v }
-    {
-        WitnessArgsView { bytes: b }
-    }
-
-    /// The whole encoding.
-    pub fn bytes(&self) -> &'a [u8]
-        ensures { IsA witness_args result.now self.now }
-    {
-        whole(self.bytes)
-    }
-
+impl<'a> View<'a, WitnessArgs> {
     pub fn lock(&self) -> Option<&'a [u8]>
         ensures { option_copied result ≡ self.now.lock }
     {

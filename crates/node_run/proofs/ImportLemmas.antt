@@ -202,7 +202,7 @@ no_fault before now calm never = record {
   calm = λ _. calm;
 }
 
--- a count that stood still, and then counts the same fault
+-- a count that was unchanged, and then counts the same fault
 pub then_counts : {First Fault : Type 0} (before still now : ℕ) → still ≡ before → CountsFault still now First → (Fault → First) → (First → Fault)
     → CountsFault before now Fault
 then_counts before still now calm counts there back = record {

@@ -17,7 +17,7 @@ pub record IsFile (left : Option (List ℕ)) (file given : List ℕ) : Type 0 wh
   pub most : length file ≤ file_limit + 1
   pub to_end : length file ≤ file_limit → IsAtEnd left
 
--- the reading was stopped, by a fault or want of memory, within the longest file
+-- the reading was stopped, by a fault or missing memory, within the longest file
 pub record IsUnread (status : Status) (given : List ℕ) : Type 0 where
   pub stop : IsReadingStop status
   pub most : length given ≤ file_limit

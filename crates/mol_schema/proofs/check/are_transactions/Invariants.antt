@@ -1,8 +1,0 @@
-use Rattle.std.proofs.Common.{◌<◌, ℕ}
-use Rattle.codec_defs.specs.Shape.{table_field}
-use Rattle.mol_schema.specs.Checked.{IsTransaction}
-use Rattle.mol_schema.proofs.check.are_transactions.Given as goal
-
--- the items so far were checked
-abbrev pub invariant-loop-i : goal.invariant-loop-i
-invariant-loop-i l = (k : ℕ) → k < l.i → IsTransaction (table_field l.b k)

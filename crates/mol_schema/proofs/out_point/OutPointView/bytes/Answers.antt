@@ -1,9 +1,0 @@
-use Rattle.std.proofs.Common.{ap}
-use Rattle.codec_defs.specs.Schema.{out_point}
-use Rattle.mol_schema.specs.Checked.{HasLength}
-use Rattle.mol_schema.proofs.Agreement.{encoding-is}
-use Rattle.mol_schema.proofs.Rows.{out_point-agrees}
-use Rattle.mol_schema.proofs.out_point.OutPointView.bytes.Goals as goal
-
-pub returns : goal.returns
-returns c = encoding-is (HasLength 36) out_point out_point-agrees c.whole.result.now c.self.inside.bytes.now c.args.self.now c.whole.ensures.small (ap (λ r. r.now) c.whole.ensures.same) c.self.invariant c.self.view_is
