@@ -11,6 +11,12 @@ use Rattle.outside.proofs.Torn.{torn_same}
 same_image : (image now : Image) → image.log ≡ now.log → image.snap_a ≡ now.snap_a → image.snap_b ≡ now.snap_b → image ≡ now
 same_image image now log snap_a snap_b = λ i. record { log = log i; snap_a = snap_a i; snap_b = snap_b i }
 
+-- its own bytes in one area
+pub own_content : (area : Area) (image : Image) → image ≡ with_content area (content area image) image
+own_content Log image = refl
+own_content SnapA image = refl
+own_content SnapB image = refl
+
 -- where each area is durable, a crash leaves one image
 pub one_image : (reads : Option Image) (images : Image → Type 0) → IfSome reads (IsDurable Log images) → IfSome reads (IsDurable SnapA images)
     → IfSome reads (IsDurable SnapB images) → HasOneImage reads images
@@ -38,11 +44,6 @@ module _ {D : Type 0} (reads_as : D → Option Image) (images : D → Image → 
   }
 
 module _ {D : Type 0} (images : D → Image → Type 0) (moment : D → ℕ) (left_since : D → ℕ → Image → Type 0) (area : Area) (at size : ℕ) where
-  own_content : (area : Area) (image : Image) → image ≡ with_content area (content area image) image
-  own_content Log image = refl
-  own_content SnapA image = refl
-  own_content SnapB image = refl
-
   abbrev torn : Image → Image → Type 0
   torn = InArea area (Torn at size)
 

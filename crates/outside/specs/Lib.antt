@@ -4,3 +4,4 @@ pub mod Image
 pub mod Disk
 pub mod DiskLaws
 pub mod Memory
+pub mod MemoryDisk

@@ -2,9 +2,11 @@
 ghost use Rattle.std.specs.Prelude.{◌≡◌, ◌+◌, ◌<◌};
 
 use crate::{
-    Area, Disk, Failed, MemSink, MemSource, NoDisk, Sink, Source, Steps, read_full, write_all,
+    Area, Disk, Failed, MemDisk, MemSink, MemSource, NoDisk, Sink, Source, Steps, read_full,
+    write_all, write_durably,
 };
 use std::marker::Brand;
+use std::process::Abort;
 use std::sync::ledger::{Blank, Ledger};
 use std::test::Fail;
 
@@ -79,6 +81,82 @@ fn no_disk_fails(rt: HostRuntime) {
         assert_eq!(rt; disk.cut(area, 0), Err(Failed));
         assert_eq!(rt; disk.sync(area), Err(Failed));
     }
+}
+
+// A write within a small area, which is two calls.
+fn put<D: Disk>(
+    rt: &impl Abort,
+    disk: &mut D,
+    area: Area,
+    at: u64,
+    piece: &[u8],
+) -> Result<(), Failed> {
+    let len = disk.len(area)?;
+    assert!(rt; at <= len && len < 1_000 && piece.len() < 1_000);
+    disk.write(area, at, piece)
+}
+
+// A cut within an area, which is two calls.
+fn shorten<D: Disk>(rt: &impl Abort, disk: &mut D, area: Area, len: u64) -> Result<(), Failed> {
+    let old = disk.len(area)?;
+    assert!(rt; len <= old);
+    disk.cut(area, len)
+}
+
+// What an area reads as from `at` on, which is one call.
+fn reads_as<D: Disk>(rt: &impl Abort, disk: &mut D, area: Area, at: u64, want: &[u8]) {
+    let mut into = [b'-'; 10];
+    let Ok(n) = disk.read(area, at, &mut into) else {
+        panic!(rt; "the read failed");
+    };
+    assert!(rt; n <= 10);
+    assert_eq!(rt; &into[..n], want, "from {at}");
+}
+
+#[test]
+fn disk_in_memory(rt: HostRuntime) -> Result<(), Fail> {
+    let failing = [5, 9, 15].to_vec(rt.alloc())?;
+    let mut disk = MemDisk::new(rt.alloc(), failing);
+    assert_eq!(rt; put(&rt, &mut disk, Area::Log, 0, b"abcdef"), Ok(()));
+    assert_eq!(rt; put(&rt, &mut disk, Area::Log, 4, b"XYZ"), Ok(()));
+    // The sixth call fails, with half of the piece written.
+    assert_eq!(rt; put(&rt, &mut disk, Area::Log, 1, b"1234"), Err(Failed));
+    reads_as(&rt, &mut disk, Area::Log, 0, b"a12dXYZ");
+    assert_eq!(rt; disk.len(Area::SnapA), Ok(0));
+    // The tenth call fails, with half of the end cut.
+    assert_eq!(rt; shorten(&rt, &mut disk, Area::Log, 3), Err(Failed));
+    reads_as(&rt, &mut disk, Area::Log, 0, b"a12dX");
+    assert_eq!(rt; shorten(&rt, &mut disk, Area::Log, 3), Ok(()));
+    reads_as(&rt, &mut disk, Area::Log, 1, b"12");
+    assert_eq!(rt; disk.sync(Area::Log), Ok(()));
+    assert_eq!(rt; disk.sync(Area::Log), Err(Failed));
+    assert_eq!(rt; put(&rt, &mut disk, Area::SnapB, 0, b"b"), Ok(()));
+    assert_eq!(rt; put(&rt, &mut disk, Area::SnapA, 0, b"aa"), Ok(()));
+    reads_as(&rt, &mut disk, Area::SnapB, 0, b"b");
+    reads_as(&rt, &mut disk, Area::SnapA, 0, b"aa");
+    reads_as(&rt, &mut disk, Area::Log, 0, b"a12");
+    reads_as(&rt, &mut disk, Area::Log, 3, b"");
+    reads_as(&rt, &mut disk, Area::Log, u64::MAX, b"");
+    assert_eq!(rt; disk.starved(), 0);
+    Ok(())
+}
+
+#[test]
+fn writes_durably(rt: HostRuntime) -> Result<(), Fail> {
+    let failing = [0, 2].to_vec(rt.alloc())?;
+    let mut disk = MemDisk::new(rt.alloc(), failing);
+    // The write fails, then the sync, then neither.
+    assert_eq!(rt;
+        write_durably(&mut disk, Area::SnapA, 0, b"piece"),
+        Err(Failed)
+    );
+    assert_eq!(rt;
+        write_durably(&mut disk, Area::SnapA, 0, b"PIECE"),
+        Err(Failed)
+    );
+    assert_eq!(rt; write_durably(&mut disk, Area::SnapA, 0, b"done"), Ok(()));
+    reads_as(&rt, &mut disk, Area::SnapA, 0, b"doneE");
+    Ok(())
 }
 
 fn tick_twice<L: Ledger>(steps: &mut Steps<L>)
