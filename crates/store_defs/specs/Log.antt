@@ -31,7 +31,7 @@ record_at bytes =
     then Some (record { kind = slice_index bytes 1; body = take size (drop 6 bytes) })
     else None
 
--- the records at the front of bytes, one after the other, at most so many
+-- the records at the front of bytes, one after the other, at most so many of them
 abbrev pub records_within : ℕ → List ℕ → List Record
 records_within zero bytes = []
 records_within (suc most) bytes = elim (record_at bytes) [
@@ -53,7 +53,11 @@ magic = codes "CKBDEV01"
 
 -- ---- Blocks in records
 
--- the block and the ext of the body of a record of kind 3: the block's length, the block, the ext
+-- The body of a record of kind 3: the block's length, the block, and its ext.
+abbrev pub body_of_parts : List ℕ → List ℕ → List ℕ
+body_of_parts item ext = to_le_bytes w32 (length item) ++ item ++ ext
+
+-- the block and the ext of such a body
 unfoldable pub parts_of_body : List ℕ → Option (List ℕ × List ℕ)
 parts_of_body body =
     let size = count_at body 0 in
