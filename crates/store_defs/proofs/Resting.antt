@@ -78,8 +78,8 @@ rest_grown place records r bytes other tail rest fits same new =
       closed = λ is. absurd (cc);
     }
 
-zero_not_one : 0 ≡ 1 → ⊥
-zero_not_one is = absurd (cc)
+zero_not_one : {n : ℕ} → n ≡ 0 → n ≡ 1 → ⊥
+zero_not_one none one = absurd (cc)
 
 -- a log that is made of records
 pub rest_made : (records : List Record) (tail : List ℕ) → All HasFittingBody records → IsAtRest (8 + size_of_all records) records (magic ++ (all_record_bytes records ++ 0 ∷ tail))
@@ -94,5 +94,5 @@ rest_made records tail fit =
       holds = holds;
       ends = end_is records bytes holds;
       there = omega (arith, length-append magic (all_record_bytes records ++ 0 ∷ tail), length-append (all_record_bytes records) (0 ∷ tail));
-      closed = λ is. zero_not_one (sym gate ∙ is);
+      closed = λ is. zero_not_one gate is;
     }
