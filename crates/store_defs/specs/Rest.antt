@@ -27,3 +27,7 @@ pub record IsSettled (place : ℕ) (records : List Record) (reads : Option Image
 -- An image with the other areas of one of these, and with a log that has P.
 abbrev pub HasLog : (List ℕ → Type 0) → (Image → Type 0) → Image → Type 0
 HasLog P images = ComesBy (InArea Log (λ old new. P new)) images
+
+-- An image with the other areas of one of these.
+abbrev pub HasOthers : (Image → Type 0) → Image → Type 0
+HasOthers images = ComesBy (InArea Log (λ old new. Unit)) images
