@@ -12,6 +12,7 @@ mod appending;
 mod body;
 mod creation;
 mod ext;
+mod genesis;
 mod log;
 mod number;
 
@@ -19,4 +20,5 @@ pub use appending::append;
 pub use body::{Body, parts};
 pub use creation::create;
 pub use ext::ext_form;
+pub use genesis::genesis_ok;
 pub use log::{Log, Rec};

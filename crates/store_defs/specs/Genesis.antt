@@ -23,9 +23,13 @@ are_distinct (hash ∷ later) = not (list_any (λ other. bytes_eq other hash) la
 abbrev pub has_transactions : Block → Bool
 has_transactions genesis = nat_lt 0 (length genesis.transactions) && are_distinct (map transaction_hash genesis.transactions)
 
--- G6: each transaction has as many data as outputs.
+-- as many data as outputs
 abbrev pub pairs_data : Transaction → Bool
 pairs_data transaction = length transaction.raw.outputs_data == length transaction.raw.outputs
+
+-- G6: each transaction has as many data as outputs.
+abbrev pub all_pair_data : Block → Bool
+all_pair_data genesis = list_all pairs_data genesis.transactions
 
 -- an output with its data holds its occupied capacity (RFC 0022)
 abbrev pub holds_its_own : CellOutput → List ℕ → Bool
@@ -37,9 +41,13 @@ all_hold_their_own [] contents = true
 all_hold_their_own (output ∷ outputs) [] = holds_its_own output [] && all_hold_their_own outputs []
 all_hold_their_own (output ∷ outputs) (content ∷ contents) = holds_its_own output content && all_hold_their_own outputs contents
 
--- G7: each output holds its occupied capacity.
+-- each output of a transaction does
 abbrev pub holds_capacity : Transaction → Bool
 holds_capacity transaction = all_hold_their_own transaction.raw.outputs transaction.raw.outputs_data
+
+-- G7: each output holds its occupied capacity.
+abbrev pub all_hold_capacity : Block → Bool
+all_hold_capacity genesis = list_all holds_capacity genesis.transactions
 
 -- G2 to G7
 abbrev pub store_genesis_rows : Block → List (ℕ × Bool)
@@ -47,8 +55,8 @@ store_genesis_rows genesis =
     genesis_rows genesis
     ++ (4, has_issued genesis)
     ∷ (5, has_transactions genesis)
-    ∷ (6, list_all pairs_data genesis.transactions)
-    ∷ (7, list_all holds_capacity genesis.transactions)
+    ∷ (6, all_pair_data genesis)
+    ∷ (7, all_hold_capacity genesis)
     ∷ []
 
 abbrev pub store_broken_by : Option Block → Option ℕ
