@@ -1,5 +1,5 @@
 -- A new log is at rest.
-use Rattle.std.proofs.Common.{◌≡◌, ℕ, zero, suc, ◌+◌, ◌-◌, ◌<◌, ◌≤◌, ◌^◌, List, [], ◌∷◌, ◌++◌, length, take, drop, Option, Some, None, refl, sym, ap, ◌∙◌, subst, arith}
+use Rattle.std.proofs.Common.{◌≡◌, ℕ, zero, suc, ◌+◌, ◌-◌, ◌<◌, ◌^◌, List, [], ◌∷◌, ◌++◌, length, drop, Option, Some, None, refl, sym, ap, ◌∙◌, subst, arith}
 use Rattle.std.specs.Prelude.{IfSome, IsSome, All}
 use Rattle.std.specs.Option.{option_map}
 use Rattle.std.proofs.lemmas.List.{append_assoc, length-append}
@@ -49,10 +49,10 @@ settles_new place specification genesis bytes (Some old) reads1 images1 some one
     let now1 : Image = write_area Log 0 bytes old in
     let tail : List ℕ = drop (0 + length bytes) old.log in
     let reads_as : bytes ++ tail ≡ magic ++ (all_record_bytes records ++ 0 ∷ tail) =
-        ap (λ (l : List ℕ). l ++ tail) is ∙ ap (λ (l : List ℕ). magic ++ l) (append_assoc (all_record_bytes records) (0 ∷ []) tail) in
+    ap (λ (l : List ℕ). l ++ tail) is ∙ ap (λ (l : List ℕ). magic ++ l) (append_assoc (all_record_bytes records) (0 ∷ []) tail) in
     let made : IsAtRest (8 + size_of_all records) records (magic ++ (all_record_bytes records ++ 0 ∷ tail)) = rest_made records tail (both_fit specification genesis one two) in
     let long : length bytes ≡ 8 + size_of_all records + 1 =
-        ap length is ∙ omega (arith, length-append magic (all_record_bytes records ++ 0 ∷ []), length-append (all_record_bytes records) (0 ∷ [])) in
+    ap length is ∙ omega (arith, length-append magic (all_record_bytes records ++ 0 ∷ []), length-append (all_record_bytes records) (0 ∷ [])) in
     let place_is : 8 + size_of_all records ≡ place = omega (arith, long, at) in
     record {
       now = now1;

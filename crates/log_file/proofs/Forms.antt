@@ -1,9 +1,8 @@
 -- The forms of a body and an ext.
-use Rattle.std.proofs.Common.{◌≡◌, ℕ, zero, suc, ◌+◌, ◌-◌, ◌*◌, ◌<◌, ◌≤◌, Bool, true, false, cond, eqb, leb, List, [], ◌∷◌, ◌++◌, length, take, drop, Option, Some, None, refl, sym, ap, ◌∙◌, subst, arith}
+use Rattle.std.proofs.Common.{◌≡◌, ℕ, suc, ◌+◌, ◌-◌, ◌*◌, ◌<◌, ◌≤◌, Bool, true, false, cond, eqb, leb, List, length, take, drop, Option, Some, None, sym, ap, ◌∙◌, arith}
 use Rattle.std.specs.Prelude.{◌&&◌}
-use Rattle.std.specs.List.{slice_range}
 use Rattle.std.proofs.lemmas.Bool.{le-leb, lt-leb, and_from, and_left, and_right, ne_eqb, eq-eqb}
-use Rattle.std.proofs.lemmas.List.{take_rest, length-drop, drop-drop, take_all}
+use Rattle.std.proofs.lemmas.List.{take_rest, drop-drop}
 use Rattle.store_defs.specs.Ext.{count_at, row_size, is_row, are_rows, is_ext}
 use Rattle.store_defs.specs.Log.{parts_of_body}
 
@@ -72,6 +71,6 @@ ext-right bytes rest fees rows first second long behind =
     let rows_is : rows ≡ count_at bytes (4 + 8 * count_at bytes 0) = second ∙ ap (count_at bytes) at in
     let whole : length bytes ≡ 4 + 8 * count_at bytes 0 + 4 + 161 * count_at bytes (4 + 8 * count_at bytes 0) = omega (arith, long, first, rows_is) in
     let test : eqb (length bytes) (4 + 8 * count_at bytes 0 + 4 + 161 * count_at bytes (4 + 8 * count_at bytes 0)) ≡ true =
-        eq-eqb (length bytes) (4 + 8 * count_at bytes 0 + 4 + 161 * count_at bytes (4 + 8 * count_at bytes 0)) whole in
+    eq-eqb (length bytes) (4 + 8 * count_at bytes 0 + 4 + 161 * count_at bytes (4 + 8 * count_at bytes 0)) whole in
     (λ i. are_rows (rows_is i) (behind i)) ∙ ap (λ (n : ℕ). are_rows (count_at bytes (4 + 8 * count_at bytes 0)) (drop (n + 4) bytes)) at
     ∙ ap (λ (b : Bool). b && are_rows (count_at bytes (4 + 8 * count_at bytes 0)) (drop (4 + 8 * count_at bytes 0 + 4) bytes)) (sym test)

@@ -7,7 +7,7 @@ use Rattle.std.proofs.lemmas.Bool.{cases_eq}
 use Rattle.std.proofs.lemmas.List.{append_assoc, length-append, length-take-le, take-take, drop_at, drop_more, get_or-take}
 use Rattle.outside.specs.declared.disk.Area.TheVariants.{Log}
 use Rattle.outside.specs.Image.{Image, with_content, InArea}
-use Rattle.outside.specs.Disk.{written, write_area, Torn, ComesBy, Follows, IsDurable, OthersRead}
+use Rattle.outside.specs.Disk.{written, write_area, Torn, ComesBy, Follows, IsDurable}
 use Rattle.outside.proofs.Torn.{tears_to_the_written}
 use Rattle.store_defs.specs.Log.{Record, record_bytes}
 use Rattle.store_defs.specs.LogLaws.{HasFittingBody}
@@ -28,9 +28,9 @@ body_fits r piece same short = omega (arith, ap length same, piece_length r, rec
 torn_kept : (place size : ℕ) (records : List Record) (bytes other : List ℕ) → IsAtRest place records bytes → Torn (place + 1) size bytes other → IsAtRest place records other
 torn_kept place size records bytes other rest h =
     let same : take place other ≡ take place bytes =
-        sym (take-take place (place + 1) other (omega arith)) ∙ ap (take place) h.before ∙ take-take place (place + 1) bytes (omega arith) in
+    sym (take-take place (place + 1) other (omega arith)) ∙ ap (take place) h.before ∙ take-take place (place + 1) bytes (omega arith) in
     let gate : slice_index bytes place ≡ slice_index other place =
-        sym (get_or-take (place + 1) bytes place 0 (omega arith)) ∙ ap (λ (l : List ℕ). get_or l place 0) (sym h.before) ∙ get_or-take (place + 1) other place 0 (omega arith) in
+    sym (get_or-take (place + 1) bytes place 0 (omega arith)) ∙ ap (λ (l : List ℕ). get_or l place 0) (sym h.before) ∙ get_or-take (place + 1) other place 0 (omega arith) in
     rest_kept place records bytes other rest same (omega (arith, rest.there, h.no_shorter)) (λ is. rest.closed (gate ∙ is))
 
 -- a log at rest, with a record behind the gate at its end
@@ -67,10 +67,11 @@ gate_torn place records r bytes other fits s h = by_gate (cases_eq (slice_index 
   where
     more : place < length other
     more = omega (arith, s.rest.there, h.no_shorter)
+
     by_gate : ((slice_index other place ≡ 1) ⊎ (slice_index other place ≡ 1 → ⊥)) → IsBeforeOrAfter place records r other
     by_gate (inl open_gate) =
         let new : drop place other ≡ record_bytes r ++ 0 ∷ s.tail =
-            drop_more other place 0 more ∙ opened r (get_or other place 0) (drop (place + 1) other) s.tail open_gate (h.after ∙ s.behind) in
+        drop_more other place 0 more ∙ opened r (get_or other place 0) (drop (place + 1) other) s.tail open_gate (h.after ∙ s.behind) in
         inr (rest_grown place records r bytes other s.tail s.rest fits h.before new)
     by_gate (inr closed) = inl (rest_kept place records bytes other s.rest h.before more closed)
 
@@ -79,7 +80,7 @@ gate_written : (place : ℕ) (records : List Record) (r : Record) (bytes : List 
 gate_written place records r bytes fits s =
     let within : place ≤ length bytes = omega (arith, s.rest.there) in
     let new : drop place (written place (1 ∷ []) bytes) ≡ record_bytes r ++ 0 ∷ s.tail =
-        written_rest place (1 ∷ []) bytes within ∙ opened r 1 (drop (place + 1) bytes) s.tail refl s.behind in
+    written_rest place (1 ∷ []) bytes within ∙ opened r 1 (drop (place + 1) bytes) s.tail refl s.behind in
     rest_grown place records r bytes (written place (1 ∷ []) bytes) s.tail s.rest fits (tears_to_the_written place 0 (1 ∷ []) bytes within).before new
 
 -- ---- Images
@@ -121,8 +122,10 @@ leaves_while_opened place records r piece reads reads1 images images1 same short
   where
     b : IsBetween place records r reads1 images1
     b = between place records r piece reads reads1 images images1 same settled wrote durable
+
     s : IsStaged place records r mid.log
     s = subst (IsStaged place records r) (sym (b.durable mid left)) b.staged
+
     from : ComesBy (InArea Log (Torn (place + 1) (length piece))) images mid → HasLog (IsBeforeOrAfter place records r) images image
     from (before, first, (other, earlier, was)) =
         (before, first, (bytes, gate_torn place records r mid.log bytes (body_fits r piece same short) s torn, is ∙ ap (with_content Log bytes) was))

@@ -1,9 +1,9 @@
 -- The rules on the transactions of a genesis, one transaction after another.
-use Rattle.std.proofs.Common.{◌≡◌, ℕ, zero, suc, ◌+◌, ◌-◌, ◌<◌, ◌≤◌, Bool, true, false, cond, ltb, List, [], ◌∷◌, length, map, drop, get_or, Option, Some, None, refl, sym, ap, ◌∙◌, subst, inl, inr, ◌⊎◌, arith}
+use Rattle.std.proofs.Common.{◌≡◌, ℕ, zero, suc, ◌+◌, Bool, true, false, cond, List, [], ◌∷◌, drop, Some, refl, sym, ap, ◌∙◌, arith}
 use Rattle.std.specs.Prelude.{◌&&◌, ◌||◌, not, slice_get, unwrap_or}
 use Rattle.std.specs.List.{list_all, list_any}
 use Rattle.std.specs.Str.{bytes_eq}
-use Rattle.std.proofs.lemmas.Bool.{and_left, and_right}
+use Rattle.std.proofs.lemmas.Bool.{and_right}
 use Rattle.std.proofs.lemmas.List.{drop_more, drop_all}
 use Rattle.std.proofs.lemmas.Option.{slice_get_within, get_or_from_slice_get}
 use Rattle.codec_defs.specs.Schema.{CellOutput}
@@ -85,7 +85,7 @@ pub distinct_twice : (hashes : List (List ℕ)) (j i : ℕ) (hash : List ℕ) �
     → are_distinct hashes ≡ false
 distinct_twice hashes j i hash next there old =
     distinct_from hashes j (
-        ap are_distinct (drop_at_get hashes j hash there)
-        ∙ ap (λ (n : ℕ). not (has (drop n hashes) hash) && are_distinct (drop n hashes)) next
-        ∙ ap (λ (b : Bool). not b && are_distinct (drop i hashes)) old
+    ap are_distinct (drop_at_get hashes j hash there)
+    ∙ ap (λ (n : ℕ). not (has (drop n hashes) hash) && are_distinct (drop n hashes)) next
+    ∙ ap (λ (b : Bool). not b && are_distinct (drop i hashes)) old
     )

@@ -33,7 +33,12 @@ fn new_log(alloc: Global, spec: &[u8], genesis: &[u8]) -> Result<Vec<u8>, NoMemo
 
 /// Makes a log of a specification and a genesis, in place of what stands there. Nothing is promised of the log
 /// before it is whole.
-pub fn create<D: Disk>(alloc: Global, disk: &mut D, spec: &[u8], genesis: &[u8]) -> Result<Log, WriteStop>
+pub fn create<D: Disk>(
+    alloc: Global,
+    disk: &mut D,
+    spec: &[u8],
+    genesis: &[u8],
+) -> Result<Log, WriteStop>
     requires spec { length spec.now < 2 ^ 32 }
     requires genesis { length genesis.now < 2 ^ 32 }
     ensures settled { IsSome (D.reads_as disk.old)

@@ -15,6 +15,8 @@ mod ext;
 mod genesis;
 mod log;
 mod number;
+#[cfg(test)]
+mod tests;
 
 pub use appending::append;
 pub use body::{Body, parts};

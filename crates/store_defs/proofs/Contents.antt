@@ -23,7 +23,7 @@ gives_the_parts item ext fits =
     let size : count_at body 0 ≡ n = from_le_bytes-to_le_bytes_4 n fits in
     let long : length body ≡ 4 + n + length ext = omega (arith, length-append (to_le_bytes w32 n ++ item) ext, length-append (to_le_bytes w32 n) item) in
     let test : (leb 4 (length body) && leb (4 + count_at body 0) (length body)) ≡ true =
-        and_from (leb 4 (length body)) (leb (4 + count_at body 0) (length body)) (le-leb 4 (length body) (omega (arith, long))) (le-leb (4 + count_at body 0) (length body) (omega (arith, size, long))) in
+    and_from (leb 4 (length body)) (leb (4 + count_at body 0) (length body)) (le-leb 4 (length body) (omega (arith, long))) (le-leb (4 + count_at body 0) (length body) (omega (arith, size, long))) in
     let first : take (count_at body 0) (drop 4 body) ≡ item = ap (λ (k : ℕ). take k (drop 4 body)) size ∙ take_at item ext n refl in
     let second : drop (4 + count_at body 0) body ≡ ext = ap (λ (k : ℕ). drop (4 + k) body) size ∙ sym (drop-drop n 4 body) ∙ drop_at item ext n refl in
     ap (λ (b : Bool). cond b (Some (take (count_at body 0) (drop 4 body), drop (4 + count_at body 0) body)) None) test
@@ -66,7 +66,7 @@ grows_by_a_block (one ∷ two ∷ records) r log b says stands below =
         let same : record { specification = one.body; genesis = two.body; records = records; blocks = blocks } ≡ log = (cc) in
         let room : length (records ++ r ∷ []) ≤ record_limit = omega (arith, length_push records r, ap (λ (l : LogContent). length l.records) same, below) in
         let test : (are_first one two && leb (length (records ++ r ∷ [])) record_limit) ≡ true =
-            and_from (are_first one two) (leb (length (records ++ r ∷ [])) record_limit) first (le-leb (length (records ++ r ∷ [])) record_limit room) in
+        and_from (are_first one two) (leb (length (records ++ r ∷ [])) record_limit) first (le-leb (length (records ++ r ∷ [])) record_limit room) in
         let here : block_of_record blocks r ≡ Some b = subst (λ (l : LogContent). block_of_record l.blocks r ≡ Some b) (sym same) stands in
         let over : blocks_over (blocks_of_item two.body) (records ++ r ∷ []) ≡ Some (blocks ++ b ∷ []) = blocks-push (blocks_of_item two.body) records r blocks b is here in
         ap (λ (t : Bool). cond t (said one two (records ++ r ∷ []) (blocks_over (blocks_of_item two.body) (records ++ r ∷ []))) None) test

@@ -29,7 +29,7 @@ found_at bytes r is =
     let size : count_at bytes 2 ≡ length r.body = is.size in
     let whole : 6 + count_at bytes 2 < length bytes = omega (arith, size, is.whole) in
     let test : (eqb (slice_index bytes 0) 1 && ltb (6 + count_at bytes 2) (length bytes)) ≡ true =
-        and_from (eqb (slice_index bytes 0) 1) (ltb (6 + count_at bytes 2) (length bytes)) (eq-eqb (slice_index bytes 0) 1 is.open_gate) (lt-ltb (6 + count_at bytes 2) (length bytes) whole) in
+    and_from (eqb (slice_index bytes 0) 1) (ltb (6 + count_at bytes 2) (length bytes)) (eq-eqb (slice_index bytes 0) 1 is.open_gate) (lt-ltb (6 + count_at bytes 2) (length bytes) whole) in
     let body : take (count_at bytes 2) (drop 6 bytes) ≡ r.body = ap (λ (n : ℕ). take n (drop 6 bytes)) size ∙ is.body in
     ap (λ (b : Bool). cond b (Some (record { kind = slice_index bytes 1; body = take (count_at bytes 2) (drop 6 bytes) })) None) test
     ∙ (λ i. Some (record { kind = is.kind i; body = body i }))
@@ -40,13 +40,14 @@ parts_at bytes r is = by_test (eqb (slice_index bytes 0) 1 && ltb (6 + count_at 
   where
     made : Record
     made = record { kind = slice_index bytes 1; body = take (count_at bytes 2) (drop 6 bytes) }
+
     by_test : (b : Bool) → (eqb (slice_index bytes 0) 1 && ltb (6 + count_at bytes 2) (length bytes)) ≡ b → cond b (Some made) None ≡ Some r → IsRecordAt r bytes
     by_test false test is = absurd (cc)
     by_test true test is =
         let both = and_parts (eqb (slice_index bytes 0) 1) (ltb (6 + count_at bytes 2) (length bytes)) test in
         let whole : 6 + count_at bytes 2 < length bytes = ltb-true (6 + count_at bytes 2) (length bytes) both.1 in
         let size : length (take (count_at bytes 2) (drop 6 bytes)) ≡ count_at bytes 2 =
-            length-take-le (count_at bytes 2) (drop 6 bytes) (omega (arith, whole, length-drop 6 bytes)) in
+        length-take-le (count_at bytes 2) (drop 6 bytes) (omega (arith, whole, length-drop 6 bytes)) in
         let parts : IsRecordAt made bytes = record {
           open_gate = eqb-true (slice_index bytes 0) 1 both.0;
           kind = refl;
@@ -65,7 +66,7 @@ front_kept bytes other r there same more =
     let long : n ≡ 6 + k = record_length r in
     let at : IsRecordAt r bytes = parts_at bytes r there in
     let each : (i : ℕ) → i < n → get_or other i 0 ≡ get_or bytes i 0 =
-        λ i below. sym (get_or-take n other i 0 below) ∙ ap (λ (l : List ℕ). get_or l i 0) same ∙ get_or-take n bytes i 0 below in
+    λ i below. sym (get_or-take n other i 0 below) ∙ ap (λ (l : List ℕ). get_or l i 0) same ∙ get_or-take n bytes i 0 below in
     let six : take 6 other ≡ take 6 bytes = sym (take-take 6 n other (omega (arith, long))) ∙ ap (take 6) same ∙ take-take 6 n bytes (omega (arith, long)) in
     let count : take 4 (drop 2 other) ≡ take 4 (drop 2 bytes) = sym (drop-take 2 4 other) ∙ ap (drop 2) six ∙ drop-take 2 4 bytes in
     let all : take (6 + k) other ≡ take (6 + k) bytes = subst (λ (m : ℕ). take m other ≡ take m bytes) long same in
@@ -174,7 +175,7 @@ keeps_within (suc most) bytes other = by_found (λ here there. keeps_within most
         let later : take m (drop n other) ≡ take m (drop n bytes) = sym (drop-take n m other) ∙ ap (drop n) both ∙ drop-take n m bytes in
         let there : record_at other ≡ Some r = front_kept bytes other r is first (omega (arith, sum, more)) in
         let behind : records_of (drop n other) ≡ rest ++ records_of (drop m (drop n other)) =
-            again (drop n bytes) (drop n other) later (omega (arith, length-drop n other, sum, more)) in
+        again (drop n bytes) (drop n other) later (omega (arith, length-drop n other, sum, more)) in
         let place : drop m (drop n other) ≡ drop (size_of_all (r ∷ rest)) other = drop-drop m n other ∙ ap (λ (k : ℕ). drop k other) (sym sum) in
         records_of_some other r there ∙ ap (λ (l : List Record). r ∷ l) (behind ∙ ap (λ (l : List ℕ). rest ++ records_of l) place)
 

@@ -25,10 +25,10 @@ holds_more place records bytes other rest same more =
     let both : take (8 + m) other ≡ take (8 + m) bytes = subst (λ (k : ℕ). take k other ≡ take k bytes) is same in
     let later : take m (drop 8 other) ≡ take m (drop 8 bytes) = sym (drop-take 8 m other) ∙ ap (drop 8) both ∙ drop-take 8 m bytes in
     let kept : records_of (drop 8 other) ≡ records_of (drop 8 bytes) ++ records_of (drop (size_of_all (records_of (drop 8 bytes))) (drop 8 other)) =
-        keeps_the_records (drop 8 bytes) (drop 8 other) (subst (λ (k : ℕ). take k (drop 8 other) ≡ take k (drop 8 bytes)) (sym front) later)
-            (omega (arith, front, is, more, length-drop 8 other)) in
+    keeps_the_records (drop 8 bytes) (drop 8 other) (subst (λ (k : ℕ). take k (drop 8 other) ≡ take k (drop 8 bytes)) (sym front) later)
+    (omega (arith, front, is, more, length-drop 8 other)) in
     let behind : drop (size_of_all (records_of (drop 8 bytes))) (drop 8 other) ≡ drop place other =
-        ap (λ (k : ℕ). drop k (drop 8 other)) front ∙ drop-drop m 8 other ∙ ap (λ (k : ℕ). drop k other) (sym is) in
+    ap (λ (k : ℕ). drop k (drop 8 other)) front ∙ drop-drop m 8 other ∙ ap (λ (k : ℕ). drop k other) (sym is) in
     kept ∙ (λ i. rest.holds i ++ records_of (behind i))
 
 begins_too : (place : ℕ) (records : List Record) (bytes other : List ℕ) → IsAtRest place records bytes → take place other ≡ take place bytes → take 8 other ≡ magic
@@ -43,7 +43,7 @@ rest_kept place records bytes other rest same more closed =
     let gate : slice_index (drop place other) 0 ≡ slice_index other place = get_or-drop place other 0 0 ∙ ap (λ (k : ℕ). get_or other k 0) (omega arith) in
     let none : records_of (drop place other) ≡ [] = records_of_none (drop place other) (closed_none (drop place other) (λ is. closed (sym gate ∙ is))) in
     let holds : records_of (drop 8 other) ≡ records =
-        holds_more place records bytes other rest same more ∙ ap (λ (l : List Record). records ++ l) none ∙ append-nil records in
+    holds_more place records bytes other rest same more ∙ ap (λ (l : List Record). records ++ l) none ∙ append-nil records in
     record {
       begins = begins_too place records bytes other rest same;
       holds = holds;
@@ -63,13 +63,13 @@ rest_grown place records r bytes other tail rest fits same new =
     let size : length other ≡ place + n + length end = omega (arith, long, length-drop place other) in
     let there : record_at (record_bytes r ++ end) ≡ Some r = record_made r end fits (omega arith) in
     let behind : records_of (drop n (record_bytes r ++ end)) ≡ [] =
-        ap records_of (drop_at (record_bytes r) end n refl) ∙ records_of_none end (closed_none end (λ is. absurd (cc))) in
+    ap records_of (drop_at (record_bytes r) end n refl) ∙ records_of_none end (closed_none end (λ is. absurd (cc))) in
     let one : records_of (drop place other) ≡ r ∷ [] =
-        ap records_of new ∙ records_of_some (record_bytes r ++ end) r there ∙ ap (λ (l : List Record). r ∷ l) behind in
+    ap records_of new ∙ records_of_some (record_bytes r ++ end) r there ∙ ap (λ (l : List Record). r ∷ l) behind in
     let holds : records_of (drop 8 other) ≡ records ++ r ∷ [] =
-        holds_more place records bytes other rest same (omega (arith, size)) ∙ ap (λ (l : List Record). records ++ l) one in
+    holds_more place records bytes other rest same (omega (arith, size)) ∙ ap (λ (l : List Record). records ++ l) one in
     let gate : slice_index other (place + n) ≡ 0 =
-        sym (get_or-drop place other n 0) ∙ ap (λ (l : List ℕ). get_or l n 0) new ∙ get_or_at (record_bytes r) 0 tail 0 n refl in
+    sym (get_or-drop place other n 0) ∙ ap (λ (l : List ℕ). get_or l n 0) new ∙ get_or_at (record_bytes r) 0 tail 0 n refl in
     record {
       begins = begins_too place records bytes other rest same;
       holds = holds;
@@ -88,7 +88,7 @@ rest_made records tail fit =
     let bytes : List ℕ = magic ++ (all_record_bytes records ++ 0 ∷ tail) in
     let holds : records_of (drop 8 bytes) ≡ records = reads_the_records records (0 ∷ tail) fit (omega arith) (closed_none (0 ∷ tail) (λ is. absurd (cc))) in
     let gate : slice_index bytes (8 + m) ≡ 0 =
-        get_or-append-add magic (all_record_bytes records ++ 0 ∷ tail) m 0 ∙ get_or_at (all_record_bytes records) 0 tail 0 m refl in
+    get_or-append-add magic (all_record_bytes records ++ 0 ∷ tail) m 0 ∙ get_or_at (all_record_bytes records) 0 tail 0 m refl in
     record {
       begins = refl;
       holds = holds;

@@ -9,7 +9,7 @@ use Rattle.store_defs.specs.Log.{LogContent, Record, log_of, parts_of_body}
 
 -- the chain that an image keeps, if its log is one
 abbrev pub chain_of_log : LogContent → Chain
-chain_of_log log = record { rules = record { }; blocks = log.blocks }
+chain_of_log log = record { rules = record {}; blocks = log.blocks }
 
 unfoldable pub kept_of : Image → Option Chain
 kept_of image = option_map chain_of_log (log_of image.log)
@@ -35,6 +35,6 @@ pub record IsSound (image : Image) : Type 0 where
   pub log : LogContent
   pub is_log : log_of image.log ≡ Some log
   pub joined : (place : ℕ) (r : Record) → slice_get log.records place ≡ Some r
-      → Joined (record { rules = record { }; blocks = take (place + 1) log.blocks }) r (record { rules = record { }; blocks = take (place + 2) log.blocks })
+      → Joined (record { rules = record {}; blocks = take (place + 1) log.blocks }) r (record { rules = record {}; blocks = take (place + 2) log.blocks })
   pub no_snap_a : image.snap_a ≡ []
   pub no_snap_b : image.snap_b ≡ []

@@ -1,5 +1,4 @@
-use Rattle.std.proofs.Common.{◌≡◌, ℕ, ◌+◌, ◌-◌, ◌≤◌, List, length, take, drop, Some, refl, sym, ap, ◌∙◌, arith, rules}
-use Rattle.std.proofs.lemmas.List.{take_rest}
+use Rattle.std.proofs.Common.{refl, sym, rules}
 use Rattle.log_file.proofs.Forms.{parts-short, parts-past, parts-there}
 use Rattle.log_file.proofs.body.parts.Goals as goal
 

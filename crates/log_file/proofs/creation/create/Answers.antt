@@ -1,4 +1,4 @@
-use Rattle.std.proofs.Common.{◌≡◌, refl, sym, ◌∙◌, arith, rules}
+use Rattle.std.proofs.Common.{rules}
 use Rattle.outside.specs.declared.disk.Area.TheVariants.{Log}
 use Rattle.log_file.proofs.Creating.{others_same, settles_new}
 use Rattle.log_file.proofs.creation.create.Goals as goal

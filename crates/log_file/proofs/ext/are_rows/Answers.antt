@@ -1,4 +1,4 @@
-use Rattle.std.proofs.Common.{◌≡◌, ℕ, ◌+◌, ◌-◌, ◌*◌, sym, ◌∙◌, arith, rules}
+use Rattle.std.proofs.Common.{◌+◌, ◌-◌, ◌*◌, sym, ◌∙◌, arith, rules}
 use Rattle.log_file.proofs.Forms.{rows-more, rows-wrong}
 use Rattle.log_file.proofs.ext.are_rows.Goals as goal
 

@@ -1,4 +1,4 @@
-use Rattle.std.proofs.Common.{◌≡◌, ◌+◌, ◌-◌, ◌*◌, drop}
+use Rattle.std.proofs.Common.{◌≡◌, ◌-◌, ◌*◌, drop}
 use Rattle.store_defs.specs.Ext.{are_rows}
 use Rattle.log_file.proofs.ext.are_rows.Given as goal
 

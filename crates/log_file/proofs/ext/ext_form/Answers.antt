@@ -18,6 +18,6 @@ returns-then-b-rows_at-2 c =
 pub returns-else-b-rows_at-2 : goal.returns-else-b-rows_at-2
 returns-else-b-rows_at-2 c =
     let second : c.read_count-rows.result ≡ count_at c.args.b.now (4 + 8 * count_at c.args.b.now 0) =
-        c.read_count-rows.ensures ∙ ap (λ (n : ℕ). count_at c.args.b.now (4 + 8 * n)) c.read_count.ensures in
+    c.read_count-rows.ensures ∙ ap (λ (n : ℕ). count_at c.args.b.now (4 + 8 * n)) c.read_count.ensures in
     let wrong : length c.args.b.now ≡ 4 + 8 * c.read_count.result + 4 + 161 * c.read_count-rows.result → ⊥ = c.if-b-rows_at-2.false in
     ne_eqb _ _ wrong ∙ sym (ext-wrong c.args.b.now (λ is. wrong (omega (arith, is, second, c.read_count.ensures))))

@@ -1,4 +1,4 @@
-use Rattle.std.proofs.Common.{◌≡◌, sym, ◌∙◌, rules}
+use Rattle.std.proofs.Common.{sym, ◌∙◌, rules}
 use Rattle.store_defs.specs.Genesis.{holds_capacity}
 use Rattle.log_file.proofs.Transactions.{all_goes, all_stops}
 use Rattle.log_file.proofs.genesis.all_hold_capacity.Goals as goal

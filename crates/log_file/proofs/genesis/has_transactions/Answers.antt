@@ -1,5 +1,5 @@
-use Rattle.std.proofs.Common.{◌≡◌, ℕ, ◌+◌, ◌-◌, Bool, true, false, ltb, List, length, map, drop, Some, refl, sym, ap, ◌∙◌, arith, rules}
-use Rattle.std.specs.Prelude.{slice_get, not, option_map}
+use Rattle.std.proofs.Common.{◌≡◌, ℕ, ◌+◌, ◌-◌, true, false, ltb, List, length, map, Some, sym, ap, ◌∙◌, arith, rules}
+use Rattle.std.specs.Prelude.{slice_get, option_map}
 use Rattle.std.specs.Str.{bytes_eq}
 use Rattle.std.specs.HashSet.{contains}
 use Rattle.std.proofs.lemmas.Bool.{not-true, not-false, and_right}
@@ -24,7 +24,7 @@ returns-then-not-branch c =
     let there = hash_there transactions (c.later.i - 1) c.transactions_item.result hash c.transactions_item.ensures c.hash_of-hash.ensures in
     let old : contains bytes_eq c.later.seen hash ≡ true = not-false (contains bytes_eq c.later.seen hash) (search rules) in
     sym (and_right (ltb 0 (length transactions)) (are_distinct (map transaction_hash transactions))
-        (distinct_twice (map transaction_hash transactions) (c.later.i - 1) c.later.i hash next there (sym (keeps.2 hash) ∙ old)))
+    (distinct_twice (map transaction_hash transactions) (c.later.i - 1) c.later.i hash next there (sym (keeps.2 hash) ∙ old)))
 
 pub later-preserved : goal.later-preserved
 later-preserved c =

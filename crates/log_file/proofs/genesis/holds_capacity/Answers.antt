@@ -1,4 +1,4 @@
-use Rattle.std.proofs.Common.{◌≡◌, sym, ap, ◌∙◌, rules}
+use Rattle.std.proofs.Common.{sym, ap, ◌∙◌, rules}
 use Rattle.codec_defs.specs.Schema.{RawTransaction}
 use Rattle.store_defs.specs.Genesis.{all_hold_their_own}
 use Rattle.log_file.proofs.Transactions.{outputs_go, outputs_stop}
