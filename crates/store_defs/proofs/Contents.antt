@@ -1,18 +1,17 @@
 -- What the records of a log say.
-use Rattle.std.proofs.Common.{◌≡◌, ℕ, zero, suc, ◌+◌, ◌<◌, ◌≤◌, ◌^◌, Bool, true, false, cond, eqb, leb, List, [], ◌∷◌, ◌++◌, length, take, drop, Option, Some, None, refl, sym, ap, ◌∙◌, subst, arith}
-use Rattle.std.specs.Prelude.{◌&&◌, is_none}
+use Rattle.std.proofs.Common.{◌≡◌, ℕ, ◌+◌, ◌≤◌, Bool, true, false, cond, leb, List, [], ◌∷◌, ◌++◌, length, take, drop, Option, Some, None, refl, sym, ap, ◌∙◌, subst, arith}
+use Rattle.std.specs.Prelude.{◌&&◌}
 use Rattle.std.specs.Option.{option_map, option_and_then}
 use Rattle.std.specs.Str.{bytes_eq}
-use Rattle.std.specs.Int.{w32, to_le_bytes, from_le_bytes}
-use Rattle.std.proofs.lemmas.Bool.{leb-true, le-leb, and_from, and_parts}
-use Rattle.std.proofs.lemmas.List.{append_assoc, length-append, take_at, drop_at, drop-drop, length_push}
+use Rattle.std.specs.Int.{w32, to_le_bytes}
+use Rattle.std.proofs.lemmas.Bool.{le-leb, and_from, and_parts}
+use Rattle.std.proofs.lemmas.List.{length-append, take_at, drop_at, drop-drop, length_push}
 use Rattle.std.proofs.lemmas.Nat.{from_le_bytes-to_le_bytes_4}
 use Rattle.std.specs.Cmp.Lexicographic.{bytes_decides}
 use Rattle.codec_defs.specs.Schema.{Block}
 use Rattle.rule_defs.specs.Verdict.{blocks_of_item}
 use Rattle.store_defs.specs.Ext.{count_at}
 use Rattle.store_defs.specs.Log.{Record, LogContent, record_limit, records_of, magic, log_of, content_of_records, are_first, blocks_over, block_of_record, body_of_parts, parts_of_body}
-use Rattle.store_defs.specs.Rest.{IsAtRest}
 use Rattle.store_defs.specs.LogLaws.{GivesTheParts, SaysItsRecords, GrowsByABlock, grown}
 
 pub gives_the_parts : GivesTheParts

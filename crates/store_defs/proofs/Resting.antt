@@ -1,11 +1,11 @@
 -- A log at rest stays so while its front does, and with one record more it is at rest behind that one.
-use Rattle.std.proofs.Common.{◌≡◌, ℕ, zero, suc, ◌+◌, ◌-◌, ◌^◌, ◌<◌, ◌≤◌, List, [], ◌∷◌, ◌++◌, length, take, drop, get_or, Option, Some, None, refl, sym, ap, ◌∙◌, subst, arith}
+use Rattle.std.proofs.Common.{◌≡◌, ℕ, ◌+◌, ◌<◌, ◌≤◌, List, [], ◌∷◌, ◌++◌, length, take, drop, get_or, Some, refl, sym, ap, ◌∙◌, subst, arith}
 use Rattle.std.specs.Prelude.{slice_index, All}
-use Rattle.std.proofs.lemmas.List.{append-nil, append_assoc, length-append, length-drop, take-take, take_at, drop_at, drop-drop, drop-take, get_or-take, get_or-drop, get_or_at, get_or-append-add}
+use Rattle.std.proofs.lemmas.List.{append-nil, length-append, length-drop, take-take, drop_at, drop-drop, drop-take, get_or-drop, get_or_at, get_or-append-add}
 use Rattle.store_defs.specs.Log.{Record, record_at, record_bytes, all_record_bytes, records_of, end_of_log, magic}
 use Rattle.store_defs.specs.LogLaws.{HasFittingBody}
 use Rattle.store_defs.specs.Rest.{IsAtRest}
-use Rattle.store_defs.proofs.Records.{record_length, record_made, closed_none, records_of_none, records_of_some, size_of_all, keeps_the_records, reads_the_records, size-push}
+use Rattle.store_defs.proofs.Records.{record_made, closed_none, records_of_none, records_of_some, size_of_all, keeps_the_records, reads_the_records, size-push}
 
 place_is : (place : ℕ) (records : List Record) (bytes : List ℕ) → IsAtRest place records bytes → place ≡ 8 + size_of_all records
 unfolding end_of_log

@@ -1,5 +1,5 @@
 -- What a record keeps beside its block (docs/STORE.md, "The ext"): the fees of its transactions, and the rows of the cells that it spends.
-use Rattle.std.specs.Prelude.{ℕ, zero, suc, ◌+◌, ◌*◌, ◌==◌, ◌&&◌, ◌||◌, Bool, true, List, [], ◌∷◌, length, drop, slice_index}
+use Rattle.std.specs.Prelude.{ℕ, zero, suc, ◌+◌, ◌*◌, ◌==◌, ◌&&◌, ◌||◌, Bool, true, List, length, drop, slice_index}
 use Rattle.std.specs.List.{slice_range, list_all}
 use Rattle.std.specs.Int.{w32, from_le_bytes}
 

@@ -1,10 +1,10 @@
 -- The rules on the genesis of a store, as rows of a list (docs/RULES.md, "The genesis").
-use Rattle.std.specs.Prelude.{ℕ, ◌+◌, ◌<◌, ◌==◌, ◌&&◌, not, nat_lt, nat_le, Bool, true, List, [], ◌∷◌, ◌++◌, map, length, Option, Some, None}
+use Rattle.std.specs.Prelude.{ℕ, ◌==◌, ◌&&◌, not, nat_lt, nat_le, Bool, true, List, [], ◌∷◌, ◌++◌, map, length, Option, Some, None}
 use Rattle.std.specs.Option.{option_map}
 use Rattle.std.specs.List.{list_any, list_all}
 use Rattle.std.specs.Str.{bytes_eq}
 use Rattle.codec_defs.specs.Shape.{decoded}
-use Rattle.codec_defs.specs.Schema.{Script, CellOutput, Transaction, Block, block}
+use Rattle.codec_defs.specs.Schema.{CellOutput, Transaction, Block, block}
 use Rattle.fold_defs.specs.First.{first_failing}
 use Rattle.time_defs.specs.Specification.{u64_at}
 use Rattle.time_defs.specs.Dao.{occupied_capacity}

@@ -1,13 +1,12 @@
 -- The log (docs/STORE.md): its first bytes, records behind open gates, and the end.
-use Rattle.std.specs.Prelude.{◌≡◌, ◌↔◌, ℕ, zero, suc, ◌+◌, ◌≤◌, ◌==◌, ◌&&◌, not, nat_lt, nat_le, Bool, false, List, [], ◌∷◌, ◌++◌, codes, length, take, drop, slice_index, Option, Some, None, is_some, is_none, if◌then◌else◌}
+use Rattle.std.specs.Prelude.{ℕ, zero, suc, ◌+◌, ◌==◌, ◌&&◌, not, nat_lt, nat_le, Bool, false, List, [], ◌∷◌, ◌++◌, codes, length, take, drop, slice_index, Option, Some, None, is_some, is_none, if◌then◌else◌}
 use Rattle.std.specs.Option.{option_map, option_and_then}
-use Rattle.std.specs.List.{concat, slice_range}
 use Rattle.std.specs.Str.{bytes_eq}
-use Rattle.std.specs.Int.{w32, to_le_bytes, from_le_bytes}
+use Rattle.std.specs.Int.{w32, to_le_bytes}
 use Rattle.codec_defs.specs.Shape.{decoded}
 use Rattle.codec_defs.specs.Schema.{Block, block}
 use Rattle.chain_defs.specs.Kept.{block_hash, place_of, block_at}
-use Rattle.rule_defs.specs.Verdict.{block_list, blocks_of_item}
+use Rattle.rule_defs.specs.Verdict.{blocks_of_item}
 use Rattle.time_defs.specs.Specification.{broken_specification_rule}
 use Rattle.store_defs.specs.Ext.{count_at, is_ext}
 use Rattle.store_defs.specs.Genesis.{broken_store_genesis_rule}

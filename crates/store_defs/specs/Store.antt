@@ -1,8 +1,6 @@
 -- What an image of the disk keeps, and when it is sound (docs/STORE.md).
-use Rattle.std.specs.Prelude.{◌≡◌, ℕ, ◌+◌, ◌<◌, List, [], ◌∷◌, replicate, slice_get, length, take, Option, Some, None, IsTrue, IfSome}
-use Rattle.std.specs.Option.{option_map, option_and_then}
-use Rattle.codec_defs.specs.Schema.{Block}
-use Rattle.chain_defs.specs.Kept.{block_at}
+use Rattle.std.specs.Prelude.{◌≡◌, ℕ, ◌+◌, List, [], replicate, slice_get, length, take, Option, Some}
+use Rattle.std.specs.Option.{option_map}
 use Rattle.outside.specs.Image.{Image}
 use Rattle.rule_defs.specs.Chain.{Chain, chain_after}
 use Rattle.store_defs.specs.Log.{LogContent, Record, log_of, parts_of_body}
