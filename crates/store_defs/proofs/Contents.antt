@@ -24,7 +24,8 @@ gives_the_parts item ext fits =
     let test : (leb 4 (length body) && leb (4 + count_at body 0) (length body)) ≡ true =
     and_from (leb 4 (length body)) (leb (4 + count_at body 0) (length body)) (le-leb 4 (length body) (omega (arith, long))) (le-leb (4 + count_at body 0) (length body) (omega (arith, size, long))) in
     let first : take (count_at body 0) (drop 4 body) ≡ item = ap (λ (k : ℕ). take k (drop 4 body)) size ∙ take_at item ext n refl in
-    let second : drop (4 + count_at body 0) body ≡ ext = ap (λ (k : ℕ). drop (4 + k) body) size ∙ sym (drop-drop n 4 body) ∙ drop_at item ext n refl in
+    let rest : drop (4 + n) body ≡ ext = sym (drop-drop n 4 body) ∙ drop_at item ext n refl in
+    let second : drop (4 + count_at body 0) body ≡ ext = ap (λ (k : ℕ). drop (4 + k) body) size ∙ rest in
     ap (λ (b : Bool). cond b (Some (take (count_at body 0) (drop 4 body), drop (4 + count_at body 0) body)) None) test
     ∙ (λ i. Some (first i, second i))
 
