@@ -8,10 +8,10 @@ use Rattle.outside.specs.declared.disk.Area.TheVariants.{Log}
 use Rattle.outside.specs.Image.{Image, content}
 use Rattle.outside.specs.Disk.{write_area, IsDurable, OthersRead}
 use Rattle.outside.proofs.Images.{own_content}
-use Rattle.store_defs.specs.Log.{Record, record_bytes, all_record_bytes, magic}
+use Rattle.store_defs.specs.Log.{Record, all_record_bytes, magic}
 use Rattle.store_defs.specs.LogLaws.{HasFittingBody}
 use Rattle.store_defs.specs.Rest.{IsAtRest, IsSettled}
-use Rattle.store_defs.proofs.Records.{size_of_all, record_length}
+use Rattle.store_defs.proofs.Records.{size_of_all}
 use Rattle.store_defs.proofs.Resting.{rest_made}
 use Rattle.log_file.specs.Pieces.{first_records, new_log}
 
@@ -24,20 +24,6 @@ both_fit : (specification genesis : List ℕ) → length specification < 2 ^ 32 
 both_fit specification genesis one two zero d below = one
 both_fit specification genesis one two (suc zero) d below = two
 both_fit specification genesis one two (suc (suc k)) d below = absurd (omega (arith, below))
-
-new_log-length : (specification genesis : List ℕ) → length (new_log specification genesis) ≡ 21 + length specification + length genesis
-new_log-length specification genesis = omega (
-  arith,
-  length-append magic (all_record_bytes (first_records specification genesis) ++ 0 ∷ []),
-  length-append (all_record_bytes (first_records specification genesis)) (0 ∷ []),
-  first_size specification genesis,
-)
-  where
-    first_size : (specification genesis : List ℕ) → size_of_all (first_records specification genesis) ≡ 12 + length specification + length genesis
-    first_size specification genesis =
-        let one : Record = record { kind = 1; body = specification } in
-        let two : Record = record { kind = 2; body = genesis } in
-        omega (arith, length-append (record_bytes one) (all_record_bytes (two ∷ [])), length-append (record_bytes two) [], record_length one, record_length two)
 
 pub settles_new : (place : ℕ) (specification genesis bytes : List ℕ) (reads reads1 : Option Image) (images1 : Image → Type 0) → IsSome reads
     → length specification < 2 ^ 32 → length genesis < 2 ^ 32 → bytes ≡ new_log specification genesis → place ≡ length bytes - 1
