@@ -39,9 +39,6 @@ ext-wrong bytes wrong =
     and_left (eqb (length bytes) (rows_at + 4 + 161 * rows)) (are_rows rows (drop (rows_at + 4) bytes)) (ne_eqb (length bytes) (rows_at + 4 + 161 * rows) wrong)
 
 -- rows, one after the other
-pub rows-all : (count i : ℕ) (bytes : List ℕ) → count ≤ i → are_rows (count - i) (drop (161 * i) bytes) ≡ true
-rows-all count i bytes le = let none : count - i ≡ 0 = omega (arith, le) in ap (λ (n : ℕ). are_rows n (drop (161 * i) bytes)) none
-
 rows-next : (count i : ℕ) (bytes : List ℕ) → i < count
     → are_rows (count - i) (drop (161 * i) bytes) ≡ (is_row (take 161 (drop (161 * i) bytes)) && are_rows (count - (i + 1)) (drop (161 * (i + 1)) bytes))
 unfolding row_size
