@@ -1,0 +1,48 @@
+-- A new log is at rest.
+use Rattle.std.proofs.Common.{◌≡◌, ℕ, zero, suc, ◌+◌, ◌-◌, ◌<◌, ◌^◌, List, [], ◌∷◌, ◌++◌, length, drop, Option, Some, None, refl, sym, ap, ◌∙◌, subst, arith}
+use Rattle.std.specs.Prelude.{IfSome, IsSome, All}
+use Rattle.std.specs.Option.{option_map}
+use Rattle.std.proofs.lemmas.List.{append_assoc, length-append}
+use Rattle.outside.specs.declared.disk.Area.{Area}
+use Rattle.outside.specs.declared.disk.Area.TheVariants.{Log}
+use Rattle.outside.specs.Image.{Image, content}
+use Rattle.outside.specs.Disk.{write_area, IsDurable, OthersRead}
+use Rattle.outside.proofs.Images.{own_content}
+use Rattle.store_defs.specs.Log.{Record, all_record_bytes, magic}
+use Rattle.store_defs.specs.LogLaws.{HasFittingBody}
+use Rattle.store_defs.specs.Rest.{IsAtRest, IsSettled}
+use Rattle.store_defs.proofs.Records.{size_of_all}
+use Rattle.store_defs.proofs.Resting.{rest_made}
+use Rattle.log_file.specs.Pieces.{first_records, new_log}
+
+-- where nothing was called, the other areas read as they did
+pub others_same : (area : Area) (reads : Option Image) → OthersRead area reads reads
+others_same area None = ([], refl)
+others_same area (Some image) = (content area image, ap Some (own_content area image))
+
+both_fit : (specification genesis : List ℕ) → length specification < 2 ^ 32 → length genesis < 2 ^ 32 → All HasFittingBody (first_records specification genesis)
+both_fit specification genesis one two zero d below = one
+both_fit specification genesis one two (suc zero) d below = two
+both_fit specification genesis one two (suc (suc k)) d below = absurd (omega (arith, below))
+
+pub settles_new : (place : ℕ) (specification genesis bytes : List ℕ) (reads reads1 : Option Image) (images1 : Image → Type 0) → IsSome reads
+    → length specification < 2 ^ 32 → length genesis < 2 ^ 32 → bytes ≡ new_log specification genesis → place ≡ length bytes - 1
+    → reads1 ≡ option_map (write_area Log 0 bytes) reads → IfSome reads1 (IsDurable Log images1)
+    → IsSettled place (first_records specification genesis) reads1 images1
+settles_new place specification genesis bytes None reads1 images1 some one two is at wrote durable = absurd (cc)
+settles_new place specification genesis bytes (Some old) reads1 images1 some one two is at wrote durable =
+    let records : List Record = first_records specification genesis in
+    let now1 : Image = write_area Log 0 bytes old in
+    let tail : List ℕ = drop (0 + length bytes) old.log in
+    let reads_as : bytes ++ tail ≡ magic ++ (all_record_bytes records ++ 0 ∷ tail) =
+    ap (λ (l : List ℕ). l ++ tail) is ∙ ap (λ (l : List ℕ). magic ++ l) (append_assoc (all_record_bytes records) (0 ∷ []) tail) in
+    let made : IsAtRest (8 + size_of_all records) records (magic ++ (all_record_bytes records ++ 0 ∷ tail)) = rest_made records tail (both_fit specification genesis one two) in
+    let long : length bytes ≡ 8 + size_of_all records + 1 =
+    ap length is ∙ omega (arith, length-append magic (all_record_bytes records ++ 0 ∷ []), length-append (all_record_bytes records) (0 ∷ [])) in
+    let place_is : 8 + size_of_all records ≡ place = omega (arith, long, at) in
+    record {
+      now = now1;
+      told = wrote;
+      rest = subst (λ (n : ℕ). IsAtRest n records now1.log) place_is (subst (IsAtRest (8 + size_of_all records) records) (sym reads_as) made);
+      durable = subst (λ (o : Option Image). IfSome o (IsDurable Log images1)) wrote durable;
+    }

@@ -1,0 +1,4 @@
+pub mod Gates
+pub mod Creating
+pub mod Forms
+pub mod Transactions

@@ -1,0 +1,88 @@
+// The records of blocks.
+
+ghost use Rattle.std.specs.Prelude.{◌≡◌, ◌+◌, ◌<◌, ◌^◌, ◌++◌, ◌∷◌, [], length, OnOk, OnErr};
+ghost use Rattle.std.specs.Option.{option_map};
+ghost use Rattle.std.specs.Int.{w32, to_le_bytes};
+ghost use Rattle.store_defs.specs.Log.{parts_of_body};
+ghost use Rattle.log_file.specs.Pieces.{block_record, behind_gate};
+
+use crate::number::read_count;
+use outside::NoMemory;
+use std::alloc::Global;
+use std::marker::Model;
+
+/// The block and the ext in the body of a block's record. None comes exactly where the length at the front is
+/// missing, or reaches past the body.
+pub fn parts(body: &[u8]) -> Option<(&[u8], &[u8])>
+    ensures { option_map (λ p. (p.0.now, p.1.now)) result ≡ parts_of_body body.now }
+{
+    if body.len() < 4 {
+        return None;
+    }
+    let end = 4 + read_count(body, 0) as usize;
+    if body.len() < end {
+        return None;
+    }
+    Some((&body[4..end], &body[end..]))
+}
+
+/// A kind and a length behind what is there.
+pub(crate) fn put_header(bytes: &mut Vec<u8>, kind: u8, len: u32) -> Result<(), NoMemory>
+    ensures { OnOk result (bytes.new.items ≡ bytes.old.items ++ kind ∷ to_le_bytes w32 len) }
+{
+    bytes.push(kind)?;
+    bytes.extend_from_slice(&len.to_le_bytes())?;
+    Ok(())
+}
+
+/// What [`append`](crate::append) writes behind a gate. Clauses see these bytes; there are none before the first
+/// `fill`.
+#[derive(Drop)]
+pub struct Body {
+    piece: Vec<u8>,
+}
+
+impl Model for Body {
+    ghost use Rattle.std.specs.Prelude.{ℕ, List, length, ◌+◌, ◌<◌, ◌^◌};
+
+    ghost Value = { List ℕ };
+
+    ghost view = { λ body. body.piece.items };
+
+    ghost invariant = { λ body. length body.piece.items < 2 ^ 32 + 6 };
+}
+
+impl Body {
+    pub fn new(alloc: Global) -> Body
+        ensures { result ≡ [] }
+    {
+        Body {
+            piece: Vec::new(alloc),
+        }
+    }
+
+    /// Makes the record of a block with its ext, and drops the one before. Out of memory, it is unchanged.
+    pub fn fill(&mut self, alloc: Global, block: &[u8], ext: &[u8]) -> Result<(), NoMemory>
+        requires { 4 + length block.now + length ext.now < 2 ^ 32 }
+        ensures filled { OnOk result (self.new ≡ behind_gate (block_record block.now ext.now)) }
+        ensures err { OnErr result (self.new ≡ self.old) }
+    {
+        let size = 4 + block.len() + ext.len();
+        let mut piece = Vec::with_capacity(alloc, size + 6)?;
+        put_header(&mut piece, 3, size as u32)?;
+        piece.extend_from_slice(&(block.len() as u32).to_le_bytes())?;
+        piece.extend_from_slice(block)?;
+        piece.extend_from_slice(ext)?;
+        piece.push(0)?;
+        self.piece = piece;
+        Ok(())
+    }
+
+    /// What is written behind the gate.
+    pub(crate) fn piece(&self) -> &[u8]
+        ensures value { result.now ≡ self.now }
+        ensures fits { length result.now < 2 ^ 32 + 6 }
+    {
+        &self.piece
+    }
+}

@@ -1,0 +1,173 @@
+// The rules on the genesis of a store.
+
+ghost use Rattle.std.specs.Prelude.{◌≡◌, ◌+◌, ◌<◌, ◌^◌, [], Some, length, slice_get, unwrap_or, IfOk};
+ghost use Rattle.std.specs.Option.{option_map};
+ghost use Rattle.rule_defs.specs.Genesis as rules;
+ghost use Rattle.store_defs.specs.Genesis as store_rules;
+ghost use Rattle.time_defs.specs.Dao.{occupied_by_type};
+ghost use Rattle.chain_defs.specs.Hashes.{transaction_hash};
+
+use crate::number::read_u64;
+use blake2b_ckb::ckbhash;
+use mol_schema::{BlockView, OutputView, RawTxView, TxView};
+use outside::NoMemory;
+use std::alloc::Global;
+use std::collections::HashSet;
+
+/// Shannons a byte.
+const SHANNONS: u64 = 100_000_000;
+
+/// G2: its number is 0.
+fn is_first(block: &BlockView<'_>) -> bool
+    ensures { result ≡ rules.is_first block.now }
+{
+    block.header().number() == 0
+}
+
+/// G3: it has no uncles and no proposals.
+fn has_no_uncles_or_proposals(block: &BlockView<'_>) -> bool
+    ensures { result ≡ rules.has_no_uncles_or_proposals block.now }
+{
+    block.uncles_count() == 0 && block.proposals_count() == 0
+}
+
+/// G4: the C and the AR of its dao field are above 0.
+fn has_issued(block: &BlockView<'_>) -> bool
+    ensures { result ≡ store_rules.has_issued block.now }
+{
+    let dao = block.header().dao();
+    0 < read_u64(dao, 0) && 0 < read_u64(dao, 8)
+}
+
+#[tactic(auto, unfolding(chain_defs::specs::Hashes::transaction_hash))]
+fn hash_of(transaction: &TxView<'_>) -> [u8; 32]
+    ensures { result ≡ transaction_hash transaction.now }
+{
+    ckbhash(transaction.raw().bytes())
+}
+
+/// G5: it has a transaction, and its transaction hashes are distinct.
+fn has_transactions(alloc: Global, block: &BlockView<'_>) -> Result<bool, NoMemory>
+    ensures { IfOk result (λ holds. holds ≡ store_rules.has_transactions block.now) }
+{
+    let count = block.transactions_count();
+    let mut seen: HashSet<[u8; 32]> = HashSet::new(alloc);
+    'later: for i in (0..count).rev() {
+        let hash = hash_of(&block.transactions_item(i));
+        if !seen.insert(hash)? {
+            return Ok(false);
+        }
+    }
+    Ok(0 < count)
+}
+
+fn pairs_data(transaction: &TxView<'_>) -> bool
+    ensures { result ≡ store_rules.pairs_data transaction.now }
+{
+    let raw = transaction.raw();
+    raw.outputs_data_count() == raw.outputs_count()
+}
+
+/// G6: each transaction has as many data as outputs.
+fn all_pair_data(block: &BlockView<'_>) -> bool
+    ensures { result ≡ store_rules.all_pair_data block.now }
+{
+    'transactions: for i in 0..block.transactions_count() {
+        if !pairs_data(&block.transactions_item(i)) {
+            return false;
+        }
+    }
+    true
+}
+
+/// The bytes that the type script of an output takes.
+fn type_size(output: &OutputView<'_>) -> usize
+    ensures value { result ≡ occupied_by_type (option_map (λ s. length s.args) output.now.type_script) }
+    ensures fits { result < 2 ^ 32 + 33 }
+{
+    match output.type_script() {
+        None => 0,
+        Some(script) => 33 + script.args().len(),
+    }
+}
+
+fn holds_its_own(output: &OutputView<'_>, content: &[u8]) -> bool
+    requires { length content.now < 2 ^ 32 }
+    ensures { result ≡ store_rules.holds_its_own output.now content.now }
+{
+    let size = 8 + 33 + output.lock().args().len() + type_size(output) + content.len();
+    size as u64 * SHANNONS <= output.capacity()
+}
+
+/// The data of an output, or none where it is missing.
+fn content<'a>(raw: &RawTxView<'a>, i: usize) -> &'a [u8]
+    ensures value { result.now ≡ unwrap_or (slice_get raw.now.outputs_data i) [] }
+    ensures fits { length result.now < 2 ^ 32 }
+{
+    if i < raw.outputs_data_count() {
+        raw.outputs_data_item(i)
+    } else {
+        &[]
+    }
+}
+
+fn holds_capacity(transaction: &TxView<'_>) -> bool
+    ensures { result ≡ store_rules.holds_capacity transaction.now }
+{
+    let raw = transaction.raw();
+    'outputs: for i in 0..raw.outputs_count() {
+        if !holds_its_own(&raw.outputs_item(i), content(&raw, i)) {
+            return false;
+        }
+    }
+    true
+}
+
+/// G7: each output holds its occupied capacity.
+fn all_hold_capacity(block: &BlockView<'_>) -> bool
+    ensures { result ≡ store_rules.all_hold_capacity block.now }
+{
+    'transactions: for i in 0..block.transactions_count() {
+        if !holds_capacity(&block.transactions_item(i)) {
+            return false;
+        }
+    }
+    true
+}
+
+/// The first of G2 to G7 that a block breaks.
+#[tactic(auto, unfolding(fold_defs::specs::First::first_failing))]
+fn broken_by(alloc: Global, block: &BlockView<'_>) -> Result<Option<u8>, NoMemory>
+    ensures { IfOk result (λ broken. broken ≡ store_rules.store_broken_by (Some block.now)) }
+{
+    if !is_first(block) {
+        return Ok(Some(2));
+    }
+    if !has_no_uncles_or_proposals(block) {
+        return Ok(Some(3));
+    }
+    if !has_issued(block) {
+        return Ok(Some(4));
+    }
+    if !has_transactions(alloc, block)? {
+        return Ok(Some(5));
+    }
+    if !all_pair_data(block) {
+        return Ok(Some(6));
+    }
+    if !all_hold_capacity(block) {
+        return Ok(Some(7));
+    }
+    Ok(None)
+}
+
+/// The first of G1 to G7 that the bytes break as the genesis of a store (docs/RULES.md, "The genesis").
+#[tactic(auto, unfolding(store_defs::specs::Genesis::broken_store_genesis_rule))]
+pub fn genesis_ok(alloc: Global, b: &[u8]) -> Result<Option<u8>, NoMemory>
+    ensures { IfOk result (λ broken. broken ≡ store_rules.broken_store_genesis_rule b.now) }
+{
+    match BlockView::read(b) {
+        None => Ok(Some(1)),
+        Some(block) => broken_by(alloc, &block),
+    }
+}

@@ -1,0 +1,68 @@
+-- The rules on the genesis of a store, as rows of a list (docs/RULES.md, "The genesis").
+use Rattle.std.specs.Prelude.{ℕ, ◌==◌, ◌&&◌, not, nat_lt, nat_le, Bool, true, List, [], ◌∷◌, ◌++◌, map, length, Option, Some, None}
+use Rattle.std.specs.Option.{option_map}
+use Rattle.std.specs.List.{list_any, list_all}
+use Rattle.std.specs.Str.{bytes_eq}
+use Rattle.codec_defs.specs.Shape.{decoded}
+use Rattle.codec_defs.specs.Schema.{CellOutput, Transaction, Block, block}
+use Rattle.fold_defs.specs.First.{first_failing}
+use Rattle.time_defs.specs.Specification.{u64_field}
+use Rattle.time_defs.specs.Dao.{occupied_capacity}
+use Rattle.chain_defs.specs.Hashes.{transaction_hash}
+use Rattle.rule_defs.specs.Genesis.{genesis_rules}
+
+-- G4: the C and the AR of its dao field are above 0 (RFC 0023).
+abbrev pub has_issued : Block → Bool
+has_issued genesis = nat_lt 0 (u64_field genesis.header.dao 0) && nat_lt 0 (u64_field genesis.header.dao 8)
+
+abbrev pub are_distinct : List (List ℕ) → Bool
+are_distinct [] = true
+are_distinct (hash ∷ later) = not (list_any (λ other. bytes_eq other hash) later) && are_distinct later
+
+-- G5: it has a transaction, and its transaction hashes are distinct.
+abbrev pub has_transactions : Block → Bool
+has_transactions genesis = nat_lt 0 (length genesis.transactions) && are_distinct (map transaction_hash genesis.transactions)
+
+-- as many data as outputs
+abbrev pub pairs_data : Transaction → Bool
+pairs_data transaction = length transaction.raw.outputs_data == length transaction.raw.outputs
+
+-- G6: each transaction has as many data as outputs.
+abbrev pub all_pair_data : Block → Bool
+all_pair_data genesis = list_all pairs_data genesis.transactions
+
+-- an output with its data holds its occupied capacity (RFC 0022)
+abbrev pub holds_its_own : CellOutput → List ℕ → Bool
+holds_its_own output content =
+    nat_le (occupied_capacity (length output.lock.args) (option_map (λ s. length s.args) output.type_script) (length content)) output.capacity
+
+abbrev pub all_hold_their_own : List CellOutput → List (List ℕ) → Bool
+all_hold_their_own [] contents = true
+all_hold_their_own (output ∷ outputs) [] = holds_its_own output [] && all_hold_their_own outputs []
+all_hold_their_own (output ∷ outputs) (content ∷ contents) = holds_its_own output content && all_hold_their_own outputs contents
+
+-- each output of a transaction does
+abbrev pub holds_capacity : Transaction → Bool
+holds_capacity transaction = all_hold_their_own transaction.raw.outputs transaction.raw.outputs_data
+
+-- G7: each output holds its occupied capacity.
+abbrev pub all_hold_capacity : Block → Bool
+all_hold_capacity genesis = list_all holds_capacity genesis.transactions
+
+-- G2 to G7
+abbrev pub store_genesis_rows : Block → List (ℕ × Bool)
+store_genesis_rows genesis =
+    genesis_rules genesis
+    ++ (4, has_issued genesis)
+    ∷ (5, has_transactions genesis)
+    ∷ (6, all_pair_data genesis)
+    ∷ (7, all_hold_capacity genesis)
+    ∷ []
+
+abbrev pub store_broken_by : Option Block → Option ℕ
+store_broken_by None = Some 1
+store_broken_by (Some genesis) = first_failing (store_genesis_rows genesis)
+
+-- The first of G1 to G7 that an item breaks. G1: it is a canonical `Block`.
+unfoldable pub broken_store_genesis_rule : List ℕ → Option ℕ
+broken_store_genesis_rule item = store_broken_by (decoded block item)

@@ -1,0 +1,6 @@
+pub mod Ext
+pub mod Genesis
+pub mod Log
+pub mod Rest
+pub mod LogLaws
+pub mod Store
