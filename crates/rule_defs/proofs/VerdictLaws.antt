@@ -3,6 +3,7 @@ use Rattle.std.proofs.Common.{◌≡◌, ℕ, ◌+◌, ◌<◌, Bool, true, fals
 use Rattle.std.specs.Prelude.{is_some, not, IsTrue}
 use Rattle.std.proofs.lemmas.Bool.{false_from_ne_true}
 use Rattle.std.proofs.lemmas.Bool.Decides.{Decides-ltb, Decides-eqb}
+use Rattle.std.proofs.lemmas.List.{append-nil, append_assoc}
 use Rattle.std.proofs.lemmas.List.Elements.{All-head}
 use Rattle.codec_defs.specs.Shape.{decoded}
 use Rattle.codec_defs.specs.Schema.{Block}
@@ -15,7 +16,7 @@ use Rattle.chain_defs.proofs.BranchLaws.{branch-last}
 use Rattle.rule_defs.specs.Rules.{Rules, parent_of, follows, rules_on, first_broken}
 use Rattle.rule_defs.specs.Verdict.{verdict, verdict_of, verdict_on, verdict_by_rules, joins, has_built_form, has_room, kept_limit, kept_after, blocks_of_item, block_list}
 use Rattle.rule_defs.specs.Chain.{Chain, chain_after, chain_over}
-use Rattle.rule_defs.specs.Laws.{CanJoin, JoinsExactly, KeepsWhatJoins, KeepingKeeps}
+use Rattle.rule_defs.specs.Laws.{CanJoin, JoinsExactly, KeepsWhatJoins, KeepingKeeps, KeptStays}
 use Rattle.rule_defs.specs.declared.verdict.Verdict.TheVariants.{Joined, Known, Unbuilt, Full}
 
 -- where an item joins, each case before has not held
@@ -150,3 +151,22 @@ IsKept-over chain (item ∷ items) is_kept = IsKept-over (chain_after chain item
 
 pub keeping-keeps : KeepingKeeps
 keeping-keeps = (IsKept-one, IsKept-after)
+
+-- What was kept stays in front, after an item
+kept_after-front : (rules : Rules) (kept : List Block) (item : List ℕ) → (more : List Block) × (kept_after rules kept item ≡ kept ++ more)
+kept_after-front rules kept item = by_joins (joins (verdict rules kept item)) refl
+  where
+    by_joins : (b : Bool) → joins (verdict rules kept item) ≡ b → (more : List Block) × (kept_after rules kept item ≡ kept ++ more)
+    by_joins false left = ([], kept_after-stays rules kept item left ∙ sym (append-nil kept))
+    by_joins true joined = (blocks_of_item item, kept_after-joins rules kept item joined)
+
+-- and after several.
+chain_over-front : (chain : Chain) (items : List (List ℕ)) → (more : List Block) × ((chain_over chain items).blocks ≡ chain.blocks ++ more)
+chain_over-front chain [] = ([], sym (append-nil chain.blocks))
+chain_over-front chain (item ∷ items) =
+    let one = kept_after-front chain.rules chain.blocks item in
+    let rest = chain_over-front (chain_after chain item) items in
+    (one.0 ++ rest.0, rest.1 ∙ ap (λ (front : List Block). front ++ rest.0) one.1 ∙ append_assoc chain.blocks one.0 rest.0)
+
+pub kept-stays : KeptStays
+kept-stays chain items = (IsKept-over chain items, chain_over-front chain items)

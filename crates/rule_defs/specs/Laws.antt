@@ -1,5 +1,5 @@
 -- What the verdict is for, in words (docs/COMMANDS.md, "The text").
-use Rattle.std.specs.Prelude.{◌≡◌, ◌↔◌, ℕ, ◌<◌, List, [], ◌∷◌, ◌++◌, length, Some, None, IsTrue}
+use Rattle.std.specs.Prelude.{◌≡◌, ◌↔◌, ℕ, ◌<◌, ◌≤◌, false, List, [], ◌∷◌, ◌++◌, length, Some, None, is_some, IsTrue}
 use Rattle.codec_defs.specs.Shape.{decoded}
 use Rattle.codec_defs.specs.Schema.{Block}
 use Rattle.codec_defs.specs.Schema as shapes
@@ -7,7 +7,9 @@ use Rattle.chain_defs.specs.Kept.{block_hash, place_of, IsKept}
 use Rattle.chain_defs.specs.Branch.{branch}
 use Rattle.rule_defs.specs.Rules.{Rules, first_broken}
 use Rattle.rule_defs.specs.Verdict.{verdict, joins, kept_after, kept_limit, has_built_form}
-use Rattle.rule_defs.specs.declared.verdict.Verdict.TheVariants.{Joined}
+use Rattle.rule_defs.specs.Chain.{Chain, chain_over}
+use Rattle.rule_defs.specs.declared.verdict.Verdict.{Verdict}
+use Rattle.rule_defs.specs.declared.verdict.Verdict.TheVariants.{Joined, Known, Refused, Unbuilt, Full}
 
 -- An item is a canonical `Block`, not kept yet, of a form that is judged, on a kept parent, and it breaks no rule, and there is room.
 pub record CanJoin (rules : Rules) (kept : List Block) (item : List ℕ) : Type 0 where
@@ -35,3 +37,37 @@ KeepsWhatJoins = (rules : Rules) (kept : List Block) (item : List ℕ)
 abbrev pub KeepingKeeps : Type 0
 KeepingKeeps = ((genesis : Block) → IsKept (genesis ∷ []))
     × ((rules : Rules) (kept : List Block) (item : List ℕ) → IsKept kept → IsKept (kept_after rules kept item))
+
+-- Law: after any items kept blocks are still so, and those that were kept stay in front of what joined.
+abbrev pub KeptStays : Type 0
+KeptStays = (chain : Chain) (items : List (List ℕ)) → (IsKept chain.blocks → IsKept (chain_over chain items).blocks)
+    × ((more : List Block) × ((chain_over chain items).blocks ≡ chain.blocks ++ more))
+
+-- What a canonical block is answered that does not join.
+pub record AnswersBlock (rules : Rules) (kept : List Block) (block : Block) (answer : Verdict) : Type 0 where
+  -- it is known exactly where a kept block has its hash
+  pub known : (answer ≡ Known (block_hash block)) ↔ IsTrue (is_some (place_of kept (block_hash block)))
+  -- a new one is unbuilt exactly where its form is not judged
+  pub unbuilt : place_of kept (block_hash block) ≡ None → (answer ≡ Unbuilt) ↔ (has_built_form block ≡ false)
+  -- J3: one of a form that is judged breaks rule 3 where no kept block has the hash of its parent
+  pub without_parent : place_of kept (block_hash block) ≡ None → IsTrue (has_built_form block) → place_of kept block.header.parent_hash ≡ None
+      → answer ≡ Refused 3
+  -- on a kept parent it is refused by exactly the first rule that it breaks on the branch of that parent
+  pub refused : place_of kept (block_hash block) ≡ None → IsTrue (has_built_form block) → (parent : ℕ)
+      → place_of kept block.header.parent_hash ≡ Some parent → (rule : ℕ)
+      → (answer ≡ Refused rule) ↔ (first_broken rules (branch kept parent) block ≡ Some rule)
+  -- one that breaks no rule finds the store full exactly where as many blocks are kept as may be
+  pub full : place_of kept (block_hash block) ≡ None → IsTrue (has_built_form block) → (parent : ℕ)
+      → place_of kept block.header.parent_hash ≡ Some parent → first_broken rules (branch kept parent) block ≡ None
+      → (answer ≡ Full) ↔ (kept_limit ≤ length kept)
+
+-- What an item is answered that does not join.
+pub record Answers (rules : Rules) (kept : List Block) (item : List ℕ) (answer : Verdict) : Type 0 where
+  -- J1: one that is no canonical `Block` breaks rule 1
+  pub no_block : decoded shapes.block item ≡ None → answer ≡ Refused 1
+  -- any other is answered as its block
+  pub a_block : (block : Block) → decoded shapes.block item ≡ Some block → AnswersBlock rules kept block answer
+
+-- Law: so are the verdicts.
+abbrev pub AnswersExactly : Type 0
+AnswersExactly = (rules : Rules) (kept : List Block) (item : List ℕ) → Answers rules kept item (verdict rules kept item)

@@ -1,4 +1,5 @@
-use Rattle.rule_defs.proofs.VerdictLaws.{joins-exactly, keeps-what-joins, keeping-keeps}
+use Rattle.rule_defs.proofs.VerdictLaws.{joins-exactly, keeps-what-joins, keeping-keeps, kept-stays}
+use Rattle.rule_defs.proofs.AnswerLaws.{answers-exactly}
 use Rattle.rule_defs.proofs.laws.verdict_laws.Goals as goal
 
 pub returns-clause-joins_exactly : goal.returns-clause-joins_exactly
@@ -9,3 +10,9 @@ returns-clause-keeps_what_joins c = keeps-what-joins
 
 pub returns-clause-keeping_keeps : goal.returns-clause-keeping_keeps
 returns-clause-keeping_keeps c = keeping-keeps
+
+pub returns-clause-kept_stays : goal.returns-clause-kept_stays
+returns-clause-kept_stays c = kept-stays
+
+pub returns-clause-answers_exactly : goal.returns-clause-answers_exactly
+returns-clause-answers_exactly c = answers-exactly

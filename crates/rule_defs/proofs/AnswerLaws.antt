@@ -1,0 +1,136 @@
+-- What an item is answered that does not join, case by case.
+use Rattle.std.proofs.Common.{◌≡◌, ◌↔◌, ℕ, ◌<◌, ◌≤◌, Bool, true, false, cond, List, length, Option, Some, None, refl, sym, ap, ◌∙◌, subst, inl, inr, ◌⊎◌, arith}
+use Rattle.std.specs.Prelude.{is_some, not, IsTrue}
+use Rattle.std.proofs.lemmas.Bool.{cases_lt}
+use Rattle.std.proofs.lemmas.Bool.Decides.{Decides-ltb}
+use Rattle.codec_defs.specs.Shape.{decoded}
+use Rattle.codec_defs.specs.Schema.{Block}
+use Rattle.codec_defs.specs.Schema as shapes
+use Rattle.chain_defs.specs.Kept.{block_hash, place_of}
+use Rattle.chain_defs.specs.Branch.{branch}
+use Rattle.rule_defs.specs.Rules.{Rules, first_broken}
+use Rattle.rule_defs.specs.Verdict.{verdict, verdict_of, verdict_of_block, verdict_on, verdict_by_rules, has_built_form, has_room, kept_limit}
+use Rattle.rule_defs.specs.Laws.{AnswersBlock, AnswersExactly}
+use Rattle.rule_defs.specs.declared.verdict.Verdict.{Verdict}
+use Rattle.rule_defs.specs.declared.verdict.Verdict.TheVariants.{Joined, Known, Refused, Unbuilt, Full}
+
+-- the answers that need a look at the parent
+abbrev looks_further : Verdict → Bool
+looks_further (Joined number hash) = true
+looks_further (Known hash) = false
+looks_further (Refused rule) = true
+looks_further Unbuilt = false
+looks_further Full = true
+
+-- the answers to a block that breaks no rule
+abbrev breaks_none : Verdict → Bool
+breaks_none (Joined number hash) = true
+breaks_none (Known hash) = false
+breaks_none (Refused rule) = false
+breaks_none Unbuilt = false
+breaks_none Full = true
+
+by_room : (b : Block) (room : Bool) → breaks_none (cond room (Joined b.header.number (block_hash b)) Full) ≡ true
+by_room b true = refl
+by_room b false = refl
+
+further_by_room : (b : Block) (room : Bool) → looks_further (cond room (Joined b.header.number (block_hash b)) Full) ≡ true
+further_by_room b true = refl
+further_by_room b false = refl
+
+further_by_rules : (kept : List Block) (b : Block) (broken : Option ℕ) → looks_further (verdict_by_rules kept b broken) ≡ true
+further_by_rules kept b None = further_by_room b (has_room kept)
+further_by_rules kept b (Some rule) = refl
+
+further_on : (rules : Rules) (kept : List Block) (b : Block) (on : Option ℕ) → looks_further (verdict_on rules kept b on) ≡ true
+further_on rules kept b None = refl
+further_on rules kept b (Some parent) = further_by_rules kept b (first_broken rules (branch kept parent) b)
+
+-- the verdict on a block by whether it is known, and on a new one by whether its form is judged
+abbrev by_known : Rules → List Block → Block → Bool → Verdict
+by_known rules kept b known =
+    cond known (Known (block_hash b)) (cond (not (has_built_form b)) Unbuilt (verdict_on rules kept b (place_of kept b.header.parent_hash)))
+
+abbrev by_form : Rules → List Block → Block → Bool → Verdict
+by_form rules kept b built = cond (not built) Unbuilt (verdict_on rules kept b (place_of kept b.header.parent_hash))
+
+new-not_known : (rules : Rules) (kept : List Block) (b : Block) (built : Bool) → by_form rules kept b built ≡ Known (block_hash b) → ⊥
+new-not_known rules kept b true e =
+    let further = further_on rules kept b (place_of kept b.header.parent_hash) in
+    let not_further : looks_further (verdict_on rules kept b (place_of kept b.header.parent_hash)) ≡ false = ap looks_further e in cc
+new-not_known rules kept b false e = cc
+
+known-exactly : (rules : Rules) (kept : List Block) (b : Block) (known : Bool)
+    → (by_known rules kept b known ≡ Known (block_hash b)) ↔ IsTrue known
+known-exactly rules kept b true = (λ e. refl, λ e. refl)
+known-exactly rules kept b false = (λ e. absurd (new-not_known rules kept b (has_built_form b) e), λ e. absurd (cc))
+
+unbuilt-exactly : (rules : Rules) (kept : List Block) (b : Block) (built : Bool) → (by_form rules kept b built ≡ Unbuilt) ↔ (built ≡ false)
+unbuilt-exactly rules kept b false = (λ e. refl, λ e. refl)
+unbuilt-exactly rules kept b true = (further, λ e. absurd (cc))
+  where
+    further : by_form rules kept b true ≡ Unbuilt → true ≡ false
+    further e = sym (further_on rules kept b (place_of kept b.header.parent_hash)) ∙ ap looks_further e
+
+refused-exactly : (kept : List Block) (b : Block) (broken : Option ℕ) (rule : ℕ)
+    → (verdict_by_rules kept b broken ≡ Refused rule) ↔ (broken ≡ Some rule)
+refused-exactly kept b (Some first) rule = (λ e. ap Some (same e), ap (verdict_by_rules kept b))
+  where
+    same : Refused first ≡ Refused rule → first ≡ rule
+    same e = cc
+refused-exactly kept b None rule = (λ e. absurd (unbroken e), λ e. absurd (cc))
+  where
+    unbroken : verdict_by_rules kept b None ≡ Refused rule → ⊥
+    unbroken e =
+        let none = by_room b (has_room kept) in
+        let some : breaks_none (verdict_by_rules kept b None) ≡ false = ap breaks_none e in cc
+
+-- there is no room exactly where as many blocks are kept as may be
+no_room-exactly : (kept : List Block) → (has_room kept ≡ false) ↔ (kept_limit ≤ length kept)
+no_room-exactly kept = (at_limit (cases_lt (length kept) kept_limit), no_room (has_room kept) refl)
+  where
+    at_limit : (length kept < kept_limit) ⊎ (kept_limit ≤ length kept) → has_room kept ≡ false → kept_limit ≤ length kept
+    at_limit (inl below) none = let room = (Decides-ltb (length kept) kept_limit).1 below in absurd (cc)
+    at_limit (inr enough) none = enough
+
+    no_room : (room : Bool) → has_room kept ≡ room → kept_limit ≤ length kept → room ≡ false
+    no_room false is enough = refl
+    no_room true is enough = let below = (Decides-ltb (length kept) kept_limit).0 is in absurd (omega (arith, below, enough))
+
+full_by_room : (b : Block) (room : Bool) → (cond room (Joined b.header.number (block_hash b)) Full ≡ Full) ↔ (room ≡ false)
+full_by_room b false = (λ e. refl, λ e. refl)
+full_by_room b true = (λ e. absurd (cc), λ e. absurd (cc))
+
+full-exactly : (kept : List Block) (b : Block) → (verdict_by_rules kept b None ≡ Full) ↔ (kept_limit ≤ length kept)
+full-exactly kept b =
+    let by = full_by_room b (has_room kept) in
+    let none = no_room-exactly kept in
+    (λ e. none.0 (by.0 e), λ e. by.1 (none.1 e))
+
+answers_block : (rules : Rules) (kept : List Block) (b : Block) → AnswersBlock rules kept b (verdict_of_block rules kept b)
+answers_block rules kept b = record {
+  known = known-exactly rules kept b (is_some (place_of kept (block_hash b)));
+  unbuilt = λ new. subst (λ (answer : Verdict). (answer ≡ Unbuilt) ↔ (has_built_form b ≡ false)) (sym (as_new new))
+  (unbuilt-exactly rules kept b (has_built_form b));
+  without_parent = λ new built orphan. on_parent new built ∙ ap (verdict_on rules kept b) orphan;
+  refused = λ new built parent on rule. subst
+  (λ (answer : Verdict). (answer ≡ Refused rule) ↔ (first_broken rules (branch kept parent) b ≡ Some rule))
+  (sym (on_parent new built ∙ ap (verdict_on rules kept b) on))
+  (refused-exactly kept b (first_broken rules (branch kept parent) b) rule);
+  full = λ new built parent on unbroken. subst (λ (answer : Verdict). (answer ≡ Full) ↔ (kept_limit ≤ length kept))
+  (sym (on_parent new built ∙ ap (verdict_on rules kept b) on ∙ ap (verdict_by_rules kept b) unbroken)) (full-exactly kept b);
+}
+  where
+    as_new : place_of kept (block_hash b) ≡ None → verdict_of_block rules kept b ≡ by_form rules kept b (has_built_form b)
+    as_new new = ap (λ (found : Option ℕ). by_known rules kept b (is_some found)) new
+
+    on_parent : place_of kept (block_hash b) ≡ None → IsTrue (has_built_form b)
+        → verdict_of_block rules kept b ≡ verdict_on rules kept b (place_of kept b.header.parent_hash)
+    on_parent new built = as_new new ∙ ap (by_form rules kept b) built
+
+pub answers-exactly : AnswersExactly
+unfolding verdict
+answers-exactly rules kept item = record {
+  no_block = λ none. ap (verdict_of rules kept) none;
+  a_block = λ b is. subst (AnswersBlock rules kept b) (sym (ap (verdict_of rules kept) is)) (answers_block rules kept b);
+}
