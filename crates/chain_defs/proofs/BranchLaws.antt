@@ -31,7 +31,7 @@ places_on most kept place None = place ∷ []
 places_on most kept place (Some parent) = places_within most kept parent ++ place ∷ []
 
 -- Enough steps give all the places.
-places_within-enough : (most more : ℕ) (kept : List Block) (place : ℕ) → place < most → place < more
+pub places_within-enough : (most more : ℕ) (kept : List Block) (place : ℕ) → place < most → place < more
     → places_within most kept place ≡ places_within more kept place
 places_within-enough zero more kept place few enough = absurd (omega arith)
 places_within-enough (suc most) zero kept place few enough = absurd (omega arith)

@@ -1,3 +1,4 @@
 pub mod KeptLaws
 pub mod BranchLaws
+pub mod ForkLaws
 pub mod TipLaws

@@ -1,6 +1,6 @@
 // The laws of kept blocks, branches and the tip.
 ghost use Rattle.chain_defs.specs.Kept.{HashesDiffer};
-ghost use Rattle.chain_defs.specs.Branch.{BranchesAreBranches};
+ghost use Rattle.chain_defs.specs.Branch.{BranchesAreBranches, DistanceIsOffTheFork};
 ghost use Rattle.chain_defs.specs.Tip.{TipsAreTips};
 
 /// States that the hashes of kept blocks all differ. It does nothing.
@@ -9,10 +9,11 @@ pub fn kept_laws()
 {}
 
 /// States what a branch of kept blocks is: its blocks are kept, it begins with the genesis, ends with
-/// its block, has one block a height, and each is the parent of the next. No other list is so. It
-/// does nothing.
+/// its block, has one block a height, and each is the parent of the next. No other list is so. And
+/// that the distance of two places counts the blocks behind their fork. It does nothing.
 pub fn branch_laws()
     ensures are_branches { BranchesAreBranches }
+    ensures off_the_fork { DistanceIsOffTheFork }
 {}
 
 /// States what the tip is: its number is the greatest, and no earlier block has it. It does nothing.
