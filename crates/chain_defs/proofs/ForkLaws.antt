@@ -1,5 +1,5 @@
 -- Two branches fork once, and their distance counts what stands behind the fork.
-use Rattle.std.proofs.Common.{◌≡◌, ℕ, zero, suc, ◌+◌, ◌<◌, ◌≤◌, ◌==◌, Bool, true, false, cond, List, [], ◌∷◌, ◌++◌, length, Option, Some, None, refl, sym, ap, ◌∙◌, inl, inr, ◌⊎◌, arith}
+use Rattle.std.proofs.Common.{◌≡◌, ℕ, zero, suc, ◌+◌, ◌<◌, ◌==◌, Bool, true, false, cond, List, [], ◌∷◌, ◌++◌, length, Option, Some, None, refl, sym, ap, ◌∙◌, inl, inr, ◌⊎◌, arith}
 use Rattle.std.specs.Prelude.{slice_get, not, ◌||◌}
 use Rattle.std.specs.List.{filter, list_any}
 use Rattle.std.proofs.lemmas.List.{append-nil, append_assoc}
@@ -8,7 +8,7 @@ use Rattle.std.proofs.lemmas.List.Elements.{filter-append}
 use Rattle.std.proofs.lemmas.Bool.{cases_order, eqb-true, eq-eqb, false_from_ne_true}
 use Rattle.codec_defs.specs.Schema.{Block}
 use Rattle.chain_defs.specs.Kept.{parent_place}
-use Rattle.chain_defs.specs.Branch.{places_within, branch_places, count_outside, distance, IsFork, DistanceIsOffTheFork}
+use Rattle.chain_defs.specs.Branch.{branch_places, count_outside, distance, IsFork, DistanceIsOffTheFork}
 use Rattle.chain_defs.proofs.BranchLaws.{places_on, places_within-enough, parent_place-below}
 
 -- a place is among these
@@ -121,7 +121,7 @@ swapped kept from to fork = record {
 
 -- the places of a branch are those of its parent's and its own
 branch_places-step : (kept : List Block) (place : ℕ) (found : Option ℕ) → parent_place kept place ≡ found
-    → branch_places kept place ≡ (elim found [ | None ↦ [] | Some parent ↦ branch_places kept parent ]) ++ place ∷ []
+    → branch_places kept place ≡ (elim found [ None ↦ [] | Some parent ↦ branch_places kept parent ]) ++ place ∷ []
 unfolding branch_places
 branch_places-step kept place None is = ap (places_on place kept place) is
 branch_places-step kept place (Some parent) is =
@@ -182,7 +182,7 @@ fork-later kept from to above rest = by_parent (parent_place kept to) refl
           only_to = fork.only_to ++ to ∷ [];
           of_from = fork.of_from;
           of_to = branch_places-step kept to (Some parent) is ∙ ap (λ (places : List ℕ). places ++ to ∷ []) fork.of_to
-          ∙ append_assoc fork.common fork.only_to (to ∷ []);
+              ∙ append_assoc fork.common fork.only_to (to ∷ []);
           off_from = fork.off_from;
           off_to = λ place here there. either_off place here (has-either fork.only_to (to ∷ []) place there);
           apart = λ place here there. either_apart place here (has-either fork.only_to (to ∷ []) place there);

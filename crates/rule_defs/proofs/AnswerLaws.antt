@@ -3,9 +3,7 @@ use Rattle.std.proofs.Common.{◌≡◌, ◌↔◌, ℕ, ◌<◌, ◌≤◌, Boo
 use Rattle.std.specs.Prelude.{is_some, not, IsTrue}
 use Rattle.std.proofs.lemmas.Bool.{cases_lt}
 use Rattle.std.proofs.lemmas.Bool.Decides.{Decides-ltb}
-use Rattle.codec_defs.specs.Shape.{decoded}
 use Rattle.codec_defs.specs.Schema.{Block}
-use Rattle.codec_defs.specs.Schema as shapes
 use Rattle.chain_defs.specs.Kept.{block_hash, place_of}
 use Rattle.chain_defs.specs.Branch.{branch}
 use Rattle.rule_defs.specs.Rules.{Rules, first_broken}
@@ -111,14 +109,14 @@ answers_block : (rules : Rules) (kept : List Block) (b : Block) → AnswersBlock
 answers_block rules kept b = record {
   known = known-exactly rules kept b (is_some (place_of kept (block_hash b)));
   unbuilt = λ new. subst (λ (answer : Verdict). (answer ≡ Unbuilt) ↔ (has_built_form b ≡ false)) (sym (as_new new))
-  (unbuilt-exactly rules kept b (has_built_form b));
+      (unbuilt-exactly rules kept b (has_built_form b));
   without_parent = λ new built orphan. on_parent new built ∙ ap (verdict_on rules kept b) orphan;
   refused = λ new built parent on rule. subst
-  (λ (answer : Verdict). (answer ≡ Refused rule) ↔ (first_broken rules (branch kept parent) b ≡ Some rule))
-  (sym (on_parent new built ∙ ap (verdict_on rules kept b) on))
-  (refused-exactly kept b (first_broken rules (branch kept parent) b) rule);
+      (λ (answer : Verdict). (answer ≡ Refused rule) ↔ (first_broken rules (branch kept parent) b ≡ Some rule))
+      (sym (on_parent new built ∙ ap (verdict_on rules kept b) on))
+      (refused-exactly kept b (first_broken rules (branch kept parent) b) rule);
   full = λ new built parent on unbroken. subst (λ (answer : Verdict). (answer ≡ Full) ↔ (kept_limit ≤ length kept))
-  (sym (on_parent new built ∙ ap (verdict_on rules kept b) on ∙ ap (verdict_by_rules kept b) unbroken)) (full-exactly kept b);
+      (sym (on_parent new built ∙ ap (verdict_on rules kept b) on ∙ ap (verdict_by_rules kept b) unbroken)) (full-exactly kept b);
 }
   where
     as_new : place_of kept (block_hash b) ≡ None → verdict_of_block rules kept b ≡ by_form rules kept b (has_built_form b)
