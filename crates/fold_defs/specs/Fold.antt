@@ -1,4 +1,4 @@
--- Items judged one after the other, each over what is kept by then.
+-- Items judged one after the other, each over what is kept by then (docs/COMMANDS.md, "The text").
 use Rattle.std.specs.Prelude.{List, [], ◌∷◌}
 
 -- what is kept after the items

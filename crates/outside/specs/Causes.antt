@@ -1,4 +1,4 @@
--- When a call on the outside may answer that it failed.
+-- When a call on the outside may answer that it failed (docs/DECISIONS.md, "The outside").
 use Rattle.std.specs.Prelude.{◌≡◌, ℕ, ◌+◌, ◌-◌, ◌^◌, ◌≤◌, min, Result, IsOk, IsErr}
 use Rattle.std.proofs.Math.Nat.{min-le_right}
 

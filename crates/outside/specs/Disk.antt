@@ -1,4 +1,4 @@
--- What the calls of a disk do to what it reads as, and to the images that a crash may leave.
+-- What the calls of a disk do to what it reads as, and to the images that a crash may leave (docs/DECISIONS.md, "The outside").
 use Rattle.std.specs.Prelude.{◌≡◌, ◌⊎◌, ◌↔◌, ℕ, ◌+◌, ◌^◌, ◌≤◌, min, max, List, ◌++◌, length, take, drop, IfSome}
 use Rattle.std.specs.Option.{option_map}
 use Rattle.std.specs.declared.option.Option.{Option}

@@ -1,4 +1,4 @@
--- What follows of a crash's images, whatever the disk.
+-- What follows of a crash's images, whatever the disk (docs/DECISIONS.md, "The outside").
 use Rattle.std.specs.Prelude.{◌≡◌, ◌≢◌, ℕ, ◌+◌, ◌≤◌, List, ◌++◌, length, take}
 use Rattle.outside.specs.declared.disk.Area.{Area}
 use Rattle.outside.specs.Image.{Image, with_content}

@@ -1,4 +1,4 @@
--- The bytes of a disk's three areas.
+-- The bytes of a disk's three areas (docs/STORE.md).
 use Rattle.std.specs.Prelude.{◌≡◌, ℕ, List}
 use Rattle.outside.specs.declared.disk.Area.{Area}
 use Rattle.outside.specs.declared.disk.Area.TheVariants.{Log, SnapA, SnapB}

@@ -1,4 +1,4 @@
--- What contracts see of the forms in memory.
+-- What contracts see of the forms in memory (docs/DECISIONS.md, "The outside").
 use Rattle.std.specs.Prelude.{ℕ, ◌+◌, ◌==◌, Bool, List, if◌then◌else◌}
 use Rattle.std.specs.List.{list_any}
 use Rattle.outside.specs.Causes.{counted, up_to_last}

@@ -1,4 +1,4 @@
--- What contracts see of a `MemDisk`: the calls that changed it, and what follows from them.
+-- What contracts see of a `MemDisk`: the calls that changed it, and what follows from them (docs/DECISIONS.md, "The outside").
 use Rattle.std.specs.Prelude.{◌≡◌, ◌⊎◌, ◌↔◌, ℕ, ◌+◌, ◌≤◌, nat_le, List, [], ◌∷◌, length, map, reverse, if◌then◌else◌}
 use Rattle.std.proofs.Common.{inl, inr}
 use Rattle.std.proofs.Math.Nat.{lt_irrefl}

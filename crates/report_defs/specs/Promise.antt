@@ -1,4 +1,4 @@
--- What a run promises of the bytes that its source gave and its sink took, whether it was stopped or not.
+-- What a run promises of the bytes that its source gave and its sink took, whether it was stopped or not (docs/PROVED.md, "A run").
 use Rattle.std.specs.Prelude.{◌≡◌, ◌⊎◌, ℕ, ◌+◌, ◌-◌, ◌<◌, ◌≤◌, List, [], ◌∷◌, ◌++◌, length, take, Option, Some, None}
 use Rattle.std.specs.List.{concat}
 use Rattle.std.specs.Io.KnownBytes.{IsAtEnd}

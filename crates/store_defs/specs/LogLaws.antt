@@ -1,4 +1,4 @@
--- What the bytes of a log hold, in words.
+-- What the bytes of a log hold, in words (docs/STORE.md, "The log").
 use Rattle.std.specs.Prelude.{◌≡◌, ℕ, ◌^◌, ◌<◌, List, [], ◌∷◌, ◌++◌, All, take, drop, length, Some, None}
 use Rattle.codec_defs.specs.Schema.{Block}
 use Rattle.store_defs.specs.Log.{Record, record_at, records_of, all_record_bytes, record_limit, LogContent, content_of_records, block_of_record, log_of, body_of_parts, parts_of_body}

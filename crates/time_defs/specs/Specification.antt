@@ -1,4 +1,4 @@
--- The chain specification: 100 bytes, little-endian, and the rules S1 to S7 that it keeps.
+-- The chain specification: 100 bytes, little-endian, and the rules S1 to S7 that it keeps (docs/RULES.md, "The chain specification").
 use Rattle.std.specs.Prelude.{ℕ, ◌+◌, ◌^◌, Bool, IsTrue, ◌==◌, ◌&&◌, nat_lt, nat_le, List, [], ◌∷◌, length, Option}
 use Rattle.std.specs.List.{slice_range}
 use Rattle.std.specs.Int.{w32, w64, from_le_bytes}
