@@ -1,4 +1,4 @@
--- What an item is answered that does not join, case by case.
+-- What an item that does not join is answered, case by case.
 use Rattle.std.proofs.Common.{◌≡◌, ◌↔◌, ℕ, ◌<◌, ◌≤◌, Bool, true, false, cond, List, length, Option, Some, None, refl, sym, ap, ◌∙◌, subst, inl, inr, ◌⊎◌, arith}
 use Rattle.std.specs.Prelude.{is_some, not, IsTrue}
 use Rattle.std.proofs.lemmas.Bool.{cases_lt}

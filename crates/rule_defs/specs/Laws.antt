@@ -43,7 +43,7 @@ abbrev pub KeptStays : Type 0
 KeptStays = (chain : Chain) (items : List (List ℕ)) → (IsKept chain.blocks → IsKept (chain_over chain items).blocks)
     × ((more : List Block) × ((chain_over chain items).blocks ≡ chain.blocks ++ more))
 
--- What a canonical block is answered that does not join.
+-- What a canonical block that does not join is answered. The premises of a sentence say that none before it holds.
 pub record AnswersBlock (rules : Rules) (kept : List Block) (block : Block) (answer : Verdict) : Type 0 where
   -- it is known exactly where a kept block has its hash
   pub known : (answer ≡ Known (block_hash block)) ↔ IsTrue (is_some (place_of kept (block_hash block)))
@@ -61,13 +61,13 @@ pub record AnswersBlock (rules : Rules) (kept : List Block) (block : Block) (ans
       → place_of kept block.header.parent_hash ≡ Some parent → first_broken rules (branch kept parent) block ≡ None
       → (answer ≡ Full) ↔ (kept_limit ≤ length kept)
 
--- What an item is answered that does not join.
+-- What an item that does not join is answered.
 pub record Answers (rules : Rules) (kept : List Block) (item : List ℕ) (answer : Verdict) : Type 0 where
   -- J1: one that is no canonical `Block` breaks rule 1
   pub no_block : decoded shapes.block item ≡ None → answer ≡ Refused 1
-  -- any other is answered as its block
+  -- any other is answered by its block
   pub a_block : (block : Block) → decoded shapes.block item ≡ Some block → AnswersBlock rules kept block answer
 
--- Law: so are the verdicts.
+-- Law: so the verdict on each item is.
 abbrev pub AnswersExactly : Type 0
 AnswersExactly = (rules : Rules) (kept : List Block) (item : List ℕ) → Answers rules kept item (verdict rules kept item)
