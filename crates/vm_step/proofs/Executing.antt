@@ -1,18 +1,38 @@
 -- What an instruction does, from what the code did to the machine. The code sees the machine by its fields, as `seen`.
-use Rattle.std.proofs.Common.{◌≡◌, ℕ, true, Option, None, Result, Ok, Err, ap, ◌∙◌}
+use Rattle.std.proofs.Common.{◌≡◌, ℕ, ◌==◌, Bool, true, false, if◌then◌else◌, slice_set, refl, Option, None, Result, Ok, Err, ap, ◌∙◌}
 use Rattle.vm_defs.specs.declared.memory.MemFault.{MemFault}
 use Rattle.vm_defs.specs.declared.step.Step.TheVariants.{Went, Ecall}
 use Rattle.vm_defs.specs.Memory.{Memory}
-use Rattle.vm_defs.specs.Step.{Machine, after, past_instruction, stored}
+use Rattle.vm_defs.specs.Step.{Machine, after, past_instruction, stored, with_register}
 use Rattle.vm_mem.specs.Pages.{IsAllocated}
 use Rattle.vm_mem.specs.Paged.{PagedMemory, Stores}
-use Rattle.vm_step.specs.Running.{RunningMachine, ByteRange, Executes, HasRoom}
+use Rattle.vm_step.specs.Running.{RunningMachine, ByteRange, Executes, HasRoom, machine_at, with_pc}
 
 abbrev pub machine_of : RunningMachine → Machine
 machine_of running = running.machine
 
-abbrev pub with_pc : RunningMachine → ℕ → RunningMachine
-with_pc running pc = record running { machine = record running.machine { pc = pc } }
+with_register-pc : (b : Bool) (machine changed : Machine) (pc : ℕ)
+    → (if b then (record machine { pc = pc }) else (record changed { pc = pc })) ≡ record (if b then machine else changed) { pc = pc }
+with_register-pc true machine changed pc = refl
+with_register-pc false machine changed pc = refl
+
+-- a register is written, whatever the program counter is
+register-apart : (machine : Machine) (pc rd value : ℕ)
+    → with_register (record machine { pc = pc }) rd value ≡ record (with_register machine rd value) { pc = pc }
+unfolding with_register
+register-apart machine pc rd value =
+    with_register-pc (rd == 0) machine (record machine { registers = slice_set machine.registers rd value }) pc
+
+-- a register was written, and the program counter is the next
+pub written : (old new : RunningMachine) (pc next rd value : ℕ) → new ≡ record old { machine = with_register old.machine rd value }
+    → with_pc new next ≡ record (with_pc old pc) { machine = record (with_register (machine_at old pc) rd value) { pc = next } }
+written old new pc next rd value changed =
+    rw (register-apart old.machine pc rd value) (ap (λ (running : RunningMachine). with_pc running next) changed)
+
+pub written-past : (old new : RunningMachine) (pc length rd value : ℕ) → new ≡ record old { machine = with_register old.machine rd value }
+    → with_pc new (after pc length) ≡ record (with_pc old pc) { machine = past_instruction (with_register (machine_at old pc) rd value) length }
+written-past old new pc length rd value changed =
+    rw (register-apart old.machine pc rd value) (ap (λ (running : RunningMachine). with_pc running (after pc length)) changed)
 
 -- The machine changed, and it goes on.
 pub executes-went : (old new : RunningMachine) (machine : Machine) → old.goes_on ≡ true
@@ -35,11 +55,6 @@ executes-ecall old new machine on changed = record {
   pages_kept = λ page allocated. rw changed allocated;
   goes_on = ap (λ (running : RunningMachine). running.goes_on) changed ∙ on;
 }
-
--- the program counter is past the instruction
-pub advanced : (old seen : RunningMachine) (length : ℕ) → seen ≡ old
-    → with_pc seen (after seen.machine.pc length) ≡ record old { machine = past_instruction old.machine length }
-advanced old seen length same = ap (λ (running : RunningMachine). with_pc running (after running.machine.pc length)) same
 
 -- The bytes were stored, and the next instruction follows.
 pub executes-stored : (expected : Result Memory MemFault) (range : Option ByteRange) (old seen : RunningMachine) (memory : PagedMemory) (length : ℕ)

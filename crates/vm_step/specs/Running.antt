@@ -16,6 +16,13 @@ pub record RunningMachine : Type 0 where
   pub allocated : List Bool
   pub goes_on : Bool
 
+-- a machine whose program counter is kept apart from it
+abbrev pub with_pc : RunningMachine → ℕ → RunningMachine
+with_pc running pc = record running { machine = record running.machine { pc = pc } }
+
+abbrev pub machine_at : RunningMachine → ℕ → Machine
+machine_at running pc = record running.machine { pc = pc }
+
 -- the answers of a step after which the machine goes on
 abbrev pub goes_on_after : Step → Bool
 goes_on_after Went = true

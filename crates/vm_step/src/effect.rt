@@ -3,7 +3,7 @@ ghost use Rattle.std.specs.Prelude.{◌≡◌, ◌<◌, true, None};
 ghost use Rattle.vm_defs.specs.Memory.{byte_count};
 ghost use Rattle.vm_defs.specs.Step.{branch, jump, load, moved, past_instruction, store, write};
 ghost use Rattle.vm_step.specs.Extension.{extended};
-ghost use Rattle.vm_step.specs.Running.{Executes, range_at};
+ghost use Rattle.vm_step.specs.Running.{Executes, machine_at, range_at, with_pc};
 
 use super::extension::{Extension, extended};
 use super::fault::fault_number;
@@ -23,67 +23,69 @@ pub(crate) fn moved(address: u64, offset: i64) -> u64
 impl Machine {
     /// The next instruction follows.
     #[inline(always)]
-    pub(crate) fn advance(&mut self, length: u64) -> Step
+    pub(crate) fn advance(&mut self, pc: &mut u64, length: u64) -> Step
         requires { self.old.goes_on ≡ true }
-        ensures { Executes (Step.Went, past_instruction self.old.machine length) None self.old self.new result }
+        ensures { Executes (Step.Went, past_instruction (machine_at self.old pc.old) length) None (with_pc self.old pc.old) (with_pc self.new pc.new) result }
     {
-        self.pc = self.pc.wrapping_add(length);
+        *pc = (*pc).wrapping_add(length);
         Step::Went
     }
 
     /// The next instruction follows, once the caller has answered.
     #[inline(always)]
-    pub(crate) fn ecall(&mut self, length: u64) -> Step
+    pub(crate) fn ecall(&mut self, pc: &mut u64, length: u64) -> Step
         requires { self.old.goes_on ≡ true }
-        ensures { Executes (Step.Ecall, past_instruction self.old.machine length) None self.old self.new result }
+        ensures { Executes (Step.Ecall, past_instruction (machine_at self.old pc.old) length) None (with_pc self.old pc.old) (with_pc self.new pc.new) result }
     {
-        self.pc = self.pc.wrapping_add(length);
+        *pc = (*pc).wrapping_add(length);
         Step::Ecall
     }
 
     /// A register is written, and the next instruction follows.
     #[inline(always)]
-    pub(crate) fn write(&mut self, length: u64, rd: u8, value: u64) -> Step
+    pub(crate) fn write(&mut self, pc: &mut u64, length: u64, rd: u8, value: u64) -> Step
         requires goes_on { self.old.goes_on ≡ true }
         requires register { rd < 32 }
-        ensures { Executes (write self.old.machine length rd value) None self.old self.new result }
+        ensures { Executes (write (machine_at self.old pc.old) length rd value) None (with_pc self.old pc.old) (with_pc self.new pc.new) result }
     {
         self.set_reg(rd, value);
-        self.pc = self.pc.wrapping_add(length);
+        *pc = (*pc).wrapping_add(length);
         Step::Went
     }
 
     /// The target is taken before the register is written, which may be the one that it came from.
     #[inline(always)]
-    pub(crate) fn jump(&mut self, length: u64, rd: u8, target: u64) -> Step
+    pub(crate) fn jump(&mut self, pc: &mut u64, length: u64, rd: u8, target: u64) -> Step
         requires goes_on { self.old.goes_on ≡ true }
         requires register { rd < 32 }
-        ensures { Executes (jump self.old.machine length rd target) None self.old self.new result }
+        ensures { Executes (jump (machine_at self.old pc.old) length rd target) None (with_pc self.old pc.old) (with_pc self.new pc.new) result }
     {
-        let next = self.pc.wrapping_add(length);
+        let next = (*pc).wrapping_add(length);
         self.set_reg(rd, next);
-        self.pc = target;
+        *pc = target;
         Step::Went
     }
 
     /// The instruction at the offset follows where the branch is taken, else the next one.
     #[inline(always)]
-    pub(crate) fn branch(&mut self, length: u64, taken: bool, imm: i64) -> Step
+    pub(crate) fn branch(&mut self, pc: &mut u64, length: u64, taken: bool, imm: i64) -> Step
         requires goes_on { self.old.goes_on ≡ true }
-        ensures { Executes (branch self.old.machine length taken imm) None self.old self.new result }
+        ensures { Executes (branch (machine_at self.old pc.old) length taken imm) None (with_pc self.old pc.old) (with_pc self.new pc.new) result }
     {
-        self.pc = if taken {
-            moved(self.pc, imm)
+        *pc = if taken {
+            moved(*pc, imm)
         } else {
-            self.pc.wrapping_add(length)
+            (*pc).wrapping_add(length)
         };
         Step::Went
     }
 
     /// A number from memory is written to a register. A fault comes also where that is x0.
+    #[tactic(auto, unfolding(vm_defs::specs::Step::register))]
     #[inline(always)]
     pub(crate) fn load(
         &mut self,
+        pc: &mut u64,
         length: u64,
         width: Width,
         extension: Extension,
@@ -94,31 +96,40 @@ impl Machine {
         requires goes_on { self.old.goes_on ≡ true }
         requires target { rd < 32 }
         requires source { rs1 < 32 }
-        ensures { Executes (load self.old.machine length rd rs1 imm (byte_count width) (extended extension width)) None self.old self.new result }
+        ensures { Executes (load (machine_at self.old pc.old) length rd rs1 imm (byte_count width) (extended extension width)) None (with_pc self.old pc.old) (with_pc self.new pc.new) result }
     {
         let at = moved(self.reg(rs1), imm);
         match self.memory.load(at, width) {
             Ok(n) => {
                 let value = extended(extension, width, n);
-                self.write(length, rd, value)
+                self.write(pc, length, rd, value)
             }
             Err(fault) => self.stop(Step::Fault(fault_number(fault))),
         }
     }
 
     /// The low bytes of a register are written to memory.
+    #[tactic(auto, unfolding(vm_defs::specs::Step::register))]
     #[inline(always)]
-    pub(crate) fn store(&mut self, length: u64, width: Width, rs1: u8, rs2: u8, imm: i64) -> Step
+    pub(crate) fn store(
+        &mut self,
+        pc: &mut u64,
+        length: u64,
+        width: Width,
+        rs1: u8,
+        rs2: u8,
+        imm: i64,
+    ) -> Step
         requires goes_on { self.old.goes_on ≡ true }
         requires address { rs1 < 32 }
         requires source { rs2 < 32 }
-        ensures { Executes (store self.old.machine length rs1 rs2 imm (byte_count width)) (range_at self.old.machine rs1 imm (byte_count width)) self.old self.new result }
+        ensures { Executes (store (machine_at self.old pc.old) length rs1 rs2 imm (byte_count width)) (range_at (machine_at self.old pc.old) rs1 imm (byte_count width)) (with_pc self.old pc.old) (with_pc self.new pc.new) result }
     {
         let at = moved(self.reg(rs1), imm);
         let value = self.reg(rs2);
         match self.memory.store(at, width, value) {
             Ok(()) => {
-                self.pc = self.pc.wrapping_add(length);
+                *pc = (*pc).wrapping_add(length);
                 Step::Went
             }
             Err(MemStop::Fault(fault)) => self.stop(Step::Fault(fault_number(fault))),

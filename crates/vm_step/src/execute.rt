@@ -5,7 +5,7 @@ ghost use Rattle.isa_defs.specs.Instruction.{HasRegisters, cycles};
 ghost use Rattle.vm_defs.specs.Memory.{byte_count};
 ghost use Rattle.vm_defs.specs.Step.{branch, by_immediate, by_registers, charged, effect, jump, load, past_instruction, store, write};
 ghost use Rattle.vm_step.specs.Extension.{extended};
-ghost use Rattle.vm_step.specs.Running.{Executes, paying, range_at, stored_range};
+ghost use Rattle.vm_step.specs.Running.{Executes, machine_at, paying, range_at, stored_range, with_pc};
 
 use super::effect::moved;
 use super::extension::Extension;
@@ -19,75 +19,76 @@ use vm_defs::{Step, Width};
 impl Machine {
     // The next instruction follows.
     #[inline(always)]
-    fn paid_advance(&mut self, cost: u64, length: u64) -> Step
+    fn paid_advance(&mut self, pc: &mut u64, cost: u64, length: u64) -> Step
         requires goes_on { self.old.goes_on ≡ true }
         requires bound { cost ≤ 2 ^ 40 }
-        ensures { Executes (paying cost self.old.machine (Step.Went, past_instruction (charged self.old.machine cost) length)) None self.old self.new result }
+        ensures { Executes (paying cost (machine_at self.old pc.old) (Step.Went, past_instruction (charged (machine_at self.old pc.old) cost) length)) None (with_pc self.old pc.old) (with_pc self.new pc.new) result }
     {
         if !self.charge(cost) {
             return Step::Spent;
         }
-        self.advance(length)
+        self.advance(pc, length)
     }
 
     // The caller answers ECALL.
     #[inline(always)]
-    fn paid_ecall(&mut self, cost: u64, length: u64) -> Step
+    fn paid_ecall(&mut self, pc: &mut u64, cost: u64, length: u64) -> Step
         requires goes_on { self.old.goes_on ≡ true }
         requires bound { cost ≤ 2 ^ 40 }
-        ensures { Executes (paying cost self.old.machine (Step.Ecall, past_instruction (charged self.old.machine cost) length)) None self.old self.new result }
+        ensures { Executes (paying cost (machine_at self.old pc.old) (Step.Ecall, past_instruction (charged (machine_at self.old pc.old) cost) length)) None (with_pc self.old pc.old) (with_pc self.new pc.new) result }
     {
         if !self.charge(cost) {
             return Step::Spent;
         }
-        self.ecall(length)
+        self.ecall(pc, length)
     }
 
     // A register is written.
     #[inline(always)]
-    fn paid_write(&mut self, cost: u64, length: u64, rd: u8, value: u64) -> Step
+    fn paid_write(&mut self, pc: &mut u64, cost: u64, length: u64, rd: u8, value: u64) -> Step
         requires goes_on { self.old.goes_on ≡ true }
         requires bound { cost ≤ 2 ^ 40 }
         requires register { rd < 32 }
-        ensures { Executes (paying cost self.old.machine (write (charged self.old.machine cost) length rd value)) None self.old self.new result }
+        ensures { Executes (paying cost (machine_at self.old pc.old) (write (charged (machine_at self.old pc.old) cost) length rd value)) None (with_pc self.old pc.old) (with_pc self.new pc.new) result }
     {
         if !self.charge(cost) {
             return Step::Spent;
         }
-        self.write(length, rd, value)
+        self.write(pc, length, rd, value)
     }
 
     // The instruction at the target follows.
     #[inline(always)]
-    fn paid_jump(&mut self, cost: u64, length: u64, rd: u8, target: u64) -> Step
+    fn paid_jump(&mut self, pc: &mut u64, cost: u64, length: u64, rd: u8, target: u64) -> Step
         requires goes_on { self.old.goes_on ≡ true }
         requires bound { cost ≤ 2 ^ 40 }
         requires register { rd < 32 }
-        ensures { Executes (paying cost self.old.machine (jump (charged self.old.machine cost) length rd target)) None self.old self.new result }
+        ensures { Executes (paying cost (machine_at self.old pc.old) (jump (charged (machine_at self.old pc.old) cost) length rd target)) None (with_pc self.old pc.old) (with_pc self.new pc.new) result }
     {
         if !self.charge(cost) {
             return Step::Spent;
         }
-        self.jump(length, rd, target)
+        self.jump(pc, length, rd, target)
     }
 
     // The instruction at the offset may follow.
     #[inline(always)]
-    fn paid_branch(&mut self, cost: u64, length: u64, taken: bool, imm: i64) -> Step
+    fn paid_branch(&mut self, pc: &mut u64, cost: u64, length: u64, taken: bool, imm: i64) -> Step
         requires goes_on { self.old.goes_on ≡ true }
         requires bound { cost ≤ 2 ^ 40 }
-        ensures { Executes (paying cost self.old.machine (branch (charged self.old.machine cost) length taken imm)) None self.old self.new result }
+        ensures { Executes (paying cost (machine_at self.old pc.old) (branch (charged (machine_at self.old pc.old) cost) length taken imm)) None (with_pc self.old pc.old) (with_pc self.new pc.new) result }
     {
         if !self.charge(cost) {
             return Step::Spent;
         }
-        self.branch(length, taken, imm)
+        self.branch(pc, length, taken, imm)
     }
 
     // A number is loaded.
     #[inline(always)]
     fn paid_load(
         &mut self,
+        pc: &mut u64,
         cost: u64,
         length: u64,
         width: Width,
@@ -100,18 +101,19 @@ impl Machine {
         requires bound { cost ≤ 2 ^ 40 }
         requires target { rd < 32 }
         requires source { rs1 < 32 }
-        ensures { Executes (paying cost self.old.machine (load (charged self.old.machine cost) length rd rs1 imm (byte_count width) (extended extension width))) None self.old self.new result }
+        ensures { Executes (paying cost (machine_at self.old pc.old) (load (charged (machine_at self.old pc.old) cost) length rd rs1 imm (byte_count width) (extended extension width))) None (with_pc self.old pc.old) (with_pc self.new pc.new) result }
     {
         if !self.charge(cost) {
             return Step::Spent;
         }
-        self.load(length, width, extension, rd, rs1, imm)
+        self.load(pc, length, width, extension, rd, rs1, imm)
     }
 
     // A number is stored.
     #[inline(always)]
     fn paid_store(
         &mut self,
+        pc: &mut u64,
         cost: u64,
         length: u64,
         width: Width,
@@ -123,12 +125,12 @@ impl Machine {
         requires bound { cost ≤ 2 ^ 40 }
         requires address { rs1 < 32 }
         requires source { rs2 < 32 }
-        ensures { Executes (paying cost self.old.machine (store (charged self.old.machine cost) length rs1 rs2 imm (byte_count width))) (range_at self.old.machine rs1 imm (byte_count width)) self.old self.new result }
+        ensures { Executes (paying cost (machine_at self.old pc.old) (store (charged (machine_at self.old pc.old) cost) length rs1 rs2 imm (byte_count width))) (range_at (machine_at self.old pc.old) rs1 imm (byte_count width)) (with_pc self.old pc.old) (with_pc self.new pc.new) result }
     {
         if !self.charge(cost) {
             return Step::Spent;
         }
-        self.store(length, width, rs1, rs2, imm)
+        self.store(pc, length, width, rs1, rs2, imm)
     }
 
     // An operation on two registers.
@@ -136,6 +138,7 @@ impl Machine {
     #[tactic(auto, unfolding(vm_defs::specs::Step::register))]
     fn by_registers(
         &mut self,
+        pc: &mut u64,
         cost: u64,
         length: u64,
         operation: Alu,
@@ -148,10 +151,10 @@ impl Machine {
         requires target { rd < 32 }
         requires first { rs1 < 32 }
         requires second { rs2 < 32 }
-        ensures { Executes (paying cost self.old.machine (by_registers (charged self.old.machine cost) length operation rd rs1 rs2)) None self.old self.new result }
+        ensures { Executes (paying cost (machine_at self.old pc.old) (by_registers (charged (machine_at self.old pc.old) cost) length operation rd rs1 rs2)) None (with_pc self.old pc.old) (with_pc self.new pc.new) result }
     {
         let value = op(operation, self.reg(rs1), self.reg(rs2));
-        self.paid_write(cost, length, rd, value)
+        self.paid_write(pc, cost, length, rd, value)
     }
 
     // An operation on a register and an immediate.
@@ -159,6 +162,7 @@ impl Machine {
     #[tactic(auto, unfolding(vm_defs::specs::Step::register))]
     fn by_immediate(
         &mut self,
+        pc: &mut u64,
         cost: u64,
         length: u64,
         operation: Alu,
@@ -170,120 +174,224 @@ impl Machine {
         requires bound { cost ≤ 2 ^ 40 }
         requires target { rd < 32 }
         requires source { rs1 < 32 }
-        ensures { Executes (paying cost self.old.machine (by_immediate (charged self.old.machine cost) length operation rd rs1 imm)) None self.old self.new result }
+        ensures { Executes (paying cost (machine_at self.old pc.old) (by_immediate (charged (machine_at self.old pc.old) cost) length operation rd rs1 imm)) None (with_pc self.old pc.old) (with_pc self.new pc.new) result }
     {
         let value = op(operation, self.reg(rs1), imm.cast_unsigned());
-        self.paid_write(cost, length, rd, value)
+        self.paid_write(pc, cost, length, rd, value)
     }
 
     /// An instruction of `length` bytes: its cost is added, the budget is looked at, and then it has its effect.
     #[inline(always)]
     #[tactic(auto, unfolding(vm_defs::specs::Step::effect, vm_defs::specs::Step::register))]
-    pub(crate) fn execute(&mut self, ins: Ins, length: u64) -> Step
+    pub(crate) fn execute(&mut self, pc: &mut u64, ins: Ins, length: u64) -> Step
         requires goes_on { self.old.goes_on ≡ true }
         requires registers { HasRegisters ins }
-        ensures { Executes (paying (cycles ins) self.old.machine (effect (charged self.old.machine (cycles ins)) length ins)) (stored_range self.old.machine ins) self.old self.new result }
+        ensures { Executes (paying (cycles ins) (machine_at self.old pc.old) (effect (charged (machine_at self.old pc.old) (cycles ins)) length ins)) (stored_range (machine_at self.old pc.old) ins) (with_pc self.old pc.old) (with_pc self.new pc.new) result }
     {
         match ins {
-            Ins::Lui { rd, imm } => self.paid_write(1, length, rd, imm.cast_unsigned()),
+            Ins::Lui { rd, imm } => self.paid_write(pc, 1, length, rd, imm.cast_unsigned()),
             Ins::Auipc { rd, imm } => {
-                let value = moved(self.pc, imm);
-                self.paid_write(1, length, rd, value)
+                let value = moved(*pc, imm);
+                self.paid_write(pc, 1, length, rd, value)
             }
             Ins::Jal { rd, imm } => {
-                let target = moved(self.pc, imm);
-                self.paid_jump(3, length, rd, target)
+                let target = moved(*pc, imm);
+                self.paid_jump(pc, 3, length, rd, target)
             }
             Ins::Jalr { rd, rs1, imm } => {
                 let target = moved(self.reg(rs1), imm) / 2 * 2;
-                self.paid_jump(3, length, rd, target)
+                self.paid_jump(pc, 3, length, rd, target)
             }
             Ins::Beq { rs1, rs2, imm } => {
                 let a = self.reg(rs1);
                 let b = self.reg(rs2);
-                self.paid_branch(3, length, a == b, imm)
+                self.paid_branch(pc, 3, length, a == b, imm)
             }
             Ins::Bne { rs1, rs2, imm } => {
                 let a = self.reg(rs1);
                 let b = self.reg(rs2);
-                self.paid_branch(3, length, a != b, imm)
+                self.paid_branch(pc, 3, length, a != b, imm)
             }
             Ins::Blt { rs1, rs2, imm } => {
                 let a = self.reg(rs1);
                 let b = self.reg(rs2);
-                self.paid_branch(3, length, a.cast_signed() < b.cast_signed(), imm)
+                self.paid_branch(pc, 3, length, a.cast_signed() < b.cast_signed(), imm)
             }
             Ins::Bge { rs1, rs2, imm } => {
                 let a = self.reg(rs1);
                 let b = self.reg(rs2);
-                self.paid_branch(3, length, a.cast_signed() >= b.cast_signed(), imm)
+                self.paid_branch(pc, 3, length, a.cast_signed() >= b.cast_signed(), imm)
             }
             Ins::Bltu { rs1, rs2, imm } => {
                 let a = self.reg(rs1);
                 let b = self.reg(rs2);
-                self.paid_branch(3, length, a < b, imm)
+                self.paid_branch(pc, 3, length, a < b, imm)
             }
             Ins::Bgeu { rs1, rs2, imm } => {
                 let a = self.reg(rs1);
                 let b = self.reg(rs2);
-                self.paid_branch(3, length, a >= b, imm)
+                self.paid_branch(pc, 3, length, a >= b, imm)
             }
-            Ins::Lb { rd, rs1, imm } => self.paid_load(3, length, B1, Sign, rd, rs1, imm),
-            Ins::Lh { rd, rs1, imm } => self.paid_load(3, length, B2, Sign, rd, rs1, imm),
-            Ins::Lw { rd, rs1, imm } => self.paid_load(3, length, B4, Sign, rd, rs1, imm),
-            Ins::Ld { rd, rs1, imm } => self.paid_load(2, length, B8, Zero, rd, rs1, imm),
-            Ins::Lbu { rd, rs1, imm } => self.paid_load(3, length, B1, Zero, rd, rs1, imm),
-            Ins::Lhu { rd, rs1, imm } => self.paid_load(3, length, B2, Zero, rd, rs1, imm),
-            Ins::Lwu { rd, rs1, imm } => self.paid_load(3, length, B4, Zero, rd, rs1, imm),
-            Ins::Sb { rs1, rs2, imm } => self.paid_store(3, length, B1, rs1, rs2, imm),
-            Ins::Sh { rs1, rs2, imm } => self.paid_store(3, length, B2, rs1, rs2, imm),
-            Ins::Sw { rs1, rs2, imm } => self.paid_store(3, length, B4, rs1, rs2, imm),
-            Ins::Sd { rs1, rs2, imm } => self.paid_store(2, length, B8, rs1, rs2, imm),
-            Ins::Addi { rd, rs1, imm } => self.by_immediate(1, length, Alu::Add, rd, rs1, imm),
-            Ins::Slti { rd, rs1, imm } => self.by_immediate(1, length, Alu::Slt, rd, rs1, imm),
-            Ins::Sltiu { rd, rs1, imm } => self.by_immediate(1, length, Alu::Sltu, rd, rs1, imm),
-            Ins::Xori { rd, rs1, imm } => self.by_immediate(1, length, Alu::Xor, rd, rs1, imm),
-            Ins::Ori { rd, rs1, imm } => self.by_immediate(1, length, Alu::Or, rd, rs1, imm),
-            Ins::Andi { rd, rs1, imm } => self.by_immediate(1, length, Alu::And, rd, rs1, imm),
-            Ins::Slli { rd, rs1, imm } => self.by_immediate(1, length, Alu::Sll, rd, rs1, imm),
-            Ins::Srli { rd, rs1, imm } => self.by_immediate(1, length, Alu::Srl, rd, rs1, imm),
-            Ins::Srai { rd, rs1, imm } => self.by_immediate(1, length, Alu::Sra, rd, rs1, imm),
-            Ins::Addiw { rd, rs1, imm } => self.by_immediate(1, length, Alu::Addw, rd, rs1, imm),
-            Ins::Slliw { rd, rs1, imm } => self.by_immediate(1, length, Alu::Sllw, rd, rs1, imm),
-            Ins::Srliw { rd, rs1, imm } => self.by_immediate(1, length, Alu::Srlw, rd, rs1, imm),
-            Ins::Sraiw { rd, rs1, imm } => self.by_immediate(1, length, Alu::Sraw, rd, rs1, imm),
-            Ins::Add { rd, rs1, rs2 } => self.by_registers(1, length, Alu::Add, rd, rs1, rs2),
-            Ins::Sub { rd, rs1, rs2 } => self.by_registers(1, length, Alu::Sub, rd, rs1, rs2),
-            Ins::Sll { rd, rs1, rs2 } => self.by_registers(1, length, Alu::Sll, rd, rs1, rs2),
-            Ins::Slt { rd, rs1, rs2 } => self.by_registers(1, length, Alu::Slt, rd, rs1, rs2),
-            Ins::Sltu { rd, rs1, rs2 } => self.by_registers(1, length, Alu::Sltu, rd, rs1, rs2),
-            Ins::Xor { rd, rs1, rs2 } => self.by_registers(1, length, Alu::Xor, rd, rs1, rs2),
-            Ins::Srl { rd, rs1, rs2 } => self.by_registers(1, length, Alu::Srl, rd, rs1, rs2),
-            Ins::Sra { rd, rs1, rs2 } => self.by_registers(1, length, Alu::Sra, rd, rs1, rs2),
-            Ins::Or { rd, rs1, rs2 } => self.by_registers(1, length, Alu::Or, rd, rs1, rs2),
-            Ins::And { rd, rs1, rs2 } => self.by_registers(1, length, Alu::And, rd, rs1, rs2),
-            Ins::Mul { rd, rs1, rs2 } => self.by_registers(5, length, Alu::Mul, rd, rs1, rs2),
-            Ins::Mulh { rd, rs1, rs2 } => self.by_registers(5, length, Alu::Mulh, rd, rs1, rs2),
-            Ins::Mulhsu { rd, rs1, rs2 } => self.by_registers(5, length, Alu::Mulhsu, rd, rs1, rs2),
-            Ins::Mulhu { rd, rs1, rs2 } => self.by_registers(5, length, Alu::Mulhu, rd, rs1, rs2),
-            Ins::Div { rd, rs1, rs2 } => self.by_registers(32, length, Alu::Div, rd, rs1, rs2),
-            Ins::Divu { rd, rs1, rs2 } => self.by_registers(32, length, Alu::Divu, rd, rs1, rs2),
-            Ins::Rem { rd, rs1, rs2 } => self.by_registers(32, length, Alu::Rem, rd, rs1, rs2),
-            Ins::Remu { rd, rs1, rs2 } => self.by_registers(32, length, Alu::Remu, rd, rs1, rs2),
-            Ins::Addw { rd, rs1, rs2 } => self.by_registers(1, length, Alu::Addw, rd, rs1, rs2),
-            Ins::Subw { rd, rs1, rs2 } => self.by_registers(1, length, Alu::Subw, rd, rs1, rs2),
-            Ins::Sllw { rd, rs1, rs2 } => self.by_registers(1, length, Alu::Sllw, rd, rs1, rs2),
-            Ins::Srlw { rd, rs1, rs2 } => self.by_registers(1, length, Alu::Srlw, rd, rs1, rs2),
-            Ins::Sraw { rd, rs1, rs2 } => self.by_registers(1, length, Alu::Sraw, rd, rs1, rs2),
-            Ins::Mulw { rd, rs1, rs2 } => self.by_registers(5, length, Alu::Mulw, rd, rs1, rs2),
-            Ins::Divw { rd, rs1, rs2 } => self.by_registers(32, length, Alu::Divw, rd, rs1, rs2),
-            Ins::Divuw { rd, rs1, rs2 } => self.by_registers(32, length, Alu::Divuw, rd, rs1, rs2),
-            Ins::Remw { rd, rs1, rs2 } => self.by_registers(32, length, Alu::Remw, rd, rs1, rs2),
-            Ins::Remuw { rd, rs1, rs2 } => self.by_registers(32, length, Alu::Remuw, rd, rs1, rs2),
-            Ins::Fence => self.paid_advance(1, length),
-            Ins::FenceI => self.paid_advance(1, length),
-            Ins::Ecall => self.paid_ecall(500, length),
-            Ins::Ebreak => self.paid_advance(500, length),
+            Ins::Lb { rd, rs1, imm } => self.paid_load(pc, 3, length, B1, Sign, rd, rs1, imm),
+            Ins::Lh { rd, rs1, imm } => self.paid_load(pc, 3, length, B2, Sign, rd, rs1, imm),
+            Ins::Lw { rd, rs1, imm } => self.paid_load(pc, 3, length, B4, Sign, rd, rs1, imm),
+            Ins::Ld { rd, rs1, imm } => self.paid_load(pc, 2, length, B8, Zero, rd, rs1, imm),
+            Ins::Lbu { rd, rs1, imm } => self.paid_load(pc, 3, length, B1, Zero, rd, rs1, imm),
+            Ins::Lhu { rd, rs1, imm } => self.paid_load(pc, 3, length, B2, Zero, rd, rs1, imm),
+            Ins::Lwu { rd, rs1, imm } => self.paid_load(pc, 3, length, B4, Zero, rd, rs1, imm),
+            Ins::Sb { rs1, rs2, imm } => self.paid_store(pc, 3, length, B1, rs1, rs2, imm),
+            Ins::Sh { rs1, rs2, imm } => self.paid_store(pc, 3, length, B2, rs1, rs2, imm),
+            Ins::Sw { rs1, rs2, imm } => self.paid_store(pc, 3, length, B4, rs1, rs2, imm),
+            Ins::Sd { rs1, rs2, imm } => self.paid_store(pc, 2, length, B8, rs1, rs2, imm),
+            Ins::Addi { rd, rs1, imm } => self.by_immediate(pc, 1, length, Alu::Add, rd, rs1, imm),
+            Ins::Slti { rd, rs1, imm } => self.by_immediate(pc, 1, length, Alu::Slt, rd, rs1, imm),
+            Ins::Sltiu { rd, rs1, imm } => self.by_immediate(
+                pc,
+                1,
+                length,
+                Alu::Sltu,
+                rd,
+                rs1,
+                imm,
+            ),
+            Ins::Xori { rd, rs1, imm } => self.by_immediate(pc, 1, length, Alu::Xor, rd, rs1, imm),
+            Ins::Ori { rd, rs1, imm } => self.by_immediate(pc, 1, length, Alu::Or, rd, rs1, imm),
+            Ins::Andi { rd, rs1, imm } => self.by_immediate(pc, 1, length, Alu::And, rd, rs1, imm),
+            Ins::Slli { rd, rs1, imm } => self.by_immediate(pc, 1, length, Alu::Sll, rd, rs1, imm),
+            Ins::Srli { rd, rs1, imm } => self.by_immediate(pc, 1, length, Alu::Srl, rd, rs1, imm),
+            Ins::Srai { rd, rs1, imm } => self.by_immediate(pc, 1, length, Alu::Sra, rd, rs1, imm),
+            Ins::Addiw { rd, rs1, imm } => self.by_immediate(
+                pc,
+                1,
+                length,
+                Alu::Addw,
+                rd,
+                rs1,
+                imm,
+            ),
+            Ins::Slliw { rd, rs1, imm } => self.by_immediate(
+                pc,
+                1,
+                length,
+                Alu::Sllw,
+                rd,
+                rs1,
+                imm,
+            ),
+            Ins::Srliw { rd, rs1, imm } => self.by_immediate(
+                pc,
+                1,
+                length,
+                Alu::Srlw,
+                rd,
+                rs1,
+                imm,
+            ),
+            Ins::Sraiw { rd, rs1, imm } => self.by_immediate(
+                pc,
+                1,
+                length,
+                Alu::Sraw,
+                rd,
+                rs1,
+                imm,
+            ),
+            Ins::Add { rd, rs1, rs2 } => self.by_registers(pc, 1, length, Alu::Add, rd, rs1, rs2),
+            Ins::Sub { rd, rs1, rs2 } => self.by_registers(pc, 1, length, Alu::Sub, rd, rs1, rs2),
+            Ins::Sll { rd, rs1, rs2 } => self.by_registers(pc, 1, length, Alu::Sll, rd, rs1, rs2),
+            Ins::Slt { rd, rs1, rs2 } => self.by_registers(pc, 1, length, Alu::Slt, rd, rs1, rs2),
+            Ins::Sltu { rd, rs1, rs2 } => self.by_registers(pc, 1, length, Alu::Sltu, rd, rs1, rs2),
+            Ins::Xor { rd, rs1, rs2 } => self.by_registers(pc, 1, length, Alu::Xor, rd, rs1, rs2),
+            Ins::Srl { rd, rs1, rs2 } => self.by_registers(pc, 1, length, Alu::Srl, rd, rs1, rs2),
+            Ins::Sra { rd, rs1, rs2 } => self.by_registers(pc, 1, length, Alu::Sra, rd, rs1, rs2),
+            Ins::Or { rd, rs1, rs2 } => self.by_registers(pc, 1, length, Alu::Or, rd, rs1, rs2),
+            Ins::And { rd, rs1, rs2 } => self.by_registers(pc, 1, length, Alu::And, rd, rs1, rs2),
+            Ins::Mul { rd, rs1, rs2 } => self.by_registers(pc, 5, length, Alu::Mul, rd, rs1, rs2),
+            Ins::Mulh { rd, rs1, rs2 } => self.by_registers(pc, 5, length, Alu::Mulh, rd, rs1, rs2),
+            Ins::Mulhsu { rd, rs1, rs2 } => self.by_registers(
+                pc,
+                5,
+                length,
+                Alu::Mulhsu,
+                rd,
+                rs1,
+                rs2,
+            ),
+            Ins::Mulhu { rd, rs1, rs2 } => self.by_registers(
+                pc,
+                5,
+                length,
+                Alu::Mulhu,
+                rd,
+                rs1,
+                rs2,
+            ),
+            Ins::Div { rd, rs1, rs2 } => self.by_registers(pc, 32, length, Alu::Div, rd, rs1, rs2),
+            Ins::Divu { rd, rs1, rs2 } => self.by_registers(
+                pc,
+                32,
+                length,
+                Alu::Divu,
+                rd,
+                rs1,
+                rs2,
+            ),
+            Ins::Rem { rd, rs1, rs2 } => self.by_registers(pc, 32, length, Alu::Rem, rd, rs1, rs2),
+            Ins::Remu { rd, rs1, rs2 } => self.by_registers(
+                pc,
+                32,
+                length,
+                Alu::Remu,
+                rd,
+                rs1,
+                rs2,
+            ),
+            Ins::Addw { rd, rs1, rs2 } => self.by_registers(pc, 1, length, Alu::Addw, rd, rs1, rs2),
+            Ins::Subw { rd, rs1, rs2 } => self.by_registers(pc, 1, length, Alu::Subw, rd, rs1, rs2),
+            Ins::Sllw { rd, rs1, rs2 } => self.by_registers(pc, 1, length, Alu::Sllw, rd, rs1, rs2),
+            Ins::Srlw { rd, rs1, rs2 } => self.by_registers(pc, 1, length, Alu::Srlw, rd, rs1, rs2),
+            Ins::Sraw { rd, rs1, rs2 } => self.by_registers(pc, 1, length, Alu::Sraw, rd, rs1, rs2),
+            Ins::Mulw { rd, rs1, rs2 } => self.by_registers(pc, 5, length, Alu::Mulw, rd, rs1, rs2),
+            Ins::Divw { rd, rs1, rs2 } => self.by_registers(
+                pc,
+                32,
+                length,
+                Alu::Divw,
+                rd,
+                rs1,
+                rs2,
+            ),
+            Ins::Divuw { rd, rs1, rs2 } => self.by_registers(
+                pc,
+                32,
+                length,
+                Alu::Divuw,
+                rd,
+                rs1,
+                rs2,
+            ),
+            Ins::Remw { rd, rs1, rs2 } => self.by_registers(
+                pc,
+                32,
+                length,
+                Alu::Remw,
+                rd,
+                rs1,
+                rs2,
+            ),
+            Ins::Remuw { rd, rs1, rs2 } => self.by_registers(
+                pc,
+                32,
+                length,
+                Alu::Remuw,
+                rd,
+                rs1,
+                rs2,
+            ),
+            Ins::Fence => self.paid_advance(pc, 1, length),
+            Ins::FenceI => self.paid_advance(pc, 1, length),
+            Ins::Ecall => self.paid_ecall(pc, 500, length),
+            Ins::Ebreak => self.paid_advance(pc, 500, length),
         }
     }
 }

@@ -5,7 +5,7 @@ ghost use Rattle.vm_defs.specs.Program.{new_machine};
 ghost use Rattle.vm_defs.specs.Step.{charged, is_spent, register, step_of, with_register};
 ghost use Rattle.vm_mem.specs.Pages.{IsAllocated};
 ghost use Rattle.vm_step.specs.Lending.{LendsMemory};
-ghost use Rattle.vm_step.specs.Running.{HasRoom, Steps, Stops, goes_on_after, next_range};
+ghost use Rattle.vm_step.specs.Running.{HasRoom, Steps, Stops, goes_on_after, machine_at, next_range};
 
 use super::fault::{NO_INSTRUCTION, fault_number};
 use std::marker::Model;
@@ -84,15 +84,10 @@ impl Machine {
         ensures allocated { result ≡ Step.Went → HasRoom self.new.allocated (next_range self.old.machine) }
         ensures pages_kept { (page : ℕ) → IsAllocated self.old.allocated page → IsAllocated self.new.allocated page }
     {
-        if self.pc % 2 == 1 {
-            return self.stop(Step::Fault(NO_INSTRUCTION));
-        }
-        let (ins, length) = match self.memory.instruction(self.pc) {
-            Ok(Some(decoded)) => decoded,
-            Ok(None) => return self.stop(Step::Fault(NO_INSTRUCTION)),
-            Err(fault) => return self.stop(Step::Fault(fault_number(fault))),
-        };
-        self.execute(ins, u64::from(length))
+        let mut pc = self.pc;
+        let answer = self.step_at(&mut pc);
+        self.pc = pc;
+        answer
     }
 
     /// Steps up to the first whose answer is not `Went`, and that answer.
@@ -105,10 +100,14 @@ impl Machine {
         ensures goes_on { self.new.goes_on ≡ goes_on_after result }
         ensures pages_kept { (page : ℕ) → IsAllocated self.old.allocated page → IsAllocated self.new.allocated page }
     {
+        let mut pc = self.pc;
         'steps: loop {
-            match self.step() {
+            match self.step_at(&mut pc) {
                 Step::Went => {}
-                answer => return answer,
+                answer => {
+                    self.pc = pc;
+                    return answer;
+                }
             }
         }
     }
@@ -166,6 +165,27 @@ impl Machine {
         ensures memory { result.now ≡ record { memory = self.old.machine.memory; allocated = self.old.allocated } }
     {
         &mut self.memory
+    }
+
+    // One step, with the program counter apart from the machine: a run keeps it in a register of the processor.
+    #[inline(always)]
+    fn step_at(&mut self, pc: &mut u64) -> Step
+        requires { self.old.goes_on ≡ true }
+        ensures steps { Steps (step_of (machine_at self.old pc.old)) (machine_at self.old pc.old) (machine_at self.new pc.new) result }
+        ensures goes_on { self.new.goes_on ≡ goes_on_after result }
+        ensures room { HasRoom self.old.allocated (next_range (machine_at self.old pc.old)) → result ≢ Step.NoMemory }
+        ensures allocated { result ≡ Step.Went → HasRoom self.new.allocated (next_range (machine_at self.old pc.old)) }
+        ensures pages_kept { (page : ℕ) → IsAllocated self.old.allocated page → IsAllocated self.new.allocated page }
+    {
+        if *pc % 2 == 1 {
+            return self.stop(Step::Fault(NO_INSTRUCTION));
+        }
+        let (ins, length) = match self.memory.instruction(*pc) {
+            Ok(Some(decoded)) => decoded,
+            Ok(None) => return self.stop(Step::Fault(NO_INSTRUCTION)),
+            Err(fault) => return self.stop(Step::Fault(fault_number(fault))),
+        };
+        self.execute(pc, ins, u64::from(length))
     }
 
     // The machine goes on no more.

@@ -1,22 +1,30 @@
-use Rattle.std.proofs.Common.{◌∙◌, ap, true}
-use Rattle.vm_step.specs.Running.{goes_on_after}
-use Rattle.vm_step.proofs.Going.{fewer-left, going-more, going-none, stops}
+use Rattle.std.proofs.Common.{ap, subst, sym, ◌∙◌}
+use Rattle.vm_mem.specs.Pages.{IsAllocated}
+use Rattle.vm_step.specs.Running.{RunningMachine, Stops, goes_on_after, machine_at, with_pc}
+use Rattle.vm_step.proofs.Going.{fewer-left, going-more, stops}
 use Rattle.vm_step.proofs.machine.Machine.run.Goals as goal
 
-pub steps-init : goal.steps-init
-steps-init c = going-none c.args.self.now c.requires
-
 pub steps-smaller : goal.steps-smaller
-steps-smaller c = fewer-left c.steps.self.machine c.step.new.self.machine c.step.result c.in-Went.is c.step.ensures.steps
+steps-smaller c =
+    fewer-left (machine_at c.steps.self c.steps.pc) (machine_at c.step_at.new.self c.step_at.new.pc) c.step_at.result c.in-Went.is
+    c.step_at.ensures.steps
 
 pub steps-preserved : goal.steps-preserved
 steps-preserved c =
-    going-more c.args.self.now c.steps.self c.step.new.self c.step.result c.steps.invariant c.in-Went.is c.step.ensures.steps
-    c.step.ensures.pages_kept (c.step.ensures.goes_on ∙ ap goes_on_after c.in-Went.is)
+    going-more c.args.self.now (with_pc c.steps.self c.steps.pc) (with_pc c.step_at.new.self c.step_at.new.pc) c.step_at.result
+    c.steps.invariant c.in-Went.is c.step_at.ensures.steps c.step_at.ensures.pages_kept
+    (c.step_at.ensures.goes_on ∙ ap goes_on_after c.in-Went.is)
 
 pub returns-in_default : goal.returns-in_default
-returns-in_default c = record {
-  stops = stops c.args.self.now c.steps.self c.step.new.self c.step.result c.steps.invariant c.in_default.not-Went c.step.ensures.steps c.step.ensures.room;
-  goes_on = c.step.ensures.goes_on;
-  pages_kept = λ page allocated. c.step.ensures.pages_kept page (c.steps.invariant.pages_kept page allocated);
-}
+returns-in_default c =
+    let start = c.args.self.now in
+    let new = with_pc c.step_at.new.self c.step_at.new.pc in
+    let is-new = ap (λ (running : RunningMachine). with_pc running c.step_at.new.pc) c.self-in-steps.view_is in
+    record {
+      stops = subst (λ (running : RunningMachine). Stops start running.machine c.step_at.result) (sym is-new)
+          (stops start (with_pc c.steps.self c.steps.pc) new c.step_at.result c.steps.invariant c.in_default.not-Went c.step_at.ensures.steps
+          c.step_at.ensures.room);
+      goes_on = ap (λ (running : RunningMachine). running.goes_on) is-new ∙ c.step_at.ensures.goes_on;
+      pages_kept = λ page allocated. subst (λ (running : RunningMachine). IsAllocated running.allocated page) (sym is-new)
+          (c.step_at.ensures.pages_kept page (c.steps.invariant.pages_kept page allocated));
+    }

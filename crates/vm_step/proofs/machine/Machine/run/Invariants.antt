@@ -1,9 +1,10 @@
 use Rattle.std.proofs.Common.{◌-◌}
+use Rattle.vm_step.specs.Running.{with_pc}
 use Rattle.vm_step.proofs.Going.{Going}
 use Rattle.vm_step.proofs.machine.Machine.run.Given as goal
 
 abbrev pub invariant-steps : goal.invariant-steps
-invariant-steps l = Going l.fn.self l.self
+invariant-steps l = Going l.fn.self (with_pc l.self l.pc)
 
 -- the cycles that are left
 abbrev pub decreases-steps : goal.decreases-steps
