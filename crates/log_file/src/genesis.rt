@@ -2,8 +2,7 @@
 
 ghost use Rattle.std.specs.Prelude.{◌≡◌, ◌+◌, ◌<◌, ◌^◌, [], Some, length, slice_get, unwrap_or, IfOk};
 ghost use Rattle.std.specs.Option.{option_map};
-ghost use Rattle.rule_defs.specs.Genesis as rules;
-ghost use Rattle.store_defs.specs.Genesis as store_rules;
+ghost use Rattle.store_defs.specs.Genesis as rules;
 ghost use Rattle.time_defs.specs.Dao.{occupied_by_type};
 ghost use Rattle.chain_defs.specs.Hashes.{transaction_hash};
 
@@ -33,7 +32,7 @@ fn has_no_uncles_or_proposals(block: &BlockView<'_>) -> bool
 
 /// G4: the C and the AR of its dao field are above 0.
 fn has_issued(block: &BlockView<'_>) -> bool
-    ensures { result ≡ store_rules.has_issued block.now }
+    ensures { result ≡ rules.has_issued block.now }
 {
     let dao = block.header().dao();
     0 < read_u64(dao, 0) && 0 < read_u64(dao, 8)
@@ -48,7 +47,7 @@ fn hash_of(transaction: &TxView<'_>) -> [u8; 32]
 
 /// G5: it has a transaction, and its transaction hashes are distinct.
 fn has_transactions(alloc: Global, block: &BlockView<'_>) -> Result<bool, NoMemory>
-    ensures { IfOk result (λ holds. holds ≡ store_rules.has_transactions block.now) }
+    ensures { IfOk result (λ holds. holds ≡ rules.has_transactions block.now) }
 {
     let count = block.transactions_count();
     let mut seen: HashSet<[u8; 32]> = HashSet::new(alloc);
@@ -62,7 +61,7 @@ fn has_transactions(alloc: Global, block: &BlockView<'_>) -> Result<bool, NoMemo
 }
 
 fn pairs_data(transaction: &TxView<'_>) -> bool
-    ensures { result ≡ store_rules.pairs_data transaction.now }
+    ensures { result ≡ rules.pairs_data transaction.now }
 {
     let raw = transaction.raw();
     raw.outputs_data_count() == raw.outputs_count()
@@ -70,7 +69,7 @@ fn pairs_data(transaction: &TxView<'_>) -> bool
 
 /// G6: each transaction has as many data as outputs.
 fn all_pair_data(block: &BlockView<'_>) -> bool
-    ensures { result ≡ store_rules.all_pair_data block.now }
+    ensures { result ≡ rules.all_pair_data block.now }
 {
     'transactions: for i in 0..block.transactions_count() {
         if !pairs_data(&block.transactions_item(i)) {
@@ -93,7 +92,7 @@ fn type_size(output: &OutputView<'_>) -> usize
 
 fn holds_its_own(output: &OutputView<'_>, content: &[u8]) -> bool
     requires { length content.now < 2 ^ 32 }
-    ensures { result ≡ store_rules.holds_its_own output.now content.now }
+    ensures { result ≡ rules.holds_its_own output.now content.now }
 {
     let size = 8 + 33 + output.lock().args().len() + type_size(output) + content.len();
     size as u64 * SHANNONS <= output.capacity()
@@ -112,7 +111,7 @@ fn content<'a>(raw: &RawTxView<'a>, i: usize) -> &'a [u8]
 }
 
 fn holds_capacity(transaction: &TxView<'_>) -> bool
-    ensures { result ≡ store_rules.holds_capacity transaction.now }
+    ensures { result ≡ rules.holds_capacity transaction.now }
 {
     let raw = transaction.raw();
     'outputs: for i in 0..raw.outputs_count() {
@@ -125,7 +124,7 @@ fn holds_capacity(transaction: &TxView<'_>) -> bool
 
 /// G7: each output holds its occupied capacity.
 fn all_hold_capacity(block: &BlockView<'_>) -> bool
-    ensures { result ≡ store_rules.all_hold_capacity block.now }
+    ensures { result ≡ rules.all_hold_capacity block.now }
 {
     'transactions: for i in 0..block.transactions_count() {
         if !holds_capacity(&block.transactions_item(i)) {
@@ -138,7 +137,7 @@ fn all_hold_capacity(block: &BlockView<'_>) -> bool
 /// The first of G2 to G7 that a block breaks.
 #[tactic(auto, unfolding(fold_defs::specs::First::first_failing))]
 fn broken_by(alloc: Global, block: &BlockView<'_>) -> Result<Option<u8>, NoMemory>
-    ensures { IfOk result (λ broken. broken ≡ store_rules.store_broken_by (Some block.now)) }
+    ensures { IfOk result (λ broken. broken ≡ rules.broken_by (Some block.now)) }
 {
     if !is_first(block) {
         return Ok(Some(2));
@@ -162,9 +161,9 @@ fn broken_by(alloc: Global, block: &BlockView<'_>) -> Result<Option<u8>, NoMemor
 }
 
 /// The first of G1 to G7 that the bytes break as the genesis of a store (docs/RULES.md, "The genesis").
-#[tactic(auto, unfolding(store_defs::specs::Genesis::broken_store_genesis_rule))]
+#[tactic(auto, unfolding(store_defs::specs::Genesis::broken_genesis_rule))]
 pub fn genesis_ok(alloc: Global, b: &[u8]) -> Result<Option<u8>, NoMemory>
-    ensures { IfOk result (λ broken. broken ≡ store_rules.broken_store_genesis_rule b.now) }
+    ensures { IfOk result (λ broken. broken ≡ rules.broken_genesis_rule b.now) }
 {
     match BlockView::read(b) {
         None => Ok(Some(1)),

@@ -4,3 +4,4 @@ pub mod Text
 pub mod Words
 pub mod Report
 pub mod Promise
+pub mod Survival

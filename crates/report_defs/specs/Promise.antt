@@ -1,15 +1,17 @@
 -- What a run promises of the bytes that its source gave and its sink took, whether it was stopped or not (docs/PROVED.md, "A run").
+-- What it promises of the disk stands in Survival.
 use Rattle.std.specs.Prelude.{◌≡◌, ◌⊎◌, ℕ, ◌+◌, ◌-◌, ◌<◌, ◌≤◌, List, [], ◌∷◌, ◌++◌, length, take, Option, Some, None}
 use Rattle.std.specs.List.{concat}
 use Rattle.std.specs.Io.KnownBytes.{IsAtEnd}
 use Rattle.rule_defs.specs.Chain.{Chain}
+use Rattle.store_defs.specs.Store.{Store, NoLog, NotALog, Keeps}
 use Rattle.report_defs.specs.declared.command.Command.{Command}
-use Rattle.report_defs.specs.declared.command.Command.TheVariants.{Import, Exec}
+use Rattle.report_defs.specs.declared.command.Command.TheVariants.{Init, Import, Tip, Exec}
 use Rattle.report_defs.specs.declared.status.Status.{Status}
-use Rattle.report_defs.specs.declared.status.Status.TheVariants.{Done, SomeRefused, BadWords, InputFault, SinkFault, NoMemory, NotAStore, CutInput, BadSize, StoreThere, BadGenesis, ExtraInput}
+use Rattle.report_defs.specs.declared.status.Status.TheVariants.{Done, SomeRefused, BadWords, InputFault, SinkFault, DiskFault, NoMemory, NotAStore, CutInput, BadSize, StoreThere, BadGenesis, ExtraInput}
 use Rattle.report_defs.specs.Status.{IsOneOf}
-use Rattle.report_defs.specs.Items.{IsAtWord, split_of, end_offset}
-use Rattle.report_defs.specs.Report.{Report, text_of, import_limits, lines_over, chain_at_start, items_behind, file_limit}
+use Rattle.report_defs.specs.Items.{IsAtWord, Limits, split_of, end_offset}
+use Rattle.report_defs.specs.Report.{Report, text_of, init_limits, import_limits, lines_over, file_limit}
 
 -- ---- Statuses
 
@@ -20,21 +22,33 @@ reported = Done ∷ SomeRefused ∷ BadWords ∷ NotAStore ∷ CutInput ∷ BadS
 abbrev pub IsReported : Status → Type 0
 IsReported status = IsOneOf reported status
 
+-- those of an input that does not end where it should
+abbrev pub ended_early : List Status
+ended_early = CutInput ∷ BadSize ∷ ExtraInput ∷ []
+
 -- those of each command
+abbrev pub init_statuses : List Status
+init_statuses = Done ∷ InputFault ∷ SinkFault ∷ DiskFault ∷ NoMemory ∷ CutInput ∷ BadSize ∷ StoreThere ∷ BadGenesis ∷ ExtraInput ∷ []
+
 abbrev pub import_statuses : List Status
-import_statuses = Done ∷ SomeRefused ∷ InputFault ∷ SinkFault ∷ NoMemory ∷ CutInput ∷ BadGenesis ∷ []
+import_statuses = Done ∷ SomeRefused ∷ InputFault ∷ SinkFault ∷ DiskFault ∷ NoMemory ∷ NotAStore ∷ CutInput ∷ BadSize ∷ ExtraInput ∷ []
+
+abbrev pub tip_statuses : List Status
+tip_statuses = Done ∷ SinkFault ∷ DiskFault ∷ NoMemory ∷ NotAStore ∷ []
 
 abbrev pub exec_statuses : List Status
 exec_statuses = Done ∷ InputFault ∷ SinkFault ∷ NoMemory ∷ ExtraInput ∷ []
 
 abbrev pub statuses_of : Option Command → List Status
 statuses_of None = BadWords ∷ []
+statuses_of (Some Init) = init_statuses
 statuses_of (Some Import) = import_statuses
+statuses_of (Some Tip) = tip_statuses
 statuses_of (Some (Exec budget)) = exec_statuses
 
--- The source or missing memory stopped the run, and not the sink.
-abbrev pub IsInputFaultOrNoMemory : Status → Type 0
-IsInputFaultOrNoMemory status = (status ≡ InputFault) ⊎ (status ≡ NoMemory)
+-- The run was stopped, and not by the sink.
+abbrev pub IsStoppedBeforeTheSink : Status → Type 0
+IsStoppedBeforeTheSink status = IsOneOf (InputFault ∷ DiskFault ∷ NoMemory ∷ []) status
 
 -- ---- Text
 
@@ -65,18 +79,46 @@ pub record WritesInOrder (chain : Chain) (items : List (List ℕ)) (rest taken :
 abbrev pub AreWholeLines : Chain → List (List ℕ) → List ℕ → Type 0
 AreWholeLines chain items taken = (count : ℕ) × (taken ≡ concat (lines_over chain (take count items)))
 
--- `import`: the items that were given whole begin with the genesis, which has no line.
-pub record ImportsInOrder (given : List ℕ) (left : Option (List ℕ)) (taken : List ℕ) (status : Status) : Type 0 where
-  pub written : WritesInOrder (chain_at_start (split_of import_limits given).items) (items_behind (split_of import_limits given).items) (split_of import_limits given).rest taken
-  -- only the sink leaves a part of a line, or of the last line
-  pub whole_lines : IsInputFaultOrNoMemory status
-      → AreWholeLines (chain_at_start (split_of import_limits given).items) (items_behind (split_of import_limits given).items) taken
-  pub to_end : (status ≡ Done) ⊎ (status ≡ SomeRefused) → IsAtEnd left
-  -- the genesis is judged before a byte of the next item is read
-  pub genesis_alone : status ≡ BadGenesis → (split_of import_limits given).items ≡ given ∷ []
+-- nothing was read and nothing written
+pub record IsUntouched (given taken : List ℕ) : Type 0 where
+  pub unread : given ≡ []
+  pub unwritten : taken ≡ []
+
+-- of an input that does not end where it should, as much was read as is needed to see it
+abbrev pub ReadsToTheEnd : Limits → List ℕ → Option (List ℕ) → Status → Type 0
+ReadsToTheEnd limits given left status =
+    IsOneOf ended_early status → (more : List ℕ) → left ≡ Some more → end_offset (split_of limits (given ++ more)) ≤ length given
+
+-- `init`
+pub record InitsInOrder (store : Store) (given : List ℕ) (left : Option (List ℕ)) (taken : List ℕ) (status : Status) : Type 0 where
+  -- where there is a log nothing is read and nothing written
+  pub there : (store ≡ NoLog → ⊥) → IsUntouched given taken
+  -- the input was read to its end before it is judged
+  pub to_end : IsOneOf (Done ∷ BadGenesis ∷ []) status → IsAtEnd left
+  pub to_early_end : ReadsToTheEnd init_limits given left status
+  -- nothing is written but what follows the whole input
+  pub silent : IsStoppedBeforeTheSink status → taken ≡ []
+
+-- `import`, over the chain of a store
+pub record ImportsInOrder (chain : Chain) (given : List ℕ) (left : Option (List ℕ)) (taken : List ℕ) (status : Status) : Type 0 where
+  pub written : WritesInOrder chain (split_of import_limits given).items (split_of import_limits given).rest taken
+  -- only the sink leaves a part of a line, or of the text behind the lines
+  pub whole_lines : IsStoppedBeforeTheSink status → AreWholeLines chain (split_of import_limits given).items taken
+  pub to_end : IsOneOf (Done ∷ SomeRefused ∷ []) status → IsAtEnd left
+  pub to_early_end : ReadsToTheEnd import_limits given left status
   -- nothing is read behind a size word at which the reading ends
   pub no_further : IsAtWord (split_of import_limits given).end → length (split_of import_limits given).rest ≡ 4
-  pub to_cut : status ≡ CutInput → (more : List ℕ) → left ≡ Some more → end_offset (split_of import_limits (given ++ more)) ≤ length given
+
+-- what is no store is not imported to
+abbrev pub ImportsToStore : Store → List ℕ → Option (List ℕ) → List ℕ → Status → Type 0
+ImportsToStore NoLog given left taken status = IsUntouched given taken
+ImportsToStore NotALog given left taken status = IsUntouched given taken
+ImportsToStore (Keeps chain) given left taken status = ImportsInOrder chain given left taken status
+
+-- `tip`: nothing is read, and nothing written where the run was stopped before the sink
+pub record TellsInOrder (given taken : List ℕ) (status : Status) : Type 0 where
+  pub unread : given ≡ []
+  pub silent : IsStoppedBeforeTheSink status → taken ≡ []
 
 -- `exec`
 pub record ExecutesInOrder (given : List ℕ) (left : Option (List ℕ)) (taken : List ℕ) (status : Status) : Type 0 where
@@ -87,15 +129,12 @@ pub record ExecutesInOrder (given : List ℕ) (left : Option (List ℕ)) (taken 
   -- nothing is written before the file was read
   pub read_first : 0 < length taken → IsAtEnd left ⊎ (file_limit < length given)
   -- nothing is written where the run was stopped otherwise than by the sink
-  pub silent : IsInputFaultOrNoMemory status → taken ≡ []
+  pub silent : IsStoppedBeforeTheSink status → taken ≡ []
 
--- words that are not in the grammar: nothing was read and nothing written
-pub record IsUntouched (given taken : List ℕ) : Type 0 where
-  pub unread : given ≡ []
-  pub unwritten : taken ≡ []
-
--- by what the words ask for
-abbrev pub KeepsOrder : Option Command → List ℕ → Option (List ℕ) → List ℕ → Status → Type 0
-KeepsOrder None given left taken status = IsUntouched given taken
-KeepsOrder (Some Import) given left taken status = ImportsInOrder given left taken status
-KeepsOrder (Some (Exec budget)) given left taken status = ExecutesInOrder given left taken status
+-- By what the words ask for, over what stands in the folder.
+abbrev pub KeepsOrder : Option Command → Store → List ℕ → Option (List ℕ) → List ℕ → Status → Type 0
+KeepsOrder None store given left taken status = IsUntouched given taken
+KeepsOrder (Some Init) store given left taken status = InitsInOrder store given left taken status
+KeepsOrder (Some Import) store given left taken status = ImportsToStore store given left taken status
+KeepsOrder (Some Tip) store given left taken status = TellsInOrder given taken status
+KeepsOrder (Some (Exec budget)) store given left taken status = ExecutesInOrder given left taken status

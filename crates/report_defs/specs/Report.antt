@@ -1,22 +1,25 @@
 -- The report of a run that meets no fault and has memory enough: what it prints and how it ends (docs/COMMANDS.md).
-use Rattle.std.specs.Prelude.{ℕ, ◌^◌, nat_lt, List, [], ◌∷◌, ◌++◌, map, length, drop, Option, Some, None, if◌then◌else◌}
+use Rattle.std.specs.Prelude.{ℕ, zero, suc, ◌^◌, nat_lt, List, [], ◌∷◌, ◌++◌, map, length, Option, Some, None, if◌then◌else◌}
 use Rattle.std.specs.List.{concat, list_any}
+use Rattle.codec_defs.specs.Shape.{decoded}
+use Rattle.codec_defs.specs.Schema.{block}
 use Rattle.chain_defs.specs.Tip.{tip}
+use Rattle.time_defs.specs.Specification.{broken_specification_rule}
 use Rattle.rule_defs.specs.declared.verdict.Verdict.{Verdict}
-use Rattle.rule_defs.specs.Genesis.{broken_genesis_rule}
-use Rattle.rule_defs.specs.Rules.{no_specification}
 use Rattle.rule_defs.specs.Verdict.{refuses}
-use Rattle.rule_defs.specs.Chain.{Chain, chain_of_genesis, chain_over, verdicts_over}
+use Rattle.rule_defs.specs.Chain.{Chain, verdicts_over}
+use Rattle.store_defs.specs.Genesis.{broken_genesis_rule}
+use Rattle.store_defs.specs.Store.{Store, NoLog, NotALog, Keeps}
 use Rattle.vm_defs.specs.Alone.{answer_ecall}
 use Rattle.vm_defs.specs.Program.{execution}
 use Rattle.report_defs.specs.declared.command.Command.{Command}
-use Rattle.report_defs.specs.declared.command.Command.TheVariants.{Import, Exec}
+use Rattle.report_defs.specs.declared.command.Command.TheVariants.{Init, Import, Tip, Exec}
 use Rattle.report_defs.specs.declared.end.End.{End}
 use Rattle.report_defs.specs.declared.end.End.TheVariants.{AtEnd, Cut, BadSize, Extra}
 use Rattle.report_defs.specs.declared.status.Status.{Status}
-use Rattle.report_defs.specs.declared.status.Status.TheVariants.{Done, SomeRefused, BadWords, CutInput, BadGenesis, ExtraInput}
-use Rattle.report_defs.specs.Items.{Limits, Split, split_of}
-use Rattle.report_defs.specs.Text.{line, tip_line, execution_line, extra_line}
+use Rattle.report_defs.specs.declared.status.Status.TheVariants.{Done, SomeRefused, BadWords, NotAStore, CutInput, BadSize as BadSizeStatus, StoreThere, BadGenesis, ExtraInput}
+use Rattle.report_defs.specs.Items.{Limits, Split, split_of, end_offset}
+use Rattle.report_defs.specs.Text.{line, tip_line, genesis_line, bad_spec_line, bad_genesis_line, cut_line, bad_size_line, extra_line, execution_line}
 use Rattle.report_defs.specs.Words.{command_of}
 
 pub record Report : Type 0 where
@@ -33,11 +36,83 @@ text_of report = concat report.lines ++ report.closing
 abbrev pub report_without_lines : List ℕ → Status → Report
 report_without_lines closing status = record { lines = []; closing = closing; status = status }
 
--- ---- `import`
+-- ---- The end of an input
 
--- an item has at most 1,048,576 bytes
+-- what is said of an input whose reading ends so at an offset
+abbrev pub closing_of_end : ℕ → End → List ℕ
+closing_of_end offset AtEnd = []
+closing_of_end offset Cut = cut_line offset
+closing_of_end offset BadSize = bad_size_line offset
+closing_of_end offset Extra = extra_line offset
+
+-- and the status, which is another's where it ends between two items
+abbrev pub status_of_end : Status → End → Status
+status_of_end whole AtEnd = whole
+status_of_end whole Cut = CutInput
+status_of_end whole BadSize = BadSizeStatus
+status_of_end whole Extra = ExtraInput
+
+abbrev pub report_of_end : ℕ → End → Report
+report_of_end offset end = report_without_lines (closing_of_end offset end) (status_of_end Done end)
+
+-- where an item is needed, an input that ends between two items is cut
+abbrev pub end_of_needed : End → End
+end_of_needed AtEnd = Cut
+end_of_needed Cut = Cut
+end_of_needed BadSize = BadSize
+end_of_needed Extra = Extra
+
+-- ---- `init`
+
+-- an item has at most 1,048,576 bytes,
 unfoldable pub item_limit : ℕ
 item_limit = 2 ^ 20
+
+-- and one that is the genesis at most 4,194,304
+unfoldable pub genesis_limit : ℕ
+genesis_limit = 2 ^ 22
+
+-- a specification and a genesis, and nothing behind them
+abbrev pub init_item_limit : ℕ → Option ℕ
+init_item_limit zero = Some item_limit
+init_item_limit (suc zero) = Some genesis_limit
+init_item_limit (suc (suc place)) = None
+
+abbrev pub init_limits : Limits
+init_limits = record { item = init_item_limit; input = None }
+
+-- by the first of S1 to S7 that the specification breaks, or else of G1 to G7 that the genesis breaks
+abbrev pub report_of_rules : List ℕ → Option ℕ → Option ℕ → Report
+report_of_rules genesis (Some rule) broken = report_without_lines (bad_spec_line rule) BadGenesis
+report_of_rules genesis None (Some rule) = report_without_lines (bad_genesis_line rule) BadGenesis
+report_of_rules genesis None None = report_without_lines (genesis_line (decoded block genesis)) Done
+
+-- a new store of a specification and a genesis
+abbrev pub report_of_new : List ℕ → List ℕ → Report
+report_of_new specification genesis = report_of_rules genesis (broken_specification_rule specification) (broken_genesis_rule genesis)
+
+-- Both are read, and the end of the input, before they are judged.
+abbrev pub report_of_both : List ℕ → List ℕ → ℕ → End → Report
+report_of_both specification genesis offset AtEnd = report_of_new specification genesis
+report_of_both specification genesis offset Cut = report_of_end offset Cut
+report_of_both specification genesis offset BadSize = report_of_end offset BadSize
+report_of_both specification genesis offset Extra = report_of_end offset Extra
+
+abbrev pub report_of_items : List (List ℕ) → ℕ → End → Report
+report_of_items [] offset end = report_of_end offset (end_of_needed end)
+report_of_items (specification ∷ []) offset end = report_of_end offset (end_of_needed end)
+report_of_items (specification ∷ genesis ∷ more) offset end = report_of_both specification genesis offset end
+
+abbrev pub report_of_init : Split → Report
+report_of_init split = report_of_items split.items (end_offset split) split.end
+
+-- Nothing is read where there is a log.
+abbrev pub init_report : List ℕ → Store → Report
+init_report input NoLog = report_of_init (split_of init_limits input)
+init_report input NotALog = report_without_lines [] StoreThere
+init_report input (Keeps chain) = report_without_lines [] StoreThere
+
+-- ---- `import`
 
 -- all items of `import` have at most 2^40 bytes
 unfoldable pub input_limit : ℕ
@@ -50,48 +125,27 @@ import_limits = record { item = λ place. Some item_limit; input = Some input_li
 abbrev pub lines_over : Chain → List (List ℕ) → List (List ℕ)
 lines_over chain items = map line (verdicts_over chain items)
 
--- where the reading ends so at an offset, what follows the lines
-abbrev pub closing_of_end : Chain → ℕ → End → List ℕ
-closing_of_end chain offset AtEnd = tip_line (tip chain.blocks)
-closing_of_end chain offset Cut = []
-closing_of_end chain offset BadSize = []
-closing_of_end chain offset Extra = []
+abbrev pub status_of_verdicts : List Verdict → Status
+status_of_verdicts judged = if list_any refuses judged then SomeRefused else Done
 
--- and the status
-abbrev pub status_of_end : List Verdict → End → Status
-status_of_end judged AtEnd = if list_any refuses judged then SomeRefused else Done
-status_of_end judged Cut = CutInput
-status_of_end judged BadSize = CutInput
-status_of_end judged Extra = CutInput
-
-abbrev pub report_over : Chain → List (List ℕ) → ℕ → End → Report
-report_over chain items offset end = record {
-  lines = lines_over chain items;
-  closing = closing_of_end (chain_over chain items) offset end;
-  status = status_of_end (verdicts_over chain items) end;
+abbrev pub report_of_import : Chain → Split → Report
+report_of_import chain split = record {
+  lines = lines_over chain split.items;
+  closing = closing_of_end (end_offset split) split.end;
+  status = status_of_end (status_of_verdicts (verdicts_over chain split.items)) split.end;
 }
 
--- The first item is the genesis, on which the chain begins, and each further item is a block.
-abbrev pub chain_at_start : List (List ℕ) → Chain
-chain_at_start [] = record { rules = no_specification; blocks = [] }
-chain_at_start (genesis ∷ items) = chain_of_genesis no_specification genesis
+abbrev pub import_report : List ℕ → Store → Report
+import_report input NoLog = report_without_lines [] NotAStore
+import_report input NotALog = report_without_lines [] NotAStore
+import_report input (Keeps chain) = report_of_import chain (split_of import_limits input)
 
-abbrev pub items_behind : List (List ℕ) → List (List ℕ)
-items_behind items = drop 1 items
+-- ---- `tip`
 
-abbrev pub report_of_genesis : Option ℕ → List (List ℕ) → End → Report
-report_of_genesis (Some rule) items end = report_without_lines [] BadGenesis
-report_of_genesis None items end = report_over (chain_at_start items) (items_behind items) (length (concat items)) end
-
-abbrev pub report_of_items : List (List ℕ) → End → Report
-report_of_items [] end = report_without_lines [] CutInput
-report_of_items (genesis ∷ items) end = report_of_genesis (broken_genesis_rule genesis) (genesis ∷ items) end
-
-abbrev pub report_of_split : Split → Report
-report_of_split split = report_of_items split.items split.end
-
-abbrev pub import_report : List ℕ → Report
-import_report input = report_of_split (split_of import_limits input)
+abbrev pub tip_report : Store → Report
+tip_report NoLog = report_without_lines [] NotAStore
+tip_report NotALog = report_without_lines [] NotAStore
+tip_report (Keeps chain) = report_without_lines (tip_line (tip chain.blocks)) Done
 
 -- ---- `exec`
 
@@ -107,19 +161,12 @@ exec_report budget file =
 
 -- ---- A run
 
--- What stands in the folder when a run begins.
-pub data Store : Type 0 where
-  -- no log, or an empty one
-  NoLog : Store
-  -- a log that is none by its grammar
-  NotALog : Store
-  -- a log that keeps this chain
-  Keeps : Chain → Store
-
--- The report by the words, the input and the store. No command looks at the store yet.
+-- The report by the words, the input, and what stands in the folder.
 abbrev pub report_of_command : Option Command → List ℕ → Store → Report
 report_of_command None input store = report_without_lines [] BadWords
-report_of_command (Some Import) input store = import_report input
+report_of_command (Some Init) input store = init_report input store
+report_of_command (Some Import) input store = import_report input store
+report_of_command (Some Tip) input store = tip_report store
 report_of_command (Some (Exec budget)) input store = exec_report budget input
 
 abbrev pub report : List (List ℕ) → List ℕ → Store → Report

@@ -33,6 +33,29 @@ abbrev pub tip_line : Option Block → List ℕ
 tip_line None = []
 tip_line (Some block) = tip_line_of block.header.number (block_hash block)
 
+-- the line of the genesis of a new store
+abbrev pub genesis_line : Option Block → List ℕ
+genesis_line None = []
+genesis_line (Some block) = codes "genesis " ++ hash_text (block_hash block) ++ line_feed
+
+-- the lines of a specification and of a genesis that break this rule
+abbrev pub bad_spec_line : ℕ → List ℕ
+bad_spec_line rule = codes "bad spec S" ++ decimal rule ++ line_feed
+
+abbrev pub bad_genesis_line : ℕ → List ℕ
+bad_genesis_line rule = codes "bad genesis G" ++ decimal rule ++ line_feed
+
+-- the line of an input that ends before or inside an item at this offset, and of an item there whose size is outside its limits
+abbrev pub cut_line : ℕ → List ℕ
+cut_line offset = codes "cut " ++ decimal offset ++ line_feed
+
+abbrev pub bad_size_line : ℕ → List ℕ
+bad_size_line offset = codes "bad size " ++ decimal offset ++ line_feed
+
+-- the line of an input that goes on at an offset where it should have ended
+abbrev pub extra_line : ℕ → List ℕ
+extra_line offset = codes "extra " ++ decimal offset ++ line_feed
+
 -- ---- `exec`
 
 -- the line of a program that ended so, after so many cycles
@@ -45,7 +68,3 @@ outcome_line Spent cycles = codes "spent" ++ line_feed
 abbrev pub execution_line : Execution → List ℕ
 execution_line (Ok ended) = outcome_line ended.0 ended.1
 execution_line (Err condition) = codes "bad elf " ++ decimal condition ++ line_feed
-
--- the line of an input that goes on at a place where it should have ended
-abbrev pub extra_line : ℕ → List ℕ
-extra_line place = codes "extra " ++ decimal place ++ line_feed

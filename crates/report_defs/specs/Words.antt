@@ -5,7 +5,7 @@ use Rattle.std.specs.Str.{bytes_eq}
 use Rattle.std.specs.Str.Parse.{digits_value}
 use Rattle.std.specs.Fmt.{decimal}
 use Rattle.report_defs.specs.declared.command.Command.{Command}
-use Rattle.report_defs.specs.declared.command.Command.TheVariants.{Import, Exec}
+use Rattle.report_defs.specs.declared.command.Command.TheVariants.{Init, Import, Tip, Exec}
 
 -- A number: decimal digits, without a sign or a leading zero but for `0` itself, at most a limit.
 unfoldable pub number_up_to : ℕ → List ℕ → Option ℕ
@@ -22,9 +22,17 @@ SpellsNumbers = (limit : ℕ) (word : List ℕ) (number : ℕ) → limit < 2 ^ 6
 unfoldable pub budget_limit : ℕ
 budget_limit = 2 ^ 40
 
+-- the commands that take no argument
+abbrev pub command_alone : List ℕ → Option Command
+command_alone name =
+    if bytes_eq name (codes "init") then Some Init
+    else if bytes_eq name (codes "import") then Some Import
+    else if bytes_eq name (codes "tip") then Some Tip
+    else None
+
 abbrev pub command_named : List (List ℕ) → Option Command
 command_named [] = None
-command_named (name ∷ []) = if bytes_eq name (codes "import") then Some Import else None
+command_named (name ∷ []) = command_alone name
 command_named (name ∷ argument ∷ []) = if bytes_eq name (codes "exec") then option_map Exec (number_up_to budget_limit argument) else None
 command_named (name ∷ argument ∷ next ∷ more) = None
 

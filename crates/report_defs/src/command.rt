@@ -1,8 +1,12 @@
 /// What the words of a run ask for.
 #[derive(Clone, Copy, Debug, PartialEq, Eq)]
 pub enum Command {
-    /// `import`: a genesis and blocks are read from the input, and each block is answered.
+    /// `init`: a specification and a genesis are read from the input, and a store of them is made.
+    Init,
+    /// `import`: blocks are read from the input, and each is answered.
     Import,
+    /// `tip`: the tip of the kept blocks is told.
+    Tip,
     /// `exec`: the program of an ELF file is read from the input and run, within a budget in cycles.
     Exec { budget: u64 },
 }

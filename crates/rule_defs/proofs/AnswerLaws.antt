@@ -6,7 +6,8 @@ use Rattle.std.proofs.lemmas.Bool.Decides.{Decides-ltb}
 use Rattle.codec_defs.specs.Schema.{Block}
 use Rattle.chain_defs.specs.Kept.{block_hash, place_of}
 use Rattle.chain_defs.specs.Branch.{branch}
-use Rattle.rule_defs.specs.Rules.{Rules, first_broken}
+use Rattle.time_defs.specs.Specification.{Specification}
+use Rattle.rule_defs.specs.Rules.{first_broken}
 use Rattle.rule_defs.specs.Verdict.{verdict, verdict_of, verdict_of_block, verdict_on, verdict_by_rules, has_built_form, has_room, kept_limit}
 use Rattle.rule_defs.specs.Laws.{AnswersBlock, AnswersExactly}
 use Rattle.rule_defs.specs.declared.verdict.Verdict.{Verdict}
@@ -40,35 +41,35 @@ further_by_rules : (kept : List Block) (b : Block) (broken : Option ℕ) → loo
 further_by_rules kept b None = further_by_room b (has_room kept)
 further_by_rules kept b (Some rule) = refl
 
-further_on : (rules : Rules) (kept : List Block) (b : Block) (on : Option ℕ) → looks_further (verdict_on rules kept b on) ≡ true
-further_on rules kept b None = refl
-further_on rules kept b (Some parent) = further_by_rules kept b (first_broken rules (branch kept parent) b)
+further_on : (spec : Specification) (kept : List Block) (b : Block) (on : Option ℕ) → looks_further (verdict_on spec kept b on) ≡ true
+further_on spec kept b None = refl
+further_on spec kept b (Some parent) = further_by_rules kept b (first_broken spec (branch kept parent) b)
 
 -- the verdict on a block by whether it is known, and on a new one by whether its form is judged
-abbrev by_known : Rules → List Block → Block → Bool → Verdict
-by_known rules kept b known =
-    cond known (Known (block_hash b)) (cond (not (has_built_form b)) Unbuilt (verdict_on rules kept b (place_of kept b.header.parent_hash)))
+abbrev by_known : Specification → List Block → Block → Bool → Verdict
+by_known spec kept b known =
+    cond known (Known (block_hash b)) (cond (not (has_built_form b)) Unbuilt (verdict_on spec kept b (place_of kept b.header.parent_hash)))
 
-abbrev by_form : Rules → List Block → Block → Bool → Verdict
-by_form rules kept b built = cond (not built) Unbuilt (verdict_on rules kept b (place_of kept b.header.parent_hash))
+abbrev by_form : Specification → List Block → Block → Bool → Verdict
+by_form spec kept b built = cond (not built) Unbuilt (verdict_on spec kept b (place_of kept b.header.parent_hash))
 
-new-not_known : (rules : Rules) (kept : List Block) (b : Block) (built : Bool) → by_form rules kept b built ≡ Known (block_hash b) → ⊥
-new-not_known rules kept b true e =
-    let further = further_on rules kept b (place_of kept b.header.parent_hash) in
-    let not_further : looks_further (verdict_on rules kept b (place_of kept b.header.parent_hash)) ≡ false = ap looks_further e in cc
-new-not_known rules kept b false e = cc
+new-not_known : (spec : Specification) (kept : List Block) (b : Block) (built : Bool) → by_form spec kept b built ≡ Known (block_hash b) → ⊥
+new-not_known spec kept b true e =
+    let further = further_on spec kept b (place_of kept b.header.parent_hash) in
+    let not_further : looks_further (verdict_on spec kept b (place_of kept b.header.parent_hash)) ≡ false = ap looks_further e in cc
+new-not_known spec kept b false e = cc
 
-known-exactly : (rules : Rules) (kept : List Block) (b : Block) (known : Bool)
-    → (by_known rules kept b known ≡ Known (block_hash b)) ↔ IsTrue known
-known-exactly rules kept b true = (λ e. refl, λ e. refl)
-known-exactly rules kept b false = (λ e. absurd (new-not_known rules kept b (has_built_form b) e), λ e. absurd (cc))
+known-exactly : (spec : Specification) (kept : List Block) (b : Block) (known : Bool)
+    → (by_known spec kept b known ≡ Known (block_hash b)) ↔ IsTrue known
+known-exactly spec kept b true = (λ e. refl, λ e. refl)
+known-exactly spec kept b false = (λ e. absurd (new-not_known spec kept b (has_built_form b) e), λ e. absurd (cc))
 
-unbuilt-exactly : (rules : Rules) (kept : List Block) (b : Block) (built : Bool) → (by_form rules kept b built ≡ Unbuilt) ↔ (built ≡ false)
-unbuilt-exactly rules kept b false = (λ e. refl, λ e. refl)
-unbuilt-exactly rules kept b true = (further, λ e. absurd (cc))
+unbuilt-exactly : (spec : Specification) (kept : List Block) (b : Block) (built : Bool) → (by_form spec kept b built ≡ Unbuilt) ↔ (built ≡ false)
+unbuilt-exactly spec kept b false = (λ e. refl, λ e. refl)
+unbuilt-exactly spec kept b true = (further, λ e. absurd (cc))
   where
-    further : by_form rules kept b true ≡ Unbuilt → true ≡ false
-    further e = sym (further_on rules kept b (place_of kept b.header.parent_hash)) ∙ ap looks_further e
+    further : by_form spec kept b true ≡ Unbuilt → true ≡ false
+    further e = sym (further_on spec kept b (place_of kept b.header.parent_hash)) ∙ ap looks_further e
 
 refused-exactly : (kept : List Block) (b : Block) (broken : Option ℕ) (rule : ℕ)
     → (verdict_by_rules kept b broken ≡ Refused rule) ↔ (broken ≡ Some rule)
@@ -105,30 +106,30 @@ full-exactly kept b =
     let none = no_room-exactly kept in
     (λ e. none.0 (by.0 e), λ e. by.1 (none.1 e))
 
-answers_block : (rules : Rules) (kept : List Block) (b : Block) → AnswersBlock rules kept b (verdict_of_block rules kept b)
-answers_block rules kept b = record {
-  known = known-exactly rules kept b (is_some (place_of kept (block_hash b)));
+answers_block : (spec : Specification) (kept : List Block) (b : Block) → AnswersBlock spec kept b (verdict_of_block spec kept b)
+answers_block spec kept b = record {
+  known = known-exactly spec kept b (is_some (place_of kept (block_hash b)));
   unbuilt = λ new. subst (λ (answer : Verdict). (answer ≡ Unbuilt) ↔ (has_built_form b ≡ false)) (sym (as_new new))
-      (unbuilt-exactly rules kept b (has_built_form b));
-  without_parent = λ new built orphan. on_parent new built ∙ ap (verdict_on rules kept b) orphan;
+      (unbuilt-exactly spec kept b (has_built_form b));
+  without_parent = λ new built orphan. on_parent new built ∙ ap (verdict_on spec kept b) orphan;
   refused = λ new built parent on rule. subst
-      (λ (answer : Verdict). (answer ≡ Refused rule) ↔ (first_broken rules (branch kept parent) b ≡ Some rule))
-      (sym (on_parent new built ∙ ap (verdict_on rules kept b) on))
-      (refused-exactly kept b (first_broken rules (branch kept parent) b) rule);
+      (λ (answer : Verdict). (answer ≡ Refused rule) ↔ (first_broken spec (branch kept parent) b ≡ Some rule))
+      (sym (on_parent new built ∙ ap (verdict_on spec kept b) on))
+      (refused-exactly kept b (first_broken spec (branch kept parent) b) rule);
   full = λ new built parent on unbroken. subst (λ (answer : Verdict). (answer ≡ Full) ↔ (kept_limit ≤ length kept))
-      (sym (on_parent new built ∙ ap (verdict_on rules kept b) on ∙ ap (verdict_by_rules kept b) unbroken)) (full-exactly kept b);
+      (sym (on_parent new built ∙ ap (verdict_on spec kept b) on ∙ ap (verdict_by_rules kept b) unbroken)) (full-exactly kept b);
 }
   where
-    as_new : place_of kept (block_hash b) ≡ None → verdict_of_block rules kept b ≡ by_form rules kept b (has_built_form b)
-    as_new new = ap (λ (found : Option ℕ). by_known rules kept b (is_some found)) new
+    as_new : place_of kept (block_hash b) ≡ None → verdict_of_block spec kept b ≡ by_form spec kept b (has_built_form b)
+    as_new new = ap (λ (found : Option ℕ). by_known spec kept b (is_some found)) new
 
     on_parent : place_of kept (block_hash b) ≡ None → IsTrue (has_built_form b)
-        → verdict_of_block rules kept b ≡ verdict_on rules kept b (place_of kept b.header.parent_hash)
-    on_parent new built = as_new new ∙ ap (by_form rules kept b) built
+        → verdict_of_block spec kept b ≡ verdict_on spec kept b (place_of kept b.header.parent_hash)
+    on_parent new built = as_new new ∙ ap (by_form spec kept b) built
 
 pub answers-exactly : AnswersExactly
 unfolding verdict
-answers-exactly rules kept item = record {
-  no_block = λ none. ap (verdict_of rules kept) none;
-  a_block = λ b is. subst (AnswersBlock rules kept b) (sym (ap (verdict_of rules kept) is)) (answers_block rules kept b);
+answers-exactly spec kept item = record {
+  no_block = λ none. ap (verdict_of spec kept) none;
+  a_block = λ b is. subst (AnswersBlock spec kept b) (sym (ap (verdict_of spec kept) is)) (answers_block spec kept b);
 }

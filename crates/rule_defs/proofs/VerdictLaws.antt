@@ -13,24 +13,25 @@ use Rattle.chain_defs.specs.Kept.{block_hash, block_at, place_of, StandsOn, IsKe
 use Rattle.chain_defs.specs.Branch.{branch}
 use Rattle.chain_defs.proofs.KeptLaws.{place_of-below, place_of-there, IsKept-one, IsKept-push}
 use Rattle.chain_defs.proofs.BranchLaws.{branch-last}
-use Rattle.rule_defs.specs.Rules.{Rules, parent_of, follows, rules_on, first_broken}
+use Rattle.time_defs.specs.Specification.{Specification}
+use Rattle.rule_defs.specs.Rules.{parent_of, follows, rules_on, first_broken}
 use Rattle.rule_defs.specs.Verdict.{verdict, verdict_of, verdict_on, verdict_by_rules, joins, has_built_form, has_room, kept_limit, kept_after, blocks_of_item, block_list}
 use Rattle.rule_defs.specs.Chain.{Chain, chain_after, chain_over}
 use Rattle.rule_defs.specs.Laws.{CanJoin, JoinsExactly, KeepsWhatJoins, KeepingKeeps, KeptStays}
 use Rattle.rule_defs.specs.declared.verdict.Verdict.TheVariants.{Joined, Known, Unbuilt, Full}
 
 -- where an item joins, each case before has not held
-can_join : (rules : Rules) (kept : List Block) (item : List ℕ) → IsTrue (joins (verdict rules kept item)) → CanJoin rules kept item
+can_join : (spec : Specification) (kept : List Block) (item : List ℕ) → IsTrue (joins (verdict spec kept item)) → CanJoin spec kept item
 unfolding verdict
-can_join rules kept item joined = by_block (decoded shapes.block item) refl joined
+can_join spec kept item joined = by_block (decoded shapes.block item) refl joined
   where
-    by_block : (found : Option Block) → decoded shapes.block item ≡ found → IsTrue (joins (verdict_of rules kept found)) → CanJoin rules kept item
+    by_block : (found : Option Block) → decoded shapes.block item ≡ found → IsTrue (joins (verdict_of spec kept found)) → CanJoin spec kept item
     by_block None is joined = absurd (cc)
     by_block (Some b) is joined = by_hash (place_of kept (block_hash b)) refl joined
       where
         by_room : (parent : ℕ) → place_of kept (block_hash b) ≡ None → has_built_form b ≡ true → place_of kept b.header.parent_hash ≡ Some parent
-            → first_broken rules (branch kept parent) b ≡ None → (room : Bool) → has_room kept ≡ room
-            → IsTrue (joins (cond room (Joined b.header.number (block_hash b)) Full)) → CanJoin rules kept item
+            → first_broken spec (branch kept parent) b ≡ None → (room : Bool) → has_room kept ≡ room
+            → IsTrue (joins (cond room (Joined b.header.number (block_hash b)) Full)) → CanJoin spec kept item
         by_room parent new built on unbroken true room joined = record {
           block = b;
           canonical = is;
@@ -44,71 +45,71 @@ can_join rules kept item joined = by_block (decoded shapes.block item) refl join
         by_room parent new built on unbroken false room joined = absurd (cc)
 
         by_rule : (parent : ℕ) → place_of kept (block_hash b) ≡ None → has_built_form b ≡ true → place_of kept b.header.parent_hash ≡ Some parent
-            → (broken : Option ℕ) → first_broken rules (branch kept parent) b ≡ broken
-            → IsTrue (joins (verdict_by_rules kept b broken)) → CanJoin rules kept item
+            → (broken : Option ℕ) → first_broken spec (branch kept parent) b ≡ broken
+            → IsTrue (joins (verdict_by_rules kept b broken)) → CanJoin spec kept item
         by_rule parent new built on None unbroken joined = by_room parent new built on unbroken (has_room kept) refl joined
         by_rule parent new built on (Some rule) unbroken joined = absurd (cc)
 
         by_parent : place_of kept (block_hash b) ≡ None → has_built_form b ≡ true → (on : Option ℕ) → place_of kept b.header.parent_hash ≡ on
-            → IsTrue (joins (verdict_on rules kept b on)) → CanJoin rules kept item
+            → IsTrue (joins (verdict_on spec kept b on)) → CanJoin spec kept item
         by_parent new built None on joined = absurd (cc)
-        by_parent new built (Some parent) on joined = by_rule parent new built on (first_broken rules (branch kept parent) b) refl joined
+        by_parent new built (Some parent) on joined = by_rule parent new built on (first_broken spec (branch kept parent) b) refl joined
 
         by_form : place_of kept (block_hash b) ≡ None → (built : Bool) → has_built_form b ≡ built
-            → IsTrue (joins (cond (not built) Unbuilt (verdict_on rules kept b (place_of kept b.header.parent_hash)))) → CanJoin rules kept item
+            → IsTrue (joins (cond (not built) Unbuilt (verdict_on spec kept b (place_of kept b.header.parent_hash)))) → CanJoin spec kept item
         by_form new true built joined = by_parent new built (place_of kept b.header.parent_hash) refl joined
         by_form new false built joined = absurd (cc)
 
         by_hash : (known : Option ℕ) → place_of kept (block_hash b) ≡ known
             → IsTrue (joins (cond (is_some known) (Known (block_hash b))
-            (cond (not (has_built_form b)) Unbuilt (verdict_on rules kept b (place_of kept b.header.parent_hash))))) → CanJoin rules kept item
+            (cond (not (has_built_form b)) Unbuilt (verdict_on spec kept b (place_of kept b.header.parent_hash))))) → CanJoin spec kept item
         by_hash None new joined = by_form new (has_built_form b) refl joined
         by_hash (Some place) new joined = absurd (cc)
 
 -- Where it can join, this is the verdict.
-pub verdict-joined : (rules : Rules) (kept : List Block) (item : List ℕ) (is : CanJoin rules kept item)
-    → verdict rules kept item ≡ Joined is.block.header.number (block_hash is.block)
+pub verdict-joined : (spec : Specification) (kept : List Block) (item : List ℕ) (is : CanJoin spec kept item)
+    → verdict spec kept item ≡ Joined is.block.header.number (block_hash is.block)
 unfolding verdict
-verdict-joined rules kept item is =
-    ap (verdict_of rules kept) is.canonical
+verdict-joined spec kept item is =
+    ap (verdict_of spec kept) is.canonical
     ∙ ap (λ (known : Option ℕ). cond (is_some known) (Known (block_hash is.block))
-    (cond (not (has_built_form is.block)) Unbuilt (verdict_on rules kept is.block (place_of kept is.block.header.parent_hash)))) is.new
-    ∙ ap (λ (built : Bool). cond (not built) Unbuilt (verdict_on rules kept is.block (place_of kept is.block.header.parent_hash))) is.built
-    ∙ ap (verdict_on rules kept is.block) is.on_kept
+    (cond (not (has_built_form is.block)) Unbuilt (verdict_on spec kept is.block (place_of kept is.block.header.parent_hash)))) is.new
+    ∙ ap (λ (built : Bool). cond (not built) Unbuilt (verdict_on spec kept is.block (place_of kept is.block.header.parent_hash))) is.built
+    ∙ ap (verdict_on spec kept is.block) is.on_kept
     ∙ ap (verdict_by_rules kept is.block) is.unbroken
     ∙ ap (λ (room : Bool). cond room (Joined is.block.header.number (block_hash is.block)) Full) ((Decides-ltb (length kept) kept_limit).1 is.room)
 
 pub joins-exactly : JoinsExactly
-joins-exactly rules kept item = (can_join rules kept item, λ is. ap joins (verdict-joined rules kept item is))
+joins-exactly spec kept item = (can_join spec kept item, λ is. ap joins (verdict-joined spec kept item is))
 
 -- What is kept after an item that joins, and after another.
-pub kept_after-joins : (rules : Rules) (kept : List Block) (item : List ℕ) → joins (verdict rules kept item) ≡ true
-    → kept_after rules kept item ≡ kept ++ blocks_of_item item
+pub kept_after-joins : (spec : Specification) (kept : List Block) (item : List ℕ) → joins (verdict spec kept item) ≡ true
+    → kept_after spec kept item ≡ kept ++ blocks_of_item item
 unfolding kept_after
-kept_after-joins rules kept item joined = ap (λ (b : Bool). cond b (kept ++ blocks_of_item item) kept) joined
+kept_after-joins spec kept item joined = ap (λ (b : Bool). cond b (kept ++ blocks_of_item item) kept) joined
 
-pub kept_after-stays : (rules : Rules) (kept : List Block) (item : List ℕ) → joins (verdict rules kept item) ≡ false
-    → kept_after rules kept item ≡ kept
+pub kept_after-stays : (spec : Specification) (kept : List Block) (item : List ℕ) → joins (verdict spec kept item) ≡ false
+    → kept_after spec kept item ≡ kept
 unfolding kept_after
-kept_after-stays rules kept item left = ap (λ (b : Bool). cond b (kept ++ blocks_of_item item) kept) left
+kept_after-stays spec kept item left = ap (λ (b : Bool). cond b (kept ++ blocks_of_item item) kept) left
 
 -- A block that breaks no rule follows its parent.
-pub follows-unbroken : (rules : Rules) (blocks : List Block) (b : Block) → first_broken rules blocks b ≡ None → IsTrue (follows b (parent_of blocks))
+pub follows-unbroken : (spec : Specification) (blocks : List Block) (b : Block) → first_broken spec blocks b ≡ None → IsTrue (follows b (parent_of blocks))
 unfolding first_broken
-follows-unbroken rules blocks b unbroken =
-    All-head (λ rule. IsTrue rule.1) (5, follows b (parent_of blocks)) [] ((finds_none (rules_on rules blocks b)).0 unbroken)
+follows-unbroken spec blocks b unbroken =
+    All-head (λ rule. IsTrue rule.1) (5, follows b (parent_of blocks)) [] ((finds_none (rules_on spec blocks b)).0 unbroken)
 
 -- The block that a branch of a place ends with is the one at it.
 pub parent_of-branch : (kept : List Block) (place : ℕ) → place < length kept → parent_of (branch kept place) ≡ block_at kept place
 parent_of-branch kept place below = branch-last kept place below
 
 -- A block that joins stands on a kept one.
-stands-on-kept : (rules : Rules) (kept : List Block) (item : List ℕ) (is : CanJoin rules kept item) → StandsOn kept is.block
-stands-on-kept rules kept item is =
+stands-on-kept : (spec : Specification) (kept : List Block) (item : List ℕ) (is : CanJoin spec kept item) → StandsOn kept is.block
+stands-on-kept spec kept item is =
     let found = place_of-there kept is.block.header.parent_hash is.parent is.on_kept in
     let below = place_of-below kept is.block.header.parent_hash is.parent is.on_kept in
     let last : parent_of (branch kept is.parent) ≡ Some found.0 = parent_of-branch kept is.parent below ∙ found.1 in
-    let after : follows is.block (parent_of (branch kept is.parent)) ≡ true = follows-unbroken rules (branch kept is.parent) is.block is.unbroken in
+    let after : follows is.block (parent_of (branch kept is.parent)) ≡ true = follows-unbroken spec (branch kept is.parent) is.block is.unbroken in
     let next : follows is.block (Some found.0) ≡ true = ap (follows is.block) (sym last) ∙ after in
     record {
       place = is.parent;
@@ -119,52 +120,52 @@ stands-on-kept rules kept item is =
     }
 
 -- The block of an item that can join is put at the end, and any other item leaves what is kept.
-kept_after-can_join : (rules : Rules) (kept : List Block) (item : List ℕ) (can : CanJoin rules kept item)
-    → kept_after rules kept item ≡ kept ++ can.block ∷ []
-kept_after-can_join rules kept item can =
-    kept_after-joins rules kept item (ap joins (verdict-joined rules kept item can))
+kept_after-can_join : (spec : Specification) (kept : List Block) (item : List ℕ) (can : CanJoin spec kept item)
+    → kept_after spec kept item ≡ kept ++ can.block ∷ []
+kept_after-can_join spec kept item can =
+    kept_after-joins spec kept item (ap joins (verdict-joined spec kept item can))
     ∙ ap (λ (found : Option Block). kept ++ block_list found) can.canonical
 
-kept_after-cannot_join : (rules : Rules) (kept : List Block) (item : List ℕ) → (CanJoin rules kept item → ⊥) → kept_after rules kept item ≡ kept
-kept_after-cannot_join rules kept item cannot =
-    kept_after-stays rules kept item
-    (false_from_ne_true (joins (verdict rules kept item)) (λ joined. cannot (can_join rules kept item joined)))
+kept_after-cannot_join : (spec : Specification) (kept : List Block) (item : List ℕ) → (CanJoin spec kept item → ⊥) → kept_after spec kept item ≡ kept
+kept_after-cannot_join spec kept item cannot =
+    kept_after-stays spec kept item
+    (false_from_ne_true (joins (verdict spec kept item)) (λ joined. cannot (can_join spec kept item joined)))
 
 pub keeps-what-joins : KeepsWhatJoins
-keeps-what-joins rules kept item =
-    (λ can. (verdict-joined rules kept item can, kept_after-can_join rules kept item can), kept_after-cannot_join rules kept item)
+keeps-what-joins spec kept item =
+    (λ can. (verdict-joined spec kept item can, kept_after-can_join spec kept item can), kept_after-cannot_join spec kept item)
 
 -- Kept blocks stay so after any item,
-pub IsKept-after : (rules : Rules) (kept : List Block) (item : List ℕ) → IsKept kept → IsKept (kept_after rules kept item)
-IsKept-after rules kept item is_kept = by_joins (joins (verdict rules kept item)) refl
+pub IsKept-after : (spec : Specification) (kept : List Block) (item : List ℕ) → IsKept kept → IsKept (kept_after spec kept item)
+IsKept-after spec kept item is_kept = by_joins (joins (verdict spec kept item)) refl
   where
-    by_joins : (b : Bool) → joins (verdict rules kept item) ≡ b → IsKept (kept_after rules kept item)
-    by_joins false left = subst IsKept (sym (kept_after-stays rules kept item left)) is_kept
+    by_joins : (b : Bool) → joins (verdict spec kept item) ≡ b → IsKept (kept_after spec kept item)
+    by_joins false left = subst IsKept (sym (kept_after-stays spec kept item left)) is_kept
     by_joins true joined =
-        let can : CanJoin rules kept item = can_join rules kept item joined in
-        subst IsKept (sym (kept_after-can_join rules kept item can)) (IsKept-push kept can.block is_kept (stands-on-kept rules kept item can) can.new)
+        let can : CanJoin spec kept item = can_join spec kept item joined in
+        subst IsKept (sym (kept_after-can_join spec kept item can)) (IsKept-push kept can.block is_kept (stands-on-kept spec kept item can) can.new)
 
 -- and after any items.
 pub IsKept-over : (chain : Chain) (items : List (List ℕ)) → IsKept chain.blocks → IsKept (chain_over chain items).blocks
 IsKept-over chain [] is_kept = is_kept
-IsKept-over chain (item ∷ items) is_kept = IsKept-over (chain_after chain item) items (IsKept-after chain.rules chain.blocks item is_kept)
+IsKept-over chain (item ∷ items) is_kept = IsKept-over (chain_after chain item) items (IsKept-after chain.spec chain.blocks item is_kept)
 
 pub keeping-keeps : KeepingKeeps
 keeping-keeps = (IsKept-one, IsKept-after)
 
 -- What was kept stays in front, after an item
-kept_after-front : (rules : Rules) (kept : List Block) (item : List ℕ) → (more : List Block) × (kept_after rules kept item ≡ kept ++ more)
-kept_after-front rules kept item = by_joins (joins (verdict rules kept item)) refl
+kept_after-front : (spec : Specification) (kept : List Block) (item : List ℕ) → (more : List Block) × (kept_after spec kept item ≡ kept ++ more)
+kept_after-front spec kept item = by_joins (joins (verdict spec kept item)) refl
   where
-    by_joins : (b : Bool) → joins (verdict rules kept item) ≡ b → (more : List Block) × (kept_after rules kept item ≡ kept ++ more)
-    by_joins false left = ([], kept_after-stays rules kept item left ∙ sym (append-nil kept))
-    by_joins true joined = (blocks_of_item item, kept_after-joins rules kept item joined)
+    by_joins : (b : Bool) → joins (verdict spec kept item) ≡ b → (more : List Block) × (kept_after spec kept item ≡ kept ++ more)
+    by_joins false left = ([], kept_after-stays spec kept item left ∙ sym (append-nil kept))
+    by_joins true joined = (blocks_of_item item, kept_after-joins spec kept item joined)
 
 -- and after several.
 chain_over-front : (chain : Chain) (items : List (List ℕ)) → (more : List Block) × ((chain_over chain items).blocks ≡ chain.blocks ++ more)
 chain_over-front chain [] = ([], sym (append-nil chain.blocks))
 chain_over-front chain (item ∷ items) =
-    let one = kept_after-front chain.rules chain.blocks item in
+    let one = kept_after-front chain.spec chain.blocks item in
     let rest = chain_over-front (chain_after chain item) items in
     (one.0 ++ rest.0, rest.1 ∙ ap (λ (front : List Block). front ++ rest.0) one.1 ∙ append_assoc chain.blocks one.0 rest.0)
 

@@ -5,38 +5,39 @@ use Rattle.codec_defs.specs.Schema.{Block}
 use Rattle.codec_defs.specs.Schema as shapes
 use Rattle.chain_defs.specs.Kept.{block_hash, place_of, IsKept}
 use Rattle.chain_defs.specs.Branch.{branch}
-use Rattle.rule_defs.specs.Rules.{Rules, first_broken}
+use Rattle.time_defs.specs.Specification.{Specification}
+use Rattle.rule_defs.specs.Rules.{first_broken}
 use Rattle.rule_defs.specs.Verdict.{verdict, joins, kept_after, kept_limit, has_built_form}
 use Rattle.rule_defs.specs.Chain.{Chain, chain_over}
 use Rattle.rule_defs.specs.declared.verdict.Verdict.{Verdict}
 use Rattle.rule_defs.specs.declared.verdict.Verdict.TheVariants.{Joined, Known, Refused, Unbuilt, Full}
 
 -- An item is a canonical `Block`, not kept yet, of a form that is judged, on a kept parent, and it breaks no rule, and there is room.
-pub record CanJoin (rules : Rules) (kept : List Block) (item : List ℕ) : Type 0 where
+pub record CanJoin (spec : Specification) (kept : List Block) (item : List ℕ) : Type 0 where
   pub block : Block
   pub canonical : decoded shapes.block item ≡ Some block
   pub new : place_of kept (block_hash block) ≡ None
   pub built : IsTrue (has_built_form block)
   pub parent : ℕ
   pub on_kept : place_of kept block.header.parent_hash ≡ Some parent
-  pub unbroken : first_broken rules (branch kept parent) block ≡ None
+  pub unbroken : first_broken spec (branch kept parent) block ≡ None
   pub room : length kept < kept_limit
 
 -- Law: an item joins exactly where it is so.
 abbrev pub JoinsExactly : Type 0
-JoinsExactly = (rules : Rules) (kept : List Block) (item : List ℕ) → IsTrue (joins (verdict rules kept item)) ↔ CanJoin rules kept item
+JoinsExactly = (spec : Specification) (kept : List Block) (item : List ℕ) → IsTrue (joins (verdict spec kept item)) ↔ CanJoin spec kept item
 
 -- Law: such an item is answered with its number and its hash, and its block is put at the end. Any other leaves what is kept.
 abbrev pub KeepsWhatJoins : Type 0
-KeepsWhatJoins = (rules : Rules) (kept : List Block) (item : List ℕ)
-    → ((can : CanJoin rules kept item) → (verdict rules kept item ≡ Joined can.block.header.number (block_hash can.block))
-    × (kept_after rules kept item ≡ kept ++ can.block ∷ []))
-    × ((CanJoin rules kept item → ⊥) → kept_after rules kept item ≡ kept)
+KeepsWhatJoins = (spec : Specification) (kept : List Block) (item : List ℕ)
+    → ((can : CanJoin spec kept item) → (verdict spec kept item ≡ Joined can.block.header.number (block_hash can.block))
+    × (kept_after spec kept item ≡ kept ++ can.block ∷ []))
+    × ((CanJoin spec kept item → ⊥) → kept_after spec kept item ≡ kept)
 
 -- Law: a genesis alone is kept, and kept blocks stay so after any item.
 abbrev pub KeepingKeeps : Type 0
 KeepingKeeps = ((genesis : Block) → IsKept (genesis ∷ []))
-    × ((rules : Rules) (kept : List Block) (item : List ℕ) → IsKept kept → IsKept (kept_after rules kept item))
+    × ((spec : Specification) (kept : List Block) (item : List ℕ) → IsKept kept → IsKept (kept_after spec kept item))
 
 -- Law: after any items kept blocks are still so, and those that were kept stay in front of what joined.
 abbrev pub KeptStays : Type 0
@@ -44,7 +45,7 @@ KeptStays = (chain : Chain) (items : List (List ℕ)) → (IsKept chain.blocks �
     × ((more : List Block) × ((chain_over chain items).blocks ≡ chain.blocks ++ more))
 
 -- What a canonical block that does not join is answered. The premises of a sentence say that none before it holds.
-pub record AnswersBlock (rules : Rules) (kept : List Block) (block : Block) (answer : Verdict) : Type 0 where
+pub record AnswersBlock (spec : Specification) (kept : List Block) (block : Block) (answer : Verdict) : Type 0 where
   -- it is known exactly where a kept block has its hash
   pub known : (answer ≡ Known (block_hash block)) ↔ IsTrue (is_some (place_of kept (block_hash block)))
   -- a new one is unbuilt exactly where its form is not judged
@@ -55,19 +56,19 @@ pub record AnswersBlock (rules : Rules) (kept : List Block) (block : Block) (ans
   -- on a kept parent it is refused by exactly the first rule that it breaks on the branch of that parent
   pub refused : place_of kept (block_hash block) ≡ None → IsTrue (has_built_form block) → (parent : ℕ)
       → place_of kept block.header.parent_hash ≡ Some parent → (rule : ℕ)
-      → (answer ≡ Refused rule) ↔ (first_broken rules (branch kept parent) block ≡ Some rule)
+      → (answer ≡ Refused rule) ↔ (first_broken spec (branch kept parent) block ≡ Some rule)
   -- one that breaks no rule finds the store full exactly where as many blocks are kept as may be
   pub full : place_of kept (block_hash block) ≡ None → IsTrue (has_built_form block) → (parent : ℕ)
-      → place_of kept block.header.parent_hash ≡ Some parent → first_broken rules (branch kept parent) block ≡ None
+      → place_of kept block.header.parent_hash ≡ Some parent → first_broken spec (branch kept parent) block ≡ None
       → (answer ≡ Full) ↔ (kept_limit ≤ length kept)
 
 -- What an item that does not join is answered.
-pub record Answers (rules : Rules) (kept : List Block) (item : List ℕ) (answer : Verdict) : Type 0 where
+pub record Answers (spec : Specification) (kept : List Block) (item : List ℕ) (answer : Verdict) : Type 0 where
   -- J1: one that is no canonical `Block` breaks rule 1
   pub no_block : decoded shapes.block item ≡ None → answer ≡ Refused 1
   -- any other is answered by its block
-  pub a_block : (block : Block) → decoded shapes.block item ≡ Some block → AnswersBlock rules kept block answer
+  pub a_block : (block : Block) → decoded shapes.block item ≡ Some block → AnswersBlock spec kept block answer
 
 -- Law: so the verdict on each item is.
 abbrev pub AnswersExactly : Type 0
-AnswersExactly = (rules : Rules) (kept : List Block) (item : List ℕ) → Answers rules kept item (verdict rules kept item)
+AnswersExactly = (spec : Specification) (kept : List Block) (item : List ℕ) → Answers spec kept item (verdict spec kept item)

@@ -1,4 +1,3 @@
-pub mod Genesis
 pub mod Rules
 pub mod Verdict
 pub mod Chain

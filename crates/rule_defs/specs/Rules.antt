@@ -2,14 +2,9 @@
 -- docs/RULES.md, "A block", has them.
 use Rattle.std.specs.Prelude.{ℕ, ◌+◌, ◌-◌, ◌==◌, Bool, false, List, [], ◌∷◌, length, Option, Some, None}
 use Rattle.codec_defs.specs.Schema.{Block}
-use Rattle.chain_defs.specs.Kept.{block_at}
 use Rattle.fold_defs.specs.First.{first_failing}
-
--- What a store fixes for all its blocks. Nothing yet: no specification is read.
-pub record Rules : Type 0 where
-
-abbrev pub no_specification : Rules
-no_specification = record {}
+use Rattle.time_defs.specs.Specification.{Specification}
+use Rattle.chain_defs.specs.Kept.{block_at}
 
 -- the last block of a branch, on which the next one stands
 abbrev pub parent_of : List Block → Option Block
@@ -20,12 +15,12 @@ abbrev pub follows : Block → Option Block → Bool
 follows b None = false
 follows b (Some parent) = b.header.number == parent.header.number + 1
 
--- The rules on a block that stands on this branch, genesis to its parent.
-abbrev pub rules_on : Rules → List Block → Block → List (ℕ × Bool)
-rules_on rules branch b =
+-- The rules on a block that stands on this branch, genesis to its parent, under the specification of its chain.
+abbrev pub rules_on : Specification → List Block → Block → List (ℕ × Bool)
+rules_on spec branch b =
     (5, follows b (parent_of branch))
     ∷ []
 
 -- The first rule that it breaks.
-unfoldable pub first_broken : Rules → List Block → Block → Option ℕ
-first_broken rules branch b = first_failing (rules_on rules branch b)
+unfoldable pub first_broken : Specification → List Block → Block → Option ℕ
+first_broken spec branch b = first_failing (rules_on spec branch b)

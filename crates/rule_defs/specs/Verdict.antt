@@ -5,7 +5,8 @@ use Rattle.codec_defs.specs.Shape.{decoded}
 use Rattle.codec_defs.specs.Schema.{Block, block}
 use Rattle.chain_defs.specs.Kept.{block_hash, place_of}
 use Rattle.chain_defs.specs.Branch.{branch}
-use Rattle.rule_defs.specs.Rules.{Rules, first_broken}
+use Rattle.time_defs.specs.Specification.{Specification}
+use Rattle.rule_defs.specs.Rules.{first_broken}
 use Rattle.rule_defs.specs.declared.verdict.Verdict.{Verdict}
 use Rattle.rule_defs.specs.declared.verdict.Verdict.TheVariants.{Joined, Known, Refused, Unbuilt, Full}
 
@@ -27,23 +28,23 @@ verdict_by_rules kept b (Some rule) = Refused rule
 verdict_by_rules kept b None = if has_room kept then Joined b.header.number (block_hash b) else Full
 
 -- J3: its parent hash is that of a kept block. The other rules are over the branch that ends with its parent.
-abbrev pub verdict_on : Rules → List Block → Block → Option ℕ → Verdict
-verdict_on rules kept b None = Refused 3
-verdict_on rules kept b (Some parent) = verdict_by_rules kept b (first_broken rules (branch kept parent) b)
+abbrev pub verdict_on : Specification → List Block → Block → Option ℕ → Verdict
+verdict_on spec kept b None = Refused 3
+verdict_on spec kept b (Some parent) = verdict_by_rules kept b (first_broken spec (branch kept parent) b)
 
-abbrev pub verdict_of_block : Rules → List Block → Block → Verdict
-verdict_of_block rules kept b =
+abbrev pub verdict_of_block : Specification → List Block → Block → Verdict
+verdict_of_block spec kept b =
     if is_some (place_of kept (block_hash b)) then Known (block_hash b)
     else if not (has_built_form b) then Unbuilt
-    else verdict_on rules kept b (place_of kept b.header.parent_hash)
+    else verdict_on spec kept b (place_of kept b.header.parent_hash)
 
 -- J1: the item is a canonical `Block`.
-abbrev pub verdict_of : Rules → List Block → Option Block → Verdict
-verdict_of rules kept None = Refused 1
-verdict_of rules kept (Some b) = verdict_of_block rules kept b
+abbrev pub verdict_of : Specification → List Block → Option Block → Verdict
+verdict_of spec kept None = Refused 1
+verdict_of spec kept (Some b) = verdict_of_block spec kept b
 
-unfoldable pub verdict : Rules → List Block → List ℕ → Verdict
-verdict rules kept item = verdict_of rules kept (decoded block item)
+unfoldable pub verdict : Specification → List Block → List ℕ → Verdict
+verdict spec kept item = verdict_of spec kept (decoded block item)
 
 abbrev pub joins : Verdict → Bool
 joins (Joined number hash) = true
@@ -69,5 +70,5 @@ abbrev pub blocks_of_item : List ℕ → List Block
 blocks_of_item item = block_list (decoded block item)
 
 -- What is kept after an item: a block that joins is put at the end, any other item leaves it.
-unfoldable pub kept_after : Rules → List Block → List ℕ → List Block
-kept_after rules kept item = if joins (verdict rules kept item) then kept ++ blocks_of_item item else kept
+unfoldable pub kept_after : Specification → List Block → List ℕ → List Block
+kept_after spec kept item = if joins (verdict spec kept item) then kept ++ blocks_of_item item else kept

@@ -1,4 +1,4 @@
-//! The rules of the chain: what a genesis keeps, the rules on a block as rows of a list, and the
+//! The rules of the chain: the rules on a block as rows of a list, and the
 //! verdict on an item over the kept blocks as a frame around them. Definitions, the enum that code
 //! and definitions share, and the laws that say what the verdict is for, as a contract of
 //! [`verdict_laws`].

@@ -1,5 +1,5 @@
 -- The rules on the genesis of a store, as rows of a list (docs/RULES.md, "The genesis").
-use Rattle.std.specs.Prelude.{ℕ, ◌==◌, ◌&&◌, not, nat_lt, nat_le, Bool, true, List, [], ◌∷◌, ◌++◌, map, length, Option, Some, None}
+use Rattle.std.specs.Prelude.{ℕ, ◌==◌, ◌&&◌, not, nat_lt, nat_le, Bool, true, List, [], ◌∷◌, map, length, Option, Some, None}
 use Rattle.std.specs.Option.{option_map}
 use Rattle.std.specs.List.{list_any, list_all}
 use Rattle.std.specs.Str.{bytes_eq}
@@ -9,7 +9,14 @@ use Rattle.fold_defs.specs.First.{first_failing}
 use Rattle.time_defs.specs.Specification.{u64_field}
 use Rattle.time_defs.specs.Dao.{occupied_capacity}
 use Rattle.chain_defs.specs.Hashes.{transaction_hash}
-use Rattle.rule_defs.specs.Genesis.{genesis_rules}
+
+-- G2: its number is 0.
+abbrev pub is_first : Block → Bool
+is_first genesis = genesis.header.number == 0
+
+-- G3: it has no uncles and no proposals.
+abbrev pub has_no_uncles_or_proposals : Block → Bool
+has_no_uncles_or_proposals genesis = (length genesis.uncles == 0) && (length genesis.proposals == 0)
 
 -- G4: the C and the AR of its dao field are above 0 (RFC 0023).
 abbrev pub has_issued : Block → Bool
@@ -49,20 +56,20 @@ holds_capacity transaction = all_hold_their_own transaction.raw.outputs transact
 abbrev pub all_hold_capacity : Block → Bool
 all_hold_capacity genesis = list_all holds_capacity genesis.transactions
 
--- G2 to G7
-abbrev pub store_genesis_rows : Block → List (ℕ × Bool)
-store_genesis_rows genesis =
-    genesis_rules genesis
-    ++ (4, has_issued genesis)
+abbrev pub genesis_rules : Block → List (ℕ × Bool)
+genesis_rules genesis =
+    (2, is_first genesis)
+    ∷ (3, has_no_uncles_or_proposals genesis)
+    ∷ (4, has_issued genesis)
     ∷ (5, has_transactions genesis)
     ∷ (6, all_pair_data genesis)
     ∷ (7, all_hold_capacity genesis)
     ∷ []
 
-abbrev pub store_broken_by : Option Block → Option ℕ
-store_broken_by None = Some 1
-store_broken_by (Some genesis) = first_failing (store_genesis_rows genesis)
+abbrev pub broken_by : Option Block → Option ℕ
+broken_by None = Some 1
+broken_by (Some genesis) = first_failing (genesis_rules genesis)
 
 -- The first of G1 to G7 that an item breaks. G1: it is a canonical `Block`.
-unfoldable pub broken_store_genesis_rule : List ℕ → Option ℕ
-broken_store_genesis_rule item = store_broken_by (decoded block item)
+unfoldable pub broken_genesis_rule : List ℕ → Option ℕ
+broken_genesis_rule item = broken_by (decoded block item)

@@ -9,7 +9,7 @@ use Rattle.chain_defs.specs.Kept.{block_hash, place_of, block_at}
 use Rattle.rule_defs.specs.Verdict.{blocks_of_item}
 use Rattle.time_defs.specs.Specification.{broken_specification_rule}
 use Rattle.store_defs.specs.Ext.{count_at, is_ext}
-use Rattle.store_defs.specs.Genesis.{broken_store_genesis_rule}
+use Rattle.store_defs.specs.Genesis.{broken_genesis_rule}
 
 -- ---- Records
 
@@ -107,7 +107,7 @@ record_limit = 999999
 
 abbrev pub are_first : Record → Record → Bool
 are_first one two =
-    (one.kind == 1) && is_none (broken_specification_rule one.body) && (two.kind == 2) && is_none (broken_store_genesis_rule two.body)
+    (one.kind == 1) && is_none (broken_specification_rule one.body) && (two.kind == 2) && is_none (broken_genesis_rule two.body)
 
 -- what the records of a log say, if they are of its grammar
 abbrev pub content_of_records : List Record → Option LogContent

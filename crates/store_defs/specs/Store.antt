@@ -1,18 +1,30 @@
 -- What an image of the disk keeps, and when it is sound (docs/STORE.md).
-use Rattle.std.specs.Prelude.{◌≡◌, ℕ, ◌+◌, List, [], replicate, slice_get, length, take, Option, Some}
-use Rattle.std.specs.Option.{option_map}
-use Rattle.codec_defs.specs.Schema.{Block}
+use Rattle.std.specs.Prelude.{◌≡◌, ℕ, ◌+◌, ◌==◌, List, [], replicate, slice_get, length, take, Option, Some, None, if◌then◌else◌}
 use Rattle.outside.specs.Image.{Image}
-use Rattle.rule_defs.specs.Rules.{no_specification}
+use Rattle.time_defs.specs.Specification.{specification_of}
 use Rattle.rule_defs.specs.Chain.{Chain, chain_after}
 use Rattle.store_defs.specs.Log.{LogContent, Record, log_of, parts_of_body}
 
-abbrev pub chain_of : List Block → Chain
-chain_of blocks = record { rules = no_specification; blocks = blocks }
+-- What stands in the folder when a run begins.
+pub data Store : Type 0 where
+  -- no log, or an empty one
+  NoLog : Store
+  -- a log that is none by its grammar
+  NotALog : Store
+  -- a log that keeps this chain
+  Keeps : Chain → Store
 
--- the chain that an image keeps, if its log is one
-unfoldable pub kept_of : Image → Option Chain
-kept_of image = option_map (λ log. chain_of log.blocks) (log_of image.log)
+-- the chain that a log keeps: its specification and all its blocks
+abbrev pub chain_of : LogContent → Chain
+chain_of log = record { spec = specification_of log.specification; blocks = log.blocks }
+
+abbrev pub store_of_log : Option LogContent → Store
+store_of_log None = NotALog
+store_of_log (Some log) = Keeps (chain_of log)
+
+-- the store of an image
+unfoldable pub store_of : Image → Store
+store_of image = if length image.log == 0 then NoLog else store_of_log (log_of image.log)
 
 -- The ext of a block that joins: of the forms that are judged today a block commits no transaction and spends nothing, so that it has no fee
 -- and no row.
@@ -26,11 +38,23 @@ pub record HasJoined (before : Chain) (r : Record) (after : Chain) : Type 0 wher
   pub kept : after ≡ chain_after before item
   pub grown : length after.blocks ≡ length before.blocks + 1
 
--- An image is sound: its log is one, each block behind the genesis joined over those before it, and no snapshot is there.
-pub record IsSound (image : Image) : Type 0 where
+-- the chain where the first blocks of a log stand alone, so many of them
+abbrev pub chain_before : LogContent → ℕ → Chain
+chain_before log count = record { spec = specification_of log.specification; blocks = take count log.blocks }
+
+-- A log is sound: each block behind the genesis joined over those before it.
+abbrev pub EachHasJoined : LogContent → Type 0
+EachHasJoined log = (place : ℕ) (r : Record) → slice_get log.records place ≡ Some r → HasJoined (chain_before log (place + 1)) r (chain_before log (place + 2))
+
+-- An image stands for a chain: its log keeps just this, each block behind the genesis joined over those before it, and no snapshot is there.
+pub record StandsFor (chain : Chain) (image : Image) : Type 0 where
   pub log : LogContent
   pub is_log : log_of image.log ≡ Some log
-  pub joined : (place : ℕ) (r : Record) → slice_get log.records place ≡ Some r
-      → HasJoined (chain_of (take (place + 1) log.blocks)) r (chain_of (take (place + 2) log.blocks))
+  pub keeps : chain_of log ≡ chain
+  pub joined : EachHasJoined log
   pub no_snap_a : image.snap_a ≡ []
   pub no_snap_b : image.snap_b ≡ []
+
+-- An image is sound: it stands for some chain.
+abbrev pub IsSound : Image → Type 0
+IsSound image = (chain : Chain) × StandsFor chain image

@@ -1,0 +1,132 @@
+-- What a run promises of the disk, and what follows for any list of runs, each stopped anywhere (docs/PROVED.md, "A run").
+--
+-- A stop at some moment is a run whose source, sink and disk fail from that moment on, so that a list of runs is a list of calls.
+use Rattle.std.specs.Prelude.{◌≡◌, ◌⊎◌, ℕ, ◌≤◌, List, [], ◌∷◌, length, take, Option, Some, None}
+use Rattle.std.specs.List.{concat}
+use Rattle.outside.specs.Image.{Image}
+use Rattle.chain_defs.specs.Tip.{tip}
+use Rattle.rule_defs.specs.Chain.{Chain, chain_of_genesis, chain_over}
+use Rattle.store_defs.specs.Store.{Store, NoLog, Keeps, store_of, StandsFor, IsSound}
+use Rattle.report_defs.specs.declared.command.Command.{Command}
+use Rattle.report_defs.specs.declared.command.Command.TheVariants.{Init, Import, Tip, Exec}
+use Rattle.report_defs.specs.declared.status.Status.{Status}
+use Rattle.report_defs.specs.declared.status.Status.TheVariants.{Done, InputFault, DiskFault, NoMemory, NotAStore, CutInput, BadSize, StoreThere, BadGenesis, ExtraInput}
+use Rattle.report_defs.specs.Status.{IsOneOf}
+use Rattle.report_defs.specs.Text.{tip_line}
+use Rattle.report_defs.specs.Items.{split_of}
+use Rattle.report_defs.specs.Report.{init_limits, import_limits, lines_over}
+use Rattle.report_defs.specs.Promise.{IsPrefix}
+
+-- ---- A run and what it may keep
+
+-- the items of which a run may keep blocks, of what its source gave
+abbrev pub items_of : Option Command → List ℕ → List (List ℕ)
+items_of None given = []
+items_of (Some Init) given = []
+items_of (Some Import) given = (split_of import_limits given).items
+items_of (Some Tip) given = []
+items_of (Some (Exec budget)) given = []
+
+-- A front of a run's items: at most those that its source gave whole, and at least those whose whole line its sink took. What is
+-- written behind the lines counts for none.
+pub record IsFront (chain : Chain) (items : List (List ℕ)) (taken : List ℕ) (count : ℕ) : Type 0 where
+  pub most : count ≤ length items
+  pub acknowledged : (n : ℕ) → n ≤ length items → IsPrefix (concat (lines_over chain (take n items))) taken → n ≤ count
+
+-- ---- Lists of runs
+
+-- A run: the items of its input that its source gave whole, and what its sink took.
+pub record Run : Type 0 where
+  pub items : List (List ℕ)
+  pub taken : List ℕ
+
+-- What may be kept after runs from a genesis on, the newest first: each added what joined of a front of its items.
+abbrev pub IsKeptBy : Chain → List Run → Chain → Type 0
+IsKeptBy genesis [] kept = kept ≡ genesis
+IsKeptBy genesis (run ∷ earlier) kept = (before : Chain) × IsKeptBy genesis earlier before
+    × ((count : ℕ) × IsFront before run.items run.taken count × (kept ≡ chain_over before (take count run.items)))
+
+-- Such runs may leave this image: it is sound, and keeps such blocks.
+abbrev pub IsLeftBy : Chain → List Run → Image → Type 0
+IsLeftBy genesis past image = (kept : Chain) × IsKeptBy genesis past kept × StandsFor kept image
+
+-- each of these images is so
+abbrev pub Each : (Image → Type 0) → (Image → Type 0) → Type 0
+Each images P = (image : Image) → images image → P image
+
+-- ---- What a run promises
+
+-- A disk during a run: what it read as at the start, and the images that a crash might have left at the start, at the exit, and at
+-- any moment in between.
+
+-- A command that opens the store, over sound images and the chain that the disk read as.
+pub record KeepsStore (chain : Chain) (items : List (List ℕ)) (taken : List ℕ) (status : Status) (at_start at_exit meanwhile : Image → Type 0) : Type 0 where
+  -- At the exit each image keeps what joined of a front of the items. Where the disk failed or memory ran out before a line was
+  -- taken, it may be an image of the start instead.
+  pub exit : Each at_exit (λ image. (IsOneOf (DiskFault ∷ NoMemory ∷ []) status × (taken ≡ []) × at_start image)
+      ⊎ ((count : ℕ) × IsFront chain items taken count × StandsFor (chain_over chain (take count items)) image))
+  -- at each moment it is one of the start, or keeps what joined of some items
+  pub moments : Each meanwhile (λ image. at_start image ⊎ ((count : ℕ) × (count ≤ length items) × StandsFor (chain_over chain (take count items)) image))
+
+-- A new store: the disk has one image, which keeps the genesis alone.
+pub record IsNewStore (given : List ℕ) (at_exit : Image → Type 0) : Type 0 where
+  pub specification : List ℕ
+  pub genesis : List ℕ
+  pub items : (split_of init_limits given).items ≡ specification ∷ genesis ∷ []
+  pub only : Image
+  pub one : Each at_exit (λ image. image ≡ only)
+  pub stands : StandsFor (chain_of_genesis specification genesis) only
+
+-- By the command, where the disk tells what it reads as.
+abbrev pub KeepsDisk : Option Command → Image → (Image → Type 0) → (Image → Type 0) → (Image → Type 0) → List ℕ → List ℕ → Status → Type 0
+KeepsDisk None now at_start at_exit meanwhile given taken status = Unit {0}
+KeepsDisk (Some Init) now at_start at_exit meanwhile given taken status = status ≡ Done → IsNewStore given at_exit
+KeepsDisk (Some Import) now at_start at_exit meanwhile given taken status = (chain : Chain) → store_of now ≡ Keeps chain → Each at_start IsSound
+    → KeepsStore chain (split_of import_limits given).items taken status at_start at_exit meanwhile
+KeepsDisk (Some Tip) now at_start at_exit meanwhile given taken status = (chain : Chain) → store_of now ≡ Keeps chain → Each at_start IsSound
+    → KeepsStore chain [] taken status at_start at_exit meanwhile
+KeepsDisk (Some (Exec budget)) now at_start at_exit meanwhile given taken status = Unit {0}
+
+-- Where each image at the start may be left by a past, each image at the exit may be left by that past and this run.
+abbrev pub Survives : Option Command → (Image → Type 0) → (Image → Type 0) → List ℕ → List ℕ → Type 0
+Survives command at_start at_exit given taken = (genesis : Chain) (past : List Run) → Each at_start (IsLeftBy genesis past)
+    → Each at_exit (IsLeftBy genesis (record { items = items_of command given; taken = taken } ∷ past))
+
+-- At each moment it may be left by that past and this run, of which no line was taken yet: the disk and the sink share no clock.
+abbrev pub SurvivesMeanwhile : Option Command → (Image → Type 0) → (Image → Type 0) → List ℕ → Type 0
+SurvivesMeanwhile command at_start meanwhile given = (genesis : Chain) (past : List Run) → Each at_start (IsLeftBy genesis past)
+    → Each meanwhile (IsLeftBy genesis (record { items = items_of command given; taken = [] } ∷ past))
+
+-- What a query answers, over a chain: nothing where the command is none.
+abbrev pub Answers : Option Command → Chain → List ℕ → Type 0
+Answers None kept taken = Unit {0}
+Answers (Some Init) kept taken = Unit {0}
+Answers (Some Import) kept taken = Unit {0}
+Answers (Some Tip) kept taken = taken ≡ tip_line (tip kept.blocks)
+Answers (Some (Exec budget)) kept taken = Unit {0}
+
+-- Where each image at the start may be left by a past, a query that is done answered as a replay of that past.
+abbrev pub AnswersAsReplay : Option Command → (Image → Type 0) → List ℕ → Status → Type 0
+AnswersAsReplay command at_start taken status = (genesis : Chain) (past : List Run) → Each at_start (IsLeftBy genesis past) → status ≡ Done
+    → (kept : Chain) × IsKeptBy genesis past kept × Answers command kept taken
+
+-- Over a disk that tells what it reads as: what a run promises of it.
+pub record IsPromised (command : Option Command) (now : Image) (at_start at_exit meanwhile : Image → Type 0) (given taken : List ℕ) (status : Status) : Type 0 where
+  pub disk : KeepsDisk command now at_start at_exit meanwhile given taken status
+  pub survives : Survives command at_start at_exit given taken
+  pub at_each_moment : SurvivesMeanwhile command at_start meanwhile given
+  pub answers : AnswersAsReplay command at_start taken status
+
+-- ---- What is said of every disk
+
+-- Where no image at the start is one of a store, nothing is read or written of the streams, and the status is one of these.
+abbrev pub without_store : List Status
+without_store = NotAStore ∷ DiskFault ∷ NoMemory ∷ []
+
+-- the statuses with which the disk is as before
+abbrev pub as_before : Option Command → List Status
+as_before None = []
+as_before (Some Init) = InputFault ∷ CutInput ∷ BadSize ∷ StoreThere ∷ BadGenesis ∷ ExtraInput ∷ []
+as_before (Some Import) = []
+as_before (Some Tip) = []
+as_before (Some (Exec budget)) = []
