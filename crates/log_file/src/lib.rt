@@ -23,4 +23,4 @@ pub use body::{Body, parts};
 pub use creation::create;
 pub use ext::ext_form;
 pub use genesis::genesis_ok;
-pub use log::{Log, Rec};
+pub use log::{Log, LogStop, Rec};

@@ -3,8 +3,9 @@
 use Rattle.std.specs.Prelude.{◌≡◌, ◌⊎◌, ℕ, ◌+◌, ◌-◌, ◌<◌, ◌≤◌, List, [], ◌∷◌, ◌++◌, length, take, Option, Some, None}
 use Rattle.std.specs.List.{concat}
 use Rattle.std.specs.Io.KnownBytes.{IsAtEnd}
+use Rattle.outside.specs.Image.{Image}
 use Rattle.rule_defs.specs.Chain.{Chain}
-use Rattle.store_defs.specs.Store.{Store, NoLog, NotALog, Keeps}
+use Rattle.store_defs.specs.Store.{Store, NoLog, NotALog, Keeps, store_of}
 use Rattle.report_defs.specs.declared.command.Command.{Command}
 use Rattle.report_defs.specs.declared.command.Command.TheVariants.{Init, Import, Tip, Exec}
 use Rattle.report_defs.specs.declared.status.Status.{Status}
@@ -109,16 +110,25 @@ pub record ImportsInOrder (chain : Chain) (given : List ℕ) (left : Option (Lis
   -- nothing is read behind a size word at which the reading ends
   pub no_further : IsAtWord (split_of import_limits given).end → length (split_of import_limits given).rest ≡ 4
 
--- what is no store is not imported to
+-- where there is no store, nothing is read and nothing written
+pub record FindsNoStore (given taken : List ℕ) (status : Status) : Type 0 where
+  pub untouched : IsUntouched given taken
+  pub answer : IsOneOf (NotAStore ∷ DiskFault ∷ NoMemory ∷ []) status
+
 abbrev pub ImportsToStore : Store → List ℕ → Option (List ℕ) → List ℕ → Status → Type 0
-ImportsToStore NoLog given left taken status = IsUntouched given taken
-ImportsToStore NotALog given left taken status = IsUntouched given taken
+ImportsToStore NoLog given left taken status = FindsNoStore given taken status
+ImportsToStore NotALog given left taken status = FindsNoStore given taken status
 ImportsToStore (Keeps chain) given left taken status = ImportsInOrder chain given left taken status
 
 -- `tip`: nothing is read, and nothing written where the run was stopped before the sink
 pub record TellsInOrder (given taken : List ℕ) (status : Status) : Type 0 where
   pub unread : given ≡ []
   pub silent : IsStoppedBeforeTheSink status → taken ≡ []
+
+abbrev pub TellsOfStore : Store → List ℕ → List ℕ → Status → Type 0
+TellsOfStore NoLog given taken status = FindsNoStore given taken status
+TellsOfStore NotALog given taken status = FindsNoStore given taken status
+TellsOfStore (Keeps chain) given taken status = TellsInOrder given taken status
 
 -- `exec`
 pub record ExecutesInOrder (given : List ℕ) (left : Option (List ℕ)) (taken : List ℕ) (status : Status) : Type 0 where
@@ -131,10 +141,22 @@ pub record ExecutesInOrder (given : List ℕ) (left : Option (List ℕ)) (taken 
   -- nothing is written where the run was stopped otherwise than by the sink
   pub silent : IsStoppedBeforeTheSink status → taken ≡ []
 
+-- a disk that reads so has this store
+abbrev pub IsStoreOf : Option Image → Store → Type 0
+IsStoreOf reads store = (now : Image) × (reads ≡ Some now) × (store ≡ store_of now)
+
+-- What a command finds in the folder: the store of what the disk reads as, or any where it does not look.
+abbrev pub Finds : Option Command → Option Image → Store → Type 0
+Finds None reads store = Unit {0}
+Finds (Some Init) reads store = IsStoreOf reads store
+Finds (Some Import) reads store = IsStoreOf reads store
+Finds (Some Tip) reads store = IsStoreOf reads store
+Finds (Some (Exec budget)) reads store = Unit {0}
+
 -- By what the words ask for, over what stands in the folder.
 abbrev pub KeepsOrder : Option Command → Store → List ℕ → Option (List ℕ) → List ℕ → Status → Type 0
 KeepsOrder None store given left taken status = IsUntouched given taken
 KeepsOrder (Some Init) store given left taken status = InitsInOrder store given left taken status
 KeepsOrder (Some Import) store given left taken status = ImportsToStore store given left taken status
-KeepsOrder (Some Tip) store given left taken status = TellsInOrder given taken status
+KeepsOrder (Some Tip) store given left taken status = TellsOfStore store given taken status
 KeepsOrder (Some (Exec budget)) store given left taken status = ExecutesInOrder given left taken status

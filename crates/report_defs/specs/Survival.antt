@@ -119,11 +119,7 @@ pub record IsPromised (command : Option Command) (now : Image) (at_start at_exit
 
 -- ---- What is said of every disk
 
--- Where no image at the start is one of a store, nothing is read or written of the streams, and the status is one of these.
-abbrev pub without_store : List Status
-without_store = NotAStore ∷ DiskFault ∷ NoMemory ∷ []
-
--- the statuses with which the disk is as before
+-- the statuses of a command with which the disk is as before
 abbrev pub as_before : Option Command → List Status
 as_before None = []
 as_before (Some Init) = InputFault ∷ CutInput ∷ BadSize ∷ StoreThere ∷ BadGenesis ∷ ExtraInput ∷ []

@@ -1,6 +1,7 @@
 -- What an image of the disk keeps, and when it is sound (docs/STORE.md).
 use Rattle.std.specs.Prelude.{◌≡◌, ℕ, ◌+◌, ◌==◌, List, [], replicate, slice_get, length, take, Option, Some, None, if◌then◌else◌}
 use Rattle.outside.specs.Image.{Image}
+use Rattle.outside.specs.Disk.{NoneNew, LeavesOnly}
 use Rattle.time_defs.specs.Specification.{specification_of}
 use Rattle.rule_defs.specs.Chain.{Chain, chain_after}
 use Rattle.store_defs.specs.Log.{LogContent, Record, log_of, parts_of_body}
@@ -58,3 +59,9 @@ pub record StandsFor (chain : Chain) (image : Image) : Type 0 where
 -- An image is sound: it stands for some chain.
 abbrev pub IsSound : Image → Type 0
 IsSound image = (chain : Chain) × StandsFor chain image
+
+-- A disk was read and nothing else: it reads as it did, and no image is new, now or at any moment since.
+pub record IsOnlyRead {D : Type 0} (reads_as : D → Option Image) (may_leave : D → Image → Type 0) (moment : D → ℕ) (left_since : D → ℕ → Image → Type 0) (old new : D) : Type 0 where
+  pub reads : reads_as new ≡ reads_as old
+  pub images : NoneNew (may_leave old) (may_leave new)
+  pub moments : LeavesOnly moment left_since old new (may_leave old)

