@@ -8,6 +8,8 @@
 mod claim;
 mod folder;
 mod folder_disk;
+#[cfg(test)]
+mod folder_tests;
 mod streams;
 #[cfg(test)]
 mod tests;
