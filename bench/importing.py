@@ -2,13 +2,12 @@
 """The speed of `init`, `import` and opening, against a floor.
 
     python3 bench/importing.py CKBDEV [--sizes 2000,6000,20000] [--rounds 1]
-        [--disk FOLDER | --tmpfs] [--memory] [--plain] [--sync fdatasync|fsync]
+        [--disk FOLDER | --tmpfs] [--plain] [--sync fdatasync|fsync]
         [--seed 0] [--limit SECONDS] [--no-strace]
 
 A generated chain (chaingen.py) of each size goes through `init`, `import` and
 `tip` of a new store, and through diskfloor.c before and after, in turn.  Every
-line is checked.  (With --memory there is only `import`: that is what a program
-without a store can do.)  Of several elapsed times the mean counts on a disk, and the
+line is checked.  Of several elapsed times the mean counts on a disk, and the
 least elsewhere.
 
 --disk FOLDER  where the stores are made (default: the folder for temporary
@@ -16,9 +15,6 @@ least elsewhere.
 --tmpfs        the stores are made in /dev/shm: no disk is waited for
 --plain        no block proposes or commits, for a program that does not judge
                such blocks yet
---memory       for a program that keeps nothing: the genesis is the first item
-               of `import`, no store is made and the line `tip` comes last; has
-               --plain in it, and the floor has no disk either
 --sync         what the floor syncs with
 
 Columns: seconds of the whole `import`; microseconds per block, elapsed and of
@@ -95,34 +91,26 @@ def want(run, text, what):
 class Chain:
     """The files of one chain, and the texts that it must give."""
 
-    def __init__(self, seed, n, plain, memory, work):
+    def __init__(self, seed, n, plain, work):
         spec, genesis, blocks, kept, tip = chaingen.make(seed, n, plain)
         self.n = n
         self.first = os.path.join(work, 'init.%d' % n)
-        self.items = os.path.join(work, 'items.%d' % n)
         self.blocks = os.path.join(work, 'blocks.%d' % n)
-        for path, content in ((self.first, spec + genesis), (self.blocks, b''.join(blocks)),
-                              (self.items, (genesis if memory else b'') + b''.join(blocks))):
+        for path, content in ((self.first, spec + genesis), (self.blocks, b''.join(blocks))):
             with open(path, 'wb') as f:
                 f.write(content)
         self.genesis_text = 'genesis 0x%s\n' % kept[0][1].hex()
         self.tip_text = 'tip %d 0x%s\n' % (kept[tip][0], kept[tip][1].hex())
         self.text = ''.join('joined %d 0x%s\n' % (h, x.hex()) for h, x in kept[1:])
-        if memory:
-            self.text += self.tip_text
 
 
 def store(program, chain, place, work, a, wrap=()):
     """(import, tip, size of the log); `wrap` goes before the words of import."""
-    if a.memory:
-        run = Run(list(wrap) + [program, 'x', 'import'], chain.items, work, a.limit)
-        want(run, chain.text, 'import')
-        return run, None, 0
     folder = tempfile.mkdtemp(prefix='store-', dir=place)
     try:
         want(Run([program, folder, 'init'], chain.first, work, a.limit),
              chain.genesis_text, 'init')
-        run = Run(list(wrap) + [program, folder, 'import'], chain.items, work, a.limit)
+        run = Run(list(wrap) + [program, folder, 'import'], chain.blocks, work, a.limit)
         want(run, chain.text, 'import')
         tip = Run([program, folder, 'tip'], os.devnull, work, a.limit)
         want(tip, chain.tip_text, 'tip')
@@ -132,11 +120,11 @@ def store(program, chain, place, work, a, wrap=()):
 
 
 def floor(program, chain, place, work, a):
-    file = '-' if a.memory else os.path.join(place, 'floor.%d' % os.getpid())
+    file = os.path.join(place, 'floor.%d' % os.getpid())
     try:
         run = Run([program, file, a.sync], chain.blocks, work, a.limit)
     finally:
-        if file != '-' and os.path.exists(file):
+        if os.path.exists(file):
             os.remove(file)
     if run.status != 0 or run.out.count('\n') != chain.n:
         raise Wrong('the floor ends with status %d after %d lines'
@@ -178,7 +166,6 @@ def main():
     a.add_argument('--rounds', type=int, default=1)
     a.add_argument('--disk')
     a.add_argument('--tmpfs', action='store_true')
-    a.add_argument('--memory', action='store_true')
     a.add_argument('--plain', action='store_true')
     a.add_argument('--sync', choices=('fdatasync', 'fsync'), default='fdatasync')
     a.add_argument('--seed', type=int, default=0)
@@ -189,8 +176,7 @@ def main():
     if not os.access(program, os.X_OK):
         sys.exit('there is no program %s' % a.ckbdev)
     # a script that builds the program at its first use does so here
-    subprocess.run([program, 'any', 'import'], stdin=subprocess.DEVNULL, stdout=subprocess.DEVNULL)
-    plain = a.plain or a.memory
+    subprocess.run([program, '/dev/null/any', 'tip'], stdin=subprocess.DEVNULL, stdout=subprocess.DEVNULL)
     sizes = [int(s) for s in a.sizes.split(',')]
     under = a.disk or ('/dev/shm' if a.tmpfs else tempfile.gettempdir())
     # the input, the output and the notes lie in memory where that is there
@@ -200,14 +186,13 @@ def main():
         bottom = os.path.join(work, 'diskfloor')
         subprocess.run([os.environ.get('CC', 'cc'), '-std=c11', '-O2',
                         os.path.join(HERE, 'diskfloor.c'), '-o', bottom], check=True)
-        print('in memory alone' if a.memory else 'stores on %s; the floor syncs by %s'
-              % (file_system(place), a.sync))
-        chains = [Chain(a.seed, n, plain, a.memory, work) for n in sizes]
+        print('stores on %s; the floor syncs by %s' % (file_system(place), a.sync))
+        chains = [Chain(a.seed, n, a.plain, work) for n in sizes]
         rows = [['blocks', 'import s', 'us/block', 'cpu us', 'floor us', 'floor cpu us',
                  'ratio', 'drift', 'cpu ratio', 'peak MiB', 'tip s', 'tip MiB', 'log MB']]
         wall, cpu, ratios, drifts = [], [], [], []
         # a disk's times drift both ways; the processor's are only ever too long
-        settle = min if a.memory or a.tmpfs else statistics.mean
+        settle = min if a.tmpfs else statistics.mean
         for chain in chains:
             under_it = [floor(bottom, chain, place, work, a)]
             mine = []
@@ -216,7 +201,7 @@ def main():
                 under_it.append(floor(bottom, chain, place, work, a))
             n = chain.n
             run, base = settle(m[0].wall for m in mine), settle(b.wall for b in under_it)
-            tip = min((m[1] for m in mine), key=lambda r: r.wall) if mine[0][1] else None
+            tip = min((m[1] for m in mine), key=lambda r: r.wall)
             wall.append(run / n)
             cpu.append(min(m[0].cpu for m in mine) / n)
             ratios.append(run / base)
@@ -227,8 +212,7 @@ def main():
                          '%.1f' % (low / n * 1e6), '%.2f' % ratios[-1], '%.2f' % drifts[-1],
                          '%.2f' % (cpu[-1] * n / low),
                          '%.1f' % (max(m[0].peak for m in mine) / 1024),
-                         '%.3f' % tip.wall if tip else '-',
-                         '%.1f' % (tip.peak / 1024) if tip else '-',
+                         '%.3f' % tip.wall, '%.1f' % (tip.peak / 1024),
                          '%.1f' % (mine[0][2] / 1e6)])
         show(rows)
         long, short = sizes.index(max(sizes)), sizes.index(min(sizes))

@@ -1,118 +1,73 @@
 #!/usr/bin/env python3
-"""Makes the example of `import`, beside this file.
+"""Makes the blocks of the first chain, beside this file, on the genesis of make_store.py.
 
-    python3 make_first_blocks.py
-        first-blocks.bin    the input: a genesis and six items after it
-        first-blocks.txt    the text that it must be answered with
+    python3 examples/make_first_blocks.py
+        spec.bin            the specification
+        genesis.bin         the genesis
+        first-blocks.bin    an input of `import`: six items on that genesis
+        first-blocks.txt    the lines that they must be answered with
 
-    python3 make_first_blocks.py --stored-run FOLDER
-        FOLDER/args, stdin, stdout and status: a longer input that meets each
-        verdict in several ways, as the stored run of a program
-
-The text is written down here, item by item, and owes nothing to the program:
+The lines are written down here, item by item, and owe nothing to the program:
 only the hashes are computed, by Python's own Blake2b.
 """
 
-import argparse
-import hashlib
+import dataclasses
 import os
 
+import make_store as store
+from make_store import Spec, child, fixvec, table, uint
+
 HERE = os.path.dirname(os.path.abspath(__file__))
-ZERO_HASH = bytes(32)
 UNKNOWN_HASH = b'\x11' * 32
-SOME_REFUSED = 1
+SPEC = Spec()
+GENESIS = store.genesis(SPEC)
 
 
-# ---------------------------------------------------------------- encoding
-
-def uint(value, size):
-    return value.to_bytes(size, 'little')
+def text_of(digest):
+    return '0x' + digest.hex()
 
 
-def table(fields):
-    """A table of these fields, or a dynvec of these items."""
-    offset = 4 + 4 * len(fields)
-    offsets = []
-    for field in fields:
-        offsets.append(uint(offset, 4))
-        offset += len(field)
-    return uint(offset, 4) + b''.join(offsets) + b''.join(fields)
+def genesis_line(block):
+    return 'genesis %s' % text_of(block.hash())
 
 
-def fixvec(items):
-    return uint(len(items), 4) + b''.join(items)
+def joined(block):
+    return 'joined %d %s' % (block.number, text_of(block.hash()))
 
 
-def transaction(since):
-    """Version 0, the null input with this since, and nothing else: 112 bytes."""
-    null_input = uint(since, 8) + ZERO_HASH + uint(0xffffffff, 4)
-    raw = table([uint(0, 4), fixvec([]), fixvec([]), fixvec([null_input]), table([]), table([])])
-    return table([raw, table([])])
+def known(block):
+    return 'known %s' % text_of(block.hash())
 
 
-def header(number, parent, nonce=0):
-    """The epoch, the three roots and hashes behind the parent's, and the dao field are zero."""
-    return (uint(0, 4) + uint(0x20000000, 4) + uint(1000, 8) + uint(number, 8) + uint(0, 8)
-            + parent + 4 * ZERO_HASH + uint(nonce, 16))
+def tip(block):
+    return 'tip %d %s' % (block.number, text_of(block.hash()))
 
 
-def fields(head, uncles=(), transactions=None, proposals=()):
-    """The four fields of a block. Unless others are given it has one transaction,
-    whose input's since is the block's number."""
-    if transactions is None:
-        transactions = [transaction(int.from_bytes(head[16:24], 'little'))]
-    return [head, table(list(uncles)), table(transactions), fixvec(list(proposals))]
+def changed(block, **fields):
+    return dataclasses.replace(block, **fields)
 
 
-def block(number, parent, nonce=0, **parts):
-    return table(fields(header(number, parent, nonce), **parts))
-
-
-# ------------------------------------------------------------ hash and text
-
-def ckbhash(message):
-    return hashlib.blake2b(message, digest_size=32, person=b'ckb-default-hash').digest()
-
-
-def hash_of(item):
-    """A block's hash is that of its header, which is its first field."""
-    return ckbhash(item[20:228])
-
-
-def text_of_hash(item):
-    return '0x' + hash_of(item).hex()
-
-
-def joined(number, item):
-    return 'joined %d %s' % (number, text_of_hash(item))
-
-
-def known(item):
-    return 'known %s' % text_of_hash(item)
-
-
-def tip(number, item):
-    return 'tip %d %s' % (number, text_of_hash(item))
+def numbered(block, number):
+    """The block with another number, and all that follows from it alone."""
+    return changed(block, number=number, epoch=SPEC.epoch_field(number) % (1 << 64),
+                   transactions=(store.cellbase(number),))
 
 
 # ----------------------------------------------------------------- inputs
-# Each gives the genesis, the items with their lines, and the closing line.
+# Each gives the items with their lines, and the block that is the tip behind them.
 
 def first_blocks():
-    genesis = block(0, ZERO_HASH)
-    a = block(1, hash_of(genesis))
-    assert len(transaction(0)) == 112 and len(a) == 356
-    empty = block(1, hash_of(genesis), nonce=1, transactions=[])
-    assert len(empty) == 240
-    fifth_field = table(fields(header(1, hash_of(genesis))) + [fixvec([])])
-    return genesis, [
-        (a, joined(1, a)),
-        (a, known(a)),
-        (block(3, hash_of(genesis)), 'refused J5'),
-        (block(1, UNKNOWN_HASH), 'refused J3'),
-        (empty, 'unbuilt'),
+    a = child(SPEC, GENESIS)
+    b = child(SPEC, a)
+    fifth_field = table(a.fields() + [fixvec([])])
+    return [
+        (a.item(), joined(a)),
+        (a.item(), known(a)),
+        (numbered(a, 3).item(), 'refused J5'),
+        (changed(a, parent=UNKNOWN_HASH).item(), 'refused J3'),
         (fifth_field, 'refused J1'),
-    ], tip(1, a)
+        (b.item(), joined(b)),
+    ], b
 
 
 def no_blocks(a):
@@ -135,77 +90,53 @@ def no_blocks(a):
 
 
 def each_verdict():
-    genesis = block(0, ZERO_HASH)
-    a1 = block(1, hash_of(genesis), nonce=1)
-    a2 = block(2, hash_of(a1))
-    b1 = block(1, hash_of(genesis), nonce=2)
-    b2 = block(2, hash_of(b1))
-    b3 = block(3, hash_of(b2))
-    on_a1 = {'number': 2, 'parent': hash_of(a1)}
-    uncle = table([header(1, hash_of(genesis), 3), fixvec([])])
+    a1 = child(SPEC, GENESIS, nonce=1)
+    a2 = child(SPEC, a1)
+    b1 = child(SPEC, GENESIS, nonce=2)
+    b2 = child(SPEC, b1)
+    b3 = child(SPEC, b2)
+    next_a, next_b = child(SPEC, a1, nonce=9), child(SPEC, b2, nonce=9)
     items = [
-        (a1, joined(1, a1)),
-        (a1, known(a1)),
-        (genesis, known(genesis)),
+        (a1.item(), joined(a1)),
+        (a1.item(), known(a1)),
+        (GENESIS.item(), known(GENESIS)),
         # the number: two too high, the parent's own, and 0
-        (block(3, hash_of(genesis)), 'refused J5'),
-        (block(1, hash_of(a1)), 'refused J5'),
-        (block(0, hash_of(a1)), 'refused J5'),
+        (numbered(a1, 3).item(), 'refused J5'),
+        (numbered(next_a, 1).item(), 'refused J5'),
+        (numbered(next_a, 0).item(), 'refused J5'),
         # the greatest number
-        (block(2 ** 64 - 1, hash_of(a1)), 'refused J5'),
-        (block(1, UNKNOWN_HASH), 'refused J3'),
+        (numbered(next_a, 2 ** 64 - 1).item(), 'refused J5'),
+        (changed(a1, parent=UNKNOWN_HASH).item(), 'refused J3'),
         # an unknown parent comes before a wrong number
-        (block(7, UNKNOWN_HASH), 'refused J3'),
+        (changed(numbered(a1, 7), parent=UNKNOWN_HASH).item(), 'refused J3'),
         # the parent comes later
-        (b2, 'refused J3'),
-        # forms that are not judged
-        (block(**on_a1, nonce=1, transactions=[]), 'unbuilt'),
-        (block(**on_a1, nonce=2, transactions=[transaction(2), transaction(3)]), 'unbuilt'),
-        (block(**on_a1, nonce=3, uncles=[uncle]), 'unbuilt'),
-        (block(**on_a1, nonce=4, proposals=[b'\x22' * 10]), 'unbuilt'),
-        # the form comes before the parent
-        (block(2, UNKNOWN_HASH, transactions=[]), 'unbuilt'),
-        # a hash that is kept comes before the form
-        (table(fields(header(1, hash_of(genesis), 1), transactions=[])), known(a1)),
+        (b2.item(), 'refused J3'),
+        # a hash that is kept, and other transactions under it
+        (table([a1.header(), table([]), table([]), fixvec([])]), known(a1)),
         # the tip stays at equal height, and moves to a greater one
-        (b1, joined(1, b1)),
-        (b2, joined(2, b2)),
-        (a2, joined(2, a2)),
+        (b1.item(), joined(b1)),
+        (b2.item(), joined(b2)),
+        (a2.item(), joined(a2)),
     ]
-    items += [(item, 'refused J1') for item in no_blocks(a1)]
+    items += [(item, 'refused J1') for item in no_blocks(a1.item())]
     items += [
-        (table(fields(header(3, hash_of(b2))) + [fixvec([])]), 'refused J1'),
-        (table(fields(header(3, hash_of(b2)))[:3]), 'refused J1'),
-        (b3, joined(3, b3)),
+        (table(next_b.fields() + [fixvec([])]), 'refused J1'),
+        (table(next_b.fields()[:3]), 'refused J1'),
+        (b3.item(), joined(b3)),
     ]
-    return genesis, items, tip(3, b3)
+    return items, b3
 
 
-def write(path, content):
-    with open(path, 'wb') as f:
-        f.write(content)
-
-
-def input_and_text(genesis, items, closing):
-    given = genesis + b''.join(item for item, _ in items)
-    lines = [line for _, line in items] + [closing]
-    return given, ''.join(line + '\n' for line in lines).encode()
+def input_and_text(items):
+    given = b''.join(item for item, _ in items)
+    return given, ''.join(line + '\n' for _, line in items).encode()
 
 
 def main():
-    p = argparse.ArgumentParser(description='Makes the example of `import`.')
-    p.add_argument('--stored-run', metavar='FOLDER')
-    folder = p.parse_args().stored_run
-    if folder is None:
-        given, text = input_and_text(*first_blocks())
-        write(os.path.join(HERE, 'first-blocks.bin'), given)
-        write(os.path.join(HERE, 'first-blocks.txt'), text)
-    else:
-        given, text = input_and_text(*each_verdict())
-        write(os.path.join(folder, 'args'), b'any\nimport\n')
-        write(os.path.join(folder, 'stdin'), given)
-        write(os.path.join(folder, 'stdout'), text)
-        write(os.path.join(folder, 'status'), b'%d\n' % SOME_REFUSED)
+    given, text = input_and_text(first_blocks()[0])
+    for name, content in (('spec.bin', SPEC.item()), ('genesis.bin', GENESIS.item()),
+                          ('first-blocks.bin', given), ('first-blocks.txt', text)):
+        store.write(os.path.join(HERE, name), content)
 
 
 if __name__ == '__main__':

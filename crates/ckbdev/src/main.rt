@@ -4,8 +4,9 @@
 ghost use Rattle.std.specs.Prelude.{◌≡◌, ◌<◌};
 
 use node_run::{Status, run};
-use outside::{NoDisk, Steps};
-use outside_os::{StdinSource, StdoutSink};
+use outside::Steps;
+use outside_os::{FolderDisk, StdinSource, StdoutSink};
+use std::alloc::AllocError;
 use std::env;
 use std::io::ErrorKind;
 use std::marker::Brand;
@@ -29,7 +30,15 @@ fn words_of(rt: &HostRuntime) -> Result<Vec<String>, Status> {
     Ok(words)
 }
 
-/// Runs with these words over the standard streams, no disk, and a count of steps from 0.
+/// The folder of the store, which is the first word. Where there is none, nothing is opened: such words are bad.
+fn folder_of(rt: &HostRuntime, words: &[String]) -> Result<String, AllocError> {
+    match words.first() {
+        Some(word) => word.clone(),
+        None => Ok(String::new(rt.alloc())),
+    }
+}
+
+/// Runs with these words over the standard streams, the store's folder, and a count of steps from 0.
 fn run_with<L: Ledger>(rt: HostRuntime, words: &[String], blank: Blank) -> Status
     requires name { blank.name ≡ L.name }
     requires parts { blank.parts ≡ L.parts }
@@ -38,7 +47,10 @@ fn run_with<L: Ledger>(rt: HostRuntime, words: &[String], blank: Blank) -> Statu
     let mut steps = Steps::<L>::new(blank);
     let mut input = StdinSource::new(rt);
     let mut out = StdoutSink::new(rt);
-    let mut disk = NoDisk::new();
+    let Ok(folder) = folder_of(&rt, words) else {
+        return Status::NoMemory;
+    };
+    let mut disk = FolderDisk::new(rt, folder);
     run(
         rt.alloc(),
         words,

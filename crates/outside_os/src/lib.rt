@@ -5,8 +5,15 @@
 //! bounds. Reading goes to the system in one call, and what `write` took has reached it when it answers.
 #![tactic(auto)]
 
+mod claim;
+mod folder;
+mod folder_disk;
+#[cfg(test)]
+mod folder_tests;
 mod streams;
 #[cfg(test)]
 mod tests;
 
+pub use claim::Claim;
+pub use folder_disk::FolderDisk;
 pub use streams::{StdinSource, StdoutSink};

@@ -7,13 +7,13 @@ use std::io::{Error, ErrorKind, Read};
 use std::marker::Model;
 
 // How often a call is made again that the system interrupts: no run makes so many, and so each call returns.
-const TRIES: u64 = u64::MAX;
+pub(crate) const TRIES: u64 = u64::MAX;
 
-fn is_interrupted(error: &Error) -> bool {
+pub(crate) fn is_interrupted(error: &Error) -> bool {
     error.kind() == ErrorKind::Interrupted
 }
 
-fn fail(failed: &mut u64) -> Failed
+pub(crate) fn fail(failed: &mut u64) -> Failed
     ensures { failed.new ≡ counted failed.old }
 {
     *failed = failed.saturating_add(1);

@@ -10,7 +10,7 @@ use std::io::{BufRead, ErrorKind, Input, Lines, Print, Read};
 
 // What the system does at one call.
 #[derive(Clone, Copy)]
-enum Turn {
+pub(crate) enum Turn {
     // moves as many bytes as fit, at most so many
     Moves(usize),
     Errs(ErrorKind),
@@ -18,7 +18,7 @@ enum Turn {
 
 use Turn::{Errs, Moves};
 
-const INTERRUPTED: Turn = Errs(ErrorKind::Interrupted);
+pub(crate) const INTERRUPTED: Turn = Errs(ErrorKind::Interrupted);
 
 // A system whose calls go by a list, and behind it move all. Its input has these bytes.
 #[derive(Drop)]

@@ -1,0 +1,113 @@
+// The disk as files of a folder.
+ghost use Rattle.std.specs.Prelude.{◌≡◌, ◌≤◌, ℕ, None, length, IfOk, OnOk, OnErr};
+ghost use Rattle.outside.specs.Causes.{counted, up_to_last, within_last};
+
+use crate::claim::Claim;
+use crate::folder::Folder;
+use crate::streams::fail;
+use outside::{Area, Disk, Failed};
+use std::marker::Model;
+use std::rt::Files;
+
+/// A folder that has the areas as files, `log.bin`, `snap_a.bin` and `snap_b.bin`. Each is opened at its first use,
+/// and made where it is missing; the folder has to be there. From the first call on the folder is this disk's alone:
+/// another one on it fails at each call, and changes nothing. After a failed `sync` each call fails.
+/// A clause sees how often it has failed.
+#[derive(Drop)]
+pub struct FolderDisk<R: Files + Drop> {
+    folder: Folder<R>,
+    failed: u64,
+}
+
+impl<R: Files + Drop> Model for FolderDisk<R> {
+    ghost Value = { ℕ };
+
+    ghost view = { λ disk. disk.failed };
+}
+
+impl<R: Files + Drop> FolderDisk<R> {
+    pub fn new(rt: R, folder: String) -> FolderDisk<R>
+        ensures { result ≡ 0 }
+    {
+        FolderDisk {
+            folder: Folder::new(rt, folder),
+            failed: 0,
+        }
+    }
+}
+
+impl<R: Files + Drop> Disk for FolderDisk<R>
+where
+    R::File: Claim,
+{
+    ghost reads_as = { λ _. None };
+
+    ghost images = { λ _ _. ⊥ };
+
+    ghost moment = { λ _. 0 };
+
+    ghost left_since = { λ _ _ _. ⊥ };
+
+    ghost faults = { up_to_last };
+
+    ghost reads_image = { λ _. tt };
+
+    ghost images_told = { λ _ _ left. absurd left };
+
+    ghost last_fault = { λ disk. within_last disk };
+
+    ghost counts_now = { λ _ _ _ _ left. absurd left };
+
+    ghost only_now = { λ _ _ left. absurd left };
+
+    fn len(&mut self, area: Area) -> Result<u64, Failed>
+        ensures unchanged { OnOk result (self.new ≡ self.old) }
+        ensures counted { OnErr result (self.new ≡ counted self.old) }
+    {
+        match self.folder.len(area) {
+            Ok(n) => Ok(n),
+            Err(_) => Err(fail(&mut self.failed)),
+        }
+    }
+
+    fn read(&mut self, area: Area, at: u64, into: &mut [u8]) -> Result<usize, Failed>
+        ensures fits { IfOk result (λ n. n ≤ length into.new) }
+        ensures unchanged { OnOk result (self.new ≡ self.old) }
+        ensures counted { OnErr result (self.new ≡ counted self.old) }
+    {
+        match self.folder.read(area, at, into) {
+            Ok(n) => Ok(n),
+            Err(_) => Err(fail(&mut self.failed)),
+        }
+    }
+
+    fn write(&mut self, area: Area, at: u64, piece: &[u8]) -> Result<(), Failed>
+        ensures unchanged { OnOk result (self.new ≡ self.old) }
+        ensures counted { OnErr result (self.new ≡ counted self.old) }
+    {
+        match self.folder.write(area, at, piece) {
+            Ok(()) => Ok(()),
+            Err(_) => Err(fail(&mut self.failed)),
+        }
+    }
+
+    fn cut(&mut self, area: Area, len: u64) -> Result<(), Failed>
+        ensures unchanged { OnOk result (self.new ≡ self.old) }
+        ensures counted { OnErr result (self.new ≡ counted self.old) }
+    {
+        match self.folder.cut(area, len) {
+            Ok(()) => Ok(()),
+            Err(_) => Err(fail(&mut self.failed)),
+        }
+    }
+
+    fn sync(&mut self, area: Area) -> Result<(), Failed>
+        ensures unchanged { OnOk result (self.new ≡ self.old) }
+        ensures counted { OnErr result (self.new ≡ counted self.old) }
+    {
+        match self.folder.sync(area) {
+            Ok(()) => Ok(()),
+            Err(_) => Err(fail(&mut self.failed)),
+        }
+    }
+}

@@ -1,0 +1,281 @@
+"""The script that builds and runs the program, and what the README shows."""
+
+import os
+import shutil
+import signal
+import subprocess
+import sys
+import time
+
+from harness import (FIRST_INIT, FIRST_LINE, SCRIPT, SECONDS, TOP, Ran, chain_of, first, line_of, must, must_answer,
+                     must_be, new_folder, new_store, started, status_of)
+from streams import BAD_WORDS
+
+
+def check_script_hands_on(_):
+    """Words, streams, status and folder go through the script as they are."""
+    given, text = first.input_and_text(first.first_blocks()[0])
+    with new_folder() as away:
+        for name in ('a b', ' ', '*', '-n', "it's"):
+            os.mkdir(os.path.join(away, name))
+            must_answer(Ran([SCRIPT, name, 'init'], FIRST_INIT, cwd=away), 0, FIRST_LINE, 'init in %r' % name)
+            must_answer(Ran([SCRIPT, name, 'import'], given, name == '*', cwd=away), 1, text, 'import in %r' % name)
+        link = os.path.join(away, 'a link')
+        os.symlink(SCRIPT, link)
+        tip = ('%s\n' % first.tip(first.first_blocks()[1])).encode()
+        must_answer(Ran([link, 'a b', 'tip'], cwd=away), 0, tip, 'by a link, from another folder')
+        closed = Ran(['sh', '-c', 'exec "$@" <&-', '', SCRIPT, 'a b', 'import'], cwd=away)
+        must_answer(closed, 3, b'', 'a closed standard input')
+        must_be(sorted(os.listdir(away)), sorted(['a b', ' ', '*', '-n', "it's", 'a link']), 'what is left there')
+        must_be(sorted(os.listdir(os.path.join(away, 'a b'))), ['log.bin', 'snap_a.bin', 'snap_b.bin'],
+                'what is left in a folder')
+
+
+def check_script_on_bad_words(_):
+    given, _ = first.input_and_text(first.first_blocks()[0])
+    with new_store(SCRIPT) as store:
+        before = os.stat(os.path.join(store, 'log.bin'))
+        for words in [*BAD_WORDS, ['', store, 'import'], [store, '', 'import'], [store + ' import'],
+                      [store, 'exec 5']]:
+            ran = Ran([SCRIPT, *words], given)
+            must_be(ran.status, 2, '%r: status' % words)
+            must_be(ran.out, b'', '%r: standard output' % words)
+            must(b'usage: ckbdev FOLDER ' in ran.err, '%r: no usage on standard error' % words)
+            must_be(ran.read, 0, '%r: bytes read' % words)
+        must_be(os.stat(os.path.join(store, 'log.bin')), before, 'the log behind bad words')
+
+
+def check_script_ends_by_a_signal(_):
+    numbers = (signal.SIGTERM, signal.SIGINT, signal.SIGHUP)
+
+    def heed():
+        # they are ignored where this script was started so
+        for it in numbers:
+            signal.signal(it, signal.SIG_DFL)
+
+    chain = chain_of(1)
+    for number in numbers:
+        with chain.store(SCRIPT) as store, started([SCRIPT, store, 'import'], preexec_fn=heed) as process:
+            process.stdin.write(chain.blocks[0])
+            must_be(line_of(process), chain.lines[0], 'the line of a block')
+            process.send_signal(number)
+            must_be(status_of(process), -number, 'the end by signal %d' % number)
+            # the program holds the pipe as long as it runs
+            must_be(line_of(process), b'', 'what is written after signal %d' % number)
+
+
+# ------------------------------------------------- how the script builds
+
+PROGRAM_OF_A_FAKE = '#!/bin/sh\n[ "$2" = import ] || exit 2\necho "in $(basename "$PWD"): program %s"\n'
+LOW = '//! %s\n\n#[cfg(test)]\nmod tests;\n'
+# a toolchain that proves nothing, is slow, and may be told to fail or never to end
+FAKE_RT = r'''#!/bin/sh
+[ "$1" = fmt ] && exit 0
+echo "$1" >>"$FAKE_LOG"
+if [ "$1" = run ]; then
+    [ "$FAKE_STATUS" = 0 ] || exit 2
+    cp src/program out/ckbdev && chmod 755 out/ckbdev
+    exit 2
+fi
+[ "$1" = ci ] || exit 1
+[ -d .git ] && ! grep -rq test crates && [ ! -e crates/other ] || exit 1
+echo 'rt: low proved'
+sleep "$FAKE_SECONDS"
+[ "$FAKE_STATUS" = 0 ] || exit "$FAKE_STATUS"
+mkdir -p crates/ckbdev/out
+cp crates/ckbdev/src/program crates/ckbdev/out/ckbdev
+chmod 755 crates/ckbdev/out/ckbdev
+echo 'rt: ckbdev proved'
+'''
+
+
+class Checkout:
+    """A checkout of a few crates, with the script and the fake toolchain."""
+
+    def __init__(self, top):
+        self.top, self.log = top, os.path.join(top, 'log')
+        for name in ('ckbdev', 'tools/build.py', 'HANDLES'):
+            os.makedirs(os.path.dirname(self.at(name)), exist_ok=True)
+            shutil.copy(os.path.join(TOP, name), self.at(name))
+        self.write('crates.txt', 'low:\nckbdev: low\nother:\n')
+        self.write('crates/low/src/lib.rt', LOW % 'low')
+        self.write('crates/low/src/tests.rt', '#[test]\n')
+        self.write('crates/low/must-fail/one.edit', 'test\n')
+        self.write('crates/ckbdev/src/program', PROGRAM_OF_A_FAKE % 'one')
+        self.write('crates/ckbdev/src/main.rt', '')
+        self.write('crates/other/src/lib.rt', '')
+        self.write('bin/rt', FAKE_RT)
+        os.chmod(self.at('bin/rt'), 0o755)
+        os.mkdir(self.at('elsewhere'))
+
+    def at(self, name):
+        return os.path.join(self.top, name)
+
+    def write(self, name, text):
+        os.makedirs(os.path.dirname(self.at(name)), exist_ok=True)
+        with open(self.at(name), 'w', encoding='utf-8') as f:
+            f.write(text)
+
+    def start(self, seconds=0, status=0):
+        environment = {**os.environ, 'PATH': self.at('bin') + ':' + os.environ['PATH'], 'FAKE_LOG': self.log,
+                       'FAKE_SECONDS': str(seconds), 'FAKE_STATUS': str(status), 'TMPDIR': self.top}
+        return subprocess.Popen([self.at('ckbdev'), 'any', 'import'], env=environment, cwd=self.at('elsewhere'),
+                                stdin=subprocess.DEVNULL, stdout=subprocess.PIPE, stderr=subprocess.PIPE)
+
+    def run(self, **how):
+        process = self.start(**how)
+        out, err = process.communicate(timeout=SECONDS)
+        return process.returncode, out, err
+
+    def builds(self):
+        """How often the toolchain was called."""
+        if not os.path.exists(self.log):
+            return 0
+        with open(self.log, encoding='utf-8') as f:
+            return len(f.read().split())
+
+    def copies(self):
+        return [name for name in os.listdir(self.top) if name.startswith('ckbdev-build')]
+
+    def must_run(self, which, builds, what, **how):
+        status, out, err = self.run(**how)
+        must_be(status, 0, what + ': status')
+        must_be(out, b'in elsewhere: program %s\n' % which, what)
+        must_be(self.builds(), builds, what + ': builds')
+        return err
+
+
+def check_script_builds_once(_):
+    with new_folder() as top:
+        it = Checkout(top)
+        err = it.must_run(b'one', 1, 'the first run')
+        must(b'1 of 2 crates' in err and b'now at ckbdev' in err, 'the first run does not say how far it is')
+        must_be(it.must_run(b'one', 1, 'the second run'), b'', 'standard error of the second run')
+        it.write('crates/other/src/lib.rt', '// changed')
+        it.must_run(b'one', 1, 'after a change of a crate that is not below the program')
+        it.write('crates/ckbdev/src/program', PROGRAM_OF_A_FAKE % 'two')
+        it.must_run(b'two', 2, 'after a change')
+        os.remove(it.at('build/ckbdev'))
+        it.must_run(b'two', 3, 'after the program was removed')
+        must_be(it.copies(), [], 'what is left of the builds')
+
+
+def check_script_builds_once_for_two(_):
+    with new_folder() as top:
+        it = Checkout(top)
+        both = [it.start(seconds=2), it.start(seconds=2)]
+        for process in both:
+            out, _ = process.communicate(timeout=SECONDS)
+            must_be(process.returncode, 0, 'status')
+            must_be(out, b'in elsewhere: program one\n', 'standard output')
+        must_be(it.builds(), 1, 'builds of two runs at once')
+
+
+def check_script_survives_a_broken_build(_):
+    with new_folder() as top:
+        it = Checkout(top)
+        status, out, err = it.run(status=3)
+        must_be((status, out), (70, b''), 'a build that fails')
+        must(b'the build failed' in err, 'a build that fails says nothing')
+        for number in (signal.SIGTERM, signal.SIGKILL):
+            builds, ends = it.builds(), time.monotonic() + SECONDS
+            process = it.start(seconds=3)
+            while it.builds() == builds:
+                must(time.monotonic() < ends, 'no build begins')
+                time.sleep(0.01)
+            build = children_of(process.pid)
+            for pid in (process.pid, *build):
+                os.kill(pid, number)
+            process.communicate(timeout=SECONDS)
+            must(not os.path.exists(it.at('build/stamp')), 'a build that was interrupted left a stamp')
+        it.must_run(b'one', it.builds() + 1, 'after broken builds')
+        must_be(it.copies(), [], 'what is left of broken builds')
+
+
+def children_of(pid):
+    with open('/proc/%d/task/%d/children' % (pid, pid), encoding='utf-8') as f:
+        return [int(it) for it in f.read().split()]
+
+
+def check_script_builds_over_earlier_work(_):
+    with new_folder() as top:
+        it = Checkout(top)
+        for name in ('low', 'ckbdev'):
+            os.makedirs(it.at('crates/%s/out/incremental' % name))
+        it.write('crates/ckbdev/out/ckbdev', PROGRAM_OF_A_FAKE % 'old')
+        os.chmod(it.at('crates/ckbdev/out/ckbdev'), 0o755)
+        must_be(it.run(status=1)[:2], (70, b''), 'a build that fails, beside an old program')
+        it.must_run(b'one', 2, 'over earlier work')
+        with open(it.log, encoding='utf-8') as f:
+            must_be(f.read(), 'run\nrun\n', 'what was asked of the toolchain')
+
+
+def check_script_takes_the_build_of_the_gate(_):
+    with new_folder() as top:
+        it = Checkout(top)
+        time.sleep(0.02)
+        it.write('.git/rt-ci.lock', '')
+        time.sleep(0.02)
+        it.write('crates/ckbdev/out/ckbdev', PROGRAM_OF_A_FAKE % 'the gate')
+        os.chmod(it.at('crates/ckbdev/out/ckbdev'), 0o755)
+        it.write('crates/ckbdev/stdout', 'text')
+        it.write('crates/ckbdev/out/stdout', 'text')
+        it.must_run(b'one', 1, 'where the gate has not run both builds')
+        shutil.rmtree(it.at('build'))
+        it.write('crates/ckbdev/out/stdout.by-rattle', 'text')
+        it.must_run(b'the gate', 1, 'after the gate')
+        it.must_run(b'the gate', 1, 'a second time after the gate')
+        it.write('crates/low/src/lib.rt', LOW % 'changed')
+        it.must_run(b'one', 2, 'after a change behind the gate')
+
+
+# ------------------------------------------------------------ what is shown
+
+def check_examples(_):
+    """examples/ has what its scripts make, and they make what they say."""
+    given, text = first.input_and_text(first.first_blocks()[0])
+    for name, wanted in (('spec.bin', first.SPEC.item()), ('genesis.bin', first.GENESIS.item()),
+                         ('first-blocks.bin', given), ('first-blocks.txt', text)):
+        with open(os.path.join(TOP, 'examples', name), 'rb') as f:
+            must_be(f.read(), wanted, 'examples/' + name)
+    makes = [sys.executable, os.path.join(TOP, 'examples', 'make_store.py')]
+    must_answer(Ran(makes), 0, FIRST_INIT, 'make_store.py without options')
+    for words, why in ((['--window', '3', '2'], b'S3'), (['--output', '4200000000', '0a0b'], b'G7')):
+        ran = Ran(makes + words)
+        must_be((ran.status, ran.out), (2, b''), repr(words))
+        must(why in ran.err, '%r: it does not say why' % words)
+    words = ['--epoch-length', '4', '--window', '1', '3', '--timestamp', '5', '--maturity', '0x40000000001',
+             '--output', '4300000000', '0a0b']
+    given = Ran(makes + words).out
+    with new_folder() as folder:
+        ran = Ran([SCRIPT, folder, 'init'], given)
+        must_answer(ran, 0, b'genesis 0x%s\n' % first.store.ckbhash(given[120:328]).hex().encode(), repr(words))
+
+
+def check_readme(_):
+    """What the README shows is what comes."""
+    with open(os.path.join(TOP, 'README.md'), encoding='utf-8') as f:
+        readme = f.read()
+    items, tip = first.first_blocks()
+    _, text = first.input_and_text(items)
+    shown = {
+        'cat examples/spec.bin examples/genesis.bin | ./ckbdev chain init': (0, FIRST_LINE),
+        './ckbdev chain import < examples/first-blocks.bin': (1, text),
+        './ckbdev chain tip': (0, (first.tip(tip) + '\n').encode()),
+        './ckbdev chain exec 1000000 < examples/primes.elf': (0, b'exit 25 8337\n'),
+    }
+    must('mkdir chain\n' in readme, 'the README does not make the folder')
+    with new_folder() as away:
+        os.mkdir(os.path.join(away, 'chain'))
+        for name in ('ckbdev', 'examples'):
+            os.symlink(os.path.join(TOP, name), os.path.join(away, name))
+        for line, (status, wanted) in shown.items():
+            must(line in readme, 'the README lacks the line %s' % line)
+            must(wanted.decode() in readme, 'the README does not show what %s prints' % line)
+            must_answer(Ran(['sh', '-c', line], cwd=away), status, wanted, line)
+        ran = Ran(['sh', os.path.join(TOP, 'examples', 'first-chain.sh'), 'new'], cwd=away)
+        must_be((ran.status, ran.err), (0, b''), 'first-chain.sh')
+        for status, wanted in shown.values():
+            must(wanted in ran.out or b'exit' in wanted, 'first-chain.sh does not show %r' % wanted)
+        must_be(sorted(os.listdir(os.path.join(away, 'new'))), ['log.bin', 'snap_a.bin', 'snap_b.bin'],
+                'what first-chain.sh leaves in its folder')

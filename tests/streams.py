@@ -1,0 +1,329 @@
+"""The program's words, streams and lines: each status that they can bring, with its text."""
+
+import os
+import resource
+import subprocess
+
+from harness import (FIRST_INIT, FIRST_LINE, GENESIS_LIMIT, ITEM_LIMIT, PRIMES, Ran, chain_of, chaingen, file_with,
+                     first, line_of, log_of, must, must_answer, must_be, must_have_tip, new_folder, new_store,
+                     size_word, started, status_of, write)
+
+SPEC, GENESIS = first.SPEC.item(), first.GENESIS.item()
+
+
+def elf(*words):
+    return chaingen.elf(b''.join(word.to_bytes(4, 'little') for word in words))
+
+
+def addi(register, value):
+    """register = value, from -2048 to 2047"""
+    return (value & 0xfff) << 20 | register << 7 | 0x13
+
+
+A0, A7, ECALL = 10, 17, 0x73
+BAD_WORDS = [
+    [], ['any'], ['import'], ['', 'import'], ['any', ''], ['any', 'Import'], ['any', 'import '],
+    ['any', 'import', 'import'], ['any', 'import', ''], ['', 'init'], ['any', 'init', 'init'], ['any', 'INIT'],
+    ['', 'tip'], ['any', 'tip', '0'], ['any', 'tips'], ['any', 'exec'], ['any', 'exec', ''],
+    ['any', 'exec', '01'], ['any', 'exec', '-1'], ['any', 'exec', '+1'], ['any', 'exec', '0x1'],
+    ['any', 'exec', '1 '], ['any', 'exec', '1099511627777'], ['any', 'exec', '5', '6'],
+    [b'\xff', 'import'], ['any', b'\xff'],
+]
+
+
+def check_words(program):
+    with new_folder() as folder:
+        os.mkdir(os.path.join(folder, 'any'))
+        for words in BAD_WORDS:
+            ran = Ran([program, *words], FIRST_INIT, cwd=folder)
+            must_answer(ran, 2, b'', repr(words))
+            must_be(ran.read, 0, '%r: bytes read' % words)
+        must_be(os.listdir(os.path.join(folder, 'any')), [], 'files that bad words made')
+        for name in (' ', 'a b', '-', '*', "it's", '\n', 'é', os.path.join(folder, 'b')):
+            os.mkdir(os.path.join(folder, name))
+            must_answer(Ran([program, name, 'init'], FIRST_INIT, cwd=folder), 0, FIRST_LINE, 'init in %r' % name)
+            must(log_of(os.path.join(folder, name)), 'init in %r made its log elsewhere' % name)
+
+
+# ----------------------------------------------------------------------- init
+
+def bad_specs():
+    """A specification for each of S1 to S7, and in each the first rule that it breaks."""
+    def spec(**fields):
+        return first.changed(first.SPEC, **fields).item()
+
+    yield 1, size_word(101) + SPEC[4:] + b'\0'
+    yield 1, size_word(96) + SPEC[4:96]
+    for length in (0, 65536):
+        yield 2, spec(epoch_length=length, w_close=0)
+    for close, far in ((0, 1), (3, 2), (1, 101)):
+        yield 3, spec(w_close=close, w_far=far, max_block_bytes=0)
+    for most in (0, (1 << 20) + 1):
+        yield 4, spec(max_block_bytes=most, max_cycles=0)
+    for most in (0, (1 << 40) + 1):
+        yield 5, spec(max_cycles=most, maturity=1 << 56)
+    # an index without a length, one that is not below it, and a bit too high
+    for maturity in (1 << 24, 3 << 24 | 3 << 40, 1 << 56):
+        yield 6, spec(maturity=maturity, halving_interval=0)
+    yield 7, spec(halving_interval=0)
+
+
+def bad_geneses():
+    """A genesis for each of G1 to G7, and in each the first rule that it breaks."""
+    good = first.GENESIS
+    only, = good.transactions
+    head, _, transactions, _ = good.fields()
+    uncle = first.table([head, first.fixvec([])])
+    yield 1, first.table(good.fields() + [first.fixvec([])])
+    yield 1, size_word(4)
+    yield 2, first.changed(good, number=1, dao=(0, 1, 0, 0)).item()
+    yield 3, first.table([head, first.table([uncle]), transactions, first.fixvec([])])
+    yield 3, first.table([head, first.table([]), transactions, first.fixvec([bytes(10)])])
+    for dao in ((0, 1, 0, 0), (1, 0, 0, 0)):
+        yield 4, first.changed(good, dao=dao).item()
+    yield 5, first.table([head, first.table([]), first.table([]), first.fixvec([])])
+    yield 5, first.changed(good, transactions=(only, only)).item()
+    yield 6, data_left_out(good)
+    program, (_, data) = only.outputs
+    scant = first.changed(only, outputs=(program, (41 * 10 ** 8 - 1, data)))
+    yield 7, first.changed(good, transactions=(scant,)).item()
+
+
+def data_left_out(block):
+    """The block with one `outputs_data` fewer than outputs."""
+    raw = block.transactions[0].raw()
+    offsets = [int.from_bytes(raw[at:at + 4], 'little') for at in range(4, 28, 4)] + [len(raw)]
+    parts = [raw[a:b] for a, b in zip(offsets, offsets[1:])]
+    parts[5] = first.table([first.store.as_bytes(block.transactions[0].outputs[0][1])])
+    whole = first.table([first.table(parts), first.table([])])
+    return first.table([block.header(), first.table([]), first.table([whole]), first.fixvec([])])
+
+
+def inputs_of_init():
+    """(what, input, status, text)"""
+    yield 'nothing', b'', 8, b'cut 0\n'
+    yield 'a cut size word', SPEC[:3], 8, b'cut 0\n'
+    yield 'a cut specification', SPEC[:-1], 8, b'cut 0\n'
+    yield 'a specification alone', SPEC, 8, b'cut 100\n'
+    yield 'a cut second size word', SPEC + GENESIS[:2], 8, b'cut 100\n'
+    yield 'a cut genesis', FIRST_INIT[:-1], 8, b'cut 100\n'
+    for size in (0, 3, ITEM_LIMIT + 1, (1 << 32) - 1):
+        yield 'a first size of %d' % size, size_word(size) + FIRST_INIT, 9, b'bad size 0\n'
+    for size in (3, GENESIS_LIMIT + 1):
+        yield 'a second size of %d' % size, SPEC + size_word(size) + GENESIS, 9, b'bad size 100\n'
+    yield 'a byte too many', FIRST_INIT + b'\0', 12, b'extra %d\n' % len(FIRST_INIT)
+    yield 'another item', FIRST_INIT + GENESIS, 12, b'extra %d\n' % len(FIRST_INIT)
+    for number, spec in bad_specs():
+        yield 'S%d' % number, spec + GENESIS, 11, b'bad spec S%d\n' % number
+    for number, genesis in bad_geneses():
+        yield 'G%d' % number, SPEC + genesis, 11, b'bad genesis G%d\n' % number
+    # the whole input is read before a rule is looked at, and the specification comes first
+    bad_spec, bad_genesis = next(bad_specs())[1], size_word(4)
+    yield 'S1 and G1', bad_spec + bad_genesis, 11, b'bad spec S1\n'
+    yield 'S1 and a cut', bad_spec, 8, b'cut 101\n'
+    yield 'S1 and a byte too many', bad_spec + GENESIS + b'\0', 12, b'extra %d\n' % len(bad_spec + GENESIS)
+
+
+def check_statuses_of_init(program):
+    with new_folder() as folder:
+        for what, given, status, text in inputs_of_init():
+            for piped in (False, True):
+                must_answer(Ran([program, folder, 'init'], given, piped), status, text, what)
+        must_answer(Ran([program, folder, 'tip']), 7, b'', 'the tip where `init` failed')
+        # what such a run left is in nobody's way, nor are snapshots of another store
+        write(os.path.join(folder, 'snap_a.bin'), b'\1old')
+        write(os.path.join(folder, 'snap_b.bin'), b'\1older')
+        must_answer(Ran([program, folder, 'init'], FIRST_INIT, True), 0, FIRST_LINE, 'init')
+        for name in ('snap_a.bin', 'snap_b.bin'):
+            must_be(os.path.getsize(os.path.join(folder, name)), 0, 'the length of %s' % name)
+        ran = Ran([program, folder, 'init'], FIRST_INIT)
+        must_answer(ran, 10, b'', 'init, where a store is')
+        must_be(ran.read, 0, 'bytes read by init where a store is')
+        must_have_tip(program, folder, ('%s\n' % first.tip(first.GENESIS)).encode(), 'behind init')
+    with new_folder() as folder:
+        write(os.path.join(folder, 'log.bin'), b'\0')
+        must_answer(Ran([program, folder, 'init'], FIRST_INIT), 10, b'', 'init, where a byte is')
+
+
+def check_longest_genesis(program):
+    chain = chain_of(1, genesis_bytes=GENESIS_LIMIT)
+    must_be(len(chain.init), 100 + GENESIS_LIMIT, 'the input of init')
+    with chain.store(program) as folder:
+        must_answer(Ran([program, folder, 'import'], chain.blocks[0]), 0, chain.lines[0], 'on the longest genesis')
+    with new_folder() as folder:
+        longer = chain_of(1, genesis_bytes=GENESIS_LIMIT + 1).init
+        must_answer(Ran([program, folder, 'init'], longer, True), 9, b'bad size 100\n', 'a byte more')
+
+
+# ------------------------------------------------------------- import and tip
+
+def check_statuses_of_import(program):
+    items, tip = first.each_verdict()
+    given, text = first.input_and_text(items)
+    (block, line), again = items[0], items[1][1]
+    line, again = (line + '\n').encode(), (again + '\n').encode()
+    end = len(block)
+    cases = [
+        ('nothing', b'', 0, b''),
+        ('a block that joins', block, 0, line),
+        ('the same again', block, 0, again),
+        ('a cut size word', block + b'\4\0\0', 8, again + b'cut %d\n' % end),
+        ('a cut item', block + block[:-1], 8, again + b'cut %d\n' % end),
+        ('a cut first item', b'\4', 8, b'cut 0\n'),
+    ] + [
+        ('a size of %d' % size, block + size_word(size), 9, again + b'bad size %d\n' % end)
+        for size in (0, 3, ITEM_LIMIT + 1)
+    ] + [('a longest item that is no block', size_word(ITEM_LIMIT) + bytes(ITEM_LIMIT - 4), 1, b'refused J1\n')]
+    with new_store(program) as folder:
+        for what, stdin, status, wanted in cases:
+            must_answer(Ran([program, folder, 'import'], stdin), status, wanted, what)
+    for piped in (False, True):
+        with new_store(program) as folder:
+            must_answer(Ran([program, folder, 'import'], given, piped), 1, text, 'each verdict')
+            ran = Ran([program, folder, 'tip'], given)
+            must_answer(ran, 0, (first.tip(tip) + '\n').encode(), 'tip')
+            must_be(ran.read, 0, 'bytes read by tip')
+
+
+def check_large_blocks(program):
+    """20 MB of blocks, each of the greatest size that this chain allows."""
+    chain = chain_of(34, block_bytes=597000)
+    must(all(len(it) == 597000 for it in chain.blocks), 'the blocks have not the size that they should have')
+    for piped in (False, True):
+        with chain.store(program) as folder:
+            ran = Ran([program, folder, 'import'], b''.join(chain.blocks), piped)
+            must_answer(ran, 0, b''.join(chain.lines), 'on pipes' if piped else 'on files')
+            must_have_tip(program, folder, chain.tip(34), 'large blocks')
+
+
+def check_many_blocks(program):
+    chain = chain_of(3000)
+    for piped in (False, True):
+        with chain.store(program) as folder:
+            ran = Ran([program, folder, 'import'], b''.join(chain.blocks), piped)
+            must_answer(ran, 0, b''.join(chain.lines), 'on pipes' if piped else 'on files')
+            must_have_tip(program, folder, chain.tip(3000), 'many blocks')
+
+
+def check_line_before_the_next_item(program):
+    """Who sends block after block is answered block after block."""
+    chain = chain_of(20)
+    with chain.store(program) as folder, started([program, folder, 'import']) as process:
+        for block, line in zip(chain.blocks, chain.lines):
+            process.stdin.write(block)
+            must_be(line_of(process), line, 'the line of a block, before the next one is sent')
+        process.stdin.close()
+        must_be(line_of(process), b'', 'what follows the last line')
+        must_be(status_of(process), 0, 'status')
+
+
+def check_out_of_memory(program):
+    """With too little memory for the blocks: whole lines of the text, and the status. What they tell is kept."""
+    chain = chain_of(34, block_bytes=597000)
+    given, text = b''.join(chain.blocks), b''.join(chain.lines)
+
+    def limit():
+        resource.setrlimit(resource.RLIMIT_AS, (14 << 20, 14 << 20))
+
+    with chain.store(program) as folder:
+        ran = Ran([program, folder, 'import'], given, preexec_fn=limit)
+        must_be(ran.status, 6, 'status')
+        must(text.startswith(ran.out), 'what was written is not the front of the text')
+        must(ran.out.endswith(b'\n'), 'what was written does not end with a whole line')
+        count = ran.out.count(b'\n')
+        after = Ran([program, folder, 'import'], given)
+        must_be(after.status, 0, 'with more memory: status')
+        must(after.out.startswith(b''.join(chain.known(at) for at in range(1, count + 1))),
+             'a block that was answered is not kept')
+        must_have_tip(program, folder, chain.tip(34), 'with more memory')
+
+
+# ----------------------------------------------------------------------- exec
+
+def check_statuses_of_exec(program):
+    with open(PRIMES, 'rb') as f:
+        primes = f.read()
+    # 12 bytes to load are 3 cycles, two ADDI are 2, ECALL is 500
+    cases = [
+        ('primes', primes, '1000000', 0, b'exit 25 8337\n'),
+        ('primes, to the cycle', primes, '8337', 0, b'exit 25 8337\n'),
+        ('primes, a cycle short', primes, '8336', 0, b'spent\n'),
+        ('exit with -1', elf(addi(A7, 93), addi(A0, -1), ECALL), '505', 0, b'exit -1 505\n'),
+        ('an unknown syscall', elf(addi(A7, 94), addi(A0, 0), ECALL), '505', 0, b'fault 5 505\n'),
+        ('no file', b'', '0', 0, b'bad elf 1\n'),
+        ('the longest file', bytes(1 << 20), '1', 0, b'bad elf 2\n'),
+        ('a longer file', bytes((1 << 20) + 2), '1', 12, b'extra 1048576\n'),
+    ]
+    # the folder is not looked at, and need not be there
+    for what, stdin, budget, status, wanted in cases:
+        for piped in (False, True):
+            must_answer(Ran([program, '/no/such/folder', 'exec', budget], stdin, piped), status, wanted, what)
+    ran = Ran([program, 'any', 'exec', '1'], bytes(1 << 21))
+    must(ran.read <= (1 << 20) + 1, 'more is read than a byte behind the longest file')
+
+
+# --------------------------------------------------------------------- faults
+
+def check_failing_input(program):
+    with new_folder() as empty, new_store(program) as kept:
+        for words in ([empty, 'init'], [kept, 'import'], [kept, 'exec', '9']):
+            folder = os.open('/', os.O_RDONLY)
+            try:
+                must_answer(Ran([program, *words], stdin=folder), 3, b'', '%s of a folder' % words[1])
+            finally:
+                os.close(folder)
+            closed = Ran(['sh', '-c', 'exec "$@" <&-', '', program, *words])
+            must_answer(closed, 3, b'', '%s of a closed standard input' % words[1])
+        line = (first.tip(first.GENESIS) + '\n').encode()
+        closed = Ran(['sh', '-c', 'exec "$@" <&-', '', program, kept, 'tip'])
+        must_answer(closed, 0, line, 'tip, which reads nothing')
+        must_have_tip(program, kept, line, 'behind runs without input')
+
+
+def check_failing_output(program):
+    """The status, and that what was answered is kept, and no line lands in a file of the store."""
+    # more text than a pipe holds
+    chain = chain_of(3000)
+    given, text = b''.join(chain.blocks), b''.join(chain.lines)
+    for piece in (0, 1, 100, 5000):
+        # the reader goes when it has so many bytes
+        with chain.store(program) as folder, file_with(given) as stdin:
+            process = subprocess.Popen([program, folder, 'import'], stdin=stdin, stdout=subprocess.PIPE, bufsize=0)
+            if piece == 0:
+                process.stdout.close()
+            got = b''
+            while len(got) < piece:
+                got += os.read(process.stdout.fileno(), piece - len(got))
+            process.stdout.close()
+            must_be(status_of(process), 4, 'a pipe that is closed after %d bytes: status' % piece)
+            must_be(got, text[:piece], 'a pipe that is closed after %d bytes' % piece)
+            count = got.count(b'\n')
+            known = b''.join(chain.known(at) for at in range(1, count + 1))
+            must_answer(Ran([program, folder, 'import'], b''.join(chain.blocks[:count])), 0, known,
+                        'the blocks whose lines were read')
+    for closes in ('>&-', '>&- <&-', '>&- 2>&-'):
+        with new_store(program) as folder:
+            block, line = first.first_blocks()[0][0]
+            closed = Ran(['sh', '-c', 'exec "$@" ' + closes, '', program, folder, 'tip'])
+            must_answer(closed, 4, b'', 'tip with ' + closes)
+            closed = Ran(['sh', '-c', 'exec "$@" ' + closes, '', program, folder, 'import'], block)
+            must_answer(closed, 3 if '<' in closes else 4, b'', 'import with ' + closes)
+            must_answer(Ran([program, folder, 'import'], block), 0,
+                        ((line if '<' in closes else line.replace('joined 1', 'known')) + '\n').encode(),
+                        'import behind one with ' + closes)
+
+
+def check_full_output(program):
+    if not os.path.exists('/dev/full'):
+        return
+    chain = chain_of(1)
+    with open(PRIMES, 'rb') as f:
+        primes = f.read()
+    with open('/dev/full', 'wb') as full, new_folder() as empty, chain.store(program) as kept:
+        runs = (([empty, 'init'], chain.init), ([kept, 'import'], chain.blocks[0]), ([kept, 'tip'], b''),
+                ([kept, 'exec', '9999'], primes))
+        for words, content in runs:
+            with file_with(content) as stdin:
+                process = subprocess.Popen([program, *words], stdin=stdin, stdout=full)
+                must_be(status_of(process), 4, '%s to a full disk: status' % words[1])
+        must_have_tip(program, kept, chain.tip(1), 'a block whose line was lost')
