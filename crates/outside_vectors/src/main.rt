@@ -64,9 +64,9 @@ impl Outside {
     }
 }
 
-fn main(rt: HostRuntime) -> io::Result<ExitCode> {
+/// How many rows there are, and how many of them agree.
+fn compare(rt: HostRuntime, outside: &mut Outside) -> io::Result<(u64, u64)> {
     let alloc = rt.alloc();
-    let mut outside = Outside::new(alloc);
     let mut rows = 0u64;
     let mut agreed = 0u64;
     for row in BufReader::new(alloc, rt.reader())?.lines(alloc) {
@@ -78,6 +78,16 @@ fn main(rt: HostRuntime) -> io::Result<ExitCode> {
             println!(rt; "differs: {row}")?;
         }
     }
+    Ok((rows, agreed))
+}
+
+fn compare_from_new(rt: HostRuntime) -> io::Result<(u64, u64)> {
+    let mut outside = Outside::new(rt.alloc());
+    compare(rt, &mut outside)
+}
+
+fn main(rt: HostRuntime) -> io::Result<ExitCode> {
+    let (rows, agreed) = compare_from_new(rt)?;
     println!(rt; "{agreed} of {rows} rows agree")?;
     Ok(if agreed == rows {
         ExitCode::SUCCESS
