@@ -11,6 +11,3 @@ mod tree;
 
 pub use laws::root_laws;
 pub use tree::root;
-
-#[cfg(test)]
-mod tests;

@@ -13,6 +13,3 @@ mod withdrawal;
 pub use dao_field::Dao;
 pub use movement::{DaoMove, miner_share, next_field};
 pub use withdrawal::max_withdraw;
-
-#[cfg(test)]
-mod tests;

@@ -15,6 +15,3 @@ mod specification;
 pub use epoch_values::{Epoch, epoch_of, field, parts, span_over, well_formed};
 pub use issuance::{primary, share};
 pub use specification::Spec;
-
-#[cfg(test)]
-mod tests;

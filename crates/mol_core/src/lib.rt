@@ -15,6 +15,3 @@ mod table;
 pub use dynvec::{DynView, check_dynvec};
 pub use fixvec::{FixView, check_fixvec};
 pub use table::{TableView, check_table};
-
-#[cfg(test)]
-mod tests;

@@ -1,58 +1,72 @@
-//! Reads each row of its standard input with the view that it names.
+//! Encodings that are read and written: tries each row of its standard input, and prints the rows that differ.
 //!
-//! A row has three columns: a view, what its `read` answers (`some` or `none`), and bytes in hex (`-` for no bytes). The
-//! rows were made by a program that was written from RFC 0008 and the schema alone. The program prints each row that
-//! differs, and how many agree; its status is 1 where one differs.
+//! A row is one of these, with a tab between two columns, bytes in hex and `-` for no bytes:
+//!
+//! - a view, what its `read` answers (`some` or `none`), and bytes. `Table/N` and `Fixvec/SIZE` name a table of
+//!   `N` fields, and a fixvec of items of `SIZE` bytes;
+//! - a view, `uncut`, and bytes that it reads, but not where they are cut short, at whatever place;
+//! - a view, an accessor, a place in a list or 0, bytes, and what the accessor gives;
+//! - `Builder`, what is made, its fields with a comma between two, and the bytes that are made.
+//!
+//! The rows were made by programs that were written from RFC 0008 and the schema alone, or by hand from them.
 #![tactic(auto)]
 
-use mol_schema::{
-    BlockView, Bytes, CellbaseWitnessView, DepView, HeaderView, InputView, OutPointView,
-    OutPointsView, OutputView, ScriptView, TxView, UncleView, WitnessArgsView,
-};
-use std::alloc::Global;
+mod builder;
+mod fields;
+mod parts;
+mod views;
+
+use std::alloc::{AllocError, Global};
 use std::io;
 use std::io::{BufRead, BufReader};
 use std::process::ExitCode;
+use std::string::String;
 
-/// Whether the view of this name reads the bytes.
-fn reads(view: &str, bytes: &[u8]) -> Option<bool> {
-    match view {
-        "Bytes" => Some(Bytes::read(bytes).is_some()),
-        "ScriptView" => Some(ScriptView::read(bytes).is_some()),
-        "OutPointView" => Some(OutPointView::read(bytes).is_some()),
-        "InputView" => Some(InputView::read(bytes).is_some()),
-        "DepView" => Some(DepView::read(bytes).is_some()),
-        "OutputView" => Some(OutputView::read(bytes).is_some()),
-        "TxView" => Some(TxView::read(bytes).is_some()),
-        "HeaderView" => Some(HeaderView::read(bytes).is_some()),
-        "UncleView" => Some(UncleView::read(bytes).is_some()),
-        "BlockView" => Some(BlockView::read(bytes).is_some()),
-        "CellbaseWitnessView" => Some(CellbaseWitnessView::read(bytes).is_some()),
-        "WitnessArgsView" => Some(WitnessArgsView::read(bytes).is_some()),
-        "OutPointsView" => Some(OutPointsView::read(bytes).is_some()),
-        _ => None,
+/// What an accessor gives.
+#[derive(Clone, Copy)]
+pub(crate) enum Answer<'a> {
+    Number(u128),
+    Bytes(&'a [u8]),
+    Nothing,
+}
+
+fn text(alloc: Global, answer: Answer) -> Result<String, AllocError> {
+    match answer {
+        Answer::Number(n) => format!(in alloc; "{n}"),
+        Answer::Bytes([]) => format!(in alloc; "-"),
+        Answer::Bytes(bytes) => hex::encode(alloc, bytes),
+        Answer::Nothing => format!(in alloc; "none"),
     }
 }
 
-/// Whether the view answers what the row says; not, where the row is none.
-fn agrees(alloc: Global, row: &str) -> Result<bool, hex::FromHexError> {
-    let Some((view, rest)) = row.split_once('\t') else {
-        return Ok(false);
-    };
-    let Some((answer, digits)) = rest.split_once('\t') else {
-        return Ok(false);
-    };
-    let wanted = match answer {
-        "some" => true,
-        "none" => false,
-        _ => return Ok(false),
-    };
-    let bytes = if digits == "-" {
-        Vec::new(alloc)
-    } else {
-        hex::decode(alloc, digits)?
-    };
-    Ok(reads(view, &bytes) == Some(wanted))
+fn bytes_of(alloc: Global, digits: &str) -> Option<Vec<u8>> {
+    if digits == "-" {
+        return Some(Vec::new(alloc));
+    }
+    hex::decode(alloc, digits).ok()
+}
+
+/// Whether the row holds; None where it is none.
+fn agrees(alloc: Global, row: &str) -> Option<bool> {
+    let (view, rest) = row.split_once('\t')?;
+    let (word, rest) = rest.split_once('\t')?;
+    if view == "Builder" {
+        return builder::agrees(alloc, word, rest);
+    }
+    match word {
+        "some" => views::reads(view, &bytes_of(alloc, rest)?),
+        "none" => Some(!views::reads(view, &bytes_of(alloc, rest)?)?),
+        "uncut" => views::reads_uncut(view, &bytes_of(alloc, rest)?),
+        _ => agrees_on_field(alloc, view, word, rest),
+    }
+}
+
+fn agrees_on_field(alloc: Global, view: &str, accessor: &str, rest: &str) -> Option<bool> {
+    let (place, rest) = rest.split_once('\t')?;
+    let (digits, wanted) = rest.split_once('\t')?;
+    let bytes = bytes_of(alloc, digits)?;
+    let answer = views::field(view, &bytes, accessor, place.parse().ok()?)?;
+    Some(text(alloc, answer).ok()?.as_str() == wanted)
 }
 
 fn main(rt: HostRuntime) -> io::Result<ExitCode> {
@@ -62,7 +76,7 @@ fn main(rt: HostRuntime) -> io::Result<ExitCode> {
     for row in BufReader::new(alloc, rt.reader())?.lines(alloc) {
         let row = row?;
         rows = rows.saturating_add(1);
-        if matches!(agrees(alloc, &row), Ok(true)) {
+        if agrees(alloc, &row) == Some(true) {
             agreed = agreed.saturating_add(1);
         } else {
             println!(rt; "differs: {row}")?;
@@ -75,6 +89,3 @@ fn main(rt: HostRuntime) -> io::Result<ExitCode> {
         ExitCode::FAILURE
     })
 }
-
-#[cfg(test)]
-mod tests;

@@ -9,6 +9,3 @@
 mod builder;
 
 pub use builder::Builder;
-
-#[cfg(test)]
-mod tests;

@@ -20,8 +20,6 @@ mod memory;
 mod no_disk;
 mod steps;
 mod stream;
-#[cfg(test)]
-mod tests;
 
 pub use disk::{Area, Damage, Disk, ReadStop, WriteStop};
 pub use durable::write_durably;

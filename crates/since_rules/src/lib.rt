@@ -8,6 +8,3 @@ mod fields;
 mod rules;
 
 pub use rules::{SinceAt, SinceFault, meets};
-
-#[cfg(test)]
-mod tests;

@@ -1,0 +1,103 @@
+// Rows of epochs and of the chain specification.
+ghost use Rattle.std.specs.Prelude.{IsTrue, IfSome};
+ghost use Rattle.time_defs.specs.Specification.{keeps_s2};
+
+use crate::row::Row;
+use epochs::{Spec, epoch_of, field, parts, primary, share, span_over, well_formed};
+use std::alloc::Global;
+
+fn spec_of(alloc: Global, row: &mut Row) -> Option<Spec> {
+    Spec::read(&row.bytes(alloc)?).ok()
+}
+
+/// The bytes of a specification, and the rule that they break, or 0.
+pub(crate) fn agrees_on_rule(alloc: Global, row: &mut Row) -> Option<bool> {
+    let broken = Spec::read(&row.bytes(alloc)?).err().unwrap_or(0);
+    Some(u32::from(broken) == row.short()?)
+}
+
+/// The bytes of a specification, a field's name and its value.
+pub(crate) fn agrees_on_field(alloc: Global, row: &mut Row) -> Option<bool> {
+    let spec = spec_of(alloc, row)?;
+    let value = match row.word() {
+        "compact_target" => u64::from(spec.compact_target),
+        "epoch_length" => u64::from(spec.epoch_length),
+        "w_close" => u64::from(spec.w_close),
+        "w_far" => u64::from(spec.w_far),
+        "max_block_bytes" => u64::from(spec.max_block_bytes),
+        "max_proposals" => u64::from(spec.max_proposals),
+        "max_cycles" => spec.max_cycles,
+        "maturity" => spec.maturity,
+        "primary_reward" => spec.primary_reward,
+        "secondary_reward" => spec.secondary_reward,
+        "halving_interval" => spec.halving_interval,
+        "dao_code_hash" => return Some(
+            row.bytes(alloc)?.as_slice() == spec.dao_code_hash.as_slice(),
+        ),
+        _ => return None,
+    };
+    Some(value == row.number()?)
+}
+
+/// Blocks in an epoch.
+fn length_of(row: &mut Row) -> Option<u32>
+    ensures { IfSome result (λ length. IsTrue (keeps_s2 length)) }
+{
+    let length = row.short()?;
+    if length >= 1 && length < 1 << 16 {
+        Some(length)
+    } else {
+        None
+    }
+}
+
+/// Blocks in an epoch, the height of a block, and its epoch field.
+pub(crate) fn agrees_on_epoch(row: &mut Row) -> Option<bool> {
+    let length = length_of(row)?;
+    let epoch = epoch_of(length, row.number()?);
+    let value = row.number()?;
+    if epoch.number >= 1 << 24 {
+        return None;
+    }
+    Some(field(epoch) == value && parts(value) == epoch)
+}
+
+/// An epoch value, and its three parts.
+pub(crate) fn agrees_on_parts(row: &mut Row) -> Option<bool> {
+    let epoch = parts(row.number()?);
+    Some(
+        epoch.number == row.number()?
+            && epoch.index == row.short()?
+            && epoch.length == row.short()?,
+    )
+}
+
+pub(crate) fn agrees_on_form(row: &mut Row) -> Option<bool> {
+    Some(well_formed(row.number()?) == row.yes()?)
+}
+
+/// A span, blocks in an epoch, the heights of its first block and of now.
+pub(crate) fn agrees_on_span(row: &mut Row) -> Option<bool> {
+    let value = row.number()?;
+    let length = length_of(row)?;
+    let made = row.number()?;
+    let now = row.number()?;
+    if !well_formed(value) || made > now || now >= 1 << 24 {
+        return None;
+    }
+    Some(span_over(value, length, made, now) == row.yes()?)
+}
+
+/// Blocks in an epoch, the height of a block, the epoch's reward.
+pub(crate) fn agrees_on_share(row: &mut Row) -> Option<bool> {
+    let length = length_of(row)?;
+    let number = row.number()?;
+    let reward = row.number()?;
+    Some(share(length, number, reward) == row.number()?)
+}
+
+/// The bytes of a specification, and the height of a block.
+pub(crate) fn agrees_on_primary(alloc: Global, row: &mut Row) -> Option<bool> {
+    let spec = spec_of(alloc, row)?;
+    Some(primary(&spec, row.number()?) == row.number()?)
+}
