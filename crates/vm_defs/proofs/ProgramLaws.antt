@@ -1,5 +1,5 @@
 -- A run goes step by step, within its budget.
-use Rattle.std.proofs.Common.{◌≡◌, ℕ, zero, suc, ◌+◌, ◌-◌, ◌%◌, ◌<◌, ◌≤◌, ◌==◌, Bool, true, false, cond, ℤ, Option, Some, None, Result, Ok, Err, refl, ap, ◌∙◌, lit≤, arith}
+use Rattle.std.proofs.Common.{◌≡◌, ◌≢◌, ℕ, zero, suc, ◌+◌, ◌-◌, ◌%◌, ◌<◌, ◌≤◌, ◌==◌, Bool, true, false, cond, ℤ, Option, Some, None, Result, Ok, Err, refl, sym, ap, subst, ◌∙◌, lit≤, arith}
 use Rattle.std.proofs.lemmas.Bool.Decides.{nat_tests}
 use Rattle.isa_defs.specs.declared.ins.Ins.{Ins}
 use Rattle.isa_defs.specs.declared.ins.Ins.TheVariants.{Jal, Jalr, Beq, Bne, Blt, Bge, Bltu, Bgeu, Lb, Lh, Lw, Ld, Lbu, Lhu, Lwu, Sb, Sh, Sw, Sd, Fence, FenceI, Ecall, Ebreak}
@@ -11,7 +11,7 @@ use Rattle.isa_defs.specs.Instruction.{cycles}
 use Rattle.vm_defs.specs.Memory.{Memory}
 use Rattle.vm_defs.specs.Code.{instruction_at}
 use Rattle.vm_defs.specs.Step.{Machine, with_register, write, jump, branch, loaded, stored, effect, execute, with_instruction, step_of, charged, is_spent}
-use Rattle.vm_defs.specs.Program.{Answer, answered, advance, followed, stop_within, stop_of, ended_or, run_for, run, Ended, KeepsAccount, StepKeepsAccount, GoesOnWithinBudget, HasStepsEnough, RunsStepByStep, RunsStopByStop, StopsStepByStep}
+use Rattle.vm_defs.specs.Program.{Answer, answered, advance, followed, Leads, Reaches, IsReached, stop_within, stop_of, ended_or, run_for, run, Ended, KeepsAccount, StepHasMemory, StepKeepsAccount, GoesOnWithinBudget, HasStepsEnough, RunsStepByStep, RunsStopByStop, StopsStepByStep}
 use Rattle.vm_defs.specs.Alone.{answer_ecall, syscall_number}
 
 -- ---- no instruction touches the account
@@ -148,6 +148,57 @@ step-pays machine = even-pays machine (machine.pc % 2 == 1)
 
 pub step-keeps-account : StepKeepsAccount
 step-keeps-account machine = let pays = step-pays machine in (pays.cycles, pays.budget)
+
+-- ---- no step is out of memory
+
+loaded-has-memory : (machine : Machine) (length rd : ℕ) (extend : ℕ → ℕ) (result : Result ℕ MemFault)
+    → (loaded machine length rd extend result).0 ≢ step.NoMemory
+loaded-has-memory machine length rd extend (Ok n) none = cc
+loaded-has-memory machine length rd extend (Err fault) none = cc
+
+stored-has-memory : (machine : Machine) (length : ℕ) (result : Result Memory MemFault)
+    → (stored machine length result).0 ≢ step.NoMemory
+stored-has-memory machine length (Ok memory) none = cc
+stored-has-memory machine length (Err fault) none = cc
+
+effect-has-memory : (machine : Machine) (length : ℕ) (ins : Ins) → (effect machine length ins).0 ≢ step.NoMemory
+unfolding effect
+effect-has-memory machine length (Lb rd rs1 imm) = loaded-has-memory machine length rd _ _
+effect-has-memory machine length (Lh rd rs1 imm) = loaded-has-memory machine length rd _ _
+effect-has-memory machine length (Lw rd rs1 imm) = loaded-has-memory machine length rd _ _
+effect-has-memory machine length (Ld rd rs1 imm) = loaded-has-memory machine length rd _ _
+effect-has-memory machine length (Lbu rd rs1 imm) = loaded-has-memory machine length rd _ _
+effect-has-memory machine length (Lhu rd rs1 imm) = loaded-has-memory machine length rd _ _
+effect-has-memory machine length (Lwu rd rs1 imm) = loaded-has-memory machine length rd _ _
+effect-has-memory machine length (Sb rs1 rs2 imm) = stored-has-memory machine length _
+effect-has-memory machine length (Sh rs1 rs2 imm) = stored-has-memory machine length _
+effect-has-memory machine length (Sw rs1 rs2 imm) = stored-has-memory machine length _
+effect-has-memory machine length (Sd rs1 rs2 imm) = stored-has-memory machine length _
+effect-has-memory machine length Ecall = λ none. cc
+effect-has-memory machine length _ = λ none. cc
+
+paid-has-memory : (machine : Machine) (length : ℕ) (ins : Ins) (spent : Bool)
+    → (cond spent (step.Spent, charged machine (cycles ins)) (effect (charged machine (cycles ins)) length ins)).0 ≢ step.NoMemory
+paid-has-memory machine length ins true none = cc
+paid-has-memory machine length ins false none = effect-has-memory (charged machine (cycles ins)) length ins none
+
+execute-has-memory : (machine : Machine) (decoded : Option (Ins × ℕ)) → (execute machine decoded).0 ≢ step.NoMemory
+unfolding execute
+execute-has-memory machine None none = cc
+execute-has-memory machine (Some decoded) none = paid-has-memory machine decoded.1 decoded.0 _ none
+
+found-has-memory : (machine : Machine) (found : Result (Option (Ins × ℕ)) MemFault) → (with_instruction machine found).0 ≢ step.NoMemory
+found-has-memory machine (Ok decoded) none = execute-has-memory machine decoded none
+found-has-memory machine (Err fault) none = cc
+
+even-has-memory : (machine : Machine) (odd : Bool)
+    → (cond odd (step.Fault 4, machine) (with_instruction machine (instruction_at machine.memory machine.pc))).0 ≢ step.NoMemory
+even-has-memory machine true none = cc
+even-has-memory machine false none = found-has-memory machine (instruction_at machine.memory machine.pc) none
+
+pub step-has-memory : StepHasMemory
+unfolding step_of
+step-has-memory machine = even-has-memory machine (machine.pc % 2 == 1)
 
 -- ---- a step that is answered, after which the program goes on
 
@@ -303,6 +354,63 @@ pub stop-goes-on : (answer : Answer) → KeepsAccount answer → (machine : Mach
 stop-goes-on answer keeps machine =
     let stop = stop_of machine in
     answered-goes-on answer keeps machine stop.0 stop.1 (stop-within-pays (suc (machine.budget - machine.cycles)) machine (omega arith))
+
+-- ---- the machines that a run reaches
+
+-- the machine whose step is the stop, and the steps that lead to it
+pub record LastOf (machine : Machine) (stop : Step × Machine) : Type 0 where
+  pub steps : ℕ
+  pub last : Machine
+  pub leads : Leads steps machine last
+  pub is : step_of last ≡ stop
+
+-- one step that went, and more of them
+leads-after : (steps : ℕ) (machine next to : Machine) → (step.Went, next) ≡ step_of machine → Leads steps next to
+    → Leads (suc steps) machine to
+leads-after zero machine next to went same = (machine, refl, ap (λ (m : Machine). (step.Went, m)) same ∙ went)
+leads-after (suc steps) machine next to went leads = (leads.0, leads-after steps machine next leads.0 went leads.1, leads.2)
+
+followed-last : (n : ℕ) (machine : Machine) (result : Step) (next : Machine) → (result, next) ≡ step_of machine
+    → (result ≡ step.Went → LastOf next (stop_within n next)) → LastOf machine (followed (stop_within n) result next)
+followed-last n machine step.Went next is later =
+    let last = later refl in
+    record { steps = suc last.steps; last = last.last; leads = leads-after last.steps machine next last.last is last.leads; is = last.is }
+followed-last n machine step.Ecall next is later = record { steps = zero; last = machine; leads = refl; is = sym is }
+followed-last n machine (step.Fault number) next is later = record { steps = zero; last = machine; leads = refl; is = sym is }
+followed-last n machine step.Spent next is later = record { steps = zero; last = machine; leads = refl; is = sym is }
+followed-last n machine step.NoMemory next is later = record { steps = zero; last = machine; leads = refl; is = sym is }
+
+last-within : (n : ℕ) (machine : Machine) → machine.budget - machine.cycles < n → LastOf machine (stop_within n machine)
+unfolding stop_within
+last-within zero machine h = absurd (omega arith)
+last-within (suc n) machine h =
+    let next = step_of machine in
+    followed-last n machine next.0 next.1 refl (λ went. last-within n next.1 (went-left machine next.0 next.1 n (step-pays machine) went h))
+
+pub last-of : (machine : Machine) → LastOf machine (stop_of machine)
+last-of machine = last-within (suc (machine.budget - machine.cycles)) machine (omega arith)
+
+-- steps that went lead a run on
+pub reached-by-steps : (answer : Answer) (steps : ℕ) (from middle to : Machine) → IsReached answer from middle → Leads steps middle to
+    → IsReached answer from to
+reached-by-steps answer zero from middle to reached same = subst (λ (m : Machine). IsReached answer from m) (sym same) reached
+reached-by-steps answer (suc steps) from middle to reached leads =
+    let before = reached-by-steps answer steps from middle leads.0 reached leads.1 in
+    record {
+      steps = suc before.steps;
+      reaches = (leads.0, before.reaches, ap (λ (next : Step × Machine). answered answer next.0 next.1) leads.2);
+    }
+
+-- and so does a stop after which the program goes on
+pub reached-by-stop : (answer : Answer) (from machine to : Machine) → IsReached answer from machine
+    → (let stop = stop_of machine in (None, to) ≡ answered answer stop.0 stop.1) → IsReached answer from to
+reached-by-stop answer from machine to reached is =
+    let last = last-of machine in
+    let before = reached-by-steps answer last.steps from machine last.last reached last.leads in
+    record {
+      steps = suc before.steps;
+      reaches = (last.last, before.reaches, is ∙ ap (λ (next : Step × Machine). answered answer next.0 next.1) (sym last.is));
+    }
 
 -- ---- the answer of a program that runs alone
 
