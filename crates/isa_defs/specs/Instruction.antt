@@ -15,43 +15,72 @@ part high low place word = bits high low word * 2 ^ place
 unfoldable pub sign_extended : ℕ → ℕ → ℤ
 sign_extended width n = if nat_lt n (2 ^ (width - 1)) then pos n else (pos n -ℤ pos (2 ^ width))
 
--- the cycles that an instruction takes (RFC 0014, "Instruction Cycles")
+-- ---- the cycles that an instruction takes (RFC 0014, "Instruction Cycles")
+
+abbrev pub base_cycles : ℕ
+base_cycles = 1
+
+-- a load or a store of 8 bytes, and of fewer
+abbrev pub double_access_cycles : ℕ
+double_access_cycles = 2
+
+abbrev pub access_cycles : ℕ
+access_cycles = 3
+
+abbrev pub branch_cycles : ℕ
+branch_cycles = 3
+
+abbrev pub jump_cycles : ℕ
+jump_cycles = 3
+
+abbrev pub multiply_cycles : ℕ
+multiply_cycles = 5
+
+abbrev pub divide_cycles : ℕ
+divide_cycles = 32
+
+-- ECALL and EBREAK
+abbrev pub environment_cycles : ℕ
+environment_cycles = 500
+
 abbrev pub cycles : Ins → ℕ
-cycles (Ld rd rs1 imm) = 2
-cycles (Sd rs1 rs2 imm) = 2
-cycles (Lb rd rs1 imm) = 3
-cycles (Lh rd rs1 imm) = 3
-cycles (Lw rd rs1 imm) = 3
-cycles (Lbu rd rs1 imm) = 3
-cycles (Lhu rd rs1 imm) = 3
-cycles (Lwu rd rs1 imm) = 3
-cycles (Sb rs1 rs2 imm) = 3
-cycles (Sh rs1 rs2 imm) = 3
-cycles (Sw rs1 rs2 imm) = 3
-cycles (Beq rs1 rs2 imm) = 3
-cycles (Bne rs1 rs2 imm) = 3
-cycles (Blt rs1 rs2 imm) = 3
-cycles (Bge rs1 rs2 imm) = 3
-cycles (Bltu rs1 rs2 imm) = 3
-cycles (Bgeu rs1 rs2 imm) = 3
-cycles (Jal rd imm) = 3
-cycles (Jalr rd rs1 imm) = 3
-cycles (Mul rd rs1 rs2) = 5
-cycles (Mulh rd rs1 rs2) = 5
-cycles (Mulhsu rd rs1 rs2) = 5
-cycles (Mulhu rd rs1 rs2) = 5
-cycles (Mulw rd rs1 rs2) = 5
-cycles (Div rd rs1 rs2) = 32
-cycles (Divu rd rs1 rs2) = 32
-cycles (Rem rd rs1 rs2) = 32
-cycles (Remu rd rs1 rs2) = 32
-cycles (Divw rd rs1 rs2) = 32
-cycles (Divuw rd rs1 rs2) = 32
-cycles (Remw rd rs1 rs2) = 32
-cycles (Remuw rd rs1 rs2) = 32
-cycles Ecall = 500
-cycles Ebreak = 500
-cycles _ = 1
+cycles (Ld rd rs1 imm) = double_access_cycles
+cycles (Sd rs1 rs2 imm) = double_access_cycles
+cycles (Lb rd rs1 imm) = access_cycles
+cycles (Lh rd rs1 imm) = access_cycles
+cycles (Lw rd rs1 imm) = access_cycles
+cycles (Lbu rd rs1 imm) = access_cycles
+cycles (Lhu rd rs1 imm) = access_cycles
+cycles (Lwu rd rs1 imm) = access_cycles
+cycles (Sb rs1 rs2 imm) = access_cycles
+cycles (Sh rs1 rs2 imm) = access_cycles
+cycles (Sw rs1 rs2 imm) = access_cycles
+cycles (Beq rs1 rs2 imm) = branch_cycles
+cycles (Bne rs1 rs2 imm) = branch_cycles
+cycles (Blt rs1 rs2 imm) = branch_cycles
+cycles (Bge rs1 rs2 imm) = branch_cycles
+cycles (Bltu rs1 rs2 imm) = branch_cycles
+cycles (Bgeu rs1 rs2 imm) = branch_cycles
+cycles (Jal rd imm) = jump_cycles
+cycles (Jalr rd rs1 imm) = jump_cycles
+cycles (Mul rd rs1 rs2) = multiply_cycles
+cycles (Mulh rd rs1 rs2) = multiply_cycles
+cycles (Mulhsu rd rs1 rs2) = multiply_cycles
+cycles (Mulhu rd rs1 rs2) = multiply_cycles
+cycles (Mulw rd rs1 rs2) = multiply_cycles
+cycles (Div rd rs1 rs2) = divide_cycles
+cycles (Divu rd rs1 rs2) = divide_cycles
+cycles (Rem rd rs1 rs2) = divide_cycles
+cycles (Remu rd rs1 rs2) = divide_cycles
+cycles (Divw rd rs1 rs2) = divide_cycles
+cycles (Divuw rd rs1 rs2) = divide_cycles
+cycles (Remw rd rs1 rs2) = divide_cycles
+cycles (Remuw rd rs1 rs2) = divide_cycles
+cycles Ecall = environment_cycles
+cycles Ebreak = environment_cycles
+cycles _ = base_cycles
+
+-- ---- operands
 
 -- the registers that an instruction names are x0 to x31
 abbrev pub HasRegisters : Ins → Type 0

@@ -1,11 +1,11 @@
 -- The full forms: the base instructions of RV64I, those of its extension M, and FENCE.I, as the
--- RISC-V manual lists them ("RV32/64G Instruction Set Listings"). A row has the mask of the fields
--- that are fixed, their value, and the operands.
-use Rattle.std.specs.Prelude.{ℕ, ℤ, pos, ◌+◌, List, [], ◌∷◌, ◌++◌}
+-- RISC-V manual lists them ("RV32/64G Instruction Set Listings"). A row has the fields that are fixed, from
+-- left to right as in the manual, and the operands.
+use Rattle.std.specs.Prelude.{ℕ, ℤ, pos, ◌+◌, ◌-◌, ◌*◌, ◌^◌, List, [], ◌∷◌, ◌++◌}
 use Rattle.isa_defs.specs.declared.ins.Ins.{Ins}
 use Rattle.isa_defs.specs.declared.ins.Ins.TheVariants.{Lui, Auipc, Jal, Jalr, Beq, Bne, Blt, Bge, Bltu, Bgeu, Lb, Lh, Lw, Ld, Lbu, Lhu, Lwu, Sb, Sh, Sw, Sd, Addi, Slti, Sltiu, Xori, Ori, Andi, Slli, Srli, Srai, Addiw, Slliw, Srliw, Sraiw, Add, Sub, Sll, Slt, Sltu, Xor, Srl, Sra, Or, And, Mul, Mulh, Mulhsu, Mulhu, Div, Divu, Rem, Remu, Addw, Subw, Sllw, Srlw, Sraw, Mulw, Divw, Divuw, Remw, Remuw, Fence, FenceI, Ecall, Ebreak}
 use Rattle.isa_defs.specs.Instruction.{bits, part, sign_extended}
-use Rattle.isa_defs.specs.Row.{Row}
+use Rattle.isa_defs.specs.Row.{Pattern, Row}
 
 -- ---- operands ("Base Instruction Formats")
 
@@ -68,128 +68,176 @@ word_shift form word = form (rd word) (rs1 word) (word_shift_amount word)
 abbrev pub no_operands : Ins → ℕ → Ins
 no_operands form word = form
 
--- ---- the rows, by opcode
+-- ---- the formats, by the fields that are fixed
 
-abbrev pub row : ℕ → ℕ → (ℕ → Ins) → Row
-row mask value instruction =
-    record { pattern = record { mask = mask; value = value }; except = []; instruction = instruction }
+-- bits `high` to `low` are those of a code
+abbrev pub field : ℕ → ℕ → ℕ → Pattern
+field high low code = record { mask = 2 ^ (high + 1) - 2 ^ low; value = code * 2 ^ low }
+
+-- the same of two fields that lie apart
+abbrev pub both : Pattern → Pattern → Pattern
+both p q = record { mask = p.mask + q.mask; value = p.value + q.value }
+
+abbrev pub with_opcode : ℕ → Pattern
+with_opcode opcode = field 6 0 opcode
+
+abbrev pub with_funct3 : ℕ → ℕ → Pattern
+with_funct3 funct3 opcode = both (field 14 12 funct3) (with_opcode opcode)
+
+abbrev pub row : Pattern → (ℕ → Ins) → Row
+row pattern instruction = record { pattern = pattern; except = []; instruction = instruction }
+
+abbrev pub u_row : ℕ → (ℕ → ℤ → Ins) → Row
+u_row opcode form = row (with_opcode opcode) (u_type form)
+
+abbrev pub j_row : ℕ → (ℕ → ℤ → Ins) → Row
+j_row opcode form = row (with_opcode opcode) (j_type form)
+
+abbrev pub i_row : ℕ → ℕ → (ℕ → ℕ → ℤ → Ins) → Row
+i_row funct3 opcode form = row (with_funct3 funct3 opcode) (i_type form)
+
+abbrev pub s_row : ℕ → ℕ → (ℕ → ℕ → ℤ → Ins) → Row
+s_row funct3 opcode form = row (with_funct3 funct3 opcode) (s_type form)
+
+abbrev pub b_row : ℕ → ℕ → (ℕ → ℕ → ℤ → Ins) → Row
+b_row funct3 opcode form = row (with_funct3 funct3 opcode) (b_type form)
+
+abbrev pub r_row : ℕ → ℕ → ℕ → (ℕ → ℕ → ℕ → Ins) → Row
+r_row funct7 funct3 opcode form = row (both (field 31 25 funct7) (with_funct3 funct3 opcode)) (r_type form)
+
+-- shifts by an amount of 6 bits, and by one of 5
+abbrev pub shift_row : ℕ → ℕ → ℕ → (ℕ → ℕ → ℤ → Ins) → Row
+shift_row funct6 funct3 opcode form = row (both (field 31 26 funct6) (with_funct3 funct3 opcode)) (shift form)
+
+abbrev pub word_shift_row : ℕ → ℕ → ℕ → (ℕ → ℕ → ℤ → Ins) → Row
+word_shift_row funct7 funct3 opcode form = row (both (field 31 25 funct7) (with_funct3 funct3 opcode)) (word_shift form)
+
+-- the other fields of a fence are ignored ("Memory Ordering Instructions")
+abbrev pub fence_row : ℕ → ℕ → Ins → Row
+fence_row funct3 opcode form = row (with_funct3 funct3 opcode) (no_operands form)
+
+-- rs1, funct3 and rd are 0
+abbrev pub system_row : ℕ → ℕ → Ins → Row
+system_row funct12 opcode form = row (both (field 31 20 funct12) (both (field 19 7 0) (with_opcode opcode))) (no_operands form)
+
+-- ---- the rows, by opcode
 
 abbrev pub opcode_forms : List Row
 opcode_forms =
-    row 0x0000007f 0x00000037 (u_type Lui)
-    ∷ row 0x0000007f 0x00000017 (u_type Auipc)
-    ∷ row 0x0000007f 0x0000006f (j_type Jal)
+    u_row 0b0110111 Lui
+    ∷ u_row 0b0010111 Auipc
+    ∷ j_row 0b1101111 Jal
     ∷ []
 
 abbrev pub jump_register_forms : List Row
 jump_register_forms =
-    row 0x0000707f 0x00000067 (i_type Jalr)
+    i_row 0b000 0b1100111 Jalr
     ∷ []
 
 abbrev pub branch_forms : List Row
 branch_forms =
-    row 0x0000707f 0x00000063 (b_type Beq)
-    ∷ row 0x0000707f 0x00001063 (b_type Bne)
-    ∷ row 0x0000707f 0x00004063 (b_type Blt)
-    ∷ row 0x0000707f 0x00005063 (b_type Bge)
-    ∷ row 0x0000707f 0x00006063 (b_type Bltu)
-    ∷ row 0x0000707f 0x00007063 (b_type Bgeu)
+    b_row 0b000 0b1100011 Beq
+    ∷ b_row 0b001 0b1100011 Bne
+    ∷ b_row 0b100 0b1100011 Blt
+    ∷ b_row 0b101 0b1100011 Bge
+    ∷ b_row 0b110 0b1100011 Bltu
+    ∷ b_row 0b111 0b1100011 Bgeu
     ∷ []
 
 abbrev pub load_forms : List Row
 load_forms =
-    row 0x0000707f 0x00000003 (i_type Lb)
-    ∷ row 0x0000707f 0x00001003 (i_type Lh)
-    ∷ row 0x0000707f 0x00002003 (i_type Lw)
-    ∷ row 0x0000707f 0x00003003 (i_type Ld)
-    ∷ row 0x0000707f 0x00004003 (i_type Lbu)
-    ∷ row 0x0000707f 0x00005003 (i_type Lhu)
-    ∷ row 0x0000707f 0x00006003 (i_type Lwu)
+    i_row 0b000 0b0000011 Lb
+    ∷ i_row 0b001 0b0000011 Lh
+    ∷ i_row 0b010 0b0000011 Lw
+    ∷ i_row 0b011 0b0000011 Ld
+    ∷ i_row 0b100 0b0000011 Lbu
+    ∷ i_row 0b101 0b0000011 Lhu
+    ∷ i_row 0b110 0b0000011 Lwu
     ∷ []
 
 abbrev pub store_forms : List Row
 store_forms =
-    row 0x0000707f 0x00000023 (s_type Sb)
-    ∷ row 0x0000707f 0x00001023 (s_type Sh)
-    ∷ row 0x0000707f 0x00002023 (s_type Sw)
-    ∷ row 0x0000707f 0x00003023 (s_type Sd)
+    s_row 0b000 0b0100011 Sb
+    ∷ s_row 0b001 0b0100011 Sh
+    ∷ s_row 0b010 0b0100011 Sw
+    ∷ s_row 0b011 0b0100011 Sd
     ∷ []
 
 abbrev pub immediate_forms : List Row
 immediate_forms =
-    row 0x0000707f 0x00000013 (i_type Addi)
-    ∷ row 0x0000707f 0x00002013 (i_type Slti)
-    ∷ row 0x0000707f 0x00003013 (i_type Sltiu)
-    ∷ row 0x0000707f 0x00004013 (i_type Xori)
-    ∷ row 0x0000707f 0x00006013 (i_type Ori)
-    ∷ row 0x0000707f 0x00007013 (i_type Andi)
+    i_row 0b000 0b0010011 Addi
+    ∷ i_row 0b010 0b0010011 Slti
+    ∷ i_row 0b011 0b0010011 Sltiu
+    ∷ i_row 0b100 0b0010011 Xori
+    ∷ i_row 0b110 0b0010011 Ori
+    ∷ i_row 0b111 0b0010011 Andi
     ∷ []
 
 abbrev pub shift_forms : List Row
 shift_forms =
-    row 0xfc00707f 0x00001013 (shift Slli)
-    ∷ row 0xfc00707f 0x00005013 (shift Srli)
-    ∷ row 0xfc00707f 0x40005013 (shift Srai)
+    shift_row 0b000000 0b001 0b0010011 Slli
+    ∷ shift_row 0b000000 0b101 0b0010011 Srli
+    ∷ shift_row 0b010000 0b101 0b0010011 Srai
     ∷ []
 
 abbrev pub word_immediate_forms : List Row
 word_immediate_forms =
-    row 0x0000707f 0x0000001b (i_type Addiw)
+    i_row 0b000 0b0011011 Addiw
     ∷ []
 
 abbrev pub word_shift_forms : List Row
 word_shift_forms =
-    row 0xfe00707f 0x0000101b (word_shift Slliw)
-    ∷ row 0xfe00707f 0x0000501b (word_shift Srliw)
-    ∷ row 0xfe00707f 0x4000501b (word_shift Sraiw)
+    word_shift_row 0b0000000 0b001 0b0011011 Slliw
+    ∷ word_shift_row 0b0000000 0b101 0b0011011 Srliw
+    ∷ word_shift_row 0b0100000 0b101 0b0011011 Sraiw
     ∷ []
 
 abbrev pub register_forms : List Row
 register_forms =
-    row 0xfe00707f 0x00000033 (r_type Add)
-    ∷ row 0xfe00707f 0x00001033 (r_type Sll)
-    ∷ row 0xfe00707f 0x00002033 (r_type Slt)
-    ∷ row 0xfe00707f 0x00003033 (r_type Sltu)
-    ∷ row 0xfe00707f 0x00004033 (r_type Xor)
-    ∷ row 0xfe00707f 0x00005033 (r_type Srl)
-    ∷ row 0xfe00707f 0x00006033 (r_type Or)
-    ∷ row 0xfe00707f 0x00007033 (r_type And)
-    ∷ row 0xfe00707f 0x40000033 (r_type Sub)
-    ∷ row 0xfe00707f 0x40005033 (r_type Sra)
-    ∷ row 0xfe00707f 0x02000033 (r_type Mul)
-    ∷ row 0xfe00707f 0x02001033 (r_type Mulh)
-    ∷ row 0xfe00707f 0x02002033 (r_type Mulhsu)
-    ∷ row 0xfe00707f 0x02003033 (r_type Mulhu)
-    ∷ row 0xfe00707f 0x02004033 (r_type Div)
-    ∷ row 0xfe00707f 0x02005033 (r_type Divu)
-    ∷ row 0xfe00707f 0x02006033 (r_type Rem)
-    ∷ row 0xfe00707f 0x02007033 (r_type Remu)
+    r_row 0b0000000 0b000 0b0110011 Add
+    ∷ r_row 0b0000000 0b001 0b0110011 Sll
+    ∷ r_row 0b0000000 0b010 0b0110011 Slt
+    ∷ r_row 0b0000000 0b011 0b0110011 Sltu
+    ∷ r_row 0b0000000 0b100 0b0110011 Xor
+    ∷ r_row 0b0000000 0b101 0b0110011 Srl
+    ∷ r_row 0b0000000 0b110 0b0110011 Or
+    ∷ r_row 0b0000000 0b111 0b0110011 And
+    ∷ r_row 0b0100000 0b000 0b0110011 Sub
+    ∷ r_row 0b0100000 0b101 0b0110011 Sra
+    ∷ r_row 0b0000001 0b000 0b0110011 Mul
+    ∷ r_row 0b0000001 0b001 0b0110011 Mulh
+    ∷ r_row 0b0000001 0b010 0b0110011 Mulhsu
+    ∷ r_row 0b0000001 0b011 0b0110011 Mulhu
+    ∷ r_row 0b0000001 0b100 0b0110011 Div
+    ∷ r_row 0b0000001 0b101 0b0110011 Divu
+    ∷ r_row 0b0000001 0b110 0b0110011 Rem
+    ∷ r_row 0b0000001 0b111 0b0110011 Remu
     ∷ []
 
 abbrev pub word_register_forms : List Row
 word_register_forms =
-    row 0xfe00707f 0x0000003b (r_type Addw)
-    ∷ row 0xfe00707f 0x0000103b (r_type Sllw)
-    ∷ row 0xfe00707f 0x0000503b (r_type Srlw)
-    ∷ row 0xfe00707f 0x4000003b (r_type Subw)
-    ∷ row 0xfe00707f 0x4000503b (r_type Sraw)
-    ∷ row 0xfe00707f 0x0200003b (r_type Mulw)
-    ∷ row 0xfe00707f 0x0200403b (r_type Divw)
-    ∷ row 0xfe00707f 0x0200503b (r_type Divuw)
-    ∷ row 0xfe00707f 0x0200603b (r_type Remw)
-    ∷ row 0xfe00707f 0x0200703b (r_type Remuw)
+    r_row 0b0000000 0b000 0b0111011 Addw
+    ∷ r_row 0b0000000 0b001 0b0111011 Sllw
+    ∷ r_row 0b0000000 0b101 0b0111011 Srlw
+    ∷ r_row 0b0100000 0b000 0b0111011 Subw
+    ∷ r_row 0b0100000 0b101 0b0111011 Sraw
+    ∷ r_row 0b0000001 0b000 0b0111011 Mulw
+    ∷ r_row 0b0000001 0b100 0b0111011 Divw
+    ∷ r_row 0b0000001 0b101 0b0111011 Divuw
+    ∷ r_row 0b0000001 0b110 0b0111011 Remw
+    ∷ r_row 0b0000001 0b111 0b0111011 Remuw
     ∷ []
 
 abbrev pub fence_forms : List Row
 fence_forms =
-    row 0x0000707f 0x0000000f (no_operands Fence)
-    ∷ row 0x0000707f 0x0000100f (no_operands FenceI)
+    fence_row 0b000 0b0001111 Fence
+    ∷ fence_row 0b001 0b0001111 FenceI
     ∷ []
 
 abbrev pub system_forms : List Row
 system_forms =
-    row 0xffffffff 0x00000073 (no_operands Ecall)
-    ∷ row 0xffffffff 0x00100073 (no_operands Ebreak)
+    system_row 0b000000000000 0b1110011 Ecall
+    ∷ system_row 0b000000000001 0b1110011 Ebreak
     ∷ []
 
 unfoldable pub full_forms : List Row

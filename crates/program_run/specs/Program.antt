@@ -1,11 +1,13 @@
 -- What came of a file, and the parts of a run (docs/MACHINE.md, "A run").
-use Rattle.std.specs.Prelude.{◌≡◌, ℕ, ◌≤◌, true, Option, None, Result, Ok, Err}
+use Rattle.std.specs.Prelude.{◌≡◌, ℕ, ◌<◌, ◌≤◌, true, Option, None, Result, Ok, Err}
 use Rattle.vm_defs.specs.declared.outcome.Outcome.{Outcome}
 use Rattle.vm_defs.specs.Alone.{answer_ecall}
 use Rattle.vm_defs.specs.Elf.{Program}
 use Rattle.vm_defs.specs.Program as programs
-use Rattle.vm_defs.specs.Program.{answered, loading_cycles, stop_of}
-use Rattle.vm_step.specs.Running.{RunningMachine}
+use Rattle.vm_defs.specs.Program.{Reaches, answered, loading_cycles, new_machine, stop_of}
+use Rattle.vm_defs.specs.Step.{Machine, charged, step_of}
+use Rattle.vm_defs.specs.declared.step.Step.TheVariants.{Went}
+use Rattle.vm_step.specs.Running.{RunningMachine, Touches, next_range}
 use Rattle.program_run.specs.declared.program.Execution.{Execution}
 use Rattle.program_run.specs.declared.program.Execution.TheVariants.{Ended, BadElf}
 
@@ -17,6 +19,29 @@ execution_of (BadElf condition) = Err condition
 abbrev pub PaysForLoading : ℕ → Result Program ℕ → Type 0
 PaysForLoading budget (Ok program) = loading_cycles program.file_bytes ≤ budget
 PaysForLoading budget (Err condition) = ⊥
+
+-- one of so many first steps of a run stores to the page
+pub record IsStoredBefore (end : ℕ) (start : Machine) (page : ℕ) : Type 0 where
+  pub steps : ℕ
+  pub before : steps < end
+  pub reached : Machine
+  pub reaches : Reaches answer_ecall steps start reached
+  pub goes : (step_of reached).0 ≡ Went
+  pub touches : Touches (next_range reached) page
+
+-- A run comes to a step that would go, and that does not store to pages alone which steps before it stored to.
+pub record RunWantsPage (start : Machine) : Type 0 where
+  pub steps : ℕ
+  pub reached : Machine
+  pub reaches : Reaches answer_ecall steps start reached
+  pub goes : (step_of reached).0 ≡ Went
+  pub new_page : ((page : ℕ) → Touches (next_range reached) page → IsStoredBefore steps start page) → ⊥
+
+-- the run does of the program that a file holds
+abbrev pub ProgramWantsPage : ℕ → Result Program ℕ → Type 0
+ProgramWantsPage budget (Ok program) =
+    RunWantsPage (charged (new_machine program.memory program.pc budget) (loading_cycles program.file_bytes))
+ProgramWantsPage budget (Err condition) = ⊥
 
 -- the machine ran to a step that did not go by itself, which ended the program so, or after which the machine goes on
 pub record Advances (old new : RunningMachine) (end : Option Outcome) : Type 0 where

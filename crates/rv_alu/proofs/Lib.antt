@@ -1,2 +1,4 @@
 pub mod Wrapping
 pub mod Products
+pub mod Halves
+pub mod Dividends

@@ -10,10 +10,12 @@ ghost use Rattle.std.specs.Int.{w64};
 ghost use Rattle.isa_defs.specs.Alu.{value, signed_less, arithmetic_shift};
 
 mod division;
+mod laws;
 mod product;
 mod word;
 
 pub use isa_defs::Alu;
+pub use laws::alu_laws;
 
 /// What the operation gives of two registers. A form with an immediate has it as `b`.
 #[tactic(auto, using(crate::proofs::Wrapping::wrapped))]

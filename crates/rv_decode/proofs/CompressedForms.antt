@@ -8,7 +8,7 @@ use Rattle.isa_defs.specs.declared.ins.Ins.{Ins}
 use Rattle.isa_defs.specs.declared.ins.Ins.TheVariants.{Lui, Jal, Jalr, Beq, Bne, Lw, Ld, Sw, Sd, Addi, Andi, Slli, Srli, Srai, Addiw, Add, Sub, Xor, Or, And, Addw, Subw, Ebreak}
 use Rattle.isa_defs.specs.Instruction.{bits, part, sign_extended}
 use Rattle.isa_defs.specs.Row.{Row, matches, encoded_in}
-use Rattle.isa_defs.specs.Table.{r_type, i_type, s_type, b_type, u_type, j_type, shift, no_operands, row, full_forms}
+use Rattle.isa_defs.specs.Table.{u_row, j_row, i_row, s_row, b_row, r_row, shift_row, system_row, full_forms}
 use Rattle.isa_defs.specs.Compressed.{c_rd, c_rs2, c_short_rs1, c_short_rs2, zero_register, return_address, stack_pointer, c_immediate, c_shift_amount, c_lui_immediate, c_addi4spn_immediate, c_addi16sp_immediate, c_word_offset, c_double_offset, c_lwsp_offset, c_ldsp_offset, c_swsp_offset, c_sdsp_offset, c_jump_offset, c_branch_offset, compressed_forms}
 use Rattle.isa_defs.specs.Decode.{decode, with_length, HasFullForm}
 use Rattle.isa_defs.proofs.RowLaws.{narrowed, hit}
@@ -21,133 +21,133 @@ lui-given : (d n : ℕ) (z : ℤ) → d < 32 → n < 1048576 → sign_extended 3
 unfolding full_forms
 lui-given =
     u_given 0x37 Lui (lit< tt) refl
-    (λ w h. narrowed full_forms w (record { mask = 0x0000007f; value = 0x00000037 }) h ∙ hit w (row 0x0000007f 0x00000037 (u_type Lui)) refl h)
+    (λ w h. narrowed full_forms w (record { mask = 0x0000007f; value = 0x00000037 }) h ∙ hit w (u_row 0b0110111 Lui) refl h)
 
 jal-given : (d n : ℕ) (z : ℤ) → d < 32 → n < 2097152 → n % 2 ≡ 0 → sign_extended 21 n ≡ z → IsGiven (Jal d z)
 unfolding full_forms
 jal-given =
     j_given 0x6f Jal (lit< tt) refl
-    (λ w h. narrowed full_forms w (record { mask = 0x0000007f; value = 0x0000006f }) h ∙ hit w (row 0x0000007f 0x0000006f (j_type Jal)) refl h)
+    (λ w h. narrowed full_forms w (record { mask = 0x0000007f; value = 0x0000006f }) h ∙ hit w (j_row 0b1101111 Jal) refl h)
 
 jalr-given : (d a n : ℕ) (z : ℤ) → d < 32 → a < 32 → n < 4096 → sign_extended 12 n ≡ z → IsGiven (Jalr d a z)
 unfolding full_forms
 jalr-given =
     i_given 0x67 0 Jalr (lit< tt) (lit< tt) refl
-    (λ w h. narrowed full_forms w (record { mask = 0x0000707f; value = 0x00000067 }) h ∙ hit w (row 0x0000707f 0x00000067 (i_type Jalr)) refl h)
+    (λ w h. narrowed full_forms w (record { mask = 0x0000707f; value = 0x00000067 }) h ∙ hit w (i_row 0b000 0b1100111 Jalr) refl h)
 
 beq-given : (a b n : ℕ) (z : ℤ) → a < 32 → b < 32 → n < 8192 → n % 2 ≡ 0 → sign_extended 13 n ≡ z → IsGiven (Beq a b z)
 unfolding full_forms
 beq-given =
     b_given 0x63 0 Beq (lit< tt) (lit< tt) refl
-    (λ w h. narrowed full_forms w (record { mask = 0x0000707f; value = 0x00000063 }) h ∙ hit w (row 0x0000707f 0x00000063 (b_type Beq)) refl h)
+    (λ w h. narrowed full_forms w (record { mask = 0x0000707f; value = 0x00000063 }) h ∙ hit w (b_row 0b000 0b1100011 Beq) refl h)
 
 bne-given : (a b n : ℕ) (z : ℤ) → a < 32 → b < 32 → n < 8192 → n % 2 ≡ 0 → sign_extended 13 n ≡ z → IsGiven (Bne a b z)
 unfolding full_forms
 bne-given =
     b_given 0x63 1 Bne (lit< tt) (lit< tt) refl
-    (λ w h. narrowed full_forms w (record { mask = 0x0000707f; value = 0x00001063 }) h ∙ hit w (row 0x0000707f 0x00001063 (b_type Bne)) refl h)
+    (λ w h. narrowed full_forms w (record { mask = 0x0000707f; value = 0x00001063 }) h ∙ hit w (b_row 0b001 0b1100011 Bne) refl h)
 
 lw-given : (d a n : ℕ) (z : ℤ) → d < 32 → a < 32 → n < 4096 → sign_extended 12 n ≡ z → IsGiven (Lw d a z)
 unfolding full_forms
 lw-given =
     i_given 0x3 2 Lw (lit< tt) (lit< tt) refl
-    (λ w h. narrowed full_forms w (record { mask = 0x0000707f; value = 0x00002003 }) h ∙ hit w (row 0x0000707f 0x00002003 (i_type Lw)) refl h)
+    (λ w h. narrowed full_forms w (record { mask = 0x0000707f; value = 0x00002003 }) h ∙ hit w (i_row 0b010 0b0000011 Lw) refl h)
 
 ld-given : (d a n : ℕ) (z : ℤ) → d < 32 → a < 32 → n < 4096 → sign_extended 12 n ≡ z → IsGiven (Ld d a z)
 unfolding full_forms
 ld-given =
     i_given 0x3 3 Ld (lit< tt) (lit< tt) refl
-    (λ w h. narrowed full_forms w (record { mask = 0x0000707f; value = 0x00003003 }) h ∙ hit w (row 0x0000707f 0x00003003 (i_type Ld)) refl h)
+    (λ w h. narrowed full_forms w (record { mask = 0x0000707f; value = 0x00003003 }) h ∙ hit w (i_row 0b011 0b0000011 Ld) refl h)
 
 sw-given : (a b n : ℕ) (z : ℤ) → a < 32 → b < 32 → n < 4096 → sign_extended 12 n ≡ z → IsGiven (Sw a b z)
 unfolding full_forms
 sw-given =
     s_given 0x23 2 Sw (lit< tt) (lit< tt) refl
-    (λ w h. narrowed full_forms w (record { mask = 0x0000707f; value = 0x00002023 }) h ∙ hit w (row 0x0000707f 0x00002023 (s_type Sw)) refl h)
+    (λ w h. narrowed full_forms w (record { mask = 0x0000707f; value = 0x00002023 }) h ∙ hit w (s_row 0b010 0b0100011 Sw) refl h)
 
 sd-given : (a b n : ℕ) (z : ℤ) → a < 32 → b < 32 → n < 4096 → sign_extended 12 n ≡ z → IsGiven (Sd a b z)
 unfolding full_forms
 sd-given =
     s_given 0x23 3 Sd (lit< tt) (lit< tt) refl
-    (λ w h. narrowed full_forms w (record { mask = 0x0000707f; value = 0x00003023 }) h ∙ hit w (row 0x0000707f 0x00003023 (s_type Sd)) refl h)
+    (λ w h. narrowed full_forms w (record { mask = 0x0000707f; value = 0x00003023 }) h ∙ hit w (s_row 0b011 0b0100011 Sd) refl h)
 
 addi-given : (d a n : ℕ) (z : ℤ) → d < 32 → a < 32 → n < 4096 → sign_extended 12 n ≡ z → IsGiven (Addi d a z)
 unfolding full_forms
 addi-given =
     i_given 0x13 0 Addi (lit< tt) (lit< tt) refl
-    (λ w h. narrowed full_forms w (record { mask = 0x0000707f; value = 0x00000013 }) h ∙ hit w (row 0x0000707f 0x00000013 (i_type Addi)) refl h)
+    (λ w h. narrowed full_forms w (record { mask = 0x0000707f; value = 0x00000013 }) h ∙ hit w (i_row 0b000 0b0010011 Addi) refl h)
 
 andi-given : (d a n : ℕ) (z : ℤ) → d < 32 → a < 32 → n < 4096 → sign_extended 12 n ≡ z → IsGiven (Andi d a z)
 unfolding full_forms
 andi-given =
     i_given 0x13 7 Andi (lit< tt) (lit< tt) refl
-    (λ w h. narrowed full_forms w (record { mask = 0x0000707f; value = 0x00007013 }) h ∙ hit w (row 0x0000707f 0x00007013 (i_type Andi)) refl h)
+    (λ w h. narrowed full_forms w (record { mask = 0x0000707f; value = 0x00007013 }) h ∙ hit w (i_row 0b111 0b0010011 Andi) refl h)
 
 slli-given : (d a n : ℕ) → d < 32 → a < 32 → n < 64 → IsGiven (Slli d a (pos n))
 unfolding full_forms
 slli-given =
     shift_given 0x0 1 Slli (lit< tt) (lit< tt)
-    (λ w h. narrowed full_forms w (record { mask = 0xfc00707f; value = 0x00001013 }) h ∙ hit w (row 0xfc00707f 0x00001013 (shift Slli)) refl h)
+    (λ w h. narrowed full_forms w (record { mask = 0xfc00707f; value = 0x00001013 }) h ∙ hit w (shift_row 0b000000 0b001 0b0010011 Slli) refl h)
 
 srli-given : (d a n : ℕ) → d < 32 → a < 32 → n < 64 → IsGiven (Srli d a (pos n))
 unfolding full_forms
 srli-given =
     shift_given 0x0 5 Srli (lit< tt) (lit< tt)
-    (λ w h. narrowed full_forms w (record { mask = 0xfc00707f; value = 0x00005013 }) h ∙ hit w (row 0xfc00707f 0x00005013 (shift Srli)) refl h)
+    (λ w h. narrowed full_forms w (record { mask = 0xfc00707f; value = 0x00005013 }) h ∙ hit w (shift_row 0b000000 0b101 0b0010011 Srli) refl h)
 
 srai-given : (d a n : ℕ) → d < 32 → a < 32 → n < 64 → IsGiven (Srai d a (pos n))
 unfolding full_forms
 srai-given =
     shift_given 0x10 5 Srai (lit< tt) (lit< tt)
-    (λ w h. narrowed full_forms w (record { mask = 0xfc00707f; value = 0x40005013 }) h ∙ hit w (row 0xfc00707f 0x40005013 (shift Srai)) refl h)
+    (λ w h. narrowed full_forms w (record { mask = 0xfc00707f; value = 0x40005013 }) h ∙ hit w (shift_row 0b010000 0b101 0b0010011 Srai) refl h)
 
 addiw-given : (d a n : ℕ) (z : ℤ) → d < 32 → a < 32 → n < 4096 → sign_extended 12 n ≡ z → IsGiven (Addiw d a z)
 unfolding full_forms
 addiw-given =
     i_given 0x1b 0 Addiw (lit< tt) (lit< tt) refl
-    (λ w h. narrowed full_forms w (record { mask = 0x0000707f; value = 0x0000001b }) h ∙ hit w (row 0x0000707f 0x0000001b (i_type Addiw)) refl h)
+    (λ w h. narrowed full_forms w (record { mask = 0x0000707f; value = 0x0000001b }) h ∙ hit w (i_row 0b000 0b0011011 Addiw) refl h)
 
 add-given : (d a b : ℕ) → d < 32 → a < 32 → b < 32 → IsGiven (Add d a b)
 unfolding full_forms
 add-given =
     r_given 0x33 0 0x0 Add (lit< tt) (lit< tt) (lit< tt) refl
-    (λ w h. narrowed full_forms w (record { mask = 0xfe00707f; value = 0x00000033 }) h ∙ hit w (row 0xfe00707f 0x00000033 (r_type Add)) refl h)
+    (λ w h. narrowed full_forms w (record { mask = 0xfe00707f; value = 0x00000033 }) h ∙ hit w (r_row 0b0000000 0b000 0b0110011 Add) refl h)
 
 sub-given : (d a b : ℕ) → d < 32 → a < 32 → b < 32 → IsGiven (Sub d a b)
 unfolding full_forms
 sub-given =
     r_given 0x33 0 0x20 Sub (lit< tt) (lit< tt) (lit< tt) refl
-    (λ w h. narrowed full_forms w (record { mask = 0xfe00707f; value = 0x40000033 }) h ∙ hit w (row 0xfe00707f 0x40000033 (r_type Sub)) refl h)
+    (λ w h. narrowed full_forms w (record { mask = 0xfe00707f; value = 0x40000033 }) h ∙ hit w (r_row 0b0100000 0b000 0b0110011 Sub) refl h)
 
 xor-given : (d a b : ℕ) → d < 32 → a < 32 → b < 32 → IsGiven (Xor d a b)
 unfolding full_forms
 xor-given =
     r_given 0x33 4 0x0 Xor (lit< tt) (lit< tt) (lit< tt) refl
-    (λ w h. narrowed full_forms w (record { mask = 0xfe00707f; value = 0x00004033 }) h ∙ hit w (row 0xfe00707f 0x00004033 (r_type Xor)) refl h)
+    (λ w h. narrowed full_forms w (record { mask = 0xfe00707f; value = 0x00004033 }) h ∙ hit w (r_row 0b0000000 0b100 0b0110011 Xor) refl h)
 
 or-given : (d a b : ℕ) → d < 32 → a < 32 → b < 32 → IsGiven (Or d a b)
 unfolding full_forms
 or-given =
     r_given 0x33 6 0x0 Or (lit< tt) (lit< tt) (lit< tt) refl
-    (λ w h. narrowed full_forms w (record { mask = 0xfe00707f; value = 0x00006033 }) h ∙ hit w (row 0xfe00707f 0x00006033 (r_type Or)) refl h)
+    (λ w h. narrowed full_forms w (record { mask = 0xfe00707f; value = 0x00006033 }) h ∙ hit w (r_row 0b0000000 0b110 0b0110011 Or) refl h)
 
 and-given : (d a b : ℕ) → d < 32 → a < 32 → b < 32 → IsGiven (And d a b)
 unfolding full_forms
 and-given =
     r_given 0x33 7 0x0 And (lit< tt) (lit< tt) (lit< tt) refl
-    (λ w h. narrowed full_forms w (record { mask = 0xfe00707f; value = 0x00007033 }) h ∙ hit w (row 0xfe00707f 0x00007033 (r_type And)) refl h)
+    (λ w h. narrowed full_forms w (record { mask = 0xfe00707f; value = 0x00007033 }) h ∙ hit w (r_row 0b0000000 0b111 0b0110011 And) refl h)
 
 addw-given : (d a b : ℕ) → d < 32 → a < 32 → b < 32 → IsGiven (Addw d a b)
 unfolding full_forms
 addw-given =
     r_given 0x3b 0 0x0 Addw (lit< tt) (lit< tt) (lit< tt) refl
-    (λ w h. narrowed full_forms w (record { mask = 0xfe00707f; value = 0x0000003b }) h ∙ hit w (row 0xfe00707f 0x0000003b (r_type Addw)) refl h)
+    (λ w h. narrowed full_forms w (record { mask = 0xfe00707f; value = 0x0000003b }) h ∙ hit w (r_row 0b0000000 0b000 0b0111011 Addw) refl h)
 
 subw-given : (d a b : ℕ) → d < 32 → a < 32 → b < 32 → IsGiven (Subw d a b)
 unfolding full_forms
 subw-given =
     r_given 0x3b 0 0x20 Subw (lit< tt) (lit< tt) (lit< tt) refl
-    (λ w h. narrowed full_forms w (record { mask = 0xfe00707f; value = 0x4000003b }) h ∙ hit w (row 0xfe00707f 0x4000003b (r_type Subw)) refl h)
+    (λ w h. narrowed full_forms w (record { mask = 0xfe00707f; value = 0x4000003b }) h ∙ hit w (r_row 0b0100000 0b000 0b0111011 Subw) refl h)
 
 ebreak-given : IsGiven Ebreak
 unfolding full_forms
@@ -156,7 +156,7 @@ ebreak-given = (
   lit< tt,
   refl,
   narrowed full_forms 0x00100073 (record { mask = 0xffffffff; value = 0x00100073 }) refl
-      ∙ hit 0x00100073 (row 0xffffffff 0x00100073 (no_operands Ebreak)) refl refl,
+      ∙ hit 0x00100073 (system_row 0b000000000001 0b1110011 Ebreak) refl refl,
 )
 
 -- ---- immediates, in the width of the full form

@@ -1,5 +1,5 @@
 -- A run goes step by step, within its budget.
-use Rattle.std.proofs.Common.{◌≡◌, ℕ, zero, suc, ◌+◌, ◌-◌, ◌%◌, ◌<◌, ◌≤◌, ◌==◌, Bool, true, false, cond, ℤ, Option, Some, None, Result, Ok, Err, refl, ap, ◌∙◌, lit≤, arith}
+use Rattle.std.proofs.Common.{◌≡◌, ◌≢◌, ℕ, zero, suc, ◌+◌, ◌-◌, ◌%◌, ◌<◌, ◌≤◌, ◌==◌, Bool, true, false, cond, ℤ, Option, Some, None, Result, Ok, Err, refl, ap, ◌∙◌, lit≤, arith}
 use Rattle.std.proofs.lemmas.Bool.Decides.{nat_tests}
 use Rattle.isa_defs.specs.declared.ins.Ins.{Ins}
 use Rattle.isa_defs.specs.declared.ins.Ins.TheVariants.{Jal, Jalr, Beq, Bne, Blt, Bge, Bltu, Bgeu, Lb, Lh, Lw, Ld, Lbu, Lhu, Lwu, Sb, Sh, Sw, Sd, Fence, FenceI, Ecall, Ebreak}
@@ -11,7 +11,7 @@ use Rattle.isa_defs.specs.Instruction.{cycles}
 use Rattle.vm_defs.specs.Memory.{Memory}
 use Rattle.vm_defs.specs.Code.{instruction_at}
 use Rattle.vm_defs.specs.Step.{Machine, with_register, write, jump, branch, loaded, stored, effect, execute, with_instruction, step_of, charged, is_spent}
-use Rattle.vm_defs.specs.Program.{Answer, answered, advance, followed, stop_within, stop_of, ended_or, run_for, run, Ended, KeepsAccount, StepKeepsAccount, GoesOnWithinBudget, HasStepsEnough, RunsStepByStep, RunsStopByStop, StopsStepByStep}
+use Rattle.vm_defs.specs.Program.{Answer, answered, advance, followed, stop_within, stop_of, ended_or, run_for, run, Ended, KeepsAccount, StepHasMemory, StepKeepsAccount, GoesOnWithinBudget, HasStepsEnough, RunsStepByStep, RunsStopByStop, StopsStepByStep}
 use Rattle.vm_defs.specs.Alone.{answer_ecall, syscall_number}
 
 -- ---- no instruction touches the account
@@ -149,6 +149,57 @@ step-pays machine = even-pays machine (machine.pc % 2 == 1)
 pub step-keeps-account : StepKeepsAccount
 step-keeps-account machine = let pays = step-pays machine in (pays.cycles, pays.budget)
 
+-- ---- no step is out of memory
+
+loaded-has-memory : (machine : Machine) (length rd : ℕ) (extend : ℕ → ℕ) (result : Result ℕ MemFault)
+    → (loaded machine length rd extend result).0 ≢ step.NoMemory
+loaded-has-memory machine length rd extend (Ok n) none = cc
+loaded-has-memory machine length rd extend (Err fault) none = cc
+
+stored-has-memory : (machine : Machine) (length : ℕ) (result : Result Memory MemFault)
+    → (stored machine length result).0 ≢ step.NoMemory
+stored-has-memory machine length (Ok memory) none = cc
+stored-has-memory machine length (Err fault) none = cc
+
+effect-has-memory : (machine : Machine) (length : ℕ) (ins : Ins) → (effect machine length ins).0 ≢ step.NoMemory
+unfolding effect
+effect-has-memory machine length (Lb rd rs1 imm) = loaded-has-memory machine length rd _ _
+effect-has-memory machine length (Lh rd rs1 imm) = loaded-has-memory machine length rd _ _
+effect-has-memory machine length (Lw rd rs1 imm) = loaded-has-memory machine length rd _ _
+effect-has-memory machine length (Ld rd rs1 imm) = loaded-has-memory machine length rd _ _
+effect-has-memory machine length (Lbu rd rs1 imm) = loaded-has-memory machine length rd _ _
+effect-has-memory machine length (Lhu rd rs1 imm) = loaded-has-memory machine length rd _ _
+effect-has-memory machine length (Lwu rd rs1 imm) = loaded-has-memory machine length rd _ _
+effect-has-memory machine length (Sb rs1 rs2 imm) = stored-has-memory machine length _
+effect-has-memory machine length (Sh rs1 rs2 imm) = stored-has-memory machine length _
+effect-has-memory machine length (Sw rs1 rs2 imm) = stored-has-memory machine length _
+effect-has-memory machine length (Sd rs1 rs2 imm) = stored-has-memory machine length _
+effect-has-memory machine length Ecall = λ none. cc
+effect-has-memory machine length _ = λ none. cc
+
+paid-has-memory : (machine : Machine) (length : ℕ) (ins : Ins) (spent : Bool)
+    → (cond spent (step.Spent, charged machine (cycles ins)) (effect (charged machine (cycles ins)) length ins)).0 ≢ step.NoMemory
+paid-has-memory machine length ins true none = cc
+paid-has-memory machine length ins false none = effect-has-memory (charged machine (cycles ins)) length ins none
+
+execute-has-memory : (machine : Machine) (decoded : Option (Ins × ℕ)) → (execute machine decoded).0 ≢ step.NoMemory
+unfolding execute
+execute-has-memory machine None none = cc
+execute-has-memory machine (Some decoded) none = paid-has-memory machine decoded.1 decoded.0 _ none
+
+found-has-memory : (machine : Machine) (found : Result (Option (Ins × ℕ)) MemFault) → (with_instruction machine found).0 ≢ step.NoMemory
+found-has-memory machine (Ok decoded) none = execute-has-memory machine decoded none
+found-has-memory machine (Err fault) none = cc
+
+even-has-memory : (machine : Machine) (odd : Bool)
+    → (cond odd (step.Fault 4, machine) (with_instruction machine (instruction_at machine.memory machine.pc))).0 ≢ step.NoMemory
+even-has-memory machine true none = cc
+even-has-memory machine false none = found-has-memory machine (instruction_at machine.memory machine.pc) none
+
+pub step-has-memory : StepHasMemory
+unfolding step_of
+step-has-memory machine = even-has-memory machine (machine.pc % 2 == 1)
+
 -- ---- a step that is answered, after which the program goes on
 
 -- what such a step says of the machine before and after
@@ -214,7 +265,7 @@ followed-same one other step.Spent machine same = refl
 followed-same one other step.NoMemory machine same = refl
 
 -- a step that went leaves fewer cycles
-went-left : (machine : Machine) (result : Step) (next : Machine) (n : ℕ) → Pays machine result next → result ≡ step.Went
+pub went-left : (machine : Machine) (result : Step) (next : Machine) (n : ℕ) → Pays machine result next → result ≡ step.Went
     → machine.budget - machine.cycles < suc n → next.budget - next.cycles < n
 went-left machine result next n pays went h =
     let was : WasRun result = rw went tt in

@@ -1,6 +1,6 @@
 -- A program from its first step to its end (RFC 0003; RFC 0014 for the cycles). What an ECALL does is a parameter of a
 -- run, its answer: a program runs alone (specs/Alone.antt), or with the syscalls that a chain offers to it.
-use Rattle.std.specs.Prelude.{◌≡◌, ℕ, zero, suc, ◌<◌, ◌≤◌, ◌+◌, ◌-◌, ◌/◌, List, replicate, slice_set, Option, Some, None, Result, Ok, Err, if◌then◌else◌}
+use Rattle.std.specs.Prelude.{◌≡◌, ◌≢◌, ℕ, zero, suc, ◌<◌, ◌≤◌, ◌+◌, ◌-◌, ◌/◌, List, replicate, slice_set, Option, Some, None, Result, Ok, Err, if◌then◌else◌}
 use Rattle.vm_defs.specs.declared.step.Step.{Step}
 use Rattle.vm_defs.specs.declared.step.Step.TheVariants as step
 use Rattle.vm_defs.specs.declared.outcome.Outcome.{Outcome}
@@ -59,7 +59,7 @@ answered answer step.Went machine = (None, machine)
 answered answer step.Ecall machine = answer machine
 answered answer (step.Fault number) machine = (Some (Fault number), machine)
 answered answer step.Spent machine = (Some Spent, machine)
--- no step by the definitions ends so
+-- no step by the definitions ends so (`StepHasMemory`)
 answered answer step.NoMemory machine = (Some Spent, machine)
 
 abbrev pub advance : Answer → Machine → Option Outcome × Machine
@@ -97,6 +97,10 @@ pub record KeepsAccount (answer : Answer) : Type 0 where
   pub cycles : (machine : Machine) → machine.cycles ≤ (answer machine).1.cycles
   pub within : (machine : Machine) → machine.cycles ≤ machine.budget → (answer machine).0 ≡ None
       → (answer machine).1.cycles ≤ machine.budget
+
+-- No step is out of memory: that is an answer of a machine that is run, and not of the definitions.
+abbrev pub StepHasMemory : Type 0
+StepHasMemory = (machine : Machine) → (step_of machine).0 ≢ step.NoMemory
 
 -- No step takes cycles back, or changes the budget.
 abbrev pub StepKeepsAccount : Type 0

@@ -1,6 +1,7 @@
 -- One step of the machine (RFC 0003; RFC 0014 for the cycles).
 use Rattle.std.specs.Prelude.{ℕ, ◌+◌, ◌*◌, ◌/◌, ◌%◌, ◌^◌, ◌==◌, nat_lt, ℤ, Bool, not, List, slice_index, slice_set, Option, Some, None, Result, Ok, Err, if◌then◌else◌}
 use Rattle.std.specs.Int.{Width, w8, w16, w32, w64}
+use mir.Val.{bits}
 use Rattle.std.specs.Int.RustNames.{int_lt}
 use Rattle.isa_defs.specs.declared.ins.Ins.{Ins}
 use Rattle.isa_defs.specs.declared.ins.Ins.TheVariants.{Lui, Auipc, Jal, Jalr, Beq, Bne, Blt, Bge, Bltu, Bgeu, Lb, Lh, Lw, Ld, Lbu, Lhu, Lwu, Sb, Sh, Sw, Sd, Addi, Slti, Sltiu, Xori, Ori, Andi, Slli, Srli, Srai, Addiw, Slliw, Srliw, Sraiw, Add, Sub, Sll, Slt, Sltu, Xor, Srl, Sra, Or, And, Mul, Mulh, Mulhsu, Mulhu, Div, Divu, Rem, Remu, Addw, Subw, Sllw, Srlw, Sraw, Mulw, Divw, Divuw, Remw, Remuw, Fence, FenceI, Ecall, Ebreak}
@@ -74,9 +75,12 @@ abbrev pub branch : Machine → ℕ → Bool → ℤ → Step × Machine
 branch machine length taken imm =
     (step.Went, if taken then (record machine { pc = moved machine.pc imm }) else past_instruction machine length)
 
--- a number of so many bits, extended by its sign to 64
+-- the low bits of a number, as many as the width has, extended by their sign to 64, and by zeros
 unfoldable pub extended_from : Width → ℕ → ℕ
-extended_from width n = bits_of w64 (signed width n)
+extended_from width n = bits_of w64 (signed width (n % 2 ^ bits width))
+
+abbrev pub zero_extended : ℕ → ℕ
+zero_extended n = n
 
 abbrev pub loaded : Machine → ℕ → ℕ → (ℕ → ℕ) → Result ℕ MemFault → Step × Machine
 loaded machine length rd extend (Ok n) = write machine length rd (extend n)
@@ -85,9 +89,6 @@ loaded machine length rd extend (Err fault) = (step.Fault (fault_number fault), 
 abbrev pub load : Machine → ℕ → ℕ → ℕ → ℤ → ℕ → (ℕ → ℕ) → Step × Machine
 load machine length rd rs1 imm count extend =
     loaded machine length rd extend (memory.load machine.memory (moved (register machine rs1) imm) count)
-
-abbrev pub unextended : ℕ → ℕ
-unextended n = n
 
 abbrev pub stored : Machine → ℕ → Result Memory MemFault → Step × Machine
 stored machine length (Ok memory) = (step.Went, past_instruction (record machine { memory = memory }) length)
@@ -117,10 +118,10 @@ effect machine length (Bgeu rs1 rs2 imm) =
 effect machine length (Lb rd rs1 imm) = load machine length rd rs1 imm 1 (extended_from w8)
 effect machine length (Lh rd rs1 imm) = load machine length rd rs1 imm 2 (extended_from w16)
 effect machine length (Lw rd rs1 imm) = load machine length rd rs1 imm 4 (extended_from w32)
-effect machine length (Ld rd rs1 imm) = load machine length rd rs1 imm 8 unextended
-effect machine length (Lbu rd rs1 imm) = load machine length rd rs1 imm 1 unextended
-effect machine length (Lhu rd rs1 imm) = load machine length rd rs1 imm 2 unextended
-effect machine length (Lwu rd rs1 imm) = load machine length rd rs1 imm 4 unextended
+effect machine length (Ld rd rs1 imm) = load machine length rd rs1 imm 8 zero_extended
+effect machine length (Lbu rd rs1 imm) = load machine length rd rs1 imm 1 zero_extended
+effect machine length (Lhu rd rs1 imm) = load machine length rd rs1 imm 2 zero_extended
+effect machine length (Lwu rd rs1 imm) = load machine length rd rs1 imm 4 zero_extended
 effect machine length (Sb rs1 rs2 imm) = store machine length rs1 rs2 imm 1
 effect machine length (Sh rs1 rs2 imm) = store machine length rs1 rs2 imm 2
 effect machine length (Sw rs1 rs2 imm) = store machine length rs1 rs2 imm 4

@@ -10,6 +10,6 @@ pub enum Step {
     Fault(u8),
     /// The cycles passed the budget.
     Spent,
-    /// A page could not be allocated. The definitions never give it.
+    /// A page could not be allocated. No step by the definitions ends so.
     NoMemory,
 }

@@ -1,12 +1,12 @@
 -- What an instruction does, from what the code did to the machine. The code sees the machine by its fields, as `seen`.
-use Rattle.std.proofs.Common.{◌≡◌, ℕ, ◌==◌, Bool, true, false, if◌then◌else◌, slice_set, refl, Option, None, Result, Ok, Err, ap, ◌∙◌}
+use Rattle.std.proofs.Common.{◌≡◌, ℕ, ◌==◌, Bool, true, false, if◌then◌else◌, slice_set, refl, Option, None, Result, Ok, Err, ◌⊎◌, inl, ap, ◌∙◌}
 use Rattle.vm_defs.specs.declared.memory.MemFault.{MemFault}
 use Rattle.vm_defs.specs.declared.step.Step.TheVariants.{Went, Ecall}
 use Rattle.vm_defs.specs.Memory.{Memory}
 use Rattle.vm_defs.specs.Step.{Machine, after, past_instruction, stored, with_register}
 use Rattle.vm_mem.specs.Pages.{IsAllocated}
 use Rattle.vm_mem.specs.Paged.{PagedMemory, Stores}
-use Rattle.vm_step.specs.Running.{RunningMachine, ByteRange, Executes, HasRoom, machine_at, with_pc}
+use Rattle.vm_step.specs.Running.{RunningMachine, ByteRange, Executes, HasRoom, Touches, machine_at, with_pc}
 
 abbrev pub machine_of : RunningMachine → Machine
 machine_of running = running.machine
@@ -42,6 +42,7 @@ executes-went old new machine on changed = record {
   room = λ has-room none. cc;
   allocated = λ went. tt;
   pages_kept = λ page allocated. rw changed allocated;
+  pages_added = λ page allocated. inl (rw changed at allocated);
   goes_on = ap (λ (running : RunningMachine). running.goes_on) changed ∙ on;
 }
 
@@ -53,6 +54,7 @@ executes-ecall old new machine on changed = record {
   room = λ has-room none. cc;
   allocated = λ went. tt;
   pages_kept = λ page allocated. rw changed allocated;
+  pages_added = λ page allocated. inl (rw changed at allocated);
   goes_on = ap (λ (running : RunningMachine). running.goes_on) changed ∙ on;
 }
 
@@ -60,15 +62,17 @@ executes-ecall old new machine on changed = record {
 pub executes-stored : (expected : Result Memory MemFault) (range : Option ByteRange) (old seen : RunningMachine) (memory : PagedMemory) (length : ℕ)
     → seen ≡ old → old.goes_on ≡ true → Stores expected old.machine.memory memory.memory (Ok tt)
     → HasRoom memory.allocated range → ((page : ℕ) → IsAllocated seen.allocated page → IsAllocated memory.allocated page)
+    → ((page : ℕ) → IsAllocated memory.allocated page → IsAllocated seen.allocated page ⊎ Touches range page)
     → Executes (stored old.machine length expected) range old
     (record seen { machine = past_instruction (record seen.machine { memory = memory.memory }) length; allocated = memory.allocated }) Went
-executes-stored (Ok changed) range old seen memory length same on is-stored allocated pages_kept = record {
+executes-stored (Ok changed) range old seen memory length same on is-stored allocated pages_kept pages_added = record {
   machine =
       ap (λ (memory : Memory). (Went, past_instruction (record seen.machine { memory = memory }) length)) is-stored
       ∙ ap (λ (running : RunningMachine). (Went, past_instruction (record running.machine { memory = changed }) length)) same;
   room = λ has-room none. cc;
   allocated = λ went. allocated;
   pages_kept = λ page allocated. pages_kept page (rw same allocated);
+  pages_added = λ page allocated. rw same at pages_added page allocated;
   goes_on = ap (λ (running : RunningMachine). running.goes_on) same ∙ on;
 }
-executes-stored (Err fault) range old seen memory length same on never allocated pages_kept = absurd never
+executes-stored (Err fault) range old seen memory length same on never allocated pages_kept pages_added = absurd never

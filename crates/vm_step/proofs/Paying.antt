@@ -3,7 +3,7 @@ use Rattle.std.proofs.Common.{◌≡◌, ℕ, Bool, true, false, not, Option, re
 use Rattle.vm_defs.specs.declared.step.Step.{Step}
 use Rattle.vm_defs.specs.declared.step.Step.TheVariants.{Went, Ecall, Fault, Spent, NoMemory}
 use Rattle.vm_defs.specs.Step.{Machine, charged, is_spent}
-use Rattle.vm_step.specs.Running.{RunningMachine, ByteRange, Steps, Executes, paying}
+use Rattle.vm_step.specs.Running.{RunningMachine, ByteRange, IsStep, Executes, paying}
 
 was_false : (b : Bool) → not b ≡ true → b ≡ false
 was_false true e = sym e
@@ -11,7 +11,7 @@ was_false false e = refl
 
 -- the cycles that were paid are those of the whole
 steps-paid : (expected : Step × Machine) (old new : Machine) (cost : ℕ) (result : Step)
-    → Steps expected (charged old cost) new result → Steps expected old new result
+    → IsStep expected (charged old cost) new result → IsStep expected old new result
 steps-paid expected old new cost Went steps = steps
 steps-paid expected old new cost Ecall steps = steps
 steps-paid expected old new cost (Fault number) steps = steps
@@ -31,6 +31,7 @@ executes-paid expected_of range_of cost old paid new result is-paid allocated wi
       machine = steps-paid _ old.machine new.machine cost result (rw is-paid at executes.machine);
       room = λ has-room. executes.room (rw (allocated, range) has-room);
       allocated = λ went. rw (← range) (executes.allocated went);
-      pages_kept = λ page is-made. executes.pages_kept page (rw allocated is-made);
+      pages_kept = λ page is-allocated. executes.pages_kept page (rw allocated is-allocated);
+      pages_added = λ page is-allocated. rw (allocated, range) at executes.pages_added page is-allocated;
       goes_on = executes.goes_on;
     })

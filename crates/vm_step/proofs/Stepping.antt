@@ -10,7 +10,7 @@ use Rattle.vm_defs.specs.Step.{Machine, charged, effect, execute, fault_number, 
 use Rattle.isa_defs.proofs.RowLaws.{not_equal}
 use Rattle.vm_mem.specs.Paged.{PagedMemory}
 use Rattle.vm_step.specs.Lending.{with_memory}
-use Rattle.vm_step.specs.Running.{RunningMachine, Executes, Steps, found_range, next_range, paying, stored_range}
+use Rattle.vm_step.specs.Running.{RunningMachine, Executes, IsStep, found_range, next_range, paying, stored_range}
 
 -- what is at the program counter, which is even
 pub record Finds (machine : Machine) (found : Result (Option (Ins × ℕ)) MemFault) : Type 0 where
@@ -29,21 +29,21 @@ step-found machine found from = rw (not_equal (machine.pc % 2) 1 from.even) (ap 
 -- ---- no instruction
 
 faults : (old new : Machine) (number : ℕ) (result : Step) → result ≡ Fault number → new ≡ old
-    → step_of old ≡ (Fault number, old) → Steps (step_of old) old new result
+    → step_of old ≡ (Fault number, old) → IsStep (step_of old) old new result
 faults old new number result answer same step = rw answer (ap (λ (machine : Machine). (Fault number, machine)) same ∙ sym step)
 
 pub steps-odd : (old new : Machine) (result : Step) → result ≡ Fault 4 → new ≡ old → old.pc % 2 ≡ 1
-    → Steps (step_of old) old new result
+    → IsStep (step_of old) old new result
 unfolding step_of
 steps-odd old new result answer same odd = faults old new 4 result answer same (rw (eq-eqb (old.pc % 2) 1 odd) refl)
 
 pub steps-unfetched : (old new : Machine) (fault : MemFault) (result : Step) → result ≡ Fault (fault_number fault) → new ≡ old
-    → Finds old (Err fault) → Steps (step_of old) old new result
+    → Finds old (Err fault) → IsStep (step_of old) old new result
 steps-unfetched old new fault result answer same from =
     faults old new (fault_number fault) result answer same (step-found old (Err fault) from)
 
 pub steps-undecoded : (old new : Machine) (result : Step) → result ≡ Fault 4 → new ≡ old → Finds old (Ok None)
-    → Steps (step_of old) old new result
+    → IsStep (step_of old) old new result
 unfolding execute
 steps-undecoded old new result answer same from = faults old new 4 result answer same (step-found old (Ok None) from)
 
@@ -51,8 +51,8 @@ steps-undecoded old new result answer same from = faults old new 4 result answer
 
 -- an instruction that is found is paid for and has its effect
 pub steps-executed : (old new : Machine) (decoded : Ins × ℕ) (length : ℕ) (result : Step) → Finds old (Ok (Some decoded)) → length ≡ decoded.1
-    → Steps (paying (cycles decoded.0) old (effect (charged old (cycles decoded.0)) length decoded.0)) old new result
-    → Steps (step_of old) old new result
+    → IsStep (paying (cycles decoded.0) old (effect (charged old (cycles decoded.0)) length decoded.0)) old new result
+    → IsStep (step_of old) old new result
 unfolding execute
 steps-executed old new decoded length result from same steps =
     let step : step_of old ≡ paying (cycles decoded.0) old (effect (charged old (cycles decoded.0)) decoded.1 decoded.0) =

@@ -1,5 +1,5 @@
 -- A machine that runs: what contracts see of it, and what a step of it does.
-use Rattle.std.specs.Prelude.{◌≡◌, ◌≢◌, ℕ, ℤ, Bool, true, false, List, Option, Some, None, IfSome, Result, Ok, Err, if◌then◌else◌}
+use Rattle.std.specs.Prelude.{◌≡◌, ◌≢◌, ◌⊎◌, ℕ, ◌<◌, ℤ, Bool, true, false, List, Option, Some, None, IfSome, Result, Ok, Err, if◌then◌else◌}
 use Rattle.isa_defs.specs.declared.ins.Ins.{Ins}
 use Rattle.isa_defs.specs.declared.ins.Ins.TheVariants.{Sb, Sh, Sw, Sd}
 use Rattle.vm_defs.specs.declared.memory.MemFault.{MemFault}
@@ -8,7 +8,7 @@ use Rattle.vm_defs.specs.declared.step.Step.TheVariants.{Went, Ecall, Fault, Spe
 use Rattle.vm_defs.specs.Code.{instruction_at}
 use Rattle.vm_defs.specs.Program.{Leads, stop_of}
 use Rattle.vm_defs.specs.Step.{Machine, charged, is_spent, moved, register, step_of}
-use Rattle.vm_mem.specs.Pages.{IsAllocated, AreAllocated}
+use Rattle.vm_mem.specs.Pages.{IsAllocated, AreAllocated, IsUnder}
 
 -- the machine, which of its pages are allocated, and whether it may make another step
 pub record RunningMachine : Type 0 where
@@ -31,14 +31,14 @@ goes_on_after (Fault number) = false
 goes_on_after Spent = false
 goes_on_after NoMemory = false
 
--- A step: what the definitions make of the machine, the machine before and after, and the answer. Where a page that is
+-- What a step is: what the definitions make of the machine, the machine before and after, and the answer. Where a page that is
 -- stored to could not be made, the instruction is paid for, and has no effect.
-abbrev pub Steps : Step × Machine → Machine → Machine → Step → Type 0
-Steps expected old new Went = (Went, new) ≡ expected
-Steps expected old new Ecall = (Ecall, new) ≡ expected
-Steps expected old new (Fault number) = (Fault number, new) ≡ expected
-Steps expected old new Spent = (Spent, new) ≡ expected
-Steps expected old new NoMemory = (expected.0 ≡ Went) × (new ≡ record old { cycles = expected.1.cycles })
+abbrev pub IsStep : Step × Machine → Machine → Machine → Step → Type 0
+IsStep expected old new Went = (Went, new) ≡ expected
+IsStep expected old new Ecall = (Ecall, new) ≡ expected
+IsStep expected old new (Fault number) = (Fault number, new) ≡ expected
+IsStep expected old new Spent = (Spent, new) ≡ expected
+IsStep expected old new NoMemory = (expected.0 ≡ Went) × (new ≡ record old { cycles = expected.1.cycles })
 
 -- An instruction is paid for before it has the effect that is expected of it.
 abbrev pub paying : ℕ → Machine → Step × Machine → Step × Machine
@@ -75,16 +75,41 @@ next_range machine = found_range machine (instruction_at machine.memory machine.
 abbrev pub HasRoom : List Bool → Option ByteRange → Type 0
 HasRoom allocated range = IfSome range (λ bytes. AreAllocated allocated bytes.at bytes.count)
 
+-- one of the bytes, if any are stored to, lies in the page
+abbrev pub Touches : Option ByteRange → ℕ → Type 0
+Touches (Some bytes) page = IsUnder page bytes.at bytes.count
+Touches None page = ⊥
+
 -- ---- steps up to one that does not go
 
+-- the steps of a machine come to one that stores to the page
+pub record IsStoredTo (machine : Machine) (page : ℕ) : Type 0 where
+  pub steps : ℕ
+  pub reached : Machine
+  pub leads : Leads steps machine reached
+  pub touches : Touches (next_range reached) page
+
+-- one of so many first steps does
+pub record IsStoredBefore (end : ℕ) (machine : Machine) (page : ℕ) : Type 0 where
+  pub steps : ℕ
+  pub before : steps < end
+  pub reached : Machine
+  pub leads : Leads steps machine reached
+  pub touches : Touches (next_range reached) page
+
 -- They were made up to one that stores to a page which could not be made: the machine that they lead to, whose step
--- would have gone, and what is left of it.
+-- would have gone, and what is left of it. Not all of its pages were allocated, at the start or by a step before it.
 pub record WantsPage (old : RunningMachine) (new : Machine) : Type 0 where
   pub steps : ℕ
   pub reached : Machine
   pub leads : Leads steps old.machine reached
-  pub stores : Steps (step_of reached) reached new NoMemory
-  pub no_room : HasRoom old.allocated (next_range reached) → ⊥
+  pub stores : IsStep (step_of reached) reached new NoMemory
+  pub new_page : ((page : ℕ) → Touches (next_range reached) page → IsAllocated old.allocated page ⊎ IsStoredBefore steps old.machine page) → ⊥
+
+-- The pages are allocated that a step stored to, of those that went.
+abbrev pub LeavesRoom : Machine → List Bool → Type 0
+LeavesRoom machine allocated = (steps : ℕ) (last : Machine) → Leads steps machine last → (step_of last).0 ≡ Went
+    → HasRoom allocated (next_range last)
 
 -- The machine before and after, and the answer to the last step.
 abbrev pub Stops : RunningMachine → Machine → Step → Type 0
@@ -99,8 +124,9 @@ Stops old new NoMemory = WantsPage old new
 -- An instruction: what it is to do, the bytes that it stores to, the machine before and after, and
 -- the answer.
 pub record Executes (expected : Step × Machine) (range : Option ByteRange) (old new : RunningMachine) (result : Step) : Type 0 where
-  pub machine : Steps expected old.machine new.machine result
+  pub machine : IsStep expected old.machine new.machine result
   pub room : HasRoom old.allocated range → result ≢ NoMemory
   pub allocated : result ≡ Went → HasRoom new.allocated range
   pub pages_kept : (page : ℕ) → IsAllocated old.allocated page → IsAllocated new.allocated page
+  pub pages_added : (page : ℕ) → IsAllocated new.allocated page → IsAllocated old.allocated page ⊎ Touches range page
   pub goes_on : new.goes_on ≡ goes_on_after result

@@ -1,5 +1,8 @@
 // What the kinds of instructions do, once they are paid for. The bounds on registers are those that `decode` ensures.
 ghost use Rattle.std.specs.Prelude.{◌≡◌, ◌<◌, true, None};
+ghost use Rattle.std.specs.Int.{w64};
+ghost use Rattle.std.specs.Int.RustNames.{int_lt};
+ghost use Rattle.isa_defs.specs.Alu.{signed};
 ghost use Rattle.vm_defs.specs.Memory.{byte_count};
 ghost use Rattle.vm_defs.specs.Step.{branch, jump, load, moved, past_instruction, store, write};
 ghost use Rattle.vm_step.specs.Extension.{extended};
@@ -18,6 +21,14 @@ pub(crate) fn moved(address: u64, offset: i64) -> u64
     ensures { result ≡ moved address offset }
 {
     address.wrapping_add(offset.cast_unsigned())
+}
+
+/// Whether a register is below another, as signed numbers.
+#[inline(always)]
+pub(crate) fn is_below(a: u64, b: u64) -> bool
+    ensures { result ≡ int_lt (signed w64 a) (signed w64 b) }
+{
+    a.cast_signed() < b.cast_signed()
 }
 
 impl Machine {

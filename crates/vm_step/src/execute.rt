@@ -1,5 +1,5 @@
-// An instruction: its cost, and then its effect. Each arm pays its own cost, the number that comes first in it (RFC 0014),
-// so that a step goes from what was decoded to its arm at once.
+// An instruction: its cost, and then its effect. Each arm pays its own cost, so that a step goes from what was decoded
+// to its arm at once.
 ghost use Rattle.std.specs.Prelude.{◌≡◌, ◌^◌, ◌<◌, ◌≤◌, true, None};
 ghost use Rattle.isa_defs.specs.Instruction.{HasRegisters, cycles};
 ghost use Rattle.vm_defs.specs.Memory.{byte_count};
@@ -7,10 +7,15 @@ ghost use Rattle.vm_defs.specs.Step.{branch, by_immediate, by_registers, charged
 ghost use Rattle.vm_step.specs.Extension.{extended};
 ghost use Rattle.vm_step.specs.Running.{Executes, machine_at, paying, range_at, stored_range, with_pc};
 
-use super::effect::moved;
+use super::costs::{ACCESS, BASE, BRANCH, DIVIDE, DOUBLE, ENVIRONMENT, JUMP, MULTIPLY};
+use super::effect::{is_below, moved};
 use super::extension::Extension;
 use super::extension::Extension::{Sign, Zero};
 use super::machine::Machine;
+use rv_alu::Alu::{
+    Add, Addw, And, Div, Divu, Divuw, Divw, Mul, Mulh, Mulhsu, Mulhu, Mulw, Or, Rem, Remu, Remuw,
+    Remw, Sll, Sllw, Slt, Sltu, Sra, Sraw, Srl, Srlw, Sub, Subw, Xor,
+};
 use rv_alu::{Alu, op};
 use rv_decode::Ins;
 use vm_defs::Width::{B1, B2, B4, B8};
@@ -189,209 +194,117 @@ impl Machine {
         ensures { Executes (paying (cycles ins) (machine_at self.old pc.old) (effect (charged (machine_at self.old pc.old) (cycles ins)) length ins)) (stored_range (machine_at self.old pc.old) ins) (with_pc self.old pc.old) (with_pc self.new pc.new) result }
     {
         match ins {
-            Ins::Lui { rd, imm } => self.paid_write(pc, 1, length, rd, imm.cast_unsigned()),
+            Ins::Lui { rd, imm } => self.paid_write(pc, BASE, length, rd, imm.cast_unsigned()),
             Ins::Auipc { rd, imm } => {
                 let value = moved(*pc, imm);
-                self.paid_write(pc, 1, length, rd, value)
+                self.paid_write(pc, BASE, length, rd, value)
             }
             Ins::Jal { rd, imm } => {
                 let target = moved(*pc, imm);
-                self.paid_jump(pc, 3, length, rd, target)
+                self.paid_jump(pc, JUMP, length, rd, target)
             }
             Ins::Jalr { rd, rs1, imm } => {
                 let target = moved(self.reg(rs1), imm) / 2 * 2;
-                self.paid_jump(pc, 3, length, rd, target)
+                self.paid_jump(pc, JUMP, length, rd, target)
             }
             Ins::Beq { rs1, rs2, imm } => {
                 let a = self.reg(rs1);
                 let b = self.reg(rs2);
-                self.paid_branch(pc, 3, length, a == b, imm)
+                self.paid_branch(pc, BRANCH, length, a == b, imm)
             }
             Ins::Bne { rs1, rs2, imm } => {
                 let a = self.reg(rs1);
                 let b = self.reg(rs2);
-                self.paid_branch(pc, 3, length, a != b, imm)
+                self.paid_branch(pc, BRANCH, length, a != b, imm)
             }
             Ins::Blt { rs1, rs2, imm } => {
                 let a = self.reg(rs1);
                 let b = self.reg(rs2);
-                self.paid_branch(pc, 3, length, a.cast_signed() < b.cast_signed(), imm)
+                self.paid_branch(pc, BRANCH, length, is_below(a, b), imm)
             }
             Ins::Bge { rs1, rs2, imm } => {
                 let a = self.reg(rs1);
                 let b = self.reg(rs2);
-                self.paid_branch(pc, 3, length, a.cast_signed() >= b.cast_signed(), imm)
+                self.paid_branch(pc, BRANCH, length, !is_below(a, b), imm)
             }
             Ins::Bltu { rs1, rs2, imm } => {
                 let a = self.reg(rs1);
                 let b = self.reg(rs2);
-                self.paid_branch(pc, 3, length, a < b, imm)
+                self.paid_branch(pc, BRANCH, length, a < b, imm)
             }
             Ins::Bgeu { rs1, rs2, imm } => {
                 let a = self.reg(rs1);
                 let b = self.reg(rs2);
-                self.paid_branch(pc, 3, length, a >= b, imm)
+                self.paid_branch(pc, BRANCH, length, a >= b, imm)
             }
-            Ins::Lb { rd, rs1, imm } => self.paid_load(pc, 3, length, B1, Sign, rd, rs1, imm),
-            Ins::Lh { rd, rs1, imm } => self.paid_load(pc, 3, length, B2, Sign, rd, rs1, imm),
-            Ins::Lw { rd, rs1, imm } => self.paid_load(pc, 3, length, B4, Sign, rd, rs1, imm),
-            Ins::Ld { rd, rs1, imm } => self.paid_load(pc, 2, length, B8, Zero, rd, rs1, imm),
-            Ins::Lbu { rd, rs1, imm } => self.paid_load(pc, 3, length, B1, Zero, rd, rs1, imm),
-            Ins::Lhu { rd, rs1, imm } => self.paid_load(pc, 3, length, B2, Zero, rd, rs1, imm),
-            Ins::Lwu { rd, rs1, imm } => self.paid_load(pc, 3, length, B4, Zero, rd, rs1, imm),
-            Ins::Sb { rs1, rs2, imm } => self.paid_store(pc, 3, length, B1, rs1, rs2, imm),
-            Ins::Sh { rs1, rs2, imm } => self.paid_store(pc, 3, length, B2, rs1, rs2, imm),
-            Ins::Sw { rs1, rs2, imm } => self.paid_store(pc, 3, length, B4, rs1, rs2, imm),
-            Ins::Sd { rs1, rs2, imm } => self.paid_store(pc, 2, length, B8, rs1, rs2, imm),
-            Ins::Addi { rd, rs1, imm } => self.by_immediate(pc, 1, length, Alu::Add, rd, rs1, imm),
-            Ins::Slti { rd, rs1, imm } => self.by_immediate(pc, 1, length, Alu::Slt, rd, rs1, imm),
-            Ins::Sltiu { rd, rs1, imm } => self.by_immediate(
-                pc,
-                1,
-                length,
-                Alu::Sltu,
-                rd,
-                rs1,
-                imm,
+            Ins::Lb { rd, rs1, imm } => self.paid_load(pc, ACCESS, length, B1, Sign, rd, rs1, imm),
+            Ins::Lh { rd, rs1, imm } => self.paid_load(pc, ACCESS, length, B2, Sign, rd, rs1, imm),
+            Ins::Lw { rd, rs1, imm } => self.paid_load(pc, ACCESS, length, B4, Sign, rd, rs1, imm),
+            Ins::Ld { rd, rs1, imm } => self.paid_load(pc, DOUBLE, length, B8, Zero, rd, rs1, imm),
+            Ins::Lbu { rd, rs1, imm } => self.paid_load(pc, ACCESS, length, B1, Zero, rd, rs1, imm),
+            Ins::Lhu { rd, rs1, imm } => self.paid_load(pc, ACCESS, length, B2, Zero, rd, rs1, imm),
+            Ins::Lwu { rd, rs1, imm } => self.paid_load(pc, ACCESS, length, B4, Zero, rd, rs1, imm),
+            Ins::Sb { rs1, rs2, imm } => self.paid_store(pc, ACCESS, length, B1, rs1, rs2, imm),
+            Ins::Sh { rs1, rs2, imm } => self.paid_store(pc, ACCESS, length, B2, rs1, rs2, imm),
+            Ins::Sw { rs1, rs2, imm } => self.paid_store(pc, ACCESS, length, B4, rs1, rs2, imm),
+            Ins::Sd { rs1, rs2, imm } => self.paid_store(pc, DOUBLE, length, B8, rs1, rs2, imm),
+            Ins::Addi { rd, rs1, imm } => self.by_immediate(pc, BASE, length, Add, rd, rs1, imm),
+            Ins::Slti { rd, rs1, imm } => self.by_immediate(pc, BASE, length, Slt, rd, rs1, imm),
+            Ins::Sltiu { rd, rs1, imm } => self.by_immediate(pc, BASE, length, Sltu, rd, rs1, imm),
+            Ins::Xori { rd, rs1, imm } => self.by_immediate(pc, BASE, length, Xor, rd, rs1, imm),
+            Ins::Ori { rd, rs1, imm } => self.by_immediate(pc, BASE, length, Or, rd, rs1, imm),
+            Ins::Andi { rd, rs1, imm } => self.by_immediate(pc, BASE, length, And, rd, rs1, imm),
+            Ins::Slli { rd, rs1, imm } => self.by_immediate(pc, BASE, length, Sll, rd, rs1, imm),
+            Ins::Srli { rd, rs1, imm } => self.by_immediate(pc, BASE, length, Srl, rd, rs1, imm),
+            Ins::Srai { rd, rs1, imm } => self.by_immediate(pc, BASE, length, Sra, rd, rs1, imm),
+            Ins::Addiw { rd, rs1, imm } => self.by_immediate(pc, BASE, length, Addw, rd, rs1, imm),
+            Ins::Slliw { rd, rs1, imm } => self.by_immediate(pc, BASE, length, Sllw, rd, rs1, imm),
+            Ins::Srliw { rd, rs1, imm } => self.by_immediate(pc, BASE, length, Srlw, rd, rs1, imm),
+            Ins::Sraiw { rd, rs1, imm } => self.by_immediate(pc, BASE, length, Sraw, rd, rs1, imm),
+            Ins::Add { rd, rs1, rs2 } => self.by_registers(pc, BASE, length, Add, rd, rs1, rs2),
+            Ins::Sub { rd, rs1, rs2 } => self.by_registers(pc, BASE, length, Sub, rd, rs1, rs2),
+            Ins::Sll { rd, rs1, rs2 } => self.by_registers(pc, BASE, length, Sll, rd, rs1, rs2),
+            Ins::Slt { rd, rs1, rs2 } => self.by_registers(pc, BASE, length, Slt, rd, rs1, rs2),
+            Ins::Sltu { rd, rs1, rs2 } => self.by_registers(pc, BASE, length, Sltu, rd, rs1, rs2),
+            Ins::Xor { rd, rs1, rs2 } => self.by_registers(pc, BASE, length, Xor, rd, rs1, rs2),
+            Ins::Srl { rd, rs1, rs2 } => self.by_registers(pc, BASE, length, Srl, rd, rs1, rs2),
+            Ins::Sra { rd, rs1, rs2 } => self.by_registers(pc, BASE, length, Sra, rd, rs1, rs2),
+            Ins::Or { rd, rs1, rs2 } => self.by_registers(pc, BASE, length, Or, rd, rs1, rs2),
+            Ins::And { rd, rs1, rs2 } => self.by_registers(pc, BASE, length, And, rd, rs1, rs2),
+            Ins::Mul { rd, rs1, rs2 } => self.by_registers(pc, MULTIPLY, length, Mul, rd, rs1, rs2),
+            Ins::Mulh { rd, rs1, rs2 } => self.by_registers(
+                pc, MULTIPLY, length, Mulh, rd, rs1, rs2,
             ),
-            Ins::Xori { rd, rs1, imm } => self.by_immediate(pc, 1, length, Alu::Xor, rd, rs1, imm),
-            Ins::Ori { rd, rs1, imm } => self.by_immediate(pc, 1, length, Alu::Or, rd, rs1, imm),
-            Ins::Andi { rd, rs1, imm } => self.by_immediate(pc, 1, length, Alu::And, rd, rs1, imm),
-            Ins::Slli { rd, rs1, imm } => self.by_immediate(pc, 1, length, Alu::Sll, rd, rs1, imm),
-            Ins::Srli { rd, rs1, imm } => self.by_immediate(pc, 1, length, Alu::Srl, rd, rs1, imm),
-            Ins::Srai { rd, rs1, imm } => self.by_immediate(pc, 1, length, Alu::Sra, rd, rs1, imm),
-            Ins::Addiw { rd, rs1, imm } => self.by_immediate(
-                pc,
-                1,
-                length,
-                Alu::Addw,
-                rd,
-                rs1,
-                imm,
-            ),
-            Ins::Slliw { rd, rs1, imm } => self.by_immediate(
-                pc,
-                1,
-                length,
-                Alu::Sllw,
-                rd,
-                rs1,
-                imm,
-            ),
-            Ins::Srliw { rd, rs1, imm } => self.by_immediate(
-                pc,
-                1,
-                length,
-                Alu::Srlw,
-                rd,
-                rs1,
-                imm,
-            ),
-            Ins::Sraiw { rd, rs1, imm } => self.by_immediate(
-                pc,
-                1,
-                length,
-                Alu::Sraw,
-                rd,
-                rs1,
-                imm,
-            ),
-            Ins::Add { rd, rs1, rs2 } => self.by_registers(pc, 1, length, Alu::Add, rd, rs1, rs2),
-            Ins::Sub { rd, rs1, rs2 } => self.by_registers(pc, 1, length, Alu::Sub, rd, rs1, rs2),
-            Ins::Sll { rd, rs1, rs2 } => self.by_registers(pc, 1, length, Alu::Sll, rd, rs1, rs2),
-            Ins::Slt { rd, rs1, rs2 } => self.by_registers(pc, 1, length, Alu::Slt, rd, rs1, rs2),
-            Ins::Sltu { rd, rs1, rs2 } => self.by_registers(pc, 1, length, Alu::Sltu, rd, rs1, rs2),
-            Ins::Xor { rd, rs1, rs2 } => self.by_registers(pc, 1, length, Alu::Xor, rd, rs1, rs2),
-            Ins::Srl { rd, rs1, rs2 } => self.by_registers(pc, 1, length, Alu::Srl, rd, rs1, rs2),
-            Ins::Sra { rd, rs1, rs2 } => self.by_registers(pc, 1, length, Alu::Sra, rd, rs1, rs2),
-            Ins::Or { rd, rs1, rs2 } => self.by_registers(pc, 1, length, Alu::Or, rd, rs1, rs2),
-            Ins::And { rd, rs1, rs2 } => self.by_registers(pc, 1, length, Alu::And, rd, rs1, rs2),
-            Ins::Mul { rd, rs1, rs2 } => self.by_registers(pc, 5, length, Alu::Mul, rd, rs1, rs2),
-            Ins::Mulh { rd, rs1, rs2 } => self.by_registers(pc, 5, length, Alu::Mulh, rd, rs1, rs2),
             Ins::Mulhsu { rd, rs1, rs2 } => self.by_registers(
-                pc,
-                5,
-                length,
-                Alu::Mulhsu,
-                rd,
-                rs1,
-                rs2,
+                pc, MULTIPLY, length, Mulhsu, rd, rs1, rs2,
             ),
             Ins::Mulhu { rd, rs1, rs2 } => self.by_registers(
-                pc,
-                5,
-                length,
-                Alu::Mulhu,
-                rd,
-                rs1,
-                rs2,
+                pc, MULTIPLY, length, Mulhu, rd, rs1, rs2,
             ),
-            Ins::Div { rd, rs1, rs2 } => self.by_registers(pc, 32, length, Alu::Div, rd, rs1, rs2),
-            Ins::Divu { rd, rs1, rs2 } => self.by_registers(
-                pc,
-                32,
-                length,
-                Alu::Divu,
-                rd,
-                rs1,
-                rs2,
+            Ins::Div { rd, rs1, rs2 } => self.by_registers(pc, DIVIDE, length, Div, rd, rs1, rs2),
+            Ins::Divu { rd, rs1, rs2 } => self.by_registers(pc, DIVIDE, length, Divu, rd, rs1, rs2),
+            Ins::Rem { rd, rs1, rs2 } => self.by_registers(pc, DIVIDE, length, Rem, rd, rs1, rs2),
+            Ins::Remu { rd, rs1, rs2 } => self.by_registers(pc, DIVIDE, length, Remu, rd, rs1, rs2),
+            Ins::Addw { rd, rs1, rs2 } => self.by_registers(pc, BASE, length, Addw, rd, rs1, rs2),
+            Ins::Subw { rd, rs1, rs2 } => self.by_registers(pc, BASE, length, Subw, rd, rs1, rs2),
+            Ins::Sllw { rd, rs1, rs2 } => self.by_registers(pc, BASE, length, Sllw, rd, rs1, rs2),
+            Ins::Srlw { rd, rs1, rs2 } => self.by_registers(pc, BASE, length, Srlw, rd, rs1, rs2),
+            Ins::Sraw { rd, rs1, rs2 } => self.by_registers(pc, BASE, length, Sraw, rd, rs1, rs2),
+            Ins::Mulw { rd, rs1, rs2 } => self.by_registers(
+                pc, MULTIPLY, length, Mulw, rd, rs1, rs2,
             ),
-            Ins::Rem { rd, rs1, rs2 } => self.by_registers(pc, 32, length, Alu::Rem, rd, rs1, rs2),
-            Ins::Remu { rd, rs1, rs2 } => self.by_registers(
-                pc,
-                32,
-                length,
-                Alu::Remu,
-                rd,
-                rs1,
-                rs2,
-            ),
-            Ins::Addw { rd, rs1, rs2 } => self.by_registers(pc, 1, length, Alu::Addw, rd, rs1, rs2),
-            Ins::Subw { rd, rs1, rs2 } => self.by_registers(pc, 1, length, Alu::Subw, rd, rs1, rs2),
-            Ins::Sllw { rd, rs1, rs2 } => self.by_registers(pc, 1, length, Alu::Sllw, rd, rs1, rs2),
-            Ins::Srlw { rd, rs1, rs2 } => self.by_registers(pc, 1, length, Alu::Srlw, rd, rs1, rs2),
-            Ins::Sraw { rd, rs1, rs2 } => self.by_registers(pc, 1, length, Alu::Sraw, rd, rs1, rs2),
-            Ins::Mulw { rd, rs1, rs2 } => self.by_registers(pc, 5, length, Alu::Mulw, rd, rs1, rs2),
-            Ins::Divw { rd, rs1, rs2 } => self.by_registers(
-                pc,
-                32,
-                length,
-                Alu::Divw,
-                rd,
-                rs1,
-                rs2,
-            ),
+            Ins::Divw { rd, rs1, rs2 } => self.by_registers(pc, DIVIDE, length, Divw, rd, rs1, rs2),
             Ins::Divuw { rd, rs1, rs2 } => self.by_registers(
-                pc,
-                32,
-                length,
-                Alu::Divuw,
-                rd,
-                rs1,
-                rs2,
+                pc, DIVIDE, length, Divuw, rd, rs1, rs2,
             ),
-            Ins::Remw { rd, rs1, rs2 } => self.by_registers(
-                pc,
-                32,
-                length,
-                Alu::Remw,
-                rd,
-                rs1,
-                rs2,
-            ),
+            Ins::Remw { rd, rs1, rs2 } => self.by_registers(pc, DIVIDE, length, Remw, rd, rs1, rs2),
             Ins::Remuw { rd, rs1, rs2 } => self.by_registers(
-                pc,
-                32,
-                length,
-                Alu::Remuw,
-                rd,
-                rs1,
-                rs2,
+                pc, DIVIDE, length, Remuw, rd, rs1, rs2,
             ),
-            Ins::Fence => self.paid_advance(pc, 1, length),
-            Ins::FenceI => self.paid_advance(pc, 1, length),
-            Ins::Ecall => self.paid_ecall(pc, 500, length),
-            Ins::Ebreak => self.paid_advance(pc, 500, length),
+            Ins::Fence => self.paid_advance(pc, BASE, length),
+            Ins::FenceI => self.paid_advance(pc, BASE, length),
+            Ins::Ecall => self.paid_ecall(pc, ENVIRONMENT, length),
+            Ins::Ebreak => self.paid_advance(pc, ENVIRONMENT, length),
         }
     }
 }

@@ -12,7 +12,6 @@ pub(crate) enum Extension {
 }
 
 /// A number that was loaded, as a register holds it.
-// A load gives no number of more bits than it moves. The definition has all ones for one.
 #[inline(always)]
 #[tactic(auto, unfolding(vm_defs::specs::Step::extended_from))]
 pub(crate) fn extended(extension: Extension, width: Width, n: u64) -> u64
@@ -21,18 +20,9 @@ pub(crate) fn extended(extension: Extension, width: Width, n: u64) -> u64
     match extension {
         Extension::Zero => n,
         Extension::Sign => match width {
-            Width::B1 => match u8::try_from(n) {
-                Ok(n) => i64::from(n.cast_signed()).cast_unsigned(),
-                Err(_) => u64::MAX,
-            },
-            Width::B2 => match u16::try_from(n) {
-                Ok(n) => i64::from(n.cast_signed()).cast_unsigned(),
-                Err(_) => u64::MAX,
-            },
-            Width::B4 => match u32::try_from(n) {
-                Ok(n) => i64::from(n.cast_signed()).cast_unsigned(),
-                Err(_) => u64::MAX,
-            },
+            Width::B1 => i64::from(((n % 0x100) as u8).cast_signed()).cast_unsigned(),
+            Width::B2 => i64::from(((n % 0x1_0000) as u16).cast_signed()).cast_unsigned(),
+            Width::B4 => i64::from(((n % 0x1_0000_0000) as u32).cast_signed()).cast_unsigned(),
             Width::B8 => n,
         },
     }

@@ -8,6 +8,7 @@
 //! to the layer above, and `run_laws` has the laws that its loop is proved with.
 #![tactic(auto)]
 
+mod costs;
 mod effect;
 mod execute;
 mod extension;

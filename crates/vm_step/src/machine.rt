@@ -1,11 +1,11 @@
 // The machine, and what its user sees and changes of it.
 ghost use Rattle.std.specs.Borrow.{sem};
-ghost use Rattle.std.specs.Prelude.{◌≡◌, ◌≢◌, ℕ, ◌^◌, ◌<◌, ◌≤◌, true, false, not};
+ghost use Rattle.std.specs.Prelude.{◌≡◌, ◌≢◌, ◌⊎◌, ℕ, ◌^◌, ◌<◌, ◌≤◌, true, false, not};
 ghost use Rattle.vm_defs.specs.Program.{new_machine};
 ghost use Rattle.vm_defs.specs.Step.{charged, is_spent, register, step_of, with_register};
 ghost use Rattle.vm_mem.specs.Pages.{IsAllocated};
 ghost use Rattle.vm_step.specs.Lending.{LendsMemory};
-ghost use Rattle.vm_step.specs.Running.{HasRoom, Steps, Stops, goes_on_after, machine_at, next_range};
+ghost use Rattle.vm_step.specs.Running.{HasRoom, IsStep, IsStoredTo, LeavesRoom, Stops, Touches, goes_on_after, machine_at, next_range};
 
 use super::fault::{NO_INSTRUCTION, fault_number};
 use std::marker::Model;
@@ -47,12 +47,13 @@ impl Model for Machine {
 impl Machine {
     /// A machine before its first step, with its program in memory and `pc` at the program's entry.
     ///
-    /// All registers are 0 but the stack pointer, x2, which is 0x3ffff0. The budget is the most cycles that the
-    /// program may take.
+    /// All registers are 0 but the stack pointer, x2, which is 0x3ffff0. The cycles are those that its loading took, and
+    /// the budget is the most that there may be.
     #[tactic(auto, unfolding(vm_defs::specs::Program::new_machine, vm_defs::specs::Program::initial_registers))]
-    pub fn new(memory: Memory, pc: u64, budget: u64) -> Machine
-        requires { budget ≤ 2 ^ 40 }
-        ensures machine { result.machine ≡ new_machine memory.memory pc budget }
+    pub fn new(memory: Memory, pc: u64, cycles: u64, budget: u64) -> Machine
+        requires bound { budget ≤ 2 ^ 40 }
+        requires within { cycles ≤ budget }
+        ensures machine { result.machine ≡ charged (new_machine memory.memory pc budget) cycles }
         ensures allocated { result.allocated ≡ memory.allocated }
         ensures goes_on { result.goes_on ≡ true }
     {
@@ -62,7 +63,7 @@ impl Machine {
             memory,
             registers,
             pc,
-            cycles: 0,
+            cycles,
             budget,
             goes_on: true,
         }
@@ -75,14 +76,15 @@ impl Machine {
     #[inline(always)]
     pub fn step(&mut self) -> Step
         requires { self.old.goes_on ≡ true }
-        ensures steps { Steps (step_of self.old.machine) self.old.machine self.new.machine result }
+        ensures steps { IsStep (step_of self.old.machine) self.old.machine self.new.machine result }
         ensures goes_on { self.new.goes_on ≡ goes_on_after result }
 
-        // With room for what the instruction stores, NoMemory does not come. A store leaves room there, and no
-        // page loses its own.
+        // With room for what the instruction stores, NoMemory does not come. A store leaves room there. No page
+        // loses its own, and none is allocated but those that the store touches.
         ensures room { HasRoom self.old.allocated (next_range self.old.machine) → result ≢ Step.NoMemory }
         ensures allocated { result ≡ Step.Went → HasRoom self.new.allocated (next_range self.old.machine) }
         ensures pages_kept { (page : ℕ) → IsAllocated self.old.allocated page → IsAllocated self.new.allocated page }
+        ensures pages_added { (page : ℕ) → IsAllocated self.new.allocated page → IsAllocated self.old.allocated page ⊎ Touches (next_range self.old.machine) page }
     {
         let mut pc = self.pc;
         let answer = self.step_at(&mut pc);
@@ -92,13 +94,16 @@ impl Machine {
 
     /// Steps up to the first whose answer is not `Went`, and that answer.
     ///
-    /// `NoMemory` comes only where the next step stores to a page that was not allocated.
+    /// `NoMemory` comes only where the next step stores to a page that was not allocated, and that no step before stored
+    /// to. No page is allocated but those that a step stores to.
     #[inline(never)]
     pub fn run(&mut self) -> Step
         requires { self.old.goes_on ≡ true }
         ensures stops { Stops self.old self.new.machine result }
         ensures goes_on { self.new.goes_on ≡ goes_on_after result }
+        ensures room { result ≢ Step.NoMemory → LeavesRoom self.old.machine self.new.allocated }
         ensures pages_kept { (page : ℕ) → IsAllocated self.old.allocated page → IsAllocated self.new.allocated page }
+        ensures pages_added { (page : ℕ) → IsAllocated self.new.allocated page → IsAllocated self.old.allocated page ⊎ IsStoredTo self.old.machine page }
     {
         let mut pc = self.pc;
         'steps: loop {
@@ -171,11 +176,12 @@ impl Machine {
     #[inline(always)]
     fn step_at(&mut self, pc: &mut u64) -> Step
         requires { self.old.goes_on ≡ true }
-        ensures steps { Steps (step_of (machine_at self.old pc.old)) (machine_at self.old pc.old) (machine_at self.new pc.new) result }
+        ensures steps { IsStep (step_of (machine_at self.old pc.old)) (machine_at self.old pc.old) (machine_at self.new pc.new) result }
         ensures goes_on { self.new.goes_on ≡ goes_on_after result }
         ensures room { HasRoom self.old.allocated (next_range (machine_at self.old pc.old)) → result ≢ Step.NoMemory }
         ensures allocated { result ≡ Step.Went → HasRoom self.new.allocated (next_range (machine_at self.old pc.old)) }
         ensures pages_kept { (page : ℕ) → IsAllocated self.old.allocated page → IsAllocated self.new.allocated page }
+        ensures pages_added { (page : ℕ) → IsAllocated self.new.allocated page → IsAllocated self.old.allocated page ⊎ Touches (next_range (machine_at self.old pc.old)) page }
     {
         if *pc % 2 == 1 {
             return self.stop(Step::Fault(NO_INSTRUCTION));

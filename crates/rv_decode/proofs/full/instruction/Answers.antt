@@ -1,5 +1,5 @@
 use Rattle.std.proofs.Common.{refl, sym, ap, Some, arith, ◌∙◌, ◌∷◌, []}
-use Rattle.isa_defs.specs.Table.{full_forms, row, u_type, j_type}
+use Rattle.isa_defs.specs.Table.{full_forms, u_row, j_row}
 use Rattle.isa_defs.proofs.RowLaws.{narrowed, none_of, hit}
 use Rattle.isa_defs.specs.declared.ins.Ins.TheVariants.{Lui, Auipc, Jal}
 use Rattle.std.proofs.lemmas.Bool.Decides.{nat_tests}
@@ -20,7 +20,7 @@ returns-in-19 c = c.immediate.ensures ∙ sym (narrowed full_forms c.args.word (
 pub returns-in-23 : goal.returns-in-23
 unfolding full_forms
 returns-in-23 c =
-    ap Some c.auipc.ensures ∙ sym (hit c.args.word (row 127 23 (u_type Auipc)) refl c.in-23.is)
+    ap Some c.auipc.ensures ∙ sym (hit c.args.word (u_row 0b0010111 Auipc) refl c.in-23.is)
     ∙ sym (narrowed full_forms c.args.word (record { mask = 127; value = 23 }) c.in-23.is)
 
 pub returns-in-27 : goal.returns-in-27
@@ -38,7 +38,7 @@ returns-in-51 c = c.register.ensures ∙ sym (narrowed full_forms c.args.word (r
 pub returns-in-55 : goal.returns-in-55
 unfolding full_forms
 returns-in-55 c =
-    ap Some c.lui.ensures ∙ sym (hit c.args.word (row 127 55 (u_type Lui)) refl c.in-55.is)
+    ap Some c.lui.ensures ∙ sym (hit c.args.word (u_row 0b0110111 Lui) refl c.in-55.is)
     ∙ sym (narrowed full_forms c.args.word (record { mask = 127; value = 55 }) c.in-55.is)
 
 pub returns-in-59 : goal.returns-in-59
@@ -56,7 +56,7 @@ returns-in-103 c = c.jump_register.ensures ∙ sym (narrowed full_forms c.args.w
 pub returns-in-111 : goal.returns-in-111
 unfolding full_forms
 returns-in-111 c =
-    ap Some c.jal.ensures ∙ sym (hit c.args.word (row 127 111 (j_type Jal)) refl c.in-111.is)
+    ap Some c.jal.ensures ∙ sym (hit c.args.word (j_row 0b1101111 Jal) refl c.in-111.is)
     ∙ sym (narrowed full_forms c.args.word (record { mask = 127; value = 111 }) c.in-111.is)
 
 pub returns-in-115 : goal.returns-in-115

@@ -1,8 +1,11 @@
-use Rattle.vm_defs.proofs.ProgramLaws.{answer_ecall-keeps, goes-on-within-budget, has-steps-enough, runs-step-by-step, runs-stop-by-stop, step-keeps-account, stops-step-by-step}
+use Rattle.vm_defs.proofs.ProgramLaws.{answer_ecall-keeps, goes-on-within-budget, has-steps-enough, runs-step-by-step, runs-stop-by-stop, step-has-memory, step-keeps-account, stops-step-by-step}
 use Rattle.vm_step.proofs.laws.run_laws.Goals as goal
 
 pub returns-clause-account : goal.returns-clause-account
 returns-clause-account c = step-keeps-account
+
+pub returns-clause-has_memory : goal.returns-clause-has_memory
+returns-clause-has_memory c = step-has-memory
 
 pub returns-clause-within_budget : goal.returns-clause-within_budget
 returns-clause-within_budget c = goes-on-within-budget

@@ -71,3 +71,15 @@ returns-clause-allocated c went =
     let same = looked-up _ seen c.instruction.new.self is-old c.instruction.ensures.unchanged in
     let executes = executed _ (with_memory seen c.instruction.new.self) _ decoded.0 c.from.result _ same c.execute.ensures in
     rw (range-executed old.machine decoded from) (executes.allocated went)
+
+pub returns-clause-pages_added : goal.returns-clause-pages_added
+returns-clause-pages_added c page is-allocated =
+    let pc = c.args.pc.now in
+    let old = with_pc c.args.self.now pc in
+    let seen = with_pc (the_view c.self.inside) pc in
+    let is-old = ap (λ (running : RunningMachine). with_pc running pc) c.self.view_is in
+    let decoded = c.in-Ok-Some.decoded in
+    let from = finds _ seen (Ok (Some decoded)) _ is-old c.if-pc-eq1.false c.instruction.ensures.exact (c.in-Ok-Some.is ∙ ap Ok c.in-Ok-Some.field-0-is) in
+    let same = looked-up _ seen c.instruction.new.self is-old c.instruction.ensures.unchanged in
+    let executes = executed _ (with_memory seen c.instruction.new.self) _ decoded.0 c.from.result _ same c.execute.ensures in
+    rw (range-executed old.machine decoded from) (executes.pages_added page is-allocated)

@@ -15,5 +15,6 @@ returns-in-Ok c =
     let stores =
     rw (c.in-Ok.is, c.moved-at.ensures, c.reg.ensures, c.reg-value.ensures, imm, memory) at c.store.ensures.stores in
     let allocated = rw (c.moved-at.ensures, c.reg.ensures, imm) at c.in-Ok.ensures.allocated in
+    let pages_added = rw (c.moved-at.ensures, c.reg.ensures, imm) at c.store.ensures.pages_added in
     executes-stored _ _ (with_pc c.args.self.now pc) (with_pc (the_view c.self.inside) pc) c.store.new.self c.args.length
-    (ap (λ (running : RunningMachine). with_pc running pc) c.self.view_is) c.requires.goes_on stores allocated c.store.ensures.pages_kept
+    (ap (λ (running : RunningMachine). with_pc running pc) c.self.view_is) c.requires.goes_on stores allocated c.store.ensures.pages_kept pages_added
