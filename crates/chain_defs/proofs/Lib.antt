@@ -2,3 +2,4 @@ pub mod KeptLaws
 pub mod BranchLaws
 pub mod ForkLaws
 pub mod TipLaws
+pub mod MedianLaws
