@@ -1,5 +1,5 @@
 //! What a header commits to its block by.
-ghost use Rattle.std.specs.Prelude.{◌≡◌, map, IfOk};
+ghost use Rattle.std.specs.Prelude.{◌≡◌, ◌<◌, ◌^◌, length, map, IfOk};
 ghost use Rattle.chain_defs.specs.Kept.{header_hash};
 ghost use Rattle.chain_defs.specs.Hashes as hashes;
 
@@ -31,7 +31,8 @@ fn hash_of_header(header: &HeaderView<'_>) -> [u8; 32]
 
 /// The hashes of a block's transactions, in their order.
 fn transaction_hashes(alloc: Global, block: &BlockView<'_>) -> Result<Vec<[u8; 32]>, NoMemory>
-    ensures { IfOk result (λ list. list.items ≡ map hashes.transaction_hash block.now.transactions) }
+    ensures hashes { IfOk result (λ list. list.items ≡ map hashes.transaction_hash block.now.transactions) }
+    ensures fits { IfOk result (λ list. length list.items < 2 ^ 30) }
 {
     let mut list = Vec::new(alloc);
     'transactions: for i in 0..block.transactions_count() {
@@ -42,7 +43,8 @@ fn transaction_hashes(alloc: Global, block: &BlockView<'_>) -> Result<Vec<[u8; 3
 
 /// Their hashes with witnesses.
 fn witness_hashes(alloc: Global, block: &BlockView<'_>) -> Result<Vec<[u8; 32]>, NoMemory>
-    ensures { IfOk result (λ list. list.items ≡ map hashes.witness_hash block.now.transactions) }
+    ensures hashes { IfOk result (λ list. list.items ≡ map hashes.witness_hash block.now.transactions) }
+    ensures fits { IfOk result (λ list. length list.items < 2 ^ 30) }
 {
     let mut list = Vec::new(alloc);
     'transactions: for i in 0..block.transactions_count() {

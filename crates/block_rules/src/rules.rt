@@ -1,5 +1,5 @@
 //! J9 to J14, one function a rule.
-ghost use Rattle.std.specs.Prelude.{◌≡◌, IfOk};
+ghost use Rattle.std.specs.Prelude.{◌≡◌, ◌<◌, Some, length, slice_get, IfOk};
 ghost use Rattle.fold_defs.specs.First.{first_failing};
 ghost use Rattle.chain_defs.specs.Hashes.{are_distinct};
 ghost use Rattle.rule_defs.specs.Body as rules;
@@ -29,15 +29,23 @@ fn fits_length(spec: &Spec, block: &BlockView<'_>) -> bool
     counted_length(block) <= spec.max_block_bytes as usize
 }
 
+/// The proposal id at a place.
+fn id_at(block: &BlockView<'_>, i: usize) -> [u8; 10]
+    requires { i < length block.now.proposals }
+    ensures { slice_get block.now.proposals i ≡ Some result }
+{
+    let mut id = [0; 10];
+    id.copy_from_slice(block.proposals_item(i));
+    id
+}
+
 /// Whether no proposal id comes twice.
 fn are_ids_distinct(alloc: Global, block: &BlockView<'_>) -> Result<bool, NoMemory>
     ensures { IfOk result (λ distinct. distinct ≡ are_distinct block.now.proposals) }
 {
     let mut seen: HashSet<[u8; 10]> = HashSet::new(alloc);
     'later: for i in (0..block.proposals_count()).rev() {
-        let mut id = [0; 10];
-        id.copy_from_slice(block.proposals_item(i));
-        if !seen.insert(id)? {
+        if !seen.insert(id_at(block, i))? {
             return Ok(false);
         }
     }
@@ -58,7 +66,7 @@ fn has_proposals(alloc: Global, spec: &Spec, block: &BlockView<'_>) -> Result<bo
 fn commits_to_proposals(block: &BlockView<'_>) -> bool
     ensures { result ≡ rules.commits_to_proposals block.now }
 {
-    *block.header().proposals_hash() == proposals_hash(block)
+    block.header().proposals_hash() == proposals_hash(block).as_slice()
 }
 
 /// J12: its `transactions_root` is that of its transactions.
@@ -66,7 +74,7 @@ fn commits_to_transactions(alloc: Global, block: &BlockView<'_>) -> Result<bool,
     ensures { IfOk result (λ commits. commits ≡ rules.commits_to_transactions block.now) }
 {
     let root = transactions_root(alloc, block)?;
-    Ok(*block.header().transactions_root() == root)
+    Ok(block.header().transactions_root() == root.as_slice())
 }
 
 /// J13: it has at most 2 uncles.
@@ -80,7 +88,7 @@ fn has_few_uncles(block: &BlockView<'_>) -> bool
 fn commits_to_uncles(block: &BlockView<'_>) -> bool
     ensures { result ≡ rules.commits_to_uncles block.now }
 {
-    *block.header().uncles_hash() == uncles_hash(block)
+    block.header().uncles_hash() == uncles_hash(block).as_slice()
 }
 
 /// The least of J9 to J14 that a block breaks.

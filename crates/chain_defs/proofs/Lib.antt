@@ -3,3 +3,4 @@ pub mod BranchLaws
 pub mod ForkLaws
 pub mod TipLaws
 pub mod MedianLaws
+pub mod DistinctLemmas
