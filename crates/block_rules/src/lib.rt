@@ -11,6 +11,3 @@ mod rules;
 
 pub use commitments::{proposals_hash, transactions_root, uncles_hash};
 pub use rules::check;
-
-#[cfg(test)]
-mod tests;

@@ -9,6 +9,3 @@
 mod rules;
 
 pub use rules::check;
-
-#[cfg(test)]
-mod tests;
