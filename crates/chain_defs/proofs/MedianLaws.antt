@@ -254,6 +254,7 @@ from-places m (n ∷ ns) each = (each 0 (omega arith), from-places m ns (λ j wi
 
 pub Rises-from_places : (ns : List ℕ) → IsNonDecreasing ns → Rises ns
 Rises-from_places [] up = tt
-Rises-from_places (n ∷ ns) up =
-    (from-places n ns (λ j within. up 0 (suc j) 0 (omega arith) (omega (arith, within))),
-    Rises-from_places ns (λ i j d at_most within. up (suc i) (suc j) d (omega (arith, at_most)) (omega (arith, within))))
+Rises-from_places (n ∷ ns) up = (
+  from-places n ns (λ j within. up 0 (suc j) 0 (omega arith) (omega (arith, within))),
+  Rises-from_places ns (λ i j d at_most within. up (suc i) (suc j) d (omega (arith, at_most)) (omega (arith, within))),
+)

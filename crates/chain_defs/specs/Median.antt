@@ -1,4 +1,4 @@
--- The median time of a branch (RFC 0017, "timestamp"; docs/RULES.md, "Since and time").
+-- The median time of a branch (RFC 0027, "timestamp"; docs/RULES.md, "Since and time").
 use Rattle.std.specs.Prelude.{◌≡◌, ◌↔◌, ℕ, ◌-◌, ◌*◌, ◌/◌, ◌<◌, ◌≤◌, ◌==◌, nat_lt, nat_le, if◌then◌else◌, List, [], ◌∷◌, length, map, drop, count_by, slice_index}
 use Rattle.codec_defs.specs.Schema.{Block}
 

@@ -1,4 +1,4 @@
-// The median time of a branch (RFC 0017): without memory, over an array of its own.
+// The median time of a branch, without memory: over an array of its own.
 ghost use Rattle.std.specs.Prelude.{◌≡◌, ◌<◌, ◌≤◌, List, length, take};
 ghost use Rattle.codec_defs.specs.Schema.{Block};
 ghost use Rattle.chain_defs.specs.Branch.{branch};

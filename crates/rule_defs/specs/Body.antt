@@ -7,7 +7,7 @@ use Rattle.codec_defs.specs.Schema.{Block, block}
 use Rattle.time_defs.specs.Specification.{Specification}
 use Rattle.chain_defs.specs.Hashes.{transactions_root, proposals_hash, uncles_hash, are_distinct}
 
--- the length of a block that counts: without the proposal ids of its uncles, of 10 bytes each (RFC 0020, "block size limit")
+-- the length of a block that counts: without the proposal ids of its uncles, of 10 bytes each (docs/RULES.md, "What the header commits to")
 abbrev pub counted_length : Block → ℕ
 counted_length b = length (encoded block b) - 10 * sum_by (λ uncle. length uncle.proposals) b.uncles
 
@@ -27,7 +27,7 @@ commits_to_proposals b = bytes_eq b.header.proposals_hash (proposals_hash b.prop
 abbrev pub commits_to_transactions : Block → Bool
 commits_to_transactions b = bytes_eq b.header.transactions_root (transactions_root b.transactions)
 
--- J13: it has at most 2 uncles (RFC 0020, "Uncle").
+-- J13: it has at most 2 uncles (docs/RULES.md, "A block").
 abbrev pub has_few_uncles : Block → Bool
 has_few_uncles b = nat_le (length b.uncles) 2
 

@@ -13,10 +13,9 @@ use epochs::Spec;
 use mol_schema::{BlockView, HeaderView};
 use outside::NoMemory;
 use std::alloc::Global;
-use std::fmt;
-use std::io;
 use std::io::{BufRead, BufReader};
 use std::process::ExitCode;
+use std::{fmt, io};
 
 /// The kept blocks, and the specification of their chain.
 #[derive(Drop)]

@@ -23,8 +23,8 @@ up-preserved c =
     let above : 0 < c.up.at = omega (arith, c.if-at-eq0.false) in (
       parent-within entries c.up.at _ c.requires.tree there above,
       taken-more entries c.up.timestamps c.up.count (37 - (c.up.count + 1)) c.up.at _ (omega arith) there above
-      ∙ ap (λ (n : ℕ). take c.up.count c.up.timestamps ++ timestamps_up entries n c.up.at) (sym left)
-      ∙ c.up.invariant.1,
+          ∙ ap (λ (n : ℕ). take c.up.count c.up.timestamps ++ timestamps_up entries n c.up.at) (sym left)
+          ∙ c.up.invariant.1,
     )
 
 pub returns-clause-taken : goal.returns-clause-taken
