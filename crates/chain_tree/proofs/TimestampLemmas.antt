@@ -1,14 +1,13 @@
 -- The timestamps up a path are those of the last blocks of the branch, the latest first.
-use Rattle.std.proofs.Common.{◌≡◌, ℕ, zero, suc, ◌+◌, ◌-◌, ◌<◌, ◌≤◌, Bool, cond, List, [], ◌∷◌, ◌++◌, length, map, take, drop, set, reverse, Option, Some, None, refl, sym, ap, ◌∙◌, subst, arith}
+use Rattle.std.proofs.Common.{◌≡◌, ℕ, zero, suc, ◌+◌, ◌-◌, ◌<◌, cond, List, [], ◌∷◌, ◌++◌, length, map, take, drop, set, reverse, Option, Some, None, refl, sym, ap, ◌∙◌, arith}
 use Rattle.std.specs.Option.{option_and_then}
-use Rattle.std.specs.List.{count_by}
 use Rattle.std.specs.List.Sorted.{IsPermutation, IsSorted}
 use Rattle.std.specs.Ordering.{nat_cmp}
-use Rattle.std.proofs.lemmas.List.{length_push, length-reverse, drop-append-le, drop_all, map-append, reverse-append, take_more_set, append_assoc, append-nil}
+use Rattle.std.proofs.lemmas.List.{length_push, length-reverse, drop-append-le, drop_all, map-append, reverse-append, take_more_set, append_assoc}
 use Rattle.std.proofs.lemmas.Option.{slice_get_within}
 use Rattle.std.proofs.lemmas.List.Sorted.{IsPermutation-reverse, IsNonDecreasingBy-from_sort, sum_by-IsPermutation, length_permutation}
 use Rattle.codec_defs.specs.Schema.{Block}
-use Rattle.chain_defs.specs.Kept.{block_at, place_of, parent_place}
+use Rattle.chain_defs.specs.Kept.{place_of, parent_place}
 use Rattle.chain_defs.specs.Branch.{branch}
 use Rattle.chain_defs.specs.Median.{median_of, last_timestamps, median_time}
 use Rattle.chain_defs.proofs.KeptLaws.{slice_get-below}

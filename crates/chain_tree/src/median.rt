@@ -13,7 +13,7 @@ use crate::entry::Entry;
 const MOST: usize = 37;
 
 /// Writes the timestamps of a place and of those above it, the latest first, and answers how many they are.
-fn take_timestamps(entries: &[Entry], place: u32, timestamps: &mut [u64; 37]) -> usize
+fn take_timestamps(entries: &[Entry], place: u32, timestamps: &mut [u64; MOST]) -> usize
     requires tree { IsTree entries.now }
     requires within { place < length entries.now }
     ensures taken { take result timestamps.new ≡ timestamps_up entries.now 37 place }

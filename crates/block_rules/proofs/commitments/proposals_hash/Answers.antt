@@ -1,4 +1,4 @@
-use Rattle.std.proofs.Common.{List, ℕ, take, sym, ◌∙◌, subst, arith}
+use Rattle.std.proofs.Common.{List, ℕ, take, ◌∙◌, subst, arith}
 use Rattle.std.specs.List.{concat}
 use Rattle.blake2b_ckb.specs.Hasher.{Holds}
 use Rattle.chain_defs.specs.Hashes.{proposals_hash}

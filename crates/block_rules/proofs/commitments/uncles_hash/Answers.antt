@@ -1,4 +1,4 @@
-use Rattle.std.proofs.Common.{List, ℕ, length, map, take, ap, sym, ◌∙◌, subst, arith}
+use Rattle.std.proofs.Common.{List, ℕ, map, take, ap, ◌∙◌, subst, arith}
 use Rattle.std.specs.List.{concat}
 use Rattle.std.proofs.lemmas.List.{length-map}
 use Rattle.blake2b_ckb.specs.Hasher.{Holds}
