@@ -2,6 +2,7 @@
 ghost use Rattle.chain_defs.specs.Kept.{HashesDiffer};
 ghost use Rattle.chain_defs.specs.Branch.{BranchesAreBranches, DistanceIsOffTheFork};
 ghost use Rattle.chain_defs.specs.Tip.{TipsAreTips};
+ghost use Rattle.chain_defs.specs.Median.{MediansAreMedians};
 
 /// States that the hashes of kept blocks all differ. It does nothing.
 pub fn kept_laws()
@@ -19,4 +20,10 @@ pub fn branch_laws()
 /// States what the tip is: its number is the greatest, and no earlier block has it. It does nothing.
 pub fn tip_laws()
     ensures are_tips { TipsAreTips }
+{}
+
+/// States what a median is: of the numbers it is one, more than half are at most it, and at least half
+/// at least it. No other number is so. It does nothing.
+pub fn median_laws()
+    ensures are_medians { MediansAreMedians }
 {}

@@ -21,12 +21,12 @@ use Rattle.chain_tree.proofs.EntryLemmas.{first_step, some_and}
 -- ---- Places
 
 -- the block that an entry describes
-record DescribedAt (kept : List Block) (place : ℕ) (entry : Entry) : Type 0 where
-  block : Block
-  there : block_at kept place ≡ Some block
-  is : Describes block entry
+pub record DescribedAt (kept : List Block) (place : ℕ) (entry : Entry) : Type 0 where
+  pub block : Block
+  pub there : block_at kept place ≡ Some block
+  pub is : Describes block entry
 
-described : (kept : List Block) (entries : List Entry) (place : ℕ) (entry : Entry) → AllZip Describes kept entries → entry_at entries place ≡ Some entry
+pub described : (kept : List Block) (entries : List Entry) (place : ℕ) (entry : Entry) → AllZip Describes kept entries → entry_at entries place ≡ Some entry
     → DescribedAt kept place entry
 described [] [] place entry each there = absurd (cc)
 described [] (e ∷ es) place entry each there = absurd each

@@ -1,3 +1,4 @@
 pub mod EntryLemmas
 pub mod IndexLemmas
 pub mod BlockLemmas
+pub mod TimestampLemmas

@@ -9,6 +9,7 @@
 
 mod ancestors;
 mod entry;
+mod median;
 #[cfg(test)]
 mod tests;
 mod tree;

@@ -1,4 +1,5 @@
-// The happy path at real sizes: two branches of some thousand blocks, one of which overtakes the other.
+// The happy path at real sizes: two branches of some thousand blocks, one of which overtakes the other. And the median
+// time at few blocks.
 ghost use Rattle.std.specs.Prelude.{◌≡◌};
 
 use crate::{Entry, Tree};
@@ -30,10 +31,19 @@ fn entry_on(branch: u8, number: u64, parent: u32) -> Entry
 }
 
 /// Adds a block on a parent that is there, and answers its place.
-fn join(rt: &impl Abort, tree: &mut Tree, branch: u8, parent: u32) -> Result<u32, Fail> {
+fn join(
+    rt: &impl Abort,
+    tree: &mut Tree,
+    branch: u8,
+    parent: u32,
+    timestamp: u64,
+) -> Result<u32, Fail> {
     assert!(rt; parent < tree.len());
     assert!(rt; tree.len() < 1_000_000);
-    let entry = entry_on(branch, tree.entry(parent).number + 1, parent);
+    let entry = Entry {
+        timestamp,
+        ..entry_on(branch, tree.entry(parent).number + 1, parent)
+    };
     assert_eq!(rt; tree.find(&entry.hash), None);
     tree.reserve()?;
     let place = tree.len();
@@ -55,12 +65,12 @@ fn branches(rt: HostRuntime) -> Result<(), Fail> {
     assert_eq!(rt; tree.tip(), 0);
     let mut first = 0;
     for number in 1..FIRST + 1 {
-        first = join(&rt, &mut tree, 1, first)?;
+        first = join(&rt, &mut tree, 1, first, 0)?;
         assert_eq!(rt; (first, tree.tip()), (number, number));
     }
     let mut second = FORK;
     for number in FORK + 1..FIRST + 2 {
-        second = join(&rt, &mut tree, 2, second)?;
+        second = join(&rt, &mut tree, 2, second, 0)?;
         assert_eq!(rt; second, FIRST + (number - FORK));
         // An equal number leaves the tip where it is, a greater one moves it.
         assert_eq!(rt; tree.tip(), if number <= FIRST { FIRST } else { second });
@@ -77,5 +87,43 @@ fn branches(rt: HostRuntime) -> Result<(), Fail> {
     }
     assert_eq!(rt; tree.find(&entry_on(3, 1, 0).hash), None);
     assert_eq!(rt; tree.find(&entry_on(2, 1, 0).hash), None);
+    Ok(())
+}
+
+/// The timestamps come in no order.
+fn timestamp_of(number: u32) -> u64 {
+    let square = u64::from(number).wrapping_mul(u64::from(number));
+    square.wrapping_mul(7919).wrapping_add(5) % 100_003
+}
+
+// The medians are by Python's `sorted`. The genesis has the greatest timestamp, which leaves with the 38th block.
+#[test]
+fn medians(rt: HostRuntime) -> Result<(), Fail> {
+    let cases = [
+        (1, u64::MAX),
+        (2, u64::MAX),
+        (3, 31_681),
+        (4, 71_276),
+        (36, 54_096),
+        (37, 54_096),
+        (38, 53_090),
+        (39, 53_090),
+        (75, 43_810),
+    ];
+    for (count, median) in cases {
+        let genesis = Entry {
+            timestamp: u64::MAX,
+            ..entry_on(1, 0, 0)
+        };
+        let mut tree = Tree::new(rt.alloc(), genesis)?;
+        let mut last = 0;
+        for number in 1..count {
+            // a sibling, which is on no branch of a later block
+            join(&rt, &mut tree, 2, last, 0)?;
+            last = join(&rt, &mut tree, 1, last, timestamp_of(number))?;
+        }
+        assert!(rt; last < tree.len());
+        assert_eq!(rt; tree.median(last), median, "of {count} blocks");
+    }
     Ok(())
 }

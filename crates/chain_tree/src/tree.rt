@@ -2,13 +2,15 @@
 ghost use Rattle.std.specs.Prelude.{◌≡◌, ◌+◌, ◌^◌, ◌<◌, ◌≤◌, ◌++◌, ◌∷◌, [], List, Some, None, length, IfOk, IsOk, OnOk, OnErr, IfSome, IsSomeAnd, slice_get};
 ghost use Rattle.codec_defs.specs.Schema.{Block};
 ghost use Rattle.chain_defs.specs.Kept.{block_at, place_of};
-ghost use Rattle.chain_defs.specs.Branch.{branch_places};
+ghost use Rattle.chain_defs.specs.Branch.{branch, branch_places};
+ghost use Rattle.chain_defs.specs.Median.{median_time};
 ghost use Rattle.chain_defs.specs.Tip.{tip_place};
 ghost use Rattle.chain_tree.specs.Entries.{entry_at, place_of_hash, FollowsParent, IsAncestor, IsTop, IsTree};
 ghost use Rattle.chain_tree.specs.Blocks.{Describes, IndexesBlocks};
 
 use crate::ancestors::{ancestor_of, jump_over};
 use crate::entry::Entry;
+use crate::median::median_at;
 use outside::NoMemory;
 use std::alloc::Global;
 use std::collections::HashMap;
@@ -119,6 +121,14 @@ impl Tree {
         ensures of_blocks { (kept : List Block) → IndexesBlocks kept self.now.entries → slice_get (branch_places kept place) number ≡ Some result }
     {
         ancestor_of(&self.entries, &self.jumps, place, number)
+    }
+
+    /// The median time at a place: of the timestamps of the last up to 37 blocks of its branch. It takes no memory.
+    pub fn median(&self, place: u32) -> u64
+        requires { place < length self.now.entries }
+        ensures of_blocks { (kept : List Block) → IndexesBlocks kept self.now.entries → result ≡ median_time (branch kept place) }
+    {
+        median_at(&self.entries, place)
     }
 
     /// The place of the tip: the first of the entries with the greatest number.

@@ -14,7 +14,8 @@ use Rattle.chain_defs.specs.Branch.{branch}
 use Rattle.chain_defs.proofs.KeptLaws.{place_of-below, place_of-there, IsKept-one, IsKept-push}
 use Rattle.chain_defs.proofs.BranchLaws.{branch-last}
 use Rattle.time_defs.specs.Specification.{Specification}
-use Rattle.rule_defs.specs.Rules.{parent_of, follows, rules_on, first_broken}
+use Rattle.rule_defs.specs.Header.{parent_of, follows}
+use Rattle.rule_defs.specs.Rules.{rules_on, first_broken}
 use Rattle.rule_defs.specs.Verdict.{verdict, verdict_of, verdict_on, verdict_by_rules, joins, has_built_form, has_room, kept_limit, kept_after, blocks_of_item, block_list}
 use Rattle.rule_defs.specs.Chain.{Chain, chain_after, chain_over}
 use Rattle.rule_defs.specs.Laws.{CanJoin, JoinsExactly, KeepsWhatJoins, KeepingKeeps, KeptStays}

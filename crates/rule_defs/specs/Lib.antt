@@ -1,3 +1,5 @@
+pub mod Header
+pub mod Body
 pub mod Rules
 pub mod Verdict
 pub mod Chain

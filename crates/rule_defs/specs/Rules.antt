@@ -1,19 +1,10 @@
 -- The rules on a block, as rows of a list, in the order in which they are tried. A row has the rule's number and whether the block keeps it.
 -- docs/RULES.md, "A block", has them.
-use Rattle.std.specs.Prelude.{ℕ, ◌+◌, ◌-◌, ◌==◌, Bool, false, List, [], ◌∷◌, length, Option, Some, None}
+use Rattle.std.specs.Prelude.{ℕ, Bool, List, [], ◌∷◌, Option}
 use Rattle.codec_defs.specs.Schema.{Block}
 use Rattle.fold_defs.specs.First.{first_failing}
 use Rattle.time_defs.specs.Specification.{Specification}
-use Rattle.chain_defs.specs.Kept.{block_at}
-
--- the last block of a branch, on which the next one stands
-abbrev pub parent_of : List Block → Option Block
-parent_of branch = block_at branch (length branch - 1)
-
--- J5: its number is its parent's plus 1 (RFC 0027, "number").
-abbrev pub follows : Block → Option Block → Bool
-follows b None = false
-follows b (Some parent) = b.header.number == parent.header.number + 1
+use Rattle.rule_defs.specs.Header.{parent_of, follows}
 
 -- The rules on a block that stands on this branch, genesis to its parent, under the specification of its chain.
 abbrev pub rules_on : Specification → List Block → Block → List (ℕ × Bool)

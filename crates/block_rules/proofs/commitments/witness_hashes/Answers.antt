@@ -1,0 +1,10 @@
+use Rattle.std.proofs.Common.{◌∙◌}
+use Rattle.chain_defs.specs.Hashes.{witness_hash}
+use Rattle.block_rules.proofs.ListLemmas.{map-push}
+use Rattle.block_rules.proofs.commitments.witness_hashes.Goals as goal
+
+pub transactions-preserved : goal.transactions-preserved
+transactions-preserved c =
+    c.in_ok-push.ensures.items
+    ∙ map-push witness_hash c.args.block.now.transactions c.transactions.i c.transactions_item.result c.transactions.list.items c.witness_hash.result
+    c.transactions.invariant c.transactions_item.ensures c.witness_hash.ensures

@@ -1,0 +1,118 @@
+//! J9 to J14, one function a rule.
+ghost use Rattle.std.specs.Prelude.{◌≡◌, ◌<◌, Some, length, slice_get, IfOk};
+ghost use Rattle.fold_defs.specs.First.{first_failing};
+ghost use Rattle.chain_defs.specs.Hashes.{are_distinct};
+ghost use Rattle.rule_defs.specs.Body as rules;
+
+use crate::commitments::{proposals_hash, transactions_root, uncles_hash};
+use epochs::Spec;
+use mol_schema::BlockView;
+use outside::NoMemory;
+use std::alloc::Global;
+use std::collections::HashSet;
+
+/// The length of a block that counts: without the proposal ids of its uncles.
+fn counted_length(block: &BlockView<'_>) -> usize
+    ensures { result ≡ rules.counted_length block.now }
+{
+    let mut counted = block.bytes().len();
+    'uncles: for i in 0..block.uncles_count() {
+        counted = counted.saturating_sub(10 * block.uncles_item(i).proposals_count());
+    }
+    counted
+}
+
+/// J9: that length is at most the specification's.
+fn fits_length(spec: &Spec, block: &BlockView<'_>) -> bool
+    ensures { result ≡ rules.fits_length spec.now block.now }
+{
+    counted_length(block) <= spec.max_block_bytes as usize
+}
+
+/// The proposal id at a place.
+fn id_at(block: &BlockView<'_>, i: usize) -> [u8; 10]
+    requires { i < length block.now.proposals }
+    ensures { slice_get block.now.proposals i ≡ Some result }
+{
+    let mut id = [0; 10];
+    id.copy_from_slice(block.proposals_item(i));
+    id
+}
+
+/// Whether no proposal id comes twice.
+fn are_ids_distinct(alloc: Global, block: &BlockView<'_>) -> Result<bool, NoMemory>
+    ensures { IfOk result (λ distinct. distinct ≡ are_distinct block.now.proposals) }
+{
+    let mut seen: HashSet<[u8; 10]> = HashSet::new(alloc);
+    'later: for i in (0..block.proposals_count()).rev() {
+        if !seen.insert(id_at(block, i))? {
+            return Ok(false);
+        }
+    }
+    Ok(true)
+}
+
+/// J10: it has at most so many proposal ids, all distinct.
+fn has_proposals(alloc: Global, spec: &Spec, block: &BlockView<'_>) -> Result<bool, NoMemory>
+    ensures { IfOk result (λ has. has ≡ rules.has_proposals spec.now block.now) }
+{
+    if block.proposals_count() > spec.max_proposals as usize {
+        return Ok(false);
+    }
+    are_ids_distinct(alloc, block)
+}
+
+/// J11: its `proposals_hash` is that of its proposal ids.
+fn commits_to_proposals(block: &BlockView<'_>) -> bool
+    ensures { result ≡ rules.commits_to_proposals block.now }
+{
+    block.header().proposals_hash() == proposals_hash(block).as_slice()
+}
+
+/// J12: its `transactions_root` is that of its transactions.
+fn commits_to_transactions(alloc: Global, block: &BlockView<'_>) -> Result<bool, NoMemory>
+    ensures { IfOk result (λ commits. commits ≡ rules.commits_to_transactions block.now) }
+{
+    let root = transactions_root(alloc, block)?;
+    Ok(block.header().transactions_root() == root.as_slice())
+}
+
+/// J13: it has at most 2 uncles.
+fn has_few_uncles(block: &BlockView<'_>) -> bool
+    ensures { result ≡ rules.has_few_uncles block.now }
+{
+    block.uncles_count() <= 2
+}
+
+/// J14: its `uncles_hash` is that of its uncles.
+fn commits_to_uncles(block: &BlockView<'_>) -> bool
+    ensures { result ≡ rules.commits_to_uncles block.now }
+{
+    block.header().uncles_hash() == uncles_hash(block).as_slice()
+}
+
+/// The least of J9 to J14 that a block breaks.
+#[tactic(auto, unfolding(fold_defs::specs::First::first_failing))]
+pub fn check(alloc: Global, spec: &Spec, block: &BlockView<'_>) -> Result<Option<u8>, NoMemory>
+    ensures { IfOk result (λ broken. broken ≡ first_failing (rules.body_rules spec.now block.now)) }
+{
+    if !fits_length(spec, block) {
+        return Ok(Some(9));
+    }
+    if !has_proposals(alloc, spec, block)? {
+        return Ok(Some(10));
+    }
+    if !commits_to_proposals(block) {
+        return Ok(Some(11));
+    }
+    if !commits_to_transactions(alloc, block)? {
+        return Ok(Some(12));
+    }
+    if !has_few_uncles(block) {
+        return Ok(Some(13));
+    }
+    if !commits_to_uncles(block) {
+        return Ok(Some(14));
+    }
+    Ok(None)
+}
