@@ -1,5 +1,5 @@
 // A node: the kept blocks of a store, on their disk.
-ghost use Rattle.std.specs.Prelude.{◌≡◌, ◌⊎◌, ◌×◌, ◌<◌, ◌^◌, nat_lt, false, Err, List, Some, length, vec_capacity, IfOk, IfErr, OnOk, OnErr, IfSome};
+ghost use Rattle.std.specs.Prelude.{◌≡◌, ◌⊎◌, ◌<◌, ◌^◌, nat_lt, false, Err, List, Some, length, vec_capacity, IfOk, IfErr, OnOk, OnErr, IfSome};
 ghost use Rattle.outside.specs.Causes.{CountsFault};
 ghost use Rattle.outside.specs.Disk.{LeavesOnly};
 ghost use Rattle.outside.specs.Image.{Image};
@@ -60,7 +60,7 @@ fn prepare(
     body.fill(alloc, item, &EXT_OF_JOINED)?;
     tree.reserve()?;
     blocks.reserve(1)?;
-    item.to_vec(alloc)
+    Ok(item.to_vec(alloc)?)
 }
 
 /// The kept blocks of a store. Clauses see their chain, and where the records of its log end.
