@@ -18,32 +18,35 @@ use Rattle.node_core.specs.Node.{NodeValue, IsOn}
 pub same_image : (image now : Image) → image.log ≡ now.log → image.snap_a ≡ now.snap_a → image.snap_b ≡ now.snap_b → image ≡ now
 same_image image now log snap_a snap_b = λ i. record { log = log i; snap_a = snap_a i; snap_b = snap_b i }
 
-module _ (node : NodeValue) (reads : Option Image) (images : Image → Type 0) (on : IsOn node reads images) where
+module _ (node : NodeValue) (reads : Option Image) (images : Image → Type 0) (on : IsOn node reads images) (place : ℕ) (at : place ≡ node.place) where
+  rests : IsAtRest place on.records on.now.log
+  rests = subst (λ (p : ℕ). IsAtRest p on.records on.now.log) (sym at) on.rest
+
   -- the log is settled with its records
-  pub settled_on : IsSettled node.place on.records reads images
+  pub settled_on : IsSettled place on.records reads images
   settled_on = record {
     now = on.now;
     told = on.told;
-    rest = on.rest;
+    rest = rests;
     durable = λ image left. ap (λ (i : Image). i.log) (on.one image left);
   }
 
   module _ (item : List ℕ) (can : CanJoin node.chain.spec node.chain.blocks item) (short : length item < 2 ^ 31) where
-    stands_so : (bytes : List ℕ) → IsBeforeOrAfter node.place on.records (record_of_joined item) bytes
+    stands_so : (bytes : List ℕ) → IsBeforeOrAfter place on.records (record_of_joined item) bytes
         → StandsFor node.chain (with_content Log bytes on.now) ⊎ StandsFor (chain_after node.chain item) (with_content Log bytes on.now)
     stands_so bytes (inl before) = inl (stands_as_it_says node.chain on.now bytes on.stands
-        (says_its_records node.place on.records bytes before ∙ sym (says_its_records node.place on.records on.now.log on.rest)))
-    stands_so bytes (inr after) = inr (stands_after_an_item node.chain item on.now bytes node.place (node.place + length (record_bytes (record_of_joined item)))
-        on.records on.stands can short on.rest after)
+        (says_its_records place on.records bytes before ∙ sym (says_its_records place on.records on.now.log rests)))
+    stands_so bytes (inr after) = inr (stands_after_an_item node.chain item on.now bytes place (place + length (record_bytes (record_of_joined item)))
+        on.records on.stands can short rests after)
 
     -- while its record is put behind the others
-    pub stands_either : (image : Image) → HasLog (IsBeforeOrAfter node.place on.records (record_of_joined item)) images image
+    pub stands_either : (image : Image) → HasLog (IsBeforeOrAfter place on.records (record_of_joined item)) images image
         → StandsFor node.chain image ⊎ StandsFor (chain_after node.chain item) image
     stands_either image (before, left, (bytes, either, is)) =
         subst (λ (i : Image). StandsFor node.chain i ⊎ StandsFor (chain_after node.chain item) i)
         (ap (with_content Log bytes) (sym (on.one before left)) ∙ sym is) (stands_so bytes either)
 
-    snaps_stay : (image : Image) → HasLog (IsBeforeOrAfter node.place on.records (record_of_joined item)) images image
+    snaps_stay : (image : Image) → HasLog (IsBeforeOrAfter place on.records (record_of_joined item)) images image
         → (image.snap_a ≡ on.now.snap_a) × (image.snap_b ≡ on.now.snap_b)
     snaps_stay image (before, left, (bytes, either, is)) =
         let same : image ≡ with_content Log bytes on.now = is ∙ ap (with_content Log bytes) (on.one before left) in
@@ -58,7 +61,7 @@ module _ (node : NodeValue) (reads : Option Image) (images : Image → Type 0) (
 
     module _ (next : ℕ) (reads1 : Option Image) (images1 : Image → Type 0) (settled : IsSettled next (on.records ++ record_of_joined item ∷ []) reads1 images1)
         (others : OthersRead Log reads reads1)
-        (left_so : (image : Image) → images1 image → HasLog (IsBeforeOrAfter node.place on.records (record_of_joined item)) images image) where
+        (left_so : (image : Image) → images1 image → HasLog (IsBeforeOrAfter place on.records (record_of_joined item)) images image) where
       now_is : settled.now ≡ with_content Log settled.now.log on.now
       now_is = by_bytes others
         where
@@ -80,7 +83,7 @@ module _ (node : NodeValue) (reads : Option Image) (images : Image → Type 0) (
         told = settled.told;
         one = one_now;
         stands = subst (StandsFor (chain_after node.chain item)) (sym now_is)
-            (stands_after_an_item node.chain item on.now settled.now.log node.place next on.records on.stands can short on.rest settled.rest);
+            (stands_after_an_item node.chain item on.now settled.now.log place next on.records on.stands can short rests settled.rest);
         records = on.records ++ record_of_joined item ∷ [];
         rest = settled.rest;
       }

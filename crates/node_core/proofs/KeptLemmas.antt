@@ -1,9 +1,9 @@
 -- The verdict over kept blocks, and what is kept with one more.
 use Rattle.std.proofs.Common.{◌≡◌, ℕ, suc, ◌+◌, ◌*◌, ◌^◌, ◌≤◌, ◌<◌, Bool, true, false, cond, List, [], ◌∷◌, ◌++◌, length, map, Option, Some, None, refl, ap, sym, ◌∙◌, subst, arith}
-use Rattle.std.specs.Prelude.{is_some, IsSomeAnd, IsTrue, ◌==◌}
+use Rattle.std.specs.Prelude.{Result, Ok, Err, IfErr, IsSomeAnd, IsTrue, ◌==◌}
 use Rattle.std.specs.List.{cons_option}
 use Rattle.std.proofs.lemmas.Bool.Decides.{Decides-eqb}
-use Rattle.std.proofs.lemmas.List.{length_push, length-map, map-append}
+use Rattle.std.proofs.lemmas.List.{length-append, length_push, length-map, map-append}
 use Rattle.std.proofs.lemmas.List.Elements.{filter_map-append}
 use Rattle.codec_defs.specs.Shape.{decoded}
 use Rattle.codec_defs.specs.Schema.{Block, block}
@@ -12,46 +12,26 @@ use Rattle.chain_defs.specs.Kept.{block_hash, block_at, place_of}
 use Rattle.chain_defs.specs.Branch.{branch}
 use Rattle.chain_defs.proofs.KeptLaws.{place_of-below, slice_get-below}
 use Rattle.rule_defs.specs.Rules.{first_broken}
-use Rattle.rule_defs.specs.Verdict.{has_built_form, has_room, joins, block_list, blocks_of_item, verdict, verdict_of, verdict_of_block, kept_limit}
+use Rattle.rule_defs.specs.Verdict.{joins, verdict, verdict_of, verdict_of_block, kept_limit}
 use Rattle.rule_defs.specs.Chain.{Chain, verdict_over, chain_after}
 use Rattle.rule_defs.specs.Laws.{CanJoin}
 use Rattle.rule_defs.specs.declared.verdict.Verdict.{Verdict}
-use Rattle.rule_defs.specs.declared.verdict.Verdict.TheVariants.{Joined, Known, Refused, Unbuilt, Full}
+use Rattle.rule_defs.specs.declared.verdict.Verdict.TheVariants.{Joined, Refused}
 use Rattle.rule_defs.proofs.VerdictLaws.{verdict-joined, keeps-what-joins, kept_after-stays, follows-unbroken}
 use Rattle.chain_tree.specs.declared.entry.Entry.{Entry}
 use Rattle.chain_tree.specs.Entries.{entry_at, place_of_hash, FollowsParent}
 use Rattle.chain_tree.specs.Blocks.{Describes, IndexesBlocks}
 use Rattle.chain_tree.proofs.BlockLemmas.{len-same, entry-same, find-same}
 use Rattle.chain_tree.proofs.EntryLemmas.{and_some}
+use Rattle.std.specs.Int.{w32, to_le_bytes}
+use Rattle.store_defs.specs.Log.{body_of_parts}
+use Rattle.store_defs.specs.LogLaws.{record_of_joined}
+use Rattle.store_defs.specs.Store.{ext_of_joined}
+use Rattle.store_defs.proofs.Records.{record_length}
+use Rattle.log_file.specs.Pieces.{behind_gate}
+use Rattle.log_file.proofs.Gates.{piece_length}
 use Rattle.node_core.specs.Node.{blocks_of, AreKept, CanJoinAs, JoinsAs}
 use Rattle.node_core.proofs.RuleLemmas.{follows-branch}
-
--- ---- The verdict on a block, where the tests before it are known
-
-pub known : (spec : Specification) (kept : List Block) (b : Block) → is_some (place_of kept (block_hash b)) ≡ true
-    → Known (block_hash b) ≡ verdict_of_block spec kept b
-known spec kept b here = rw here refl
-
-pub unbuilt : (spec : Specification) (kept : List Block) (b : Block) → is_some (place_of kept (block_hash b)) ≡ false → has_built_form b ≡ false
-    → Unbuilt ≡ verdict_of_block spec kept b
-unbuilt spec kept b new form = rw (new, form) refl
-
-pub on_none : (spec : Specification) (kept : List Block) (b : Block) → is_some (place_of kept (block_hash b)) ≡ false → has_built_form b ≡ true
-    → place_of kept b.header.parent_hash ≡ None → Refused 3 ≡ verdict_of_block spec kept b
-on_none spec kept b new form found = rw (new, form, found) refl
-
-pub broken : (spec : Specification) (kept : List Block) (b : Block) (parent rule : ℕ) → is_some (place_of kept (block_hash b)) ≡ false → has_built_form b ≡ true
-    → place_of kept b.header.parent_hash ≡ Some parent → first_broken spec (branch kept parent) b ≡ Some rule → Refused rule ≡ verdict_of_block spec kept b
-broken spec kept b parent rule new form found breaks = rw (new, form, found, breaks) refl
-
-pub no_room : (spec : Specification) (kept : List Block) (b : Block) (parent : ℕ) → is_some (place_of kept (block_hash b)) ≡ false → has_built_form b ≡ true
-    → place_of kept b.header.parent_hash ≡ Some parent → first_broken spec (branch kept parent) b ≡ None → has_room kept ≡ false
-    → Full ≡ verdict_of_block spec kept b
-no_room spec kept b parent new form found breaks full = rw (new, form, found, breaks, full) refl
-
-pub is_none : (found : Option ℕ) → is_some found ≡ false → found ≡ None
-is_none None is = refl
-is_none (Some place) is = absurd (cc)
 
 -- ---- The verdict on an item
 
@@ -68,13 +48,19 @@ pub judged_block : (chain : Chain) (item : List ℕ) (b : Block) → decoded blo
 unfolding verdict
 judged_block chain item b is = ap (verdict_of chain.spec chain.blocks) (sym is)
 
+pub judged_else : {T : Type 0} (chain : Chain) (item : List ℕ) (b : Block) (result : Result T Verdict) → decoded block item ≡ Some b
+    → IfErr result (λ verdict. (verdict ≡ verdict_of_block chain.spec chain.blocks b) × (joins verdict ≡ false))
+    → IfErr result (λ verdict. (verdict ≡ verdict_over chain item) × (joins verdict ≡ false))
+judged_else chain item b (Ok value) is here = tt
+judged_else chain item b (Err verdict) is here = (here.0 ∙ judged_block chain item b is, here.1)
+
 -- what is kept after an item that does not join
 pub stays : (chain : Chain) (item : List ℕ) → joins (verdict_over chain item) ≡ false → chain ≡ chain_after chain item
-stays chain item no =
-    ap (λ (blocks : List Block). record { spec = chain.spec; blocks = blocks }) (sym (kept_after-stays chain.spec chain.blocks item no))
+stays chain item left =
+    ap (λ (blocks : List Block). record { spec = chain.spec; blocks = blocks }) (sym (kept_after-stays chain.spec chain.blocks item left))
 
 -- an item that can join, with its entry
-pub can_join : (chain : Chain) (item : List ℕ) (entry : Entry) → JoinsAs chain item entry → CanJoin chain.spec chain.blocks item
+abbrev pub can_join : (chain : Chain) (item : List ℕ) (entry : Entry) → JoinsAs chain item entry → CanJoin chain.spec chain.blocks item
 can_join chain item entry (b, is, can) = record {
   block = b;
   canonical = is;
@@ -123,7 +109,7 @@ decode-push items item b whole is =
     ∙ ap (λ (f : Option Block). map Some (blocks_of items) ++ f ∷ []) is ∙ sym (map-append Some (blocks_of items) (b ∷ []))
 
 pub as_many : (items : List (List ℕ)) → map (decoded block) items ≡ map Some (blocks_of items) → length items ≡ length (blocks_of items)
-as_many items whole = omega (arith, ap length whole, length-map items (decoded block), length-map (blocks_of items) (Some {A = Block}))
+as_many items whole = sym (length-map items (decoded block)) ∙ ap length whole ∙ length-map (blocks_of items) Some
 
 pub blocks_after : (chain : Chain) (items : List (List ℕ)) (item : List ℕ) (entry : Entry) → blocks_of items ≡ chain.blocks → JoinsAs chain item entry
     → record { spec = chain.spec; blocks = blocks_of (items ++ item ∷ []) } ≡ chain_after chain item
@@ -156,3 +142,27 @@ AreKept-push chain items entries after place next size item entry are seen (b, i
       few = omega (arith, length_push items item, as_many items are.decode, ap length seen, can.room);
       within = omega (arith, length_push items item, are.within, sum, short);
     }
+
+far_below : (count place : ℕ) → count ≤ kept_limit → place ≤ 2 ^ 33 * (count + 1) → place ≤ 2 ^ 61
+unfolding kept_limit
+far_below count place few within = omega (arith, few, within)
+
+not_many : (count : ℕ) → count ≤ kept_limit → count + 1 < 2 ^ 32
+unfolding kept_limit
+not_many count few = omega (arith, few)
+
+-- the place is within the limit of the log
+pub place_limit : (items : List (List ℕ)) (entries : List Entry) (place : ℕ) → AreKept items entries place → place ≤ 2 ^ 61
+place_limit items entries place are = far_below (length items) place are.few are.within
+
+-- a place is a u32
+pub few_entries : (items : List (List ℕ)) (entries : List Entry) (place : ℕ) → AreKept items entries place → length entries + 1 < 2 ^ 32
+few_entries items entries place are =
+    omega (arith, not_many (length items) are.few, len-same (blocks_of items) entries are.indexed, as_many items are.decode)
+
+-- what is written behind a gate for an item that joins
+pub piece_short : (item : List ℕ) → length item < 2 ^ 31 → length (behind_gate (record_of_joined item)) < 2 ^ 33
+piece_short item short =
+    let body : length (body_of_parts item ext_of_joined) ≡ 4 + length item + 8 =
+    omega (arith, length-append (to_le_bytes w32 (length item) ++ item) ext_of_joined, length-append (to_le_bytes w32 (length item)) item) in
+    omega (arith, piece_length (record_of_joined item), record_length (record_of_joined item), body, short)

@@ -60,17 +60,17 @@ pub fn judge<'a>(alloc: Global, spec: &'a [u8], genesis: &'a [u8]) -> Result<New
     if let Err(rule) = Spec::read(spec) {
         return Err(NewStop::BadSpec(rule));
     }
+    let Some(block) = BlockView::read(genesis) else {
+        return Err(NewStop::BadGenesis(1));
+    };
     match genesis_ok(alloc, genesis) {
         Err(_) => Err(NewStop::NoMemory),
         Ok(Some(rule)) => Err(NewStop::BadGenesis(rule)),
-        Ok(None) => match BlockView::read(genesis) {
-            None => Err(NewStop::BadGenesis(1)),
-            Some(block) => Ok(NewStore {
-                spec,
-                genesis,
-                hash: hash_of(&block),
-            }),
-        },
+        Ok(None) => Ok(NewStore {
+            spec,
+            genesis,
+            hash: hash_of(&block),
+        }),
     }
 }
 
