@@ -2,3 +2,4 @@ pub mod RuleLemmas
 pub mod KeptLemmas
 pub mod DiskLemmas
 pub mod NewLemmas
+pub mod OpenLemmas

@@ -1,6 +1,6 @@
 -- What a new store is made of, and what its disk stands for.
 use Rattle.std.proofs.Common.{◌≡◌, ℕ, ◌<◌, ◌^◌, List, [], ◌∷◌, length, Option, Some, None, refl, sym, ap, ◌∙◌, subst}
-use Rattle.std.specs.Prelude.{IfSome, IsSome}
+use Rattle.std.specs.Prelude.{IfSome, IsSome, Bool, false, Result, Ok, Err, is_err, OnOk}
 use Rattle.std.specs.Option.{option_map}
 use Rattle.outside.specs.declared.disk.Area.TheVariants.{Log, SnapA, SnapB}
 use Rattle.outside.specs.Image.{Image, with_content, InArea}
@@ -75,3 +75,8 @@ stands_new specification genesis hash place (Some old) reads1 reads2 reads3 imag
     (subst (λ (o : Option Image). IfSome o (IsDurable SnapA images1)) cut_a durable_a) follows
     (subst (λ (o : Option Image). IfSome o (IsDurable SnapB images2)) two durable_b) left
     (settled (subst IsSome (sym two) refl)) (subst (λ (o : Option Image). OthersRead Log o reads3) two others)
+
+-- what a call that did not fail ensures
+pub when_ok : {T E P : Type 0} (result : Result T E) (failed : Bool) → failed ≡ is_err result → failed ≡ false → OnOk result P → P
+when_ok (Ok value) failed is no_fault here = here
+when_ok (Err error) failed is no_fault here = absurd (cc)
