@@ -79,7 +79,7 @@ opened_keeps (Some now) mid spec items entries same opened =
 pub opened_nothing : {Stopped : Type 0} (reads mid : Option Image) → mid ≡ reads → IfSome mid (λ now. Stopped → log_of now.log ≡ None) → Stopped
     → IfSome reads (λ now. (chain : Chain) → store_of now ≡ Keeps chain → ⊥)
 opened_nothing None mid same none stopped = tt
-opened_nothing {Stopped} (Some now) mid same none stopped chain keeps =
+opened_nothing {Stopped} (Some now) mid same none stopped = λ chain keeps.
     no_store now chain (subst (λ (o : Option Image). IfSome o (λ now. Stopped → log_of now.log ≡ None)) same none stopped) keeps
 
 -- what is kept then
@@ -196,9 +196,9 @@ then_counts before still now unchanged counts there back = record {
 
 -- ---- What is said of what a disk reads as
 
-pub at_some : {P : Image → Type 0} (found : Option Image) (now : Image) → found ≡ Some now → IfSome found P → P now
-at_some {P} found now is here = subst (λ (o : Option Image). IfSome o P) is here
+pub at_some : (P : Image → Type 0) (found : Option Image) (now : Image) → found ≡ Some now → IfSome found P → P now
+at_some P found now is here = subst (λ (o : Option Image). IfSome o P) is here
 
-pub if_some_also : {P Q : Image → Type 0} (found : Option Image) → IfSome found P → ((now : Image) → P now → Q now) → IfSome found Q
-if_some_also None here also = tt
-if_some_also (Some now) here also = also now here
+pub if_some_also : (P Q : Image → Type 0) (found : Option Image) → IfSome found P → ((now : Image) → P now → Q now) → IfSome found Q
+if_some_also P Q None here also = tt
+if_some_also P Q (Some now) here also = also now here

@@ -26,14 +26,14 @@ pub returns-in-Err-clause-moments : goal.returns-in-Err-clause-moments
 returns-in-Err-clause-moments g c now chain told keeps sound =
     leaves_then g.D.Disk.moment g.D.Disk.left_since _ _ _ _
     (leaves_also g.D.Disk.moment g.D.Disk.left_since _ _ _ _ c.sync_snapshots.ensures.moments (λ image left. inl left))
-    (leaves_also g.D.Disk.moment g.D.Disk.left_since _ _ _ _ (at_some _ now (c.sync_snapshots.ensures.same ∙ told) c.open.ensures.moments)
+    (leaves_also g.D.Disk.moment g.D.Disk.left_since _ _ _ _ (at_some _ _ now (c.sync_snapshots.ensures.same ∙ told) c.open.ensures.moments)
     (stands_while_opened _ _ c.sync_snapshots.ensures.images sound _ _ now chain (g.met.D.Disk.reads_image c.args.disk.now) c.sync_snapshots.ensures.same told keeps))
 
 pub returns-in-Ok-clause-moments : goal.returns-in-Ok-clause-moments
 returns-in-Ok-clause-moments g c now chain told keeps sound =
     leaves_then g.D.Disk.moment g.D.Disk.left_since _ _ _ _
     (leaves_also g.D.Disk.moment g.D.Disk.left_since _ _ _ _ c.sync_snapshots.ensures.moments (λ image left. inl left))
-    (leaves_also g.D.Disk.moment g.D.Disk.left_since _ _ _ _ (at_some _ now (c.sync_snapshots.ensures.same ∙ told) c.open.ensures.moments)
+    (leaves_also g.D.Disk.moment g.D.Disk.left_since _ _ _ _ (at_some _ _ now (c.sync_snapshots.ensures.same ∙ told) c.open.ensures.moments)
     (stands_while_opened _ _ c.sync_snapshots.ensures.images sound _ _ now chain (g.met.D.Disk.reads_image c.args.disk.now) c.sync_snapshots.ensures.same told keeps))
 
 pub returns-in-Ok-clause-kept : goal.returns-in-Ok-clause-kept
@@ -44,4 +44,4 @@ pub returns-in-Ok-clause-on : goal.returns-in-Ok-clause-on
 returns-in-Ok-clause-on g c sound =
     opened_on _ _ c.sync_snapshots.ensures.images sound _ _ c.in-Ok.opened.log.place c.in-Ok.opened.spec (map bytes_of c.in-Ok.opened.blocks.items) c.in-Ok.opened.tree.entries
     (g.met.D.Disk.reads_image c.open.new.disk) _ _ (g.met.D.Disk.reads_image c.args.disk.now) c.sync_snapshots.ensures.same c.in-Ok.ensures.opened c.in-Ok.ensures.settled
-    (if_some_also _ c.open.ensures.moments (λ now left. now_too g.D.Disk.moment g.D.Disk.left_since g.D.Disk.images g.met.D.Disk.counts_now _ _ _ left))
+    (if_some_also _ _ _ c.open.ensures.moments (λ now left. now_too g.D.Disk.moment g.D.Disk.left_since g.D.Disk.images g.met.D.Disk.counts_now _ _ _ left))
