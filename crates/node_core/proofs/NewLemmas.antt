@@ -27,7 +27,6 @@ StandsAlone specification genesis images =
 
 module _ (specification genesis hash : List ℕ) (judged : AreJudged specification genesis hash) (place : ℕ) (images1 images2 images3 : Image → Type 0)
     (old : Image) (reads3 : Option Image) where
-
   a_is_empty : IsDurable SnapA images1 (cut_area SnapA 0 old) → Follows (InArea SnapB (Cut 0)) images1 images2
       → (image : Image) → images2 image → image.snap_a ≡ []
   a_is_empty durable follows image left = by_before (follows image left)
@@ -54,12 +53,13 @@ module _ (specification genesis hash : List ℕ) (judged : AreJudged specificati
       → IsSettled place (first_records specification genesis) reads3 images3
       → OthersRead Log (Some (cut_area SnapB 0 (cut_area SnapA 0 old))) reads3 → StandsAlone specification genesis images3
   stands_alone durable_a follows durable_b others settled (bytes, wrote) =
-      let mine = now_empty settled.now bytes (sym settled.told ∙ wrote) in
-      (settled.now,
-      (λ image left.
-          let snaps = snaps_empty durable_a follows durable_b others image left in
-          same_image image settled.now (settled.durable image left) (snaps.0 ∙ sym mine.0) (snaps.1 ∙ sym mine.1)),
-      stands_for_the_genesis specification genesis settled.now place judged.good_spec judged.good_genesis settled.rest mine.0 mine.1)
+      let mine = now_empty settled.now bytes (sym settled.told ∙ wrote) in (
+        settled.now,
+        (λ image left.
+            let snaps = snaps_empty durable_a follows durable_b others image left in
+            same_image image settled.now (settled.durable image left) (snaps.0 ∙ sym mine.0) (snaps.1 ∙ sym mine.1)),
+        stands_for_the_genesis specification genesis settled.now place judged.good_spec judged.good_genesis settled.rest mine.0 mine.1,
+      )
 
 -- two areas were cleared, and then a log was made
 pub stands_new : (specification genesis hash : List ℕ) (place : ℕ) (reads reads1 reads2 reads3 : Option Image) (images1 images2 images3 : Image → Type 0)

@@ -2,10 +2,10 @@
 use Rattle.std.proofs.Common.{◌≡◌, ℕ, suc, ◌+◌, ◌*◌, ◌^◌, ◌≤◌, Bool, true, false, cond, List, [], ◌∷◌, length, drop, map, Option, Some, None, refl, sym, ap, ◌∙◌, subst, inl, inr, ◌⊎◌, arith}
 use Rattle.std.specs.Prelude.{IfSome, ◌==◌}
 use Rattle.std.proofs.lemmas.Bool.{ne_eqb}
-use Rattle.outside.specs.declared.disk.Area.TheVariants.{Log}
+use Rattle.outside.specs.declared.disk.Area.TheVariants.{Log, SnapA, SnapB}
 use Rattle.outside.specs.Image.{Image, with_content}
 use Rattle.outside.specs.Causes.{CountsFault}
-use Rattle.outside.specs.Disk.{NoneNew}
+use Rattle.outside.specs.Disk.{NoneNew, IsDurable, HasOneImage, OthersRead}
 use Rattle.codec_defs.specs.Schema.{Block}
 use Rattle.time_defs.specs.Specification.{Specification, specification_of}
 use Rattle.rule_defs.specs.Chain.{Chain}
@@ -202,3 +202,28 @@ at_some P found now is here = subst (λ (o : Option Image). IfSome o P) is here
 pub if_some_also : (P Q : Image → Type 0) (found : Option Image) → IfSome found P → ((now : Image) → P now → Q now) → IfSome found Q
 if_some_also P Q None here also = tt
 if_some_also P Q (Some now) here also = also now here
+
+-- ---- The image that is left where each area was synced
+
+snaps_as_read : (images1 : Image → Type 0) (now : Image) → IsDurable SnapA images1 now → IsDurable SnapB images1 now
+    → (image : Image) → LeftSo images1 now image → (image.snap_a ≡ now.snap_a) × (image.snap_b ≡ now.snap_b)
+snaps_as_read images1 now durable_a durable_b image (inl here) = (durable_a image here, durable_b image here)
+snaps_as_read images1 now durable_a durable_b image (inr (before, here, (bytes, says, is))) =
+    (ap (λ (i : Image). i.snap_a) is ∙ durable_a before here, ap (λ (i : Image). i.snap_b) is ∙ durable_b before here)
+
+one_as_read : (images1 images2 : Image → Type 0) (reads2 : Option Image) (now : Image) (place : ℕ) (records : List Record) (bytes : List ℕ)
+    → IsDurable SnapA images1 now → IsDurable SnapB images1 now → reads2 ≡ Some (with_content Log bytes now) → IsSettled place records reads2 images2
+    → ((image : Image) → images2 image → LeftSo images1 now image) → HasOneImage reads2 images2
+one_as_read images1 images2 reads2 now place records bytes durable_a durable_b wrote settled left =
+    let same : Some settled.now ≡ Some (with_content Log bytes now) = sym settled.told ∙ wrote in
+    let is : settled.now ≡ with_content Log bytes now = (cc) in
+    subst (λ (o : Option Image). HasOneImage o images2) (sym wrote) (λ image here.
+      let snaps = snaps_as_read images1 now durable_a durable_b image (left image here) in
+      same_image image (with_content Log bytes now) (settled.durable image here ∙ ap (λ (i : Image). i.log) is) snaps.0 snaps.1)
+
+pub one_after : (reads1 reads2 : Option Image) (images1 images2 : Image → Type 0) (place : ℕ) → IfSome reads1 (IsDurable SnapA images1) → IfSome reads1 (IsDurable SnapB images1)
+    → OthersRead Log reads1 reads2 → IfSome reads1 (λ now. IsSettled place (records_of (drop 8 now.log)) reads2 images2)
+    → IfSome reads1 (λ now. (image : Image) → images2 image → LeftSo images1 now image) → HasOneImage reads2 images2
+one_after None reads2 images1 images2 place durable_a durable_b (bytes, wrote) settled left = subst (λ (o : Option Image). HasOneImage o images2) (sym wrote) tt
+one_after (Some now) reads2 images1 images2 place durable_a durable_b (bytes, wrote) settled left =
+    one_as_read images1 images2 reads2 now place (records_of (drop 8 now.log)) bytes durable_a durable_b wrote settled left

@@ -1,7 +1,7 @@
 // A node: the kept blocks of a store, on their disk.
 ghost use Rattle.std.specs.Prelude.{◌≡◌, ◌⊎◌, ◌<◌, ◌^◌, nat_lt, false, Err, List, Some, length, vec_capacity, IfOk, IfErr, OnOk, OnErr, IfSome};
 ghost use Rattle.outside.specs.Causes.{CountsFault};
-ghost use Rattle.outside.specs.Disk.{LeavesOnly};
+ghost use Rattle.outside.specs.Disk.{HasOneImage, LeavesOnly};
 ghost use Rattle.outside.specs.Image.{Image};
 ghost use Rattle.outside.specs.declared.disk.WriteStop.TheVariants.{DiskFault, NoMemory as no_memory};
 ghost use Rattle.chain_defs.specs.Tip as tips;
@@ -87,12 +87,13 @@ impl Model for Node {
 }
 
 impl Node {
-    /// Opens the store on a disk.
+    /// Opens the store on a disk. After `Ok` a crash leaves each area as it reads.
     pub fn open<D: Disk>(alloc: Global, disk: &mut D) -> Result<Node, LogStop>
         ensures kept { IfOk result (λ node. IfSome (D.reads_as disk.old) (λ now. store_of now ≡ Keeps node.chain)) }
         ensures not_a_store { result ≡ Err LogStop.NotAStore → IfSome (D.reads_as disk.old) (λ now. (chain : Chain) → store_of now ≡ Keeps chain → ⊥) }
         ensures only_read { result ≡ Err LogStop.NotAStore → IsOnlyRead D.reads_as D.images D.moment D.left_since disk.old disk.new }
         ensures there { IfOk result (λ node. IfSome (D.reads_as disk.new) (λ image. node.place < length image.log)) }
+        ensures one_image { OnOk result (HasOneImage (D.reads_as disk.new) (D.images disk.new)) }
         ensures on { ((image : Image) → D.images disk.old image → IsSound image)
             → IfOk result (λ node. IfSome (D.reads_as disk.old) (λ _. IsOn node (D.reads_as disk.new) (D.images disk.new))) }
         ensures moments { (now : Image) (chain : Chain) → D.reads_as disk.old ≡ Some now → store_of now ≡ Keeps chain → ((image : Image) → D.images disk.old image → IsSound image)
@@ -201,7 +202,12 @@ impl Node {
 
     /// Judges an item over the kept blocks (docs/COMMANDS.md, "The text"), and where it joins puts its record on the disk and
     /// keeps it. After an `Err` the disk has the record or not.
-    pub fn import<D: Disk>(self, alloc: Global, disk: &mut D, item: &[u8]) -> Result<(Node, Verdict), WriteStop>
+    pub fn import<D: Disk>(
+        self,
+        alloc: Global,
+        disk: &mut D,
+        item: &[u8],
+    ) -> Result<(Node, Verdict), WriteStop>
         requires size { length item.now < 2 ^ 31 }
         requires there { IfSome (D.reads_as disk.old) (λ image. self.place < length image.log) }
         ensures verdict { IfOk result (λ answer. answer.1 ≡ verdict_over self.chain item.now) }

@@ -18,7 +18,12 @@ fn follows(number: u64, parent: u64) -> bool
 
 /// The first rule that a block breaks on the branch that ends with its parent, J4 to J32, under the specification
 /// of its chain.
-pub(crate) fn first_broken(spec: &Spec, tree: &Tree, parent: u32, block: &BlockView<'_>) -> Option<u8>
+pub(crate) fn first_broken(
+    spec: &Spec,
+    tree: &Tree,
+    parent: u32,
+    block: &BlockView<'_>,
+) -> Option<u8>
     requires { parent < length tree.now.entries }
     ensures { (kept : List Block) → IndexesBlocks kept tree.now.entries
         → result ≡ rules.first_broken spec.now (branch kept parent) block.now }

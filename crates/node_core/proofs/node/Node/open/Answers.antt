@@ -5,7 +5,8 @@ use Rattle.outside.specs.Image.{Image}
 use Rattle.outside.proofs.Moments.{leaves_also, leaves_then, now_too}
 use Rattle.rule_defs.specs.Verdict.{kept_limit}
 use Rattle.log_file.specs.declared.log.LogStop.TheVariants.{NotAStore}
-use Rattle.node_core.proofs.OpenLemmas.{opened_keeps, opened_nothing, are_kept, stands_while_opened, opened_on, at_some, if_some_also}
+use Rattle.node_core.proofs.OpenLemmas.{opened_keeps, opened_nothing, are_kept, stands_while_opened, opened_on, at_some, if_some_also, one_after}
+use Rattle.node_core.proofs.NewLemmas.{when_ok}
 use Rattle.node_core.proofs.node.Node.open.Goals as goal
 
 abbrev bytes_of : Vec ℕ Global → List ℕ
@@ -44,4 +45,12 @@ pub returns-in-Ok-clause-on : goal.returns-in-Ok-clause-on
 returns-in-Ok-clause-on g c sound =
     opened_on _ _ c.sync_snapshots.ensures.images sound _ _ c.in-Ok.opened.log.place c.in-Ok.opened.spec (map bytes_of c.in-Ok.opened.blocks.items) c.in-Ok.opened.tree.entries
     (g.met.D.Disk.reads_image c.open.new.disk) _ _ (g.met.D.Disk.reads_image c.args.disk.now) c.sync_snapshots.ensures.same c.in-Ok.ensures.opened c.in-Ok.ensures.settled
+    (if_some_also _ _ _ c.open.ensures.moments (λ now left. now_too g.D.Disk.moment g.D.Disk.left_since g.D.Disk.images g.met.D.Disk.counts_now _ _ _ left))
+
+pub returns-in-Ok-clause-one_image : goal.returns-in-Ok-clause-one_image
+returns-in-Ok-clause-one_image g c =
+    one_after _ _ _ _ c.in-Ok.opened.log.place
+    (when_ok c.sync_snapshots.result c.is_err.result c.is_err.ensures.value c.if-is_err.false c.sync_snapshots.ensures.snap_a)
+    (when_ok c.sync_snapshots.result c.is_err.result c.is_err.ensures.value c.if-is_err.false c.sync_snapshots.ensures.snap_b)
+    c.open.ensures.others c.in-Ok.ensures.settled
     (if_some_also _ _ _ c.open.ensures.moments (λ now left. now_too g.D.Disk.moment g.D.Disk.left_since g.D.Disk.images g.met.D.Disk.counts_now _ _ _ left))
