@@ -1,13 +1,12 @@
 -- What a node's disk is before a block joins, while it does and after.
-use Rattle.std.proofs.Common.{◌≡◌, ℕ, ◌+◌, ◌<◌, ◌^◌, List, [], ◌∷◌, ◌++◌, length, Option, Some, None, refl, sym, ap, ◌∙◌, subst, inl, inr, ◌⊎◌}
-use Rattle.std.specs.Prelude.{IfSome}
+use Rattle.std.proofs.Common.{◌≡◌, ℕ, ◌+◌, ◌<◌, ◌^◌, List, [], ◌∷◌, ◌++◌, length, Option, Some, sym, ap, ◌∙◌, subst, inl, inr, ◌⊎◌}
 use Rattle.std.specs.Option.{option_map}
 use Rattle.outside.specs.declared.disk.Area.TheVariants.{Log}
 use Rattle.outside.specs.Image.{Image, with_content}
-use Rattle.outside.specs.Disk.{IsDurable, OthersRead}
-use Rattle.rule_defs.specs.Chain.{Chain, chain_after}
+use Rattle.outside.specs.Disk.{OthersRead}
+use Rattle.rule_defs.specs.Chain.{chain_after}
 use Rattle.rule_defs.specs.Laws.{CanJoin}
-use Rattle.store_defs.specs.Log.{Record, record_bytes, log_of}
+use Rattle.store_defs.specs.Log.{record_bytes}
 use Rattle.store_defs.specs.LogLaws.{record_of_joined}
 use Rattle.store_defs.specs.Rest.{IsAtRest, IsBeforeOrAfter, IsSettled, HasLog}
 use Rattle.store_defs.specs.Store.{StandsFor}

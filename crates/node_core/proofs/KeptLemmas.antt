@@ -1,6 +1,6 @@
 -- The verdict over kept blocks, and what is kept with one more.
-use Rattle.std.proofs.Common.{◌≡◌, ℕ, suc, ◌+◌, ◌*◌, ◌^◌, ◌≤◌, ◌<◌, Bool, true, false, cond, List, [], ◌∷◌, ◌++◌, length, map, Option, Some, None, refl, ap, sym, ◌∙◌, subst, arith}
-use Rattle.std.specs.Prelude.{Result, Ok, Err, IfErr, IsSomeAnd, IsTrue, ◌==◌}
+use Rattle.std.proofs.Common.{◌≡◌, ℕ, ◌+◌, ◌*◌, ◌^◌, ◌≤◌, ◌<◌, false, List, [], ◌∷◌, ◌++◌, length, map, Option, Some, None, refl, ap, sym, ◌∙◌, subst, arith}
+use Rattle.std.specs.Prelude.{Result, Ok, Err, IfErr, IsTrue, ◌==◌}
 use Rattle.std.specs.List.{cons_option}
 use Rattle.std.proofs.lemmas.Bool.Decides.{Decides-eqb}
 use Rattle.std.proofs.lemmas.List.{length-append, length_push, length-map, map-append}
@@ -8,10 +8,9 @@ use Rattle.std.proofs.lemmas.List.Elements.{filter_map-append}
 use Rattle.codec_defs.specs.Shape.{decoded}
 use Rattle.codec_defs.specs.Schema.{Block, block}
 use Rattle.time_defs.specs.Specification.{Specification}
-use Rattle.chain_defs.specs.Kept.{block_hash, block_at, place_of}
+use Rattle.chain_defs.specs.Kept.{block_hash, place_of}
 use Rattle.chain_defs.specs.Branch.{branch}
 use Rattle.chain_defs.proofs.KeptLaws.{place_of-below, slice_get-below}
-use Rattle.rule_defs.specs.Rules.{first_broken}
 use Rattle.rule_defs.specs.Verdict.{joins, verdict, verdict_of, verdict_of_block, kept_limit}
 use Rattle.rule_defs.specs.Chain.{Chain, verdict_over, chain_after}
 use Rattle.rule_defs.specs.Laws.{CanJoin}
@@ -30,7 +29,7 @@ use Rattle.store_defs.specs.Store.{ext_of_joined}
 use Rattle.store_defs.proofs.Records.{record_length}
 use Rattle.log_file.specs.Pieces.{behind_gate}
 use Rattle.log_file.proofs.Gates.{piece_length}
-use Rattle.node_core.specs.Node.{blocks_of, AreKept, CanJoinAs, JoinsAs}
+use Rattle.node_core.specs.Node.{blocks_of, AreKept, JoinsAs}
 use Rattle.node_core.proofs.RuleLemmas.{follows-branch}
 
 -- ---- The verdict on an item

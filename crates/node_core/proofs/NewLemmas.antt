@@ -1,12 +1,12 @@
 -- What a new store is made of, and what its disk stands for.
-use Rattle.std.proofs.Common.{◌≡◌, ℕ, ◌<◌, ◌^◌, List, [], ◌∷◌, length, Option, Some, None, refl, sym, ap, ◌∙◌, subst}
+use Rattle.std.proofs.Common.{◌≡◌, ℕ, List, [], Option, Some, None, refl, sym, ap, ◌∙◌, subst}
 use Rattle.std.specs.Prelude.{IfSome, IsSome, Bool, false, Result, Ok, Err, is_err, OnOk}
 use Rattle.std.specs.Option.{option_map}
 use Rattle.outside.specs.declared.disk.Area.TheVariants.{Log, SnapA, SnapB}
 use Rattle.outside.specs.Image.{Image, with_content, InArea}
 use Rattle.outside.specs.Disk.{cut_area, Cut, Follows, IsDurable, OthersRead}
 use Rattle.codec_defs.specs.Shape.{decoded}
-use Rattle.codec_defs.specs.Schema.{Block, block}
+use Rattle.codec_defs.specs.Schema.{block}
 use Rattle.rule_defs.specs.Chain.{chain_of_genesis}
 use Rattle.store_defs.specs.Genesis.{broken_by, broken_genesis_rule}
 use Rattle.store_defs.specs.Rest.{IsSettled, HasOthers}

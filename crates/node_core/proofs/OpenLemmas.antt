@@ -1,5 +1,5 @@
 -- A store that is opened: what its image keeps, and what its disk stands for then.
-use Rattle.std.proofs.Common.{◌≡◌, ℕ, suc, ◌+◌, ◌*◌, ◌^◌, ◌≤◌, Bool, true, false, cond, List, [], ◌∷◌, length, drop, map, Option, Some, None, refl, sym, ap, ◌∙◌, subst, inl, inr, ◌⊎◌, arith}
+use Rattle.std.proofs.Common.{◌≡◌, ℕ, ◌+◌, ◌*◌, ◌^◌, ◌≤◌, Bool, true, false, cond, List, [], ◌∷◌, length, drop, map, Option, Some, None, sym, ap, ◌∙◌, subst, inl, inr, ◌⊎◌, arith}
 use Rattle.std.specs.Prelude.{IfSome, ◌==◌}
 use Rattle.std.proofs.lemmas.Bool.{ne_eqb}
 use Rattle.outside.specs.declared.disk.Area.TheVariants.{Log, SnapA, SnapB}
@@ -7,11 +7,11 @@ use Rattle.outside.specs.Image.{Image, with_content}
 use Rattle.outside.specs.Causes.{CountsFault}
 use Rattle.outside.specs.Disk.{NoneNew, IsDurable, HasOneImage, OthersRead}
 use Rattle.codec_defs.specs.Schema.{Block}
-use Rattle.time_defs.specs.Specification.{Specification, specification_of}
+use Rattle.time_defs.specs.Specification.{Specification}
 use Rattle.rule_defs.specs.Chain.{Chain}
-use Rattle.store_defs.specs.Log.{Record, LogContent, log_of, records_of, content_of_records}
+use Rattle.store_defs.specs.Log.{Record, LogContent, log_of, records_of}
 use Rattle.store_defs.specs.Rest.{IsSettled, HasLog}
-use Rattle.store_defs.specs.Store.{Store, NoLog, NotALog, Keeps, store_of, store_of_log, chain_of, StandsFor, IsSound, EachHasJoined}
+use Rattle.store_defs.specs.Store.{NoLog, NotALog, Keeps, store_of, store_of_log, chain_of, StandsFor, IsSound, EachHasJoined}
 use Rattle.store_defs.proofs.Contents.{says_its_records}
 use Rattle.chain_tree.specs.declared.entry.Entry.{Entry}
 use Rattle.chain_tree.specs.Blocks.{IndexesBlocks}
@@ -218,8 +218,8 @@ one_as_read images1 images2 reads2 now place records bytes durable_a durable_b w
     let same : Some settled.now ≡ Some (with_content Log bytes now) = sym settled.told ∙ wrote in
     let is : settled.now ≡ with_content Log bytes now = (cc) in
     subst (λ (o : Option Image). HasOneImage o images2) (sym wrote) (λ image here.
-      let snaps = snaps_as_read images1 now durable_a durable_b image (left image here) in
-      same_image image (with_content Log bytes now) (settled.durable image here ∙ ap (λ (i : Image). i.log) is) snaps.0 snaps.1)
+    let snaps = snaps_as_read images1 now durable_a durable_b image (left image here) in
+    same_image image (with_content Log bytes now) (settled.durable image here ∙ ap (λ (i : Image). i.log) is) snaps.0 snaps.1)
 
 pub one_after : (reads1 reads2 : Option Image) (images1 images2 : Image → Type 0) (place : ℕ) → IfSome reads1 (IsDurable SnapA images1) → IfSome reads1 (IsDurable SnapB images1)
     → OthersRead Log reads1 reads2 → IfSome reads1 (λ now. IsSettled place (records_of (drop 8 now.log)) reads2 images2)

@@ -1,7 +1,6 @@
 // Stores that are made, opened and grown over a disk in memory, by the reference's bytes, hashes and verdicts; and a
 // stop at each call of the disk.
-ghost use Rattle.std.specs.Prelude.{◌<◌, ◌^◌, length};
-ghost use Rattle.outside.specs.MemoryDisk.{reads};
+ghost use Rattle.std.specs.Prelude.{◌+◌, ◌<◌, ◌≤◌, ◌^◌, length};
 
 use crate::{LogStop, NewStop, Node, judge};
 use outside::{MemDisk, WriteStop};
@@ -98,13 +97,19 @@ impl Store {
     }
 }
 
+fn put(block: &mut [u8; 356], at: usize, field: &[u8])
+    requires { at + length field.now ≤ 356 }
+{
+    block[at..at + field.len()].copy_from_slice(field);
+}
+
 /// A block of one transaction, whose input has the block's number as its since.
 fn block_on(parent: &[u8; 32], number: u64, nonce: u32) -> [u8; 356] {
     let mut block = *GENESIS;
-    block[36..44].copy_from_slice(&number.to_le_bytes());
-    block[52..84].copy_from_slice(parent);
-    block[212..216].copy_from_slice(&nonce.to_le_bytes());
-    block[296..304].copy_from_slice(&number.to_le_bytes());
+    put(&mut block, 36, &number.to_le_bytes());
+    put(&mut block, 52, parent);
+    put(&mut block, 212, &nonce.to_le_bytes());
+    put(&mut block, 296, &number.to_le_bytes());
     block
 }
 

@@ -1,4 +1,4 @@
-use Rattle.std.proofs.Common.{◌≡◌, sym, ◌∙◌, subst}
+use Rattle.std.proofs.Common.{subst}
 use Rattle.outside.proofs.Moments.{now_too}
 use Rattle.node_core.specs.Node.{NewStoreValue}
 use Rattle.node_core.proofs.NewLemmas.{StandsAlone, stands_new, when_ok}

@@ -1,6 +1,5 @@
 use Rattle.std.proofs.Common.{◌≡◌, ◌++◌, ◌∷◌, [], ℕ, List, Vec, Global, map, length, refl, ap, sym, ◌∙◌, subst, ◌+◌, ◌<◌, ◌^◌}
 use Rattle.std.proofs.lemmas.List.{map-append}
-use Rattle.time_defs.specs.Specification.{Specification}
 use Rattle.codec_defs.specs.Schema.{Block}
 use Rattle.outside.proofs.Moments.{leaves_also, now_too}
 use Rattle.rule_defs.specs.Chain.{Chain, chain_after}

@@ -1,9 +1,6 @@
-use Rattle.std.proofs.Common.{◌≡◌, ℕ, ◌≤◌, List, Vec, Global, Option, Some, Err, map, length, ap, sym, ◌∙◌, subst, inl, ◌⊎◌, arith}
-use Rattle.std.specs.Prelude.{IfSome}
+use Rattle.std.proofs.Common.{◌≡◌, ℕ, List, Vec, Global, Err, map, length, ap, ◌∙◌, inl, arith}
 use Rattle.std.proofs.lemmas.List.{length-map}
-use Rattle.outside.specs.Image.{Image}
 use Rattle.outside.proofs.Moments.{leaves_also, leaves_then, now_too}
-use Rattle.rule_defs.specs.Verdict.{kept_limit}
 use Rattle.log_file.specs.declared.log.LogStop.TheVariants.{NotAStore}
 use Rattle.node_core.proofs.OpenLemmas.{opened_keeps, opened_nothing, are_kept, stands_while_opened, opened_on, at_some, if_some_also, one_after}
 use Rattle.node_core.proofs.NewLemmas.{when_ok}
