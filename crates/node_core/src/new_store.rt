@@ -9,7 +9,12 @@ ghost use Rattle.store_defs.specs.Genesis.{broken_genesis_rule};
 ghost use Rattle.store_defs.specs.Store.{StandsFor};
 ghost use Rattle.node_core.specs.Node.{IsHashOf};
 
-use outside::{Disk, WriteStop};
+use crate::area::clear;
+use crate::entry::hash_of;
+use epochs::Spec;
+use log_file::genesis_ok;
+use mol_schema::BlockView;
+use outside::{Area, Disk, WriteStop};
 use std::alloc::Global;
 use std::marker::Model;
 
@@ -32,13 +37,13 @@ pub struct NewStore<'a> {
 }
 
 impl<'a> Model for NewStore<'a> {
-    ghost use Rattle.node_core.specs.Node.{NewStoreValue, IsHashOf};
+    ghost use Rattle.node_core.specs.Node.{NewStoreValue, AreJudged};
 
     ghost Value = { NewStoreValue };
 
     ghost view = { λ new. record { specification = new.spec.now; genesis = new.genesis.now } };
 
-    ghost invariant = { λ new. IsHashOf new.genesis.now new.hash };
+    ghost invariant = { λ new. AreJudged new.spec.now new.genesis.now new.hash };
 }
 
 /// Judges a specification by S1 to S7, and then a genesis by G1 to G7 (docs/RULES.md).
@@ -52,10 +57,21 @@ pub fn judge<'a>(alloc: Global, spec: &'a [u8], genesis: &'a [u8]) -> Result<New
     ensures bad_genesis { (rule : ℕ) → result ≡ Err (NewStop.BadGenesis rule)
         → (broken_specification_rule spec.now ≡ None) × (broken_genesis_rule genesis.now ≡ Some rule) }
 {
-    let _ = alloc;
-    let _ = spec;
-    let _ = genesis;
-    Err(NewStop::NoMemory)
+    if let Err(rule) = Spec::read(spec) {
+        return Err(NewStop::BadSpec(rule));
+    }
+    let Some(block) = BlockView::read(genesis) else {
+        return Err(NewStop::BadGenesis(1));
+    };
+    match genesis_ok(alloc, genesis) {
+        Err(_) => Err(NewStop::NoMemory),
+        Ok(Some(rule)) => Err(NewStop::BadGenesis(rule)),
+        Ok(None) => Ok(NewStore {
+            spec,
+            genesis,
+            hash: hash_of(&block),
+        }),
+    }
 }
 
 impl<'a> NewStore<'a> {
@@ -72,8 +88,15 @@ impl<'a> NewStore<'a> {
             × StandsFor (chain_of_genesis self.now.specification self.now.genesis) only) }
         ensures cause { CountsFault (D.faults disk.old) (D.faults disk.new) (result ≡ Err DiskFault) }
     {
-        let _ = alloc;
-        let _ = disk;
-        Err(WriteStop::NoMemory)
+        if clear(disk, Area::SnapA).is_err() {
+            return Err(WriteStop::DiskFault);
+        }
+        if clear(disk, Area::SnapB).is_err() {
+            return Err(WriteStop::DiskFault);
+        }
+        match log_file::create(alloc, disk, self.spec, self.genesis) {
+            Err(stop) => Err(stop),
+            Ok(_) => Ok(()),
+        }
     }
 }

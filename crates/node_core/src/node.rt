@@ -1,70 +1,213 @@
 // A node: the kept blocks of a store, on their disk.
-ghost use Rattle.std.specs.Prelude.{◌≡◌, ◌⊎◌, ◌<◌, ◌^◌, false, Err, List, Some, length, IfOk, OnErr, IfSome};
+ghost use Rattle.std.specs.Prelude.{◌≡◌, ◌⊎◌, ◌<◌, ◌^◌, nat_lt, false, Err, List, Some, length, vec_capacity, IfOk, IfErr, OnOk, OnErr, IfSome};
 ghost use Rattle.outside.specs.Causes.{CountsFault};
-ghost use Rattle.outside.specs.Disk.{LeavesOnly};
+ghost use Rattle.outside.specs.Disk.{HasOneImage, LeavesOnly};
 ghost use Rattle.outside.specs.Image.{Image};
 ghost use Rattle.outside.specs.declared.disk.WriteStop.TheVariants.{DiskFault, NoMemory as no_memory};
 ghost use Rattle.chain_defs.specs.Tip as tips;
 ghost use Rattle.codec_defs.specs.Schema.{Block};
 ghost use Rattle.rule_defs.specs.Chain.{Chain, verdict_over, chain_after};
-ghost use Rattle.rule_defs.specs.Verdict.{joins};
+ghost use Rattle.rule_defs.specs.Verdict.{joins, verdict_of_block, kept_limit};
+ghost use Rattle.store_defs.specs.LogLaws.{record_of_joined};
 ghost use Rattle.store_defs.specs.Store.{Keeps, store_of, StandsFor, IsSound, IsOnlyRead};
+ghost use Rattle.log_file.specs.Pieces.{behind_gate};
 ghost use Rattle.chain_tree.specs.Blocks.{Describes, IndexesBlocks};
-ghost use Rattle.node_core.specs.Node.{IsOn};
+ghost use Rattle.node_core.specs.Node.{IsOn, CanJoinAs, JoinsAs};
 
+use crate::area::sync_snapshots;
+use crate::entry::{entry_on, has_built_form, hash_of, parent_hash};
+use crate::rules::first_broken;
 use chain_tree::{Entry, Tree};
 use epochs::Spec;
-use log_file::{Log, LogStop};
-use outside::{Disk, WriteStop};
+use log_file::{Body, Log, LogStop, append};
+use mol_schema::BlockView;
+use outside::{Disk, NoMemory, WriteStop};
 use rule_defs::Verdict;
 use std::alloc::Global;
 use std::marker::Model;
+
+/// The most kept blocks, genesis included.
+const KEPT_LIMIT: u32 = 1_000_000;
+
+/// The ext of a block that joins: it pays no fee and spends nothing.
+const EXT_OF_JOINED: [u8; 8] = [0; 8];
+
+/// Whether one more may be kept beside so many.
+#[tactic(auto, unfolding(rule_defs::specs::Verdict::kept_limit))]
+fn has_room(count: u32) -> bool
+    ensures { result ≡ nat_lt count kept_limit }
+{
+    count < KEPT_LIMIT
+}
+
+/// Allocates all that one more block takes, before the disk is touched: its record, its places, and the copy of its
+/// bytes that it answers.
+fn prepare(
+    alloc: Global,
+    item: &[u8],
+    blocks: &mut Vec<Vec<u8>>,
+    tree: &mut Tree,
+    body: &mut Body,
+) -> Result<Vec<u8>, NoMemory>
+    requires { length item.now < 2 ^ 31 }
+    ensures copy { IfOk result (λ copy. copy.items ≡ item.now) }
+    ensures body { OnOk result (body.new ≡ behind_gate (record_of_joined item.now)) }
+    ensures blocks { blocks.new.items ≡ blocks.old.items }
+    ensures room { OnOk result (length blocks.new.items < vec_capacity blocks.new) }
+    ensures tree { tree.new.entries ≡ tree.old.entries }
+    ensures spare { OnOk result (0 < tree.new.spare) }
+{
+    body.fill(alloc, item, &EXT_OF_JOINED)?;
+    tree.reserve()?;
+    blocks.reserve(1)?;
+    Ok(item.to_vec(alloc)?)
+}
 
 /// The kept blocks of a store. Clauses see their chain, and where the records of its log end.
 #[derive(Drop)]
 pub struct Node {
     spec: Spec,
+    /// The encodings of the kept blocks, genesis first.
+    blocks: Vec<Vec<u8>>,
     tree: Tree,
     log: Log,
-    blocks: Vec<Vec<u8>>,
+    /// The record that is put behind the others next.
+    body: Body,
 }
 
 impl Model for Node {
     ghost use Rattle.std.specs.Prelude.{map};
-    ghost use Rattle.std.specs.List.{filter_map};
-    ghost use Rattle.codec_defs.specs.Shape.{decoded};
-    ghost use Rattle.codec_defs.specs.Schema.{block};
-    ghost use Rattle.chain_tree.specs.Blocks.{IndexesBlocks};
-    ghost use Rattle.node_core.specs.Node.{NodeValue};
+    ghost use Rattle.node_core.specs.Node.{NodeValue, blocks_of, AreKept};
 
     ghost Value = { NodeValue };
 
-    ghost view = { λ node. record { chain = record { spec = node.spec; blocks = filter_map (decoded block) (map (λ item. item.items) node.blocks.items) }; place = node.log.place } };
+    ghost view = { λ node. record { chain = record { spec = node.spec; blocks = blocks_of (map (λ item. item.items) node.blocks.items) }; place = node.log.place } };
 
-    ghost invariant = { λ node. IndexesBlocks (filter_map (decoded block) (map (λ item. item.items) node.blocks.items)) node.tree.entries };
+    ghost invariant = { λ node. AreKept (map (λ item. item.items) node.blocks.items) node.tree.entries node.log.place };
 }
 
 impl Node {
-    /// Opens the store on a disk.
+    /// Opens the store on a disk. After `Ok` a crash leaves each area as it reads.
     pub fn open<D: Disk>(alloc: Global, disk: &mut D) -> Result<Node, LogStop>
         ensures kept { IfOk result (λ node. IfSome (D.reads_as disk.old) (λ now. store_of now ≡ Keeps node.chain)) }
         ensures not_a_store { result ≡ Err LogStop.NotAStore → IfSome (D.reads_as disk.old) (λ now. (chain : Chain) → store_of now ≡ Keeps chain → ⊥) }
         ensures only_read { result ≡ Err LogStop.NotAStore → IsOnlyRead D.reads_as D.images D.moment D.left_since disk.old disk.new }
         ensures there { IfOk result (λ node. IfSome (D.reads_as disk.new) (λ image. node.place < length image.log)) }
+        ensures one_image { OnOk result (HasOneImage (D.reads_as disk.new) (D.images disk.new)) }
         ensures on { ((image : Image) → D.images disk.old image → IsSound image)
             → IfOk result (λ node. IfSome (D.reads_as disk.old) (λ _. IsOn node (D.reads_as disk.new) (D.images disk.new))) }
         ensures moments { (now : Image) (chain : Chain) → D.reads_as disk.old ≡ Some now → store_of now ≡ Keeps chain → ((image : Image) → D.images disk.old image → IsSound image)
             → LeavesOnly D.moment D.left_since disk.old disk.new (λ image. D.images disk.old image ⊎ StandsFor chain image) }
         ensures cause { CountsFault (D.faults disk.old) (D.faults disk.new) (result ≡ Err LogStop.DiskFault) }
     {
-        let _ = alloc;
-        let _ = disk;
-        Err(LogStop::NoMemory)
+        if sync_snapshots(disk).is_err() {
+            return Err(LogStop::DiskFault);
+        }
+        match log_file::open(alloc, disk) {
+            Err(stop) => Err(stop),
+            Ok(opened) => Ok(Node {
+                spec: opened.spec,
+                blocks: opened.blocks,
+                tree: opened.tree,
+                log: opened.log,
+                body: Body::new(alloc),
+            }),
+        }
+    }
+
+    /// The entry of a block that can join, or the verdict on one that can not.
+    fn judge_block(&self, block: &BlockView<'_>) -> Result<Entry, Verdict>
+        ensures stays { IfErr result (λ verdict. (verdict ≡ verdict_of_block self.now.chain.spec self.now.chain.blocks block.now) × (joins verdict ≡ false)) }
+        ensures joins { IfOk result (λ entry. CanJoinAs self.now.chain.spec self.now.chain.blocks block.now entry) }
+    {
+        let hash = hash_of(block);
+        if self.tree.find(&hash).is_some() {
+            return Err(Verdict::Known(hash));
+        }
+        if !has_built_form(block) {
+            return Err(Verdict::Unbuilt);
+        }
+        let Some(parent) = self.tree.find(&parent_hash(block)) else {
+            return Err(Verdict::Refused(3));
+        };
+        if let Some(rule) = first_broken(&self.spec, &self.tree, parent, block) {
+            return Err(Verdict::Refused(rule));
+        }
+        if !has_room(self.tree.len()) {
+            return Err(Verdict::Full);
+        }
+        Ok(entry_on(block, hash, parent))
+    }
+
+    /// The entry of an item that can join, or the verdict on one that can not.
+    fn judge(&self, item: &[u8]) -> Result<Entry, Verdict>
+        ensures stays { IfErr result (λ verdict. (verdict ≡ verdict_over self.now.chain item.now) × (joins verdict ≡ false)) }
+        ensures joins { IfOk result (λ entry. JoinsAs self.now.chain item.now entry) }
+    {
+        match BlockView::read(item) {
+            None => Err(Verdict::Refused(1)),
+            Some(block) => self.judge_block(&block),
+        }
+    }
+
+    /// Puts the record of an item that can join on the disk, and keeps it.
+    fn join<D: Disk>(
+        self,
+        alloc: Global,
+        disk: &mut D,
+        item: &[u8],
+        entry: Entry,
+    ) -> Result<Node, WriteStop>
+        requires size { length item.now < 2 ^ 31 }
+        requires there { IfSome (D.reads_as disk.old) (λ image. self.place < length image.log) }
+        requires joins { JoinsAs self.chain item.now entry }
+        ensures kept { IfOk result (λ node. node.chain ≡ chain_after self.chain item.now) }
+        ensures there { IfOk result (λ node. IfSome (D.reads_as disk.new) (λ image. node.place < length image.log)) }
+        ensures on { IsOn self (D.reads_as disk.old) (D.images disk.old) → IfOk result (λ node. IsOn node (D.reads_as disk.new) (D.images disk.new)) }
+        ensures moments { IsOn self (D.reads_as disk.old) (D.images disk.old)
+            → LeavesOnly D.moment D.left_since disk.old disk.new (λ image. StandsFor self.chain image ⊎ StandsFor (chain_after self.chain item.now) image) }
+        ensures untouched { result ≡ Err no_memory → disk.new ≡ disk.old }
+        ensures cause { CountsFault (D.faults disk.old) (D.faults disk.new) (result ≡ Err DiskFault) }
+    {
+        let Node {
+            spec,
+            mut blocks,
+            mut tree,
+            log,
+            mut body,
+        } = self;
+        let copy = match prepare(alloc, item, &mut blocks, &mut tree, &mut body) {
+            Ok(copy) => copy,
+            Err(_) => return Err(WriteStop::NoMemory),
+        };
+        match append(log, disk, &body) {
+            Err(_) => Err(WriteStop::DiskFault),
+            Ok((log, rec)) => {
+                tree.add(Entry {
+                    at: rec.at,
+                    len: rec.len,
+                    ..entry
+                });
+                blocks.push_reserved(copy);
+                Ok(Node {
+                    spec,
+                    blocks,
+                    tree,
+                    log,
+                    body,
+                })
+            }
+        }
     }
 
     /// Judges an item over the kept blocks (docs/COMMANDS.md, "The text"), and where it joins puts its record on the disk and
     /// keeps it. After an `Err` the disk has the record or not.
-    pub fn import<D: Disk>(self, alloc: Global, disk: &mut D, item: &[u8]) -> Result<(Node, Verdict), WriteStop>
+    pub fn import<D: Disk>(
+        self,
+        alloc: Global,
+        disk: &mut D,
+        item: &[u8],
+    ) -> Result<(Node, Verdict), WriteStop>
         requires size { length item.now < 2 ^ 31 }
         requires there { IfSome (D.reads_as disk.old) (λ image. self.place < length image.log) }
         ensures verdict { IfOk result (λ answer. answer.1 ≡ verdict_over self.chain item.now) }
@@ -77,10 +220,13 @@ impl Node {
         ensures untouched { result ≡ Err no_memory → disk.new ≡ disk.old }
         ensures cause { CountsFault (D.faults disk.old) (D.faults disk.new) (result ≡ Err DiskFault) }
     {
-        let _ = alloc;
-        let _ = disk;
-        let _ = item;
-        Err(WriteStop::NoMemory)
+        match self.judge(item) {
+            Err(verdict) => Ok((self, verdict)),
+            Ok(entry) => {
+                let node = self.join(alloc, disk, item, entry)?;
+                Ok((node, Verdict::Joined(entry.number, entry.hash)))
+            }
+        }
     }
 
     /// What is kept of the tip.

@@ -50,7 +50,7 @@ blocks-push kept (first ∷ records) r all b over stands = by_found (λ x. block
     by_found again None is over = absurd (cc)
     by_found again (Some x) is over = ap (option_and_then (λ x. blocks_over (kept ++ x ∷ []) (records ++ r ∷ []))) is ∙ again x over stands
 
-abbrev said : Record → Record → List Record → Option (List Block) → Option LogContent
+abbrev pub said : Record → Record → List Record → Option (List Block) → Option LogContent
 said one two records blocks = option_map (λ blocks. record { specification = one.body; genesis = two.body; records = records; blocks = blocks }) blocks
 
 pub grows_by_a_block : GrowsByABlock

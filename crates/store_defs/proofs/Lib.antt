@@ -1,3 +1,5 @@
 pub mod Records
 pub mod Contents
 pub mod Resting
+pub mod Joining
+pub mod StoreLemmas

@@ -4,3 +4,4 @@ pub mod Log
 pub mod Rest
 pub mod LogLaws
 pub mod Store
+pub mod StoreLaws

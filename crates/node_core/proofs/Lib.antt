@@ -1,0 +1,5 @@
+pub mod RuleLemmas
+pub mod KeptLemmas
+pub mod DiskLemmas
+pub mod NewLemmas
+pub mod OpenLemmas

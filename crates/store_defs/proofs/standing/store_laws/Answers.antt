@@ -1,0 +1,9 @@
+use Rattle.store_defs.proofs.StoreLemmas.{stands_as_it_says, stands_after_an_item, stands_for_the_genesis}
+use Rattle.store_defs.proofs.standing.store_laws.Goals as goal
+
+pub returns : goal.returns
+returns c = record {
+  stands_as_it_says = stands_as_it_says;
+  stands_after_an_item = stands_after_an_item;
+  stands_for_the_genesis = stands_for_the_genesis;
+}
