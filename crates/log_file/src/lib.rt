@@ -15,6 +15,7 @@ mod ext;
 mod genesis;
 mod log;
 mod number;
+mod opening;
 #[cfg(test)]
 mod tests;
 
@@ -24,3 +25,4 @@ pub use creation::create;
 pub use ext::ext_form;
 pub use genesis::genesis_ok;
 pub use log::{Log, Rec};
+pub use opening::{LogStop, Opened, open};

@@ -1,0 +1,39 @@
+-- What a log is opened as.
+use Rattle.std.specs.Prelude.{◌≡◌, ℕ, ◌+◌, ◌==◌, List, [], ◌∷◌, map, length, drop, slice_index, Option, Some, if◌then◌else◌}
+use Rattle.codec_defs.specs.Shape.{decoded}
+use Rattle.codec_defs.specs.Schema.{Block, block}
+use Rattle.time_defs.specs.Specification.{Specification, specification_of}
+use Rattle.chain_tree.specs.declared.entry.Entry.{Entry}
+use Rattle.chain_tree.specs.Blocks.{IndexesBlocks}
+use Rattle.outside.specs.declared.disk.Area.TheVariants.{Log}
+use Rattle.outside.specs.Image.{Image}
+use Rattle.outside.specs.Disk.{write_area}
+use Rattle.store_defs.specs.Log.{Record, record_bytes, records_of, LogContent, content_of_records, log_of}
+
+-- The entries name the bodies of these records, which stand one after the other from this place on.
+abbrev pub NameBodies : ℕ → List Record → List Entry → Type 0
+NameBodies place [] [] = Unit
+NameBodies place [] (entry ∷ entries) = ⊥
+NameBodies place (r ∷ records) [] = ⊥
+NameBodies place (r ∷ records) (entry ∷ entries) =
+    (entry.at ≡ place + 6) × (entry.len ≡ length r.body) × NameBodies (place + length (record_bytes r)) records entries
+
+-- Items are the encodings of blocks that these entries index.
+pub record AreBlocks (items : List (List ℕ)) (entries : List Entry) : Type 0 where
+  pub blocks : List Block
+  pub decode : map (decoded block) items ≡ map Some blocks
+  pub indexed : IndexesBlocks blocks entries
+
+-- The bytes are this log, and it is opened as this specification, these items and these entries. The first record that an entry
+-- names, that of the genesis, stands behind the start and the record of the specification.
+pub record IsOpened (bytes : List ℕ) (log : LogContent) (specification : Specification) (items : List (List ℕ)) (entries : List Entry) : Type 0 where
+  pub is_log : log_of bytes ≡ Some log
+  pub says : content_of_records (records_of (drop 8 bytes)) ≡ Some log
+  pub specified : specification ≡ specification_of log.specification
+  pub decode : map (decoded block) items ≡ map Some log.blocks
+  pub indexed : IndexesBlocks log.blocks entries
+  pub named : NameBodies (14 + length log.specification) (record { kind = 2; body = log.genesis } ∷ log.records) entries
+
+-- A gate that stands open where the records end is closed; nothing else is written.
+abbrev pub mended : ℕ → Image → Image
+mended place image = if slice_index image.log place == 1 then write_area Log place (0 ∷ []) image else image
