@@ -1,5 +1,5 @@
 // The laws of the log.
-ghost use Rattle.store_defs.specs.LogLaws.{ReadsTheRecords, KeepsTheRecords, EndsTheRecords, GivesTheParts, SaysItsRecords, GrowsByABlock};
+ghost use Rattle.store_defs.specs.LogLaws.{ReadsTheRecords, KeepsTheRecords, EndsTheRecords, GivesTheParts, SaysItsRecords, GrowsByABlock, HasExtForm, TakesWhatJoins};
 
 /// States what bytes hold: the records of which they are made, and no other, whatever stands behind
 /// them; and that they hold them as long as their front stays. It does nothing.
@@ -15,4 +15,11 @@ pub fn record_laws()
 pub fn log_laws()
     ensures says_its_records { SaysItsRecords }
     ensures grows_by_a_block { GrowsByABlock }
+{}
+
+/// States that a log takes what joins: the record of an item that can join over kept blocks is one of its
+/// block, with an ext of the right form. It does nothing.
+pub fn join_laws()
+    ensures has_ext_form { HasExtForm }
+    ensures takes_what_joins { TakesWhatJoins }
 {}

@@ -1,0 +1,56 @@
+-- An item that can join over kept blocks is taken by a log of those.
+use Rattle.std.proofs.Common.{◌≡◌, ℕ, ◌<◌, ◌^◌, Bool, true, false, cond, List, Option, Some, None, refl, sym, ap, ◌∙◌, length, arith}
+use Rattle.std.specs.Prelude.{◌&&◌, not, is_some}
+use Rattle.std.specs.Option.{option_and_then}
+use Rattle.std.proofs.lemmas.Bool.{and_from}
+use Rattle.codec_defs.specs.Schema.{Block}
+use Rattle.chain_defs.specs.Kept.{block_hash, block_at, place_of}
+use Rattle.chain_defs.specs.Branch.{branch}
+use Rattle.chain_defs.proofs.KeptLaws.{place_of-below}
+use Rattle.chain_defs.proofs.BranchLaws.{branch-last}
+use Rattle.fold_defs.specs.First.{first_failing}
+use Rattle.rule_defs.specs.Rules.{Rules, first_broken, follows, parent_of}
+use Rattle.rule_defs.specs.Laws.{CanJoin}
+use Rattle.store_defs.specs.Ext.{row_size, is_ext}
+use Rattle.store_defs.specs.Store.{ext_of_joined}
+use Rattle.store_defs.specs.Log.{body_of_parts, parts_of_body, is_next_of, may_stand_on, block_if, block_of_parts}
+use Rattle.store_defs.specs.LogLaws.{HasExtForm, TakesWhatJoins}
+use Rattle.store_defs.proofs.Contents.{gives_the_parts}
+
+pub has_ext_form : HasExtForm
+unfolding is_ext row_size
+has_ext_form = refl
+
+-- J5: a block that breaks no rule has the number behind its parent's
+follows_parent : (rules : Rules) (before : List Block) (b : Block) → first_broken rules before b ≡ None → follows b (parent_of before) ≡ true
+unfolding first_broken first_failing
+follows_parent rules before b none = by_test (follows b (parent_of before)) refl none
+  where
+    by_test : (t : Bool) → follows b (parent_of before) ≡ t → cond {A = Option ℕ} t None (Some 5) ≡ None → follows b (parent_of before) ≡ true
+    by_test true is none = is
+    by_test false is none = absurd (cc)
+
+next_follows : (b : Block) (parent : Option Block) → is_next_of b.header.number parent ≡ follows b parent
+next_follows b None = refl
+next_follows b (Some parent) = refl
+
+may_stand : (rules : Rules) (kept : List Block) (item : List ℕ) (can : CanJoin rules kept item) → may_stand_on kept can.block ≡ true
+may_stand rules kept item can =
+    let b : Block = can.block in
+    let last : parent_of (branch kept can.parent) ≡ block_at kept can.parent =
+    branch-last kept can.parent (place_of-below kept b.header.parent_hash can.parent can.on_kept) in
+    let next : is_next_of b.header.number (option_and_then (block_at kept) (place_of kept b.header.parent_hash)) ≡ true =
+    ap (λ (place : Option ℕ). is_next_of b.header.number (option_and_then (block_at kept) place)) can.on_kept
+    ∙ next_follows b (block_at kept can.parent) ∙ ap (follows b) (sym last) ∙ follows_parent rules (branch kept can.parent) b can.unbroken in
+    let new : not (is_some (place_of kept (block_hash b))) ≡ true = ap (λ (place : Option ℕ). not (is_some place)) can.new in
+    and_from (is_next_of b.header.number (option_and_then (block_at kept) (place_of kept b.header.parent_hash))) (not (is_some (place_of kept (block_hash b)))) next new
+
+pub takes_what_joins : TakesWhatJoins
+takes_what_joins rules kept item can short =
+    let b : Block = can.block in
+    let parts : parts_of_body (body_of_parts item ext_of_joined) ≡ Some (item, ext_of_joined) = gives_the_parts item ext_of_joined (omega (arith, short)) in
+    let test : (is_ext ext_of_joined && may_stand_on kept b) ≡ true =
+    and_from (is_ext ext_of_joined) (may_stand_on kept b) has_ext_form (may_stand rules kept item can) in
+    ap (block_of_parts kept) parts
+    ∙ ap (option_and_then (λ (x : Block). block_if (is_ext ext_of_joined && may_stand_on kept x) (Some x))) can.canonical
+    ∙ ap (λ (t : Bool). block_if t (Some b)) test
