@@ -2,3 +2,4 @@ pub mod Gates
 pub mod Creating
 pub mod Forms
 pub mod Transactions
+pub mod Pieces

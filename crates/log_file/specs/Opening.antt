@@ -18,12 +18,6 @@ NameBodies place (r ∷ records) [] = ⊥
 NameBodies place (r ∷ records) (entry ∷ entries) =
     (entry.at ≡ place + 6) × (entry.len ≡ length r.body) × NameBodies (place + length (record_bytes r)) records entries
 
--- Items are the encodings of blocks that these entries index.
-pub record AreBlocks (items : List (List ℕ)) (entries : List Entry) : Type 0 where
-  pub blocks : List Block
-  pub decode : map (decoded block) items ≡ map Some blocks
-  pub indexed : IndexesBlocks blocks entries
-
 -- The bytes are this log, and it is opened as this specification, these items and these entries. The first record that an entry
 -- names, that of the genesis, stands behind the start and the record of the specification.
 pub record IsOpened (bytes : List ℕ) (log : LogContent) (specification : Specification) (items : List (List ℕ)) (entries : List Entry) : Type 0 where

@@ -9,13 +9,17 @@
 #![tactic(auto)]
 
 mod appending;
+mod blocks;
 mod body;
 mod creation;
 mod ext;
 mod genesis;
+mod grammar;
 mod log;
 mod number;
 mod opening;
+mod reading;
+mod stop;
 #[cfg(test)]
 mod tests;
 
@@ -25,4 +29,5 @@ pub use creation::create;
 pub use ext::ext_form;
 pub use genesis::genesis_ok;
 pub use log::{Log, Rec};
-pub use opening::{LogStop, Opened, open};
+pub use opening::{Opened, open};
+pub use stop::LogStop;

@@ -7,22 +7,15 @@ ghost use Rattle.outside.specs.declared.disk.Area.TheVariants.{Log as log_area};
 ghost use Rattle.rule_defs.specs.Verdict.{kept_limit};
 ghost use Rattle.store_defs.specs.Log.{LogContent, log_of, records_of, end_of_log};
 ghost use Rattle.store_defs.specs.Rest.{IsSettled, HasLog};
-ghost use Rattle.log_file.specs.Opening.{AreBlocks, IsOpened, mended};
+ghost use Rattle.log_file.specs.Grammar.{AreBlocks};
+ghost use Rattle.log_file.specs.Opening.{IsOpened, mended};
 
 use crate::log::Log;
+use crate::stop::LogStop;
 use chain_tree::Tree;
 use epochs::Spec;
 use outside::Disk;
 use std::alloc::Global;
-
-/// Why a log was not opened.
-#[derive(Clone, Copy, Debug, PartialEq, Eq)]
-pub enum LogStop {
-    DiskFault,
-    /// LOG is no log.
-    NotAStore,
-    NoMemory,
-}
 
 /// A log that was opened, and what it says.
 #[derive(Drop)]

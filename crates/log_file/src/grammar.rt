@@ -1,0 +1,40 @@
+// Records, and what the first of them says.
+
+ghost use Rattle.std.specs.Prelude.{◌≡◌, ◌<◌, ◌^◌, IfSome, IsNone, option_map, length, false, true};
+ghost use Rattle.time_defs.specs.Specification.{specification_of};
+ghost use Rattle.store_defs.specs.Log as form;
+ghost use Rattle.log_file.specs.Grammar.{record_of, is_specification};
+
+use crate::number::read_count;
+use epochs::Spec;
+
+/// The kind and the body of the whole record at the front, if there is one.
+pub(crate) fn record_at(bytes: &[u8]) -> Option<(u8, &[u8])>
+    ensures found { option_map (λ found. record_of found.0 found.1.now) result ≡ form.record_at bytes.now }
+    ensures fits { IfSome result (λ found. length found.1.now < 2 ^ 32) }
+{
+    if bytes.len() < 7 || bytes[0] != 1 {
+        return None;
+    }
+    let end = 6 + read_count(bytes, 2) as usize;
+    if bytes.len() <= end {
+        return None;
+    }
+    Some((bytes[1], &bytes[6..end]))
+}
+
+/// The specification of a record.
+#[tactic(auto)]
+pub(crate) fn spec_of(kind: u8, body: &[u8]) -> Option<Spec>
+    ensures found { IfSome result (λ spec. is_specification (record_of kind body.now) ≡ true) }
+    ensures fields { IfSome result (λ spec. spec ≡ specification_of body.now) }
+    ensures wrong { IsNone result → is_specification (record_of kind body.now) ≡ false }
+{
+    if kind != 1 {
+        return None;
+    }
+    match Spec::read(body) {
+        Ok(spec) => Some(spec),
+        Err(_) => None,
+    }
+}
