@@ -3,3 +3,4 @@ pub mod Creating
 pub mod Forms
 pub mod Transactions
 pub mod Pieces
+pub mod Judging

@@ -1,6 +1,6 @@
 // The blocks that the records of a log hold.
 
-ghost use Rattle.std.specs.Prelude.{◌≡◌, ◌≢◌, ◌⊎◌, ◌+◌, ◌<◌, ◌^◌, List, None, Err, length, IfOk, OnOk, IfErr, IfSome, is_some, false};
+ghost use Rattle.std.specs.Prelude.{◌≡◌, ◌≢◌, ◌⊎◌, ◌+◌, ◌<◌, ◌^◌, List, None, Err, length, IfOk, OnOk, IfErr, IfSome, is_some, option_map, false};
 ghost use Rattle.codec_defs.specs.Schema.{Block};
 ghost use Rattle.chain_defs.specs.Kept.{place_of};
 ghost use Rattle.chain_tree.specs.Entries.{place_of_hash, FollowsParent};
