@@ -1,15 +1,20 @@
 -- Blocks that are put behind others, from their records.
-use Rattle.std.proofs.Common.{◌≡◌, ℕ, ◌+◌, ◌≤◌, List, [], ◌∷◌, ◌++◌, map, length, Option, Some, None, refl, sym, ap, ◌∙◌, subst, arith}
+use Rattle.std.proofs.Common.{◌≡◌, ℕ, ◌+◌, ◌≤◌, Bool, true, false, cond, drop, List, [], ◌∷◌, ◌++◌, map, length, Option, Some, None, refl, sym, ap, ◌∙◌, subst, arith}
+use Rattle.std.specs.Prelude.{◌==◌, is_none}
+use Rattle.std.proofs.lemmas.Bool.{and_right, eqb-true}
 use Rattle.std.proofs.lemmas.List.{map-append, length-map, length_push}
 use Rattle.codec_defs.specs.Shape.{decoded}
 use Rattle.codec_defs.specs.Schema.{Block}
 use Rattle.codec_defs.specs.Schema as shapes
 use Rattle.chain_defs.specs.Kept.{place_of}
+use Rattle.fold_defs.specs.First.{first_failing}
+use Rattle.rule_defs.specs.Genesis.{is_first}
 use Rattle.rule_defs.specs.Verdict.{kept_limit}
 use Rattle.chain_tree.specs.declared.entry.Entry.{Entry}
 use Rattle.chain_tree.specs.Blocks.{Describes, IndexesBlocks}
+use Rattle.store_defs.specs.Genesis.{store_genesis_rows, store_broken_by, broken_store_genesis_rule}
 use Rattle.store_defs.specs.Log.{Record, record_limit}
-use Rattle.log_file.specs.Grammar.{BlocksValue, AreBlocks, StandFor, IsBehind, IsGrownBy}
+use Rattle.log_file.specs.Grammar.{record_of, is_genesis, BlocksValue, AreBlocks, StandFor, IsBehind, IsGrownBy}
 
 pub limit_is : record_limit ≡ 999999
 unfolding record_limit
@@ -48,3 +53,23 @@ pub one_more : (old : BlocksValue) (kept : List Block) (items : List (List ℕ))
     → items ≡ old.items ++ item ∷ [] → length items ≤ kept_limit
 one_more old kept items item len stand is few more =
     omega (arith, ap length more, length_push old.items item, as_many old.items kept stand.decode, is, few, kept_limit_is)
+
+-- ---- The genesis
+
+pub not_genesis : (kind : ℕ) (body : List ℕ) → decoded shapes.block body ≡ None → is_genesis (record_of kind body) ≡ false
+unfolding broken_store_genesis_rule
+not_genesis kind body none =
+    let wrong : is_none (broken_store_genesis_rule body) ≡ false = ap (λ (o : Option Block). is_none (store_broken_by o)) none in
+    and_right (kind == 2) (is_none (broken_store_genesis_rule body)) wrong
+
+-- G2: the number of a genesis is 0
+pub genesis_first : (body : List ℕ) (b : Block) → decoded shapes.block body ≡ Some b → broken_store_genesis_rule body ≡ None → b.header.number ≡ 0
+unfolding broken_store_genesis_rule first_failing
+genesis_first body b there kept = by_test (is_first b) refl (sym (ap store_broken_by there) ∙ kept)
+  where
+    by_test : (t : Bool) → is_first b ≡ t → cond {A = Option ℕ} t (first_failing (drop 1 (store_genesis_rows b))) (Some 2) ≡ None → b.header.number ≡ 0
+    by_test true is none = eqb-true b.header.number 0 is
+    by_test false is none = absurd (cc)
+
+pub genesis_blocks : (body : List ℕ) (b : Block) (entries : List Entry) → decoded shapes.block body ≡ Some b → IndexesBlocks (b ∷ []) entries → AreBlocks (body ∷ []) entries
+genesis_blocks body b entries there indexed = record { blocks = b ∷ []; decode = (λ i. there i ∷ []); indexed = indexed }

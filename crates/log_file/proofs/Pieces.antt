@@ -1,7 +1,8 @@
 -- A log that is read from front to back, in pieces.
-use Rattle.std.proofs.Common.{◌≡◌, ℕ, ◌+◌, ◌-◌, ◌<◌, ◌≤◌, List, [], ◌∷◌, ◌++◌, length, take, drop, get_or, Option, Some, None, refl, sym, ap, ◌∙◌, subst, arith, length-append, take-append-drop}
-use Rattle.std.specs.Prelude.{IfSome, slice_index}
+use Rattle.std.proofs.Common.{◌≡◌, ℕ, ◌+◌, ◌-◌, ◌<◌, ◌≤◌, Bool, true, cond, eqb, ltb, List, [], ◌∷◌, ◌++◌, length, take, drop, get_or, Option, Some, None, refl, sym, ap, ◌∙◌, subst, arith, length-append, take-append-drop}
+use Rattle.std.specs.Prelude.{IfSome, slice_index, ◌&&◌}
 use Rattle.std.specs.Int.{w32, from_le_bytes}
+use Rattle.std.proofs.lemmas.Bool.{and_from, eq-eqb, lt-ltb}
 use Rattle.std.proofs.Math.Seq.{take-add, take-append-add}
 use Rattle.std.proofs.lemmas.List.{take_at, take-append-le, take_rest, take-take, drop-drop, drop-take, get_or-take, length-take, length-drop}
 use borrow.Rule.Slice.PartMut.{put_mid, post_of}
@@ -9,6 +10,7 @@ use Rattle.outside.specs.Image.{Image}
 use Rattle.store_defs.specs.Ext.{count_at}
 use Rattle.store_defs.specs.Log.{Record, record_at, record_bytes}
 use Rattle.store_defs.proofs.Records.{record_length, IsRecordAt, parts_at, front_kept}
+use Rattle.log_file.specs.Grammar.{record_of}
 use Rattle.log_file.specs.Reading.{ReaderValue, IsReading, IsAt}
 
 -- bytes of which the front was there, and the next n were read behind it
@@ -137,3 +139,24 @@ told_whole (Some image) later old mid new left need size at_end at seven says sa
     let again : IsReading image.log mid → IsReading image.log new × (size + 1 ≤ length new.ahead) =
     subst (λ (o : Option Image). IfSome o (λ image. IsReading image.log mid → IsReading image.log new × (size + 1 ≤ length new.ahead))) same more in
     λ reading. as_long image.log old mid left need size at_end at (read reading).0 seven (read reading).1 says new at_new (again (read reading).0).0 (again (read reading).0).1
+
+-- ---- The record at the front of bytes
+
+pub none_unless : (bytes : List ℕ) → ((r : Record) → IsRecordAt r bytes → ⊥) → record_at bytes ≡ None
+none_unless bytes never = by_found (record_at bytes) refl
+  where
+    by_found : (o : Option Record) → record_at bytes ≡ o → record_at bytes ≡ None
+    by_found None is = is
+    by_found (Some r) is = absurd (never r (parts_at bytes r is))
+
+pub whole_there : (bytes : List ℕ) (end : ℕ) → slice_index bytes 0 ≡ 1 → end ≡ 6 + count_at bytes 2 → end < length bytes
+    → record_at bytes ≡ Some (record_of (slice_index bytes 1) (take (end - 6) (drop 6 bytes)))
+unfolding record_at
+whole_there bytes end gate is more =
+    let size : ℕ = count_at bytes 2 in
+    let whole : 6 + size < length bytes = omega (arith, is, more) in
+    let test : (eqb (slice_index bytes 0) 1 && ltb (6 + size) (length bytes)) ≡ true =
+    and_from (eqb (slice_index bytes 0) 1) (ltb (6 + size) (length bytes)) (eq-eqb (slice_index bytes 0) 1 gate) (lt-ltb (6 + size) (length bytes) whole) in
+    let same : size ≡ end - 6 = omega (arith, is) in
+    ap (λ (b : Bool). cond b (Some (record_of (slice_index bytes 1) (take size (drop 6 bytes)))) None) test
+    ∙ ap (λ (n : ℕ). Some (record_of (slice_index bytes 1) (take n (drop 6 bytes)))) same

@@ -114,7 +114,10 @@ impl Blocks {
         ensures wrong { result ≡ Err LogStop.NotAStore → is_genesis (record_of kind body.now) ≡ false }
         ensures reads { IfErr result (λ stop. stop ≢ LogStop.DiskFault) }
     {
-        if kind != 2 || genesis_ok(alloc, body)?.is_some() {
+        if kind != 2 {
+            return Err(LogStop::NotAStore);
+        }
+        if genesis_ok(alloc, body)?.is_some() {
             return Err(LogStop::NotAStore);
         }
         let Some(block) = BlockView::read(body) else {

@@ -13,7 +13,10 @@ pub(crate) fn record_at(bytes: &[u8]) -> Option<(u8, &[u8])>
     ensures found { option_map (λ found. record_of found.0 found.1.now) result ≡ form.record_at bytes.now }
     ensures fits { IfSome result (λ found. length found.1.now < 2 ^ 32) }
 {
-    if bytes.len() < 7 || bytes[0] != 1 {
+    if bytes.len() < 7 {
+        return None;
+    }
+    if bytes[0] != 1 {
         return None;
     }
     let end = 6 + read_count(bytes, 2) as usize;
