@@ -4,3 +4,4 @@ pub mod Forms
 pub mod Transactions
 pub mod Pieces
 pub mod Judging
+pub mod Progress

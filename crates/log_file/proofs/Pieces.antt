@@ -1,17 +1,20 @@
 -- A log that is read from front to back, in pieces.
-use Rattle.std.proofs.Common.{◌≡◌, ℕ, ◌+◌, ◌-◌, ◌<◌, ◌≤◌, Bool, true, cond, eqb, ltb, List, [], ◌∷◌, ◌++◌, length, take, drop, get_or, Option, Some, None, refl, sym, ap, ◌∙◌, subst, arith, length-append, take-append-drop}
+use Rattle.std.proofs.Common.{◌≡◌, ℕ, ◌+◌, ◌-◌, ◌<◌, ◌≤◌, Bool, true, false, cond, eqb, ltb, List, [], ◌∷◌, ◌++◌, length, take, drop, get_or, Option, Some, None, refl, sym, ap, ◌∙◌, subst, arith, length-append, take-append-drop}
 use Rattle.std.specs.Prelude.{IfSome, slice_index, ◌&&◌}
+use Rattle.std.specs.Str.{bytes_eq}
+use Rattle.std.specs.Cmp.Lexicographic.{bytes_decides}
 use Rattle.std.specs.Int.{w32, from_le_bytes}
 use Rattle.std.proofs.lemmas.Bool.{and_from, eq-eqb, lt-ltb}
+use Rattle.std.proofs.lemmas.Option.{same_Some}
 use Rattle.std.proofs.Math.Seq.{take-add, take-append-add}
 use Rattle.std.proofs.lemmas.List.{take_at, take-append-le, take_rest, take-take, drop-drop, drop-take, get_or-take, length-take, length-drop}
 use borrow.Rule.Slice.PartMut.{put_mid, post_of}
 use Rattle.outside.specs.Image.{Image}
 use Rattle.store_defs.specs.Ext.{count_at}
-use Rattle.store_defs.specs.Log.{Record, record_at, record_bytes}
+use Rattle.store_defs.specs.Log.{Record, record_at, record_bytes, magic}
 use Rattle.store_defs.proofs.Records.{record_length, IsRecordAt, parts_at, front_kept}
 use Rattle.log_file.specs.Grammar.{record_of}
-use Rattle.log_file.specs.Reading.{ReaderValue, IsReading, IsAt}
+use Rattle.log_file.specs.Reading.{ReaderValue, IsReading, IsAt, HasPassed, OfRecordHere}
 
 -- bytes of which the front was there, and the next n were read behind it
 front_read : (log items front part : List ℕ) (at n : ℕ) → take (length front) items ≡ front → length front ≤ length items
@@ -160,3 +163,64 @@ whole_there bytes end gate is more =
     let same : size ≡ end - 6 = omega (arith, is) in
     ap (λ (b : Bool). cond b (Some (record_of (slice_index bytes 1) (take size (drop 6 bytes)))) None) test
     ∙ ap (λ (n : ℕ). Some (record_of (slice_index bytes 1) (take n (drop 6 bytes)))) same
+
+-- ---- A reader goes on
+
+pub gone_over : (log : List ℕ) (old new : ReaderValue) (count : ℕ) → count ≤ length old.ahead → IsAt old.len (old.at + count) new → new.ahead ≡ drop count old.ahead
+    → IsReading log old → IsReading log new
+gone_over log old new count within at ahead reading =
+    let k : ℕ = length old.ahead in
+    let j : ℕ = k - count in
+    let sum : k ≡ count + j = omega (arith, within) in
+    let size : j ≡ length new.ahead = omega (arith, ap length ahead, length-drop count old.ahead) in
+    record {
+      len = at.len ∙ reading.len;
+      ahead = ahead ∙ ap (drop count) (reading.ahead ∙ ap (λ (n : ℕ). take n (drop old.at log)) sum) ∙ drop-take count j (drop old.at log)
+      ∙ ap (take j) (drop-drop count old.at log) ∙ ap (λ (n : ℕ). take n (drop (old.at + count) log)) size ∙ ap (λ (n : ℕ). take (length new.ahead) (drop n log)) (sym at.at);
+    }
+
+-- the first bytes of a log
+start_same : (log : List ℕ) (old mid : ReaderValue) → IsAt old.len old.at mid → old.at ≡ 0 → IsReading log mid → 8 ≤ length mid.ahead → take 8 mid.ahead ≡ take 8 log
+start_same log old mid at start reading long =
+    let front : mid.ahead ≡ take (length mid.ahead) log = reading.ahead ∙ ap (λ (n : ℕ). take (length mid.ahead) (drop n log)) (at.at ∙ start) in
+    ap (take 8) front ∙ take-take 8 (length mid.ahead) log long
+
+pub told_start : (reads : Option Image) (old mid : ReaderValue) (bytes : List ℕ) → IsAt old.len old.at mid → old.at ≡ 0 → bytes ≡ mid.ahead
+    → bytes_eq (take 8 bytes) magic ≡ true → IfSome reads (λ image. IsReading image.log old → IsReading image.log mid × (8 ≤ length mid.ahead))
+    → IfSome reads (λ image. IsReading image.log old → take 8 image.log ≡ magic)
+told_start None old mid bytes at start is begins read = tt
+told_start (Some image) old mid bytes at start is begins read = λ reading.
+    sym (start_same image.log old mid at start (read reading).0 (read reading).1) ∙ ap (take 8) (sym is) ∙ (bytes_decides (take 8 bytes) magic).0 begins
+
+pub told_no_start : (reads : Option Image) (old mid : ReaderValue) (bytes : List ℕ) (E : Type 0) → IsAt old.len old.at mid → old.at ≡ 0 → bytes ≡ mid.ahead
+    → bytes_eq (take 8 bytes) magic ≡ false → IfSome reads (λ image. IsReading image.log old → IsReading image.log mid × (8 ≤ length mid.ahead))
+    → IfSome reads (λ image. IsReading image.log old → E → take 8 image.log ≡ magic → ⊥)
+told_no_start None old mid bytes E at start is other read = tt
+told_no_start (Some image) old mid bytes E at start is other read = λ reading e begins.
+    let same : take 8 bytes ≡ magic = ap (take 8) is ∙ start_same image.log old mid at start (read reading).0 (read reading).1 ∙ begins in
+    let both : true ≡ false = sym ((bytes_decides (take 8 bytes) magic).1 same) ∙ other in
+    absurd (cc)
+
+-- the record that was found
+found_is : (log : List ℕ) (old mid : ReaderValue) (r : Record) (bytes : List ℕ) → bytes ≡ mid.ahead → Some r ≡ record_at bytes
+    → record_at mid.ahead ≡ record_at (drop old.at log) → record_at (drop old.at log) ≡ Some r
+found_is log old mid r bytes is found same = sym same ∙ ap record_at (sym is) ∙ sym found
+
+pub told_passed : (reads : Option Image) (P : Record → Type 0) (old mid new : ReaderValue) (r : Record) (bytes : List ℕ) → IsAt old.len old.at mid
+    → IsAt mid.len (mid.at + (6 + length r.body)) new → bytes ≡ mid.ahead → Some r ≡ record_at bytes → P r
+    → IfSome reads (λ image. IsReading image.log old → record_at mid.ahead ≡ record_at (drop old.at image.log))
+    → IfSome reads (λ image. IsReading image.log old → HasPassed image.log P old new)
+told_passed None P old mid new r bytes at over is found holds same = tt
+told_passed (Some image) P old mid new r bytes at over is found holds same = λ reading. record {
+  r = r;
+  there = found_is image.log old mid r bytes is found (same reading);
+  is = holds;
+  at = record { len = over.len ∙ at.len; at = over.at ∙ omega (arith, at.at, record_length r) };
+}
+
+pub told_here : (reads : Option Image) (P : Record → Type 0) (E : Type 0) (old mid : ReaderValue) (r : Record) (bytes : List ℕ) → bytes ≡ mid.ahead → Some r ≡ record_at bytes
+    → (E → P r) → IfSome reads (λ image. IsReading image.log old → record_at mid.ahead ≡ record_at (drop old.at image.log))
+    → IfSome reads (λ image. IsReading image.log old → E → OfRecordHere image.log old P)
+told_here None P E old mid r bytes is found holds same = tt
+told_here (Some image) P E old mid r bytes is found holds same = λ reading e other there.
+    subst P (same_Some r other (sym (found_is image.log old mid r bytes is found (same reading)) ∙ there)) (holds e)

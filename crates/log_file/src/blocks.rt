@@ -1,10 +1,11 @@
 // The blocks that the records of a log hold.
 
-ghost use Rattle.std.specs.Prelude.{◌≡◌, ◌≢◌, ◌⊎◌, ◌+◌, ◌<◌, ◌^◌, List, None, Err, length, IfOk, OnOk, IfErr, IfSome, is_some, option_map, false};
+ghost use Rattle.std.specs.Prelude.{◌≡◌, ◌≢◌, ◌⊎◌, ◌+◌, ◌<◌, ◌≤◌, ◌^◌, List, None, Err, length, IfOk, OnOk, IfErr, IfSome, is_some, option_map, false};
 ghost use Rattle.codec_defs.specs.Schema.{Block};
 ghost use Rattle.chain_defs.specs.Kept.{place_of};
 ghost use Rattle.chain_tree.specs.Entries.{place_of_hash, FollowsParent};
 ghost use Rattle.chain_tree.specs.Blocks.{Describes, IndexesBlocks};
+ghost use Rattle.rule_defs.specs.Verdict.{kept_limit};
 ghost use Rattle.store_defs.specs.Log.{may_stand_on, block_of_record, record_limit};
 ghost use Rattle.log_file.specs.Grammar.{record_of, is_genesis, NamesBody, StandFor, IsGenesisOf, IsGrownBy, IsJudged};
 
@@ -111,6 +112,7 @@ impl Blocks {
     pub(crate) fn of_genesis(alloc: Global, kind: u8, body: &[u8], at: u64) -> Result<Blocks, LogStop>
         requires { length body.now < 2 ^ 32 }
         ensures genesis { IfOk result (IsGenesisOf at (record_of kind body.now)) }
+        ensures one { IfOk result (λ blocks. length blocks.items ≡ 1) }
         ensures wrong { result ≡ Err LogStop.NotAStore → is_genesis (record_of kind body.now) ≡ false }
         ensures reads { IfErr result (λ stop. stop ≢ LogStop.DiskFault) }
     {
@@ -136,6 +138,7 @@ impl Blocks {
         ensures wrong { (kept : List Block) → StandFor kept self.old → result ≡ Err LogStop.NotAStore
             → (block_of_record kept (record_of kind body.now) ≡ None) ⊎ (record_limit < length kept) }
         ensures longer { OnOk result (length self.new.items ≡ length self.old.items + 1) }
+        ensures few { OnOk result (length self.new.items ≤ kept_limit) }
         ensures reads { IfErr result (λ stop. stop ≢ LogStop.DiskFault) }
     {
         if self.tree.len() > RECORD_LIMIT {

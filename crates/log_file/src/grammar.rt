@@ -1,6 +1,7 @@
 // Records, and what the first of them says.
 
-ghost use Rattle.std.specs.Prelude.{◌≡◌, ◌<◌, ◌^◌, IfSome, IsNone, option_map, length, false, true};
+ghost use Rattle.std.specs.Prelude.{◌≡◌, ◌+◌, ◌<◌, ◌≤◌, ◌^◌, IfSome, IsNone, IsTrue, option_map, length, take, false, true};
+ghost use Rattle.std.specs.Str.{bytes_eq};
 ghost use Rattle.time_defs.specs.Specification.{specification_of};
 ghost use Rattle.store_defs.specs.Log as form;
 ghost use Rattle.log_file.specs.Grammar.{record_of, is_specification};
@@ -11,6 +12,7 @@ use epochs::Spec;
 /// The kind and the body of the whole record at the front, if there is one.
 pub(crate) fn record_at(bytes: &[u8]) -> Option<(u8, &[u8])>
     ensures found { option_map (λ found. record_of found.0 found.1.now) result ≡ form.record_at bytes.now }
+    ensures within { IfSome result (λ found. 6 + length found.1.now < length bytes.now) }
     ensures fits { IfSome result (λ found. length found.1.now < 2 ^ 32) }
 {
     if bytes.len() < 7 {
@@ -26,8 +28,15 @@ pub(crate) fn record_at(bytes: &[u8]) -> Option<(u8, &[u8])>
     Some((bytes[1], &bytes[6..end]))
 }
 
+/// Whether bytes begin as a log does.
+pub(crate) fn is_start(bytes: &[u8]) -> bool
+    ensures value { result ≡ bytes_eq (take 8 bytes.now) form.magic }
+    ensures within { IsTrue result → 8 ≤ length bytes.now }
+{
+    8 <= bytes.len() && &bytes[..8] == b"CKBDEV01".as_slice()
+}
+
 /// The specification of a record.
-#[tactic(auto)]
 pub(crate) fn spec_of(kind: u8, body: &[u8]) -> Option<Spec>
     ensures found { IfSome result (λ spec. is_specification (record_of kind body.now) ≡ true) }
     ensures fields { IfSome result (λ spec. spec ≡ specification_of body.now) }

@@ -19,6 +19,7 @@ mod log;
 mod number;
 mod opening;
 mod reading;
+mod records;
 mod stop;
 #[cfg(test)]
 mod tests;

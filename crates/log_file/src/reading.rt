@@ -1,6 +1,6 @@
 // The log from front to back.
 
-ghost use Rattle.std.specs.Prelude.{◌≡◌, ◌≢◌, ◌+◌, ◌<◌, ◌≤◌, ◌^◌, Err, length, take, drop, slice_index, IfSome, IfOk, OnOk, IfErr};
+ghost use Rattle.std.specs.Prelude.{◌≡◌, ◌≢◌, ◌+◌, ◌<◌, ◌≤◌, ◌^◌, List, ℕ, Err, length, take, drop, slice_index, IfSome, IfOk, OnOk, IfErr};
 ghost use Rattle.outside.specs.Causes.{HasCause, CountsFault};
 ghost use Rattle.outside.specs.Disk.{IsAsBefore};
 ghost use Rattle.store_defs.specs.Ext.{count_at};
@@ -105,13 +105,13 @@ impl Reader {
     /// The place that it has come to.
     pub(crate) fn at(&self) -> u64
         ensures value { result ≡ self.now.at }
-        ensures within { result ≤ self.now.len }
+        ensures room { result + length self.now.ahead < 2 ^ 64 }
     {
         self.at
     }
 
     /// How many bytes are left of the log.
-    fn left(&self) -> u64
+    pub(crate) fn left(&self) -> u64
         ensures { self.now.at + result ≡ self.now.len }
     {
         self.len - self.at

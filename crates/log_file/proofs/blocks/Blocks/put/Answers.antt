@@ -1,6 +1,7 @@
-use Rattle.std.proofs.Common.{◌≡◌, ◌++◌, ◌∷◌, [], List, ℕ, Vec, Global, map, sym, ap, ◌∙◌, subst, inr, arith, rules}
+use Rattle.std.proofs.Common.{◌≡◌, ◌++◌, ◌∷◌, [], List, ℕ, Vec, Global, map, length, ◌≤◌, sym, ap, ◌∙◌, subst, inr, arith, rules}
 use Rattle.std.proofs.lemmas.List.{map_push, length-map}
 use Rattle.codec_defs.specs.Schema.{Block}
+use Rattle.rule_defs.specs.Verdict.{kept_limit}
 use Rattle.chain_tree.specs.declared.entry.Entry.{Entry}
 use Rattle.chain_tree.specs.Blocks.{IndexesBlocks}
 use Rattle.log_file.specs.Grammar.{record_of, BlocksValue, StandFor, IsBehind, IsGrownBy}
@@ -34,15 +35,24 @@ is_grown c kept stand =
     (c.add.ensures.entries ∙ ap (λ (l : List Entry). l ++ c.in-Some.entry ∷ []) reserved)
     (λ block described parent. c.add.ensures.of_blocks kept block (subst (IndexesBlocks kept) (sym reserved) stand.indexed) described parent)
 
+few_here : (c : goal.After-add) → length c.push.new.self.items ≤ kept_limit
+few_here c =
+    let old = c.self.invariant.0 in
+    let stand : StandFor old.blocks (before c) = record { decode = old.decode; indexed = old.indexed } in
+    omega (
+      arith,
+      length-map c.push.new.self.items bytes_of,
+      one_more (before c) old.blocks (after c).items c.in-Some.item.now c.len.result stand (c.len.ensures.of_blocks old.blocks old.indexed) (omega (arith, c.if-len-gt-RECORD_LIMIT.false)) (one_longer c),
+    )
+
 pub invariant_of-self-2 : goal.invariant_of-self-2
 invariant_of-self-2 c =
     let old = c.self.invariant.0 in
     let stand : StandFor old.blocks (before c) = record { decode = old.decode; indexed = old.indexed } in
-    (still_blocks _ _ old.blocks (before c) (after c) (is_grown c old.blocks stand), omega (
-      arith,
-      length-map c.push.new.self.items bytes_of,
-      one_more (before c) old.blocks (after c).items c.in-Some.item.now c.len.result stand (c.len.ensures.of_blocks old.blocks old.indexed) (omega (arith, c.if-len-gt-RECORD_LIMIT.false)) (one_longer c),
-    ))
+    (still_blocks _ _ old.blocks (before c) (after c) (is_grown c old.blocks stand), few_here c)
+
+pub returns-clause-few : goal.returns-clause-few
+returns-clause-few c = omega (arith, length-map c.push.new.self.items bytes_of, few_here c)
 
 pub returns-clause-grown : goal.returns-clause-grown
 returns-clause-grown c = λ kept stand.
