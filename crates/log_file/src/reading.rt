@@ -78,14 +78,15 @@ pub(crate) struct Reader {
 }
 
 impl Model for Reader {
-    ghost use Rattle.std.specs.Prelude.{◌+◌, ◌≤◌, length, drop};
+    ghost use Rattle.std.specs.Prelude.{◌+◌, ◌<◌, ◌≤◌, ◌^◌, length, drop};
     ghost use Rattle.log_file.specs.Reading.{ReaderValue};
 
     ghost Value = { ReaderValue };
 
     ghost view = { λ reader. record { len = reader.len; at = reader.at; ahead = drop reader.from reader.bytes.items } };
 
-    ghost invariant = { λ reader. (reader.from ≤ length reader.bytes.items) × (reader.at + length (drop reader.from reader.bytes.items) ≤ reader.len) };
+    ghost invariant = { λ reader. (reader.from ≤ length reader.bytes.items) × (reader.at + length (drop reader.from reader.bytes.items) ≤ reader.len)
+        × (reader.len < 2 ^ 64) };
 }
 
 impl Reader {
