@@ -1,6 +1,6 @@
 -- What the records of a log say, as they are read one after the other.
 use Rattle.std.proofs.Common.{◌≡◌, ◌⊎◌, inl, inr, ℕ, ◌+◌, ◌<◌, ◌≤◌, ◌^◌, Bool, true, false, cond, eqb, leb, List, [], ◌∷◌, ◌++◌, length, take, drop, map, Option, Some, None, refl, sym, ap, ◌∙◌, subst, arith}
-use Rattle.std.specs.Prelude.{◌&&◌, is_none}
+use Rattle.std.specs.Prelude.{◌&&◌, is_none, IfSome}
 use Rattle.std.specs.Option.{option_map, option_and_then}
 use Rattle.std.specs.Str.{bytes_eq}
 use Rattle.std.specs.Cmp.Lexicographic.{bytes_decides}
@@ -10,6 +10,7 @@ use Rattle.codec_defs.specs.Schema.{Block}
 use Rattle.rule_defs.specs.Verdict.{blocks_of_item, kept_limit}
 use Rattle.time_defs.specs.Specification.{Specification, broken_specification_rule, specification_of}
 use Rattle.chain_tree.specs.declared.entry.Entry.{Entry}
+use Rattle.outside.specs.Image.{Image}
 use Rattle.store_defs.specs.Genesis.{broken_store_genesis_rule}
 use Rattle.store_defs.specs.Log.{Record, record_at, record_bytes, all_record_bytes, records_of, end_of_log, magic, LogContent, record_limit, are_first, block_of_record, blocks_over, content_of_records, log_of}
 use Rattle.store_defs.specs.LogLaws.{grown}
@@ -297,3 +298,62 @@ ends_all log spec reader blocks begins all = record {
   ends = ap (λ (l : List Record). 8 + size_of_all l) (says_all log spec reader blocks all) ∙ sym all.so_far.place;
   there = all.so_far.within;
 }
+
+-- ---- The loop over the blocks
+
+module _ (spec : Specification) (r0 r1 : ReaderValue) (b0 b1 : BlocksValue) where
+  -- what was read so far
+  abbrev pub SoFar : Option Image → Type 0
+  SoFar reads = IfSome reads (λ image. HasRead image.log spec r0 b0 → HasRead image.log spec r1 b1)
+
+  pub told_wrong : (reads later : Option Image) (E F : Type 0) → (E → F) → later ≡ reads → SoFar reads
+      → IfSome later (λ image. IsReading image.log r1 → F → (kept : List Block) → StandFor kept b1 → IsWrongHere image.log kept r1)
+      → IfSome reads (λ image. HasRead image.log spec r0 b0 → E → content_of_records (records_of (drop 8 image.log)) ≡ None)
+  told_wrong None later E F is same so_far wrong = tt
+  told_wrong (Some image) later E F is same so_far wrong = λ start e.
+      let far = so_far start in
+      let here = subst (λ (o : Option Image). IfSome o (λ image. IsReading image.log r1 → F → (kept : List Block) → StandFor kept b1 → IsWrongHere image.log kept r1)) same wrong in
+      wrong_here image.log spec r1 b1 far (here far.reading (is e) far.log.blocks far.stand)
+
+  pub told_more : (reads later : Option Image) (r2 : ReaderValue) (b2 : BlocksValue) (E : Type 0) → E → later ≡ reads → SoFar reads
+      → IfSome later (λ image. IsReading image.log r1 → IsReading image.log r2)
+      → IfSome later (λ image. IsReading image.log r1 → E → (kept : List Block) → StandFor kept b1
+      → HasPassed image.log (λ r. IsGrownBy (r1.at + 6) r kept b1 b2) r1 r2)
+      → length b2.items ≤ kept_limit → IfSome reads (λ image. HasRead image.log spec r0 b0 → HasRead image.log spec r2 b2)
+  told_more None later r2 b2 E e same so_far goes passed few = tt
+  told_more (Some image) later r2 b2 E e same so_far goes passed few = λ start.
+      let far = so_far start in
+      let on = subst (λ (o : Option Image). IfSome o (λ image. IsReading image.log r1 → IsReading image.log r2)) same goes in
+      let over = subst (λ (o : Option Image). IfSome o (λ image. IsReading image.log r1 → E → (kept : List Block) → StandFor kept b1
+          → HasPassed image.log (λ r. IsGrownBy (r1.at + 6) r kept b1 b2) r1 r2)) same passed in
+      one_more_read image.log spec r1 r2 b1 b2 far (over far.reading e far.log.blocks far.stand) (on far.reading) few
+
+  pub told_all : (reads later : Option Image) (r2 : ReaderValue) (b2 : BlocksValue) (E : Type 0) → E → later ≡ reads → SoFar reads
+      → IfSome later (λ image. IsReading image.log r1 → IsReading image.log r2)
+      → IfSome later (λ image. IsReading image.log r1 → E → record_at (drop r1.at image.log) ≡ None)
+      → IfSome later (λ image. IsReading image.log r1 → E → r1.at < r1.len → 0 < length r2.ahead)
+      → IsAt r1.len r1.at r2 → b2 ≡ b1 → IfSome reads (λ image. HasRead image.log spec r0 b0 → HasReadAll image.log spec r2 b2)
+  told_all None later r2 b2 E e same so_far goes none byte at is = tt
+  told_all (Some image) later r2 b2 E e same so_far goes none byte at is = λ start.
+      let far = so_far start in
+      let on = subst (λ (o : Option Image). IfSome o (λ image. IsReading image.log r1 → IsReading image.log r2)) same goes in
+      let ended = subst (λ (o : Option Image). IfSome o (λ image. IsReading image.log r1 → E → record_at (drop r1.at image.log) ≡ None)) same none in
+      let there = subst (λ (o : Option Image). IfSome o (λ image. IsReading image.log r1 → E → r1.at < r1.len → 0 < length r2.ahead)) same byte in
+      record {
+        so_far = record {
+          reading = on far.reading;
+          within = omega (arith, far.within, at.at);
+          records = far.records;
+          split = far.split ∙ ap (λ (n : ℕ). far.records ++ records_of (drop n image.log)) (sym at.at);
+          place = at.at ∙ far.place;
+          log = far.log;
+          says = far.says;
+          specified = far.specified;
+          stand = subst (StandFor far.log.blocks) (sym is) far.stand;
+          counted = far.counted;
+          named = subst (λ (b : BlocksValue). NameBodies (14 + length far.log.specification) (record_of 2 far.log.genesis ∷ far.log.records) b.entries) (sym is) far.named;
+          next = at.at ∙ far.next;
+        };
+        ended = ap (λ (n : ℕ). record_at (drop n image.log)) at.at ∙ ended far.reading e;
+        byte = there far.reading e (omega (arith, far.within, far.reading.len));
+      }
