@@ -5,3 +5,4 @@ pub mod Transactions
 pub mod Pieces
 pub mod Judging
 pub mod Progress
+pub mod Front

@@ -1,13 +1,13 @@
 // The blocks that the records of a log hold.
 
-ghost use Rattle.std.specs.Prelude.{◌≡◌, ◌≢◌, ◌⊎◌, ◌+◌, ◌<◌, ◌≤◌, ◌^◌, List, None, Err, length, IfOk, OnOk, IfErr, IfSome, is_some, option_map, false};
+ghost use Rattle.std.specs.Prelude.{◌≡◌, ◌≢◌, ◌⊎◌, ◌+◌, ◌<◌, ◌≤◌, ◌^◌, List, None, Err, length, map, IfOk, OnOk, IfErr, IfSome, is_some, option_map, false};
 ghost use Rattle.codec_defs.specs.Schema.{Block};
 ghost use Rattle.chain_defs.specs.Kept.{place_of};
 ghost use Rattle.chain_tree.specs.Entries.{place_of_hash, FollowsParent};
 ghost use Rattle.chain_tree.specs.Blocks.{Describes, IndexesBlocks};
 ghost use Rattle.rule_defs.specs.Verdict.{kept_limit};
 ghost use Rattle.store_defs.specs.Log.{may_stand_on, block_of_record, record_limit};
-ghost use Rattle.log_file.specs.Grammar.{record_of, is_genesis, NamesBody, StandFor, IsGenesisOf, IsGrownBy, IsJudged};
+ghost use Rattle.log_file.specs.Grammar.{record_of, is_genesis, AreBlocks, NamesBody, StandFor, IsGenesisOf, IsGrownBy, IsJudged};
 
 use crate::body::parts;
 use crate::ext::ext_form;
@@ -91,8 +91,8 @@ fn judged<'a>(tree: &Tree, kind: u8, body: &'a [u8], at: u64) -> Option<(&'a [u8
 /// The encodings of blocks, genesis first, and the tree of their entries. Clauses see a `BlocksValue`.
 #[derive(Drop)]
 pub(crate) struct Blocks {
-    pub(crate) items: Vec<Vec<u8>>,
-    pub(crate) tree: Tree,
+    items: Vec<Vec<u8>>,
+    tree: Tree,
 }
 
 impl Model for Blocks {
@@ -129,6 +129,16 @@ impl Blocks {
         let mut items = Vec::new(alloc);
         items.push(body.to_vec(alloc)?)?;
         Ok(Blocks { items, tree })
+    }
+
+    /// The encodings, and the tree of the entries.
+    pub(crate) fn into_parts(self) -> (Vec<Vec<u8>>, Tree)
+        ensures items { map (λ item. item.items) result.0.items ≡ self.items }
+        ensures entries { result.1.entries ≡ self.entries }
+        ensures blocks { AreBlocks (map (λ item. item.items) result.0.items) result.1.entries }
+        ensures few { length result.0.items ≤ kept_limit }
+    {
+        (self.items, self.tree)
     }
 
     /// Puts the block of a record behind the others. The record's body begins at `at`.

@@ -1,6 +1,6 @@
 // Records, and what the first of them says.
 
-ghost use Rattle.std.specs.Prelude.{◌≡◌, ◌+◌, ◌<◌, ◌≤◌, ◌^◌, IfSome, IsNone, IsTrue, option_map, length, take, false, true};
+ghost use Rattle.std.specs.Prelude.{◌≡◌, ◌+◌, ◌<◌, ◌≤◌, ◌^◌, ◌==◌, slice_index, IfSome, IsNone, IsTrue, option_map, length, take, false, true};
 ghost use Rattle.std.specs.Str.{bytes_eq};
 ghost use Rattle.time_defs.specs.Specification.{specification_of};
 ghost use Rattle.store_defs.specs.Log as form;
@@ -34,6 +34,13 @@ pub(crate) fn is_start(bytes: &[u8]) -> bool
     ensures within { IsTrue result → 8 ≤ length bytes.now }
 {
     8 <= bytes.len() && &bytes[..8] == b"CKBDEV01".as_slice()
+}
+
+/// Whether bytes begin with an open gate.
+pub(crate) fn is_open(bytes: &[u8]) -> bool
+    ensures { 0 < length bytes.now → result ≡ (slice_index bytes.now 0 == 1) }
+{
+    !bytes.is_empty() && bytes[0] == 1
 }
 
 /// The specification of a record.

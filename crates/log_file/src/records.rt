@@ -6,7 +6,7 @@ ghost use Rattle.outside.specs.Causes.{CountsFault};
 ghost use Rattle.outside.specs.Disk.{IsAsBefore};
 ghost use Rattle.rule_defs.specs.Verdict.{kept_limit};
 ghost use Rattle.time_defs.specs.Specification.{Specification, specification_of};
-ghost use Rattle.store_defs.specs.Log.{magic, record_at, records_of, content_of_records};
+ghost use Rattle.store_defs.specs.Log.{magic, record_at, records_of, content_of_records, log_of};
 ghost use Rattle.log_file.specs.Grammar.{is_specification, is_genesis, StandFor, IsGenesisOf, IsGrownBy};
 ghost use Rattle.log_file.specs.Reading.{IsReading, IsAt, HasPassed, OfRecordHere, IsWrongHere};
 ghost use Rattle.log_file.specs.Opening.{HasRead, HasReadAll};
@@ -20,7 +20,7 @@ use outside::Disk;
 use std::alloc::Global;
 
 /// Reads the first bytes of a log.
-pub(crate) fn read_start<D: Disk>(alloc: Global, disk: &mut D, reader: &mut Reader) -> Result<(), LogStop>
+fn read_start<D: Disk>(alloc: Global, disk: &mut D, reader: &mut Reader) -> Result<(), LogStop>
     requires { reader.old.at ≡ 0 }
     ensures at { OnOk result (IsAt reader.old.len 8 reader.new) }
     ensures reading { IfSome (D.reads_as disk.old) (λ image. IsReading image.log reader.old → IsReading image.log reader.new) }
@@ -41,7 +41,7 @@ pub(crate) fn read_start<D: Disk>(alloc: Global, disk: &mut D, reader: &mut Read
 }
 
 /// Reads the record of the specification.
-pub(crate) fn read_spec<D: Disk>(alloc: Global, disk: &mut D, reader: &mut Reader) -> Result<Spec, LogStop>
+fn read_spec<D: Disk>(alloc: Global, disk: &mut D, reader: &mut Reader) -> Result<Spec, LogStop>
     ensures at { IfOk result (λ spec. (reader.new.len ≡ reader.old.len) × (reader.new.at ≤ reader.old.at + 2 ^ 32 + 5)) }
     ensures reading { IfSome (D.reads_as disk.old) (λ image. IsReading image.log reader.old → IsReading image.log reader.new) }
     ensures found { IfSome (D.reads_as disk.old) (λ image. IsReading image.log reader.old → IfOk result (λ spec.
@@ -64,7 +64,7 @@ pub(crate) fn read_spec<D: Disk>(alloc: Global, disk: &mut D, reader: &mut Reade
 }
 
 /// Reads the record of the genesis.
-pub(crate) fn read_genesis<D: Disk>(alloc: Global, disk: &mut D, reader: &mut Reader) -> Result<Blocks, LogStop>
+fn read_genesis<D: Disk>(alloc: Global, disk: &mut D, reader: &mut Reader) -> Result<Blocks, LogStop>
     ensures at { IfOk result (λ blocks. (reader.new.len ≡ reader.old.len) × (reader.new.at ≤ reader.old.at + 2 ^ 32 + 5)) }
     ensures one { IfOk result (λ blocks. length blocks.items ≡ 1) }
     ensures reading { IfSome (D.reads_as disk.old) (λ image. IsReading image.log reader.old → IsReading image.log reader.new) }
@@ -84,6 +84,22 @@ pub(crate) fn read_genesis<D: Disk>(alloc: Global, disk: &mut D, reader: &mut Re
     let size = 6 + body.len();
     reader.skip(size);
     Ok(blocks)
+}
+
+/// Reads the front of a log, up to its blocks.
+pub(crate) fn read_front<D: Disk>(alloc: Global, disk: &mut D, reader: &mut Reader) -> Result<(Spec, Blocks), LogStop>
+    requires { reader.old.at ≡ 0 }
+    ensures place { IfOk result (λ front. reader.new.at ≤ 2 ^ 33 * (length front.1.items + 1)) }
+    ensures start { IfSome (D.reads_as disk.old) (λ image. IsReading image.log reader.old → IfOk result (λ front. take 8 image.log ≡ magic)) }
+    ensures found { IfSome (D.reads_as disk.old) (λ image. IsReading image.log reader.old → IfOk result (λ front. HasRead image.log front.0 reader.new front.1)) }
+    ensures wrong { IfSome (D.reads_as disk.old) (λ image. IsReading image.log reader.old → result ≡ Err LogStop.NotAStore → log_of image.log ≡ None) }
+    ensures as_before { IsAsBefore D.reads_as D.images D.moment D.left_since disk.old disk.new }
+    ensures cause { CountsFault (D.faults disk.old) (D.faults disk.new) (result ≡ Err LogStop.DiskFault) }
+{
+    read_start(alloc, disk, reader)?;
+    let spec = read_spec(alloc, disk, reader)?;
+    let blocks = read_genesis(alloc, disk, reader)?;
+    Ok((spec, blocks))
 }
 
 /// Reads the record of one block more, if a record stands here, and answers whether one does.
