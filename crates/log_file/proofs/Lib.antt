@@ -6,3 +6,5 @@ pub mod Pieces
 pub mod Judging
 pub mod Progress
 pub mod Front
+pub mod Mending
+pub mod Whole
