@@ -10,7 +10,7 @@ use Rattle.log_file.specs.Opening.{HasRead}
 use Rattle.log_file.proofs.Progress.{begun, not_specified, no_genesis, no_content, no_start}
 
 -- what is known of a later disk, which reads as the earlier one
-on_same : (later reads : Option Image) (P : Image → Type 0) → later ≡ reads → IfSome later P → IfSome reads P
+pub on_same : (later reads : Option Image) (P : Image → Type 0) → later ≡ reads → IfSome later P → IfSome reads P
 on_same later reads P same holds = subst (λ (o : Option Image). IfSome o P) same holds
 
 pub told_wrong_start : (reads : Option Image) (r0 : ReaderValue) (E F : Type 0) → (E → F)
