@@ -8,3 +8,4 @@ pub mod Progress
 pub mod Front
 pub mod Mending
 pub mod Whole
+pub mod Settling

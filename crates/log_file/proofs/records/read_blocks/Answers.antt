@@ -10,19 +10,19 @@ returns-in_err-read_block-clause-wrong g c = λ spec.
 
 pub records-preserved : goal.records-preserved
 records-preserved g c =
-    let yes : Ok c.in_ok-read_block.field-0 ≡ Ok true = search rules in
+    let yes : c.in_ok-read_block.field-0 ≡ true = search rules in
     let one = c.in_ok-read_block.ensures in
     record {
       as_before = search rules;
       no_fault = grind (arith, common_steps);
-      place = λ start. omega (arith, (one.at yes).1, one.longer yes, c.records.invariant.place start);
-      told = λ spec. told_more spec c.args.reader.now c.records.reader c.args.blocks.now c.records.blocks _ _ c.read_block.new.reader c.read_block.new.blocks _ yes
-      c.records.invariant.as_before.reads (c.records.invariant.told spec) one.reading one.found (one.few yes);
+      place = λ start. omega (arith, (one.at (ap Ok yes)).1, one.longer (ap Ok yes), c.records.invariant.place start);
+      told = λ spec. told_more spec c.args.reader.now c.records.reader c.args.blocks.now c.records.blocks _ _ c.read_block.new.reader c.read_block.new.blocks _ (ap Ok yes)
+      c.records.invariant.as_before.reads (c.records.invariant.told spec) one.reading one.found (one.few (ap Ok yes));
     }
 
 pub returns-clause-found : goal.returns-clause-found
 returns-clause-found g c = λ spec.
-    let no : Ok c.in_ok-read_block.field-0 ≡ Ok false = search rules in
+    let no : c.in_ok-read_block.field-0 ≡ false = search rules in
     let none = c.in_ok-read_block.ensures in
-    told_all spec c.args.reader.now c.records.reader c.args.blocks.now c.records.blocks _ _ c.read_block.new.reader c.read_block.new.blocks _ no c.records.invariant.as_before.reads
-    (c.records.invariant.told spec) none.reading none.ended none.byte (none.stays no).0 (none.stays no).1
+    told_all spec c.args.reader.now c.records.reader c.args.blocks.now c.records.blocks _ _ c.read_block.new.reader c.read_block.new.blocks _ (ap Ok no) c.records.invariant.as_before.reads
+    (c.records.invariant.told spec) none.reading none.ended none.byte (none.stays (ap Ok no)).0 (none.stays (ap Ok no)).1
