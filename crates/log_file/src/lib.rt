@@ -9,13 +9,18 @@
 #![tactic(auto)]
 
 mod appending;
+mod blocks;
 mod body;
 mod creation;
 mod ext;
 mod genesis;
+mod grammar;
 mod log;
 mod number;
 mod opening;
+mod reading;
+mod records;
+mod stop;
 #[cfg(test)]
 mod tests;
 
@@ -24,5 +29,6 @@ pub use body::{Body, parts};
 pub use creation::create;
 pub use ext::ext_form;
 pub use genesis::genesis_ok;
-pub use log::{Log, LogStop, Rec};
+pub use log::{Log, Rec};
 pub use opening::{Opened, open};
+pub use stop::LogStop;

@@ -16,12 +16,3 @@ pub struct Rec {
     /// The length of its body, in bytes.
     pub len: u32,
 }
-
-/// Why a log was not opened.
-#[derive(Clone, Copy, Debug, PartialEq, Eq)]
-pub enum LogStop {
-    DiskFault,
-    /// LOG is not of its grammar (docs/STORE.md, "The log").
-    NotAStore,
-    NoMemory,
-}

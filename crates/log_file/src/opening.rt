@@ -1,19 +1,24 @@
 // A log is opened.
 
-ghost use Rattle.std.specs.Prelude.{◌≡◌, ◌≢◌, ◌⊎◌, ◌+◌, ◌*◌, ◌<◌, ◌≤◌, ◌^◌, Some, None, Err, length, map, drop, slice_index, IfSome, IfOk, IfErr};
-ghost use Rattle.outside.specs.Causes.{CountsFault};
-ghost use Rattle.outside.specs.Disk.{OthersRead, LeavesOnly};
+ghost use Rattle.std.specs.Prelude.{◌≡◌, ◌≢◌, ◌⊎◌, ◌+◌, ◌*◌, ◌<◌, ◌≤◌, ◌^◌, ◌==◌, List, Some, None, Err, length, map, drop, slice_index, IfSome, IfOk, OnOk, IfErr};
+ghost use Rattle.outside.specs.Causes.{HasCause, CountsFault};
+ghost use Rattle.outside.specs.Disk.{OthersRead, IsDurable, NoneNew, IsAsBefore, LeavesOnly};
 ghost use Rattle.outside.specs.declared.disk.Area.TheVariants.{Log as log_area};
 ghost use Rattle.rule_defs.specs.Verdict.{kept_limit};
-ghost use Rattle.store_defs.specs.Log.{LogContent, log_of, records_of, end_of_log};
-ghost use Rattle.store_defs.specs.Rest.{IsSettled, HasLog};
+ghost use Rattle.store_defs.specs.Log.{Record, LogContent, log_of, records_of, end_of_log};
+ghost use Rattle.store_defs.specs.Rest.{EndsAt, IsSettled, HasLog};
 ghost use Rattle.store_defs.specs.Store.{IsOnlyRead};
-ghost use Rattle.log_file.specs.Opening.{AreBlocks, IsOpened, mended};
+ghost use Rattle.log_file.specs.Grammar.{AreBlocks};
+ghost use Rattle.log_file.specs.Opening.{IsOpened, mended};
 
-use crate::log::{Log, LogStop};
+use crate::grammar::is_open;
+use crate::log::Log;
+use crate::reading::Reader;
+use crate::records::{read_blocks, read_front};
+use crate::stop::LogStop;
 use chain_tree::Tree;
 use epochs::Spec;
-use outside::Disk;
+use outside::{Area, Disk, Failed, write_durably};
 use std::alloc::Global;
 
 /// A log that was opened, and what it says.
@@ -25,6 +30,70 @@ pub struct Opened {
     pub blocks: Vec<Vec<u8>>,
     /// The entry of a block says where in LOG the body of its record is.
     pub tree: Tree,
+}
+
+/// Makes LOG safe from a crash as it reads, and answers its length.
+fn synced_len<D: Disk>(disk: &mut D) -> Result<u64, Failed>
+    ensures length { IfSome (D.reads_as disk.old) (λ image. IfOk result (λ n. n ≡ length image.log)) }
+    ensures same { D.reads_as disk.new ≡ D.reads_as disk.old }
+    ensures durable { OnOk result (IfSome (D.reads_as disk.old) (IsDurable log_area (D.images disk.new))) }
+    ensures images { NoneNew (D.images disk.old) (D.images disk.new) }
+    ensures moments { LeavesOnly D.moment D.left_since disk.old disk.new (D.images disk.old) }
+    ensures cause { HasCause (D.faults disk.old) (D.faults disk.new) result }
+{
+    disk.sync(Area::Log)?;
+    let len = disk.len(Area::Log)?;
+    Ok(len)
+}
+
+/// Reads a log of this length, and judges it. Answers beside it whether an open gate stands behind its records.
+fn read_log<D: Disk>(alloc: Global, disk: &mut D, len: u64) -> Result<(Opened, bool), LogStop>
+    requires { IfSome (D.reads_as disk.old) (λ image. len ≡ length image.log) }
+    ensures opened { IfSome (D.reads_as disk.old) (λ now. IfOk result (λ found. (log : LogContent)
+        × IsOpened now.log log found.0.spec (map (λ item. item.items) found.0.blocks.items) found.0.tree.entries)) }
+    ensures ends { IfSome (D.reads_as disk.old) (λ now. IfOk result (λ found. EndsAt found.0.log.place (records_of (drop 8 now.log)) now.log)) }
+    ensures gate { IfSome (D.reads_as disk.old) (λ now. IfOk result (λ found. found.1 ≡ (slice_index now.log found.0.log.place == 1))) }
+    ensures not_a_store { IfSome (D.reads_as disk.old) (λ now. result ≡ Err LogStop.NotAStore → log_of now.log ≡ None) }
+    ensures blocks { IfOk result (λ found. AreBlocks (map (λ item. item.items) found.0.blocks.items) found.0.tree.entries) }
+    ensures few { IfOk result (λ found. length found.0.blocks.items ≤ kept_limit) }
+    ensures place { IfOk result (λ found. found.0.log.place ≤ 2 ^ 33 * (length found.0.blocks.items + 1)) }
+    ensures as_before { IsAsBefore D.reads_as D.images D.moment D.left_since disk.old disk.new }
+    ensures cause { CountsFault (D.faults disk.old) (D.faults disk.new) (result ≡ Err LogStop.DiskFault) }
+{
+    let mut reader = Reader::new(alloc, len);
+    let (spec, mut blocks) = read_front(alloc, disk, &mut reader)?;
+    read_blocks(alloc, disk, &mut reader, &mut blocks)?;
+    let open_gate = is_open(reader.ahead());
+    let place = reader.at();
+    let (blocks, tree) = blocks.into_parts();
+    let opened = Opened {
+        log: Log { place },
+        spec,
+        blocks,
+        tree,
+    };
+    Ok((opened, open_gate))
+}
+
+/// Closes the gate where the records of a log end, if it stands open.
+fn mend<D: Disk>(disk: &mut D, place: u64, open_gate: bool) -> Result<(), Failed>
+    requires limit { place < 2 ^ 62 }
+    requires within { IfSome (D.reads_as disk.old) (λ image. place < length image.log) }
+    requires gate { IfSome (D.reads_as disk.old) (λ image. open_gate ≡ (slice_index image.log place == 1)) }
+    ensures mended { IfSome (D.reads_as disk.old) (λ now. OnOk result (D.reads_as disk.new ≡ Some (mended place now))) }
+    ensures durable { IfSome (D.reads_as disk.old) (IsDurable log_area (D.images disk.old))
+        → OnOk result (IfSome (D.reads_as disk.new) (IsDurable log_area (D.images disk.new))) }
+    ensures at_rest { IfSome (D.reads_as disk.old) (λ now. slice_index now.log place ≢ 1 → D.reads_as disk.new ≡ D.reads_as disk.old) }
+    ensures there { OnOk result (IfSome (D.reads_as disk.new) (λ image. place < length image.log)) }
+    ensures others { OthersRead log_area (D.reads_as disk.old) (D.reads_as disk.new) }
+    ensures moments { IfSome (D.reads_as disk.old) (λ now. (records : List Record) → EndsAt place records now.log → IsDurable log_area (D.images disk.old) now
+        → LeavesOnly D.moment D.left_since disk.old disk.new (HasLog (λ bytes. log_of bytes ≡ log_of now.log) (D.images disk.old))) }
+    ensures cause { HasCause (D.faults disk.old) (D.faults disk.new) result }
+{
+    if open_gate {
+        write_durably(disk, Area::Log, place, &[0])?;
+    }
+    Ok(())
 }
 
 /// Reads the log from front to back, once, and judges it (docs/STORE.md, "Opening"). Where a gate stands open behind
@@ -52,12 +121,13 @@ pub fn open<D: Disk>(alloc: Global, disk: &mut D) -> Result<Opened, LogStop>
     // What is written.
     ensures mended { IfSome (D.reads_as disk.old) (λ now. IfOk result (λ o. D.reads_as disk.new ≡ Some (mended o.log.place now))) }
     ensures at_rest { IfSome (D.reads_as disk.old) (λ now. slice_index now.log (end_of_log now.log) ≢ 1 → D.reads_as disk.new ≡ D.reads_as disk.old) }
-    ensures only_read { result ≡ Err LogStop.NotAStore → IsOnlyRead D.reads_as D.images D.moment D.left_since disk.old disk.new }
     ensures unwritten { IfErr result (λ stop. stop ≢ LogStop.DiskFault → D.reads_as disk.new ≡ D.reads_as disk.old) }
+    ensures only_read { result ≡ Err LogStop.NotAStore → IsOnlyRead D.reads_as D.images D.moment D.left_since disk.old disk.new }
     ensures others { OthersRead log_area (D.reads_as disk.old) (D.reads_as disk.new) }
     ensures cause { CountsFault (D.faults disk.old) (D.faults disk.new) (result ≡ Err LogStop.DiskFault) }
 {
-    let _ = alloc;
-    let _ = disk;
-    Err(LogStop::NoMemory)
+    let len = synced_len(disk)?;
+    let (opened, open_gate) = read_log(alloc, disk, len)?;
+    mend(disk, opened.log.place, open_gate)?;
+    Ok(opened)
 }

@@ -15,7 +15,8 @@ use Rattle.store_defs.specs.Store.{NoLog, NotALog, Keeps, store_of, store_of_log
 use Rattle.store_defs.proofs.Contents.{says_its_records}
 use Rattle.chain_tree.specs.declared.entry.Entry.{Entry}
 use Rattle.chain_tree.specs.Blocks.{IndexesBlocks}
-use Rattle.log_file.specs.Opening.{AreBlocks, IsOpened}
+use Rattle.log_file.specs.Grammar.{AreBlocks}
+use Rattle.log_file.specs.Opening.{IsOpened}
 use Rattle.node_core.specs.Node.{IsOn, blocks_of, AreKept}
 use Rattle.rule_defs.specs.Verdict.{kept_limit}
 use Rattle.node_core.proofs.KeptLemmas.{blocks_of_all}

@@ -1,12 +1,10 @@
--- The rules on a block, by its number and its parent's.
+-- A block's number, and that of its parent's entry.
 use Rattle.std.proofs.Common.{◌≡◌, ℕ, ◌+◌, ◌<◌, true, false, List, [], length, Option, Some, None, ap, sym, ◌∙◌, arith}
 use Rattle.std.specs.Prelude.{◌==◌, IsSomeAnd}
-use Rattle.fold_defs.proofs.FirstLemmas.{first_failing-fails, first_failing-holds, first_failing-none}
 use Rattle.codec_defs.specs.Schema.{Block}
-use Rattle.time_defs.specs.Specification.{Specification}
 use Rattle.chain_defs.specs.Kept.{block_at}
 use Rattle.chain_defs.specs.Branch.{branch}
-use Rattle.rule_defs.specs.Rules.{parent_of, follows, first_broken}
+use Rattle.rule_defs.specs.Header.{parent_of, follows}
 use Rattle.rule_defs.proofs.VerdictLaws.{parent_of-branch}
 use Rattle.chain_tree.specs.declared.entry.Entry.{Entry}
 use Rattle.chain_tree.specs.Blocks.{Describes, IndexesBlocks}
@@ -24,11 +22,3 @@ pub follows-branch : (kept : List Block) (entries : List Entry) (b : Block) (par
     → follows b (parent_of (branch kept parent)) ≡ (b.header.number == entry.number + 1)
 follows-branch kept entries b parent entry indexes below here =
     ap (follows b) (parent_of-branch kept parent (omega (arith, below, len-same kept entries indexes))) ∙ follows-is (block_at kept parent) b entry here
-
-pub breaks_j5 : (spec : Specification) (blocks : List Block) (b : Block) → follows b (parent_of blocks) ≡ false → first_broken spec blocks b ≡ Some 5
-unfolding first_broken
-breaks_j5 spec blocks b broken = first_failing-fails 5 (follows b (parent_of blocks)) [] broken
-
-pub breaks_none : (spec : Specification) (blocks : List Block) (b : Block) → follows b (parent_of blocks) ≡ true → first_broken spec blocks b ≡ None
-unfolding first_broken
-breaks_none spec blocks b kept = first_failing-holds 5 (follows b (parent_of blocks)) [] kept ∙ first_failing-none

@@ -16,11 +16,11 @@ pub(crate) fn hash_of(block: &BlockView<'_>) -> [u8; 32]
     ckbhash(block.header().bytes())
 }
 
-/// Whether its form is judged: one transaction, no uncle and no proposal.
+/// Whether its form is judged: one transaction and no uncle.
 pub(crate) fn has_built_form(block: &BlockView<'_>) -> bool
     ensures { result ≡ rules.has_built_form block.now }
 {
-    block.transactions_count() == 1 && block.uncles_count() == 0 && block.proposals_count() == 0
+    block.transactions_count() == 1 && block.uncles_count() == 0
 }
 
 /// A field of 32 bytes.

@@ -12,7 +12,8 @@ ghost use Rattle.store_defs.specs.LogLaws.{record_of_joined};
 ghost use Rattle.store_defs.specs.Store.{Keeps, store_of, StandsFor, IsSound, IsOnlyRead};
 ghost use Rattle.log_file.specs.Pieces.{behind_gate};
 ghost use Rattle.chain_tree.specs.Blocks.{Describes, IndexesBlocks};
-ghost use Rattle.node_core.specs.Node.{IsOn, CanJoinAs, JoinsAs};
+ghost use Rattle.node_core.specs.Node.{IsOn, JoinsAs};
+ghost use Rattle.node_core.specs.Judging.{IsJudgedBlock, IsJudged};
 
 use crate::area::sync_snapshots;
 use crate::entry::{entry_on, has_built_form, hash_of, parent_hash};
@@ -61,6 +62,15 @@ fn prepare(
     tree.reserve()?;
     blocks.reserve(1)?;
     Ok(item.to_vec(alloc)?)
+}
+
+/// What is to become of an item.
+#[derive(Clone, Copy)]
+enum Judged {
+    /// It can join, with this entry.
+    Joins(Entry),
+    /// It stays out, with this verdict.
+    Stays(Verdict),
 }
 
 /// The kept blocks of a store. Clauses see their chain, and where the records of its log end.
@@ -115,38 +125,36 @@ impl Node {
         }
     }
 
-    /// The entry of a block that can join, or the verdict on one that can not.
-    fn judge_block(&self, block: &BlockView<'_>) -> Result<Entry, Verdict>
-        ensures stays { IfErr result (λ verdict. (verdict ≡ verdict_of_block self.now.chain.spec self.now.chain.blocks block.now) × (joins verdict ≡ false)) }
-        ensures joins { IfOk result (λ entry. CanJoinAs self.now.chain.spec self.now.chain.blocks block.now entry) }
+    /// What is to become of a block.
+    fn judge_block(&self, alloc: Global, block: &BlockView<'_>) -> Result<Judged, NoMemory>
+        ensures { IfOk result (IsJudgedBlock self.now.chain.spec self.now.chain.blocks block.now) }
     {
         let hash = hash_of(block);
         if self.tree.find(&hash).is_some() {
-            return Err(Verdict::Known(hash));
+            return Ok(Judged::Stays(Verdict::Known(hash)));
         }
         if !has_built_form(block) {
-            return Err(Verdict::Unbuilt);
+            return Ok(Judged::Stays(Verdict::Unbuilt));
         }
         let Some(parent) = self.tree.find(&parent_hash(block)) else {
-            return Err(Verdict::Refused(3));
+            return Ok(Judged::Stays(Verdict::Refused(3)));
         };
-        if let Some(rule) = first_broken(&self.spec, &self.tree, parent, block) {
-            return Err(Verdict::Refused(rule));
+        if let Some(rule) = first_broken(alloc, &self.spec, &self.tree, parent, block)? {
+            return Ok(Judged::Stays(Verdict::Refused(rule)));
         }
         if !has_room(self.tree.len()) {
-            return Err(Verdict::Full);
+            return Ok(Judged::Stays(Verdict::Full));
         }
-        Ok(entry_on(block, hash, parent))
+        Ok(Judged::Joins(entry_on(block, hash, parent)))
     }
 
-    /// The entry of an item that can join, or the verdict on one that can not.
-    fn judge(&self, item: &[u8]) -> Result<Entry, Verdict>
-        ensures stays { IfErr result (λ verdict. (verdict ≡ verdict_over self.now.chain item.now) × (joins verdict ≡ false)) }
-        ensures joins { IfOk result (λ entry. JoinsAs self.now.chain item.now entry) }
+    /// What is to become of an item.
+    fn judge(&self, alloc: Global, item: &[u8]) -> Result<Judged, NoMemory>
+        ensures { IfOk result (IsJudged self.now.chain item.now) }
     {
         match BlockView::read(item) {
-            None => Err(Verdict::Refused(1)),
-            Some(block) => self.judge_block(&block),
+            None => Ok(Judged::Stays(Verdict::Refused(1))),
+            Some(block) => self.judge_block(alloc, &block),
         }
     }
 
@@ -220,9 +228,10 @@ impl Node {
         ensures untouched { result ≡ Err no_memory → disk.new ≡ disk.old }
         ensures cause { CountsFault (D.faults disk.old) (D.faults disk.new) (result ≡ Err DiskFault) }
     {
-        match self.judge(item) {
-            Err(verdict) => Ok((self, verdict)),
-            Ok(entry) => {
+        match self.judge(alloc, item) {
+            Err(_) => Err(WriteStop::NoMemory),
+            Ok(Judged::Stays(verdict)) => Ok((self, verdict)),
+            Ok(Judged::Joins(entry)) => {
                 let node = self.join(alloc, disk, item, entry)?;
                 Ok((node, Verdict::Joined(entry.number, entry.hash)))
             }

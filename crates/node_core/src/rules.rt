@@ -1,5 +1,5 @@
-// The rules on a block, each judged by one function over the tree of the kept blocks.
-ghost use Rattle.std.specs.Prelude.{◌≡◌, ◌+◌, ◌==◌, ◌<◌, List, length};
+// The rules on a block, over the tree of the kept blocks: each list of them by the crate that judges it.
+ghost use Rattle.std.specs.Prelude.{◌≡◌, ◌<◌, List, length, IfOk};
 ghost use Rattle.codec_defs.specs.Schema.{Block};
 ghost use Rattle.chain_defs.specs.Branch.{branch};
 ghost use Rattle.chain_tree.specs.Blocks.{IndexesBlocks};
@@ -8,29 +8,24 @@ ghost use Rattle.rule_defs.specs.Rules as rules;
 use chain_tree::Tree;
 use epochs::Spec;
 use mol_schema::BlockView;
+use outside::NoMemory;
+use std::alloc::Global;
 
-/// J5: a block's number is its parent's plus 1.
-fn follows(number: u64, parent: u64) -> bool
-    ensures { result ≡ (number == parent + 1) }
-{
-    0 < number && number - 1 == parent
-}
-
-/// The first rule that a block breaks on the branch that ends with its parent, J4 to J32, under the specification
+/// The first rule that a block breaks on the branch that ends with its parent, J4 to J14, under the specification
 /// of its chain.
 pub(crate) fn first_broken(
+    alloc: Global,
     spec: &Spec,
     tree: &Tree,
     parent: u32,
     block: &BlockView<'_>,
-) -> Option<u8>
+) -> Result<Option<u8>, NoMemory>
     requires { parent < length tree.now.entries }
     ensures { (kept : List Block) → IndexesBlocks kept tree.now.entries
-        → result ≡ rules.first_broken spec.now (branch kept parent) block.now }
+        → IfOk result (λ broken. broken ≡ rules.first_broken spec.now (branch kept parent) block.now) }
 {
-    let _ = spec;
-    if !follows(block.header().number(), tree.entry(parent).number) {
-        return Some(5);
+    if let Some(rule) = header_rules::check(spec, tree, parent, &block.header()) {
+        return Ok(Some(rule));
     }
-    None
+    block_rules::check(alloc, spec, block)
 }

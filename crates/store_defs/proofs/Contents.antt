@@ -12,6 +12,7 @@ use Rattle.codec_defs.specs.Schema.{Block}
 use Rattle.rule_defs.specs.Verdict.{blocks_of_item}
 use Rattle.store_defs.specs.Ext.{count_at}
 use Rattle.store_defs.specs.Log.{Record, LogContent, record_limit, records_of, magic, log_of, content_of_records, are_first, blocks_over, block_of_record, body_of_parts, parts_of_body}
+use Rattle.store_defs.specs.Rest.{EndsAt}
 use Rattle.store_defs.specs.LogLaws.{GivesTheParts, SaysItsRecords, GrowsByABlock, grown}
 
 pub gives_the_parts : GivesTheParts
@@ -76,3 +77,9 @@ grows_by_a_block (one ∷ two ∷ records) r log b says stands below =
         → cond t (said one two records (blocks_over (blocks_of_item two.body) records)) None ≡ Some log → content_of_records (one ∷ two ∷ records ++ r ∷ []) ≡ Some (grown log r b)
     by_test false is says = absurd (cc)
     by_test true is says = by_blocks (and_parts (are_first one two) (leb (length records) record_limit) is).0 (blocks_over (blocks_of_item two.body) records) refl says
+
+pub ends_say : (place : ℕ) (records : List Record) (bytes : List ℕ) → EndsAt place records bytes → log_of bytes ≡ content_of_records records
+unfolding log_of
+ends_say place records bytes end =
+    let test : bytes_eq (take 8 bytes) magic ≡ true = (bytes_decides (take 8 bytes) magic).1 end.begins in
+    ap (λ (b : Bool). cond b (content_of_records (records_of (drop 8 bytes))) None) test ∙ ap content_of_records end.holds

@@ -8,9 +8,9 @@ use Rattle.chain_defs.specs.Kept.{block_hash, block_at, place_of}
 use Rattle.chain_defs.specs.Branch.{branch}
 use Rattle.chain_defs.proofs.KeptLaws.{place_of-below}
 use Rattle.chain_defs.proofs.BranchLaws.{branch-last}
-use Rattle.fold_defs.specs.First.{first_failing}
 use Rattle.time_defs.specs.Specification.{Specification}
-use Rattle.rule_defs.specs.Rules.{first_broken, follows, parent_of}
+use Rattle.rule_defs.specs.Header.{follows, parent_of}
+use Rattle.rule_defs.proofs.VerdictLaws.{follows-unbroken}
 use Rattle.rule_defs.specs.Laws.{CanJoin}
 use Rattle.store_defs.specs.Ext.{row_size, is_ext}
 use Rattle.store_defs.specs.Store.{ext_of_joined}
@@ -21,15 +21,6 @@ use Rattle.store_defs.proofs.Contents.{gives_the_parts}
 pub has_ext_form : HasExtForm
 unfolding is_ext row_size
 has_ext_form = refl
-
--- J5: a block that breaks no rule has the number behind its parent's
-follows_parent : (spec : Specification) (before : List Block) (b : Block) → first_broken spec before b ≡ None → follows b (parent_of before) ≡ true
-unfolding first_broken first_failing
-follows_parent spec before b none = by_test (follows b (parent_of before)) refl none
-  where
-    by_test : (t : Bool) → follows b (parent_of before) ≡ t → cond {A = Option ℕ} t None (Some 5) ≡ None → follows b (parent_of before) ≡ true
-    by_test true is none = is
-    by_test false is none = absurd (cc)
 
 next_follows : (b : Block) (parent : Option Block) → is_next_of b.header.number parent ≡ follows b parent
 next_follows b None = refl
@@ -42,7 +33,7 @@ may_stand spec kept item can =
     branch-last kept can.parent (place_of-below kept b.header.parent_hash can.parent can.on_kept) in
     let next : is_next_of b.header.number (option_and_then (block_at kept) (place_of kept b.header.parent_hash)) ≡ true =
     ap (λ (place : Option ℕ). is_next_of b.header.number (option_and_then (block_at kept) place)) can.on_kept
-    ∙ next_follows b (block_at kept can.parent) ∙ ap (follows b) (sym last) ∙ follows_parent spec (branch kept can.parent) b can.unbroken in
+    ∙ next_follows b (block_at kept can.parent) ∙ ap (follows b) (sym last) ∙ follows-unbroken spec (branch kept can.parent) b can.unbroken in
     let new : not (is_some (place_of kept (block_hash b))) ≡ true = ap (λ (place : Option ℕ). not (is_some place)) can.new in
     and_from (is_next_of b.header.number (option_and_then (block_at kept) (place_of kept b.header.parent_hash))) (not (is_some (place_of kept (block_hash b)))) next new
 

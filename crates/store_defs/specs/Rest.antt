@@ -5,7 +5,14 @@ use Rattle.outside.specs.Image.{Image, InArea}
 use Rattle.outside.specs.Disk.{ComesBy, IsDurable}
 use Rattle.store_defs.specs.Log.{Record, record_bytes, records_of, end_of_log, magic}
 
--- The bytes begin as a log does and hold these records, which end at this place, where a byte stands that is no open gate.
+-- The bytes begin as a log does and hold these records, which end at this place, where a byte stands.
+pub record EndsAt (place : ℕ) (records : List Record) (bytes : List ℕ) : Type 0 where
+  pub begins : take 8 bytes ≡ magic
+  pub holds : records_of (drop 8 bytes) ≡ records
+  pub ends : end_of_log bytes ≡ place
+  pub there : place < length bytes
+
+-- The same, where the byte that stands at the end is no open gate.
 pub record IsAtRest (place : ℕ) (records : List Record) (bytes : List ℕ) : Type 0 where
   pub begins : take 8 bytes ≡ magic
   pub holds : records_of (drop 8 bytes) ≡ records

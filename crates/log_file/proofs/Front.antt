@@ -1,0 +1,63 @@
+-- The front of a log, from its first bytes to its genesis.
+use Rattle.std.proofs.Common.{◌≡◌, ℕ, ◌+◌, true, false, List, take, drop, length, Option, Some, None, sym, ap, ◌∙◌, subst}
+use Rattle.std.specs.Prelude.{IfSome}
+use Rattle.time_defs.specs.Specification.{Specification, specification_of}
+use Rattle.outside.specs.Image.{Image}
+use Rattle.store_defs.specs.Log.{Record, magic, log_of}
+use Rattle.log_file.specs.Grammar.{is_specification, is_genesis, BlocksValue, IsGenesisOf}
+use Rattle.log_file.specs.Reading.{ReaderValue, IsReading, IsAt, HasPassed, OfRecordHere}
+use Rattle.log_file.specs.Opening.{HasRead}
+use Rattle.log_file.proofs.Progress.{begun, not_specified, no_genesis, no_content, no_start}
+
+-- what is known of a later disk, which reads as the earlier one
+pub on_same : (later reads : Option Image) (P : Image → Type 0) → later ≡ reads → IfSome later P → IfSome reads P
+on_same later reads P same holds = subst (λ (o : Option Image). IfSome o P) same holds
+
+pub told_wrong_start : (reads : Option Image) (r0 : ReaderValue) (E F : Type 0) → (E → F)
+    → IfSome reads (λ image. IsReading image.log r0 → F → take 8 image.log ≡ magic → ⊥) → IfSome reads (λ image. IsReading image.log r0 → E → log_of image.log ≡ None)
+told_wrong_start None r0 E F is wrong = tt
+told_wrong_start (Some image) r0 E F is wrong = λ reading e. no_start image.log (wrong reading (is e))
+
+-- that it is of a specification
+abbrev pub OfSpec : Specification → Record → Type 0
+OfSpec spec r = (is_specification r ≡ true) × (spec ≡ specification_of r.body)
+
+pub told_wrong_spec : (reads l1 : Option Image) (r0 r1 : ReaderValue) (E F : Type 0) → (E → F) → l1 ≡ reads → r1.at ≡ 8
+    → IfSome reads (λ image. IsReading image.log r0 → IsReading image.log r1)
+    → IfSome l1 (λ image. IsReading image.log r1 → F → OfRecordHere image.log r1 (λ r. is_specification r ≡ false))
+    → IfSome reads (λ image. IsReading image.log r0 → E → log_of image.log ≡ None)
+told_wrong_spec None l1 r0 r1 E F is same at goes wrong = tt
+told_wrong_spec (Some image) l1 r0 r1 E F is same at goes wrong = λ reading e.
+    let here = on_same l1 (Some image) (λ image. IsReading image.log r1 → F → OfRecordHere image.log r1 (λ r. is_specification r ≡ false)) same wrong in
+    no_content image.log (not_specified image.log r1 at (here (goes reading) (is e)))
+
+pub told_wrong_genesis : (reads l1 l2 : Option Image) (spec : Specification) (r0 r1 r2 : ReaderValue) (E F : Type 0) → (E → F) → l1 ≡ reads → l2 ≡ l1 → r1.at ≡ 8
+    → IfSome reads (λ image. IsReading image.log r0 → IsReading image.log r1)
+    → IfSome l1 (λ image. IsReading image.log r1 → IsReading image.log r2)
+    → IfSome l1 (λ image. IsReading image.log r1 → HasPassed image.log (OfSpec spec) r1 r2)
+    → IfSome l2 (λ image. IsReading image.log r2 → F → OfRecordHere image.log r2 (λ r. is_genesis r ≡ false))
+    → IfSome reads (λ image. IsReading image.log r0 → E → log_of image.log ≡ None)
+told_wrong_genesis None l1 l2 spec r0 r1 r2 E F is same then at goes on one wrong = tt
+told_wrong_genesis (Some image) l1 l2 spec r0 r1 r2 E F is same then at goes on one wrong = λ reading e.
+    let goes_on = on_same l1 (Some image) (λ image. IsReading image.log r1 → IsReading image.log r2) same on in
+    let passed = on_same l1 (Some image) (λ image. IsReading image.log r1 → HasPassed image.log (OfSpec spec) r1 r2) same one in
+    let here = on_same l2 (Some image) (λ image. IsReading image.log r2 → F → OfRecordHere image.log r2 (λ r. is_genesis r ≡ false)) (then ∙ same) wrong in
+    let first = goes reading in
+    no_content image.log (no_genesis image.log (OfSpec spec) r1 r2 at (passed first) (here (goes_on first) (is e)))
+
+pub told_begun : (reads l1 l2 : Option Image) (spec : Specification) (r0 r1 r2 r3 : ReaderValue) (blocks : BlocksValue) → l1 ≡ reads → l2 ≡ l1 → r1.at ≡ 8
+    → IfSome reads (λ image. IsReading image.log r0 → IsReading image.log r1)
+    → IfSome l1 (λ image. IsReading image.log r1 → IsReading image.log r2)
+    → IfSome l1 (λ image. IsReading image.log r1 → HasPassed image.log (OfSpec spec) r1 r2)
+    → IfSome l2 (λ image. IsReading image.log r2 → IsReading image.log r3)
+    → IfSome l2 (λ image. IsReading image.log r2 → HasPassed image.log (λ r. IsGenesisOf (r2.at + 6) r blocks) r2 r3)
+    → IfSome reads (λ image. IsReading image.log r0 → HasRead image.log spec r3 blocks)
+told_begun None l1 l2 spec r0 r1 r2 r3 blocks same then at goes on one further two = tt
+told_begun (Some image) l1 l2 spec r0 r1 r2 r3 blocks same then at goes on one further two = λ reading.
+    let goes_on = on_same l1 (Some image) (λ image. IsReading image.log r1 → IsReading image.log r2) same on in
+    let passed = on_same l1 (Some image) (λ image. IsReading image.log r1 → HasPassed image.log (OfSpec spec) r1 r2) same one in
+    let goes_further = on_same l2 (Some image) (λ image. IsReading image.log r2 → IsReading image.log r3) (then ∙ same) further in
+    let passed_too = on_same l2 (Some image) (λ image. IsReading image.log r2 → HasPassed image.log (λ r. IsGenesisOf (r2.at + 6) r blocks) r2 r3) (then ∙ same) two in
+    let first = goes reading in
+    let second = goes_on first in
+    begun image.log spec r1 r2 r3 blocks at (passed first) (passed_too second) (goes_further second)

@@ -1,0 +1,359 @@
+-- What the records of a log say, as they are read one after the other.
+use Rattle.std.proofs.Common.{◌≡◌, ◌⊎◌, inl, inr, ℕ, ◌+◌, ◌<◌, ◌≤◌, ◌^◌, Bool, true, false, cond, eqb, leb, List, [], ◌∷◌, ◌++◌, length, take, drop, map, Option, Some, None, refl, sym, ap, ◌∙◌, subst, arith}
+use Rattle.std.specs.Prelude.{◌&&◌, is_none, IfSome}
+use Rattle.std.specs.Option.{option_map, option_and_then}
+use Rattle.std.specs.Str.{bytes_eq}
+use Rattle.std.specs.Cmp.Lexicographic.{bytes_decides}
+use Rattle.std.proofs.lemmas.Bool.{and_from, and_parts, and_right, le-leb, leb-true}
+use Rattle.std.proofs.lemmas.List.{append_assoc, append-nil, length-append, length-drop, length_push, drop-drop}
+use Rattle.codec_defs.specs.Schema.{Block}
+use Rattle.rule_defs.specs.Verdict.{blocks_of_item, kept_limit}
+use Rattle.time_defs.specs.Specification.{Specification, broken_specification_rule, specification_of}
+use Rattle.chain_tree.specs.declared.entry.Entry.{Entry}
+use Rattle.outside.specs.Image.{Image}
+use Rattle.store_defs.specs.Genesis.{broken_genesis_rule}
+use Rattle.store_defs.specs.Log.{Record, record_at, record_bytes, all_record_bytes, records_of, end_of_log, magic, LogContent, record_limit, are_first, block_of_record, blocks_over, content_of_records, log_of}
+use Rattle.store_defs.specs.LogLaws.{grown}
+use Rattle.store_defs.specs.Rest.{EndsAt}
+use Rattle.store_defs.proofs.Records.{record_length, parts_at, records_of_none, records_of_some, size_of_all, size-push}
+use Rattle.store_defs.proofs.Contents.{grows_by_a_block}
+use Rattle.log_file.specs.Grammar.{record_of, is_specification, is_genesis, NamesBody, BlocksValue, StandFor, IsGenesisOf, IsGrownBy}
+use Rattle.log_file.specs.Reading.{ReaderValue, IsReading, IsAt, HasPassed, OfRecordHere, IsWrongHere}
+use Rattle.log_file.specs.Opening.{NameBodies, IsOpened, HasRead, HasReadAll}
+use Rattle.log_file.proofs.Judging.{limit_is, kept_limit_is, as_many}
+
+-- ---- Records that were read, and those that are left
+
+split_more : (all read : List Record) (bytes : List ℕ) (at : ℕ) (r : Record) → all ≡ read ++ records_of (drop at bytes) → record_at (drop at bytes) ≡ Some r
+    → all ≡ (read ++ r ∷ []) ++ records_of (drop (at + length (record_bytes r)) bytes)
+split_more all read bytes at r split there =
+    let n : ℕ = length (record_bytes r) in
+    let rest : records_of (drop at bytes) ≡ r ∷ records_of (drop (at + n) bytes) =
+    records_of_some (drop at bytes) r there ∙ ap (λ (l : List ℕ). r ∷ records_of l) (drop-drop n at bytes) in
+    split ∙ ap (λ (l : List Record). read ++ l) rest ∙ sym (append_assoc read (r ∷ []) (records_of (drop (at + n) bytes)))
+
+split_here : (all read : List Record) (bytes : List ℕ) (at : ℕ) (r : Record) → all ≡ read ++ records_of (drop at bytes) → record_at (drop at bytes) ≡ Some r
+    → all ≡ read ++ (r ∷ records_of (drop (at + length (record_bytes r)) bytes))
+split_here all read bytes at r split there =
+    split_more all read bytes at r split there ∙ append_assoc read (r ∷ []) (records_of (drop (at + length (record_bytes r)) bytes))
+
+split_end : (all read : List Record) (bytes : List ℕ) (at : ℕ) → all ≡ read ++ records_of (drop at bytes) → record_at (drop at bytes) ≡ None → all ≡ read
+split_end all read bytes at split none = split ∙ ap (λ (l : List Record). read ++ l) (records_of_none (drop at bytes) none) ∙ append-nil read
+
+still_within : (bytes : List ℕ) (at : ℕ) (r : Record) → record_at (drop at bytes) ≡ Some r → at + length (record_bytes r) < length bytes
+still_within bytes at r there = omega (arith, (parts_at (drop at bytes) r there).whole, record_length r, length-drop at bytes)
+
+-- ---- What they say
+
+first_from : (a b c d : Bool) → (a && b) ≡ true → (c && d) ≡ true → (((a && b) && c) && d) ≡ true
+first_from a b c d one two = and_from ((a && b) && c) d (and_from (a && b) c one (and_parts c d two).0) (and_parts c d two).1
+
+not_second : (ab c d : Bool) → (c && d) ≡ false → ((ab && c) && d) ≡ false
+not_second false c d wrong = refl
+not_second true c d wrong = wrong
+
+abbrev said : Record → Record → List Record → Option (List Block) → Option LogContent
+said one two records blocks = option_map (λ blocks. record { specification = one.body; genesis = two.body; records = records; blocks = blocks }) blocks
+
+pub not_first : (one : Record) (more : List Record) → is_specification one ≡ false → content_of_records (one ∷ more) ≡ None
+not_first one [] wrong = refl
+not_first one (two ∷ records) wrong =
+    let test : (are_first one two && leb (length records) record_limit) ≡ false =
+    ap (λ (t : Bool). ((t && (eqb two.kind 2)) && is_none (broken_genesis_rule two.body)) && leb (length records) record_limit) wrong in
+    ap (λ (t : Bool). cond t (said one two records (blocks_over (blocks_of_item two.body) records)) None) test
+
+pub not_next : (one two : Record) (more : List Record) → is_genesis two ≡ false → content_of_records (one ∷ two ∷ more) ≡ None
+not_next one two records wrong =
+    let first : are_first one two ≡ false =
+    not_second (is_specification one) (eqb two.kind 2) (is_none (broken_genesis_rule two.body)) wrong in
+    let test : (are_first one two && leb (length records) record_limit) ≡ false = ap (λ (t : Bool). t && leb (length records) record_limit) first in
+    ap (λ (t : Bool). cond t (said one two records (blocks_over (blocks_of_item two.body) records)) None) test
+
+-- the two first records alone
+abbrev first_content : Record → Record → LogContent
+first_content one two = record { specification = one.body; genesis = two.body; records = []; blocks = blocks_of_item two.body }
+
+first_says : (one two : Record) → is_specification one ≡ true → is_genesis two ≡ true → content_of_records (one ∷ two ∷ []) ≡ Some (first_content one two)
+first_says one two is_one is_two =
+    let first : are_first one two ≡ true =
+    first_from (eqb one.kind 1) (is_none (broken_specification_rule one.body)) (eqb two.kind 2) (is_none (broken_genesis_rule two.body)) is_one is_two in
+    let test : (are_first one two && leb 0 record_limit) ≡ true = and_from (are_first one two) (leb 0 record_limit) first (le-leb 0 record_limit (omega arith)) in
+    ap (λ (t : Bool). cond t (Some (first_content one two)) None) test
+
+-- a record that is wrong behind records that are not
+blocks_none : (kept : List Block) (records : List Record) (r : Record) (more : List Record) (all : List Block) → blocks_over kept records ≡ Some all
+    → block_of_record all r ≡ None → blocks_over kept (records ++ (r ∷ more)) ≡ None
+blocks_none kept [] r more all over wrong =
+    let same : kept ≡ all = (cc) in
+    let here : block_of_record kept r ≡ None = subst (λ (l : List Block). block_of_record l r ≡ None) (sym same) wrong in
+    ap (option_and_then (λ x. blocks_over (kept ++ x ∷ []) more)) here
+blocks_none kept (first ∷ records) r more all over wrong = by_found (λ x. blocks_none (kept ++ x ∷ []) records r more all) (block_of_record kept first) refl over
+  where
+    by_found : ((x : Block) → blocks_over (kept ++ x ∷ []) records ≡ Some all → block_of_record all r ≡ None
+        → blocks_over (kept ++ x ∷ []) (records ++ (r ∷ more)) ≡ None) → (o : Option Block) → block_of_record kept first ≡ o
+        → option_and_then (λ x. blocks_over (kept ++ x ∷ []) records) o ≡ Some all → blocks_over kept ((first ∷ records) ++ (r ∷ more)) ≡ None
+    by_found again None is over = absurd (cc)
+    by_found again (Some x) is over = ap (option_and_then (λ x. blocks_over (kept ++ x ∷ []) (records ++ (r ∷ more)))) is ∙ again x over wrong
+
+if_none : (t : Bool) → cond {A = Option LogContent} t None None ≡ None
+if_none true = refl
+if_none false = refl
+
+pub wrong_behind : (records : List Record) (r : Record) (more : List Record) (log : LogContent) → content_of_records records ≡ Some log
+    → (block_of_record log.blocks r ≡ None) ⊎ (record_limit < length log.blocks) → length log.blocks ≡ length log.records + 1
+    → content_of_records (records ++ (r ∷ more)) ≡ None
+wrong_behind [] r more log says wrong counted = absurd (cc)
+wrong_behind (one ∷ []) r more log says wrong counted = absurd (cc)
+wrong_behind (one ∷ two ∷ records) r more log says wrong counted = by_test (are_first one two && leb (length records) record_limit) refl says
+  where
+    all : List Record
+    all = records ++ (r ∷ more)
+
+    by_wrong : (blocks : List Block) → blocks_over (blocks_of_item two.body) records ≡ Some blocks
+        → record { specification = one.body; genesis = two.body; records = records; blocks = blocks } ≡ log
+        → (block_of_record log.blocks r ≡ None) ⊎ (record_limit < length log.blocks) → content_of_records (one ∷ two ∷ (records ++ (r ∷ more))) ≡ None
+    by_wrong blocks is same (inl none) =
+        let here : block_of_record blocks r ≡ None = subst (λ (l : LogContent). block_of_record l.blocks r ≡ None) (sym same) none in
+        ap (λ (o : Option (List Block)). cond (are_first one two && leb (length (records ++ (r ∷ more))) record_limit) (said one two (records ++ (r ∷ more)) o) None)
+        (blocks_none (blocks_of_item two.body) records r more blocks is here)
+        ∙ if_none (are_first one two && leb (length (records ++ (r ∷ more))) record_limit)
+    by_wrong blocks is same (inr full) =
+        let long : record_limit < length (records ++ (r ∷ more)) =
+        omega (arith, full, counted, ap (λ (l : LogContent). length l.records) same, length-append records (r ∷ more)) in
+        let test : (are_first one two && leb (length (records ++ (r ∷ more))) record_limit) ≡ false =
+        and_right (are_first one two) (leb (length (records ++ (r ∷ more))) record_limit) (over_limit (leb (length (records ++ (r ∷ more))) record_limit) refl long) in
+        ap (λ (t : Bool). cond t (said one two (records ++ (r ∷ more)) (blocks_over (blocks_of_item two.body) (records ++ (r ∷ more)))) None) test
+      where
+        over_limit : (t : Bool) → leb (length (records ++ (r ∷ more))) record_limit ≡ t → record_limit < length (records ++ (r ∷ more)) → t ≡ false
+        over_limit false is long = refl
+        over_limit true is long = absurd (omega (arith, leb-true (length (records ++ (r ∷ more))) record_limit is, long))
+
+    by_blocks : (o : Option (List Block)) → blocks_over (blocks_of_item two.body) records ≡ o → said one two records o ≡ Some log
+        → content_of_records (one ∷ two ∷ (records ++ (r ∷ more))) ≡ None
+    by_blocks None is says = absurd (cc)
+    by_blocks (Some blocks) is says = by_wrong blocks is (cc) wrong
+
+    by_test : (t : Bool) → (are_first one two && leb (length records) record_limit) ≡ t
+        → cond t (said one two records (blocks_over (blocks_of_item two.body) records)) None ≡ Some log → content_of_records (one ∷ two ∷ (records ++ (r ∷ more))) ≡ None
+    by_test false is says = absurd (cc)
+    by_test true is says = by_blocks (blocks_over (blocks_of_item two.body) records) refl says
+
+-- ---- Entries
+
+names-push : (place : ℕ) (records : List Record) (entries : List Entry) (r : Record) (entry : Entry) → NameBodies place records entries
+    → NamesBody (place + size_of_all records + 6) r entry → NameBodies place (records ++ r ∷ []) (entries ++ entry ∷ [])
+names-push place [] [] r entry so_far last = (last.at ∙ omega arith, last.len, tt)
+names-push place [] (e ∷ es) r entry so_far last = absurd so_far
+names-push place (first ∷ records) [] r entry so_far last = absurd so_far
+names-push place (first ∷ records) (e ∷ es) r entry so_far last =
+    let n : ℕ = length (record_bytes first) in
+    let sum : size_of_all (first ∷ records) ≡ n + size_of_all records = length-append (record_bytes first) (all_record_bytes records) in
+    (
+      so_far.0,
+      so_far.1,
+      names-push (place + n) records es r entry so_far.2 (record { at = last.at ∙ omega (arith, sum); len = last.len }),
+    )
+
+-- ---- From front to back
+
+pub begun : (log : List ℕ) (spec : Specification) (first second third : ReaderValue) (blocks : BlocksValue) → first.at ≡ 8
+    → HasPassed log (λ r. (is_specification r ≡ true) × (spec ≡ specification_of r.body)) first second
+    → HasPassed log (λ r. IsGenesisOf (second.at + 6) r blocks) second third → IsReading log third → HasRead log spec third blocks
+begun log spec first second third blocks start one two reading =
+    let size : size_of_all (one.r ∷ two.r ∷ []) ≡ length (record_bytes one.r) + length (record_bytes two.r) =
+    length-append (record_bytes one.r) (record_bytes two.r ++ []) ∙ ap (λ (l : List ℕ). length (record_bytes one.r) + length l) (append-nil (record_bytes two.r)) in
+    let all : List Record = records_of (drop 8 log) in
+    let split : all ≡ records_of (drop first.at log) = ap (λ (n : ℕ). records_of (drop n log)) (sym start) in
+    let split_one : all ≡ one.r ∷ records_of (drop second.at log) =
+    split_more all [] log first.at one.r split one.there ∙ ap (λ (n : ℕ). one.r ∷ records_of (drop n log)) (sym one.at.at) in
+    let split_two : all ≡ one.r ∷ two.r ∷ records_of (drop third.at log) =
+    split_more all (one.r ∷ []) log second.at two.r split_one two.there ∙ ap (λ (n : ℕ). one.r ∷ two.r ∷ records_of (drop n log)) (sym two.at.at) in
+    let named : NameBodies (14 + length one.r.body) (record_of 2 two.r.body ∷ []) (two.is.entry ∷ []) =
+    (two.is.named.at ∙ omega (arith, one.at.at, start, record_length one.r), two.is.named.len, tt) in
+    record {
+      reading = reading;
+      within = omega (arith, two.at.at, still_within log second.at two.r two.there);
+      records = one.r ∷ two.r ∷ [];
+      split = split_two;
+      place = omega (arith, two.at.at, one.at.at, start, size);
+      log = first_content one.r two.r;
+      says = first_says one.r two.r one.is.0 two.is.genesis;
+      specified = one.is.1;
+      stand = two.is.stand;
+      counted = omega (arith, as_many blocks.items (blocks_of_item two.r.body) two.is.stand.decode, ap length two.is.items);
+      named = subst (NameBodies (14 + length one.r.body) (record_of 2 two.r.body ∷ [])) (sym two.is.entries) named;
+      next = omega (
+        arith,
+        two.at.at,
+        one.at.at,
+        start,
+        record_length one.r,
+        record_length two.r,
+        record_length (record_of 2 two.r.body),
+        ap length (append-nil (record_bytes (record_of 2 two.r.body))),
+      );
+    }
+
+pub one_more_read : (log : List ℕ) (spec : Specification) (old new : ReaderValue) (before after : BlocksValue) (so_far : HasRead log spec old before)
+    → HasPassed log (λ r. IsGrownBy (old.at + 6) r so_far.log.blocks before after) old new → IsReading log new → length after.items ≤ kept_limit → HasRead log spec new after
+one_more_read log spec old new before after so_far passed reading few =
+    let r : Record = passed.r in
+    let is = passed.is in
+    let kept : List Block = so_far.log.blocks in
+    let more : ℕ = length (kept ++ is.block ∷ []) in
+    let front : List Record = record_of 2 so_far.log.genesis ∷ so_far.log.records in
+    let start : ℕ = 14 + length so_far.log.specification in
+    let room : length so_far.log.records < record_limit =
+    omega (arith, limit_is, kept_limit_is, few, as_many after.items (kept ++ is.block ∷ []) is.stand.decode, length_push kept is.block, so_far.counted) in
+    let named : NamesBody (start + size_of_all front + 6) r is.entry = record { at = is.named.at ∙ omega (arith, so_far.next); len = is.named.len } in
+    record {
+      reading = reading;
+      within = omega (arith, passed.at.at, still_within log old.at r passed.there);
+      records = so_far.records ++ r ∷ [];
+      split = split_more (records_of (drop 8 log)) so_far.records log old.at r so_far.split passed.there
+      ∙ ap (λ (n : ℕ). (so_far.records ++ r ∷ []) ++ records_of (drop n log)) (sym passed.at.at);
+      place = omega (arith, passed.at.at, so_far.place, size-push so_far.records r);
+      log = grown so_far.log r is.block;
+      says = grows_by_a_block so_far.records r so_far.log is.block so_far.says is.is room;
+      specified = so_far.specified;
+      stand = is.stand;
+      counted = omega (arith, length_push kept is.block, length_push so_far.log.records r, so_far.counted);
+      named = subst (NameBodies start (front ++ r ∷ [])) (sym is.entries) (names-push start front before.entries r is.entry so_far.named named);
+      next = omega (arith, passed.at.at, so_far.next, size-push front r);
+    }
+
+pub wrong_here : (log : List ℕ) (spec : Specification) (reader : ReaderValue) (blocks : BlocksValue) (so_far : HasRead log spec reader blocks)
+    → IsWrongHere log so_far.log.blocks reader → content_of_records (records_of (drop 8 log)) ≡ None
+wrong_here log spec reader blocks so_far here =
+    ap content_of_records (split_here (records_of (drop 8 log)) so_far.records log reader.at here.r so_far.split here.there)
+    ∙ wrong_behind so_far.records here.r (records_of (drop (reader.at + length (record_bytes here.r)) log)) so_far.log so_far.says here.wrong so_far.counted
+
+pub not_specified : (log : List ℕ) (reader : ReaderValue) → reader.at ≡ 8 → OfRecordHere log reader (λ r. is_specification r ≡ false)
+    → content_of_records (records_of (drop 8 log)) ≡ None
+not_specified log reader start wrong = by_found (record_at (drop reader.at log)) refl
+  where
+    all : records_of (drop 8 log) ≡ records_of (drop reader.at log)
+    all = ap (λ (n : ℕ). records_of (drop n log)) (sym start)
+
+    by_found : (o : Option Record) → record_at (drop reader.at log) ≡ o → content_of_records (records_of (drop 8 log)) ≡ None
+    by_found None is = ap content_of_records (split_end (records_of (drop 8 log)) [] log reader.at all is)
+    by_found (Some r) is =
+        ap content_of_records (split_here (records_of (drop 8 log)) [] log reader.at r all is)
+        ∙ not_first r (records_of (drop (reader.at + length (record_bytes r)) log)) (wrong r is)
+
+pub no_genesis : (log : List ℕ) (P : Record → Type 0) (first second : ReaderValue) → first.at ≡ 8 → HasPassed log P first second
+    → OfRecordHere log second (λ r. is_genesis r ≡ false) → content_of_records (records_of (drop 8 log)) ≡ None
+no_genesis log P first second start one wrong = by_found (record_at (drop second.at log)) refl
+  where
+    all : records_of (drop 8 log) ≡ (one.r ∷ []) ++ records_of (drop second.at log)
+    all =
+        split_more (records_of (drop 8 log)) [] log first.at one.r (ap (λ (n : ℕ). records_of (drop n log)) (sym start)) one.there
+        ∙ ap (λ (n : ℕ). one.r ∷ records_of (drop n log)) (sym one.at.at)
+
+    by_found : (o : Option Record) → record_at (drop second.at log) ≡ o → content_of_records (records_of (drop 8 log)) ≡ None
+    by_found None is = ap content_of_records (split_end (records_of (drop 8 log)) (one.r ∷ []) log second.at all is)
+    by_found (Some r) is =
+        ap content_of_records (split_here (records_of (drop 8 log)) (one.r ∷ []) log second.at r all is)
+        ∙ not_next one.r r (records_of (drop (second.at + length (record_bytes r)) log)) (wrong r is)
+
+-- ---- The whole log
+
+pub no_content : (log : List ℕ) → content_of_records (records_of (drop 8 log)) ≡ None → log_of log ≡ None
+unfolding log_of
+no_content log none = ap (λ (o : Option LogContent). cond (bytes_eq (take 8 log) magic) o None) none ∙ if_none (bytes_eq (take 8 log) magic)
+
+pub no_start : (log : List ℕ) → (take 8 log ≡ magic → ⊥) → log_of log ≡ None
+unfolding log_of
+no_start log wrong = by_test (bytes_eq (take 8 log) magic) refl
+  where
+    by_test : (t : Bool) → bytes_eq (take 8 log) magic ≡ t → cond t (content_of_records (records_of (drop 8 log))) None ≡ None
+    by_test false is = refl
+    by_test true is = absurd (wrong ((bytes_decides (take 8 log) magic).0 is))
+
+says_all : (log : List ℕ) (spec : Specification) (reader : ReaderValue) (blocks : BlocksValue) (all : HasReadAll log spec reader blocks) → records_of (drop 8 log) ≡ all.so_far.records
+says_all log spec reader blocks all = split_end (records_of (drop 8 log)) all.so_far.records log reader.at all.so_far.split all.ended
+
+pub opened_all : (log : List ℕ) (spec : Specification) (reader : ReaderValue) (blocks : BlocksValue) → take 8 log ≡ magic → HasReadAll log spec reader blocks
+    → (content : LogContent) × IsOpened log content spec blocks.items blocks.entries
+unfolding log_of
+opened_all log spec reader blocks begins all =
+    let far = all.so_far in
+    let says : content_of_records (records_of (drop 8 log)) ≡ Some far.log = ap content_of_records (says_all log spec reader blocks all) ∙ far.says in
+    let test : bytes_eq (take 8 log) magic ≡ true = (bytes_decides (take 8 log) magic).1 begins in
+    (far.log, record {
+      is_log = ap (λ (t : Bool). cond t (content_of_records (records_of (drop 8 log))) None) test ∙ says;
+      says = says;
+      specified = far.specified;
+      decode = far.stand.decode;
+      indexed = far.stand.indexed;
+      named = far.named;
+    })
+
+pub ends_all : (log : List ℕ) (spec : Specification) (reader : ReaderValue) (blocks : BlocksValue) → take 8 log ≡ magic → HasReadAll log spec reader blocks
+    → EndsAt reader.at (records_of (drop 8 log)) log
+unfolding end_of_log
+ends_all log spec reader blocks begins all = record {
+  begins = begins;
+  holds = refl;
+  ends = ap (λ (l : List Record). 8 + size_of_all l) (says_all log spec reader blocks all) ∙ sym all.so_far.place;
+  there = all.so_far.within;
+}
+
+-- ---- The loop over the blocks
+
+module _ (spec : Specification) (r0 r1 : ReaderValue) (b0 b1 : BlocksValue) where
+  -- what was read so far
+  abbrev pub SoFar : Option Image → Type 0
+  SoFar reads = IfSome reads (λ image. HasRead image.log spec r0 b0 → HasRead image.log spec r1 b1)
+
+  pub told_wrong : (reads later : Option Image) (E F : Type 0) → (E → F) → later ≡ reads → SoFar reads
+      → IfSome later (λ image. IsReading image.log r1 → F → (kept : List Block) → StandFor kept b1 → IsWrongHere image.log kept r1)
+      → IfSome reads (λ image. HasRead image.log spec r0 b0 → E → content_of_records (records_of (drop 8 image.log)) ≡ None)
+  told_wrong None later E F is same so_far wrong = tt
+  told_wrong (Some image) later E F is same so_far wrong = λ start e.
+      let far = so_far start in
+      let here = subst (λ (o : Option Image). IfSome o (λ image. IsReading image.log r1 → F → (kept : List Block) → StandFor kept b1 → IsWrongHere image.log kept r1)) same wrong in
+      wrong_here image.log spec r1 b1 far (here far.reading (is e) far.log.blocks far.stand)
+
+  pub told_more : (reads later : Option Image) (r2 : ReaderValue) (b2 : BlocksValue) (E : Type 0) → E → later ≡ reads → SoFar reads
+      → IfSome later (λ image. IsReading image.log r1 → IsReading image.log r2)
+      → IfSome later (λ image. IsReading image.log r1 → E → (kept : List Block) → StandFor kept b1
+      → HasPassed image.log (λ r. IsGrownBy (r1.at + 6) r kept b1 b2) r1 r2)
+      → length b2.items ≤ kept_limit → IfSome reads (λ image. HasRead image.log spec r0 b0 → HasRead image.log spec r2 b2)
+  told_more None later r2 b2 E e same so_far goes passed few = tt
+  told_more (Some image) later r2 b2 E e same so_far goes passed few = λ start.
+      let far = so_far start in
+      let on = subst (λ (o : Option Image). IfSome o (λ image. IsReading image.log r1 → IsReading image.log r2)) same goes in
+      let over = subst (λ (o : Option Image). IfSome o (λ image. IsReading image.log r1 → E → (kept : List Block) → StandFor kept b1
+          → HasPassed image.log (λ r. IsGrownBy (r1.at + 6) r kept b1 b2) r1 r2)) same passed in
+      one_more_read image.log spec r1 r2 b1 b2 far (over far.reading e far.log.blocks far.stand) (on far.reading) few
+
+  pub told_all : (reads later : Option Image) (r2 : ReaderValue) (b2 : BlocksValue) (E : Type 0) → E → later ≡ reads → SoFar reads
+      → IfSome later (λ image. IsReading image.log r1 → IsReading image.log r2)
+      → IfSome later (λ image. IsReading image.log r1 → E → record_at (drop r1.at image.log) ≡ None)
+      → IfSome later (λ image. IsReading image.log r1 → E → r1.at < r1.len → 0 < length r2.ahead)
+      → IsAt r1.len r1.at r2 → b2 ≡ b1 → IfSome reads (λ image. HasRead image.log spec r0 b0 → HasReadAll image.log spec r2 b2)
+  told_all None later r2 b2 E e same so_far goes none byte at is = tt
+  told_all (Some image) later r2 b2 E e same so_far goes none byte at is = λ start.
+      let far = so_far start in
+      let on = subst (λ (o : Option Image). IfSome o (λ image. IsReading image.log r1 → IsReading image.log r2)) same goes in
+      let ended = subst (λ (o : Option Image). IfSome o (λ image. IsReading image.log r1 → E → record_at (drop r1.at image.log) ≡ None)) same none in
+      let there = subst (λ (o : Option Image). IfSome o (λ image. IsReading image.log r1 → E → r1.at < r1.len → 0 < length r2.ahead)) same byte in
+      record {
+        so_far = record {
+          reading = on far.reading;
+          within = omega (arith, far.within, at.at);
+          records = far.records;
+          split = far.split ∙ ap (λ (n : ℕ). far.records ++ records_of (drop n image.log)) (sym at.at);
+          place = at.at ∙ far.place;
+          log = far.log;
+          says = far.says;
+          specified = far.specified;
+          stand = subst (StandFor far.log.blocks) (sym is) far.stand;
+          counted = far.counted;
+          named = subst (λ (b : BlocksValue). NameBodies (14 + length far.log.specification) (record_of 2 far.log.genesis ∷ far.log.records) b.entries) (sym is) far.named;
+          next = at.at ∙ far.next;
+        };
+        ended = ap (λ (n : ℕ). record_at (drop n image.log)) at.at ∙ ended far.reading e;
+        byte = there far.reading e (omega (arith, far.within, far.reading.len));
+      }

@@ -1,0 +1,70 @@
+-- A whole log, once it was read.
+use Rattle.std.proofs.Common.{◌≡◌, ℕ, ◌+◌, ◌<◌, Bool, eqb, List, length, take, drop, get_or, Option, Some, None, sym, ap, ◌∙◌, subst, arith}
+use Rattle.std.specs.Prelude.{slice_index, IfSome, ◌==◌}
+use Rattle.std.proofs.lemmas.List.{get_or-take}
+use Rattle.time_defs.specs.Specification.{Specification}
+use Rattle.chain_tree.specs.declared.entry.Entry.{Entry}
+use Rattle.outside.specs.Image.{Image}
+use Rattle.store_defs.specs.Log.{Record, records_of, magic, LogContent, content_of_records, log_of}
+use Rattle.store_defs.specs.Rest.{EndsAt}
+use Rattle.store_defs.proofs.Resting.{gate_there}
+use Rattle.log_file.specs.Grammar.{BlocksValue}
+use Rattle.log_file.specs.Reading.{ReaderValue, IsReading}
+use Rattle.log_file.specs.Opening.{IsOpened, HasRead, HasReadAll}
+use Rattle.log_file.proofs.Progress.{no_content, opened_all, ends_all}
+use Rattle.log_file.proofs.Front.{on_same}
+
+-- It begins as a log does, and all of it was read.
+pub record IsRead (log : List ℕ) (spec : Specification) (reader : ReaderValue) (blocks : BlocksValue) : Type 0 where
+  begins : take 8 log ≡ magic
+  all : HasReadAll log spec reader blocks
+
+pub told_read : (reads l1 : Option Image) (spec : Specification) (len : ℕ) (r0 r1 r2 : ReaderValue) (b1 b2 : BlocksValue) → l1 ≡ reads
+    → IfSome reads (λ image. len ≡ length image.log) → ((log : List ℕ) → len ≡ length log → IsReading log r0)
+    → IfSome reads (λ image. IsReading image.log r0 → take 8 image.log ≡ magic)
+    → IfSome reads (λ image. IsReading image.log r0 → HasRead image.log spec r1 b1)
+    → IfSome l1 (λ image. HasRead image.log spec r1 b1 → HasReadAll image.log spec r2 b2)
+    → IfSome reads (λ image. IsRead image.log spec r2 b2)
+told_read None l1 spec len r0 r1 r2 b1 b2 same size reading start front further = tt
+told_read (Some image) l1 spec len r0 r1 r2 b1 b2 same size reading start front further =
+    let first : IsReading image.log r0 = reading image.log size in
+    let all = on_same l1 (Some image) (λ image. HasRead image.log spec r1 b1 → HasReadAll image.log spec r2 b2) same further in
+    record { begins = start first; all = all (front first) }
+
+pub told_wrong_blocks : (reads l1 : Option Image) (spec : Specification) (len : ℕ) (r0 r1 : ReaderValue) (b1 : BlocksValue) (E F : Type 0) → (E → F) → l1 ≡ reads
+    → IfSome reads (λ image. len ≡ length image.log) → ((log : List ℕ) → len ≡ length log → IsReading log r0)
+    → IfSome reads (λ image. IsReading image.log r0 → HasRead image.log spec r1 b1)
+    → IfSome l1 (λ image. HasRead image.log spec r1 b1 → F → content_of_records (records_of (drop 8 image.log)) ≡ None)
+    → IfSome reads (λ now. E → log_of now.log ≡ None)
+told_wrong_blocks None l1 spec len r0 r1 b1 E F is same size reading front wrong = tt
+told_wrong_blocks (Some image) l1 spec len r0 r1 b1 E F is same size reading front wrong = λ e.
+    let none = on_same l1 (Some image) (λ image. HasRead image.log spec r1 b1 → F → content_of_records (records_of (drop 8 image.log)) ≡ None) same wrong in
+    no_content image.log (none (front (reading image.log size)) (is e))
+
+pub told_opened : (reads : Option Image) (spec : Specification) (reader : ReaderValue) (blocks : BlocksValue) (items : List (List ℕ)) (entries : List Entry)
+    → items ≡ blocks.items → entries ≡ blocks.entries → IfSome reads (λ image. IsRead image.log spec reader blocks)
+    → IfSome reads (λ now. (log : LogContent) × IsOpened now.log log spec items entries)
+told_opened None spec reader blocks items entries is are all = tt
+told_opened (Some now) spec reader blocks items entries is are all =
+    let found = opened_all now.log spec reader blocks all.begins all.all in
+    (found.0, subst (λ (l : List (List ℕ)). IsOpened now.log found.0 spec l entries) (sym is)
+    (subst (λ (l : List Entry). IsOpened now.log found.0 spec blocks.items l) (sym are) found.1))
+
+pub told_ends : (reads : Option Image) (spec : Specification) (reader : ReaderValue) (blocks : BlocksValue) (place : ℕ) → place ≡ reader.at
+    → IfSome reads (λ image. IsRead image.log spec reader blocks) → IfSome reads (λ now. EndsAt place (records_of (drop 8 now.log)) now.log)
+told_ends None spec reader blocks place is all = tt
+told_ends (Some now) spec reader blocks place is all =
+    subst (λ (n : ℕ). EndsAt n (records_of (drop 8 now.log)) now.log) (sym is) (ends_all now.log spec reader blocks all.begins all.all)
+
+pub told_gate : (reads : Option Image) (spec : Specification) (reader : ReaderValue) (blocks : BlocksValue) (place : ℕ) (bytes : List ℕ) (gate : Bool) → place ≡ reader.at
+    → bytes ≡ reader.ahead → (0 < length bytes → gate ≡ (slice_index bytes 0 == 1))
+    → IfSome reads (λ image. IsRead image.log spec reader blocks) → IfSome reads (λ now. gate ≡ (slice_index now.log place == 1))
+told_gate None spec reader blocks place bytes gate is same tells all = tt
+told_gate (Some now) spec reader blocks place bytes gate is same tells all =
+    let log : List ℕ = now.log in
+    let n : ℕ = length reader.ahead in
+    let some : 0 < n = all.all.byte in
+    let front : slice_index reader.ahead 0 ≡ slice_index (drop reader.at log) 0 =
+    ap (λ (l : List ℕ). get_or l 0 0) all.all.so_far.reading.ahead ∙ get_or-take n (drop reader.at log) 0 0 some in
+    tells (omega (arith, some, ap length same))
+    ∙ ap (λ (m : ℕ). eqb m 1) (ap (λ (l : List ℕ). get_or l 0 0) same ∙ front ∙ gate_there reader.at log ∙ ap (λ (k : ℕ). get_or log k 0) (sym is))

@@ -1,0 +1,38 @@
+-- A log that is read from front to back.
+use Rattle.std.specs.Prelude.{◌≡◌, ◌⊎◌, ℕ, ◌+◌, ◌<◌, List, length, take, drop, Some, None}
+use Rattle.codec_defs.specs.Schema.{Block}
+use Rattle.store_defs.specs.Log.{Record, record_bytes, record_at, record_limit, block_of_record}
+
+-- What contracts see of a `Reader`: the length of the log, the place that it has come to, and the bytes from there on that are
+-- in memory.
+pub record ReaderValue : Type 0 where
+  pub len : ℕ
+  pub at : ℕ
+  pub ahead : List ℕ
+
+-- It reads this log.
+pub record IsReading (log : List ℕ) (reader : ReaderValue) : Type 0 where
+  pub len : reader.len ≡ length log
+  pub ahead : reader.ahead ≡ take (length reader.ahead) (drop reader.at log)
+
+-- the place that a reader has come to, of a log of this length
+pub record IsAt (size place : ℕ) (reader : ReaderValue) : Type 0 where
+  pub len : reader.len ≡ size
+  pub at : reader.at ≡ place
+
+-- It has gone over one record, of which P holds.
+pub record HasPassed (log : List ℕ) (P : Record → Type 0) (old new : ReaderValue) : Type 0 where
+  pub r : Record
+  pub there : record_at (drop old.at log) ≡ Some r
+  pub is : P r
+  pub at : IsAt old.len (old.at + length (record_bytes r)) new
+
+-- Of each record that may stand here P holds.
+abbrev pub OfRecordHere : List ℕ → ReaderValue → (Record → Type 0) → Type 0
+OfRecordHere log reader P = (r : Record) → record_at (drop reader.at log) ≡ Some r → P r
+
+-- A record stands here that is none of a block that may stand behind these, or there are as many as may be.
+pub record IsWrongHere (log : List ℕ) (kept : List Block) (reader : ReaderValue) : Type 0 where
+  pub r : Record
+  pub there : record_at (drop reader.at log) ≡ Some r
+  pub wrong : (block_of_record kept r ≡ None) ⊎ (record_limit < length kept)

@@ -1,0 +1,145 @@
+// The records of a log, from front to back.
+
+ghost use Rattle.std.specs.Prelude.{◌≡◌, ◌≢◌, ◌⊎◌, ◌+◌, ◌*◌, ◌<◌, ◌≤◌, ◌^◌, List, Ok, Err, None, length, take, drop, IfSome, IfOk, OnOk, IfErr, true, false};
+ghost use Rattle.codec_defs.specs.Schema.{Block};
+ghost use Rattle.outside.specs.Causes.{CountsFault};
+ghost use Rattle.outside.specs.Disk.{IsAsBefore};
+ghost use Rattle.rule_defs.specs.Verdict.{kept_limit};
+ghost use Rattle.time_defs.specs.Specification.{Specification, specification_of};
+ghost use Rattle.store_defs.specs.Log.{magic, record_at, records_of, content_of_records, log_of};
+ghost use Rattle.log_file.specs.Grammar.{is_specification, is_genesis, StandFor, IsGenesisOf, IsGrownBy};
+ghost use Rattle.log_file.specs.Reading.{IsReading, IsAt, HasPassed, OfRecordHere, IsWrongHere};
+ghost use Rattle.log_file.specs.Opening.{HasRead, HasReadAll};
+
+use crate::blocks::Blocks;
+use crate::grammar::{is_start, record_at, spec_of};
+use crate::reading::Reader;
+use crate::stop::LogStop;
+use epochs::Spec;
+use outside::Disk;
+use std::alloc::Global;
+
+/// Reads the first bytes of a log.
+fn read_start<D: Disk>(alloc: Global, disk: &mut D, reader: &mut Reader) -> Result<(), LogStop>
+    requires { reader.old.at ≡ 0 }
+    ensures at { OnOk result (IsAt reader.old.len 8 reader.new) }
+    ensures reading { IfSome (D.reads_as disk.old) (λ image. IsReading image.log reader.old → IsReading image.log reader.new) }
+    ensures found { IfSome (D.reads_as disk.old) (λ image. IsReading image.log reader.old → OnOk result (take 8 image.log ≡ magic)) }
+    ensures wrong { IfSome (D.reads_as disk.old) (λ image. IsReading image.log reader.old → result ≡ Err LogStop.NotAStore → take 8 image.log ≢ magic) }
+    ensures as_before { IsAsBefore D.reads_as D.images D.moment D.left_since disk.old disk.new }
+    ensures cause { CountsFault (D.faults disk.old) (D.faults disk.new) (result ≡ Err LogStop.DiskFault) }
+{
+    if reader.left() < 8 {
+        return Err(LogStop::NotAStore);
+    }
+    reader.fill(alloc, disk, 8)?;
+    if !is_start(reader.ahead()) {
+        return Err(LogStop::NotAStore);
+    }
+    reader.skip(8);
+    Ok(())
+}
+
+/// Reads the record of the specification.
+fn read_spec<D: Disk>(alloc: Global, disk: &mut D, reader: &mut Reader) -> Result<Spec, LogStop>
+    ensures at { IfOk result (λ spec. (reader.new.len ≡ reader.old.len) × (reader.new.at ≤ reader.old.at + 2 ^ 32 + 5)) }
+    ensures reading { IfSome (D.reads_as disk.old) (λ image. IsReading image.log reader.old → IsReading image.log reader.new) }
+    ensures found { IfSome (D.reads_as disk.old) (λ image. IsReading image.log reader.old → IfOk result (λ spec.
+        HasPassed image.log (λ r. (is_specification r ≡ true) × (spec ≡ specification_of r.body)) reader.old reader.new)) }
+    ensures wrong { IfSome (D.reads_as disk.old) (λ image. IsReading image.log reader.old → result ≡ Err LogStop.NotAStore
+        → OfRecordHere image.log reader.old (λ r. is_specification r ≡ false)) }
+    ensures as_before { IsAsBefore D.reads_as D.images D.moment D.left_since disk.old disk.new }
+    ensures cause { CountsFault (D.faults disk.old) (D.faults disk.new) (result ≡ Err LogStop.DiskFault) }
+{
+    reader.fill_record(alloc, disk)?;
+    let Some((kind, body)) = record_at(reader.ahead()) else {
+        return Err(LogStop::NotAStore);
+    };
+    let Some(spec) = spec_of(kind, body) else {
+        return Err(LogStop::NotAStore);
+    };
+    let size = 6 + body.len();
+    reader.skip(size);
+    Ok(spec)
+}
+
+/// Reads the record of the genesis.
+fn read_genesis<D: Disk>(alloc: Global, disk: &mut D, reader: &mut Reader) -> Result<Blocks, LogStop>
+    ensures at { IfOk result (λ blocks. (reader.new.len ≡ reader.old.len) × (reader.new.at ≤ reader.old.at + 2 ^ 32 + 5)) }
+    ensures one { IfOk result (λ blocks. length blocks.items ≡ 1) }
+    ensures reading { IfSome (D.reads_as disk.old) (λ image. IsReading image.log reader.old → IsReading image.log reader.new) }
+    ensures found { IfSome (D.reads_as disk.old) (λ image. IsReading image.log reader.old → IfOk result (λ blocks.
+        HasPassed image.log (λ r. IsGenesisOf (reader.old.at + 6) r blocks) reader.old reader.new)) }
+    ensures wrong { IfSome (D.reads_as disk.old) (λ image. IsReading image.log reader.old → result ≡ Err LogStop.NotAStore
+        → OfRecordHere image.log reader.old (λ r. is_genesis r ≡ false)) }
+    ensures as_before { IsAsBefore D.reads_as D.images D.moment D.left_since disk.old disk.new }
+    ensures cause { CountsFault (D.faults disk.old) (D.faults disk.new) (result ≡ Err LogStop.DiskFault) }
+{
+    reader.fill_record(alloc, disk)?;
+    let place = reader.at();
+    let Some((kind, body)) = record_at(reader.ahead()) else {
+        return Err(LogStop::NotAStore);
+    };
+    let blocks = Blocks::of_genesis(alloc, kind, body, place + 6)?;
+    let size = 6 + body.len();
+    reader.skip(size);
+    Ok(blocks)
+}
+
+/// Reads the front of a log, up to its blocks.
+pub(crate) fn read_front<D: Disk>(alloc: Global, disk: &mut D, reader: &mut Reader) -> Result<(Spec, Blocks), LogStop>
+    requires { reader.old.at ≡ 0 }
+    ensures place { IfOk result (λ front. reader.new.at ≤ 2 ^ 33 * (length front.1.items + 1)) }
+    ensures start { IfSome (D.reads_as disk.old) (λ image. IsReading image.log reader.old → IfOk result (λ front. take 8 image.log ≡ magic)) }
+    ensures found { IfSome (D.reads_as disk.old) (λ image. IsReading image.log reader.old → IfOk result (λ front. HasRead image.log front.0 reader.new front.1)) }
+    ensures wrong { IfSome (D.reads_as disk.old) (λ image. IsReading image.log reader.old → result ≡ Err LogStop.NotAStore → log_of image.log ≡ None) }
+    ensures as_before { IsAsBefore D.reads_as D.images D.moment D.left_since disk.old disk.new }
+    ensures cause { CountsFault (D.faults disk.old) (D.faults disk.new) (result ≡ Err LogStop.DiskFault) }
+{
+    read_start(alloc, disk, reader)?;
+    let spec = read_spec(alloc, disk, reader)?;
+    let blocks = read_genesis(alloc, disk, reader)?;
+    Ok((spec, blocks))
+}
+
+/// Reads the record of one block more, if a record stands here, and answers whether one does.
+fn read_block<D: Disk>(alloc: Global, disk: &mut D, reader: &mut Reader, blocks: &mut Blocks) -> Result<bool, LogStop>
+    ensures at { result ≡ Ok true → (reader.new.len ≡ reader.old.len) × (reader.new.at ≤ reader.old.at + 2 ^ 32 + 5) }
+    ensures longer { result ≡ Ok true → length blocks.new.items ≡ length blocks.old.items + 1 }
+    ensures few { result ≡ Ok true → length blocks.new.items ≤ kept_limit }
+    ensures stays { result ≡ Ok false → IsAt reader.old.len reader.old.at reader.new × (blocks.new ≡ blocks.old) }
+    ensures reading { IfSome (D.reads_as disk.old) (λ image. IsReading image.log reader.old → IsReading image.log reader.new) }
+    ensures found { IfSome (D.reads_as disk.old) (λ image. IsReading image.log reader.old → result ≡ Ok true → (kept : List Block) → StandFor kept blocks.old
+        → HasPassed image.log (λ r. IsGrownBy (reader.old.at + 6) r kept blocks.old blocks.new) reader.old reader.new) }
+    ensures ended { IfSome (D.reads_as disk.old) (λ image. IsReading image.log reader.old → result ≡ Ok false → record_at (drop reader.old.at image.log) ≡ None) }
+    ensures byte { IfSome (D.reads_as disk.old) (λ image. IsReading image.log reader.old → result ≡ Ok false → reader.old.at < reader.old.len
+        → 0 < length reader.new.ahead) }
+    ensures wrong { IfSome (D.reads_as disk.old) (λ image. IsReading image.log reader.old → result ≡ Err LogStop.NotAStore → (kept : List Block)
+        → StandFor kept blocks.old → IsWrongHere image.log kept reader.old) }
+    ensures as_before { IsAsBefore D.reads_as D.images D.moment D.left_since disk.old disk.new }
+    ensures cause { CountsFault (D.faults disk.old) (D.faults disk.new) (result ≡ Err LogStop.DiskFault) }
+{
+    reader.fill_record(alloc, disk)?;
+    let place = reader.at();
+    let Some((kind, body)) = record_at(reader.ahead()) else {
+        return Ok(false);
+    };
+    blocks.put(alloc, kind, body, place + 6)?;
+    let size = 6 + body.len();
+    reader.skip(size);
+    Ok(true)
+}
+
+/// Reads the records of blocks to the end of the log.
+pub(crate) fn read_blocks<D: Disk>(alloc: Global, disk: &mut D, reader: &mut Reader, blocks: &mut Blocks) -> Result<(), LogStop>
+    ensures place { reader.old.at ≤ 2 ^ 33 * (length blocks.old.items + 1) → OnOk result (reader.new.at ≤ 2 ^ 33 * (length blocks.new.items + 1)) }
+    ensures found { (spec : Specification) → IfSome (D.reads_as disk.old) (λ image. HasRead image.log spec reader.old blocks.old
+        → OnOk result (HasReadAll image.log spec reader.new blocks.new)) }
+    ensures wrong { (spec : Specification) → IfSome (D.reads_as disk.old) (λ image. HasRead image.log spec reader.old blocks.old → result ≡ Err LogStop.NotAStore
+        → content_of_records (records_of (drop 8 image.log)) ≡ None) }
+    ensures as_before { IsAsBefore D.reads_as D.images D.moment D.left_since disk.old disk.new }
+    ensures cause { CountsFault (D.faults disk.old) (D.faults disk.new) (result ≡ Err LogStop.DiskFault) }
+{
+    'records: while read_block(alloc, disk, reader, blocks)? {}
+    Ok(())
+}

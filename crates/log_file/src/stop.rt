@@ -1,0 +1,47 @@
+// Why a log was not opened.
+ghost use Rattle.std.specs.Prelude.{◌≡◌};
+ghost use Rattle.log_file.specs.declared.stop.LogStop.TheVariants.{DiskFault, NoMemory as no_memory};
+
+use outside::{Failed, NoMemory};
+use std::alloc::{AllocError, AllocFailed};
+
+/// Why a log was not opened.
+#[derive(Clone, Copy, Debug, PartialEq, Eq)]
+pub enum LogStop {
+    DiskFault,
+    /// LOG is no log.
+    NotAStore,
+    NoMemory,
+}
+
+impl From<Failed> for LogStop {
+    ghost from_gives = { λ _ stop. stop ≡ DiskFault };
+
+    fn from(_: Failed) -> Self {
+        LogStop::DiskFault
+    }
+}
+
+impl From<NoMemory> for LogStop {
+    ghost from_gives = { λ _ stop. stop ≡ no_memory };
+
+    fn from(_: NoMemory) -> Self {
+        LogStop::NoMemory
+    }
+}
+
+impl From<AllocError> for LogStop {
+    ghost from_gives = { λ _ stop. stop ≡ no_memory };
+
+    fn from(_: AllocError) -> Self {
+        LogStop::NoMemory
+    }
+}
+
+impl<T: Drop> From<AllocFailed<T>> for LogStop {
+    ghost from_gives = { λ _ stop. stop ≡ no_memory };
+
+    fn from(_: AllocFailed<T>) -> Self {
+        LogStop::NoMemory
+    }
+}
