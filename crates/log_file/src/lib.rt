@@ -18,6 +18,8 @@ mod grammar;
 mod log;
 mod number;
 mod opening;
+#[cfg(test)]
+mod opening_tests;
 mod reading;
 mod records;
 mod stop;
