@@ -35,7 +35,7 @@ grown place r kept old new item entry stand behind items entries indexed = recor
   is = behind.is;
   stand = record {
     decode = ap (map (decoded shapes.block)) items ∙ map-append (decoded shapes.block) old.items (item ∷ [])
-    ∙ (λ i. stand.decode i ++ behind.decode i ∷ []) ∙ sym (map-append Some kept (behind.block ∷ []));
+        ∙ (λ i. stand.decode i ++ behind.decode i ∷ []) ∙ sym (map-append Some kept (behind.block ∷ []));
     indexed = indexed behind.block behind.described behind.parent;
   };
   entry = entry;

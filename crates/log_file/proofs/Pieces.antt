@@ -176,7 +176,7 @@ gone_over log old new count within at ahead reading =
     record {
       len = at.len ∙ reading.len;
       ahead = ahead ∙ ap (drop count) (reading.ahead ∙ ap (λ (n : ℕ). take n (drop old.at log)) sum) ∙ drop-take count j (drop old.at log)
-      ∙ ap (take j) (drop-drop count old.at log) ∙ ap (λ (n : ℕ). take n (drop (old.at + count) log)) size ∙ ap (λ (n : ℕ). take (length new.ahead) (drop n log)) (sym at.at);
+          ∙ ap (take j) (drop-drop count old.at log) ∙ ap (λ (n : ℕ). take n (drop (old.at + count) log)) size ∙ ap (λ (n : ℕ). take (length new.ahead) (drop n log)) (sym at.at);
     }
 
 -- the first bytes of a log

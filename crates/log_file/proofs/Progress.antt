@@ -147,8 +147,7 @@ names-push place [] (e ∷ es) r entry so_far last = absurd so_far
 names-push place (first ∷ records) [] r entry so_far last = absurd so_far
 names-push place (first ∷ records) (e ∷ es) r entry so_far last =
     let n : ℕ = length (record_bytes first) in
-    let sum : size_of_all (first ∷ records) ≡ n + size_of_all records = length-append (record_bytes first) (all_record_bytes records) in
-    (
+    let sum : size_of_all (first ∷ records) ≡ n + size_of_all records = length-append (record_bytes first) (all_record_bytes records) in (
       so_far.0,
       so_far.1,
       names-push (place + n) records es r entry so_far.2 (record { at = last.at ∙ omega (arith, sum); len = last.len }),
@@ -211,7 +210,7 @@ one_more_read log spec old new before after so_far passed reading few =
       within = omega (arith, passed.at.at, still_within log old.at r passed.there);
       records = so_far.records ++ r ∷ [];
       split = split_more (records_of (drop 8 log)) so_far.records log old.at r so_far.split passed.there
-      ∙ ap (λ (n : ℕ). (so_far.records ++ r ∷ []) ++ records_of (drop n log)) (sym passed.at.at);
+          ∙ ap (λ (n : ℕ). (so_far.records ++ r ∷ []) ++ records_of (drop n log)) (sym passed.at.at);
       place = omega (arith, passed.at.at, so_far.place, size-push so_far.records r);
       log = grown so_far.log r is.block;
       says = grows_by_a_block so_far.records r so_far.log is.block so_far.says is.is room;
@@ -279,15 +278,17 @@ unfolding log_of
 opened_all log spec reader blocks begins all =
     let far = all.so_far in
     let says : content_of_records (records_of (drop 8 log)) ≡ Some far.log = ap content_of_records (says_all log spec reader blocks all) ∙ far.says in
-    let test : bytes_eq (take 8 log) magic ≡ true = (bytes_decides (take 8 log) magic).1 begins in
-    (far.log, record {
-      is_log = ap (λ (t : Bool). cond t (content_of_records (records_of (drop 8 log))) None) test ∙ says;
-      says = says;
-      specified = far.specified;
-      decode = far.stand.decode;
-      indexed = far.stand.indexed;
-      named = far.named;
-    })
+    let test : bytes_eq (take 8 log) magic ≡ true = (bytes_decides (take 8 log) magic).1 begins in (
+      far.log,
+      record {
+        is_log = ap (λ (t : Bool). cond t (content_of_records (records_of (drop 8 log))) None) test ∙ says;
+        says = says;
+        specified = far.specified;
+        decode = far.stand.decode;
+        indexed = far.stand.indexed;
+        named = far.named;
+      },
+    )
 
 pub ends_all : (log : List ℕ) (spec : Specification) (reader : ReaderValue) (blocks : BlocksValue) → take 8 log ≡ magic → HasReadAll log spec reader blocks
     → EndsAt reader.at (records_of (drop 8 log)) log
@@ -325,7 +326,7 @@ module _ (spec : Specification) (r0 r1 : ReaderValue) (b0 b1 : BlocksValue) wher
       let far = so_far start in
       let on = subst (λ (o : Option Image). IfSome o (λ image. IsReading image.log r1 → IsReading image.log r2)) same goes in
       let over = subst (λ (o : Option Image). IfSome o (λ image. IsReading image.log r1 → E → (kept : List Block) → StandFor kept b1
-          → HasPassed image.log (λ r. IsGrownBy (r1.at + 6) r kept b1 b2) r1 r2)) same passed in
+      → HasPassed image.log (λ r. IsGrownBy (r1.at + 6) r kept b1 b2) r1 r2)) same passed in
       one_more_read image.log spec r1 r2 b1 b2 far (over far.reading e far.log.blocks far.stand) (on far.reading) few
 
   pub told_all : (reads later : Option Image) (r2 : ReaderValue) (b2 : BlocksValue) (E : Type 0) → E → later ≡ reads → SoFar reads

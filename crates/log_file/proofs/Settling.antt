@@ -30,7 +30,6 @@ told_settled (Some now) later mid final place images same still ends wrote durab
     settled_of place (records_of (drop 8 now.log)) now final images (on_same later (Some now) (λ now. EndsAt place (records_of (drop 8 now.log)) now.log) same ends)
     (on_same mid (Some now) (λ now. final ≡ Some (mended place now)) still wrote) durable
 
-
 pub told_moments : (reads later mid : Option Image) (place : ℕ) (old read : Image → Type 0) (Leaves Ends : (Image → Type 0) → Type 0) → later ≡ reads → mid ≡ reads
     → IfSome later (λ now. EndsAt place (records_of (drop 8 now.log)) now.log) → IfSome mid (IsDurable Log read) → NoneNew old read
     → IfSome mid (λ now. (records : List Record) → EndsAt place records now.log → IsDurable Log read now → Ends (HasLog (SaysSame now) read))

@@ -46,9 +46,11 @@ pub told_opened : (reads : Option Image) (spec : Specification) (reader : Reader
     → IfSome reads (λ now. (log : LogContent) × IsOpened now.log log spec items entries)
 told_opened None spec reader blocks items entries is are all = tt
 told_opened (Some now) spec reader blocks items entries is are all =
-    let found = opened_all now.log spec reader blocks all.begins all.all in
-    (found.0, subst (λ (l : List (List ℕ)). IsOpened now.log found.0 spec l entries) (sym is)
-    (subst (λ (l : List Entry). IsOpened now.log found.0 spec blocks.items l) (sym are) found.1))
+    let found = opened_all now.log spec reader blocks all.begins all.all in (
+      found.0,
+      subst (λ (l : List (List ℕ)). IsOpened now.log found.0 spec l entries) (sym is)
+          (subst (λ (l : List Entry). IsOpened now.log found.0 spec blocks.items l) (sym are) found.1),
+    )
 
 pub told_ends : (reads : Option Image) (spec : Specification) (reader : ReaderValue) (blocks : BlocksValue) (place : ℕ) → place ≡ reader.at
     → IfSome reads (λ image. IsRead image.log spec reader blocks) → IfSome reads (λ now. EndsAt place (records_of (drop 8 now.log)) now.log)

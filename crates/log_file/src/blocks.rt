@@ -109,7 +109,12 @@ impl Model for Blocks {
 
 impl Blocks {
     /// The genesis of a record alone. The record's body begins at `at`.
-    pub(crate) fn of_genesis(alloc: Global, kind: u8, body: &[u8], at: u64) -> Result<Blocks, LogStop>
+    pub(crate) fn of_genesis(
+        alloc: Global,
+        kind: u8,
+        body: &[u8],
+        at: u64,
+    ) -> Result<Blocks, LogStop>
         requires { length body.now < 2 ^ 32 }
         ensures genesis { IfOk result (IsGenesisOf at (record_of kind body.now)) }
         ensures one { IfOk result (λ blocks. length blocks.items ≡ 1) }
@@ -142,7 +147,13 @@ impl Blocks {
     }
 
     /// Puts the block of a record behind the others. The record's body begins at `at`.
-    pub(crate) fn put(&mut self, alloc: Global, kind: u8, body: &[u8], at: u64) -> Result<(), LogStop>
+    pub(crate) fn put(
+        &mut self,
+        alloc: Global,
+        kind: u8,
+        body: &[u8],
+        at: u64,
+    ) -> Result<(), LogStop>
         requires { length body.now < 2 ^ 32 }
         ensures grown { (kept : List Block) → StandFor kept self.old → OnOk result (IsGrownBy at (record_of kind body.now) kept self.old self.new) }
         ensures wrong { (kept : List Block) → StandFor kept self.old → result ≡ Err LogStop.NotAStore

@@ -18,7 +18,12 @@ const PIECE: u64 = 1 << 18;
 
 /// Reads LOG from `at` on into a buffer, where these first bytes were read before. Answers how many there are with
 /// those.
-fn read_behind<D: Disk>(disk: &mut D, at: u64, front: &[u8], into: &mut [u8]) -> Result<usize, Failed>
+fn read_behind<D: Disk>(
+    disk: &mut D,
+    at: u64,
+    front: &[u8],
+    into: &mut [u8],
+) -> Result<usize, Failed>
     requires within { length front.now ≤ length into.old }
     requires limit { at + length into.old < 2 ^ 64 }
     ensures fits { IfOk result (λ n. n ≤ length into.new) }
@@ -137,7 +142,12 @@ impl Reader {
     }
 
     /// Reads on, so that as many bytes are in memory.
-    pub(crate) fn fill<D: Disk>(&mut self, alloc: Global, disk: &mut D, need: u64) -> Result<(), LogStop>
+    pub(crate) fn fill<D: Disk>(
+        &mut self,
+        alloc: Global,
+        disk: &mut D,
+        need: u64,
+    ) -> Result<(), LogStop>
         requires { self.old.at + need ≤ self.old.len }
         ensures at { IsAt self.old.len self.old.at self.new }
         ensures reading { IfSome (D.reads_as disk.old) (λ image. IsReading image.log self.old
@@ -150,14 +160,24 @@ impl Reader {
             return Ok(());
         }
         let size = self.left().min(need.max(PIECE));
-        let bytes = read_piece(alloc, disk, self.at, &self.bytes[self.from..], size as usize)?;
+        let bytes = read_piece(
+            alloc,
+            disk,
+            self.at,
+            &self.bytes[self.from..],
+            size as usize,
+        )?;
         self.bytes = bytes;
         self.from = 0;
         Ok(())
     }
 
     /// Reads on, so that the record that stands here is in memory, if one does, and a byte in any case.
-    pub(crate) fn fill_record<D: Disk>(&mut self, alloc: Global, disk: &mut D) -> Result<(), LogStop>
+    pub(crate) fn fill_record<D: Disk>(
+        &mut self,
+        alloc: Global,
+        disk: &mut D,
+    ) -> Result<(), LogStop>
         ensures at { IsAt self.old.len self.old.at self.new }
         ensures reading { IfSome (D.reads_as disk.old) (λ image. IsReading image.log self.old → IsReading image.log self.new) }
         ensures found { IfSome (D.reads_as disk.old) (λ image. IsReading image.log self.old

@@ -64,7 +64,11 @@ fn read_spec<D: Disk>(alloc: Global, disk: &mut D, reader: &mut Reader) -> Resul
 }
 
 /// Reads the record of the genesis.
-fn read_genesis<D: Disk>(alloc: Global, disk: &mut D, reader: &mut Reader) -> Result<Blocks, LogStop>
+fn read_genesis<D: Disk>(
+    alloc: Global,
+    disk: &mut D,
+    reader: &mut Reader,
+) -> Result<Blocks, LogStop>
     ensures at { IfOk result (λ blocks. (reader.new.len ≡ reader.old.len) × (reader.new.at ≤ reader.old.at + 2 ^ 32 + 5)) }
     ensures one { IfOk result (λ blocks. length blocks.items ≡ 1) }
     ensures reading { IfSome (D.reads_as disk.old) (λ image. IsReading image.log reader.old → IsReading image.log reader.new) }
@@ -87,7 +91,11 @@ fn read_genesis<D: Disk>(alloc: Global, disk: &mut D, reader: &mut Reader) -> Re
 }
 
 /// Reads the front of a log, up to its blocks.
-pub(crate) fn read_front<D: Disk>(alloc: Global, disk: &mut D, reader: &mut Reader) -> Result<(Spec, Blocks), LogStop>
+pub(crate) fn read_front<D: Disk>(
+    alloc: Global,
+    disk: &mut D,
+    reader: &mut Reader,
+) -> Result<(Spec, Blocks), LogStop>
     requires { reader.old.at ≡ 0 }
     ensures place { IfOk result (λ front. reader.new.at ≤ 2 ^ 33 * (length front.1.items + 1)) }
     ensures start { IfSome (D.reads_as disk.old) (λ image. IsReading image.log reader.old → IfOk result (λ front. take 8 image.log ≡ magic)) }
@@ -103,7 +111,12 @@ pub(crate) fn read_front<D: Disk>(alloc: Global, disk: &mut D, reader: &mut Read
 }
 
 /// Reads the record of one block more, if a record stands here, and answers whether one does.
-fn read_block<D: Disk>(alloc: Global, disk: &mut D, reader: &mut Reader, blocks: &mut Blocks) -> Result<bool, LogStop>
+fn read_block<D: Disk>(
+    alloc: Global,
+    disk: &mut D,
+    reader: &mut Reader,
+    blocks: &mut Blocks,
+) -> Result<bool, LogStop>
     ensures at { result ≡ Ok true → (reader.new.len ≡ reader.old.len) × (reader.new.at ≤ reader.old.at + 2 ^ 32 + 5) }
     ensures longer { result ≡ Ok true → length blocks.new.items ≡ length blocks.old.items + 1 }
     ensures few { result ≡ Ok true → length blocks.new.items ≤ kept_limit }
@@ -131,7 +144,12 @@ fn read_block<D: Disk>(alloc: Global, disk: &mut D, reader: &mut Reader, blocks:
 }
 
 /// Reads the records of blocks to the end of the log.
-pub(crate) fn read_blocks<D: Disk>(alloc: Global, disk: &mut D, reader: &mut Reader, blocks: &mut Blocks) -> Result<(), LogStop>
+pub(crate) fn read_blocks<D: Disk>(
+    alloc: Global,
+    disk: &mut D,
+    reader: &mut Reader,
+    blocks: &mut Blocks,
+) -> Result<(), LogStop>
     ensures place { reader.old.at ≤ 2 ^ 33 * (length blocks.old.items + 1) → OnOk result (reader.new.at ≤ 2 ^ 33 * (length blocks.new.items + 1)) }
     ensures found { (spec : Specification) → IfSome (D.reads_as disk.old) (λ image. HasRead image.log spec reader.old blocks.old
         → OnOk result (HasReadAll image.log spec reader.new blocks.new)) }

@@ -17,7 +17,7 @@ records-preserved g c =
       no_fault = grind (arith, common_steps);
       place = λ start. omega (arith, (one.at (ap Ok yes)).1, one.longer (ap Ok yes), c.records.invariant.place start);
       told = λ spec. told_more spec c.args.reader.now c.records.reader c.args.blocks.now c.records.blocks _ _ c.read_block.new.reader c.read_block.new.blocks _ (ap Ok yes)
-      c.records.invariant.as_before.reads (c.records.invariant.told spec) one.reading one.found (one.few (ap Ok yes));
+          c.records.invariant.as_before.reads (c.records.invariant.told spec) one.reading one.found (one.few (ap Ok yes));
     }
 
 pub returns-clause-found : goal.returns-clause-found
