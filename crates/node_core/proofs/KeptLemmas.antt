@@ -1,6 +1,6 @@
 -- The verdict over kept blocks, and what is kept with one more.
 use Rattle.std.proofs.Common.{◌≡◌, ℕ, ◌+◌, ◌*◌, ◌^◌, ◌≤◌, ◌<◌, false, List, [], ◌∷◌, ◌++◌, length, map, Option, Some, None, refl, ap, sym, ◌∙◌, subst, arith}
-use Rattle.std.specs.Prelude.{Result, Ok, Err, IfErr, IsTrue, ◌==◌}
+use Rattle.std.specs.Prelude.{Result, Ok, Err, IfOk, IsTrue, ◌==◌}
 use Rattle.std.specs.List.{cons_option}
 use Rattle.std.proofs.lemmas.Bool.Decides.{Decides-eqb}
 use Rattle.std.proofs.lemmas.List.{length-append, length_push, length-map, map-append}
@@ -29,7 +29,10 @@ use Rattle.store_defs.specs.Store.{ext_of_joined}
 use Rattle.store_defs.proofs.Records.{record_length}
 use Rattle.log_file.specs.Pieces.{behind_gate}
 use Rattle.log_file.proofs.Gates.{piece_length}
+use Rattle.node_core.specs.declared.node.Judged.{Judged}
+use Rattle.node_core.specs.declared.node.Judged.TheVariants.{Joins, Stays}
 use Rattle.node_core.specs.Node.{blocks_of, AreKept, JoinsAs}
+use Rattle.node_core.specs.Judging.{IsJudgedBlock, IsJudged}
 use Rattle.node_core.proofs.RuleLemmas.{follows-branch}
 
 -- ---- The verdict on an item
@@ -47,11 +50,15 @@ pub judged_block : (chain : Chain) (item : List ℕ) (b : Block) → decoded blo
 unfolding verdict
 judged_block chain item b is = ap (verdict_of chain.spec chain.blocks) (sym is)
 
-pub judged_else : {T : Type 0} (chain : Chain) (item : List ℕ) (b : Block) (result : Result T Verdict) → decoded block item ≡ Some b
-    → IfErr result (λ verdict. (verdict ≡ verdict_of_block chain.spec chain.blocks b) × (joins verdict ≡ false))
-    → IfErr result (λ verdict. (verdict ≡ verdict_over chain item) × (joins verdict ≡ false))
-judged_else chain item b (Ok value) is here = tt
-judged_else chain item b (Err verdict) is here = (here.0 ∙ judged_block chain item b is, here.1)
+judged_item : (chain : Chain) (item : List ℕ) (b : Block) (judged : Judged) → decoded block item ≡ Some b → IsJudgedBlock chain.spec chain.blocks b judged
+    → IsJudged chain item judged
+judged_item chain item b (Joins entry) is here = (b, is, here)
+judged_item chain item b (Stays verdict) is here = (here.0 ∙ judged_block chain item b is, here.1)
+
+pub judged_else : {E : Type 0} (chain : Chain) (item : List ℕ) (b : Block) (result : Result Judged E) → decoded block item ≡ Some b
+    → IfOk result (IsJudgedBlock chain.spec chain.blocks b) → IfOk result (IsJudged chain item)
+judged_else chain item b (Ok judged) is here = judged_item chain item b judged is here
+judged_else chain item b (Err stop) is here = tt
 
 -- what is kept after an item that does not join
 pub stays : (chain : Chain) (item : List ℕ) → joins (verdict_over chain item) ≡ false → chain ≡ chain_after chain item
