@@ -4,7 +4,7 @@ use Rattle.std.specs.Prelude.{is_some, not, IsTrue}
 use Rattle.std.proofs.lemmas.Bool.{false_from_ne_true}
 use Rattle.std.proofs.lemmas.Bool.Decides.{Decides-ltb, Decides-eqb}
 use Rattle.std.proofs.lemmas.List.{append-nil, append_assoc}
-use Rattle.std.proofs.lemmas.List.Elements.{All-head}
+use Rattle.std.proofs.lemmas.List.Elements.{All-head, All-tail}
 use Rattle.codec_defs.specs.Shape.{decoded}
 use Rattle.codec_defs.specs.Schema.{Block}
 use Rattle.codec_defs.specs.Schema as shapes
@@ -14,7 +14,8 @@ use Rattle.chain_defs.specs.Branch.{branch}
 use Rattle.chain_defs.proofs.KeptLaws.{place_of-below, place_of-there, IsKept-one, IsKept-push}
 use Rattle.chain_defs.proofs.BranchLaws.{branch-last}
 use Rattle.time_defs.specs.Specification.{Specification}
-use Rattle.rule_defs.specs.Header.{parent_of, follows}
+use Rattle.rule_defs.specs.Header.{parent_of, has_version, follows, has_epoch, has_target, is_later}
+use Rattle.rule_defs.specs.Body.{body_rules}
 use Rattle.rule_defs.specs.Rules.{rules_on, first_broken}
 use Rattle.rule_defs.specs.Verdict.{verdict, verdict_of, verdict_on, verdict_by_rules, joins, has_built_form, has_room, kept_limit, kept_after, blocks_of_item, block_list}
 use Rattle.rule_defs.specs.Chain.{Chain, chain_after, chain_over}
@@ -98,7 +99,12 @@ kept_after-stays spec kept item left = ap (λ (b : Bool). cond b (kept ++ blocks
 pub follows-unbroken : (spec : Specification) (blocks : List Block) (b : Block) → first_broken spec blocks b ≡ None → IsTrue (follows b (parent_of blocks))
 unfolding first_broken
 follows-unbroken spec blocks b unbroken =
-    All-head (λ rule. IsTrue rule.1) (5, follows b (parent_of blocks)) [] ((finds_none (rules_on spec blocks b)).0 unbroken)
+    let all = (finds_none (rules_on spec blocks b)).0 unbroken in
+    All-head (λ rule. IsTrue rule.1) (5, follows b (parent_of blocks)) later
+    (All-tail (λ rule. IsTrue rule.1) (4, has_version b.header) ((5, follows b (parent_of blocks)) ∷ later) all)
+  where
+    later : List (ℕ × Bool)
+    later = (6, has_epoch spec b.header) ∷ (7, has_target spec b.header) ∷ (8, is_later blocks b.header) ∷ body_rules spec b
 
 -- The block that a branch of a place ends with is the one at it.
 pub parent_of-branch : (kept : List Block) (place : ℕ) → place < length kept → parent_of (branch kept place) ≡ block_at kept place

@@ -18,9 +18,9 @@ kept_limit = 1000000
 abbrev pub has_room : List Block → Bool
 has_room kept = nat_lt (length kept) kept_limit
 
--- The forms that are judged: one transaction, no uncle and no proposal.
+-- The forms that are judged: one transaction and no uncle.
 abbrev pub has_built_form : Block → Bool
-has_built_form b = (length b.transactions == 1) && (length b.uncles == 0) && (length b.proposals == 0)
+has_built_form b = (length b.transactions == 1) && (length b.uncles == 0)
 
 -- A block that breaks no rule joins where there is room.
 abbrev pub verdict_by_rules : List Block → Block → Option ℕ → Verdict
