@@ -1,7 +1,7 @@
 use Rattle.std.proofs.Common.{◌≡◌, ℕ, List, Vec, Global, Err, map, length, ap, ◌∙◌, inl, arith}
 use Rattle.std.proofs.lemmas.List.{length-map}
 use Rattle.outside.proofs.Moments.{leaves_also, leaves_then, now_too}
-use Rattle.log_file.specs.declared.log.LogStop.TheVariants.{NotAStore}
+use Rattle.log_file.specs.declared.stop.LogStop.TheVariants.{NotAStore}
 use Rattle.node_core.proofs.OpenLemmas.{opened_keeps, opened_nothing, are_kept, stands_while_opened, opened_on, at_some, if_some_also, one_after}
 use Rattle.node_core.proofs.NewLemmas.{when_ok}
 use Rattle.node_core.proofs.node.Node.open.Goals as goal
