@@ -1,5 +1,5 @@
+pub mod Faults
+pub mod Statuses
+pub mod LineLemmas
 pub mod ImportLemmas
-pub mod Reading
-pub mod RunLemmas
 pub mod WordLemmas
-pub mod ExecLemmas

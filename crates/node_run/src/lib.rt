@@ -5,15 +5,11 @@
 //! machine are left to `outside_os`, and `main` to the program `ckbdev`.
 #![tactic(auto)]
 
-mod exec;
 mod import;
-mod items;
 mod lines;
 mod output;
-#[cfg(test)]
-mod tests;
-mod top;
+mod store;
+mod tip;
 mod words;
 
 pub use report_defs::Status;
-pub use top::run;
