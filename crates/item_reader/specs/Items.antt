@@ -1,5 +1,5 @@
 -- The next item of an input: which bytes the source gave for it.
-use Rattle.std.specs.Prelude.{◌≡◌, ◌⊎◌, ℕ, ◌+◌, List, [], ◌++◌, length, Option, Some, None, Result, Ok, Err}
+use Rattle.std.specs.Prelude.{◌≡◌, ◌⊎◌, ℕ, ◌+◌, List, [], ◌++◌, length, Bool, true, false, Option, Some, Result, Ok, Err}
 use Rattle.std.specs.Io.KnownBytes.{IsAtEnd}
 use Rattle.outside.specs.Streams.{Gives}
 use Rattle.report_defs.specs.Items.{IsItem, IsAtWord, IsWithin, end_at}
@@ -43,7 +43,8 @@ IsNext limit input offset left (Ok (next.Item item)) given = IsItemAt limit inpu
 IsNext limit input offset left (Ok (next.End end)) given = EndsAt (Some limit) input offset left end given × IsPartial limit input offset given
 IsNext limit input offset left (Err status) given = IsReadingStop status × (IsPartial limit input offset given ⊎ IsItemAt limit input offset given given)
 
--- where no item is taken, at any offset
-abbrev pub IsLast : Option (List ℕ) → Result End Status → List ℕ → Type 0
-IsLast left (Ok end) given = (offset : ℕ) → EndsAt None None offset left end given
-IsLast left (Err status) given = status ≡ InputFault
+-- where no item is taken, no byte more than one is read
+abbrev pub IsMore : Option (List ℕ) → Result Bool Status → List ℕ → Type 0
+IsMore left (Ok true) given = length given ≡ 1
+IsMore left (Ok false) given = (given ≡ []) × IsAtEnd left
+IsMore left (Err status) given = status ≡ InputFault

@@ -5,7 +5,7 @@ ghost use Rattle.std.specs.Io.KnownBytes.{IsAtEnd};
 ghost use Rattle.outside.specs.Causes.{HasCause, CountsFault};
 ghost use Rattle.outside.specs.Streams.{Gives};
 ghost use Rattle.report_defs.specs.Items as items;
-ghost use Rattle.item_reader.specs.Items.{Gave, IsNext, IsLast};
+ghost use Rattle.item_reader.specs.Items.{Gave, IsNext, IsMore};
 
 use outside::{Failed, Source, read_full};
 use report_defs::{End, Status};
@@ -107,19 +107,14 @@ fn fill<S: Source>(input: &mut S, word: &[u8; 4], item: &mut [u8]) -> Result<usi
     read_full(input, &mut item[4..])
 }
 
-/// Reads until it is known whether a byte is left, where no item is taken. The status is `InputFault`.
-pub fn read_end<S: Source>(input: &mut S) -> Result<End, Status>
-    ensures last { Gave (S.left input.old) (S.left input.new) (IsLast (S.left input.new) result) }
+/// Whether a byte is left, where no item is taken. The status is `InputFault`.
+pub fn has_more<S: Source>(input: &mut S) -> Result<bool, Status>
+    ensures more { Gave (S.left input.old) (S.left input.new) (IsMore (S.left input.new) result) }
     ensures faults { CountsFault (S.faults input.old) (S.faults input.new) (result ≡ Err Status.InputFault) }
 {
     let mut byte = [0u8; 1];
-    let n = match read_full(input, &mut byte) {
-        Ok(n) => n,
-        Err(_) => return Err(Status::InputFault),
-    };
-    if n == 0 {
-        Ok(End::AtEnd)
-    } else {
-        Ok(End::Extra)
+    match read_full(input, &mut byte) {
+        Ok(n) => Ok(0 < n),
+        Err(_) => Err(Status::InputFault),
     }
 }

@@ -4,4 +4,7 @@ pub mod LineLemmas
 pub mod ImportLemmas
 pub mod StoreLemmas
 pub mod ImportReport
+pub mod ExecLemmas
 pub mod WordLemmas
+pub mod InitLemmas
+pub mod RunLemmas

@@ -5,11 +5,15 @@
 //! machine are left to `outside_os`, and `main` to the program `ckbdev`.
 #![tactic(auto)]
 
+mod exec;
 mod import;
+mod init;
 mod lines;
 mod output;
 mod store;
 mod tip;
+mod top;
 mod words;
 
 pub use report_defs::Status;
+pub use top::run;

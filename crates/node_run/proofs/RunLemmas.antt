@@ -1,0 +1,217 @@
+-- What a run promises of the disk for any list of runs before it.
+use Rattle.std.proofs.Common.{◌≡◌, ◌⊎◌, inl, inr, ℕ, ◌≤◌, Bool, true, false, List, [], ◌∷◌, ◌++◌, length, take, refl, ap, sym, ◌∙◌, subst, arith, append-nil}
+use Rattle.std.specs.Prelude.{Option, Some, None, IfSome, IsSome, ◌==◌}
+use Rattle.std.proofs.lemmas.Bool.Decides.{nat_tests}
+use Rattle.outside.specs.Image.{Image}
+use Rattle.outside.specs.Disk.{IsAsBefore}
+use Rattle.chain_defs.specs.Tip.{tip}
+use Rattle.rule_defs.specs.Chain.{Chain, chain_over}
+use Rattle.store_defs.specs.Log.{LogContent, log_of}
+use Rattle.store_defs.specs.Store.{Store, NoLog, Keeps, store_of, store_of_log, chain_of, StandsFor, IsSound}
+use Rattle.report_defs.specs.declared.command.Command.{Command}
+use Rattle.report_defs.specs.declared.command.Command.TheVariants.{Init, Import, Tip, Exec}
+use Rattle.report_defs.specs.declared.status.Status.{Status}
+use Rattle.report_defs.specs.declared.status.Status.TheVariants.{Done, BadWords}
+use Rattle.report_defs.specs.Text.{tip_line}
+use Rattle.report_defs.specs.Report.{Report, text_of, report_of_command, exec_report}
+use Rattle.report_defs.specs.Promise.{MatchesReport, KeepsOrder, ExecutesInOrder, Finds}
+use Rattle.report_defs.specs.Survival.{Each, Run, IsFront, IsKeptBy, IsLeftBy, KeepsStore, KeepsDisk, Survives, SurvivesMeanwhile, AnswersAsReplay, Answers, IsPromised, CallsNoDisk, items_of}
+use Rattle.node_run.specs.Store.{Delivers}
+use Rattle.node_run.proofs.LineLemmas.{front_of_none}
+
+-- ---- The store of an image that stands for a chain
+
+empty_log : log_of [] ≡ None
+unfolding log_of
+empty_log = refl
+
+no_log_of : (bytes : List ℕ) (log : LogContent) → length bytes ≡ 0 → log_of bytes ≡ Some log → ⊥
+no_log_of [] log none is = let never : None ≡ Some log = sym empty_log ∙ is in cc
+no_log_of (b ∷ bs) log none is = omega (arith, none)
+
+pub store_of_stands : (chain : Chain) (image : Image) → StandsFor chain image → store_of image ≡ Keeps chain
+unfolding store_of
+store_of_stands chain image stands =
+    let some : length image.log ≡ 0 → ⊥ = λ none. no_log_of image.log stands.log none stands.is_log in
+    let test : (length image.log == 0) ≡ false = grind (arith, nat_tests) in
+    rw test (ap store_of_log stands.is_log ∙ ap Keeps stands.keeps)
+
+-- ---- Runs that keep what was kept
+
+-- a run may have kept no more than what was kept
+keeps_none : (genesis : Chain) (past : List Run) (items : List (List ℕ)) (taken : List ℕ) (image : Image)
+    → ((kept : Chain) → IsFront kept items taken 0) → IsLeftBy genesis past image → IsLeftBy genesis (record { items = items; taken = taken } ∷ past) image
+keeps_none genesis past items taken image front left = (left.0, (left.0, left.1, (0, front left.0, refl)), left.2)
+
+front_of_no_item : (kept : Chain) (taken : List ℕ) → IsFront kept [] taken 0
+front_of_no_item kept taken = record { most = omega arith; acknowledged = λ n most begins. most }
+
+keeps_some : (genesis : Chain) (past : List Run) (items : List (List ℕ)) (taken : List ℕ) (image : Image) (kept : Chain) (count : ℕ)
+    → IsKeptBy genesis past kept → IsFront kept items taken count → StandsFor (chain_over kept (take count items)) image
+    → IsLeftBy genesis (record { items = items; taken = taken } ∷ past) image
+keeps_some genesis past items taken image kept count by front stands = (chain_over kept (take count items), (kept, by, (count, front, refl)), stands)
+
+-- ---- What a run promises of the disk
+
+module _ (now : Image) (at_start at_exit meanwhile : Image → Type 0) (taken : List ℕ) (status : Status) where
+  -- the store that the disk read as is the one that a past left
+  kept_store : (items : List (List ℕ)) → at_start now
+      → ((chain : Chain) → store_of now ≡ Keeps chain → Each at_start IsSound → KeepsStore chain items taken status at_start at_exit meanwhile)
+      → (genesis : Chain) (past : List Run) → Each at_start (IsLeftBy genesis past)
+      → (kept : Chain) × IsKeptBy genesis past kept × (store_of now ≡ Keeps kept) × KeepsStore kept items taken status at_start at_exit meanwhile
+  kept_store items here keeps genesis past by =
+      let first = by now here in
+      let store : store_of now ≡ Keeps first.0 = store_of_stands first.0 now first.2 in
+      (first.0, first.1, store, keeps first.0 store (λ image left. let one = by image left in (one.0, one.2)))
+
+  pub survives_store : (items : List (List ℕ)) → at_start now
+      → ((chain : Chain) → store_of now ≡ Keeps chain → Each at_start IsSound → KeepsStore chain items taken status at_start at_exit meanwhile)
+      → (genesis : Chain) (past : List Run) → Each at_start (IsLeftBy genesis past)
+      → Each at_exit (IsLeftBy genesis (record { items = items; taken = taken } ∷ past))
+  survives_store items here keeps genesis past by = λ image left.
+      let kept = kept_store items here keeps genesis past by in
+      elim (kept.3.exit image left) [
+        | inl before ↦ keeps_none genesis past items taken image
+            (λ chain. subst (λ bytes. IsFront chain items bytes 0) (sym before.1) (front_of_none chain items 0 (omega arith))) (by image before.2)
+        | inr some ↦ keeps_some genesis past items taken image kept.0 some.0 kept.1 some.1 some.2
+      ]
+
+  pub survives_store_meanwhile : (items : List (List ℕ)) → at_start now
+      → ((chain : Chain) → store_of now ≡ Keeps chain → Each at_start IsSound → KeepsStore chain items taken status at_start at_exit meanwhile)
+      → (genesis : Chain) (past : List Run) → Each at_start (IsLeftBy genesis past)
+      → Each meanwhile (IsLeftBy genesis (record { items = items; taken = [] } ∷ past))
+  survives_store_meanwhile items here keeps genesis past by = λ image left.
+      let kept = kept_store items here keeps genesis past by in
+      elim (kept.3.moments image left) [
+        | inl before ↦ keeps_none genesis past items [] image (λ chain. front_of_none chain items 0 (omega arith)) (by image before)
+        | inr some ↦ keeps_some genesis past items [] image kept.0 some.0 kept.1 (front_of_none kept.0 items some.0 some.1) some.2
+      ]
+
+-- the image that a disk reads as, where it tells it
+told_image : (reads : Option Image) → IsSome reads → (now : Image) × (reads ≡ Some now)
+told_image None told = absurd (cc)
+told_image (Some now) told = (now, refl)
+
+reads_here : (reads : Option Image) (images : Image → Type 0) (now : Image) → IfSome reads images → reads ≡ Some now → images now
+reads_here reads images now here told = subst (λ (r : Option Image). IfSome r images) told here
+
+-- ---- Each command
+
+pub import_promised : (reads : Option Image) (at_start at_exit meanwhile : Image → Type 0) (left : Option (List ℕ)) (given taken : List ℕ) (status : Status)
+    → IfSome reads at_start → Delivers Import reads at_start at_exit meanwhile left given taken status
+    → IsPromised (Some Import) reads at_start at_exit meanwhile left given taken status
+import_promised reads at_start at_exit meanwhile left given taken status here kept = record {
+  text = kept.text;
+  order = kept.order;
+  disk = kept.disk;
+  survives = λ told.
+      let now = told_image reads told in
+      survives_store now.0 at_start at_exit meanwhile taken status (items_of (Some Import) given)
+      (reads_here reads at_start now.0 here now.1) (kept.disk now.0 now.1);
+  at_each_moment = λ told.
+      let now = told_image reads told in
+      survives_store_meanwhile now.0 at_start at_exit meanwhile taken status (items_of (Some Import) given)
+      (reads_here reads at_start now.0 here now.1) (kept.disk now.0 now.1);
+  answers = λ told genesis past by done.
+      let now = told_image reads told in
+      let first = by now.0 (reads_here reads at_start now.0 here now.1) in
+      (first.0, first.1, tt);
+}
+
+-- the line of `tip` is that of the chain that a past left
+tip_answers : (reads : Option Image) (at_start at_exit meanwhile : Image → Type 0) (taken : List ℕ) (status : Status) (now : Image) (kept : Chain)
+    → Delivers Tip reads at_start at_exit meanwhile (Some []) [] taken status → reads ≡ Some now → store_of now ≡ Keeps kept → status ≡ Done
+    → taken ≡ tip_line (tip kept.blocks)
+tip_answers reads at_start at_exit meanwhile taken status now kept delivers told keeps done =
+    (delivers.text (Keeps kept) (now, told, sym keeps)).whole_text [] refl (inl done)
+
+pub tip_promised : (reads : Option Image) (at_start at_exit meanwhile : Image → Type 0) (left : Option (List ℕ)) (taken : List ℕ) (status : Status)
+    → IfSome reads at_start → ((left : Option (List ℕ)) → Delivers Tip reads at_start at_exit meanwhile left [] taken status)
+    → IsPromised (Some Tip) reads at_start at_exit meanwhile left [] taken status
+tip_promised reads at_start at_exit meanwhile left taken status here all =
+    let kept = all left in
+    record {
+      text = kept.text;
+      order = kept.order;
+      disk = kept.disk;
+      survives = λ told.
+          let now = told_image reads told in
+          survives_store now.0 at_start at_exit meanwhile taken status []
+          (reads_here reads at_start now.0 here now.1) (kept.disk now.0 now.1);
+      at_each_moment = λ told.
+          let now = told_image reads told in
+          survives_store_meanwhile now.0 at_start at_exit meanwhile taken status []
+          (reads_here reads at_start now.0 here now.1) (kept.disk now.0 now.1);
+      answers = λ told genesis past by done.
+          let now = told_image reads told in
+          let first = by now.0 (reads_here reads at_start now.0 here now.1) in
+          (first.0, first.1, tip_answers reads at_start at_exit meanwhile taken status now.0 first.0 (all (Some [])) now.1 (store_of_stands first.0 now.0 first.2) done);
+    }
+
+-- where a log is there, `init` leaves the disk as it was
+not_keeps : (chain : Chain) → Keeps chain ≡ NoLog → ⊥
+not_keeps chain e = cc
+
+module _ {D : Type 0} (reads_as : D → Option Image) (images : D → Image → Type 0) (moment : D → ℕ) (left_since : D → ℕ → Image → Type 0)
+    (reads_image : (disk : D) → IfSome (reads_as disk) (images disk))
+    (only_now : (disk : D) (image : Image) → left_since disk (moment disk) image → images disk image) where
+  init_before : (old new : D) (genesis : Chain) (past : List Run) → IsSome (reads_as old)
+      → ((now : Image) → reads_as old ≡ Some now → (store_of now ≡ NoLog → ⊥) → IsAsBefore reads_as images moment left_since old new)
+      → Each (images old) (IsLeftBy genesis past) → IsAsBefore reads_as images moment left_since old new
+  init_before old new genesis past told there by =
+      let now = told_image (reads_as old) told in
+      let first = by now.0 (reads_here (reads_as old) (images old) now.0 (reads_image old) now.1) in
+      there now.0 now.1 (λ none. not_keeps first.0 (sym (store_of_stands first.0 now.0 first.2) ∙ none))
+
+  pub init_promised : (old new : D) (left : Option (List ℕ)) (given taken : List ℕ) (status : Status)
+      → Delivers Init (reads_as old) (images old) (images new) (left_since new (moment old)) left given taken status
+      → ((now : Image) → reads_as old ≡ Some now → (store_of now ≡ NoLog → ⊥) → IsAsBefore reads_as images moment left_since old new)
+      → IsPromised (Some Init) (reads_as old) (images old) (images new) (left_since new (moment old)) left given taken status
+  init_promised old new left given taken status kept there = record {
+    text = kept.text;
+    order = kept.order;
+    disk = kept.disk;
+    survives = λ told genesis past by image here.
+        let same = init_before old new genesis past told there by in
+        keeps_none genesis past [] taken image (λ chain. front_of_no_item chain taken) (by image ((same.images image).1 here));
+    at_each_moment = λ told genesis past by image here.
+        let same = init_before old new genesis past told there by in
+        keeps_none genesis past [] [] image (λ chain. front_of_no_item chain []) (by image (same.moments.each image here));
+    answers = λ told genesis past by done.
+        let now = told_image (reads_as old) told in
+        let first = by now.0 (reads_here (reads_as old) (images old) now.0 (reads_image old) now.1) in
+        (first.0, first.1, tt);
+  }
+
+  -- the disk was not called
+  pub uncalled_promised : (command : Option Command) (old : D) (left : Option (List ℕ)) (given taken : List ℕ) (status : Status) → items_of command given ≡ []
+      → ((store : Store) → Finds command (reads_as old) store → MatchesReport (λ whole. report_of_command command whole store) given left taken status × KeepsOrder command store given left taken status)
+      → ((now : Image) → KeepsDisk command now (images old) (images old) (left_since old (moment old)) given taken status)
+      → ((kept : Chain) → Answers command kept taken)
+      → IsPromised command (reads_as old) (images old) (images old) (left_since old (moment old)) left given taken status
+  uncalled_promised command old left given taken status none says disk answers = record {
+    text = λ store found. (says store found).0;
+    order = λ store found. (says store found).1;
+    disk = λ now told. disk now;
+    survives = λ told genesis past by image here. subst (λ (items : List (List ℕ)). IsLeftBy genesis (record { items = items; taken = taken } ∷ past) image) (sym none)
+        (keeps_none genesis past [] taken image (λ chain. front_of_no_item chain taken) (by image here));
+    at_each_moment = λ told genesis past by image here. subst (λ (items : List (List ℕ)). IsLeftBy genesis (record { items = items; taken = [] } ∷ past) image) (sym none)
+        (keeps_none genesis past [] [] image (λ chain. front_of_no_item chain []) (by image (only_now old image here)));
+    answers = λ told genesis past by done.
+        let now = told_image (reads_as old) told in
+        let first = by now.0 (reads_here (reads_as old) (images old) now.0 (reads_image old) now.1) in
+        (first.0, first.1, answers first.0);
+  }
+
+  pub exec_promised : (budget : ℕ) (old : D) (left : Option (List ℕ)) (given taken : List ℕ) (status : Status)
+      → MatchesReport (exec_report budget) given left taken status × ExecutesInOrder given left taken status
+      → IsPromised (Some (Exec budget)) (reads_as old) (images old) (images old) (left_since old (moment old)) left given taken status
+  exec_promised budget old left given taken status says =
+      uncalled_promised (Some (Exec budget)) old left given taken status refl (λ store found. says) (λ now. tt) (λ kept. tt)
+
+  pub words_promised : (old : D) (left : Option (List ℕ)) → IsPromised None (reads_as old) (images old) (images old) (left_since old (moment old)) left [] [] BadWords
+  words_promised old left = uncalled_promised None old left [] [] BadWords refl
+      (λ store found. (
+        record { front = λ more is. ([], refl); whole_text = λ more is told. refl; same_status = λ more is told. refl },
+        record { unread = refl; unwritten = refl },
+      )) (λ now. tt) (λ kept. tt)
