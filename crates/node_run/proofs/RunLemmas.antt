@@ -173,7 +173,7 @@ module _ {D : Type 0} (reads_as : D → Option Image) (images : D → Image → 
     disk = kept.disk;
     survives = λ told genesis past by image here.
         let same = init_before old new genesis past told there by in
-        keeps_none genesis past [] taken image (λ chain. front_of_no_item chain taken) (by image ((same.images image).1 here));
+        keeps_none genesis past [] taken image (λ chain. front_of_no_item chain taken) (by image ((same.images image).0 here));
     at_each_moment = λ told genesis past by image here.
         let same = init_before old new genesis past told there by in
         keeps_none genesis past [] [] image (λ chain. front_of_no_item chain []) (by image (same.moments.each image here));
