@@ -6,7 +6,7 @@ use Rattle.std.proofs.lemmas.Bool.Decides.{nat_tests, leb_tells}
 use Rattle.vm_defs.specs.Alone.{answer_ecall}
 use Rattle.vm_defs.specs.Program.{execution}
 use Rattle.report_defs.specs.declared.status.Status.{Status}
-use Rattle.report_defs.specs.declared.status.Status.TheVariants.{Done, InputFault, SinkFault, NoMemory, ExtraInput}
+use Rattle.report_defs.specs.declared.status.Status.TheVariants.{Done, SinkFault, ExtraInput}
 use Rattle.report_defs.specs.Text.{execution_line, extra_line}
 use Rattle.report_defs.specs.Report.{Report, text_of, report_without_lines, file_limit, exec_report}
 use Rattle.report_defs.specs.Promise.{IsPrefix, MatchesReport, ExecutesInOrder, IsStoppedBeforeTheSink}

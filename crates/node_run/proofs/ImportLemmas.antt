@@ -1,5 +1,5 @@
 -- Items imported one after the other.
-use Rattle.std.proofs.Common.{◌≡◌, ◌⊎◌, inl, inr, ℕ, ◌+◌, ◌≤◌, Bool, true, false, ◌||◌, List, [], ◌∷◌, ◌++◌, length, take, refl, ap, sym, ◌∙◌, subst, arith, append-nil, length-append}
+use Rattle.std.proofs.Common.{◌≡◌, ◌⊎◌, inl, inr, ℕ, ◌+◌, ◌≤◌, Bool, true, false, ◌||◌, List, [], ◌∷◌, ◌++◌, length, refl, ap, sym, ◌∙◌, subst, arith, append-nil, length-append}
 use Rattle.std.specs.Prelude.{Option, Some, Result, Ok, Err}
 use Rattle.std.specs.List.{concat, list_any}
 use Rattle.std.proofs.lemmas.List.{take-append-le}
@@ -7,7 +7,7 @@ use Rattle.std.proofs.lemmas.List.Folds.{list_any-append}
 use Rattle.outside.specs.Image.{Image}
 use Rattle.outside.specs.Disk.{LeavesOnly}
 use Rattle.outside.specs.Streams.{Gives, Takes}
-use Rattle.outside.proofs.Streams.{gives_none, gives_more, takes_none, takes_more}
+use Rattle.outside.proofs.Streams.{gives_more, takes_more}
 use Rattle.outside.proofs.Moments.{started, leaves_also, leaves_then, now_too}
 use Rattle.rule_defs.specs.declared.verdict.Verdict.{Verdict}
 use Rattle.rule_defs.specs.Verdict as rules
@@ -21,14 +21,13 @@ use Rattle.report_defs.specs.Text.{line}
 use Rattle.report_defs.specs.Items.{IsItem, AreItems}
 use Rattle.report_defs.proofs.ItemLemmas.{all_items-append}
 use Rattle.report_defs.specs.Report.{item_limit, input_limit, import_limits}
-use Rattle.report_defs.specs.Promise.{IsStoppedBeforeTheSink}
 use Rattle.report_defs.specs.Survival.{Each}
 use Rattle.item_reader.specs.Items.{IsPartial, IsItemAt, EndsAt, IsReadingStop, IsNext}
 use Rattle.item_reader.specs.declared.next.Next.{Next}
 use Rattle.item_reader.proofs.Reading.{few_partial}
 use Rattle.node_core.specs.Node.{NodeValue, IsOn}
 use Rattle.node_run.specs.Output.{Transfers, IsPartOf}
-use Rattle.node_run.specs.Import.{AreGiven, AreImported, IsCutShort, KeepsSome, line_over, text_over}
+use Rattle.node_run.specs.Import.{AreImported, IsCutShort, KeepsSome, line_over, text_over}
 use Rattle.node_run.specs.declared.import.Ended.{Ended}
 use Rattle.node_run.proofs.LineLemmas.{concat-push, lines-push, line_some, take_all}
 use Rattle.node_run.proofs.Statuses.{reading_stops, writing_stops, disk_stops}

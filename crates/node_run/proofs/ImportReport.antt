@@ -1,5 +1,5 @@
 -- What was given and taken at each exit of `import`, against the report of the whole input.
-use Rattle.std.proofs.Common.{◌≡◌, ◌⊎◌, inl, inr, ℕ, ◌+◌, ◌-◌, ◌≤◌, ◌<◌, List, [], ◌∷◌, ◌++◌, length, take, refl, ap, sym, ◌∙◌, subst, arith, append_assoc, append-nil, length-append}
+use Rattle.std.proofs.Common.{◌≡◌, ◌⊎◌, inl, inr, ℕ, ◌-◌, ◌≤◌, List, [], ◌∷◌, ◌++◌, length, take, refl, ap, sym, ◌∙◌, subst, arith, append_assoc, append-nil, length-append}
 use Rattle.std.specs.Prelude.{Option, Some, if◌then◌else◌}
 use Rattle.std.specs.List.{concat}
 use Rattle.std.specs.Io.KnownBytes.{IsAtEnd}
@@ -8,11 +8,9 @@ use Rattle.outside.specs.Disk.{LeavesOnly}
 use Rattle.rule_defs.specs.Chain.{Chain, chain_over, verdicts_over}
 use Rattle.store_defs.specs.Store.{StandsFor}
 use Rattle.report_defs.specs.declared.status.Status.{Status}
-use Rattle.report_defs.specs.declared.status.Status.TheVariants.{Done, SomeRefused, SinkFault}
-use Rattle.report_defs.specs.declared.end.End.{End}
-use Rattle.report_defs.specs.declared.end.End.TheVariants.{AtEnd}
+use Rattle.report_defs.specs.declared.status.Status.TheVariants.{Done, SomeRefused}
 use Rattle.report_defs.specs.Status.{IsOneOf}
-use Rattle.report_defs.specs.Items.{Split, split_of, end_offset, IsAtWord}
+use Rattle.report_defs.specs.Items.{Split, split_of, end_offset}
 use Rattle.report_defs.specs.Report.{Report, text_of, item_limit, import_limits, lines_over, closing_of_end, status_of_end, status_of_verdicts, report_of_import}
 use Rattle.report_defs.specs.Promise.{IsPrefix, MatchesReport, WritesInOrder, AreWholeLines, ImportsInOrder, IsStoppedBeforeTheSink, all_but_last}
 use Rattle.report_defs.specs.Survival.{Each, IsFront, KeepsStore}

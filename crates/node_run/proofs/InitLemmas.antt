@@ -1,5 +1,5 @@
 -- What `init` read, told and left at each exit.
-use Rattle.std.proofs.Common.{◌≡◌, ◌⊎◌, inl, inr, ℕ, ◌≤◌, ◌<◌, Bool, true, false, List, [], ◌∷◌, ◌++◌, length, refl, ap, sym, ◌∙◌, subst, arith, append_assoc, append-nil, length-append}
+use Rattle.std.proofs.Common.{◌≡◌, inl, inr, ℕ, ◌≤◌, false, List, [], ◌∷◌, ◌++◌, length, refl, ap, sym, ◌∙◌, subst, arith, append_assoc, append-nil, length-append}
 use Rattle.std.specs.Prelude.{Option, Some, None, Result, IfSome, ◌==◌}
 use Rattle.std.specs.List.{concat}
 use Rattle.std.specs.Io.KnownBytes.{IsAtEnd}
@@ -11,14 +11,14 @@ use Rattle.store_defs.specs.Log.{LogContent, log_of}
 use Rattle.store_defs.specs.Store.{Store, NoLog, NotALog, Keeps, store_of, store_of_log}
 use Rattle.report_defs.specs.declared.command.Command.TheVariants.{Init}
 use Rattle.report_defs.specs.declared.status.Status.{Status}
-use Rattle.report_defs.specs.declared.status.Status.TheVariants.{Done, SinkFault, DiskFault, NoMemory, StoreThere, BadGenesis, InputFault, CutInput, BadSize, ExtraInput}
+use Rattle.report_defs.specs.declared.status.Status.TheVariants.{Done, SinkFault, DiskFault, NoMemory, StoreThere, BadGenesis, CutInput, BadSize, ExtraInput}
 use Rattle.report_defs.specs.declared.end.End.{End}
 use Rattle.report_defs.specs.declared.end.End.TheVariants as ends
 use Rattle.report_defs.specs.Status.{IsOneOf}
-use Rattle.report_defs.specs.Items.{Split, AreItems, IsItem, split_of, end_offset}
-use Rattle.report_defs.specs.Report.{Report, text_of, item_limit, genesis_limit, init_limits, init_item_limit, end_of_needed, status_of_end, report_of_rules, report_of_items, report_of_init, report_of_end, report_of_new, report_of_command, report_without_lines}
-use Rattle.report_defs.specs.Promise.{IsPrefix, MatchesReport, InitsInOrder, KeepsOrder, IsStoreOf, IsStoppedBeforeTheSink, IsReported, ended_early}
-use Rattle.report_defs.specs.Survival.{Each, IsNewStore, KeepsDisk, as_before}
+use Rattle.report_defs.specs.Items.{Split, AreItems, split_of, end_offset}
+use Rattle.report_defs.specs.Report.{Report, text_of, genesis_limit, init_limits, init_item_limit, end_of_needed, status_of_end, report_of_rules, report_of_items, report_of_init, report_of_end, report_of_new, report_of_command}
+use Rattle.report_defs.specs.Promise.{IsPrefix, MatchesReport, IsStoreOf, IsStoppedBeforeTheSink, ended_early}
+use Rattle.report_defs.specs.Survival.{IsNewStore, as_before}
 use Rattle.report_defs.proofs.ItemLemmas.{split_of-is, end_at-nothing}
 use Rattle.item_reader.specs.Items.{EndsAt, IsNext}
 use Rattle.item_reader.specs.declared.next.Next.{Next}

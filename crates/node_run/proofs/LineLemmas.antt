@@ -1,5 +1,5 @@
 -- The lines of items, and which of them stand at the front of a text.
-use Rattle.std.proofs.Common.{◌≡◌, ◌⊎◌, inl, inr, ℕ, zero, suc, ◌+◌, ◌-◌, ◌≤◌, ◌<◌, List, [], ◌∷◌, ◌++◌, length, map, take, drop, refl, ap, sym, ◌∙◌, subst, arith, append_assoc, append-nil, length-append, take-append-drop}
+use Rattle.std.proofs.Common.{◌≡◌, inl, inr, ℕ, zero, suc, ◌-◌, ◌≤◌, ◌<◌, List, [], ◌∷◌, ◌++◌, length, map, take, drop, refl, ap, sym, ◌∙◌, arith, append_assoc, append-nil, length-append, take-append-drop}
 use Rattle.std.specs.List.{concat}
 use Rattle.std.proofs.lemmas.List.{map-append}
 use Rattle.std.proofs.lemmas.List.Folds.{concat-append}
@@ -8,7 +8,7 @@ use Rattle.std.proofs.lemmas.Grind.{common_steps}
 use Rattle.rule_defs.specs.declared.verdict.Verdict.{Verdict}
 use Rattle.rule_defs.specs.declared.verdict.Verdict.TheVariants.{Joined, Known, Refused, Unbuilt, Full}
 use Rattle.rule_defs.specs.Chain.{Chain, chain_after, verdict_over, verdicts_over, chain_over}
-use Rattle.fold_defs.proofs.FoldLemmas.{keep-push, verdicts-append, verdicts-push}
+use Rattle.fold_defs.proofs.FoldLemmas.{verdicts-append, verdicts-push}
 use Rattle.report_defs.specs.Text.{line}
 use Rattle.report_defs.specs.Report.{lines_over}
 use Rattle.report_defs.specs.Promise.{IsPrefix, all_but_last}

@@ -1,5 +1,5 @@
 -- What a run promises of the disk for any list of runs before it.
-use Rattle.std.proofs.Common.{◌≡◌, ◌⊎◌, inl, inr, ℕ, ◌≤◌, Bool, true, false, List, [], ◌∷◌, ◌++◌, length, take, refl, ap, sym, ◌∙◌, subst, arith, append-nil}
+use Rattle.std.proofs.Common.{◌≡◌, inl, inr, ℕ, false, List, [], ◌∷◌, length, take, refl, ap, sym, ◌∙◌, subst, arith}
 use Rattle.std.specs.Prelude.{Option, Some, None, IfSome, IsSome, ◌==◌}
 use Rattle.std.proofs.lemmas.Bool.Decides.{nat_tests}
 use Rattle.outside.specs.Image.{Image}
@@ -7,15 +7,15 @@ use Rattle.outside.specs.Disk.{IsAsBefore}
 use Rattle.chain_defs.specs.Tip.{tip}
 use Rattle.rule_defs.specs.Chain.{Chain, chain_over}
 use Rattle.store_defs.specs.Log.{LogContent, log_of}
-use Rattle.store_defs.specs.Store.{Store, NoLog, Keeps, store_of, store_of_log, chain_of, StandsFor, IsSound}
+use Rattle.store_defs.specs.Store.{Store, NoLog, Keeps, store_of, store_of_log, StandsFor, IsSound}
 use Rattle.report_defs.specs.declared.command.Command.{Command}
 use Rattle.report_defs.specs.declared.command.Command.TheVariants.{Init, Import, Tip, Exec}
 use Rattle.report_defs.specs.declared.status.Status.{Status}
 use Rattle.report_defs.specs.declared.status.Status.TheVariants.{Done, BadWords}
 use Rattle.report_defs.specs.Text.{tip_line}
-use Rattle.report_defs.specs.Report.{Report, text_of, report_of_command, exec_report}
+use Rattle.report_defs.specs.Report.{report_of_command, exec_report}
 use Rattle.report_defs.specs.Promise.{MatchesReport, KeepsOrder, ExecutesInOrder, Finds}
-use Rattle.report_defs.specs.Survival.{Each, Run, IsFront, IsKeptBy, IsLeftBy, KeepsStore, KeepsDisk, Survives, SurvivesMeanwhile, AnswersAsReplay, Answers, IsPromised, CallsNoDisk, items_of}
+use Rattle.report_defs.specs.Survival.{Each, Run, IsFront, IsKeptBy, IsLeftBy, KeepsStore, KeepsDisk, Answers, IsPromised, items_of}
 use Rattle.node_run.specs.Store.{Delivers}
 use Rattle.node_run.proofs.LineLemmas.{front_of_none}
 

@@ -2,12 +2,12 @@
 use Rattle.std.proofs.Common.{◌≡◌, inl, inr, Bool, true, false, List, [], ◌∷◌, refl, sym, subst}
 use Rattle.std.specs.Prelude.{if◌then◌else◌}
 use Rattle.report_defs.specs.declared.status.Status.{Status}
-use Rattle.report_defs.specs.declared.status.Status.TheVariants.{Done, SomeRefused, BadWords, InputFault, SinkFault, DiskFault, NoMemory, NotAStore, CutInput, BadSize, StoreThere, BadGenesis, ExtraInput}
+use Rattle.report_defs.specs.declared.status.Status.TheVariants.{Done, SomeRefused, InputFault, SinkFault, DiskFault, NoMemory, NotAStore, CutInput, BadSize, ExtraInput}
 use Rattle.report_defs.specs.declared.end.End.{End}
 use Rattle.report_defs.specs.declared.end.End.TheVariants as ends
 use Rattle.report_defs.specs.Status.{IsOneOf}
 use Rattle.report_defs.specs.Report.{status_of_end}
-use Rattle.report_defs.specs.Promise.{IsReported, reported, ended_early, IsStoppedBeforeTheSink, import_statuses, tip_statuses, init_statuses}
+use Rattle.report_defs.specs.Promise.{IsReported, reported, ended_early, IsStoppedBeforeTheSink, import_statuses, tip_statuses}
 use Rattle.item_reader.specs.Items.{IsReadingStop}
 use Rattle.node_run.specs.Import.{IsStop, IsWritingStop}
 use Rattle.node_run.specs.Store.{opening_stops}

@@ -1,6 +1,6 @@
 -- What a command delivers of a store, whether it was opened or not.
-use Rattle.std.proofs.Common.{◌≡◌, ◌⊎◌, inl, inr, ℕ, ◌≤◌, List, [], ◌∷◌, ◌++◌, length, take, refl, ap, sym, ◌∙◌, subst, arith, append-nil}
-use Rattle.std.specs.Prelude.{Option, Some, None, IfSome}
+use Rattle.std.proofs.Common.{◌≡◌, ◌⊎◌, inl, inr, ℕ, ◌≤◌, List, [], ◌∷◌, length, take, refl, ap, sym, ◌∙◌, subst, arith, append-nil}
+use Rattle.std.specs.Prelude.{Option, Some, IfSome}
 use Rattle.outside.specs.Image.{Image}
 use Rattle.outside.specs.Disk.{LeavesOnly}
 use Rattle.outside.proofs.Moments.{leaves_also, leaves_then, now_too}
@@ -9,9 +9,8 @@ use Rattle.chain_defs.specs.Kept.{block_hash}
 use Rattle.rule_defs.specs.Chain.{Chain, chain_over}
 use Rattle.store_defs.specs.Store.{Store, NoLog, NotALog, Keeps, store_of, StandsFor, IsSound}
 use Rattle.report_defs.specs.declared.command.Command.{Command}
-use Rattle.report_defs.specs.declared.command.Command.TheVariants.{Import, Tip}
 use Rattle.report_defs.specs.declared.status.Status.{Status}
-use Rattle.report_defs.specs.declared.status.Status.TheVariants.{Done, SinkFault, DiskFault, NoMemory, NotAStore}
+use Rattle.report_defs.specs.declared.status.Status.TheVariants.{Done, DiskFault, NoMemory, NotAStore}
 use Rattle.report_defs.specs.Status.{IsOneOf}
 use Rattle.report_defs.specs.Text.{tip_line, tip_line_of}
 use Rattle.report_defs.specs.Report.{Report, report_without_lines, text_of, report_of_command, tip_report}

@@ -1,9 +1,9 @@
-use Rattle.std.proofs.Common.{◌≡◌, ◌++◌, [], refl, inl, inr, ap, sym, ◌∙◌, subst, ℕ, List}
-use Rattle.std.specs.Prelude.{Some, Option, Err, string_bytes}
+use Rattle.std.proofs.Common.{◌++◌, [], refl, ap, sym, subst}
+use Rattle.std.specs.Prelude.{Err, string_bytes}
 use Rattle.outside.proofs.Streams.{gives_none, takes_none, takes_more}
 use Rattle.report_defs.specs.declared.command.Command.TheVariants.{Import}
 use Rattle.report_defs.specs.declared.status.Status.{Status}
-use Rattle.report_defs.specs.declared.status.Status.TheVariants.{InputFault, SinkFault, DiskFault, NoMemory}
+use Rattle.report_defs.specs.declared.status.Status.TheVariants.{NoMemory}
 use Rattle.report_defs.specs.Items.{split_of}
 use Rattle.report_defs.specs.Report.{import_limits, closing_of_end}
 use Rattle.node_core.specs.Node.{IsOn}

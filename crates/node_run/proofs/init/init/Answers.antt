@@ -1,10 +1,9 @@
-use Rattle.std.proofs.Common.{◌≡◌, [], List, ℕ, length, refl, ap, sym, ◌∙◌, subst, arith}
-use Rattle.std.specs.Prelude.{Some, None, IsSome}
+use Rattle.std.proofs.Common.{◌≡◌, [], length, refl, ap, sym, ◌∙◌, subst, arith}
+use Rattle.std.specs.Prelude.{IsSome}
 use Rattle.outside.proofs.Streams.{gives_none, takes_none}
 use Rattle.outside.specs.Disk.{IsAsBefore}
-use Rattle.outside.specs.Image.{Image}
-use Rattle.store_defs.specs.Store.{store_of, NoLog}
-use Rattle.node_run.specs.Init.{AreBoth, StandsAlone}
+use Rattle.store_defs.specs.Store.{store_of}
+use Rattle.node_run.specs.Init.{AreBoth}
 use Rattle.node_run.proofs.ImportLemmas.{item_limit-is}
 use Rattle.node_run.proofs.Statuses.{reading_stops}
 use Rattle.node_run.proofs.InitLemmas.{genesis_limit-is, fault_at_once, there_at_once, finds_no_log, finds_a_log, init_unread, init_early, init_both, one_call, as_before_new}

@@ -1,10 +1,9 @@
-use Rattle.std.proofs.Common.{◌≡◌, ◌+◌, [], ◌∷◌, ◌++◌, length, List, ℕ, refl, sym, ap, ◌∙◌, subst, arith, append-nil, append_assoc, length-append}
+use Rattle.std.proofs.Common.{◌≡◌, ◌+◌, [], ◌∷◌, ◌++◌, length, refl, sym, ap, ◌∙◌, subst, arith, append-nil, append_assoc, length-append}
 use Rattle.std.specs.Prelude.{Some, None, Ok}
 use Rattle.std.specs.List.{concat}
 use Rattle.outside.proofs.Streams.{gives_more}
 use Rattle.report_defs.specs.declared.end.End.{End}
 use Rattle.report_defs.specs.declared.end.End.TheVariants.{Extra}
-use Rattle.report_defs.specs.declared.status.Status.TheVariants.{InputFault}
 use Rattle.report_defs.specs.Report.{genesis_limit, end_of_needed}
 use Rattle.item_reader.specs.Items.{IsReadingStop}
 use Rattle.item_reader.proofs.Reading.{ends_at_byte}

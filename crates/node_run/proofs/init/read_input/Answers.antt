@@ -1,5 +1,5 @@
-use Rattle.std.proofs.Common.{◌≡◌, [], refl, sym, subst}
-use Rattle.std.specs.Prelude.{Some, None, Ok}
+use Rattle.std.proofs.Common.{[], refl, sym, subst}
+use Rattle.std.specs.Prelude.{Some, Ok}
 use Rattle.report_defs.specs.declared.end.End.{End}
 use Rattle.report_defs.specs.Report.{item_limit, end_of_needed}
 use Rattle.node_run.specs.Init.{EndsEarly}

@@ -1,19 +1,15 @@
-use Rattle.std.proofs.Common.{◌≡◌, [], refl, inl, inr, ap, sym, ◌∙◌, subst, ℕ, List, append-nil}
-use Rattle.std.specs.Prelude.{Some, Option, Err, string_bytes}
+use Rattle.std.proofs.Common.{◌≡◌, [], refl, ap, sym, ◌∙◌, subst}
+use Rattle.std.specs.Prelude.{Err, string_bytes}
 use Rattle.outside.proofs.Streams.{takes_none}
 use Rattle.chain_defs.specs.Tip.{tip}
-use Rattle.codec_defs.specs.Schema.{Block}
-use Rattle.rule_defs.specs.Chain.{Chain}
-use Rattle.store_defs.specs.Store.{Keeps}
 use Rattle.report_defs.specs.declared.command.Command.TheVariants.{Tip}
 use Rattle.report_defs.specs.declared.status.Status.TheVariants.{Done, SinkFault, NoMemory}
-use Rattle.report_defs.specs.Text.{tip_line, tip_line_of}
-use Rattle.report_defs.specs.Report.{text_of, tip_report}
+use Rattle.report_defs.specs.Text.{tip_line}
 use Rattle.node_core.specs.Node.{IsOn}
 use Rattle.node_run.specs.Import.{IsStop}
 use Rattle.node_run.proofs.ImportLemmas.{on_stands}
 use Rattle.node_run.proofs.StoreLemmas.{delivers, keeps_opened, keeps_read, keeps_unopened, unopened, stopped_opening, by_disk_or_memory, tip_stopped, tip_told, tip_line_is, if_told}
-use Rattle.node_run.proofs.Statuses.{tip_opening, not_early, is_early}
+use Rattle.node_run.proofs.Statuses.{not_early, is_early}
 use Rattle.node_run.proofs.tip.tip.Goals as goal
 
 pub returns-in-Err-clause-tip : goal.returns-in-Err-clause-tip

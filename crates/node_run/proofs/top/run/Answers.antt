@@ -1,5 +1,5 @@
-use Rattle.std.proofs.Common.{[], ◌≡◌, List, ℕ, map, string_bytes, sym, subst}
-use Rattle.std.specs.Prelude.{Option, None, Some}
+use Rattle.std.proofs.Common.{[], subst}
+use Rattle.std.specs.Prelude.{Option}
 use Rattle.outside.proofs.Streams.{gives_none, takes_none}
 use Rattle.report_defs.specs.declared.command.Command.{Command}
 use Rattle.report_defs.specs.declared.status.Status.TheVariants.{BadWords}
