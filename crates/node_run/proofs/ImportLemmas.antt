@@ -194,12 +194,15 @@ imported_to_end chain offset left_old left left_new taken_old taken now ended wa
       within = rw (← whole.place) whole.within;
       partial = rw (← whole.place) partial;
     };
-    came = (refl, record {
-      lines = refl;
-      refused = whole.any_refused;
-      offset = there ∙ whole.place;
-      ends = rw (← whole.place) ends;
-    });
+    came = (
+      refl,
+      record {
+        lines = refl;
+        refused = whole.any_refused;
+        offset = there ∙ whole.place;
+        ends = rw (← whole.place) ends;
+      },
+    );
     exit = λ was. λ image left. inl (subst (λ (k : Chain). StandsFor k image) whole.kept_now (stand (whole.on was) image left));
     moments = whole.moments;
   },
@@ -259,10 +262,15 @@ imported_to_fault chain offset left_old left left_new taken_old taken now refuse
       part = [];
       taken_is = sym (append-nil (text_over chain whole.items));
       silent = λ early. refl;
-      last = inr (given, refl, refl, record {
-        front = (line_over (chain_over chain whole.items) given, refl);
-        shorter = line_some (verdict_over (chain_over chain whole.items) given);
-      });
+      last = inr (
+        given,
+        refl,
+        refl,
+        record {
+          front = (line_over (chain_over chain whole.items) given, refl);
+          shorter = line_some (verdict_over (chain_over chain whole.items) given);
+        },
+      );
     };
     exit = λ was. λ image left. inl (subst (λ (k : Chain). StandsFor k image) whole.kept_now (stand (whole.on was) image left));
     moments = λ was. weaker (whole.moments was);

@@ -231,10 +231,12 @@ pub fn init<S: Source, K: Sink, D: Disk>(
         return Status::StoreThere;
     }
     match read_input(alloc, input) {
-        Ok(Input::Both {
-            specification,
-            genesis,
-        }) => make_and_tell(alloc, out, disk, &specification, &genesis),
+        Ok(
+            Input::Both {
+                specification,
+                genesis,
+            },
+        ) => make_and_tell(alloc, out, disk, &specification, &genesis),
         Ok(Input::Early { end, offset }) => tell_early(alloc, out, end, offset),
         Err(status) => status,
     }

@@ -164,4 +164,3 @@ pub fn execution_line(alloc: Global, came: &Execution) -> Result<String, AllocEr
         Execution::BadElf(condition) => number_line(alloc, "bad elf ", u64::from(*condition)),
     }
 }
-

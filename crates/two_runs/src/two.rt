@@ -2,6 +2,9 @@
 ghost use Rattle.std.specs.Prelude.{◌∷◌, IsSome, List, map, string_bytes};
 ghost use Rattle.outside.specs.Image.{Image};
 ghost use Rattle.rule_defs.specs.Chain.{Chain};
+ghost use Rattle.report_defs.specs.Words.{command_of};
+ghost use Rattle.report_defs.specs.Status.{IsOneOf};
+ghost use Rattle.report_defs.specs.Promise.{statuses_of};
 ghost use Rattle.report_defs.specs.Survival.{Each, Run, IsLeftBy};
 ghost use Rattle.node_run.specs.Output.{Transfers};
 ghost use Rattle.two_runs.specs.Two.{run_of};
@@ -27,8 +30,12 @@ pub fn run_twice<S: Source, K: Sink, D: Disk, L: Ledger>(
     // may be left by that past and these two runs.
     ensures survives { ((any : D) → IsSome (D.reads_as any)) → (genesis : Chain) (past : List Run) → Each (D.images disk.old) (IsLeftBy genesis past)
         → Transfers (S.left first_input.old) (S.left first_input.new) (K.taken first_out.old) (K.taken first_out.new) (λ given taken.
-            Transfers (S.left second_input.old) (S.left second_input.new) (K.taken second_out.old) (K.taken second_out.new) (λ later_given later_taken.
-                Each (D.images disk.new) (IsLeftBy genesis (run_of (map string_bytes second_words.now) later_given later_taken ∷ run_of (map string_bytes first_words.now) given taken ∷ past)))) }
+        Transfers (S.left second_input.old) (S.left second_input.new) (K.taken second_out.old) (K.taken second_out.new) (λ later_given later_taken.
+        Each (D.images disk.new) (IsLeftBy genesis (run_of (map string_bytes second_words.now) later_given later_taken ∷ run_of (map string_bytes first_words.now) given taken ∷ past)))) }
+
+    // Each run answers a status of its command.
+    ensures first { IsOneOf (statuses_of (command_of (map string_bytes first_words.now))) result.0 }
+    ensures second { IsOneOf (statuses_of (command_of (map string_bytes second_words.now))) result.1 }
 {
     let first = run(alloc, first_words, first_input, first_out, disk, steps);
     let second = run(alloc, second_words, second_input, second_out, disk, steps);

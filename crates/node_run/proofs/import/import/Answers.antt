@@ -14,17 +14,22 @@ use Rattle.node_run.proofs.ImportReport.{stopped_import, stopped_at_once, stoppe
 use Rattle.node_run.proofs.import.import.Goals as goal
 
 pub returns-in-Err-clause-import : goal.returns-in-Err-clause-import
-returns-in-Err-clause-import g c = ([], [], gives_none (g.S.Source.left c.args.input.now), takes_none (g.K.Sink.taken c.args.out.now),
+returns-in-Err-clause-import g c = (
+  [],
+  [],
+  gives_none (g.S.Source.left c.args.input.now),
+  takes_none (g.K.Sink.taken c.args.out.now),
   let left = g.S.Source.left c.args.input.now in
-  let status = c.in-Err.status in
-  let one = c.in-Err.ensures.one_of status refl in
-  unopened Import (g.D.Disk.reads_as c.args.disk.now) (g.D.Disk.images c.args.disk.now) (g.D.Disk.images c.open.new.disk)
-  (g.D.Disk.left_since c.open.new.disk (g.D.Disk.moment c.args.disk.now)) left status one (λ e. c.in-Err.ensures.not_a_store (ap Err e)) (λ input. refl) (λ input. refl)
-  (λ none. none) (λ none. none) (λ chain stop. stopped_at_once chain left status stop)
-  (λ now told chain keeps sound. keeps_unopened g.D.Disk.images g.D.Disk.moment g.D.Disk.left_since g.met.D.Disk.counts_now c.args.disk.now c.open.new.disk chain
-  (split_of import_limits []).items status
-  (by_disk_or_memory status one (stopped_opening (g.D.Disk.reads_as c.args.disk.now) status chain (λ e. c.in-Err.ensures.not_a_store (ap Err e)) (now, told, sym keeps)))
-  (c.in-Err.ensures.moments now chain told keeps sound)))
+      let status = c.in-Err.status in
+      let one = c.in-Err.ensures.one_of status refl in
+      unopened Import (g.D.Disk.reads_as c.args.disk.now) (g.D.Disk.images c.args.disk.now) (g.D.Disk.images c.open.new.disk)
+      (g.D.Disk.left_since c.open.new.disk (g.D.Disk.moment c.args.disk.now)) left status one (λ e. c.in-Err.ensures.not_a_store (ap Err e)) (λ input. refl) (λ input. refl)
+      (λ none. none) (λ none. none) (λ chain stop. stopped_at_once chain left status stop)
+      (λ now told chain keeps sound. keeps_unopened g.D.Disk.images g.D.Disk.moment g.D.Disk.left_since g.met.D.Disk.counts_now c.args.disk.now c.open.new.disk chain
+      (split_of import_limits []).items status
+      (by_disk_or_memory status one (stopped_opening (g.D.Disk.reads_as c.args.disk.now) status chain (λ e. c.in-Err.ensures.not_a_store (ap Err e)) (now, told, sym keeps)))
+      (c.in-Err.ensures.moments now chain told keeps sound)),
+)
 
 pub returns-in-Err-import_items-clause-import : goal.returns-in-Err-import_items-clause-import
 returns-in-Err-import_items-clause-import g c =
@@ -85,7 +90,7 @@ returns-clause-import g c =
     let ended = c.in-Ok-import_items.ended in
     let answer = c.in-Ok-answer_to_end.answer in
     let last : IsToldAnswer (closing_of_end ended.offset ended.end)
-        (last_status chain left ended are.items are.rest came.0 came.1 are.are_given are.came.1) c.tell.result told.0 =
+    (last_status chain left ended are.items are.rest came.0 came.1 are.are_given are.came.1) c.tell.result told.0 =
     subst (λ text. IsToldAnswer text (last_status chain left ended are.items are.rest came.0 came.1 are.are_given are.came.1) c.tell.result told.0) c.in-Ok-answer_to_end.ensures.text
     (subst (λ (s : Status). IsToldAnswer (string_bytes answer.text) s c.tell.result told.0) c.in-Ok-answer_to_end.ensures.status told.2) in (
       came.0,

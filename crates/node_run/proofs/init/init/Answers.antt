@@ -66,7 +66,7 @@ returns-in-Ok-Both-clause-there g c = λ now told other.
 pub returns-in-Ok-Both-clause-as_before : goal.returns-in-Ok-Both-clause-as_before
 returns-in-Ok-Both-clause-as_before g c = λ told.
     let one = one_call g.D.Disk.reads_as g.D.Disk.images g.D.Disk.moment g.D.Disk.left_since g.met.D.Disk.only_now c.args.disk.now c.len.new.self
-        c.in-Ok.ensures.same c.in-Ok.ensures.images c.in-Ok.ensures.time in
+    c.in-Ok.ensures.same c.in-Ok.ensures.images c.in-Ok.ensures.time in
     subst (λ d. IsAsBefore g.D.Disk.reads_as g.D.Disk.images g.D.Disk.moment g.D.Disk.left_since c.args.disk.now d)
     (sym (c.make_and_tell.ensures.unmade (as_before_new c.make_and_tell.result c.make_and_tell.ensures.status told))) one
 

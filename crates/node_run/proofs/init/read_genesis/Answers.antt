@@ -31,9 +31,11 @@ returns-in-Ok-End-clause-read g c =
 pub returns-in-Err-has_more-clause-read : goal.returns-in-Err-has_more-clause-read
 returns-in-Err-has_more-clause-read g c =
     let found = c.in-Ok-Item.ensures.next in
-    let more = c.in-Err-has_more.ensures.more in
-    (found.0 ++ more.0, gives_more (g.S.Source.left c.args.input.now) (g.S.Source.left c.next_item.new.input) (g.S.Source.left c.has_more.new.input) found.0 more.0 found.1 more.1,
-    subst IsReadingStop (sym more.2) tt)
+    let more = c.in-Err-has_more.ensures.more in (
+      found.0 ++ more.0,
+      gives_more (g.S.Source.left c.args.input.now) (g.S.Source.left c.next_item.new.input) (g.S.Source.left c.has_more.new.input) found.0 more.0 found.1 more.1,
+      subst IsReadingStop (sym more.2) tt,
+    )
 
 pub returns-then-more-clause-read : goal.returns-then-more-clause-read
 returns-then-more-clause-read g c =
