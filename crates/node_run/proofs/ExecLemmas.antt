@@ -1,30 +1,19 @@
 -- What was given and taken at each exit of `exec`, against the report of the whole input.
 use Rattle.std.proofs.Common.{◌≡◌, ◌⊎◌, inl, inr, ℕ, ◌+◌, ◌≤◌, ◌<◌, true, false, List, [], ◌++◌, length, refl, ap, sym, ◌∙◌, subst, arith, append-nil, length-append}
-use Rattle.std.specs.Prelude.{Option, Some, Err, nat_lt}
+use Rattle.std.specs.Prelude.{Option, Some, nat_lt}
 use Rattle.std.specs.Io.KnownBytes.{IsAtEnd}
 use Rattle.std.proofs.lemmas.Bool.Decides.{nat_tests, leb_tells}
-use Rattle.outside.specs.Causes.{HasCause, CountsFault}
 use Rattle.vm_defs.specs.Alone.{answer_ecall}
 use Rattle.vm_defs.specs.Program.{execution}
 use Rattle.report_defs.specs.declared.status.Status.{Status}
-use Rattle.report_defs.specs.declared.status.Status.TheVariants.{Done, InputFault, SinkFault, NoMemory, ExtraInput}
+use Rattle.report_defs.specs.declared.status.Status.TheVariants.{Done, SinkFault, ExtraInput}
 use Rattle.report_defs.specs.Text.{execution_line, extra_line}
 use Rattle.report_defs.specs.Report.{Report, text_of, report_without_lines, file_limit, exec_report}
-use Rattle.report_defs.specs.Promise.{IsPrefix, MatchesReport, ExecutesInOrder}
-use Rattle.node_run.specs.Items.{IsStop}
+use Rattle.report_defs.specs.Promise.{IsPrefix, MatchesReport, ExecutesInOrder, IsStoppedBeforeTheSink}
+use Rattle.node_run.specs.Import.{IsStop}
 use Rattle.node_run.specs.Exec.{IsFile}
-use Rattle.node_run.proofs.Reading.{left_nothing}
-use Rattle.node_run.proofs.RunLemmas.{stop_not_reported}
-
--- ---- Faults
-
--- what a failed call did to the count
-pub failed_counts : {T E Fault : Type 0} (before now : ℕ) (error : E) → HasCause {T = T} before now (Err error) → Fault → CountsFault before now Fault
-failed_counts before now error cause fault = record {
-  later = cause.later;
-  rose = λ _. cause.failed refl;
-  unchanged = λ never. absurd (never fault);
-}
+use Rattle.item_reader.proofs.Reading.{left_nothing}
+use Rattle.node_run.proofs.Statuses.{stop_not_reported, not_early, is_early, IsEarly}
 
 -- ---- The report of a file
 
@@ -70,7 +59,7 @@ pub stopped : (budget : ℕ) (given : List ℕ) (left : Option (List ℕ)) (take
     → ((more : List ℕ) → left ≡ Some more → IsPrefix taken (text_of (exec_report budget (given ++ more))))
     → length given ≤ file_limit + 1
     → (0 < length taken → IsAtEnd left ⊎ (file_limit < length given))
-    → ((status ≡ InputFault) ⊎ (status ≡ NoMemory) → taken ≡ [])
+    → (IsStoppedBeforeTheSink status → taken ≡ [])
     → MatchesReport (exec_report budget) given left taken status × ExecutesInOrder given left taken status
 stopped budget given left taken status stop front most first silent = (
   record {
@@ -102,7 +91,12 @@ stopped_in_line budget given left file line taken status read says sink begins =
     (λ more is. subst (IsPrefix taken) (says ∙ sym (ap (λ (r : Report). text_of r) (same_report budget left file given more read is))) begins)
     (given_most left file given read)
     (λ some. read_all left file given read)
-    (λ early. absurd (elim early [ inl e ↦ (cc) | inr e ↦ (cc) ]))
+    (λ early. absurd (not_early status sink early))
+
+-- what `exec` answers behind its line is no stop
+exec_not_early : (status : Status) → (status ≡ Done) ⊎ (status ≡ ExtraInput) → IsStoppedBeforeTheSink status → ⊥
+exec_not_early status (inl done) early = subst IsEarly done (is_early status early)
+exec_not_early status (inr extra) early = subst IsEarly extra (is_early status early)
 
 -- the line was written
 pub answered : (budget : ℕ) (given : List ℕ) (left : Option (List ℕ)) (file taken : List ℕ) (status : Status)
@@ -129,10 +123,10 @@ answered budget given left file taken status read text_is status_is = (
   },
 )
   where
-    reported : (status ≡ InputFault) ⊎ (status ≡ NoMemory) → ⊥
+    reported : IsStoppedBeforeTheSink status → ⊥
     reported early = elim (is_longer (length file) file_limit) [
-      | inl long ↦ let extra : status ≡ ExtraInput = status_is ∙ ap (λ (r : Report). r.status) (too_long budget file long) in elim early [ inl e ↦ (cc) | inr e ↦ (cc) ]
-      | inr short ↦ let done : status ≡ Done = status_is ∙ ap (λ (r : Report). r.status) (fits budget file short) in elim early [ inl e ↦ (cc) | inr e ↦ (cc) ]
+      | inl long ↦ exec_not_early status (inr (status_is ∙ ap (λ (r : Report). r.status) (too_long budget file long))) early
+      | inr short ↦ exec_not_early status (inl (status_is ∙ ap (λ (r : Report). r.status) (fits budget file short))) early
     ]
 
     report : (more : List ℕ) → left ≡ Some more → exec_report budget (given ++ more) ≡ exec_report budget file

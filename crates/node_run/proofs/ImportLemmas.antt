@@ -1,68 +1,134 @@
 -- Items imported one after the other.
-use Rattle.std.proofs.Common.{◌≡◌, inl, inr, ℕ, ◌+◌, ◌≤◌, Bool, true, false, ◌||◌, List, [], ◌∷◌, ◌++◌, length, map, refl, ap, sym, ◌∙◌, subst, arith, append_assoc, append-nil, length-append}
-use Rattle.std.specs.Prelude.{Option, Ok, Err}
-use Rattle.std.specs.List.{concat, list_any, AllByRecursion}
-use Rattle.std.proofs.lemmas.List.{map-append}
-use Rattle.std.proofs.lemmas.List.Folds.{concat-append, list_any-append}
-use Rattle.outside.specs.Causes.{CountsFault}
+use Rattle.std.proofs.Common.{◌≡◌, ◌⊎◌, inl, inr, ℕ, ◌+◌, ◌≤◌, Bool, true, false, ◌||◌, List, [], ◌∷◌, ◌++◌, length, refl, ap, sym, ◌∙◌, subst, arith, append-nil, length-append}
+use Rattle.std.specs.Prelude.{Option, Some, Result, Ok, Err}
+use Rattle.std.specs.List.{concat, list_any}
+use Rattle.std.proofs.lemmas.List.{take-append-le}
+use Rattle.std.proofs.lemmas.List.Folds.{list_any-append}
+use Rattle.outside.specs.Image.{Image}
+use Rattle.outside.specs.Disk.{LeavesOnly}
 use Rattle.outside.specs.Streams.{Gives, Takes}
-use Rattle.outside.proofs.Streams.{gives_none, gives_more, takes_none, takes_more}
+use Rattle.outside.proofs.Streams.{gives_more, takes_more}
+use Rattle.outside.proofs.Moments.{started, leaves_also, leaves_then, now_too}
 use Rattle.rule_defs.specs.declared.verdict.Verdict.{Verdict}
 use Rattle.rule_defs.specs.Verdict as rules
 use Rattle.rule_defs.specs.Chain.{Chain, chain_after, verdict_over, chain_over, verdicts_over}
 use Rattle.fold_defs.proofs.FoldLemmas.{keep-push, verdicts-push}
+use Rattle.store_defs.specs.Store.{StandsFor}
 use Rattle.report_defs.specs.declared.status.Status.{Status}
-use Rattle.report_defs.specs.declared.status.Status.TheVariants.{InputFault, SinkFault, NoMemory}
-use Rattle.report_defs.specs.Items.{IsItem}
+use Rattle.report_defs.specs.declared.status.Status.TheVariants.{DiskFault, NoMemory}
+use Rattle.report_defs.specs.Status.{IsOneOf}
 use Rattle.report_defs.specs.Text.{line}
-use Rattle.report_defs.specs.Report.{item_limit, input_limit, lines_over}
-use Rattle.report_defs.specs.Promise.{IsPrefix, IsInputFaultOrNoMemory}
-use Rattle.node_run.specs.Items.{IsUnfinished, IsItemAt, EndsAt, IsReadingStop, IsWritingStop, IsStop}
-use Rattle.node_run.specs.Import.{Transfers, AreImported, line_over, text_over}
+use Rattle.report_defs.specs.Items.{IsItem, AreItems}
+use Rattle.report_defs.proofs.ItemLemmas.{all_items-append}
+use Rattle.report_defs.specs.Report.{item_limit, input_limit, import_limits}
+use Rattle.report_defs.specs.Survival.{Each}
+use Rattle.item_reader.specs.Items.{IsPartial, IsItemAt, EndsAt, IsReadingStop, IsNext}
+use Rattle.item_reader.specs.declared.next.Next.{Next}
+use Rattle.item_reader.proofs.Reading.{few_partial}
+use Rattle.node_core.specs.Node.{NodeValue, IsOn}
+use Rattle.node_run.specs.Output.{Transfers, IsPartOf}
+use Rattle.node_run.specs.Import.{AreImported, IsCutShort, KeepsSome, line_over, text_over}
 use Rattle.node_run.specs.declared.import.Ended.{Ended}
+use Rattle.node_run.proofs.LineLemmas.{concat-push, lines-push, line_some, take_all}
+use Rattle.node_run.proofs.Statuses.{reading_stops, writing_stops, disk_stops}
 
--- Whole items were imported, and nothing of a next one was read.
-pub record Whole (chain : Chain) (start offset : ℕ) (left_old left_new taken_old taken_new : Option (List ℕ))
-    (now : Chain) (refused : Bool) : Type 0 where
+pub item_limit-is : item_limit ≡ 1048576
+unfolding item_limit
+item_limit-is = refl
+
+pub input_limit-is : input_limit ≡ 1099511627776
+unfolding input_limit
+input_limit-is = refl
+
+-- Whole items were imported, and nothing of a next one was read. Where the node was on its disk it is so now, and at each moment a crash
+-- left what joined of some of them.
+pub record Whole (chain : Chain) (offset : ℕ) (left_old left_new taken_old taken_new : Option (List ℕ)) (now : Chain) (refused : Bool)
+    (was_on is_on : Type 0) (leaves : (Image → Type 0) → Type 0) : Type 0 where
   pub items : List (List ℕ)
   pub gives : Gives left_old left_new (concat items)
   pub takes : Takes taken_old taken_new (text_over chain items)
-  pub all : AllByRecursion (IsItem item_limit) items
-  pub place : offset ≡ start + length (concat items)
+  pub all : AreItems import_limits 0 items
+  pub place : offset ≡ length (concat items)
   pub within : offset ≤ input_limit
   pub kept_now : now ≡ chain_over chain items
   pub any_refused : refused ≡ list_any rules.refuses (verdicts_over chain items)
+  pub on : was_on → is_on
+  pub moments : was_on → leaves (KeepsSome chain items)
 
--- nothing was imported yet
-pub whole_none : (chain : Chain) (start : ℕ) (left taken : Option (List ℕ)) → start ≤ input_limit
-    → Whole chain start start left left taken taken chain false
-whole_none chain start left taken fits = record {
-  items = [];
-  gives = gives_none left;
-  takes = takes_none taken;
-  all = tt;
-  place = omega arith;
-  within = fits;
-  kept_now = refl;
-  any_refused = refl;
+-- ---- What a crash leaves
+
+pub keeps_all : (chain : Chain) (items : List (List ℕ)) (image : Image) → StandsFor (chain_over chain items) image → KeepsSome chain items image
+keeps_all chain items image stands = (length items, omega arith, subst (λ xs. StandsFor (chain_over chain xs) image) (sym (take_all items)) stands)
+
+pub keeps_more : (chain : Chain) (items : List (List ℕ)) (item : List ℕ) (image : Image) → KeepsSome chain items image → KeepsSome chain (items ++ item ∷ []) image
+keeps_more chain items item image some = (
+  some.0,
+  omega (arith, some.1, length-append items (item ∷ [])),
+  subst (λ xs. StandsFor (chain_over chain xs) image) (sym (take-append-le some.0 items (item ∷ []) some.1)) some.2,
+)
+
+-- of an item over those before it
+pub keeps_item : (chain now : Chain) (items : List (List ℕ)) (item : List ℕ) (image : Image) → now ≡ chain_over chain items
+    → StandsFor now image ⊎ StandsFor (chain_after now item) image → StandsFor (chain_over chain items) image ⊎ StandsFor (chain_over chain (items ++ item ∷ [])) image
+keeps_item chain now items item image is (inl old) = inl (subst (λ (k : Chain). StandsFor k image) is old)
+keeps_item chain now items item image is (inr new) =
+    inr (subst (λ (k : Chain). StandsFor k image) (ap (λ (k : Chain). chain_after k item) is ∙ sym (keep-push chain_after chain items item)) new)
+
+pub keeps_either : (chain : Chain) (items : List (List ℕ)) (item : List ℕ) (image : Image)
+    → StandsFor (chain_over chain items) image ⊎ StandsFor (chain_over chain (items ++ item ∷ [])) image → KeepsSome chain (items ++ item ∷ []) image
+keeps_either chain items item image (inl old) = keeps_more chain items item image (keeps_all chain items image old)
+keeps_either chain items item image (inr new) = keeps_all chain (items ++ item ∷ []) image new
+
+-- each image of a disk that a node is on
+pub on_stands : (node : NodeValue) (chain : Chain) (reads : Option Image) (images : Image → Type 0) → node.chain ≡ chain → IsOn node reads images
+    → (image : Image) → images image → StandsFor chain image
+on_stands node chain reads images is on image left =
+    subst (λ (k : Chain). StandsFor k image) is (subst (λ (i : Image). StandsFor node.chain i) (sym (on.one image left)) on.stands)
+
+module _ {D : Type 0} (images : D → Image → Type 0) (moment : D → ℕ) (left_since : D → ℕ → Image → Type 0)
+    (counts_now : (disk : D) (t : ℕ) (image : Image) → t ≤ moment disk → images disk image → left_since disk t image) where
+  -- the moments of one item more
+  pub leaves_item : (old mid new : D) (chain now : Chain) (items : List (List ℕ)) (item : List ℕ) → now ≡ chain_over chain items
+      → LeavesOnly moment left_since old mid (KeepsSome chain items)
+      → LeavesOnly moment left_since mid new (λ image. StandsFor now image ⊎ StandsFor (chain_after now item) image)
+      → LeavesOnly moment left_since old new (KeepsSome chain (items ++ item ∷ []))
+  leaves_item old mid new chain now items item is first second =
+      leaves_then moment left_since old mid new (KeepsSome chain (items ++ item ∷ []))
+      (leaves_also moment left_since old mid (KeepsSome chain items) (KeepsSome chain (items ++ item ∷ [])) first (keeps_more chain items item))
+      (leaves_also moment left_since mid new (λ image. StandsFor now image ⊎ StandsFor (chain_after now item) image) (KeepsSome chain (items ++ item ∷ [])) second
+      (λ image either. keeps_either chain items item image (keeps_item chain now items item image is either)))
+
+  -- the images behind it
+  pub exit_of_item : (mid new : D) (chain now : Chain) (items : List (List ℕ)) (item : List ℕ) → now ≡ chain_over chain items
+      → LeavesOnly moment left_since mid new (λ image. StandsFor now image ⊎ StandsFor (chain_after now item) image)
+      → Each (images new) (λ image. StandsFor (chain_over chain items) image ⊎ StandsFor (chain_over chain (items ++ item ∷ [])) image)
+  exit_of_item mid new chain now items item is second = λ image left.
+      keeps_item chain now items item image is
+      (now_too moment left_since images counts_now mid new (λ image. StandsFor now image ⊎ StandsFor (chain_after now item) image) second image left)
+
+  -- before the first item
+  pub leaves_none : ((disk : D) (image : Image) → left_since disk (moment disk) image → images disk image) → (disk : D) (node : NodeValue) (reads : Option Image)
+      → IsOn node reads (images disk) → LeavesOnly moment left_since disk disk (KeepsSome node.chain [])
+  leaves_none only_now disk node reads on =
+      started moment left_since disk (KeepsSome node.chain [])
+      (λ image left. keeps_all node.chain [] image (on_stands node node.chain reads (images disk) refl on image (only_now disk image left)))
+
+-- ---- One item
+
+pub known_limits : (most all : ℕ) → most ≡ item_limit → all ≡ input_limit → (offset : ℕ) (left : Option (List ℕ)) (result : Result Next Status) (given : List ℕ)
+    → IsNext most (Some all) offset left result given → IsNext item_limit (Some input_limit) offset left result given
+known_limits most all one two offset left result given next =
+    subst (λ n. IsNext item_limit (Some n) offset left result given) two (subst (λ n. IsNext n (Some all) offset left result given) one next)
+
+-- the disk stopped it, or missing memory, before its line
+pub cut_before_line : (verdict : Verdict) (status : Status) → IsOneOf (DiskFault ∷ NoMemory ∷ []) status → IsCutShort (line verdict) status []
+cut_before_line verdict status one = record {
+  stop = disk_stops status one;
+  part = record { front = (line verdict, refl); shorter = line_some verdict };
+  silent = λ early. refl;
 }
 
-pub concat-push : (items : List (List ℕ)) (item : List ℕ) → concat (items ++ item ∷ []) ≡ concat items ++ item
-concat-push [] item = append-nil item
-concat-push (x ∷ xs) item = ap (λ bs. x ++ bs) (concat-push xs item) ∙ sym (append_assoc x (concat xs) item)
-
-pub all-push : (items : List (List ℕ)) (item : List ℕ) → AllByRecursion (IsItem item_limit) items → IsItem item_limit item
-    → AllByRecursion (IsItem item_limit) (items ++ item ∷ [])
-all-push [] item all last = (last, tt)
-all-push (x ∷ xs) item all last = (all.0, all-push xs item all.1 last)
-
-pub lines-push : (chain : Chain) (items : List (List ℕ)) (item : List ℕ)
-    → text_over chain (items ++ item ∷ []) ≡ text_over chain items ++ line_over (chain_over chain items) item
-lines-push chain items item =
-    ap (λ (vs : List Verdict). concat (map line vs)) (verdicts-push chain_after verdict_over chain items item)
-    ∙ ap concat (map-append line (verdicts_over chain items) (verdict_over (chain_over chain items) item ∷ []))
-    ∙ concat-append (lines_over chain items) (line_over (chain_over chain items) item ∷ [])
-    ∙ ap (λ bs. text_over chain items ++ bs) (append-nil (line_over (chain_over chain items) item))
+-- ---- The loop
 
 or_false : (b : Bool) → (b || false) ≡ b
 or_false true = refl
@@ -71,14 +137,20 @@ or_false false = refl
 any-push : (vs : List Verdict) (v : Verdict) → list_any rules.refuses (vs ++ v ∷ []) ≡ (list_any rules.refuses vs || rules.refuses v)
 any-push vs v = list_any-append rules.refuses vs (v ∷ []) ∙ ap (λ b. list_any rules.refuses vs || b) (or_false (rules.refuses v))
 
+all-push : (items : List (List ℕ)) (item : List ℕ) → AreItems import_limits 0 items → IsItem item_limit item → AreItems import_limits 0 (items ++ item ∷ [])
+all-push items item all is = all_items-append import_limits 0 items (item ∷ []) all (is, tt)
+
 -- one item more was imported
-pub whole_more : (chain : Chain) (start offset : ℕ) (left_old left left_new taken_old taken taken_new : Option (List ℕ)) (now new : Chain) (refused : Bool)
+pub whole_more : (chain : Chain) (offset : ℕ) (left_old left left_new taken_old taken taken_new : Option (List ℕ)) (now new : Chain) (refused : Bool)
+    (was_on is_on on_new : Type 0) (leaves leaves_new : (Image → Type 0) → Type 0)
     (item given text : List ℕ) (verdict : Verdict) (size : ℕ) (any : Bool)
-    → size ≡ length item → any ≡ (refused || rules.refuses verdict) → Whole chain start offset left_old left taken_old taken now refused → IsItemAt offset item given
+    → size ≡ length item → any ≡ (refused || rules.refuses verdict)
+    → (whole : Whole chain offset left_old left taken_old taken now refused was_on is_on leaves) → IsItemAt item_limit (Some input_limit) offset item given
     → Gives left left_new given → Takes taken taken_new text → verdict ≡ verdict_over now item → new ≡ chain_after now item
-    → text ≡ line_over now item
-    → Whole chain start (offset + size) left_old left_new taken_old taken_new new any
-whole_more chain start offset left_old left left_new taken_old taken taken_new now new refused item given text verdict size any long either whole at gives takes judged kept_is text_is =
+    → text ≡ line_over now item → (is_on → on_new) → (was_on → leaves_new (KeepsSome chain (whole.items ++ item ∷ [])))
+    → Whole chain (offset + size) left_old left_new taken_old taken_new new any was_on on_new leaves_new
+whole_more chain offset left_old left left_new taken_old taken taken_new now new refused was_on is_on on_new leaves leaves_new item given text verdict size any
+    long either whole at gives takes judged kept_is text_is goes_on moments =
     let same : now ≡ chain_over chain whole.items = whole.kept_now in
     record {
       items = whole.items ++ item ∷ [];
@@ -94,122 +166,153 @@ whole_more chain start offset left_old left left_new taken_old taken taken_new n
           ∙ ap (λ (v : Verdict). list_any rules.refuses (verdicts_over chain whole.items) || rules.refuses v) (judged ∙ ap (λ (k : Chain). verdict_over k item) same)
           ∙ sym (any-push (verdicts_over chain whole.items) (verdict_over (chain_over chain whole.items) item))
           ∙ sym (ap (list_any rules.refuses) (verdicts-push chain_after verdict_over chain whole.items item));
+      on = λ was. goes_on (whole.on was);
+      moments = moments;
     }
 
+-- ---- The exits
+
 -- the reading ended behind whole items
-pub imported_to_end : (chain : Chain) (start offset : ℕ) (left_old left left_new taken_old taken : Option (List ℕ)) (now : Chain) (ended : Ended)
-    (given : List ℕ) → Whole chain start offset left_old left taken_old taken now ended.refused → Gives left left_new given → EndsAt offset left_new ended.end given
-    → Transfers left_old left_new taken_old taken (AreImported chain now start left_new (Ok ended))
-imported_to_end chain start offset left_old left left_new taken_old taken now ended given whole gives ends = (
+pub imported_to_end : (chain : Chain) (offset : ℕ) (left_old left left_new taken_old taken : Option (List ℕ)) (now : Chain) (ended : Ended)
+    (was_on is_on : Type 0) (images : Image → Type 0) (leaves : (Image → Type 0) → Type 0) (given : List ℕ)
+    → Whole chain offset left_old left taken_old taken now ended.refused was_on is_on leaves → Gives left left_new given
+    → EndsAt (Some item_limit) (Some input_limit) offset left_new ended.end given → IsPartial item_limit (Some input_limit) offset given → ended.offset ≡ offset
+    → (is_on → Each images (StandsFor now))
+    → Transfers left_old left_new taken_old taken (AreImported chain left_new (Ok ended) was_on images leaves)
+imported_to_end chain offset left_old left left_new taken_old taken now ended was_on is_on images leaves given whole gives ends partial there stand = (
   concat whole.items ++ given,
   text_over chain whole.items,
   gives_more left_old left left_new (concat whole.items) given whole.gives gives,
   whole.takes,
   record {
     items = whole.items;
-    unfinished_input = given;
-    partial_line = [];
-    progress = record {
-      given_is = refl;
-      taken_is = sym (append-nil (text_over chain whole.items));
+    before = whole.items;
+    rest = given;
+    are_given = record {
+      whole = refl;
       all = whole.all;
       within = rw (← whole.place) whole.within;
-      unfinished = rw (← whole.place) ends.unfinished;
-      partial_line_is = inl refl;
+      partial = rw (← whole.place) partial;
     };
-    end = record {
-      nothing = refl;
-      kept = whole.kept_now;
-      refused = whole.any_refused;
-      ends = rw (← whole.place) ends;
-    };
+    came = (
+      refl,
+      record {
+        lines = refl;
+        refused = whole.any_refused;
+        offset = there ∙ whole.place;
+        ends = rw (← whole.place) ends;
+      },
+    );
+    exit = λ was. λ image left. inl (subst (λ (k : Chain). StandsFor k image) whole.kept_now (stand (whole.on was) image left));
+    moments = whole.moments;
   },
 )
 
 -- the reading was stopped behind whole items
-pub imported_to_fault : (chain : Chain) (start offset : ℕ) (left_old left left_new taken_old taken : Option (List ℕ)) (now new : Chain) (refused : Bool)
-    (status : Status) (given : List ℕ) → Whole chain start offset left_old left taken_old taken now refused → Gives left left_new given
-    → IsUnfinished offset given → IsStop status
-    → Transfers left_old left_new taken_old taken (AreImported chain new start left_new (Err status))
-imported_to_fault chain start offset left_old left left_new taken_old taken now new refused status given whole gives unfinished stop = (
+pub imported_to_fault : (chain : Chain) (offset : ℕ) (left_old left left_new taken_old taken : Option (List ℕ)) (now : Chain) (refused : Bool)
+    (was_on is_on : Type 0) (images : Image → Type 0) (leaves : (Image → Type 0) → Type 0) (status : Status) (given : List ℕ)
+    → (whole : Whole chain offset left_old left taken_old taken now refused was_on is_on leaves) → Gives left left_new given → IsReadingStop status
+    → IsPartial item_limit (Some input_limit) offset given ⊎ IsItemAt item_limit (Some input_limit) offset given given
+    → (is_on → Each images (StandsFor now))
+    → (leaves (KeepsSome chain whole.items) → leaves (KeepsSome chain (whole.items ++ given ∷ [])))
+    → Transfers left_old left_new taken_old taken (AreImported chain left_new (Err status) was_on images leaves)
+imported_to_fault chain offset left_old left left_new taken_old taken now refused was_on is_on images leaves status given whole gives stop (inl partial) stand weaker = (
   concat whole.items ++ given,
   text_over chain whole.items,
   gives_more left_old left left_new (concat whole.items) given whole.gives gives,
   whole.takes,
   record {
     items = whole.items;
-    unfinished_input = given;
-    partial_line = [];
-    progress = record {
-      given_is = refl;
-      taken_is = sym (append-nil (text_over chain whole.items));
+    before = whole.items;
+    rest = given;
+    are_given = record {
+      whole = refl;
       all = whole.all;
       within = rw (← whole.place) whole.within;
-      unfinished = rw (← whole.place) unfinished;
-      partial_line_is = inl refl;
+      partial = rw (← whole.place) partial;
     };
-    end = (stop, λ early. refl);
+    came = record {
+      stop = reading_stops status stop;
+      part = [];
+      taken_is = sym (append-nil (text_over chain whole.items));
+      silent = λ early. refl;
+      last = inl (refl, refl);
+    };
+    exit = λ was. λ image left. inl (subst (λ (k : Chain). StandsFor k image) whole.kept_now (stand (whole.on was) image left));
+    moments = whole.moments;
+  },
+)
+imported_to_fault chain offset left_old left left_new taken_old taken now refused was_on is_on images leaves status given whole gives stop (inr at) stand weaker = (
+  concat whole.items ++ given,
+  text_over chain whole.items,
+  gives_more left_old left left_new (concat whole.items) given whole.gives gives,
+  whole.takes,
+  record {
+    items = whole.items ++ given ∷ [];
+    before = whole.items;
+    rest = [];
+    are_given = record {
+      whole = sym (append-nil (concat (whole.items ++ given ∷ [])) ∙ concat-push whole.items given);
+      all = all-push whole.items given whole.all at.is_item;
+      within = rw concat-push (omega (arith, at.within, whole.place, length-append (concat whole.items) given));
+      partial = few_partial item_limit (Some input_limit) (length (concat (whole.items ++ given ∷ []))) [] (omega arith);
+    };
+    came = record {
+      stop = reading_stops status stop;
+      part = [];
+      taken_is = sym (append-nil (text_over chain whole.items));
+      silent = λ early. refl;
+      last = inr (
+        given,
+        refl,
+        refl,
+        record {
+          front = (line_over (chain_over chain whole.items) given, refl);
+          shorter = line_some (verdict_over (chain_over chain whole.items) given);
+        },
+      );
+    };
+    exit = λ was. λ image left. inl (subst (λ (k : Chain). StandsFor k image) whole.kept_now (stand (whole.on was) image left));
+    moments = λ was. weaker (whole.moments was);
   },
 )
 
--- an item was read, and the writing of its line was stopped
-pub imported_to_line : (chain : Chain) (start offset : ℕ) (left_old left left_new taken_old taken taken_new : Option (List ℕ)) (now new : Chain) (refused : Bool)
-    (status : Status) (item given partial_line : List ℕ) → Whole chain start offset left_old left taken_old taken now refused → IsItemAt offset item given
-    → Gives left left_new given → IsUnfinished offset given → Takes taken taken_new partial_line → IsPrefix partial_line (line_over now item) → IsStop status → (IsInputFaultOrNoMemory status → partial_line ≡ [])
-    → Transfers left_old left_new taken_old taken_new (AreImported chain new start left_new (Err status))
-imported_to_line chain start offset left_old left left_new taken_old taken taken_new now new refused status item given partial_line whole at gives unfinished takes begins stop silent =
+-- an item was read, and its import was stopped
+pub imported_to_line : (chain : Chain) (offset : ℕ) (left_old left left_new taken_old taken taken_new : Option (List ℕ)) (now : Chain) (refused : Bool)
+    (was_on is_on : Type 0) (images : Image → Type 0) (leaves leaves_new : (Image → Type 0) → Type 0) (status : Status) (item given part : List ℕ)
+    → (whole : Whole chain offset left_old left taken_old taken now refused was_on is_on leaves) → IsItemAt item_limit (Some input_limit) offset item given
+    → Gives left left_new given → Takes taken taken_new part → IsCutShort (line_over now item) status part
+    → (is_on → Each images (λ image. StandsFor (chain_over chain whole.items) image ⊎ StandsFor (chain_over chain (whole.items ++ item ∷ [])) image))
+    → (was_on → leaves_new (KeepsSome chain (whole.items ++ item ∷ [])))
+    → Transfers left_old left_new taken_old taken_new (AreImported chain left_new (Err status) was_on images leaves_new)
+imported_to_line chain offset left_old left left_new taken_old taken taken_new now refused was_on is_on images leaves leaves_new status item given part
+    whole at gives takes short exit moments =
     let same : now ≡ chain_over chain whole.items = whole.kept_now in (
-      concat whole.items ++ given,
-      text_over chain whole.items ++ partial_line,
-      gives_more left_old left left_new (concat whole.items) given whole.gives gives,
-      takes_more taken_old taken taken_new (text_over chain whole.items) partial_line whole.takes takes,
+      concat whole.items ++ item,
+      text_over chain whole.items ++ part,
+      gives_more left_old left left_new (concat whole.items) item whole.gives (subst (Gives left left_new) at.same gives),
+      takes_more taken_old taken taken_new (text_over chain whole.items) part whole.takes takes,
       record {
-        items = whole.items;
-        unfinished_input = given;
-        partial_line = partial_line;
-        progress = record {
-          given_is = refl;
-          taken_is = refl;
-          all = whole.all;
-          within = rw (← whole.place) whole.within;
-          unfinished = rw (← whole.place) unfinished;
-          partial_line_is = inr (
-            rw (← whole.place) (subst (λ bs. IsItemAt offset bs given) (sym at.same) at),
-            subst (λ (k : Chain). IsPrefix partial_line (line_over k given)) same
-                (subst (λ bs. IsPrefix partial_line (line_over now bs)) (sym at.same) begins),
-          );
+        items = whole.items ++ item ∷ [];
+        before = whole.items;
+        rest = [];
+        are_given = record {
+          whole = sym (append-nil (concat (whole.items ++ item ∷ [])) ∙ concat-push whole.items item);
+          all = all-push whole.items item whole.all at.is_item;
+          within = rw concat-push (omega (arith, at.within, whole.place, length-append (concat whole.items) item));
+          partial = few_partial item_limit (Some input_limit) (length (concat (whole.items ++ item ∷ []))) [] (omega arith);
         };
-        end = (stop, silent);
+        came = record {
+          stop = writing_stops status short.stop;
+          part = part;
+          taken_is = refl;
+          silent = short.silent;
+          last = inr (item, refl, refl, subst (λ (k : Chain). IsPartOf (line_over k item) part) same short.part);
+        };
+        exit = λ was. exit (whole.on was);
+        moments = moments;
       },
     )
-
--- what stops reading or writing stops a run
-pub reading_stops : (status : Status) → IsReadingStop status → IsStop status
-reading_stops InputFault stop = tt
-reading_stops NoMemory stop = tt
-reading_stops _ stop = absurd stop
-
-pub writing_stops : (status : Status) → IsWritingStop status → IsStop status
-writing_stops SinkFault stop = tt
-writing_stops NoMemory stop = tt
-writing_stops _ stop = absurd stop
-
--- no fault was met
-pub no_fault : {Fault : Type 0} (before now : ℕ) → now ≡ before → (Fault → ⊥) → CountsFault before now Fault
-no_fault before now unchanged never = record {
-  later = omega (arith, unchanged);
-  rose = λ fault. absurd (never fault);
-  unchanged = λ _. unchanged;
-}
-
--- a count that was unchanged, and then counts the same fault
-pub then_counts : {First Fault : Type 0} (before still now : ℕ) → still ≡ before → CountsFault still now First → (Fault → First) → (First → Fault)
-    → CountsFault before now Fault
-then_counts before still now unchanged counts there back = record {
-  later = omega (arith, unchanged, counts.later);
-  rose = λ fault. rw (← unchanged) (counts.rose (there fault));
-  unchanged = λ never. counts.unchanged (λ first. never (back first)) ∙ unchanged;
-}
 
 -- `a || b` where a is known
 pub or_then : (a b : Bool) → a ≡ true → (a || b) ≡ a

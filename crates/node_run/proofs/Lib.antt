@@ -1,5 +1,10 @@
+pub mod Faults
+pub mod Statuses
+pub mod LineLemmas
 pub mod ImportLemmas
-pub mod Reading
-pub mod RunLemmas
-pub mod WordLemmas
+pub mod StoreLemmas
+pub mod ImportReport
 pub mod ExecLemmas
+pub mod WordLemmas
+pub mod InitLemmas
+pub mod RunLemmas

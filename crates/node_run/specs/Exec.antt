@@ -3,7 +3,7 @@ use Rattle.std.specs.Prelude.{◌≡◌, ℕ, ◌+◌, ◌≤◌, List, length, 
 use Rattle.std.specs.Io.KnownBytes.{IsAtEnd}
 use Rattle.report_defs.specs.declared.status.Status.{Status}
 use Rattle.report_defs.specs.Report.{file_limit}
-use Rattle.node_run.specs.Items.{IsReadingStop}
+use Rattle.item_reader.specs.Items.{IsReadingStop}
 
 -- the input was read as a file: to its end, or a byte past the longest file
 pub record IsFile (left : Option (List ℕ)) (file given : List ℕ) : Type 0 where

@@ -1,63 +1,20 @@
--- The parts of `import`: what the source gave in each, what the sink took, and what is kept.
-use Rattle.std.specs.Prelude.{◌≡◌, ◌⊎◌, ℕ, ◌+◌, ◌≤◌, List, [], ◌++◌, length, Option, Some, None, Result, Ok, Err}
-use Rattle.std.specs.List.{concat, list_any, AllByRecursion}
-use Rattle.outside.specs.Streams.{Gives, Takes}
-use Rattle.chain_defs.specs.Tip.{tip}
-use Rattle.rule_defs.specs.declared.verdict.Verdict.{Verdict}
-use Rattle.rule_defs.specs.Genesis.{broken_genesis_rule}
+-- The parts of `import`: what the source gave, what the sink took, and what is kept.
+use Rattle.std.specs.Prelude.{◌≡◌, ◌⊎◌, ℕ, ◌≤◌, List, [], ◌∷◌, ◌++◌, length, take, Option, Some, Result, Ok, Err}
+use Rattle.std.specs.List.{concat, list_any}
+use Rattle.outside.specs.Image.{Image}
 use Rattle.rule_defs.specs.Verdict as rules
-use Rattle.rule_defs.specs.Rules.{no_specification}
-use Rattle.rule_defs.specs.Chain.{Chain, chain_of_genesis, verdict_over, chain_after, verdicts_over, chain_over}
+use Rattle.rule_defs.specs.Chain.{Chain, verdict_over, verdicts_over, chain_over}
+use Rattle.store_defs.specs.Store.{StandsFor}
 use Rattle.report_defs.specs.declared.status.Status.{Status}
-use Rattle.report_defs.specs.declared.status.Status.TheVariants.{InputFault, NoMemory, CutInput, BadGenesis}
-use Rattle.report_defs.specs.declared.end.End.{End}
-use Rattle.report_defs.specs.Items.{IsItem}
-use Rattle.report_defs.specs.Text.{line, tip_line}
-use Rattle.report_defs.specs.Report.{item_limit, input_limit, lines_over}
-use Rattle.report_defs.specs.Promise.{IsPrefix, IsInputFaultOrNoMemory}
-use Rattle.node_run.specs.Items.{IsUnfinished, IsItemAt, EndsAt, IsWritingStop, IsStop}
+use Rattle.report_defs.specs.declared.status.Status.TheVariants.{InputFault, SinkFault, DiskFault, NoMemory}
+use Rattle.report_defs.specs.Items.{AreItems}
+use Rattle.report_defs.specs.Text.{line}
+use Rattle.report_defs.specs.Report.{item_limit, input_limit, import_limits, lines_over}
+use Rattle.report_defs.specs.Promise.{IsStoppedBeforeTheSink}
+use Rattle.report_defs.specs.Survival.{Each}
+use Rattle.item_reader.specs.Items.{IsPartial, EndsAt}
+use Rattle.node_run.specs.Output.{IsPartOf}
 use Rattle.node_run.specs.declared.import.Ended.{Ended}
-
--- the sink took some bytes, and P holds of them
-abbrev pub Took : Option (List ℕ) → Option (List ℕ) → (List ℕ → Type 0) → Type 0
-Took taken_old taken_new P = (taken : List ℕ) × Takes taken_old taken_new taken × P taken
-
--- the source gave some bytes and the sink took some, and P holds of them
-abbrev pub Transfers : Option (List ℕ) → Option (List ℕ) → Option (List ℕ) → Option (List ℕ) → (List ℕ → List ℕ → Type 0) → Type 0
-Transfers left_old left_new taken_old taken_new P =
-    (given : List ℕ) × (taken : List ℕ) × Gives left_old left_new given × Takes taken_old taken_new taken × P given taken
-
--- The genesis was read: the bytes given are one item.
-pub record IsGenesisRead (item : List ℕ) (given : List ℕ) : Type 0 where
-  pub there : IsItemAt 0 item given
-  pub good : broken_genesis_rule item ≡ None
-
-pub record IsBadGenesis (given : List ℕ) : Type 0 where
-  pub there : IsItemAt 0 given given
-  pub rule : ℕ
-  pub broken : broken_genesis_rule given ≡ Some rule
-
-abbrev pub IsGenesis : Option (List ℕ) → Result (Chain × ℕ) Status → List ℕ → Type 0
-IsGenesis left (Ok (chain, offset)) given = IsGenesisRead given given × (chain ≡ chain_of_genesis no_specification given) × (offset ≡ length given)
-IsGenesis left (Err CutInput) given = (end : End) × EndsAt 0 left end given
-IsGenesis left (Err BadGenesis) given = IsBadGenesis given
-IsGenesis left (Err InputFault) given = IsUnfinished 0 given
-IsGenesis left (Err NoMemory) given = IsUnfinished 0 given
-IsGenesis left (Err _) given = ⊥
-
--- The writing of a text was stopped: only a fault leaves a part of it.
-pub record IsCutShort (text : List ℕ) (status : Status) (taken : List ℕ) : Type 0 where
-  pub stop : IsWritingStop status
-  pub front : IsPrefix taken text
-  pub silent : IsInputFaultOrNoMemory status → taken ≡ []
-
--- a text was taken, or a part of it
-abbrev pub IsWritten : {V : Type 0} → List ℕ → Result V Status → List ℕ → Type 0
-IsWritten text (Ok v) taken = taken ≡ text
-IsWritten text (Err status) taken = IsCutShort text status taken
-
-abbrev pub tip_line_over : Chain → List ℕ
-tip_line_over chain = tip_line (tip chain.blocks)
 
 -- the line of an item over a chain, and the lines of items one after the other
 abbrev pub line_over : Chain → List ℕ → List ℕ
@@ -66,36 +23,70 @@ line_over chain item = line (verdict_over chain item)
 abbrev pub text_over : Chain → List (List ℕ) → List ℕ
 text_over chain items = concat (lines_over chain items)
 
--- an item was judged
-abbrev pub IsJudged : Chain → Chain → List ℕ → Result Verdict Status → Type 0
-IsJudged old new item (Ok verdict) = (verdict ≡ verdict_over old item) × (new ≡ chain_after old item)
-IsJudged old new item (Err status) = Unit {0}
+-- what stops a run: a fault, or missing memory
+abbrev pub IsStop : Status → Type 0
+IsStop InputFault = Unit {0}
+IsStop SinkFault = Unit {0}
+IsStop DiskFault = Unit {0}
+IsStop NoMemory = Unit {0}
+IsStop _ = ⊥
 
--- Items from an offset on, all but the last with their lines: what was given behind them, and what was taken behind those lines.
-pub record Progress (chain : Chain) (offset : ℕ) (items : List (List ℕ)) (unfinished_input partial_line given taken : List ℕ) : Type 0 where
-  pub given_is : given ≡ concat items ++ unfinished_input
-  pub taken_is : taken ≡ text_over chain items ++ partial_line
-  pub all : AllByRecursion (IsItem item_limit) items
-  pub within : offset + length (concat items) ≤ input_limit
-  pub unfinished : IsUnfinished (offset + length (concat items)) unfinished_input
-  -- a part of a line is that of an item that was given whole
-  pub partial_line_is : (partial_line ≡ [])
-      ⊎ (IsItemAt (offset + length (concat items)) unfinished_input unfinished_input × IsPrefix partial_line (line_over (chain_over chain items) unfinished_input))
+-- what stops the import of an item that was read
+abbrev pub IsWritingStop : Status → Type 0
+IsWritingStop SinkFault = Unit {0}
+IsWritingStop DiskFault = Unit {0}
+IsWritingStop NoMemory = Unit {0}
+IsWritingStop _ = ⊥
 
-pub record IsEnded (old new : Chain) (offset : ℕ) (left : Option (List ℕ)) (ended : Ended) (items : List (List ℕ)) (unfinished_input partial_line : List ℕ) : Type 0 where
-  pub nothing : partial_line ≡ []
-  pub kept : new ≡ chain_over old items
-  pub refused : ended.refused ≡ list_any rules.refuses (verdicts_over old items)
-  pub ends : EndsAt (offset + length (concat items)) left ended.end unfinished_input
+-- The import of an item was stopped: only the sink leaves a part of its line.
+pub record IsCutShort (text : List ℕ) (status : Status) (taken : List ℕ) : Type 0 where
+  pub stop : IsWritingStop status
+  pub part : IsPartOf text taken
+  pub silent : IsStoppedBeforeTheSink status → taken ≡ []
 
-abbrev pub IsEnd : Chain → Chain → ℕ → Option (List ℕ) → Result Ended Status → List (List ℕ) → List ℕ → List ℕ → Type 0
-IsEnd old new offset left (Ok ended) items unfinished_input partial_line = IsEnded old new offset left ended items unfinished_input partial_line
-IsEnd old new offset left (Err status) items unfinished_input partial_line = IsStop status × (IsInputFaultOrNoMemory status → partial_line ≡ [])
+abbrev pub IsAnswered : {V : Type 0} → List ℕ → Result V Status → List ℕ → Type 0
+IsAnswered text (Ok v) taken = taken ≡ text
+IsAnswered text (Err status) taken = IsCutShort text status taken
 
--- Items were imported one after the other.
-pub record AreImported (old new : Chain) (offset : ℕ) (left : Option (List ℕ)) (result : Result Ended Status) (given taken : List ℕ) : Type 0 where
+-- an image keeps what joined of some first items
+abbrev pub KeepsSome : Chain → List (List ℕ) → Image → Type 0
+KeepsSome chain items image = (count : ℕ) × (count ≤ length items) × StandsFor (chain_over chain (take count items)) image
+
+-- Whole items were given, and behind them bytes that hold no whole one.
+pub record AreGiven (items : List (List ℕ)) (rest given : List ℕ) : Type 0 where
+  pub whole : given ≡ concat items ++ rest
+  pub all : AreItems import_limits 0 items
+  pub within : length (concat items) ≤ input_limit
+  pub partial : IsPartial item_limit (Some input_limit) (length (concat items)) rest
+
+-- All items were answered, and the reading ended behind them.
+pub record IsEnded (chain : Chain) (left : Option (List ℕ)) (ended : Ended) (items : List (List ℕ)) (rest taken : List ℕ) : Type 0 where
+  pub lines : taken ≡ text_over chain items
+  pub refused : ended.refused ≡ list_any rules.refuses (verdicts_over chain items)
+  pub offset : ended.offset ≡ length (concat items)
+  pub ends : EndsAt (Some item_limit) (Some input_limit) (length (concat items)) left ended.end rest
+
+-- The import was stopped when some items were answered: at the reading behind them, or at one item more, of whose line a part was taken.
+pub record IsStopped (chain : Chain) (status : Status) (items before : List (List ℕ)) (rest taken : List ℕ) : Type 0 where
+  pub stop : IsStop status
+  pub part : List ℕ
+  pub taken_is : taken ≡ text_over chain before ++ part
+  pub silent : IsStoppedBeforeTheSink status → part ≡ []
+  pub last : ((items ≡ before) × (part ≡ []))
+      ⊎ ((item : List ℕ) × (items ≡ before ++ item ∷ []) × (rest ≡ []) × IsPartOf (line_over (chain_over chain before) item) part)
+
+abbrev pub HasCome : Chain → Option (List ℕ) → Result Ended Status → List (List ℕ) → List (List ℕ) → List ℕ → List ℕ → Type 0
+HasCome chain left (Ok ended) items before rest taken = (items ≡ before) × IsEnded chain left ended items rest taken
+HasCome chain left (Err status) items before rest taken = IsStopped chain status items before rest taken
+
+-- Items were imported one after the other, over a chain. Where the node was on its disk, a crash leaves what joined of those that were
+-- answered, or of one more, and at each moment what joined of some.
+pub record AreImported (chain : Chain) (left : Option (List ℕ)) (result : Result Ended Status) (was_on : Type 0) (at_exit : Image → Type 0)
+    (leaves : (Image → Type 0) → Type 0) (given taken : List ℕ) : Type 0 where
   pub items : List (List ℕ)
-  pub unfinished_input : List ℕ
-  pub partial_line : List ℕ
-  pub progress : Progress old offset items unfinished_input partial_line given taken
-  pub end : IsEnd old new offset left result items unfinished_input partial_line
+  pub before : List (List ℕ)
+  pub rest : List ℕ
+  pub are_given : AreGiven items rest given
+  pub came : HasCome chain left result items before rest taken
+  pub exit : was_on → Each at_exit (λ image. StandsFor (chain_over chain before) image ⊎ StandsFor (chain_over chain items) image)
+  pub moments : was_on → leaves (KeepsSome chain items)

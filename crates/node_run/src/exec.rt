@@ -4,26 +4,19 @@ ghost use Rattle.outside.specs.Causes.{CountsFault};
 ghost use Rattle.report_defs.specs.Report.{text_of, exec_report};
 ghost use Rattle.report_defs.specs.Status.{IsOneOf};
 ghost use Rattle.report_defs.specs.Promise.{MatchesReport, ExecutesInOrder, exec_statuses};
-ghost use Rattle.node_run.specs.Items.{Gave};
-ghost use Rattle.node_run.specs.Import.{Transfers};
+ghost use Rattle.item_reader.specs.Items.{Gave};
+ghost use Rattle.node_run.specs.Output.{Transfers};
 ghost use Rattle.node_run.specs.Exec.{IsFile, IsUnread};
 
-use crate::lines::{execution_line, extra_line};
-use crate::output::write_text;
+use crate::lines::{closing_of_end, execution_line};
+use crate::output::{Answer, write_text};
 use outside::{NoMemory, Sink, Source, read_full};
 use program_run::execute;
-use report_defs::Status;
+use report_defs::{End, Status};
 use std::alloc::Global;
 
 /// The most bytes of a file.
 const FILE_LIMIT: usize = 1 << 20;
-
-/// The line that answers a file, and the status behind it.
-#[derive(Drop)]
-struct Answer {
-    line: String,
-    status: Status,
-}
 
 /// Reads a file: all of the input, or of one that is too long a byte more than a file has.
 fn read_file<S: Source>(alloc: Global, input: &mut S) -> Result<Vec<u8>, Status>
@@ -46,13 +39,13 @@ fn read_file<S: Source>(alloc: Global, input: &mut S) -> Result<Vec<u8>, Status>
 /// Runs a file, unless it is too long.
 fn answer_to(alloc: Global, file: &[u8], budget: u64) -> Result<Answer, NoMemory>
     requires { budget ≤ 2 ^ 40 }
-    ensures line { IfOk result (λ answer. string_bytes answer.line ≡ text_of (exec_report budget file.now)) }
+    ensures line { IfOk result (λ answer. string_bytes answer.text ≡ text_of (exec_report budget file.now)) }
     ensures status { IfOk result (λ answer. answer.status ≡ (exec_report budget file.now).status) }
 {
     if file.len() > FILE_LIMIT {
-        let line = extra_line(alloc, FILE_LIMIT as u64)?;
+        let text = closing_of_end(alloc, FILE_LIMIT as u64, End::Extra)?;
         return Ok(Answer {
-            line,
+            text,
             status: Status::ExtraInput,
         });
     }
@@ -60,9 +53,9 @@ fn answer_to(alloc: Global, file: &[u8], budget: u64) -> Result<Answer, NoMemory
         Ok(came) => came,
         Err(_) => return Err(NoMemory),
     };
-    let line = execution_line(alloc, &came)?;
+    let text = execution_line(alloc, &came)?;
     Ok(Answer {
-        line,
+        text,
         status: Status::Done,
     })
 }
@@ -84,7 +77,7 @@ pub fn exec<S: Source, K: Sink>(alloc: Global, input: &mut S, out: &mut K, budge
         Ok(answer) => answer,
         Err(_) => return Status::NoMemory,
     };
-    match write_text(out, answer.line.as_bytes()) {
+    match write_text(out, answer.text.as_bytes()) {
         Ok(()) => answer.status,
         Err(status) => status,
     }

@@ -1,153 +1,172 @@
-// The command `import`: a genesis and blocks, each answered by a line.
-ghost use Rattle.std.specs.Prelude.{◌≡◌, ◌↔◌, ◌≤◌, Err, IsTrue};
+// The command `import`: blocks, each answered by a line.
+ghost use Rattle.std.specs.Prelude.{◌≡◌, ◌⊎◌, ◌<◌, ◌≤◌, ◌^◌, Err, Some, length, string_bytes, IfOk, IfSome, if◌then◌else◌};
 ghost use Rattle.outside.specs.Causes.{CountsFault};
-ghost use Rattle.report_defs.specs.Report.{input_limit, import_report};
+ghost use Rattle.outside.specs.Disk.{LeavesOnly};
+ghost use Rattle.rule_defs.specs.Chain.{verdict_over, chain_after};
+ghost use Rattle.store_defs.specs.Store.{StandsFor, IsOnlyRead};
+ghost use Rattle.report_defs.specs.Report as reports;
 ghost use Rattle.report_defs.specs.Status.{IsOneOf};
-ghost use Rattle.report_defs.specs.Promise.{MatchesReport, ImportsInOrder, import_statuses};
-ghost use Rattle.node_run.specs.Items.{Gave};
-ghost use Rattle.node_run.specs.Import.{Took, Transfers, IsGenesis, IsWritten, IsJudged, AreImported, line_over, tip_line_over};
+ghost use Rattle.report_defs.specs.Promise.{import_statuses};
+ghost use Rattle.report_defs.specs.declared.command.Command.TheVariants.{Import};
+ghost use Rattle.item_reader.specs.Items.{Gave, IsNext};
+ghost use Rattle.node_core.specs.Node.{IsOn};
+ghost use Rattle.node_run.specs.Output.{Took, Transfers};
+ghost use Rattle.node_run.specs.Store.{Delivers};
+ghost use Rattle.node_run.specs.Import.{IsAnswered, AreImported, line_over};
 
-use crate::items::{Next, next_item};
-use crate::lines::{tip_line, verdict_line};
-use crate::output::write_text;
-use node_core::{GenesisError, Kept};
-use outside::{Sink, Source};
+use crate::lines::{closing_of_end, verdict_line};
+use crate::output::{Answer, status_of_end, tell, write_text};
+use crate::store::{open, status_of_writing};
+use item_reader::{Next, next_item};
+use node_core::Node;
+use outside::{Disk, NoMemory, Sink, Source};
 use report_defs::{End, Status};
 use rule_defs::Verdict;
 use std::alloc::Global;
 
-/// How the items ended, and whether one of them was refused.
+/// The most bytes of an item.
+const ITEM_LIMIT: usize = 1 << 20;
+
+/// The most bytes of all items.
+const INPUT_LIMIT: u64 = 1 << 40;
+
+/// How the items ended: at which offset, and whether one of them was refused.
 #[derive(Clone, Copy)]
 struct Ended {
     end: End,
+    offset: u64,
     refused: bool,
 }
 
-/// Reads the genesis, and answers what is kept and the offset behind it.
-fn read_genesis<S: Source>(alloc: Global, input: &mut S) -> Result<(Kept, u64), Status>
-    ensures genesis { Gave (S.left input.old) (S.left input.new) (IsGenesis (S.left input.new) result) }
+/// Reads the next item, which stands at this offset.
+fn next_block<S: Source>(alloc: Global, input: &mut S, offset: u64) -> Result<Next, Status>
+    requires { offset ≤ reports.input_limit }
+    ensures next { Gave (S.left input.old) (S.left input.new) (IsNext reports.item_limit (Some reports.input_limit) offset (S.left input.new) result) }
     ensures faults { CountsFault (S.faults input.old) (S.faults input.new) (result ≡ Err Status.InputFault) }
 {
-    let item = match next_item(alloc, input, 0) {
-        Ok(Next::Item(item)) => item,
-        Ok(Next::End(_)) => return Err(Status::CutInput),
-        Err(status) => return Err(status),
-    };
-    let size = item.len() as u64;
-    match Kept::from_genesis(alloc, item) {
-        Ok(kept) => Ok((kept, size)),
-        Err(GenesisError::Broken(_)) => Err(Status::BadGenesis),
-        Err(GenesisError::NoMemory) => Err(Status::NoMemory),
-    }
+    next_item(alloc, input, ITEM_LIMIT, Some(INPUT_LIMIT), offset)
 }
 
-/// Judges an item and writes its line.
-fn import_item<K: Sink>(
+/// Judges an item, keeps what joins, and then writes its line.
+fn import_item<K: Sink, D: Disk>(
     alloc: Global,
     out: &mut K,
-    kept: &mut Kept,
-    item: Vec<u8>,
-) -> Result<Verdict, Status>
-    ensures judged { IsJudged kept.old kept.new item.items result }
-    ensures written { Took (K.taken out.old) (K.taken out.new) (IsWritten (line_over kept.old item.items) result) }
-    ensures faults { CountsFault (K.faults out.old) (K.faults out.new) (result ≡ Err Status.SinkFault) }
+    disk: &mut D,
+    node: Node,
+    item: &[u8],
+) -> Result<(Node, Verdict), Status>
+    requires size { length item.now < 2 ^ 31 }
+    requires there { IfSome (D.reads_as disk.old) (λ image. node.place < length image.log) }
+    ensures verdict { IfOk result (λ answer. answer.1 ≡ verdict_over node.chain item.now) }
+    ensures kept { IfOk result (λ answer. answer.0.chain ≡ chain_after node.chain item.now) }
+    ensures written { Took (K.taken out.old) (K.taken out.new) (IsAnswered (line_over node.chain item.now) result) }
+    ensures there { IfOk result (λ answer. IfSome (D.reads_as disk.new) (λ image. answer.0.place < length image.log)) }
+    ensures on { IsOn node (D.reads_as disk.old) (D.images disk.old) → IfOk result (λ answer. IsOn answer.0 (D.reads_as disk.new) (D.images disk.new)) }
+    ensures moments { IsOn node (D.reads_as disk.old) (D.images disk.old)
+        → LeavesOnly D.moment D.left_since disk.old disk.new (λ image. StandsFor node.chain image ⊎ StandsFor (chain_after node.chain item.now) image) }
+    ensures out_faults { CountsFault (K.faults out.old) (K.faults out.new) (result ≡ Err Status.SinkFault) }
+    ensures disk_faults { CountsFault (D.faults disk.old) (D.faults disk.new) (result ≡ Err Status.DiskFault) }
 {
-    let verdict = match kept.import(item) {
-        Ok(verdict) => verdict,
-        Err(_) => return Err(Status::NoMemory),
+    let (next, verdict) = match node.import(alloc, disk, item) {
+        Ok(answer) => answer,
+        Err(stop) => return Err(status_of_writing(stop)),
     };
     let text = match verdict_line(alloc, &verdict) {
         Ok(text) => text,
         Err(_) => return Err(Status::NoMemory),
     };
     match write_text(out, text.as_bytes()) {
-        Ok(()) => Ok(verdict),
+        Ok(()) => Ok((next, verdict)),
         Err(status) => Err(status),
     }
 }
 
-/// Reads the items from an offset on, judges each and writes its line before the next is read.
-fn import_items<S: Source, K: Sink>(
+/// Reads the items, judges each and writes its line before the next is read.
+fn import_items<S: Source, K: Sink, D: Disk>(
     alloc: Global,
     input: &mut S,
     out: &mut K,
-    kept: &mut Kept,
-    start: u64,
+    disk: &mut D,
+    opened: Node,
 ) -> Result<Ended, Status>
-    requires { start ≤ input_limit }
+    requires there { IfSome (D.reads_as disk.old) (λ image. opened.place < length image.log) }
     ensures imported { Transfers (S.left input.old) (S.left input.new) (K.taken out.old) (K.taken out.new)
-        (AreImported kept.old kept.new start (S.left input.new) result) }
+        (AreImported opened.chain (S.left input.new) result (IsOn opened (D.reads_as disk.old) (D.images disk.old)) (D.images disk.new)
+        (LeavesOnly D.moment D.left_since disk.old disk.new)) }
     ensures input_faults { CountsFault (S.faults input.old) (S.faults input.new) (result ≡ Err Status.InputFault) }
     ensures out_faults { CountsFault (K.faults out.old) (K.faults out.new) (result ≡ Err Status.SinkFault) }
+    ensures disk_faults { CountsFault (D.faults disk.old) (D.faults disk.new) (result ≡ Err Status.DiskFault) }
 {
-    let mut offset = start;
+    let mut node = opened;
+    let mut offset = 0u64;
     let mut refused = false;
     'items: loop {
-        let item = match next_item(alloc, input, offset) {
+        let item = match next_block(alloc, input, offset) {
             Ok(Next::Item(item)) => item,
-            Ok(Next::End(end)) => return Ok(Ended { end, refused }),
+            Ok(Next::End(end)) => {
+                return Ok(Ended {
+                    end,
+                    offset,
+                    refused,
+                });
+            }
             Err(status) => return Err(status),
         };
-        let size = item.len() as u64;
-        let verdict = match import_item(alloc, out, kept, item) {
-            Ok(verdict) => verdict,
+        let (next, verdict) = match import_item(alloc, out, disk, node, &item) {
+            Ok(answer) => answer,
             Err(status) => return Err(status),
         };
-        offset += size;
+        node = next;
+        offset += item.len() as u64;
         refused = refused || verdict.refuses();
     }
 }
 
-/// Writes the line of the tip.
-fn write_tip<K: Sink>(alloc: Global, out: &mut K, kept: &Kept) -> Result<(), Status>
-    ensures tip { Took (K.taken out.old) (K.taken out.new) (IsWritten (tip_line_over kept.now) result) }
-    ensures faults { CountsFault (K.faults out.old) (K.faults out.new) (result ≡ Err Status.SinkFault) }
+/// What is said behind the lines, and the status.
+fn answer_to_end(alloc: Global, ended: &Ended) -> Result<Answer, NoMemory>
+    ensures text { IfOk result (λ answer. string_bytes answer.text ≡ reports.closing_of_end ended.now.offset ended.now.end) }
+    ensures status { IfOk result (λ answer. answer.status
+        ≡ reports.status_of_end (if ended.now.refused then Status.SomeRefused else Status.Done) ended.now.end) }
 {
-    let tip = kept.tip();
-    let text = match tip_line(alloc, tip.number, &tip.hash) {
-        Ok(text) => text,
-        Err(_) => return Err(Status::NoMemory),
-    };
-    write_text(out, text.as_bytes())
-}
-
-/// Whether the input ended between two items.
-fn is_between_items(end: End) -> bool
-    ensures { IsTrue result ↔ (end ≡ End.AtEnd) }
-{
-    match end {
-        End::AtEnd => true,
-        End::Cut => false,
-        End::BadSize => false,
-        End::Extra => false,
-    }
-}
-
-/// Imports what the input holds.
-pub fn import<S: Source, K: Sink>(alloc: Global, input: &mut S, out: &mut K) -> Status
-    ensures text { Transfers (S.left input.old) (S.left input.new) (K.taken out.old) (K.taken out.new)
-        (λ given taken. MatchesReport import_report given (S.left input.new) taken result × ImportsInOrder given (S.left input.new) taken result) }
-    ensures status { IsOneOf import_statuses result }
-    ensures input_faults { CountsFault (S.faults input.old) (S.faults input.new) (result ≡ Status.InputFault) }
-    ensures out_faults { CountsFault (K.faults out.old) (K.faults out.new) (result ≡ Status.SinkFault) }
-{
-    let (mut kept, start) = match read_genesis(alloc, input) {
-        Ok(genesis) => genesis,
-        Err(status) => return status,
-    };
-    let ended = match import_items(alloc, input, out, &mut kept, start) {
-        Ok(ended) => ended,
-        Err(status) => return status,
-    };
-    if !is_between_items(ended.end) {
-        return Status::CutInput;
-    }
-    if let Err(status) = write_tip(alloc, out, &kept) {
-        return status;
-    }
-    if ended.refused {
+    let text = closing_of_end(alloc, ended.offset, ended.end)?;
+    let whole = if ended.refused {
         Status::SomeRefused
     } else {
         Status::Done
-    }
+    };
+    Ok(Answer {
+        text,
+        status: status_of_end(whole, ended.end),
+    })
+}
+
+/// Imports what the input holds.
+pub fn import<S: Source, K: Sink, D: Disk>(
+    alloc: Global,
+    input: &mut S,
+    out: &mut K,
+    disk: &mut D,
+) -> Status
+    ensures import { Transfers (S.left input.old) (S.left input.new) (K.taken out.old) (K.taken out.new)
+        (λ given taken. Delivers Import (D.reads_as disk.old) (D.images disk.old) (D.images disk.new) (D.left_since disk.new (D.moment disk.old))
+        (S.left input.new) given taken result) }
+    ensures status { IsOneOf import_statuses result }
+    ensures loses_nothing { result ≡ Status.NotAStore → IsOnlyRead D.reads_as D.images D.moment D.left_since disk.old disk.new }
+    ensures input_faults { CountsFault (S.faults input.old) (S.faults input.new) (result ≡ Status.InputFault) }
+    ensures out_faults { CountsFault (K.faults out.old) (K.faults out.new) (result ≡ Status.SinkFault) }
+    ensures disk_faults { CountsFault (D.faults disk.old) (D.faults disk.new) (result ≡ Status.DiskFault) }
+{
+    let node = match open(alloc, disk) {
+        Ok(node) => node,
+        Err(status) => return status,
+    };
+    let ended = match import_items(alloc, input, out, disk, node) {
+        Ok(ended) => ended,
+        Err(status) => return status,
+    };
+    let answer = match answer_to_end(alloc, &ended) {
+        Ok(answer) => answer,
+        Err(_) => return Status::NoMemory,
+    };
+    tell(out, &answer)
 }

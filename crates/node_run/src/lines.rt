@@ -1,10 +1,12 @@
 // The lines of a run.
 ghost use Rattle.std.specs.Prelude.{◌≡◌, ◌++◌, codes, string_bytes, IfOk, OnOk};
 ghost use Rattle.std.specs.Fmt.{decimal, signed_decimal};
+ghost use Rattle.report_defs.specs.Report as reports;
 ghost use Rattle.report_defs.specs.Text as text;
 ghost use Rattle.program_run.specs.Program.{execution_of};
 
 use program_run::Execution;
+use report_defs::End;
 use rule_defs::Verdict;
 use std::alloc::{AllocError, Global};
 use vm_defs::Outcome;
@@ -38,23 +40,23 @@ fn numbered_line(
     Ok(line)
 }
 
-/// The line of a known block.
-fn known_line(alloc: Global, hash: &[u8; 32]) -> Result<String, AllocError>
-    ensures { IfOk result (λ line. string_bytes line ≡ codes "known " ++ text.hash_text hash.now ++ text.line_feed) }
+/// A text and a hash.
+fn hash_line(alloc: Global, front: &str, hash: &[u8; 32]) -> Result<String, AllocError>
+    ensures { IfOk result (λ line. string_bytes line ≡ front.now ++ text.hash_text hash.now ++ text.line_feed) }
 {
-    let mut line = String::from_str(alloc, "known ")?;
+    let mut line = String::from_str(alloc, front)?;
     push_hash(alloc, &mut line, hash)?;
     line.push_str("\n")?;
     Ok(line)
 }
 
-/// The line of a refused item.
-fn refused_line(alloc: Global, rule: u8) -> Result<String, AllocError>
-    ensures { IfOk result (λ line. string_bytes line ≡ codes "refused J" ++ decimal rule ++ text.line_feed) }
+/// A text and a number.
+fn number_line(alloc: Global, front: &str, number: u64) -> Result<String, AllocError>
+    ensures { IfOk result (λ line. string_bytes line ≡ front.now ++ decimal number ++ text.line_feed) }
 {
-    let rule = rule.to_string(alloc)?;
-    let mut line = String::from_str(alloc, "refused J")?;
-    line.push_str(&rule)?;
+    let number = number.to_string(alloc)?;
+    let mut line = String::from_str(alloc, front)?;
+    line.push_str(&number)?;
     line.push_str("\n")?;
     Ok(line)
 }
@@ -65,8 +67,8 @@ pub fn verdict_line(alloc: Global, verdict: &Verdict) -> Result<String, AllocErr
 {
     match verdict {
         Verdict::Joined(number, hash) => numbered_line(alloc, "joined", *number, hash),
-        Verdict::Known(hash) => known_line(alloc, hash),
-        Verdict::Refused(rule) => refused_line(alloc, *rule),
+        Verdict::Known(hash) => hash_line(alloc, "known ", hash),
+        Verdict::Refused(rule) => number_line(alloc, "refused J", u64::from(*rule)),
         Verdict::Unbuilt => String::from_str(alloc, "unbuilt\n"),
         Verdict::Full => String::from_str(alloc, "full\n"),
     }
@@ -77,6 +79,39 @@ pub fn tip_line(alloc: Global, number: u64, hash: &[u8; 32]) -> Result<String, A
     ensures { IfOk result (λ line. string_bytes line ≡ text.tip_line_of number hash.now) }
 {
     numbered_line(alloc, "tip", number, hash)
+}
+
+/// The line of the genesis of a new store.
+pub fn genesis_line(alloc: Global, hash: &[u8; 32]) -> Result<String, AllocError>
+    ensures { IfOk result (λ line. string_bytes line ≡ codes "genesis " ++ text.hash_text hash.now ++ text.line_feed) }
+{
+    hash_line(alloc, "genesis ", hash)
+}
+
+/// The line of a specification that breaks this rule.
+pub fn bad_spec_line(alloc: Global, rule: u8) -> Result<String, AllocError>
+    ensures { IfOk result (λ line. string_bytes line ≡ text.bad_spec_line rule) }
+{
+    number_line(alloc, "bad spec S", u64::from(rule))
+}
+
+/// The line of a genesis that breaks this rule.
+pub fn bad_genesis_line(alloc: Global, rule: u8) -> Result<String, AllocError>
+    ensures { IfOk result (λ line. string_bytes line ≡ text.bad_genesis_line rule) }
+{
+    number_line(alloc, "bad genesis G", u64::from(rule))
+}
+
+/// What is said of an input whose reading ends so at this offset.
+pub fn closing_of_end(alloc: Global, offset: u64, end: End) -> Result<String, AllocError>
+    ensures { IfOk result (λ closing. string_bytes closing ≡ reports.closing_of_end offset end) }
+{
+    match end {
+        End::AtEnd => Ok(String::new(alloc)),
+        End::Cut => number_line(alloc, "cut ", offset),
+        End::BadSize => number_line(alloc, "bad size ", offset),
+        End::Extra => number_line(alloc, "extra ", offset),
+    }
 }
 
 /// The line of a program that exited.
@@ -120,34 +155,12 @@ fn outcome_line(alloc: Global, outcome: Outcome, cycles: u64) -> Result<String, 
     }
 }
 
-/// The line of a file that is no program.
-fn bad_elf_line(alloc: Global, condition: u8) -> Result<String, AllocError>
-    ensures { IfOk result (λ line. string_bytes line ≡ codes "bad elf " ++ decimal condition ++ text.line_feed) }
-{
-    let condition = condition.to_string(alloc)?;
-    let mut line = String::from_str(alloc, "bad elf ")?;
-    line.push_str(&condition)?;
-    line.push_str("\n")?;
-    Ok(line)
-}
-
 /// The line of what came of a file.
 pub fn execution_line(alloc: Global, came: &Execution) -> Result<String, AllocError>
     ensures { IfOk result (λ line. string_bytes line ≡ text.execution_line (execution_of came.now)) }
 {
     match came {
         Execution::Ended { outcome, cycles } => outcome_line(alloc, *outcome, *cycles),
-        Execution::BadElf(condition) => bad_elf_line(alloc, *condition),
+        Execution::BadElf(condition) => number_line(alloc, "bad elf ", u64::from(*condition)),
     }
-}
-
-/// The line of an input that goes on at this place.
-pub fn extra_line(alloc: Global, place: u64) -> Result<String, AllocError>
-    ensures { IfOk result (λ line. string_bytes line ≡ text.extra_line place) }
-{
-    let place = place.to_string(alloc)?;
-    let mut line = String::from_str(alloc, "extra ")?;
-    line.push_str(&place)?;
-    line.push_str("\n")?;
-    Ok(line)
 }

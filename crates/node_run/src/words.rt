@@ -40,11 +40,16 @@ fn command_alone(name: &[u8]) -> Option<Command>
     ensures command { result ≡ grammar.command_named (name.now ∷ []) }
     ensures within { IfSome result IsWithinLimit }
 {
-    if name == b"import".as_slice() {
-        Some(Command::Import)
-    } else {
-        None
+    if name == b"init".as_slice() {
+        return Some(Command::Init);
     }
+    if name == b"import".as_slice() {
+        return Some(Command::Import);
+    }
+    if name == b"tip".as_slice() {
+        return Some(Command::Tip);
+    }
+    None
 }
 
 /// The command of this name that takes one argument.

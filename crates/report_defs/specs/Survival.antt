@@ -1,7 +1,7 @@
 -- What a run promises of the disk, and what follows for any list of runs, each stopped anywhere (docs/PROVED.md, "A run").
 --
 -- A stop at some moment is a run whose source, sink and disk fail from that moment on, so that a list of runs is a list of calls.
-use Rattle.std.specs.Prelude.{◌≡◌, ◌⊎◌, ℕ, ◌≤◌, List, [], ◌∷◌, length, take, Option, Some, None}
+use Rattle.std.specs.Prelude.{◌≡◌, ◌⊎◌, ℕ, ◌≤◌, List, [], ◌∷◌, length, take, Option, Some, None, IsSome}
 use Rattle.std.specs.List.{concat}
 use Rattle.outside.specs.Image.{Image}
 use Rattle.chain_defs.specs.Tip.{tip}
@@ -14,8 +14,8 @@ use Rattle.report_defs.specs.declared.status.Status.TheVariants.{Done, InputFaul
 use Rattle.report_defs.specs.Status.{IsOneOf}
 use Rattle.report_defs.specs.Text.{tip_line}
 use Rattle.report_defs.specs.Items.{split_of}
-use Rattle.report_defs.specs.Report.{init_limits, import_limits, lines_over}
-use Rattle.report_defs.specs.Promise.{IsPrefix}
+use Rattle.report_defs.specs.Report.{init_limits, import_limits, lines_over, report_of_command}
+use Rattle.report_defs.specs.Promise.{IsPrefix, Finds, MatchesReport, KeepsOrder}
 
 -- ---- A run and what it may keep
 
@@ -110,12 +110,14 @@ abbrev pub AnswersAsReplay : Option Command → (Image → Type 0) → List ℕ 
 AnswersAsReplay command at_start taken status = (genesis : Chain) (past : List Run) → Each at_start (IsLeftBy genesis past) → status ≡ Done
     → (kept : Chain) × IsKeptBy genesis past kept × Answers command kept taken
 
--- Over a disk that tells what it reads as: what a run promises of it.
-pub record IsPromised (command : Option Command) (now : Image) (at_start at_exit meanwhile : Image → Type 0) (given taken : List ℕ) (status : Status) : Type 0 where
-  pub disk : KeepsDisk command now at_start at_exit meanwhile given taken status
-  pub survives : Survives command at_start at_exit given taken
-  pub at_each_moment : SurvivesMeanwhile command at_start meanwhile given
-  pub answers : AnswersAsReplay command at_start taken status
+-- What a run promises, all of the bytes that its source gave and its sink took: the disk counts where it tells what it reads as.
+pub record IsPromised (command : Option Command) (reads : Option Image) (at_start at_exit meanwhile : Image → Type 0) (left : Option (List ℕ)) (given taken : List ℕ) (status : Status) : Type 0 where
+  pub text : (store : Store) → Finds command reads store → MatchesReport (λ whole. report_of_command command whole store) given left taken status
+  pub order : (store : Store) → Finds command reads store → KeepsOrder command store given left taken status
+  pub disk : (now : Image) → reads ≡ Some now → KeepsDisk command now at_start at_exit meanwhile given taken status
+  pub survives : IsSome reads → Survives command at_start at_exit given taken
+  pub at_each_moment : IsSome reads → SurvivesMeanwhile command at_start meanwhile given
+  pub answers : IsSome reads → AnswersAsReplay command at_start taken status
 
 -- ---- What is said of every disk
 
@@ -126,3 +128,11 @@ as_before (Some Init) = InputFault ∷ CutInput ∷ BadSize ∷ StoreThere ∷ B
 as_before (Some Import) = []
 as_before (Some Tip) = []
 as_before (Some (Exec budget)) = []
+
+-- those that do not look at the disk
+abbrev pub CallsNoDisk : Option Command → Type 0
+CallsNoDisk None = Unit {0}
+CallsNoDisk (Some Init) = ⊥
+CallsNoDisk (Some Import) = ⊥
+CallsNoDisk (Some Tip) = ⊥
+CallsNoDisk (Some (Exec budget)) = Unit {0}

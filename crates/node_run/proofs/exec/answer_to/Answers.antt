@@ -6,16 +6,16 @@ use Rattle.node_run.proofs.exec.answer_to.Goals as goal
 
 pub returns-then-file-gt-FILE_LIMIT-clause-line : goal.returns-then-file-gt-FILE_LIMIT-clause-line
 returns-then-file-gt-FILE_LIMIT-clause-line c =
-    (extra_report c.args.budget c.args.file.now (string_bytes c.in_ok-line.line) ExtraInput (omega (arith, limit_is)) (c.in_ok-line.ensures ∙ ap extra_line (sym limit_is)) refl).0
+    (extra_report c.args.budget c.args.file.now (string_bytes c.in_ok-text.text) ExtraInput (omega (arith, limit_is)) (c.in_ok-text.ensures ∙ ap extra_line (sym limit_is)) refl).0
 
 pub returns-then-file-gt-FILE_LIMIT-clause-status : goal.returns-then-file-gt-FILE_LIMIT-clause-status
 returns-then-file-gt-FILE_LIMIT-clause-status c =
-    (extra_report c.args.budget c.args.file.now (string_bytes c.in_ok-line.line) ExtraInput (omega (arith, limit_is)) (c.in_ok-line.ensures ∙ ap extra_line (sym limit_is)) refl).1
+    (extra_report c.args.budget c.args.file.now (string_bytes c.in_ok-text.text) ExtraInput (omega (arith, limit_is)) (c.in_ok-text.ensures ∙ ap extra_line (sym limit_is)) refl).1
 
 pub returns-clause-line : goal.returns-clause-line
 returns-clause-line c =
-    (done_report c.args.budget c.args.file.now (string_bytes c.in_ok-line-2.line) Done (omega (arith, limit_is)) (c.in_ok-line-2.ensures ∙ ap execution_line c.in_ok-came.ensures.came) refl).0
+    (done_report c.args.budget c.args.file.now (string_bytes c.in_ok-text-2.text) Done (omega (arith, limit_is)) (c.in_ok-text-2.ensures ∙ ap execution_line c.in_ok-came.ensures.came) refl).0
 
 pub returns-clause-status : goal.returns-clause-status
 returns-clause-status c =
-    (done_report c.args.budget c.args.file.now (string_bytes c.in_ok-line-2.line) Done (omega (arith, limit_is)) (c.in_ok-line-2.ensures ∙ ap execution_line c.in_ok-came.ensures.came) refl).1
+    (done_report c.args.budget c.args.file.now (string_bytes c.in_ok-text-2.text) Done (omega (arith, limit_is)) (c.in_ok-text-2.ensures ∙ ap execution_line c.in_ok-came.ensures.came) refl).1

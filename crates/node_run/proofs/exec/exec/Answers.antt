@@ -2,7 +2,7 @@ use Rattle.std.proofs.Common.{◌≡◌, [], refl, ap, ◌∙◌, arith}
 use Rattle.outside.proofs.Streams.{takes_none}
 use Rattle.report_defs.specs.declared.status.Status.TheVariants.{NoMemory}
 use Rattle.report_defs.specs.Report.{Report, text_of, exec_report}
-use Rattle.node_run.proofs.ImportLemmas.{reading_stops}
+use Rattle.node_run.proofs.Statuses.{reading_stops}
 use Rattle.node_run.proofs.ExecLemmas.{given_most, stopped_at_once, stopped_in_line, answered}
 use Rattle.node_run.proofs.exec.exec.Goals as goal
 

@@ -1,7 +1,7 @@
 use Rattle.std.proofs.Common.{◌≡◌, length, take, refl, sym, ap, arith, length-take-le}
-use Rattle.node_run.proofs.ImportLemmas.{no_fault}
-use Rattle.node_run.proofs.Reading.{written_whole}
-use Rattle.node_run.proofs.ExecLemmas.{failed_counts, limit_is}
+use Rattle.node_run.proofs.Faults.{no_fault, failed_counts}
+use Rattle.item_reader.proofs.Reading.{written_whole}
+use Rattle.node_run.proofs.ExecLemmas.{limit_is}
 use Rattle.node_run.proofs.exec.read_file.Goals as goal
 
 pub returns-in-Err-read_full-clause-faults : goal.returns-in-Err-read_full-clause-faults

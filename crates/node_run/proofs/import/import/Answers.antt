@@ -1,113 +1,121 @@
-use Rattle.std.proofs.Common.{◌≡◌, ◌++◌, [], true, cond, ◌+◌, length, subst, sym, ap}
-use Rattle.outside.proofs.Streams.{takes_none, gives_more, takes_more}
-use Rattle.node_run.proofs.RunLemmas.{no_genesis, stopped_in_items, cut_behind_items, stopped_at_tip, done, behind_genesis, IsThrough, genesis_status, stop_status}
-use Rattle.node_run.proofs.ImportLemmas.{writing_stops}
-use Rattle.std.specs.List.{concat}
-use Rattle.report_defs.specs.declared.end.End.{End}
-use Rattle.report_defs.specs.declared.end.End.TheVariants.{AtEnd}
-use Rattle.report_defs.specs.declared.status.Status.TheVariants.{Done, SomeRefused}
-use Rattle.node_run.specs.Items.{EndsAt}
+use Rattle.std.proofs.Common.{◌++◌, [], refl, ap, sym, subst}
+use Rattle.std.specs.Prelude.{Err, string_bytes}
+use Rattle.outside.proofs.Streams.{gives_none, takes_none, takes_more}
+use Rattle.report_defs.specs.declared.command.Command.TheVariants.{Import}
+use Rattle.report_defs.specs.declared.status.Status.{Status}
+use Rattle.report_defs.specs.declared.status.Status.TheVariants.{NoMemory}
+use Rattle.report_defs.specs.Items.{split_of}
+use Rattle.report_defs.specs.Report.{import_limits, closing_of_end}
+use Rattle.node_core.specs.Node.{IsOn}
+use Rattle.node_run.specs.Output.{IsToldAnswer}
+use Rattle.node_run.proofs.Faults.{then_counts, counts_also}
+use Rattle.node_run.proofs.StoreLemmas.{delivers, keeps_opened, keeps_unopened, unopened, stopped_opening, by_disk_or_memory, if_told}
+use Rattle.node_run.proofs.ImportReport.{stopped_import, stopped_at_once, stopped_behind, stopped_acknowledges, stopped_take, ended_import, last_status, keeps_given, keeps_all_given}
 use Rattle.node_run.proofs.import.import.Goals as goal
 
-pub returns-in-Err-clause-text : goal.returns-in-Err-clause-text
-returns-in-Err-clause-text g c =
-    let read = c.in-Err.ensures.genesis in (
-      read.0,
-      [],
-      read.1,
-      takes_none (g.K.Sink.taken c.args.out.now),
-      no_genesis read.0 (g.S.Source.left c.read_genesis.new.input) c.in-Err.status read.2,
+pub returns-in-Err-clause-import : goal.returns-in-Err-clause-import
+returns-in-Err-clause-import g c = (
+  [],
+  [],
+  gives_none (g.S.Source.left c.args.input.now),
+  takes_none (g.K.Sink.taken c.args.out.now),
+  let left = g.S.Source.left c.args.input.now in
+      let status = c.in-Err.status in
+      let one = c.in-Err.ensures.one_of status refl in
+      unopened Import (g.D.Disk.reads_as c.args.disk.now) (g.D.Disk.images c.args.disk.now) (g.D.Disk.images c.open.new.disk)
+      (g.D.Disk.left_since c.open.new.disk (g.D.Disk.moment c.args.disk.now)) left status one (λ e. c.in-Err.ensures.not_a_store (ap Err e)) (λ input. refl) (λ input. refl)
+      (λ none. none) (λ none. none) (λ chain stop. stopped_at_once chain left status stop)
+      (λ now told chain keeps sound. keeps_unopened g.D.Disk.images g.D.Disk.moment g.D.Disk.left_since g.met.D.Disk.counts_now c.args.disk.now c.open.new.disk chain
+      (split_of import_limits []).items status
+      (by_disk_or_memory status one (stopped_opening (g.D.Disk.reads_as c.args.disk.now) status chain (λ e. c.in-Err.ensures.not_a_store (ap Err e)) (now, told, sym keeps)))
+      (c.in-Err.ensures.moments now chain told keeps sound)),
+)
+
+pub returns-in-Err-import_items-clause-import : goal.returns-in-Err-import_items-clause-import
+returns-in-Err-import_items-clause-import g c =
+    let came = c.in-Err-import_items.ensures.imported in
+    let are = came.4 in
+    let chain = c.in-Ok.node.chain in
+    let status = c.in-Err-import_items.status in
+    let reads = g.D.Disk.reads_as c.args.disk.now in (
+      came.0,
+      came.1,
+      came.2,
+      came.3,
+      delivers Import reads chain (g.D.Disk.images c.args.disk.now) (g.D.Disk.images c.import_items.new.disk)
+          (g.D.Disk.left_since c.import_items.new.disk (g.D.Disk.moment c.args.disk.now)) (g.S.Source.left c.import_items.new.input) came.0 came.1 status c.in-Ok.ensures.kept
+          (stopped_import chain are.items are.before are.rest came.0 came.1 (g.S.Source.left c.import_items.new.input) status are.are_given are.came)
+          (keeps_opened reads chain (split_of import_limits came.0).items (g.D.Disk.images c.args.disk.now) (g.D.Disk.images c.import_items.new.disk)
+          (g.D.Disk.left_since c.import_items.new.disk (g.D.Disk.moment c.args.disk.now)) came.1 status c.in-Ok.ensures.kept
+          (λ now told keeps sound.
+          let on = if_told reads (λ _. IsOn c.in-Ok.node (g.D.Disk.reads_as c.open.new.disk) (g.D.Disk.images c.open.new.disk)) now (c.in-Ok.ensures.on sound) told in
+          keeps_given g.D.Disk.images g.D.Disk.moment g.D.Disk.left_since g.met.D.Disk.counts_now c.args.disk.now c.open.new.disk c.import_items.new.disk chain
+          are.items are.before are.rest came.0 came.1 status are.are_given
+          (stopped_acknowledges chain status are.items are.before are.rest came.1 are.came) (stopped_take chain status are.items are.before are.rest came.1 are.came)
+          (c.in-Ok.ensures.moments now chain told keeps sound) (are.exit on) (are.moments on))),
     )
 
-pub returns-in-Err-import_items-clause-text : goal.returns-in-Err-import_items-clause-text
-returns-in-Err-import_items-clause-text g c =
-    let read = c.in-Ok.ensures.genesis in
-    let items = c.in-Err-import_items.ensures.imported in
+pub returns-in-Err-answer_to_end-clause-import : goal.returns-in-Err-answer_to_end-clause-import
+returns-in-Err-answer_to_end-clause-import g c =
+    let came = c.in-Ok-import_items.ensures.imported in
+    let are = came.4 in
+    let chain = c.in-Ok.node.chain in
     let left = g.S.Source.left c.import_items.new.input in
-    let are = behind_genesis read.0 c.in-Ok.genesis.0 c.import_items.new.kept c.in-Ok.genesis.1 left _ items.0 items.1 read.2.1 read.2.2 items.4 in (
-      read.0 ++ items.0,
-      items.1,
-      gives_more (g.S.Source.left c.args.input.now) (g.S.Source.left c.read_genesis.new.input) left read.0 items.0 read.1 items.2,
-      items.3,
-      stopped_in_items read.0 are.items are.unfinished_input are.partial_line items.0 items.1 left c.in-Err-import_items.status read.2.0 are.progress are.end.0 are.end.1,
+    let reads = g.D.Disk.reads_as c.args.disk.now in (
+      came.0,
+      came.1,
+      came.2,
+      came.3,
+      delivers Import reads chain (g.D.Disk.images c.args.disk.now) (g.D.Disk.images c.import_items.new.disk)
+          (g.D.Disk.left_since c.import_items.new.disk (g.D.Disk.moment c.args.disk.now)) left came.0 came.1 NoMemory c.in-Ok.ensures.kept
+          (stopped_import chain are.items are.items are.rest came.0 came.1 left NoMemory are.are_given
+          (stopped_behind chain left c.in-Ok-import_items.ended are.items are.rest came.0 came.1 are.are_given are.came.1 NoMemory tt))
+          (keeps_opened reads chain (split_of import_limits came.0).items (g.D.Disk.images c.args.disk.now) (g.D.Disk.images c.import_items.new.disk)
+          (g.D.Disk.left_since c.import_items.new.disk (g.D.Disk.moment c.args.disk.now)) came.1 NoMemory c.in-Ok.ensures.kept
+          (λ now told keeps sound.
+          let on = if_told reads (λ _. IsOn c.in-Ok.node (g.D.Disk.reads_as c.open.new.disk) (g.D.Disk.images c.open.new.disk)) now (c.in-Ok.ensures.on sound) told in
+          keeps_all_given g.D.Disk.images g.D.Disk.moment g.D.Disk.left_since g.met.D.Disk.counts_now c.args.disk.now c.open.new.disk c.import_items.new.disk chain
+          are.items are.before are.rest came.0 came.1 NoMemory are.are_given are.came.0
+          (c.in-Ok.ensures.moments now chain told keeps sound) (are.exit on) (are.moments on))),
     )
 
-pub returns-then-not-is_between_items-clause-text : goal.returns-then-not-is_between_items-clause-text
-returns-then-not-is_between_items-clause-text g c =
-    let read = c.in-Ok.ensures.genesis in
-    let items = c.in-Ok-import_items.ensures.imported in
+pub returns-clause-import : goal.returns-clause-import
+returns-clause-import g c =
+    let came = c.in-Ok-import_items.ensures.imported in
+    let are = came.4 in
+    let told = c.tell.ensures.told in
+    let chain = c.in-Ok.node.chain in
     let left = g.S.Source.left c.import_items.new.input in
-    let are = behind_genesis read.0 c.in-Ok.genesis.0 c.import_items.new.kept c.in-Ok.genesis.1 left _ items.0 items.1 read.2.1 read.2.2 items.4 in
-    let given = gives_more (g.S.Source.left c.args.input.now) (g.S.Source.left c.read_genesis.new.input) left read.0 items.0 read.1 items.2 in
-    let other : c.in-Ok-import_items.ended.end ≡ AtEnd → ⊥ = λ e. let yes : c.is_between_items.result ≡ true = c.is_between_items.ensures.1 e in absurd (cc) in (
-      read.0 ++ items.0,
-      items.1,
-      given,
-      items.3,
-      cut_behind_items read.0 are.items are.unfinished_input are.partial_line items.0 items.1 left c.in-Ok-import_items.ended.end read.2.0 are.progress are.end.nothing are.end.ends other,
+    let reads = g.D.Disk.reads_as c.args.disk.now in
+    let ended = c.in-Ok-import_items.ended in
+    let answer = c.in-Ok-answer_to_end.answer in
+    let last : IsToldAnswer (closing_of_end ended.offset ended.end)
+    (last_status chain left ended are.items are.rest came.0 came.1 are.are_given are.came.1) c.tell.result told.0 =
+    subst (λ text. IsToldAnswer text (last_status chain left ended are.items are.rest came.0 came.1 are.are_given are.came.1) c.tell.result told.0) c.in-Ok-answer_to_end.ensures.text
+    (subst (λ (s : Status). IsToldAnswer (string_bytes answer.text) s c.tell.result told.0) c.in-Ok-answer_to_end.ensures.status told.2) in (
+      came.0,
+      came.1 ++ told.0,
+      came.2,
+      takes_more (g.K.Sink.taken c.args.out.now) (g.K.Sink.taken c.import_items.new.out) (g.K.Sink.taken c.tell.new.out) came.1 told.0 came.3 told.1,
+      delivers Import reads chain (g.D.Disk.images c.args.disk.now) (g.D.Disk.images c.import_items.new.disk)
+          (g.D.Disk.left_since c.import_items.new.disk (g.D.Disk.moment c.args.disk.now)) left came.0 (came.1 ++ told.0) c.tell.result c.in-Ok.ensures.kept
+          (ended_import chain left ended are.items are.rest came.0 came.1 are.are_given are.came.1 told.0 c.tell.result last)
+          (keeps_opened reads chain (split_of import_limits came.0).items (g.D.Disk.images c.args.disk.now) (g.D.Disk.images c.import_items.new.disk)
+          (g.D.Disk.left_since c.import_items.new.disk (g.D.Disk.moment c.args.disk.now)) (came.1 ++ told.0) c.tell.result c.in-Ok.ensures.kept
+          (λ now known keeps sound.
+          let on = if_told reads (λ _. IsOn c.in-Ok.node (g.D.Disk.reads_as c.open.new.disk) (g.D.Disk.images c.open.new.disk)) now (c.in-Ok.ensures.on sound) known in
+          keeps_all_given g.D.Disk.images g.D.Disk.moment g.D.Disk.left_since g.met.D.Disk.counts_now c.args.disk.now c.open.new.disk c.import_items.new.disk chain
+          are.items are.before are.rest came.0 (came.1 ++ told.0) c.tell.result are.are_given are.came.0
+          (c.in-Ok.ensures.moments now chain known keeps sound) (are.exit on) (are.moments on))),
     )
 
-pub returns-in-Err-write_tip-clause-text : goal.returns-in-Err-write_tip-clause-text
-returns-in-Err-write_tip-clause-text g c =
-    let read = c.in-Ok.ensures.genesis in
-    let items = c.in-Ok-import_items.ensures.imported in
-    let left = g.S.Source.left c.import_items.new.input in
-    let are = behind_genesis read.0 c.in-Ok.genesis.0 c.import_items.new.kept c.in-Ok.genesis.1 left _ items.0 items.1 read.2.1 read.2.2 items.4 in
-    let given = gives_more (g.S.Source.left c.args.input.now) (g.S.Source.left c.read_genesis.new.input) left read.0 items.0 read.1 items.2 in
-    let end : c.in-Ok-import_items.ended.end ≡ AtEnd = c.is_between_items.ensures.0 c.if-not-is_between_items.false in
-    let through : IsThrough read.0 are.items are.unfinished_input are.partial_line items.0 items.1 left =
-    record { good = read.2.0; progress = are.progress; none = are.end.nothing; ends = subst (λ (e : End). EndsAt (length read.0 + length (concat are.items)) left e are.unfinished_input) end are.end.ends } in
-    let tip = c.in-Err-write_tip.ensures.tip in (
-      read.0 ++ items.0,
-      items.1 ++ tip.0,
-      given,
-      takes_more (g.K.Sink.taken c.args.out.now) (g.K.Sink.taken c.import_items.new.out) (g.K.Sink.taken c.write_tip.new.out) items.1 tip.0 items.3 tip.1,
-      stopped_at_tip read.0 are.items are.unfinished_input are.partial_line items.0 items.1 tip.0 left c.import_items.new.kept c.in-Err-write_tip.status through are.end.kept tip.2,
-    )
+pub returns-in-Err-import_items-clause-input_faults : goal.returns-in-Err-import_items-clause-input_faults
+returns-in-Err-import_items-clause-input_faults g c = counts_also _ _ c.in-Err-import_items.ensures.input_faults (λ e. ap Err e) (λ e. cc)
 
-pub returns-then-ended-clause-text : goal.returns-then-ended-clause-text
-returns-then-ended-clause-text g c =
-    let read = c.in-Ok.ensures.genesis in
-    let items = c.in-Ok-import_items.ensures.imported in
-    let left = g.S.Source.left c.import_items.new.input in
-    let are = behind_genesis read.0 c.in-Ok.genesis.0 c.import_items.new.kept c.in-Ok.genesis.1 left _ items.0 items.1 read.2.1 read.2.2 items.4 in
-    let given = gives_more (g.S.Source.left c.args.input.now) (g.S.Source.left c.read_genesis.new.input) left read.0 items.0 read.1 items.2 in
-    let end : c.in-Ok-import_items.ended.end ≡ AtEnd = c.is_between_items.ensures.0 c.if-not-is_between_items.false in
-    let through : IsThrough read.0 are.items are.unfinished_input are.partial_line items.0 items.1 left =
-    record { good = read.2.0; progress = are.progress; none = are.end.nothing; ends = subst (λ (e : End). EndsAt (length read.0 + length (concat are.items)) left e are.unfinished_input) end are.end.ends } in
-    let tip = c.in_default.ensures.tip in (
-      read.0 ++ items.0,
-      items.1 ++ tip.0,
-      given,
-      takes_more (g.K.Sink.taken c.args.out.now) (g.K.Sink.taken c.import_items.new.out) (g.K.Sink.taken c.write_tip.new.out) items.1 tip.0 items.3 tip.1,
-      done read.0 are.items are.unfinished_input are.partial_line items.0 items.1 tip.0 left c.import_items.new.kept c.in-Ok-import_items.ended.refused SomeRefused
-          through are.end.kept are.end.refused tip.2 (sym (ap (λ b. cond b SomeRefused Done) c.if-ended.true)),
-    )
+pub returns-in-Err-import_items-clause-out_faults : goal.returns-in-Err-import_items-clause-out_faults
+returns-in-Err-import_items-clause-out_faults g c = counts_also _ _ c.in-Err-import_items.ensures.out_faults (λ e. ap Err e) (λ e. cc)
 
-pub returns-clause-text : goal.returns-clause-text
-returns-clause-text g c =
-    let read = c.in-Ok.ensures.genesis in
-    let items = c.in-Ok-import_items.ensures.imported in
-    let left = g.S.Source.left c.import_items.new.input in
-    let are = behind_genesis read.0 c.in-Ok.genesis.0 c.import_items.new.kept c.in-Ok.genesis.1 left _ items.0 items.1 read.2.1 read.2.2 items.4 in
-    let given = gives_more (g.S.Source.left c.args.input.now) (g.S.Source.left c.read_genesis.new.input) left read.0 items.0 read.1 items.2 in
-    let end : c.in-Ok-import_items.ended.end ≡ AtEnd = c.is_between_items.ensures.0 c.if-not-is_between_items.false in
-    let through : IsThrough read.0 are.items are.unfinished_input are.partial_line items.0 items.1 left =
-    record { good = read.2.0; progress = are.progress; none = are.end.nothing; ends = subst (λ (e : End). EndsAt (length read.0 + length (concat are.items)) left e are.unfinished_input) end are.end.ends } in
-    let tip = c.in_default.ensures.tip in (
-      read.0 ++ items.0,
-      items.1 ++ tip.0,
-      given,
-      takes_more (g.K.Sink.taken c.args.out.now) (g.K.Sink.taken c.import_items.new.out) (g.K.Sink.taken c.write_tip.new.out) items.1 tip.0 items.3 tip.1,
-      done read.0 are.items are.unfinished_input are.partial_line items.0 items.1 tip.0 left c.import_items.new.kept c.in-Ok-import_items.ended.refused Done
-          through are.end.kept are.end.refused tip.2 (sym (ap (λ b. cond b SomeRefused Done) c.if-ended.false)),
-    )
-
-pub returns-in-Err-clause-status : goal.returns-in-Err-clause-status
-returns-in-Err-clause-status g c = genesis_status (g.S.Source.left c.read_genesis.new.input) c.in-Err.ensures.genesis.0 c.in-Err.status c.in-Err.ensures.genesis.2
-
-pub returns-in-Err-import_items-clause-status : goal.returns-in-Err-import_items-clause-status
-returns-in-Err-import_items-clause-status g c = stop_status c.in-Err-import_items.status c.in-Err-import_items.ensures.imported.4.end.0
-
-pub returns-in-Err-write_tip-clause-status : goal.returns-in-Err-write_tip-clause-status
-returns-in-Err-write_tip-clause-status g c = stop_status c.in-Err-write_tip.status (writing_stops c.in-Err-write_tip.status c.in-Err-write_tip.ensures.tip.2.stop)
+pub returns-in-Err-import_items-clause-disk_faults : goal.returns-in-Err-import_items-clause-disk_faults
+returns-in-Err-import_items-clause-disk_faults g c =
+    then_counts (g.D.Disk.faults c.args.disk.now) (g.D.Disk.faults c.open.new.disk) (g.D.Disk.faults c.import_items.new.disk)
+    (c.in-Ok.ensures.cause.unchanged (λ e. cc)) c.in-Err-import_items.ensures.disk_faults (λ e. ap Err e) (λ e. cc)

@@ -1,89 +1,77 @@
-use Rattle.std.proofs.Common.{◌≡◌, length, ap, sym, ◌∙◌, arith, Err, refl, subst}
-use Rattle.report_defs.specs.declared.status.Status.TheVariants.{InputFault, SinkFault}
+use Rattle.std.proofs.Common.{◌≡◌, length, ap, sym, ◌∙◌, arith, refl, subst, []}
+use Rattle.std.specs.Prelude.{Err, Some, ◌||◌}
+use Rattle.outside.proofs.Streams.{gives_none, takes_none}
+use Rattle.outside.proofs.Moments.{leaves_also}
+use Rattle.report_defs.specs.declared.status.Status.TheVariants.{InputFault, SinkFault, DiskFault}
+use Rattle.report_defs.specs.Report.{item_limit, input_limit}
 use Rattle.rule_defs.specs.Verdict as rules
-use Rattle.node_run.proofs.ImportLemmas.{whole_none, whole_more, imported_to_end, imported_to_fault, imported_to_line, reading_stops, writing_stops, no_fault, then_counts, or_then, or_else}
-use Rattle.node_run.specs.Items.{IsReadingStop, IsWritingStop}
-use Rattle.node_run.proofs.Reading.{input_limit-is, item_unfinished}
+use Rattle.item_reader.specs.Items.{IsReadingStop, IsItemAt}
+use Rattle.node_run.specs.Import.{IsWritingStop}
+use Rattle.node_run.proofs.Faults.{no_fault, then_counts}
+use Rattle.node_run.proofs.ImportLemmas.{whole_more, imported_to_end, imported_to_fault, imported_to_line, leaves_none, leaves_item, exit_of_item, on_stands, keeps_more, or_then, or_else, item_limit-is, input_limit-is}
 use Rattle.node_run.proofs.import.import_items.Goals as goal
+use Rattle.node_run.proofs.import.import_items.Goals.{then-refused, else-refused}
 
 pub items-init : goal.items-init
 items-init g c = record {
-  whole = whole_none c.args.kept.now c.args.start (g.S.Source.left c.args.input.now) (g.K.Sink.taken c.args.out.now) c.requires;
+  whole = record {
+    items = [];
+    gives = gives_none (g.S.Source.left c.args.input.now);
+    takes = takes_none (g.K.Sink.taken c.args.out.now);
+    all = tt;
+    place = refl;
+    within = omega (arith, input_limit-is);
+    kept_now = refl;
+    any_refused = refl;
+    on = λ on. on;
+    moments = λ on. leaves_none g.D.Disk.images g.D.Disk.moment g.D.Disk.left_since g.met.D.Disk.counts_now g.met.D.Disk.only_now c.args.disk.now c.args.opened
+        (g.D.Disk.reads_as c.args.disk.now) on;
+  };
+  there = c.requires.there;
   input_unchanged = refl;
   out_unchanged = refl;
+  disk_unchanged = refl;
 }
 
-pub next_item-requires : goal.next_item-requires
-next_item-requires g c = c.items.invariant.whole.within
+pub next_block-requires : goal.next_block-requires
+next_block-requires g c = c.items.invariant.whole.within
 
 pub returns-in-Ok-End-clause-imported : goal.returns-in-Ok-End-clause-imported
 returns-in-Ok-End-clause-imported g c =
     let next = rw c.in-Ok-End.field-0-is at c.in-Ok-End.ensures.next in
-    imported_to_end c.args.kept.now c.args.start c.items.offset (g.S.Source.left c.args.input.now) (g.S.Source.left c.items.input) (g.S.Source.left c.next_item.new.input)
-    (g.K.Sink.taken c.args.out.now) (g.K.Sink.taken c.items.out) c.items.kept (record { end = c.in-Ok-End.end; refused = c.items.refused })
-    next.0 c.items.invariant.whole next.1 next.2
+    imported_to_end c.args.opened.chain c.items.offset (g.S.Source.left c.args.input.now) (g.S.Source.left c.items.input) (g.S.Source.left c.next_block.new.input)
+    (g.K.Sink.taken c.args.out.now) (g.K.Sink.taken c.items.out) c.items.node.chain (record { end = c.in-Ok-End.end; offset = c.items.offset; refused = c.items.refused })
+    _ _ _ _ next.0 c.items.invariant.whole next.1 next.2.0 next.2.1 refl
+    (on_stands c.items.node c.items.node.chain (g.D.Disk.reads_as c.items.disk) (g.D.Disk.images c.items.disk) refl)
 
 pub returns-in-Err-clause-imported : goal.returns-in-Err-clause-imported
 returns-in-Err-clause-imported g c =
     let next = c.in-Err.ensures.next in
-    imported_to_fault c.args.kept.now c.args.start c.items.offset (g.S.Source.left c.args.input.now) (g.S.Source.left c.items.input) (g.S.Source.left c.next_item.new.input)
-    (g.K.Sink.taken c.args.out.now) (g.K.Sink.taken c.items.out) c.items.kept c.items.kept c.items.refused c.in-Err.status
-    next.0 c.items.invariant.whole next.1 next.2.1 (reading_stops c.in-Err.status next.2.0)
+    let whole = c.items.invariant.whole in
+    imported_to_fault c.args.opened.chain c.items.offset (g.S.Source.left c.args.input.now) (g.S.Source.left c.items.input) (g.S.Source.left c.next_block.new.input)
+    (g.K.Sink.taken c.args.out.now) (g.K.Sink.taken c.items.out) c.items.node.chain c.items.refused _ _ _ _ c.in-Err.status
+    next.0 whole next.1 next.2.0 next.2.1
+    (on_stands c.items.node c.items.node.chain (g.D.Disk.reads_as c.items.disk) (g.D.Disk.images c.items.disk) refl)
+    (λ so_far. leaves_also g.D.Disk.moment g.D.Disk.left_since _ _ _ _ so_far (keeps_more c.args.opened.chain whole.items next.0))
 
 pub returns-in-Err-import_item-clause-imported : goal.returns-in-Err-import_item-clause-imported
 returns-in-Err-import_item-clause-imported g c =
     let next = rw c.in-Ok-Item.field-0-is at c.in-Ok-Item.ensures.next in
+    let whole = c.items.invariant.whole in
     let written = c.in-Err-import_item.ensures.written in
-    imported_to_line c.args.kept.now c.args.start c.items.offset (g.S.Source.left c.args.input.now) (g.S.Source.left c.items.input) (g.S.Source.left c.next_item.new.input)
-    (g.K.Sink.taken c.args.out.now) (g.K.Sink.taken c.items.out) (g.K.Sink.taken c.import_item.new.out) c.items.kept c.import_item.new.kept c.items.refused
-    c.in-Err-import_item.status c.in-Ok-Item.item.items next.0 written.0 c.items.invariant.whole next.2 next.1
-    (rw next.2.same (item_unfinished c.items.offset c.in-Ok-Item.item.items next.2.is_item next.2.within)) written.1 written.2.front (writing_stops c.in-Err-import_item.status written.2.stop) written.2.silent
-
-pub overflow_add-offset : goal.overflow_add-offset
-overflow_add-offset g c =
-    let next = rw c.in-Ok-Item.field-0-is at c.in-Ok-Item.ensures.next in
-    omega (arith, input_limit-is, next.2.within, c.len-size.ensures, c.in-Ok-Item.item.ok)
-
-pub items-preserved-then-refused : goal.items-preserved-then-refused
-items-preserved-then-refused g c =
-    let next = rw c.in-Ok-Item.field-0-is at c.in-Ok-Item.ensures.next in
-    let written = c.in-Ok.ensures.written in
-    let size : c.len-size.result ≡ length c.in-Ok-Item.item.items = omega (arith, c.len-size.ensures, c.in-Ok-Item.item.ok) in
-    record {
-      whole = whole_more c.args.kept.now c.args.start c.items.offset (g.S.Source.left c.args.input.now) (g.S.Source.left c.items.input) (g.S.Source.left c.next_item.new.input)
-          (g.K.Sink.taken c.args.out.now) (g.K.Sink.taken c.items.out) (g.K.Sink.taken c.import_item.new.out) c.items.kept c.import_item.new.kept c.items.refused
-          c.in-Ok-Item.item.items next.0 written.0 c.in-Ok.verdict c.len-size.result c.items.refused size (sym (or_then c.items.refused (rules.refuses c.in-Ok.verdict) c.if-refused.true))
-          c.items.invariant.whole next.2 next.1 written.1 c.in-Ok.ensures.judged.0 c.in-Ok.ensures.judged.1 written.2;
-      input_unchanged = c.in-Ok-Item.ensures.faults.unchanged (λ e. (cc)) ∙ c.items.invariant.input_unchanged;
-      out_unchanged = c.in-Ok.ensures.faults.unchanged (λ e. (cc)) ∙ c.items.invariant.out_unchanged;
-    }
-
-pub items-preserved : goal.items-preserved
-items-preserved g c =
-    let next = rw c.in-Ok-Item.field-0-is at c.in-Ok-Item.ensures.next in
-    let written = c.in-Ok.ensures.written in
-    let size : c.len-size.result ≡ length c.in-Ok-Item.item.items = omega (arith, c.len-size.ensures, c.in-Ok-Item.item.ok) in
-    record {
-      whole = whole_more c.args.kept.now c.args.start c.items.offset (g.S.Source.left c.args.input.now) (g.S.Source.left c.items.input) (g.S.Source.left c.next_item.new.input)
-          (g.K.Sink.taken c.args.out.now) (g.K.Sink.taken c.items.out) (g.K.Sink.taken c.import_item.new.out) c.items.kept c.import_item.new.kept c.items.refused
-          c.in-Ok-Item.item.items next.0 written.0 c.in-Ok.verdict c.len-size.result c.refuses-refused.result size (c.refuses-refused.ensures ∙ sym (or_else c.items.refused (rules.refuses c.in-Ok.verdict) c.if-refused.false))
-          c.items.invariant.whole next.2 next.1 written.1 c.in-Ok.ensures.judged.0 c.in-Ok.ensures.judged.1 written.2;
-      input_unchanged = c.in-Ok-Item.ensures.faults.unchanged (λ e. (cc)) ∙ c.items.invariant.input_unchanged;
-      out_unchanged = c.in-Ok.ensures.faults.unchanged (λ e. (cc)) ∙ c.items.invariant.out_unchanged;
-    }
-
-pub returns-in-Ok-End-clause-input_faults : goal.returns-in-Ok-End-clause-input_faults
-returns-in-Ok-End-clause-input_faults g c =
-    no_fault (g.S.Source.faults c.args.input.now) (g.S.Source.faults c.next_item.new.input)
-    (c.in-Ok-End.ensures.faults.unchanged (λ e. (cc)) ∙ c.items.invariant.input_unchanged) (λ e. (cc))
-
-pub returns-in-Ok-End-clause-out_faults : goal.returns-in-Ok-End-clause-out_faults
-returns-in-Ok-End-clause-out_faults g c =
-    no_fault (g.K.Sink.faults c.args.out.now) (g.K.Sink.faults c.items.out) c.items.invariant.out_unchanged (λ e. (cc))
+    let at : IsItemAt item_limit (Some input_limit) c.items.offset c.deref.result.now next.0 =
+    subst (λ bytes. IsItemAt item_limit (Some input_limit) c.items.offset bytes next.0) (sym c.deref.ensures.value) next.2 in
+    imported_to_line c.args.opened.chain c.items.offset (g.S.Source.left c.args.input.now) (g.S.Source.left c.items.input) (g.S.Source.left c.next_block.new.input)
+    (g.K.Sink.taken c.args.out.now) (g.K.Sink.taken c.items.out) (g.K.Sink.taken c.import_item.new.out) c.items.node.chain c.items.refused _ _ _ _ _
+    c.in-Err-import_item.status c.deref.result.now next.0 written.0 whole at next.1 written.1 written.2
+    (λ on. exit_of_item g.D.Disk.images g.D.Disk.moment g.D.Disk.left_since g.met.D.Disk.counts_now c.items.disk c.import_item.new.disk c.args.opened.chain c.items.node.chain
+    whole.items c.deref.result.now whole.kept_now (c.in-Err-import_item.ensures.moments on))
+    (λ was. leaves_item g.D.Disk.images g.D.Disk.moment g.D.Disk.left_since g.met.D.Disk.counts_now c.args.disk.now c.items.disk c.import_item.new.disk c.args.opened.chain
+    c.items.node.chain whole.items c.deref.result.now whole.kept_now (whole.moments was) (c.in-Err-import_item.ensures.moments (whole.on was)))
 
 pub returns-in-Err-clause-input_faults : goal.returns-in-Err-clause-input_faults
 returns-in-Err-clause-input_faults g c =
-    then_counts (g.S.Source.faults c.args.input.now) (g.S.Source.faults c.items.input) (g.S.Source.faults c.next_item.new.input)
+    then_counts (g.S.Source.faults c.args.input.now) (g.S.Source.faults c.items.input) (g.S.Source.faults c.next_block.new.input)
     c.items.invariant.input_unchanged c.in-Err.ensures.faults
     (λ e. let is : c.in-Err.status ≡ InputFault = cc in ap Err is) (λ e. let is : c.in-Err.status ≡ InputFault = cc in ap Err is)
 
@@ -92,14 +80,73 @@ returns-in-Err-clause-out_faults g c =
     no_fault (g.K.Sink.faults c.args.out.now) (g.K.Sink.faults c.items.out) c.items.invariant.out_unchanged
     (λ e. let is : c.in-Err.status ≡ SinkFault = cc in subst IsReadingStop is c.in-Err.ensures.next.2.0)
 
+pub returns-in-Err-clause-disk_faults : goal.returns-in-Err-clause-disk_faults
+returns-in-Err-clause-disk_faults g c =
+    no_fault (g.D.Disk.faults c.args.disk.now) (g.D.Disk.faults c.items.disk) c.items.invariant.disk_unchanged
+    (λ e. let is : c.in-Err.status ≡ DiskFault = cc in subst IsReadingStop is c.in-Err.ensures.next.2.0)
+
 pub returns-in-Err-import_item-clause-input_faults : goal.returns-in-Err-import_item-clause-input_faults
 returns-in-Err-import_item-clause-input_faults g c =
-    no_fault (g.S.Source.faults c.args.input.now) (g.S.Source.faults c.next_item.new.input)
+    no_fault (g.S.Source.faults c.args.input.now) (g.S.Source.faults c.next_block.new.input)
     (c.in-Ok-Item.ensures.faults.unchanged (λ e. (cc)) ∙ c.items.invariant.input_unchanged)
     (λ e. let is : c.in-Err-import_item.status ≡ InputFault = cc in subst IsWritingStop is c.in-Err-import_item.ensures.written.2.stop)
 
 pub returns-in-Err-import_item-clause-out_faults : goal.returns-in-Err-import_item-clause-out_faults
 returns-in-Err-import_item-clause-out_faults g c =
     then_counts (g.K.Sink.faults c.args.out.now) (g.K.Sink.faults c.items.out) (g.K.Sink.faults c.import_item.new.out)
-    c.items.invariant.out_unchanged c.in-Err-import_item.ensures.faults
+    c.items.invariant.out_unchanged c.in-Err-import_item.ensures.out_faults
     (λ e. let is : c.in-Err-import_item.status ≡ SinkFault = cc in ap Err is) (λ e. let is : c.in-Err-import_item.status ≡ SinkFault = cc in ap Err is)
+
+pub returns-in-Err-import_item-clause-disk_faults : goal.returns-in-Err-import_item-clause-disk_faults
+returns-in-Err-import_item-clause-disk_faults g c =
+    then_counts (g.D.Disk.faults c.args.disk.now) (g.D.Disk.faults c.items.disk) (g.D.Disk.faults c.import_item.new.disk)
+    c.items.invariant.disk_unchanged c.in-Err-import_item.ensures.disk_faults
+    (λ e. let is : c.in-Err-import_item.status ≡ DiskFault = cc in ap Err is) (λ e. let is : c.in-Err-import_item.status ≡ DiskFault = cc in ap Err is)
+
+pub import_item-requires-clause-size : goal.import_item-requires-clause-size
+import_item-requires-clause-size g c =
+    let next = rw c.in-Ok-Item.field-0-is at c.in-Ok-Item.ensures.next in
+    omega (arith, item_limit-is, next.2.is_item.most, ap length c.deref.ensures.value)
+
+pub overflow_add-offset : goal.overflow_add-offset
+overflow_add-offset g c =
+    let next = rw c.in-Ok-Item.field-0-is at c.in-Ok-Item.ensures.next in
+    omega (arith, input_limit-is, next.2.within, c.len.ensures, c.in-Ok-Item.item.ok)
+
+pub items-smaller : goal.items-smaller
+items-smaller g c =
+    let next = rw c.in-Ok-Item.field-0-is at c.in-Ok-Item.ensures.next in
+    let size : c.len.result ≡ length c.in-Ok-Item.item.items = omega (arith, c.len.ensures, c.in-Ok-Item.item.ok) in
+    omega (arith, size, next.2.within, next.2.is_item.least)
+
+pub items-preserved : goal.items-preserved
+items-preserved g c =
+    let next = rw c.in-Ok-Item.field-0-is at c.in-Ok-Item.ensures.next in
+    let whole = c.items.invariant.whole in
+    let written = c.in-Ok.ensures.written in
+    let item = c.deref.result.now in
+    let size : c.len.result ≡ length item = omega (arith, c.len.ensures, c.in-Ok-Item.item.ok, ap length c.deref.ensures.value) in
+    let at : IsItemAt item_limit (Some input_limit) c.items.offset item next.0 =
+    subst (λ bytes. IsItemAt item_limit (Some input_limit) c.items.offset bytes next.0) (sym c.deref.ensures.value) next.2 in
+    let any : c.if-refused.refused ≡ (c.items.refused || rules.refuses c.in-Ok.answer.1) = elim c.if-refused.branch [
+      | then-refused w ↦
+          let yes = w.if-refused.true in
+          let is = w.refused-is in
+          let same : c.if-refused.refused ≡ c.items.refused = cc in same ∙ sym (or_then c.items.refused (rules.refuses c.in-Ok.answer.1) yes)
+      | else-refused w ↦
+          let refuses = w.refuses-refused.ensures in
+          let is = w.refused-is in
+          let same : c.if-refused.refused ≡ rules.refuses c.in-Ok.answer.1 = cc in same ∙ sym (or_else c.items.refused (rules.refuses c.in-Ok.answer.1) w.if-refused.false)
+    ] in
+    record {
+      whole = whole_more c.args.opened.chain c.items.offset (g.S.Source.left c.args.input.now) (g.S.Source.left c.items.input) (g.S.Source.left c.next_block.new.input)
+          (g.K.Sink.taken c.args.out.now) (g.K.Sink.taken c.items.out) (g.K.Sink.taken c.import_item.new.out) c.items.node.chain c.in-Ok.answer.0.chain c.items.refused
+          _ _ _ _ _ item next.0 written.0 c.in-Ok.answer.1 c.len.result c.if-refused.refused size any
+          whole at next.1 written.1 c.in-Ok.ensures.verdict c.in-Ok.ensures.kept written.2 c.in-Ok.ensures.on
+          (λ was. leaves_item g.D.Disk.images g.D.Disk.moment g.D.Disk.left_since g.met.D.Disk.counts_now c.args.disk.now c.items.disk c.import_item.new.disk c.args.opened.chain
+          c.items.node.chain whole.items item whole.kept_now (whole.moments was) (c.in-Ok.ensures.moments (whole.on was)));
+      there = c.in-Ok.ensures.there;
+      input_unchanged = c.in-Ok-Item.ensures.faults.unchanged (λ e. (cc)) ∙ c.items.invariant.input_unchanged;
+      out_unchanged = c.in-Ok.ensures.out_faults.unchanged (λ e. (cc)) ∙ c.items.invariant.out_unchanged;
+      disk_unchanged = c.in-Ok.ensures.disk_faults.unchanged (λ e. (cc)) ∙ c.items.invariant.disk_unchanged;
+    }

@@ -1,13 +1,20 @@
-use Rattle.std.proofs.Common.{◌≡◌, ◌-◌}
+use Rattle.std.proofs.Common.{◌≡◌, ◌-◌, ◌<◌, length}
+use Rattle.std.specs.Prelude.{IfSome}
+use Rattle.outside.specs.Disk.{LeavesOnly}
 use Rattle.report_defs.specs.Report.{input_limit}
+use Rattle.node_core.specs.Node.{IsOn}
 use Rattle.node_run.proofs.ImportLemmas.{Whole}
 use Rattle.node_run.proofs.import.import_items.Given as goal
 
 abbrev pub invariant-items : goal.invariant-items
 invariant-items g l = record {
-  whole : Whole l.fn.kept l.fn.start l.offset (g.S.Source.left l.fn.input) (g.S.Source.left l.input) (g.K.Sink.taken l.fn.out) (g.K.Sink.taken l.out) l.kept l.refused;
+  whole : Whole l.fn.opened.chain l.offset (g.S.Source.left l.fn.input) (g.S.Source.left l.input) (g.K.Sink.taken l.fn.out) (g.K.Sink.taken l.out) l.node.chain l.refused
+      (IsOn l.fn.opened (g.D.Disk.reads_as l.fn.disk) (g.D.Disk.images l.fn.disk)) (IsOn l.node (g.D.Disk.reads_as l.disk) (g.D.Disk.images l.disk))
+      (LeavesOnly g.D.Disk.moment g.D.Disk.left_since l.fn.disk l.disk);
+  there : IfSome (g.D.Disk.reads_as l.disk) (λ image. l.node.place < length image.log);
   input_unchanged : g.S.Source.faults l.input ≡ g.S.Source.faults l.fn.input;
   out_unchanged : g.K.Sink.faults l.out ≡ g.K.Sink.faults l.fn.out;
+  disk_unchanged : g.D.Disk.faults l.disk ≡ g.D.Disk.faults l.fn.disk;
 }
 
 -- the input has a limit, and each item takes some of it

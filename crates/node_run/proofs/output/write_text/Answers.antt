@@ -1,4 +1,4 @@
-use Rattle.std.proofs.Common.{inl, inr, take, drop, sym, take-append-drop}
+use Rattle.std.proofs.Common.{take, drop, sym, take-append-drop, length-take-le, arith}
 use Rattle.node_run.proofs.output.write_text.Goals as goal
 
 pub returns-in-Err-clause-written : goal.returns-in-Err-clause-written
@@ -7,8 +7,7 @@ returns-in-Err-clause-written g c =
       take before.0 c.args.text.now,
       before.2,
       record {
-        stop = tt;
         front = (drop before.0 c.args.text.now, sym (take-append-drop before.0 c.args.text.now));
-        silent = λ early. absurd (elim early [ inl e ↦ (cc) | inr e ↦ (cc) ]);
+        shorter = omega (arith, before.1, length-take-le before.0 c.args.text.now (omega (arith, before.1)));
       },
     )

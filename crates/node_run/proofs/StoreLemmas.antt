@@ -1,0 +1,188 @@
+-- What a command delivers of a store, whether it was opened or not.
+use Rattle.std.proofs.Common.{◌≡◌, ◌⊎◌, inl, inr, ℕ, ◌≤◌, List, [], ◌∷◌, length, take, refl, ap, sym, ◌∙◌, subst, arith, append-nil}
+use Rattle.std.specs.Prelude.{Option, Some, IfSome}
+use Rattle.outside.specs.Image.{Image}
+use Rattle.outside.specs.Disk.{LeavesOnly}
+use Rattle.outside.proofs.Moments.{leaves_also, leaves_then, now_too}
+use Rattle.codec_defs.specs.Schema.{Block}
+use Rattle.chain_defs.specs.Kept.{block_hash}
+use Rattle.rule_defs.specs.Chain.{Chain, chain_over}
+use Rattle.store_defs.specs.Store.{Store, NoLog, NotALog, Keeps, store_of, StandsFor, IsSound}
+use Rattle.report_defs.specs.declared.command.Command.{Command}
+use Rattle.report_defs.specs.declared.status.Status.{Status}
+use Rattle.report_defs.specs.declared.status.Status.TheVariants.{Done, DiskFault, NoMemory, NotAStore}
+use Rattle.report_defs.specs.Status.{IsOneOf}
+use Rattle.report_defs.specs.Text.{tip_line, tip_line_of}
+use Rattle.report_defs.specs.Report.{Report, report_without_lines, text_of, report_of_command, tip_report}
+use Rattle.report_defs.specs.Promise.{IsPrefix, MatchesReport, KeepsOrder, IsStoreOf, FindsNoStore, TellsInOrder, IsStoppedBeforeTheSink}
+use Rattle.report_defs.specs.Survival.{Each, IsFront, KeepsStore, KeepsDisk}
+use Rattle.node_run.specs.Import.{IsStop, KeepsSome}
+use Rattle.node_run.specs.Store.{Delivers, opening_stops}
+use Rattle.node_run.proofs.LineLemmas.{front_of_all, front_of_none, take_all}
+use Rattle.node_run.proofs.Statuses.{stop_not_reported, opening_reported, opening_stop}
+
+-- ---- What the disk reads as
+
+pub if_told : (reads : Option Image) (P : Image → Type 0) (now : Image) → IfSome reads P → reads ≡ Some now → P now
+if_told reads P now known told = subst (λ (r : Option Image). IfSome r P) told known
+
+-- the store that a command finds is the one that was opened
+pub opened_store : (reads : Option Image) (chain : Chain) (store : Store) → IfSome reads (λ now. store_of now ≡ Keeps chain) → IsStoreOf reads store → store ≡ Keeps chain
+opened_store reads chain store kept found = found.2 ∙ if_told reads (λ now. store_of now ≡ Keeps chain) found.0 kept found.1
+
+same_chain : (a b : Chain) → Keeps a ≡ Keeps b → a ≡ b
+same_chain a b e = cc
+
+-- ---- Where a store was opened
+
+pub delivers : (command : Command) (reads : Option Image) (chain : Chain) (at_start at_exit meanwhile : Image → Type 0) (left : Option (List ℕ)) (given taken : List ℕ) (status : Status)
+    → IfSome reads (λ now. store_of now ≡ Keeps chain)
+    → MatchesReport (λ whole. report_of_command (Some command) whole (Keeps chain)) given left taken status × KeepsOrder (Some command) (Keeps chain) given left taken status
+    → ((now : Image) → reads ≡ Some now → KeepsDisk (Some command) now at_start at_exit meanwhile given taken status)
+    → Delivers command reads at_start at_exit meanwhile left given taken status
+delivers command reads chain at_start at_exit meanwhile left given taken status kept says disk = record {
+  text = λ store found.
+      subst (λ (s : Store). MatchesReport (λ whole. report_of_command (Some command) whole s) given left taken status) (sym (opened_store reads chain store kept found)) says.0;
+  order = λ store found. subst (λ (s : Store). KeepsOrder (Some command) s given left taken status) (sym (opened_store reads chain store kept found)) says.1;
+  disk = disk;
+}
+
+-- what is kept of the chain that was opened is kept of that which the disk reads as
+pub keeps_opened : (reads : Option Image) (chain : Chain) (items : List (List ℕ)) (at_start at_exit meanwhile : Image → Type 0) (taken : List ℕ) (status : Status)
+    → IfSome reads (λ now. store_of now ≡ Keeps chain)
+    → ((now : Image) → reads ≡ Some now → store_of now ≡ Keeps chain → Each at_start IsSound → KeepsStore chain items taken status at_start at_exit meanwhile)
+    → (now : Image) → reads ≡ Some now → (other : Chain) → store_of now ≡ Keeps other → Each at_start IsSound → KeepsStore other items taken status at_start at_exit meanwhile
+keeps_opened reads chain items at_start at_exit meanwhile taken status kept store now told other keeps sound =
+    let here = if_told reads (λ image. store_of image ≡ Keeps chain) now kept told in
+    subst (λ (k : Chain). KeepsStore k items taken status at_start at_exit meanwhile) (same_chain chain other (sym here ∙ keeps)) (store now told here sound)
+
+module _ {D : Type 0} (images : D → Image → Type 0) (moment : D → ℕ) (left_since : D → ℕ → Image → Type 0)
+    (counts_now : (disk : D) (t : ℕ) (image : Image) → t ≤ moment disk → images disk image → left_since disk t image) where
+  -- opened, and then some items imported
+  pub keeps_imported : (old mid new : D) (chain : Chain) (items before : List (List ℕ)) (taken : List ℕ) (status : Status)
+      → IsFront chain items taken (length before) → take (length before) items ≡ before
+      → LeavesOnly moment left_since old mid (λ image. images old image ⊎ StandsFor chain image)
+      → Each (images new) (λ image. StandsFor (chain_over chain before) image ⊎ StandsFor (chain_over chain items) image)
+      → LeavesOnly moment left_since mid new (KeepsSome chain items)
+      → KeepsStore chain items taken status (images old) (images new) (left_since new (moment old))
+  keeps_imported old mid new chain items before taken status front is opened exit moments = record {
+    exit = λ image left. elim (exit image left) [
+      | inl some ↦ inr (length before, front, subst (λ xs. StandsFor (chain_over chain xs) image) (sym is) some)
+      | inr all ↦ inr (length items, front_of_all chain items taken, subst (λ xs. StandsFor (chain_over chain xs) image) (sym (take_all items)) all)
+    ];
+    moments = (leaves_then moment left_since old mid new (λ image. images old image ⊎ KeepsSome chain items image)
+        (leaves_also moment left_since old mid (λ image. images old image ⊎ StandsFor chain image) (λ image. images old image ⊎ KeepsSome chain items image) opened here)
+        (leaves_also moment left_since mid new (KeepsSome chain items) (λ image. images old image ⊎ KeepsSome chain items image) moments (λ image some. inr some))).each;
+  }
+    where
+      here : (image : Image) → images old image ⊎ StandsFor chain image → images old image ⊎ KeepsSome chain items image
+      here image (inl past) = inl past
+      here image (inr stands) = inr (0, omega arith, stands)
+
+  -- opened, and nothing more
+  pub keeps_read : (old new : D) (chain : Chain) (taken : List ℕ) (status : Status)
+      → LeavesOnly moment left_since old new (λ image. images old image ⊎ StandsFor chain image)
+      → Each (images new) (StandsFor chain)
+      → KeepsStore chain [] taken status (images old) (images new) (left_since new (moment old))
+  keeps_read old new chain taken status opened exit = record {
+    exit = λ image left. inr (0, front_of_all chain [] taken, exit image left);
+    moments = λ image left. elim (opened.each image left) [ inl past ↦ inl past | inr stands ↦ inr (0, omega arith, stands) ];
+  }
+
+  -- not opened
+  pub keeps_unopened : (old new : D) (chain : Chain) (items : List (List ℕ)) (status : Status) → IsOneOf (DiskFault ∷ NoMemory ∷ []) status
+      → LeavesOnly moment left_since old new (λ image. images old image ⊎ StandsFor chain image)
+      → KeepsStore chain items [] status (images old) (images new) (left_since new (moment old))
+  keeps_unopened old new chain items status stop opened = record {
+    exit = λ image left. elim (now_too moment left_since images counts_now old new (λ image. images old image ⊎ StandsFor chain image) opened image left) [
+      | inl past ↦ inl (stop, refl, past)
+      | inr stands ↦ inr (0, front_of_none chain items 0 (omega arith), stands)
+    ];
+    moments = λ image left. elim (opened.each image left) [ inl past ↦ inl past | inr stands ↦ inr (0, omega arith, stands) ];
+  }
+
+-- ---- Where none was opened
+
+-- the report says so
+pub none_says : (full : List ℕ → Report) (left : Option (List ℕ)) (status : Status) → IsOneOf opening_stops status
+    → ((input : List ℕ) → full input ≡ report_without_lines [] NotAStore) → MatchesReport full [] left [] status
+none_says full left status one says = record {
+  front = λ more is. (text_of (full more), refl);
+  whole_text = λ more is told. sym (ap (λ (r : Report). text_of r) (says more));
+  same_status = λ more is told. opening_reported status one told ∙ sym (ap (λ (r : Report). r.status) (says more));
+}
+
+-- the run was stopped before a byte was read or written
+pub stop_says : (full : List ℕ → Report) (left : Option (List ℕ)) (status : Status) → IsStop status → MatchesReport full [] left [] status
+stop_says full left status stop = record {
+  front = λ more is. (text_of (full more), refl);
+  whole_text = λ more is told. absurd (stop_not_reported status stop told);
+  same_status = λ more is told. absurd (stop_not_reported status stop told);
+}
+
+finds_none : (status : Status) → IsOneOf opening_stops status → FindsNoStore [] [] status
+finds_none status one = record { untouched = record { unread = refl; unwritten = refl }; answer = one }
+
+-- the opening was stopped otherwise than by what the disk holds
+pub stopped_opening : (reads : Option Image) (status : Status) (chain : Chain)
+    → (status ≡ NotAStore → IfSome reads (λ now. (chain : Chain) → store_of now ≡ Keeps chain → ⊥))
+    → IsStoreOf reads (Keeps chain) → status ≡ NotAStore → ⊥
+stopped_opening reads status chain none found e = if_told reads (λ now. (chain : Chain) → store_of now ≡ Keeps chain → ⊥) found.0 (none e) found.1 chain (sym found.2)
+
+pub by_disk_or_memory : (status : Status) → IsOneOf opening_stops status → (status ≡ NotAStore → ⊥) → IsOneOf (DiskFault ∷ NoMemory ∷ []) status
+by_disk_or_memory status (inl none) there = absurd (there none)
+by_disk_or_memory status (inr later) there = later
+
+-- A command that opens the store. Its report and order are given for where there is none, and for a chain where the run was stopped.
+pub unopened : (command : Command) (reads : Option Image) (at_start at_exit meanwhile : Image → Type 0) (left : Option (List ℕ)) (status : Status)
+    → IsOneOf opening_stops status
+    → (status ≡ NotAStore → IfSome reads (λ now. (chain : Chain) → store_of now ≡ Keeps chain → ⊥))
+    → ((input : List ℕ) → report_of_command (Some command) input NoLog ≡ report_without_lines [] NotAStore)
+    → ((input : List ℕ) → report_of_command (Some command) input NotALog ≡ report_without_lines [] NotAStore)
+    → (FindsNoStore [] [] status → KeepsOrder (Some command) NoLog [] left [] status)
+    → (FindsNoStore [] [] status → KeepsOrder (Some command) NotALog [] left [] status)
+    → ((chain : Chain) → IsStop status → KeepsOrder (Some command) (Keeps chain) [] left [] status)
+    → ((now : Image) → reads ≡ Some now → KeepsDisk (Some command) now at_start at_exit meanwhile [] [] status)
+    → Delivers command reads at_start at_exit meanwhile left [] [] status
+unopened command reads at_start at_exit meanwhile left status one none no_log not_a_log order_none order_not order_stop disk = record { text = text; order = order; disk = disk }
+  where
+    text : (store : Store) → IsStoreOf reads store → MatchesReport (λ whole. report_of_command (Some command) whole store) [] left [] status
+    text NoLog found = none_says (λ whole. report_of_command (Some command) whole NoLog) left status one no_log
+    text NotALog found = none_says (λ whole. report_of_command (Some command) whole NotALog) left status one not_a_log
+    text (Keeps chain) found =
+        stop_says (λ whole. report_of_command (Some command) whole (Keeps chain)) left status (opening_stop status one (stopped_opening reads status chain none found))
+
+    order : (store : Store) → IsStoreOf reads store → KeepsOrder (Some command) store [] left [] status
+    order NoLog found = order_none (finds_none status one)
+    order NotALog found = order_not (finds_none status one)
+    order (Keeps chain) found = order_stop chain (opening_stop status one (stopped_opening reads status chain none found))
+
+-- ---- `tip`
+
+pub tip_line_is : (found : Option Block) (block : Block) (number : ℕ) (hash line : List ℕ) → found ≡ Some block → number ≡ block.header.number → hash ≡ block_hash block
+    → line ≡ tip_line_of number hash → line ≡ tip_line found
+tip_line_is found block number hash line is number_is hash_is line_is =
+    line_is ∙ ap (λ n. tip_line_of n hash) number_is ∙ ap (tip_line_of block.header.number) hash_is ∙ sym (ap (λ (b : Option Block). tip_line b) is)
+
+pub tip_stopped : (chain : Chain) (left : Option (List ℕ)) (taken line : List ℕ) (status : Status) → IsStop status
+    → IsPrefix taken line → line ≡ text_of (tip_report (Keeps chain)) → (IsStoppedBeforeTheSink status → taken ≡ [])
+    → MatchesReport (λ whole. tip_report (Keeps chain)) [] left taken status × TellsInOrder [] taken status
+tip_stopped chain left taken line status stop front is silent = (
+  record {
+    front = λ more told. subst (IsPrefix taken) is front;
+    whole_text = λ more is told. absurd (stop_not_reported status stop told);
+    same_status = λ more is told. absurd (stop_not_reported status stop told);
+  },
+  record { unread = refl; silent = silent },
+)
+
+pub tip_told : (chain : Chain) (left : Option (List ℕ)) (taken : List ℕ) → taken ≡ text_of (tip_report (Keeps chain)) → (IsStoppedBeforeTheSink Done → ⊥)
+    → MatchesReport (λ whole. tip_report (Keeps chain)) [] left taken Done × TellsInOrder [] taken Done
+tip_told chain left taken is never = (
+  record {
+    front = λ more told. subst (IsPrefix taken) is ([], sym (append-nil taken));
+    whole_text = λ more known told. is;
+    same_status = λ more known told. refl;
+  },
+  record { unread = refl; silent = λ early. absurd (never early) },
+)

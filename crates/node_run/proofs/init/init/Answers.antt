@@ -1,0 +1,98 @@
+use Rattle.std.proofs.Common.{◌≡◌, [], length, refl, ap, sym, ◌∙◌, subst, arith}
+use Rattle.std.specs.Prelude.{IsSome}
+use Rattle.outside.proofs.Streams.{gives_none, takes_none}
+use Rattle.outside.specs.Disk.{IsAsBefore}
+use Rattle.store_defs.specs.Store.{store_of}
+use Rattle.node_run.specs.Init.{AreBoth}
+use Rattle.node_run.proofs.ImportLemmas.{item_limit-is}
+use Rattle.node_run.proofs.Statuses.{reading_stops}
+use Rattle.node_run.proofs.InitLemmas.{genesis_limit-is, fault_at_once, there_at_once, finds_no_log, finds_a_log, init_unread, init_early, init_both, one_call, as_before_new}
+use Rattle.node_run.proofs.init.init.Goals as goal
+
+pub returns-in-Err-clause-init : goal.returns-in-Err-clause-init
+returns-in-Err-clause-init g c = (
+  [],
+  [],
+  gives_none (g.S.Source.left c.args.input.now),
+  takes_none (g.K.Sink.taken c.args.out.now),
+  fault_at_once (g.D.Disk.reads_as c.args.disk.now) (g.D.Disk.images c.args.disk.now) (g.D.Disk.images c.len.new.self)
+      (g.D.Disk.left_since c.len.new.self (g.D.Disk.moment c.args.disk.now)) (g.S.Source.left c.args.input.now),
+)
+
+pub returns-then-length-ne0-clause-init : goal.returns-then-length-ne0-clause-init
+returns-then-length-ne0-clause-init g c =
+    let some : c.in-Ok.length ≡ 0 → ⊥ = λ e. omega (arith, e, c.if-length-ne0.true) in (
+      [],
+      [],
+      gives_none (g.S.Source.left c.args.input.now),
+      takes_none (g.K.Sink.taken c.args.out.now),
+      there_at_once (g.D.Disk.reads_as c.args.disk.now) (g.D.Disk.images c.args.disk.now) (g.D.Disk.images c.len.new.self)
+          (g.D.Disk.left_since c.len.new.self (g.D.Disk.moment c.args.disk.now)) (g.S.Source.left c.args.input.now)
+          (λ store found. finds_a_log (g.D.Disk.reads_as c.args.disk.now) c.in-Ok.length store c.in-Ok.ensures.length some found),
+    )
+
+pub make_and_tell-requires-clause-specification : goal.make_and_tell-requires-clause-specification
+make_and_tell-requires-clause-specification g c =
+    let read = rw c.in-Ok-Both.field-0-is at c.in-Ok-Both.ensures.read in
+    omega (arith, item_limit-is, read.2.specification_is.most, ap length c.deref.ensures.value)
+
+pub make_and_tell-requires-clause-genesis : goal.make_and_tell-requires-clause-genesis
+make_and_tell-requires-clause-genesis g c =
+    let read = rw c.in-Ok-Both.field-0-is at c.in-Ok-Both.ensures.read in
+    omega (arith, genesis_limit-is, read.2.genesis_is.most, ap length c.deref-in-Ok-Both.ensures.value)
+
+pub returns-in-Ok-Both-clause-init : goal.returns-in-Ok-Both-clause-init
+returns-in-Ok-Both-clause-init g c =
+    let read = rw c.in-Ok-Both.field-0-is at c.in-Ok-Both.ensures.read in
+    let said = c.make_and_tell.ensures.said in
+    let left = g.S.Source.left c.read_input.new.input in
+    let both : AreBoth left c.deref.result.now c.deref-in-Ok-Both.result.now read.0 =
+    subst (λ bytes. AreBoth left bytes c.deref-in-Ok-Both.result.now read.0) (sym c.deref.ensures.value)
+    (subst (λ bytes. AreBoth left c.in-Ok-Both.specification.items bytes read.0) (sym c.deref-in-Ok-Both.ensures.value) read.2) in (
+      read.0,
+      said.0,
+      read.1,
+      said.1,
+      init_both (g.D.Disk.reads_as c.args.disk.now) (g.D.Disk.images c.args.disk.now) (g.D.Disk.images c.make_and_tell.new.disk)
+          (g.D.Disk.left_since c.make_and_tell.new.disk (g.D.Disk.moment c.args.disk.now)) left read.0 said.0 c.deref.result.now c.deref-in-Ok-Both.result.now c.make_and_tell.result
+          (λ store found. finds_no_log (g.D.Disk.reads_as c.args.disk.now) c.in-Ok.length store c.in-Ok.ensures.length (omega (arith, c.if-length-ne0.false)) found)
+          both said.2 (λ now told done. c.make_and_tell.ensures.made (subst IsSome (sym (c.in-Ok.ensures.same ∙ told)) refl) done),
+    )
+
+pub returns-in-Ok-Both-clause-there : goal.returns-in-Ok-Both-clause-there
+returns-in-Ok-Both-clause-there g c = λ now told other.
+    absurd (other (finds_no_log (g.D.Disk.reads_as c.args.disk.now) c.in-Ok.length (store_of now) c.in-Ok.ensures.length (omega (arith, c.if-length-ne0.false)) (now, told, refl)))
+
+pub returns-in-Ok-Both-clause-as_before : goal.returns-in-Ok-Both-clause-as_before
+returns-in-Ok-Both-clause-as_before g c = λ told.
+    let one = one_call g.D.Disk.reads_as g.D.Disk.images g.D.Disk.moment g.D.Disk.left_since g.met.D.Disk.only_now c.args.disk.now c.len.new.self
+    c.in-Ok.ensures.same c.in-Ok.ensures.images c.in-Ok.ensures.time in
+    subst (λ d. IsAsBefore g.D.Disk.reads_as g.D.Disk.images g.D.Disk.moment g.D.Disk.left_since c.args.disk.now d)
+    (sym (c.make_and_tell.ensures.unmade (as_before_new c.make_and_tell.result c.make_and_tell.ensures.status told))) one
+
+pub returns-in-Ok-Early-clause-init : goal.returns-in-Ok-Early-clause-init
+returns-in-Ok-Early-clause-init g c =
+    let read = rw c.in-Ok-Early.field-0-is at c.in-Ok-Early.ensures.read in
+    let said = c.tell_early.ensures.said in (
+      read.0,
+      said.0,
+      read.1,
+      said.1,
+      init_early (g.D.Disk.reads_as c.args.disk.now) (g.D.Disk.images c.args.disk.now) (g.D.Disk.images c.len.new.self)
+          (g.D.Disk.left_since c.len.new.self (g.D.Disk.moment c.args.disk.now)) (g.S.Source.left c.read_input.new.input) read.0 said.0 c.in-Ok-Early.end c.in-Ok-Early.offset c.tell_early.result
+          (λ store found. finds_no_log (g.D.Disk.reads_as c.args.disk.now) c.in-Ok.length store c.in-Ok.ensures.length (omega (arith, c.if-length-ne0.false)) found)
+          read.2 said.2,
+    )
+
+pub returns-in-Err-read_input-clause-init : goal.returns-in-Err-read_input-clause-init
+returns-in-Err-read_input-clause-init g c =
+    let read = c.in-Err-read_input.ensures.read in (
+      read.0,
+      [],
+      read.1,
+      takes_none (g.K.Sink.taken c.args.out.now),
+      init_unread (g.D.Disk.reads_as c.args.disk.now) (g.D.Disk.images c.args.disk.now) (g.D.Disk.images c.len.new.self)
+          (g.D.Disk.left_since c.len.new.self (g.D.Disk.moment c.args.disk.now)) (g.S.Source.left c.read_input.new.input) read.0 c.in-Err-read_input.status
+          (λ store found. finds_no_log (g.D.Disk.reads_as c.args.disk.now) c.in-Ok.length store c.in-Ok.ensures.length (omega (arith, c.if-length-ne0.false)) found)
+          (reading_stops c.in-Err-read_input.status read.2),
+    )

@@ -1,0 +1,75 @@
+use Rattle.std.proofs.Common.{◌≡◌, ◌+◌, [], ◌∷◌, ◌++◌, length, refl, sym, ap, ◌∙◌, subst, arith, append-nil, append_assoc, length-append}
+use Rattle.std.specs.Prelude.{Some, None, Ok}
+use Rattle.std.specs.List.{concat}
+use Rattle.outside.proofs.Streams.{gives_more}
+use Rattle.report_defs.specs.declared.end.End.{End}
+use Rattle.report_defs.specs.declared.end.End.TheVariants.{Extra}
+use Rattle.report_defs.specs.Report.{genesis_limit, end_of_needed}
+use Rattle.item_reader.specs.Items.{IsReadingStop}
+use Rattle.item_reader.proofs.Reading.{ends_at_byte}
+use Rattle.node_run.specs.Init.{EndsEarly}
+use Rattle.node_run.proofs.ImportLemmas.{item_limit-is}
+use Rattle.node_run.proofs.InitLemmas.{known_limit, ends_early, needed_early, genesis_limit-is}
+use Rattle.node_run.proofs.init.read_genesis.Goals as goal
+
+pub next_item-requires : goal.next_item-requires
+next_item-requires g c = omega (arith, item_limit-is, c.requires.most, c.len-offset.ensures, c.args.specification.ok)
+
+pub returns-in-Ok-End-clause-read : goal.returns-in-Ok-End-clause-read
+returns-in-Ok-End-clause-read g c =
+    let left = g.S.Source.left c.next_item.new.input in
+    let specification = c.args.specification.items in
+    let found = c.in-Ok-End.ensures.next in
+    let limited = known_limit 4194304 genesis_limit (sym genesis_limit-is) c.len-offset.result left (Ok c.in-Ok-End.field-0) found.0 found.2 in
+    let next = rw c.in-Ok-End.field-0-is at limited in
+    let place : c.len-offset.result ≡ length (concat (specification ∷ [])) = omega (arith, c.len-offset.ensures, c.args.specification.ok, length-append specification []) in
+    let early : EndsEarly left (end_of_needed c.in-Ok-End.end) c.len-offset.result (specification ++ found.0) =
+    ends_early (specification ∷ []) (Some genesis_limit) left c.in-Ok-End.end (end_of_needed c.in-Ok-End.end) c.len-offset.result found.0 (specification ++ found.0)
+    (ap (λ bs. bs ++ found.0) (sym (append-nil specification))) (c.requires, tt) refl place next.0 (λ at. refl) (needed_early c.in-Ok-End.end) in
+    (found.0, found.1, subst (λ (e : End). EndsEarly left e c.len-offset.result (specification ++ found.0)) (sym c.end_of_needed.ensures) early)
+
+pub returns-in-Err-has_more-clause-read : goal.returns-in-Err-has_more-clause-read
+returns-in-Err-has_more-clause-read g c =
+    let found = c.in-Ok-Item.ensures.next in
+    let more = c.in-Err-has_more.ensures.more in (
+      found.0 ++ more.0,
+      gives_more (g.S.Source.left c.args.input.now) (g.S.Source.left c.next_item.new.input) (g.S.Source.left c.has_more.new.input) found.0 more.0 found.1 more.1,
+      subst IsReadingStop (sym more.2) tt,
+    )
+
+pub returns-then-more-clause-read : goal.returns-then-more-clause-read
+returns-then-more-clause-read g c =
+    let left = g.S.Source.left c.has_more.new.input in
+    let specification = c.args.specification.items in
+    let genesis = c.in-Ok-Item.item.items in
+    let found = c.in-Ok-Item.ensures.next in
+    let limited = known_limit 4194304 genesis_limit (sym genesis_limit-is) c.len-offset.result (g.S.Source.left c.next_item.new.input) (Ok c.in-Ok-Item.field-0) found.0 found.2 in
+    let next = rw c.in-Ok-Item.field-0-is at limited in
+    let more = rw c.if-more.true at c.in-Ok.ensures.more in
+    let offset = c.len-offset.result + c.len.result in
+    let place : offset ≡ length (concat (specification ∷ genesis ∷ [])) =
+    omega (arith, c.len-offset.ensures, c.args.specification.ok, c.len.ensures, c.in-Ok-Item.item.ok, length-append specification (genesis ++ []), length-append genesis []) in
+    let bytes : specification ++ (found.0 ++ more.0) ≡ concat (specification ∷ genesis ∷ []) ++ more.0 =
+    ap (λ bs. specification ++ (bs ++ more.0)) (next.same ∙ sym (append-nil genesis)) ∙ sym (append_assoc specification (genesis ++ []) more.0) in (
+      found.0 ++ more.0,
+      gives_more (g.S.Source.left c.args.input.now) (g.S.Source.left c.next_item.new.input) left found.0 more.0 found.1 more.1,
+      ends_early (specification ∷ genesis ∷ []) None left Extra Extra offset more.0 (specification ++ (found.0 ++ more.0)) bytes
+          (c.requires, (next.is_item, tt)) refl place (ends_at_byte offset more.0 left more.2) (λ at. refl) (λ e. cc),
+    )
+
+pub returns-clause-read : goal.returns-clause-read
+returns-clause-read g c =
+    let left = g.S.Source.left c.has_more.new.input in
+    let found = c.in-Ok-Item.ensures.next in
+    let limited = known_limit 4194304 genesis_limit (sym genesis_limit-is) c.len-offset.result (g.S.Source.left c.next_item.new.input) (Ok c.in-Ok-Item.field-0) found.0 found.2 in
+    let next = rw c.in-Ok-Item.field-0-is at limited in
+    let more = rw c.if-more.false at c.in-Ok.ensures.more in (
+      found.0 ++ more.0,
+      gives_more (g.S.Source.left c.args.input.now) (g.S.Source.left c.next_item.new.input) left found.0 more.0 found.1 more.1,
+      record {
+        whole = ap (λ bs. c.args.specification.items ++ bs) (ap (λ bs. found.0 ++ bs) more.2.0 ∙ append-nil found.0 ∙ next.same);
+        specification_is = c.requires;
+        genesis_is = next.is_item;
+        to_end = more.2.1;
+      },
+    )

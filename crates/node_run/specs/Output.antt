@@ -1,0 +1,29 @@
+-- What the sink took of a text.
+use Rattle.std.specs.Prelude.{◌≡◌, ◌⊎◌, ◌<◌, ℕ, List, length, Option, Result, Ok, Err}
+use Rattle.outside.specs.Streams.{Gives, Takes}
+use Rattle.report_defs.specs.declared.status.Status.{Status}
+use Rattle.report_defs.specs.declared.status.Status.TheVariants.{SinkFault}
+use Rattle.report_defs.specs.Promise.{IsPrefix}
+
+-- the sink took some bytes, and P holds of them
+abbrev pub Took : Option (List ℕ) → Option (List ℕ) → (List ℕ → Type 0) → Type 0
+Took taken_old taken_new P = (taken : List ℕ) × Takes taken_old taken_new taken × P taken
+
+-- the source gave some bytes and the sink took some, and P holds of them
+abbrev pub Transfers : Option (List ℕ) → Option (List ℕ) → Option (List ℕ) → Option (List ℕ) → (List ℕ → List ℕ → Type 0) → Type 0
+Transfers left_old left_new taken_old taken_new P =
+    (given : List ℕ) × (taken : List ℕ) × Gives left_old left_new given × Takes taken_old taken_new taken × P given taken
+
+-- a part of a text, and not all of it
+pub record IsPartOf (text taken : List ℕ) : Type 0 where
+  pub front : IsPrefix taken text
+  pub shorter : length taken < length text
+
+-- a text was taken, or a part of it
+abbrev pub IsWritten : {V : Type 0} → List ℕ → Result V Status → List ℕ → Type 0
+IsWritten text (Ok v) taken = taken ≡ text
+IsWritten text (Err status) taken = IsPartOf text taken
+
+-- a text was taken and its status answered, or the sink failed
+abbrev pub IsToldAnswer : List ℕ → Status → Status → List ℕ → Type 0
+IsToldAnswer text status result taken = ((taken ≡ text) × (result ≡ status)) ⊎ (IsPartOf text taken × (result ≡ SinkFault))

@@ -1,0 +1,19 @@
+-- What a command delivers of a store.
+use Rattle.std.specs.Prelude.{◌≡◌, ℕ, List, [], ◌∷◌, Option, Some}
+use Rattle.outside.specs.Image.{Image}
+use Rattle.store_defs.specs.Store.{Store}
+use Rattle.report_defs.specs.declared.command.Command.{Command}
+use Rattle.report_defs.specs.declared.status.Status.{Status}
+use Rattle.report_defs.specs.declared.status.Status.TheVariants.{DiskFault, NoMemory, NotAStore}
+use Rattle.report_defs.specs.Report.{report_of_command}
+use Rattle.report_defs.specs.Promise.{MatchesReport, KeepsOrder, IsStoreOf}
+use Rattle.report_defs.specs.Survival.{KeepsDisk}
+
+abbrev pub opening_stops : List Status
+opening_stops = NotAStore ∷ DiskFault ∷ NoMemory ∷ []
+
+-- A command over the store of what the disk reads as: its text, how far it read and wrote, and what it leaves of the disk.
+pub record Delivers (command : Command) (reads : Option Image) (at_start at_exit meanwhile : Image → Type 0) (left : Option (List ℕ)) (given taken : List ℕ) (status : Status) : Type 0 where
+  pub text : (store : Store) → IsStoreOf reads store → MatchesReport (λ whole. report_of_command (Some command) whole store) given left taken status
+  pub order : (store : Store) → IsStoreOf reads store → KeepsOrder (Some command) store given left taken status
+  pub disk : (now : Image) → reads ≡ Some now → KeepsDisk (Some command) now at_start at_exit meanwhile given taken status

@@ -1,0 +1,243 @@
+// The command `init`: a new store of a specification and a genesis.
+ghost use Rattle.std.specs.Prelude.{◌≡◌, ◌∷◌, ◌<◌, ◌^◌, ◌++◌, [], Err, Some, length, string_bytes, IfOk, IsSome};
+ghost use Rattle.outside.specs.Causes.{CountsFault};
+ghost use Rattle.outside.specs.Disk.{IsAsBefore};
+ghost use Rattle.outside.specs.Image.{Image};
+ghost use Rattle.store_defs.specs.Store.{NoLog, store_of};
+ghost use Rattle.report_defs.specs.Items.{IsItem};
+ghost use Rattle.report_defs.specs.Report as reports;
+ghost use Rattle.report_defs.specs.Status.{IsOneOf};
+ghost use Rattle.report_defs.specs.Promise.{init_statuses};
+ghost use Rattle.report_defs.specs.Survival.{as_before};
+ghost use Rattle.report_defs.specs.declared.command.Command.TheVariants.{Init as init_command};
+ghost use Rattle.item_reader.specs.Items.{Gave};
+ghost use Rattle.node_run.specs.Output.{Took, Transfers};
+ghost use Rattle.node_run.specs.Store.{Delivers};
+ghost use Rattle.node_run.specs.Init.{IsReadOfInit, IsSaid, StandsAlone, new_statuses, text_of_stop};
+
+use crate::lines::{bad_genesis_line, bad_spec_line, closing_of_end, genesis_line};
+use crate::output::{Answer, status_of_end, tell};
+use crate::store::status_of_writing;
+use item_reader::{Next, has_more, next_item};
+use node_core::{NewStop, judge};
+use outside::{Area, Disk, Sink, Source};
+use report_defs::{End, Status};
+use std::alloc::Global;
+
+/// The most bytes of a specification.
+const SPEC_LIMIT: usize = 1 << 20;
+
+/// The most bytes of a genesis.
+const GENESIS_LIMIT: usize = 1 << 22;
+
+/// What the input holds: a specification and a genesis alone, or its reading ends at an offset where it should not.
+#[derive(Drop)]
+enum Input {
+    Both {
+        specification: Vec<u8>,
+        genesis: Vec<u8>,
+    },
+    Early {
+        end: End,
+        offset: u64,
+    },
+}
+
+/// Where an item is needed, an input that ends between two items is cut.
+fn end_of_needed(end: End) -> End
+    ensures { result ≡ reports.end_of_needed end }
+{
+    match end {
+        End::AtEnd => End::Cut,
+        End::Cut => End::Cut,
+        End::BadSize => End::BadSize,
+        End::Extra => End::Extra,
+    }
+}
+
+/// Reads the input to its end, or to where it ends early.
+fn read_input<S: Source>(alloc: Global, input: &mut S) -> Result<Input, Status>
+    ensures read { Gave (S.left input.old) (S.left input.new) (IsReadOfInit (S.left input.new) result) }
+    ensures faults { CountsFault (S.faults input.old) (S.faults input.new) (result ≡ Err Status.InputFault) }
+{
+    let specification = match next_item(alloc, input, SPEC_LIMIT, None, 0) {
+        Ok(Next::Item(item)) => item,
+        Ok(Next::End(end)) => {
+            return Ok(Input::Early {
+                end: end_of_needed(end),
+                offset: 0,
+            });
+        }
+        Err(status) => return Err(status),
+    };
+    read_genesis(alloc, input, specification)
+}
+
+/// Reads on behind the specification.
+fn read_genesis<S: Source>(
+    alloc: Global,
+    input: &mut S,
+    specification: Vec<u8>,
+) -> Result<Input, Status>
+    requires { IsItem reports.item_limit specification.items }
+    ensures read { Gave (S.left input.old) (S.left input.new) (λ given. IsReadOfInit (S.left input.new) result (specification.items ++ given)) }
+    ensures faults { CountsFault (S.faults input.old) (S.faults input.new) (result ≡ Err Status.InputFault) }
+{
+    let offset = specification.len() as u64;
+    let genesis = match next_item(alloc, input, GENESIS_LIMIT, None, offset) {
+        Ok(Next::Item(item)) => item,
+        Ok(Next::End(end)) => {
+            return Ok(Input::Early {
+                end: end_of_needed(end),
+                offset,
+            });
+        }
+        Err(status) => return Err(status),
+    };
+    let more = match has_more(input) {
+        Ok(more) => more,
+        Err(status) => return Err(status),
+    };
+    if more {
+        return Ok(Input::Early {
+            end: End::Extra,
+            offset: offset + genesis.len() as u64,
+        });
+    }
+    Ok(Input::Both {
+        specification,
+        genesis,
+    })
+}
+
+/// What is said of an input that ends early.
+fn tell_early<K: Sink>(alloc: Global, out: &mut K, end: End, offset: u64) -> Status
+    requires { end ≡ End.AtEnd → ⊥ }
+    ensures said { Took (K.taken out.old) (K.taken out.new) (IsSaid (reports.report_of_end offset end) result) }
+    ensures faults { CountsFault (K.faults out.old) (K.faults out.new) (result ≡ Status.SinkFault) }
+    ensures disk { result ≡ Status.DiskFault → ⊥ }
+{
+    let text = match closing_of_end(alloc, offset, end) {
+        Ok(text) => text,
+        Err(_) => return Status::NoMemory,
+    };
+    let answer = Answer {
+        text,
+        status: status_of_end(Status::Done, end),
+    };
+    tell(out, &answer)
+}
+
+/// What is said of a specification or a genesis that breaks a rule. The status is `NoMemory`.
+fn refusal(alloc: Global, stop: NewStop) -> Result<Answer, Status>
+    ensures text { IfOk result (λ answer. string_bytes answer.text ≡ text_of_stop stop) }
+    ensures status { IfOk result (λ answer. answer.status ≡ Status.BadGenesis) }
+    ensures rule { IfOk result (λ _. stop ≡ NewStop.NoMemory → ⊥) }
+    ensures memory { (status : Status) → result ≡ Err status → status ≡ Status.NoMemory }
+{
+    let text = match stop {
+        NewStop::BadSpec(rule) => bad_spec_line(alloc, rule),
+        NewStop::BadGenesis(rule) => bad_genesis_line(alloc, rule),
+        NewStop::NoMemory => return Err(Status::NoMemory),
+    };
+    match text {
+        Ok(text) => Ok(Answer {
+            text,
+            status: Status::BadGenesis,
+        }),
+        Err(_) => Err(Status::NoMemory),
+    }
+}
+
+/// Makes the store, unless a rule is broken, and answers what is said of it. All memory is had before the disk is written.
+fn make<D: Disk>(
+    alloc: Global,
+    disk: &mut D,
+    specification: &[u8],
+    genesis: &[u8],
+) -> Result<Answer, Status>
+    requires specification { length specification.now < 2 ^ 32 }
+    requires genesis { length genesis.now < 2 ^ 32 }
+    ensures text { IfOk result (λ answer. string_bytes answer.text ≡ reports.text_of (reports.report_of_new specification.now genesis.now)) }
+    ensures status { IfOk result (λ answer. answer.status ≡ (reports.report_of_new specification.now genesis.now).status) }
+    ensures one_of { IfOk result (λ answer. IsOneOf (Status.Done ∷ Status.BadGenesis ∷ []) answer.status) }
+    ensures stop { (status : Status) → result ≡ Err status → IsOneOf (Status.DiskFault ∷ Status.NoMemory ∷ []) status }
+    ensures made { IsSome (D.reads_as disk.old) → IfOk result (λ answer. answer.status ≡ Status.Done → StandsAlone specification.now genesis.now (D.images disk.new)) }
+    ensures unmade { IfOk result (λ answer. answer.status ≡ Status.BadGenesis → disk.new ≡ disk.old) }
+    ensures cause { CountsFault (D.faults disk.old) (D.faults disk.new) (result ≡ Err Status.DiskFault) }
+{
+    let new = match judge(alloc, specification, genesis) {
+        Ok(new) => new,
+        Err(stop) => return refusal(alloc, stop),
+    };
+    let text = match genesis_line(alloc, &new.genesis_hash()) {
+        Ok(text) => text,
+        Err(_) => return Err(Status::NoMemory),
+    };
+    match new.create(alloc, disk) {
+        Ok(()) => Ok(Answer {
+            text,
+            status: Status::Done,
+        }),
+        Err(stop) => Err(status_of_writing(stop)),
+    }
+}
+
+/// Makes the store, unless a rule is broken, and tells so.
+fn make_and_tell<K: Sink, D: Disk>(
+    alloc: Global,
+    out: &mut K,
+    disk: &mut D,
+    specification: &[u8],
+    genesis: &[u8],
+) -> Status
+    requires specification { length specification.now < 2 ^ 32 }
+    requires genesis { length genesis.now < 2 ^ 32 }
+    ensures said { Took (K.taken out.old) (K.taken out.new) (IsSaid (reports.report_of_new specification.now genesis.now) result) }
+    ensures status { IsOneOf new_statuses result }
+    ensures made { IsSome (D.reads_as disk.old) → result ≡ Status.Done → StandsAlone specification.now genesis.now (D.images disk.new) }
+    ensures unmade { result ≡ Status.BadGenesis → disk.new ≡ disk.old }
+    ensures out_faults { CountsFault (K.faults out.old) (K.faults out.new) (result ≡ Status.SinkFault) }
+    ensures disk_faults { CountsFault (D.faults disk.old) (D.faults disk.new) (result ≡ Status.DiskFault) }
+{
+    match make(alloc, disk, specification, genesis) {
+        Ok(answer) => tell(out, &answer),
+        Err(status) => status,
+    }
+}
+
+/// Makes a new store of what the input holds, where there is none.
+pub fn init<S: Source, K: Sink, D: Disk>(
+    alloc: Global,
+    input: &mut S,
+    out: &mut K,
+    disk: &mut D,
+) -> Status
+    ensures init { Transfers (S.left input.old) (S.left input.new) (K.taken out.old) (K.taken out.new)
+        (λ given taken. Delivers init_command (D.reads_as disk.old) (D.images disk.old) (D.images disk.new) (D.left_since disk.new (D.moment disk.old))
+        (S.left input.new) given taken result) }
+    ensures status { IsOneOf init_statuses result }
+    ensures there { (now : Image) → D.reads_as disk.old ≡ Some now → (store_of now ≡ NoLog → ⊥) → IsAsBefore D.reads_as D.images D.moment D.left_since disk.old disk.new }
+    ensures as_before { IsOneOf (as_before (Some init_command)) result → IsAsBefore D.reads_as D.images D.moment D.left_since disk.old disk.new }
+    ensures input_faults { CountsFault (S.faults input.old) (S.faults input.new) (result ≡ Status.InputFault) }
+    ensures out_faults { CountsFault (K.faults out.old) (K.faults out.new) (result ≡ Status.SinkFault) }
+    ensures disk_faults { CountsFault (D.faults disk.old) (D.faults disk.new) (result ≡ Status.DiskFault) }
+{
+    let length = match disk.len(Area::Log) {
+        Ok(length) => length,
+        Err(_) => return Status::DiskFault,
+    };
+    if length != 0 {
+        return Status::StoreThere;
+    }
+    match read_input(alloc, input) {
+        Ok(
+            Input::Both {
+                specification,
+                genesis,
+            },
+        ) => make_and_tell(alloc, out, disk, &specification, &genesis),
+        Ok(Input::Early { end, offset }) => tell_early(alloc, out, end, offset),
+        Err(status) => status,
+    }
+}

@@ -1,0 +1,58 @@
+// The store that a command works on.
+ghost use Rattle.std.specs.Prelude.{◌≡◌, ◌⊎◌, ◌↔◌, ◌<◌, ◌∷◌, [], Err, Some, length, IfOk, IfSome};
+ghost use Rattle.outside.specs.Causes.{CountsFault};
+ghost use Rattle.outside.specs.Disk.{LeavesOnly};
+ghost use Rattle.outside.specs.Image.{Image};
+ghost use Rattle.rule_defs.specs.Chain.{Chain};
+ghost use Rattle.store_defs.specs.Store.{Keeps, store_of, StandsFor, IsSound, IsOnlyRead};
+ghost use Rattle.report_defs.specs.Status.{IsOneOf};
+ghost use Rattle.node_core.specs.Node.{IsOn};
+ghost use Rattle.node_run.specs.Store.{opening_stops};
+
+use node_core::{LogStop, Node};
+use outside::{Disk, WriteStop};
+use report_defs::Status;
+use std::alloc::Global;
+
+/// The status of a stop of opening.
+fn status_of_opening(stop: LogStop) -> Status
+    ensures one_of { IsOneOf opening_stops result }
+    ensures none { (result ≡ Status.NotAStore) ↔ (stop ≡ LogStop.NotAStore) }
+    ensures fault { (result ≡ Status.DiskFault) ↔ (stop ≡ LogStop.DiskFault) }
+{
+    match stop {
+        LogStop::DiskFault => Status::DiskFault,
+        LogStop::NotAStore => Status::NotAStore,
+        LogStop::NoMemory => Status::NoMemory,
+    }
+}
+
+/// The status of a stop of writing.
+pub fn status_of_writing(stop: WriteStop) -> Status
+    ensures one_of { IsOneOf (Status.DiskFault ∷ Status.NoMemory ∷ []) result }
+    ensures fault { (result ≡ Status.DiskFault) ↔ (stop ≡ WriteStop.DiskFault) }
+{
+    match stop {
+        WriteStop::DiskFault => Status::DiskFault,
+        WriteStop::NoMemory => Status::NoMemory,
+    }
+}
+
+/// Opens the store on a disk.
+pub fn open<D: Disk>(alloc: Global, disk: &mut D) -> Result<Node, Status>
+    ensures one_of { (status : Status) → result ≡ Err status → IsOneOf opening_stops status }
+    ensures kept { IfOk result (λ node. IfSome (D.reads_as disk.old) (λ now. store_of now ≡ Keeps node.chain)) }
+    ensures not_a_store { result ≡ Err Status.NotAStore → IfSome (D.reads_as disk.old) (λ now. (chain : Chain) → store_of now ≡ Keeps chain → ⊥) }
+    ensures only_read { result ≡ Err Status.NotAStore → IsOnlyRead D.reads_as D.images D.moment D.left_since disk.old disk.new }
+    ensures there { IfOk result (λ node. IfSome (D.reads_as disk.new) (λ image. node.place < length image.log)) }
+    ensures on { ((image : Image) → D.images disk.old image → IsSound image)
+        → IfOk result (λ node. IfSome (D.reads_as disk.old) (λ _. IsOn node (D.reads_as disk.new) (D.images disk.new))) }
+    ensures moments { (now : Image) (chain : Chain) → D.reads_as disk.old ≡ Some now → store_of now ≡ Keeps chain → ((image : Image) → D.images disk.old image → IsSound image)
+        → LeavesOnly D.moment D.left_since disk.old disk.new (λ image. D.images disk.old image ⊎ StandsFor chain image) }
+    ensures cause { CountsFault (D.faults disk.old) (D.faults disk.new) (result ≡ Err Status.DiskFault) }
+{
+    match Node::open(alloc, disk) {
+        Ok(node) => Ok(node),
+        Err(stop) => Err(status_of_opening(stop)),
+    }
+}

@@ -1,0 +1,40 @@
+// The command `tip`: the tip of the kept blocks.
+ghost use Rattle.std.specs.Prelude.{◌≡◌, List, ℕ, Option, []};
+ghost use Rattle.outside.specs.Causes.{CountsFault};
+ghost use Rattle.store_defs.specs.Store.{IsOnlyRead};
+ghost use Rattle.report_defs.specs.Status.{IsOneOf};
+ghost use Rattle.report_defs.specs.Promise.{tip_statuses};
+ghost use Rattle.report_defs.specs.declared.command.Command.TheVariants.{Tip};
+ghost use Rattle.node_run.specs.Output.{Took};
+ghost use Rattle.node_run.specs.Store.{Delivers};
+
+use crate::lines::tip_line;
+use crate::output::write_text;
+use crate::store::open;
+use outside::{Disk, Sink};
+use report_defs::Status;
+use std::alloc::Global;
+
+/// Tells the tip of the store.
+pub fn tip<K: Sink, D: Disk>(alloc: Global, out: &mut K, disk: &mut D) -> Status
+    ensures tip { Took (K.taken out.old) (K.taken out.new) (λ taken. (left : Option (List ℕ))
+        → Delivers Tip (D.reads_as disk.old) (D.images disk.old) (D.images disk.new) (D.left_since disk.new (D.moment disk.old)) left [] taken result) }
+    ensures status { IsOneOf tip_statuses result }
+    ensures loses_nothing { result ≡ Status.NotAStore → IsOnlyRead D.reads_as D.images D.moment D.left_since disk.old disk.new }
+    ensures out_faults { CountsFault (K.faults out.old) (K.faults out.new) (result ≡ Status.SinkFault) }
+    ensures disk_faults { CountsFault (D.faults disk.old) (D.faults disk.new) (result ≡ Status.DiskFault) }
+{
+    let node = match open(alloc, disk) {
+        Ok(node) => node,
+        Err(status) => return status,
+    };
+    let tip = node.tip();
+    let line = match tip_line(alloc, tip.number, &tip.hash) {
+        Ok(line) => line,
+        Err(_) => return Status::NoMemory,
+    };
+    match write_text(out, line.as_bytes()) {
+        Ok(()) => Status::Done,
+        Err(status) => status,
+    }
+}
