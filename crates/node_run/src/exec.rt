@@ -56,7 +56,10 @@ fn answer_to(alloc: Global, file: &[u8], budget: u64) -> Result<Answer, NoMemory
             status: Status::ExtraInput,
         });
     }
-    let came = execute(alloc, file, budget)?;
+    let came = match execute(alloc, file, budget) {
+        Ok(came) => came,
+        Err(_) => return Err(NoMemory),
+    };
     let line = execution_line(alloc, &came)?;
     Ok(Answer {
         line,

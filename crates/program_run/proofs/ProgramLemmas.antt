@@ -1,16 +1,18 @@
 -- A run, stop by stop: how it ends, that what is left of it ends as the whole does, and that it ends.
-use Rattle.std.proofs.Common.{◌≡◌, ℕ, ◌+◌, ◌-◌, ◌<◌, true, List, refl, sym, ◌∙◌, ap, arith}
+use Rattle.std.proofs.Common.{◌≡◌, ℕ, ◌+◌, ◌-◌, ◌<◌, ◌≤◌, true, false, List, refl, sym, ◌∙◌, ap, arith}
 use Rattle.std.specs.Prelude.{Option, Some, None, Ok, nat_lt}
 use Rattle.std.proofs.lemmas.Bool.Decides.{nat_tests}
 use Rattle.vm_defs.specs.declared.outcome.Outcome.{Outcome}
 use Rattle.vm_defs.specs.declared.outcome.Outcome.TheVariants.{Spent}
 use Rattle.vm_defs.specs.Elf.{Program, load_elf}
-use Rattle.vm_defs.specs.Step.{Machine}
+use Rattle.vm_defs.specs.Step.{Machine, charged}
 use Rattle.vm_defs.specs.Alone.{answer_ecall}
-use Rattle.vm_defs.specs.Program.{answered, ended_or, execution, loading_cycles, new_machine, run, stop_of, Ended}
-use Rattle.vm_defs.proofs.ProgramLaws.{answer_ecall-keeps, runs-stop-by-stop, stop-goes-on}
-use Rattle.vm_step.specs.Running.{RunningMachine}
-use Rattle.program_run.specs.Program.{Advances}
+use Rattle.vm_defs.specs.Program.{IsReached, answered, ended_or, execution, loading_cycles, new_machine, run, run_loaded, stop_of, Ended}
+use Rattle.vm_defs.proofs.ProgramLaws.{answer_ecall-keeps, reached-by-steps, reached-by-stop, runs-stop-by-stop, stop-goes-on}
+use Rattle.vm_step.specs.Running.{RunningMachine, WantsPage, next_range}
+use Rattle.vm_step.proofs.Going.{has-room-later}
+use Rattle.vm_mem.specs.Pages.{IsAllocated}
+use Rattle.program_run.specs.Program.{Advances, RunWantsPage}
 
 -- what follows a stop: the end, or the run from there
 abbrev after : Option Outcome × Machine → Ended
@@ -38,6 +40,52 @@ cycles-left old new end a is =
     let machine : new.machine ≡ next.1 = ap (λ (next : Option Outcome × Machine). next.1) a.stop in
     let within = stop-goes-on answer_ecall answer_ecall-keeps old.machine ended in
     rw machine (omega (arith, within.0, within.1, within.2))
+
+-- ---- the loop of a run
+
+-- the machine at the start, and where it goes on
+pub record Runs (start now : RunningMachine) : Type 0 where
+  pub goes_on : now.goes_on ≡ true
+  pub same : run answer_ecall now.machine ≡ run answer_ecall start.machine
+  pub reached : IsReached answer_ecall start.machine now.machine
+  pub pages_kept : (page : ℕ) → IsAllocated start.allocated page → IsAllocated now.allocated page
+
+pub runs-none : (start : RunningMachine) → start.goes_on ≡ true → Runs start start
+runs-none start on = record {
+  goes_on = on;
+  same = refl;
+  reached = record { steps = 0; reaches = refl };
+  pages_kept = λ page allocated. allocated;
+}
+
+pub runs-more : (start old new : RunningMachine) (end : Option Outcome) → Runs start old → Advances old new end → end ≡ None
+    → ((page : ℕ) → IsAllocated old.allocated page → IsAllocated new.allocated page) → Runs start new
+runs-more start old new end runs a is pages_kept = record {
+  goes_on = a.goes_on is;
+  same = run-goes-on old new end a is ∙ runs.same;
+  reached = reached-by-stop answer_ecall start.machine old.machine new.machine runs.reached (ap (λ e. (e, new.machine)) (sym is) ∙ a.stop);
+  pages_kept = λ page allocated. pages_kept page (runs.pages_kept page allocated);
+}
+
+-- it is out of memory
+pub run-wants-page : (start old : RunningMachine) (new : Machine) → Runs start old → WantsPage old new
+    → RunWantsPage start.machine start.allocated
+run-wants-page start old new runs wants = record {
+  reached = wants.reached;
+  is_reached = reached-by-steps answer_ecall wants.steps start.machine old.machine wants.reached runs.reached wants.leads;
+  goes = wants.stores.0;
+  no_room = λ has. wants.no_room (has-room-later start old (next_range wants.reached) runs.pages_kept has);
+}
+
+-- ---- the cost of loading
+
+-- the budget pays for the loading
+pub paid-loading : (budget cost : ℕ) (program : Program) → cost ≡ loading_cycles program.file_bytes → cost ≤ budget
+    → run answer_ecall (charged (new_machine program.memory program.pc budget) cost) ≡ run_loaded answer_ecall budget program
+unfolding new_machine
+paid-loading budget cost program is paid =
+    let within : nat_lt budget (0 + loading_cycles program.file_bytes) ≡ false = grind (arith, nat_tests, paid, is) in
+    rw (within, is) refl
 
 -- the loading alone spends the budget
 pub spent-loading : (budget : ℕ) (file : List ℕ) (program : Program) (cost : ℕ) → Ok program ≡ load_elf file → cost ≡ loading_cycles program.file_bytes

@@ -7,4 +7,4 @@
 
 mod program;
 
-pub use program::{Execution, execute};
+pub use program::{Execution, OutOfMemory, execute};

@@ -1,10 +1,12 @@
 // A program's run: what alone touches the machine.
-ghost use Rattle.std.specs.Prelude.{◌≡◌, ◌^◌, ◌≤◌, Some, Ok, true, IfOk, OnErr};
+ghost use Rattle.std.specs.Prelude.{◌≡◌, ℕ, ◌^◌, ◌≤◌, Some, Ok, Err, true, IfOk, OnErr};
 ghost use Rattle.vm_defs.specs.Elf.{load_elf};
 ghost use Rattle.vm_defs.specs.Alone as alone;
 ghost use Rattle.vm_defs.specs.Program as programs;
 ghost use Rattle.vm_defs.specs.Program.{execution, run_loaded};
-ghost use Rattle.program_run.specs.Program.{Advances, PaysForLoading, execution_of};
+ghost use Rattle.vm_mem.specs.Pages.{IsAllocated};
+ghost use Rattle.vm_step.specs.Running.{WantsPage};
+ghost use Rattle.program_run.specs.Program.{Advances, PaysForLoading, ProgramWantsPage, RunWantsPage, execution_of};
 
 use elf_load::{Judged, judge};
 use outside::NoMemory;
@@ -35,15 +37,26 @@ pub enum Execution {
     BadElf(u8),
 }
 
+/// Where memory ran out.
+#[derive(Clone, Copy, Debug, PartialEq, Eq)]
+pub enum OutOfMemory {
+    /// Before the first step.
+    Loading,
+    /// At a step that stores to a page that is not allocated.
+    Running,
+}
+
 /// Runs the program of a file to its end, within a budget in cycles.
 ///
 /// The file is judged, then its loading is paid for, and only then is memory taken and its bytes are copied. So a file
-/// that is no program, or whose loading spends the budget, costs a look at its headers.
+/// that is no program, or whose loading spends the budget, costs a look at its headers. A run is out of memory only
+/// where it comes to a step that stores to a page which its loading did not allocate.
 #[tactic(auto, unfolding(vm_defs::specs::Program::execution))]
-pub fn execute(alloc: Global, file: &[u8], budget: u64) -> Result<Execution, NoMemory>
+pub fn execute(alloc: Global, file: &[u8], budget: u64) -> Result<Execution, OutOfMemory>
     requires { budget ≤ 2 ^ 40 }
     ensures came { IfOk result (λ came. execution_of came ≡ execution alone.answer_ecall budget file.now) }
     ensures paid { OnErr result (PaysForLoading budget (load_elf file.now)) }
+    ensures running { result ≡ Err OutOfMemory.Running → ProgramWantsPage budget (load_elf file.now) }
 {
     let judged = match judge(file) {
         Ok(judged) => judged,
@@ -60,20 +73,40 @@ pub fn execute(alloc: Global, file: &[u8], budget: u64) -> Result<Execution, NoM
 }
 
 /// Places a file that was judged, and runs its program with the cost of loading paid.
-fn run_judged(alloc: Global, judged: &Judged, budget: u64, cost: u64) -> Result<Execution, NoMemory>
+fn run_judged(
+    alloc: Global,
+    judged: &Judged,
+    budget: u64,
+    cost: u64,
+) -> Result<Execution, OutOfMemory>
     requires bound { budget ≤ 2 ^ 40 }
     requires cost { cost ≡ programs.loading_cycles judged.now.file_bytes }
     requires paid { cost ≤ budget }
-    ensures { IfOk result (λ came. execution_of came ≡ Ok (run_loaded alone.answer_ecall budget judged.now)) }
+    ensures came { IfOk result (λ came. execution_of came ≡ Ok (run_loaded alone.answer_ecall budget judged.now)) }
+    ensures running { result ≡ Err OutOfMemory.Running → ProgramWantsPage budget (Ok judged.now) }
 {
-    let mut memory = Memory::new(alloc)?;
-    judged.place(&mut memory)?;
-    let mut machine = Machine::new(memory, judged.pc(), budget);
-    let outcome = run_after(&mut machine, cost)?;
+    let memory = match loaded(alloc, judged) {
+        Ok(memory) => memory,
+        Err(_) => return Err(OutOfMemory::Loading),
+    };
+    let mut machine = Machine::new(memory, judged.pc(), cost, budget);
+    let outcome = match run(&mut machine) {
+        Ok(outcome) => outcome,
+        Err(_) => return Err(OutOfMemory::Running),
+    };
     Ok(Execution::Ended {
         outcome,
         cycles: machine.cycles(),
     })
+}
+
+/// The memory that the program of a file begins with.
+fn loaded(alloc: Global, judged: &Judged) -> Result<Memory, NoMemory>
+    ensures { IfOk result (λ memory. memory.memory ≡ judged.now.memory) }
+{
+    let mut memory = Memory::new(alloc)?;
+    judged.place(&mut memory)?;
+    Ok(memory)
 }
 
 /// What bytes cost that are loaded.
@@ -85,22 +118,11 @@ fn loading_cycles(count: u64) -> u64
     (count + 3) / 4
 }
 
-/// Pays for what was loaded, and runs the machine to its end.
-fn run_after(machine: &mut Machine, cost: u64) -> Result<Outcome, NoMemory>
-    requires goes_on { machine.old.goes_on ≡ true }
-    requires bound { cost ≤ 2 ^ 40 }
-    ensures { IfOk result (λ outcome. (outcome, machine.new.machine.cycles) ≡ programs.run_after alone.answer_ecall cost machine.old.machine) }
-{
-    if !machine.charge(cost) {
-        return Ok(Outcome::Spent);
-    }
-    run(machine)
-}
-
 /// Runs the machine to its end.
 fn run(machine: &mut Machine) -> Result<Outcome, NoMemory>
     requires { machine.old.goes_on ≡ true }
-    ensures { IfOk result (λ outcome. (outcome, machine.new.machine.cycles) ≡ programs.run alone.answer_ecall machine.old.machine) }
+    ensures ends { IfOk result (λ outcome. (outcome, machine.new.machine.cycles) ≡ programs.run alone.answer_ecall machine.old.machine) }
+    ensures wants_page { OnErr result (RunWantsPage machine.old.machine machine.old.allocated) }
 {
     'steps: loop {
         if let Some(outcome) = advance(machine)? {
@@ -113,10 +135,12 @@ fn run(machine: &mut Machine) -> Result<Outcome, NoMemory>
 #[inline(always)]
 fn advance(machine: &mut Machine) -> Result<Option<Outcome>, NoMemory>
     requires { machine.old.goes_on ≡ true }
-    ensures { IfOk result (Advances machine.old machine.new) }
+    ensures advances { IfOk result (Advances machine.old machine.new) }
+    ensures wants_page { OnErr result (WantsPage machine.old machine.new.machine) }
+    ensures pages_kept { (page : ℕ) → IsAllocated machine.old.allocated page → IsAllocated machine.new.allocated page }
 {
     match machine.run() {
-        Step::Went => Ok(None),
+        Step::Went => unreachable!(),
         Step::Ecall => Ok(answer_ecall(machine)),
         Step::Fault(number) => Ok(Some(Outcome::Fault(number))),
         Step::Spent => Ok(Some(Outcome::Spent)),

@@ -1,7 +1,7 @@
 // The corners of memory: ranges over two pages and at its end, and which fault comes first.
 use super::MemFault::{Range, RunData, WriteCode};
 use super::Width::{B1, B2, B4, B8};
-use super::{MemFault, MemStop, Memory, Width};
+use super::{Ins, MemFault, MemStop, Memory, Width};
 use std::process::Abort;
 
 const PAGE: u64 = 4096;
@@ -22,6 +22,16 @@ fn check_load(
 
 fn check_fetch(rt: &impl Abort, memory: &Memory, at: u64, expected: Result<u32, MemFault>) {
     assert!(rt; memory.fetch(at) == expected, "fetch {at}");
+}
+
+fn check_instruction(
+    rt: &impl Abort,
+    memory: &mut Memory,
+    at: u64,
+    expected: Result<Option<(Ins, u8)>, MemFault>,
+) {
+    let found = memory.instruction(at);
+    assert!(rt; found == expected, "instruction {at}");
 }
 
 fn check_store(
@@ -120,6 +130,23 @@ fn pages_of_code(rt: HostRuntime) {
     // ADDI x17, x0, 93, and the two bytes at its end
     check_fetch(&rt, &memory, PAGE, Ok(0x05d0_0893));
     check_fetch(&rt, &memory, PAGE + 2, Ok(0x05d0));
+    let addi = Ins::Addi {
+        rd: 17,
+        rs1: 0,
+        imm: 93,
+    };
+    // decoded, and then kept
+    check_instruction(&rt, &mut memory, PAGE, Ok(Some((addi, 4))));
+    check_instruction(&rt, &mut memory, PAGE, Ok(Some((addi, 4))));
+    // C.ADDI4SPN x12, 708, of two bytes; no instruction; data
+    let stack = Ins::Addi {
+        rd: 12,
+        rs1: 2,
+        imm: 708,
+    };
+    check_instruction(&rt, &mut memory, PAGE + 2, Ok(Some((stack, 2))));
+    check_instruction(&rt, &mut memory, PAGE + 4, Ok(None));
+    check_instruction(&rt, &mut memory, 2 * PAGE, Err(RunData));
     // a pair, and a second pair, that leave the page of code
     check_fetch(&rt, &memory, 2 * PAGE - 1, Err(RunData));
     check_fetch(&rt, &memory, 2 * PAGE - 2, Ok(0x1300));

@@ -71,7 +71,7 @@ fewer-left old new (Fault number) went steps = cc
 fewer-left old new Spent went steps = cc
 fewer-left old new NoMemory went steps = cc
 
-has-room-later : (old now : RunningMachine) (range : Option ByteRange) → ((page : ℕ) → IsAllocated old.allocated page → IsAllocated now.allocated page)
+pub has-room-later : (old now : RunningMachine) (range : Option ByteRange) → ((page : ℕ) → IsAllocated old.allocated page → IsAllocated now.allocated page)
     → HasRoom old.allocated range → HasRoom now.allocated range
 has-room-later old now (Some bytes) pages_kept has = λ i below. pages_kept _ (has i below)
 has-room-later old now None pages_kept has = tt

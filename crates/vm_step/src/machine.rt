@@ -47,12 +47,13 @@ impl Model for Machine {
 impl Machine {
     /// A machine before its first step, with its program in memory and `pc` at the program's entry.
     ///
-    /// All registers are 0 but the stack pointer, x2, which is 0x3ffff0. The budget is the most cycles that the
-    /// program may take.
+    /// All registers are 0 but the stack pointer, x2, which is 0x3ffff0. The cycles are those that its loading took, and
+    /// the budget is the most that there may be.
     #[tactic(auto, unfolding(vm_defs::specs::Program::new_machine, vm_defs::specs::Program::initial_registers))]
-    pub fn new(memory: Memory, pc: u64, budget: u64) -> Machine
-        requires { budget ≤ 2 ^ 40 }
-        ensures machine { result.machine ≡ new_machine memory.memory pc budget }
+    pub fn new(memory: Memory, pc: u64, cycles: u64, budget: u64) -> Machine
+        requires bound { budget ≤ 2 ^ 40 }
+        requires within { cycles ≤ budget }
+        ensures machine { result.machine ≡ charged (new_machine memory.memory pc budget) cycles }
         ensures allocated { result.allocated ≡ memory.allocated }
         ensures goes_on { result.goes_on ≡ true }
     {
@@ -62,7 +63,7 @@ impl Machine {
             memory,
             registers,
             pc,
-            cycles: 0,
+            cycles,
             budget,
             goes_on: true,
         }

@@ -32,7 +32,7 @@ fn memory_with(rt: &impl Abort, alloc: Global, code: &[u32]) -> Memory {
 fn started(rt: &impl Abort, alloc: Global, code: &[u32], x5: u64, x6: u64) -> Machine
     ensures { result.goes_on ≡ true }
 {
-    let mut machine = Machine::new(memory_with(rt, alloc, code), PAGE, 1000);
+    let mut machine = Machine::new(memory_with(rt, alloc, code), PAGE, 0, 1000);
     machine.set_reg(5, x5);
     machine.set_reg(6, x6);
     machine
@@ -66,7 +66,7 @@ fn check_x7(rt: &impl Abort, alloc: Global, word: u32, x5: u64, x6: u64, expecte
 
 #[test]
 fn starts_with_the_stack_pointer_alone(rt: HostRuntime) {
-    let machine = Machine::new(memory_with(&rt, rt.alloc(), &[]), PAGE, 0);
+    let machine = Machine::new(memory_with(&rt, rt.alloc(), &[]), PAGE, 0, 0);
     assert!(&rt; machine.reg(0) == 0 && machine.reg(1) == 0 && machine.reg(3) == 0);
     assert!(&rt; machine.reg(2) == 0x3f_fff0);
     assert!(&rt; machine.reg(31) == 0 && machine.cycles() == 0);
@@ -138,13 +138,13 @@ fn a_branch_below_zero_wraps(rt: HostRuntime) {
     assert!(&rt; copied == Ok(()));
     let marked = memory.set_code(0, 1);
     assert!(&rt; marked == Ok(()));
-    let mut machine = Machine::new(memory, 0, 1000);
+    let mut machine = Machine::new(memory, 0, 0, 1000);
     goes(&rt, &mut machine);
     check(&rt, &mut machine, Step::Fault(1), 3);
 }
 
 fn check_start(rt: &impl Abort, alloc: Global, pc: u64, expected: Step) {
-    let mut machine = Machine::new(memory_with(rt, alloc, &[0]), pc, 1000);
+    let mut machine = Machine::new(memory_with(rt, alloc, &[0]), pc, 0, 1000);
     check(rt, &mut machine, expected, 0);
 }
 
@@ -261,16 +261,33 @@ fn calls_and_compressed_forms(rt: HostRuntime) {
 }
 
 #[test]
+fn runs_up_to_a_step_that_does_not_go(rt: HostRuntime) {
+    // addi x6, x0, 1; ecall; addi x6, x0, 1; no instruction
+    let code = [ADDI_X6_X0_1, 0x0000_0073, ADDI_X6_X0_1, 0];
+    let mut machine = started(&rt, rt.alloc(), &code, 0, 0);
+    match machine.run() {
+        Step::Ecall => {
+            assert!(&rt; machine.reg(6) == 1 && machine.cycles() == 501);
+            machine.set_reg(6, 0);
+            let answer = machine.run();
+            assert!(&rt; answer == Step::Fault(4), "{answer:?}");
+            assert!(&rt; machine.reg(6) == 1 && machine.cycles() == 502);
+        }
+        other => panic!(&rt; "{other:?}"),
+    }
+}
+
+#[test]
 fn the_budget_is_the_most(rt: HostRuntime) {
     let alloc = rt.alloc();
     // at the budget, and one cycle past it
-    let mut machine = Machine::new(memory_with(&rt, alloc, &[ADDI_X6_X0_1]), PAGE, 1);
+    let mut machine = Machine::new(memory_with(&rt, alloc, &[ADDI_X6_X0_1]), PAGE, 0, 1);
     check(&rt, &mut machine, Step::Went, 1);
     assert!(&rt; machine.reg(6) == 1);
-    let mut machine = Machine::new(memory_with(&rt, alloc, &[ADDI_X6_X0_1]), PAGE, 0);
+    let mut machine = Machine::new(memory_with(&rt, alloc, &[ADDI_X6_X0_1]), PAGE, 0, 0);
     check(&rt, &mut machine, Step::Spent, 1);
     assert!(&rt; machine.reg(6) == 0);
-    let mut machine = Machine::new(memory_with(&rt, alloc, &[]), PAGE, 10);
+    let mut machine = Machine::new(memory_with(&rt, alloc, &[]), PAGE, 0, 10);
     if machine.charge(10) {
         assert!(&rt; machine.cycles() == 10);
         assert!(&rt; !machine.charge(1) && machine.cycles() == 11);
