@@ -125,8 +125,10 @@ fn run(machine: &mut Machine) -> Result<Outcome, NoMemory>
     ensures wants_page { OnErr result (RunWantsPage machine.old.machine machine.old.allocated) }
 {
     'steps: loop {
-        if let Some(outcome) = advance(machine)? {
-            return Ok(outcome);
+        match advance(machine) {
+            Ok(Some(outcome)) => return Ok(outcome),
+            Ok(None) => {}
+            Err(_) => return Err(NoMemory),
         }
     }
 }
