@@ -2,3 +2,4 @@ pub mod Numbers
 pub mod Overwritten
 pub mod ProgramLaws
 pub mod CodeLaws
+pub mod ReachLaws

@@ -1,5 +1,5 @@
 -- A run goes step by step, within its budget.
-use Rattle.std.proofs.Common.{◌≡◌, ◌≢◌, ℕ, zero, suc, ◌+◌, ◌-◌, ◌%◌, ◌<◌, ◌≤◌, ◌==◌, Bool, true, false, cond, ℤ, Option, Some, None, Result, Ok, Err, refl, sym, ap, subst, ◌∙◌, lit≤, arith}
+use Rattle.std.proofs.Common.{◌≡◌, ◌≢◌, ℕ, zero, suc, ◌+◌, ◌-◌, ◌%◌, ◌<◌, ◌≤◌, ◌==◌, Bool, true, false, cond, ℤ, Option, Some, None, Result, Ok, Err, refl, ap, ◌∙◌, lit≤, arith}
 use Rattle.std.proofs.lemmas.Bool.Decides.{nat_tests}
 use Rattle.isa_defs.specs.declared.ins.Ins.{Ins}
 use Rattle.isa_defs.specs.declared.ins.Ins.TheVariants.{Jal, Jalr, Beq, Bne, Blt, Bge, Bltu, Bgeu, Lb, Lh, Lw, Ld, Lbu, Lhu, Lwu, Sb, Sh, Sw, Sd, Fence, FenceI, Ecall, Ebreak}
@@ -11,7 +11,7 @@ use Rattle.isa_defs.specs.Instruction.{cycles}
 use Rattle.vm_defs.specs.Memory.{Memory}
 use Rattle.vm_defs.specs.Code.{instruction_at}
 use Rattle.vm_defs.specs.Step.{Machine, with_register, write, jump, branch, loaded, stored, effect, execute, with_instruction, step_of, charged, is_spent}
-use Rattle.vm_defs.specs.Program.{Answer, answered, advance, followed, Leads, Reaches, IsReached, stop_within, stop_of, ended_or, run_for, run, Ended, KeepsAccount, StepHasMemory, StepKeepsAccount, GoesOnWithinBudget, HasStepsEnough, RunsStepByStep, RunsStopByStop, StopsStepByStep}
+use Rattle.vm_defs.specs.Program.{Answer, answered, advance, followed, stop_within, stop_of, ended_or, run_for, run, Ended, KeepsAccount, StepHasMemory, StepKeepsAccount, GoesOnWithinBudget, HasStepsEnough, RunsStepByStep, RunsStopByStop, StopsStepByStep}
 use Rattle.vm_defs.specs.Alone.{answer_ecall, syscall_number}
 
 -- ---- no instruction touches the account
@@ -265,7 +265,7 @@ followed-same one other step.Spent machine same = refl
 followed-same one other step.NoMemory machine same = refl
 
 -- a step that went leaves fewer cycles
-went-left : (machine : Machine) (result : Step) (next : Machine) (n : ℕ) → Pays machine result next → result ≡ step.Went
+pub went-left : (machine : Machine) (result : Step) (next : Machine) (n : ℕ) → Pays machine result next → result ≡ step.Went
     → machine.budget - machine.cycles < suc n → next.budget - next.cycles < n
 went-left machine result next n pays went h =
     let was : WasRun result = rw went tt in
@@ -354,63 +354,6 @@ pub stop-goes-on : (answer : Answer) → KeepsAccount answer → (machine : Mach
 stop-goes-on answer keeps machine =
     let stop = stop_of machine in
     answered-goes-on answer keeps machine stop.0 stop.1 (stop-within-pays (suc (machine.budget - machine.cycles)) machine (omega arith))
-
--- ---- the machines that a run reaches
-
--- the machine whose step is the stop, and the steps that lead to it
-pub record LastOf (machine : Machine) (stop : Step × Machine) : Type 0 where
-  pub steps : ℕ
-  pub last : Machine
-  pub leads : Leads steps machine last
-  pub is : step_of last ≡ stop
-
--- one step that went, and more of them
-leads-after : (steps : ℕ) (machine next to : Machine) → (step.Went, next) ≡ step_of machine → Leads steps next to
-    → Leads (suc steps) machine to
-leads-after zero machine next to went same = (machine, refl, ap (λ (m : Machine). (step.Went, m)) same ∙ went)
-leads-after (suc steps) machine next to went leads = (leads.0, leads-after steps machine next leads.0 went leads.1, leads.2)
-
-followed-last : (n : ℕ) (machine : Machine) (result : Step) (next : Machine) → (result, next) ≡ step_of machine
-    → (result ≡ step.Went → LastOf next (stop_within n next)) → LastOf machine (followed (stop_within n) result next)
-followed-last n machine step.Went next is later =
-    let last = later refl in
-    record { steps = suc last.steps; last = last.last; leads = leads-after last.steps machine next last.last is last.leads; is = last.is }
-followed-last n machine step.Ecall next is later = record { steps = zero; last = machine; leads = refl; is = sym is }
-followed-last n machine (step.Fault number) next is later = record { steps = zero; last = machine; leads = refl; is = sym is }
-followed-last n machine step.Spent next is later = record { steps = zero; last = machine; leads = refl; is = sym is }
-followed-last n machine step.NoMemory next is later = record { steps = zero; last = machine; leads = refl; is = sym is }
-
-last-within : (n : ℕ) (machine : Machine) → machine.budget - machine.cycles < n → LastOf machine (stop_within n machine)
-unfolding stop_within
-last-within zero machine h = absurd (omega arith)
-last-within (suc n) machine h =
-    let next = step_of machine in
-    followed-last n machine next.0 next.1 refl (λ went. last-within n next.1 (went-left machine next.0 next.1 n (step-pays machine) went h))
-
-pub last-of : (machine : Machine) → LastOf machine (stop_of machine)
-last-of machine = last-within (suc (machine.budget - machine.cycles)) machine (omega arith)
-
--- steps that went lead a run on
-pub reached-by-steps : (answer : Answer) (steps : ℕ) (from middle to : Machine) → IsReached answer from middle → Leads steps middle to
-    → IsReached answer from to
-reached-by-steps answer zero from middle to reached same = subst (λ (m : Machine). IsReached answer from m) (sym same) reached
-reached-by-steps answer (suc steps) from middle to reached leads =
-    let before = reached-by-steps answer steps from middle leads.0 reached leads.1 in
-    record {
-      steps = suc before.steps;
-      reaches = (leads.0, before.reaches, ap (λ (next : Step × Machine). answered answer next.0 next.1) leads.2);
-    }
-
--- and so does a stop after which the program goes on
-pub reached-by-stop : (answer : Answer) (from machine to : Machine) → IsReached answer from machine
-    → (let stop = stop_of machine in (None, to) ≡ answered answer stop.0 stop.1) → IsReached answer from to
-reached-by-stop answer from machine to reached is =
-    let last = last-of machine in
-    let before = reached-by-steps answer last.steps from machine last.last reached last.leads in
-    record {
-      steps = suc before.steps;
-      reaches = (last.last, before.reaches, is ∙ ap (λ (next : Step × Machine). answered answer next.0 next.1) (sym last.is));
-    }
 
 -- ---- the answer of a program that runs alone
 

@@ -70,11 +70,6 @@ abbrev pub Reaches : Answer → ℕ → Machine → Machine → Type 0
 Reaches answer zero from to = to ≡ from
 Reaches answer (suc steps) from to = (last : Machine) × Reaches answer steps from last × ((None, to) ≡ advance answer last)
 
--- some number of steps does
-pub record IsReached (answer : Answer) (from to : Machine) : Type 0 where
-  pub steps : ℕ
-  pub reaches : Reaches answer steps from to
-
 -- how a program ended, and after how many cycles
 abbrev pub Ended : Type 0
 Ended = Outcome × ℕ
