@@ -1,18 +1,23 @@
 -- A run, stop by stop: how it ends, that what is left of it ends as the whole does, and that it ends.
-use Rattle.std.proofs.Common.{◌≡◌, ℕ, ◌+◌, ◌-◌, ◌<◌, ◌≤◌, true, false, List, refl, sym, ◌∙◌, ap, arith}
+use Rattle.std.proofs.Common.{◌≡◌, ℕ, suc, ◌+◌, ◌-◌, ◌<◌, ◌≤◌, true, false, List, ◌⊎◌, inl, inr, refl, sym, ◌∙◌, ap, arith}
+use Rattle.std.proofs.lemmas.Bool.{cases_lt}
 use Rattle.std.specs.Prelude.{Option, Some, None, Ok, nat_lt}
 use Rattle.std.proofs.lemmas.Bool.Decides.{nat_tests}
 use Rattle.vm_defs.specs.declared.outcome.Outcome.{Outcome}
 use Rattle.vm_defs.specs.declared.outcome.Outcome.TheVariants.{Spent}
 use Rattle.vm_defs.specs.Elf.{Program, load_elf}
-use Rattle.vm_defs.specs.Step.{Machine, charged}
+use Rattle.vm_defs.specs.declared.step.Step.{Step}
+use Rattle.vm_defs.specs.declared.step.Step.TheVariants.{Went}
+use Rattle.vm_defs.specs.Step.{Machine, charged, step_of}
 use Rattle.vm_defs.specs.Alone.{answer_ecall}
-use Rattle.vm_defs.specs.Program.{IsReached, answered, ended_or, execution, loading_cycles, new_machine, run, run_loaded, stop_of, Ended}
-use Rattle.vm_defs.proofs.ProgramLaws.{answer_ecall-keeps, reached-by-steps, reached-by-stop, runs-stop-by-stop, stop-goes-on}
-use Rattle.vm_step.specs.Running.{RunningMachine, WantsPage, next_range}
-use Rattle.vm_step.proofs.Going.{has-room-later}
+use Rattle.vm_defs.specs.Program.{Reaches, advance, answered, ended_or, execution, loading_cycles, new_machine, run, run_loaded, stop_of, Ended}
+use Rattle.vm_defs.proofs.ProgramLaws.{answer_ecall-keeps, runs-stop-by-stop, stop-goes-on}
+use Rattle.vm_defs.proofs.ReachLaws.{last-of, reaches-more, reached-on-the-way}
+use Rattle.vm_step.specs.Running as steps
+use Rattle.vm_step.specs.Running.{RunningMachine, HasRoom, LeavesRoom, WantsPage, next_range}
+use Rattle.vm_step.proofs.Going.{has-room-later, touched}
 use Rattle.vm_mem.specs.Pages.{IsAllocated}
-use Rattle.program_run.specs.Program.{Advances, RunWantsPage}
+use Rattle.program_run.specs.Program.{Advances, IsStoredBefore, RunWantsPage}
 
 -- what follows a stop: the end, or the run from there
 abbrev after : Option Outcome × Machine → Ended
@@ -47,35 +52,70 @@ cycles-left old new end a is =
 pub record Runs (start now : RunningMachine) : Type 0 where
   pub goes_on : now.goes_on ≡ true
   pub same : run answer_ecall now.machine ≡ run answer_ecall start.machine
-  pub reached : IsReached answer_ecall start.machine now.machine
-  pub pages_kept : (page : ℕ) → IsAllocated start.allocated page → IsAllocated now.allocated page
+  pub steps : ℕ
+  pub reaches : Reaches answer_ecall steps start.machine now.machine
+  pub room : (before : ℕ) (reached : Machine) → before < steps → Reaches answer_ecall before start.machine reached
+      → (step_of reached).0 ≡ Went → HasRoom now.allocated (next_range reached)
 
 pub runs-none : (start : RunningMachine) → start.goes_on ≡ true → Runs start start
 runs-none start on = record {
   goes_on = on;
   same = refl;
-  reached = record { steps = 0; reaches = refl };
-  pages_kept = λ page allocated. allocated;
+  steps = 0;
+  reaches = refl;
+  room = λ before reached below. absurd (omega (arith, below));
 }
 
+-- the steps up to a stop, and the one that stopped
 pub runs-more : (start old new : RunningMachine) (end : Option Outcome) → Runs start old → Advances old new end → end ≡ None
-    → ((page : ℕ) → IsAllocated old.allocated page → IsAllocated new.allocated page) → Runs start new
-runs-more start old new end runs a is pages_kept = record {
-  goes_on = a.goes_on is;
-  same = run-goes-on old new end a is ∙ runs.same;
-  reached = reached-by-stop answer_ecall start.machine old.machine new.machine runs.reached (ap (λ e. (e, new.machine)) (sym is) ∙ a.stop);
-  pages_kept = λ page allocated. pages_kept page (runs.pages_kept page allocated);
-}
+    → ((page : ℕ) → IsAllocated old.allocated page → IsAllocated new.allocated page) → LeavesRoom old.machine new.allocated → Runs start new
+runs-more start old new end runs a is pages_kept room =
+    let last = last-of old.machine in
+    let all = reaches-more answer_ecall runs.steps last.steps start.machine old.machine last.last runs.reaches last.leads in
+    let step : (None, new.machine) ≡ advance answer_ecall last.last =
+    ap (λ e. (e, new.machine)) (sym is) ∙ a.stop ∙ ap (λ (next : Step × Machine). answered answer_ecall next.0 next.1) (sym last.is) in
+    record {
+      goes_on = a.goes_on is;
+      same = run-goes-on old new end a is ∙ runs.same;
+      steps = suc all.0;
+      reaches = (last.last, all.2, step);
+      room = λ before reached below reaches went. elim (cases_lt before runs.steps) [
+        | inl fewer ↦ has-room-later old new (next_range reached) pages_kept (runs.room before reached fewer reaches went)
+        | inr later ↦ room (before - runs.steps) reached
+            (reached-on-the-way answer_ecall runs.steps last.steps before start.machine old.machine last.last reached runs.reaches last.leads
+            later (omega (arith, below, all.1)) reaches) went
+      ];
+    }
+
+-- what the run stored to before is allocated, or was stored to in the steps up to the stop
+stored-since : (start old : RunningMachine) (new : Machine) (page end : ℕ) (runs : Runs start old) (wants : WantsPage old new)
+    → end ≡ runs.steps + wants.steps → IsStoredBefore end start.machine page
+    → IsAllocated old.allocated page ⊎ steps.IsStoredBefore wants.steps old.machine page
+stored-since start old new page end runs wants is stored =
+    elim (cases_lt stored.steps runs.steps) [
+      | inl fewer ↦ inl (touched old.allocated (next_range stored.reached) page
+          (runs.room stored.steps stored.reached fewer stored.reaches stored.goes) stored.touches)
+      | inr later ↦ inr (record {
+        steps = stored.steps - runs.steps;
+        before = omega (arith, stored.before, is, later);
+        reached = stored.reached;
+        leads = reached-on-the-way answer_ecall runs.steps wants.steps stored.steps start.machine old.machine wants.reached stored.reached
+            runs.reaches wants.leads later (omega (arith, stored.before, is)) stored.reaches;
+        touches = stored.touches;
+      })
+    ]
 
 -- it is out of memory
-pub run-wants-page : (start old : RunningMachine) (new : Machine) → Runs start old → WantsPage old new
-    → RunWantsPage start.machine start.allocated
-run-wants-page start old new runs wants = record {
-  reached = wants.reached;
-  is_reached = reached-by-steps answer_ecall wants.steps start.machine old.machine wants.reached runs.reached wants.leads;
-  goes = wants.stores.0;
-  no_room = λ has. wants.no_room (has-room-later start old (next_range wants.reached) runs.pages_kept has);
-}
+pub run-wants-page : (start old : RunningMachine) (new : Machine) → Runs start old → WantsPage old new → RunWantsPage start.machine
+run-wants-page start old new runs wants =
+    let all = reaches-more answer_ecall runs.steps wants.steps start.machine old.machine wants.reached runs.reaches wants.leads in
+    record {
+      steps = all.0;
+      reached = wants.reached;
+      reaches = all.2;
+      goes = wants.stores.0;
+      new_page = λ has. wants.new_page (λ page touches. stored-since start old new page all.0 runs wants all.1 (has page touches));
+    }
 
 -- ---- the cost of loading
 

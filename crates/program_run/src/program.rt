@@ -1,11 +1,11 @@
 // A program's run: what alone touches the machine.
-ghost use Rattle.std.specs.Prelude.{◌≡◌, ℕ, ◌^◌, ◌≤◌, Some, Ok, Err, true, IfOk, OnErr};
+ghost use Rattle.std.specs.Prelude.{◌≡◌, ℕ, ◌^◌, ◌≤◌, Some, Ok, Err, true, IfOk, OnErr, OnOk};
 ghost use Rattle.vm_defs.specs.Elf.{load_elf};
 ghost use Rattle.vm_defs.specs.Alone as alone;
 ghost use Rattle.vm_defs.specs.Program as programs;
 ghost use Rattle.vm_defs.specs.Program.{execution, run_loaded};
 ghost use Rattle.vm_mem.specs.Pages.{IsAllocated};
-ghost use Rattle.vm_step.specs.Running.{WantsPage};
+ghost use Rattle.vm_step.specs.Running.{LeavesRoom, WantsPage};
 ghost use Rattle.program_run.specs.Program.{Advances, PaysForLoading, ProgramWantsPage, RunWantsPage, execution_of};
 
 use elf_load::{Judged, judge};
@@ -42,7 +42,7 @@ pub enum Execution {
 pub enum OutOfMemory {
     /// Before the first step.
     Loading,
-    /// At a step that stores to a page that is not allocated.
+    /// At a step that stores to a page which is not allocated.
     Running,
 }
 
@@ -50,7 +50,7 @@ pub enum OutOfMemory {
 ///
 /// The file is judged, then its loading is paid for, and only then is memory taken and its bytes are copied. So a file
 /// that is no program, or whose loading spends the budget, costs a look at its headers. A run is out of memory only
-/// where it comes to a step that stores to a page which its loading did not allocate.
+/// where it comes to a step that stores to a page which no step before stored to.
 #[tactic(auto, unfolding(vm_defs::specs::Program::execution))]
 pub fn execute(alloc: Global, file: &[u8], budget: u64) -> Result<Execution, OutOfMemory>
     requires { budget ≤ 2 ^ 40 }
@@ -122,7 +122,7 @@ fn loading_cycles(count: u64) -> u64
 fn run(machine: &mut Machine) -> Result<Outcome, NoMemory>
     requires { machine.old.goes_on ≡ true }
     ensures ends { IfOk result (λ outcome. (outcome, machine.new.machine.cycles) ≡ programs.run alone.answer_ecall machine.old.machine) }
-    ensures wants_page { OnErr result (RunWantsPage machine.old.machine machine.old.allocated) }
+    ensures wants_page { OnErr result (RunWantsPage machine.old.machine) }
 {
     'steps: loop {
         match advance(machine) {
@@ -139,6 +139,7 @@ fn advance(machine: &mut Machine) -> Result<Option<Outcome>, NoMemory>
     requires { machine.old.goes_on ≡ true }
     ensures advances { IfOk result (Advances machine.old machine.new) }
     ensures wants_page { OnErr result (WantsPage machine.old machine.new.machine) }
+    ensures room { OnOk result (LeavesRoom machine.old.machine machine.new.allocated) }
     ensures pages_kept { (page : ℕ) → IsAllocated machine.old.allocated page → IsAllocated machine.new.allocated page }
 {
     match machine.run() {

@@ -1,5 +1,5 @@
 -- A machine that runs: what contracts see of it, and what a step of it does.
-use Rattle.std.specs.Prelude.{◌≡◌, ◌≢◌, ◌⊎◌, ℕ, ℤ, Bool, true, false, List, Option, Some, None, IfSome, Result, Ok, Err, if◌then◌else◌}
+use Rattle.std.specs.Prelude.{◌≡◌, ◌≢◌, ◌⊎◌, ℕ, ◌<◌, ℤ, Bool, true, false, List, Option, Some, None, IfSome, Result, Ok, Err, if◌then◌else◌}
 use Rattle.isa_defs.specs.declared.ins.Ins.{Ins}
 use Rattle.isa_defs.specs.declared.ins.Ins.TheVariants.{Sb, Sh, Sw, Sd}
 use Rattle.vm_defs.specs.declared.memory.MemFault.{MemFault}
@@ -89,14 +89,27 @@ pub record IsStoredTo (machine : Machine) (page : ℕ) : Type 0 where
   pub leads : Leads steps machine reached
   pub touches : Touches (next_range reached) page
 
+-- one of so many first steps does
+pub record IsStoredBefore (end : ℕ) (machine : Machine) (page : ℕ) : Type 0 where
+  pub steps : ℕ
+  pub before : steps < end
+  pub reached : Machine
+  pub leads : Leads steps machine reached
+  pub touches : Touches (next_range reached) page
+
 -- They were made up to one that stores to a page which could not be made: the machine that they lead to, whose step
--- would have gone, and what is left of it.
+-- would have gone, and what is left of it. Not all of its pages were allocated, at the start or by a step before it.
 pub record WantsPage (old : RunningMachine) (new : Machine) : Type 0 where
   pub steps : ℕ
   pub reached : Machine
   pub leads : Leads steps old.machine reached
   pub stores : IsStep (step_of reached) reached new NoMemory
-  pub no_room : HasRoom old.allocated (next_range reached) → ⊥
+  pub new_page : ((page : ℕ) → Touches (next_range reached) page → IsAllocated old.allocated page ⊎ IsStoredBefore steps old.machine page) → ⊥
+
+-- The pages are allocated that a step stored to, of those that went.
+abbrev pub LeavesRoom : Machine → List Bool → Type 0
+LeavesRoom machine allocated = (steps : ℕ) (last : Machine) → Leads steps machine last → (step_of last).0 ≡ Went
+    → HasRoom allocated (next_range last)
 
 -- The machine before and after, and the answer to the last step.
 abbrev pub Stops : RunningMachine → Machine → Step → Type 0

@@ -5,7 +5,7 @@ ghost use Rattle.vm_defs.specs.Program.{new_machine};
 ghost use Rattle.vm_defs.specs.Step.{charged, is_spent, register, step_of, with_register};
 ghost use Rattle.vm_mem.specs.Pages.{IsAllocated};
 ghost use Rattle.vm_step.specs.Lending.{LendsMemory};
-ghost use Rattle.vm_step.specs.Running.{HasRoom, IsStep, IsStoredTo, Stops, Touches, goes_on_after, machine_at, next_range};
+ghost use Rattle.vm_step.specs.Running.{HasRoom, IsStep, IsStoredTo, LeavesRoom, Stops, Touches, goes_on_after, machine_at, next_range};
 
 use super::fault::{NO_INSTRUCTION, fault_number};
 use std::marker::Model;
@@ -94,13 +94,14 @@ impl Machine {
 
     /// Steps up to the first whose answer is not `Went`, and that answer.
     ///
-    /// `NoMemory` comes only where the next step stores to a page that was not allocated. No page is allocated but
-    /// those that a step stores to.
+    /// `NoMemory` comes only where the next step stores to a page that was not allocated, and that no step before stored
+    /// to. No page is allocated but those that a step stores to.
     #[inline(never)]
     pub fn run(&mut self) -> Step
         requires { self.old.goes_on ≡ true }
         ensures stops { Stops self.old self.new.machine result }
         ensures goes_on { self.new.goes_on ≡ goes_on_after result }
+        ensures room { result ≢ Step.NoMemory → LeavesRoom self.old.machine self.new.allocated }
         ensures pages_kept { (page : ℕ) → IsAllocated self.old.allocated page → IsAllocated self.new.allocated page }
         ensures pages_added { (page : ℕ) → IsAllocated self.new.allocated page → IsAllocated self.old.allocated page ⊎ IsStoredTo self.old.machine page }
     {

@@ -24,4 +24,4 @@ steps-smaller c = cycles-left c.steps.machine c.advance.new.machine c.in-Ok-None
 pub steps-preserved : goal.steps-preserved
 steps-preserved c =
     runs-more c.args.machine.now c.steps.machine c.advance.new.machine c.in-Ok-None.field-0 c.steps.invariant c.in-Ok-None.ensures.advances
-    c.in-Ok-None.field-0-is c.advance.ensures.pages_kept
+    c.in-Ok-None.field-0-is c.advance.ensures.pages_kept c.in-Ok-None.ensures.room
