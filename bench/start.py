@@ -18,7 +18,7 @@ import sys
 import tempfile
 
 import chaingen
-from exec import FLAGS, HERE, run
+from exec import BUDGET, FLAGS, HERE, run
 
 CYCLES = 505        # 3 of loading, 1 and 1, and 500 of ECALL
 MOST = 20.0
@@ -50,7 +50,7 @@ def main():
             if shutil.which(compiler):
                 to = os.path.join(folder, 'rvref-' + compiler)
                 subprocess.run([compiler] + FLAGS + [os.path.join(HERE, 'rvref.c'), '-o', to], check=True)
-                programs['rvref ' + compiler] = [to, '-', '1000000', starts]
+                programs['rvref ' + compiler] = [to, '-', BUDGET, starts]
         best = {}
         for _ in range(a.rounds):
             for name, words in programs.items():

@@ -1,9 +1,9 @@
 -- The immediates of the full forms have the bits of their formats.
-use Rattle.std.proofs.Common.{◌≡◌, ℕ, ◌+◌, ◌*◌, ◌/◌, ◌%◌, ◌^◌, ◌<◌, ◌==◌, ℤ, pos, Bool, true, false, cond, List, [], ◌∷◌, Option, Some, None, IfSome, refl, sym, ap, subst, lit<, arith}
+use Rattle.std.proofs.Common.{◌≡◌, ℕ, ◌+◌, ◌/◌, ◌%◌, ◌^◌, ◌<◌, ◌==◌, Bool, true, false, cond, List, [], ◌∷◌, Option, Some, None, IfSome, refl, ap, subst, lit<, arith}
 use Rattle.std.specs.Option.{option_map}
 use Rattle.std.proofs.lemmas.Nat.{mod_below}
 use Rattle.isa_defs.specs.declared.ins.Ins.{Ins}
-use Rattle.isa_defs.specs.Instruction.{bits, part, sign_extended, HasRegisters, HasImmediate, IsImmediate, IsAmount, FitsFormat}
+use Rattle.isa_defs.specs.Instruction.{bits, part, HasRegisters, HasImmediate, IsImmediate, IsAmount, FitsFormat}
 use Rattle.isa_defs.specs.Row.{Row, matches, encoded_in}
 use Rattle.isa_defs.specs.Table.{full_forms, i_immediate, s_immediate, b_immediate, u_immediate, j_immediate, shift_amount, word_shift_amount}
 use Rattle.isa_defs.specs.Compressed.{compressed_forms}

@@ -1,5 +1,5 @@
 -- The two halves of a product.
-use Rattle.std.proofs.Common.{◌≡◌, ℕ, suc, ◌+◌, ◌-◌, ◌*◌, ◌/◌, ◌%◌, ◌^◌, ◌<◌, ◌≤◌, ◌⊎◌, inl, inr, ℤ, pos, negsuc, ◌+ℤ◌, ◌*ℤ◌, w64, to_z, of_z, FitsSigned, refl, sym, ap, ◌∙◌, lit<, arith}
+use Rattle.std.proofs.Common.{◌≡◌, ℕ, suc, ◌+◌, ◌-◌, ◌*◌, ◌/◌, ◌%◌, ◌^◌, ◌<◌, ◌≤◌, ◌⊎◌, inl, inr, ℤ, pos, negsuc, ◌+ℤ◌, ◌*ℤ◌, w64, of_z, FitsSigned, refl, sym, ap, ◌∙◌, lit<, arith}
 use Rattle.std.specs.Prelude.{nat_lt, false}
 use Rattle.std.specs.Int.{w128, int_shr, int_rem_euclid, int_wrap}
 use Rattle.std.specs.Int.RustNames.{unsigned_abs}
@@ -101,8 +101,8 @@ mixed-low a b below =
     elim (signed-is a below) [
       | inl is ↦ rw is.1 (sym (int_rem_euclid_is (pos (a * b)) (pos (2 ^ 64)) (2 ^ 64) 0 (a * b) (lit< tt) refl (omega (arith, ints))))
       | inr is ↦ (
-        let sum : suc is.0 * b + a * b ≡ b * 2 ^ 64 = sym (add-mul (suc is.0) a b) ∙ rw is.1.sum (omega arith) in
-        rw is.1.is (sym (int_rem_euclid_is (negsuc is.0 *ℤ pos b) (pos (2 ^ 64)) (2 ^ 64) b (a * b) (lit< tt) refl (opposite (suc is.0 * b) (a * b) (b * 2 ^ 64) sum))))
+          let sum : suc is.0 * b + a * b ≡ b * 2 ^ 64 = sym (add-mul (suc is.0) a b) ∙ rw is.1.sum (omega arith) in
+          rw is.1.is (sym (int_rem_euclid_is (negsuc is.0 *ℤ pos b) (pos (2 ^ 64)) (2 ^ 64) b (a * b) (lit< tt) refl (opposite (suc is.0 * b) (a * b) (b * 2 ^ 64) sum))))
     ]
 
 pub mixed-halves : MixedHalves

@@ -11,7 +11,7 @@ use std::process::ExitCode;
 use std::{env, io};
 use vm_defs::Outcome;
 
-const BUDGET: u64 = 1_000_000;
+const BUDGET: u64 = 1 << 40;
 
 fn main(rt: HostRuntime) -> io::Result<ExitCode> {
     let alloc = rt.alloc();

@@ -1,5 +1,5 @@
 -- Code stays as it is.
-use Rattle.std.proofs.Common.{◌≡◌, ◌⊎◌, inl, inr, ℕ, zero, suc, ◌+◌, ◌-◌, ◌*◌, ◌/◌, ◌%◌, ◌==◌, ◌<◌, ◌≤◌, Bool, true, false, cond, List, [], ◌∷◌, ◌++◌, length, take, drop, replicate, get_or, slice_range, Option, Some, Result, Ok, Err, refl, sym, ap, ◌∙◌, subst, arith}
+use Rattle.std.proofs.Common.{◌≡◌, ◌⊎◌, inl, inr, ℕ, zero, suc, ◌+◌, ◌-◌, ◌*◌, ◌/◌, ◌%◌, ◌==◌, ◌<◌, ◌≤◌, Bool, true, false, cond, List, [], ◌∷◌, ◌++◌, length, take, drop, replicate, get_or, slice_range, Option, Result, Ok, Err, refl, sym, ap, ◌∙◌, arith}
 use Rattle.std.specs.List.{list_any, list_all}
 use Rattle.std.proofs.lemmas.Bool.{cases_lt, false≢true}
 use Rattle.std.proofs.lemmas.Bool.Decides.{nat_tests}
@@ -7,7 +7,6 @@ use Rattle.std.proofs.lemmas.List.{length-append, length-drop, length-replicate,
 use Rattle.std.proofs.lemmas.List.Folds.{list_any_at, list_all_at}
 use Rattle.std.proofs.lemmas.List.Sums.{list_all-from_AllPass}
 use Rattle.isa_defs.specs.declared.ins.Ins.{Ins}
-use Rattle.isa_defs.specs.Decode.{decode}
 use Rattle.vm_defs.specs.declared.memory.PageKind.{PageKind}
 use Rattle.vm_defs.specs.declared.memory.PageKind.TheVariants.{Data, Code}
 use Rattle.vm_defs.specs.declared.memory.MemFault.{MemFault}

@@ -1,5 +1,5 @@
 -- The machines that steps, and runs, come to.
-use Rattle.std.proofs.Common.{◌≡◌, ℕ, zero, suc, ◌+◌, ◌-◌, ◌<◌, ◌≤◌, inl, inr, Option, None, refl, sym, ap, subst, ◌∙◌, arith}
+use Rattle.std.proofs.Common.{◌≡◌, ℕ, zero, suc, ◌+◌, ◌-◌, ◌<◌, ◌≤◌, inl, inr, Option, refl, sym, ap, subst, ◌∙◌, arith}
 use Rattle.std.proofs.lemmas.Bool.{cases_lt}
 use Rattle.vm_defs.specs.declared.outcome.Outcome.{Outcome}
 use Rattle.vm_defs.specs.declared.step.Step.{Step}
@@ -76,8 +76,7 @@ pub reaches-more : (answer : Answer) (steps more : ℕ) (from middle to : Machin
 reaches-more answer steps zero from middle to reaches same =
     (steps, omega arith, subst (λ (machine : Machine). Reaches answer steps from machine) (sym same) reaches)
 reaches-more answer steps (suc more) from middle to reaches leads =
-    let before = reaches-more answer steps more from middle leads.0 reaches leads.1 in
-    (
+    let before = reaches-more answer steps more from middle leads.0 reaches leads.1 in (
       suc before.0,
       omega (arith, before.1),
       (leads.0, before.2, ap (λ (next : Step × Machine). answered answer next.0 next.1) leads.2),

@@ -1,6 +1,6 @@
 -- What is run: the instruction at an address, and that it stays as it is, since no page is written and run (RFC 0003,
 -- "W^X Memory").
-use Rattle.std.specs.Prelude.{◌≡◌, ℕ, ◌*◌, ◌%◌, List, length, Option, Result, Ok, Err}
+use Rattle.std.specs.Prelude.{◌≡◌, ℕ, List, length, Option, Result, Ok, Err}
 use Rattle.isa_defs.specs.declared.ins.Ins.{Ins}
 use Rattle.isa_defs.specs.Decode.{decode}
 use Rattle.vm_defs.specs.declared.memory.MemFault.{MemFault}

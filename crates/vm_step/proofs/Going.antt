@@ -63,9 +63,9 @@ room-more start now new going pages_kept room before reached below leads =
     elim (cases_lt before going.steps) [
       | inl fewer ↦ has-room-later now new (next_range reached) pages_kept (going.room before reached fewer leads)
       | inr all ↦ (
-        let count : before ≡ going.steps = omega (arith, below, all) in
-        let same = leads-same going.steps start.machine now.machine reached going.leads (subst (λ n. Leads n start.machine reached) count leads) in
-        subst (λ (machine : Machine). HasRoom new.allocated (next_range machine)) same room)
+          let count : before ≡ going.steps = omega (arith, below, all) in
+          let same = leads-same going.steps start.machine now.machine reached going.leads (subst (λ n. Leads n start.machine reached) count leads) in
+          subst (λ (machine : Machine). HasRoom new.allocated (next_range machine)) same room)
     ]
 
 -- no step of the machine went that stopped
@@ -88,12 +88,12 @@ leaves-room start now new answer going other some step pages_kept steps last lea
     elim (cases_lt steps going.steps) [
       | inl fewer ↦ has-room-later now new (next_range last) pages_kept (going.room steps last fewer leads)
       | inr more ↦ (
-        let all : Leads (suc steps) start.machine (step_of last).1 = (last, leads, went-to last went) in
-        let next = leads-prefix (suc going.steps) (suc steps) start.machine (step_of last).1 (omega (arith, more)) all in
-        let same = leads-same going.steps start.machine next.1.0 now.machine next.1.1 going.leads in
-        let step-went : (step_of now.machine).0 ≡ Went =
-        ap (λ (machine : Machine). (step_of machine).0) (sym same) ∙ ap (λ (next : Step × Machine). next.0) (sym next.1.2) in
-        absurd (not-went now.machine new.machine answer other some step step-went))
+          let all : Leads (suc steps) start.machine (step_of last).1 = (last, leads, went-to last went) in
+          let next = leads-prefix (suc going.steps) (suc steps) start.machine (step_of last).1 (omega (arith, more)) all in
+          let same = leads-same going.steps start.machine next.1.0 now.machine next.1.1 going.leads in
+          let step-went : (step_of now.machine).0 ≡ Went =
+          ap (λ (machine : Machine). (step_of machine).0) (sym same) ∙ ap (λ (next : Step × Machine). next.0) (sym next.1.2) in
+          absurd (not-went now.machine new.machine answer other some step step-went))
     ]
 
 -- ---- one more step

@@ -14,8 +14,8 @@ returns-then-file-gt-FILE_LIMIT-clause-status c =
 
 pub returns-clause-line : goal.returns-clause-line
 returns-clause-line c =
-    (done_report c.args.budget c.args.file.now (string_bytes c.in_ok-text-2.text) Done (omega (arith, limit_is)) (c.in_ok-text-2.ensures ∙ ap execution_line c.in_ok-came.ensures.came) refl).0
+    (done_report c.args.budget c.args.file.now (string_bytes c.in_ok-text-2.text) Done (omega (arith, limit_is)) (c.in_ok-text-2.ensures ∙ ap execution_line c.in-Ok.ensures.came) refl).0
 
 pub returns-clause-status : goal.returns-clause-status
 returns-clause-status c =
-    (done_report c.args.budget c.args.file.now (string_bytes c.in_ok-text-2.text) Done (omega (arith, limit_is)) (c.in_ok-text-2.ensures ∙ ap execution_line c.in_ok-came.ensures.came) refl).1
+    (done_report c.args.budget c.args.file.now (string_bytes c.in_ok-text-2.text) Done (omega (arith, limit_is)) (c.in_ok-text-2.ensures ∙ ap execution_line c.in-Ok.ensures.came) refl).1
