@@ -1,19 +1,25 @@
 //! Runs the program on each row of its standard input.
 //!
-//! A row has five columns, with a tab between two: a name, the words behind the folder, the number of the status that is
-//! wanted, the input and the text that is wanted, both in hex (`-` for no bytes, `=` for the input of the row before). The
-//! wanted texts were made by a program that was written from the rules of docs/COMMANDS.md and docs/MACHINE.md alone, those
-//! of the last 27 rows by hand from the same rules. Four more rows, of two files of 1 MiB that were made to be slow to load,
-//! are made here; bench/hostile.py works out their texts. Each row is run over streams in memory. The program prints each
-//! row that differs with the status that it got, and how many agree; its status is 1 where one differs.
+//! A row of a run has five or six columns, with a tab between two: a name, the words behind the folder, the number of the
+//! status that is wanted, the input and the text that is wanted, both in hex (`-` for no bytes, `=` for the input of the row
+//! before), and what LOG must be afterwards: an offset, a colon, and the SHA-256 of its bytes up to there. Behind a row `folder`
+//! the runs are over a new one, and a row `put` puts bytes in place of LOG, SNAP_A or SNAP_B. What is wanted was made by
+//! a program that was written from the rules of docs/ alone, and of the last rows of `exec` by hand from the same rules. Four
+//! more rows, of two files of 1 MiB that were made to be slow to load, are made here; bench/hostile.py works out their texts.
+//! Each row is run over streams and a disk in memory. The program prints each row that differs with the status that it got,
+//! and how many agree; its status is 1 where one differs.
 #![tactic(auto)]
 
+mod folder;
 mod hostile;
+mod row;
 
 ghost use Rattle.std.specs.Prelude.{◌≡◌, ◌<◌};
 
+use folder::{is_log, put};
 use node_run::run;
-use outside::{MemSink, MemSource, NoDisk, Steps};
+use outside::{MemDisk, MemSink, MemSource, Steps};
+use row::{Call, Row, row_of};
 use std::alloc::{AllocError, Global};
 use std::io;
 use std::io::{BufRead, BufReader};
@@ -21,62 +27,25 @@ use std::marker::Brand;
 use std::process::ExitCode;
 use std::sync::ledger::{Blank, Ledger};
 
-#[derive(Drop)]
-struct Row {
-    words: Vec<String>,
-    status: u8,
-    input: Vec<u8>,
-    text: Vec<u8>,
-}
+/// The longest LOG of a row, in bytes.
+const LOG_LIMIT: usize = 1 << 20;
 
-fn bytes_of(alloc: Global, digits: &str) -> Option<Vec<u8>> {
-    if digits == "-" {
-        return Some(Vec::new(alloc));
-    }
-    hex::decode(alloc, digits).ok()
-}
-
-/// A folder, and the words behind it.
-fn words_of(alloc: Global, words: &str) -> Result<Vec<String>, AllocError> {
-    let mut owned = Vec::new(alloc);
-    owned.push(String::from_str(alloc, "any")?)?;
-    for word in words.split(' ') {
-        owned.push(String::from_str(alloc, word)?)?;
-    }
-    Ok(owned)
-}
-
-/// The row that a line spells, without its name.
-fn row_of(alloc: Global, columns: &str, last_input: &[u8]) -> Option<Row> {
-    let (words, rest) = columns.split_once('\t')?;
-    let (status, rest) = rest.split_once('\t')?;
-    let (input, text) = rest.split_once('\t')?;
-    Some(Row {
-        words: words_of(alloc, words).ok()?,
-        status: status.parse().ok()?,
-        input: if input == "=" {
-            last_input.to_vec(alloc).ok()?
-        } else {
-            bytes_of(alloc, input)?
-        },
-        text: bytes_of(alloc, text)?,
-    })
-}
-
-/// The status that the run ends with, and whether that and its text are the row's.
+/// The status that the run ends with, and whether that, its text and LOG are the row's.
 fn compare<L: Ledger>(
     alloc: Global,
+    disk: &mut MemDisk,
     steps: &mut Steps<L>,
-    row: &Row,
+    call: &Call,
 ) -> Result<(u8, bool), AllocError> {
-    let mut input = MemSource::new(row.input.clone()?, Vec::new(alloc));
+    let mut input = MemSource::new(call.input.clone()?, Vec::new(alloc));
     let mut out = MemSink::new(alloc, Vec::new(alloc));
-    let mut disk = NoDisk::new();
-    let status = run(alloc, &row.words, &mut input, &mut out, &mut disk, steps).number();
-    Ok((
-        status,
-        status == row.status && out.taken() == row.text.as_slice(),
-    ))
+    let status = run(alloc, &call.words, &mut input, &mut out, disk, steps).number();
+    let agrees = status == call.status && out.taken() == call.text.as_slice();
+    let Some(front) = &call.log else {
+        return Ok((status, agrees));
+    };
+    let mut log = vec![in alloc; 0u8; LOG_LIMIT]?;
+    Ok((status, agrees && is_log(disk, &mut log, front)))
 }
 
 /// A row of `exec` within a budget, with its text.
@@ -85,16 +54,17 @@ fn row_of_exec(
     budget: &str,
     input: Vec<u8>,
     text: &[u8],
-) -> Result<Row, AllocError> {
+) -> Result<Call, AllocError> {
     let mut words = Vec::new(alloc);
     for word in ["any", "exec", budget] {
         words.push(String::from_str(alloc, word)?)?;
     }
-    Ok(Row {
+    Ok(Call {
         words,
         status: 0,
         input,
         text: text.to_vec(alloc)?,
+        log: None,
     })
 }
 
@@ -106,9 +76,10 @@ fn agreed_hostile<L: Ledger>(alloc: Global, steps: &mut Steps<L>) -> Result<u64,
         row_of_exec(alloc, "256", hostile::zeros(alloc)?, b"fault 3 256\n")?,
         row_of_exec(alloc, "255", hostile::zeros(alloc)?, b"spent\n")?,
     ];
+    let mut disk = MemDisk::new(alloc, Vec::new(alloc));
     let mut agreed = 0u64;
     for row in &rows {
-        if compare(alloc, steps, row)?.1 {
+        if compare(alloc, &mut disk, steps, row)?.1 {
             agreed = agreed.saturating_add(1);
         }
     }
@@ -122,27 +93,39 @@ fn run_rows<L: Ledger>(rt: HostRuntime, blank: Blank) -> io::Result<ExitCode>
 {
     let alloc = rt.alloc();
     let mut steps = Steps::<L>::new(blank);
+    let mut disk = MemDisk::new(alloc, Vec::new(alloc));
     let mut rows = 0u64;
     let mut agreed = 0u64;
     let mut input = Vec::new(alloc);
     for line in BufReader::new(alloc, rt.reader())?.lines(alloc) {
         let line = line?;
-        rows = rows.saturating_add(1);
         let Some((name, columns)) = line.split_once('\t') else {
             println!(rt; "no row: {line}")?;
-            continue;
+            return Ok(ExitCode::FAILURE);
         };
-        let Some(row) = row_of(alloc, columns, &input) else {
-            println!(rt; "no row: {name}")?;
-            continue;
-        };
-        let (status, agrees) = compare(alloc, &mut steps, &row)?;
-        if agrees {
-            agreed = agreed.saturating_add(1);
-        } else {
-            println!(rt; "differs: {name}, with status {status}")?;
+        match row_of(alloc, name, columns, &input) {
+            None => {
+                println!(rt; "no row: {name}")?;
+                return Ok(ExitCode::FAILURE);
+            }
+            Some(Row::Folder) => disk = MemDisk::new(alloc, Vec::new(alloc)),
+            Some(Row::Put(area, bytes)) => {
+                if put(&mut disk, area, &bytes).is_err() {
+                    println!(rt; "not put: {columns}")?;
+                    return Ok(ExitCode::FAILURE);
+                }
+            }
+            Some(Row::Call(call)) => {
+                rows = rows.saturating_add(1);
+                let (status, agrees) = compare(alloc, &mut disk, &mut steps, &call)?;
+                if agrees {
+                    agreed = agreed.saturating_add(1);
+                } else {
+                    println!(rt; "differs: {name}, with status {status}")?;
+                }
+                input = call.input;
+            }
         }
-        input = row.input;
     }
     let of_hostile = agreed_hostile(alloc, &mut steps)?;
     println!(rt; "{of_hostile} of 4 rows made here agree")?;

@@ -1,0 +1,22 @@
+// A folder as a disk in memory.
+
+use crate::row::LogFront;
+use outside::{Area, Disk, Failed, MemDisk, write_durably};
+use sha2::{Digest, Sha256};
+
+/// Puts these bytes in place of what stands in an area.
+pub fn put(disk: &mut MemDisk, area: Area, bytes: &[u8]) -> Result<(), Failed> {
+    disk.cut(area, 0)?;
+    disk.sync(area)?;
+    write_durably(disk, area, 0, bytes)
+}
+
+/// Whether LOG is as it must be up to its end.
+pub fn is_log(disk: &mut MemDisk, bytes: &mut [u8], front: &LogFront) -> bool {
+    let Ok(n) = disk.read(Area::Log, 0, bytes) else {
+        return false;
+    };
+    let end = (front.end as usize).min(n);
+    let digest: [u8; 32] = Sha256::digest(&bytes[..end]);
+    digest.as_slice() == front.digest.as_slice()
+}
