@@ -15,7 +15,7 @@ roots and medians are computed as docs/RULES.md says, and nothing is taken from
 the program.
 """
 
-from make_first_blocks import ZERO_HASH, ckbhash, fixvec, table, uint
+from make_store import ZERO_HASH, ckbhash, fixvec, table, uint
 
 GREATEST = 2 ** 64 - 1
 
