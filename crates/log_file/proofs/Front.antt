@@ -1,11 +1,11 @@
 -- The front of a log, from its first bytes to its genesis.
-use Rattle.std.proofs.Common.{◌≡◌, ℕ, ◌+◌, true, false, List, take, drop, length, Option, Some, None, sym, ap, ◌∙◌, subst}
+use Rattle.std.proofs.Common.{◌≡◌, ◌+◌, true, false, take, Option, Some, None, ◌∙◌, subst}
 use Rattle.std.specs.Prelude.{IfSome}
 use Rattle.time_defs.specs.Specification.{Specification, specification_of}
 use Rattle.outside.specs.Image.{Image}
 use Rattle.store_defs.specs.Log.{Record, magic, log_of}
 use Rattle.log_file.specs.Grammar.{is_specification, is_genesis, BlocksValue, IsGenesisOf}
-use Rattle.log_file.specs.Reading.{ReaderValue, IsReading, IsAt, HasPassed, OfRecordHere}
+use Rattle.log_file.specs.Reading.{ReaderValue, IsReading, HasPassed, OfRecordHere}
 use Rattle.log_file.specs.Opening.{HasRead}
 use Rattle.log_file.proofs.Progress.{begun, not_specified, no_genesis, no_content, no_start}
 

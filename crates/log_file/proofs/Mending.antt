@@ -1,14 +1,14 @@
 -- A gate that stands open behind the records of a log is closed.
-use Rattle.std.proofs.Common.{◌≡◌, ◌⊎◌, inl, inr, ℕ, ◌+◌, ◌<◌, ◌≤◌, Bool, true, false, cond, eqb, List, [], ◌∷◌, length, take, drop, Option, Some, None, refl, sym, ap, ◌∙◌, subst, arith}
+use Rattle.std.proofs.Common.{◌≡◌, ℕ, ◌<◌, ◌≤◌, Bool, true, false, cond, List, [], ◌∷◌, length, Option, Some, None, refl, sym, ap, ◌∙◌, subst, arith}
 use Rattle.std.specs.Prelude.{slice_index, IfSome, ◌==◌}
 use Rattle.std.specs.Option.{option_map}
 use Rattle.std.proofs.lemmas.Bool.{eqb-true, eq-eqb}
 use Rattle.outside.specs.declared.disk.Area.TheVariants.{Log}
-use Rattle.outside.specs.Image.{Image, content, with_content, InArea}
-use Rattle.outside.specs.Disk.{written, write_area, Torn, ComesBy, Follows, NoneNew, SameImages, IsDurable}
+use Rattle.outside.specs.Image.{Image, InArea}
+use Rattle.outside.specs.Disk.{written, write_area, Torn, ComesBy, IsDurable}
 use Rattle.outside.proofs.Images.{own_content}
 use Rattle.outside.proofs.Torn.{tears_to_the_written}
-use Rattle.store_defs.specs.Log.{Record, log_of, records_of}
+use Rattle.store_defs.specs.Log.{Record, log_of}
 use Rattle.store_defs.specs.Rest.{EndsAt, IsAtRest, IsSettled, HasLog}
 use Rattle.store_defs.proofs.Contents.{ends_say}
 use Rattle.store_defs.proofs.Resting.{closed_rest, ends_torn, rest_mended}

@@ -1,11 +1,11 @@
 -- A whole log, once it was read.
-use Rattle.std.proofs.Common.{◌≡◌, ℕ, ◌+◌, ◌<◌, Bool, eqb, List, length, take, drop, get_or, Option, Some, None, sym, ap, ◌∙◌, subst, arith}
+use Rattle.std.proofs.Common.{◌≡◌, ℕ, ◌<◌, Bool, eqb, List, length, take, drop, get_or, Option, Some, None, sym, ap, ◌∙◌, subst, arith}
 use Rattle.std.specs.Prelude.{slice_index, IfSome, ◌==◌}
 use Rattle.std.proofs.lemmas.List.{get_or-take}
 use Rattle.time_defs.specs.Specification.{Specification}
 use Rattle.chain_tree.specs.declared.entry.Entry.{Entry}
 use Rattle.outside.specs.Image.{Image}
-use Rattle.store_defs.specs.Log.{Record, records_of, magic, LogContent, content_of_records, log_of}
+use Rattle.store_defs.specs.Log.{records_of, magic, LogContent, content_of_records, log_of}
 use Rattle.store_defs.specs.Rest.{EndsAt}
 use Rattle.store_defs.proofs.Resting.{gate_there}
 use Rattle.log_file.specs.Grammar.{BlocksValue}

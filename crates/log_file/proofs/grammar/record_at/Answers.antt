@@ -1,4 +1,4 @@
-use Rattle.std.proofs.Common.{◌+◌, ℕ, sym, ap, ◌∙◌, arith, rules}
+use Rattle.std.proofs.Common.{◌+◌, ℕ, sym, ap, arith}
 use Rattle.log_file.proofs.Pieces.{none_unless, whole_there}
 use Rattle.log_file.proofs.grammar.record_at.Goals as goal
 

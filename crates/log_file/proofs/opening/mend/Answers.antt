@@ -1,4 +1,3 @@
-use Rattle.std.proofs.Common.{rules}
 use Rattle.outside.specs.declared.disk.Area.TheVariants.{Log}
 use Rattle.outside.proofs.Moments.{leaves_also}
 use Rattle.log_file.proofs.Creating.{others_same}

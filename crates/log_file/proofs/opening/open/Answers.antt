@@ -1,4 +1,4 @@
-use Rattle.std.proofs.Common.{◌≡◌, ◌∙◌, arith, rules}
+use Rattle.std.proofs.Common.{◌∙◌, arith}
 use Rattle.outside.proofs.Moments.{leaves_also, leaves_then}
 use Rattle.log_file.proofs.Judging.{kept_limit_is}
 use Rattle.log_file.proofs.Settling.{others_kept, durable_on, told_settled, told_moments}

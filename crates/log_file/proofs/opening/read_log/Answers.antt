@@ -1,4 +1,4 @@
-use Rattle.std.proofs.Common.{◌≡◌, Option, sym, ap, ◌∙◌, arith, rules}
+use Rattle.std.proofs.Common.{rules}
 use Rattle.std.specs.Prelude.{IfSome}
 use Rattle.log_file.proofs.Whole.{IsRead, told_read, told_wrong_blocks, told_opened, told_ends, told_gate}
 use Rattle.log_file.proofs.opening.read_log.Goals as goal

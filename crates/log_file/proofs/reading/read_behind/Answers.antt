@@ -1,5 +1,3 @@
-use Rattle.std.proofs.Common.{arith}
-use Rattle.std.proofs.lemmas.Grind.{common_steps}
 use Rattle.log_file.proofs.Pieces.{told_front}
 use Rattle.log_file.proofs.reading.read_behind.Goals as goal
 

@@ -1,4 +1,4 @@
-use Rattle.std.proofs.Common.{◌≡◌, ℕ, Ok, Err, true, false, ap, arith, rules}
+use Rattle.std.proofs.Common.{◌≡◌, Ok, true, false, ap, arith, rules}
 use Rattle.std.proofs.lemmas.Grind.{common_steps}
 use Rattle.log_file.proofs.Progress.{told_wrong, told_more, told_all}
 use Rattle.log_file.proofs.records.read_blocks.Goals as goal

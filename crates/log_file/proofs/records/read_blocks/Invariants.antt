@@ -1,4 +1,4 @@
-use Rattle.std.proofs.Common.{◌≡◌, ℕ, ◌+◌, ◌-◌, ◌*◌, ◌≤◌, ◌^◌, length}
+use Rattle.std.proofs.Common.{◌≡◌, ◌+◌, ◌-◌, ◌*◌, ◌≤◌, ◌^◌, length}
 use Rattle.std.specs.Prelude.{IfSome}
 use Rattle.outside.specs.Disk.{IsAsBefore}
 use Rattle.rule_defs.specs.Verdict.{kept_limit}

@@ -1,4 +1,4 @@
-use Rattle.std.proofs.Common.{◌≡◌, ap, arith, rules}
+use Rattle.std.proofs.Common.{rules}
 use Rattle.log_file.proofs.Front.{told_wrong_start, told_wrong_spec, told_wrong_genesis, told_begun}
 use Rattle.log_file.proofs.records.read_front.Goals as goal
 

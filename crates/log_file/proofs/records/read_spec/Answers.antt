@@ -1,5 +1,5 @@
-use Rattle.std.proofs.Common.{◌≡◌, Option, Some, ℕ, sym, ap, ◌∙◌, arith, rules}
-use Rattle.store_defs.specs.Log.{Record, record_at}
+use Rattle.std.proofs.Common.{◌≡◌, Some, rules}
+use Rattle.store_defs.specs.Log.{record_at}
 use Rattle.log_file.specs.Grammar.{record_of}
 use Rattle.log_file.proofs.Pieces.{told_passed, told_here}
 use Rattle.log_file.proofs.records.read_spec.Goals as goal

@@ -1,4 +1,4 @@
-use Rattle.std.proofs.Common.{ℕ, sym, ap, ◌∙◌, arith, rules}
+use Rattle.std.proofs.Common.{sym, ◌∙◌, rules}
 use Rattle.log_file.proofs.Pieces.{told_start, told_no_start}
 use Rattle.log_file.proofs.records.read_start.Goals as goal
 

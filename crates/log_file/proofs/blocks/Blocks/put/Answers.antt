@@ -4,7 +4,7 @@ use Rattle.codec_defs.specs.Schema.{Block}
 use Rattle.rule_defs.specs.Verdict.{kept_limit}
 use Rattle.chain_tree.specs.declared.entry.Entry.{Entry}
 use Rattle.chain_tree.specs.Blocks.{IndexesBlocks}
-use Rattle.log_file.specs.Grammar.{record_of, BlocksValue, StandFor, IsBehind, IsGrownBy}
+use Rattle.log_file.specs.Grammar.{record_of, BlocksValue, StandFor, IsGrownBy}
 use Rattle.log_file.proofs.Judging.{limit_is, grown, still_blocks, one_more}
 use Rattle.log_file.proofs.blocks.Blocks.put.Goals as goal
 

@@ -1,4 +1,4 @@
-use Rattle.std.proofs.Common.{ℕ, length, sym, ap, subst, refl, arith}
+use Rattle.std.proofs.Common.{length, sym, ap, subst, refl, arith}
 use Rattle.std.proofs.lemmas.List.{drop-drop}
 use Rattle.log_file.specs.Reading.{ReaderValue, IsReading}
 use Rattle.log_file.proofs.Pieces.{gone_over}
