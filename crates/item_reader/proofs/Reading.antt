@@ -1,14 +1,13 @@
 -- What was given where the reading of an item stopped.
-use Rattle.std.proofs.Common.{◌≡◌, ℕ, ◌+◌, ◌≤◌, ◌<◌, ◌⊎◌, inl, inr, Bool, true, false, List, [], ◌∷◌, ◌++◌, length, take, drop, refl, ap, sym, ◌∙◌, arith, append-nil, length-append, length-drop, length-take-le, take-append-drop}
+use Rattle.std.proofs.Common.{◌≡◌, ℕ, ◌+◌, ◌≤◌, ◌<◌, ◌⊎◌, inl, inr, true, false, List, [], ◌∷◌, ◌++◌, length, take, drop, refl, ap, sym, ◌∙◌, arith, append-nil, length-append, length-drop, length-take-le, take-append-drop}
 use Rattle.std.specs.Prelude.{Option, Some, None}
 use Rattle.std.proofs.lemmas.Bool.Decides.{nat_tests, leb_tells}
 use Rattle.std.proofs.lemmas.Grind.{common_steps}
 use Rattle.std.specs.Int.{w32, from_le_bytes}
 use Rattle.std.specs.Io.KnownBytes.{IsAtEnd}
-use Rattle.report_defs.specs.Items.{IsItem, IsAtWord, IsWithin, is_past, size_word, end_at}
-use Rattle.report_defs.specs.declared.end.End.{End}
+use Rattle.report_defs.specs.Items.{IsWithin, is_past, size_word, end_at}
 use Rattle.report_defs.specs.declared.end.End.TheVariants.{AtEnd, Cut, BadSize, Extra}
-use Rattle.report_defs.proofs.ItemLemmas.{size_word-append, end_at-nothing, end_at-few, end_at-bad_size, end_at-extra, end_at-front}
+use Rattle.report_defs.proofs.ItemLemmas.{size_word-append, end_at-nothing, end_at-few, end_at-bad_size, end_at-extra}
 use Rattle.item_reader.specs.Items.{IsPartial, IsItemAt, EndsAt}
 
 pub take_whole : (n : ℕ) (xs : List ℕ) → length xs ≡ n → take n xs ≡ xs

@@ -1,4 +1,4 @@
-use Rattle.std.proofs.Common.{◌≡◌, ◌+◌, ◌<◌, ◌≤◌, inl, ◌++◌, length, take, drop, arith, ◌∙◌, [], append-nil}
+use Rattle.std.proofs.Common.{◌≡◌, ◌+◌, ◌<◌, inl, ◌++◌, length, take, drop, arith, ◌∙◌, [], append-nil}
 use Rattle.outside.proofs.Streams.{gives_none}
 use Rattle.report_defs.specs.Items.{size_word}
 use Rattle.item_reader.specs.Items.{IsItemAt}

@@ -1,10 +1,9 @@
-use Rattle.std.proofs.Common.{◌≡◌, ◌+◌, ◌<◌, ◌≤◌, ◌⊎◌, inl, inr, true, false, List, ℕ, ◌++◌, length, take, arith, [], refl, ap, sym, ◌∙◌, subst}
+use Rattle.std.proofs.Common.{◌≡◌, ◌+◌, ◌<◌, ◌⊎◌, inl, inr, true, ◌++◌, length, take, arith, [], refl, ap, sym, ◌∙◌, subst}
 use Rattle.std.proofs.lemmas.List.{length-take-le}
 use Rattle.std.specs.Int.{w32, from_le_bytes}
 use Rattle.outside.proofs.Streams.{gives_more}
 use Rattle.outside.specs.Streams.{Gives}
 use Rattle.report_defs.specs.Items.{size_word, is_past}
-use Rattle.item_reader.specs.Items.{IsNext}
 use Rattle.item_reader.proofs.Reading.{few_partial, ends_at_end, ends_few, size_of_word, ends_bad_size, ends_extra, take_whole}
 use Rattle.item_reader.proofs.next.next_item.Goals as goal
 use Rattle.item_reader.proofs.next.next_item.Goals.{then-size-lt4-via-then-size-lt4, then-size-lt4-via-else-size-lt4+then-size-limit}
