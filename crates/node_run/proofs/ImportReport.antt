@@ -90,7 +90,7 @@ module _ (chain : Chain) (status : Status) (items before : List (List ℕ)) (res
 
   pub stopped_acknowledges : IsStopped chain status items before rest taken → IsFront chain items taken (length before)
   stopped_acknowledges stopped = elim stopped.last [
-    | inl none ↦ subst (λ xs. IsFront chain items taken (length xs)) none.0 (front_of_all chain items taken)
+    | inl none ↦ subst (λ xs. IsFront chain items taken (length xs)) none.0 (front_of_all chain items taken (inl (taken_front stopped)))
     | inr last ↦ rw (stopped.taken_is, last.1) (front_of_part chain before last.0 stopped.part last.3)
   ]
 
@@ -233,13 +233,13 @@ module _ {D : Type 0} (images : D → Image → Type 0) (moment : D → ℕ) (le
 
   -- where all of them were answered
   pub keeps_all_given : (old mid new : D) (chain : Chain) (items before : List (List ℕ)) (rest given taken : List ℕ) (status : Status) → AreGiven items rest given
-      → items ≡ before
+      → items ≡ before → (written : List ℕ) → taken ≡ text_over chain items ++ written
       → LeavesOnly moment left_since old mid (λ image. images old image ⊎ StandsFor chain image)
       → Each (images new) (λ image. StandsFor (chain_over chain before) image ⊎ StandsFor (chain_over chain items) image)
       → LeavesOnly moment left_since mid new (KeepsSome chain items)
       → KeepsStore chain (split_of import_limits given).items taken status (images old) (images new) (left_since new (moment old))
-  keeps_all_given old mid new chain items before rest given taken status are same opened exit moments =
-      keeps_given old mid new chain items items rest given taken status are (front_of_all chain items taken) (take_all items) opened
+  keeps_all_given old mid new chain items before rest given taken status are same written answered opened exit moments =
+      keeps_given old mid new chain items items rest given taken status are (front_of_all chain items taken (inr (written, answered))) (take_all items) opened
       (subst (λ xs. Each (images new) (λ image. StandsFor (chain_over chain xs) image ⊎ StandsFor (chain_over chain items) image)) (sym same) exit) moments
 
 -- the order of a run that was stopped before a byte was read

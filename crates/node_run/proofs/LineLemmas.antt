@@ -1,5 +1,5 @@
 -- The lines of items, and which of them stand at the front of a text.
-use Rattle.std.proofs.Common.{◌≡◌, inl, inr, ℕ, zero, suc, ◌-◌, ◌≤◌, ◌<◌, List, [], ◌∷◌, ◌++◌, length, map, take, drop, refl, ap, sym, ◌∙◌, arith, append_assoc, append-nil, length-append, take-append-drop}
+use Rattle.std.proofs.Common.{◌≡◌, inl, inr, ℕ, zero, suc, ◌-◌, ◌≤◌, ◌<◌, List, [], ◌∷◌, ◌++◌, length, map, take, drop, refl, ap, sym, subst, ◌∙◌, arith, append_assoc, append-nil, length-append, take-append-drop}
 use Rattle.std.specs.List.{concat}
 use Rattle.std.proofs.lemmas.List.{map-append}
 use Rattle.std.proofs.lemmas.List.Folds.{concat-append}
@@ -12,7 +12,7 @@ use Rattle.fold_defs.proofs.FoldLemmas.{verdicts-append, verdicts-push}
 use Rattle.report_defs.specs.Text.{line}
 use Rattle.report_defs.specs.Report.{lines_over}
 use Rattle.report_defs.specs.Promise.{IsPrefix, all_but_last}
-use Rattle.report_defs.specs.Survival.{IsFront}
+use Rattle.report_defs.specs.Survival.{Agrees, IsFront}
 use Rattle.node_run.specs.Output.{IsPartOf}
 use Rattle.node_run.specs.Import.{line_over, text_over}
 
@@ -96,17 +96,20 @@ none_acknowledged chain (item ∷ items) (suc n) within begins =
 
 pub front_of_none : (chain : Chain) (items : List (List ℕ)) (count : ℕ) → count ≤ length items → IsFront chain items [] count
 front_of_none chain items count within = record {
+  answered = inl (text_over chain items, refl);
   most = within;
   acknowledged = λ n most begins. omega (arith, none_acknowledged chain items n most begins);
 }
 
-pub front_of_all : (chain : Chain) (items : List (List ℕ)) (taken : List ℕ) → IsFront chain items taken (length items)
-front_of_all chain items taken = record { most = omega arith; acknowledged = λ n most begins. most }
+pub front_of_all : (chain : Chain) (items : List (List ℕ)) (taken : List ℕ) → Agrees taken (text_over chain items) → IsFront chain items taken (length items)
+front_of_all chain items taken answered = record { answered = answered; most = omega arith; acknowledged = λ n most begins. most }
 
 -- where of the last line a part was taken, all but the last at most
 pub front_of_part : (chain : Chain) (before : List (List ℕ)) (item part : List ℕ) → IsPartOf (line_over (chain_over chain before) item) part
     → IsFront chain (before ++ item ∷ []) (text_over chain before ++ part) (length before)
 front_of_part chain before item part is_part = record {
+  answered = inl (subst (IsPrefix (text_over chain before ++ part)) (sym (lines-push chain before item))
+      (prefix_behind (text_over chain before) part (line_over (chain_over chain before) item) is_part.front));
   most = omega (arith, length-append before (item ∷ []));
   acknowledged = λ n most begins. elim (leb_tells n (length before)) [
     | inl within ↦ within.1

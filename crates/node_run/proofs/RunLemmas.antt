@@ -44,7 +44,7 @@ keeps_none : (genesis : Chain) (past : List Run) (items : List (List ℕ)) (take
 keeps_none genesis past items taken image front left = (left.0, (left.0, left.1, (0, front left.0, refl)), left.2)
 
 front_of_no_item : (kept : Chain) (taken : List ℕ) → IsFront kept [] taken 0
-front_of_no_item kept taken = record { most = omega arith; acknowledged = λ n most begins. most }
+front_of_no_item kept taken = record { answered = inr (taken, refl); most = omega arith; acknowledged = λ n most begins. most }
 
 keeps_some : (genesis : Chain) (past : List Run) (items : List (List ℕ)) (taken : List ℕ) (image : Image) (kept : Chain) (count : ℕ)
     → IsKeptBy genesis past kept → IsFront kept items taken count → StandsFor (chain_over kept (take count items)) image

@@ -68,7 +68,7 @@ module _ {D : Type 0} (images : D → Image → Type 0) (moment : D → ℕ) (le
   keeps_imported old mid new chain items before taken status front is opened exit moments = record {
     exit = λ image left. elim (exit image left) [
       | inl some ↦ inr (length before, front, subst (λ xs. StandsFor (chain_over chain xs) image) (sym is) some)
-      | inr all ↦ inr (length items, front_of_all chain items taken, subst (λ xs. StandsFor (chain_over chain xs) image) (sym (take_all items)) all)
+      | inr all ↦ inr (length items, front_of_all chain items taken front.answered, subst (λ xs. StandsFor (chain_over chain xs) image) (sym (take_all items)) all)
     ];
     moments = (leaves_then moment left_since old mid new (λ image. images old image ⊎ KeepsSome chain items image)
         (leaves_also moment left_since old mid (λ image. images old image ⊎ StandsFor chain image) (λ image. images old image ⊎ KeepsSome chain items image) opened here)
@@ -85,7 +85,7 @@ module _ {D : Type 0} (images : D → Image → Type 0) (moment : D → ℕ) (le
       → Each (images new) (StandsFor chain)
       → KeepsStore chain [] taken status (images old) (images new) (left_since new (moment old))
   keeps_read old new chain taken status opened exit = record {
-    exit = λ image left. inr (0, front_of_all chain [] taken, exit image left);
+    exit = λ image left. inr (0, front_of_all chain [] taken (inr (taken, refl)), exit image left);
     moments = λ image left. elim (opened.each image left) [ inl past ↦ inl past | inr stands ↦ inr (0, omega arith, stands) ];
   }
 

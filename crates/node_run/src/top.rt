@@ -1,8 +1,9 @@
 // The one call.
-ghost use Rattle.std.specs.Prelude.{◌≡◌, ◌↔◌, None, map, string_bytes};
+ghost use Rattle.std.specs.Prelude.{◌≡◌, ◌↔◌, None, Some, map, string_bytes};
 ghost use Rattle.outside.specs.Causes.{CountsFault};
 ghost use Rattle.outside.specs.Disk.{IsAsBefore};
-ghost use Rattle.store_defs.specs.Store.{IsOnlyRead};
+ghost use Rattle.outside.specs.Image.{Image};
+ghost use Rattle.store_defs.specs.Store.{NoLog, store_of, IsOnlyRead};
 ghost use Rattle.report_defs.specs.Words as grammar;
 ghost use Rattle.report_defs.specs.Status.{IsOneOf};
 ghost use Rattle.report_defs.specs.Promise.{statuses_of};
@@ -48,10 +49,12 @@ pub fn run<S: Source, K: Sink, D: Disk, L: Ledger>(
     ensures out_faults { CountsFault (K.faults out.old) (K.faults out.new) (result ≡ Status.SinkFault) }
     ensures disk_faults { CountsFault (D.faults disk.old) (D.faults disk.new) (result ≡ Status.DiskFault) }
 
-    // Where the disk is not called, is as it was, and is only read.
+    // Where the disk is not called, is as it was, also for an `init` that finds a log, and is only read.
     ensures uncalled { CallsNoDisk (grammar.command_of (map string_bytes words.now)) → disk.new ≡ disk.old }
     ensures as_before { IsOneOf (as_before (grammar.command_of (map string_bytes words.now))) result
         → IsAsBefore D.reads_as D.images D.moment D.left_since disk.old disk.new }
+    ensures log_there { (now : Image) → D.reads_as disk.old ≡ Some now → (store_of now ≡ NoLog → ⊥)
+        → grammar.command_of (map string_bytes words.now) ≡ Some Command.Init → IsAsBefore D.reads_as D.images D.moment D.left_since disk.old disk.new }
     ensures loses_nothing { result ≡ Status.NotAStore → IsOnlyRead D.reads_as D.images D.moment D.left_since disk.old disk.new }
 
     // No step is counted.

@@ -27,9 +27,15 @@ items_of (Some Import) given = (split_of import_limits given).items
 items_of (Some Tip) given = []
 items_of (Some (Exec budget)) given = []
 
+-- What was taken agrees with a text: it is a front of it, or goes on behind it.
+abbrev pub Agrees : List ℕ → List ℕ → Type 0
+Agrees taken text = IsPrefix taken text ⊎ IsPrefix text taken
+
 -- A front of a run's items: at most those that its source gave whole, and at least those whose whole line its sink took. What is
 -- written behind the lines counts for none.
 pub record IsFront (chain : Chain) (items : List (List ℕ)) (taken : List ℕ) (count : ℕ) : Type 0 where
+  -- it is this chain over which the items were answered
+  pub answered : Agrees taken (concat (lines_over chain items))
   pub most : count ≤ length items
   pub acknowledged : (n : ℕ) → n ≤ length items → IsPrefix (concat (lines_over chain (take n items))) taken → n ≤ count
 

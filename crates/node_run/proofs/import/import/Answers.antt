@@ -1,4 +1,5 @@
-use Rattle.std.proofs.Common.{◌++◌, [], refl, ap, sym, subst}
+use Rattle.std.proofs.Common.{◌++◌, [], refl, ap, sym, subst, ◌∙◌}
+use Rattle.std.proofs.lemmas.List.{append-nil}
 use Rattle.std.specs.Prelude.{Err, string_bytes}
 use Rattle.outside.proofs.Streams.{gives_none, takes_none, takes_more}
 use Rattle.report_defs.specs.declared.command.Command.TheVariants.{Import}
@@ -8,6 +9,7 @@ use Rattle.report_defs.specs.Items.{split_of}
 use Rattle.report_defs.specs.Report.{import_limits, closing_of_end}
 use Rattle.node_core.specs.Node.{IsOn}
 use Rattle.node_run.specs.Output.{IsToldAnswer}
+use Rattle.node_run.specs.Import.{text_over}
 use Rattle.node_run.proofs.Faults.{then_counts, counts_also}
 use Rattle.node_run.proofs.StoreLemmas.{delivers, keeps_opened, keeps_unopened, unopened, stopped_opening, by_disk_or_memory, if_told}
 use Rattle.node_run.proofs.ImportReport.{stopped_import, stopped_at_once, stopped_behind, stopped_acknowledges, stopped_take, ended_import, last_status, keeps_given, keeps_all_given}
@@ -75,7 +77,7 @@ returns-in-Err-answer_to_end-clause-import g c =
           (λ now told keeps sound.
           let on = if_told reads (λ _. IsOn c.in-Ok.node (g.D.Disk.reads_as c.open.new.disk) (g.D.Disk.images c.open.new.disk)) now (c.in-Ok.ensures.on sound) told in
           keeps_all_given g.D.Disk.images g.D.Disk.moment g.D.Disk.left_since g.met.D.Disk.counts_now c.args.disk.now c.open.new.disk c.import_items.new.disk chain
-          are.items are.before are.rest came.0 came.1 NoMemory are.are_given are.came.0
+          are.items are.before are.rest came.0 came.1 NoMemory are.are_given are.came.0 [] (are.came.1.lines ∙ sym (append-nil (text_over chain are.items)))
           (c.in-Ok.ensures.moments now chain told keeps sound) (are.exit on) (are.moments on))),
     )
 
@@ -105,7 +107,7 @@ returns-clause-import g c =
           (λ now known keeps sound.
           let on = if_told reads (λ _. IsOn c.in-Ok.node (g.D.Disk.reads_as c.open.new.disk) (g.D.Disk.images c.open.new.disk)) now (c.in-Ok.ensures.on sound) known in
           keeps_all_given g.D.Disk.images g.D.Disk.moment g.D.Disk.left_since g.met.D.Disk.counts_now c.args.disk.now c.open.new.disk c.import_items.new.disk chain
-          are.items are.before are.rest came.0 (came.1 ++ told.0) c.tell.result are.are_given are.came.0
+          are.items are.before are.rest came.0 (came.1 ++ told.0) c.tell.result are.are_given are.came.0 told.0 (ap (λ bs. bs ++ told.0) are.came.1.lines)
           (c.in-Ok.ensures.moments now chain known keeps sound) (are.exit on) (are.moments on))),
     )
 
