@@ -4,8 +4,14 @@ use crate::row::LogFront;
 use outside::{Area, Disk, Failed, MemDisk, write_durably};
 use sha2::{Digest, Sha256};
 
-/// Puts these bytes in place of what stands in an area.
+/// The longest file, in bytes.
+pub const FILE_LIMIT: usize = 1 << 20;
+
+/// Puts these bytes in place of what stands in an area, unless they are too many.
 pub fn put(disk: &mut MemDisk, area: Area, bytes: &[u8]) -> Result<(), Failed> {
+    if bytes.len() > FILE_LIMIT {
+        return Err(Failed);
+    }
     disk.cut(area, 0)?;
     disk.sync(area)?;
     write_durably(disk, area, 0, bytes)

@@ -16,7 +16,7 @@ mod row;
 
 ghost use Rattle.std.specs.Prelude.{◌≡◌, ◌<◌};
 
-use folder::{is_log, put};
+use folder::{FILE_LIMIT, is_log, put};
 use node_run::run;
 use outside::{MemDisk, MemSink, MemSource, Steps};
 use row::{Call, Row, row_of};
@@ -26,9 +26,6 @@ use std::io::{BufRead, BufReader};
 use std::marker::Brand;
 use std::process::ExitCode;
 use std::sync::ledger::{Blank, Ledger};
-
-/// The longest LOG of a row, in bytes.
-const LOG_LIMIT: usize = 1 << 20;
 
 /// The status that the run ends with, and whether that, its text and LOG are the row's.
 fn compare<L: Ledger>(
@@ -44,7 +41,7 @@ fn compare<L: Ledger>(
     let Some(front) = &call.log else {
         return Ok((status, agrees));
     };
-    let mut log = vec![in alloc; 0u8; LOG_LIMIT]?;
+    let mut log = vec![in alloc; 0u8; FILE_LIMIT]?;
     Ok((status, agrees && is_log(disk, &mut log, front)))
 }
 
