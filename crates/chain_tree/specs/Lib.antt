@@ -2,3 +2,4 @@ pub mod Entries
 pub mod Blocks
 pub mod Indexed
 pub mod Timestamps
+pub mod Told

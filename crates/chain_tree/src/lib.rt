@@ -4,15 +4,18 @@
 //! added without an allocation (`spare`). `find` answers the place of a hash, `ancestor` the place of a height on a
 //! branch, `tip` that of the tip; for every kept list of `chain_defs` that the entries index (`IndexesBlocks`), these
 //! are `place_of`, `branch_places` and `tip_place`. `add` needs a place that `reserve` made, and takes no memory.
-//! Where a block's bytes lie, and whether it may join, is left to the layers above.
+//! [`Blocks`] is the trait by which the rules read the bytes of kept blocks and their exts; a source that tells them
+//! gives just these. Where they lie, and whether a block may join, is left to the layers above.
 #![tactic(auto)]
 
 mod ancestors;
+mod blocks;
 mod entry;
 mod median;
 #[cfg(test)]
 mod tests;
 mod tree;
 
+pub use blocks::Blocks;
 pub use entry::Entry;
 pub use tree::Tree;

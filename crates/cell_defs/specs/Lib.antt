@@ -1,0 +1,4 @@
+pub mod Cell
+pub mod Events
+pub mod Row
+pub mod Ext

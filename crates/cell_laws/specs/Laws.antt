@@ -1,0 +1,69 @@
+-- What events and cells are for, in words (docs/RULES.md, "Cells").
+use Rattle.std.specs.Prelude.{◌≡◌, ◌↔◌, ℕ, ◌+◌, ◌<◌, ◌⊎◌, Bool, false, not, List, [], ◌∷◌, ◌++◌, length, Option, Some, is_some, if◌then◌else◌, IsTrue}
+use Rattle.std.specs.List.{count_by, list_any}
+use Rattle.codec_defs.specs.Schema.{OutPoint, Block}
+use Rattle.chain_defs.specs.Kept.{IsKept, place_of, block_at}
+use Rattle.chain_defs.specs.Branch.{branch}
+use Rattle.cell_defs.specs.Cell.{Cell}
+use Rattle.cell_defs.specs.Events.{Event, Makes, Spends, events_of_block, events_from, events, names, cell_after, live_cell, cell_seen}
+use Rattle.cell_defs.specs.Row.{Row, live_row, row_after, row_left, IsOutputOf}
+
+-- ---- Live by counting
+
+-- an event that fits what is live: a spend of a cell that is, a make of one that is not
+abbrev pub fits : (OutPoint → Option Cell) → Event → Bool
+fits live (Makes o cell) = not (is_some (live o))
+fits live (Spends o) = is_some (live o)
+
+-- each event fits what the events before it left, as it is on a branch whose blocks joined
+abbrev pub AllFit : List Event → Type 0
+AllFit events = (earlier later : List Event) (event : Event) → events ≡ earlier ++ event ∷ later → IsTrue (fits (cell_after earlier) event)
+
+abbrev pub makes : OutPoint → Event → Bool
+makes o (Makes other cell) = names o (Makes other cell)
+makes o (Spends other) = false
+
+abbrev pub spends : OutPoint → Event → Bool
+spends o (Makes other cell) = false
+spends o (Spends other) = names o (Spends other)
+
+-- Law: a cell is live exactly where more makes than spends name it.
+abbrev pub LivesByCounting : Type 0
+LivesByCounting = (events : List Event) (o : OutPoint) → AllFit events
+    → IsTrue (is_some (cell_after events o)) ↔ (count_by (spends o) events < count_by (makes o) events)
+
+-- ---- A block's events
+
+-- rows with one event of the block at a place applied
+abbrev pub with_event : ℕ → Event → (OutPoint → Option Row) → OutPoint → Option Row
+with_event place event rows o = if names o event then row_left place event else rows o
+
+-- with events applied one after the other
+abbrev pub with_events : ℕ → List Event → (OutPoint → Option Row) → OutPoint → Option Row
+with_events place [] rows = rows
+with_events place (event ∷ later) rows = with_events place later (with_event place event rows)
+
+-- Law: the rows after events are the rows before with the events applied in their order. What no event names stays.
+abbrev pub AppliesInOrder : Type 0
+AppliesInOrder = (place : ℕ) (events : List Event) (rows : OutPoint → Option Row) (o : OutPoint)
+    → (row_after place events rows o ≡ with_events place events rows o)
+    × (list_any (names o) events ≡ false → row_after place events rows o ≡ rows o)
+
+-- Law: the rows of a branch with one block more are those of its parent with the block's events applied.
+abbrev pub GrowsByABlock : Type 0
+GrowsByABlock = (kept : List Block) (b : Block) (parent : ℕ) (o : OutPoint) → IsKept (kept ++ b ∷ [])
+    → place_of kept b.header.parent_hash ≡ Some parent
+    → live_row (kept ++ b ∷ []) (length kept) o ≡ row_after (length kept) (events_of_block (length (branch kept parent)) b) (live_row kept parent) o
+
+-- ---- Cells are outputs
+
+-- Law: a live cell is an output, with its out-point, of the block at its height.
+abbrev pub CellsAreOutputs : Type 0
+CellsAreOutputs = (blocks : List Block) (o : OutPoint) (cell : Cell) → live_cell blocks o ≡ Some cell
+    → (b : Block) × (block_at blocks cell.height ≡ Some b) × IsOutputOf b o cell
+
+-- Law: so is a cell that a transaction of a block on the branch sees, or it is an output of a transaction before it in that block.
+abbrev pub SeenCellsAreOutputs : Type 0
+SeenCellsAreOutputs = (blocks : List Block) (b : Block) (place : ℕ) (o : OutPoint) (cell : Cell) → cell_seen blocks b place o ≡ Some cell
+    → ((made : Block) × (block_at blocks cell.height ≡ Some made) × IsOutputOf made o cell)
+    ⊎ ((cell.height ≡ length blocks) × (cell.transaction < place) × IsOutputOf b o cell)

@@ -1,0 +1,107 @@
+// Out-points, rows, and the map from the one to the other.
+ghost use Rattle.std.specs.Prelude.{◌≡◌, Option};
+ghost use Rattle.codec_defs.specs.Schema as schema;
+ghost use Rattle.cell_defs.specs.Row.{Row};
+
+use mol_schema::TxView;
+use std::marker::Model;
+
+/// An output of a transaction, by the transaction's hash and the output's index. Clauses see the schema's `OutPoint`.
+#[derive(Clone, Copy, Debug, PartialEq, Eq)]
+pub struct OutPoint {
+    pub tx_hash: [u8; 32],
+    pub index: u32,
+}
+
+impl Model for OutPoint {
+    ghost use Rattle.codec_defs.specs.Schema as schema;
+
+    ghost Value = { schema.OutPoint };
+
+    ghost view = { λ o. record { tx_hash = o.tx_hash; index = o.index } };
+
+    ghost inverse = { λ o. record { tx_hash = o.tx_hash; index = o.index } };
+}
+
+/// What is kept of a live cell: its row. Clauses see a `Row` of the definitions.
+#[derive(Clone, Copy, Debug, PartialEq, Eq)]
+pub struct CellMeta {
+    /// The place among the kept blocks of the block that made it. In the block that is judged: how many are kept.
+    pub block: u32,
+    /// The place of its transaction in that block.
+    pub tx: u32,
+    /// Shannons.
+    pub capacity: u64,
+    /// Shannons that the output occupies with its data.
+    pub occupied: u64,
+    pub lock_hash: [u8; 32],
+    pub type_hash: Option<[u8; 32]>,
+    pub data_hash: [u8; 32],
+    /// Bytes of its data.
+    pub data_len: u32,
+}
+
+impl Model for CellMeta {
+    ghost use Rattle.cell_defs.specs.Row.{Row};
+
+    ghost Value = { Row };
+
+    ghost view = { λ meta. record {
+      block = meta.block;
+      transaction = meta.tx;
+      capacity = meta.capacity;
+      occupied = meta.occupied;
+      lock_hash = meta.lock_hash;
+      type_hash = meta.type_hash;
+      data_hash = meta.data_hash;
+      data_len = meta.data_len;
+    } };
+
+    ghost inverse = { λ row. record {
+      block = row.block;
+      tx = row.transaction;
+      capacity = row.capacity;
+      occupied = row.occupied;
+      lock_hash = row.lock_hash;
+      type_hash = row.type_hash;
+      data_hash = row.data_hash;
+      data_len = row.data_len;
+    } };
+}
+
+/// The live cells that something sees, by their out-points.
+pub trait Cells {
+    /// The rows, as a function from out-points.
+    ghost rows: { Self → schema.OutPoint → Option Row };
+
+    fn get(&self, o: &OutPoint) -> Option<CellMeta>
+        ensures { result ≡ rows self.now o.now };
+}
+
+/// A live cell with a copy of its bytes: the encoding of its output, and its data.
+#[derive(Drop)]
+pub struct Resolved {
+    pub out_point: OutPoint,
+    pub meta: CellMeta,
+    pub output: Vec<u8>,
+    pub content: Vec<u8>,
+}
+
+impl Model for Resolved {
+    ghost use Rattle.cell_model.specs.Copies.{ResolvedValue};
+
+    ghost Value = { ResolvedValue };
+
+    ghost view = { λ it. record { out_point = it.out_point; row = it.meta; output = it.output.items; content = it.content.items } };
+}
+
+/// A transaction with its hash, the cells of its inputs and of its resolved deps, each in their order, and the places
+/// of its header deps in the tree.
+#[derive(Drop)]
+pub struct ResolvedTx<'a> {
+    pub tx: TxView<'a>,
+    pub hash: [u8; 32],
+    pub inputs: Vec<Resolved>,
+    pub deps: Vec<Resolved>,
+    pub headers: Vec<u32>,
+}

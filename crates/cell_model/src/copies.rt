@@ -1,0 +1,88 @@
+// Copies of old cells out of kept blocks.
+ghost use Rattle.std.specs.Prelude.{◌≡◌, ◌^◌, ◌<◌, List, Some, Err, IfOk, length};
+ghost use Rattle.std.specs.Option.{option_map};
+ghost use Rattle.cell_defs.specs.Cell.{Cell, data_of};
+ghost use Rattle.outside.specs.Causes.{CountsFault};
+ghost use Rattle.outside.specs.declared.disk.Area.TheVariants.{Log};
+ghost use Rattle.outside.specs.declared.disk.Damage.{Damage};
+ghost use Rattle.outside.specs.declared.disk.ReadStop.TheVariants.{DiskFault, Damaged};
+ghost use Rattle.chain_tree.specs.Told.{Stored};
+ghost use Rattle.cell_model.specs.Copies.{IsCopyOf, NamesOutput, output_in};
+
+use crate::cells::{CellMeta, OutPoint, Resolved};
+use chain_tree::Blocks;
+use mol_schema::{BlockView, OutputView, TxView};
+use outside::{NoMemory, ReadStop};
+use std::alloc::Global;
+
+/// The data of an output: what stands at its place, no bytes where nothing does.
+pub fn data_at<'a>(tx: &TxView<'a>, index: usize) -> &'a [u8]
+    ensures data { result.now ≡ data_of tx.now index }
+    ensures fits { length result.now < 2 ^ 32 }
+{
+    let raw = tx.raw();
+    if index < raw.outputs_data_count() {
+        raw.outputs_data_item(index)
+    } else {
+        &[]
+    }
+}
+
+/// The output that a row names in a block, with its data: at the out-point's index, of the transaction at the row's
+/// place. That its hash is the out-point's is not tried.
+pub fn output_at<'a>(
+    block: &BlockView<'a>,
+    o: &OutPoint,
+    meta: &CellMeta,
+) -> Option<(OutputView<'a>, &'a [u8])>
+    ensures { option_map (λ it. (it.0, it.1.now)) result ≡ output_in block.now meta.now.transaction o.now.index }
+{
+    if meta.tx as usize >= block.transactions_count() {
+        return None;
+    }
+    let tx = block.transactions_item(meta.tx as usize);
+    let raw = tx.raw();
+    let index = o.index as usize;
+    if index >= raw.outputs_count() {
+        return None;
+    }
+    Some((raw.outputs_item(index), data_at(&tx, index)))
+}
+
+/// A copy of an output and of its data.
+pub fn copy_of(
+    alloc: Global,
+    o: OutPoint,
+    meta: CellMeta,
+    output: &OutputView<'_>,
+    content: &[u8],
+) -> Result<Resolved, NoMemory>
+    ensures out_point { IfOk result (λ copy. copy.out_point ≡ o) }
+    ensures row { IfOk result (λ copy. copy.row ≡ meta) }
+    ensures copied { (cell : Cell) → output.now ≡ cell.output → content.now ≡ cell.content → IfOk result (IsCopyOf cell) }
+{
+    Err(NoMemory)
+}
+
+/// Copies the bytes of an old cell. Where the row names no output, which never comes over blocks that tell it, it is
+/// damaged at place 0 of LOG.
+pub fn fetch<B: Blocks>(
+    alloc: Global,
+    blocks: &mut B,
+    o: OutPoint,
+    meta: CellMeta,
+) -> Result<Resolved, ReadStop>
+    requires within { meta.block < B.count blocks.old }
+    ensures told { B.told blocks.new ≡ B.told blocks.old }
+    ensures count { B.count blocks.new ≡ B.count blocks.old }
+    ensures loans { B.loans_of blocks.new ≡ B.loans_of blocks.old }
+    ensures out_point { IfOk result (λ copy. copy.out_point ≡ o) }
+    ensures row { IfOk result (λ copy. copy.row ≡ meta) }
+    ensures copied { (stored : List Stored) (cell : Cell) → B.told blocks.old ≡ Some stored → NamesOutput stored o meta cell → IfOk result (IsCopyOf cell) }
+    ensures undamaged { (stored : List Stored) (cell : Cell) → B.told blocks.old ≡ Some stored → NamesOutput stored o meta cell
+        → (damage : Damage) → result ≡ Err (Damaged damage) → ⊥ }
+    ensures damage { (damage : Damage) → result ≡ Err (Damaged damage) → damage.area ≡ Log }
+    ensures cause { CountsFault (B.faults blocks.old) (B.faults blocks.new) (result ≡ Err DiskFault) }
+{
+    Err(ReadStop::NoMemory)
+}

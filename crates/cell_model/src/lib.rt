@@ -1,0 +1,18 @@
+//! Cells as the node handles them: out-points and rows, the map of live cells as a trait, copies of old cells out of
+//! kept blocks, and the ext of a block with its bytes.
+//!
+//! Contracts see a [`CellMeta`] as a `Row` of `cell_defs`, and [`Cells`] as a function from out-points to rows.
+//! [`fetch`] copies the output and the data that a row names, exactly, over a [`Blocks`](chain_tree::Blocks) that
+//! tells; [`Ext`] is read and written by its form. Which cells are
+//! live is left to `cell_state`, what a transaction may do with them to `tx_rules`.
+#![tactic(auto)]
+
+mod cells;
+mod copies;
+mod ext;
+mod hashes;
+
+pub use cells::{CellMeta, Cells, OutPoint, Resolved, ResolvedTx};
+pub use copies::{copy_of, data_at, fetch, output_at};
+pub use ext::Ext;
+pub use hashes::{data_hash, meta_of, occupied, script_hash, tx_hash};

@@ -1,0 +1,31 @@
+-- What a source of kept blocks tells, and when it answers that it could not read.
+use Rattle.std.specs.Prelude.{◌≡◌, ℕ, ◌≤◌, List, map, Option, Some, slice_get, Result, Err, IfSome, IsSome}
+use Rattle.codec_defs.specs.Shape.{decoded}
+use Rattle.codec_defs.specs.Schema.{Block, block}
+use Rattle.cell_defs.specs.Ext.{count_at}
+use Rattle.outside.specs.Causes.{CountsFault}
+use Rattle.outside.specs.declared.disk.ReadStop.{ReadStop}
+use Rattle.outside.specs.declared.disk.ReadStop.TheVariants.{DiskFault, Damaged}
+use Rattle.outside.specs.declared.disk.Damage.{Damage}
+
+-- A kept block with its ext, as bytes (docs/STORE.md, "The ext"). That of the genesis is never asked for.
+pub record Stored : Type 0 where
+  pub block : Block
+  pub ext : List ℕ
+
+abbrev pub blocks_of : List Stored → List Block
+blocks_of stored = map (λ it. it.block) stored
+
+-- the bytes are the encoding of a block
+abbrev pub Encodes : List ℕ → Block → Type 0
+Encodes bytes b = decoded block bytes ≡ Some b
+
+-- What a call that reads kept blocks may answer: a fault of the disk only where the count of faults rose, which no other answer lets rise; and
+-- damage only where the content is not told.
+pub record HasReadCause {T L : Type 0} (before now : ℕ) (told : Option L) (result : Result T ReadStop) : Type 0 where
+  pub counts : CountsFault before now (result ≡ Err DiskFault)
+  pub undamaged : IsSome told → (damage : Damage) → result ≡ Err (Damaged damage) → ⊥
+
+-- a fee is asked of a transaction that has one: of those behind the genesis the ext has one for each after the first
+abbrev pub HasFee : List Stored → ℕ → ℕ → Type 0
+HasFee stored place transaction = IfSome (slice_get stored place) (λ it. transaction ≤ count_at it.ext 0)

@@ -1,0 +1,72 @@
+// Where the bytes of kept blocks come from: the trait that the rules on cells, proposals and uncles read them by.
+ghost use Rattle.std.specs.Prelude.{◌≡◌, ◌-◌, ◌^◌, ◌<◌, ◌≤◌, Option, Some, None, List, ℕ, length, slice_get, IfOk, OnOk, OnErr, IfSome, IsSome};
+ghost use Rattle.cell_defs.specs.Ext.{fee_of};
+ghost use Rattle.chain_tree.specs.Told.{Stored, Encodes, HasReadCause, HasFee};
+
+use outside::ReadStop;
+
+/// The kept blocks with their exts, each by its place. One entry at a time is in hand: `bring` takes it, and `block`
+/// and `spent` give its bytes.
+pub trait Blocks {
+    /// The kept blocks with their exts, where it tells them.
+    ghost told: { Self → Option (List Stored) };
+
+    /// How many entries it has.
+    ghost count: { Self → ℕ };
+
+    /// The place of the entry in hand.
+    ghost in_hand: { Self → Option ℕ };
+
+    /// How often it has failed.
+    ghost faults: { Self → ℕ };
+
+    /// What it has borrowed, for one that borrows: no call changes it.
+    ghost Loans: { Type 0 };
+
+    ghost loans_of: { Self → Loans };
+
+    /// Takes an entry in hand. After an `Err` none is.
+    fn bring(&mut self, e: u32) -> Result<(), ReadStop>
+        requires within { e < count self.old }
+        ensures told { told self.new ≡ told self.old }
+        ensures count { count self.new ≡ count self.old }
+        ensures loans { loans_of self.new ≡ loans_of self.old }
+        ensures taken { OnOk result (in_hand self.new ≡ Some e) }
+        ensures dropped { OnErr result (in_hand self.new ≡ None) }
+        ensures cause { HasReadCause (faults self.old) (faults self.new) (told self.old) result };
+
+    /// The block of the entry in hand, the genesis included.
+    fn block(&self) -> &[u8]
+        requires { IsSome (in_hand self.now) }
+        ensures { IfSome (told self.now) (λ stored. IfSome (in_hand self.now) (λ e. IfSome (slice_get stored e) (λ it. Encodes result.now it.block))) };
+
+    /// The whole ext of the entry in hand, which is not the genesis.
+    fn spent(&self) -> &[u8]
+        requires later { IfSome (in_hand self.now) (λ e. 0 < e) }
+        requires in_hand { IsSome (in_hand self.now) }
+        ensures { IfSome (told self.now) (λ stored. IfSome (in_hand self.now) (λ e. IfSome (slice_get stored e) (λ it. result.now ≡ it.ext))) };
+
+    /// Takes an entry in hand that is not the genesis, and answers the fee of its transaction at a place, in shannons.
+    /// After an `Err` none is in hand.
+    fn fee(&mut self, e: u32, tx: u32) -> Result<u64, ReadStop>
+        requires within { e < count self.old }
+        requires later { 0 < e }
+        requires paying { 1 ≤ tx }
+        requires has_fee { IfSome (told self.old) (λ stored. HasFee stored e tx) }
+        ensures told { told self.new ≡ told self.old }
+        ensures count { count self.new ≡ count self.old }
+        ensures loans { loans_of self.new ≡ loans_of self.old }
+        ensures fee { IfOk result (λ fee. IfSome (told self.old) (λ stored. IfSome (slice_get stored e) (λ it. fee ≡ fee_of it.ext tx))) }
+        ensures taken { OnOk result (in_hand self.new ≡ Some e) }
+        ensures dropped { OnErr result (in_hand self.new ≡ None) }
+        ensures cause { HasReadCause (faults self.old) (faults self.new) (told self.old) result };
+
+    /// It tells as many as it has.
+    ghost told_all: { (blocks : Self) → IfSome (told blocks) (λ stored. length stored ≡ count blocks) };
+
+    /// The entry in hand is one of them.
+    ghost hand_within: { (blocks : Self) → IfSome (in_hand blocks) (λ e. e < count blocks) };
+
+    /// The last value of the count of faults.
+    ghost last_fault: { (blocks : Self) → faults blocks ≤ 2 ^ 64 - 1 };
+}

@@ -1,0 +1,69 @@
+-- What a transaction's inputs count, and what its outputs hold (RFC 0022, "Cell"; RFC 0023, "Calculation"; docs/RULES.md, "Capacity and the
+-- DAO field"). Capacities are in shannons.
+use Rattle.std.specs.Prelude.{ℕ, ◌-◌, ◌^◌, ℤ, pos, ◌-ℤ◌, Bool, ◌&&◌, not, nat_lt, nat_le, List, map, length, Option, Some, None, is_some, if◌then◌else◌}
+use Rattle.std.specs.List.{list_all, list_any, enumerate_from, range_with_len, sum_by}
+use Rattle.codec_defs.specs.Schema.{OutPoint, Transaction, Block}
+use Rattle.time_defs.specs.Dao.{field_of_bytes, counted_capacity}
+use Rattle.chain_defs.specs.Kept.{block_at}
+use Rattle.chain_defs.specs.Hashes.{transaction_hash}
+use Rattle.cell_defs.specs.Cell.{Cell, occupied_by, holds_its_own, data_of}
+use Rattle.tx_defs.specs.Site.{Site, Found}
+use Rattle.tx_defs.specs.Resolving.{inputs, heights}
+use Rattle.tx_defs.specs.Withdrawals.{is_withdrawing, deposit_height}
+
+-- ---- J25: outputs
+
+-- each output holds what it occupies with its data
+abbrev pub outputs_hold_their_own : Transaction → Bool
+outputs_hold_their_own t = list_all (λ it. holds_its_own it.1 (data_of t it.0)) (enumerate_from 0 t.raw.outputs)
+
+-- the out-points of its outputs
+abbrev pub made_out_points : Transaction → List OutPoint
+made_out_points t = map (λ index. record { tx_hash = transaction_hash t; index = index }) (range_with_len 0 (length t.raw.outputs))
+
+-- J25: each output holds what it occupies, and none of their out-points is live.
+abbrev pub makes_good_cells : Site → Transaction → Bool
+makes_good_cells site t = outputs_hold_their_own t && not (list_any (λ o. is_some (site.cell o)) (made_out_points t))
+
+-- ---- What inputs count
+
+-- the accumulated rate of the block at a height
+abbrev pub rate_of : Option Block → ℕ
+rate_of None = 0
+rate_of (Some b) = (field_of_bytes b.header.dao).rate
+
+abbrev pub rate_at : Site → ℕ → ℕ
+rate_at site height = rate_of (block_at site.branch height)
+
+-- what a withdrawing cell counts since its deposit
+abbrev pub withdrawn : Site → Cell → Option ℕ → ℕ
+withdrawn site cell None = cell.output.capacity
+withdrawn site cell (Some deposit) =
+    counted_capacity cell.output.capacity (occupied_by cell.output cell.content) (rate_at site cell.height) (rate_at site deposit)
+
+-- What the input at a place counts: a withdrawing cell what lies above what it occupies, grown with the accumulated rate; any other its
+-- capacity.
+unfoldable pub counted : Site → Transaction → ℕ × Found → ℕ
+counted site t (place, found) =
+    if is_withdrawing site.spec found.cell then withdrawn site found.cell (deposit_height (heights site t) t place found.cell)
+    else found.cell.output.capacity
+
+-- what all inputs count
+unfoldable pub counted_in : Site → Transaction → ℕ
+counted_in site t = sum_by (counted site t) (enumerate_from 0 (inputs site t))
+
+-- what all outputs hold
+unfoldable pub held_out : Transaction → ℕ
+held_out t = sum_by (λ output. output.capacity) t.raw.outputs
+
+-- J27: both sums are at most the greatest u64, and the outputs hold no more than the inputs count. Where the sum is, each input is.
+abbrev pub balances : Site → Transaction → Bool
+balances site t = nat_lt (counted_in site t) (2 ^ 64) && nat_lt (held_out t) (2 ^ 64) && nat_le (held_out t) (counted_in site t)
+
+-- The fee: what the inputs count beyond what the outputs hold.
+abbrev pub fee : Site → Transaction → ℕ
+fee site t = counted_in site t - held_out t
+
+-- The interest: what the inputs count beyond their capacities. It is below 0 only where the rate fell.
+abbrev pub interest : Site → Transaction → ℤ
+interest site t = pos (counted_in site t) -ℤ pos (sum_by (λ found. found.cell.output.capacity) (inputs site t))
