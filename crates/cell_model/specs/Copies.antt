@@ -2,7 +2,7 @@
 use Rattle.std.specs.Prelude.{◌≡◌, ℕ, List, Option, Some, slice_get}
 use Rattle.std.specs.Option.{option_map, option_and_then}
 use Rattle.codec_defs.specs.Shape.{decoded}
-use Rattle.codec_defs.specs.Schema.{OutPoint, CellOutput, cell_output, Block}
+use Rattle.codec_defs.specs.Schema.{OutPoint, CellOutput, cell_output, Transaction, Block}
 use Rattle.chain_tree.specs.Told.{Stored}
 use Rattle.cell_defs.specs.Cell.{Cell, data_of}
 use Rattle.cell_defs.specs.Row.{Row, row_of, IsOutputOf}
@@ -13,6 +13,14 @@ pub record ResolvedValue : Type 0 where
   pub row : Row
   pub output : List ℕ
   pub content : List ℕ
+
+-- a transaction with what it resolves to: the cells of its inputs and of its deps, and the places of its header deps
+pub record ResolvedTxValue : Type 0 where
+  pub tx : Transaction
+  pub hash : List ℕ
+  pub inputs : List ResolvedValue
+  pub deps : List ResolvedValue
+  pub headers : List ℕ
 
 -- The bytes are those of a cell: the encoding of its output, and its data.
 pub record IsCopyOf (cell : Cell) (copy : ResolvedValue) : Type 0 where

@@ -96,7 +96,7 @@ impl Model for Resolved {
 }
 
 /// A transaction with its hash, the cells of its inputs and of its resolved deps, each in their order, and the places
-/// of its header deps in the tree.
+/// of its header deps in the tree. Clauses see a record of lists.
 #[derive(Drop)]
 pub struct ResolvedTx<'a> {
     pub tx: TxView<'a>,
@@ -104,4 +104,12 @@ pub struct ResolvedTx<'a> {
     pub inputs: Vec<Resolved>,
     pub deps: Vec<Resolved>,
     pub headers: Vec<u32>,
+}
+
+impl<'a> Model for ResolvedTx<'a> {
+    ghost use Rattle.cell_model.specs.Copies.{ResolvedTxValue};
+
+    ghost Value = { ResolvedTxValue };
+
+    ghost view = { λ it. record { tx = it.tx; hash = it.hash; inputs = it.inputs.items; deps = it.deps.items; headers = it.headers.items } };
 }

@@ -1,0 +1,46 @@
+-- What a transaction resolves to.
+use Rattle.std.specs.Prelude.{◌≡◌, ◌⊎◌, ℕ, ◌≤◌, false, List, ◌++◌, map, Option, Some, None, IsTrue, IsSome, slice_index}
+use Rattle.std.specs.List.{All, AllZip}
+use Rattle.codec_defs.specs.Shape.{decoded}
+use Rattle.codec_defs.specs.Schema.{Transaction, cell_output, Block}
+use Rattle.chain_defs.specs.Hashes.{transaction_hash}
+use Rattle.chain_defs.specs.Branch.{branch_places}
+use Rattle.chain_tree.specs.declared.entry.Entry.{Entry}
+use Rattle.chain_tree.specs.Entries.{place_of_hash}
+use Rattle.cell_model.specs.Copies.{ResolvedValue, ResolvedTxValue, IsCopyOf}
+use Rattle.tx_defs.specs.Site.{Site, Found}
+use Rattle.tx_defs.specs.Resolving.{inputs, deps, heights}
+use Rattle.tx_defs.specs.Rules.{has_form}
+use Rattle.tx_defs.specs.Capacity as capacity
+use Rattle.tx_rules.specs.At.{found_row}
+use Rattle.tx_rules.specs.declared.capacity.Balance.{Balance}
+
+-- What is so of it over any source of blocks: the form is kept, each input has its own out-point, each header dep the place of its hash in the
+-- tree, and each copy an output.
+pub record IsFormed (entries : List Entry) (t : Transaction) (resolved : ResolvedTxValue) : Type 0 where
+  pub form : IsTrue (has_form t)
+  pub tx : resolved.tx ≡ t
+  pub hash : resolved.hash ≡ transaction_hash t
+  pub inputs : map (λ copy. copy.out_point) resolved.inputs ≡ map (λ input. input.previous_output) t.raw.inputs
+  pub headers : AllZip (λ hash place. place_of_hash entries hash ≡ Some place) t.raw.header_deps resolved.headers
+  pub outputs : All (λ copy. IsSome (decoded cell_output copy.output)) (resolved.inputs ++ resolved.deps)
+
+-- the copy of a cell that is found: its out-point, its row and its bytes
+pub record Copies (kept : List Block) (parent : ℕ) (found : Found) (copy : ResolvedValue) : Type 0 where
+  pub row : (copy.out_point, copy.row) ≡ found_row kept parent found
+  pub bytes : IsCopyOf found.cell copy
+
+-- What it is at its site: the cells of its inputs, its resolved deps, and the places of its header deps, each in their order.
+pub record IsResolved (kept : List Block) (parent : ℕ) (site : Site) (t : Transaction) (resolved : ResolvedTxValue) : Type 0 where
+  pub inputs_are : AllZip (Copies kept parent) (inputs site t) resolved.inputs
+  pub deps_are : AllZip (Copies kept parent) (deps site t) resolved.deps
+  pub headers_are : resolved.headers ≡ map (slice_index (branch_places kept parent)) (heights site t)
+
+-- the rules that are tried
+abbrev pub IsTried : ℕ → Type 0
+IsTried rule = (rule ≡ 18) ⊎ ((20 ≤ rule) × (rule ≤ 27))
+
+-- A balance: none exactly where the capacity rule is broken, and else the fee and the interest.
+abbrev pub IsBalanceOf : Site → Transaction → Option Balance → Type 0
+IsBalanceOf site t None = capacity.balances site t ≡ false
+IsBalanceOf site t (Some balance) = IsTrue (capacity.balances site t) × (balance.fee ≡ capacity.fee site t) × (balance.interest ≡ capacity.interest site t)

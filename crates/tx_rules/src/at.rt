@@ -1,0 +1,44 @@
+// Where a transaction is judged.
+
+use chain_tree::Tree;
+use epochs::Spec;
+use mol_schema::BlockView;
+use std::marker::Model;
+
+/// Where a transaction is judged: on a parent in the tree, in the block that is judged or, as a dry run, alone. A row
+/// of its cells whose block is the tree's length names an output of that block.
+#[derive(Drop)]
+pub struct TxAt<'a> {
+    pub spec: &'a Spec,
+    pub tree: &'a Tree,
+    /// The place of the parent in the tree.
+    pub parent: u32,
+    pub block: Option<BlockView<'a>>,
+}
+
+impl<'a> Model for TxAt<'a> {
+    ghost use Rattle.tx_rules.specs.At.{AtValue};
+
+    ghost Value = { AtValue };
+
+    ghost view = { λ at. record { spec = at.spec.now; entries = at.tree.now.entries; parent = at.parent; block = at.block } };
+}
+
+impl<'a> TxAt<'a> {
+    ghost use Rattle.std.specs.Prelude.{◌≡◌, ◌+◌, ◌^◌, ◌<◌, List};
+    ghost use Rattle.codec_defs.specs.Schema.{OutPoint};
+    ghost use Rattle.std.specs.declared.option.Option.{Option};
+    ghost use Rattle.cell_defs.specs.Row.{Row};
+    ghost use Rattle.chain_tree.specs.Told.{Stored};
+    ghost use Rattle.tx_defs.specs.Site.{Site, height_at};
+    ghost use Rattle.tx_rules.specs.At.{IsPlaced, IsSiteOf};
+
+    /// The height of the block that the transaction stands in.
+    pub fn height(&self) -> u64
+        requires { IsPlaced self.now }
+        ensures fits { result < 2 ^ 24 }
+        ensures height { (stored : List Stored) (rows : OutPoint → Option Row) (site : Site) → IsSiteOf stored self.now rows site → result ≡ height_at site }
+    {
+        self.tree.entry(self.parent).number + 1
+    }
+}

@@ -1,0 +1,22 @@
+//! The rules on one transaction behind the cellbase, J18 and J20 to J27 (docs/RULES.md, "A block").
+//!
+//! [`resolve`] is the contract of use: over a tree, the live cells that the transaction sees and a source of kept
+//! blocks it answers the least of these rules that is broken, exactly by `tx_defs`, and otherwise the transaction with
+//! copies of the cells of its inputs and deps, its fee and its interest. It is linear in the transaction but for
+//! looking up out-points, and copies no cell that it does not hand out. That the transaction was proposed (J19), and what
+//! its scripts say (J28 to J30), is left to others.
+#![tactic(auto)]
+
+mod age;
+mod at;
+mod capacity;
+mod deps;
+mod form;
+mod headers;
+mod inputs;
+mod outputs;
+mod resolving;
+mod withdrawals;
+
+pub use at::TxAt;
+pub use resolving::{TxOk, TxStop, resolve};

@@ -1,0 +1,74 @@
+// All rules on one transaction, in their order.
+ghost use Rattle.std.specs.Prelude.{◌≡◌, ◌∷◌, List, length, map, Ok, Err, Some, None, IfOk, ℕ};
+ghost use Rattle.outside.specs.Causes.{CountsFault};
+ghost use Rattle.outside.specs.declared.disk.Area.TheVariants.{Log};
+ghost use Rattle.outside.specs.declared.disk.Damage.{Damage};
+ghost use Rattle.outside.specs.declared.disk.ReadStop.TheVariants.{DiskFault, Damaged};
+ghost use Rattle.chain_tree.specs.Told.{Stored, blocks_of};
+ghost use Rattle.tx_defs.specs.Site.{Site};
+ghost use Rattle.tx_defs.specs.Rules.{broken_transaction_rule};
+ghost use Rattle.tx_defs.specs.Capacity as rules;
+ghost use Rattle.tx_rules.specs.At.{IsPlaced, IsSiteOf};
+ghost use Rattle.tx_rules.specs.Outcome.{IsFormed, IsResolved, IsTried};
+
+use crate::at::TxAt;
+use cell_model::{Cells, ResolvedTx};
+use chain_tree::Blocks;
+use mol_schema::TxView;
+use outside::ReadStop;
+use std::alloc::Global;
+
+/// A transaction that keeps J18 and J20 to J27.
+#[derive(Drop)]
+pub struct TxOk<'a> {
+    pub resolved: ResolvedTx<'a>,
+    /// Shannons.
+    pub fee: u64,
+    /// What its withdrawing inputs count beyond their capacities, in shannons; below 0 only where the accumulated rate
+    /// fell.
+    pub interest: i128,
+}
+
+/// Why a transaction was not resolved.
+#[derive(Clone, Copy, Debug, PartialEq, Eq)]
+pub enum TxStop {
+    /// The first rule that it breaks: 18, or one of 20 to 27.
+    Broken(u8),
+    /// The kept blocks could not be read, or there was no memory.
+    Read(ReadStop),
+}
+
+/// Tries the rules on one transaction, in their order.
+pub fn resolve<'a, C: Cells, B: Blocks>(
+    alloc: Global,
+    tx: &TxView<'a>,
+    at: &TxAt<'_>,
+    cells: &C,
+    blocks: &mut B,
+) -> Result<TxOk<'a>, TxStop>
+    requires placed { IsPlaced at.now }
+    requires counts { B.count blocks.old ≡ length at.now.entries }
+    ensures told { B.told blocks.new ≡ B.told blocks.old }
+    ensures count { B.count blocks.new ≡ B.count blocks.old }
+    ensures loans { B.loans_of blocks.new ≡ B.loans_of blocks.old }
+    ensures formed { IfOk result (λ ok. IsFormed at.now.entries tx.now ok.resolved) }
+    ensures tried { (rule : ℕ) → result ≡ Err (TxStop.Broken rule) → IsTried rule }
+
+    // Over kept blocks that are told, at the site of the transaction: the first rule that is broken, or none.
+    ensures broken { (stored : List Stored) (site : Site) → B.told blocks.old ≡ Some stored → IsSiteOf stored at.now (C.rows cells.now) site
+        → (rule : ℕ) → result ≡ Err (TxStop.Broken rule) → broken_transaction_rule site tx.now ≡ Some rule }
+    ensures unbroken { (stored : List Stored) (site : Site) → B.told blocks.old ≡ Some stored → IsSiteOf stored at.now (C.rows cells.now) site
+        → IfOk result (λ _. broken_transaction_rule site tx.now ≡ None) }
+    ensures resolved { (stored : List Stored) (site : Site) → B.told blocks.old ≡ Some stored → IsSiteOf stored at.now (C.rows cells.now) site
+        → IfOk result (λ ok. IsResolved (blocks_of stored) at.now.parent site tx.now ok.resolved) }
+    ensures fee { (stored : List Stored) (site : Site) → B.told blocks.old ≡ Some stored → IsSiteOf stored at.now (C.rows cells.now) site
+        → IfOk result (λ ok. ok.fee ≡ rules.fee site tx.now) }
+    ensures interest { (stored : List Stored) (site : Site) → B.told blocks.old ≡ Some stored → IsSiteOf stored at.now (C.rows cells.now) site
+        → IfOk result (λ ok. ok.interest ≡ rules.interest site tx.now) }
+    ensures undamaged { (stored : List Stored) (site : Site) → B.told blocks.old ≡ Some stored → IsSiteOf stored at.now (C.rows cells.now) site
+        → (damage : Damage) → result ≡ Err (TxStop.Read (Damaged damage)) → ⊥ }
+    ensures damage { (damage : Damage) → result ≡ Err (TxStop.Read (Damaged damage)) → damage.area ≡ Log }
+    ensures cause { CountsFault (B.faults blocks.old) (B.faults blocks.new) (result ≡ Err (TxStop.Read DiskFault)) }
+{
+    Err(TxStop::Read(ReadStop::NoMemory))
+}
