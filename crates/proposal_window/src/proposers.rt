@@ -1,0 +1,41 @@
+// The earliest proposer of an id.
+ghost use Rattle.std.specs.Prelude.{◌≡◌, ◌+◌, ◌<◌, ◌≤◌, List, length, Some, Err, IfOk, IsSomeAnd};
+ghost use Rattle.outside.specs.declared.disk.Damage.{Damage};
+ghost use Rattle.outside.specs.declared.disk.ReadStop.TheVariants.{DiskFault, Damaged};
+ghost use Rattle.outside.specs.Causes.{CountsFault};
+ghost use Rattle.outside.specs.declared.disk.Area.TheVariants.{Log};
+ghost use Rattle.chain_defs.specs.Branch.{branch};
+ghost use Rattle.chain_tree.specs.Entries.{entry_at};
+ghost use Rattle.chain_tree.specs.Blocks.{IndexesBlocks};
+ghost use Rattle.chain_tree.specs.Told.{Stored, blocks_of};
+ghost use Rattle.window_defs.specs.Window as window;
+
+use chain_tree::{Blocks, Tree};
+use epochs::Spec;
+use outside::ReadStop;
+
+/// The lowest height, from w_far to w_close before this one, at which the block of the parent's branch or one of its
+/// uncles proposes the id. None where none of them does. Damaged where the bytes of one of these blocks are no block.
+pub fn earliest<B: Blocks>(
+    spec: &Spec,
+    tree: &Tree,
+    blocks: &mut B,
+    parent: u32,
+    id: &[u8; 10],
+    height: u64,
+) -> Result<Option<u64>, ReadStop>
+    requires parent { parent < length tree.now.entries }
+    requires counts { B.count blocks.old ≡ length tree.now.entries }
+    requires height { IsSomeAnd (entry_at tree.now.entries parent) (λ entry. height ≤ entry.number + 1) }
+    ensures told { B.told blocks.new ≡ B.told blocks.old }
+    ensures count { B.count blocks.new ≡ B.count blocks.old }
+    ensures loans { B.loans_of blocks.new ≡ B.loans_of blocks.old }
+    ensures earliest { (stored : List Stored) → B.told blocks.old ≡ Some stored → IndexesBlocks (blocks_of stored) tree.now.entries
+        → IfOk result (λ found. found ≡ window.earliest spec.now (branch (blocks_of stored) parent) id.now height) }
+    ensures undamaged { (stored : List Stored) → B.told blocks.old ≡ Some stored → IndexesBlocks (blocks_of stored) tree.now.entries
+        → (damage : Damage) → result ≡ Err (Damaged damage) → ⊥ }
+    ensures damage { (damage : Damage) → result ≡ Err (Damaged damage) → damage.area ≡ Log }
+    ensures cause { CountsFault (B.faults blocks.old) (B.faults blocks.new) (result ≡ Err DiskFault) }
+{
+    Err(ReadStop::NoMemory)
+}
