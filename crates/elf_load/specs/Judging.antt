@@ -4,7 +4,7 @@ use Rattle.std.specs.List.{list_any}
 use Rattle.vm_defs.specs.declared.memory.PageKind.{PageKind}
 use Rattle.vm_defs.specs.declared.memory.PageKind.TheVariants.{Data, Code}
 use Rattle.vm_defs.specs.Memory.{page_count}
-use Rattle.vm_defs.specs.Elf.{Segment, broken_elf, broken_segment, broken_segments, can_run, first_page, is_loaded, last_page, program_of, segment_at, segments}
+use Rattle.vm_defs.specs.Elf.{Program, Segment, broken_elf, broken_segment, broken_segments, can_run, first_page, is_loaded, last_page, program_of, segment_at, segments}
 
 -- the segment of the program header at an offset, if it is one that is loaded
 abbrev pub loaded_at : List ℕ → ℕ → Option Segment
@@ -50,6 +50,16 @@ abbrev pub JudgesSegments : List ℕ → Result ℕ ℕ → Type 0
 JudgesSegments file (Ok file_bytes) =
     (broken_segments file [] (segments file) ≡ None) × (file_bytes ≡ sum_by (λ segment. segment.file_size) (segments file))
 JudgesSegments file (Err condition) = broken_segments file [] (segments file) ≡ Some condition
+
+-- what contracts see of a file that was judged: the program that it holds, and the segments that make it up
+pub record JudgedFile : Type 0 where
+  pub program : Program
+  pub segments : List Segment
+
+-- the program, or the number of the first condition that the file meets
+abbrev pub program_in : Result JudgedFile ℕ → Result Program ℕ
+program_in (Ok judged) = Ok judged.program
+program_in (Err condition) = Err condition
 
 -- the file holds a program, whose segments have so many bytes in it
 pub record IsJudged (file : List ℕ) (file_bytes : ℕ) : Type 0 where

@@ -1,9 +1,10 @@
--- A segment in memory.
-use Rattle.std.specs.Prelude.{◌≡◌, ℕ, ◌<◌, List, length, slice_index_or}
+-- A segment in memory, and the pages that segments take.
+use Rattle.std.specs.Prelude.{◌≡◌, ◌↔◌, ◌⊎◌, ℕ, ◌<◌, Bool, List, [], ◌∷◌, length, slice_index_or}
 use Rattle.std.specs.List.{list_any}
 use Rattle.vm_defs.specs.declared.memory.PageKind.TheVariants.{Data}
 use Rattle.vm_defs.specs.Memory.{Memory, is_code, overwritten, page_count}
 use Rattle.vm_defs.specs.Elf.{Segment, contents, kinds_with}
+use Rattle.vm_mem.specs.Pages.{IsAllocated, IsUnder}
 use Rattle.elf_load.specs.Judging.{makes_code}
 
 -- memory has the pages of code of the segments, and no other
@@ -18,3 +19,12 @@ with_contents file memory segment =
 
 abbrev pub with_code : Memory → Segment → Memory
 with_code memory segment = record memory { kinds = kinds_with memory.kinds segment }
+
+-- bytes of the file go to the page with one of the segments; the zeros behind them do not count
+abbrev pub HoldsBytes : ℕ → List Segment → Type 0
+HoldsBytes page [] = ⊥
+HoldsBytes page (segment ∷ later) = IsUnder page segment.address segment.file_size ⊎ HoldsBytes page later
+
+-- Those pages are allocated beside the ones that were, and no other.
+abbrev pub Allocates : List Segment → List Bool → List Bool → Type 0
+Allocates segments old new = (page : ℕ) → IsAllocated new page ↔ (IsAllocated old page ⊎ HoldsBytes page segments)

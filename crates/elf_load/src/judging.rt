@@ -2,9 +2,10 @@
 ghost use Rattle.std.specs.Prelude.{◌≡◌, ◌^◌, ◌≤◌, List, None, IfOk, IsOk, OnErr, OnOk, ◌<◌};
 ghost use Rattle.vm_defs.specs.Memory.{new_memory};
 ghost use Rattle.vm_defs.specs.Elf as elf;
-ghost use Rattle.vm_defs.specs.Elf.{broken_header, broken_segment, load_elf};
-ghost use Rattle.elf_load.specs.Judging.{JudgesSegment, JudgesSegments, Marks};
+ghost use Rattle.vm_defs.specs.Elf.{broken_header, broken_segment, load_elf, segments};
+ghost use Rattle.elf_load.specs.Judging.{JudgesSegment, JudgesSegments, Marks, program_in};
 ghost use Rattle.elf_load.specs.Loads.{AllAllocated};
+ghost use Rattle.elf_load.specs.Placing.{Allocates};
 
 use super::field::is_inside;
 use super::header::{Header, broken_header};
@@ -15,7 +16,7 @@ use outside::NoMemory;
 use std::marker::Model;
 use vm_mem::Memory;
 
-/// A file that meets none of the conditions. Contracts see the program that it holds.
+/// A file that meets none of the conditions. Contracts see the program that it holds, and its segments.
 #[derive(Drop)]
 pub struct Judged<'a> {
     file: &'a [u8],
@@ -23,12 +24,12 @@ pub struct Judged<'a> {
 }
 
 impl<'a> Model for Judged<'a> {
-    ghost use Rattle.vm_defs.specs.Elf.{Program, program_of};
-    ghost use Rattle.elf_load.specs.Judging.{IsJudged};
+    ghost use Rattle.vm_defs.specs.Elf.{program_of, segments};
+    ghost use Rattle.elf_load.specs.Judging.{IsJudged, JudgedFile};
 
-    ghost Value = { Program };
+    ghost Value = { JudgedFile };
 
-    ghost view = { λ j. program_of j.file.now };
+    ghost view = { λ j. record { program = program_of j.file.now; segments = segments j.file.now } };
 
     ghost invariant = { λ j. IsJudged j.file.now j.file_bytes };
 }
@@ -38,7 +39,8 @@ impl<'a> Model for Judged<'a> {
 /// `Err` has the number of the first of the conditions E 1 to E 8 that the file meets (docs/MACHINE.md, "A program
 /// as an ELF file"). The cost is one pass over the program headers, with at most 1,024 pages looked up for each.
 pub fn judge<'a>(file: &'a [u8]) -> Result<Judged<'a>, u8>
-    ensures { result ≡ load_elf file.now }
+    ensures program { program_in result ≡ load_elf file.now }
+    ensures segments { IfOk result (λ judged. judged.segments ≡ segments file.now) }
 {
     if let Some(condition) = broken_header(file) {
         return Err(condition);
@@ -54,14 +56,14 @@ impl<'a> Judged<'a> {
     /// The address of its first instruction. It is taken as it stands in the file.
     #[tactic(auto, unfolding(vm_defs::specs::Elf::program_of))]
     pub fn pc(&self) -> u64
-        ensures { result ≡ self.now.pc }
+        ensures { result ≡ self.now.program.pc }
     {
         Header::of(self.file).e_entry()
     }
 
     /// How many bytes its segments have in the file, all together. Loading costs a cycle for four of them.
     pub fn file_bytes(&self) -> u64
-        ensures bytes { result ≡ self.now.file_bytes }
+        ensures bytes { result ≡ self.now.program.file_bytes }
         // 65,535 segments have at most 2^22 bytes each.
         ensures bound { result ≤ 2 ^ 38 }
     {
@@ -70,11 +72,13 @@ impl<'a> Judged<'a> {
 
     /// Places its segments in new memory.
     ///
-    /// Out of memory comes only where the file has bytes to be placed, and memory may then hold a part of them.
+    /// The pages that bytes of the file go to are allocated, and no other. Out of memory comes only where the file has
+    /// bytes to be placed, and memory may then hold a part of them.
     pub fn place(&self, memory: &mut Memory) -> Result<(), NoMemory>
         requires { memory.old.memory ≡ new_memory }
-        ensures placed { OnOk result (memory.new.memory ≡ self.now.memory) }
-        ensures some { OnErr result (0 < self.now.file_bytes) }
+        ensures placed { OnOk result (memory.new.memory ≡ self.now.program.memory) }
+        ensures allocated { OnOk result (Allocates self.now.segments memory.old.allocated memory.new.allocated) }
+        ensures some { OnErr result (0 < self.now.program.file_bytes) }
         ensures needs_no_memory { AllAllocated memory.old.allocated → IsOk result }
     {
         place_segments(self.file, memory)

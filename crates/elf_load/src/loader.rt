@@ -1,8 +1,9 @@
 // A file is judged, and then placed.
 ghost use Rattle.std.specs.Prelude.{◌≡◌, ◌≢◌, ◌^◌, ◌≤◌, ℕ, Err, IfOk};
 ghost use Rattle.vm_defs.specs.Memory.{new_memory};
-ghost use Rattle.vm_defs.specs.Elf.{load_elf};
+ghost use Rattle.vm_defs.specs.Elf.{load_elf, segments};
 ghost use Rattle.elf_load.specs.Loads.{AllAllocated, Loads};
+ghost use Rattle.elf_load.specs.Placing.{Allocates};
 
 use super::judging::judge;
 use super::stop::ElfStop;
@@ -24,6 +25,7 @@ pub struct Entry {
 pub fn load(file: &[u8], memory: &mut Memory) -> Result<Entry, ElfStop>
     requires { memory.old.memory ≡ new_memory }
     ensures loads { Loads (load_elf file.now) memory.new.memory result }
+    ensures allocated { IfOk result (λ entry. Allocates (segments file.now) memory.old.allocated memory.new.allocated) }
     ensures size { IfOk result (λ entry. entry.file_bytes ≤ 2 ^ 38) }
     ensures needs_no_memory { AllAllocated memory.old.allocated → result ≢ Err ElfStop.NoMemory }
     ensures refused { (number : ℕ) → result ≡ Err (ElfStop.Bad number) → memory.new ≡ memory.old }

@@ -1,9 +1,9 @@
 // The segments of a judged file are placed in memory.
-ghost use Rattle.std.specs.Prelude.{◌≡◌, ◌+◌, ◌<◌, ◌≤◌, false, slice_range, sum_by, true, fold, None, IsOk, OnErr, OnOk};
+ghost use Rattle.std.specs.Prelude.{◌≡◌, ◌+◌, ◌<◌, ◌≤◌, [], ◌∷◌, false, slice_range, sum_by, true, fold, None, IsOk, OnErr, OnOk};
 ghost use Rattle.std.specs.List.{list_any};
 ghost use Rattle.vm_defs.specs.Memory.{is_code, is_out_of_range, kinds_under, new_memory};
 ghost use Rattle.vm_defs.specs.Elf.{broken_elf, is_inside, segments, with_segment};
-ghost use Rattle.elf_load.specs.Placing.{with_code, with_contents};
+ghost use Rattle.elf_load.specs.Placing.{Allocates, with_code, with_contents};
 ghost use Rattle.elf_load.specs.Loads.{AllAllocated};
 
 use super::header::Header;
@@ -17,6 +17,7 @@ pub(crate) fn place_segments(file: &[u8], memory: &mut Memory) -> Result<(), NoM
     requires sound { broken_elf file.now ≡ None }
     requires new { memory.old.memory ≡ new_memory }
     ensures placed { OnOk result (memory.new.memory ≡ fold (with_segment file.now) new_memory (segments file.now)) }
+    ensures allocated { OnOk result (Allocates (segments file.now) memory.old.allocated memory.new.allocated) }
     ensures some { OnErr result (0 < sum_by (λ segment. segment.file_size) (segments file.now)) }
     ensures needs_no_memory { AllAllocated memory.old.allocated → IsOk result }
 {
@@ -40,6 +41,7 @@ fn place(file: &[u8], segment: &Segment, memory: &mut Memory) -> Result<(), NoMe
     requires in_memory { is_out_of_range segment.now.address segment.now.memory_size ≡ false }
     requires no_code { list_any is_code (kinds_under memory.old.memory segment.now.address segment.now.memory_size) ≡ false }
     ensures placed { OnOk result (memory.new.memory ≡ with_segment file.now memory.old.memory segment.now) }
+    ensures allocated { OnOk result (Allocates (segment.now ∷ []) memory.old.allocated memory.new.allocated) }
     ensures some { OnErr result (0 < segment.now.file_size) }
     ensures needs_no_memory { AllAllocated memory.old.allocated → IsOk result }
     ensures pages_kept { AllAllocated memory.old.allocated → AllAllocated memory.new.allocated }
@@ -57,6 +59,7 @@ fn write_contents(file: &[u8], segment: &Segment, memory: &mut Memory) -> Result
     requires in_memory { is_out_of_range segment.now.address segment.now.memory_size ≡ false }
     requires no_code { list_any is_code (kinds_under memory.old.memory segment.now.address segment.now.memory_size) ≡ false }
     ensures written { OnOk result (memory.new.memory ≡ with_contents file.now memory.old.memory segment.now) }
+    ensures allocated { OnOk result (Allocates (segment.now ∷ []) memory.old.allocated memory.new.allocated) }
     ensures some { OnErr result (0 < segment.now.file_size) }
     ensures needs_no_memory { AllAllocated memory.old.allocated → IsOk result }
     ensures pages_kept { AllAllocated memory.old.allocated → AllAllocated memory.new.allocated }

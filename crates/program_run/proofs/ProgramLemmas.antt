@@ -54,6 +54,7 @@ pub record Runs (start now : RunningMachine) : Type 0 where
   pub same : run answer_ecall now.machine ≡ run answer_ecall start.machine
   pub steps : ℕ
   pub reaches : Reaches answer_ecall steps start.machine now.machine
+  pub pages_kept : (page : ℕ) → IsAllocated start.allocated page → IsAllocated now.allocated page
   pub room : (before : ℕ) (reached : Machine) → before < steps → Reaches answer_ecall before start.machine reached
       → (step_of reached).0 ≡ Went → HasRoom now.allocated (next_range reached)
 
@@ -63,6 +64,7 @@ runs-none start on = record {
   same = refl;
   steps = 0;
   reaches = refl;
+  pages_kept = λ page allocated. allocated;
   room = λ before reached below. absurd (omega (arith, below));
 }
 
@@ -79,6 +81,7 @@ runs-more start old new end runs a is pages_kept room =
       same = run-goes-on old new end a is ∙ runs.same;
       steps = suc all.0;
       reaches = (last.last, all.2, step);
+      pages_kept = λ page allocated. pages_kept page (runs.pages_kept page allocated);
       room = λ before reached below reaches went. elim (cases_lt before runs.steps) [
         | inl fewer ↦ has-room-later old new (next_range reached) pages_kept (runs.room before reached fewer reaches went)
         | inr later ↦ room (before - runs.steps) reached
@@ -106,7 +109,8 @@ stored-since start old new page end runs wants is stored =
     ]
 
 -- it is out of memory
-pub run-wants-page : (start old : RunningMachine) (new : Machine) → Runs start old → WantsPage old new → RunWantsPage start.machine
+pub run-wants-page : (start old : RunningMachine) (new : Machine) → Runs start old → WantsPage old new
+    → RunWantsPage (IsAllocated start.allocated) start.machine
 run-wants-page start old new runs wants =
     let all = reaches-more answer_ecall runs.steps wants.steps start.machine old.machine wants.reached runs.reaches wants.leads in
     record {
@@ -114,7 +118,10 @@ run-wants-page start old new runs wants =
       reached = wants.reached;
       reaches = all.2;
       goes = wants.stores.0;
-      new_page = λ has. wants.new_page (λ page touches. stored-since start old new page all.0 runs wants all.1 (has page touches));
+      new_page = λ has. wants.new_page (λ page touches. elim (has page touches) [
+        | inl allocated ↦ inl (runs.pages_kept page allocated)
+        | inr stored ↦ stored-since start old new page all.0 runs wants all.1 stored
+      ]);
     }
 
 -- ---- the cost of loading
@@ -135,3 +142,19 @@ spent-loading budget file program cost held is more =
     let sum : 0 + loading_cycles program.file_bytes ≡ cost = omega (arith, is) in
     let spent : nat_lt budget cost ≡ true = grind (arith, nat_tests, more) in
     rw (← held, sum, spent) refl
+
+-- ---- the pages that have memory at the start
+
+-- more pages that have memory
+pub wants-page-beyond : (HasMore HasMemory : ℕ → Type 0) (start : Machine) → ((page : ℕ) → HasMemory page → HasMore page)
+    → RunWantsPage HasMore start → RunWantsPage HasMemory start
+wants-page-beyond HasMore HasMemory start more wants = record {
+  steps = wants.steps;
+  reached = wants.reached;
+  reaches = wants.reaches;
+  goes = wants.goes;
+  new_page = λ has. wants.new_page (λ page touches. elim (has page touches) [
+    | inl memory ↦ inl (more page memory)
+    | inr stored ↦ inr stored
+  ]);
+}

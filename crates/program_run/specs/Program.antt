@@ -1,13 +1,14 @@
 -- What came of a file, and the parts of a run (docs/MACHINE.md, "A run").
-use Rattle.std.specs.Prelude.{◌≡◌, ℕ, ◌<◌, ◌≤◌, true, Option, None, Result, Ok, Err}
+use Rattle.std.specs.Prelude.{◌≡◌, ◌⊎◌, ℕ, ◌<◌, ◌≤◌, true, List, Option, None, Result, Ok, Err}
 use Rattle.vm_defs.specs.declared.outcome.Outcome.{Outcome}
 use Rattle.vm_defs.specs.Alone.{answer_ecall}
-use Rattle.vm_defs.specs.Elf.{Program}
+use Rattle.vm_defs.specs.Elf.{Program, Segment}
 use Rattle.vm_defs.specs.Program as programs
 use Rattle.vm_defs.specs.Program.{Reaches, answered, loading_cycles, new_machine, stop_of}
 use Rattle.vm_defs.specs.Step.{Machine, charged, step_of}
 use Rattle.vm_defs.specs.declared.step.Step.TheVariants.{Went}
 use Rattle.vm_step.specs.Running.{RunningMachine, Touches, next_range}
+use Rattle.elf_load.specs.Placing.{HoldsBytes}
 use Rattle.program_run.specs.declared.program.Execution.{Execution}
 use Rattle.program_run.specs.declared.program.Execution.TheVariants.{Ended, BadElf}
 
@@ -29,19 +30,22 @@ pub record IsStoredBefore (end : ℕ) (start : Machine) (page : ℕ) : Type 0 wh
   pub goes : (step_of reached).0 ≡ Went
   pub touches : Touches (next_range reached) page
 
--- A run comes to a step that would go, and that does not store to pages alone which steps before it stored to.
-pub record RunWantsPage (start : Machine) : Type 0 where
+-- A run comes to a step that would go, and that stores to a page without memory: one that had none at the start, and
+-- that no step before stored to.
+pub record RunWantsPage (HasMemory : ℕ → Type 0) (start : Machine) : Type 0 where
   pub steps : ℕ
   pub reached : Machine
   pub reaches : Reaches answer_ecall steps start reached
   pub goes : (step_of reached).0 ≡ Went
-  pub new_page : ((page : ℕ) → Touches (next_range reached) page → IsStoredBefore steps start page) → ⊥
+  pub new_page : ((page : ℕ) → Touches (next_range reached) page → HasMemory page ⊎ IsStoredBefore steps start page) → ⊥
 
--- the run does of the program that a file holds
-abbrev pub ProgramWantsPage : ℕ → Result Program ℕ → Type 0
-ProgramWantsPage budget (Ok program) =
-    RunWantsPage (charged (new_machine program.memory program.pc budget) (loading_cycles program.file_bytes))
-ProgramWantsPage budget (Err condition) = ⊥
+-- The run does of the program that a file holds. At the start the pages have memory that bytes of the file went to, with
+-- one of its segments.
+abbrev pub ProgramWantsPage : ℕ → List Segment → Result Program ℕ → Type 0
+ProgramWantsPage budget segments (Ok program) =
+    RunWantsPage (λ page. HoldsBytes page segments)
+    (charged (new_machine program.memory program.pc budget) (loading_cycles program.file_bytes))
+ProgramWantsPage budget segments (Err condition) = ⊥
 
 -- the machine ran to a step that did not go by itself, which ended the program so, or after which the machine goes on
 pub record Advances (old new : RunningMachine) (end : Option Outcome) : Type 0 where

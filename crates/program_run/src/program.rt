@@ -1,11 +1,12 @@
 // A program's run: what alone touches the machine.
 ghost use Rattle.std.specs.Prelude.{◌≡◌, ℕ, ◌^◌, ◌≤◌, Some, Ok, Err, true, IfOk, OnErr, OnOk};
-ghost use Rattle.vm_defs.specs.Elf.{load_elf};
+ghost use Rattle.vm_defs.specs.Elf.{load_elf, segments};
 ghost use Rattle.vm_defs.specs.Alone as alone;
 ghost use Rattle.vm_defs.specs.Program as programs;
 ghost use Rattle.vm_defs.specs.Program.{execution, run_loaded};
 ghost use Rattle.vm_mem.specs.Pages.{IsAllocated};
 ghost use Rattle.vm_step.specs.Running.{LeavesRoom, WantsPage};
+ghost use Rattle.elf_load.specs.Placing.{HoldsBytes};
 ghost use Rattle.program_run.specs.Program.{Advances, PaysForLoading, ProgramWantsPage, RunWantsPage, execution_of};
 
 use elf_load::{Judged, judge};
@@ -42,7 +43,7 @@ pub enum Execution {
 pub enum OutOfMemory {
     /// Before the first step.
     Loading,
-    /// At a step that stores to a page which is not allocated.
+    /// At a step that stores to a page without memory.
     Running,
 }
 
@@ -50,13 +51,14 @@ pub enum OutOfMemory {
 ///
 /// The file is judged, then its loading is paid for, and only then is memory taken and its bytes are copied. So a file
 /// that is no program, or whose loading spends the budget, costs a look at its headers. A run is out of memory only
-/// where it comes to a step that stores to a page which no step before stored to.
+/// where it comes to a step that stores to a page without memory: no bytes of the file went there, and no step before
+/// stored to it.
 #[tactic(auto, unfolding(vm_defs::specs::Program::execution))]
 pub fn execute(alloc: Global, file: &[u8], budget: u64) -> Result<Execution, OutOfMemory>
     requires { budget ≤ 2 ^ 40 }
     ensures came { IfOk result (λ came. execution_of came ≡ execution alone.answer_ecall budget file.now) }
     ensures paid { OnErr result (PaysForLoading budget (load_elf file.now)) }
-    ensures running { result ≡ Err OutOfMemory.Running → ProgramWantsPage budget (load_elf file.now) }
+    ensures running { result ≡ Err OutOfMemory.Running → ProgramWantsPage budget (segments file.now) (load_elf file.now) }
 {
     let judged = match judge(file) {
         Ok(judged) => judged,
@@ -80,10 +82,10 @@ fn run_judged(
     cost: u64,
 ) -> Result<Execution, OutOfMemory>
     requires bound { budget ≤ 2 ^ 40 }
-    requires cost { cost ≡ programs.loading_cycles judged.now.file_bytes }
+    requires cost { cost ≡ programs.loading_cycles judged.now.program.file_bytes }
     requires paid { cost ≤ budget }
-    ensures came { IfOk result (λ came. execution_of came ≡ Ok (run_loaded alone.answer_ecall budget judged.now)) }
-    ensures running { result ≡ Err OutOfMemory.Running → ProgramWantsPage budget (Ok judged.now) }
+    ensures came { IfOk result (λ came. execution_of came ≡ Ok (run_loaded alone.answer_ecall budget judged.now.program)) }
+    ensures running { result ≡ Err OutOfMemory.Running → ProgramWantsPage budget judged.now.segments (Ok judged.now.program) }
 {
     let memory = match loaded(alloc, judged) {
         Ok(memory) => memory,
@@ -102,7 +104,8 @@ fn run_judged(
 
 /// The memory that the program of a file begins with.
 fn loaded(alloc: Global, judged: &Judged) -> Result<Memory, NoMemory>
-    ensures { IfOk result (λ memory. memory.memory ≡ judged.now.memory) }
+    ensures memory { IfOk result (λ memory. memory.memory ≡ judged.now.program.memory) }
+    ensures allocated { IfOk result (λ memory. (page : ℕ) → HoldsBytes page judged.now.segments → IsAllocated memory.allocated page) }
 {
     let mut memory = Memory::new(alloc)?;
     judged.place(&mut memory)?;
@@ -122,7 +125,7 @@ fn loading_cycles(count: u64) -> u64
 fn run(machine: &mut Machine) -> Result<Outcome, NoMemory>
     requires { machine.old.goes_on ≡ true }
     ensures ends { IfOk result (λ outcome. (outcome, machine.new.machine.cycles) ≡ programs.run alone.answer_ecall machine.old.machine) }
-    ensures wants_page { OnErr result (RunWantsPage machine.old.machine) }
+    ensures wants_page { OnErr result (RunWantsPage (IsAllocated machine.old.allocated) machine.old.machine) }
 {
     'steps: loop {
         match advance(machine) {

@@ -3,6 +3,7 @@ use Rattle.elf_load.proofs.placing.place_segments.Goals.{in-Some+in-Ok, in_defau
 use Rattle.vm_defs.specs.Elf.{Segment, broken_segment, e_phnum, e_phoff, has_table, program_header_size, segments_from}
 use Rattle.elf_load.specs.Judging.{loaded_at}
 use Rattle.elf_load.proofs.Segments.{Placing, no_code-at, placing-more, placing-none, placing-some, placing-sound, rest-all, rest-at, rest-step, sound-header, sound-of_none, sound-parts}
+use Rattle.elf_load.proofs.Allocating.{Allocating, allocating-all, allocating-more}
 use Rattle.elf_load.proofs.placing.place_segments.Goals as goal
 
 -- the segments of the program headers behind one
@@ -19,6 +20,7 @@ loop-index-init c =
     let place : e_phoff file + 0 ≡ e_phoff file = omega arith in
     record {
       placing = rw (count, place) (placing-none file c.args.memory.now.memory c.requires.new);
+      allocating = rw (count, place) (λ last all. all);
       pages_kept = λ allocated. allocated;
     }
 
@@ -73,14 +75,19 @@ loop-index-preserved c =
       | in-Some+in-Ok w ↦
           let s = w.in-Some.segment in
           let p = subst (λ rest. Placing file rest c.loop-index.memory.memory) (rest-at file count index at below c.segment.result s found w.in-Some.is) placing in
+          let all = subst (λ rest. Allocating file rest c.args.memory.now.allocated c.loop-index.memory.allocated)
+          (rest-at file count index at below c.segment.result s found w.in-Some.is) c.loop-index.invariant.allocating in
           let sound = placing-sound file s _ c.loop-index.memory.memory p (sound-parts file c.requires.sound).1 in
           rw w.memory-is (record {
             placing = placing-more file s _ c.loop-index.memory.memory w.place.new.memory.memory p sound w.in-Ok.ensures.placed;
+            allocating = allocating-more file s _ c.args.memory.now.allocated c.loop-index.memory.allocated w.place.new.memory.allocated all w.in-Ok.ensures.allocated;
             pages_kept = λ allocated. w.place.ensures.pages_kept (c.loop-index.invariant.pages_kept allocated);
           })
       | in_default w ↦
           rw w.memory-is (record {
             placing = subst (λ rest. Placing file rest c.loop-index.memory.memory) ((rest-step file count index at below).passed (sym found ∙ w.in_default.is)) placing;
+            allocating = subst (λ rest. Allocating file rest c.args.memory.now.allocated c.loop-index.memory.allocated)
+                ((rest-step file count index at below).passed (sym found ∙ w.in_default.is)) c.loop-index.invariant.allocating;
             pages_kept = c.loop-index.invariant.pages_kept;
           })
     ]
@@ -93,3 +100,12 @@ returns-clause-placed c =
     (omega (arith, c.loop-index-test.false, c.e_phnum-count.ensures, ap e_phnum c.of-header.ensures)))
     c.loop-index.invariant.placing in
     sym p.memory_is
+
+pub returns-clause-allocated : goal.returns-clause-allocated
+returns-clause-allocated c =
+    let file = c.args.file.now in
+    allocating-all file c.args.memory.now.allocated c.loop-index.memory.allocated
+    (subst (λ rest. Allocating file rest c.args.memory.now.allocated c.loop-index.memory.allocated)
+    (rest-all file (e_phnum file) c.loop-index.index (e_phoff file + program_header_size * c.loop-index.index)
+    (omega (arith, c.loop-index-test.false, c.e_phnum-count.ensures, ap e_phnum c.of-header.ensures)))
+    c.loop-index.invariant.allocating)

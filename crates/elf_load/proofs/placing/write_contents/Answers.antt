@@ -1,6 +1,7 @@
-use Rattle.std.proofs.Common.{◌-◌, ◌∙◌, ℕ, Err, ap}
+use Rattle.std.proofs.Common.{◌-◌, ◌∙◌, ℕ, length, Err, ap}
 use Rattle.vm_defs.specs.Memory.{store}
-use Rattle.elf_load.proofs.InMemory.{bytes-made, bytes-stored, contents-stored, done-ok, stored-unrefused, unrefused}
+use Rattle.elf_load.proofs.Allocating.{allocates-one}
+use Rattle.elf_load.proofs.InMemory.{length-inside, bytes-made, bytes-stored, contents-stored, done-ok, stored-unrefused, unrefused}
 use Rattle.elf_load.proofs.placing.write_contents.Goals as goal
 
 pub unreachable-requires : goal.unreachable-requires
@@ -34,3 +35,11 @@ returns-clause-written c =
     c.requires.in_file c.requires.sizes c.requires.in_memory c.requires.no_code
     c.address-address.ensures c.file_size-file_size.ensures (ap (λ (n : ℕ). n - size) c.memory_size.ensures) c.bytes_in_file.ensures c.in-Ok.ensures.stores in
     done-ok c.clear.result _ _ c.clear.new.self.memory (unrefused c.clear.result _ _ c.clear.ensures.fault ok) c.clear.ensures.cleared ok
+
+pub returns-clause-allocated : goal.returns-clause-allocated
+returns-clause-allocated c =
+    let s = c.args.segment.now in
+    allocates-one c.args.memory.now.allocated c.copy_in.new.self.allocated c.clear.new.self.allocated s c.address-address.result
+    (length c.bytes_in_file.result.now) c.address-address.ensures
+    (ap length c.bytes_in_file.ensures ∙ length-inside c.args.file.now s.offset s.file_size c.requires.in_file)
+    c.in-Ok.ensures.allocated c.copy_in.ensures.pages_kept c.copy_in.ensures.pages_added c.clear.ensures.allocated

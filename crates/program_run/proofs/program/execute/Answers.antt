@@ -1,9 +1,10 @@
 use Rattle.std.proofs.Common.{sym, ◌∙◌, ap}
 use Rattle.vm_defs.specs.Program.{loading_cycles}
+use Rattle.elf_load.specs.Judging.{program_in}
 use Rattle.program_run.proofs.ProgramLemmas.{spent-loading}
 use Rattle.program_run.proofs.program.execute.Goals as goal
 
 pub returns-then-cost-budget-clause-came : goal.returns-then-cost-budget-clause-came
 returns-then-cost-budget-clause-came c =
-    spent-loading _ c.args.file.now c.in-Ok.judged _ (sym c.in-Ok.is ∙ c.judge.ensures)
+    spent-loading _ c.args.file.now c.in-Ok.judged.program _ (sym (ap program_in c.in-Ok.is) ∙ c.judge.ensures.program)
     (c.loading_cycles-cost.ensures.cycles ∙ ap loading_cycles c.file_bytes.ensures.bytes) c.if-cost-budget.true

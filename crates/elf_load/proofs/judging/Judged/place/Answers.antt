@@ -8,3 +8,6 @@ returns-clause-placed c = rw (← c.self.view_is) c.place_segments.ensures.place
 pub returns-clause-some : goal.returns-clause-some
 unfolding program_of
 returns-clause-some c = rw (← c.self.view_is) c.place_segments.ensures.some
+
+pub returns-clause-allocated : goal.returns-clause-allocated
+returns-clause-allocated c = rw (← c.self.view_is) c.place_segments.ensures.allocated
