@@ -1,11 +1,11 @@
 -- What events and cells are for, in words (docs/RULES.md, "Cells").
-use Rattle.std.specs.Prelude.{◌≡◌, ◌↔◌, ℕ, ◌+◌, ◌<◌, ◌⊎◌, Bool, false, not, List, [], ◌∷◌, ◌++◌, length, Option, Some, is_some, if◌then◌else◌, IsTrue}
+use Rattle.std.specs.Prelude.{◌≡◌, ◌↔◌, ℕ, ◌<◌, ◌⊎◌, Bool, false, not, List, [], ◌∷◌, ◌++◌, length, Option, Some, is_some, if◌then◌else◌, IsTrue}
 use Rattle.std.specs.List.{count_by, list_any}
 use Rattle.codec_defs.specs.Schema.{OutPoint, Block}
 use Rattle.chain_defs.specs.Kept.{IsKept, place_of, block_at}
 use Rattle.chain_defs.specs.Branch.{branch}
 use Rattle.cell_defs.specs.Cell.{Cell}
-use Rattle.cell_defs.specs.Events.{Event, Makes, Spends, events_of_block, events_from, events, names, cell_after, live_cell, cell_seen}
+use Rattle.cell_defs.specs.Events.{Event, Makes, Spends, events_of_block, events, names, cell_after, live_cell, cell_seen}
 use Rattle.cell_defs.specs.Row.{Row, live_row, row_after, row_left, IsOutputOf}
 
 -- ---- Live by counting

@@ -1,0 +1,5 @@
+pub mod EventLemmas
+pub mod CountingLaws
+pub mod OutputLaws
+pub mod JoinLemmas
+pub mod RowLaws
