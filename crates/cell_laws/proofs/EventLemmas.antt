@@ -1,7 +1,8 @@
 -- Events: the last of some that names an out-point, also where more stand behind, and what holds of each cell that some make.
-use Rattle.std.proofs.Common.{◌≡◌, ℕ, Bool, true, false, cond, List, [], ◌∷◌, ◌++◌, Option, Some, None, refl, sym, ap, ◌∙◌, subst, arith}
+use Rattle.std.proofs.Common.{◌≡◌, ℕ, zero, suc, Bool, true, false, cond, List, [], ◌∷◌, ◌++◌, Option, Some, None, refl, sym, ap, ◌∙◌, subst, arith}
 use Rattle.std.specs.Prelude.{◌==◌}
 use Rattle.std.specs.Option.{option_or}
+use Rattle.std.specs.List.{Contains}
 use Rattle.std.specs.Str.{bytes_eq}
 use Rattle.std.proofs.lemmas.Bool.{and_parts, eqb-true}
 use Rattle.std.proofs.lemmas.Option.{same_Some}
@@ -140,3 +141,39 @@ made-live P events o cell each live = by_last (last_naming o events) refl live
     by_last (Some (Makes made other)) is left =
         let same : made ≡ o = names-same o (Makes made other) (last_naming-names o events (Makes made other) is) in
         subst (λ (x : OutPoint). P x cell) same (subst (P made) (same_Some other cell left) (made-last P o events made other each is))
+
+-- of each cell that is among those they make
+pub made-contained : (P : OutPoint → Cell → Type 0) (events : List Event) (o : OutPoint) (cell : Cell) → EachMade P events
+    → Contains events (Makes o cell) → P o cell
+made-contained P [] o cell each (k, within, is) = absurd (omega (arith, within))
+made-contained P (event ∷ later) o cell each (zero, within, is) = (subst (λ (e : Event). EachMade P (e ∷ later)) is each).0
+made-contained P (event ∷ later) o cell each (suc k, within, is) =
+    made-contained P later o cell (EachMade-tail P event later each) (k, omega (arith, within), is)
+
+-- ---- What some events spend
+
+-- something holds of each out-point that some events spend
+abbrev pub EachSpent : (OutPoint → Type 0) → List Event → Type 0
+EachSpent P [] = Unit {0}
+EachSpent P (Makes o cell ∷ later) = EachSpent P later
+EachSpent P (Spends o ∷ later) = P o × EachSpent P later
+
+pub EachSpent-append : (P : OutPoint → Type 0) (earlier later : List Event) → EachSpent P earlier → EachSpent P later → EachSpent P (earlier ++ later)
+EachSpent-append P [] later each rest = rest
+EachSpent-append P (Makes o cell ∷ earlier) later each rest = EachSpent-append P earlier later each rest
+EachSpent-append P (Spends o ∷ earlier) later each rest = (each.0, EachSpent-append P earlier later each.1 rest)
+
+pub EachSpent-then : (P Q : OutPoint → Type 0) (events : List Event) → ((o : OutPoint) → P o → Q o) → EachSpent P events → EachSpent Q events
+EachSpent-then P Q [] turns each = tt
+EachSpent-then P Q (Makes o cell ∷ later) turns each = EachSpent-then P Q later turns each
+EachSpent-then P Q (Spends o ∷ later) turns each = (turns o each.0, EachSpent-then P Q later turns each.1)
+
+EachSpent-tail : (P : OutPoint → Type 0) (event : Event) (later : List Event) → EachSpent P (event ∷ later) → EachSpent P later
+EachSpent-tail P (Makes o cell) later each = each
+EachSpent-tail P (Spends o) later each = each.1
+
+pub spent-contained : (P : OutPoint → Type 0) (events : List Event) (o : OutPoint) → EachSpent P events → Contains events (Spends o) → P o
+spent-contained P [] o each (k, within, is) = absurd (omega (arith, within))
+spent-contained P (event ∷ later) o each (zero, within, is) = (subst (λ (e : Event). EachSpent P (e ∷ later)) is each).0
+spent-contained P (event ∷ later) o each (suc k, within, is) =
+    spent-contained P later o (EachSpent-tail P event later each) (k, omega (arith, within), is)

@@ -14,18 +14,18 @@ use Rattle.cell_laws.specs.Laws.{CellsAreOutputs, SeenCellsAreOutputs}
 use Rattle.cell_laws.proofs.EventLemmas.{EachMade, EachMade-append, EachMade-then, made-live}
 
 -- some elements stand in a list, the first of them at a place
-abbrev StandsFrom : {X : Type 0} → ℕ → List X → List X → Type 0
+abbrev pub StandsFrom : {X : Type 0} → ℕ → List X → List X → Type 0
 StandsFrom {X} place some all = (k : ℕ) (x : X) → slice_get some k ≡ Some x → slice_get all (place + k) ≡ Some x
 
-StandsFrom-rest : {X : Type 0} (place : ℕ) (x : X) (rest all : List X) → StandsFrom place (x ∷ rest) all → StandsFrom (place + 1) rest all
+pub StandsFrom-rest : {X : Type 0} (place : ℕ) (x : X) (rest all : List X) → StandsFrom place (x ∷ rest) all → StandsFrom (place + 1) rest all
 StandsFrom-rest {X} place x rest all stands k y there =
     let at : place + suc k ≡ (place + 1) + k = omega arith in subst (λ (i : ℕ). slice_get all i ≡ Some y) at (stands (suc k) y there)
 
-StandsFrom-first : {X : Type 0} (place : ℕ) (x : X) (rest all : List X) → StandsFrom place (x ∷ rest) all → slice_get all place ≡ Some x
+pub StandsFrom-first : {X : Type 0} (place : ℕ) (x : X) (rest all : List X) → StandsFrom place (x ∷ rest) all → slice_get all place ≡ Some x
 StandsFrom-first {X} place x rest all stands =
     let at : place + 0 ≡ place = omega arith in subst (λ (i : ℕ). slice_get all i ≡ Some x) at (stands 0 x refl)
 
-StandsFrom-all : {X : Type 0} (all : List X) → StandsFrom 0 all all
+pub StandsFrom-all : {X : Type 0} (all : List X) → StandsFrom 0 all all
 StandsFrom-all {X} all k x there = let at : k ≡ 0 + k = omega arith in subst (λ (i : ℕ). slice_get all i ≡ Some x) at there
 
 -- ---- A transaction
@@ -109,9 +109,9 @@ made-in-block height b =
 -- ---- Blocks
 
 -- a cell is an output of the block at its height
-record IsMadeOn (blocks : List Block) (o : OutPoint) (cell : Cell) : Type 0 where
-  b : Block
-  there : block_at blocks cell.height ≡ Some b
+pub record IsMadeOn (blocks : List Block) (o : OutPoint) (cell : Cell) : Type 0 where
+  pub b : Block
+  pub there : block_at blocks cell.height ≡ Some b
   pub is : IsOutputOf b o cell
 
 made-on : (height : ℕ) (some blocks : List Block) → StandsFrom height some blocks → EachMade (IsMadeOn blocks) (events_of_blocks height some)
@@ -128,7 +128,7 @@ made-on height (b ∷ later) blocks stands =
       is = is.is;
     }
 
-made-on-branch : (blocks : List Block) → EachMade (IsMadeOn blocks) (events blocks)
+pub made-on-branch : (blocks : List Block) → EachMade (IsMadeOn blocks) (events blocks)
 unfolding events
 made-on-branch blocks = made-on 0 blocks blocks (StandsFrom-all blocks)
 
