@@ -1,1 +1,2 @@
 pub mod BranchLemmas
+pub mod SiteLemmas
