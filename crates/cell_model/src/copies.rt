@@ -1,6 +1,8 @@
 // Copies of old cells out of kept blocks.
-ghost use Rattle.std.specs.Prelude.{◌≡◌, ◌^◌, ◌<◌, List, Some, Err, IfOk, length};
+ghost use Rattle.std.specs.Prelude.{◌≡◌, ◌^◌, ◌<◌, List, Some, Err, IfOk, IsSome, length};
 ghost use Rattle.std.specs.Option.{option_map};
+ghost use Rattle.codec_defs.specs.Shape.{decoded};
+ghost use Rattle.codec_defs.specs.Schema.{cell_output};
 ghost use Rattle.cell_defs.specs.Cell.{Cell, data_of};
 ghost use Rattle.outside.specs.Causes.{CountsFault};
 ghost use Rattle.outside.specs.declared.disk.Area.TheVariants.{Log};
@@ -59,6 +61,7 @@ pub fn copy_of(
 ) -> Result<Resolved, NoMemory>
     ensures out_point { IfOk result (λ copy. copy.out_point ≡ o) }
     ensures row { IfOk result (λ copy. copy.row ≡ meta) }
+    ensures output { IfOk result (λ copy. IsSome (decoded cell_output copy.output)) }
     ensures copied { (cell : Cell) → output.now ≡ cell.output → content.now ≡ cell.content → IfOk result (IsCopyOf cell) }
 {
     Ok(Resolved {
@@ -93,6 +96,7 @@ pub fn fetch<B: Blocks>(
     ensures loans { B.loans_of blocks.new ≡ B.loans_of blocks.old }
     ensures out_point { IfOk result (λ copy. copy.out_point ≡ o) }
     ensures row { IfOk result (λ copy. copy.row ≡ meta) }
+    ensures output { IfOk result (λ copy. IsSome (decoded cell_output copy.output)) }
     ensures copied { (stored : List Stored) (cell : Cell) → B.told blocks.old ≡ Some stored → NamesOutput stored o meta cell → IfOk result (IsCopyOf cell) }
     ensures undamaged { (stored : List Stored) (cell : Cell) → B.told blocks.old ≡ Some stored → NamesOutput stored o meta cell
         → (damage : Damage) → result ≡ Err (Damaged damage) → ⊥ }
