@@ -17,6 +17,7 @@ use Rattle.cell_model.specs.Copies.{NamesOutput, output_in}
 use Rattle.tx_defs.specs.Site.{Site, Found, find_cell, all_there}
 use Rattle.tx_defs.specs.Resolving.{inputs, deps, input_cells, dep_cells, cells_of_dep, members_of}
 use Rattle.tx_rules.specs.At.{AtValue, IsPlaced, IsSiteOf, IsMade, AreSeen, place_of_height, found_row, find_row, input_rows}
+use Rattle.tx_rules.specs.Copying.{IsFoundAt}
 use Rattle.tx_rules.proofs.BranchLemmas.{PlaceOfHeight, place-of-height}
 
 -- ---- Where the cell of a row was made
@@ -248,3 +249,47 @@ deps-seen site t = by_lists (all_there (map (cells_of_dep site) t.raw.cell_deps)
     by_lists None is = All-nil (IsSeen site)
     by_lists (Some lists) is =
         all-flat (IsSeen site) lists (all_there-all (AreSeen site) (cells_of_dep site) t.raw.cell_deps lists (dep-seen site) is)
+
+-- ---- Where the cell of a row is to be copied from
+
+-- where it was made
+made-of : (stored : List Stored) (at : AtValue) (rows : OutPoint → Option Row) (site : Site) (found : Found) (o : OutPoint) (row : Row)
+    → at.parent < length at.entries → IsSiteOf stored at rows site → IsFoundAt stored at.parent site found (o, row)
+    → IsKeptRow stored at o found.cell row ⊎ IsOwnRow stored at o found.cell row
+made-of stored at rows site found o row placed is found_at =
+    let same : o ≡ found.out_point = ap (λ (it : OutPoint × Row). it.0) found_at.its_row in
+    let its_row : row ≡ row_of (place_of_height (blocks_of stored) at.parent found.cell.height) found.cell = ap (λ (it : OutPoint × Row). it.1) found_at.its_row in
+    row-made stored at rows site o found.cell row placed is (ap site.cell same ∙ found_at.seen) its_row
+
+-- out of a kept block where the row's block is one
+pub copied-of-kept : (stored : List Stored) (at : AtValue) (rows : OutPoint → Option Row) (site : Site) (found : Found) (o : OutPoint) (row : Row)
+    → at.parent < length at.entries → IsSiteOf stored at rows site → IsFoundAt stored at.parent site found (o, row) → row.block < length at.entries
+    → NamesOutput stored o row found.cell
+copied-of-kept stored at rows site found o row placed is found_at below = by_made (made-of stored at rows site found o row placed is found_at)
+  where
+    by_made : IsKeptRow stored at o found.cell row ⊎ IsOwnRow stored at o found.cell row → NamesOutput stored o row found.cell
+    by_made (inl made) = made.names
+    by_made (inr own) = let last : row.block ≡ length at.entries = own.last in absurd (omega (arith, last, below))
+
+-- out of the block that is judged where the row's block is its place
+pub copied-of-own : (stored : List Stored) (at : AtValue) (rows : OutPoint → Option Row) (site : Site) (found : Found) (o : OutPoint) (row : Row)
+    → at.parent < length at.entries → IsSiteOf stored at rows site → IsFoundAt stored at.parent site found (o, row) → row.block ≡ length at.entries
+    → (block : Block) × (at.block ≡ Some block) × (output_in block row.transaction o.index ≡ Some (found.cell.output, found.cell.content))
+copied-of-own stored at rows site found o row placed is found_at last = by_made (made-of stored at rows site found o row placed is found_at)
+  where
+    its_transaction : row.transaction ≡ found.cell.transaction
+    its_transaction = ap (λ (it : OutPoint × Row). it.1.transaction) found_at.its_row
+
+    by_made : IsKeptRow stored at o found.cell row ⊎ IsOwnRow stored at o found.cell row
+        → (block : Block) × (at.block ≡ Some block) × (output_in block row.transaction o.index ≡ Some (found.cell.output, found.cell.content))
+    by_made (inl made) = let below : row.block < length at.entries = made.below in absurd (omega (arith, last, below))
+    by_made (inr own) = (own.block, own.judged, ap (λ (place : ℕ). output_in own.block place o.index) its_transaction ∙ output-of own.block o found.cell own.output)
+
+-- and past it none is seen
+pub none-past : (stored : List Stored) (at : AtValue) (rows : OutPoint → Option Row) (site : Site) (found : Found) (o : OutPoint) (row : Row)
+    → at.parent < length at.entries → IsSiteOf stored at rows site → IsFoundAt stored at.parent site found (o, row) → length at.entries < row.block → ⊥
+none-past stored at rows site found o row placed is found_at past = by_made (made-of stored at rows site found o row placed is found_at)
+  where
+    by_made : IsKeptRow stored at o found.cell row ⊎ IsOwnRow stored at o found.cell row → ⊥
+    by_made (inl made) = let below : row.block < length at.entries = made.below in omega (arith, past, below)
+    by_made (inr own) = let last : row.block ≡ length at.entries = own.last in omega (arith, past, last)

@@ -10,6 +10,7 @@
 mod age;
 mod at;
 mod capacity;
+mod copying;
 mod deps;
 mod form;
 mod headers;
