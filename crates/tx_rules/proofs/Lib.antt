@@ -1,2 +1,3 @@
 pub mod BranchLemmas
 pub mod SiteLemmas
+pub mod Faults

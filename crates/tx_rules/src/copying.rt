@@ -1,8 +1,7 @@
 // Copies of the cells that rows name.
-ghost use Rattle.std.specs.Prelude.{◌≡◌, ◌<◌, List, length, map, Some, Err, IfOk, IsSome, Option};
+ghost use Rattle.std.specs.Prelude.{◌≡◌, ◌<◌, List, length, map, Some, Err, IfOk, Option};
 ghost use Rattle.std.specs.List.{All, AllZip};
-ghost use Rattle.codec_defs.specs.Shape.{decoded};
-ghost use Rattle.codec_defs.specs.Schema.{OutPoint, Block, cell_output};
+ghost use Rattle.codec_defs.specs.Schema.{OutPoint, Block};
 ghost use Rattle.cell_defs.specs.Cell.{Cell};
 ghost use Rattle.cell_model.specs.Copies.{IsCopyOf, NamesOutput, output_in};
 ghost use Rattle.cell_defs.specs.Row.{Row};
@@ -13,7 +12,8 @@ ghost use Rattle.outside.specs.declared.disk.ReadStop.TheVariants.{DiskFault, Da
 ghost use Rattle.chain_tree.specs.Told.{Stored, blocks_of};
 ghost use Rattle.tx_defs.specs.Site.{Site, Found};
 ghost use Rattle.tx_rules.specs.At.{IsPlaced, IsSiteOf, AreSeen, found_row};
-ghost use Rattle.tx_rules.specs.Copying.{IsFoundAt};
+ghost use Rattle.tx_rules.specs.Copying.{IsFoundAt, row_in, HoldsOutput};
+ghost use Rattle.tx_rules.specs.Outcome.{Copies};
 
 use crate::at::TxAt;
 use cell_model::{CellMeta, OutPoint, Resolved, copy_of, fetch, output_at};
@@ -46,7 +46,7 @@ fn copy_kept<B: Blocks>(
     ensures loans { B.loans_of blocks.new ≡ B.loans_of blocks.old }
     ensures out_point { IfOk result (λ copy. copy.out_point ≡ o) }
     ensures row { IfOk result (λ copy. copy.row ≡ meta) }
-    ensures output { IfOk result (λ copy. IsSome (decoded cell_output copy.output)) }
+    ensures output { IfOk result HoldsOutput }
     ensures copied { (stored : List Stored) (cell : Cell) → B.told blocks.old ≡ Some stored → NamesOutput stored o meta cell → IfOk result (IsCopyOf cell) }
     ensures undamaged { (stored : List Stored) (cell : Cell) → B.told blocks.old ≡ Some stored → NamesOutput stored o meta cell
         → (damage : Damage) → result ≡ Err (Damaged damage) → ⊥ }
@@ -62,15 +62,10 @@ fn copy_kept<B: Blocks>(
 }
 
 /// A copy of an output of the block that is judged.
-fn copy_own(
-    alloc: Global,
-    at: &TxAt<'_>,
-    o: OutPoint,
-    meta: CellMeta,
-) -> Result<Resolved, ReadStop>
+fn copy_own(alloc: Global, at: &TxAt<'_>, o: OutPoint, meta: CellMeta) -> Result<Resolved, ReadStop>
     ensures out_point { IfOk result (λ copy. copy.out_point ≡ o) }
     ensures row { IfOk result (λ copy. copy.row ≡ meta) }
-    ensures output { IfOk result (λ copy. IsSome (decoded cell_output copy.output)) }
+    ensures output { IfOk result HoldsOutput }
     ensures copied { (block : Block) (cell : Cell) → at.now.block ≡ Some block → output_in block meta.transaction o.index ≡ Some (cell.output, cell.content)
         → IfOk result (IsCopyOf cell) }
     ensures undamaged { (block : Block) (cell : Cell) → at.now.block ≡ Some block → output_in block meta.transaction o.index ≡ Some (cell.output, cell.content)
@@ -105,7 +100,7 @@ fn copy_row<B: Blocks>(
     ensures loans { B.loans_of blocks.new ≡ B.loans_of blocks.old }
     ensures out_point { IfOk result (λ copy. copy.out_point ≡ o) }
     ensures row { IfOk result (λ copy. copy.row ≡ meta) }
-    ensures output { IfOk result (λ copy. IsSome (decoded cell_output copy.output)) }
+    ensures output { IfOk result HoldsOutput }
     ensures copied { (stored : List Stored) (rows : OutPoint → Option Row) (site : Site) (found : Found) → B.told blocks.old ≡ Some stored
         → IsSiteOf stored at.now rows site → IsFoundAt stored at.now.parent site found (o, meta) → IfOk result (IsCopyOf found.cell) }
     ensures undamaged { (stored : List Stored) (rows : OutPoint → Option Row) (site : Site) (found : Found) → B.told blocks.old ≡ Some stored
@@ -121,4 +116,37 @@ fn copy_row<B: Blocks>(
     } else {
         Err(damaged(0))
     }
+}
+
+/// Copies of the cells of rows, in their order.
+pub(crate) fn fetch_all<B: Blocks>(
+    alloc: Global,
+    at: &TxAt<'_>,
+    blocks: &mut B,
+    rows: &[(OutPoint, CellMeta)],
+) -> Result<Vec<Resolved>, ReadStop>
+    requires placed { IsPlaced at.now }
+    requires counts { B.count blocks.old ≡ length at.now.entries }
+    ensures told { B.told blocks.new ≡ B.told blocks.old }
+    ensures count { B.count blocks.new ≡ B.count blocks.old }
+    ensures loans { B.loans_of blocks.new ≡ B.loans_of blocks.old }
+    ensures rows { IfOk result (λ copies. map row_in copies.items ≡ rows.now) }
+    ensures outputs { IfOk result (λ copies. All HoldsOutput copies.items) }
+    ensures copied { (stored : List Stored) (seen : OutPoint → Option Row) (site : Site) (founds : List Found) → B.told blocks.old ≡ Some stored
+        → IsSiteOf stored at.now seen site → AreSeen site founds → rows.now ≡ map (found_row (blocks_of stored) at.now.parent) founds
+        → IfOk result (λ copies. AllZip (Copies (blocks_of stored) at.now.parent) founds copies.items) }
+    ensures undamaged { (stored : List Stored) (seen : OutPoint → Option Row) (site : Site) (founds : List Found) → B.told blocks.old ≡ Some stored
+        → IsSiteOf stored at.now seen site → AreSeen site founds → rows.now ≡ map (found_row (blocks_of stored) at.now.parent) founds
+        → (damage : Damage) → result ≡ Err (Damaged damage) → ⊥ }
+    ensures damage { (damage : Damage) → result ≡ Err (Damaged damage) → damage.area ≡ Log }
+    ensures cause { CountsFault (B.faults blocks.old) (B.faults blocks.new) (result ≡ Err DiskFault) }
+{
+    let mut copies = Vec::new(alloc);
+    'each: for row in rows {
+        let copy = copy_row(alloc, at, blocks, row.0, row.1)?;
+        if copies.push(copy).is_err() {
+            return Err(ReadStop::NoMemory);
+        }
+    }
+    Ok(copies)
 }
