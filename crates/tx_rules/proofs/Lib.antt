@@ -1,3 +1,4 @@
 pub mod BranchLemmas
 pub mod SiteLemmas
 pub mod Faults
+pub mod RuleLemmas

@@ -1,3 +1,4 @@
 pub mod At
 pub mod Outcome
 pub mod Copying
+pub mod Steps

@@ -3,6 +3,7 @@ ghost use Rattle.std.specs.Prelude.{◌≡◌, List, length, map, Err, IfOk, Opt
 ghost use Rattle.std.specs.List.{list_all, zip};
 ghost use Rattle.codec_defs.specs.Schema.{OutPoint};
 ghost use Rattle.cell_defs.specs.Row.{Row};
+ghost use Rattle.outside.specs.declared.disk.Area.TheVariants.{Log};
 ghost use Rattle.outside.specs.declared.disk.Damage.{Damage};
 ghost use Rattle.chain_tree.specs.Told.{Stored, blocks_of};
 ghost use Rattle.tx_defs.specs.Site.{Site, Found};
@@ -22,6 +23,7 @@ pub(crate) fn are_mature(at: &TxAt<'_>, found: &[(OutPoint, CellMeta)]) -> Resul
         → found.now ≡ map (found_row (blocks_of stored) at.now.parent) founds → IfOk result (λ mature. mature ≡ list_all (rules.is_mature site) founds) }
     ensures undamaged { (stored : List Stored) (rows : OutPoint → Option Row) (site : Site) (founds : List Found) → IsSiteOf stored at.now rows site → AreSeen site founds
         → found.now ≡ map (found_row (blocks_of stored) at.now.parent) founds → (damage : Damage) → result ≡ Err damage → ⊥ }
+    ensures damage { (damage : Damage) → result ≡ Err damage → damage.area ≡ Log }
 {
     Ok(true)
 }
@@ -39,6 +41,7 @@ pub(crate) fn meets_each_since(
         → found.now ≡ map (found_row (blocks_of stored) at.now.parent) founds → IfOk result (λ met. met ≡ list_all (rules.meets_since site) (zip tx.now.raw.inputs founds)) }
     ensures undamaged { (stored : List Stored) (rows : OutPoint → Option Row) (site : Site) (founds : List Found) → IsSiteOf stored at.now rows site → AreSeen site founds
         → found.now ≡ map (found_row (blocks_of stored) at.now.parent) founds → (damage : Damage) → result ≡ Err damage → ⊥ }
+    ensures damage { (damage : Damage) → result ≡ Err damage → damage.area ≡ Log }
 {
     Ok(true)
 }

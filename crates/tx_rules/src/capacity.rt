@@ -4,6 +4,7 @@ ghost use Rattle.std.specs.List.{AllZip};
 ghost use Rattle.codec_defs.specs.Schema.{OutPoint};
 ghost use Rattle.cell_defs.specs.Row.{Row};
 ghost use Rattle.chain_defs.specs.Branch.{branch_places};
+ghost use Rattle.outside.specs.declared.disk.Area.TheVariants.{Log};
 ghost use Rattle.outside.specs.declared.disk.Damage.{Damage};
 ghost use Rattle.chain_tree.specs.Told.{Stored, blocks_of};
 ghost use Rattle.tx_defs.specs.Site.{Site};
@@ -41,6 +42,7 @@ pub(crate) fn balance_of(
     ensures undamaged { (stored : List Stored) (rows : OutPoint → Option Row) (site : Site) → IsSiteOf stored at.now rows site
         → AllZip (Copies (blocks_of stored) at.now.parent) (inputs site tx.now) copies.now → headers.now ≡ map (slice_index (branch_places (blocks_of stored) at.now.parent)) (heights site tx.now)
         → IsTrue (names_deposits site tx.now) → (damage : Damage) → result ≡ Err damage → ⊥ }
+    ensures damage { (damage : Damage) → result ≡ Err damage → damage.area ≡ Log }
 {
     Ok(None)
 }

@@ -2,6 +2,7 @@
 ghost use Rattle.std.specs.Prelude.{◌≡◌, List, Some, Err, length, IfOk, map};
 ghost use Rattle.std.specs.Option.{option_map};
 ghost use Rattle.outside.specs.Causes.{CountsFault};
+ghost use Rattle.outside.specs.declared.disk.Area.TheVariants.{Log};
 ghost use Rattle.outside.specs.declared.disk.Damage.{Damage};
 ghost use Rattle.outside.specs.declared.disk.ReadStop.TheVariants.{DiskFault, Damaged};
 ghost use Rattle.chain_tree.specs.Told.{Stored, blocks_of};
@@ -34,6 +35,7 @@ pub(crate) fn resolved_deps<C: Cells, B: Blocks>(
         → IfOk result (λ found. option_map (λ rows. rows.items) found ≡ option_map (map (found_row (blocks_of stored) at.now.parent)) (dep_cells site tx.now)) }
     ensures undamaged { (stored : List Stored) (site : Site) → B.told blocks.old ≡ Some stored → IsSiteOf stored at.now (C.rows cells.now) site
         → (damage : Damage) → result ≡ Err (Damaged damage) → ⊥ }
+    ensures damage { (damage : Damage) → result ≡ Err (Damaged damage) → damage.area ≡ Log }
     ensures cause { CountsFault (B.faults blocks.old) (B.faults blocks.new) (result ≡ Err DiskFault) }
 {
     Err(ReadStop::NoMemory)

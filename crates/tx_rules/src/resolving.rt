@@ -1,21 +1,33 @@
 // All rules on one transaction, in their order.
-ghost use Rattle.std.specs.Prelude.{◌≡◌, ◌∷◌, List, length, map, Ok, Err, Some, None, IfOk, ℕ};
+ghost use Rattle.std.specs.Prelude.{◌≡◌, ◌∷◌, List, length, map, Ok, Err, Some, None, IfOk, IsTrue, ℕ};
 ghost use Rattle.outside.specs.Causes.{CountsFault};
 ghost use Rattle.outside.specs.declared.disk.Area.TheVariants.{Log};
 ghost use Rattle.outside.specs.declared.disk.Damage.{Damage};
-ghost use Rattle.outside.specs.declared.disk.ReadStop.TheVariants.{DiskFault, Damaged};
+ghost use Rattle.outside.specs.declared.disk.ReadStop.TheVariants.{DiskFault, Damaged, NoMemory as no_memory};
 ghost use Rattle.chain_tree.specs.Told.{Stored, blocks_of};
 ghost use Rattle.tx_defs.specs.Site.{Site};
 ghost use Rattle.tx_defs.specs.Rules.{broken_transaction_rule};
+ghost use Rattle.tx_defs.specs.Rules as defs;
 ghost use Rattle.tx_defs.specs.Capacity as rules;
-ghost use Rattle.tx_rules.specs.At.{IsPlaced, IsSiteOf};
+ghost use Rattle.tx_rules.specs.At.{AtValue, IsPlaced, IsSiteOf, input_rows};
+ghost use Rattle.tx_rules.specs.Steps.{spending_rules, naming_rules, using_rules, finding_rules, paying_rules, Tells, Stops, AreFound};
+ghost use Rattle.tx_rules.specs.declared.resolving.TxStop.TheVariants.{Read};
 ghost use Rattle.tx_rules.specs.Outcome.{IsFormed, IsResolved, IsTried};
 
+use crate::age::{are_mature, meets_each_since};
 use crate::at::TxAt;
-use cell_model::{Cells, ResolvedTx};
+use crate::capacity::{Balance, balance_of};
+use crate::copying::fetch_all;
+use crate::deps::resolved_deps;
+use crate::form::has_form;
+use crate::headers::header_places;
+use crate::inputs::{are_inputs_distinct, live_inputs};
+use crate::outputs::makes_good_cells;
+use crate::withdrawals::names_deposits;
+use cell_model::{CellMeta, Cells, OutPoint, Resolved, ResolvedTx, tx_hash};
 use chain_tree::Blocks;
 use mol_schema::TxView;
-use outside::ReadStop;
+use outside::{Damage, NoMemory, ReadStop};
 use std::alloc::Global;
 
 /// A transaction that keeps J18 and J20 to J27.
@@ -36,6 +48,64 @@ pub enum TxStop {
     Broken(u8),
     /// The kept blocks could not be read, or there was no memory.
     Read(ReadStop),
+}
+
+impl From<ReadStop> for TxStop {
+    ghost from_gives = { λ stop given. given ≡ Read stop };
+
+    fn from(stop: ReadStop) -> Self {
+        TxStop::Read(stop)
+    }
+}
+
+impl From<Damage> for TxStop {
+    ghost from_gives = { λ damage given. given ≡ Read (Damaged damage) };
+
+    fn from(damage: Damage) -> Self {
+        TxStop::Read(ReadStop::Damaged(damage))
+    }
+}
+
+impl From<NoMemory> for TxStop {
+    ghost from_gives = { λ _ given. given ≡ Read no_memory };
+
+    fn from(_: NoMemory) -> Self {
+        TxStop::Read(ReadStop::NoMemory)
+    }
+}
+
+/// What is found of a transaction that keeps J18 and J20 to J25: its hash, the rows of the cells of its inputs and of
+/// its resolved deps, and the places of its header deps.
+#[derive(Drop)]
+struct Finding {
+    hash: [u8; 32],
+    spent: Vec<(OutPoint, CellMeta)>,
+    named: Vec<(OutPoint, CellMeta)>,
+    places: Vec<u32>,
+}
+
+/// J18 and J20: the rows of its inputs.
+fn spent_rows<C: Cells>(
+    alloc: Global,
+    tx: &TxView<'_>,
+    cells: &C,
+) -> Result<Vec<(OutPoint, CellMeta)>, TxStop>
+    ensures stops { Stops result }
+    ensures unread { result ≡ Err (Read DiskFault) → ⊥ }
+    ensures tells { (stored : List Stored) (at : AtValue) (site : Site) → IsSiteOf stored at (C.rows cells.now) site → Tells (spending_rules site tx.now) result }
+    ensures form { IfOk result (λ _. IsTrue (defs.has_form tx.now)) }
+    ensures rows { IfOk result (λ rows. input_rows (C.rows cells.now) tx.now ≡ Some rows.items) }
+{
+    if !has_form(alloc, tx)? {
+        return Err(TxStop::Broken(18));
+    }
+    let Some(rows) = live_inputs(alloc, tx, cells)? else {
+        return Err(TxStop::Broken(20));
+    };
+    if !are_inputs_distinct(alloc, tx)? {
+        return Err(TxStop::Broken(20));
+    }
+    Ok(rows)
 }
 
 /// Tries the rules on one transaction, in their order.
