@@ -10,10 +10,11 @@ use Rattle.tx_defs.specs.Site.{Site}
 use Rattle.tx_defs.specs.Resolving.{spends_live_cells, has_cell_deps, has_header_deps, inputs, deps, heights}
 use Rattle.tx_defs.specs.Age.{uses_mature_cells, meets_each_since}
 use Rattle.tx_defs.specs.Withdrawals.{names_deposits}
-use Rattle.tx_defs.specs.Capacity.{makes_good_cells, balances}
+use Rattle.tx_defs.specs.Capacity.{makes_good_cells, balances, fee, interest}
 use Rattle.tx_defs.specs.Rules.{has_form}
 use Rattle.tx_rules.specs.At.{found_row}
 use Rattle.tx_rules.specs.Outcome.{IsTried}
+use Rattle.tx_rules.specs.declared.capacity.Balance.{Balance}
 use Rattle.tx_rules.specs.declared.resolving.TxStop.{TxStop}
 use Rattle.tx_rules.specs.declared.resolving.TxStop.TheVariants.{Broken, Read}
 
@@ -73,3 +74,8 @@ pub record AreFound (kept : List Block) (parent : ℕ) (site : Site) (t : Transa
   pub spent_are : spent ≡ map (found_row kept parent) (inputs site t)
   pub named_are : named ≡ map (found_row kept parent) (deps site t)
   pub places_are : places ≡ map (slice_index (branch_places kept parent)) (heights site t)
+
+-- the fee and the interest
+pub record Pays (site : Site) (t : Transaction) (balance : Balance) : Type 0 where
+  pub fee_is : balance.fee ≡ fee site t
+  pub interest_is : balance.interest ≡ interest site t

@@ -1,16 +1,24 @@
 // All rules on one transaction, in their order.
-ghost use Rattle.std.specs.Prelude.{◌≡◌, ◌∷◌, List, length, map, Ok, Err, Some, None, IfOk, IsTrue, ℕ};
+ghost use Rattle.std.specs.Prelude.{◌≡◌, ◌∷◌, List, length, map, Ok, Err, Some, None, IfOk, IsTrue, Option, slice_index, ℕ};
+ghost use Rattle.std.specs.List.{AllZip};
 ghost use Rattle.outside.specs.Causes.{CountsFault};
 ghost use Rattle.outside.specs.declared.disk.Area.TheVariants.{Log};
 ghost use Rattle.outside.specs.declared.disk.Damage.{Damage};
 ghost use Rattle.outside.specs.declared.disk.ReadStop.TheVariants.{DiskFault, Damaged, NoMemory as no_memory};
+ghost use Rattle.codec_defs.specs.Schema.{OutPoint};
+ghost use Rattle.cell_defs.specs.Row.{Row};
+ghost use Rattle.chain_defs.specs.Hashes.{transaction_hash};
+ghost use Rattle.chain_defs.specs.Branch.{branch_places};
+ghost use Rattle.chain_tree.specs.Entries.{place_of_hash};
 ghost use Rattle.chain_tree.specs.Told.{Stored, blocks_of};
 ghost use Rattle.tx_defs.specs.Site.{Site};
 ghost use Rattle.tx_defs.specs.Rules.{broken_transaction_rule};
 ghost use Rattle.tx_defs.specs.Rules as defs;
 ghost use Rattle.tx_defs.specs.Capacity as rules;
-ghost use Rattle.tx_rules.specs.At.{AtValue, IsPlaced, IsSiteOf, input_rows};
-ghost use Rattle.tx_rules.specs.Steps.{spending_rules, naming_rules, using_rules, finding_rules, paying_rules, Tells, Stops, AreFound};
+ghost use Rattle.tx_defs.specs.Resolving.{inputs, deps, heights};
+ghost use Rattle.tx_rules.specs.At.{AtValue, IsPlaced, IsSiteOf, found_row, input_rows};
+ghost use Rattle.tx_rules.specs.Outcome.{Copies};
+ghost use Rattle.tx_rules.specs.Steps.{spending_rules, naming_rules, using_rules, finding_rules, paying_rules, Tells, Stops, AreFound, Pays};
 ghost use Rattle.tx_rules.specs.declared.resolving.TxStop.TheVariants.{Read};
 ghost use Rattle.tx_rules.specs.Outcome.{IsFormed, IsResolved, IsTried};
 
@@ -106,6 +114,94 @@ fn spent_rows<C: Cells>(
         return Err(TxStop::Broken(20));
     }
     Ok(rows)
+}
+
+/// J21 and J22: the rows of its resolved deps, and the places of its header deps.
+fn named_rows<C: Cells, B: Blocks>(
+    alloc: Global,
+    tx: &TxView<'_>,
+    at: &TxAt<'_>,
+    cells: &C,
+    blocks: &mut B,
+) -> Result<(Vec<(OutPoint, CellMeta)>, Vec<u32>), TxStop>
+    requires placed { IsPlaced at.now }
+    requires counts { B.count blocks.old ≡ length at.now.entries }
+    ensures told { B.told blocks.new ≡ B.told blocks.old }
+    ensures count { B.count blocks.new ≡ B.count blocks.old }
+    ensures loans { B.loans_of blocks.new ≡ B.loans_of blocks.old }
+    ensures stops { Stops result }
+    ensures tells { (stored : List Stored) (site : Site) → B.told blocks.old ≡ Some stored → IsSiteOf stored at.now (C.rows cells.now) site
+        → Tells (naming_rules site tx.now) result }
+    ensures cells { (stored : List Stored) (site : Site) → B.told blocks.old ≡ Some stored → IsSiteOf stored at.now (C.rows cells.now) site
+        → IfOk result (λ named. named.0.items ≡ map (found_row (blocks_of stored) at.now.parent) (deps site tx.now)) }
+    ensures places { (stored : List Stored) (site : Site) → B.told blocks.old ≡ Some stored → IsSiteOf stored at.now (C.rows cells.now) site
+        → IfOk result (λ named. named.1.items ≡ map (slice_index (branch_places (blocks_of stored) at.now.parent)) (heights site tx.now)) }
+    ensures headers { IfOk result (λ named. AllZip (λ hash place. place_of_hash at.now.entries hash ≡ Some place) tx.now.raw.header_deps named.1.items) }
+    ensures cause { CountsFault (B.faults blocks.old) (B.faults blocks.new) (result ≡ Err (Read DiskFault)) }
+{
+    let Some(rows) = resolved_deps(alloc, tx, at, cells, blocks)? else {
+        return Err(TxStop::Broken(21));
+    };
+    let Some(places) = header_places(alloc, tx, at)? else {
+        return Err(TxStop::Broken(22));
+    };
+    Ok((rows, places))
+}
+
+/// J23 to J25, over the rows of its inputs and its resolved deps. The transaction comes with its hash.
+fn try_cells<C: Cells>(
+    tx: &TxView<'_>,
+    hash: [u8; 32],
+    at: &TxAt<'_>,
+    cells: &C,
+    spent: &[(OutPoint, CellMeta)],
+    named: &[(OutPoint, CellMeta)],
+) -> Result<(), TxStop>
+    requires placed { IsPlaced at.now }
+    requires each { length spent.now ≡ length tx.now.raw.inputs }
+    requires hash { hash ≡ transaction_hash tx.now }
+    ensures stops { Stops result }
+    ensures unread { result ≡ Err (Read DiskFault) → ⊥ }
+    ensures tells { (stored : List Stored) (site : Site) → IsSiteOf stored at.now (C.rows cells.now) site
+        → spent.now ≡ map (found_row (blocks_of stored) at.now.parent) (inputs site tx.now)
+        → named.now ≡ map (found_row (blocks_of stored) at.now.parent) (deps site tx.now) → Tells (using_rules site tx.now) result }
+{
+    if !are_mature(at, spent)? || !are_mature(at, named)? {
+        return Err(TxStop::Broken(23));
+    }
+    if !meets_each_since(tx, at, spent)? {
+        return Err(TxStop::Broken(24));
+    }
+    if !makes_good_cells(tx, hash, cells) {
+        return Err(TxStop::Broken(25));
+    }
+    Ok(())
+}
+
+/// J26 and J27: what it pays, over copies of the cells of its inputs and the places of its header deps.
+fn paid_by(
+    tx: &TxView<'_>,
+    at: &TxAt<'_>,
+    copies: &[Resolved],
+    places: &[u32],
+) -> Result<Balance, TxStop>
+    requires placed { IsPlaced at.now }
+    ensures stops { Stops result }
+    ensures unread { result ≡ Err (Read DiskFault) → ⊥ }
+    ensures tells { (stored : List Stored) (rows : OutPoint → Option Row) (site : Site) → IsSiteOf stored at.now rows site
+        → AllZip (Copies (blocks_of stored) at.now.parent) (inputs site tx.now) copies.now
+        → places.now ≡ map (slice_index (branch_places (blocks_of stored) at.now.parent)) (heights site tx.now) → Tells (paying_rules site tx.now) result }
+    ensures paid { (stored : List Stored) (rows : OutPoint → Option Row) (site : Site) → IsSiteOf stored at.now rows site
+        → AllZip (Copies (blocks_of stored) at.now.parent) (inputs site tx.now) copies.now
+        → places.now ≡ map (slice_index (branch_places (blocks_of stored) at.now.parent)) (heights site tx.now) → IfOk result (Pays site tx.now) }
+{
+    if !names_deposits(tx, at, copies, places)? {
+        return Err(TxStop::Broken(26));
+    }
+    match balance_of(tx, at, copies, places)? {
+        Some(balance) => Ok(balance),
+        None => Err(TxStop::Broken(27)),
+    }
 }
 
 /// Tries the rules on one transaction, in their order.
