@@ -2,6 +2,8 @@
 use Rattle.std.proofs.Common.{◌≡◌, ℕ, Bool, true, false, List, [], ◌∷◌, ◌++◌, map, Option, Some, None, Result, Ok, Err, refl, sym, ap, ◌∙◌, subst}
 use Rattle.std.specs.Prelude.{◌&&◌, is_some, unwrap_or, IsErrAnd}
 use Rattle.std.specs.Option.{option_map}
+use Rattle.std.specs.List.{list_all}
+use Rattle.std.proofs.lemmas.List.Folds.{list_all-append}
 use Rattle.std.proofs.lemmas.Option.{same_Some}
 use Rattle.codec_defs.specs.Schema.{OutPoint, Transaction, Block}
 use Rattle.fold_defs.specs.First.{first_failing}
@@ -9,15 +11,16 @@ use Rattle.fold_defs.proofs.FirstLemmas.{first_failing-fails, first_failing-hold
 use Rattle.outside.specs.declared.disk.Damage.{Damage}
 use Rattle.outside.specs.declared.disk.ReadStop.{ReadStop}
 use Rattle.outside.specs.declared.disk.ReadStop.TheVariants.{DiskFault, NoMemory, Damaged}
-use Rattle.cell_defs.specs.Row.{Row}
+use Rattle.cell_defs.specs.Cell.{Cell}
+use Rattle.cell_defs.specs.Row.{Row, row_of}
 use Rattle.chain_tree.specs.Told.{Stored, blocks_of}
 use Rattle.tx_defs.specs.Site.{Site, Found}
 use Rattle.tx_defs.specs.Resolving.{input_cells, dep_cells, header_heights, spends_each_once, spends_live_cells, has_cell_deps, has_header_deps, inputs, deps, heights}
-use Rattle.tx_defs.specs.Age.{uses_mature_cells, meets_each_since}
+use Rattle.tx_defs.specs.Age.{is_mature, uses_mature_cells, meets_each_since}
 use Rattle.tx_defs.specs.Withdrawals.{names_deposits}
 use Rattle.tx_defs.specs.Capacity.{makes_good_cells, balances}
 use Rattle.tx_defs.specs.Rules.{has_form, broken_transaction_rule}
-use Rattle.tx_rules.specs.At.{AtValue, IsSiteOf, found_row, input_rows}
+use Rattle.tx_rules.specs.At.{AtValue, IsSiteOf, place_of_height, found_row, input_rows}
 use Rattle.tx_rules.specs.Steps.{spending_rules, naming_rules, using_rules, finding_rules, paying_rules, StopsAt, Tells, IsStop, Stops}
 use Rattle.tx_rules.specs.declared.resolving.TxStop.{TxStop}
 use Rattle.tx_rules.specs.declared.resolving.TxStop.TheVariants.{Broken, Read}
@@ -98,3 +101,65 @@ tells-read rules stop (Err given) is none = subst (StopsAt rules) (sym is) (read
 pub tells-damage : {T : Type 0} (rules : List (ℕ × Bool)) (damage : Damage) (result : Result T TxStop) → IsErrAnd result (λ given. given ≡ Read (Damaged damage))
     → ⊥ → Tells rules result
 tells-damage rules damage result is none = absurd none
+
+-- ---- Age and outputs
+
+pub uses-young : (site : Site) (t : Transaction) → uses_mature_cells site t ≡ false → first_failing (using_rules site t) ≡ Some 23
+uses-young site t young = first_failing-fails 23 (uses_mature_cells site t) ((24, meets_each_since site t) ∷ (25, makes_good_cells site t) ∷ []) young
+
+pub young-inputs : (site : Site) (t : Transaction) → list_all (is_mature site) (inputs site t) ≡ false → uses_mature_cells site t ≡ false
+young-inputs site t young =
+    list_all-append (is_mature site) (inputs site t) (deps site t) ∙ ap (λ (b : Bool). b && list_all (is_mature site) (deps site t)) young
+
+pub young-deps : (site : Site) (t : Transaction) → list_all (is_mature site) (inputs site t) ≡ true → list_all (is_mature site) (deps site t) ≡ false
+    → uses_mature_cells site t ≡ false
+young-deps site t mature young =
+    list_all-append (is_mature site) (inputs site t) (deps site t) ∙ ap (λ (b : Bool). b && list_all (is_mature site) (deps site t)) mature ∙ young
+
+pub all-mature : (site : Site) (t : Transaction) → list_all (is_mature site) (inputs site t) ≡ true → list_all (is_mature site) (deps site t) ≡ true
+    → uses_mature_cells site t ≡ true
+all-mature site t mature all =
+    list_all-append (is_mature site) (inputs site t) (deps site t) ∙ ap (λ (b : Bool). b && list_all (is_mature site) (deps site t)) mature ∙ all
+
+pub spends-early : (site : Site) (t : Transaction) → uses_mature_cells site t ≡ true → meets_each_since site t ≡ false
+    → first_failing (using_rules site t) ≡ Some 24
+spends-early site t mature early =
+    first_failing-holds 23 (uses_mature_cells site t) ((24, meets_each_since site t) ∷ (25, makes_good_cells site t) ∷ []) mature
+    ∙ first_failing-fails 24 (meets_each_since site t) ((25, makes_good_cells site t) ∷ []) early
+
+pub makes-badly : (site : Site) (t : Transaction) → uses_mature_cells site t ≡ true → meets_each_since site t ≡ true → makes_good_cells site t ≡ false
+    → first_failing (using_rules site t) ≡ Some 25
+makes-badly site t mature met bad =
+    first_failing-holds 23 (uses_mature_cells site t) ((24, meets_each_since site t) ∷ (25, makes_good_cells site t) ∷ []) mature
+    ∙ first_failing-holds 24 (meets_each_since site t) ((25, makes_good_cells site t) ∷ []) met
+    ∙ first_failing-fails 25 (makes_good_cells site t) [] bad
+
+pub uses-well : (site : Site) (t : Transaction) → uses_mature_cells site t ≡ true → meets_each_since site t ≡ true → makes_good_cells site t ≡ true
+    → first_failing (using_rules site t) ≡ None
+uses-well site t mature met good =
+    first_failing-holds 23 (uses_mature_cells site t) ((24, meets_each_since site t) ∷ (25, makes_good_cells site t) ∷ []) mature
+    ∙ first_failing-holds 24 (meets_each_since site t) ((25, makes_good_cells site t) ∷ []) met
+    ∙ first_failing-holds 25 (makes_good_cells site t) [] good ∙ first_failing-none
+
+-- there is a row just where a cell is seen
+pub row-where-cell : (stored : List Stored) (at : AtValue) (rows : OutPoint → Option Row) (site : Site) → IsSiteOf stored at rows site → (o : OutPoint)
+    → is_some (rows o) ≡ is_some (site.cell o)
+row-where-cell stored at rows site is o = ap is_some (is.sees o) ∙ by_cell (site.cell o)
+  where
+    by_cell : (found : Option Cell) → is_some (option_map (λ (cell : Cell). row_of (place_of_height (blocks_of stored) at.parent cell.height) cell) found) ≡ is_some found
+    by_cell None = refl
+    by_cell (Some cell) = refl
+
+-- ---- Withdrawals and capacity
+
+pub names-badly : (site : Site) (t : Transaction) → names_deposits site t ≡ false → first_failing (paying_rules site t) ≡ Some 26
+names-badly site t bad = first_failing-fails 26 (names_deposits site t) ((27, balances site t) ∷ []) bad
+
+pub pays-badly : (site : Site) (t : Transaction) → names_deposits site t ≡ true → balances site t ≡ false → first_failing (paying_rules site t) ≡ Some 27
+pays-badly site t named bad =
+    first_failing-holds 26 (names_deposits site t) ((27, balances site t) ∷ []) named ∙ first_failing-fails 27 (balances site t) [] bad
+
+pub pays-well : (site : Site) (t : Transaction) → names_deposits site t ≡ true → balances site t ≡ true → first_failing (paying_rules site t) ≡ None
+pays-well site t named good =
+    first_failing-holds 26 (names_deposits site t) ((27, balances site t) ∷ []) named
+    ∙ first_failing-holds 27 (balances site t) [] good ∙ first_failing-none

@@ -166,7 +166,10 @@ fn try_cells<C: Cells>(
         → spent.now ≡ map (found_row (blocks_of stored) at.now.parent) (inputs site tx.now)
         → named.now ≡ map (found_row (blocks_of stored) at.now.parent) (deps site tx.now) → Tells (using_rules site tx.now) result }
 {
-    if !are_mature(at, spent)? || !are_mature(at, named)? {
+    if !are_mature(at, spent)? {
+        return Err(TxStop::Broken(23));
+    }
+    if !are_mature(at, named)? {
         return Err(TxStop::Broken(23));
     }
     if !meets_each_since(tx, at, spent)? {
