@@ -163,3 +163,48 @@ pub pays-well : (site : Site) (t : Transaction) → names_deposits site t ≡ tr
 pays-well site t named good =
     first_failing-holds 26 (names_deposits site t) ((27, balances site t) ∷ []) named
     ∙ first_failing-holds 27 (balances site t) [] good ∙ first_failing-none
+
+-- ---- One group after another
+
+stops-front : (front back : List (ℕ × Bool)) (stop : TxStop) → StopsAt front stop → StopsAt (front ++ back) stop
+stops-front front back (Broken rule) is = first_failing-append-fails rule front back is
+stops-front front back (Read DiskFault) is = tt
+stops-front front back (Read NoMemory) is = tt
+stops-front front back (Read (Damaged damage)) is = is
+
+stops-back : (front back : List (ℕ × Bool)) (stop : TxStop) → first_failing front ≡ None → StopsAt back stop → StopsAt (front ++ back) stop
+stops-back front back (Broken rule) none is = first_failing-append-holds front back ((finds_none front).0 none) ∙ is
+stops-back front back (Read DiskFault) none is = tt
+stops-back front back (Read NoMemory) none is = tt
+stops-back front back (Read (Damaged damage)) none is = is
+
+-- a stop in the first group, with its error handed on
+pub tells-front : {T U : Type 0} (front back : List (ℕ × Bool)) (stop : TxStop) (step : Result T TxStop) (result : Result U TxStop)
+    → step ≡ Err stop → Tells front step → IsErrAnd result (λ given. given ≡ stop) → Tells (front ++ back) result
+tells-front front back stop step (Ok v) was tells is = absurd is
+tells-front {T = T} front back stop step (Err given) was tells is =
+    subst (StopsAt (front ++ back)) (sym is) (stops-front front back stop (subst (λ (s : Result T TxStop). Tells front s) was tells))
+
+-- what the second group says where the first is kept
+pub tells-back : {T : Type 0} (front back : List (ℕ × Bool)) (result : Result T TxStop) → first_failing front ≡ None → Tells back result
+    → Tells (front ++ back) result
+tells-back front back (Ok v) none tells = first_failing-append-holds front back ((finds_none front).0 none) ∙ tells
+tells-back front back (Err stop) none tells = stops-back front back stop none tells
+
+-- the same of an error that is handed on
+pub tells-on : {T U : Type 0} (rules : List (ℕ × Bool)) (stop : TxStop) (step : Result T TxStop) (result : Result U TxStop)
+    → step ≡ Err stop → Tells rules step → IsErrAnd result (λ given. given ≡ stop) → Tells rules result
+tells-on rules stop step (Ok v) was tells is = absurd is
+tells-on {T = T} rules stop step (Err given) was tells is =
+    subst (StopsAt rules) (sym is) (subst (λ (s : Result T TxStop). Tells rules s) was tells)
+
+pub stops-on : {T U : Type 0} (stop : TxStop) (step : Result T TxStop) (result : Result U TxStop) → step ≡ Err stop → Stops step
+    → IsErrAnd result (λ given. given ≡ stop) → Stops result
+stops-on stop step (Ok v) was stops is = tt
+stops-on {T = T} stop step (Err given) was stops is = subst IsStop (sym is) (subst (λ (s : Result T TxStop). Stops s) was stops)
+
+-- ---- All of them
+
+pub all-rules : (site : Site) (t : Transaction) → broken_transaction_rule site t ≡ first_failing (finding_rules site t ++ paying_rules site t)
+unfolding broken_transaction_rule
+all-rules site t = refl

@@ -1,6 +1,6 @@
 // All rules on one transaction, in their order.
-ghost use Rattle.std.specs.Prelude.{◌≡◌, ◌∷◌, List, length, map, Ok, Err, Some, None, IfOk, IsTrue, Option, slice_index, ℕ};
-ghost use Rattle.std.specs.List.{AllZip};
+ghost use Rattle.std.specs.Prelude.{◌≡◌, ◌++◌, List, length, map, Ok, Err, Some, None, IfOk, IsTrue, Option, slice_index, ℕ};
+ghost use Rattle.std.specs.List.{All, AllZip};
 ghost use Rattle.outside.specs.Causes.{CountsFault};
 ghost use Rattle.outside.specs.declared.disk.Area.TheVariants.{Log};
 ghost use Rattle.outside.specs.declared.disk.Damage.{Damage};
@@ -17,10 +17,10 @@ ghost use Rattle.tx_defs.specs.Rules as defs;
 ghost use Rattle.tx_defs.specs.Capacity as rules;
 ghost use Rattle.tx_defs.specs.Resolving.{inputs, deps, heights};
 ghost use Rattle.tx_rules.specs.At.{AtValue, IsPlaced, IsSiteOf, found_row, input_rows};
-ghost use Rattle.tx_rules.specs.Outcome.{Copies};
 ghost use Rattle.tx_rules.specs.Steps.{spending_rules, naming_rules, using_rules, finding_rules, paying_rules, Tells, Stops, AreFound, Pays};
 ghost use Rattle.tx_rules.specs.declared.resolving.TxStop.TheVariants.{Read};
-ghost use Rattle.tx_rules.specs.Outcome.{IsFormed, IsResolved, IsTried};
+ghost use Rattle.tx_rules.specs.Copying.{row_in, HoldsOutput};
+ghost use Rattle.tx_rules.specs.Outcome.{Copies, IsFormed, IsResolved, IsTried};
 
 use crate::age::{are_mature, meets_each_since};
 use crate::at::TxAt;
@@ -90,6 +90,14 @@ struct Finding {
     spent: Vec<(OutPoint, CellMeta)>,
     named: Vec<(OutPoint, CellMeta)>,
     places: Vec<u32>,
+}
+
+/// Copies of the cells of its inputs and of its resolved deps, and what it pays.
+#[derive(Drop)]
+struct Copying {
+    inputs: Vec<Resolved>,
+    deps: Vec<Resolved>,
+    balance: Balance,
 }
 
 /// J18 and J20: the rows of its inputs.
@@ -205,6 +213,82 @@ fn paid_by(
         Some(balance) => Ok(balance),
         None => Err(TxStop::Broken(27)),
     }
+}
+
+/// J18 and J20 to J25, which take no copy of a cell.
+fn find<C: Cells, B: Blocks>(
+    alloc: Global,
+    tx: &TxView<'_>,
+    at: &TxAt<'_>,
+    cells: &C,
+    blocks: &mut B,
+) -> Result<Finding, TxStop>
+    requires placed { IsPlaced at.now }
+    requires counts { B.count blocks.old ≡ length at.now.entries }
+    ensures told { B.told blocks.new ≡ B.told blocks.old }
+    ensures count { B.count blocks.new ≡ B.count blocks.old }
+    ensures loans { B.loans_of blocks.new ≡ B.loans_of blocks.old }
+    ensures stops { Stops result }
+    ensures tells { (stored : List Stored) (site : Site) → B.told blocks.old ≡ Some stored → IsSiteOf stored at.now (C.rows cells.now) site
+        → Tells (finding_rules site tx.now) result }
+    ensures found { (stored : List Stored) (site : Site) → B.told blocks.old ≡ Some stored → IsSiteOf stored at.now (C.rows cells.now) site
+        → IfOk result (λ it. AreFound (blocks_of stored) at.now.parent site tx.now it.spent.items it.named.items it.places.items) }
+    ensures form { IfOk result (λ _. IsTrue (defs.has_form tx.now)) }
+    ensures hash { IfOk result (λ it. it.hash ≡ transaction_hash tx.now) }
+    ensures spent { IfOk result (λ it. input_rows (C.rows cells.now) tx.now ≡ Some it.spent.items) }
+    ensures headers { IfOk result (λ it. AllZip (λ hash place. place_of_hash at.now.entries hash ≡ Some place) tx.now.raw.header_deps it.places.items) }
+    ensures cause { CountsFault (B.faults blocks.old) (B.faults blocks.new) (result ≡ Err (Read DiskFault)) }
+{
+    let spent = spent_rows(alloc, tx, cells)?;
+    let (named, places) = named_rows(alloc, tx, at, cells, blocks)?;
+    let hash = tx_hash(tx);
+    try_cells(tx, hash, at, cells, &spent, &named)?;
+    Ok(Finding {
+        hash,
+        spent,
+        named,
+        places,
+    })
+}
+
+/// J26 and J27, over copies of the cells of its inputs; then copies of those of its resolved deps.
+fn copy_cells<B: Blocks>(
+    alloc: Global,
+    tx: &TxView<'_>,
+    at: &TxAt<'_>,
+    blocks: &mut B,
+    finding: &Finding,
+) -> Result<Copying, TxStop>
+    requires placed { IsPlaced at.now }
+    requires counts { B.count blocks.old ≡ length at.now.entries }
+    ensures told { B.told blocks.new ≡ B.told blocks.old }
+    ensures count { B.count blocks.new ≡ B.count blocks.old }
+    ensures loans { B.loans_of blocks.new ≡ B.loans_of blocks.old }
+    ensures stops { Stops result }
+    ensures tells { (stored : List Stored) (rows : OutPoint → Option Row) (site : Site) → B.told blocks.old ≡ Some stored → IsSiteOf stored at.now rows site
+        → AreFound (blocks_of stored) at.now.parent site tx.now finding.now.spent.items finding.now.named.items finding.now.places.items
+        → Tells (paying_rules site tx.now) result }
+    ensures inputs { (stored : List Stored) (rows : OutPoint → Option Row) (site : Site) → B.told blocks.old ≡ Some stored → IsSiteOf stored at.now rows site
+        → AreFound (blocks_of stored) at.now.parent site tx.now finding.now.spent.items finding.now.named.items finding.now.places.items
+        → IfOk result (λ it. AllZip (Copies (blocks_of stored) at.now.parent) (inputs site tx.now) it.inputs.items) }
+    ensures deps { (stored : List Stored) (rows : OutPoint → Option Row) (site : Site) → B.told blocks.old ≡ Some stored → IsSiteOf stored at.now rows site
+        → AreFound (blocks_of stored) at.now.parent site tx.now finding.now.spent.items finding.now.named.items finding.now.places.items
+        → IfOk result (λ it. AllZip (Copies (blocks_of stored) at.now.parent) (deps site tx.now) it.deps.items) }
+    ensures paid { (stored : List Stored) (rows : OutPoint → Option Row) (site : Site) → B.told blocks.old ≡ Some stored → IsSiteOf stored at.now rows site
+        → AreFound (blocks_of stored) at.now.parent site tx.now finding.now.spent.items finding.now.named.items finding.now.places.items
+        → IfOk result (λ it. Pays site tx.now it.balance) }
+    ensures rows { IfOk result (λ it. map row_in it.inputs.items ≡ finding.now.spent.items) }
+    ensures outputs { IfOk result (λ it. All HoldsOutput (it.inputs.items ++ it.deps.items)) }
+    ensures cause { CountsFault (B.faults blocks.old) (B.faults blocks.new) (result ≡ Err (Read DiskFault)) }
+{
+    let inputs = fetch_all(alloc, at, blocks, &finding.spent)?;
+    let balance = paid_by(tx, at, &inputs, &finding.places)?;
+    let deps = fetch_all(alloc, at, blocks, &finding.named)?;
+    Ok(Copying {
+        inputs,
+        deps,
+        balance,
+    })
 }
 
 /// Tries the rules on one transaction, in their order.
