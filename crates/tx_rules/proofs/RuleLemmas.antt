@@ -208,3 +208,13 @@ stops-on {T = T} stop step (Err given) was stops is = subst IsStop (sym is) (sub
 pub all-rules : (site : Site) (t : Transaction) → broken_transaction_rule site t ≡ first_failing (finding_rules site t ++ paying_rules site t)
 unfolding broken_transaction_rule
 all-rules site t = refl
+
+-- both groups are kept
+pub keeps-all : (front back : List (ℕ × Bool)) → first_failing front ≡ None → first_failing back ≡ None → first_failing (front ++ back) ≡ None
+keeps-all front back none later = first_failing-append-holds front back ((finds_none front).0 none) ∙ later
+
+-- the rows of its inputs, where there are any
+pub spent-inputs : (stored : List Stored) (at : AtValue) (rows : OutPoint → Option Row) (site : Site) (t : Transaction) (spent : List (OutPoint × Row))
+    → IsSiteOf stored at rows site → input_rows rows t ≡ Some spent → spent ≡ map (found_row (blocks_of stored) at.parent) (inputs site t)
+spent-inputs stored at rows site t spent is some =
+    found-list (found_row (blocks_of stored) at.parent) (input_cells site t) spent (sym some ∙ input_rows-cells stored at rows site t is)
