@@ -323,5 +323,18 @@ pub fn resolve<'a, C: Cells, B: Blocks>(
     ensures damage { (damage : Damage) → result ≡ Err (TxStop.Read (Damaged damage)) → damage.area ≡ Log }
     ensures cause { CountsFault (B.faults blocks.old) (B.faults blocks.new) (result ≡ Err (TxStop.Read DiskFault)) }
 {
-    Err(TxStop::Read(ReadStop::NoMemory))
+    let found = find(alloc, tx, at, cells, blocks)?;
+    let copied = copy_cells(alloc, tx, at, blocks, &found)?;
+    let resolved = ResolvedTx {
+        tx: TxView::from_encoding(tx.bytes()),
+        hash: found.hash,
+        inputs: copied.inputs,
+        deps: copied.deps,
+        headers: found.places,
+    };
+    Ok(TxOk {
+        resolved,
+        fee: copied.balance.fee,
+        interest: copied.balance.interest,
+    })
 }
