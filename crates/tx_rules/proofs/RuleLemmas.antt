@@ -1,26 +1,30 @@
 -- The rules in groups, rule by rule, and the groups one after another.
 use Rattle.std.proofs.Common.{◌≡◌, ℕ, Bool, true, false, List, [], ◌∷◌, ◌++◌, map, Option, Some, None, Result, Ok, Err, refl, sym, ap, ◌∙◌, subst}
 use Rattle.std.specs.Prelude.{◌&&◌, is_some, unwrap_or, IsErrAnd}
-use Rattle.std.specs.Option.{option_map}
+use Rattle.std.specs.Option.{option_map, option_and_then}
 use Rattle.std.specs.List.{list_all}
 use Rattle.std.proofs.lemmas.List.Folds.{list_all-append}
 use Rattle.std.proofs.lemmas.Option.{same_Some}
-use Rattle.codec_defs.specs.Schema.{OutPoint, Transaction, Block}
+use Rattle.codec_defs.specs.Schema.{OutPoint, CellInput, Transaction, Block}
 use Rattle.fold_defs.specs.First.{first_failing}
 use Rattle.fold_defs.proofs.FirstLemmas.{first_failing-fails, first_failing-holds, first_failing-none, first_failing-append-holds, first_failing-append-fails, finds_none}
+use Rattle.outside.specs.declared.disk.Area.TheVariants.{Log}
 use Rattle.outside.specs.declared.disk.Damage.{Damage}
 use Rattle.outside.specs.declared.disk.ReadStop.{ReadStop}
 use Rattle.outside.specs.declared.disk.ReadStop.TheVariants.{DiskFault, NoMemory, Damaged}
 use Rattle.cell_defs.specs.Cell.{Cell}
 use Rattle.cell_defs.specs.Row.{Row, row_of}
 use Rattle.chain_tree.specs.Told.{Stored, blocks_of}
-use Rattle.tx_defs.specs.Site.{Site, Found}
+use Rattle.cell_model.specs.Copies.{ResolvedValue}
+use Rattle.tx_defs.specs.Site.{Site, Found, all_there}
 use Rattle.tx_defs.specs.Resolving.{input_cells, dep_cells, header_heights, spends_each_once, spends_live_cells, has_cell_deps, has_header_deps, inputs, deps, heights}
 use Rattle.tx_defs.specs.Age.{is_mature, uses_mature_cells, meets_each_since}
 use Rattle.tx_defs.specs.Withdrawals.{names_deposits}
 use Rattle.tx_defs.specs.Capacity.{makes_good_cells, balances}
 use Rattle.tx_defs.specs.Rules.{has_form, broken_transaction_rule}
-use Rattle.tx_rules.specs.At.{AtValue, IsSiteOf, place_of_height, found_row, input_rows}
+use Rattle.tx_rules.specs.At.{AtValue, IsSiteOf, place_of_height, found_row, find_row, input_rows}
+use Rattle.tx_rules.specs.Copying.{row_in}
+use Rattle.tx_rules.specs.Outcome.{IsTried}
 use Rattle.tx_rules.specs.Steps.{spending_rules, naming_rules, using_rules, finding_rules, paying_rules, StopsAt, Tells, IsStop, Stops}
 use Rattle.tx_rules.specs.declared.resolving.TxStop.{TxStop}
 use Rattle.tx_rules.specs.declared.resolving.TxStop.TheVariants.{Broken, Read}
@@ -218,3 +222,51 @@ pub spent-inputs : (stored : List Stored) (at : AtValue) (rows : OutPoint → Op
     → IsSiteOf stored at rows site → input_rows rows t ≡ Some spent → spent ≡ map (found_row (blocks_of stored) at.parent) (inputs site t)
 spent-inputs stored at rows site t spent is some =
     found-list (found_row (blocks_of stored) at.parent) (input_cells site t) spent (sym some ∙ input_rows-cells stored at rows site t is)
+
+-- ---- What the whole answers
+
+pub tried-of : {T : Type 0} (result : Result T TxStop) (rule : ℕ) → Stops result → result ≡ Err (Broken rule) → IsTried rule
+tried-of {T = T} result rule stops same = subst (λ (r : Result T TxStop). Stops r) same stops
+
+pub damage-of : {T : Type 0} (result : Result T TxStop) (damage : Damage) → Stops result → result ≡ Err (Read (Damaged damage)) → damage.area ≡ Log
+damage-of {T = T} result damage stops same = subst (λ (r : Result T TxStop). Stops r) same stops
+
+pub broken-of : {T : Type 0} (site : Site) (t : Transaction) (result : Result T TxStop) (rule : ℕ) → Tells (finding_rules site t ++ paying_rules site t) result
+    → result ≡ Err (Broken rule) → broken_transaction_rule site t ≡ Some rule
+broken-of {T = T} site t result rule tells same =
+    all-rules site t ∙ subst (λ (r : Result T TxStop). Tells (finding_rules site t ++ paying_rules site t) r) same tells
+
+pub undamaged-of : {T : Type 0} (rules : List (ℕ × Bool)) (result : Result T TxStop) (damage : Damage) → Tells rules result
+    → result ≡ Err (Read (Damaged damage)) → ⊥
+undamaged-of {T = T} rules result damage tells same = subst (λ (r : Result T TxStop). Tells rules r) same tells
+
+-- a list that is there for one that is read off each
+all_there-back : {X V W : Type 0} (f : X → Option V) (g : X → W) (h : V → W) (xs : List X) (vs : List V) → ((x : X) (v : V) → f x ≡ Some v → h v ≡ g x)
+    → all_there (map f xs) ≡ Some vs → map h vs ≡ map g xs
+unfolding all_there
+all_there-back f g h [] vs each there = ap (map h) (sym (same_Some [] vs there))
+all_there-back {V = V} {W = W} f g h (x ∷ xs) vs each there = by_first (f x) refl (all_there (map f xs)) (λ ws. all_there-back f g h xs ws each) there
+  where
+    by_first : (first : Option V) → f x ≡ first → (rest : Option (List V)) → ((ws : List V) → rest ≡ Some ws → map h ws ≡ map g xs)
+        → option_and_then (λ (v : V). option_map (λ (ws : List V). v ∷ ws) rest) first ≡ Some vs → map h vs ≡ g x ∷ map g xs
+    by_first None here rest back is = absurd (cc)
+    by_first (Some v) here None back is = absurd (cc)
+    by_first (Some v) here (Some ws) back is =
+        ap (map h) (sym (same_Some (v ∷ ws) vs is)) ∙ ap (λ (w : W). w ∷ map h ws) (each x v here) ∙ ap (λ (rest : List W). g x ∷ rest) (back ws refl)
+
+-- the copies of the cells of its inputs have their out-points
+pub copied-inputs : (rows : OutPoint → Option Row) (t : Transaction) (spent : List (OutPoint × Row)) (copies : List ResolvedValue)
+    → input_rows rows t ≡ Some spent → map row_in copies ≡ spent
+    → map (λ (copy : ResolvedValue). copy.out_point) copies ≡ map (λ (input : CellInput). input.previous_output) t.raw.inputs
+copied-inputs rows t spent copies some are =
+    out-points copies ∙ ap (map (λ (row : OutPoint × Row). row.0)) are
+    ∙ all_there-back (λ (input : CellInput). find_row rows input.previous_output) (λ (input : CellInput). input.previous_output)
+    (λ (row : OutPoint × Row). row.0) t.raw.inputs spent (λ input row. its_own input.previous_output (rows input.previous_output) row) some
+  where
+    out-points : (cs : List ResolvedValue) → map (λ (copy : ResolvedValue). copy.out_point) cs ≡ map (λ (row : OutPoint × Row). row.0) (map row_in cs)
+    out-points [] = refl
+    out-points (c ∷ cs) = ap (λ (os : List OutPoint). c.out_point ∷ os) (out-points cs)
+
+    its_own : (o : OutPoint) (found : Option Row) (row : OutPoint × Row) → option_map (λ (r : Row). (o, r)) found ≡ Some row → row.0 ≡ o
+    its_own o None row is = absurd (cc)
+    its_own o (Some r) row is = ap (λ (it : OutPoint × Row). it.0) (sym (same_Some (o, r) row is))
