@@ -11,6 +11,7 @@ mod cells;
 mod copies;
 mod ext;
 mod hashes;
+mod row;
 
 pub use cells::{CellMeta, Cells, OutPoint, Resolved, ResolvedTx};
 pub use copies::{copy_of, data_at, fetch, output_at};
