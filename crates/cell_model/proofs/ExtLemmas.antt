@@ -1,11 +1,14 @@
 -- The fees and the rows of an ext, one behind the other.
-use Rattle.std.proofs.Common.{◌≡◌, ℕ, zero, suc, ◌+◌, ◌-◌, ◌*◌, ◌<◌, ◌≤◌, Bool, true, false, List, [], ◌∷◌, ◌++◌, length, map, take, drop, get_or, refl, sym, ap, ◌∙◌, append_assoc, arith, add-one}
+use Rattle.std.proofs.Common.{◌≡◌, ℕ, zero, suc, ◌+◌, ◌-◌, ◌*◌, ◌<◌, ◌≤◌, Bool, true, false, List, [], ◌∷◌, ◌++◌, length, map, take, drop, get_or, refl, sym, ap, ◌∙◌, append_assoc, ◌^◌, arith, add-one, eqb}
 use Rattle.std.specs.Prelude.{◌&&◌}
 use Rattle.std.specs.List.{slice_range, concat}
+use Rattle.std.specs.Int.{w32, w64, to_le_bytes, from_le_bytes}
 use Rattle.std.proofs.Math.Seq.{take-add}
-use Rattle.std.proofs.lemmas.Bool.{and_parts, and_from}
-use Rattle.std.proofs.lemmas.List.{append-nil, map_push, take_more, drop-drop, take-append-le, drop-append-le, take_all, nil_from_length, length-append, length-drop}
-use Rattle.cell_defs.specs.Ext.{count_at, row_size, is_row, are_rows, is_ext}
+use Rattle.std.proofs.lemmas.Bool.{and_parts, and_from, and_left, ne_eqb, eq-eqb}
+use Rattle.std.proofs.lemmas.Nat.{from_le_bytes-to_le_bytes_4}
+use Rattle.std.proofs.lemmas.List.{append-nil, map_push, take_more, drop-drop, take-append-le, drop-append-le, take_all, take_at, drop_at, nil_from_length, length-append, length-drop}
+use Rattle.cell_defs.specs.Ext.{Ext, row_bytes, ext_bytes, count_at, row_size, is_row, are_rows, is_ext}
+use Rattle.cell_model.proofs.RowLemmas.{next, whole}
 
 -- ---- Pieces
 
@@ -88,3 +91,80 @@ pub are_one_more : (count : ℕ) (rows more row : List ℕ) → more ≡ rows ++
     → is_row row ≡ true → are_rows (count + 1) more ≡ true
 are_one_more count rows more row grown long size are is =
     ap (λ (n : ℕ). are_rows n more) (add-one count) ∙ ap (are_rows (suc count)) grown ∙ are_rows-push count rows row long size are is
+
+-- ---- The form of an ext
+
+pub no_ext : (bytes : List ℕ) → (length bytes ≡ 4 + 8 * count_at bytes 0 + 4 + 161 * count_at bytes (4 + 8 * count_at bytes 0) → ⊥) → is_ext bytes ≡ false
+unfolding is_ext row_size
+no_ext bytes wrong =
+    let rows_at : ℕ = 4 + 8 * count_at bytes 0 in
+    let rows : ℕ = count_at bytes rows_at in
+    and_left (eqb (length bytes) (rows_at + 4 + 161 * rows)) (are_rows rows (drop (rows_at + 4) bytes)) (ne_eqb (length bytes) (rows_at + 4 + 161 * rows) wrong)
+
+pub by_rows : (bytes rest : List ℕ) (fees rows : ℕ) → fees ≡ count_at bytes 0 → rows ≡ count_at bytes (4 + 8 * fees)
+    → length bytes ≡ 4 + 8 * fees + 4 + 161 * rows → rest ≡ drop (4 + 8 * fees + 4) bytes → are_rows rows rest ≡ is_ext bytes
+unfolding is_ext row_size
+by_rows bytes rest fees rows first second long behind =
+    let at : 4 + 8 * fees ≡ 4 + 8 * count_at bytes 0 = ap (λ (n : ℕ). 4 + 8 * n) first in
+    let rows_is : rows ≡ count_at bytes (4 + 8 * count_at bytes 0) = second ∙ ap (count_at bytes) at in
+    let whole : length bytes ≡ 4 + 8 * count_at bytes 0 + 4 + 161 * count_at bytes (4 + 8 * count_at bytes 0) = omega (arith, long, first, rows_is) in
+    let test : eqb (length bytes) (4 + 8 * count_at bytes 0 + 4 + 161 * count_at bytes (4 + 8 * count_at bytes 0)) ≡ true =
+    eq-eqb (length bytes) (4 + 8 * count_at bytes 0 + 4 + 161 * count_at bytes (4 + 8 * count_at bytes 0)) whole in
+    (λ i. are_rows (rows_is i) (behind i)) ∙ ap (λ (n : ℕ). are_rows (count_at bytes (4 + 8 * count_at bytes 0)) (drop (n + 4) bytes)) at
+    ∙ ap (λ (b : Bool). b && are_rows (count_at bytes (4 + 8 * count_at bytes 0)) (drop (4 + 8 * count_at bytes 0 + 4) bytes)) (sym test)
+
+-- the bytes of an ext whose parts are those of the bytes
+pub bytes_of_read : (bytes : List ℕ) (ext : Ext) (fees rows end : ℕ) → length ext.fees ≡ fees → length ext.spent ≡ rows → to_le_bytes w32 fees ≡ slice_range bytes 0 4
+    → concat (map (to_le_bytes w64) ext.fees) ≡ slice_range bytes 4 (4 + 8 * fees)
+    → to_le_bytes w32 rows ≡ slice_range bytes (4 + 8 * fees) (4 + 8 * fees + 4)
+    → concat (map row_bytes ext.spent) ≡ slice_range bytes (4 + 8 * fees + 4) end → length bytes ≡ end → 4 + 8 * fees + 4 ≤ end → ext_bytes ext ≡ bytes
+unfolding ext_bytes
+bytes_of_read bytes ext fees rows end fees_are rows_are first fees_here second rows_here long within =
+    let to_fees = next bytes (to_le_bytes w32 (length ext.fees)) (concat (map (to_le_bytes w64) ext.fees)) 4 (4 + 8 * fees) (omega arith) fees_here (ap (to_le_bytes w32) fees_are ∙ first) in
+    let to_count = next bytes _ (to_le_bytes w32 (length ext.spent)) (4 + 8 * fees) (4 + 8 * fees + 4) (omega arith) (ap (to_le_bytes w32) rows_are ∙ second) to_fees in
+    let to_rows = next bytes _ (concat (map row_bytes ext.spent)) (4 + 8 * fees + 4) end within rows_here to_count in
+    whole bytes _ end long to_rows
+
+-- ---- The bytes of an ext have its form
+
+pub length-fees : (fees : List ℕ) → length (concat (map (to_le_bytes w64) fees)) ≡ 8 * length fees
+length-fees [] = refl
+length-fees (fee ∷ fees) =
+    length-append (to_le_bytes w64 fee) (concat (map (to_le_bytes w64) fees)) ∙ omega (arith, length-fees fees)
+
+split_one : (a b c d : List ℕ) → ((a ++ b) ++ c) ++ d ≡ a ++ (b ++ (c ++ d))
+split_one a b c d = simp append_assoc
+
+-- the parts of the bytes: a count of fees, as many fees, a count of rows, as many rows
+pub has_form : (a b c d : List ℕ) (fees rows : ℕ) → length a ≡ 4 → length c ≡ 4 → from_le_bytes w32 a ≡ fees → from_le_bytes w32 c ≡ rows
+    → length b ≡ 8 * fees → length d ≡ 161 * rows → are_rows rows d ≡ true → is_ext (((a ++ b) ++ c) ++ d) ≡ true
+has_form a b c d fees rows four again fees_are rows_are fees_long rows_long are =
+    let bytes : List ℕ = ((a ++ b) ++ c) ++ d in
+    let front : length (a ++ b) ≡ 4 + 8 * fees = length-append a b ∙ omega (arith, four, fees_long) in
+    let middle : length ((a ++ b) ++ c) ≡ 4 + 8 * fees + 4 = length-append (a ++ b) c ∙ omega (arith, front, again) in
+    let long : length bytes ≡ 4 + 8 * fees + 4 + 161 * rows = length-append ((a ++ b) ++ c) d ∙ omega (arith, middle, rows_long) in
+    let first : slice_range bytes 0 4 ≡ a = ap (take 4) (split_one a b c d) ∙ take_at a (b ++ (c ++ d)) 4 four in
+    let size : 4 + 8 * fees + 4 - (4 + 8 * fees) ≡ 4 = omega arith in
+    let second : slice_range bytes (4 + 8 * fees) (4 + 8 * fees + 4) ≡ c =
+    (λ i. take (size i) (drop (4 + 8 * fees) (append_assoc (a ++ b) c d i))) ∙ ap (take 4) (drop_at (a ++ b) (c ++ d) (4 + 8 * fees) front) ∙ take_at c d 4 again in
+    sym (by_rows bytes d fees rows (sym (ap (from_le_bytes w32) first ∙ fees_are)) (sym (ap (from_le_bytes w32) second ∙ rows_are)) long (sym (drop_at ((a ++ b) ++ c) d (4 + 8 * fees + 4) middle)))
+    ∙ are
+
+pub written_form : (ext : Ext) → length ext.fees < 2 ^ 32 → length ext.spent < 2 ^ 32 → length (concat (map row_bytes ext.spent)) ≡ 161 * length ext.spent
+    → are_rows (length ext.spent) (concat (map row_bytes ext.spent)) ≡ true → is_ext (ext_bytes ext) ≡ true
+unfolding ext_bytes
+written_form ext few_fees few_rows size are =
+    has_form
+    (to_le_bytes w32 (length ext.fees))
+    (concat (map (to_le_bytes w64) ext.fees))
+    (to_le_bytes w32 (length ext.spent))
+    (concat (map row_bytes ext.spent))
+    (length ext.fees)
+    (length ext.spent)
+    refl
+    refl
+    (from_le_bytes-to_le_bytes_4 (length ext.fees) few_fees)
+    (from_le_bytes-to_le_bytes_4 (length ext.spent) few_rows)
+    (length-fees ext.fees)
+    size
+    are

@@ -56,10 +56,10 @@ pub has_form : (front data_hash len : List ℕ) (hash : Option (List ℕ)) → l
 has_form front data_hash len None long =
     ap is_row (regroup front (0 ∷ replicate 32 0) data_hash len)
     ∙ (λ t. (flag_is front (replicate 32 0 ++ (data_hash ++ len)) 0 long t == 1)
-        || ((flag_is front (replicate 32 0 ++ (data_hash ++ len)) 0 long t == 0)
-        && list_all (λ b. b == 0) (zeros_are front (replicate 32 0) (data_hash ++ len) long refl t)))
+    || ((flag_is front (replicate 32 0 ++ (data_hash ++ len)) 0 long t == 0)
+    && list_all (λ b. b == 0) (zeros_are front (replicate 32 0) (data_hash ++ len) long refl t)))
 has_form front data_hash len (Some hash) long =
     ap is_row (regroup front (1 ∷ hash) data_hash len)
     ∙ (λ t. (flag_is front (hash ++ (data_hash ++ len)) 1 long t == 1)
-        || ((flag_is front (hash ++ (data_hash ++ len)) 1 long t == 0)
-        && list_all (λ b. b == 0) (slice_range (front ++ 1 ∷ (hash ++ (data_hash ++ len))) 93 125)))
+    || ((flag_is front (hash ++ (data_hash ++ len)) 1 long t == 0)
+    && list_all (λ b. b == 0) (slice_range (front ++ 1 ∷ (hash ++ (data_hash ++ len))) 93 125)))

@@ -109,11 +109,7 @@ fn put_type_hash(bytes: &mut Vec<u8>, hash: &Option<[u8; 32]>) -> Result<(), NoM
 }
 
 /// Puts a row with its out-point behind what is there.
-pub(crate) fn put_row(
-    bytes: &mut Vec<u8>,
-    o: &OutPoint,
-    meta: &CellMeta,
-) -> Result<(), NoMemory>
+pub(crate) fn put_row(bytes: &mut Vec<u8>, o: &OutPoint, meta: &CellMeta) -> Result<(), NoMemory>
     ensures written { OnOk result (bytes.new.items ≡ bytes.old.items ++ exts.row_bytes (o.now, meta.now)) }
     ensures size { OnOk result (length (exts.row_bytes (o.now, meta.now)) ≡ 161) }
     ensures form { OnOk result (IsTrue (exts.is_row (exts.row_bytes (o.now, meta.now)))) }

@@ -10,5 +10,5 @@ returns-clause-form c =
     let row = c.args.meta.now in
     has_form
     (o.tx_hash ++ to_le_bytes w32 o.index ++ to_le_bytes w32 row.block ++ to_le_bytes w32 row.transaction
-        ++ to_le_bytes w64 row.capacity ++ to_le_bytes w64 row.occupied ++ row.lock_hash)
+    ++ to_le_bytes w64 row.capacity ++ to_le_bytes w64 row.occupied ++ row.lock_hash)
     row.data_hash (to_le_bytes w32 row.data_len) row.type_hash (grind (arith, common_steps))
