@@ -1,1 +1,4 @@
 pub mod AllThere
+pub mod BranchLemmas
+pub mod HeaderLemmas
+pub mod SiteLemmas
