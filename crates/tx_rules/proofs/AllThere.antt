@@ -10,7 +10,7 @@ pub take-push : {X : Type 0} (xs : List X) (i : ℕ) (x : X) → slice_get xs i 
 take-push xs i x there =
     take_more xs i x (slice_get_within xs i x there) ∙ ap (λ y. take i xs ++ y ∷ []) (get_or_from_slice_get xs i x x there)
 
-all_there-push : {X : Type 0} (found : List (Option X)) (xs : List X) (x : X) → all_there found ≡ Some xs → all_there (found ++ Some x ∷ []) ≡ Some (xs ++ x ∷ [])
+pub all_there-push : {X : Type 0} (found : List (Option X)) (xs : List X) (x : X) → all_there found ≡ Some xs → all_there (found ++ Some x ∷ []) ≡ Some (xs ++ x ∷ [])
 unfolding all_there
 all_there-push {X = X} [] xs x is = ap (λ (front : List X). Some (front ++ x ∷ [])) (same_Some [] xs is)
 all_there-push (None ∷ later) xs x is = absurd (cc)

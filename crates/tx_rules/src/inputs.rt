@@ -4,7 +4,7 @@ ghost use Rattle.std.specs.Option.{option_map};
 ghost use Rattle.codec_defs.specs.Shape.{encoded};
 ghost use Rattle.codec_defs.specs.Schema.{out_point};
 ghost use Rattle.tx_defs.specs.Resolving.{spends_each_once};
-ghost use Rattle.tx_rules.specs.At.{find_row, input_rows};
+ghost use Rattle.tx_rules.specs.At as sites;
 
 use cell_model::{CellMeta, Cells, OutPoint};
 use mol_schema::{OutPointView, TxView};
@@ -25,8 +25,8 @@ pub(crate) fn out_point_of(o: &OutPointView<'_>) -> OutPoint
 }
 
 /// An out-point with its row. None where it has none.
-pub(crate) fn row_of<C: Cells>(cells: &C, o: &OutPointView<'_>) -> Option<(OutPoint, CellMeta)>
-    ensures { result ≡ find_row (C.rows cells.now) o.now }
+pub(crate) fn find_row<C: Cells>(cells: &C, o: &OutPointView<'_>) -> Option<(OutPoint, CellMeta)>
+    ensures { result ≡ sites.find_row (C.rows cells.now) o.now }
 {
     let out_point = out_point_of(o);
     match cells.get(&out_point) {
@@ -41,12 +41,12 @@ pub(crate) fn live_inputs<C: Cells>(
     tx: &TxView<'_>,
     cells: &C,
 ) -> Result<Option<Vec<(OutPoint, CellMeta)>>, NoMemory>
-    ensures { IfOk result (λ found. option_map (λ rows. rows.items) found ≡ input_rows (C.rows cells.now) tx.now) }
+    ensures { IfOk result (λ found. option_map (λ rows. rows.items) found ≡ sites.input_rows (C.rows cells.now) tx.now) }
 {
     let raw = tx.raw();
     let mut found = Vec::new(alloc);
     'inputs: for i in 0..raw.inputs_count() {
-        match row_of(cells, &raw.inputs_item(i).previous_output()) {
+        match find_row(cells, &raw.inputs_item(i).previous_output()) {
             None => return Ok(None),
             Some(row) => found.push(row)?,
         }

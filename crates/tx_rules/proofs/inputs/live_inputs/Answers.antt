@@ -15,7 +15,7 @@ pub returns-in-None : goal.returns-in-None
 returns-in-None g c =
     let f : CellInput → Option (OutPoint × Row) = λ input. find_row (g.C.Cells.rows c.args.cells.now) input.previous_output in
     let none : f c.inputs_item.result ≡ None =
-    ap (find_row (g.C.Cells.rows c.args.cells.now)) (sym c.previous_output.ensures) ∙ sym c.row_of.ensures ∙ c.in-None.is in
+    ap (find_row (g.C.Cells.rows c.args.cells.now)) (sym c.previous_output.ensures) ∙ sym c.find_row.ensures ∙ c.in-None.is in
     sym (there-none f c.raw-raw.result.inputs c.inputs.i c.inputs_item.result c.inputs_item.ensures none)
     ∙ ap (λ (raw : RawTransaction). all_there (map f raw.inputs)) c.raw-raw.ensures
 
@@ -23,7 +23,7 @@ pub inputs-preserved : goal.inputs-preserved
 inputs-preserved g c =
     let f : CellInput → Option (OutPoint × Row) = λ input. find_row (g.C.Cells.rows c.args.cells.now) input.previous_output in
     let some : f c.inputs_item.result ≡ Some c.in-Some.row =
-    ap (find_row (g.C.Cells.rows c.args.cells.now)) (sym c.previous_output.ensures) ∙ sym c.row_of.ensures ∙ c.in-Some.is in
+    ap (find_row (g.C.Cells.rows c.args.cells.now)) (sym c.previous_output.ensures) ∙ sym c.find_row.ensures ∙ c.in-Some.is in
     ap (λ (rows : List (OutPoint × Row)). Some rows) c.in_ok-push-in-Some.ensures.items
     ∙ there-more f c.raw-raw.result.inputs c.inputs.i c.inputs_item.result c.in-Some.row c.inputs.found.items c.inputs.invariant c.inputs_item.ensures some
 
