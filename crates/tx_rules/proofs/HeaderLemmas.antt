@@ -1,10 +1,10 @@
 -- Hashes on the branch of a parent, and in the tree.
-use Rattle.std.proofs.Common.{◌≡◌, ℕ, suc, ◌+◌, ◌<◌, ◌≤◌, ◌≢◌, List, [], ◌∷◌, ◌++◌, length, Option, Some, None, refl, sym, ap, ◌∙◌, Bool, subst, inl, inr, ◌⊎◌, arith}
+use Rattle.std.proofs.Common.{◌≡◌, ℕ, ◌<◌, ◌≤◌, List, [], ◌∷◌, ◌++◌, length, Option, Some, None, refl, sym, ap, ◌∙◌, Bool, inl, inr, ◌⊎◌, arith}
 use Rattle.std.specs.Prelude.{slice_get, slice_index, if◌then◌else◌}
 use Rattle.std.specs.Option.{option_map, option_and_then}
 use Rattle.std.specs.List.{AllZip}
 use Rattle.std.proofs.lemmas.Bool.{cases_order}
-use Rattle.std.proofs.lemmas.Option.{slice_get_within, get_or_from_slice_get, same_Some}
+use Rattle.std.proofs.lemmas.Option.{same_Some}
 use Rattle.codec_defs.specs.Schema.{Block}
 use Rattle.time_defs.specs.Epochs.{is_span_over}
 use Rattle.chain_defs.specs.Kept.{block_hash, block_at, place_of, IsKept}
@@ -13,10 +13,10 @@ use Rattle.chain_defs.proofs.KeptLaws.{place_of-there, place_of-below, place_of-
 use Rattle.chain_tree.specs.declared.entry.Entry.{Entry}
 use Rattle.chain_tree.specs.Entries.{entry_at}
 use Rattle.chain_tree.specs.Blocks.{IndexesBlocks}
-use Rattle.chain_tree.proofs.BlockLemmas.{DescribedAt, described, len-same}
+use Rattle.chain_tree.proofs.BlockLemmas.{len-same}
 use Rattle.tx_defs.specs.Site.{Site, height_at}
 use Rattle.tx_defs.specs.Resolving.{mature_ancestor}
-use Rattle.tx_rules.proofs.BranchLemmas.{branch-block, branch-long, PlaceOfHeight, place-of-height, number-on-branch}
+use Rattle.tx_rules.proofs.BranchLemmas.{branch-block, PlaceOfHeight, place-of-height, number-on-branch}
 
 -- A kept block is found by its hash.
 found-kept : (kept : List Block) (place : ℕ) (block : Block) (hash : List ℕ) → IsKept kept → block_at kept place ≡ Some block → block_hash block ≡ hash

@@ -26,6 +26,7 @@ use std::alloc::Global;
 
 /// The dep types: a cell, and a group of cells.
 const CODE: u8 = 0;
+
 const DEP_GROUP: u8 = 1;
 
 /// Where the block of a row lies in LOG, as damaged: at 0 where the tree has no entry for it.

@@ -1,8 +1,8 @@
-use Rattle.std.proofs.Common.{◌≡◌, List, ℕ, Option, Some, None, map, sym, ap, ◌∙◌, arith}
+use Rattle.std.proofs.Common.{◌≡◌, List, Option, Some, None, map, sym, ap, ◌∙◌, arith}
 use Rattle.std.specs.Option.{option_map}
 use Rattle.std.proofs.lemmas.Bool.{ne_eqb}
 use Rattle.codec_defs.specs.Schema.{OutPoint}
-use Rattle.chain_tree.specs.Told.{Stored, blocks_of}
+use Rattle.chain_tree.specs.Told.{blocks_of}
 use Rattle.cell_defs.specs.Row.{Row}
 use Rattle.tx_rules.specs.At.{found_row, find_row}
 use Rattle.tx_rules.proofs.DepLemmas.{SeenRow, seen-row, unseen, dep-none, dep-other, dep-code, dep-group, ok-same}

@@ -1,4 +1,4 @@
-use Rattle.std.proofs.Common.{◌≡◌, List, ℕ, Option, Some, length, sym, ap, ◌∙◌, arith}
+use Rattle.std.proofs.Common.{◌≡◌, Option, Some, length, ap, ◌∙◌, arith}
 use Rattle.codec_defs.specs.Schema.{OutPoint}
 use Rattle.cell_defs.specs.Row.{Row}
 use Rattle.cell_model.specs.Copies.{NamesOutput, output_in}

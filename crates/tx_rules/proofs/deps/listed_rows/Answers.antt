@@ -1,4 +1,4 @@
-use Rattle.std.proofs.Common.{◌≡◌, Option, Some, None, List, map, take, ap, sym, ◌∙◌, refl, arith}
+use Rattle.std.proofs.Common.{Some, List, ap, sym, ◌∙◌, arith}
 use Rattle.codec_defs.specs.Schema.{OutPoint}
 use Rattle.cell_defs.specs.Row.{Row}
 use Rattle.tx_defs.specs.Site.{all_there}

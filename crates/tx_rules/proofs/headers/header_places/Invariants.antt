@@ -1,4 +1,4 @@
-use Rattle.std.proofs.Common.{◌≡◌, Option, Some, List, ℕ, map, take}
+use Rattle.std.proofs.Common.{◌≡◌, Option, Some, List, map, take}
 use Rattle.std.specs.Prelude.{slice_index}
 use Rattle.std.specs.Option.{option_map}
 use Rattle.std.specs.List.{AllZip}

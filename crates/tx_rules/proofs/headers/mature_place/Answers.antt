@@ -1,13 +1,12 @@
-use Rattle.std.proofs.Common.{◌≡◌, ◌<◌, Option, Some, None, List, ℕ, Bool, true, false, length, ap, subst, sym, ◌∙◌, refl, arith, rules}
-use Rattle.std.specs.Prelude.{slice_get, slice_index}
+use Rattle.std.proofs.Common.{◌≡◌, Some, ℕ, true, false, ap, sym, ◌∙◌}
+use Rattle.std.specs.Prelude.{slice_index}
 use Rattle.std.specs.Option.{option_map}
 use Rattle.time_defs.specs.Specification.{Specification}
 use Rattle.time_defs.specs.Epochs.{is_span_over}
 use Rattle.tx_defs.specs.Site.{height_at}
-use Rattle.chain_defs.specs.Kept.{place_of}
 use Rattle.chain_defs.specs.Branch.{branch_places}
 use Rattle.chain_tree.specs.Told.{blocks_of}
-use Rattle.tx_rules.specs.At.{AtValue, IsSiteOf}
+use Rattle.tx_rules.specs.At.{AtValue}
 use Rattle.tx_rules.proofs.HeaderLemmas.{mature-none, mature-by}
 use Rattle.tx_rules.proofs.headers.mature_place.Goals as goal
 

@@ -1,5 +1,4 @@
-use Rattle.std.proofs.Common.{◌≡◌, Option, Some, None, List, map, take, ap, sym, ◌∙◌, refl, arith, rules}
-use Rattle.std.specs.Option.{option_map}
+use Rattle.std.proofs.Common.{◌≡◌, Option, Some, None, List, map, ap, sym, ◌∙◌, arith}
 use Rattle.codec_defs.specs.Schema.{OutPoint, CellInput, RawTransaction}
 use Rattle.cell_defs.specs.Row.{Row}
 use Rattle.tx_defs.specs.Site.{all_there}
