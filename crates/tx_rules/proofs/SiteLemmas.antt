@@ -1,14 +1,16 @@
 -- The rows of the cells that a transaction sees, and what they stand for at its site.
-use Rattle.std.proofs.Common.{◌≡◌, ℕ, ◌<◌, ◌≤◌, ltb, eqb, cond, Bool, true, false, List, [], ◌∷◌, ◌++◌, length, map, Option, Some, None, zero, suc, refl, sym, ap, ◌∙◌, subst, inl, inr, ◌⊎◌, arith}
+use Rattle.std.proofs.Common.{◌≡◌, ℕ, ◌+◌, ◌<◌, ◌≤◌, ltb, eqb, cond, Bool, true, false, List, [], ◌∷◌, ◌++◌, length, map, take, get_or, Option, Some, None, zero, suc, refl, sym, ap, ◌∙◌, subst, inl, inr, ◌⊎◌, arith}
 use Rattle.std.specs.Prelude.{slice_get, slice_index, unwrap_or}
 use Rattle.std.specs.Option.{option_map, option_and_then}
-use Rattle.std.specs.List.{All, flat_map}
+use Rattle.std.specs.List.{All, AllZip, flat_map}
+use Rattle.std.proofs.lemmas.List.{length-map, map_push, take_more}
 use Rattle.std.proofs.lemmas.List.Elements.{All-nil, All-cons, All-head, All-tail, All-append}
-use Rattle.std.proofs.lemmas.Option.{slice_get_within, slice_get-map, same_Some}
+use Rattle.std.proofs.lemmas.Option.{slice_get_within, slice_get_read, slice_get-map, get_or_from_slice_get, same_Some}
 use Rattle.std.proofs.lemmas.Bool.{lt-ltb, le-ltb}
 use Rattle.codec_defs.specs.Schema.{OutPoint, CellOutput, CellInput, CellDep, Transaction, Block}
 use Rattle.chain_defs.specs.Kept.{block_at}
 use Rattle.chain_defs.specs.Branch.{branch, branch_places}
+use Rattle.chain_defs.proofs.KeptLaws.{slice_get-below}
 use Rattle.chain_tree.specs.Told.{Stored, blocks_of}
 use Rattle.chain_tree.proofs.BlockLemmas.{len-same}
 use Rattle.cell_defs.specs.Cell.{Cell, data_of}
@@ -17,6 +19,7 @@ use Rattle.cell_model.specs.Copies.{NamesOutput, output_in}
 use Rattle.tx_defs.specs.Site.{Site, Found, find_cell, all_there}
 use Rattle.tx_defs.specs.Resolving.{inputs, deps, input_cells, dep_cells, cells_of_dep, members_of}
 use Rattle.tx_rules.specs.At.{AtValue, IsPlaced, IsSiteOf, IsMade, AreSeen, place_of_height, found_row, find_row, input_rows}
+use Rattle.tx_rules.specs.Copying.{IsFoundAt}
 use Rattle.tx_rules.proofs.BranchLemmas.{PlaceOfHeight, place-of-height}
 
 -- ---- Where the cell of a row was made
@@ -248,3 +251,99 @@ deps-seen site t = by_lists (all_there (map (cells_of_dep site) t.raw.cell_deps)
     by_lists None is = All-nil (IsSeen site)
     by_lists (Some lists) is =
         all-flat (IsSeen site) lists (all_there-all (AreSeen site) (cells_of_dep site) t.raw.cell_deps lists (dep-seen site) is)
+
+-- ---- Where the cell of a row is to be copied from
+
+-- where it was made
+made-of : (stored : List Stored) (at : AtValue) (rows : OutPoint → Option Row) (site : Site) (found : Found) (o : OutPoint) (row : Row)
+    → at.parent < length at.entries → IsSiteOf stored at rows site → IsFoundAt stored at.parent site found (o, row)
+    → IsKeptRow stored at o found.cell row ⊎ IsOwnRow stored at o found.cell row
+made-of stored at rows site found o row placed is found_at =
+    let same : o ≡ found.out_point = ap (λ (it : OutPoint × Row). it.0) found_at.its_row in
+    let its_row : row ≡ row_of (place_of_height (blocks_of stored) at.parent found.cell.height) found.cell = ap (λ (it : OutPoint × Row). it.1) found_at.its_row in
+    row-made stored at rows site o found.cell row placed is (ap site.cell same ∙ found_at.seen) its_row
+
+-- out of a kept block where the row's block is one
+pub copied-of-kept : (stored : List Stored) (at : AtValue) (rows : OutPoint → Option Row) (site : Site) (found : Found) (o : OutPoint) (row : Row)
+    → at.parent < length at.entries → IsSiteOf stored at rows site → IsFoundAt stored at.parent site found (o, row) → row.block < length at.entries
+    → NamesOutput stored o row found.cell
+copied-of-kept stored at rows site found o row placed is found_at below = by_made (made-of stored at rows site found o row placed is found_at)
+  where
+    by_made : IsKeptRow stored at o found.cell row ⊎ IsOwnRow stored at o found.cell row → NamesOutput stored o row found.cell
+    by_made (inl made) = made.names
+    by_made (inr own) = let last : row.block ≡ length at.entries = own.last in absurd (omega (arith, last, below))
+
+-- out of the block that is judged where the row's block is its place
+pub copied-of-own : (stored : List Stored) (at : AtValue) (rows : OutPoint → Option Row) (site : Site) (found : Found) (o : OutPoint) (row : Row)
+    → at.parent < length at.entries → IsSiteOf stored at rows site → IsFoundAt stored at.parent site found (o, row) → row.block ≡ length at.entries
+    → (block : Block) × (at.block ≡ Some block) × (output_in block row.transaction o.index ≡ Some (found.cell.output, found.cell.content))
+copied-of-own stored at rows site found o row placed is found_at last = by_made (made-of stored at rows site found o row placed is found_at)
+  where
+    its_transaction : row.transaction ≡ found.cell.transaction
+    its_transaction = ap (λ (it : OutPoint × Row). it.1.transaction) found_at.its_row
+
+    by_made : IsKeptRow stored at o found.cell row ⊎ IsOwnRow stored at o found.cell row
+        → (block : Block) × (at.block ≡ Some block) × (output_in block row.transaction o.index ≡ Some (found.cell.output, found.cell.content))
+    by_made (inl made) = let below : row.block < length at.entries = made.below in absurd (omega (arith, last, below))
+    by_made (inr own) = (own.block, own.judged, ap (λ (place : ℕ). output_in own.block place o.index) its_transaction ∙ output-of own.block o found.cell own.output)
+
+-- and past it none is seen
+pub none-past : (stored : List Stored) (at : AtValue) (rows : OutPoint → Option Row) (site : Site) (found : Found) (o : OutPoint) (row : Row)
+    → at.parent < length at.entries → IsSiteOf stored at rows site → IsFoundAt stored at.parent site found (o, row) → length at.entries < row.block → ⊥
+none-past stored at rows site found o row placed is found_at past = by_made (made-of stored at rows site found o row placed is found_at)
+  where
+    by_made : IsKeptRow stored at o found.cell row ⊎ IsOwnRow stored at o found.cell row → ⊥
+    by_made (inl made) = let below : row.block < length at.entries = made.below in omega (arith, past, below)
+    by_made (inr own) = let last : row.block ≡ length at.entries = own.last in omega (arith, past, last)
+
+-- ---- Rows, one after another
+
+-- of the rows of cells that are seen each is that of one of them, at its place
+pub record IsNext (stored : List Stored) (parent : ℕ) (site : Site) (founds : List Found) (i : ℕ) (row : OutPoint × Row) : Type 0 where
+  pub found : Found
+  pub at : IsFoundAt stored parent site found row
+  pub within : i < length founds
+  pub is : found ≡ get_or founds i found
+
+pub next-found : (stored : List Stored) (parent : ℕ) (site : Site) (founds : List Found) (rows : List (OutPoint × Row)) (i : ℕ) (row : OutPoint × Row)
+    → AreSeen site founds → rows ≡ map (found_row (blocks_of stored) parent) founds → i < length rows → row ≡ get_or rows i row
+    → IsNext stored parent site founds i row
+next-found stored parent site founds rows i row seen are below here =
+    let long : length rows ≡ length founds = ap length are ∙ length-map founds (found_row (blocks_of stored) parent) in
+    on (slice_get-below founds i (omega (arith, below, long))) (omega (arith, below, long))
+  where
+    on : (found : Found) × (slice_get founds i ≡ Some found) → i < length founds → IsNext stored parent site founds i row
+    on found within =
+        let is : get_or founds i found.0 ≡ found.0 = get_or_from_slice_get founds i found.0 found.0 found.1 in
+        let of_row : slice_get rows i ≡ Some row = slice_get_read rows (length rows) i row refl below here in
+        let of_found : slice_get rows i ≡ Some (found_row (blocks_of stored) parent found.0) =
+        ap (λ (rs : List (OutPoint × Row)). slice_get rs i) are ∙ slice_get-map (found_row (blocks_of stored) parent) founds i
+        ∙ ap (option_map (found_row (blocks_of stored) parent)) found.1 in
+        record {
+          found = found.0;
+          at = record {
+            seen = subst (λ (it : Found). site.cell it.out_point ≡ Some it.cell) is (seen i found.0 within);
+            its_row = same_Some row (found_row (blocks_of stored) parent found.0) (sym of_row ∙ of_found);
+          };
+          within = within;
+          is = sym is;
+        }
+
+zip-push : {A B : Type 0} (R : A → B → Type 0) (xs : List A) (ys : List B) (x : A) (y : B) → AllZip R xs ys → R x y → AllZip R (xs ++ x ∷ []) (ys ++ y ∷ [])
+zip-push R [] [] x y each last = (last, tt)
+zip-push R [] (w ∷ ws) x y each last = absurd each
+zip-push R (z ∷ zs) [] x y each last = absurd each
+zip-push R (z ∷ zs) (w ∷ ws) x y each last = (each.0, zip-push R zs ws x y each.1 last)
+
+-- one more of both
+pub zip-more : {A B : Type 0} (R : A → B → Type 0) (xs : List A) (ys : List B) (i : ℕ) (x : A) (y : B) → i < length xs → x ≡ get_or xs i x
+    → AllZip R (take i xs) ys → R x y → AllZip R (take (i + 1) xs) (ys ++ y ∷ [])
+zip-more {A = A} R xs ys i x y within is each last =
+    subst (λ (front : List A). AllZip R front (ys ++ y ∷ []))
+    (sym (take_more xs i x within ∙ ap (λ (z : A). take i xs ++ z ∷ []) (sym is))) (zip-push R (take i xs) ys x y each last)
+
+-- one more of what a list maps to
+pub map-more : {A B : Type 0} (f : B → A) (xs : List A) (ys : List B) (i : ℕ) (x : A) (y : B) → i < length xs → x ≡ get_or xs i x
+    → map f ys ≡ take i xs → f y ≡ x → map f (ys ++ y ∷ []) ≡ take (i + 1) xs
+map-more {A = A} f xs ys i x y within is each last =
+    map_push f ys y ∙ ap (λ (front : List A). front ++ f y ∷ []) each ∙ ap (λ (z : A). take i xs ++ z ∷ []) (last ∙ is) ∙ sym (take_more xs i x within)

@@ -1,3 +1,4 @@
 pub mod At
+pub mod Copying
 pub mod Members
 pub mod Outcome
