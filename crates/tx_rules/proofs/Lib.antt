@@ -1,4 +1,7 @@
+pub mod AllThere
 pub mod BranchLemmas
-pub mod SiteLemmas
+pub mod DepLemmas
 pub mod Faults
+pub mod HeaderLemmas
 pub mod RuleLemmas
+pub mod SiteLemmas

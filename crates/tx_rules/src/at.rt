@@ -25,10 +25,11 @@ impl<'a> Model for TxAt<'a> {
 }
 
 impl<'a> TxAt<'a> {
-    ghost use Rattle.std.specs.Prelude.{◌≡◌, ◌+◌, ◌^◌, ◌<◌, List};
+    ghost use Rattle.std.specs.Prelude.{◌≡◌, ◌+◌, ◌^◌, ◌<◌, List, IsSomeAnd};
     ghost use Rattle.codec_defs.specs.Schema.{OutPoint};
     ghost use Rattle.std.specs.declared.option.Option.{Option};
     ghost use Rattle.cell_defs.specs.Row.{Row};
+    ghost use Rattle.chain_tree.specs.Entries.{entry_at};
     ghost use Rattle.chain_tree.specs.Told.{Stored};
     ghost use Rattle.tx_defs.specs.Site.{Site, height_at};
     ghost use Rattle.tx_rules.specs.At.{IsPlaced, IsSiteOf};
@@ -37,6 +38,7 @@ impl<'a> TxAt<'a> {
     pub fn height(&self) -> u64
         requires { IsPlaced self.now }
         ensures fits { result < 2 ^ 24 }
+        ensures next { IsSomeAnd (entry_at self.now.entries self.now.parent) (λ parent. result ≡ parent.number + 1) }
         ensures height { (stored : List Stored) (rows : OutPoint → Option Row) (site : Site) → IsSiteOf stored self.now rows site → result ≡ height_at site }
     {
         self.tree.entry(self.parent).number + 1
