@@ -1,1 +1,4 @@
 pub mod WalkLemmas
+pub mod BranchLemmas
+pub mod SiteLemmas
+pub mod AgeLemmas

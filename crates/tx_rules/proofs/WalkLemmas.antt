@@ -1,7 +1,8 @@
 -- Lists that are gone through: what is left from a place on, with one element less.
-use Rattle.std.proofs.Common.{◌≡◌, ℕ, ◌+◌, ◌-◌, ◌<◌, Bool, true, false, ◌&&◌, ◌||◌, not, List, [], ◌∷◌, suc, length, map, drop, Some, refl, sym, ap, ◌∙◌, arith, add-one, drop-cons}
+use Rattle.std.proofs.Common.{◌≡◌, ℕ, ◌+◌, ◌-◌, ◌<◌, ◌≤◌, Bool, true, false, ◌&&◌, ◌||◌, not, List, [], ◌∷◌, zero, suc, length, map, drop, Some, sym, ap, ◌∙◌, arith, add-one, drop-cons}
 use Rattle.std.specs.Prelude.{slice_get}
-use Rattle.std.specs.List.{list_all, list_any, enumerate_from, range_with_len}
+use Rattle.std.specs.List.{list_all, list_any, enumerate_from, range_with_len, zip}
+use Rattle.std.proofs.lemmas.List.{drop_all}
 use Rattle.std.proofs.lemmas.Option.{slice_get_within, get_or_from_slice_get}
 
 pub drop-there : {X : Type 0} (xs : List X) (i : ℕ) (x : X) → slice_get xs i ≡ Some x → drop i xs ≡ x ∷ drop (i + 1) xs
@@ -25,6 +26,36 @@ pub all-goes-on : {X : Type 0} (p : ℕ × X → Bool) (xs : List X) (i : ℕ) (
 all-goes-on p xs i x whole is there passes =
     is ∙ all-from p xs i x there ∙ ap (λ b. b && list_all p (enumerate_from (i + 1) (drop (i + 1) xs))) passes
 
+-- ---- Whether all elements pass
+
+every-from : {X : Type 0} (p : X → Bool) (xs : List X) (i : ℕ) (x : X) → slice_get xs i ≡ Some x
+    → list_all p (drop i xs) ≡ (p x && list_all p (drop (i + 1) xs))
+every-from p xs i x there = ap (list_all p) (drop-there xs i x there)
+
+pub every-fails : {X : Type 0} (p : X → Bool) (xs : List X) (i : ℕ) (x : X) (whole : Bool) → whole ≡ list_all p (drop i xs)
+    → slice_get xs i ≡ Some x → p x ≡ false → false ≡ whole
+every-fails p xs i x whole is there fails = sym (is ∙ every-from p xs i x there ∙ ap (λ b. b && list_all p (drop (i + 1) xs)) fails)
+
+pub every-goes-on : {X : Type 0} (p : X → Bool) (xs : List X) (i : ℕ) (x : X) (whole : Bool) → whole ≡ list_all p (drop i xs)
+    → slice_get xs i ≡ Some x → p x ≡ true → whole ≡ list_all p (drop (i + 1) xs)
+every-goes-on p xs i x whole is there passes = is ∙ every-from p xs i x there ∙ ap (λ b. b && list_all p (drop (i + 1) xs)) passes
+
+pub every-passed : {X : Type 0} (p : X → Bool) (xs : List X) (i : ℕ) (whole : Bool) → whole ≡ list_all p (drop i xs) → length xs ≤ i → true ≡ whole
+every-passed p xs i whole is all = sym (is ∙ ap (list_all p) (drop_all i xs all))
+
+-- the elements of two lists at a place
+pub zip-there : {X Y : Type 0} (xs : List X) (ys : List Y) (i : ℕ) (x : X) (y : Y) → slice_get xs i ≡ Some x → slice_get ys i ≡ Some y
+    → slice_get (zip xs ys) i ≡ Some (x, y)
+zip-there [] ys i x y there other = absurd (cc)
+zip-there (a ∷ xs) [] i x y there other = absurd (cc)
+zip-there (a ∷ xs) (b ∷ ys) zero x y there other = cc
+zip-there (a ∷ xs) (b ∷ ys) (suc i) x y there other = zip-there xs ys i x y there other
+
+pub zip-long : {X Y : Type 0} (xs : List X) (ys : List Y) → length (zip xs ys) ≤ length ys
+zip-long [] ys = omega arith
+zip-long (x ∷ xs) [] = omega arith
+zip-long (x ∷ xs) (y ∷ ys) = let rest : length (zip xs ys) ≤ length ys = zip-long xs ys in omega (arith, rest)
+
 -- ---- The numbers up to an end
 
 pub range-from : (end i : ℕ) → i < end → range_with_len i (end - i) ≡ i ∷ range_with_len (i + 1) (end - (i + 1))
@@ -46,7 +77,3 @@ pub any-goes-on : {Y : Type 0} (p : Y → Bool) (f : ℕ → Y) (end i : ℕ) (w
     → p (f i) ≡ false → whole ≡ list_any p (map f (range_with_len (i + 1) (end - (i + 1))))
 any-goes-on p f end i whole below is none =
     is ∙ any-from p f end i below ∙ ap (λ b. b || list_any p (map f (range_with_len (i + 1) (end - (i + 1))))) none
-
-pub any-same : {Y : Type 0} (p q : Y → Bool) (ys : List Y) → ((y : Y) → p y ≡ q y) → list_any p ys ≡ list_any q ys
-any-same p q [] same = refl
-any-same p q (y ∷ ys) same = ap (λ b. b || list_any p ys) (same y) ∙ ap (λ b. q y || b) (any-same p q ys same)

@@ -1,2 +1,3 @@
 pub mod At
 pub mod Outcome
+pub mod Seen
