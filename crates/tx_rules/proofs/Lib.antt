@@ -2,3 +2,4 @@ pub mod WalkLemmas
 pub mod BranchLemmas
 pub mod SiteLemmas
 pub mod AgeLemmas
+pub mod DepositLemmas

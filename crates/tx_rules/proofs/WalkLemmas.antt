@@ -26,6 +26,10 @@ pub all-goes-on : {X : Type 0} (p : ℕ × X → Bool) (xs : List X) (i : ℕ) (
 all-goes-on p xs i x whole is there passes =
     is ∙ all-from p xs i x there ∙ ap (λ b. b && list_all p (enumerate_from (i + 1) (drop (i + 1) xs))) passes
 
+pub all-passed : {X : Type 0} (p : ℕ × X → Bool) (xs : List X) (i : ℕ) (whole : Bool) → whole ≡ list_all p (enumerate_from i (drop i xs))
+    → length xs ≤ i → true ≡ whole
+all-passed p xs i whole is all = sym (is ∙ ap (λ l. list_all p (enumerate_from i l)) (drop_all i xs all))
+
 -- ---- Whether all elements pass
 
 every-from : {X : Type 0} (p : X → Bool) (xs : List X) (i : ℕ) (x : X) → slice_get xs i ≡ Some x

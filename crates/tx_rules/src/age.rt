@@ -5,12 +5,13 @@ ghost use Rattle.codec_defs.specs.Schema.{OutPoint};
 ghost use Rattle.cell_defs.specs.Row.{Row};
 ghost use Rattle.time_defs.specs.Since.{is_valid, is_met};
 ghost use Rattle.chain_defs.specs.Median.{median_time};
+ghost use Rattle.outside.specs.declared.disk.Area.TheVariants.{Log};
 ghost use Rattle.outside.specs.declared.disk.Damage.{Damage};
 ghost use Rattle.chain_tree.specs.Told.{Stored, blocks_of};
 ghost use Rattle.tx_defs.specs.Site.{Site, Found, height_at};
 ghost use Rattle.tx_defs.specs.Age as rules;
 ghost use Rattle.tx_rules.specs.At.{IsPlaced, IsSiteOf, AreSeen, found_row};
-ghost use Rattle.tx_rules.specs.Seen.{IsRowOf};
+ghost use Rattle.tx_rules.specs.Seen.{IsRowOf, log_place};
 
 use crate::at::TxAt;
 use cell_model::{CellMeta, OutPoint};
@@ -18,6 +19,22 @@ use epochs::span_over;
 use mol_schema::TxView;
 use outside::{Area, Damage};
 use since_rules::{SinceAt, meets};
+
+/// Where a row is wrong: at its block in LOG, or at place 0 where that is not kept.
+pub(crate) fn damage_of(at: &TxAt<'_>, meta: &CellMeta) -> Damage
+    ensures area { result.area ≡ Log }
+    ensures at { result.at ≡ log_place at.now.entries meta.now.block }
+{
+    let place = if meta.block < at.tree.len() {
+        at.tree.entry(meta.block).at
+    } else {
+        0
+    };
+    Damage {
+        area: Area::Log,
+        at: place,
+    }
+}
 
 /// The height of the block that made a cell, which is at most that of the block that the transaction stands in.
 /// Damaged where a row's block is not kept, or not below that height.
@@ -28,25 +45,20 @@ pub(crate) fn made_at(at: &TxAt<'_>, height: u64, meta: &CellMeta) -> Result<u64
         → height ≡ height_at site → IsRowOf (blocks_of stored) at.now.parent site found meta.now → IfOk result (λ made. made ≡ found.cell.height) }
     ensures undamaged { (stored : List Stored) (rows : OutPoint → Option Row) (site : Site) (found : Found) → IsSiteOf stored at.now rows site
         → height ≡ height_at site → IsRowOf (blocks_of stored) at.now.parent site found meta.now → (damage : Damage) → result ≡ Err damage → ⊥ }
+    ensures damage { (damage : Damage) → result ≡ Err damage → damage.area ≡ Log }
 {
     let kept = at.tree.len();
     if meta.block == kept {
         return Ok(height);
     }
     if meta.block > kept {
-        return Err(Damage {
-            area: Area::Log,
-            at: 0,
-        });
+        return Err(damage_of(at, meta));
     }
-    let entry = at.tree.entry(meta.block);
-    if entry.number >= height {
-        return Err(Damage {
-            area: Area::Log,
-            at: entry.at,
-        });
+    let number = at.tree.entry(meta.block).number;
+    if number >= height {
+        return Err(damage_of(at, meta));
     }
-    Ok(entry.number)
+    Ok(number)
 }
 
 /// Whether a cell may be used: it is no cellbase output, or the span of maturity is over.
@@ -57,6 +69,7 @@ fn is_mature(at: &TxAt<'_>, height: u64, meta: &CellMeta) -> Result<bool, Damage
         → height ≡ height_at site → IsRowOf (blocks_of stored) at.now.parent site found meta.now → IfOk result (λ mature. mature ≡ rules.is_mature site found) }
     ensures undamaged { (stored : List Stored) (rows : OutPoint → Option Row) (site : Site) (found : Found) → IsSiteOf stored at.now rows site
         → height ≡ height_at site → IsRowOf (blocks_of stored) at.now.parent site found meta.now → (damage : Damage) → result ≡ Err damage → ⊥ }
+    ensures damage { (damage : Damage) → result ≡ Err damage → damage.area ≡ Log }
 {
     if meta.tx != 0 {
         return Ok(true);
@@ -74,6 +87,7 @@ pub(crate) fn are_mature(at: &TxAt<'_>, found: &[(OutPoint, CellMeta)]) -> Resul
         → found.now ≡ map (found_row (blocks_of stored) at.now.parent) founds → IfOk result (λ mature. mature ≡ list_all (rules.is_mature site) founds) }
     ensures undamaged { (stored : List Stored) (rows : OutPoint → Option Row) (site : Site) (founds : List Found) → IsSiteOf stored at.now rows site → AreSeen site founds
         → found.now ≡ map (found_row (blocks_of stored) at.now.parent) founds → (damage : Damage) → result ≡ Err damage → ⊥ }
+    ensures damage { (damage : Damage) → result ≡ Err damage → damage.area ≡ Log }
 {
     let height = at.height();
     'rows: for i in 0..found.len() {
@@ -95,16 +109,14 @@ fn start_at(at: &TxAt<'_>, median: u64, meta: &CellMeta) -> Result<u64, Damage>
     ensures undamaged { (stored : List Stored) (rows : OutPoint → Option Row) (site : Site) (found : Found) → IsSiteOf stored at.now rows site
         → median ≡ median_time site.branch → IsRowOf (blocks_of stored) at.now.parent site found meta.now
         → (damage : Damage) → result ≡ Err damage → ⊥ }
+    ensures damage { (damage : Damage) → result ≡ Err damage → damage.area ≡ Log }
 {
     let kept = at.tree.len();
     if meta.block == kept {
         return Ok(median);
     }
     if meta.block > kept {
-        return Err(Damage {
-            area: Area::Log,
-            at: 0,
-        });
+        return Err(damage_of(at, meta));
     }
     let entry = at.tree.entry(meta.block);
     if meta.block == 0 {
@@ -131,6 +143,7 @@ fn meets_since(
     ensures undamaged { (stored : List Stored) (rows : OutPoint → Option Row) (site : Site) (found : Found) → IsSiteOf stored at.now rows site
         → height ≡ height_at site → median ≡ median_time site.branch → IsRowOf (blocks_of stored) at.now.parent site found meta.now
         → (damage : Damage) → result ≡ Err damage → ⊥ }
+    ensures damage { (damage : Damage) → result ≡ Err damage → damage.area ≡ Log }
 {
     let made = made_at(at, height, meta)?;
     let start = start_at(at, median, meta)?;
@@ -158,6 +171,7 @@ pub(crate) fn meets_each_since(
         → found.now ≡ map (found_row (blocks_of stored) at.now.parent) founds → IfOk result (λ met. met ≡ list_all (rules.meets_since site) (zip tx.now.raw.inputs founds)) }
     ensures undamaged { (stored : List Stored) (rows : OutPoint → Option Row) (site : Site) (founds : List Found) → IsSiteOf stored at.now rows site → AreSeen site founds
         → found.now ≡ map (found_row (blocks_of stored) at.now.parent) founds → (damage : Damage) → result ≡ Err damage → ⊥ }
+    ensures damage { (damage : Damage) → result ≡ Err damage → damage.area ≡ Log }
 {
     let raw = tx.raw();
     let height = at.height();

@@ -16,15 +16,15 @@ returns-then-meta-kept-2-clause-undamaged c stored rows site found is height its
     let long = ap (λ (at : AtValue). length at.entries) c.at.view_is in
     made-past stored c.args.at.now rows site found c.args.meta.now c.requires.placed is its (omega (arith, block, long))
 
-pub returns-then-entry-height-clause-undamaged : goal.returns-then-entry-height-clause-undamaged
-returns-then-entry-height-clause-undamaged c stored rows site found is height its damage broken =
-    let made = made-kept stored c.args.at.now rows site found c.args.meta.now c.entry-entry.result.now c.requires.placed is its
+pub returns-then-number-height-clause-undamaged : goal.returns-then-number-height-clause-undamaged
+returns-then-number-height-clause-undamaged c stored rows site found is height its damage broken =
+    let made = made-kept stored c.args.at.now rows site found c.args.meta.now c.entry.result.now c.requires.placed is its
     (ap (λ (row : Row). entry_at c.args.at.now.entries row.block) (sym c.meta.view_is)
-    ∙ ap (λ (at : AtValue). entry_at at.entries c.meta.inside.block) (sym c.at.view_is) ∙ c.entry-entry.ensures.entry) in
+    ∙ ap (λ (at : AtValue). entry_at at.entries c.meta.inside.block) (sym c.at.view_is) ∙ c.entry.ensures.entry) in
     omega (arith, made.1, height)
 
 pub returns-clause-made : goal.returns-clause-made
 returns-clause-made c stored rows site found is height its =
-    (made-kept stored c.args.at.now rows site found c.args.meta.now c.entry-entry.result.now c.requires.placed is its
+    (made-kept stored c.args.at.now rows site found c.args.meta.now c.entry.result.now c.requires.placed is its
     (ap (λ (row : Row). entry_at c.args.at.now.entries row.block) (sym c.meta.view_is)
-    ∙ ap (λ (at : AtValue). entry_at at.entries c.meta.inside.block) (sym c.at.view_is) ∙ c.entry-entry.ensures.entry)).0
+    ∙ ap (λ (at : AtValue). entry_at at.entries c.meta.inside.block) (sym c.at.view_is) ∙ c.entry.ensures.entry)).0
