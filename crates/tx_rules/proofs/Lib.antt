@@ -1,7 +1,10 @@
+pub mod AgeLemmas
 pub mod AllThere
 pub mod BranchLemmas
 pub mod DepLemmas
+pub mod DepositLemmas
 pub mod Faults
 pub mod HeaderLemmas
 pub mod RuleLemmas
 pub mod SiteLemmas
+pub mod WalkLemmas

@@ -2,5 +2,5 @@ pub mod At
 pub mod Copying
 pub mod Members
 pub mod Outcome
-pub mod Copying
+pub mod Seen
 pub mod Steps
