@@ -11,30 +11,14 @@ ghost use Rattle.chain_tree.specs.Told.{Stored, blocks_of};
 ghost use Rattle.tx_defs.specs.Site.{Site, Found, height_at};
 ghost use Rattle.tx_defs.specs.Age as rules;
 ghost use Rattle.tx_rules.specs.At.{IsPlaced, IsSiteOf, AreSeen, found_row};
-ghost use Rattle.tx_rules.specs.Seen.{IsRowOf, log_place};
+ghost use Rattle.tx_rules.specs.Seen.{IsRowOf};
 
-use crate::at::TxAt;
+use crate::at::{TxAt, damage_of};
 use cell_model::{CellMeta, OutPoint};
 use epochs::span_over;
 use mol_schema::TxView;
-use outside::{Area, Damage};
+use outside::Damage;
 use since_rules::{SinceAt, meets};
-
-/// Where a row is wrong: at its block in LOG, or at place 0 where that is not kept.
-pub(crate) fn damage_of(at: &TxAt<'_>, meta: &CellMeta) -> Damage
-    ensures area { result.area ≡ Log }
-    ensures at { result.at ≡ log_place at.now.entries meta.now.block }
-{
-    let place = if meta.block < at.tree.len() {
-        at.tree.entry(meta.block).at
-    } else {
-        0
-    };
-    Damage {
-        area: Area::Log,
-        at: place,
-    }
-}
 
 /// The height of the block that made a cell, which is at most that of the block that the transaction stands in.
 /// Damaged where a row's block is not kept, or not below that height.

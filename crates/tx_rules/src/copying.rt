@@ -15,21 +15,11 @@ ghost use Rattle.tx_rules.specs.At.{IsPlaced, IsSiteOf, AreSeen, found_row};
 ghost use Rattle.tx_rules.specs.Copying.{IsFoundAt, row_in, HoldsOutput};
 ghost use Rattle.tx_rules.specs.Outcome.{Copies};
 
-use crate::at::TxAt;
+use crate::at::{TxAt, damage_of};
 use cell_model::{CellMeta, OutPoint, Resolved, copy_of, fetch, output_at};
 use chain_tree::Blocks;
-use outside::{Area, Damage, NoMemory, ReadStop};
+use outside::{NoMemory, ReadStop};
 use std::alloc::Global;
-
-/// What is wrong at a place of LOG.
-fn damaged(at: u64) -> ReadStop
-    ensures { result ≡ Damaged (record { area = Log; at = at }) }
-{
-    ReadStop::Damaged(Damage {
-        area: Area::Log,
-        at,
-    })
-}
 
 /// A copy of an output of a kept block.
 fn copy_kept<B: Blocks>(
@@ -55,7 +45,7 @@ fn copy_kept<B: Blocks>(
 {
     match fetch(alloc, blocks, o, meta) {
         Ok(copy) => Ok(copy),
-        Err(ReadStop::Damaged(_)) => Err(damaged(at.tree.entry(meta.block).at)),
+        Err(ReadStop::Damaged(_)) => Err(ReadStop::Damaged(damage_of(at, &meta))),
         Err(ReadStop::DiskFault) => Err(ReadStop::DiskFault),
         Err(ReadStop::NoMemory) => Err(ReadStop::NoMemory),
     }
@@ -74,10 +64,10 @@ fn copy_own(alloc: Global, at: &TxAt<'_>, o: OutPoint, meta: CellMeta) -> Result
     ensures unread { result ≡ Err DiskFault → ⊥ }
 {
     let Some(block) = &at.block else {
-        return Err(damaged(0));
+        return Err(ReadStop::Damaged(damage_of(at, &meta)));
     };
     let Some((output, content)) = output_at(block, &o, &meta) else {
-        return Err(damaged(0));
+        return Err(ReadStop::Damaged(damage_of(at, &meta)));
     };
     match copy_of(alloc, o, meta, &output, content) {
         Ok(copy) => Ok(copy),
@@ -114,7 +104,7 @@ fn copy_row<B: Blocks>(
     } else if meta.block == kept {
         copy_own(alloc, at, o, meta)
     } else {
-        Err(damaged(0))
+        Err(ReadStop::Damaged(damage_of(at, &meta)))
     }
 }
 

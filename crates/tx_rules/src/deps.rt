@@ -1,12 +1,11 @@
 // J21: the cells that the cell deps stand for.
-ghost use Rattle.std.specs.Prelude.{◌≡◌, ◌<◌, ◌∷◌, [], ℕ, List, Some, Err, length, IfOk, map, unwrap_or};
+ghost use Rattle.std.specs.Prelude.{◌≡◌, ◌<◌, ◌∷◌, [], ℕ, List, Some, Err, length, IfOk, map};
 ghost use Rattle.std.specs.Option.{option_map};
 ghost use Rattle.codec_defs.specs.Schema.{CellOutput, Block};
 ghost use Rattle.outside.specs.Causes.{CountsFault};
 ghost use Rattle.outside.specs.declared.disk.Area.TheVariants.{Log};
 ghost use Rattle.outside.specs.declared.disk.Damage.{Damage};
 ghost use Rattle.outside.specs.declared.disk.ReadStop.TheVariants.{DiskFault, Damaged};
-ghost use Rattle.chain_tree.specs.Entries.{entry_at};
 ghost use Rattle.chain_tree.specs.Told.{Stored, blocks_of};
 ghost use Rattle.cell_defs.specs.Cell.{Cell};
 ghost use Rattle.cell_defs.specs.Row.{row_of};
@@ -16,33 +15,18 @@ ghost use Rattle.tx_defs.specs.Resolving.{cells_of_dep, dep_cells};
 ghost use Rattle.tx_rules.specs.At.{IsPlaced, IsSiteOf, found_row, place_of_height};
 ghost use Rattle.tx_rules.specs.Members.{rows_of, member_rows};
 
-use crate::at::TxAt;
+use crate::at::{TxAt, damage_of};
 use crate::inputs::find_row;
 use cell_model::{CellMeta, Cells, OutPoint, output_at};
 use chain_tree::Blocks;
 use mol_schema::{BlockView, DepView, OutPointsView, TxView};
-use outside::{Area, Damage, NoMemory, ReadStop};
+use outside::{NoMemory, ReadStop};
 use std::alloc::Global;
 
 /// The dep types: a cell, and a group of cells.
 const CODE: u8 = 0;
 
 const DEP_GROUP: u8 = 1;
-
-/// Where the block of a row lies in LOG, as damaged: at 0 where the tree has no entry for it.
-fn damaged(at: &TxAt<'_>, meta: &CellMeta) -> Damage
-    ensures area { result.area ≡ Log }
-    ensures at { result.at ≡ unwrap_or (option_map (λ entry. entry.at) (entry_at at.now.entries meta.now.block)) 0 }
-{
-    let mut place = 0;
-    if meta.block < at.tree.len() {
-        place = at.tree.entry(meta.block).at;
-    }
-    Damage {
-        area: Area::Log,
-        at: place,
-    }
-}
 
 /// The rows of listed members, in their order. None where one of them is not live.
 fn listed_rows<C: Cells>(
@@ -96,7 +80,7 @@ fn group_in<C: Cells>(
     ensures no_fault { result ≡ Err DiskFault → ⊥ }
 {
     let Some((_, content)) = output_at(block, o, meta) else {
-        return Err(ReadStop::Damaged(damaged(at, meta)));
+        return Err(ReadStop::Damaged(damage_of(at, meta)));
     };
     match group_rows(alloc, cells, content) {
         Ok(found) => Ok(found),
@@ -126,7 +110,7 @@ fn kept_group<C: Cells, B: Blocks>(
 {
     blocks.bring(meta.block)?;
     let Some(block) = BlockView::read(blocks.block()) else {
-        return Err(ReadStop::Damaged(damaged(at, meta)));
+        return Err(ReadStop::Damaged(damage_of(at, meta)));
     };
     group_in(alloc, at, cells, &block, o, meta)
 }
@@ -148,10 +132,10 @@ fn own_group<C: Cells>(
     ensures no_fault { result ≡ Err DiskFault → ⊥ }
 {
     if meta.block != at.tree.len() {
-        return Err(ReadStop::Damaged(damaged(at, meta)));
+        return Err(ReadStop::Damaged(damage_of(at, meta)));
     }
     match &at.block {
-        None => Err(ReadStop::Damaged(damaged(at, meta))),
+        None => Err(ReadStop::Damaged(damage_of(at, meta))),
         Some(block) => group_in(alloc, at, cells, block, o, meta),
     }
 }

@@ -17,8 +17,8 @@ ghost use Rattle.tx_rules.specs.At.{IsPlaced, IsSiteOf};
 ghost use Rattle.tx_rules.specs.Outcome.{Copies};
 ghost use Rattle.tx_rules.specs.Seen.{IsRowOf};
 
-use crate::age::{damage_of, made_at};
-use crate::at::TxAt;
+use crate::age::made_at;
+use crate::at::{TxAt, damage_of};
 use cell_model::Resolved;
 use epochs::Spec;
 use mol_schema::{OutputView, ScriptView, TxView, WitnessArgsView};
