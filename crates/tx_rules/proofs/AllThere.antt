@@ -1,7 +1,9 @@
 -- Values that are all there, gone through from the first one on.
-use Rattle.std.proofs.Common.{◌≡◌, ℕ, zero, suc, ◌+◌, ◌≤◌, List, [], ◌∷◌, ◌++◌, length, map, take, Option, Some, None, refl, sym, ap, ◌∙◌}
+use Rattle.std.proofs.Common.{◌≡◌, ℕ, zero, suc, ◌+◌, ◌≤◌, List, [], ◌∷◌, ◌++◌, length, map, take, Option, Some, None, refl, sym, ap, ◌∙◌, subst}
 use Rattle.std.specs.Prelude.{slice_get}
 use Rattle.std.specs.Option.{option_map, option_and_then}
+use Rattle.std.specs.List.{All}
+use Rattle.std.proofs.lemmas.List.Elements.{All-nil, All-cons}
 use Rattle.std.proofs.lemmas.List.{take_more, take_all, map-append}
 use Rattle.std.proofs.lemmas.Option.{slice_get_within, get_or_from_slice_get, same_Some}
 use Rattle.tx_defs.specs.Site.{all_there}
@@ -52,3 +54,61 @@ there-none f xs i x there is = all_there-none (map f xs) i (slice_get-image f xs
 pub there-all : {X Y : Type 0} (f : X → Option Y) (xs : List X) (i : ℕ) (ys : List Y) → length xs ≤ i → Some ys ≡ all_there (map f (take i xs))
     → Some ys ≡ all_there (map f xs)
 there-all {X = X} f xs i ys all so_far = so_far ∙ ap (λ (these : List X). all_there (map f these)) (take_all i xs all)
+
+-- ---- What they are found by
+
+-- all of several values, each of them by a function of another
+pub all_there-map : {X V W : Type 0} (f : X → Option W) (g : X → Option V) (h : V → W) (xs : List X) → ((x : X) → f x ≡ option_map h (g x))
+    → all_there (map f xs) ≡ option_map (map h) (all_there (map g xs))
+unfolding all_there
+all_there-map f g h [] each = refl
+all_there-map {V = V} {W = W} f g h (x ∷ xs) each =
+    ap (λ (found : Option W). option_and_then (λ (v : W). option_map (λ (vs : List W). v ∷ vs) (all_there (map f xs))) found) (each x)
+    ∙ ap (λ (rest : Option (List W)). option_and_then (λ (v : W). option_map (λ (vs : List W). v ∷ vs) rest) (option_map h (g x))) (all_there-map f g h xs each)
+    ∙ both (g x) (all_there (map g xs))
+  where
+    both : (first : Option V) (rest : Option (List V))
+        → option_and_then (λ (v : W). option_map (λ (vs : List W). v ∷ vs) (option_map (map h) rest)) (option_map h first)
+        ≡ option_map (map h) (option_and_then (λ (v : V). option_map (λ (vs : List V). v ∷ vs) rest) first)
+    both None rest = refl
+    both (Some v) None = refl
+    both (Some v) (Some vs) = refl
+
+-- as many as there are of what they are found by
+pub all_there-long : {X V : Type 0} (f : X → Option V) (xs : List X) (vs : List V) → all_there (map f xs) ≡ Some vs → length vs ≡ length xs
+unfolding all_there
+all_there-long f [] vs there = ap length (sym (same_Some [] vs there))
+all_there-long {V = V} f (x ∷ xs) vs there = by_first (f x) (all_there (map f xs)) (all_there-long f xs) there
+  where
+    by_first : (first : Option V) (rest : Option (List V)) → ((ws : List V) → rest ≡ Some ws → length ws ≡ length xs)
+        → option_and_then (λ (v : V). option_map (λ (ws : List V). v ∷ ws) rest) first ≡ Some vs → length vs ≡ length (x ∷ xs)
+    by_first None rest long is = absurd (cc)
+    by_first (Some v) None long is = absurd (cc)
+    by_first (Some v) (Some ws) long is = ap length (sym (same_Some (v ∷ ws) vs is)) ∙ ap suc (long ws refl)
+
+-- what is so of each value that is there is so of them all
+pub all_there-all : {X V : Type 0} (P : V → Type 0) (f : X → Option V) (xs : List X) (vs : List V) → ((x : X) (v : V) → f x ≡ Some v → P v)
+    → all_there (map f xs) ≡ Some vs → All P vs
+unfolding all_there
+all_there-all {V = V} P f [] vs each there = subst (λ (ws : List V). All P ws) (same_Some [] vs there) (All-nil P)
+all_there-all {V = V} P f (x ∷ xs) vs each there = by_first (f x) refl (all_there (map f xs)) (λ ws. all_there-all P f xs ws each) there
+  where
+    by_first : (first : Option V) → f x ≡ first → (rest : Option (List V)) → ((ws : List V) → rest ≡ Some ws → All P ws)
+        → option_and_then (λ (v : V). option_map (λ (ws : List V). v ∷ ws) rest) first ≡ Some vs → All P vs
+    by_first None here rest all is = absurd (cc)
+    by_first (Some v) here None all is = absurd (cc)
+    by_first (Some v) here (Some ws) all is = subst (λ (zs : List V). All P zs) (same_Some (v ∷ ws) vs is) (All-cons P v ws (each x v here) (all ws refl))
+
+-- a list that is there for one that is read off each
+pub all_there-back : {X V W : Type 0} (f : X → Option V) (g : X → W) (h : V → W) (xs : List X) (vs : List V) → ((x : X) (v : V) → f x ≡ Some v → h v ≡ g x)
+    → all_there (map f xs) ≡ Some vs → map h vs ≡ map g xs
+unfolding all_there
+all_there-back f g h [] vs each there = ap (map h) (sym (same_Some [] vs there))
+all_there-back {V = V} {W = W} f g h (x ∷ xs) vs each there = by_first (f x) refl (all_there (map f xs)) (λ ws. all_there-back f g h xs ws each) there
+  where
+    by_first : (first : Option V) → f x ≡ first → (rest : Option (List V)) → ((ws : List V) → rest ≡ Some ws → map h ws ≡ map g xs)
+        → option_and_then (λ (v : V). option_map (λ (ws : List V). v ∷ ws) rest) first ≡ Some vs → map h vs ≡ g x ∷ map g xs
+    by_first None here rest back is = absurd (cc)
+    by_first (Some v) here None back is = absurd (cc)
+    by_first (Some v) here (Some ws) back is =
+        ap (map h) (sym (same_Some (v ∷ ws) vs is)) ∙ ap (λ (w : W). w ∷ map h ws) (each x v here) ∙ ap (λ (rest : List W). g x ∷ rest) (back ws refl)

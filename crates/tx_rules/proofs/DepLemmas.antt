@@ -14,8 +14,8 @@ use Rattle.tx_defs.specs.Site.{Site, Found, find_cell, all_there}
 use Rattle.tx_defs.specs.Resolving.{cells_of_dep, members_of}
 use Rattle.tx_rules.specs.At.{AtValue, IsSiteOf, found_row, find_row, place_of_height}
 use Rattle.tx_rules.specs.Members.{member_rows}
-use Rattle.tx_rules.proofs.AllThere.{take-push, all_there-push, there-none}
-use Rattle.tx_rules.proofs.SiteLemmas.{IsKeptRow, IsOwnRow, row-made, row-seen, find_row-found, all_there-map}
+use Rattle.tx_rules.proofs.AllThere.{take-push, all_there-push, all_there-map, there-none}
+use Rattle.tx_rules.proofs.SiteLemmas.{IsKeptRow, IsOwnRow, row-made, row-seen, find_row-found}
 
 -- ---- A cell dep
 

@@ -26,7 +26,8 @@ use Rattle.cell_model.specs.Copies.{ResolvedValue, IsCopyOf}
 use Rattle.tx_rules.specs.Outcome.{Copies}
 use Rattle.tx_rules.specs.Seen.{IsRowOf}
 use Rattle.tx_rules.proofs.BranchLemmas.{PlaceOfHeight, place-of-height, number-on-branch}
-use Rattle.tx_rules.proofs.SiteLemmas.{IsKeptRow, IsOwnRow, all_there-all, find_cell-seen}
+use Rattle.tx_rules.proofs.SiteLemmas.{IsKeptRow, IsOwnRow, find_cell-seen}
+use Rattle.tx_rules.proofs.AllThere.{all_there-all}
 use Rattle.tx_rules.proofs.AgeLemmas.{row-of, made-kept}
 
 -- ---- Their heights are those of the branch

@@ -28,6 +28,7 @@ use Rattle.tx_rules.specs.Outcome.{IsTried}
 use Rattle.tx_rules.specs.Steps.{spending_rules, naming_rules, using_rules, finding_rules, paying_rules, StopsAt, Tells, IsStop, Stops}
 use Rattle.tx_rules.specs.declared.resolving.TxStop.{TxStop}
 use Rattle.tx_rules.specs.declared.resolving.TxStop.TheVariants.{Broken, Read}
+use Rattle.tx_rules.proofs.AllThere.{all_there-back}
 use Rattle.tx_rules.proofs.SiteLemmas.{input_rows-cells}
 
 -- ---- Form and inputs
@@ -239,20 +240,6 @@ broken-of {T = T} site t result rule tells same =
 pub undamaged-of : {T : Type 0} (rules : List (ℕ × Bool)) (result : Result T TxStop) (damage : Damage) → Tells rules result
     → result ≡ Err (Read (Damaged damage)) → ⊥
 undamaged-of {T = T} rules result damage tells same = subst (λ (r : Result T TxStop). Tells rules r) same tells
-
--- a list that is there for one that is read off each
-all_there-back : {X V W : Type 0} (f : X → Option V) (g : X → W) (h : V → W) (xs : List X) (vs : List V) → ((x : X) (v : V) → f x ≡ Some v → h v ≡ g x)
-    → all_there (map f xs) ≡ Some vs → map h vs ≡ map g xs
-unfolding all_there
-all_there-back f g h [] vs each there = ap (map h) (sym (same_Some [] vs there))
-all_there-back {V = V} {W = W} f g h (x ∷ xs) vs each there = by_first (f x) refl (all_there (map f xs)) (λ ws. all_there-back f g h xs ws each) there
-  where
-    by_first : (first : Option V) → f x ≡ first → (rest : Option (List V)) → ((ws : List V) → rest ≡ Some ws → map h ws ≡ map g xs)
-        → option_and_then (λ (v : V). option_map (λ (ws : List V). v ∷ ws) rest) first ≡ Some vs → map h vs ≡ g x ∷ map g xs
-    by_first None here rest back is = absurd (cc)
-    by_first (Some v) here None back is = absurd (cc)
-    by_first (Some v) here (Some ws) back is =
-        ap (map h) (sym (same_Some (v ∷ ws) vs is)) ∙ ap (λ (w : W). w ∷ map h ws) (each x v here) ∙ ap (λ (rest : List W). g x ∷ rest) (back ws refl)
 
 -- the copies of the cells of its inputs have their out-points
 pub copied-inputs : (rows : OutPoint → Option Row) (t : Transaction) (spent : List (OutPoint × Row)) (copies : List ResolvedValue)

@@ -20,6 +20,7 @@ use Rattle.tx_defs.specs.Site.{Site, Found, find_cell, all_there}
 use Rattle.tx_defs.specs.Resolving.{inputs, deps, input_cells, dep_cells, cells_of_dep, members_of}
 use Rattle.tx_rules.specs.At.{AtValue, IsPlaced, IsSiteOf, IsMade, AreSeen, place_of_height, found_row, find_row, input_rows}
 use Rattle.tx_rules.specs.Copying.{IsFoundAt}
+use Rattle.tx_rules.proofs.AllThere.{all_there-map, all_there-all}
 use Rattle.tx_rules.proofs.BranchLemmas.{PlaceOfHeight, place-of-height}
 
 -- ---- Where the cell of a row was made
@@ -137,23 +138,6 @@ find_row-found stored at rows site o is = ap (option_map (λ (row : Row). (o, ro
     by_cell None = refl
     by_cell (Some cell) = refl
 
--- all of several values, each of them by a function of another
-pub all_there-map : {X V W : Type 0} (f : X → Option W) (g : X → Option V) (h : V → W) (xs : List X) → ((x : X) → f x ≡ option_map h (g x))
-    → all_there (map f xs) ≡ option_map (map h) (all_there (map g xs))
-unfolding all_there
-all_there-map f g h [] each = refl
-all_there-map {V = V} {W = W} f g h (x ∷ xs) each =
-    ap (λ (found : Option W). option_and_then (λ (v : W). option_map (λ (vs : List W). v ∷ vs) (all_there (map f xs))) found) (each x)
-    ∙ ap (λ (rest : Option (List W)). option_and_then (λ (v : W). option_map (λ (vs : List W). v ∷ vs) rest) (option_map h (g x))) (all_there-map f g h xs each)
-    ∙ both (g x) (all_there (map g xs))
-  where
-    both : (first : Option V) (rest : Option (List V))
-        → option_and_then (λ (v : W). option_map (λ (vs : List W). v ∷ vs) (option_map (map h) rest)) (option_map h first)
-        ≡ option_map (map h) (option_and_then (λ (v : V). option_map (λ (vs : List V). v ∷ vs) rest) first)
-    both None rest = refl
-    both (Some v) None = refl
-    both (Some v) (Some vs) = refl
-
 -- The rows of the inputs are those of the cells that they spend.
 pub input_rows-cells : (stored : List Stored) (at : AtValue) (rows : OutPoint → Option Row) (site : Site) (t : Transaction) → IsSiteOf stored at rows site
     → input_rows rows t ≡ option_map (map (found_row (blocks_of stored) at.parent)) (input_cells site t)
@@ -161,31 +145,6 @@ unfolding input_cells
 input_rows-cells stored at rows site t is =
     all_there-map (λ (input : CellInput). find_row rows input.previous_output) (λ (input : CellInput). find_cell site input.previous_output)
     (found_row (blocks_of stored) at.parent) t.raw.inputs (λ input. find_row-found stored at rows site input.previous_output is)
-
--- as many as there are of what they are found by
-pub all_there-long : {X V : Type 0} (f : X → Option V) (xs : List X) (vs : List V) → all_there (map f xs) ≡ Some vs → length vs ≡ length xs
-unfolding all_there
-all_there-long f [] vs there = ap length (sym (same_Some [] vs there))
-all_there-long {V = V} f (x ∷ xs) vs there = by_first (f x) (all_there (map f xs)) (all_there-long f xs) there
-  where
-    by_first : (first : Option V) (rest : Option (List V)) → ((ws : List V) → rest ≡ Some ws → length ws ≡ length xs)
-        → option_and_then (λ (v : V). option_map (λ (ws : List V). v ∷ ws) rest) first ≡ Some vs → length vs ≡ length (x ∷ xs)
-    by_first None rest long is = absurd (cc)
-    by_first (Some v) None long is = absurd (cc)
-    by_first (Some v) (Some ws) long is = ap length (sym (same_Some (v ∷ ws) vs is)) ∙ ap suc (long ws refl)
-
--- what is so of each value that is there is so of them all
-pub all_there-all : {X V : Type 0} (P : V → Type 0) (f : X → Option V) (xs : List X) (vs : List V) → ((x : X) (v : V) → f x ≡ Some v → P v)
-    → all_there (map f xs) ≡ Some vs → All P vs
-unfolding all_there
-all_there-all {V = V} P f [] vs each there = subst (λ (ws : List V). All P ws) (same_Some [] vs there) (All-nil P)
-all_there-all {V = V} P f (x ∷ xs) vs each there = by_first (f x) refl (all_there (map f xs)) (λ ws. all_there-all P f xs ws each) there
-  where
-    by_first : (first : Option V) → f x ≡ first → (rest : Option (List V)) → ((ws : List V) → rest ≡ Some ws → All P ws)
-        → option_and_then (λ (v : V). option_map (λ (ws : List V). v ∷ ws) rest) first ≡ Some vs → All P vs
-    by_first None here rest all is = absurd (cc)
-    by_first (Some v) here None all is = absurd (cc)
-    by_first (Some v) here (Some ws) all is = subst (λ (zs : List V). All P zs) (same_Some (v ∷ ws) vs is) (All-cons P v ws (each x v here) (all ws refl))
 
 -- ---- What is found is seen
 

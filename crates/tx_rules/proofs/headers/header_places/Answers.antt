@@ -8,8 +8,7 @@ use Rattle.chain_tree.specs.Entries.{place_of_hash}
 use Rattle.chain_tree.specs.Told.{blocks_of}
 use Rattle.tx_defs.specs.Site.{all_there}
 use Rattle.tx_defs.specs.Resolving.{mature_ancestor, header_heights}
-use Rattle.tx_rules.proofs.AllThere.{take-push, there-more, there-none, there-all}
-use Rattle.tx_rules.proofs.SiteLemmas.{all_there-map}
+use Rattle.tx_rules.proofs.AllThere.{take-push, all_there-map, there-more, there-none, there-all}
 use Rattle.tx_rules.proofs.HeaderLemmas.{zip-push}
 use Rattle.tx_rules.proofs.headers.header_places.Goals as goal
 

@@ -6,7 +6,7 @@ use Rattle.chain_tree.specs.Told.{blocks_of}
 use Rattle.tx_defs.specs.Resolving.{inputs, deps}
 use Rattle.tx_rules.specs.At.{find_row, found_row}
 use Rattle.tx_rules.specs.Steps.{spending_rules, naming_rules, using_rules, Tells}
-use Rattle.tx_rules.proofs.SiteLemmas.{all_there-long}
+use Rattle.tx_rules.proofs.AllThere.{all_there-long}
 use Rattle.tx_rules.proofs.RuleLemmas.{spent-inputs, tells-front, tells-back, tells-on, keeps-all}
 use Rattle.tx_rules.proofs.resolving.find.Goals as goal
 
