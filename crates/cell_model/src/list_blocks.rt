@@ -47,6 +47,13 @@ impl ListBlocks {
         }
     }
 
+    /// How many are kept.
+    pub fn len(&self) -> u32
+        ensures { result ≡ length self.now.stored }
+    {
+        self.blocks.len() as u32
+    }
+
     /// Puts a block with its ext behind the others. Out of memory, nothing has changed.
     pub fn push(&mut self, block: Vec<u8>, ext: Vec<u8>) -> Result<(), NoMemory>
         requires few { length self.old.stored + 1 < 2 ^ 32 }
