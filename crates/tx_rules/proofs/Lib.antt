@@ -3,3 +3,4 @@ pub mod BranchLemmas
 pub mod SiteLemmas
 pub mod AgeLemmas
 pub mod DepositLemmas
+pub mod MoneyLemmas
