@@ -1,15 +1,14 @@
 -- Sums of shannons, and what a withdrawing cell counts.
-use Rattle.std.proofs.Common.{◌≡◌, ℕ, zero, suc, ◌+◌, ◌-◌, ◌*◌, ◌^◌, ◌<◌, ◌≤◌, Bool, true, false, ◌&&◌, ◌||◌, not, ◌==◌, nat_lt, nat_le, get_or, map, drop, List, [], ◌∷◌, length, Option, Some, None, refl, sym, ap, ◌∙◌, subst, inl, inr, ◌⊎◌, arith}
-use Rattle.std.specs.Prelude.{slice_get, slice_index, pos, sum_by, is_some, IsTrue, IsSome, if◌then◌else◌}
+use Rattle.std.proofs.Common.{◌≡◌, ℕ, zero, suc, ◌+◌, ◌<◌, ◌≤◌, Bool, true, false, ◌&&◌, ◌||◌, not, ◌==◌, nat_lt, nat_le, List, [], ◌∷◌, length, Option, Some, None, refl, sym, ap, ◌∙◌, inl, inr, ◌⊎◌, arith}
+use Rattle.std.specs.Prelude.{slice_get, slice_index, sum_by, is_some, IsTrue, IsSome, if◌then◌else◌}
 use Rattle.std.specs.Option.{option_map, option_and_then}
-use Rattle.std.specs.List.{list_all, list_any, enumerate_from}
-use Rattle.std.proofs.lemmas.List.{drop_all}
+use Rattle.std.specs.List.{AllZip, list_all, list_any, enumerate_from}
 use Rattle.std.proofs.lemmas.List.Sums.{sum_by-cons}
 use Rattle.std.proofs.lemmas.Bool.{lt-ltb, le-ltb, le-leb, lt-leb, ltb-true, ltb-false, leb-true, cases_lt, and_parts}
-use Rattle.std.proofs.lemmas.Option.{slice_get_within, get_or_from_slice_get, same_Some, cond_some}
+use Rattle.std.proofs.lemmas.Option.{get_or_from_slice_get, same_Some, cond_some}
 use Rattle.codec_defs.specs.Schema.{OutPoint, Script, Block, Transaction}
 use Rattle.time_defs.specs.Specification.{Specification}
-use Rattle.time_defs.specs.Dao.{field_of_bytes, as_u64}
+use Rattle.time_defs.specs.Dao.{field_of_bytes}
 use Rattle.chain_defs.specs.Kept.{block_at}
 use Rattle.chain_defs.specs.Branch.{branch_places, branch}
 use Rattle.chain_defs.proofs.KeptLaws.{slice_get-below}
@@ -17,17 +16,19 @@ use Rattle.chain_tree.specs.declared.entry.Entry.{Entry}
 use Rattle.chain_tree.specs.Entries.{entry_at}
 use Rattle.chain_tree.specs.Told.{Stored, blocks_of}
 use Rattle.chain_tree.proofs.BlockLemmas.{DescribedAt, described, len-same}
-use Rattle.cell_defs.specs.Cell.{Cell, holds_its_own, occupied_by}
+use Rattle.cell_defs.specs.Cell.{Cell, occupied_by}
 use Rattle.cell_defs.specs.Row.{Row}
 use Rattle.tx_defs.specs.Site.{Site, Found, height_at}
 use Rattle.tx_defs.specs.Resolving.{inputs, heights}
 use Rattle.tx_defs.specs.Withdrawals.{is_dao_script, is_withdrawing, deposit_height, deposit_index, withdraws_well, names_deposits}
 use Rattle.tx_defs.specs.Capacity.{rate_of, rate_at, withdrawn, counted, counted_in}
 use Rattle.tx_rules.specs.At.{AtValue, IsPlaced, IsSiteOf}
+use Rattle.cell_model.specs.Copies.{ResolvedValue}
+use Rattle.tx_rules.specs.Outcome.{Copies}
 use Rattle.tx_rules.specs.Seen.{IsRowOf}
-use Rattle.tx_rules.proofs.BranchLemmas.{branch-block, PlaceOfHeight, place-of-height}
+use Rattle.tx_rules.proofs.BranchLemmas.{PlaceOfHeight, place-of-height}
 use Rattle.tx_rules.proofs.SiteLemmas.{IsKeptRow, IsOwnRow}
-use Rattle.tx_rules.proofs.AgeLemmas.{row-of, kept-row}
+use Rattle.tx_rules.proofs.AgeLemmas.{row-of}
 use Rattle.tx_rules.proofs.DepositLemmas.{EntryOfHeight, entry-of-height, heights-below, listed-below}
 
 -- ---- 64 bits
@@ -221,3 +222,42 @@ pub well-at : (site : Site) (t : Transaction) (i : ℕ) (found : Found) → IsTr
 well-at site t i found named there =
     let at : i ≡ 0 + i = omega arith in
     ap (λ (k : ℕ). withdraws_well site t (k, found)) at ∙ all-at (withdraws_well site t) 0 (inputs site t) i found named there
+
+-- ---- The balance
+
+and-false : (b : Bool) → (b && false) ≡ false
+and-false true = refl
+and-false false = refl
+
+pub none-balances : (inside outside bound : ℕ) → bound ≤ inside → (nat_lt inside bound && nat_lt outside bound && nat_le outside inside) ≡ false
+none-balances inside outside bound past =
+    ap (λ (b : Bool). b && nat_lt outside bound && nat_le outside inside) (le-ltb inside bound past)
+
+pub past-balances : (inside outside bound : ℕ) → bound ≤ outside → (nat_lt inside bound && nat_lt outside bound && nat_le outside inside) ≡ false
+past-balances inside outside bound past =
+    ap (λ (b : Bool). nat_lt inside bound && b && nat_le outside inside) (le-ltb outside bound past)
+    ∙ ap (λ (b : Bool). b && nat_le outside inside) (and-false (nat_lt inside bound))
+
+pub more-balances : (inside outside bound : ℕ) → inside < outside → (nat_lt inside bound && nat_lt outside bound && nat_le outside inside) ≡ false
+more-balances inside outside bound more =
+    ap (λ (b : Bool). nat_lt inside bound && nat_lt outside bound && b) (lt-leb outside inside more)
+    ∙ and-false (nat_lt inside bound && nat_lt outside bound)
+
+pub all-balances : (inside outside bound : ℕ) → inside < bound → outside < bound → outside ≤ inside
+    → (nat_lt inside bound && nat_lt outside bound && nat_le outside inside) ≡ true
+all-balances inside outside bound one two three =
+    ap (λ (b : Bool). b && nat_lt outside bound && nat_le outside inside) (lt-ltb inside bound one)
+    ∙ ap (λ (b : Bool). b && nat_le outside inside) (lt-ltb outside bound two) ∙ le-leb outside inside three
+
+-- the capacities of copies are those of the cells
+pub capacities-same : (kept : List Block) (parent : ℕ) (founds : List Found) (copies : List ResolvedValue) → AllZip (Copies kept parent) founds copies
+    → sum_by (λ copy. copy.row.capacity) copies ≡ sum_by (λ found. found.cell.output.capacity) founds
+capacities-same kept parent [] [] each = refl
+capacities-same kept parent [] (copy ∷ copies) each = absurd each
+capacities-same kept parent (found ∷ founds) [] each = absurd each
+capacities-same kept parent (found ∷ founds) (copy ∷ copies) each =
+    let here : copy.row.capacity ≡ found.cell.output.capacity = ap (λ (pair : OutPoint × Row). pair.1.capacity) each.0.row in
+    let rest = capacities-same kept parent founds copies each.1 in
+    let one = sum_by-cons (λ (it : ResolvedValue). it.row.capacity) copy copies in
+    let other = sum_by-cons (λ (it : Found). it.cell.output.capacity) found founds in
+    omega (arith, here, rest, one, other)

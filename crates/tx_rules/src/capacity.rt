@@ -1,5 +1,5 @@
 // J27: what the inputs count and the outputs hold.
-ghost use Rattle.std.specs.Prelude.{◌≡◌, ◌<◌, ◌^◌, ℕ, IsTrue, IsSome, false, pos, List, length, map, Err, Some, None, IfOk, slice_index, Option};
+ghost use Rattle.std.specs.Prelude.{◌≡◌, ◌<◌, ◌^◌, ℕ, IsTrue, IsSome, false, pos, ◌-ℤ◌, List, length, map, Err, Some, None, IfOk, slice_index, Option};
 ghost use Rattle.std.specs.List.{AllZip, sum_by};
 ghost use Rattle.codec_defs.specs.Schema.{OutPoint};
 ghost use Rattle.time_defs.specs.Dao.{field_of_bytes, as_u64};
@@ -160,6 +160,14 @@ fn capacities(copies: &[Resolved]) -> u128
     sum
 }
 
+/// What inputs count beyond their capacities.
+fn beyond(counted: u64, capacities: u128) -> i128
+    requires { capacities < 2 ^ 127 }
+    ensures { result ≡ pos counted -ℤ pos capacities }
+{
+    i128::from(counted) - capacities as i128
+}
+
 /// J27: both sums are at most the greatest u64, and the outputs hold no more than the inputs count; then the fee and the
 /// interest. None where it is broken. Damaged where a row's block is none that the transaction sees, a copy is no output,
 /// or a withdrawing cell does not hold what it occupies.
@@ -189,6 +197,6 @@ pub(crate) fn balance_of(
     }
     Ok(Some(Balance {
         fee: counted - held,
-        interest: i128::from(counted) - capacities(copies) as i128,
+        interest: beyond(counted, capacities(copies)),
     }))
 }

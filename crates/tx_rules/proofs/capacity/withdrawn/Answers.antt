@@ -1,4 +1,4 @@
-use Rattle.std.proofs.Common.{◌≡◌, ℕ, length, sym, ap, ◌∙◌, arith}
+use Rattle.std.proofs.Common.{ℕ, length, ap, ◌∙◌, arith}
 use Rattle.std.specs.Prelude.{pos}
 use Rattle.time_defs.specs.Dao.{counted_capacity, as_u64}
 use Rattle.cell_defs.specs.Cell.{occupied_by}
