@@ -5,6 +5,7 @@ pub mod DepLemmas
 pub mod DepositLemmas
 pub mod Faults
 pub mod HeaderLemmas
+pub mod MoneyLemmas
 pub mod RuleLemmas
 pub mod SiteLemmas
 pub mod WalkLemmas

@@ -10,6 +10,11 @@ drop-there xs i x there =
     let within : i < length xs = slice_get_within xs i x there in
     rw add-one (drop-cons xs i x within ∙ ap (λ y. y ∷ drop (suc i) xs) (get_or_from_slice_get xs i x x there))
 
+-- with their places
+pub enumerated-there : {X : Type 0} (xs : List X) (i : ℕ) (x : X) → slice_get xs i ≡ Some x
+    → enumerate_from i (drop i xs) ≡ (i, x) ∷ enumerate_from (i + 1) (drop (i + 1) xs)
+enumerated-there xs i x there = ap (enumerate_from i) (drop-there xs i x there)
+
 -- ---- Whether all elements with their places pass
 
 all-from : {X : Type 0} (p : ℕ × X → Bool) (xs : List X) (i : ℕ) (x : X) → slice_get xs i ≡ Some x
