@@ -19,8 +19,7 @@ ghost use Rattle.tx_rules.specs.At.{IsPlaced, IsSiteOf};
 ghost use Rattle.tx_rules.specs.Outcome.{Copies, IsBalanceOf};
 ghost use Rattle.tx_rules.specs.Seen.{IsRowOf};
 
-use crate::age::damage_of;
-use crate::at::TxAt;
+use crate::at::{TxAt, damage_of};
 use crate::withdrawals::{deposit_place, withdrawing_made};
 use cell_model::{CellMeta, Resolved};
 use dao_math::{Dao, max_withdraw};
