@@ -1,5 +1,5 @@
 -- Counts of faults over calls that follow one another.
-use Rattle.std.proofs.Common.{◌≡◌, ℕ, sym, ◌∙◌, subst, arith}
+use Rattle.std.proofs.Common.{◌≡◌, ℕ, ◌∙◌, subst, arith}
 use Rattle.outside.specs.Causes.{CountsFault, Rose}
 
 -- where nothing failed

@@ -1,11 +1,11 @@
 -- The rules in groups, rule by rule, and the groups one after another.
 use Rattle.std.proofs.Common.{◌≡◌, ℕ, Bool, true, false, List, [], ◌∷◌, ◌++◌, map, Option, Some, None, Result, Ok, Err, refl, sym, ap, ◌∙◌, subst}
 use Rattle.std.specs.Prelude.{◌&&◌, is_some, unwrap_or, IsErrAnd}
-use Rattle.std.specs.Option.{option_map, option_and_then}
+use Rattle.std.specs.Option.{option_map}
 use Rattle.std.specs.List.{list_all}
 use Rattle.std.proofs.lemmas.List.Folds.{list_all-append}
 use Rattle.std.proofs.lemmas.Option.{same_Some}
-use Rattle.codec_defs.specs.Schema.{OutPoint, CellInput, Transaction, Block}
+use Rattle.codec_defs.specs.Schema.{OutPoint, CellInput, Transaction}
 use Rattle.fold_defs.specs.First.{first_failing}
 use Rattle.fold_defs.proofs.FirstLemmas.{first_failing-fails, first_failing-holds, first_failing-none, first_failing-append-holds, first_failing-append-fails, finds_none}
 use Rattle.outside.specs.declared.disk.Area.TheVariants.{Log}
@@ -16,8 +16,8 @@ use Rattle.cell_defs.specs.Cell.{Cell}
 use Rattle.cell_defs.specs.Row.{Row, row_of}
 use Rattle.chain_tree.specs.Told.{Stored, blocks_of}
 use Rattle.cell_model.specs.Copies.{ResolvedValue}
-use Rattle.tx_defs.specs.Site.{Site, Found, all_there}
-use Rattle.tx_defs.specs.Resolving.{input_cells, dep_cells, header_heights, spends_each_once, spends_live_cells, has_cell_deps, has_header_deps, inputs, deps, heights}
+use Rattle.tx_defs.specs.Site.{Site}
+use Rattle.tx_defs.specs.Resolving.{input_cells, spends_each_once, spends_live_cells, has_cell_deps, has_header_deps, inputs, deps}
 use Rattle.tx_defs.specs.Age.{is_mature, uses_mature_cells, meets_each_since}
 use Rattle.tx_defs.specs.Withdrawals.{names_deposits}
 use Rattle.tx_defs.specs.Capacity.{makes_good_cells, balances}

@@ -1,5 +1,5 @@
 -- The rows of the cells that a transaction sees, and what they stand for at its site.
-use Rattle.std.proofs.Common.{◌≡◌, ℕ, ◌+◌, ◌<◌, ◌≤◌, ltb, eqb, cond, Bool, true, false, List, [], ◌∷◌, ◌++◌, length, map, take, get_or, Option, Some, None, zero, suc, refl, sym, ap, ◌∙◌, subst, inl, inr, ◌⊎◌, arith}
+use Rattle.std.proofs.Common.{◌≡◌, ℕ, ◌+◌, ◌<◌, eqb, cond, Bool, true, false, List, [], ◌∷◌, ◌++◌, length, map, take, get_or, Option, Some, None, refl, sym, ap, ◌∙◌, subst, inl, inr, ◌⊎◌, arith}
 use Rattle.std.specs.Prelude.{slice_get, slice_index, unwrap_or}
 use Rattle.std.specs.Option.{option_map, option_and_then}
 use Rattle.std.specs.List.{All, AllZip, flat_map}
@@ -18,7 +18,7 @@ use Rattle.cell_defs.specs.Row.{Row, row_of, IsOutputOf}
 use Rattle.cell_model.specs.Copies.{NamesOutput, output_in}
 use Rattle.tx_defs.specs.Site.{Site, Found, find_cell, all_there}
 use Rattle.tx_defs.specs.Resolving.{inputs, deps, input_cells, dep_cells, cells_of_dep, members_of}
-use Rattle.tx_rules.specs.At.{AtValue, IsPlaced, IsSiteOf, IsMade, AreSeen, place_of_height, found_row, find_row, input_rows}
+use Rattle.tx_rules.specs.At.{AtValue, IsSiteOf, IsMade, AreSeen, place_of_height, found_row, find_row, input_rows}
 use Rattle.tx_rules.specs.Copying.{IsFoundAt}
 use Rattle.tx_rules.proofs.AllThere.{all_there-map, all_there-all}
 use Rattle.tx_rules.proofs.BranchLemmas.{PlaceOfHeight, place-of-height}

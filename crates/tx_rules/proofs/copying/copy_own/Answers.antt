@@ -1,5 +1,5 @@
-use Rattle.std.proofs.Common.{◌≡◌, List, ℕ, Some, sym, ap, ◌∙◌}
-use Rattle.codec_defs.specs.Schema.{Block, CellOutput}
+use Rattle.std.proofs.Common.{◌≡◌, Some, sym, ap, ◌∙◌}
+use Rattle.codec_defs.specs.Schema.{Block}
 use Rattle.cell_model.specs.Copies.{output_in}
 use Rattle.cell_model.proofs.CopyLemmas.{same_output}
 use Rattle.tx_rules.specs.At.{AtValue}

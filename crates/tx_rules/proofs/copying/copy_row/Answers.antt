@@ -1,4 +1,4 @@
-use Rattle.std.proofs.Common.{◌≡◌, ◌<◌, length, ap, ◌∙◌, arith}
+use Rattle.std.proofs.Common.{◌≡◌, length, ap, ◌∙◌, arith}
 use Rattle.cell_defs.specs.Row.{Row}
 use Rattle.tx_rules.specs.At.{AtValue}
 use Rattle.tx_rules.proofs.SiteLemmas.{copied-of-kept, copied-of-own, none-past}

@@ -1,15 +1,13 @@
-use Rattle.std.proofs.Common.{◌≡◌, ◌∷◌, [], ◌++◌, List, length, map, take, Ok, Err, Option, Some, refl, sym, ap, ◌∙◌, ◌+◌, subst, rules, arith}
+use Rattle.std.proofs.Common.{◌≡◌, ◌∷◌, [], ◌++◌, List, length, map, take, Ok, refl, sym, ap, ◌∙◌, ◌+◌, subst, rules, arith}
 use Rattle.std.specs.List.{All, AllZip}
-use Rattle.std.proofs.lemmas.Grind.{common_steps}
 use Rattle.std.proofs.lemmas.List.{take_all, length-map}
 use Rattle.std.proofs.lemmas.List.Elements.{All-nil, All-push}
 use Rattle.codec_defs.specs.Schema.{OutPoint}
 use Rattle.cell_defs.specs.Row.{Row}
 use Rattle.cell_model.specs.Copies.{ResolvedValue}
-use Rattle.outside.specs.declared.disk.ReadStop.TheVariants.{Damaged}
-use Rattle.chain_tree.specs.Told.{Stored, blocks_of}
-use Rattle.tx_defs.specs.Site.{Site, Found}
-use Rattle.tx_rules.specs.At.{IsSiteOf, AreSeen, found_row}
+use Rattle.chain_tree.specs.Told.{blocks_of}
+use Rattle.tx_defs.specs.Site.{Found}
+use Rattle.tx_rules.specs.At.{found_row}
 use Rattle.tx_rules.specs.Copying.{row_in, HoldsOutput}
 use Rattle.tx_rules.specs.Outcome.{Copies}
 use Rattle.tx_rules.proofs.Faults.{no_fault, then_counts}

@@ -1,11 +1,9 @@
-use Rattle.std.proofs.Common.{◌≡◌, ◌++◌, List, ℕ, Bool, Some, None, length, map, ap, subst, sym, ◌∙◌}
-use Rattle.codec_defs.specs.Schema.{OutPoint, CellInput}
-use Rattle.fold_defs.specs.First.{first_failing}
-use Rattle.cell_defs.specs.Row.{Row}
+use Rattle.std.proofs.Common.{◌≡◌, ◌++◌, length, map, ap, ◌∙◌}
+use Rattle.codec_defs.specs.Schema.{CellInput}
 use Rattle.chain_tree.specs.Told.{blocks_of}
 use Rattle.tx_defs.specs.Resolving.{inputs, deps}
 use Rattle.tx_rules.specs.At.{find_row, found_row}
-use Rattle.tx_rules.specs.Steps.{spending_rules, naming_rules, using_rules, Tells}
+use Rattle.tx_rules.specs.Steps.{spending_rules, naming_rules, using_rules}
 use Rattle.tx_rules.proofs.AllThere.{all_there-long}
 use Rattle.tx_rules.proofs.RuleLemmas.{spent-inputs, tells-front, tells-back, tells-on, keeps-all}
 use Rattle.tx_rules.proofs.resolving.find.Goals as goal

@@ -1,9 +1,9 @@
-use Rattle.std.proofs.Common.{◌≡◌, true, false, Some, None, Err, map, ap, sym, ◌∙◌}
+use Rattle.std.proofs.Common.{◌≡◌, Some, None, Err, map, ap, ◌∙◌}
 use Rattle.std.specs.Prelude.{slice_index}
 use Rattle.std.specs.Option.{option_map}
 use Rattle.chain_defs.specs.Branch.{branch_places}
 use Rattle.chain_tree.specs.Told.{blocks_of}
-use Rattle.tx_defs.specs.Resolving.{dep_cells, header_heights, has_cell_deps, has_header_deps}
+use Rattle.tx_defs.specs.Resolving.{dep_cells, header_heights}
 use Rattle.tx_rules.specs.At.{found_row}
 use Rattle.tx_rules.specs.Steps.{naming_rules}
 use Rattle.tx_rules.proofs.RuleLemmas.{no-cell-deps, no-header-deps, names-well, found-none, found-some, found-list, tells-read}

@@ -1,4 +1,4 @@
-use Rattle.std.proofs.Common.{◌≡◌, true, false, Err, ap, sym, ◌∙◌, rules}
+use Rattle.std.proofs.Common.{◌≡◌, true, false, sym, ◌∙◌, rules}
 use Rattle.tx_defs.specs.Withdrawals.{names_deposits}
 use Rattle.tx_rules.specs.Steps.{paying_rules}
 use Rattle.tx_rules.proofs.RuleLemmas.{tells-damage, names-badly, pays-badly, pays-well}

@@ -1,4 +1,4 @@
-use Rattle.std.proofs.Common.{◌≡◌, true, false, Some, None, sym, ◌∙◌, rules}
+use Rattle.std.proofs.Common.{◌≡◌, true, false, Some, None, ◌∙◌, rules}
 use Rattle.tx_defs.specs.Resolving.{spends_each_once}
 use Rattle.tx_defs.specs.Rules.{has_form}
 use Rattle.tx_rules.specs.At.{input_rows}

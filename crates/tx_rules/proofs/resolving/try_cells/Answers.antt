@@ -1,4 +1,4 @@
-use Rattle.std.proofs.Common.{◌≡◌, true, false, Err, ap, sym, ◌∙◌, rules}
+use Rattle.std.proofs.Common.{◌≡◌, true, false, sym, ◌∙◌, rules}
 use Rattle.std.specs.List.{list_all}
 use Rattle.tx_defs.specs.Resolving.{inputs, deps}
 use Rattle.tx_defs.specs.Age.{is_mature, meets_each_since}
