@@ -1,6 +1,8 @@
 // Copies of old cells out of kept blocks.
-ghost use Rattle.std.specs.Prelude.{◌≡◌, ◌^◌, ◌<◌, List, Some, Err, IfOk, length};
+ghost use Rattle.std.specs.Prelude.{◌≡◌, ◌^◌, ◌<◌, List, Some, Err, IfOk, IsSome, length};
 ghost use Rattle.std.specs.Option.{option_map};
+ghost use Rattle.codec_defs.specs.Shape.{decoded};
+ghost use Rattle.codec_defs.specs.Schema.{cell_output};
 ghost use Rattle.cell_defs.specs.Cell.{Cell, data_of};
 ghost use Rattle.outside.specs.Causes.{CountsFault};
 ghost use Rattle.outside.specs.declared.disk.Area.TheVariants.{Log};
@@ -12,7 +14,7 @@ ghost use Rattle.cell_model.specs.Copies.{IsCopyOf, NamesOutput, output_in};
 use crate::cells::{CellMeta, OutPoint, Resolved};
 use chain_tree::Blocks;
 use mol_schema::{BlockView, OutputView, TxView};
-use outside::{NoMemory, ReadStop};
+use outside::{Area, Damage, NoMemory, ReadStop};
 use std::alloc::Global;
 
 /// The data of an output: what stands at its place, no bytes where nothing does.
@@ -59,9 +61,25 @@ pub fn copy_of(
 ) -> Result<Resolved, NoMemory>
     ensures out_point { IfOk result (λ copy. copy.out_point ≡ o) }
     ensures row { IfOk result (λ copy. copy.row ≡ meta) }
+    ensures output { IfOk result (λ copy. IsSome (decoded cell_output copy.output)) }
     ensures copied { (cell : Cell) → output.now ≡ cell.output → content.now ≡ cell.content → IfOk result (IsCopyOf cell) }
 {
-    Err(NoMemory)
+    Ok(Resolved {
+        out_point: o,
+        meta,
+        output: output.bytes().to_vec(alloc)?,
+        content: content.to_vec(alloc)?,
+    })
+}
+
+/// A block in LOG that is not what the row says.
+fn damaged() -> ReadStop
+    ensures { result ≡ Damaged (record { area = Log; at = 0 }) }
+{
+    ReadStop::Damaged(Damage {
+        area: Area::Log,
+        at: 0,
+    })
 }
 
 /// Copies the bytes of an old cell. Where the row names no output, which never comes over blocks that tell it, it is
@@ -78,11 +96,22 @@ pub fn fetch<B: Blocks>(
     ensures loans { B.loans_of blocks.new ≡ B.loans_of blocks.old }
     ensures out_point { IfOk result (λ copy. copy.out_point ≡ o) }
     ensures row { IfOk result (λ copy. copy.row ≡ meta) }
+    ensures output { IfOk result (λ copy. IsSome (decoded cell_output copy.output)) }
     ensures copied { (stored : List Stored) (cell : Cell) → B.told blocks.old ≡ Some stored → NamesOutput stored o meta cell → IfOk result (IsCopyOf cell) }
     ensures undamaged { (stored : List Stored) (cell : Cell) → B.told blocks.old ≡ Some stored → NamesOutput stored o meta cell
         → (damage : Damage) → result ≡ Err (Damaged damage) → ⊥ }
     ensures damage { (damage : Damage) → result ≡ Err (Damaged damage) → damage.area ≡ Log }
     ensures cause { CountsFault (B.faults blocks.old) (B.faults blocks.new) (result ≡ Err DiskFault) }
 {
-    Err(ReadStop::NoMemory)
+    blocks.bring(meta.block)?;
+    let Some(block) = BlockView::read(blocks.block()) else {
+        return Err(damaged());
+    };
+    let Some((output, content)) = output_at(&block, &o, &meta) else {
+        return Err(damaged());
+    };
+    match copy_of(alloc, o, meta, &output, content) {
+        Ok(copy) => Ok(copy),
+        Err(NoMemory) => Err(ReadStop::NoMemory),
+    }
 }

@@ -1,2 +1,6 @@
 pub mod At
+pub mod Copying
+pub mod Members
 pub mod Outcome
+pub mod Seen
+pub mod Steps

@@ -1,8 +1,13 @@
 // Where a transaction is judged.
+ghost use Rattle.std.specs.Prelude.{◌≡◌};
+ghost use Rattle.outside.specs.declared.disk.Area.TheVariants.{Log};
+ghost use Rattle.tx_rules.specs.Seen.{log_place};
 
+use cell_model::CellMeta;
 use chain_tree::Tree;
 use epochs::Spec;
 use mol_schema::BlockView;
+use outside::{Area, Damage};
 use std::marker::Model;
 
 /// Where a transaction is judged: on a parent in the tree, in the block that is judged or, as a dry run, alone. A row
@@ -25,10 +30,11 @@ impl<'a> Model for TxAt<'a> {
 }
 
 impl<'a> TxAt<'a> {
-    ghost use Rattle.std.specs.Prelude.{◌≡◌, ◌+◌, ◌^◌, ◌<◌, List};
+    ghost use Rattle.std.specs.Prelude.{◌≡◌, ◌+◌, ◌^◌, ◌<◌, List, IsSomeAnd};
     ghost use Rattle.codec_defs.specs.Schema.{OutPoint};
     ghost use Rattle.std.specs.declared.option.Option.{Option};
     ghost use Rattle.cell_defs.specs.Row.{Row};
+    ghost use Rattle.chain_tree.specs.Entries.{entry_at};
     ghost use Rattle.chain_tree.specs.Told.{Stored};
     ghost use Rattle.tx_defs.specs.Site.{Site, height_at};
     ghost use Rattle.tx_rules.specs.At.{IsPlaced, IsSiteOf};
@@ -37,8 +43,25 @@ impl<'a> TxAt<'a> {
     pub fn height(&self) -> u64
         requires { IsPlaced self.now }
         ensures fits { result < 2 ^ 24 }
+        ensures next { IsSomeAnd (entry_at self.now.entries self.now.parent) (λ parent. result ≡ parent.number + 1) }
         ensures height { (stored : List Stored) (rows : OutPoint → Option Row) (site : Site) → IsSiteOf stored self.now rows site → result ≡ height_at site }
     {
         self.tree.entry(self.parent).number + 1
+    }
+}
+
+/// Where a row is wrong: at its block in LOG, or at place 0 where that is not kept.
+pub(crate) fn damage_of(at: &TxAt<'_>, meta: &CellMeta) -> Damage
+    ensures area { result.area ≡ Log }
+    ensures at { result.at ≡ log_place at.now.entries meta.now.block }
+{
+    let place = if meta.block < at.tree.len() {
+        at.tree.entry(meta.block).at
+    } else {
+        0
+    };
+    Damage {
+        area: Area::Log,
+        at: place,
     }
 }

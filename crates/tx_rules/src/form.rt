@@ -1,15 +1,73 @@
 // J18: what a transaction is by itself.
-ghost use Rattle.std.specs.Prelude.{◌≡◌, IfOk};
+ghost use Rattle.std.specs.Prelude.{◌≡◌, ◌<◌, IfOk, Some, length, map, slice_get};
+ghost use Rattle.codec_defs.specs.Shape.{encoded};
+ghost use Rattle.codec_defs.specs.Schema.{cell_dep};
+ghost use Rattle.chain_defs.specs.Hashes.{are_distinct};
 ghost use Rattle.tx_defs.specs.Rules as rules;
 
 use mol_schema::TxView;
 use outside::NoMemory;
 use std::alloc::Global;
+use std::collections::HashSet;
+
+/// The bytes of a cell dep.
+fn dep_at(tx: &TxView<'_>, i: usize) -> [u8; 37]
+    requires { i < length tx.now.raw.cell_deps }
+    ensures { slice_get (map (encoded cell_dep) tx.now.raw.cell_deps) i ≡ Some result }
+{
+    let mut bytes = [0; 37];
+    bytes.copy_from_slice(tx.raw().cell_deps_item(i).bytes());
+    bytes
+}
+
+/// Whether no two cell deps are equal, by all their bytes.
+fn are_deps_distinct(alloc: Global, tx: &TxView<'_>) -> Result<bool, NoMemory>
+    ensures { IfOk result (λ distinct. distinct ≡ are_distinct (map (encoded cell_dep) tx.now.raw.cell_deps)) }
+{
+    let mut seen: HashSet<[u8; 37]> = HashSet::new(alloc);
+    'later: for i in (0..tx.raw().cell_deps_count()).rev() {
+        if !seen.insert(dep_at(tx, i))? {
+            return Ok(false);
+        }
+    }
+    Ok(true)
+}
+
+/// The header dep at a place.
+pub(crate) fn header_dep_at(tx: &TxView<'_>, i: usize) -> [u8; 32]
+    requires { i < length tx.now.raw.header_deps }
+    ensures { slice_get tx.now.raw.header_deps i ≡ Some result }
+{
+    let mut hash = [0; 32];
+    hash.copy_from_slice(tx.raw().header_deps_item(i));
+    hash
+}
+
+/// Whether no two header deps are equal.
+fn are_header_deps_distinct(alloc: Global, tx: &TxView<'_>) -> Result<bool, NoMemory>
+    ensures { IfOk result (λ distinct. distinct ≡ are_distinct tx.now.raw.header_deps) }
+{
+    let mut seen: HashSet<[u8; 32]> = HashSet::new(alloc);
+    'later: for i in (0..tx.raw().header_deps_count()).rev() {
+        if !seen.insert(header_dep_at(tx, i))? {
+            return Ok(false);
+        }
+    }
+    Ok(true)
+}
 
 /// J18: it has version 0, an input, an output, as many data as outputs, no two equal cell deps and no two equal header
 /// deps.
 pub(crate) fn has_form(alloc: Global, tx: &TxView<'_>) -> Result<bool, NoMemory>
     ensures { IfOk result (λ kept. kept ≡ rules.has_form tx.now) }
 {
-    Err(NoMemory)
+    let raw = tx.raw();
+    let outputs = raw.outputs_count();
+    if raw.version() != 0 || raw.inputs_count() == 0 || outputs == 0 {
+        return Ok(false);
+    }
+    if raw.outputs_data_count() != outputs || !are_deps_distinct(alloc, tx)? {
+        return Ok(false);
+    }
+    are_header_deps_distinct(alloc, tx)
 }

@@ -1,13 +1,39 @@
 // J20: the cells that are spent.
-ghost use Rattle.std.specs.Prelude.{◌≡◌, IfOk, Some, None};
+ghost use Rattle.std.specs.Prelude.{◌≡◌, ◌<◌, IfOk, Some, None, length, map, slice_get};
 ghost use Rattle.std.specs.Option.{option_map};
+ghost use Rattle.codec_defs.specs.Shape.{encoded};
+ghost use Rattle.codec_defs.specs.Schema.{out_point};
 ghost use Rattle.tx_defs.specs.Resolving.{spends_each_once};
-ghost use Rattle.tx_rules.specs.At.{input_rows};
+ghost use Rattle.tx_rules.specs.At as sites;
 
 use cell_model::{CellMeta, Cells, OutPoint};
-use mol_schema::TxView;
+use mol_schema::{OutPointView, TxView};
 use outside::NoMemory;
 use std::alloc::Global;
+use std::collections::HashSet;
+
+/// The out-point that stands in a transaction's bytes.
+pub(crate) fn out_point_of(o: &OutPointView<'_>) -> OutPoint
+    ensures { result ≡ o.now }
+{
+    let mut tx_hash = [0; 32];
+    tx_hash.copy_from_slice(o.tx_hash());
+    OutPoint {
+        tx_hash,
+        index: o.index(),
+    }
+}
+
+/// An out-point with its row. None where it has none.
+pub(crate) fn find_row<C: Cells>(cells: &C, o: &OutPointView<'_>) -> Option<(OutPoint, CellMeta)>
+    ensures { result ≡ sites.find_row (C.rows cells.now) o.now }
+{
+    let out_point = out_point_of(o);
+    match cells.get(&out_point) {
+        None => None,
+        Some(meta) => Some((out_point, meta)),
+    }
+}
 
 /// The rows of its inputs, in their order. None where one of them is not live.
 pub(crate) fn live_inputs<C: Cells>(
@@ -15,14 +41,38 @@ pub(crate) fn live_inputs<C: Cells>(
     tx: &TxView<'_>,
     cells: &C,
 ) -> Result<Option<Vec<(OutPoint, CellMeta)>>, NoMemory>
-    ensures { IfOk result (λ found. option_map (λ rows. rows.items) found ≡ input_rows (C.rows cells.now) tx.now) }
+    ensures { IfOk result (λ found. option_map (λ rows. rows.items) found ≡ sites.input_rows (C.rows cells.now) tx.now) }
 {
-    Err(NoMemory)
+    let raw = tx.raw();
+    let mut found = Vec::new(alloc);
+    'inputs: for i in 0..raw.inputs_count() {
+        match find_row(cells, &raw.inputs_item(i).previous_output()) {
+            None => return Ok(None),
+            Some(row) => found.push(row)?,
+        }
+    }
+    Ok(Some(found))
+}
+
+/// The bytes of the out-point that an input spends.
+fn spent_at(tx: &TxView<'_>, i: usize) -> [u8; 36]
+    requires { i < length tx.now.raw.inputs }
+    ensures { slice_get (map (λ input. encoded out_point input.previous_output) tx.now.raw.inputs) i ≡ Some result }
+{
+    let mut bytes = [0; 36];
+    bytes.copy_from_slice(tx.raw().inputs_item(i).previous_output().bytes());
+    bytes
 }
 
 /// Whether no two of its inputs spend one cell.
 pub(crate) fn are_inputs_distinct(alloc: Global, tx: &TxView<'_>) -> Result<bool, NoMemory>
     ensures { IfOk result (λ distinct. distinct ≡ spends_each_once tx.now) }
 {
-    Err(NoMemory)
+    let mut seen: HashSet<[u8; 36]> = HashSet::new(alloc);
+    'later: for i in (0..tx.raw().inputs_count()).rev() {
+        if !seen.insert(spent_at(tx, i))? {
+            return Ok(false);
+        }
+    }
+    Ok(true)
 }

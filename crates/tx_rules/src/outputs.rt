@@ -1,17 +1,62 @@
 // J25: the cells that are made.
-ghost use Rattle.std.specs.Prelude.{◌≡◌, is_some};
+ghost use Rattle.std.specs.Prelude.{◌≡◌, ◌^◌, ◌<◌, not, length, map, is_some};
+ghost use Rattle.std.specs.List.{list_any, range_with_len};
 ghost use Rattle.codec_defs.specs.Schema.{OutPoint};
+ghost use Rattle.cell_defs.specs.Cell as cell_rules;
 ghost use Rattle.chain_defs.specs.Hashes.{transaction_hash};
 ghost use Rattle.tx_defs.specs.Site.{Site};
 ghost use Rattle.tx_defs.specs.Capacity as rules;
 
-use cell_model::Cells;
-use mol_schema::TxView;
+use cell_model::{Cells, OutPoint, data_at, occupied};
+use mol_schema::{OutputView, TxView};
+
+/// Whether an output with its data holds what it occupies.
+fn holds_its_own(output: &OutputView<'_>, content: &[u8]) -> bool
+    requires { length content.now < 2 ^ 32 }
+    ensures { result ≡ cell_rules.holds_its_own output.now content.now }
+{
+    let type_args = match output.type_script() {
+        None => None,
+        Some(script) => Some(script.args().len() as u32),
+    };
+    let lock_args = output.lock().args().len() as u32;
+    occupied(lock_args, type_args, content.len() as u32) <= output.capacity()
+}
+
+/// Whether each output of a transaction holds what it occupies.
+fn outputs_hold_their_own(tx: &TxView<'_>) -> bool
+    ensures { result ≡ rules.outputs_hold_their_own tx.now }
+{
+    let raw = tx.raw();
+    'outputs: for i in 0..raw.outputs_count() {
+        if !holds_its_own(&raw.outputs_item(i), data_at(tx, i)) {
+            return false;
+        }
+    }
+    true
+}
+
+/// Whether no cell is live with this hash and an index below a count.
+fn is_none_live<C: Cells>(hash: [u8; 32], count: usize, cells: &C) -> bool
+    requires { count < 2 ^ 32 }
+    ensures { result ≡ not (list_any (λ o. is_some (C.rows cells.now o)) (map (λ index. record { tx_hash = hash; index = index }) (range_with_len 0 count))) }
+{
+    'indexes: for i in 0..count {
+        let made = OutPoint {
+            tx_hash: hash,
+            index: i as u32,
+        };
+        if cells.get(&made).is_some() {
+            return false;
+        }
+    }
+    true
+}
 
 /// J25: each output holds what it occupies, and none of their out-points is live. The transaction comes with its hash.
 pub(crate) fn makes_good_cells<C: Cells>(tx: &TxView<'_>, hash: [u8; 32], cells: &C) -> bool
     requires { hash ≡ transaction_hash tx.now }
     ensures { (site : Site) → ((o : OutPoint) → is_some (C.rows cells.now o) ≡ is_some (site.cell o)) → result ≡ rules.makes_good_cells site tx.now }
 {
-    true
+    outputs_hold_their_own(tx) && is_none_live(hash, tx.raw().outputs_count(), cells)
 }

@@ -1,21 +1,41 @@
 // All rules on one transaction, in their order.
-ghost use Rattle.std.specs.Prelude.{◌≡◌, ◌∷◌, List, length, map, Ok, Err, Some, None, IfOk, ℕ};
+ghost use Rattle.std.specs.Prelude.{◌≡◌, ◌++◌, List, length, map, Ok, Err, Some, None, IfOk, IsTrue, Option, slice_index, ℕ};
+ghost use Rattle.std.specs.List.{All, AllZip};
 ghost use Rattle.outside.specs.Causes.{CountsFault};
 ghost use Rattle.outside.specs.declared.disk.Area.TheVariants.{Log};
 ghost use Rattle.outside.specs.declared.disk.Damage.{Damage};
-ghost use Rattle.outside.specs.declared.disk.ReadStop.TheVariants.{DiskFault, Damaged};
+ghost use Rattle.outside.specs.declared.disk.ReadStop.TheVariants.{DiskFault, Damaged, NoMemory as no_memory};
+ghost use Rattle.codec_defs.specs.Schema.{OutPoint};
+ghost use Rattle.cell_defs.specs.Row.{Row};
+ghost use Rattle.chain_defs.specs.Hashes.{transaction_hash};
+ghost use Rattle.chain_defs.specs.Branch.{branch_places};
+ghost use Rattle.chain_tree.specs.Entries.{place_of_hash};
 ghost use Rattle.chain_tree.specs.Told.{Stored, blocks_of};
 ghost use Rattle.tx_defs.specs.Site.{Site};
 ghost use Rattle.tx_defs.specs.Rules.{broken_transaction_rule};
+ghost use Rattle.tx_defs.specs.Rules as defs;
 ghost use Rattle.tx_defs.specs.Capacity as rules;
-ghost use Rattle.tx_rules.specs.At.{IsPlaced, IsSiteOf};
-ghost use Rattle.tx_rules.specs.Outcome.{IsFormed, IsResolved, IsTried};
+ghost use Rattle.tx_defs.specs.Resolving.{inputs, deps, heights};
+ghost use Rattle.tx_rules.specs.At.{AtValue, IsPlaced, IsSiteOf, found_row, input_rows};
+ghost use Rattle.tx_rules.specs.Steps.{spending_rules, naming_rules, using_rules, finding_rules, paying_rules, Tells, Stops, AreFound, Pays};
+ghost use Rattle.tx_rules.specs.declared.resolving.TxStop.TheVariants.{Read};
+ghost use Rattle.tx_rules.specs.Copying.{row_in, HoldsOutput};
+ghost use Rattle.tx_rules.specs.Outcome.{Copies, IsFormed, IsResolved, IsTried};
 
+use crate::age::{are_mature, meets_each_since};
 use crate::at::TxAt;
-use cell_model::{Cells, ResolvedTx};
+use crate::capacity::{Balance, balance_of};
+use crate::copying::fetch_all;
+use crate::deps::resolved_deps;
+use crate::form::has_form;
+use crate::headers::header_places;
+use crate::inputs::{are_inputs_distinct, live_inputs};
+use crate::outputs::makes_good_cells;
+use crate::withdrawals::names_deposits;
+use cell_model::{CellMeta, Cells, OutPoint, Resolved, ResolvedTx, tx_hash};
 use chain_tree::Blocks;
 use mol_schema::TxView;
-use outside::ReadStop;
+use outside::{Damage, NoMemory, ReadStop};
 use std::alloc::Global;
 
 /// A transaction that keeps J18 and J20 to J27.
@@ -36,6 +56,239 @@ pub enum TxStop {
     Broken(u8),
     /// The kept blocks could not be read, or there was no memory.
     Read(ReadStop),
+}
+
+impl From<ReadStop> for TxStop {
+    ghost from_gives = { λ stop given. given ≡ Read stop };
+
+    fn from(stop: ReadStop) -> Self {
+        TxStop::Read(stop)
+    }
+}
+
+impl From<Damage> for TxStop {
+    ghost from_gives = { λ damage given. given ≡ Read (Damaged damage) };
+
+    fn from(damage: Damage) -> Self {
+        TxStop::Read(ReadStop::Damaged(damage))
+    }
+}
+
+impl From<NoMemory> for TxStop {
+    ghost from_gives = { λ _ given. given ≡ Read no_memory };
+
+    fn from(_: NoMemory) -> Self {
+        TxStop::Read(ReadStop::NoMemory)
+    }
+}
+
+/// What is found of a transaction that keeps J18 and J20 to J25: its hash, the rows of the cells of its inputs and of
+/// its resolved deps, and the places of its header deps.
+#[derive(Drop)]
+struct Finding {
+    hash: [u8; 32],
+    spent: Vec<(OutPoint, CellMeta)>,
+    named: Vec<(OutPoint, CellMeta)>,
+    places: Vec<u32>,
+}
+
+/// Copies of the cells of its inputs and of its resolved deps, and what it pays.
+#[derive(Drop)]
+struct Copying {
+    inputs: Vec<Resolved>,
+    deps: Vec<Resolved>,
+    balance: Balance,
+}
+
+/// J18 and J20: the rows of its inputs.
+fn spent_rows<C: Cells>(
+    alloc: Global,
+    tx: &TxView<'_>,
+    cells: &C,
+) -> Result<Vec<(OutPoint, CellMeta)>, TxStop>
+    ensures stops { Stops result }
+    ensures unread { result ≡ Err (Read DiskFault) → ⊥ }
+    ensures tells { (stored : List Stored) (at : AtValue) (site : Site) → IsSiteOf stored at (C.rows cells.now) site → Tells (spending_rules site tx.now) result }
+    ensures form { IfOk result (λ _. IsTrue (defs.has_form tx.now)) }
+    ensures rows { IfOk result (λ rows. input_rows (C.rows cells.now) tx.now ≡ Some rows.items) }
+{
+    if !has_form(alloc, tx)? {
+        return Err(TxStop::Broken(18));
+    }
+    let Some(rows) = live_inputs(alloc, tx, cells)? else {
+        return Err(TxStop::Broken(20));
+    };
+    if !are_inputs_distinct(alloc, tx)? {
+        return Err(TxStop::Broken(20));
+    }
+    Ok(rows)
+}
+
+/// J21 and J22: the rows of its resolved deps, and the places of its header deps.
+fn named_rows<C: Cells, B: Blocks>(
+    alloc: Global,
+    tx: &TxView<'_>,
+    at: &TxAt<'_>,
+    cells: &C,
+    blocks: &mut B,
+) -> Result<(Vec<(OutPoint, CellMeta)>, Vec<u32>), TxStop>
+    requires placed { IsPlaced at.now }
+    requires counts { B.count blocks.old ≡ length at.now.entries }
+    ensures told { B.told blocks.new ≡ B.told blocks.old }
+    ensures count { B.count blocks.new ≡ B.count blocks.old }
+    ensures loans { B.loans_of blocks.new ≡ B.loans_of blocks.old }
+    ensures stops { Stops result }
+    ensures tells { (stored : List Stored) (site : Site) → B.told blocks.old ≡ Some stored → IsSiteOf stored at.now (C.rows cells.now) site
+        → Tells (naming_rules site tx.now) result }
+    ensures cells { (stored : List Stored) (site : Site) → B.told blocks.old ≡ Some stored → IsSiteOf stored at.now (C.rows cells.now) site
+        → IfOk result (λ named. named.0.items ≡ map (found_row (blocks_of stored) at.now.parent) (deps site tx.now)) }
+    ensures places { (stored : List Stored) (site : Site) → B.told blocks.old ≡ Some stored → IsSiteOf stored at.now (C.rows cells.now) site
+        → IfOk result (λ named. named.1.items ≡ map (slice_index (branch_places (blocks_of stored) at.now.parent)) (heights site tx.now)) }
+    ensures headers { IfOk result (λ named. AllZip (λ hash place. place_of_hash at.now.entries hash ≡ Some place) tx.now.raw.header_deps named.1.items) }
+    ensures cause { CountsFault (B.faults blocks.old) (B.faults blocks.new) (result ≡ Err (Read DiskFault)) }
+{
+    let Some(rows) = resolved_deps(alloc, tx, at, cells, blocks)? else {
+        return Err(TxStop::Broken(21));
+    };
+    let Some(places) = header_places(alloc, tx, at)? else {
+        return Err(TxStop::Broken(22));
+    };
+    Ok((rows, places))
+}
+
+/// J23 to J25, over the rows of its inputs and its resolved deps. The transaction comes with its hash.
+fn try_cells<C: Cells>(
+    tx: &TxView<'_>,
+    hash: [u8; 32],
+    at: &TxAt<'_>,
+    cells: &C,
+    spent: &[(OutPoint, CellMeta)],
+    named: &[(OutPoint, CellMeta)],
+) -> Result<(), TxStop>
+    requires placed { IsPlaced at.now }
+    requires each { length spent.now ≡ length tx.now.raw.inputs }
+    requires hash { hash ≡ transaction_hash tx.now }
+    ensures stops { Stops result }
+    ensures unread { result ≡ Err (Read DiskFault) → ⊥ }
+    ensures tells { (stored : List Stored) (site : Site) → IsSiteOf stored at.now (C.rows cells.now) site
+        → spent.now ≡ map (found_row (blocks_of stored) at.now.parent) (inputs site tx.now)
+        → named.now ≡ map (found_row (blocks_of stored) at.now.parent) (deps site tx.now) → Tells (using_rules site tx.now) result }
+{
+    if !are_mature(at, spent)? {
+        return Err(TxStop::Broken(23));
+    }
+    if !are_mature(at, named)? {
+        return Err(TxStop::Broken(23));
+    }
+    if !meets_each_since(tx, at, spent)? {
+        return Err(TxStop::Broken(24));
+    }
+    if !makes_good_cells(tx, hash, cells) {
+        return Err(TxStop::Broken(25));
+    }
+    Ok(())
+}
+
+/// J26 and J27: what it pays, over copies of the cells of its inputs and the places of its header deps.
+fn paid_by(
+    tx: &TxView<'_>,
+    at: &TxAt<'_>,
+    copies: &[Resolved],
+    places: &[u32],
+) -> Result<Balance, TxStop>
+    requires placed { IsPlaced at.now }
+    ensures stops { Stops result }
+    ensures unread { result ≡ Err (Read DiskFault) → ⊥ }
+    ensures tells { (stored : List Stored) (rows : OutPoint → Option Row) (site : Site) → IsSiteOf stored at.now rows site
+        → AllZip (Copies (blocks_of stored) at.now.parent) (inputs site tx.now) copies.now
+        → places.now ≡ map (slice_index (branch_places (blocks_of stored) at.now.parent)) (heights site tx.now) → Tells (paying_rules site tx.now) result }
+    ensures paid { (stored : List Stored) (rows : OutPoint → Option Row) (site : Site) → IsSiteOf stored at.now rows site
+        → AllZip (Copies (blocks_of stored) at.now.parent) (inputs site tx.now) copies.now
+        → places.now ≡ map (slice_index (branch_places (blocks_of stored) at.now.parent)) (heights site tx.now) → IfOk result (Pays site tx.now) }
+{
+    if !names_deposits(tx, at, copies, places)? {
+        return Err(TxStop::Broken(26));
+    }
+    match balance_of(tx, at, copies, places)? {
+        Some(balance) => Ok(balance),
+        None => Err(TxStop::Broken(27)),
+    }
+}
+
+/// J18 and J20 to J25, which take no copy of a cell.
+fn find<C: Cells, B: Blocks>(
+    alloc: Global,
+    tx: &TxView<'_>,
+    at: &TxAt<'_>,
+    cells: &C,
+    blocks: &mut B,
+) -> Result<Finding, TxStop>
+    requires placed { IsPlaced at.now }
+    requires counts { B.count blocks.old ≡ length at.now.entries }
+    ensures told { B.told blocks.new ≡ B.told blocks.old }
+    ensures count { B.count blocks.new ≡ B.count blocks.old }
+    ensures loans { B.loans_of blocks.new ≡ B.loans_of blocks.old }
+    ensures stops { Stops result }
+    ensures tells { (stored : List Stored) (site : Site) → B.told blocks.old ≡ Some stored → IsSiteOf stored at.now (C.rows cells.now) site
+        → Tells (finding_rules site tx.now) result }
+    ensures found { (stored : List Stored) (site : Site) → B.told blocks.old ≡ Some stored → IsSiteOf stored at.now (C.rows cells.now) site
+        → IfOk result (λ it. AreFound (blocks_of stored) at.now.parent site tx.now it.spent.items it.named.items it.places.items) }
+    ensures form { IfOk result (λ _. IsTrue (defs.has_form tx.now)) }
+    ensures hash { IfOk result (λ it. it.hash ≡ transaction_hash tx.now) }
+    ensures spent { IfOk result (λ it. input_rows (C.rows cells.now) tx.now ≡ Some it.spent.items) }
+    ensures headers { IfOk result (λ it. AllZip (λ hash place. place_of_hash at.now.entries hash ≡ Some place) tx.now.raw.header_deps it.places.items) }
+    ensures cause { CountsFault (B.faults blocks.old) (B.faults blocks.new) (result ≡ Err (Read DiskFault)) }
+{
+    let spent = spent_rows(alloc, tx, cells)?;
+    let (named, places) = named_rows(alloc, tx, at, cells, blocks)?;
+    let hash = tx_hash(tx);
+    try_cells(tx, hash, at, cells, &spent, &named)?;
+    Ok(Finding {
+        hash,
+        spent,
+        named,
+        places,
+    })
+}
+
+/// J26 and J27, over copies of the cells of its inputs; then copies of those of its resolved deps.
+fn copy_cells<B: Blocks>(
+    alloc: Global,
+    tx: &TxView<'_>,
+    at: &TxAt<'_>,
+    blocks: &mut B,
+    finding: &Finding,
+) -> Result<Copying, TxStop>
+    requires placed { IsPlaced at.now }
+    requires counts { B.count blocks.old ≡ length at.now.entries }
+    ensures told { B.told blocks.new ≡ B.told blocks.old }
+    ensures count { B.count blocks.new ≡ B.count blocks.old }
+    ensures loans { B.loans_of blocks.new ≡ B.loans_of blocks.old }
+    ensures stops { Stops result }
+    ensures tells { (stored : List Stored) (rows : OutPoint → Option Row) (site : Site) → B.told blocks.old ≡ Some stored → IsSiteOf stored at.now rows site
+        → AreFound (blocks_of stored) at.now.parent site tx.now finding.now.spent.items finding.now.named.items finding.now.places.items
+        → Tells (paying_rules site tx.now) result }
+    ensures inputs { (stored : List Stored) (rows : OutPoint → Option Row) (site : Site) → B.told blocks.old ≡ Some stored → IsSiteOf stored at.now rows site
+        → AreFound (blocks_of stored) at.now.parent site tx.now finding.now.spent.items finding.now.named.items finding.now.places.items
+        → IfOk result (λ it. AllZip (Copies (blocks_of stored) at.now.parent) (inputs site tx.now) it.inputs.items) }
+    ensures deps { (stored : List Stored) (rows : OutPoint → Option Row) (site : Site) → B.told blocks.old ≡ Some stored → IsSiteOf stored at.now rows site
+        → AreFound (blocks_of stored) at.now.parent site tx.now finding.now.spent.items finding.now.named.items finding.now.places.items
+        → IfOk result (λ it. AllZip (Copies (blocks_of stored) at.now.parent) (deps site tx.now) it.deps.items) }
+    ensures paid { (stored : List Stored) (rows : OutPoint → Option Row) (site : Site) → B.told blocks.old ≡ Some stored → IsSiteOf stored at.now rows site
+        → AreFound (blocks_of stored) at.now.parent site tx.now finding.now.spent.items finding.now.named.items finding.now.places.items
+        → IfOk result (λ it. Pays site tx.now it.balance) }
+    ensures rows { IfOk result (λ it. map row_in it.inputs.items ≡ finding.now.spent.items) }
+    ensures outputs { IfOk result (λ it. All HoldsOutput (it.inputs.items ++ it.deps.items)) }
+    ensures cause { CountsFault (B.faults blocks.old) (B.faults blocks.new) (result ≡ Err (Read DiskFault)) }
+{
+    let inputs = fetch_all(alloc, at, blocks, &finding.spent)?;
+    let balance = paid_by(tx, at, &inputs, &finding.places)?;
+    let deps = fetch_all(alloc, at, blocks, &finding.named)?;
+    Ok(Copying {
+        inputs,
+        deps,
+        balance,
+    })
 }
 
 /// Tries the rules on one transaction, in their order.
@@ -70,5 +323,18 @@ pub fn resolve<'a, C: Cells, B: Blocks>(
     ensures damage { (damage : Damage) → result ≡ Err (TxStop.Read (Damaged damage)) → damage.area ≡ Log }
     ensures cause { CountsFault (B.faults blocks.old) (B.faults blocks.new) (result ≡ Err (TxStop.Read DiskFault)) }
 {
-    Err(TxStop::Read(ReadStop::NoMemory))
+    let found = find(alloc, tx, at, cells, blocks)?;
+    let copied = copy_cells(alloc, tx, at, blocks, &found)?;
+    let resolved = ResolvedTx {
+        tx: TxView::from_encoding(tx.bytes()),
+        hash: found.hash,
+        inputs: copied.inputs,
+        deps: copied.deps,
+        headers: found.places,
+    };
+    Ok(TxOk {
+        resolved,
+        fee: copied.balance.fee,
+        interest: copied.balance.interest,
+    })
 }

@@ -1,0 +1,11 @@
+pub mod AgeLemmas
+pub mod AllThere
+pub mod BranchLemmas
+pub mod DepLemmas
+pub mod DepositLemmas
+pub mod Faults
+pub mod HeaderLemmas
+pub mod MoneyLemmas
+pub mod RuleLemmas
+pub mod SiteLemmas
+pub mod WalkLemmas

@@ -1,0 +1,259 @@
+-- The rules in groups, rule by rule, and the groups one after another.
+use Rattle.std.proofs.Common.{◌≡◌, ℕ, Bool, true, false, List, [], ◌∷◌, ◌++◌, map, Option, Some, None, Result, Ok, Err, refl, sym, ap, ◌∙◌, subst}
+use Rattle.std.specs.Prelude.{◌&&◌, is_some, unwrap_or, IsErrAnd}
+use Rattle.std.specs.Option.{option_map}
+use Rattle.std.specs.List.{list_all}
+use Rattle.std.proofs.lemmas.List.Folds.{list_all-append}
+use Rattle.std.proofs.lemmas.Option.{same_Some}
+use Rattle.codec_defs.specs.Schema.{OutPoint, CellInput, Transaction}
+use Rattle.fold_defs.specs.First.{first_failing}
+use Rattle.fold_defs.proofs.FirstLemmas.{first_failing-fails, first_failing-holds, first_failing-none, first_failing-append-holds, first_failing-append-fails, finds_none}
+use Rattle.outside.specs.declared.disk.Area.TheVariants.{Log}
+use Rattle.outside.specs.declared.disk.Damage.{Damage}
+use Rattle.outside.specs.declared.disk.ReadStop.{ReadStop}
+use Rattle.outside.specs.declared.disk.ReadStop.TheVariants.{DiskFault, NoMemory, Damaged}
+use Rattle.cell_defs.specs.Cell.{Cell}
+use Rattle.cell_defs.specs.Row.{Row, row_of}
+use Rattle.chain_tree.specs.Told.{Stored, blocks_of}
+use Rattle.cell_model.specs.Copies.{ResolvedValue}
+use Rattle.tx_defs.specs.Site.{Site}
+use Rattle.tx_defs.specs.Resolving.{input_cells, spends_each_once, spends_live_cells, has_cell_deps, has_header_deps, inputs, deps}
+use Rattle.tx_defs.specs.Age.{is_mature, uses_mature_cells, meets_each_since}
+use Rattle.tx_defs.specs.Withdrawals.{names_deposits}
+use Rattle.tx_defs.specs.Capacity.{makes_good_cells, balances}
+use Rattle.tx_defs.specs.Rules.{has_form, broken_transaction_rule}
+use Rattle.tx_rules.specs.At.{AtValue, IsSiteOf, place_of_height, found_row, find_row, input_rows}
+use Rattle.tx_rules.specs.Copying.{row_in}
+use Rattle.tx_rules.specs.Outcome.{IsTried}
+use Rattle.tx_rules.specs.Steps.{spending_rules, naming_rules, using_rules, finding_rules, paying_rules, StopsAt, Tells, IsStop, Stops}
+use Rattle.tx_rules.specs.declared.resolving.TxStop.{TxStop}
+use Rattle.tx_rules.specs.declared.resolving.TxStop.TheVariants.{Broken, Read}
+use Rattle.tx_rules.proofs.AllThere.{all_there-back}
+use Rattle.tx_rules.proofs.SiteLemmas.{input_rows-cells}
+
+-- ---- Form and inputs
+
+pub no-form : (site : Site) (t : Transaction) → has_form t ≡ false → first_failing (spending_rules site t) ≡ Some 18
+no-form site t form = first_failing-fails 18 (has_form t) ((20, spends_live_cells site t) ∷ []) form
+
+pub spends-badly : (site : Site) (t : Transaction) → has_form t ≡ true → spends_live_cells site t ≡ false → first_failing (spending_rules site t) ≡ Some 20
+spends-badly site t form spends =
+    first_failing-holds 18 (has_form t) ((20, spends_live_cells site t) ∷ []) form ∙ first_failing-fails 20 (spends_live_cells site t) [] spends
+
+pub spends-well : (site : Site) (t : Transaction) → has_form t ≡ true → spends_live_cells site t ≡ true → first_failing (spending_rules site t) ≡ None
+spends-well site t form spends =
+    first_failing-holds 18 (has_form t) ((20, spends_live_cells site t) ∷ []) form
+    ∙ first_failing-holds 20 (spends_live_cells site t) [] spends ∙ first_failing-none
+
+-- a list that is found for one that is
+map-some : {X Y : Type 0} (f : X → Y) (found : Option (List X)) (ys : Option (List Y)) → ys ≡ option_map (map f) found → is_some found ≡ is_some ys
+map-some f None ys is = ap is_some (sym is)
+map-some f (Some xs) ys is = ap is_some (sym is)
+
+pub not-live : (stored : List Stored) (at : AtValue) (rows : OutPoint → Option Row) (site : Site) (t : Transaction) → IsSiteOf stored at rows site
+    → input_rows rows t ≡ None → spends_live_cells site t ≡ false
+not-live stored at rows site t is none =
+    ap (λ (live : Bool). live && spends_each_once t)
+    (map-some (found_row (blocks_of stored) at.parent) (input_cells site t) None (sym none ∙ input_rows-cells stored at rows site t is))
+
+pub spends-as-distinct : (stored : List Stored) (at : AtValue) (rows : OutPoint → Option Row) (site : Site) (t : Transaction) (found : List (OutPoint × Row))
+    → IsSiteOf stored at rows site → input_rows rows t ≡ Some found → spends_live_cells site t ≡ spends_each_once t
+spends-as-distinct stored at rows site t found is some =
+    ap (λ (live : Bool). live && spends_each_once t)
+    (map-some (found_row (blocks_of stored) at.parent) (input_cells site t) (Some found) (sym some ∙ input_rows-cells stored at rows site t is))
+
+-- ---- Deps
+
+pub no-cell-deps : (site : Site) (t : Transaction) → has_cell_deps site t ≡ false → first_failing (naming_rules site t) ≡ Some 21
+no-cell-deps site t none = first_failing-fails 21 (has_cell_deps site t) ((22, has_header_deps site t) ∷ []) none
+
+pub no-header-deps : (site : Site) (t : Transaction) → has_cell_deps site t ≡ true → has_header_deps site t ≡ false
+    → first_failing (naming_rules site t) ≡ Some 22
+no-header-deps site t some none =
+    first_failing-holds 21 (has_cell_deps site t) ((22, has_header_deps site t) ∷ []) some ∙ first_failing-fails 22 (has_header_deps site t) [] none
+
+pub names-well : (site : Site) (t : Transaction) → has_cell_deps site t ≡ true → has_header_deps site t ≡ true → first_failing (naming_rules site t) ≡ None
+names-well site t some all =
+    first_failing-holds 21 (has_cell_deps site t) ((22, has_header_deps site t) ∷ []) some
+    ∙ first_failing-holds 22 (has_header_deps site t) [] all ∙ first_failing-none
+
+-- what is found of a list, and of none
+pub found-none : {X Y : Type 0} (f : X → Y) (found : Option (List X)) → None ≡ option_map (map f) found → is_some found ≡ false
+found-none f found is = map-some f found None is
+
+pub found-some : {X Y : Type 0} (f : X → Y) (found : Option (List X)) (ys : List Y) → Some ys ≡ option_map (map f) found → is_some found ≡ true
+found-some f found ys is = map-some f found (Some ys) is
+
+pub found-list : {X Y : Type 0} (f : X → Y) (found : Option (List X)) (ys : List Y) → Some ys ≡ option_map (map f) found → ys ≡ map f (unwrap_or found [])
+found-list f None ys is = absurd (cc)
+found-list f (Some xs) ys is = same_Some ys (map f xs) is
+
+-- ---- Stops
+
+-- a stop of reading at no damage
+pub read-stops : (rules : List (ℕ × Bool)) (stop : ReadStop) → ((damage : Damage) → stop ≡ Damaged damage → ⊥) → StopsAt rules (Read stop)
+read-stops rules DiskFault none = tt
+read-stops rules NoMemory none = tt
+read-stops rules (Damaged damage) none = none damage refl
+
+-- a step that stops where reading does
+pub tells-read : {T : Type 0} (rules : List (ℕ × Bool)) (stop : ReadStop) (result : Result T TxStop) → IsErrAnd result (λ given. given ≡ Read stop)
+    → ((damage : Damage) → stop ≡ Damaged damage → ⊥) → Tells rules result
+tells-read rules stop (Ok v) is none = absurd is
+tells-read rules stop (Err given) is none = subst (StopsAt rules) (sym is) (read-stops rules stop none)
+
+-- no step stops at a damage that there is not
+pub tells-damage : {T : Type 0} (rules : List (ℕ × Bool)) (damage : Damage) (result : Result T TxStop) → IsErrAnd result (λ given. given ≡ Read (Damaged damage))
+    → ⊥ → Tells rules result
+tells-damage rules damage result is none = absurd none
+
+-- ---- Age and outputs
+
+pub uses-young : (site : Site) (t : Transaction) → uses_mature_cells site t ≡ false → first_failing (using_rules site t) ≡ Some 23
+uses-young site t young = first_failing-fails 23 (uses_mature_cells site t) ((24, meets_each_since site t) ∷ (25, makes_good_cells site t) ∷ []) young
+
+pub young-inputs : (site : Site) (t : Transaction) → list_all (is_mature site) (inputs site t) ≡ false → uses_mature_cells site t ≡ false
+young-inputs site t young =
+    list_all-append (is_mature site) (inputs site t) (deps site t) ∙ ap (λ (b : Bool). b && list_all (is_mature site) (deps site t)) young
+
+pub young-deps : (site : Site) (t : Transaction) → list_all (is_mature site) (inputs site t) ≡ true → list_all (is_mature site) (deps site t) ≡ false
+    → uses_mature_cells site t ≡ false
+young-deps site t mature young =
+    list_all-append (is_mature site) (inputs site t) (deps site t) ∙ ap (λ (b : Bool). b && list_all (is_mature site) (deps site t)) mature ∙ young
+
+pub all-mature : (site : Site) (t : Transaction) → list_all (is_mature site) (inputs site t) ≡ true → list_all (is_mature site) (deps site t) ≡ true
+    → uses_mature_cells site t ≡ true
+all-mature site t mature all =
+    list_all-append (is_mature site) (inputs site t) (deps site t) ∙ ap (λ (b : Bool). b && list_all (is_mature site) (deps site t)) mature ∙ all
+
+pub spends-early : (site : Site) (t : Transaction) → uses_mature_cells site t ≡ true → meets_each_since site t ≡ false
+    → first_failing (using_rules site t) ≡ Some 24
+spends-early site t mature early =
+    first_failing-holds 23 (uses_mature_cells site t) ((24, meets_each_since site t) ∷ (25, makes_good_cells site t) ∷ []) mature
+    ∙ first_failing-fails 24 (meets_each_since site t) ((25, makes_good_cells site t) ∷ []) early
+
+pub makes-badly : (site : Site) (t : Transaction) → uses_mature_cells site t ≡ true → meets_each_since site t ≡ true → makes_good_cells site t ≡ false
+    → first_failing (using_rules site t) ≡ Some 25
+makes-badly site t mature met bad =
+    first_failing-holds 23 (uses_mature_cells site t) ((24, meets_each_since site t) ∷ (25, makes_good_cells site t) ∷ []) mature
+    ∙ first_failing-holds 24 (meets_each_since site t) ((25, makes_good_cells site t) ∷ []) met
+    ∙ first_failing-fails 25 (makes_good_cells site t) [] bad
+
+pub uses-well : (site : Site) (t : Transaction) → uses_mature_cells site t ≡ true → meets_each_since site t ≡ true → makes_good_cells site t ≡ true
+    → first_failing (using_rules site t) ≡ None
+uses-well site t mature met good =
+    first_failing-holds 23 (uses_mature_cells site t) ((24, meets_each_since site t) ∷ (25, makes_good_cells site t) ∷ []) mature
+    ∙ first_failing-holds 24 (meets_each_since site t) ((25, makes_good_cells site t) ∷ []) met
+    ∙ first_failing-holds 25 (makes_good_cells site t) [] good ∙ first_failing-none
+
+-- there is a row just where a cell is seen
+pub row-where-cell : (stored : List Stored) (at : AtValue) (rows : OutPoint → Option Row) (site : Site) → IsSiteOf stored at rows site → (o : OutPoint)
+    → is_some (rows o) ≡ is_some (site.cell o)
+row-where-cell stored at rows site is o = ap is_some (is.sees o) ∙ by_cell (site.cell o)
+  where
+    by_cell : (found : Option Cell) → is_some (option_map (λ (cell : Cell). row_of (place_of_height (blocks_of stored) at.parent cell.height) cell) found) ≡ is_some found
+    by_cell None = refl
+    by_cell (Some cell) = refl
+
+-- ---- Withdrawals and capacity
+
+pub names-badly : (site : Site) (t : Transaction) → names_deposits site t ≡ false → first_failing (paying_rules site t) ≡ Some 26
+names-badly site t bad = first_failing-fails 26 (names_deposits site t) ((27, balances site t) ∷ []) bad
+
+pub pays-badly : (site : Site) (t : Transaction) → names_deposits site t ≡ true → balances site t ≡ false → first_failing (paying_rules site t) ≡ Some 27
+pays-badly site t named bad =
+    first_failing-holds 26 (names_deposits site t) ((27, balances site t) ∷ []) named ∙ first_failing-fails 27 (balances site t) [] bad
+
+pub pays-well : (site : Site) (t : Transaction) → names_deposits site t ≡ true → balances site t ≡ true → first_failing (paying_rules site t) ≡ None
+pays-well site t named good =
+    first_failing-holds 26 (names_deposits site t) ((27, balances site t) ∷ []) named
+    ∙ first_failing-holds 27 (balances site t) [] good ∙ first_failing-none
+
+-- ---- One group after another
+
+stops-front : (front back : List (ℕ × Bool)) (stop : TxStop) → StopsAt front stop → StopsAt (front ++ back) stop
+stops-front front back (Broken rule) is = first_failing-append-fails rule front back is
+stops-front front back (Read DiskFault) is = tt
+stops-front front back (Read NoMemory) is = tt
+stops-front front back (Read (Damaged damage)) is = is
+
+stops-back : (front back : List (ℕ × Bool)) (stop : TxStop) → first_failing front ≡ None → StopsAt back stop → StopsAt (front ++ back) stop
+stops-back front back (Broken rule) none is = first_failing-append-holds front back ((finds_none front).0 none) ∙ is
+stops-back front back (Read DiskFault) none is = tt
+stops-back front back (Read NoMemory) none is = tt
+stops-back front back (Read (Damaged damage)) none is = is
+
+-- a stop in the first group, with its error handed on
+pub tells-front : {T U : Type 0} (front back : List (ℕ × Bool)) (stop : TxStop) (step : Result T TxStop) (result : Result U TxStop)
+    → step ≡ Err stop → Tells front step → IsErrAnd result (λ given. given ≡ stop) → Tells (front ++ back) result
+tells-front front back stop step (Ok v) was tells is = absurd is
+tells-front {T = T} front back stop step (Err given) was tells is =
+    subst (StopsAt (front ++ back)) (sym is) (stops-front front back stop (subst (λ (s : Result T TxStop). Tells front s) was tells))
+
+-- what the second group says where the first is kept
+pub tells-back : {T : Type 0} (front back : List (ℕ × Bool)) (result : Result T TxStop) → first_failing front ≡ None → Tells back result
+    → Tells (front ++ back) result
+tells-back front back (Ok v) none tells = first_failing-append-holds front back ((finds_none front).0 none) ∙ tells
+tells-back front back (Err stop) none tells = stops-back front back stop none tells
+
+-- the same of an error that is handed on
+pub tells-on : {T U : Type 0} (rules : List (ℕ × Bool)) (stop : TxStop) (step : Result T TxStop) (result : Result U TxStop)
+    → step ≡ Err stop → Tells rules step → IsErrAnd result (λ given. given ≡ stop) → Tells rules result
+tells-on rules stop step (Ok v) was tells is = absurd is
+tells-on {T = T} rules stop step (Err given) was tells is =
+    subst (StopsAt rules) (sym is) (subst (λ (s : Result T TxStop). Tells rules s) was tells)
+
+pub stops-on : {T U : Type 0} (stop : TxStop) (step : Result T TxStop) (result : Result U TxStop) → step ≡ Err stop → Stops step
+    → IsErrAnd result (λ given. given ≡ stop) → Stops result
+stops-on stop step (Ok v) was stops is = tt
+stops-on {T = T} stop step (Err given) was stops is = subst IsStop (sym is) (subst (λ (s : Result T TxStop). Stops s) was stops)
+
+-- ---- All of them
+
+pub all-rules : (site : Site) (t : Transaction) → broken_transaction_rule site t ≡ first_failing (finding_rules site t ++ paying_rules site t)
+unfolding broken_transaction_rule
+all-rules site t = refl
+
+-- both groups are kept
+pub keeps-all : (front back : List (ℕ × Bool)) → first_failing front ≡ None → first_failing back ≡ None → first_failing (front ++ back) ≡ None
+keeps-all front back none later = first_failing-append-holds front back ((finds_none front).0 none) ∙ later
+
+-- the rows of its inputs, where there are any
+pub spent-inputs : (stored : List Stored) (at : AtValue) (rows : OutPoint → Option Row) (site : Site) (t : Transaction) (spent : List (OutPoint × Row))
+    → IsSiteOf stored at rows site → input_rows rows t ≡ Some spent → spent ≡ map (found_row (blocks_of stored) at.parent) (inputs site t)
+spent-inputs stored at rows site t spent is some =
+    found-list (found_row (blocks_of stored) at.parent) (input_cells site t) spent (sym some ∙ input_rows-cells stored at rows site t is)
+
+-- ---- What the whole answers
+
+pub tried-of : {T : Type 0} (result : Result T TxStop) (rule : ℕ) → Stops result → result ≡ Err (Broken rule) → IsTried rule
+tried-of {T = T} result rule stops same = subst (λ (r : Result T TxStop). Stops r) same stops
+
+pub damage-of : {T : Type 0} (result : Result T TxStop) (damage : Damage) → Stops result → result ≡ Err (Read (Damaged damage)) → damage.area ≡ Log
+damage-of {T = T} result damage stops same = subst (λ (r : Result T TxStop). Stops r) same stops
+
+pub broken-of : {T : Type 0} (site : Site) (t : Transaction) (result : Result T TxStop) (rule : ℕ) → Tells (finding_rules site t ++ paying_rules site t) result
+    → result ≡ Err (Broken rule) → broken_transaction_rule site t ≡ Some rule
+broken-of {T = T} site t result rule tells same =
+    all-rules site t ∙ subst (λ (r : Result T TxStop). Tells (finding_rules site t ++ paying_rules site t) r) same tells
+
+pub undamaged-of : {T : Type 0} (rules : List (ℕ × Bool)) (result : Result T TxStop) (damage : Damage) → Tells rules result
+    → result ≡ Err (Read (Damaged damage)) → ⊥
+undamaged-of {T = T} rules result damage tells same = subst (λ (r : Result T TxStop). Tells rules r) same tells
+
+-- the copies of the cells of its inputs have their out-points
+pub copied-inputs : (rows : OutPoint → Option Row) (t : Transaction) (spent : List (OutPoint × Row)) (copies : List ResolvedValue)
+    → input_rows rows t ≡ Some spent → map row_in copies ≡ spent
+    → map (λ (copy : ResolvedValue). copy.out_point) copies ≡ map (λ (input : CellInput). input.previous_output) t.raw.inputs
+copied-inputs rows t spent copies some are =
+    out-points copies ∙ ap (map (λ (row : OutPoint × Row). row.0)) are
+    ∙ all_there-back (λ (input : CellInput). find_row rows input.previous_output) (λ (input : CellInput). input.previous_output)
+    (λ (row : OutPoint × Row). row.0) t.raw.inputs spent (λ input row. its_own input.previous_output (rows input.previous_output) row) some
+  where
+    out-points : (cs : List ResolvedValue) → map (λ (copy : ResolvedValue). copy.out_point) cs ≡ map (λ (row : OutPoint × Row). row.0) (map row_in cs)
+    out-points [] = refl
+    out-points (c ∷ cs) = ap (λ (os : List OutPoint). c.out_point ∷ os) (out-points cs)
+
+    its_own : (o : OutPoint) (found : Option Row) (row : OutPoint × Row) → option_map (λ (r : Row). (o, r)) found ≡ Some row → row.0 ≡ o
+    its_own o None row is = absurd (cc)
+    its_own o (Some r) row is = ap (λ (it : OutPoint × Row). it.0) (sym (same_Some (o, r) row is))

@@ -1,0 +1,14 @@
+use Rattle.std.proofs.Common.{◌≡◌, List, Option, map, drop}
+use Rattle.std.specs.List.{list_all}
+use Rattle.codec_defs.specs.Schema.{OutPoint}
+use Rattle.cell_defs.specs.Row.{Row}
+use Rattle.chain_tree.specs.Told.{Stored, blocks_of}
+use Rattle.tx_defs.specs.Site.{Site, Found}
+use Rattle.tx_defs.specs.Age.{is_mature}
+use Rattle.tx_rules.specs.At.{IsSiteOf, AreSeen, found_row}
+use Rattle.tx_rules.proofs.age.are_mature.Given as goal
+
+abbrev pub invariant-rows : goal.invariant-rows
+invariant-rows l = (stored : List Stored) (rows : OutPoint → Option Row) (site : Site) (founds : List Found) → IsSiteOf stored l.at rows site → AreSeen site founds
+    → l.found ≡ map (found_row (blocks_of stored) l.at.parent) founds
+    → list_all (is_mature site) founds ≡ list_all (is_mature site) (drop l.i founds)

@@ -1,0 +1,58 @@
+use Rattle.std.proofs.Common.{◌≡◌, ◌++◌, Option, Some, None, List, [], ◌∷◌, ℕ, take, length, ap, subst, sym, ◌∙◌, refl, arith}
+use Rattle.std.specs.Prelude.{slice_index}
+use Rattle.std.specs.Option.{option_map}
+use Rattle.std.specs.List.{AllZip}
+use Rattle.codec_defs.specs.Schema.{RawTransaction}
+use Rattle.chain_defs.specs.Branch.{branch_places}
+use Rattle.chain_tree.specs.Entries.{place_of_hash}
+use Rattle.chain_tree.specs.Told.{blocks_of}
+use Rattle.tx_defs.specs.Site.{all_there}
+use Rattle.tx_defs.specs.Resolving.{mature_ancestor, header_heights}
+use Rattle.tx_rules.proofs.AllThere.{take-push, all_there-map, there-more, there-none, there-all}
+use Rattle.tx_rules.proofs.HeaderLemmas.{zip-push}
+use Rattle.tx_rules.proofs.headers.header_places.Goals as goal
+
+pub deps-init : goal.deps-init
+unfolding all_there
+deps-init c = record {
+  found = subst (AllZip (λ hash place. place_of_hash c.args.at.now.entries hash ≡ Some place) []) (sym c.new-places.ensures.items) tt;
+  heights = λ stored rows site is. ap (λ (places : List ℕ). Some places) c.new-places.ensures.items;
+}
+
+pub returns-in-None-clause-heights : goal.returns-in-None-clause-heights
+unfolding header_heights
+returns-in-None-clause-heights c stored rows site is =
+    let place : ℕ → ℕ = slice_index (branch_places (blocks_of stored) c.args.at.now.parent) in
+    let at : List ℕ → Option ℕ = λ hash. option_map place (mature_ancestor site hash) in
+    let none : at c.header_dep_at.result ≡ None = sym (c.mature_place.ensures.height stored rows site is) ∙ c.in-None.is in
+    sym (there-none at c.args.tx.now.raw.header_deps c.deps.i c.header_dep_at.result c.header_dep_at.ensures none)
+    ∙ all_there-map at (mature_ancestor site) place c.args.tx.now.raw.header_deps (λ hash. refl)
+
+pub deps-preserved : goal.deps-preserved
+deps-preserved c =
+    let hashes : List (List ℕ) = c.args.tx.now.raw.header_deps in
+    let hash : List ℕ = c.header_dep_at.result in
+    let items : c.push.new.self.items ≡ c.deps.places.items ++ c.in-Some.place ∷ [] = c.in_ok-push-in-Some.ensures.items in
+    record {
+      found =
+          subst (λ (these : List (List ℕ)). AllZip (λ h place. place_of_hash c.args.at.now.entries h ≡ Some place) these c.push.new.self.items)
+          (sym (take-push hashes c.deps.i hash c.header_dep_at.ensures))
+          (subst (AllZip (λ h place. place_of_hash c.args.at.now.entries h ≡ Some place) (take c.deps.i hashes ++ hash ∷ [])) (sym items)
+          (zip-push (λ h place. place_of_hash c.args.at.now.entries h ≡ Some place) (take c.deps.i hashes) c.deps.places.items hash c.in-Some.place c.deps.invariant.found
+          c.in-Some.ensures.found));
+      heights = λ stored rows site is.
+          ap (λ (places : List ℕ). Some places) items
+          ∙ there-more (λ h. option_map (slice_index (branch_places (blocks_of stored) c.args.at.now.parent)) (mature_ancestor site h)) hashes c.deps.i hash c.in-Some.place
+          c.deps.places.items (c.deps.invariant.heights stored rows site is) c.header_dep_at.ensures
+          (sym (c.mature_place.ensures.height stored rows site is) ∙ c.in-Some.is);
+    }
+
+pub returns-clause-heights : goal.returns-clause-heights
+unfolding header_heights
+returns-clause-heights c stored rows site is =
+    let place : ℕ → ℕ = slice_index (branch_places (blocks_of stored) c.args.at.now.parent) in
+    let at : List ℕ → Option ℕ = λ hash. option_map place (mature_ancestor site hash) in
+    let long = ap (λ (raw : RawTransaction). length raw.header_deps) c.raw.ensures in
+    there-all at c.args.tx.now.raw.header_deps c.deps.i c.deps.places.items (omega (arith, long, c.deps-test.false, c.header_deps_count-i-end.ensures.value))
+    (c.deps.invariant.heights stored rows site is)
+    ∙ all_there-map at (mature_ancestor site) place c.args.tx.now.raw.header_deps (λ hash. refl)

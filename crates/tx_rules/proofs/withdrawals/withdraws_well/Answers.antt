@@ -1,0 +1,45 @@
+use Rattle.std.proofs.Common.{ℕ, ◌==◌, refl, sym, ap, ◌∙◌}
+use Rattle.std.specs.Prelude.{slice_index, is_some}
+use Rattle.std.specs.List.{list_any}
+use Rattle.cell_defs.specs.Row.{Row}
+use Rattle.cell_model.specs.Copies.{ResolvedValue}
+use Rattle.chain_defs.specs.Branch.{branch_places}
+use Rattle.chain_tree.specs.Told.{blocks_of}
+use Rattle.tx_defs.specs.Resolving.{heights}
+use Rattle.tx_defs.specs.Withdrawals.{is_withdrawing, deposit_height}
+use Rattle.tx_rules.proofs.DepositLemmas.{heights-below, named-same, made-some, made-none, named-well, unnamed-well, is_some-mapped}
+use Rattle.tx_rules.proofs.withdrawals.withdraws_well.Goals as goal
+
+pub returns-in_err-made-clause-undamaged : goal.returns-in_err-made-clause-undamaged
+returns-in_err-made-clause-undamaged c stored rows site found is height its copied damage broken =
+    c.in_err-made.ensures.undamaged stored rows site found is height its copied _ refl
+
+pub returns-in_default-clause-well : goal.returns-in_default-clause-well
+returns-in_default-clause-well c stored rows site found is height are its copied =
+    made-none (is_withdrawing site.spec found.cell) _ found.cell.height (sym c.in_default.is ∙ c.in_ok-made.ensures.made stored rows site found is height its copied)
+
+pub returns-then-is_named-clause-well : goal.returns-then-is_named-clause-well
+returns-then-is_named-clause-well c stored rows site found is height are its copied =
+    let made = made-some (is_withdrawing site.spec found.cell) c.in-Some.made found.cell.height
+    (sym c.in-Some.is ∙ c.in_ok-made.ensures.made stored rows site found is height its copied) in
+    let block = ap (λ (row : Row). row.block) c.meta.view_is ∙ ap (λ (it : ResolvedValue). it.row.block) c.copy.view_is in
+    let listed = c.is_named.ensures ∙ ap (λ (b : ℕ). list_any (λ place. place == b) c.args.headers.now) block
+    ∙ ap (list_any (λ place. place == c.args.copy.now.row.block)) are
+    ∙ named-same stored c.args.at.now rows site found c.args.copy.now.row (heights site c.args.tx.now) c.requires.placed is its (heights-below site c.args.tx.now) in
+    named-well (is_withdrawing site.spec found.cell) (list_any (λ h. h == found.cell.height) (heights site c.args.tx.now))
+    (is_some (deposit_height (heights site c.args.tx.now) c.args.tx.now c.args.i found.cell)) c.is_some.result made.0
+    (sym listed ∙ c.if-is_named.true)
+    (c.is_some.ensures ∙ ap is_some (c.deposit_place.ensures.deposit stored rows site found.cell is are made.1)
+    ∙ is_some-mapped (slice_index (branch_places (blocks_of stored) c.args.at.now.parent)) (deposit_height (heights site c.args.tx.now) c.args.tx.now c.args.i found.cell))
+
+pub returns-else-is_named-clause-well : goal.returns-else-is_named-clause-well
+returns-else-is_named-clause-well c stored rows site found is height are its copied =
+    let made = made-some (is_withdrawing site.spec found.cell) c.in-Some.made found.cell.height
+    (sym c.in-Some.is ∙ c.in_ok-made.ensures.made stored rows site found is height its copied) in
+    let block = ap (λ (row : Row). row.block) c.meta.view_is ∙ ap (λ (it : ResolvedValue). it.row.block) c.copy.view_is in
+    let listed = c.is_named.ensures ∙ ap (λ (b : ℕ). list_any (λ place. place == b) c.args.headers.now) block
+    ∙ ap (list_any (λ place. place == c.args.copy.now.row.block)) are
+    ∙ named-same stored c.args.at.now rows site found c.args.copy.now.row (heights site c.args.tx.now) c.requires.placed is its (heights-below site c.args.tx.now) in
+    unnamed-well (is_withdrawing site.spec found.cell) (list_any (λ h. h == found.cell.height) (heights site c.args.tx.now))
+    (is_some (deposit_height (heights site c.args.tx.now) c.args.tx.now c.args.i found.cell)) c.is_named.result made.0
+    (sym listed ∙ c.if-is_named.false) c.if-is_named.false

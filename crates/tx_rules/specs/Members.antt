@@ -1,0 +1,16 @@
+-- The rows of the members of a dep group.
+use Rattle.std.specs.Prelude.{ℕ, List, map, Option}
+use Rattle.std.specs.Option.{option_and_then}
+use Rattle.codec_defs.specs.Schema.{OutPoint}
+use Rattle.cell_defs.specs.Row.{Row}
+use Rattle.tx_defs.specs.Site.{all_there}
+use Rattle.tx_defs.specs.Resolving.{members_of}
+use Rattle.tx_rules.specs.At.{find_row}
+
+-- the rows of out-points, where each has one
+abbrev pub rows_of : (OutPoint → Option Row) → List OutPoint → Option (List (OutPoint × Row))
+rows_of rows members = all_there (map (find_row rows) members)
+
+-- those of the members that a group's data lists
+abbrev pub member_rows : (OutPoint → Option Row) → List ℕ → Option (List (OutPoint × Row))
+member_rows rows content = option_and_then (rows_of rows) (members_of content)
