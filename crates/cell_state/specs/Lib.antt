@@ -1,0 +1,5 @@
+pub mod Fit
+pub mod State
+pub mod Slots
+pub mod Walk
+pub mod Passes

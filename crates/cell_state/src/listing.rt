@@ -1,0 +1,36 @@
+// The rows as a list, in order.
+ghost use Rattle.std.specs.Prelude.{◌≡◌, IfOk};
+ghost use Rattle.cell_defs.specs.Row.{ListsRows};
+ghost use Rattle.cell_state.specs.Slots.{rows, AreSettled};
+
+use crate::slots::{Slot, Slots};
+use cell_model::{CellMeta, OutPoint};
+use outside::NoMemory;
+use std::alloc::Global;
+
+impl Slots {
+    /// The rows, in the order in which they lie.
+    fn listed(&self, alloc: Global) -> Result<Vec<(OutPoint, CellMeta)>, NoMemory> {
+        let mut rows = Vec::with_capacity(alloc, self.map.len())?;
+        for (key, slot) in &self.map {
+            if let Slot::Live(row) = slot {
+                let o = OutPoint {
+                    tx_hash: key.0,
+                    index: key.1,
+                };
+                rows.push((o, *row))?;
+            }
+        }
+        Ok(rows)
+    }
+
+    /// The rows in rising order of their out-points.
+    pub(crate) fn sorted(&self, alloc: Global) -> Result<Vec<(OutPoint, CellMeta)>, NoMemory>
+        requires { AreSettled self.now }
+        ensures { IfOk result (λ list. ListsRows (rows self.now) list.items) }
+    {
+        let mut rows = self.listed(alloc)?;
+        rows.sort_unstable_by_key(|row| (row.0.tx_hash, row.0.index));
+        Ok(rows)
+    }
+}
