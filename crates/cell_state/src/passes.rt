@@ -1,7 +1,7 @@
 // The passes over a block's events, each in linear time. `mark` takes them in order, and changes only marks: what is
 // live by then stands in the slots, and so do the rows from before the block. `settle` writes the rows of the cells that
 // are live in the end, or else `unmark` gives every slot back as it was.
-ghost use Rattle.std.specs.Prelude.{◌≡◌, ◌≤◌, ◌+◌, ◌<◌, ◌⊎◌, ℕ, false, IfErr, OnOk, OnErr, IsTrue, if◌then◌else◌};
+ghost use Rattle.std.specs.Prelude.{◌≡◌, ◌≤◌, ◌+◌, ◌<◌, ℕ, Some, false, IfErr, OnOk, OnErr, IsTrue, if◌then◌else◌};
 ghost use Rattle.codec_defs.specs.Schema as schema;
 ghost use Rattle.cell_defs.specs.Events.{same_out_point, last_naming};
 ghost use Rattle.cell_defs.specs.Row.{Row, row_of};
@@ -32,8 +32,8 @@ impl Slots {
             return Err(Odd::NotLive(o));
         };
         match slot {
-            Slot::Live(row) => self.put(o, Slot::Spent(row)),
-            Slot::Added => self.put(o, Slot::Gone),
+            Slot::Live(row) => self.set(&o, Slot::Spent(row)),
+            Slot::Added => self.set(&o, Slot::Gone),
             Slot::Spent(_) => return Err(Odd::NotLive(o)),
             Slot::Gone => return Err(Odd::NotLive(o)),
         }
@@ -51,12 +51,12 @@ impl Slots {
         ensures spare { self.old.spare ≤ self.new.spare + 1 }
     {
         let Some(slot) = self.get(&o) else {
-            self.put(o, Slot::Added);
+            self.add(o, Slot::Added);
             return Ok(());
         };
         match slot {
-            Slot::Spent(row) => self.put(o, Slot::Live(row)),
-            Slot::Gone => self.put(o, Slot::Added),
+            Slot::Spent(row) => self.set(&o, Slot::Live(row)),
+            Slot::Gone => self.set(&o, Slot::Added),
             Slot::Live(_) => return Err(Odd::Live(o)),
             Slot::Added => return Err(Odd::Live(o)),
         }
@@ -93,7 +93,7 @@ impl Slots {
         };
         match slot {
             Slot::Live(_) => {}
-            Slot::Spent(row) => self.put(o, Slot::Live(row)),
+            Slot::Spent(row) => self.set(&o, Slot::Live(row)),
             Slot::Added => self.remove(&o),
             Slot::Gone => self.remove(&o),
         }
@@ -119,8 +119,8 @@ impl Slots {
             return;
         };
         match slot {
-            Slot::Live(_) => self.put(o, Slot::Live(made.row(block))),
-            Slot::Added => self.put(o, Slot::Live(made.row(block))),
+            Slot::Live(_) => self.set(&o, Slot::Live(made.row(block))),
+            Slot::Added => self.set(&o, Slot::Live(made.row(block))),
             Slot::Spent(_) => self.remove(&o),
             Slot::Gone => self.remove(&o),
         }
@@ -156,6 +156,19 @@ impl Slots {
         }
     }
 
+    /// Writes a slot, whether there is one or not.
+    fn write(&mut self, o: OutPoint, slot: Slot) -> Result<(), NoMemory>
+        ensures at { OnOk result ((other : schema.OutPoint) → at self.new other ≡ (if same_out_point o other then Some slot else at self.old other)) }
+    {
+        if let Some(_) = self.get(&o) {
+            self.set(&o, slot);
+            return Ok(());
+        }
+        self.reserve(1)?;
+        self.add(o, slot);
+        Ok(())
+    }
+
     /// Writes what the events of the block at a place leave, whatever is live before them.
     pub(crate) fn replay(&mut self, mut events: Events<'_, '_>, block: u32) -> Result<(), NoMemory>
         ensures at { OnOk result (HaveRowsAfter block events.entry self.old self.new) }
@@ -163,8 +176,7 @@ impl Slots {
         while let Some(event) = events.next() {
             match event {
                 Event::Makes(o, made) => {
-                    self.reserve(1)?;
-                    self.put(o, Slot::Live(made.row(block)));
+                    self.write(o, Slot::Live(made.row(block)))?;
                 }
                 Event::Spends(o) => self.remove(&o),
             }

@@ -1,5 +1,5 @@
 // The slots of a state: what stands at each out-point.
-ghost use Rattle.std.specs.Prelude.{◌≡◌, ◌≤◌, ◌<◌, ◌+◌, ◌^◌, ◌⊎◌, ◌↔◌, List, Option, None, Some, length, if◌then◌else◌, IsOk, OnOk, OnErr, IsSome};
+ghost use Rattle.std.specs.Prelude.{◌≡◌, ◌≤◌, ◌<◌, ◌+◌, ◌^◌, ◌↔◌, List, Option, None, Some, length, if◌then◌else◌, IsOk, OnOk, OnErr, IsSome};
 ghost use Rattle.std.specs.List.{Contains};
 ghost use Rattle.codec_defs.specs.Schema as schema;
 ghost use Rattle.cell_defs.specs.Events.{same_out_point};
@@ -90,18 +90,28 @@ impl Slots {
         self.map.get(&(o.tx_hash, o.index)).copied()
     }
 
-    /// Writes a slot.
-    pub(crate) fn put(&mut self, o: OutPoint, slot: Slot)
-        requires { IsSome (at self.old o) ⊎ (0 < self.old.spare) }
+    /// Writes another slot where one is.
+    pub(crate) fn set(&mut self, o: &OutPoint, slot: Slot)
+        requires { IsSome (at self.old o.now) }
+        ensures at { (other : schema.OutPoint) → at self.new other ≡ (if same_out_point o.now other then Some slot else at self.old other) }
+        ensures spare { self.new.spare ≡ self.old.spare }
+    {
+        if let Some(there) = self.map.get_mut(&(o.tx_hash, o.index)) {
+            *there = slot;
+        }
+    }
+
+    /// Adds a slot where none is. It takes no memory.
+    pub(crate) fn add(&mut self, o: OutPoint, slot: Slot)
+        requires new { at self.old o ≡ None }
+        requires spare { 0 < self.old.spare }
         ensures at { (other : schema.OutPoint) → at self.new other ≡ (if same_out_point o other then Some slot else at self.old other) }
-        ensures spare { self.old.spare ≤ self.new.spare + 1 }
-        ensures there { IsSome (at self.old o) → self.new.spare ≡ self.old.spare }
+        ensures spare { self.new.spare + 1 ≡ self.old.spare }
     {
         let tx_hash = o.tx_hash;
-        let written: Result<_, _> = self.map.insert((tx_hash, o.index), slot);
-        if let None = written.unwrap() {
-            self.spare -= 1;
-        }
+        let added: Result<_, _> = self.map.insert((tx_hash, o.index), slot);
+        added.unwrap();
+        self.spare -= 1;
     }
 
     /// Takes a slot away.

@@ -98,11 +98,11 @@ impl State {
         requires spare { 0 < self.old.spare }
         requires new { rows self.old o ≡ None }
         ensures rows { (other : schema.OutPoint) → rows self.new other ≡ (if same_out_point o other then Some meta else rows self.old other) }
-        ensures spare { self.old.spare ≤ self.new.spare + 1 }
+        ensures spare { self.new.spare + 1 ≡ self.old.spare }
         ensures steps { steps.new ≡ steps.old + 1 }
     {
         steps.tick();
-        self.slots.put(o, Slot::Live(meta));
+        self.slots.add(o, Slot::Live(meta));
     }
 
     /// The rows in rising order of their out-points: by the bytes of the hash, then by the index.
