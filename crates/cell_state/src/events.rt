@@ -4,7 +4,7 @@ ghost use Rattle.std.specs.Option.{option_map};
 ghost use Rattle.chain_defs.specs.Hashes.{transaction_hash};
 ghost use Rattle.cell_defs.specs.Events.{events_of, events_of_block, out_point_of};
 ghost use Rattle.cell_defs.specs.Row.{row_of};
-ghost use Rattle.cell_state.specs.Walk.{height_of, made_cell, value_of, IsNext};
+ghost use Rattle.cell_state.specs.Walk.{height_of, spends_at, made_cell, value_of, IsNext};
 
 use crate::made::Made;
 use cell_model::{CellMeta, OutPoint, data_at, meta_of, tx_hash};
@@ -50,6 +50,18 @@ fn out_point_at(view: &OutPointView<'_>) -> OutPoint
     }
 }
 
+/// How many cells a transaction spends: none in the genesis, nor does a cellbase.
+fn spends_count(tx: &TxView<'_>, genesis: bool, place: u32) -> usize
+    ensures count { result ≡ length (spends_at tx.now (height_of genesis) place) }
+    ensures fits { result < 2 ^ 32 }
+{
+    if genesis || place == 0 {
+        0
+    } else {
+        tx.raw().inputs_count()
+    }
+}
+
 /// The event at an index among those of a transaction: its spends, where it has any, and then its makes.
 fn event_at<'a>(
     tx: &TxView<'a>,
@@ -59,14 +71,11 @@ fn event_at<'a>(
     index: usize,
 ) -> Option<Event<'a>>
     requires { tx_hash ≡ transaction_hash tx.now }
-    ensures { option_map (value_of (height_of genesis)) result ≡ slice_get (events_of tx.now (height_of genesis) place) index }
+    ensures event { option_map (value_of (height_of genesis)) result ≡ slice_get (events_of tx.now (height_of genesis) place) index }
+    ensures few { IfSome result (λ _. index < 2 ^ 33) }
 {
     let raw = tx.raw();
-    let spends = if genesis || place == 0 {
-        0
-    } else {
-        raw.inputs_count()
-    };
+    let spends = spends_count(tx, genesis, place);
     if index < spends {
         let input = raw.inputs_item(index);
         return Some(Event::Spends(out_point_at(&input.previous_output())));

@@ -96,9 +96,7 @@ impl Slots {
         ensures at { (other : schema.OutPoint) → at self.new other ≡ (if same_out_point o.now other then Some slot else at self.old other) }
         ensures spare { self.new.spare ≡ self.old.spare }
     {
-        if let Some(there) = self.map.get_mut(&(o.tx_hash, o.index)) {
-            *there = slot;
-        }
+        *self.map.get_mut(&(o.tx_hash, o.index)).unwrap() = slot;
     }
 
     /// Adds a slot where none is. It takes no memory.
