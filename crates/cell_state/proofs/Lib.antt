@@ -1,2 +1,4 @@
 pub mod SlotLemmas
 pub mod EventLemmas
+pub mod NamingLemmas
+pub mod PassLemmas
