@@ -259,7 +259,7 @@ marking-spent all o left old now new settled-before so there changes spare =
     (omega (arith, so.spare, spare))
 
 true-false : (b : Bool) → b ≡ true → b ≡ false → ⊥
-true-false b yes no = cc
+true-false b is not = cc
 
 pub odd-made : (all : List Event) (o : OutPoint) (cell : Cell) (left : List Event) (old now : StateValue) → AreSettled old
     → Marking all (Makes o cell ∷ left) old now → is_live (at now o) ≡ true → (place : ℕ) → IsFirstOdd place all (rows old) (odd.Live o)
