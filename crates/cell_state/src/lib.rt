@@ -16,4 +16,4 @@ mod slots;
 mod state;
 
 pub use odd::Odd;
-pub use state::State;
+pub use state::{State, outputs_in};

@@ -33,6 +33,17 @@ impl Model for State {
     ghost invariant = { λ state. AreSettled state.slots };
 }
 
+/// How many outputs a block has: what `apply` needs of spare places.
+pub fn outputs_in(block: &BlockView<'_>) -> u64
+    ensures { result ≡ outputs_of block.now }
+{
+    let mut count = 0;
+    for place in 0..block.transactions_count() {
+        count += block.transactions_item(place).raw().outputs_count() as u64;
+    }
+    count
+}
+
 impl State {
     /// The cells that a genesis leaves. Of one without transactions there is none.
     pub fn genesis(alloc: Global, block: &BlockView<'_>) -> Result<State, NoMemory>
