@@ -2,3 +2,5 @@ pub mod SlotLemmas
 pub mod EventLemmas
 pub mod NamingLemmas
 pub mod PassLemmas
+pub mod HeightLemmas
+pub mod ApplyLemmas

@@ -17,11 +17,11 @@ use Rattle.cell_state.proofs.EventLemmas.{slice_get-append, slice_get-front}
 -- ---- The last event that names an out-point
 
 -- the last of those behind, or else this one where it names it
-abbrev or_this : OutPoint → Event → Option Event → Option Event
+abbrev pub or_this : OutPoint → Event → Option Event → Option Event
 or_this o event None = if names o event then Some event else None
 or_this o event (Some last) = Some last
 
-naming-cons : (o : OutPoint) (event : Event) (later : List Event) → last_naming o (event ∷ later) ≡ or_this o event (last_naming o later)
+pub naming-cons : (o : OutPoint) (event : Event) (later : List Event) → last_naming o (event ∷ later) ≡ or_this o event (last_naming o later)
 unfolding last_naming
 naming-cons o event later = refl
 

@@ -1,9 +1,10 @@
 // The slots of a state: what stands at each out-point.
 ghost use Rattle.std.specs.Prelude.{◌≡◌, ◌≤◌, ◌<◌, ◌+◌, ◌^◌, ◌↔◌, List, Option, None, Some, length, if◌then◌else◌, IsOk, OnOk, OnErr, IsSome};
-ghost use Rattle.std.specs.List.{Contains};
+ghost use Rattle.std.specs.List.{IsDistinct};
+ghost use Rattle.std.specs.Map.{keys_of};
 ghost use Rattle.codec_defs.specs.Schema as schema;
 ghost use Rattle.cell_defs.specs.Events.{same_out_point};
-ghost use Rattle.cell_state.specs.Slots.{at, count};
+ghost use Rattle.cell_state.specs.Slots.{at, count, same_key};
 
 use cell_model::{CellMeta, OutPoint};
 use outside::NoMemory;
@@ -60,7 +61,9 @@ impl Slots {
 
     /// How many slots there are.
     pub(crate) fn len(&self) -> u64
-        ensures { result ≡ count self.now }
+        ensures count { result ≡ count self.now }
+        ensures distinct { IsDistinct same_key (keys_of self.now.entries) }
+        ensures most { count self.now + self.now.spare ≤ 2 ^ 50 }
     {
         self.map.len() as u64
     }
