@@ -116,7 +116,7 @@ unfit-raised : (place height : ℕ) (events : List Event) (rows : OutPoint → O
 unfit-raised place height events rows (Makes o cell) fits = sym (rows-raised place height events rows o) ∙ fits
 unfit-raised place height events rows (Spends o) fits = subst (λ (r : Option Row). IsSome r) (rows-raised place height events rows o) fits
 
-map-some : {A B : Type 0} (f : A → B) (found : Option A) (y : B) → option_map f found ≡ Some y → (x : A) × (found ≡ Some x) × (f x ≡ y)
+pub map-some : {A B : Type 0} (f : A → B) (found : Option A) (y : B) → option_map f found ≡ Some y → (x : A) × (found ≡ Some x) × (f x ≡ y)
 map-some f None y is = absurd (none-some y is)
 map-some f (Some x) y is = (x, refl, same_Some (f x) y is)
 

@@ -4,3 +4,4 @@ pub mod NamingLemmas
 pub mod PassLemmas
 pub mod HeightLemmas
 pub mod ApplyLemmas
+pub mod ListLemmas

@@ -3,3 +3,4 @@ pub mod State
 pub mod Slots
 pub mod Walk
 pub mod Passes
+pub mod Listing

@@ -1,7 +1,10 @@
 // The rows as a list, in order.
 ghost use Rattle.std.specs.Prelude.{◌≡◌, IfOk};
 ghost use Rattle.cell_defs.specs.Row.{ListsRows};
-ghost use Rattle.cell_state.specs.Slots.{rows, AreSettled};
+ghost use Rattle.std.specs.List.{IsDistinct};
+ghost use Rattle.std.specs.Map.{keys_of};
+ghost use Rattle.cell_state.specs.Listing.{listed};
+ghost use Rattle.cell_state.specs.Slots.{rows, same_key, AreSettled};
 
 use crate::slots::{Slot, Slots};
 use cell_model::{CellMeta, OutPoint};
@@ -10,7 +13,10 @@ use std::alloc::Global;
 
 impl Slots {
     /// The rows, in the order in which they lie.
-    fn listed(&self, alloc: Global) -> Result<Vec<(OutPoint, CellMeta)>, NoMemory> {
+    fn listed(&self, alloc: Global) -> Result<Vec<(OutPoint, CellMeta)>, NoMemory>
+        ensures listed { IfOk result (λ list. list.items ≡ listed self.now.entries) }
+        ensures distinct { IsDistinct same_key (keys_of self.now.entries) }
+    {
         let mut rows = Vec::with_capacity(alloc, self.map.len())?;
         for (key, slot) in &self.map {
             if let Slot::Live(row) = slot {
