@@ -125,7 +125,7 @@ all-raised place height events rows fit count event there =
     let found = map-some (raised height) (slice_get events count) event (sym (slice_get-map (raised height) events count) ∙ there) in
     subst (λ (e : Event). Fits (row_after place (take count (map (raised height) events)) rows) e) found.2
     (subst (λ (es : List Event). Fits (row_after place es rows) (raised height found.0)) (sym (take-map (raised height) count events))
-        (fits-raised place height (take count events) rows found.0 (fit count found.0 found.1)))
+    (fits-raised place height (take count events) rows found.0 (fit count found.0 found.1)))
 
 pub all-above : (place height : ℕ) (b : Block) (rows : OutPoint → Option Row) → 0 < height → AllFit place (events_of_block 1 b) rows → AllFit place (events_of_block height b) rows
 all-above place height b rows h fit =

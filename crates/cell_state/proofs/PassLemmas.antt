@@ -39,7 +39,7 @@ pub push-at : (P : Option Event → Option Slot → Type 0) (f : Option Slot →
 push-at P f done event old new o changes holds step =
     subst (λ (slot : Option Slot). P (last_naming o (done ++ event ∷ [])) slot) (sym (changes o))
     (subst (λ (last : Option Event). P last (if names o event then f (at old o) else at old o)) (sym (last-push o done event))
-        (by-push P f event (last_naming o done) (at old o) (names o event) holds step))
+    (by-push P f event (last_naming o done) (at old o) (names o event) holds step))
 
 -- ---- Marks taken back
 
@@ -258,7 +258,7 @@ marking-spent all o left old now new settled-before so there changes spare =
     (λ place. sym (live-after place so.done old now settled-before so.marked o) ∙ there)
     (omega (arith, so.spare, spare))
 
-true-false : (b : Bool) → b ≡ true → b ≡ false → ⊥
+pub true-false : (b : Bool) → b ≡ true → b ≡ false → ⊥
 true-false b is not = cc
 
 pub odd-made : (all : List Event) (o : OutPoint) (cell : Cell) (left : List Event) (old now : StateValue) → AreSettled old

@@ -152,7 +152,13 @@ impl<'b, 'a> Events<'b, 'a> {
     {
         while self.place < self.block.transactions_count() {
             let tx = self.block.transactions_item(self.place);
-            let event = event_at(&tx, self.tx_hash, self.genesis, self.place as u32, self.index);
+            let event = event_at(
+                &tx,
+                self.tx_hash,
+                self.genesis,
+                self.place as u32,
+                self.index,
+            );
             if let Some(event) = event {
                 self.index += 1;
                 return Some(event);

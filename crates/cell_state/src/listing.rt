@@ -19,12 +19,15 @@ impl Slots {
     {
         let mut rows = Vec::with_capacity(alloc, self.map.len())?;
         for (key, slot) in &self.map {
-            if let Slot::Live(row) = slot {
-                let o = OutPoint {
-                    tx_hash: key.0,
-                    index: key.1,
-                };
-                rows.push((o, *row))?;
+            let o = OutPoint {
+                tx_hash: key.0,
+                index: key.1,
+            };
+            match slot {
+                Slot::Live(row) => rows.push((o, *row))?,
+                Slot::Spent(_) => {}
+                Slot::Added => {}
+                Slot::Gone => {}
             }
         }
         Ok(rows)

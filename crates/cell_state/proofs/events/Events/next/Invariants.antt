@@ -6,7 +6,7 @@ use Rattle.cell_state.proofs.events.Events.next.Given as goal
 abbrev pub invariant-loop-self : goal.invariant-loop-self
 invariant-loop-self l =
     (events_left l.self-inside.block.now.transactions (height_of l.self-inside.genesis) l.self-inside.place l.self-inside.index
-        ≡ events_left l.initial.self-inside.block.now.transactions (height_of l.initial.self-inside.genesis) l.initial.self-inside.place l.initial.self-inside.index)
+    ≡ events_left l.initial.self-inside.block.now.transactions (height_of l.initial.self-inside.genesis) l.initial.self-inside.place l.initial.self-inside.index)
     × IfSome (slice_get l.self-inside.block.now.transactions l.self-inside.place) (λ t. l.self-inside.tx_hash ≡ transaction_hash t)
 
 abbrev pub decreases-loop-self : goal.decreases-loop-self

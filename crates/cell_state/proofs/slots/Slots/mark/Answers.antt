@@ -32,8 +32,8 @@ returns-in_err-mark_made-in-Makes-clause-odd c place =
     let p = err_from_is_err_and c.from_residual.result c.from_residual.ensures.1 in
     rw (p.1, p.2, c.in_err-mark_made-in-Makes.ensures.odd)
     (odd-made c.args.events c.in-Makes.o cell c.next.new.self c.args.self.now c.loop-event.self c.requires.settled
-        (subst (λ (es : List Event). Marking c.args.events es c.args.self.now c.loop-event.self) first c.loop-event.invariant)
-        c.in_err-mark_made-in-Makes.ensures.err place)
+    (subst (λ (es : List Event). Marking c.args.events es c.args.self.now c.loop-event.self) first c.loop-event.invariant)
+    c.in_err-mark_made-in-Makes.ensures.err place)
 
 pub returns-in_err-mark_made-in-Makes-clause-unnamed : goal.returns-in_err-mark_made-in-Makes-clause-unnamed
 returns-in_err-mark_made-in-Makes-clause-unnamed c =
@@ -57,8 +57,8 @@ returns-in_err-mark_spent-in-Spends-clause-odd c place =
     let p = err_from_is_err_and c.from_residual-in_err-mark_spent-in-Spends.result c.from_residual-in_err-mark_spent-in-Spends.ensures.1 in
     rw (p.1, p.2, c.in_err-mark_spent-in-Spends.ensures.odd)
     (odd-spent c.args.events c.in-Spends.o c.next.new.self c.args.self.now c.loop-event.self c.requires.settled
-        (subst (λ (es : List Event). Marking c.args.events es c.args.self.now c.loop-event.self) first c.loop-event.invariant)
-        c.in_err-mark_spent-in-Spends.ensures.err place)
+    (subst (λ (es : List Event). Marking c.args.events es c.args.self.now c.loop-event.self) first c.loop-event.invariant)
+    c.in_err-mark_spent-in-Spends.ensures.err place)
 
 pub returns-in_err-mark_spent-in-Spends-clause-unnamed : goal.returns-in_err-mark_spent-in-Spends-clause-unnamed
 returns-in_err-mark_spent-in-Spends-clause-unnamed c =

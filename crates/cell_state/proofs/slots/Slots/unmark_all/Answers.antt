@@ -17,6 +17,6 @@ loop-event-preserved c =
     unmarking-push c.args.events event c.next.new.self c.args.self.now now c.unmark.new.self
     (subst (λ (es : List Event). Unmarking c.args.events es c.args.self.now now) c.in-Some.ensures.1 c.loop-event.invariant)
     (changes-at unmarked event now c.unmark.new.self
-        (λ o. c.unmark.ensures.at o
-        ∙ ap (λ (p : OutPoint). if same_out_point p o then unmarked (at now p) else at now o) (c.out_point.ensures c.in-Some.ensures.0)))
+    (λ o. c.unmark.ensures.at o
+    ∙ ap (λ (p : OutPoint). if same_out_point p o then unmarked (at now p) else at now o) (c.out_point.ensures c.in-Some.ensures.0)))
     c.unmark.ensures.spare

@@ -17,13 +17,13 @@ pub invariant_of-self : goal.invariant_of-self
 invariant_of-self g c =
     are-settled c.settle.new.self (row_after c.args.e c.of.result (rows c.self.inside.slots))
     (applied c.args.e c.of.result c.self.inside.slots c.mark.new.self c.settle.new.self c.self.invariant c.in-Ok.ensures.marked c.mark.ensures.unnamed
-        (λ o. subst (λ (es : List Event). Settles c.args.e (last_naming o es) (at c.mark.new.self o) (at c.settle.new.self o)) (c.of-in-Ok.ensures ∙ sym c.of.ensures) (c.settle.ensures.at o)))
+    (λ o. subst (λ (es : List Event). Settles c.args.e (last_naming o es) (at c.mark.new.self o) (at c.settle.new.self o)) (c.of-in-Ok.ensures ∙ sym c.of.ensures) (c.settle.ensures.at o)))
 
 pub returns-in-Ok-clause-rows : goal.returns-in-Ok-clause-rows
 returns-in-Ok-clause-rows g c height o above =
     settled-rows c.settle.new.self (row_after c.args.e c.of.result (rows c.self.inside.slots))
     (applied c.args.e c.of.result c.self.inside.slots c.mark.new.self c.settle.new.self c.self.invariant c.in-Ok.ensures.marked c.mark.ensures.unnamed
-        (λ p. subst (λ (es : List Event). Settles c.args.e (last_naming p es) (at c.mark.new.self p) (at c.settle.new.self p)) (c.of-in-Ok.ensures ∙ sym c.of.ensures) (c.settle.ensures.at p)))
+    (λ p. subst (λ (es : List Event). Settles c.args.e (last_naming p es) (at c.mark.new.self p) (at c.settle.new.self p)) (c.of-in-Ok.ensures ∙ sym c.of.ensures) (c.settle.ensures.at p)))
     o
     ∙ ap (λ (es : List Event). row_after c.args.e es (rows c.self.inside.slots) o) c.of.ensures
     ∙ rows-above c.args.e height c.args.block.now (rows c.self.inside.slots) o above
