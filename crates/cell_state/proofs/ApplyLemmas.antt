@@ -1,12 +1,11 @@
 -- What stands after a block was taken, or taken back.
-use Rattle.std.proofs.Common.{◌≡◌, ℕ, Bool, true, false, List, Option, Some, None, IsSome, refl, sym, ap, ◌∙◌}
+use Rattle.std.proofs.Common.{◌≡◌, ℕ, List, Option, Some, None, refl, sym, ap, ◌∙◌}
 use Rattle.codec_defs.specs.Schema.{OutPoint}
 use Rattle.cell_defs.specs.Events.{Event, Makes, Spends, last_naming}
 use Rattle.cell_defs.specs.Row.{Row, row_or, row_after}
 use Rattle.cell_state.specs.Slots.{StateValue, at, rows, row_before, is_live, settled, AreSettled}
-use Rattle.cell_state.specs.Passes.{is_live_by, AreMarked, unmarked, unmarked_by, Settles, HaveRowsAfter}
+use Rattle.cell_state.specs.Passes.{is_live_by, AreMarked, unmarked_by, Settles}
 use Rattle.cell_state.specs.declared.slots.Slot.{Slot}
-use Rattle.cell_state.specs.declared.slots.Slot.TheVariants.{Live, Spent, Added, Gone}
 use Rattle.cell_state.proofs.NamingLemmas.{row-after}
 
 pub before-settled : (row : Option Row) → row_before (settled row) ≡ row

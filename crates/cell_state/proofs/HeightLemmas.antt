@@ -1,14 +1,13 @@
 -- The events of a block at two heights above 0 differ in the heights of the cells alone, on which no row depends.
-use Rattle.std.proofs.Common.{◌≡◌, ℕ, zero, suc, ◌+◌, ◌<◌, Bool, true, false, List, [], ◌∷◌, ◌++◌, length, map, take, Option, Some, None, IsSome, slice_get, ◌||◌, ◌==◌, if◌then◌else◌, refl, sym, ap, ◌∙◌, subst, arith}
+use Rattle.std.proofs.Common.{◌≡◌, ℕ, suc, ◌+◌, ◌<◌, Bool, true, false, List, [], ◌∷◌, ◌++◌, length, map, take, Option, Some, None, IsSome, slice_get, ◌||◌, ◌==◌, if◌then◌else◌, refl, sym, ap, ◌∙◌, subst, arith}
 use Rattle.std.specs.Option.{option_map}
 use Rattle.std.specs.List.{sum_by}
 use Rattle.std.proofs.lemmas.List.{map-append, take-map}
 use Rattle.std.proofs.lemmas.List.Sums.{sum_by-cons}
 use Rattle.std.proofs.lemmas.Option.{slice_get-map, same_Some, none-some}
 use Rattle.codec_defs.specs.Schema.{OutPoint, CellInput, CellOutput, Transaction, Block}
-use Rattle.cell_defs.specs.Cell.{Cell}
 use Rattle.cell_defs.specs.Events.{Event, Makes, Spends, names, last_naming, makes_from, spends_of, events_of, events_from, events_of_block}
-use Rattle.cell_defs.specs.Row.{Row, row_left, row_or, row_after}
+use Rattle.cell_defs.specs.Row.{Row, row_or, row_after}
 use Rattle.cell_state.specs.Fit.{Fits, AllFit, IsFirstOdd, odd_of}
 use Rattle.cell_state.specs.declared.odd.Odd.{Odd}
 use Rattle.cell_state.specs.State.{outputs_of}

@@ -1,5 +1,5 @@
 -- On the last of some events that names an out-point, and what those leave that fit.
-use Rattle.std.proofs.Common.{◌≡◌, ℕ, zero, suc, ◌+◌, ◌-◌, ◌<◌, ◌≤◌, Bool, true, false, List, [], ◌∷◌, ◌++◌, length, take, Option, Some, None, is_some, IsSome, slice_get, if◌then◌else◌, ⊎_elim, refl, sym, ap, ◌∙◌, subst, arith}
+use Rattle.std.proofs.Common.{◌≡◌, ℕ, zero, suc, ◌-◌, ◌<◌, ◌≤◌, Bool, true, false, List, [], ◌∷◌, ◌++◌, length, take, Option, Some, None, is_some, slice_get, if◌then◌else◌, ⊎_elim, refl, sym, ap, ◌∙◌, subst, arith}
 use Rattle.std.proofs.lemmas.Bool.{cases_lt}
 use Rattle.std.proofs.lemmas.List.{take-append-le}
 use Rattle.std.proofs.lemmas.Option.{same_Some, slice_get_within}
@@ -12,7 +12,7 @@ use Rattle.cell_state.specs.Slots.{StateValue, at, rows, row_before, is_live, se
 use Rattle.cell_state.specs.Passes.{is_live_by, AreMarked}
 use Rattle.cell_state.specs.declared.slots.Slot.{Slot}
 use Rattle.cell_state.specs.declared.slots.Slot.TheVariants.{Live, Spent, Added, Gone}
-use Rattle.cell_state.proofs.EventLemmas.{slice_get-append, slice_get-front}
+use Rattle.cell_state.proofs.EventLemmas.{slice_get-append}
 
 -- ---- The last event that names an out-point
 

@@ -1,12 +1,11 @@
 -- On the passes over events.
-use Rattle.std.proofs.Common.{◌≡◌, ℕ, zero, suc, ◌+◌, ◌<◌, ◌≤◌, Bool, true, false, List, [], ◌∷◌, ◌++◌, length, Option, Some, None, is_some, IsSome, IsTrue, if◌then◌else◌, refl, sym, ap, ◌∙◌, subst, arith}
+use Rattle.std.proofs.Common.{◌≡◌, ℕ, ◌+◌, ◌≤◌, Bool, true, false, List, [], ◌∷◌, ◌++◌, Option, Some, None, if◌then◌else◌, refl, sym, ap, ◌∙◌, subst, arith}
 use Rattle.std.proofs.lemmas.List.{append_assoc}
 use Rattle.codec_defs.specs.Schema.{OutPoint}
 use Rattle.cell_defs.specs.Cell.{Cell}
 use Rattle.cell_defs.specs.Events.{Event, Makes, Spends, same_out_point, out_point_of, names, last_naming}
 use Rattle.cell_defs.specs.Row.{Row, row_of, row_or, row_left, row_after}
-use Rattle.cell_state.specs.Fit.{Fits, AllFit, IsFirstOdd, odd_of}
-use Rattle.cell_state.specs.declared.odd.Odd.{Odd}
+use Rattle.cell_state.specs.Fit.{Fits, AllFit, IsFirstOdd}
 use Rattle.cell_state.specs.declared.odd.Odd.TheVariants as odd
 use Rattle.cell_state.specs.Slots.{StateValue, at, rows, row_before, is_live, settled, AreSettled}
 use Rattle.cell_state.specs.Passes.{makes_in, spent_mark, made_mark, is_live_by, AreMarked, unmarked, unmarked_by, settled_made, settled_spent, Settles, HaveRowsAfter}

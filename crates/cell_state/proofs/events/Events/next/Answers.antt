@@ -1,7 +1,5 @@
-use Rattle.std.proofs.Common.{◌≡◌, ◌+◌, ◌∷◌, List, length, Some, sym, ap, ◌∙◌, arith}
-use Rattle.std.specs.Option.{option_map}
-use Rattle.cell_defs.specs.Events.{Event}
-use Rattle.cell_state.specs.Walk.{height_of, value_of, events_left}
+use Rattle.std.proofs.Common.{sym, ◌∙◌, arith}
+use Rattle.cell_state.specs.Walk.{height_of, value_of}
 use Rattle.cell_state.proofs.EventLemmas.{left-past, left-next, left-over}
 use Rattle.cell_state.proofs.events.Events.next.Goals as goal
 

@@ -1,5 +1,5 @@
-use Rattle.std.proofs.Common.{◌≡◌, ◌+◌, Some, Ok, None, length, ap, sym, ◌∙◌, arith}
-use Rattle.cell_state.specs.Slots.{StateValue, at, key_of}
+use Rattle.std.proofs.Common.{◌≡◌, ◌+◌, Some, None, length, ap, ◌∙◌, arith}
+use Rattle.cell_state.specs.Slots.{StateValue, key_of}
 use Rattle.cell_state.proofs.SlotLemmas.{at-same, written-same}
 use Rattle.cell_state.proofs.slots.Slots.add.Goals as goal
 

@@ -1,11 +1,10 @@
-use Rattle.std.proofs.Common.{◌≡◌, ℕ, List, [], ◌∷◌, ◌++◌, map, refl, sym, ap, ◌∙◌}
+use Rattle.std.proofs.Common.{List, [], ◌∷◌, ◌++◌, map, sym, ap, ◌∙◌}
 use Rattle.std.specs.Map.Iter.{deref_pair}
 use Rattle.std.proofs.lemmas.List.{map-append}
 use Rattle.codec_defs.specs.Schema.{OutPoint}
 use Rattle.cell_defs.specs.Row.{Row}
 use Rattle.cell_state.specs.Listing.{out_point_by, with_row, listed}
 use Rattle.cell_state.specs.declared.slots.Slot.{Slot}
-use Rattle.cell_state.specs.declared.slots.Slot.TheVariants.{Spent, Added, Gone}
 use Rattle.cell_state.proofs.ListLemmas.{listed-push, listed-same}
 use Rattle.cell_state.proofs.slots.Slots.listed.Goals as goal
 

@@ -1,11 +1,8 @@
 use Rattle.std.proofs.Common.{◌≡◌, ◌∷◌, List, ap, ◌∙◌, subst}
 use Rattle.std.proofs.lemmas.Result.{err_from_is_err_and}
 use Rattle.cell_defs.specs.Events.{Event, Makes, Spends}
-use Rattle.cell_state.specs.Slots.{rows}
-use Rattle.cell_state.specs.Fit.{IsFirstOdd}
 use Rattle.cell_state.specs.Walk.{made_cell, value_of}
 use Rattle.cell_state.specs.Passes.{made_mark, spent_mark}
-use Rattle.cell_state.specs.declared.odd.Odd.{Odd}
 use Rattle.cell_state.specs.declared.events.Event as walked
 use Rattle.cell_state.proofs.PassLemmas.{Marking, marking-none, marking-made, marking-spent, marking-unnamed, odd-made, odd-spent, changes-at}
 use Rattle.cell_state.proofs.slots.Slots.mark.Goals as goal

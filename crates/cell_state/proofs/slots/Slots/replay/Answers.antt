@@ -1,7 +1,7 @@
-use Rattle.std.proofs.Common.{◌≡◌, ◌∷◌, List, Some, None, Option, if◌then◌else◌, ap, ◌∙◌, subst}
+use Rattle.std.proofs.Common.{◌≡◌, ◌∷◌, List, Some, if◌then◌else◌, ap, ◌∙◌, subst}
 use Rattle.cell_defs.specs.Events.{Event, Makes, Spends, same_out_point}
-use Rattle.cell_defs.specs.Row.{Row, row_left}
-use Rattle.cell_state.specs.Slots.{at, settled}
+use Rattle.cell_defs.specs.Row.{Row}
+use Rattle.cell_state.specs.Slots.{at}
 use Rattle.cell_state.specs.Walk.{made_cell, value_of}
 use Rattle.cell_state.specs.declared.slots.Slot.TheVariants.{Live}
 use Rattle.cell_state.specs.declared.events.Event as walked

@@ -1,5 +1,4 @@
-use Rattle.std.proofs.Common.{◌≡◌, List, ap, sym, ◌∙◌, subst, arith}
-use Rattle.codec_defs.specs.Schema.{OutPoint}
+use Rattle.std.proofs.Common.{List, ap, sym, ◌∙◌, subst, arith}
 use Rattle.cell_defs.specs.Events.{Event, events_of_block, last_naming}
 use Rattle.cell_defs.specs.Row.{row_after}
 use Rattle.cell_state.specs.Fit.{AllFit, IsFirstOdd}

@@ -1,8 +1,6 @@
-use Rattle.std.proofs.Common.{◌≡◌, List, Option, None, ap, ◌∙◌}
-use Rattle.codec_defs.specs.Schema.{OutPoint}
-use Rattle.cell_defs.specs.Events.{Event, events_of_block}
-use Rattle.cell_defs.specs.Row.{Row, row_after}
-use Rattle.cell_state.specs.Slots.{settled}
+use Rattle.std.proofs.Common.{List, None, ap, ◌∙◌}
+use Rattle.cell_defs.specs.Events.{Event}
+use Rattle.cell_defs.specs.Row.{row_after}
 use Rattle.cell_state.proofs.ApplyLemmas.{settled-rows, are-settled}
 use Rattle.cell_state.proofs.state.State.genesis.Goals as goal
 

@@ -1,6 +1,5 @@
-use Rattle.std.proofs.Common.{List, sym, ap, ◌∙◌, subst}
-use Rattle.codec_defs.specs.Schema.{OutPoint}
-use Rattle.cell_defs.specs.Row.{Row, ListsRows}
+use Rattle.std.proofs.Common.{sym, ◌∙◌, subst}
+use Rattle.cell_defs.specs.Row.{ListsRows}
 use Rattle.cell_state.specs.Slots.{StateValue, rows}
 use Rattle.cell_state.proofs.ListLemmas.{counted}
 use Rattle.cell_state.proofs.state.State.rows.Goals as goal
