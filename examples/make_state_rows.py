@@ -122,7 +122,7 @@ class Cells:
         print('rows %d %s\t' % (len(rows), ckbhash(b''.join(rows)).hex()))
 
     def row(self, o):
-        print('%s\t%s' % ('row ' + self.rows[o].hex() if o in self.rows else 'none', o.hex()))
+        print('%s\t%s' % ('row ' + ckbhash(self.rows[o]).hex() if o in self.rows else 'none', o.hex()))
 
     def load(self, count):
         for i in range(count):
@@ -180,35 +180,29 @@ def main():
     cells.apply(4, [cellbase(3), transaction([again[1][0] + uint(1, 4)], [])])
     cells.apply(4, [cellbase(3), transaction([again[1][0] + uint(65536, 4)], [])])
 
-    # what is live is made again: the whole transaction, by its hash; and behind events that fit
+    # a transaction again whose cell was spent, and one whose cell is live: at once, and behind events that fit
     cells.apply(4, [base])
-    cells.apply(4, [cellbase(3), late, cellbase(2, [Output(1)]), cellbase(2, [Output(1)])])
+    cells.apply(5, [base])
+    cells.apply(5, [cellbase(4), late, transaction([out_point(late, 0)], []), base])
+    # the null input is a spend behind the first transaction
+    cells.apply(5, [cellbase(4), late, transaction([NULL], [Output(1)])])
+    cells.row(out_point(base, 0))
 
-    # a transaction spends its own output's out-point: it is not live before
-    # spent and made again, in one block and over two, with the row of the later block
-    cells.apply(4, [base, transaction([out_point(base, 0)], [Output(3)])])
-    again_base = [cellbase(4), transaction([out_point(first, 1)], [Output(77 * BYTE, b'r')])]
-    cells.apply(5, again_base)
-    o = out_point(again_base[1], 0)
-    cells.row(o)
-    # the same raw transaction in the cellbase's place makes the same out-point: live, so odd
-    cells.apply(6, [again_base[1]])
-    # spent first, then made again by the same transaction in a later place: its input must be live again, so it comes from a cellbase
-    mover = cellbase(9, [Output(88 * BYTE, b'm')])
-    cells.apply(6, [mover])
-    taker = transaction([out_point(mover, 0)], [Output(5 * BYTE, b't')])
-    cells.apply(7, [cellbase(10), taker])
-    cells.row(out_point(mover, 0))
-    cells.apply(8, [mover])
-    cells.row(out_point(mover, 0))
-    # in one block: a cell is spent and a transaction without inputs makes its out-point again
+    # over two blocks: spent, and made again with a row of the later block
+    taker = transaction([out_point(base, 0)], [Output(5 * BYTE, b't')])
+    cells.apply(6, [cellbase(5), taker])
+    cells.row(out_point(base, 0))
+    cells.apply(7, [base])
+    cells.row(out_point(base, 0))
+
+    # in one block: two cells are spent, and a transaction without inputs makes them again
     free = transaction([], [Output(6 * BYTE, b'f'), Output(7 * BYTE, b'g')])
     cells.apply(9, [cellbase(11), free])
     cells.row(out_point(free, 1))
     cells.apply(10, [cellbase(12), transaction([out_point(free, 0), out_point(free, 1)], [Output(BYTE, b'1')]), free])
     cells.row(out_point(free, 0))
     cells.row(out_point(free, 1))
-    # spent, made again and spent again; and made, spent, made
+    # spent, made again and spent again; and made, spent and made
     cells.apply(11, [cellbase(13), transaction([out_point(free, 0), out_point(free, 1)], [Output(BYTE, b'2')]), free,
                      transaction([out_point(free, 1)], [Output(BYTE, b'3')])])
     cells.row(out_point(free, 0))
@@ -216,12 +210,12 @@ def main():
     other = transaction([], [Output(8 * BYTE, b'o')])
     cells.apply(12, [cellbase(14), other, transaction([out_point(other, 0)], [Output(BYTE, b'4')]), other])
     cells.row(out_point(other, 0))
-    # the same in part, with an odd event at the end: all is as before
+    # the same, with an odd event at the end: all is as before
     cells.apply(13, [cellbase(15), transaction([out_point(other, 0), out_point(free, 0)], [Output(BYTE, b'5')]), other, free,
                      transaction([out_point(other, 0)], [Output(BYTE, b'6')]), transaction([out_point(other, 0)], [])])
     cells.row(out_point(other, 0))
     cells.row(out_point(free, 0))
-    # made twice with nothing between
+    # made twice with nothing between, in one block
     cells.apply(13, [cellbase(16), transaction([], [Output(9)], version=5), transaction([], [Output(9)], version=5)])
     # fewer data than outputs, and more
     cells.apply(13, [cellbase(17), transaction([], [Output(BYTE), Output(BYTE, b'1')], [b'abc'])])

@@ -3,8 +3,8 @@
 //! A row is what is wanted, a tab, and bytes in hex. `genesis` begins with the cells of a block. Behind it
 //! `ok` and a place, `not_live` and a place and an out-point, or `live` and these, is what a block at
 //! that place is answered. `load` and a count adds made-up rows. `rows`, a count and a hash is how many rows there are
-//! and the hash of all in order, each as docs/STORE.md has a row; `row` and a row in hex, or `none`, is what is found at
-//! an out-point. All was worked out by examples/make_state_rows.py, from docs/ alone. The program prints each row that
+//! and the hash of all in order, each as docs/STORE.md has a row; `row` and the hash of a row, or `none`, is what is found
+//! at an out-point. All was worked out by examples/make_state_rows.py, from docs/ alone. The program prints each row that
 //! differs and how many agree; its status is 1 where one differs.
 #![tactic(auto)]
 
@@ -12,12 +12,12 @@ mod row;
 
 ghost use Rattle.std.specs.Prelude.{◌≡◌, ◌<◌};
 
-use blake2b_ckb::{Hasher, ckbhash};
-use cell_model::{CellMeta, Cells, OutPoint};
+use blake2b_ckb::Hasher;
+use cell_model::Cells;
 use cell_state::{Odd, State, outputs_in};
 use mol_schema::BlockView;
 use outside::{NoMemory, Steps};
-use row::{made_up, out_point_in, row_bytes};
+use row::{hash_on, made_up, out_point_in};
 use std::alloc::Global;
 use std::io;
 use std::io::{BufRead, BufReader};
@@ -25,14 +25,18 @@ use std::marker::Brand;
 use std::process::ExitCode;
 use std::sync::ledger::{Blank, Ledger};
 
-/// The hash of all rows in order, and how many there are.
-fn digest(alloc: Global, state: &State) -> Result<([u8; 32], u64), NoMemory> {
+/// How many rows there are and the hash of all in order, as the word of a row.
+fn digest(alloc: Global, state: &State) -> io::Result<String> {
+    let Ok(rows) = state.sorted(alloc) else {
+        return Ok(format!(in alloc; "no memory")?);
+    };
     let mut hasher = Hasher::new();
-    let rows = state.sorted(alloc)?;
     for row in &rows {
-        hasher.update(&row_bytes(&row.0, &row.1));
+        hash_on(&mut hasher, &row.0, &row.1);
     }
-    Ok((hasher.finalize(), state.rows()))
+    let hash = hex::encode(alloc, hasher.finalize())?;
+    let count = state.rows();
+    Ok(format!(in alloc; "rows {count} {hash}")?)
 }
 
 /// Adds so many made-up rows, but for those that are there.
@@ -61,10 +65,12 @@ fn apply<L: Ledger>(
     if state.reserve(outputs_in(&block)).is_err() {
         return Ok(format!(in alloc; "no memory")?);
     }
-    let (word, o) = match state.apply(&block, place, steps) {
-        Ok(()) => return Ok(format!(in alloc; "ok {place}")?),
-        Err(Odd::NotLive(o)) => ("not_live", o),
-        Err(Odd::Live(o)) => ("live", o),
+    let Err(odd) = state.apply(&block, place, steps) else {
+        return Ok(format!(in alloc; "ok {place}")?);
+    };
+    let (word, o) = match odd {
+        Odd::NotLive(o) => ("not_live", o),
+        Odd::Live(o) => ("live", o),
     };
     let tx_hash = hex::encode(alloc, o.tx_hash)?;
     let index = o.index;
@@ -79,8 +85,10 @@ fn found(alloc: Global, state: &State, bytes: &[u8]) -> io::Result<String> {
     let Some(meta) = state.get(&o) else {
         return Ok(format!(in alloc; "none")?);
     };
-    let row = hex::encode(alloc, row_bytes(&o, &meta))?;
-    Ok(format!(in alloc; "row {row}")?)
+    let mut hasher = Hasher::new();
+    hash_on(&mut hasher, &o, &meta);
+    let hash = hex::encode(alloc, hasher.finalize())?;
+    Ok(format!(in alloc; "row {hash}")?)
 }
 
 /// What a row gives, as its word. None where it is none.
@@ -112,13 +120,7 @@ fn answer<L: Ledger>(
                 Err(NoMemory) => Ok(None),
             }
         }
-        "rows" => match digest(alloc, state) {
-            Ok((hash, count)) => {
-                let hash = hex::encode(alloc, hash)?;
-                Ok(Some(format!(in alloc; "rows {count} {hash}")?))
-            }
-            Err(NoMemory) => Ok(None),
-        },
+        "rows" => Ok(Some(digest(alloc, state)?)),
         "row" => Ok(Some(found(alloc, state, bytes)?)),
         "none" => Ok(Some(found(alloc, state, bytes)?)),
         _ => {
@@ -153,7 +155,7 @@ fn try_rows<L: Ledger>(rt: HostRuntime, blank: Blank) -> io::Result<ExitCode>
             continue;
         };
         match answer(alloc, &mut state, &mut steps, wanted, &bytes)? {
-            None => println!(rt; "row {rows} has no answer: {wanted}")?,
+            None => println!(rt; "row {rows} has no answer")?,
             Some(got) => {
                 if got.as_str() == wanted {
                     agreed = agreed.saturating_add(1);

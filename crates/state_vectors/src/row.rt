@@ -1,34 +1,31 @@
-// Rows as bytes, and made-up ones.
-use blake2b_ckb::ckbhash;
+// Rows by their hash, and made-up ones.
+use blake2b_ckb::{Hasher, ckbhash};
 use cell_model::{CellMeta, OutPoint};
 
-/// The bytes of a row, as docs/STORE.md has them.
-pub(crate) fn row_bytes(o: &OutPoint, meta: &CellMeta) -> [u8; 161] {
-    let mut bytes = [0; 161];
-    bytes[0..32].copy_from_slice(&o.tx_hash);
-    bytes[32..36].copy_from_slice(&o.index.to_le_bytes());
-    bytes[36..40].copy_from_slice(&meta.block.to_le_bytes());
-    bytes[40..44].copy_from_slice(&meta.tx.to_le_bytes());
-    bytes[44..52].copy_from_slice(&meta.capacity.to_le_bytes());
-    bytes[52..60].copy_from_slice(&meta.occupied.to_le_bytes());
-    bytes[60..92].copy_from_slice(&meta.lock_hash);
-    if let Some(hash) = &meta.type_hash {
-        bytes[92] = 1;
-        bytes[93..125].copy_from_slice(hash);
+/// Hashes the bytes of a row on, as docs/STORE.md has them.
+pub(crate) fn hash_on(hasher: &mut Hasher, o: &OutPoint, meta: &CellMeta) {
+    hasher.update(&o.tx_hash);
+    hasher.update(&o.index.to_le_bytes());
+    hasher.update(&meta.block.to_le_bytes());
+    hasher.update(&meta.tx.to_le_bytes());
+    hasher.update(&meta.capacity.to_le_bytes());
+    hasher.update(&meta.occupied.to_le_bytes());
+    hasher.update(&meta.lock_hash);
+    match &meta.type_hash {
+        None => hasher.update(&[0; 33]),
+        Some(hash) => {
+            hasher.update(&[1]);
+            hasher.update(hash);
+        }
     }
-    bytes[125..157].copy_from_slice(&meta.data_hash);
-    bytes[157..161].copy_from_slice(&meta.data_len.to_le_bytes());
-    bytes
+    hasher.update(&meta.data_hash);
+    hasher.update(&meta.data_len.to_le_bytes());
 }
 
 /// The out-point in 36 bytes.
 pub(crate) fn out_point_in(bytes: &[u8]) -> Option<OutPoint> {
-    if bytes.len() != 36 {
-        return None;
-    }
-    let mut tx_hash = [0; 32];
-    tx_hash.copy_from_slice(&bytes[..32]);
-    let index = u32::from_le_bytes([bytes[32], bytes[33], bytes[34], bytes[35]]);
+    let tx_hash = <[u8; 32]>::try_from(bytes.get(..32)?).ok()?;
+    let index = u32::from_le_bytes(<[u8; 4]>::try_from(bytes.get(32..)?).ok()?);
     Some(OutPoint { tx_hash, index })
 }
 
