@@ -1,12 +1,35 @@
 -- What events and cells are for, in words (docs/RULES.md, "Cells").
-use Rattle.std.specs.Prelude.{◌≡◌, ◌↔◌, ℕ, ◌+◌, ◌<◌, ◌⊎◌, Bool, false, not, List, [], ◌∷◌, ◌++◌, length, Option, Some, is_some, if◌then◌else◌, IsTrue}
-use Rattle.std.specs.List.{count_by, list_any}
-use Rattle.codec_defs.specs.Schema.{OutPoint, Block}
+use Rattle.std.specs.Prelude.{◌≡◌, ◌↔◌, ℕ, ◌<◌, ◌⊎◌, Bool, false, not, List, [], ◌∷◌, ◌++◌, length, Option, Some, is_some, if◌then◌else◌, IsTrue, slice_get}
+use Rattle.std.specs.List.{Contains, count_by, list_any}
+use Rattle.codec_defs.specs.Schema.{OutPoint, CellInput, Transaction, Block}
 use Rattle.chain_defs.specs.Kept.{IsKept, place_of, block_at}
 use Rattle.chain_defs.specs.Branch.{branch}
 use Rattle.cell_defs.specs.Cell.{Cell}
-use Rattle.cell_defs.specs.Events.{Event, Makes, Spends, events_of_block, events_from, events, names, cell_after, live_cell, cell_seen}
+use Rattle.cell_defs.specs.Events.{Event, Makes, Spends, events_of_block, events, names, cell_after, live_cell, cell_seen}
 use Rattle.cell_defs.specs.Row.{Row, live_row, row_after, row_left, IsOutputOf}
+
+-- ---- What blocks make and spend
+
+-- a transaction of a block behind its first one has an input with an out-point
+pub record IsInputOf (b : Block) (o : OutPoint) : Type 0 where
+  pub place : ℕ
+  pub behind : 0 < place
+  pub t : Transaction
+  pub there : slice_get b.transactions place ≡ Some t
+  pub index : ℕ
+  pub input : CellInput
+  pub is_input : slice_get t.raw.inputs index ≡ Some input
+  pub out_point : input.previous_output ≡ o
+
+-- Law: a branch makes just the outputs of its blocks.
+abbrev pub MakesAreOutputs : Type 0
+MakesAreOutputs = (blocks : List Block) (o : OutPoint) (cell : Cell)
+    → Contains (events blocks) (Makes o cell) ↔ ((b : Block) × (block_at blocks cell.height ≡ Some b) × IsOutputOf b o cell)
+
+-- Law: it spends just the inputs of its blocks but those of the genesis and of each first transaction.
+abbrev pub SpendsAreInputs : Type 0
+SpendsAreInputs = (blocks : List Block) (o : OutPoint)
+    → Contains (events blocks) (Spends o) ↔ ((height : ℕ) × (b : Block) × (0 < height) × (block_at blocks height ≡ Some b) × IsInputOf b o)
 
 -- ---- Live by counting
 

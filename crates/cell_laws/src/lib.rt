@@ -2,7 +2,14 @@
 //! They are apart from the definitions, so that no crate above waits for their proofs.
 #![tactic(auto)]
 
-ghost use Rattle.cell_laws.specs.Laws.{LivesByCounting, AppliesInOrder, GrowsByABlock, CellsAreOutputs, SeenCellsAreOutputs};
+ghost use Rattle.cell_laws.specs.Laws.{MakesAreOutputs, SpendsAreInputs, LivesByCounting, AppliesInOrder, GrowsByABlock, CellsAreOutputs, SeenCellsAreOutputs};
+
+/// States that a branch makes just the outputs of its blocks, each with its out-point and its data, and spends just
+/// their inputs but those of the genesis and of each cellbase. It does nothing.
+pub fn block_events()
+    ensures makes { MakesAreOutputs }
+    ensures spends { SpendsAreInputs }
+{}
 
 /// States that, where each event fits what is live before it, a cell is live exactly where more makes than spends name
 /// it, and that a live cell is an output, with its out-point, of the block at its height, or of an earlier transaction

@@ -3,7 +3,7 @@ use Rattle.std.proofs.Common.{◌≡◌, ℕ, suc, ◌+◌, ◌-◌, ◌*◌, �
 use Rattle.std.specs.Prelude.{◌&&◌}
 use Rattle.std.proofs.lemmas.Bool.{le-leb, lt-leb, and_from, and_left, and_right, ne_eqb, eq-eqb}
 use Rattle.std.proofs.lemmas.List.{take_rest, drop-drop}
-use Rattle.store_defs.specs.Ext.{count_at, row_size, is_row, are_rows, is_ext}
+use Rattle.cell_defs.specs.Ext.{count_at, row_size, is_row, are_rows, is_ext}
 use Rattle.store_defs.specs.Log.{parts_of_body}
 
 abbrev made_parts : List ℕ → Option (List ℕ × List ℕ)

@@ -1,16 +1,12 @@
 -- The rules on the transactions of a genesis, one transaction after another.
-use Rattle.std.proofs.Common.{◌≡◌, ℕ, zero, suc, ◌+◌, Bool, true, false, cond, List, [], ◌∷◌, drop, Some, refl, sym, ap, ◌∙◌, arith}
-use Rattle.std.specs.Prelude.{◌&&◌, ◌||◌, not, slice_get, unwrap_or}
-use Rattle.std.specs.List.{list_all, list_any}
-use Rattle.std.specs.Str.{bytes_eq}
-use Rattle.std.proofs.lemmas.Bool.{and_right}
-use Rattle.std.proofs.lemmas.List.{drop_more, drop_all}
-use Rattle.std.proofs.lemmas.Option.{slice_get_within, get_or_from_slice_get}
+use Rattle.std.proofs.Common.{◌≡◌, ℕ, zero, suc, ◌+◌, Bool, true, false, List, [], ◌∷◌, drop, Some, sym, ap, ◌∙◌, arith}
+use Rattle.std.specs.Prelude.{◌&&◌, slice_get, unwrap_or}
+use Rattle.std.specs.List.{list_all}
+use Rattle.std.proofs.lemmas.List.{drop_all}
 use Rattle.codec_defs.specs.Schema.{CellOutput}
-use Rattle.store_defs.specs.Genesis.{are_distinct, holds_its_own, all_hold_their_own}
-
-pub drop_at_get : {X : Type 0} (xs : List X) (i : ℕ) (x : X) → slice_get xs i ≡ Some x → drop i xs ≡ x ∷ drop (i + 1) xs
-drop_at_get xs i x there = drop_more xs i x (slice_get_within xs i x there) ∙ ap (λ y. y ∷ drop (i + 1) xs) (get_or_from_slice_get xs i x x there)
+use Rattle.chain_defs.proofs.DistinctLemmas.{drop_at_get}
+use Rattle.cell_defs.specs.Cell.{holds_its_own}
+use Rattle.store_defs.specs.Genesis.{all_hold_their_own}
 
 -- all of a list, from one element on
 pub all_goes : {X : Type 0} (p : X → Bool) (xs : List X) (i : ℕ) (x : X) → slice_get xs i ≡ Some x → p x ≡ true
@@ -53,39 +49,3 @@ pub outputs_stop : (outputs : List CellOutput) (contents : List (List ℕ)) (i :
 outputs_stop outputs contents i output content there is broken =
     outputs_next outputs contents i output there
     ∙ ap (λ (b : Bool). b && all_hold_their_own (drop (suc i) outputs) (drop (suc i) contents)) (ap (holds_its_own output) (sym is) ∙ broken)
-
--- ---- Distinct hashes
-
-abbrev has : List (List ℕ) → List ℕ → Bool
-has hashes hash = list_any (λ other. bytes_eq other hash) hashes
-
--- one hash more, at the front
-pub has_more : (hashes : List (List ℕ)) (j i : ℕ) (hash q : List ℕ) (before : Bool) → j + 1 ≡ i → slice_get hashes j ≡ Some hash → before ≡ has (drop i hashes) q
-    → cond (bytes_eq hash q) true before ≡ has (drop j hashes) q
-has_more hashes j i hash q before next there was =
-    by_test (bytes_eq hash q) ∙ ap (λ (n : ℕ). bytes_eq hash q || has (drop n hashes) q) (sym next) ∙ ap (λ (l : List (List ℕ)). has l q) (sym (drop_at_get hashes j hash there))
-  where
-    by_test : (b : Bool) → cond b true before ≡ (b || has (drop i hashes) q)
-    by_test true = refl
-    by_test false = was
-
-pub distinct_more : (hashes : List (List ℕ)) (j i : ℕ) (hash : List ℕ) → j + 1 ≡ i → slice_get hashes j ≡ Some hash → has (drop i hashes) hash ≡ false
-    → are_distinct (drop i hashes) ≡ true → are_distinct (drop j hashes) ≡ true
-distinct_more hashes j i hash next there new later =
-    ap are_distinct (drop_at_get hashes j hash there)
-    ∙ ap (λ (n : ℕ). not (has (drop n hashes) hash) && are_distinct (drop n hashes)) next
-    ∙ ap (λ (b : Bool). not b && are_distinct (drop i hashes)) new ∙ later
-
-distinct_from : (hashes : List (List ℕ)) (j : ℕ) → are_distinct (drop j hashes) ≡ false → are_distinct hashes ≡ false
-distinct_from hashes zero twice = twice
-distinct_from [] (suc j) twice = twice
-distinct_from (first ∷ hashes) (suc j) twice = and_right (not (has hashes first)) (are_distinct hashes) (distinct_from hashes j twice)
-
-pub distinct_twice : (hashes : List (List ℕ)) (j i : ℕ) (hash : List ℕ) → j + 1 ≡ i → slice_get hashes j ≡ Some hash → has (drop i hashes) hash ≡ true
-    → are_distinct hashes ≡ false
-distinct_twice hashes j i hash next there old =
-    distinct_from hashes j (
-    ap are_distinct (drop_at_get hashes j hash there)
-    ∙ ap (λ (n : ℕ). not (has (drop n hashes) hash) && are_distinct (drop n hashes)) next
-    ∙ ap (λ (b : Bool). not b && are_distinct (drop i hashes)) old
-    )

@@ -5,6 +5,7 @@ ghost use Rattle.std.specs.Option.{option_map};
 ghost use Rattle.store_defs.specs.Genesis as rules;
 ghost use Rattle.time_defs.specs.Dao.{occupied_by_type};
 ghost use Rattle.chain_defs.specs.Hashes.{transaction_hash};
+ghost use Rattle.cell_defs.specs.Cell as cells;
 
 use crate::number::read_u64;
 use blake2b_ckb::ckbhash;
@@ -92,7 +93,7 @@ fn type_size(output: &OutputView<'_>) -> usize
 
 fn holds_its_own(output: &OutputView<'_>, content: &[u8]) -> bool
     requires { length content.now < 2 ^ 32 }
-    ensures { result ≡ rules.holds_its_own output.now content.now }
+    ensures { result ≡ cells.holds_its_own output.now content.now }
 {
     let size = 8 + 33 + output.lock().args().len() + type_size(output) + content.len();
     size as u64 * SHANNONS <= output.capacity()

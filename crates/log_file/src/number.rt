@@ -1,7 +1,7 @@
 // Little-endian numbers in a record.
 
 ghost use Rattle.std.specs.Prelude.{◌≡◌, ◌+◌, ◌≤◌, length};
-ghost use Rattle.store_defs.specs.Ext.{count_at};
+ghost use Rattle.cell_defs.specs.Ext.{count_at};
 ghost use Rattle.time_defs.specs.Specification.{u64_field};
 
 /// The number that the four bytes from `at` on are.

@@ -1,14 +1,12 @@
 -- The rules on the genesis of a store, as rows of a list (docs/RULES.md, "The genesis").
-use Rattle.std.specs.Prelude.{ℕ, ◌==◌, ◌&&◌, not, nat_lt, nat_le, Bool, true, List, [], ◌∷◌, map, length, Option, Some, None}
-use Rattle.std.specs.Option.{option_map}
-use Rattle.std.specs.List.{list_any, list_all}
-use Rattle.std.specs.Str.{bytes_eq}
+use Rattle.std.specs.Prelude.{ℕ, ◌==◌, ◌&&◌, nat_lt, Bool, true, List, [], ◌∷◌, map, length, Option, Some, None}
+use Rattle.std.specs.List.{list_all}
 use Rattle.codec_defs.specs.Shape.{decoded}
 use Rattle.codec_defs.specs.Schema.{CellOutput, Transaction, Block, block}
 use Rattle.fold_defs.specs.First.{first_failing}
 use Rattle.time_defs.specs.Specification.{u64_field}
-use Rattle.time_defs.specs.Dao.{occupied_capacity}
-use Rattle.chain_defs.specs.Hashes.{transaction_hash}
+use Rattle.chain_defs.specs.Hashes.{transaction_hash, are_distinct}
+use Rattle.cell_defs.specs.Cell.{holds_its_own}
 
 -- G2: its number is 0.
 abbrev pub is_first : Block → Bool
@@ -22,10 +20,6 @@ has_no_uncles_or_proposals genesis = (length genesis.uncles == 0) && (length gen
 abbrev pub has_issued : Block → Bool
 has_issued genesis = nat_lt 0 (u64_field genesis.header.dao 0) && nat_lt 0 (u64_field genesis.header.dao 8)
 
-abbrev pub are_distinct : List (List ℕ) → Bool
-are_distinct [] = true
-are_distinct (hash ∷ later) = not (list_any (λ other. bytes_eq other hash) later) && are_distinct later
-
 -- G5: it has a transaction, and its transaction hashes are distinct.
 abbrev pub has_transactions : Block → Bool
 has_transactions genesis = nat_lt 0 (length genesis.transactions) && are_distinct (map transaction_hash genesis.transactions)
@@ -38,11 +32,7 @@ pairs_data transaction = length transaction.raw.outputs_data == length transacti
 abbrev pub all_pair_data : Block → Bool
 all_pair_data genesis = list_all pairs_data genesis.transactions
 
--- an output with its data holds its occupied capacity (RFC 0022)
-abbrev pub holds_its_own : CellOutput → List ℕ → Bool
-holds_its_own output content =
-    nat_le (occupied_capacity (length output.lock.args) (option_map (λ s. length s.args) output.type_script) (length content)) output.capacity
-
+-- outputs, each with its data or no bytes where there is none, hold what they occupy
 abbrev pub all_hold_their_own : List CellOutput → List (List ℕ) → Bool
 all_hold_their_own [] contents = true
 all_hold_their_own (output ∷ outputs) [] = holds_its_own output [] && all_hold_their_own outputs []

@@ -1,4 +1,3 @@
-pub mod Ext
 pub mod Genesis
 pub mod Log
 pub mod Rest

@@ -3,7 +3,7 @@ use Rattle.std.specs.Prelude.{◌≡◌, ℕ, ◌^◌, ◌<◌, true, List, [], 
 use Rattle.codec_defs.specs.Schema.{Block}
 use Rattle.time_defs.specs.Specification.{Specification}
 use Rattle.rule_defs.specs.Laws.{CanJoin}
-use Rattle.store_defs.specs.Ext.{is_ext}
+use Rattle.cell_defs.specs.Ext.{is_ext}
 use Rattle.store_defs.specs.Store.{ext_of_joined}
 use Rattle.store_defs.specs.Log.{Record, record_at, records_of, all_record_bytes, record_limit, LogContent, content_of_records, block_of_record, log_of, body_of_parts, parts_of_body}
 use Rattle.store_defs.specs.Rest.{IsAtRest}

@@ -1,9 +1,8 @@
 use Rattle.std.proofs.Common.{◌≡◌, ℕ, ◌≤◌, true, List, length, map, drop}
-use Rattle.std.specs.List.{list_any}
 use Rattle.std.specs.Str.{bytes_eq}
 use Rattle.std.specs.HashSet.{contains}
-use Rattle.chain_defs.specs.Hashes.{transaction_hash}
-use Rattle.store_defs.specs.Genesis.{are_distinct}
+use Rattle.chain_defs.specs.Hashes.{transaction_hash, are_distinct}
+use Rattle.chain_defs.proofs.DistinctLemmas.{has}
 use Rattle.log_file.proofs.genesis.has_transactions.Given as goal
 
 -- the hashes from the i-th on are distinct, and are those that were seen
@@ -11,4 +10,4 @@ abbrev pub invariant-later : goal.invariant-later
 invariant-later l =
     (l.i ≤ length l.block.transactions)
     × (are_distinct (drop l.i (map transaction_hash l.block.transactions)) ≡ true)
-    × ((q : List ℕ) → contains bytes_eq l.seen q ≡ list_any (λ other. bytes_eq other q) (drop l.i (map transaction_hash l.block.transactions)))
+    × ((q : List ℕ) → contains bytes_eq l.seen q ≡ has (drop l.i (map transaction_hash l.block.transactions)) q)

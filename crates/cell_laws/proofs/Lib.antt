@@ -1,0 +1,6 @@
+pub mod EventLemmas
+pub mod CountingLaws
+pub mod OutputLaws
+pub mod EventLaws
+pub mod JoinLemmas
+pub mod RowLaws
