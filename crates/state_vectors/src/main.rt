@@ -160,7 +160,7 @@ fn try_rows<L: Ledger>(rt: HostRuntime, blank: Blank) -> io::Result<ExitCode>
                 if got.as_str() == wanted {
                     agreed = agreed.saturating_add(1);
                 } else {
-                    println!(rt; "row {rows} differs: {wanted}, got: {got}")?;
+                    println!(rt; "row {rows} differs, got: {got}")?;
                 }
             }
         }
