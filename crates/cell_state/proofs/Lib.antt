@@ -5,3 +5,4 @@ pub mod PassLemmas
 pub mod HeightLemmas
 pub mod ApplyLemmas
 pub mod ListLemmas
+pub mod GrowthLemmas

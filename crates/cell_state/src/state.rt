@@ -4,7 +4,7 @@ ghost use Rattle.codec_defs.specs.Schema as schema;
 ghost use Rattle.cell_defs.specs.Events.{events_of_block, same_out_point};
 ghost use Rattle.cell_defs.specs.Row.{Row, row_after, ListsRows};
 ghost use Rattle.cell_state.specs.Fit.{AllFit, IsFirstOdd};
-ghost use Rattle.cell_state.specs.State.{rows, count, outputs_of};
+ghost use Rattle.cell_state.specs.State.{Grows, rows, count, outputs_of};
 
 use crate::events::Events;
 use crate::odd::Odd;
@@ -90,6 +90,7 @@ impl State {
         ensures unchanged { OnErr result ((o : schema.OutPoint) → rows self.new o ≡ rows self.old o) }
         ensures spare { self.old.spare ≤ self.new.spare + outputs_of block.now }
         ensures steps { steps.new ≡ steps.old + 1 }
+        ensures of_branch { OnOk result (Grows block.now e self.old self.new) }
     {
         steps.tick();
         match self.slots.mark(Events::of(block, false)) {

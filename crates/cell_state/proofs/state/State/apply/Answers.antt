@@ -6,6 +6,7 @@ use Rattle.cell_state.specs.Slots.{StateValue, at, rows}
 use Rattle.cell_state.specs.Passes.{makes_in, Settles}
 use Rattle.cell_state.proofs.HeightLemmas.{rows-above, all-above, odd-above, makes-block}
 use Rattle.cell_state.proofs.ApplyLemmas.{applied, settled-rows, are-settled}
+use Rattle.cell_state.proofs.GrowthLemmas.{grown}
 use Rattle.cell_state.proofs.state.State.apply.Goals as goal
 
 pub mark-requires-clause-spare : goal.mark-requires-clause-spare
@@ -47,3 +48,6 @@ returns-in-Err-clause-odd g c height above =
 pub returns-in-Err-clause-spare : goal.returns-in-Err-clause-spare
 returns-in-Err-clause-spare g c =
     omega (arith, ap makes_in c.of.ensures, makes-block c.args.block.now 1, c.mark.ensures.spare, c.unmark_all.ensures.spare, ap (λ (v : StateValue). v.spare) c.self.view_is)
+
+pub returns-in-Ok-clause-of_branch : goal.returns-in-Ok-clause-of_branch
+returns-in-Ok-clause-of_branch g c = grown c.args.block.now c.args.e c.args.self.now c.settle.new.self (returns-in-Ok-clause-rows g c)
