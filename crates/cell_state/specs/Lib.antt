@@ -1,0 +1,6 @@
+pub mod Fit
+pub mod State
+pub mod Slots
+pub mod Walk
+pub mod Passes
+pub mod Listing

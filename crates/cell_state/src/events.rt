@@ -1,0 +1,172 @@
+// The events of a block, one after the other.
+ghost use Rattle.std.specs.Prelude.{◌≡◌, ◌+◌, ◌<◌, ◌^◌, ℕ, length, IfSome, Some, slice_get};
+ghost use Rattle.std.specs.Option.{option_map};
+ghost use Rattle.chain_defs.specs.Hashes.{transaction_hash};
+ghost use Rattle.cell_defs.specs.Events.{events_of, events_of_block, out_point_of};
+ghost use Rattle.cell_defs.specs.Row.{row_of};
+ghost use Rattle.cell_state.specs.Walk.{height_of, spends_at, made_cell, value_of, IsNext};
+
+use crate::made::Made;
+use cell_model::{CellMeta, OutPoint, data_at, meta_of, tx_hash};
+use mol_schema::{BlockView, OutPointView, TxView};
+use std::marker::Model;
+
+impl<'a> Made<'a> {
+    /// The row of the cell, which the block at this place makes.
+    pub(crate) fn row(&self, block: u32) -> CellMeta
+        ensures { (height : ℕ) → result ≡ row_of block (made_cell height self.now) }
+    {
+        meta_of(block, self.place, &self.output, self.content)
+    }
+}
+
+/// A transaction makes a cell with an out-point, or spends the cell with it.
+#[derive(Drop)]
+pub(crate) enum Event<'a> {
+    Makes(OutPoint, Made<'a>),
+    Spends(OutPoint),
+}
+
+impl<'a> Event<'a> {
+    pub(crate) fn out_point(&self) -> OutPoint
+        ensures { (height : ℕ) → result ≡ out_point_of (value_of height self.now) }
+    {
+        match self {
+            Event::Makes(o, _) => *o,
+            Event::Spends(o) => *o,
+        }
+    }
+}
+
+/// An out-point as it stands in a transaction.
+fn out_point_at(view: &OutPointView<'_>) -> OutPoint
+    ensures { result ≡ view.now }
+{
+    let mut tx_hash = [0; 32];
+    tx_hash.copy_from_slice(view.tx_hash());
+    OutPoint {
+        tx_hash,
+        index: view.index(),
+    }
+}
+
+/// How many cells a transaction spends: none in the genesis, nor does a cellbase.
+fn spends_count(tx: &TxView<'_>, genesis: bool, place: u32) -> usize
+    ensures count { result ≡ length (spends_at tx.now (height_of genesis) place) }
+    ensures fits { result < 2 ^ 32 }
+{
+    if genesis || place == 0 {
+        0
+    } else {
+        tx.raw().inputs_count()
+    }
+}
+
+/// The event at an index among those of a transaction: its spends, where it has any, and then its makes.
+fn event_at<'a>(
+    tx: &TxView<'a>,
+    tx_hash: [u8; 32],
+    genesis: bool,
+    place: u32,
+    index: usize,
+) -> Option<Event<'a>>
+    requires { tx_hash ≡ transaction_hash tx.now }
+    ensures event { option_map (value_of (height_of genesis)) result ≡ slice_get (events_of tx.now (height_of genesis) place) index }
+    ensures few { IfSome result (λ _. index < 2 ^ 33) }
+{
+    let raw = tx.raw();
+    let spends = spends_count(tx, genesis, place);
+    if index < spends {
+        let input = raw.inputs_item(index);
+        return Some(Event::Spends(out_point_at(&input.previous_output())));
+    }
+    let output = index - spends;
+    if output >= raw.outputs_count() {
+        return None;
+    }
+    let out_point = OutPoint {
+        tx_hash,
+        index: output as u32,
+    };
+    let made = Made {
+        output: raw.outputs_item(output),
+        content: data_at(tx, output),
+        place,
+    };
+    Some(Event::Makes(out_point, made))
+}
+
+/// The events of a block that are still to come. Clauses see their list.
+#[derive(Drop)]
+pub(crate) struct Events<'b, 'a> {
+    block: &'b BlockView<'a>,
+    genesis: bool,
+    /// The place of the transaction that is walked, and its hash.
+    place: usize,
+    tx_hash: [u8; 32],
+    /// How many of its events have come.
+    index: usize,
+}
+
+impl<'b, 'a> Model for Events<'b, 'a> {
+    ghost use Rattle.std.specs.Prelude.{◌≡◌, List, IfSome, slice_get};
+    ghost use Rattle.chain_defs.specs.Hashes.{transaction_hash};
+    ghost use Rattle.cell_defs.specs.Events as events;
+    ghost use Rattle.cell_state.specs.Walk.{height_of, events_left};
+
+    ghost Value = { List events.Event };
+
+    ghost view = { λ walk. events_left walk.block.now.transactions (height_of walk.genesis) walk.place walk.index };
+
+    ghost invariant = { λ walk. IfSome (slice_get walk.block.now.transactions walk.place) (λ t. walk.tx_hash ≡ transaction_hash t) };
+}
+
+/// The hash of the transaction at a place; zero bytes where there is none.
+fn hash_at(block: &BlockView<'_>, place: usize) -> [u8; 32]
+    ensures { IfSome (slice_get block.now.transactions place) (λ t. result ≡ transaction_hash t) }
+{
+    if place < block.transactions_count() {
+        tx_hash(&block.transactions_item(place))
+    } else {
+        [0; 32]
+    }
+}
+
+impl<'b, 'a> Events<'b, 'a> {
+    /// All events of a block, which is the genesis or stands at a height above 0.
+    pub(crate) fn of(block: &'b BlockView<'a>, genesis: bool) -> Events<'b, 'a>
+        ensures { result ≡ events_of_block (height_of genesis) block.now }
+    {
+        Events {
+            block,
+            genesis,
+            place: 0,
+            tx_hash: hash_at(block, 0),
+            index: 0,
+        }
+    }
+
+    /// The next event.
+    pub(crate) fn next(&mut self) -> Option<Event<'a>>
+        ensures { IsNext self.old result self.new }
+    {
+        while self.place < self.block.transactions_count() {
+            let tx = self.block.transactions_item(self.place);
+            let event = event_at(
+                &tx,
+                self.tx_hash,
+                self.genesis,
+                self.place as u32,
+                self.index,
+            );
+            if let Some(event) = event {
+                self.index += 1;
+                return Some(event);
+            }
+            self.place += 1;
+            self.index = 0;
+            self.tx_hash = hash_at(self.block, self.place);
+        }
+        None
+    }
+}

@@ -1,0 +1,19 @@
+//! The live cells of a branch in memory.
+//!
+//! [`State`] is the contract of use. Its clauses see the rows as a function from out-points, and beside it how many
+//! there are and how many more can come without an allocation (`spare`). `apply` gives the rows that a block's events
+//! leave, in their order, and changes none where an event does not fit what is live by then. `genesis` gives those of
+//! one block, `load_row` adds one, `sorted` lists them. What a block's transactions may do with cells is left to the
+//! layers above, and so is taking a block back.
+#![tactic(auto)]
+
+mod events;
+mod listing;
+mod made;
+mod odd;
+mod passes;
+mod slots;
+mod state;
+
+pub use odd::Odd;
+pub use state::{State, outputs_in};

@@ -1,0 +1,11 @@
+// Why a block does not fit the live cells.
+use cell_model::OutPoint;
+
+/// Why a block does not fit the live cells: the first of its events that does not.
+#[derive(Clone, Copy, Debug, PartialEq, Eq)]
+pub enum Odd {
+    /// It spends a cell that is not live.
+    NotLive(OutPoint),
+    /// It makes a cell with the out-point of one that is live.
+    Live(OutPoint),
+}
