@@ -1,8 +1,7 @@
 -- The output that a row names in the block in hand.
-use Rattle.std.proofs.Common.{◌≡◌, ℕ, List, Option, Some, None, sym, ap, subst, ◌∙◌}
+use Rattle.std.proofs.Common.{◌≡◌, ℕ, List, Option, Some, ap, subst, ◌∙◌}
 use Rattle.std.specs.Prelude.{IfSome, slice_get}
-use Rattle.codec_defs.specs.Shape.{decoded}
-use Rattle.codec_defs.specs.Schema.{OutPoint, CellOutput, Transaction, Block, block}
+use Rattle.codec_defs.specs.Schema.{OutPoint, CellOutput, Transaction, Block}
 use Rattle.chain_tree.specs.Told.{Stored, Encodes}
 use Rattle.cell_defs.specs.Cell.{Cell, data_of}
 use Rattle.cell_defs.specs.Row.{Row}

@@ -1,5 +1,5 @@
 use Rattle.std.proofs.Common.{◌≡◌, Some, ap, ◌∙◌, rules}
-use Rattle.codec_defs.specs.Shape.{IsA, decoded}
+use Rattle.codec_defs.specs.Shape.{decoded}
 use Rattle.codec_defs.specs.Schema.{CellOutput, cell_output}
 use Rattle.codec_defs.proofs.ShapeLaws.{decoded-is}
 use Rattle.codec_defs.proofs.RowLaws.{cell_output-check}
