@@ -15,7 +15,8 @@ for no bytes. The last column is the answer that is wanted:
     fees              an ext: its fees, each with a comma behind it
     row in            a place, an ext: the out-point and the fields of the row there
     block             a Block, its ext: they are kept, one behind the other
-    fetch             block, transaction, index: the CellOutput and its data, or `damaged`
+    fetch             block, transaction, index: the CellOutput and its data, `damaged`
+                      where there is none, `none` where no such block is kept
     spent             block: its ext
 
 The layouts are those of docs/FORMATS.md and docs/STORE.md, the hashes Python's

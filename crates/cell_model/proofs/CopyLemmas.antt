@@ -1,12 +1,11 @@
 -- The output that a row names in the block in hand.
-use Rattle.std.proofs.Common.{◌≡◌, ℕ, List, Option, Some, None, sym, ap, subst, ◌∙◌}
+use Rattle.std.proofs.Common.{◌≡◌, ℕ, List, Option, Some, ap, subst, ◌∙◌}
 use Rattle.std.specs.Prelude.{IfSome, slice_get}
-use Rattle.codec_defs.specs.Shape.{decoded}
-use Rattle.codec_defs.specs.Schema.{OutPoint, CellOutput, Transaction, Block, block}
+use Rattle.codec_defs.specs.Schema.{OutPoint, CellOutput, Transaction, Block}
 use Rattle.chain_tree.specs.Told.{Stored, Encodes}
 use Rattle.cell_defs.specs.Cell.{Cell, data_of}
 use Rattle.cell_defs.specs.Row.{Row}
-use Rattle.cell_model.specs.Copies.{NamesOutput, output_in}
+use Rattle.cell_model.specs.Copies.{ResolvedValue, IsCopyOf, CopiesOutput, NamesOutput, output_in}
 
 in_transaction : (b : Block) (t : Transaction) (place index : ℕ) (output : CellOutput) → slice_get b.transactions place ≡ Some t
     → slice_get t.raw.outputs index ≡ Some output → output_in b place index ≡ Some (output, data_of t index)
@@ -32,3 +31,7 @@ pub same_output : (one other : CellOutput × List ℕ) → Some one ≡ Some oth
 same_output one other same =
     let both : one ≡ other = cc in
     (ap (λ (it : CellOutput × List ℕ). it.0) both, ap (λ (it : CellOutput × List ℕ). it.1) both)
+
+pub copies : (found : Option (CellOutput × List ℕ)) (cell : Cell) (copy : ResolvedValue) → Some (cell.output, cell.content) ≡ found → IsCopyOf cell copy → CopiesOutput found copy
+copies found cell copy is copied =
+    subst (λ (it : Option (CellOutput × List ℕ)). CopiesOutput it copy) is (copied.output, copied.content)

@@ -1,5 +1,5 @@
 -- What contracts see of a copy of an old cell.
-use Rattle.std.specs.Prelude.{◌≡◌, ℕ, List, Option, Some, slice_get}
+use Rattle.std.specs.Prelude.{◌≡◌, ℕ, List, Option, Some, slice_get, IsSomeAnd}
 use Rattle.std.specs.Option.{option_map, option_and_then}
 use Rattle.codec_defs.specs.Shape.{decoded}
 use Rattle.codec_defs.specs.Schema.{OutPoint, CellOutput, cell_output, Transaction, Block}
@@ -31,6 +31,10 @@ pub record IsCopyOf (cell : Cell) (copy : ResolvedValue) : Type 0 where
 abbrev pub output_in : Block → ℕ → ℕ → Option (CellOutput × List ℕ)
 output_in b place index =
     option_and_then (λ t. option_map (λ output. (output, data_of t index)) (slice_get t.raw.outputs index)) (slice_get b.transactions place)
+
+-- there is an output, and the bytes are those of it and of its data
+abbrev pub CopiesOutput : Option (CellOutput × List ℕ) → ResolvedValue → Type 0
+CopiesOutput found copy = IsSomeAnd found (λ it. (decoded cell_output copy.output ≡ Some it.0) × (copy.content ≡ it.1))
 
 -- Among kept blocks a row names an output: the cell is that output of the block at the row's place, and the row is its.
 pub record NamesOutput (stored : List Stored) (o : OutPoint) (row : Row) (cell : Cell) : Type 0 where

@@ -54,13 +54,13 @@ stored_from (b ∷ blocks) (ext ∷ exts) = record { block = block.decoding b; e
 
 -- ---- The one in hand is one of them
 
-pub place-within : (place len : ℕ) (b : Bool) → nat_lt place len ≡ b → IfSome (if b then Some place else None) (λ e. e < len)
-place-within place len true below = ltb-true place len below
-place-within place len false past = tt
+pub tested-within : (place len : ℕ) (b : Bool) → nat_lt place len ≡ b → IfSome (if b then Some place else None) (λ e. e < len)
+tested-within place len true below = ltb-true place len below
+tested-within place len false past = tt
 
 pub among-within : (len : ℕ) (hand : Option ℕ) → IfSome (place_among len hand) (λ e. e < len)
 among-within len None = tt
-among-within len (Some place) = place-within place len (nat_lt place len) refl
+among-within len (Some place) = tested-within place len (nat_lt place len) refl
 
 pub hand_is_within : (it : ListBlocksValue) → IfSome (place_in_hand it) (λ e. e < length it.stored)
 hand_is_within it = among-within (length it.stored) it.hand

@@ -1,5 +1,5 @@
 // Copies of old cells out of kept blocks.
-ghost use Rattle.std.specs.Prelude.{◌≡◌, ◌^◌, ◌<◌, List, Some, Err, IfOk, IsSome, length};
+ghost use Rattle.std.specs.Prelude.{◌≡◌, ◌^◌, ◌<◌, List, Some, Err, IfOk, IsSome, length, slice_get};
 ghost use Rattle.std.specs.Option.{option_map};
 ghost use Rattle.codec_defs.specs.Shape.{decoded};
 ghost use Rattle.codec_defs.specs.Schema.{cell_output};
@@ -9,7 +9,7 @@ ghost use Rattle.outside.specs.declared.disk.Area.TheVariants.{Log};
 ghost use Rattle.outside.specs.declared.disk.Damage.{Damage};
 ghost use Rattle.outside.specs.declared.disk.ReadStop.TheVariants.{DiskFault, Damaged};
 ghost use Rattle.chain_tree.specs.Told.{Stored};
-ghost use Rattle.cell_model.specs.Copies.{IsCopyOf, NamesOutput, output_in};
+ghost use Rattle.cell_model.specs.Copies.{IsCopyOf, CopiesOutput, NamesOutput, output_in};
 
 use crate::cells::{CellMeta, OutPoint, Resolved};
 use chain_tree::Blocks;
@@ -100,6 +100,8 @@ pub fn fetch<B: Blocks>(
     ensures copied { (stored : List Stored) (cell : Cell) → B.told blocks.old ≡ Some stored → NamesOutput stored o meta cell → IfOk result (IsCopyOf cell) }
     ensures undamaged { (stored : List Stored) (cell : Cell) → B.told blocks.old ≡ Some stored → NamesOutput stored o meta cell
         → (damage : Damage) → result ≡ Err (Damaged damage) → ⊥ }
+    ensures exact { (stored : List Stored) (made : Stored) → B.told blocks.old ≡ Some stored → slice_get stored meta.block ≡ Some made
+        → IfOk result (CopiesOutput (output_in made.block meta.transaction o.index)) }
     ensures damage { (damage : Damage) → result ≡ Err (Damaged damage) → damage.area ≡ Log }
     ensures cause { CountsFault (B.faults blocks.old) (B.faults blocks.new) (result ≡ Err DiskFault) }
 {

@@ -3,8 +3,8 @@
 //!
 //! Contracts see a [`CellMeta`] as a `Row` of `cell_defs`, and [`Cells`] as a function from out-points to rows.
 //! [`fetch`] copies the output and the data that a row names, exactly, over a [`Blocks`](chain_tree::Blocks) that
-//! tells; [`Ext`] is read and written by its form. Which cells are
-//! live is left to `cell_state`, what a transaction may do with them to `tx_rules`.
+//! tells; [`Ext`] is read and written by its form, and [`ListBlocks`] is a `Blocks` in memory, which tells its blocks
+//! and never fails. Which cells are live is left to `cell_state`, what a transaction may do with them to `tx_rules`.
 #![tactic(auto)]
 
 mod cells;

@@ -1,4 +1,4 @@
-use Rattle.std.proofs.Common.{◌≡◌, ◌++◌, ◌<◌, ℕ, List, length, get_or, arith, rules, ap, ◌∙◌}
+use Rattle.std.proofs.Common.{◌≡◌, ◌++◌, ◌<◌, ℕ, List, length, get_or, rules}
 use Rattle.std.specs.Int.{w32, w64, to_le_bytes}
 use Rattle.std.proofs.lemmas.List.{get_or_default}
 use Rattle.cell_model.proofs.ExtLemmas.{one_put_more}

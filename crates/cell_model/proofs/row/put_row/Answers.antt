@@ -1,4 +1,4 @@
-use Rattle.std.proofs.Common.{◌≡◌, ◌++◌, length, rules, arith}
+use Rattle.std.proofs.Common.{◌++◌, arith}
 use Rattle.std.specs.Int.{w32, w64, to_le_bytes}
 use Rattle.std.proofs.lemmas.Grind.{common_steps}
 use Rattle.cell_model.proofs.RowLemmas.{has_form}

@@ -1,4 +1,4 @@
-use Rattle.std.proofs.Common.{◌≡◌, ◌≤◌, lit≤, List, ℕ, rules}
+use Rattle.std.proofs.Common.{◌≡◌, lit≤, List, ℕ, rules}
 use Rattle.std.specs.List.{slice_range}
 use Rattle.cell_defs.specs.Ext.{type_bytes}
 use Rattle.cell_model.proofs.RowLemmas.{next, whole}

@@ -1,4 +1,4 @@
-use Rattle.std.proofs.Common.{◌≡◌, true, arith, rules, lit≤, sym, ◌∙◌}
+use Rattle.std.proofs.Common.{◌≡◌, true, arith, rules, sym, ◌∙◌}
 use Rattle.std.specs.Prelude.{◌==◌}
 use Rattle.std.specs.List.{slice_range, list_all}
 use Rattle.cell_model.proofs.RowLemmas.{no_hash}

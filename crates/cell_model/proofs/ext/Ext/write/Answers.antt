@@ -1,4 +1,4 @@
-use Rattle.std.proofs.Common.{◌≡◌, ℕ, ◌+◌, ◌*◌, List, true, length, map, ap, sym, ◌∙◌, arith, rules}
+use Rattle.std.proofs.Common.{◌≡◌, ◌*◌, true, length, map, ap, ◌∙◌, rules}
 use Rattle.std.specs.List.{concat}
 use Rattle.cell_defs.specs.Ext.{row_bytes, are_rows, ext_bytes, is_ext}
 use Rattle.cell_model.proofs.ExtLemmas.{written_form}

@@ -1,4 +1,4 @@
-use Rattle.std.proofs.Common.{ap, sym, arith}
+use Rattle.std.proofs.Common.{ap, arith}
 use Rattle.cell_model.specs.ListBlocks.{ListBlocksValue}
 use Rattle.cell_model.proofs.ListLemmas.{as_many}
 use Rattle.cell_model.proofs.list_blocks.ListBlocks.len.Goals as goal

@@ -1,6 +1,5 @@
-use Rattle.std.proofs.Common.{◌≡◌, ◌++◌, ◌∷◌, [], ◌+◌, ◌<◌, ◌^◌, List, Vec, Global, ℕ, length, ap, sym, ◌∙◌, arith, rules}
+use Rattle.std.proofs.Common.{◌≡◌, ◌++◌, ◌∷◌, [], List, Vec, Global, ℕ, length, ap, ◌∙◌, arith}
 use Rattle.std.proofs.lemmas.List.{length_push}
-use Rattle.chain_tree.specs.Told.{Stored}
 use Rattle.cell_model.specs.ListBlocks.{ListBlocksValue, contents, stored_from}
 use Rattle.cell_model.proofs.ListLemmas.{as_many, hand-more, seen-push, kept_more}
 use Rattle.cell_model.proofs.list_blocks.ListBlocks.push.Goals as goal

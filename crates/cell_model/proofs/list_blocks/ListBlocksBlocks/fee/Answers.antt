@@ -1,4 +1,4 @@
-use Rattle.std.proofs.Common.{◌≡◌, ◌<◌, ◌≤◌, ℕ, List, [], length, get_or, ap, sym, ◌∙◌, arith, rules}
+use Rattle.std.proofs.Common.{◌≡◌, ◌<◌, ◌≤◌, ℕ, List, [], length, get_or, ap, ◌∙◌, arith, rules}
 use Rattle.chain_tree.specs.Told.{Stored}
 use Rattle.cell_defs.specs.Ext.{count_at, fee_of}
 use Rattle.cell_model.specs.ListBlocks.{ListBlocksValue, contents}

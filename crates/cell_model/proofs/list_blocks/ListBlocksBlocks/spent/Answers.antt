@@ -1,4 +1,4 @@
-use Rattle.std.proofs.Common.{◌≡◌, ◌<◌, ℕ, List, Some, length, ap, sym, ◌∙◌, arith, rules}
+use Rattle.std.proofs.Common.{◌≡◌, ◌<◌, ℕ, Some, length, ap, sym, ◌∙◌, arith, rules}
 use Rattle.chain_tree.specs.Told.{Stored}
 use Rattle.cell_model.specs.ListBlocks.{ListBlocksValue}
 use Rattle.cell_model.proofs.ListLemmas.{as_many, read_at, entry_at, by_hand, as_many_exts}
