@@ -12,7 +12,7 @@ ghost use Rattle.cell_model.specs.Copies.{IsCopyOf, NamesOutput, output_in};
 use crate::cells::{CellMeta, OutPoint, Resolved};
 use chain_tree::Blocks;
 use mol_schema::{BlockView, OutputView, TxView};
-use outside::{NoMemory, ReadStop};
+use outside::{Area, Damage, NoMemory, ReadStop};
 use std::alloc::Global;
 
 /// The data of an output: what stands at its place, no bytes where nothing does.
@@ -61,7 +61,22 @@ pub fn copy_of(
     ensures row { IfOk result (λ copy. copy.row ≡ meta) }
     ensures copied { (cell : Cell) → output.now ≡ cell.output → content.now ≡ cell.content → IfOk result (IsCopyOf cell) }
 {
-    Err(NoMemory)
+    Ok(Resolved {
+        out_point: o,
+        meta,
+        output: output.bytes().to_vec(alloc)?,
+        content: content.to_vec(alloc)?,
+    })
+}
+
+/// A block in LOG that is not what the row says.
+fn damaged() -> ReadStop
+    ensures { result ≡ Damaged (record { area = Log; at = 0 }) }
+{
+    ReadStop::Damaged(Damage {
+        area: Area::Log,
+        at: 0,
+    })
 }
 
 /// Copies the bytes of an old cell. Where the row names no output, which never comes over blocks that tell it, it is
@@ -84,5 +99,15 @@ pub fn fetch<B: Blocks>(
     ensures damage { (damage : Damage) → result ≡ Err (Damaged damage) → damage.area ≡ Log }
     ensures cause { CountsFault (B.faults blocks.old) (B.faults blocks.new) (result ≡ Err DiskFault) }
 {
-    Err(ReadStop::NoMemory)
+    blocks.bring(meta.block)?;
+    let Some(block) = BlockView::read(blocks.block()) else {
+        return Err(damaged());
+    };
+    let Some((output, content)) = output_at(&block, &o, &meta) else {
+        return Err(damaged());
+    };
+    match copy_of(alloc, o, meta, &output, content) {
+        Ok(copy) => Ok(copy),
+        Err(NoMemory) => Err(ReadStop::NoMemory),
+    }
 }

@@ -1,8 +1,11 @@
 // The ext of a block: the fees of its transactions, and the rows of the cells that it spends.
-ghost use Rattle.std.specs.Prelude.{◌≡◌, ◌^◌, ◌<◌, length, is_some, IfOk, IfSome, IsTrue};
-ghost use Rattle.cell_defs.specs.Ext.{ext_bytes, is_ext};
+ghost use Rattle.std.specs.Prelude.{◌≡◌, ◌+◌, ◌*◌, ◌^◌, ◌<◌, ◌++◌, length, map, is_some, IfOk, IfSome, IsTrue, OnOk};
+ghost use Rattle.std.specs.List.{concat};
+ghost use Rattle.std.specs.Int.{w32, w64, to_le_bytes};
+ghost use Rattle.cell_defs.specs.Ext.{count_at, row_bytes, are_rows, ext_bytes, is_ext};
 
 use crate::cells::{CellMeta, OutPoint};
+use crate::row::{ROW_SIZE, put_row, read_row, u32_at, u64_at};
 use outside::NoMemory;
 use std::alloc::Global;
 use std::marker::Model;
@@ -29,8 +32,28 @@ impl Ext {
     pub fn read(alloc: Global, b: &[u8]) -> Result<Option<Ext>, NoMemory>
         ensures found { IfOk result (λ ext. is_some ext ≡ is_ext b.now) }
         ensures bytes { IfOk result (λ ext. IfSome ext (λ it. ext_bytes it ≡ b.now)) }
+        ensures fees { IfOk result (λ ext. IfSome ext (λ it. length it.fees ≡ count_at b.now 0)) }
+        ensures spent { IfOk result (λ ext. IfSome ext (λ it. length it.spent ≡ count_at b.now (4 + 8 * count_at b.now 0))) }
     {
-        Err(NoMemory)
+        if b.len() < 4 {
+            return Ok(None);
+        }
+        let fees = u32_at(b, 0) as usize;
+        let rows_at = 4 + 8 * fees;
+        if b.len() < rows_at + 4 {
+            return Ok(None);
+        }
+        let rows = u32_at(b, rows_at) as usize;
+        if b.len() != rows_at + 4 + ROW_SIZE * rows {
+            return Ok(None);
+        }
+        let Some(spent) = read_rows(alloc, &b[rows_at + 4..], rows)? else {
+            return Ok(None);
+        };
+        Ok(Some(Ext {
+            fees: read_fees(alloc, &b[4..rows_at], fees)?,
+            spent,
+        }))
     }
 
     /// The bytes of the ext.
@@ -40,6 +63,69 @@ impl Ext {
         ensures bytes { IfOk result (λ bytes. bytes.items ≡ ext_bytes self.now) }
         ensures form { IfOk result (λ bytes. IsTrue (is_ext bytes.items)) }
     {
-        Err(NoMemory)
+        let mut bytes = Vec::new(alloc);
+        put_fees(&mut bytes, &self.fees)?;
+        put_rows(&mut bytes, &self.spent)?;
+        Ok(bytes)
     }
+}
+
+/// The fees that the bytes hold, side by side.
+fn read_fees(alloc: Global, bytes: &[u8], count: usize) -> Result<Vec<u64>, NoMemory>
+    requires { length bytes.now ≡ 8 * count }
+    ensures bytes { IfOk result (λ fees. concat (map (to_le_bytes w64) fees.items) ≡ bytes.now) }
+    ensures count { IfOk result (λ fees. length fees.items ≡ count) }
+{
+    let mut fees = Vec::with_capacity(alloc, count)?;
+    'fees: for i in 0..count {
+        fees.push(u64_at(bytes, 8 * i))?;
+    }
+    Ok(fees)
+}
+
+/// The rows that the bytes hold, side by side. None where one is not of its form.
+fn read_rows(
+    alloc: Global,
+    bytes: &[u8],
+    count: usize,
+) -> Result<Option<Vec<(OutPoint, CellMeta)>>, NoMemory>
+    requires { length bytes.now ≡ 161 * count }
+    ensures found { IfOk result (λ rows. is_some rows ≡ are_rows count bytes.now) }
+    ensures bytes { IfOk result (λ rows. IfSome rows (λ them. concat (map row_bytes them.items) ≡ bytes.now)) }
+    ensures count { IfOk result (λ rows. IfSome rows (λ them. length them.items ≡ count)) }
+{
+    let mut rows = Vec::with_capacity(alloc, count)?;
+    'rows: for i in 0..count {
+        let Some(row) = read_row(&bytes[ROW_SIZE * i..ROW_SIZE * i + ROW_SIZE]) else {
+            return Ok(None);
+        };
+        rows.push(row)?;
+    }
+    Ok(Some(rows))
+}
+
+/// Puts a count of fees and the fees behind what is there.
+fn put_fees(bytes: &mut Vec<u8>, fees: &[u64]) -> Result<(), NoMemory>
+    requires { length fees.now < 2 ^ 32 }
+    ensures { OnOk result (bytes.new.items ≡ bytes.old.items ++ to_le_bytes w32 (length fees.now) ++ concat (map (to_le_bytes w64) fees.now)) }
+{
+    bytes.extend_from_slice(&(fees.len() as u32).to_le_bytes())?;
+    'fees: for fee in fees {
+        bytes.extend_from_slice(&fee.to_le_bytes())?;
+    }
+    Ok(())
+}
+
+/// Puts a count of rows and the rows behind what is there.
+fn put_rows(bytes: &mut Vec<u8>, rows: &[(OutPoint, CellMeta)]) -> Result<(), NoMemory>
+    requires { length rows.now < 2 ^ 32 }
+    ensures written { OnOk result (bytes.new.items ≡ bytes.old.items ++ to_le_bytes w32 (length rows.now) ++ concat (map row_bytes rows.now)) }
+    ensures size { OnOk result (length (concat (map row_bytes rows.now)) ≡ 161 * length rows.now) }
+    ensures form { OnOk result (IsTrue (are_rows (length rows.now) (concat (map row_bytes rows.now)))) }
+{
+    bytes.extend_from_slice(&(rows.len() as u32).to_le_bytes())?;
+    'rows: for (o, meta) in rows {
+        put_row(bytes, o, meta)?;
+    }
+    Ok(())
 }

@@ -11,8 +11,11 @@ mod cells;
 mod copies;
 mod ext;
 mod hashes;
+mod list_blocks;
+mod row;
 
 pub use cells::{CellMeta, Cells, OutPoint, Resolved, ResolvedTx};
 pub use copies::{copy_of, data_at, fetch, output_at};
 pub use ext::Ext;
 pub use hashes::{data_hash, meta_of, occupied, script_hash, tx_hash};
+pub use list_blocks::ListBlocks;

@@ -1,12 +1,15 @@
 // Where the bytes of kept blocks come from: the trait that the rules on cells, proposals and uncles read them by.
-ghost use Rattle.std.specs.Prelude.{◌≡◌, ◌-◌, ◌^◌, ◌<◌, ◌≤◌, Option, Some, None, List, ℕ, length, slice_get, IfOk, OnOk, OnErr, IfSome, IsSome};
+ghost use Rattle.std.specs.Prelude.{◌≡◌, ◌-◌, ◌^◌, ◌<◌, ◌≤◌, Option, Some, None, Err, List, ℕ, length, slice_get, IfOk, OnOk, OnErr, IfSome, IsSome};
 ghost use Rattle.cell_defs.specs.Ext.{fee_of};
+ghost use Rattle.outside.specs.declared.disk.Area.TheVariants.{Log};
+ghost use Rattle.outside.specs.declared.disk.Damage.{Damage};
+ghost use Rattle.outside.specs.declared.disk.ReadStop.TheVariants.{Damaged};
 ghost use Rattle.chain_tree.specs.Told.{Stored, Encodes, HasReadCause, HasFee};
 
 use outside::ReadStop;
 
 /// The kept blocks with their exts, each by its place. One entry at a time is in hand: `bring` takes it, and `block`
-/// and `spent` give its bytes.
+/// and `spent` give its bytes. What is damaged stands in LOG, where the kept blocks are.
 pub trait Blocks {
     /// The kept blocks with their exts, where it tells them.
     ghost told: { Self → Option (List Stored) };
@@ -33,6 +36,7 @@ pub trait Blocks {
         ensures loans { loans_of self.new ≡ loans_of self.old }
         ensures taken { OnOk result (in_hand self.new ≡ Some e) }
         ensures dropped { OnErr result (in_hand self.new ≡ None) }
+        ensures damage { (damage : Damage) → result ≡ Err (Damaged damage) → damage.area ≡ Log }
         ensures cause { HasReadCause (faults self.old) (faults self.new) (told self.old) result };
 
     /// The block of the entry in hand, the genesis included.
@@ -59,6 +63,7 @@ pub trait Blocks {
         ensures fee { IfOk result (λ fee. IfSome (told self.old) (λ stored. IfSome (slice_get stored e) (λ it. fee ≡ fee_of it.ext tx))) }
         ensures taken { OnOk result (in_hand self.new ≡ Some e) }
         ensures dropped { OnErr result (in_hand self.new ≡ None) }
+        ensures damage { (damage : Damage) → result ≡ Err (Damaged damage) → damage.area ≡ Log }
         ensures cause { HasReadCause (faults self.old) (faults self.new) (told self.old) result };
 
     /// It tells as many as it has.

@@ -1,0 +1,4 @@
+pub mod CopyLemmas
+pub mod RowLemmas
+pub mod ExtLemmas
+pub mod ListLemmas

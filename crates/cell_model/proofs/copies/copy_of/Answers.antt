@@ -1,0 +1,16 @@
+use Rattle.std.proofs.Common.{◌≡◌, Some, ap, ◌∙◌, rules}
+use Rattle.codec_defs.specs.Shape.{IsA, decoded}
+use Rattle.codec_defs.specs.Schema.{CellOutput, cell_output}
+use Rattle.codec_defs.proofs.ShapeLaws.{decoded-is}
+use Rattle.codec_defs.proofs.RowLaws.{cell_output-check}
+use Rattle.cell_model.proofs.copies.copy_of.Goals as goal
+
+pub returns-clause-copied : goal.returns-clause-copied
+returns-clause-copied c = λ cell output content.
+    let encoding : c.in_ok-to_vec.field-0.items ≡ c.bytes.result.now = search rules in
+    let copied : c.in_ok-to_vec-2.field-0.items ≡ c.args.content.now = search rules in
+    record {
+      output = ap (decoded cell_output) encoding ∙ decoded-is cell_output cell_output-check c.bytes.result.now c.args.output.now c.bytes.ensures
+          ∙ ap (λ (o : CellOutput). Some o) output;
+      content = copied ∙ content;
+    }

@@ -1,0 +1,11 @@
+use Rattle.std.proofs.Common.{◌≡◌, ◌-◌, ◌*◌, length, map, take, drop}
+use Rattle.std.specs.List.{concat}
+use Rattle.cell_defs.specs.Ext.{row_bytes, are_rows}
+use Rattle.cell_model.proofs.ext.read_rows.Given as goal
+
+abbrev pub invariant-rows : goal.invariant-rows
+invariant-rows l = record {
+  count : length l.rows.items ≡ l.i;
+  bytes : concat (map row_bytes l.rows.items) ≡ take (161 * l.i) l.bytes;
+  form : are_rows l.count l.bytes ≡ are_rows (l.count - l.i) (drop (161 * l.i) l.bytes);
+}

@@ -1,0 +1,24 @@
+use Rattle.std.proofs.Common.{◌≡◌, ◌<◌, ℕ, List, Some, length, ap, sym, ◌∙◌, arith, rules}
+use Rattle.chain_tree.specs.Told.{Stored, Encodes}
+use Rattle.cell_model.specs.ListBlocks.{ListBlocksValue}
+use Rattle.cell_model.proofs.ListLemmas.{as_many, read_at, entry_at, by_hand, canonical_at}
+use Rattle.cell_model.proofs.list_blocks.ListBlocksBlocks.block.Goals as goal
+
+pub returns-in-Some : goal.returns-in-Some
+returns-in-Some c =
+    let here = c.self.inside in
+    let it = c.args.self.now in
+    let e : ℕ = c.in-Some.e in
+    let kept = c.self.invariant.0 in
+    let stored = ap (λ (v : ListBlocksValue). v.stored) c.self.view_is in
+    let hand : it.hand ≡ Some e = ap (λ (v : ListBlocksValue). v.hand) (sym c.self.view_is) ∙ c.in-Some.is in
+    let within : e < length here.blocks.items = search rules in
+    by_hand
+    (λ (it : Stored). Encodes c.deref.result.now it.block)
+    it
+    e
+    _
+    hand
+    (omega (arith, within, as_many here.blocks.items here.exts.items it.stored kept stored))
+    (entry_at here.blocks.items here.exts.items it.stored e kept stored within)
+    (canonical_at here.blocks.items here.exts.items e c.deref.result.now kept within (c.deref.ensures.value ∙ read_at here.blocks.items e c.index.result.now within c.index.ensures))

@@ -1,0 +1,66 @@
+-- Kept blocks in two lists of bytes: the encodings, and beside each its ext.
+use Rattle.std.specs.Prelude.{◌≡◌, ℕ, ◌-◌, ◌^◌, ◌<◌, List, [], ◌∷◌, length, map, Vec, Bool, true, false, Option, Some, None, slice_index_or, nat_lt, if◌then◌else◌, IsTrue, IsSome, IfSome}
+use Rattle.std.specs.Global.{Global}
+use Rattle.std.specs.List.{All}
+use Rattle.std.proofs.lemmas.Bool.{ltb-true}
+use Rattle.std.proofs.Common.{refl}
+use Rattle.codec_defs.specs.Shape.{decoded}
+use Rattle.codec_defs.specs.Schema.{block}
+use Rattle.chain_tree.specs.Told.{Stored}
+use Rattle.cell_defs.specs.Ext.{is_ext, count_at}
+
+-- the blocks with their exts, and the place of the one that was taken in hand last
+pub record ListBlocksValue : Type 0 where
+  pub stored : List Stored
+  pub hand : Option ℕ
+
+abbrev pub place_among : ℕ → Option ℕ → Option ℕ
+place_among len None = None
+place_among len (Some place) = if nat_lt place len then Some place else None
+
+-- the place of the one in hand, which is one of them
+abbrev pub place_in_hand : ListBlocksValue → Option ℕ
+place_in_hand it = place_among (length it.stored) it.hand
+
+-- the bytes in each of several vectors
+abbrev pub contents : List (Vec ℕ Global) → List (List ℕ)
+contents vectors = map (λ v. v.items) vectors
+
+-- ---- What may be kept
+
+-- the bytes encode a block
+abbrev pub IsCanonical : List ℕ → Type 0
+IsCanonical bytes = IsSome (decoded block bytes)
+
+-- The bytes beside a block have the form of an ext, with a fee for each transaction of the block after the first.
+pub record IsExtFor (bytes ext : List ℕ) : Type 0 where
+  pub form : IsTrue (is_ext ext)
+  pub fees : IfSome (decoded block bytes) (λ b. count_at ext 0 ≡ length b.transactions - 1)
+
+-- Canonical blocks, and as many exts; nothing is asked of what stands beside the first, the genesis.
+pub record AreKept (blocks exts : List (List ℕ)) : Type 0 where
+  pub lengths : length exts ≡ length blocks
+  pub few : length blocks < 2 ^ 32
+  pub canonical : All IsCanonical blocks
+  pub later : (place : ℕ) → 0 < place → place < length blocks → IsExtFor (slice_index_or blocks place []) (slice_index_or exts place [])
+
+-- ---- What they are seen as
+
+-- each block beside its ext
+abbrev pub stored_from : List (List ℕ) → List (List ℕ) → List Stored
+stored_from [] exts = []
+stored_from (b ∷ blocks) [] = []
+stored_from (b ∷ blocks) (ext ∷ exts) = record { block = block.decoding b; ext = ext } ∷ stored_from blocks exts
+
+-- ---- The one in hand is one of them
+
+pub place-within : (place len : ℕ) (b : Bool) → nat_lt place len ≡ b → IfSome (if b then Some place else None) (λ e. e < len)
+place-within place len true below = ltb-true place len below
+place-within place len false past = tt
+
+pub among-within : (len : ℕ) (hand : Option ℕ) → IfSome (place_among len hand) (λ e. e < len)
+among-within len None = tt
+among-within len (Some place) = place-within place len (nat_lt place len) refl
+
+pub hand_is_within : (it : ListBlocksValue) → IfSome (place_in_hand it) (λ e. e < length it.stored)
+hand_is_within it = among-within (length it.stored) it.hand

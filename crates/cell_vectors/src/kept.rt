@@ -1,0 +1,107 @@
+//! Kept blocks, and what is copied out of them.
+
+ghost use Rattle.std.specs.Prelude.{◌≡◌, true, false, IfSome};
+ghost use Rattle.cell_model.specs.ListBlocks.{IsCanonical, IsExtFor};
+
+use crate::{bytes_of, text_of};
+use cell_model::{CellMeta, Ext, ListBlocks, OutPoint, Resolved, fetch};
+use chain_tree::Blocks;
+use mol_schema::BlockView;
+use outside::{Area, Damage, ReadStop};
+use std::alloc::Global;
+use std::string::String;
+
+const BLOCK_LIMIT: u32 = 1_000_000;
+
+/// Keeps a block with its ext; None where these may not be kept.
+pub(crate) fn keep(alloc: Global, blocks: &mut ListBlocks, columns: &str) -> Option<bool> {
+    let (block, ext) = columns.split_once('\t')?;
+    let block = bytes_of(alloc, block)?;
+    let ext = bytes_of(alloc, ext)?;
+    let kept = blocks.len();
+    if kept >= BLOCK_LIMIT || !may_be_kept(alloc, kept == 0, &block, &ext)? {
+        return None;
+    }
+    blocks.push(block, ext).ok()?;
+    Some(true)
+}
+
+/// An out-point with a row that names an output by the place of a block, that of a transaction in it, and an index.
+/// What else is in them is not looked at.
+fn named(columns: &str) -> Option<(OutPoint, CellMeta)> {
+    let (block, columns) = columns.split_once('\t')?;
+    let (tx, index) = columns.split_once('\t')?;
+    let o = OutPoint {
+        tx_hash: [7; 32],
+        index: index.parse().ok()?,
+    };
+    let meta = CellMeta {
+        block: block.parse().ok()?,
+        tx: tx.parse().ok()?,
+        capacity: 1,
+        occupied: 2,
+        lock_hash: [3; 32],
+        type_hash: None,
+        data_hash: [4; 32],
+        data_len: 5,
+    };
+    Some((o, meta))
+}
+
+/// The output and its data that `fetch` copies, `damaged` where there is no such output, `none` where no such block.
+pub(crate) fn fetched(alloc: Global, blocks: &mut ListBlocks, columns: &str) -> Option<String> {
+    let (o, meta) = named(columns)?;
+    if meta.block >= blocks.len() {
+        return format!(in alloc; "none").ok();
+    }
+    match fetch(alloc, blocks, o, meta) {
+        Ok(copy) => copied(alloc, &copy, &o, &meta),
+        Err(
+            ReadStop::Damaged(
+                Damage {
+                    area: Area::Log,
+                    at: 0,
+                },
+            ),
+        ) => format!(in alloc; "damaged").ok(),
+        Err(_) => None,
+    }
+}
+
+/// The output and its data in a copy; None where its out-point or its row is another.
+fn copied(alloc: Global, copy: &Resolved, o: &OutPoint, meta: &CellMeta) -> Option<String> {
+    if copy.out_point != *o || copy.meta != *meta {
+        return None;
+    }
+    let output = text_of(alloc, &copy.output).ok()?;
+    let content = text_of(alloc, &copy.content).ok()?;
+    format!(in alloc; "{output},{content}").ok()
+}
+
+/// The ext of a kept block, by its place.
+pub(crate) fn spent(alloc: Global, blocks: &mut ListBlocks, columns: &str) -> Option<String> {
+    let place: u32 = columns.parse().ok()?;
+    if place == 0 || place >= blocks.len() {
+        return None;
+    }
+    blocks.bring(place).ok()?;
+    text_of(alloc, blocks.spent()).ok()
+}
+
+/// Whether the bytes are a block, and what stands beside a later one is an ext with a fee for each of its transactions
+/// after the first.
+fn may_be_kept(alloc: Global, is_first: bool, block: &[u8], ext: &[u8]) -> Option<bool>
+    ensures { IfSome result (λ may. may ≡ true → IsCanonical block.now × (is_first ≡ false → IsExtFor block.now ext.now)) }
+{
+    let Some(view) = BlockView::read(block) else {
+        return Some(false);
+    };
+    if is_first {
+        return Some(true);
+    }
+    match Ext::read(alloc, ext) {
+        Ok(Some(ext)) => Some(ext.fees.len() == view.transactions_count().saturating_sub(1)),
+        Ok(None) => Some(false),
+        Err(_) => None,
+    }
+}
