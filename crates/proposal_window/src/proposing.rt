@@ -1,5 +1,5 @@
 // Which ids a block proposes.
-ghost use Rattle.std.specs.Prelude.{◌≡◌, List, Some, Err, IfOk, length};
+ghost use Rattle.std.specs.Prelude.{◌≡◌, ◌<◌, List, Some, Err, IfOk, length};
 ghost use Rattle.std.specs.List.{list_any};
 ghost use Rattle.std.specs.Str.{bytes_eq};
 ghost use Rattle.outside.specs.Causes.{CountsFault};
