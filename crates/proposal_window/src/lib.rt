@@ -6,5 +6,6 @@
 #![tactic(auto)]
 
 mod proposers;
+mod proposing;
 
 pub use proposers::earliest;

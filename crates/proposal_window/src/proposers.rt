@@ -1,5 +1,5 @@
 // The earliest proposer of an id.
-ghost use Rattle.std.specs.Prelude.{◌≡◌, ◌+◌, ◌<◌, ◌≤◌, List, length, Some, Err, IfOk, IsSomeAnd};
+ghost use Rattle.std.specs.Prelude.{◌≡◌, ◌+◌, ◌-◌, ◌<◌, ◌≤◌, List, length, Some, Err, IfOk, IsSomeAnd};
 ghost use Rattle.outside.specs.declared.disk.Damage.{Damage};
 ghost use Rattle.outside.specs.declared.disk.ReadStop.TheVariants.{DiskFault, Damaged};
 ghost use Rattle.outside.specs.Causes.{CountsFault};
@@ -10,9 +10,22 @@ ghost use Rattle.chain_tree.specs.Blocks.{IndexesBlocks};
 ghost use Rattle.chain_tree.specs.Told.{Stored, blocks_of};
 ghost use Rattle.window_defs.specs.Window as window;
 
+use crate::proposing::is_proposed_at;
 use chain_tree::{Blocks, Tree};
 use epochs::Spec;
 use outside::ReadStop;
+
+/// The heights of the window of a height: the lowest, and the one behind the highest.
+fn window_of(spec: &Spec, height: u64) -> (u64, u64)
+    ensures low { result.0 ≡ height - spec.now.w_far }
+    ensures end { result.1 ≡ height + 1 - spec.now.w_close }
+    ensures below { result.1 ≤ height }
+{
+    let low = height.saturating_sub(u64::from(spec.w_far));
+    // w_close is at least 1
+    let end = height.saturating_sub(u64::from(spec.w_close - 1));
+    (low, end)
+}
 
 /// The lowest height, from w_far to w_close before this one, at which the block of the parent's branch or one of its
 /// uncles proposes the id. None where none of them does. Damaged where the bytes of one of these blocks are no block.
@@ -37,5 +50,12 @@ pub fn earliest<B: Blocks>(
     ensures damage { (damage : Damage) → result ≡ Err (Damaged damage) → damage.area ≡ Log }
     ensures cause { CountsFault (B.faults blocks.old) (B.faults blocks.new) (result ≡ Err DiskFault) }
 {
-    Err(ReadStop::NoMemory)
+    let (low, end) = window_of(spec, height);
+    'window: for proposer in low..end {
+        let place = tree.ancestor(parent, proposer);
+        if is_proposed_at(tree, blocks, place, id)? {
+            return Ok(Some(proposer));
+        }
+    }
+    Ok(None)
 }

@@ -38,6 +38,5 @@ pub record IsEarliest (spec : Specification) (branch : List Block) (id : List �
 
 -- Law: a height is the earliest proposer exactly where that holds of it.
 abbrev pub EarliestIsEarliest : Type 0
-EarliestIsEarliest = (spec : Specification) (branch : List Block) (id : List ℕ) (height proposer : ℕ) → spec.w_close ≤ spec.w_far
+EarliestIsEarliest = (spec : Specification) (branch : List Block) (id : List ℕ) (height proposer : ℕ)
     → (earliest spec branch id height ≡ Some proposer) ↔ IsEarliest spec branch id height proposer
-

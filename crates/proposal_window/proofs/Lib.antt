@@ -1,0 +1,2 @@
+pub mod ProposingLemmas
+pub mod BranchLemmas
