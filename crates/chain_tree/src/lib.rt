@@ -10,8 +10,6 @@
 mod ancestors;
 mod entry;
 mod median;
-#[cfg(test)]
-mod tests;
 mod tree;
 
 pub use entry::Entry;
