@@ -12,8 +12,6 @@ mod ancestors;
 mod blocks;
 mod entry;
 mod median;
-#[cfg(test)]
-mod tests;
 mod tree;
 
 pub use blocks::Blocks;

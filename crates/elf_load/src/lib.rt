@@ -15,8 +15,6 @@ mod loader;
 mod placing;
 mod segment;
 mod stop;
-#[cfg(test)]
-mod tests;
 mod touched;
 
 pub use judging::{Judged, judge};

@@ -1,4 +1,3 @@
 pub mod RowLaws
-pub mod TableLaws
 pub mod DecodeLaws
 pub mod Formats

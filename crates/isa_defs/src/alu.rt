@@ -1,5 +1,5 @@
 /// An operation on two registers. A form with an immediate takes the immediate as its second operand.
-#[derive(Clone, Copy, Debug, PartialEq, Eq)]
+#[derive(Clone, Copy)]
 pub enum Alu {
     Add,
     Sub,

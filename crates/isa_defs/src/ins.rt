@@ -2,7 +2,7 @@
 ///
 /// The immediate is sign-extended. That of `Lui` and `Auipc` is a multiple of 4,096, those of the
 /// branches and of `Jal` are offsets from the instruction, and that of a shift is its amount.
-#[derive(Clone, Copy, Debug, PartialEq, Eq)]
+#[derive(Clone, Copy)]
 pub enum Ins {
     Lui { rd: u8, imm: i64 },
     Auipc { rd: u8, imm: i64 },

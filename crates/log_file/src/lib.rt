@@ -18,13 +18,9 @@ mod grammar;
 mod log;
 mod number;
 mod opening;
-#[cfg(test)]
-mod opening_tests;
 mod reading;
 mod records;
 mod stop;
-#[cfg(test)]
-mod tests;
 
 pub use appending::append;
 pub use body::{Body, parts};

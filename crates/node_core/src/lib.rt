@@ -13,8 +13,6 @@ mod entry;
 mod new_store;
 mod node;
 mod rules;
-#[cfg(test)]
-mod tests;
 
 pub use log_file::LogStop;
 pub use new_store::{NewStop, NewStore, judge};

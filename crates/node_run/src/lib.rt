@@ -13,8 +13,6 @@ mod init;
 mod lines;
 mod output;
 mod store;
-#[cfg(test)]
-mod tests;
 mod tip;
 mod top;
 mod words;

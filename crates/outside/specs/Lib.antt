@@ -3,5 +3,3 @@ pub mod Streams
 pub mod Image
 pub mod Disk
 pub mod DiskLaws
-pub mod Memory
-pub mod MemoryDisk

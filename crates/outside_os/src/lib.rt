@@ -8,11 +8,7 @@
 mod claim;
 mod folder;
 mod folder_disk;
-#[cfg(test)]
-mod folder_tests;
 mod streams;
-#[cfg(test)]
-mod tests;
 
 pub use claim::Claim;
 pub use folder_disk::FolderDisk;

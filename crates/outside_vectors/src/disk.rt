@@ -1,7 +1,8 @@
 // Rows of disks.
 
 use crate::row::Row;
-use outside::{Area, Disk, NoDisk, write_durably};
+use outside::{Area, Disk, write_durably};
+use outside_mem::NoDisk;
 use std::alloc::Global;
 
 fn area_of(name: &str) -> Option<Area> {

@@ -10,7 +10,7 @@ mod disk;
 mod row;
 mod streams;
 
-use outside::{MemDisk, MemSink, MemSource};
+use outside_mem::{MemDisk, MemSink, MemSource};
 use row::Row;
 use std::alloc::Global;
 use std::io;

@@ -1,7 +1,8 @@
 // A folder as a disk in memory.
 
 use crate::row::LogFront;
-use outside::{Area, Disk, Failed, MemDisk, write_durably};
+use outside::{Area, Disk, Failed, write_durably};
+use outside_mem::MemDisk;
 use sha2::{Digest, Sha256};
 
 /// The longest file, in bytes.

@@ -12,10 +12,8 @@ ghost use Rattle.isa_defs.specs.Decode.{HasFullForm, decode};
 mod compressed;
 mod fields;
 mod full;
-mod table;
 
 pub use isa_defs::Ins;
-pub use table::table_laws;
 
 /// The instruction at the start of a word of code, and its length in bytes, 2 or 4.
 ///

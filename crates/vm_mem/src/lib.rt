@@ -16,8 +16,6 @@ mod paged;
 mod pages;
 mod slot;
 mod stop;
-#[cfg(test)]
-mod tests;
 
 pub use laws::{code_laws, store_laws};
 pub use memory::Memory;

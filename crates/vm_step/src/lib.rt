@@ -15,8 +15,6 @@ mod extension;
 mod fault;
 mod laws;
 mod machine;
-#[cfg(test)]
-mod tests;
 
 pub use laws::run_laws;
 pub use machine::Machine;

@@ -1,0 +1,88 @@
+-- What contracts see of a `MemDisk`: the calls that changed it, and what follows from them (docs/DECISIONS.md, "The outside").
+use Rattle.std.specs.Prelude.{◌≡◌, ◌⊎◌, ◌↔◌, ℕ, ◌+◌, ◌≤◌, nat_le, List, [], ◌∷◌, length, map, reverse, if◌then◌else◌}
+use Rattle.std.proofs.Common.{inl, inr}
+use Rattle.std.proofs.Math.Nat.{lt_irrefl}
+use Rattle.outside.specs.declared.disk.Area.{Area}
+use Rattle.outside_mem.specs.declared.history.Recorded.{Recorded}
+use Rattle.outside_mem.specs.declared.history.Recorded.TheVariants.{Write, Cut as CutShort, Sync}
+use Rattle.outside.specs.Causes.{up_to_last}
+use Rattle.outside.specs.Image.{Image, content, InArea}
+use Rattle.outside.specs.Disk.{write_area, cut_area, Torn, Cut, ComesBy}
+use Rattle.outside_mem.specs.Memory.{Plan}
+
+-- A call that changed the disk, or what a crash may leave of it.
+pub data Step : Type 0 where
+  -- a write of this piece, and of so many bytes behind it that a failed call did not come to
+  Wrote : (area : Area) (at : ℕ) (piece : List ℕ) (lost : ℕ) → Step
+  -- a cut to `len`, of which a failed call left so many bytes
+  Shortened : (area : Area) (len left : ℕ) → Step
+  Synced : (area : Area) → Step
+
+-- what the areas read as after a step
+abbrev pub read_after : Step → Image → Image
+read_after (Wrote area at piece lost) image = if nat_le at (length (content area image)) then write_area area at piece image else image
+read_after (Shortened area len left) image = cut_area area (len + left) image
+read_after (Synced area) image = image
+
+abbrev pub empty : Image
+empty = record { log = []; snap_a = []; snap_b = [] }
+
+-- Steps have their newest first. What the areas read as:
+abbrev pub reads : List Step → Image
+reads [] = empty
+reads (step ∷ earlier) = read_after step (reads earlier)
+
+-- An image that the steps leave: each write torn, each cut in part, and behind a sync only what was read.
+abbrev pub Leaves : List Step → Image → Type 0
+Leaves [] image = image ≡ empty
+Leaves (Wrote area at piece lost ∷ earlier) image = ComesBy (InArea area (Torn at (length piece + lost))) (Leaves earlier) image
+Leaves (Shortened area len left ∷ earlier) image = ComesBy (InArea area (Cut len)) (Leaves earlier) image
+Leaves (Synced area ∷ earlier) image = Leaves earlier image × (content area image ≡ content area (reads earlier))
+
+-- an image that a crash may leave
+abbrev pub MayLeave : List Step → Image → Type 0
+MayLeave steps image = (image ≡ reads steps) ⊎ Leaves steps image
+
+-- an image that a crash might have left when at least so many steps were made
+abbrev pub LeftSince : List Step → ℕ → Image → Type 0
+LeftSince [] since image = MayLeave [] image
+LeftSince (step ∷ earlier) since image = MayLeave (step ∷ earlier) image ⊎ ((since ≤ length earlier) × LeftSince earlier since image)
+
+-- A `MemDisk`: its steps, and how many calls ran out of memory.
+pub record Recording : Type 0 where
+  pub steps : List Step
+  pub plan : Plan
+  pub starved : ℕ
+
+abbrev pub disk_faults : Recording → ℕ
+disk_faults disk = up_to_last (disk.plan.failed + disk.starved)
+
+-- each image that a crash may leave now is one from before after this step, and each such image is among them
+abbrev pub LeavesExactly : (Image → Image → Type 0) → List Step → List Step → Type 0
+LeavesExactly step old new = (image : Image) → MayLeave new image ↔ ComesBy step (MayLeave old) image
+
+-- the same after a sync of this area: those from before in which it is as it reads
+abbrev pub LeavesSynced : Area → List Step → List Step → Type 0
+LeavesSynced area old new = (image : Image) → MayLeave new image ↔ (MayLeave old image × (content area image ≡ content area (reads old)))
+
+-- A failed call changed nothing, or it made one step, which did its work in part.
+abbrev pub FailsInPart : (Image → Image → Type 0) → List Step → List Step → Type 0
+FailsInPart step old new = (new ≡ old) ⊎ ((made : Step) × (new ≡ made ∷ old) × LeavesExactly step old new)
+
+-- the record that the code keeps, oldest first
+abbrev pub step_of : Recorded → Step
+step_of (Write area at piece lost) = Wrote area at piece.items lost
+step_of (CutShort area len left) = Shortened area len left
+step_of (Sync area) = Synced area
+
+abbrev pub steps_of : List Recorded → List Step
+steps_of recorded = reverse (map step_of recorded)
+
+pub counts_now : (steps : List Step) (since : ℕ) (image : Image) → since ≤ length steps → MayLeave steps image → LeftSince steps since image
+counts_now [] since image le left = left
+counts_now (step ∷ earlier) since image le left = inl left
+
+pub only_now : (steps : List Step) (image : Image) → LeftSince steps (length steps) image → MayLeave steps image
+only_now [] image left = left
+only_now (step ∷ earlier) image (inl now) = now
+only_now (step ∷ earlier) image (inr past) = absurd (lt_irrefl (length earlier) past.0)

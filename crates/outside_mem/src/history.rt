@@ -1,0 +1,98 @@
+// Areas in memory, and the record of the calls that changed them.
+ghost use Rattle.std.specs.Prelude.{◌≡◌, ◌+◌, ◌^◌, ◌<◌, ◌≤◌, [], ◌∷◌, length, OnOk, OnErr};
+ghost use Rattle.outside.specs.Image.{content};
+ghost use Rattle.outside_mem.specs.MemoryDisk.{Wrote, Shortened, Synced, reads};
+
+use crate::areas::Areas;
+use outside::{Area, NoMemory};
+use std::alloc::Global;
+use std::marker::Model;
+
+/// A call that changed the areas.
+#[derive(Drop)]
+pub(crate) enum Recorded {
+    /// Where it wrote, what, and how many bytes behind it that it did not come to.
+    Write(Area, u64, Vec<u8>, usize),
+    /// The length that it cut to, and how many bytes behind it that it left.
+    Cut(Area, u64, u64),
+    Sync(Area),
+}
+
+/// Three areas, and all that changed them since they were empty. A clause sees the steps, the newest first.
+#[derive(Drop)]
+pub(crate) struct History {
+    alloc: Global,
+    areas: Areas,
+    recorded: Vec<Recorded>,
+}
+
+impl Model for History {
+    ghost use Rattle.std.specs.Prelude.{◌≡◌, List};
+    ghost use Rattle.outside_mem.specs.MemoryDisk.{Step, steps_of, reads};
+
+    ghost Value = { List Step };
+
+    ghost view = { λ history. steps_of history.recorded.items };
+
+    ghost invariant = { λ history. history.areas ≡ reads (steps_of history.recorded.items) };
+}
+
+impl History {
+    pub(crate) fn new(alloc: Global) -> History
+        ensures { result ≡ [] }
+    {
+        History {
+            alloc,
+            areas: Areas::new(alloc),
+            recorded: Vec::new(alloc),
+        }
+    }
+
+    pub(crate) fn bytes(&self, area: Area) -> &[u8]
+        ensures { result.now ≡ content area (reads self.now) }
+    {
+        self.areas.bytes(area)
+    }
+
+    /// Writes a piece, of which `lost` more bytes were to come. Without memory it changes nothing.
+    pub(crate) fn write(
+        &mut self,
+        area: Area,
+        at: u64,
+        piece: &[u8],
+        lost: usize,
+    ) -> Result<(), NoMemory>
+        requires { at ≤ length (content area (reads self.old)) }
+        ensures recorded { OnOk result (self.new ≡ Wrote area at piece.now lost ∷ self.old) }
+        ensures kept { OnErr result (self.new ≡ self.old) }
+    {
+        self.recorded.reserve(1)?;
+        let kept = piece.to_vec(self.alloc)?;
+        self.areas.write(area, at as usize, piece)?;
+        self.recorded
+            .push_reserved(Recorded::Write(area, at, kept, lost));
+        Ok(())
+    }
+
+    /// Cuts to `len` and `left` more bytes. Without memory it changes nothing.
+    pub(crate) fn cut(&mut self, area: Area, len: u64, left: u64) -> Result<(), NoMemory>
+        requires { len + left < 2 ^ 64 }
+        ensures recorded { OnOk result (self.new ≡ Shortened area len left ∷ self.old) }
+        ensures kept { OnErr result (self.new ≡ self.old) }
+    {
+        self.recorded.reserve(1)?;
+        self.areas.cut(area, (len + left) as usize);
+        self.recorded.push_reserved(Recorded::Cut(area, len, left));
+        Ok(())
+    }
+
+    /// Without memory it changes nothing.
+    pub(crate) fn sync(&mut self, area: Area) -> Result<(), NoMemory>
+        ensures recorded { OnOk result (self.new ≡ Synced area ∷ self.old) }
+        ensures kept { OnErr result (self.new ≡ self.old) }
+    {
+        self.recorded.reserve(1)?;
+        self.recorded.push_reserved(Recorded::Sync(area));
+        Ok(())
+    }
+}

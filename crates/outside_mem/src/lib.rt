@@ -1,0 +1,16 @@
+//! Forms of `Source`, `Sink` and `Disk` in memory, which fail at the calls that they are told to, and `NoDisk`.
+//!
+//! They are for programs of vectors and for chains that are made in memory; what they say shows that what the traits
+//! of `outside` say can be met. The program `ckbdev` is built without them.
+#![tactic(auto)]
+
+mod areas;
+mod failure_plan;
+mod history;
+mod mem_disk;
+mod memory;
+mod no_disk;
+
+pub use mem_disk::MemDisk;
+pub use memory::{MemSink, MemSource};
+pub use no_disk::NoDisk;

@@ -1,0 +1,144 @@
+// Rows of logs.
+
+use crate::row::Row;
+use log_file::{Body, LogStop, append, create, open};
+use outside::{Area, Disk, WriteStop};
+use outside_mem::MemDisk;
+use std::alloc::Global;
+
+const LIMIT: usize = 10_000_000;
+
+/// The number, or `disk_fault`. None out of memory.
+fn is_stopped(stop: WriteStop, wanted: &str) -> Option<bool> {
+    match stop {
+        WriteStop::DiskFault => Some(wanted == "disk_fault"),
+        WriteStop::NoMemory => None,
+    }
+}
+
+/// A specification and a genesis: where the records of the new log end.
+pub(crate) fn agrees_on_create(alloc: Global, disk: &mut MemDisk, row: &mut Row) -> Option<bool> {
+    let spec = row.bytes(alloc)?;
+    let genesis = row.bytes(alloc)?;
+    if spec.len() >= LIMIT || genesis.len() >= LIMIT {
+        return None;
+    }
+    match create(alloc, disk, &spec, &genesis) {
+        Ok(log) => Some(row.number()? == log.place),
+        Err(stop) => is_stopped(stop, row.word()),
+    }
+}
+
+/// A block and its ext, behind a new log of `spec` and `genesis`: where the records end, the kind, the place and the length
+/// of the body.
+pub(crate) fn agrees_on_append(alloc: Global, disk: &mut MemDisk, row: &mut Row) -> Option<bool> {
+    let block = row.bytes(alloc)?;
+    let ext = row.bytes(alloc)?;
+    if block.len() >= LIMIT || ext.len() >= LIMIT {
+        return None;
+    }
+    let mut body = Body::new(alloc);
+    body.fill(alloc, &block, &ext).ok()?;
+    let log = create(alloc, disk, b"spec", b"genesis").ok()?;
+    match append(log, disk, &body) {
+        Ok((log, rec)) => Some(
+            row.number()? == log.place
+                && row.number()? == u64::from(rec.kind)
+                && row.number()? == rec.at
+                && row.number()? == u64::from(rec.len),
+        ),
+        Err(_) => Some(row.word() == "disk_fault"),
+    }
+}
+
+/// All bytes of a short log.
+pub(crate) fn agrees_on_log(alloc: Global, disk: &mut MemDisk, row: &mut Row) -> Option<bool> {
+    let mut into = [0; 100];
+    let n = disk.read(Area::Log, 0, &mut into).ok()?;
+    Some(into.get(..n)? == row.bytes(alloc)?.as_slice())
+}
+
+/// A byte of the log: where it stands, and what it is.
+pub(crate) fn agrees_on_byte(disk: &mut MemDisk, row: &mut Row) -> Option<bool> {
+    let at = row.number()?;
+    Some(byte_at(disk, at)? == row.number()?)
+}
+
+fn byte_at(disk: &mut MemDisk, at: u64) -> Option<u64> {
+    let mut into = [0; 1];
+    match disk.read(Area::Log, at, &mut into).ok()? {
+        1 => Some(u64::from(into[0])),
+        _ => None,
+    }
+}
+
+/// Puts these bytes at the front of a log, in one call. None where it fails.
+pub(crate) fn put(disk: &mut MemDisk, bytes: &[u8]) -> Option<bool> {
+    if bytes.len() >= LIMIT {
+        return None;
+    }
+    disk.write(Area::Log, 0, bytes).ok()?;
+    Some(true)
+}
+
+/// How many blocks the log is opened with, and where its records end then.
+fn opened(alloc: Global, disk: &mut MemDisk) -> Result<(u64, u64), LogStop> {
+    let found = open(alloc, disk)?;
+    Ok((found.blocks.len() as u64, found.log.place))
+}
+
+/// The count of the blocks, where the records end, and the byte that stands there then, or why there is none.
+pub(crate) fn agrees_on_open(alloc: Global, disk: &mut MemDisk, row: &mut Row) -> Option<bool> {
+    match opened(alloc, disk) {
+        Ok((count, place)) => Some(
+            row.number()? == count
+                && row.number()? == place
+                && row.number()? == byte_at(disk, place)?,
+        ),
+        Err(LogStop::NotAStore) => Some(row.word() == "not_a_store"),
+        Err(LogStop::DiskFault) => Some(row.word() == "disk_fault"),
+        Err(LogStop::NoMemory) => None,
+    }
+}
+
+fn agrees_on_bytes(alloc: Global, bytes: &[u8], row: &mut Row) -> Option<bool> {
+    let mut disk = MemDisk::new(alloc, Vec::new(alloc));
+    put(&mut disk, bytes)?;
+    agrees_on_open(alloc, &mut disk, row)
+}
+
+/// The bytes with another at a place.
+pub(crate) fn agrees_on_changed(alloc: Global, bytes: &[u8], row: &mut Row) -> Option<bool> {
+    let mut changed = bytes.to_vec(alloc).ok()?;
+    let at: usize = row.word().parse().ok()?;
+    *changed.get_mut(at)? = row.word().parse().ok()?;
+    agrees_on_bytes(alloc, &changed, row)
+}
+
+/// Each front of the bytes from one length up to another.
+pub(crate) fn agrees_on_fronts(alloc: Global, bytes: &[u8], row: &mut Row) -> Option<bool> {
+    let from: usize = row.word().parse().ok()?;
+    let to: usize = row.word().parse().ok()?;
+    let wanted = row.word();
+    for len in from..to {
+        if agrees_on_front(alloc, bytes.get(..len)?, wanted)? {
+            continue;
+        }
+        return Some(false);
+    }
+    Some(true)
+}
+
+/// The count of the blocks and where the records end, with a comma between, or `not_a_store`.
+fn agrees_on_front(alloc: Global, bytes: &[u8], wanted: &str) -> Option<bool> {
+    let mut disk = MemDisk::new(alloc, Vec::new(alloc));
+    put(&mut disk, bytes)?;
+    match opened(alloc, &mut disk) {
+        Ok((count, place)) => {
+            let text = format!(in alloc; "{count},{place}").ok()?;
+            Some(text.as_str() == wanted)
+        }
+        Err(LogStop::NotAStore) => Some(wanted == "not_a_store"),
+        Err(_) => None,
+    }
+}

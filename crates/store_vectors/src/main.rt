@@ -1,0 +1,125 @@
+//! Logs and the tree of the kept blocks: makes the call of each row of its standard input, and prints the rows that differ.
+//!
+//! A row begins with what it calls, has a column for each argument and ends with the answer, with a tab between two; bytes are
+//! in hex, `-` for none. `disk` makes a new disk in memory, with the numbers of the calls that fail, and `tree` a new tree; the
+//! rows below use them. `bytes` has bytes of a log, which `changed`, `fronts` and `put` are about. A line that begins with `#`
+//! tells what follows. The records are by docs/STORE.md, the blocks by docs/RULES.md with hashes of Python's own Blake2b, and
+//! the medians by its `sorted`.
+#![tactic(auto)]
+
+mod forms;
+mod logs;
+mod row;
+mod trees;
+
+use chain_tree::Tree;
+use outside_mem::MemDisk;
+use row::Row;
+use std::alloc::Global;
+use std::io;
+use std::io::{BufRead, BufReader};
+use std::process::ExitCode;
+
+/// What the rows act on.
+#[derive(Drop)]
+struct Store {
+    disk: MemDisk,
+    bytes: Vec<u8>,
+    tree: Tree,
+}
+
+impl Store {
+    fn new(alloc: Global) -> Option<Store> {
+        Some(Store {
+            disk: MemDisk::new(alloc, Vec::new(alloc)),
+            bytes: Vec::new(alloc),
+            tree: trees::new_tree(alloc)?,
+        })
+    }
+
+    /// Whether the call answers what the row says; None where it is no row.
+    fn agrees(&mut self, alloc: Global, row: &mut Row) -> Option<bool> {
+        match row.word() {
+            "disk" => {
+                self.disk = MemDisk::new(alloc, row.numbers(alloc)?);
+                Some(true)
+            }
+            "bytes" => {
+                self.bytes = row.bytes(alloc)?;
+                Some(true)
+            }
+            "tree" => {
+                self.tree = trees::new_tree(alloc)?;
+                Some(true)
+            }
+            call => self.agrees_on_log(alloc, call, row),
+        }
+    }
+
+    fn agrees_on_log(&mut self, alloc: Global, call: &str, row: &mut Row) -> Option<bool> {
+        match call {
+            "create" => logs::agrees_on_create(alloc, &mut self.disk, row),
+            "append" => logs::agrees_on_append(alloc, &mut self.disk, row),
+            "log" => logs::agrees_on_log(alloc, &mut self.disk, row),
+            "byte" => logs::agrees_on_byte(&mut self.disk, row),
+            "put" => logs::put(&mut self.disk, &self.bytes),
+            "open" => logs::agrees_on_open(alloc, &mut self.disk, row),
+            "changed" => logs::agrees_on_changed(alloc, &self.bytes, row),
+            "fronts" => logs::agrees_on_fronts(alloc, &self.bytes, row),
+            call => self.agrees_on_tree(alloc, call, row),
+        }
+    }
+
+    fn agrees_on_tree(&mut self, alloc: Global, call: &str, row: &mut Row) -> Option<bool> {
+        match call {
+            "branch" => trees::agrees_on_branch(&mut self.tree, row),
+            "ancestors" => trees::agrees_on_ancestors(&self.tree, row),
+            "missing" => trees::agrees_on_missing(&self.tree, row),
+            "median" => trees::agrees_on_median(alloc, row),
+            "parts" => forms::agrees_on_parts(alloc, row),
+            "ext_form" => forms::agrees_on_ext(alloc, row),
+            "genesis" => forms::agrees_on_genesis(alloc, row),
+            _ => None,
+        }
+    }
+}
+
+/// How many rows there are, and how many of them agree.
+fn compare(rt: HostRuntime, store: &mut Store) -> io::Result<(u64, u64)> {
+    let alloc = rt.alloc();
+    let mut rows = 0u64;
+    let mut agreed = 0u64;
+    for line in BufReader::new(alloc, rt.reader())?.lines(alloc) {
+        let line = line?;
+        if line.starts_with('#') {
+            continue;
+        }
+        rows = rows.saturating_add(1);
+        if store.agrees(alloc, &mut Row::new(&line)) == Some(true) {
+            agreed = agreed.saturating_add(1);
+        } else {
+            println!(rt; "differs: {line}")?;
+        }
+    }
+    Ok((rows, agreed))
+}
+
+fn compare_from_new(rt: HostRuntime) -> io::Result<(u64, u64)> {
+    match Store::new(rt.alloc()) {
+        Some(store) => {
+            let mut store = store;
+            compare(rt, &mut store)
+        }
+        None => Ok((1, 0)),
+    }
+}
+
+fn main(rt: HostRuntime) -> io::Result<ExitCode> {
+    let (rows, agreed) = compare_from_new(rt)?;
+    println!(rt; "{agreed} of {rows} rows agree")?;
+    Ok(if agreed == rows {
+        ExitCode::SUCCESS
+    } else {
+        ExitCode::FAILURE
+    })
+}

@@ -1,0 +1,25 @@
+// Rows of the streams.
+
+use crate::disk::is_count;
+use crate::row::Row;
+use outside::{Sink, Source};
+use std::alloc::Global;
+
+/// How many bytes are read, and which four are in the buffer then, which dashes fill before.
+pub(crate) fn agrees_on_read<S: Source>(
+    alloc: Global,
+    source: &mut S,
+    row: &mut Row,
+) -> Option<bool> {
+    let mut into = [b'-'; 4];
+    let read = source.read(&mut into);
+    let counted = is_count(read.map(|n| n as u64), row)?;
+    Some(counted && into.as_slice() == row.bytes(alloc)?.as_slice())
+}
+
+/// The bytes, and how many are taken.
+pub(crate) fn agrees_on_write<K: Sink>(alloc: Global, sink: &mut K, row: &mut Row) -> Option<bool> {
+    let piece = row.bytes(alloc)?;
+    let written = sink.write(&piece);
+    is_count(written.map(|n| n as u64), row)
+}
