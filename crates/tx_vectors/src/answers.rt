@@ -1,0 +1,103 @@
+// What a transaction is answered, as the word of a row.
+use crate::kept::{Kept, apply, replayed};
+use cell_model::Resolved;
+use cell_state::State;
+use epochs::Spec;
+use mol_schema::{BlockView, TxView};
+use outside::{NoMemory, Steps};
+use std::alloc::Global;
+use std::io;
+use std::sync::ledger::Ledger;
+use tx_rules::{TxAt, TxOk, TxStop, resolve};
+
+/// The index of each cell and the length of its data.
+fn cells_text(alloc: Global, cells: &[Resolved]) -> io::Result<String> {
+    let mut text = String::new(alloc);
+    for cell in cells {
+        if !text.is_empty() {
+            text.push(',')?;
+        }
+        let index = cell.out_point.index;
+        let len = cell.content.len();
+        text.push_str(format!(in alloc; "{index}/{len}")?.as_str())?;
+    }
+    if text.is_empty() {
+        text.push('-')?;
+    }
+    Ok(text)
+}
+
+fn places_text(alloc: Global, places: &[u32]) -> io::Result<String> {
+    let mut text = String::new(alloc);
+    for place in places {
+        if !text.is_empty() {
+            text.push(',')?;
+        }
+        text.push_str(format!(in alloc; "{place}")?.as_str())?;
+    }
+    if text.is_empty() {
+        text.push('-')?;
+    }
+    Ok(text)
+}
+
+fn ok_text(alloc: Global, ok: &TxOk<'_>) -> io::Result<String> {
+    let deps = cells_text(alloc, &ok.resolved.deps)?;
+    let headers = places_text(alloc, &ok.resolved.headers)?;
+    let fee = ok.fee;
+    let interest = ok.interest;
+    Ok(format!(in alloc; "ok {fee} {interest} {deps} {headers}")?)
+}
+
+fn text_of(alloc: Global, answer: &Result<TxOk<'_>, TxStop>) -> io::Result<String> {
+    match answer {
+        Ok(ok) => ok_text(alloc, ok),
+        Err(TxStop::Broken(rule)) => Ok(format!(in alloc; "broken {rule}")?),
+        Err(TxStop::Read(_)) => Ok(format!(in alloc; "unread")?),
+    }
+}
+
+/// What a transaction is answered alone, behind the last block.
+pub fn alone(
+    alloc: Global,
+    spec: &Spec,
+    kept: &mut Kept,
+    state: &State,
+    bytes: &[u8],
+) -> io::Result<String> {
+    let Some(tx) = TxView::read(bytes) else {
+        return Ok(format!(in alloc; "no transaction")?);
+    };
+    let at = TxAt {
+        spec,
+        tree: &kept.tree,
+        parent: kept.tree.len() - 1,
+        block: None,
+    };
+    text_of(alloc, &resolve(alloc, &tx, &at, state, &mut kept.blocks))
+}
+
+/// What the transaction at a place of a block is answered, over the live cells behind those before it.
+pub fn within(
+    alloc: Global,
+    spec: &Spec,
+    kept: &mut Kept,
+    state: &State,
+    bytes: &[u8],
+    place: usize,
+) -> io::Result<String> {
+    let Some(block) = BlockView::read(bytes) else {
+        return Ok(format!(in alloc; "no block")?);
+    };
+    if place >= block.transactions_count() {
+        return Ok(format!(in alloc; "no such place")?);
+    }
+    let tx = block.transactions_item(place);
+    let at = TxAt {
+        spec,
+        tree: &kept.tree,
+        parent: kept.tree.len() - 1,
+        block: Some(block),
+    };
+    text_of(alloc, &resolve(alloc, &tx, &at, state, &mut kept.blocks))
+}
