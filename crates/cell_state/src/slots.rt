@@ -75,6 +75,7 @@ impl Slots {
         ensures spare { OnOk result (more ≤ self.new.spare) }
         ensures grows { self.old.spare ≤ self.new.spare }
         ensures enough { more ≤ self.old.spare → IsOk result }
+        ensures most { count self.new + self.new.spare ≤ 2 ^ 50 }
     {
         if more <= self.spare {
             return Ok(());

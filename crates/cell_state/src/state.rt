@@ -70,6 +70,7 @@ impl State {
         ensures spare { OnOk result (more ≤ self.new.spare) }
         ensures grows { self.old.spare ≤ self.new.spare }
         ensures enough { more ≤ self.old.spare → IsOk result }
+        ensures most { count self.new + self.new.spare ≤ 2 ^ 50 }
     {
         self.slots.reserve(more)
     }

@@ -17,3 +17,9 @@ invariant_of-self-2 c =
 pub returns-clause-at : goal.returns-clause-at
 returns-clause-at c o =
     c.in_ok-reserve.ensures.entries.2 (key_of o) ∙ ap (λ (v : StateValue). at v o) c.self.view_is
+
+pub returns-then-more-self-clause-most : goal.returns-then-more-self-clause-most
+returns-then-more-self-clause-most c =
+    let len : length c.self.inside.map.entries ≡ length c.args.self.now.entries = ap (λ (v : StateValue). length v.entries) c.self.view_is in
+    let spare : c.self.inside.spare ≡ c.args.self.now.spare = ap (λ (v : StateValue). v.spare) c.self.view_is in
+    omega (arith, c.self.invariant.1, most-is, len, spare)
