@@ -1,6 +1,6 @@
 -- The proposal window (RFC 0020, "Two-Step Transaction Confirmation"; docs/RULES.md, "A block"): a transaction is committed in a block some
 -- blocks behind one that proposes its id.
-use Rattle.std.specs.Prelude.{◌≡◌, ◌↔◌, ℕ, ◌+◌, ◌-◌, ◌<◌, ◌≤◌, nat_lt, Bool, false, IsTrue, List, [], ◌∷◌, ◌++◌, Option, Some, None, if◌then◌else◌}
+use Rattle.std.specs.Prelude.{◌≡◌, ◌↔◌, ℕ, ◌+◌, ◌-◌, ◌<◌, ◌≤◌, nat_lt, Bool, false, IsTrue, List, [], ◌++◌, Option, Some, None, if◌then◌else◌}
 use Rattle.std.specs.List.{list_any, flat_map, find, range_with_len}
 use Rattle.std.specs.Str.{bytes_eq}
 use Rattle.codec_defs.specs.Schema.{Block}
