@@ -1,5 +1,5 @@
 //! What cells and their rows are for, in words: the laws of `cell_defs`, as contracts of functions that do nothing.
-//! They are apart from the definitions, so that no crate above waits for their proofs.
+//! They are apart from the definitions, so that only a crate that cites one waits for their proofs: `cell_state` does.
 #![tactic(auto)]
 
 ghost use Rattle.cell_laws.specs.Laws.{MakesAreOutputs, SpendsAreInputs, LivesByCounting, AppliesInOrder, GrowsByABlock, CellsAreOutputs, SeenCellsAreOutputs};

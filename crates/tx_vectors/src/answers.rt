@@ -1,13 +1,12 @@
 // What a transaction is answered, as the word of a row.
-use crate::kept::{Kept, apply, replayed};
-use cell_model::Resolved;
+use crate::kept::is_placed;
+use cell_model::{ListBlocks, Resolved};
 use cell_state::State;
+use chain_tree::Tree;
 use epochs::Spec;
 use mol_schema::{BlockView, TxView};
-use outside::{NoMemory, Steps};
 use std::alloc::Global;
 use std::io;
-use std::sync::ledger::Ledger;
 use tx_rules::{TxAt, TxOk, TxStop, resolve};
 
 /// The index of each cell and the length of its data.
@@ -57,11 +56,26 @@ fn text_of(alloc: Global, answer: &Result<TxOk<'_>, TxStop>) -> io::Result<Strin
     }
 }
 
-/// What a transaction is answered alone, behind the last block.
-pub fn alone(
+/// What a transaction is answered at a place, over live cells and kept blocks.
+fn answer(
     alloc: Global,
-    spec: &Spec,
-    kept: &mut Kept,
+    tx: &TxView<'_>,
+    at: &TxAt<'_>,
+    state: &State,
+    blocks: &mut ListBlocks,
+) -> io::Result<String> {
+    if !is_placed(at) || blocks.len() != at.tree.len() {
+        return Ok(format!(in alloc; "no place")?);
+    }
+    text_of(alloc, &resolve(alloc, tx, at, state, blocks))
+}
+
+/// What a transaction is answered alone, behind the last block.
+pub fn alone<'a>(
+    alloc: Global,
+    spec: &'a Spec,
+    tree: &'a Tree,
+    blocks: &mut ListBlocks,
     state: &State,
     bytes: &[u8],
 ) -> io::Result<String> {
@@ -70,18 +84,19 @@ pub fn alone(
     };
     let at = TxAt {
         spec,
-        tree: &kept.tree,
-        parent: kept.tree.len() - 1,
+        tree,
+        parent: tree.len() - 1,
         block: None,
     };
-    text_of(alloc, &resolve(alloc, &tx, &at, state, &mut kept.blocks))
+    answer(alloc, &tx, &at, state, blocks)
 }
 
 /// What the transaction at a place of a block is answered, over the live cells behind those before it.
 pub fn within(
     alloc: Global,
     spec: &Spec,
-    kept: &mut Kept,
+    tree: &Tree,
+    blocks: &mut ListBlocks,
     state: &State,
     bytes: &[u8],
     place: usize,
@@ -95,9 +110,9 @@ pub fn within(
     let tx = block.transactions_item(place);
     let at = TxAt {
         spec,
-        tree: &kept.tree,
-        parent: kept.tree.len() - 1,
+        tree,
+        parent: tree.len() - 1,
         block: Some(block),
     };
-    text_of(alloc, &resolve(alloc, &tx, &at, state, &mut kept.blocks))
+    answer(alloc, &tx, &at, state, blocks)
 }

@@ -15,10 +15,11 @@ mod kept;
 ghost use Rattle.std.specs.Prelude.{◌≡◌, ◌<◌};
 
 use answers::{alone, within};
-use cell_model::{Cells, OutPoint};
+use cell_model::{Cells, ListBlocks, OutPoint};
 use cell_state::State;
+use chain_tree::Tree;
 use epochs::Spec;
-use kept::{Kept, apply, replayed};
+use kept::{add, apply, of_genesis, replayed};
 use mol_schema::{BlockView, OutPointView};
 use outside::{NoMemory, Steps};
 use std::alloc::Global;
@@ -32,7 +33,8 @@ use std::sync::ledger::{Blank, Ledger};
 #[derive(Drop)]
 struct Chain {
     spec: Spec,
-    kept: Kept,
+    tree: Tree,
+    blocks: ListBlocks,
     items: Vec<Vec<u8>>,
     state: State,
 }
@@ -43,7 +45,7 @@ fn chain_of<L: Ledger>(
     spec: Spec,
     genesis: &[u8],
 ) -> Result<Option<Chain>, NoMemory> {
-    let Some(kept) = Kept::of_genesis(alloc, genesis)? else {
+    let Some((tree, blocks)) = of_genesis(alloc, genesis)? else {
         return Ok(None);
     };
     let mut items = Vec::new(alloc);
@@ -53,22 +55,23 @@ fn chain_of<L: Ledger>(
     };
     Ok(Some(Chain {
         spec,
-        kept,
+        tree,
+        blocks,
         items,
         state,
     }))
 }
 
 /// Puts a block behind the last, and says whether it is the next one.
-fn add<L: Ledger>(
+fn next<L: Ledger>(
     alloc: Global,
     steps: &mut Steps<L>,
     chain: &mut Chain,
     block: &[u8],
     ext: &[u8],
 ) -> Result<bool, NoMemory> {
-    let e = chain.kept.tree.len();
-    if !chain.kept.add(alloc, block, ext)? {
+    let e = chain.tree.len();
+    if !add(alloc, &mut chain.tree, &mut chain.blocks, block, ext)? {
         return Ok(false);
     }
     chain.items.push(block.to_vec(alloc)?)?;
@@ -117,7 +120,7 @@ fn answer_within<L: Ledger>(
     let Some(view) = BlockView::read(front) else {
         return Ok(format!(in alloc; "no front")?);
     };
-    let e = chain.kept.tree.len();
+    let e = chain.tree.len();
     let state = match replayed(alloc, steps, &chain.items) {
         Ok(Some(mut state)) => match apply(&mut state, steps, front, e) {
             Ok(true) => state,
@@ -128,7 +131,8 @@ fn answer_within<L: Ledger>(
     within(
         alloc,
         &chain.spec,
-        &mut chain.kept,
+        &chain.tree,
+        &mut chain.blocks,
         &state,
         block,
         view.transactions_count(),
@@ -163,10 +167,18 @@ fn answer<L: Ledger>(
         return Ok(None);
     };
     let Some(second) = second else {
-        return Ok(Some(alone(alloc, &chain.spec, &mut chain.kept, &chain.state, first)?));
+        let got = alone(
+            alloc,
+            &chain.spec,
+            &chain.tree,
+            &mut chain.blocks,
+            &chain.state,
+            first,
+        )?;
+        return Ok(Some(got));
     };
     let done = match word {
-        "block" => add(alloc, steps, chain, first, second),
+        "block" => next(alloc, steps, chain, first, second),
         "row" => shadow(steps, chain, first, second),
         _ => return Ok(Some(answer_within(alloc, steps, chain, first, second)?)),
     };
