@@ -1,0 +1,2 @@
+pub mod AloneLaws
+pub mod AccountLaws
