@@ -5,7 +5,7 @@ use Rattle.std.proofs.lemmas.Bool.Decides.{nat_tests}
 use Rattle.vm_defs.specs.declared.outcome.Outcome.{Outcome}
 use Rattle.vm_defs.specs.declared.outcome.Outcome.TheVariants.{Fault, Spent}
 use Rattle.vm_defs.specs.declared.memory.MemFault.{MemFault}
-use Rattle.vm_defs.specs.Memory.{Memory}
+use Rattle.vm_defs.specs.Memory.{Memory, page_size}
 use Rattle.vm_defs.specs.Memory as memory
 use Rattle.vm_defs.specs.Step.{Machine, with_register, charged, is_spent}
 use Rattle.vm_defs.specs.Program.{KeepsAccount, loading_cycles}
