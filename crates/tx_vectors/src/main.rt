@@ -223,9 +223,14 @@ fn try_rows<L: Ledger>(rt: HostRuntime, blank: Blank) -> io::Result<ExitCode>
             continue;
         };
         match answer(alloc, &mut steps, &mut spec, &mut chain, wanted, &parts)? {
-            Some(got) if got.as_str() == wanted => agreed = agreed.saturating_add(1),
-            Some(got) => println!(rt; "row {rows} differs: {wanted}, got {got}")?,
-            None => println!(rt; "row {rows} is none: {wanted}")?,
+            None => println!(rt; "row {rows} has no answer")?,
+            Some(got) => {
+                if got.as_str() == wanted {
+                    agreed = agreed.saturating_add(1);
+                } else {
+                    println!(rt; "row {rows} differs, got: {got}")?;
+                }
+            }
         }
     }
     println!(rt; "{agreed} of {rows} rows agree")?;
