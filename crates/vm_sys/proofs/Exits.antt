@@ -59,14 +59,14 @@ unfolding loads_part
 word-refused m item fault new result refused is same = rw (refused, is, same) (refl, refl)
 
 length-stopped : (m : Machine) (part : List ℕ) (expected : Result Memory MemFault) (old left : Memory) (stop : MemStop) (new : Machine) (result : Sys)
-    → Stores expected old left (Err stop) → IsStopped stop result → new.cycles ≡ m.cycles → IsAnswer (with_length m part expected) new result
+    → Stores expected old left (Err stop) → IsStopped stop result → new ≡ record m { memory = new.memory } → IsAnswer (with_length m part expected) new result
 length-stopped m part (Ok done) old left (mem_stop.Fault fault) new result stores is same = absurd stores
 length-stopped m part (Ok done) old left mem_stop.NoMemory new result stores is same = rw is tt
 length-stopped m part (Err expected) old left (mem_stop.Fault fault) new result stores is same = rw is (ap fault_number stores.0, same)
 length-stopped m part (Err expected) old left mem_stop.NoMemory new result stores is same = absurd stores
 
 part-stopped : (m : Machine) (part : List ℕ) (expected : Result Memory MemFault) (old left : Memory) (stop : MemStop) (new : Machine) (result : Sys)
-    → Stores expected old left (Err stop) → IsStopped stop result → new.cycles ≡ m.cycles → IsAnswer (with_part m part expected) new result
+    → Stores expected old left (Err stop) → IsStopped stop result → new ≡ record m { memory = new.memory } → IsAnswer (with_part m part expected) new result
 part-stopped m part (Ok done) old left (mem_stop.Fault fault) new result stores is same = absurd stores
 part-stopped m part (Ok done) old left mem_stop.NoMemory new result stores is same = rw is tt
 part-stopped m part (Err expected) old left (mem_stop.Fault fault) new result stores is same = rw is (ap fault_number stores.0, same)
@@ -81,7 +81,7 @@ part_of m item word = take word (drop (argument m 2) item)
 
 pub length-refused : (m : Machine) (item : List ℕ) (word : ℕ) (expected : Result Memory MemFault) (old left : Memory) (stop : MemStop) (new : Machine) (result : Sys)
     → memory.load m.memory (argument m 1) 8 ≡ Ok word → expected ≡ length_stored m item → Stores expected old left (Err stop)
-    → IsStopped stop result → new.cycles ≡ m.cycles → IsAnswer (loads_part m item) new result
+    → IsStopped stop result → new ≡ record m { memory = new.memory } → IsAnswer (loads_part m item) new result
 unfolding loads_part
 length-refused m item word expected old left stop new result loaded first stores is same =
     rw loaded (length-stopped m (part_of m item word) (length_stored m item) old left stop new result
@@ -90,7 +90,7 @@ length-refused m item word expected old left stop new result loaded first stores
 pub part-refused : (m : Machine) (item : List ℕ) (word : ℕ) (expected expected' : Result Memory MemFault) (old one old' left : Memory) (stop : MemStop) (new : Machine) (result : Sys)
     → memory.load m.memory (argument m 1) 8 ≡ Ok word → expected ≡ length_stored m item → Stores expected old one (Ok tt)
     → expected' ≡ stored one (argument m 0) (part_of m item word) → Stores expected' old' left (Err stop)
-    → IsStopped stop result → new.cycles ≡ m.cycles → IsAnswer (loads_part m item) new result
+    → IsStopped stop result → new ≡ record m { memory = new.memory } → IsAnswer (loads_part m item) new result
 unfolding loads_part
 part-refused m item word expected expected' old one old' left stop new result loaded first stores second stores' is same =
     let ok : length_stored m item ≡ Ok one = sym first ∙ stores-ok expected old one stores in
@@ -134,7 +134,7 @@ content-placed m (Ok written) left new result placed paid = rw placed paid
 content-placed m (Err fault) left new result placed paid = absurd placed
 
 content-stopped : (m : Machine) (expected : Result Memory MemFault) (left : Memory) (stop : MemStop) (new : Machine) (result : Sys)
-    → IsPlaced (Err stop) expected (argument m 0) (argument m 1 / page_size) left → IsStopped stop result → new.cycles ≡ m.cycles
+    → IsPlaced (Err stop) expected (argument m 0) (argument m 1 / page_size) left → IsStopped stop result → new ≡ record m { memory = new.memory }
     → IsAnswer (with_content m expected) new result
 content-stopped m (Ok written) left (mem_stop.Fault fault) new result placed is same = rw (placed, is) (refl, same)
 content-stopped m (Ok written) left mem_stop.NoMemory new result placed is same = rw is tt
@@ -184,7 +184,7 @@ code-placed m item left paid new result within whole placed is pays =
 
 pub code-stopped : (m : Machine) (item : List ℕ) (left : Memory) (stop : MemStop) (new : Machine) (result : Sys) → is_outside m item ≡ false → has_part_pages m ≡ false
     → IsPlaced (Err stop) (memory.store m.memory (argument m 0) (placed_bytes m item)) (argument m 0) (argument m 1 / page_size) left
-    → IsStopped stop result → new.cycles ≡ m.cycles → IsAnswer (loads_code m item) new result
+    → IsStopped stop result → new ≡ record m { memory = new.memory } → IsAnswer (loads_code m item) new result
 unfolding loads_code
 code-stopped m item left stop new result within whole placed is same =
     rw (within, whole) (content-stopped m (memory.store m.memory (argument m 0) (code_bytes m item)) left stop new result

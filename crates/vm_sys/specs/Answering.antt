@@ -9,6 +9,7 @@ use Rattle.vm_defs.specs.Step.{Machine, fault_number}
 use Rattle.vm_mem.specs.declared.stop.MemStop.{MemStop}
 use Rattle.vm_mem.specs.declared.stop.MemStop.TheVariants as mem_stop
 use Rattle.vm_step.specs.Running.{RunningMachine}
+use Rattle.sys_defs.specs.World.{Item}
 use Rattle.sys_defs.specs.Answer.{Answered}
 use Rattle.vm_sys.specs.declared.syscall.Sys.{Sys}
 use Rattle.vm_sys.specs.declared.syscall.Sys.TheVariants.{Done, Exit, Fault, Spent, Stop}
@@ -24,12 +25,12 @@ Answers (Exit code) (Some (outcome.Fault number)) next new = ⊥
 Answers (Exit code) (Some outcome.Spent) next new = ⊥
 Answers (Fault number) None next new = ⊥
 Answers (Fault number) (Some (outcome.Exit code)) next new = ⊥
-Answers (Fault number) (Some (outcome.Fault expected)) next new = (number ≡ expected) × (new.cycles ≡ next.cycles)
+Answers (Fault number) (Some (outcome.Fault expected)) next new = (number ≡ expected) × (new ≡ record next { memory = new.memory })
 Answers (Fault number) (Some outcome.Spent) next new = ⊥
 Answers Spent None next new = ⊥
 Answers Spent (Some (outcome.Exit code)) next new = ⊥
 Answers Spent (Some (outcome.Fault number)) next new = ⊥
-Answers Spent (Some outcome.Spent) next new = new.cycles ≡ next.cycles
+Answers Spent (Some outcome.Spent) next new = new ≡ next
 Answers (Stop stop) expected next new = ⊤
 
 abbrev pub IsAnswer : Answered → Machine → Sys → Type 0
@@ -55,6 +56,10 @@ IsPlaced (Ok done) (Err expected) at pages new = ⊥
 IsPlaced (Err (mem_stop.Fault fault)) (Ok written) at pages new = set_code written at pages ≡ Err fault
 IsPlaced (Err (mem_stop.Fault fault)) (Err expected) at pages new = fault ≡ expected
 IsPlaced (Err mem_stop.NoMemory) expected at pages new = ⊤
+
+-- the answer is that of some item, as also where a world tells of none
+abbrev pub IsAnswerOfSome : (Item → Answered) → Machine → Sys → Type 0
+IsAnswerOfSome answer new result = (item : Item) × IsAnswer (answer item) new result
 
 -- a machine with other memory
 abbrev pub with_memory : RunningMachine → Memory → List Bool → RunningMachine

@@ -9,7 +9,7 @@ ghost use Rattle.sys_defs.specs.Answer.{asks, results, syscall, with_item, with_
 ghost use Rattle.vm_defs.specs.Alone as alone;
 ghost use Rattle.vm_mem.specs.Pages.{IsAllocated};
 ghost use Rattle.vm_sys.specs.Deeds.{form_meaning};
-ghost use Rattle.vm_sys.specs.Answering.{IsAnswer, goes_on_of};
+ghost use Rattle.vm_sys.specs.Answering.{IsAnswer, IsAnswerOfSome, goes_on_of};
 
 use super::call::{A0, A7, Deed, Form, asked, deed_of};
 use super::loading::{load_code, load_part};
@@ -46,6 +46,7 @@ pub fn handle<W: World>(machine: &mut Machine, world: &mut W) -> Sys
     requires { machine.old.goes_on ≡ true }
     ensures told { W.told world.new ≡ W.told world.old }
     ensures loans { W.loans_of world.new ≡ W.loans_of world.old }
+    ensures some { IsAnswerOfSome (λ item. syscall (λ call. item) machine.old.machine) machine.new.machine result }
     ensures exact { (items : Items) → W.told world.old ≡ Some items → IsAnswer (syscall items machine.old.machine) machine.new.machine result }
     ensures goes_on { machine.new.goes_on ≡ goes_on_of result }
     ensures cause { CountsFault (W.faults world.old) (W.faults world.new) (result ≡ Sys.Stop DiskFault) }
@@ -68,6 +69,7 @@ fn load<W: World>(machine: &mut Machine, world: &mut W, form: Form) -> Sys
     requires { machine.old.goes_on ≡ true }
     ensures told { W.told world.new ≡ W.told world.old }
     ensures loans { W.loans_of world.new ≡ W.loans_of world.old }
+    ensures some { IsAnswerOfSome (with_item (form_meaning form) machine.old.machine) machine.new.machine result }
     ensures exact { (items : Items) → W.told world.old ≡ Some items → IsAnswer (with_item (form_meaning form) machine.old.machine (items (asks machine.old.machine (form_meaning form)))) machine.new.machine result }
     ensures goes_on { machine.new.goes_on ≡ goes_on_of result }
     ensures cause { CountsFault (W.faults world.old) (W.faults world.new) (result ≡ Sys.Stop DiskFault) }

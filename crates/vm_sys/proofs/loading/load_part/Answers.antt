@@ -18,19 +18,21 @@ returns-in-Err-store_word-clause-answer c =
     (ap (λ (at : ℕ). load m.memory at 8) (sym c.reg-length_at.ensures) ∙ sym c.load_word.ensures.word ∙ c.in-Ok.is)
     (rw (c.load_word.ensures.unchanged, c.reg-length_at.ensures, c.from-rest.ensures, c.reg.ensures) refl)
     c.in-Err-store_word.ensures.stores c.stopped-in-Err-store_word.ensures
-    (ap (λ running. running.machine.cycles) c.store_word.ensures.rest ∙ ap (λ running. running.machine.cycles) c.load_word.ensures.unchanged)
+    (ap (λ running. running.machine) c.store_word.ensures.rest
+    ∙ ap (λ running. record running.machine { memory = c.store_word.new.machine.machine.memory }) c.load_word.ensures.unchanged)
 
 pub returns-in-Err-store_bytes-clause-answer : goal.returns-in-Err-store_bytes-clause-answer
 returns-in-Err-store_bytes-clause-answer c =
     let m = c.args.machine.now.machine in
+    let two = c.store_bytes.new.machine.machine.memory in
     part-refused m c.args.item.now c.in-Ok.word _ _ _ c.store_word.new.machine.machine.memory _ _ c.in-Err-store_bytes.stop _ _
     (ap (λ (at : ℕ). load m.memory at 8) (sym c.reg-length_at.ensures) ∙ sym c.load_word.ensures.word ∙ c.in-Ok.is)
     (rw (c.load_word.ensures.unchanged, c.reg-length_at.ensures, c.from-rest.ensures, c.reg.ensures) refl)
     c.in-Ok-store_word.ensures.stores
     (rw (c.reg-to.ensures, c.first-part.ensures, c.from-rest.ensures, c.reg.ensures) refl)
     c.in-Err-store_bytes.ensures.stores c.stopped-in-Err-store_bytes.ensures
-    (ap (λ running. running.machine.cycles) c.store_bytes.ensures.rest ∙ ap (λ running. running.machine.cycles) c.store_word.ensures.rest
-    ∙ ap (λ running. running.machine.cycles) c.load_word.ensures.unchanged)
+    (ap (λ running. running.machine) c.store_bytes.ensures.rest ∙ ap (λ running. record running.machine { memory = two }) c.store_word.ensures.rest
+    ∙ ap (λ running. record running.machine { memory = two }) c.load_word.ensures.unchanged)
 
 pub returns-clause-answer : goal.returns-clause-answer
 returns-clause-answer c =
