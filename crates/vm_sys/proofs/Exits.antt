@@ -173,14 +173,15 @@ code-is m item within =
     let count : argument m 2 + argument m 3 - argument m 2 ≡ argument m 3 = omega arith in
     rw (size, count) refl
 
-pub code-placed : (m : Machine) (item : List ℕ) (left : Memory) (paid new : Machine) (result : Sys) → is_outside m item ≡ false → has_part_pages m ≡ false
+pub code-placed : (m : Machine) (item : List ℕ) (left : Memory) (count : ℕ) (paid new : Machine) (result : Sys) → is_outside m item ≡ false → has_part_pages m ≡ false
     → IsPlaced (Ok tt) (memory.store m.memory (argument m 0) (placed_bytes m item)) (argument m 0) (argument m 1 / page_size) left
-    → paid ≡ record m { memory = left } → IsAnswer (paid_for (argument m 1) paid) new result → IsAnswer (loads_code m item) new result
+    → paid ≡ record m { memory = left } → count ≡ argument m 1 → IsAnswer (paid_for count paid) new result → IsAnswer (loads_code m item) new result
 unfolding loads_code
-code-placed m item left paid new result within whole placed is pays =
+code-placed m item left count paid new result within whole placed is size pays =
     rw (within, whole) (content-placed m (memory.store m.memory (argument m 0) (code_bytes m item)) left new result
     (subst (λ b. IsPlaced (Ok tt) (memory.store m.memory (argument m 0) b) (argument m 0) (argument m 1 / page_size) left) (code-is m item within) placed)
-    (subst (λ (machine : Machine). IsAnswer (paid_for (argument m 1) machine) new result) is pays))
+    (subst (λ (n : ℕ). IsAnswer (paid_for n (record m { memory = left })) new result) size
+    (subst (λ (machine : Machine). IsAnswer (paid_for count machine) new result) is pays)))
 
 pub code-stopped : (m : Machine) (item : List ℕ) (left : Memory) (stop : MemStop) (new : Machine) (result : Sys) → is_outside m item ≡ false → has_part_pages m ≡ false
     → IsPlaced (Err stop) (memory.store m.memory (argument m 0) (placed_bytes m item)) (argument m 0) (argument m 1 / page_size) left

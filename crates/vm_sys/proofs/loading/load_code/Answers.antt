@@ -40,6 +40,5 @@ returns-clause-answer c =
     let parts : has_part_pages m ≡ c.is_unaligned.result = rw (c.is_unaligned.ensures, c.reg-to.ensures, c.reg-size.ensures) refl in
     let content : c.first-content.result.now ≡ content_of m c.args.item.now =
     rw (c.first-content.ensures, c.from.ensures, c.reg-offset.ensures, c.reg-count.ensures) refl in
-    code-placed m c.args.item.now c.place_code.new.memory.memory _ _ _ (out ∙ c.if-lies_outside.false) (parts ∙ c.if-is_unaligned.false)
-    (rw (content, c.memory_mut.ensures.memory, c.reg-to.ensures, c.reg-size.ensures) at c.in-Ok.ensures.placed) refl
-    (rw c.reg-size.ensures at c.pay.ensures.answer)
+    code-placed m c.args.item.now c.place_code.new.memory.memory c.reg-size.result _ _ _ (out ∙ c.if-lies_outside.false) (parts ∙ c.if-is_unaligned.false)
+    (rw (content, c.memory_mut.ensures.memory, c.reg-to.ensures, c.reg-size.ensures) at c.in-Ok.ensures.placed) refl c.reg-size.ensures c.pay.ensures.answer
