@@ -1,5 +1,5 @@
 -- A load of an item, exit by exit.
-use Rattle.std.proofs.Common.{◌≡◌, ℕ, ◌+◌, ◌-◌, ◌/◌, ◌%◌, ◌==◌, ◌||◌, nat_lt, Bool, true, false, List, ◌++◌, length, take, drop, replicate, slice_range, Result, Ok, Err, ◌≤◌, ◌<◌, refl, sym, ◌∙◌, ap, subst, arith, Option, Some}
+use Rattle.std.proofs.Common.{◌≡◌, ℕ, ◌+◌, ◌-◌, ◌/◌, ◌%◌, ◌==◌, ◌||◌, nat_lt, Bool, true, false, List, ◌++◌, length, take, drop, replicate, Result, Ok, Err, ◌≤◌, ◌<◌, refl, sym, ◌∙◌, ap, subst, arith, Option, Some}
 use Rattle.std.specs.Prelude.{not, IfSome, OnOk}
 use Rattle.std.proofs.lemmas.Bool.Decides.{nat_tests}
 use Rattle.std.proofs.lemmas.List.{length-append, length-drop, length-replicate, length-take}
@@ -14,7 +14,7 @@ use Rattle.vm_defs.specs.Step.{Machine, charged, fault_number, is_spent, with_re
 use Rattle.vm_mem.specs.Paged.{Stores}
 use Rattle.vm_mem.specs.declared.stop.MemStop.{MemStop}
 use Rattle.vm_mem.specs.declared.stop.MemStop.TheVariants as mem_stop
-use Rattle.sys_defs.specs.Answer.{argument, results, paid_for, stored, with_part, with_length, within_word, loads_part, code_bytes, with_code, with_content, loads_code}
+use Rattle.sys_defs.specs.Answer.{argument, paid_for, stored, with_part, with_length, loads_part, code_bytes, with_content, loads_code}
 use Rattle.vm_sys.specs.declared.syscall.Sys.{Sys}
 use Rattle.vm_sys.specs.declared.syscall.Sys.TheVariants.{Done, Fault, Spent}
 use Rattle.vm_sys.specs.Answering.{IsAnswer, IsPlaced, IsStopped}

@@ -1,9 +1,5 @@
-use Rattle.std.proofs.Common.{◌≡◌, ℕ, ◌+◌, ◌-◌, ◌/◌, ◌++◌, List, length, replicate, Result, Ok, Err, false, ap, refl, subst, sym, ◌∙◌}
-use Rattle.vm_defs.specs.Memory.{page_size}
-use Rattle.vm_defs.specs.Memory as memory
-use Rattle.sys_defs.specs.Answer.{argument}
-use Rattle.vm_sys.specs.Answering.{IsPlaced}
-use Rattle.vm_sys.proofs.Exits.{code-outside, code-placed, code-stopped, code-unaligned, content-fits, content_of, has_part_pages, is_outside, placed_bytes}
+use Rattle.std.proofs.Common.{◌≡◌, ap, refl, ◌∙◌}
+use Rattle.vm_sys.proofs.Exits.{code-outside, code-placed, code-stopped, code-unaligned, content_of, has_part_pages, is_outside}
 use Rattle.vm_sys.proofs.loading.load_code.Goals as goal
 
 pub returns-then-lies_outside-clause-answer : goal.returns-then-lies_outside-clause-answer

@@ -1,7 +1,6 @@
-use Rattle.std.proofs.Common.{◌≡◌, ℕ, Err, Ok, ap, length, refl, sym, ◌∙◌}
+use Rattle.std.proofs.Common.{ℕ, ap, length, refl, sym, ◌∙◌}
 use Rattle.vm_defs.specs.Memory.{load}
-use Rattle.sys_defs.specs.Answer.{argument, stored}
-use Rattle.vm_sys.proofs.Exits.{length-refused, length_stored, part-paid, part-refused, part_of, word-refused}
+use Rattle.vm_sys.proofs.Exits.{length-refused, part-paid, part-refused, word-refused}
 use Rattle.vm_sys.proofs.loading.load_part.Goals as goal
 
 pub returns-in-Err-clause-answer : goal.returns-in-Err-clause-answer

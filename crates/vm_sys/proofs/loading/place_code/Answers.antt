@@ -1,4 +1,4 @@
-use Rattle.std.proofs.Common.{◌≡◌, ◌/◌, ap, arith, subst, sym}
+use Rattle.std.proofs.Common.{◌/◌, arith, sym}
 use Rattle.vm_defs.specs.Memory.{page_size}
 use Rattle.vm_sys.proofs.Exits.{placed-first, placed-out, placed-rest, placed-written}
 use Rattle.vm_sys.proofs.loading.place_code.Goals.{then-size-gt-MEMORY_SIZE-via-then-size-gt-MEMORY_SIZE, then-size-gt-MEMORY_SIZE-via-else-size-gt-MEMORY_SIZE+then-at-size}
