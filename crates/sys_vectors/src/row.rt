@@ -1,5 +1,5 @@
 // A row: the call, what surrounds it, and the answer.
-ghost use Rattle.std.specs.Prelude.{◌≡◌, true};
+ghost use Rattle.std.specs.Prelude.{◌≡◌};
 
 use crate::shown::Shown;
 use std::alloc::Global;
