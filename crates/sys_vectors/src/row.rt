@@ -1,0 +1,158 @@
+// A row: the call, what surrounds it, and the answer.
+ghost use Rattle.std.specs.Prelude.{◌≡◌};
+
+use crate::shown::Shown;
+use std::alloc::Global;
+use vm_defs::{PAGE_COUNT, PAGE_SIZE};
+use vm_mem::{MemFault, Memory, Width};
+use vm_step::Machine;
+use vm_sys::{Sys, handle};
+
+const BUDGET_LIMIT: u64 = 1 << 40;
+
+/// What is left of a row.
+#[derive(Drop)]
+pub(crate) struct Row<'a> {
+    rest: &'a str,
+}
+
+impl<'a> Row<'a> {
+    pub(crate) fn new(line: &'a str) -> Row<'a> {
+        Row { rest: line }
+    }
+
+    fn word(&mut self) -> &'a str {
+        let (word, rest) = self.rest.split_once('\t').unwrap_or((self.rest, ""));
+        self.rest = rest;
+        word
+    }
+
+    fn count(&mut self) -> Option<u64> {
+        self.word().parse::<u64>().ok()
+    }
+}
+
+/// The numbers of a column in hex, with commas between two; what is not there is 0.
+#[derive(Drop)]
+struct Numbers<'a> {
+    rest: &'a str,
+}
+
+impl<'a> Numbers<'a> {
+    fn next(&mut self) -> u64 {
+        let (word, rest) = self.rest.split_once(',').unwrap_or((self.rest, ""));
+        self.rest = rest;
+        u64::from_str_radix(word, 16).unwrap_or(0)
+    }
+}
+
+/// Writes the bytes of a column, each run of them behind its address.
+fn write_runs(alloc: Global, memory: &mut Memory, column: &str) -> Option<()> {
+    if column == "-" {
+        return Some(());
+    }
+    for run in column.split(';') {
+        let (at, digits) = run.split_once(':')?;
+        let at = u64::from_str_radix(at, 16).ok()?;
+        let bytes = hex::decode(alloc, digits).ok()?;
+        if memory.copy_in(at, &bytes).is_err() {
+            return None;
+        }
+    }
+    Some(())
+}
+
+/// Makes the pages of a column code.
+fn make_code(memory: &mut Memory, column: &str) -> Option<()> {
+    for page in column.split(',') {
+        let page = page.parse::<u64>().ok()?;
+        if page >= PAGE_COUNT || memory.set_code(page * PAGE_SIZE, 1).is_err() {
+            return None;
+        }
+    }
+    Some(())
+}
+
+/// Writes the arguments and the number of a call.
+fn set_call(machine: &mut Machine, column: &str)
+    ensures { machine.new.goes_on ≡ machine.old.goes_on }
+{
+    let mut numbers = Numbers { rest: column };
+    machine.set_reg(10, numbers.next());
+    machine.set_reg(11, numbers.next());
+    machine.set_reg(12, numbers.next());
+    machine.set_reg(13, numbers.next());
+    machine.set_reg(14, numbers.next());
+    machine.set_reg(15, numbers.next());
+    machine.set_reg(17, numbers.next());
+}
+
+/// Whether two memories have the same bytes, and the same pages of code.
+fn are_alike(memory: &Memory, other: &Memory) -> bool {
+    for word in 0..PAGE_COUNT * PAGE_SIZE / 8 {
+        if memory.load(8 * word, Width::B8) != other.load(8 * word, Width::B8) {
+            return false;
+        }
+    }
+    for page in 0..PAGE_COUNT {
+        let is_data = memory.fetch(PAGE_SIZE * page) == Err(MemFault::RunData);
+        let other_is_data = other.fetch(PAGE_SIZE * page) == Err(MemFault::RunData);
+        if is_data != other_is_data {
+            return false;
+        }
+    }
+    true
+}
+
+fn agrees_on_done(
+    alloc: Global,
+    machine: &mut Machine,
+    before: &str,
+    row: &mut Row,
+) -> Option<bool> {
+    let result = u64::from_str_radix(row.word(), 16).ok()?;
+    let cycles = row.count()?;
+    let mut wanted = Memory::new(alloc).ok()?;
+    write_runs(alloc, &mut wanted, before)?;
+    write_runs(alloc, &mut wanted, row.word())?;
+    make_code(&mut wanted, row.word())?;
+    let is_paid = machine.reg(10) == result && machine.cycles() == cycles;
+    Some(is_paid && are_alike(machine.memory_mut(), &wanted))
+}
+
+/// Whether the call of a row is answered as the row says; None where it is no row.
+pub(crate) fn agrees(alloc: Global, row: &mut Row) -> Option<bool> {
+    let registers = row.word();
+    let budget = row.count()?;
+    if budget > BUDGET_LIMIT {
+        return None;
+    }
+    let mut world = Shown::new(alloc, row.word())?;
+    let before = row.word();
+    let mut memory = Memory::new(alloc).ok()?;
+    write_runs(alloc, &mut memory, before)?;
+    make_code(&mut memory, row.word())?;
+    let mut machine = Machine::new(memory, 0, 0, budget);
+    set_call(&mut machine, registers);
+    let wanted = row.word();
+    let answer = handle(&mut machine, &mut world);
+    match answer {
+        Sys::Done => {
+            if wanted != "done" {
+                return Some(false);
+            }
+            agrees_on_done(alloc, &mut machine, before, row)
+        }
+        answer => Some(is_named(alloc, answer, wanted)?),
+    }
+}
+
+fn is_named(alloc: Global, answer: Sys, wanted: &str) -> Option<bool> {
+    let name = match answer {
+        Sys::Exit(code) => format!(in alloc; "exit {code}").ok()?,
+        Sys::Fault(number) => format!(in alloc; "fault {number}").ok()?,
+        Sys::Spent => format!(in alloc; "spent").ok()?,
+        _ => format!(in alloc; "stop").ok()?,
+    };
+    Some(name.as_str() == wanted)
+}

@@ -1,0 +1,40 @@
+use Rattle.std.proofs.Common.{◌≡◌, ap, refl, ◌∙◌}
+use Rattle.vm_sys.proofs.Exits.{code-outside, code-placed, code-stopped, code-unaligned, content_of, has_part_pages, is_outside}
+use Rattle.vm_sys.proofs.loading.load_code.Goals as goal
+
+pub returns-then-lies_outside-clause-answer : goal.returns-then-lies_outside-clause-answer
+returns-then-lies_outside-clause-answer c =
+    let m = c.args.machine.now.machine in
+    let out : is_outside m c.args.item.now ≡ c.lies_outside.result =
+    rw (c.lies_outside.ensures, c.reg-offset.ensures, c.reg-count.ensures, c.reg-size.ensures) refl in
+    code-outside m c.args.item.now c.set_reg.new.self.machine (out ∙ c.if-lies_outside.true) (ap (λ running. running.machine) c.set_reg.ensures)
+
+pub returns-then-is_unaligned-clause-answer : goal.returns-then-is_unaligned-clause-answer
+returns-then-is_unaligned-clause-answer c =
+    let m = c.args.machine.now.machine in
+    let out : is_outside m c.args.item.now ≡ c.lies_outside.result =
+    rw (c.lies_outside.ensures, c.reg-offset.ensures, c.reg-count.ensures, c.reg-size.ensures) refl in
+    let parts : has_part_pages m ≡ c.is_unaligned.result = rw (c.is_unaligned.ensures, c.reg-to.ensures, c.reg-size.ensures) refl in
+    code-unaligned m c.args.item.now m (out ∙ c.if-lies_outside.false) (parts ∙ c.if-is_unaligned.true) refl
+
+pub returns-in-Err-clause-answer : goal.returns-in-Err-clause-answer
+returns-in-Err-clause-answer c =
+    let m = c.args.machine.now.machine in
+    let out : is_outside m c.args.item.now ≡ c.lies_outside.result =
+    rw (c.lies_outside.ensures, c.reg-offset.ensures, c.reg-count.ensures, c.reg-size.ensures) refl in
+    let parts : has_part_pages m ≡ c.is_unaligned.result = rw (c.is_unaligned.ensures, c.reg-to.ensures, c.reg-size.ensures) refl in
+    let content : c.first-content.result.now ≡ content_of m c.args.item.now =
+    rw (c.first-content.ensures, c.from.ensures, c.reg-offset.ensures, c.reg-count.ensures) refl in
+    code-stopped m c.args.item.now c.place_code.new.memory.memory c.in-Err.stop _ _ (out ∙ c.if-lies_outside.false) (parts ∙ c.if-is_unaligned.false)
+    (rw (content, c.memory_mut.ensures.memory, c.reg-to.ensures, c.reg-size.ensures) at c.in-Err.ensures.placed) c.stopped.ensures refl
+
+pub returns-clause-answer : goal.returns-clause-answer
+returns-clause-answer c =
+    let m = c.args.machine.now.machine in
+    let out : is_outside m c.args.item.now ≡ c.lies_outside.result =
+    rw (c.lies_outside.ensures, c.reg-offset.ensures, c.reg-count.ensures, c.reg-size.ensures) refl in
+    let parts : has_part_pages m ≡ c.is_unaligned.result = rw (c.is_unaligned.ensures, c.reg-to.ensures, c.reg-size.ensures) refl in
+    let content : c.first-content.result.now ≡ content_of m c.args.item.now =
+    rw (c.first-content.ensures, c.from.ensures, c.reg-offset.ensures, c.reg-count.ensures) refl in
+    code-placed m c.args.item.now c.place_code.new.memory.memory c.reg-size.result _ _ _ (out ∙ c.if-lies_outside.false) (parts ∙ c.if-is_unaligned.false)
+    (rw (content, c.memory_mut.ensures.memory, c.reg-to.ensures, c.reg-size.ensures) at c.in-Ok.ensures.placed) refl c.reg-size.ensures c.pay.ensures.answer

@@ -1,0 +1,3 @@
+pub mod Deeds
+pub mod Finding
+pub mod Answering

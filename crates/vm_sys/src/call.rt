@@ -1,0 +1,113 @@
+// A syscall's number and arguments.
+ghost use Rattle.std.specs.Prelude.{◌≡◌};
+ghost use Rattle.sys_defs.specs.Table as table;
+ghost use Rattle.sys_defs.specs.Answer.{asks};
+ghost use Rattle.vm_sys.specs.Deeds.{form_meaning, meaning_of_any};
+
+use std::marker::Model;
+use vm_step::Machine;
+
+/// The registers of a syscall: its arguments, its result in the first of them, and its number.
+pub(crate) const A0: u8 = 10;
+
+pub(crate) const A1: u8 = 11;
+
+pub(crate) const A2: u8 = 12;
+
+pub(crate) const A3: u8 = 13;
+
+const A4: u8 = 14;
+
+const A5: u8 = 15;
+
+pub(crate) const A7: u8 = 17;
+
+/// What a syscall asks for. Where it asks for no field, that is 0.
+#[derive(Clone, Copy, Debug, PartialEq, Eq)]
+pub struct Call {
+    pub number: u64,
+    pub index: u64,
+    pub source: u64,
+    pub field: u64,
+}
+
+impl Model for Call {
+    ghost use Rattle.sys_defs.specs.World as world;
+
+    ghost Value = { world.Call };
+
+    ghost view = { λ call. record { number = call.number; index = call.index; source = call.source; field = call.field } };
+
+    ghost inverse = { λ call. record { number = call.number; index = call.index; source = call.source; field = call.field } };
+}
+
+/// How an item is loaded.
+#[derive(Clone, Copy, Debug, PartialEq, Eq)]
+pub(crate) enum Form {
+    Part,
+    Field,
+    Code,
+}
+
+/// What a syscall does.
+#[derive(Clone, Copy, Debug, PartialEq, Eq)]
+pub(crate) enum Deed {
+    Exits,
+    Debugs,
+    Loads(Form),
+}
+
+/// What the syscall of a number does (RFC 0009).
+#[tactic(auto, unfolding(sys_defs::specs::Table::deed_of, sys_defs::specs::Table::syscalls))]
+pub(crate) fn deed_of(number: u64) -> Option<Deed>
+    ensures { meaning_of_any result ≡ table.deed_of number }
+{
+    match number {
+        93 => Some(Deed::Exits),
+        2051 => Some(Deed::Loads(Form::Part)),
+        2052 => Some(Deed::Loads(Form::Part)),
+        2061 => Some(Deed::Loads(Form::Part)),
+        2062 => Some(Deed::Loads(Form::Part)),
+        2071 => Some(Deed::Loads(Form::Part)),
+        2072 => Some(Deed::Loads(Form::Part)),
+        2073 => Some(Deed::Loads(Form::Part)),
+        2074 => Some(Deed::Loads(Form::Part)),
+        2081 => Some(Deed::Loads(Form::Field)),
+        2082 => Some(Deed::Loads(Form::Field)),
+        2083 => Some(Deed::Loads(Form::Field)),
+        2091 => Some(Deed::Loads(Form::Code)),
+        2092 => Some(Deed::Loads(Form::Part)),
+        2177 => Some(Deed::Debugs),
+        _ => None,
+    }
+}
+
+/// What a syscall that loads asks for.
+pub(crate) fn asked(machine: &Machine, form: Form) -> Call
+    ensures { result ≡ asks machine.now.machine (form_meaning form) }
+{
+    let number = machine.reg(A7);
+    let third = machine.reg(A3);
+    let fourth = machine.reg(A4);
+    let fifth = machine.reg(A5);
+    match form {
+        Form::Part => Call {
+            number,
+            index: third,
+            source: fourth,
+            field: 0,
+        },
+        Form::Field => Call {
+            number,
+            index: third,
+            source: fourth,
+            field: fifth,
+        },
+        Form::Code => Call {
+            number,
+            index: fourth,
+            source: fifth,
+            field: 0,
+        },
+    }
+}

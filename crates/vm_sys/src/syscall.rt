@@ -1,0 +1,122 @@
+// A syscall from its number to its result.
+ghost use Rattle.std.specs.Prelude.{◌≡◌, ℕ, true, Some, IsSome};
+ghost use Rattle.outside.specs.Causes.{CountsFault};
+ghost use Rattle.outside.specs.declared.disk.Damage.{Damage};
+ghost use Rattle.outside.specs.declared.disk.ReadStop.TheVariants.{DiskFault, Damaged, NoMemory};
+ghost use Rattle.outside.specs.declared.disk.ReadStop.{ReadStop};
+ghost use Rattle.sys_defs.specs.World.{Items};
+ghost use Rattle.sys_defs.specs.Answer.{asks, results, syscall, with_item, with_bytes};
+ghost use Rattle.vm_defs.specs.Alone as alone;
+ghost use Rattle.vm_mem.specs.Pages.{IsAllocated};
+ghost use Rattle.vm_sys.specs.Deeds.{form_meaning};
+ghost use Rattle.vm_sys.specs.Answering.{IsAnswer, IsAnswerOfSome, goes_on_of};
+
+use super::call::{A0, A7, Deed, Form, asked, deed_of};
+use super::loading::{load_code, load_part};
+use super::world::{Found, World};
+use outside::ReadStop;
+use vm_step::Machine;
+
+/// The results in a0 where no item is loaded.
+const INDEX_OUT_OF_BOUND: u64 = 1;
+
+const ITEM_MISSING: u64 = 2;
+
+/// The fault of a call that there is not, or of a source or a field.
+const UNKNOWN: u8 = 5;
+
+/// How a syscall was answered.
+#[derive(Clone, Copy, Debug, PartialEq, Eq)]
+pub enum Sys {
+    /// The program goes on.
+    Done,
+    /// It exited with this code.
+    Exit(i8),
+    /// It could not go on.
+    Fault(u8),
+    /// The cycles passed the budget.
+    Spent,
+    /// Memory was wanted, or the world could not be read.
+    Stop(ReadStop),
+}
+
+/// Answers an ECALL: the syscall whose number is in a7, over what surrounds the script.
+#[tactic(auto, unfolding(sys_defs::specs::Answer::syscall))]
+pub fn handle<W: World>(machine: &mut Machine, world: &mut W) -> Sys
+    requires { machine.old.goes_on ≡ true }
+    ensures told { W.told world.new ≡ W.told world.old }
+    ensures loans { W.loans_of world.new ≡ W.loans_of world.old }
+    ensures some { IsAnswerOfSome (λ item. syscall (λ call. item) machine.old.machine) machine.new.machine result }
+    ensures exact { (items : Items) → W.told world.old ≡ Some items → IsAnswer (syscall items machine.old.machine) machine.new.machine result }
+    ensures goes_on { machine.new.goes_on ≡ goes_on_of result }
+    ensures cause { CountsFault (W.faults world.old) (W.faults world.new) (result ≡ Sys.Stop DiskFault) }
+    ensures undamaged { IsSome (W.told world.old) → (damage : Damage) → result ≡ Sys.Stop (Damaged damage) → ⊥ }
+    ensures pages_kept { (page : ℕ) → IsAllocated machine.old.allocated page → IsAllocated machine.new.allocated page }
+{
+    let deed = match deed_of(machine.reg(A7)) {
+        Some(deed) => deed,
+        None => return Sys::Fault(UNKNOWN),
+    };
+    match deed {
+        Deed::Exits => Sys::Exit(low_byte(machine.reg(A0))),
+        Deed::Debugs => Sys::Done,
+        Deed::Loads(form) => load(machine, world, form),
+    }
+}
+
+// A syscall that loads.
+fn load<W: World>(machine: &mut Machine, world: &mut W, form: Form) -> Sys
+    requires { machine.old.goes_on ≡ true }
+    ensures told { W.told world.new ≡ W.told world.old }
+    ensures loans { W.loans_of world.new ≡ W.loans_of world.old }
+    ensures some { IsAnswerOfSome (with_item (form_meaning form) machine.old.machine) machine.new.machine result }
+    ensures exact { (items : Items) → W.told world.old ≡ Some items → IsAnswer (with_item (form_meaning form) machine.old.machine (items (asks machine.old.machine (form_meaning form)))) machine.new.machine result }
+    ensures goes_on { machine.new.goes_on ≡ goes_on_of result }
+    ensures cause { CountsFault (W.faults world.old) (W.faults world.new) (result ≡ Sys.Stop DiskFault) }
+    ensures undamaged { IsSome (W.told world.old) → (damage : Damage) → result ≡ Sys.Stop (Damaged damage) → ⊥ }
+    ensures pages_kept { (page : ℕ) → IsAllocated machine.old.allocated page → IsAllocated machine.new.allocated page }
+{
+    let found = match world.find(asked(machine, form)) {
+        Ok(found) => found,
+        Err(stop) => return Sys::Stop(stop),
+    };
+    match found {
+        Found::Here => load_bytes(machine, form, world.bytes()),
+        Found::NoIndex => answer(machine, INDEX_OUT_OF_BOUND),
+        Found::Missing => answer(machine, ITEM_MISSING),
+        Found::Unknown => Sys::Fault(UNKNOWN),
+    }
+}
+
+// Loads the bytes of an item.
+fn load_bytes(machine: &mut Machine, form: Form, item: &[u8]) -> Sys
+    requires { machine.old.goes_on ≡ true }
+    ensures answer { IsAnswer (with_bytes (form_meaning form) machine.old.machine item.now) machine.new.machine result }
+    ensures goes_on { machine.new.goes_on ≡ goes_on_of result }
+    ensures stops { (stop : ReadStop) → result ≡ Sys.Stop stop → stop ≡ NoMemory }
+    ensures pages_kept { (page : ℕ) → IsAllocated machine.old.allocated page → IsAllocated machine.new.allocated page }
+{
+    match form {
+        Form::Code => load_code(machine, item),
+        Form::Part => load_part(machine, item),
+        Form::Field => load_part(machine, item),
+    }
+}
+
+// A result in a0.
+fn answer(machine: &mut Machine, code: u64) -> Sys
+    ensures answer { IsAnswer (results machine.old.machine code) machine.new.machine result }
+    ensures goes_on { machine.new.goes_on ≡ machine.old.goes_on }
+    ensures done { result ≡ Sys.Done }
+    ensures allocated { machine.new.allocated ≡ machine.old.allocated }
+{
+    machine.set_reg(A0, code);
+    Sys::Done
+}
+
+/// The low byte of a register, as a signed number.
+fn low_byte(register: u64) -> i8
+    ensures { result ≡ alone.exit_code register }
+{
+    ((register % 0x100) as u8).cast_signed()
+}

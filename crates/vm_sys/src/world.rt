@@ -1,0 +1,57 @@
+// What surrounds a script: where the items come from that its syscalls load.
+ghost use Rattle.std.specs.Prelude.{◌≡◌, ◌-◌, ◌^◌, ◌≤◌, Option, Some, Err, List, ℕ, IfOk, IfSome, IsSome};
+ghost use Rattle.outside.specs.Causes.{CountsFault};
+ghost use Rattle.outside.specs.declared.disk.Damage.{Damage};
+ghost use Rattle.outside.specs.declared.disk.ReadStop.TheVariants.{DiskFault, Damaged};
+ghost use Rattle.sys_defs.specs.World.{Items};
+ghost use Rattle.vm_sys.specs.Finding.{item_of};
+
+use super::call::Call;
+use outside::ReadStop;
+
+/// Whether an item is there.
+#[derive(Clone, Copy, Debug, PartialEq, Eq)]
+pub enum Found {
+    /// It is, and its bytes can be read.
+    Here,
+    /// The source does not have such items, or its end is at the index or before it.
+    NoIndex,
+    /// The source has the index, and there is no such item.
+    Missing,
+    /// There is no such source or field.
+    Unknown,
+}
+
+/// What a script may ask for. The item that was found last is in hand.
+pub trait World {
+    /// What each call asks for, where it tells that.
+    ghost told: { Self → Option Items };
+
+    /// The bytes of the item in hand.
+    ghost here: { Self → Option (List ℕ) };
+
+    /// How often it has failed.
+    ghost faults: { Self → ℕ };
+
+    /// What it has borrowed, for one that borrows: no call changes it.
+    ghost Loans: { Type 0 };
+
+    ghost loans_of: { Self → Loans };
+
+    /// Finds the item that a call asks for.
+    fn find(&mut self, call: Call) -> Result<Found, ReadStop>
+        ensures told { told self.new ≡ told self.old }
+        ensures loans { loans_of self.new ≡ loans_of self.old }
+        ensures here { IfOk result (λ found. found ≡ Found.Here → IsSome (here self.new)) }
+        ensures found { IfOk result (λ found. IfSome (told self.old) (λ items. items call ≡ item_of found (here self.new))) }
+        ensures cause { CountsFault (faults self.old) (faults self.new) (result ≡ Err DiskFault) }
+        ensures undamaged { IsSome (told self.old) → (damage : Damage) → result ≡ Err (Damaged damage) → ⊥ };
+
+    /// The bytes of the item in hand.
+    fn bytes(&self) -> &[u8]
+        requires { IsSome (here self.now) }
+        ensures { here self.now ≡ Some result.now };
+
+    /// The last value of the count of faults.
+    ghost last_fault: { (world : Self) → faults world ≤ 2 ^ 64 - 1 };
+}
