@@ -1,0 +1,16 @@
+/// Why the script groups of a transaction fail it. A group is named by its place.
+#[derive(Clone, Copy, Debug, PartialEq, Eq)]
+pub enum Failure {
+    /// No resolved dep is the code of the group's script.
+    NoCode(u32),
+    /// More than one is, of a script that names its code by a type script.
+    ManyCodes(u32),
+    /// The code is no program: the number of the first condition that it meets.
+    BadElf(u32, u8),
+    /// The program met a fault of this number.
+    MachineFault(u32, u8),
+    /// It exited with this code, which is not 0.
+    ExitNot0(u32, i8),
+    /// The cycles passed what was left.
+    Spent,
+}
