@@ -1,0 +1,5 @@
+pub mod Showing
+pub mod Shown
+pub mod Places
+pub mod Looks
+pub mod Running

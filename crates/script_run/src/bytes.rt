@@ -1,0 +1,37 @@
+// The bytes of an item that a script is shown.
+ghost use Rattle.std.specs.Prelude.{◌≡◌};
+ghost use Rattle.script_run.specs.Looks.{bytes_of};
+
+/// The bytes of an item: a part of the transaction or of a cell as it lies, or the few that are computed or read.
+#[derive(Clone, Copy)]
+pub(crate) enum Bytes<'a> {
+    Slice(&'a [u8]),
+    Hash([u8; 32]),
+    Number([u8; 8]),
+    Header([u8; 208]),
+}
+
+impl<'a> Bytes<'a> {
+    pub(crate) fn as_slice(&self) -> &[u8]
+        ensures { result.now ≡ bytes_of self.now }
+    {
+        match self {
+            Bytes::Slice(bytes) => bytes,
+            Bytes::Hash(bytes) => bytes,
+            Bytes::Number(bytes) => bytes,
+            Bytes::Header(bytes) => bytes,
+        }
+    }
+}
+
+/// What comes of a call.
+#[derive(Clone, Copy)]
+pub(crate) enum Look<'a> {
+    Here(Bytes<'a>),
+    /// The source does not have such items, or its end is at the index or before it.
+    NoIndex,
+    /// The source has the index, and there is no such item.
+    Missing,
+    /// There is no such source or field.
+    Unknown,
+}
