@@ -1,0 +1,2 @@
+-- Groups, gone through one after the other.
+use Rattle.std.proofs.Common.{◌≡◌, ℕ, refl}
