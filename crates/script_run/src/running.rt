@@ -49,9 +49,8 @@ fn first_without_code(codes: &Codes<'_>, groups: &[Group<'_>]) -> Option<Failure
     ensures { (scene : Scene) → AllZip IsShownAs codes.now scene.deps → result ≡ defs.first_without_code scene 0 (map (λ it. it.group) groups.now) }
 {
     'groups: for i in 0..groups.len() {
-        let lacks = lacks_code(codes, &groups[i], i as u32);
-        if lacks.is_some() {
-            return lacks;
+        if let Some(failure) = lacks_code(codes, &groups[i], i as u32) {
+            return Some(failure);
         }
     }
     None
@@ -86,6 +85,7 @@ fn executed(place: u32, came: Execution, left: u64) -> Result<u64, Failure>
 }
 
 /// TYPE_ID, of a group whose script it is.
+#[tactic(auto, unfolding(script_defs::specs::TypeId::type_id_cycles))]
 fn run_type_id(
     tx: &TxView<'_>,
     group: &Group<'_>,
@@ -127,7 +127,8 @@ fn run_group<B: Blocks>(
     ensures cause { CountsFault (B.faults blocks.old) (B.faults blocks.new) (result ≡ Err (Read DiskFault)) }
 {
     if is_type_id(&group.script) {
-        let cycles = run_type_id(&tx.it.tx, group, place, left)?;
+        let it = tx.it;
+        let cycles = run_type_id(&it.tx, group, place, left)?;
         return Ok(cycles);
     }
     match codes.find(&group.script) {
