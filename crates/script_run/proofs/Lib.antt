@@ -1,0 +1,4 @@
+pub mod WalkLemmas
+pub mod ScriptLemmas
+pub mod GroupLemmas
+pub mod CodeLemmas
