@@ -1,17 +1,18 @@
 -- Groups that grow, and the place of each by its hash.
 use Rattle.std.proofs.Common.{◌≡◌, ℕ, zero, suc, ◌+◌, ◌<◌, ◌≤◌, Bool, true, false, List, [], ◌∷◌, ◌++◌, length, map, get_or, Option, Some, None, if◌then◌else◌, refl, sym, ap, ◌∙◌, subst, arith}
 use Rattle.std.specs.Cmp.Lexicographic.{nat_list_eq_equiv}
-use Rattle.std.specs.List.{AllByRecursion, filter_map}
+use Rattle.std.specs.List.{All, AllByRecursion, filter_map}
 use Rattle.std.specs.Map.{lookup}
 use Rattle.std.specs.Str.{bytes_eq}
 use Rattle.std.proofs.Math.ListN.{set}
-use Rattle.std.proofs.lemmas.List.{append-nil, append_assoc}
-use Rattle.std.proofs.lemmas.List.Elements.{filter_map-append}
+use Rattle.std.proofs.lemmas.List.{append-nil, append_assoc, map-append}
+use Rattle.std.proofs.lemmas.List.Elements.{All-append, All-map, All-same, filter_map-append}
 use Rattle.std.specs.Option.{option_map}
 use Rattle.std.proofs.lemmas.Option.{same_Some}
-use Rattle.codec_defs.specs.Schema.{Script}
+use Rattle.codec_defs.specs.Schema.{Script, CellOutput, Transaction}
 use Rattle.cell_defs.specs.Cell.{script_hash}
-use Rattle.script_defs.specs.Groups.{Group, has_hash, first_scripts, places_with, present}
+use Rattle.script_defs.specs.Groups.{Group, has_hash, first_scripts, places_with, present, input_locks, lock_group, type_group, lock_groups, type_groups, groups_of}
+use Rattle.script_defs.specs.Scene.{Scene, ShownCell}
 use Rattle.script_run.specs.Shown.{GroupValue, HasItsHash}
 use Rattle.script_run.specs.Grouping.{group_for, grouped, new_group, with_group, with_input, with_output, changed, place_with, FindsEach}
 use Rattle.script_run.proofs.ScriptLemmas.{NoneHas, Apart, same-is, same-itself, with_script, first-push, apart-first, none-of_first, places-none, places-other, places-one, places-empty, none-front, none-back}
@@ -316,3 +317,67 @@ typed-some (Some s) found is =
 pub grouped-none : grouped [] [] ≡ []
 unfolding grouped first_scripts
 grouped-none = refl
+
+-- ---- All groups of a transaction
+
+map-map : {X Y Z : Type 0} (f : Y → Z) (g : X → Y) (xs : List X) → map f (map g xs) ≡ map (λ (x : X). f (g x)) xs
+map-map f g [] = refl
+map-map {Z = Z} f g (x ∷ xs) = ap (λ (l : List Z). f (g x) ∷ l) (map-map f g xs)
+
+all-present : {X : Type 0} (f : X → Script) (xs : List X) → filter_map present (map (λ (x : X). Some (f x)) xs) ≡ map f xs
+all-present f [] = refl
+all-present f (x ∷ xs) = ap (λ (l : List Script). f x ∷ l) (all-present f xs)
+
+abbrev pub lock_given : ShownCell → Option Script
+lock_given cell = Some cell.output.lock
+
+abbrev pub type_given : ShownCell → Option Script
+type_given cell = cell.output.type_script
+
+abbrev pub type_made : CellOutput → Option Script
+type_made output = output.type_script
+
+abbrev pub group_in : GroupValue → Group
+group_in it = it.group
+
+locks-are : (scene : Scene) → map group_in (grouped (map lock_given scene.inputs) []) ≡ lock_groups scene
+unfolding grouped
+locks-are scene =
+    let given = map lock_given scene.inputs in
+    map-map group_in (group_for given []) (first_scripts (filter_map present (given ++ [])))
+    ∙ ap (λ (l : List Script). map (λ (s : Script). (group_for given [] s).group) (first_scripts l))
+        (ap (filter_map present) (append-nil given) ∙ all-present (λ (cell : ShownCell). cell.output.lock) scene.inputs)
+    ∙ map-same (λ (s : Script). (group_for given [] s).group) (lock_group scene) (first_scripts (input_locks scene))
+        (λ s.
+            ap (λ (l : List ℕ). record { script = s; inputs = places_with (script_hash s) given; outputs = l }) (places-empty (script_hash s) [] tt)
+            ∙ ap (λ (l : List (Option Script)). record { script = s; inputs = places_with (script_hash s) l; outputs = [] })
+                (sym (map-map (λ (t : Script). Some t) (λ (cell : ShownCell). cell.output.lock) scene.inputs)))
+
+types-are : (scene : Scene) → map group_in (grouped (map type_given scene.inputs) (map type_made scene.transaction.raw.outputs)) ≡ type_groups scene
+unfolding grouped
+types-are scene =
+    map-map group_in (group_for (map type_given scene.inputs) (map type_made scene.transaction.raw.outputs))
+        (first_scripts (filter_map present (map type_given scene.inputs ++ map type_made scene.transaction.raw.outputs)))
+
+pub groups-are : (scene : Scene) (t : Transaction) (list locks types : List GroupValue) → scene.transaction ≡ t → list ≡ locks ++ types
+    → locks ≡ grouped (map lock_given scene.inputs) [] → types ≡ grouped (map type_given scene.inputs) (map type_made t.raw.outputs) → map group_in list ≡ groups_of scene
+unfolding groups_of
+groups-are scene t list locks types its_own is of_locks of_types =
+    ap (map group_in) is
+    ∙ map-append group_in locks types
+    ∙ ap (λ (l : List GroupValue). map group_in l ++ map group_in types) of_locks
+    ∙ ap (λ (l : List Group). l ++ map group_in types) (locks-are scene)
+    ∙ ap (λ (l : List GroupValue). lock_groups scene ++ map group_in l)
+        (of_types ∙ ap (λ (u : Transaction). grouped (map type_given scene.inputs) (map type_made u.raw.outputs)) (sym its_own))
+    ∙ ap (λ (l : List Group). lock_groups scene ++ l) (types-are scene)
+
+grouped-hashes : (inputs outputs : List (Option Script)) → All HasItsHash (grouped inputs outputs)
+unfolding grouped
+grouped-hashes inputs outputs =
+    All-map HasItsHash (group_for inputs outputs) (first_scripts (filter_map present (inputs ++ outputs))) (λ k d within. record { hash = refl })
+
+pub groups-hashed : (a b x y : List (Option Script)) (list locks types : List GroupValue) → list ≡ locks ++ types → locks ≡ grouped a b → types ≡ grouped x y → All HasItsHash list
+groups-hashed a b x y list locks types is of_locks of_types =
+    All-same HasItsHash list (grouped a b ++ grouped x y)
+        (is ∙ ap (λ (l : List GroupValue). l ++ types) of_locks ∙ ap (λ (l : List GroupValue). grouped a b ++ l) of_types)
+        (All-append HasItsHash (grouped a b) (grouped x y) (grouped-hashes a b) (grouped-hashes x y))

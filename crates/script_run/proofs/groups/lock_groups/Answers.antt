@@ -1,6 +1,7 @@
 use Rattle.std.proofs.Common.{◌≡◌, ◌≤◌, ◌<◌, ℕ, List, [], Option, Some, length, map, take, ap, sym, ◌∙◌, arith}
 use Rattle.std.proofs.lemmas.List.{take_all}
 use Rattle.std.proofs.lemmas.Option.{slice_get_within}
+use Rattle.std.proofs.lemmas.Result.{err_from_is_err_and}
 use Rattle.codec_defs.specs.Schema.{Script}
 use Rattle.script_defs.specs.Scene.{ShownCell}
 use Rattle.script_run.specs.Grouping.{grouped}
@@ -38,4 +39,5 @@ returns-in_err-join_lock-clause-undamaged c cells zip =
     let at : Beside IsShownAs c.index-copies-i.result cells c.inputs.i =
     beside IsShownAs c.args.copies.now cells c.inputs.i c.index-copies-i.result zip c.inputs-test.true c.index-copies-i.is in
     let want = c.in_err-join_lock.ensures.undamaged at.other at.holds in
-    ?
+    let p = err_from_is_err_and c.from_residual.result c.from_residual.ensures.1 in
+    rw (p.1, p.2) want

@@ -38,4 +38,13 @@ outputs-preserved c =
     }
 
 pub returns : goal.returns
-returns c = ?
+returns c =
+    let outputs = c.args.tx.now.raw.outputs in
+    let count : c.outputs_count-i-end.result ≡ length outputs =
+    c.outputs_count-i-end.ensures.value ∙ ap (λ (raw : RawTransaction). length raw.outputs) c.raw-raw.ensures in
+    record {
+      groups = λ inputs start.
+          c.outputs.invariant.groups inputs start
+          ∙ ap (λ (l : List CellOutput). grouped inputs (map typed l)) (take_all c.outputs.i outputs (omega (arith, count, c.outputs-test.false)));
+      undamaged = tt;
+    }
