@@ -72,7 +72,8 @@ fn places_by_data(alloc: Global, deps: &[Resolved]) -> Result<HashMap<[u8; 32], 
     'deps: for behind in 0..deps.len() {
         let place = deps.len() - 1 - behind;
         let dep = &deps[place];
-        let hash = dep.meta.data_hash;
+        let meta = &dep.meta;
+        let hash = meta.data_hash;
         places.insert(hash, place)?;
     }
     Ok(places)
@@ -86,7 +87,8 @@ fn places_by_type(alloc: Global, deps: &[Resolved]) -> Result<HashMap<[u8; 32], 
     'deps: for behind in 0..deps.len() {
         let first = deps.len() - 1 - behind;
         let dep = &deps[first];
-        let type_hash = dep.meta.type_hash;
+        let meta = &dep.meta;
+        let type_hash = meta.type_hash;
         if let Some(hash) = type_hash {
             let again = places.contains_key(&hash);
             places.insert(hash, Typed { first, again })?;
