@@ -61,7 +61,7 @@ inserted-type entries key hash place again after updates tells = updates ∙ by_
         → (if b then Some (record { first = place; again = again }) else lookup (bytes_eq hash) entries) ≡ typed_from b place (lookup (bytes_eq hash) entries)
     by_test true same =
         ap (λ (b : Bool). Some (record { first = place; again = b }))
-            (tells ∙ ap (λ (h : List ℕ). is_some (lookup (bytes_eq h) entries)) (same-is key hash same))
+        (tells ∙ ap (λ (h : List ℕ). is_some (lookup (bytes_eq h) entries)) (same-is key hash same))
     by_test false same = refl
 
 -- before any, and behind all
@@ -150,7 +150,6 @@ type-same hash dep cell shown = ap (is_hash hash) shown.type_script ∙ of_scrip
     of_script None = refl
     of_script (Some s) = refl
 
-
 abbrev typed_cells : List ℕ → List ShownCell → List ShownCell
 typed_cells hash cells = filter (has_type_hash hash) cells
 
@@ -233,7 +232,7 @@ typed-found hash (dep ∷ later) (cell ∷ cells) start typed zip is =
         → TypedAt (dep ∷ later) start typed (only_code (if y then cell ∷ typed_cells hash cells else typed_cells hash cells))
     by_test true true same is here rest =
         subst (λ (t : Typed). TypedAt (dep ∷ later) start t (only_code (cell ∷ typed_cells hash cells)))
-            (same_Some (record { first = start; again = is_some (typed_with hash (suc start) later) }) typed is) here
+        (same_Some (record { first = start; again = is_some (typed_with hash (suc start) later) }) typed is) here
     by_test true false same is here rest = absurd (cc)
     by_test false true same is here rest = absurd (cc)
     by_test false false same is here rest = typed-later dep later start typed (code_by_type cells hash) (rest is)

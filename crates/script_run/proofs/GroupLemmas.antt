@@ -61,9 +61,10 @@ place-push q hash s (it ∷ later) place n is end =
             let two : hash ≡ q = same-is hash q same in
             let equal : bytes_eq it.hash hash ≡ true = ap (λ (h : List ℕ). bytes_eq it.hash h) (two ∙ sym one) ∙ same-itself it.hash in
             absurd (cc)
+
     by_test : (b : Bool) → bytes_eq it.hash hash ≡ b → (if b then Some place else place_with hash (suc place) later) ≡ None
         → (place_with hash (suc place) later ≡ None
-            → (if bytes_eq hash q then Some n else place_with q (suc place) later) ≡ place_with q (suc place) (later ++ new_group hash s ∷ []))
+        → (if bytes_eq hash q then Some n else place_with q (suc place) later) ≡ place_with q (suc place) (later ++ new_group hash s ∷ []))
         → (if bytes_eq hash q then Some n else if bytes_eq it.hash q then Some place else place_with q (suc place) later)
         ≡ (if bytes_eq it.hash q then Some place else place_with q (suc place) (later ++ new_group hash s ∷ []))
     by_test true apart none rest = absurd (cc)
@@ -184,23 +185,23 @@ grown change s inputs outputs more_inputs more_outputs (t ∷ later) grows apart
   where
     by_test : (b : Bool) → has_hash (script_hash s) t ≡ b
         → (has_hash (script_hash s) t ≡ false
-            → map (group_for more_inputs more_outputs) (with_script s later) ≡ changed change (script_hash s) (with_group (script_hash s) s (map (group_for inputs outputs) later)))
+        → map (group_for more_inputs more_outputs) (with_script s later) ≡ changed change (script_hash s) (with_group (script_hash s) s (map (group_for inputs outputs) later)))
         → map (group_for more_inputs more_outputs) (if b then t ∷ later else t ∷ with_script s later)
         ≡ changed change (script_hash s)
-            (if b then group_for inputs outputs t ∷ map (group_for inputs outputs) later
-            else group_for inputs outputs t ∷ with_group (script_hash s) s (map (group_for inputs outputs) later))
+        (if b then group_for inputs outputs t ∷ map (group_for inputs outputs) later
+        else group_for inputs outputs t ∷ with_group (script_hash s) s (map (group_for inputs outputs) later))
     by_test true is rest =
         let none : NoneHas (script_hash s) later = subst (λ (h : List ℕ). NoneHas h later) (same-is (script_hash t) (script_hash s) is) apart.0 in
         ap (λ (g : GroupValue). g ∷ map (group_for more_inputs more_outputs) later) (grows.same t is)
         ∙ ap (λ (l : List GroupValue). change (group_for inputs outputs t) ∷ l)
-            (agree (λ (u : Script). has_hash (script_hash s) u ≡ false) (group_for more_inputs more_outputs) (group_for inputs outputs) later none grows.apart)
+        (agree (λ (u : Script). has_hash (script_hash s) u ≡ false) (group_for more_inputs more_outputs) (group_for inputs outputs) later none grows.apart)
         ∙ ap (λ (b : Bool). if b then change (group_for inputs outputs t) ∷ map (group_for inputs outputs) later
-            else group_for inputs outputs t ∷ changed change (script_hash s) (map (group_for inputs outputs) later)) (sym is)
+        else group_for inputs outputs t ∷ changed change (script_hash s) (map (group_for inputs outputs) later)) (sym is)
     by_test false is rest =
         ap (λ (g : GroupValue). g ∷ map (group_for more_inputs more_outputs) (with_script s later)) (grows.apart t is)
         ∙ ap (λ (l : List GroupValue). group_for inputs outputs t ∷ l) (rest is)
         ∙ ap (λ (b : Bool). if b then change (group_for inputs outputs t) ∷ with_group (script_hash s) s (map (group_for inputs outputs) later)
-            else group_for inputs outputs t ∷ changed change (script_hash s) (with_group (script_hash s) s (map (group_for inputs outputs) later))) (sym is)
+        else group_for inputs outputs t ∷ changed change (script_hash s) (with_group (script_hash s) s (map (group_for inputs outputs) later))) (sym is)
 
 present-push : (xs : List (Option Script)) (s : Script) → filter_map present (xs ++ Some s ∷ []) ≡ filter_map present xs ++ s ∷ []
 present-push xs s = filter_map-append present xs (Some s ∷ [])
@@ -222,8 +223,8 @@ grouped-more change s inputs outputs more_inputs more_outputs grows scripts new 
     ap (λ (l : List Script). map (group_for more_inputs more_outputs) (first_scripts l)) scripts
     ∙ ap (map (group_for more_inputs more_outputs)) (first-push (filter_map present (inputs ++ outputs)) s)
     ∙ grown change s inputs outputs more_inputs more_outputs (first_scripts (filter_map present (inputs ++ outputs))) grows
-        (apart-first (filter_map present (inputs ++ outputs)))
-        (λ none. new (none-of_first (script_hash s) (filter_map present (inputs ++ outputs)) none))
+    (apart-first (filter_map present (inputs ++ outputs)))
+    (λ none. new (none-of_first (script_hash s) (filter_map present (inputs ++ outputs)) none))
 
 -- one input more, with a script
 pub grouped-input : (before : List (Option Script)) (s : Script)
@@ -235,19 +236,19 @@ grouped-input before s = grouped-more (with_input (length before)) s before [] (
     })
     (ap (filter_map present) (append-nil (before ++ Some s ∷ [])) ∙ present-push before s ∙ ap (λ (l : List (Option Script)). filter_map present l ++ s ∷ []) (sym (append-nil before)))
     (λ none. ap (λ (l : List ℕ). made l (places_with (script_hash s) []) s)
-        (places-one (script_hash s) before s (same-itself (script_hash s))
-        ∙ ap (λ (l : List ℕ). l ++ length before ∷ [])
-            (places-empty (script_hash s) before (subst (λ (l : List (Option Script)). NoneHas (script_hash s) (filter_map present l)) (append-nil before) none)))
-        ∙ ap (λ (l : List ℕ). made (length before ∷ []) l s) (places-empty (script_hash s) [] tt))
+    (places-one (script_hash s) before s (same-itself (script_hash s))
+    ∙ ap (λ (l : List ℕ). l ++ length before ∷ [])
+    (places-empty (script_hash s) before (subst (λ (l : List (Option Script)). NoneHas (script_hash s) (filter_map present l)) (append-nil before) none)))
+    ∙ ap (λ (l : List ℕ). made (length before ∷ []) l s) (places-empty (script_hash s) [] tt))
 
 -- one input more, with none
 pub grouped-input-none : (before : List (Option Script)) → grouped (before ++ None ∷ []) [] ≡ grouped before []
 unfolding grouped
 grouped-input-none before =
     ap (λ (l : List Script). map (group_for (before ++ None ∷ []) []) (first_scripts l))
-        (ap (filter_map present) (append-nil (before ++ None ∷ [])) ∙ present-none before ∙ ap (filter_map present) (sym (append-nil before)))
+    (ap (filter_map present) (append-nil (before ++ None ∷ [])) ∙ present-none before ∙ ap (filter_map present) (sym (append-nil before)))
     ∙ map-same (group_for (before ++ None ∷ []) []) (group_for before []) (first_scripts (filter_map present (before ++ [])))
-        (λ t. ap (λ (l : List ℕ). made l (places_with (script_hash t) []) t) (places-none (script_hash t) before))
+    (λ t. ap (λ (l : List ℕ). made l (places_with (script_hash t) []) t) (places-none (script_hash t) before))
 
 -- one output more, with a script
 pub grouped-output : (inputs before : List (Option Script)) (s : Script)
@@ -259,23 +260,23 @@ grouped-output inputs before s = grouped-more (with_output (length before)) s in
     })
     (ap (filter_map present) (sym (append_assoc inputs before (Some s ∷ []))) ∙ present-push (inputs ++ before) s)
     (λ none.
-        let each : NoneHas (script_hash s) (filter_map present inputs ++ filter_map present before) =
-        subst (λ (l : List Script). NoneHas (script_hash s) l) (filter_map-append present inputs before) none in
-        ap (λ (l : List ℕ). made l (places_with (script_hash s) (before ++ Some s ∷ [])) s)
-            (places-empty (script_hash s) inputs (none-front (script_hash s) (filter_map present inputs) (filter_map present before) each))
-        ∙ ap (λ (l : List ℕ). made [] l s)
-            (places-one (script_hash s) before s (same-itself (script_hash s))
-            ∙ ap (λ (l : List ℕ). l ++ length before ∷ [])
-                (places-empty (script_hash s) before (none-back (script_hash s) (filter_map present inputs) (filter_map present before) each))))
+    let each : NoneHas (script_hash s) (filter_map present inputs ++ filter_map present before) =
+    subst (λ (l : List Script). NoneHas (script_hash s) l) (filter_map-append present inputs before) none in
+    ap (λ (l : List ℕ). made l (places_with (script_hash s) (before ++ Some s ∷ [])) s)
+    (places-empty (script_hash s) inputs (none-front (script_hash s) (filter_map present inputs) (filter_map present before) each))
+    ∙ ap (λ (l : List ℕ). made [] l s)
+    (places-one (script_hash s) before s (same-itself (script_hash s))
+    ∙ ap (λ (l : List ℕ). l ++ length before ∷ [])
+    (places-empty (script_hash s) before (none-back (script_hash s) (filter_map present inputs) (filter_map present before) each))))
 
 -- one output more, with none
 pub grouped-output-none : (inputs before : List (Option Script)) → grouped inputs (before ++ None ∷ []) ≡ grouped inputs before
 unfolding grouped
 grouped-output-none inputs before =
     ap (λ (l : List Script). map (group_for inputs (before ++ None ∷ [])) (first_scripts l))
-        (ap (filter_map present) (sym (append_assoc inputs before (None ∷ []))) ∙ present-none (inputs ++ before))
+    (ap (filter_map present) (sym (append_assoc inputs before (None ∷ []))) ∙ present-none (inputs ++ before))
     ∙ map-same (group_for inputs (before ++ None ∷ [])) (group_for inputs before) (first_scripts (filter_map present (inputs ++ before)))
-        (λ t. ap (λ (l : List ℕ). made (places_with (script_hash t) inputs) l t) (places-none (script_hash t) before))
+    (λ t. ap (λ (l : List ℕ). made (places_with (script_hash t) inputs) l t) (places-none (script_hash t) before))
 
 -- ---- What a step of the loops does
 
@@ -310,9 +311,10 @@ typed-none (Some s) is = absurd (cc)
 pub typed-some : (x : Option Script) (found : Script × List ℕ) → Some found ≡ option_map hashed x → (x ≡ Some found.0) × (found.1 ≡ script_hash found.0)
 typed-some None found is = absurd (cc)
 typed-some (Some s) found is =
-    let same : found ≡ hashed s = same_Some found (hashed s) is in
-    (sym (ap (λ (it : Script × List ℕ). Some it.0) same),
-    ap (λ (it : Script × List ℕ). it.1) same ∙ ap (λ (it : Script × List ℕ). script_hash it.0) (sym same))
+    let same : found ≡ hashed s = same_Some found (hashed s) is in (
+      sym (ap (λ (it : Script × List ℕ). Some it.0) same),
+      ap (λ (it : Script × List ℕ). it.1) same ∙ ap (λ (it : Script × List ℕ). script_hash it.0) (sym same),
+    )
 
 pub grouped-none : grouped [] [] ≡ []
 unfolding grouped first_scripts
@@ -346,18 +348,18 @@ locks-are scene =
     let given = map lock_given scene.inputs in
     map-map group_in (group_for given []) (first_scripts (filter_map present (given ++ [])))
     ∙ ap (λ (l : List Script). map (λ (s : Script). (group_for given [] s).group) (first_scripts l))
-        (ap (filter_map present) (append-nil given) ∙ all-present (λ (cell : ShownCell). cell.output.lock) scene.inputs)
+    (ap (filter_map present) (append-nil given) ∙ all-present (λ (cell : ShownCell). cell.output.lock) scene.inputs)
     ∙ map-same (λ (s : Script). (group_for given [] s).group) (lock_group scene) (first_scripts (input_locks scene))
-        (λ s.
-            ap (λ (l : List ℕ). record { script = s; inputs = places_with (script_hash s) given; outputs = l }) (places-empty (script_hash s) [] tt)
-            ∙ ap (λ (l : List (Option Script)). record { script = s; inputs = places_with (script_hash s) l; outputs = [] })
-                (sym (map-map (λ (t : Script). Some t) (λ (cell : ShownCell). cell.output.lock) scene.inputs)))
+    (λ s.
+    ap (λ (l : List ℕ). record { script = s; inputs = places_with (script_hash s) given; outputs = l }) (places-empty (script_hash s) [] tt)
+    ∙ ap (λ (l : List (Option Script)). record { script = s; inputs = places_with (script_hash s) l; outputs = [] })
+    (sym (map-map (λ (t : Script). Some t) (λ (cell : ShownCell). cell.output.lock) scene.inputs)))
 
 types-are : (scene : Scene) → map group_in (grouped (map type_given scene.inputs) (map type_made scene.transaction.raw.outputs)) ≡ type_groups scene
 unfolding grouped
 types-are scene =
     map-map group_in (group_for (map type_given scene.inputs) (map type_made scene.transaction.raw.outputs))
-        (first_scripts (filter_map present (map type_given scene.inputs ++ map type_made scene.transaction.raw.outputs)))
+    (first_scripts (filter_map present (map type_given scene.inputs ++ map type_made scene.transaction.raw.outputs)))
 
 pub groups-are : (scene : Scene) (t : Transaction) (list locks types : List GroupValue) → scene.transaction ≡ t → list ≡ locks ++ types
     → locks ≡ grouped (map lock_given scene.inputs) [] → types ≡ grouped (map type_given scene.inputs) (map type_made t.raw.outputs) → map group_in list ≡ groups_of scene
@@ -368,7 +370,7 @@ groups-are scene t list locks types its_own is of_locks of_types =
     ∙ ap (λ (l : List GroupValue). map group_in l ++ map group_in types) of_locks
     ∙ ap (λ (l : List Group). l ++ map group_in types) (locks-are scene)
     ∙ ap (λ (l : List GroupValue). lock_groups scene ++ map group_in l)
-        (of_types ∙ ap (λ (u : Transaction). grouped (map type_given scene.inputs) (map type_made u.raw.outputs)) (sym its_own))
+    (of_types ∙ ap (λ (u : Transaction). grouped (map type_given scene.inputs) (map type_made u.raw.outputs)) (sym its_own))
     ∙ ap (λ (l : List Group). lock_groups scene ++ l) (types-are scene)
 
 grouped-hashes : (inputs outputs : List (Option Script)) → All HasItsHash (grouped inputs outputs)
@@ -379,5 +381,5 @@ grouped-hashes inputs outputs =
 pub groups-hashed : (a b x y : List (Option Script)) (list locks types : List GroupValue) → list ≡ locks ++ types → locks ≡ grouped a b → types ≡ grouped x y → All HasItsHash list
 groups-hashed a b x y list locks types is of_locks of_types =
     All-same HasItsHash list (grouped a b ++ grouped x y)
-        (is ∙ ap (λ (l : List GroupValue). l ++ types) of_locks ∙ ap (λ (l : List GroupValue). grouped a b ++ l) of_types)
-        (All-append HasItsHash (grouped a b) (grouped x y) (grouped-hashes a b) (grouped-hashes x y))
+    (is ∙ ap (λ (l : List GroupValue). l ++ types) of_locks ∙ ap (λ (l : List GroupValue). grouped a b ++ l) of_types)
+    (All-append HasItsHash (grouped a b) (grouped x y) (grouped-hashes a b) (grouped-hashes x y))

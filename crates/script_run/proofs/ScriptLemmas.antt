@@ -10,6 +10,7 @@ use Rattle.std.proofs.lemmas.Slice.Eq.{bytes_eq-Decides}
 use Rattle.codec_defs.specs.Schema.{Script}
 use Rattle.cell_defs.specs.Cell.{script_hash}
 use Rattle.script_defs.specs.Groups.{has_hash, first_scripts, place_if, places_with, present}
+use Rattle.script_run.proofs.WalkLemmas.{enumerate-push}
 
 -- ---- Hashes
 
@@ -48,6 +49,7 @@ others-with s t (b ∷ later) = by_same (has_hash (script_hash s) b) refl (other
   where
     kept : (left : List Script) → Bool → List Script
     kept left x = if not x then b ∷ left else left
+
     when_same : (x y : Bool) → x ≡ y → has_hash (script_hash s) b ≡ true
         → (if not x then b ∷ others t later else others t later)
         ≡ (if y then (if not x then b ∷ others t later else others t later) else with_script s (if not x then b ∷ others t later else others t later))
@@ -55,6 +57,7 @@ others-with s t (b ∷ later) = by_same (has_hash (script_hash s) b) refl (other
     when_same true false is same = absurd (cc)
     when_same false true is same = absurd (cc)
     when_same false false is same = ap (λ (x : Bool). if x then b ∷ others t later else b ∷ with_script s (others t later)) (sym same)
+
     when_apart : (x y : Bool) → has_hash (script_hash s) b ≡ false → others t (with_script s later) ≡ (if y then others t later else with_script s (others t later))
         → (if not x then b ∷ others t (with_script s later) else others t (with_script s later))
         ≡ (if y then (if not x then b ∷ others t later else others t later) else with_script s (if not x then b ∷ others t later else others t later))
@@ -63,6 +66,7 @@ others-with s t (b ∷ later) = by_same (has_hash (script_hash s) b) refl (other
     when_apart false true apart is = ap (λ (l : List Script). b ∷ l) is
     when_apart false false apart is =
         ap (λ (l : List Script). b ∷ l) is ∙ ap (λ (x : Bool). if x then b ∷ others t later else b ∷ with_script s (others t later)) (sym apart)
+
     by_same : (x : Bool) → has_hash (script_hash s) b ≡ x
         → others t (with_script s later) ≡ (if has_hash (script_hash t) s then others t later else with_script s (others t later))
         → others t (if x then b ∷ later else b ∷ with_script s later)
@@ -136,12 +140,6 @@ none-of_first hash [] none = tt
 none-of_first hash (t ∷ later) none = (none.0, none-of_first hash later (none-behind hash t (first_scripts later) none.0 none.1))
 
 -- ---- Places
-
-enumerate-push : {X : Type 0} (n : ℕ) (xs : List X) (x : X) → enumerate_from n (xs ++ x ∷ []) ≡ enumerate_from n xs ++ (n + length xs, x) ∷ []
-enumerate-push n [] x = ap (λ (m : ℕ). (m, x) ∷ []) (let e : n ≡ n + 0 = omega arith in e)
-enumerate-push {X = X} n (y ∷ xs) x =
-    ap (λ (l : List (ℕ × X)). (n, y) ∷ l) (enumerate-push (n + 1) xs x
-    ∙ ap (λ (m : ℕ). enumerate_from (n + 1) xs ++ (m, x) ∷ []) (let e : n + 1 + length xs ≡ n + length (y ∷ xs) = omega arith in e))
 
 abbrev pub place_at : List ℕ → ℕ × Option Script → Option ℕ
 place_at hash it = place_if hash it.0 it.1

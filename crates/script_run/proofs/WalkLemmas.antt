@@ -62,7 +62,7 @@ pub rows-long : (t : Transaction) → length (output_rows t) ≡ length t.raw.ou
 unfolding output_rows
 rows-long t = length-map (enumerate_from 0 t.raw.outputs) (output_row t) ∙ length-enumerate_from 0 t.raw.outputs
 
-enumerate-push : {X : Type 0} (n : ℕ) (xs : List X) (x : X) → enumerate_from n (xs ++ x ∷ []) ≡ enumerate_from n xs ++ (n + length xs, x) ∷ []
+pub enumerate-push : {X : Type 0} (n : ℕ) (xs : List X) (x : X) → enumerate_from n (xs ++ x ∷ []) ≡ enumerate_from n xs ++ (n + length xs, x) ∷ []
 enumerate-push n [] x = ap (λ (m : ℕ). (m, x) ∷ []) (let e : n ≡ n + 0 = omega arith in e)
 enumerate-push {X = X} n (y ∷ xs) x =
     ap (λ (l : List (ℕ × X)). (n, y) ∷ l) (enumerate-push (n + 1) xs x
@@ -80,9 +80,9 @@ row-more t i row output rows after there are is pushed =
     ∙ ap (λ (r : Row). rows ++ r ∷ []) is
     ∙ ap (λ (l : List Row). l ++ output_row t (i, output) ∷ []) are
     ∙ sym (ap (λ (l : List CellOutput). map (output_row t) (enumerate_from 0 l)) (take-push outputs i output there)
-      ∙ ap (map (output_row t)) (enumerate-push 0 (take i outputs) output)
-      ∙ map-append (output_row t) (enumerate_from 0 (take i outputs)) ((0 + length (take i outputs), output) ∷ [])
-      ∙ ap (λ (m : ℕ). map (output_row t) (enumerate_from 0 (take i outputs)) ++ output_row t (m, output) ∷ []) long)
+    ∙ ap (map (output_row t)) (enumerate-push 0 (take i outputs) output)
+    ∙ map-append (output_row t) (enumerate_from 0 (take i outputs)) ((0 + length (take i outputs), output) ∷ [])
+    ∙ ap (λ (m : ℕ). map (output_row t) (enumerate_from 0 (take i outputs)) ++ output_row t (m, output) ∷ []) long)
 
 pub rows-all : (t : Transaction) (i : ℕ) (rows : List Row) → length t.raw.outputs ≤ i → rows ≡ map (output_row t) (enumerate_from 0 (take i t.raw.outputs)) → rows ≡ output_rows t
 unfolding output_rows

@@ -286,7 +286,7 @@ fn type_groups<'a>(alloc: Global, tx: &'a ShownTx<'a>) -> Result<Vec<Group<'a>>,
     Ok(grouping.groups)
 }
 
-/// Two lists of groups, one behind the other, where a `u32` counts them.
+/// Two lists of groups, one behind the other. More than a `u32` counts are taken for want of memory.
 fn both<'a>(
     mut first: Vec<Group<'a>>,
     mut second: Vec<Group<'a>>,
@@ -301,8 +301,8 @@ fn both<'a>(
     Ok(first)
 }
 
-/// The groups of a transaction, those of locks first. Damaged at place 0 of LOG where a copy is no output, or where the
-/// copies are not as many as the inputs.
+/// The groups of a transaction, those of locks first. Damaged at place 0 of LOG where a copy is no output, where its row
+/// does not tell whether it has a type script, or where there are not as many copies as inputs.
 pub(crate) fn groups_of<'a>(alloc: Global, tx: &'a ShownTx<'a>) -> Result<Vec<Group<'a>>, ReadStop>
     ensures groups { (scene : Scene) → Shows tx.now.it scene → IfOk result (λ list. map (λ it. it.group) list.items ≡ defs.groups_of scene) }
     ensures hashes { (scene : Scene) → Shows tx.now.it scene → IfOk result (λ list. All HasItsHash list.items) }

@@ -1,4 +1,4 @@
-use Rattle.std.proofs.Common.{◌≡◌, ℕ, ◌-◌, List, Option, Some, if◌then◌else◌, length, ap, sym, refl, ◌∙◌, arith}
+use Rattle.std.proofs.Common.{◌≡◌, ℕ, ◌-◌, List, Some, if◌then◌else◌, length, ap, refl, ◌∙◌}
 use Rattle.std.specs.HashMap.{get}
 use Rattle.std.specs.Map.{lookup}
 use Rattle.std.specs.Str.{bytes_eq}
@@ -18,7 +18,7 @@ deps-preserved c hash =
     data-more c.args.deps.now c.deps.behind (length c.args.deps.now - 1 - c.deps.behind) c.index-deps-place.result hash (get bytes_eq c.deps.places hash) (get bytes_eq c.insert.new.self hash)
     c.deps-test.true refl c.index-deps-place.is (c.deps.invariant hash)
     (c.in_ok-insert.ensures.updates.0 hash
-        ∙ ap (λ (h : List ℕ). if bytes_eq h hash then Some (length c.args.deps.now - 1 - c.deps.behind) else get bytes_eq c.deps.places hash) key)
+    ∙ ap (λ (h : List ℕ). if bytes_eq h hash then Some (length c.args.deps.now - 1 - c.deps.behind) else get bytes_eq c.deps.places hash) key)
 
 pub returns : goal.returns
 returns c hash = c.deps.invariant hash ∙ all-behind (first_with_data hash) c.args.deps.now c.deps.behind c.deps-test.false

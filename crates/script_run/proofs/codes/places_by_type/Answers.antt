@@ -1,4 +1,4 @@
-use Rattle.std.proofs.Common.{◌≡◌, ℕ, ◌-◌, List, Option, Some, length, ap, sym, refl, ◌∙◌, arith}
+use Rattle.std.proofs.Common.{◌≡◌, ℕ, ◌-◌, List, Option, length, ap, sym, refl, ◌∙◌}
 use Rattle.std.specs.HashMap.{get}
 use Rattle.std.specs.Map.{lookup}
 use Rattle.std.specs.Str.{bytes_eq}
@@ -23,7 +23,7 @@ deps-preserved c hash =
       | in-Some+in_ok-insert w ↦
           ap (λ places. get bytes_eq places hash) w.places-is
           ∙ inserted-type c.deps.places.entries w.in-Some.hash hash first w.contains_key-again.result (get bytes_eq w.insert.new.self hash)
-              (w.in_ok-insert.ensures.updates.0 hash) w.contains_key-again.ensures
+          (w.in_ok-insert.ensures.updates.0 hash) w.contains_key-again.ensures
           ∙ ap (λ (t : Option (List ℕ)). typed_from (is_hash hash t) first (get bytes_eq c.deps.places hash)) (sym w.in-Some.is ∙ key)
       | in_default w ↦
           ap (λ places. get bytes_eq places hash) w.places-is

@@ -1,9 +1,7 @@
-use Rattle.std.proofs.Common.{◌≡◌, List, Option, [], map, ap, sym, ◌∙◌, subst}
+use Rattle.std.proofs.Common.{◌≡◌, List, [], map, ap, sym, ◌∙◌, subst}
 use Rattle.std.specs.List.{AllZip}
-use Rattle.codec_defs.specs.Schema.{Script, Transaction}
 use Rattle.cell_model.specs.Copies.{ResolvedValue, ResolvedTxValue}
-use Rattle.script_run.specs.Grouping.{grouped}
-use Rattle.script_run.specs.Shown.{GroupValue, IsShownAs, ShownTxValue}
+use Rattle.script_run.specs.Shown.{IsShownAs, ShownTxValue}
 use Rattle.script_run.proofs.GroupLemmas.{lock_given, type_given, type_made, groups-are, groups-hashed}
 use Rattle.script_run.proofs.groups.groups_of.Goals as goal
 

@@ -1,4 +1,4 @@
-use Rattle.std.proofs.Common.{◌≡◌, List, [], Option, Some, map, take}
+use Rattle.std.proofs.Common.{◌≡◌, List, [], Some, map, take}
 use Rattle.std.specs.List.{AllZip}
 use Rattle.script_defs.specs.Scene.{ShownCell}
 use Rattle.script_run.specs.Grouping.{FindsEach, grouped}

@@ -2,7 +2,7 @@ use Rattle.std.proofs.Common.{◌≡◌, ◌<◌, ◌++◌, ◌∷◌, [], ℕ, 
 use Rattle.std.proofs.Math.ListN.{set}
 use Rattle.codec_defs.specs.Schema.{Script}
 use Rattle.script_run.specs.Shown.{GroupValue}
-use Rattle.script_run.specs.Grouping.{FindsEach, with_group, with_input, changed, place_with}
+use Rattle.script_run.specs.Grouping.{FindsEach, with_input, changed, place_with}
 use Rattle.script_run.proofs.GroupLemmas.{place-within, changed-at, finds-changed}
 use Rattle.script_run.proofs.groups.Grouping.add_input.Goals as goal
 

@@ -1,4 +1,4 @@
-use Rattle.std.proofs.Common.{◌≡◌, ℕ, List, Option, Some, Ok, length, refl, ap, sym, ◌∙◌, subst}
+use Rattle.std.proofs.Common.{◌≡◌, Ok, ap, ◌∙◌}
 use Rattle.codec_defs.specs.Schema.{CellOutput}
 use Rattle.cell_defs.specs.Cell.{script_hash}
 use Rattle.cell_defs.specs.Row.{Row}

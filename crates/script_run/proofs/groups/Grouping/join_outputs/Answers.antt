@@ -1,8 +1,7 @@
-use Rattle.std.proofs.Common.{◌≡◌, ◌≤◌, ◌<◌, ℕ, List, [], Option, Some, length, map, take, ap, sym, ◌∙◌, arith}
+use Rattle.std.proofs.Common.{◌≡◌, List, Option, Some, length, map, take, ap, sym, ◌∙◌, arith}
 use Rattle.std.specs.Prelude.{slice_get}
 use Rattle.std.proofs.lemmas.List.{take_all}
 use Rattle.codec_defs.specs.Schema.{RawTransaction, CellOutput, Script}
-use Rattle.cell_defs.specs.Row.{Row}
 use Rattle.script_run.specs.Grouping.{grouped}
 use Rattle.script_run.proofs.WalkLemmas.{rows-long, row-typed, map-more, map-taken}
 use Rattle.script_run.proofs.groups.Grouping.join_outputs.Goals as goal

@@ -1,10 +1,10 @@
-use Rattle.std.proofs.Common.{◌≡◌, ℕ, ◌++◌, ◌∷◌, [], Some, None, List, Option, if◌then◌else◌, length, arith, ap, sym, ◌∙◌, subst}
+use Rattle.std.proofs.Common.{◌≡◌, ℕ, ◌++◌, ◌∷◌, [], Some, None, List, if◌then◌else◌, length, arith, ap, sym, ◌∙◌, subst}
 use Rattle.std.specs.Map.{lookup}
 use Rattle.std.specs.Option.{option_copied}
 use Rattle.std.specs.Str.{bytes_eq}
 use Rattle.codec_defs.specs.Schema.{Script}
 use Rattle.script_run.specs.Shown.{GroupValue}
-use Rattle.script_run.specs.Grouping.{FindsEach, new_group, with_group, place_with}
+use Rattle.script_run.specs.Grouping.{FindsEach, new_group, place_with}
 use Rattle.script_run.proofs.GroupLemmas.{with-found, with-new, finds-new, new-place}
 use Rattle.script_run.proofs.groups.Grouping.place_of.Goals as goal
 
@@ -34,7 +34,7 @@ returns-clause-known c =
     subst (λ (l : List GroupValue). FindsEach c.insert.new.self.entries l) (sym items)
     (finds-new c.args.self.now.places.entries c.insert.new.self.entries c.args.self.now.groups.items c.args.hash c.args.script c.requires.known none
     (λ q. c.in_ok-insert.ensures.updates.0 q
-        ∙ ap (λ (n : ℕ). if bytes_eq c.args.hash q then Some n else lookup (bytes_eq q) c.args.self.now.places.entries) len))
+    ∙ ap (λ (n : ℕ). if bytes_eq c.args.hash q then Some n else lookup (bytes_eq q) c.args.self.now.places.entries) len))
 
 pub returns-clause-groups : goal.returns-clause-groups
 returns-clause-groups c =
