@@ -1,8 +1,11 @@
 // The codes of scripts, among the resolved deps (RFC 0022, "Code Locating").
-ghost use Rattle.std.specs.Prelude.{◌≡◌, List, IfOk};
+ghost use Rattle.std.specs.Prelude.{◌≡◌, ℕ, List, IfOk};
+ghost use Rattle.std.specs.HashMap.{get};
 ghost use Rattle.std.specs.List.{AllZip};
-ghost use Rattle.script_defs.specs.Codes.{code_of};
+ghost use Rattle.std.specs.Str.{bytes_eq};
+ghost use Rattle.script_defs.specs.Codes.{code_of, code_by_data, code_by_type};
 ghost use Rattle.script_defs.specs.Scene.{ShownCell};
+ghost use Rattle.script_run.specs.Locating.{first_with_data, typed_with};
 ghost use Rattle.script_run.specs.Shown.{IsShownAs, code_meaning};
 
 use cell_model::Resolved;
@@ -47,12 +50,51 @@ pub(crate) struct Codes<'a> {
 }
 
 impl<'a> Model for Codes<'a> {
-    ghost use Rattle.std.specs.Prelude.{List};
+    ghost use Rattle.std.specs.Prelude.{◌≡◌, ℕ, List};
+    ghost use Rattle.std.specs.HashMap.{get};
+    ghost use Rattle.std.specs.Str.{bytes_eq};
     ghost use Rattle.cell_model.specs.Copies.{ResolvedValue};
+    ghost use Rattle.script_run.specs.Locating.{first_with_data, typed_with};
 
     ghost Value = { List ResolvedValue };
 
     ghost view = { λ codes. codes.deps.now };
+
+    ghost invariant = { λ codes. (hash : List ℕ) → (get bytes_eq codes.by_data hash ≡ first_with_data hash 0 codes.deps.now)
+        × (get bytes_eq codes.by_type hash ≡ typed_with hash 0 codes.deps.now) };
+}
+
+/// The place of the first of the deps with each hash of their data.
+fn places_by_data(alloc: Global, deps: &[Resolved]) -> Result<HashMap<[u8; 32], usize>, NoMemory>
+    ensures { (hash : List ℕ) → IfOk result (λ places. get bytes_eq places hash ≡ first_with_data hash 0 deps.now) }
+{
+    let mut places = HashMap::new(alloc);
+    'deps: for behind in 0..deps.len() {
+        let place = deps.len() - 1 - behind;
+        let dep = &deps[place];
+        let meta = &dep.meta;
+        let hash = meta.data_hash;
+        places.insert(hash, place)?;
+    }
+    Ok(places)
+}
+
+/// The deps with each hash of their type script.
+fn places_by_type(alloc: Global, deps: &[Resolved]) -> Result<HashMap<[u8; 32], Typed>, NoMemory>
+    ensures { (hash : List ℕ) → IfOk result (λ places. get bytes_eq places hash ≡ typed_with hash 0 deps.now) }
+{
+    let mut places = HashMap::new(alloc);
+    'deps: for behind in 0..deps.len() {
+        let first = deps.len() - 1 - behind;
+        let dep = &deps[first];
+        let meta = &dep.meta;
+        let type_hash = meta.type_hash;
+        if let Some(hash) = type_hash {
+            let again = places.contains_key(&hash);
+            places.insert(hash, Typed { first, again })?;
+        }
+    }
+    Ok(places)
 }
 
 impl<'a> Codes<'a> {
@@ -60,18 +102,8 @@ impl<'a> Codes<'a> {
     pub(crate) fn of(alloc: Global, deps: &'a [Resolved]) -> Result<Codes<'a>, NoMemory>
         ensures { IfOk result (λ codes. codes ≡ deps.now) }
     {
-        let mut by_data = HashMap::new(alloc);
-        let mut by_type = HashMap::new(alloc);
-        'deps: for i in (0..deps.len()).rev() {
-            let meta = &deps[i].meta;
-            by_data.insert(meta.data_hash, i)?;
-            if let Some(hash) = meta.type_hash {
-                let again = by_type.insert(hash, Typed { first: i, again: false })?.is_some();
-                if again {
-                    by_type.insert(hash, Typed { first: i, again })?;
-                }
-            }
-        }
+        let by_data = places_by_data(alloc, deps)?;
+        let by_type = places_by_type(alloc, deps)?;
         Ok(Codes {
             deps,
             by_data,
@@ -79,10 +111,45 @@ impl<'a> Codes<'a> {
         })
     }
 
+    fn with_data_hash(&self, hash: [u8; 32]) -> Located<'a>
+        ensures { (cells : List ShownCell) → AllZip IsShownAs self.now cells → code_meaning result ≡ code_by_data cells hash }
+    {
+        match self.by_data.get(&hash) {
+            None => Located::NoCode,
+            Some(place) => {
+                let dep = &self.deps[*place];
+                Located::At(&dep.content)
+            }
+        }
+    }
+
+    fn with_type_hash(&self, hash: [u8; 32]) -> Located<'a>
+        ensures { (cells : List ShownCell) → AllZip IsShownAs self.now cells → code_meaning result ≡ code_by_type cells hash }
+    {
+        match self.by_type.get(&hash) {
+            None => Located::NoCode,
+            Some(typed) => {
+                if typed.again {
+                    Located::ManyCodes
+                } else {
+                    let dep = &self.deps[typed.first];
+                    Located::At(&dep.content)
+                }
+            }
+        }
+    }
+
     /// The code of a script.
+    #[tactic(auto, unfolding(script_defs::specs::Codes::code_of))]
     pub(crate) fn find(&self, script: &ScriptView<'_>) -> Located<'a>
         ensures { (cells : List ShownCell) → AllZip IsShownAs self.now cells → code_meaning result ≡ code_of cells script.now }
     {
-        Located::NoCode
+        let mut hash = [0; 32];
+        hash.copy_from_slice(script.code_hash());
+        match script.hash_type() {
+            BY_DATA => self.with_data_hash(hash),
+            BY_TYPE => self.with_type_hash(hash),
+            _ => Located::NoCode,
+        }
     }
 }

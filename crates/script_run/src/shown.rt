@@ -1,7 +1,9 @@
 // A transaction as its scripts are shown it.
 ghost use Rattle.std.specs.Prelude.{◌≡◌, IfOk};
+ghost use Rattle.script_run.specs.Shown.{output_rows};
 
 use cell_model::{CellMeta, ResolvedTx, data_at, meta_of};
+use mol_schema::TxView;
 use outside::NoMemory;
 use std::alloc::Global;
 use std::marker::Model;
@@ -35,15 +37,23 @@ impl<'a> ShownTx<'a> {
         ensures it { IfOk result (λ shown. shown.it ≡ it.now) }
         ensures epoch_length { IfOk result (λ shown. shown.epoch_length ≡ epoch_length) }
     {
-        let raw = it.tx.raw();
-        let mut outputs = Vec::new(alloc);
-        'outputs: for i in 0..raw.outputs_count() {
-            outputs.push(meta_of(0, 0, &raw.outputs_item(i), data_at(&it.tx, i)))?;
-        }
+        let outputs = rows_of(alloc, &it.tx)?;
         Ok(ShownTx {
             it,
             outputs,
             epoch_length,
         })
     }
+}
+
+/// The row of each output of a transaction.
+fn rows_of(alloc: Global, tx: &TxView<'_>) -> Result<Vec<CellMeta>, NoMemory>
+    ensures { IfOk result (λ rows. rows.items ≡ output_rows tx.now) }
+{
+    let raw = tx.raw();
+    let mut rows = Vec::new(alloc);
+    'outputs: for i in 0..raw.outputs_count() {
+        rows.push(meta_of(0, 0, &raw.outputs_item(i), data_at(tx, i)))?;
+    }
+    Ok(rows)
 }

@@ -1,0 +1,38 @@
+use Rattle.std.proofs.Common.{◌≡◌, ℕ, List, Some, None, refl, sym, ap, subst, ◌∙◌, rules}
+use Rattle.std.specs.List.{All, AllZip}
+use Rattle.cell_model.specs.Copies.{ResolvedValue, ResolvedTxValue}
+use Rattle.script_run.specs.Showing.{scene_shown}
+use Rattle.script_run.specs.Shown.{GroupValue, HasItsHash, IsShownAs, Shows}
+use Rattle.script_run.proofs.ShowingLemmas.{shows}
+use Rattle.script_run.proofs.RunningLemmas.{groups_in, deps-shown, first-fails, all-run}
+use Rattle.script_run.proofs.running.run_groups.Goals as goal
+
+pub returns-in_err-groups-clause-undamaged : goal.returns-in_err-groups-clause-undamaged
+returns-in_err-groups-clause-undamaged g c stored scene tells there damage broken =
+    let shown : Shows c.in_ok-shown.shown.it scene = subst (λ (it : ResolvedTxValue). Shows it scene) (sym c.in_ok-shown.ensures.it) (shows _ stored _ scene there) in
+    c.groups_of.ensures.undamaged scene shown damage (search rules)
+
+pub returns-in-Some-clause-exact : goal.returns-in-Some-clause-exact
+returns-in-Some-clause-exact g c stored scene tells there =
+    let shown : Shows c.in_ok-shown.shown.it scene = subst (λ (it : ResolvedTxValue). Shows it scene) (sym c.in_ok-shown.ensures.it) (shows _ stored _ scene there) in
+    let codes : c.in_ok-codes.codes ≡ c.args.tx.now.deps = ? in
+    first-fails scene c.args.budget (groups_in c.in_ok-groups.groups.items) c.in-Some.failure (c.in_ok-groups.ensures.groups scene shown)
+    (c.in-Some.ensures scene (deps-shown scene _ _ codes (shows _ stored _ scene there).deps) ∙ ?)
+
+pub returns-clause-exact : goal.returns-clause-exact
+returns-clause-exact g c stored scene tells there =
+    let shown : Shows c.in_ok-shown.shown.it scene = subst (λ (it : ResolvedTxValue). Shows it scene) (sym c.in_ok-shown.ensures.it) (shows _ stored _ scene there) in
+    let codes : c.in_ok-codes.codes ≡ c.args.tx.now.deps = ? in
+    let epoch_length : c.in_ok-shown.shown.epoch_length ≡ c.args.spec.now.epoch_length = ? in
+    let there_too : scene_shown c.in_ok-shown.shown.epoch_length stored c.in_ok-shown.shown.it ≡ Some scene =
+    ap (λ (n : ℕ). scene_shown n stored c.in_ok-shown.shown.it) epoch_length ∙ ap (scene_shown c.args.spec.now.epoch_length stored) c.in_ok-shown.ensures.it ∙ there in
+    all-run scene c.args.budget (groups_in c.in_ok-groups.groups.items) c.run_each.result (c.in_ok-groups.ensures.groups scene shown)
+    (sym c.in_default.is ∙ c.first_without_code.ensures scene (deps-shown scene _ _ codes (shows _ stored _ scene there).deps) ∙ ?)
+    ?
+
+pub returns-clause-undamaged : goal.returns-clause-undamaged
+returns-clause-undamaged g c stored scene tells there =
+    let epoch_length : c.in_ok-shown.shown.epoch_length ≡ c.args.spec.now.epoch_length = ? in
+    let there_too : scene_shown c.in_ok-shown.shown.epoch_length stored c.in_ok-shown.shown.it ≡ Some scene =
+    ap (λ (n : ℕ). scene_shown n stored c.in_ok-shown.shown.it) epoch_length ∙ ap (scene_shown c.args.spec.now.epoch_length stored) c.in_ok-shown.ensures.it ∙ there in
+    c.run_each.ensures.undamaged stored scene tells there_too
