@@ -126,7 +126,7 @@ pub ran-one : (scene : Scene) (budget used : ℕ) (values : List GroupValue) (i 
 ran-one scene budget used values i value whole cycles so_far within is took =
     let left : budget - used - cycles ≡ budget - (used + cycles) = omega arith in
     rw add-one (so_far ∙ ap (with_cycles used) (next-run scene (budget - used) values i value within is
-        ∙ ap (followed_by (λ used. run_from scene _ (suc i) (drop (suc i) (groups_in values)))) took)
+    ∙ ap (followed_by (λ used. run_from scene _ (suc i) (drop (suc i) (groups_in values)))) took)
     ∙ more-cycles used cycles _ ∙ ap (λ (n : ℕ). with_cycles (used + cycles) (run_from scene n (suc i) (drop (suc i) (groups_in values)))) left)
 
 -- a group stopped the run
@@ -135,7 +135,7 @@ pub ran-to-stop : (scene : Scene) (budget used : ℕ) (values : List GroupValue)
     → IsOutcome (run_group scene (budget - used) i value.group) (Err stop) → IsOutcome whole (Err stop)
 ran-to-stop scene budget used values i value whole (Failed why) so_far within is stopped =
     so_far ∙ ap (with_cycles used) (next-run scene (budget - used) values i value within is
-        ∙ ap (followed_by (λ used. run_from scene _ (suc i) (drop (suc i) (groups_in values)))) stopped)
+    ∙ ap (followed_by (λ used. run_from scene _ (suc i) (drop (suc i) (groups_in values)))) stopped)
 ran-to-stop scene budget used values i value whole (Read stop) so_far within is stopped = tt
 
 pub ran-each : (scene : Scene) (budget used : ℕ) (values : List GroupValue) (i : ℕ) (whole : Result ℕ Failure)
@@ -144,16 +144,6 @@ unfolding run_from
 ran-each scene budget used values i whole so_far all =
     let none_more : used + 0 ≡ used = omega arith in
     so_far ∙ ap (λ (left : List Group). with_cycles used (run_from scene (budget - used) i left)) (none-left values i all) ∙ ap Ok none_more
-
--- at the start none of the budget is used
-pub ran-none : (scene : Scene) (budget : ℕ) (groups : List Group) → run_from scene budget 0 groups ≡ with_cycles 0 (run_from scene (budget - 0) 0 (drop 0 groups))
-ran-none scene budget groups =
-    let whole : budget ≡ budget - 0 = omega arith in
-    same (run_from scene budget 0 groups) ∙ ap (λ (left : ℕ). with_cycles 0 (run_from scene left 0 groups)) whole
-  where
-    same : (result : Result ℕ Failure) → result ≡ with_cycles 0 result
-    same (Ok cycles) = let sum : cycles ≡ 0 + cycles = omega arith in ap Ok sum
-    same (Err why) = refl
 
 -- ---- All groups of a transaction
 

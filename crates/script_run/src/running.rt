@@ -86,12 +86,7 @@ fn executed(place: u32, came: Execution, left: u64) -> Result<u64, Failure>
 
 /// TYPE_ID, of a group whose script it is.
 #[tactic(auto, unfolding(script_defs::specs::TypeId::type_id_cycles))]
-fn run_type_id(
-    tx: &TxView<'_>,
-    group: &Group<'_>,
-    place: u32,
-    left: u64,
-) -> Result<u64, Failure>
+fn run_type_id(tx: &TxView<'_>, group: &Group<'_>, place: u32, left: u64) -> Result<u64, Failure>
     ensures exact { (scene : Scene) → scene.transaction ≡ tx.now → result ≡ defs.run_type_id scene left place group.now.group }
     ensures within { IfOk result (λ cycles. cycles ≤ left) }
 {
