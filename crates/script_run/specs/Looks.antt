@@ -27,3 +27,4 @@ pub record HasHashes (row : Row) (cell : OutputWithData) : Type 0 where
   pub lock : row.lock_hash ≡ script_hash cell.output.lock
   pub type_script : row.type_hash ≡ option_map script_hash cell.output.type_script
   pub content_hash : row.data_hash ≡ data_hash cell.content
+
