@@ -10,10 +10,9 @@ use Rattle.cell_model.specs.Copies.{ResolvedValue}
 use Rattle.vm_defs.specs.Program.{Execution, execution}
 use Rattle.sys_defs.specs.Answer.{syscall}
 use Rattle.script_defs.specs.declared.failure.Failure.{Failure}
-use Rattle.script_defs.specs.declared.failure.Failure.TheVariants as failure
-use Rattle.script_defs.specs.Scene.{Scene, ShownCell}
+use Rattle.script_defs.specs.Scene.{Scene}
 use Rattle.script_defs.specs.Groups.{Group, groups_of}
-use Rattle.script_defs.specs.Codes.{Code, NoCode, ManyCodes, Is, code_of, is_type_id}
+use Rattle.script_defs.specs.Codes.{Code, Is, code_of, is_type_id}
 use Rattle.script_defs.specs.Items.{items}
 use Rattle.script_defs.specs.Outcome.{has_no_code, or_later, first_without_code, executed, run_code, run_type_id, run_group, with_cycles, followed_by, run_from, unless, outcome_of}
 use Rattle.script_run.specs.declared.stop.ScriptStop.{ScriptStop}

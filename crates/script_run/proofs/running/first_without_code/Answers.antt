@@ -1,4 +1,4 @@
-use Rattle.std.proofs.Common.{◌≡◌, sym, ◌∙◌, arith}
+use Rattle.std.proofs.Common.{sym, ◌∙◌, arith}
 use Rattle.script_run.proofs.RunningLemmas.{found-lacking, found-code, found-each}
 use Rattle.script_run.proofs.running.first_without_code.Goals as goal
 

@@ -1,4 +1,4 @@
-use Rattle.std.proofs.Common.{◌≡◌, ℕ, Result, Ok, Err, refl, sym, ap, subst, ◌∙◌, arith, rules}
+use Rattle.std.proofs.Common.{◌≡◌, Ok, ◌∙◌, arith, rules}
 use Rattle.script_run.proofs.RunningLemmas.{its-hash, ran-one, ran-each, ran-to-stop, stops-so}
 use Rattle.script_run.proofs.running.run_each.Goals as goal
 

@@ -1,4 +1,4 @@
-use Rattle.std.proofs.Common.{◌≡◌, ℕ, List, Some, None, refl, sym, ap, subst, ◌∙◌, rules}
+use Rattle.std.proofs.Common.{◌≡◌, ℕ, List, Some, sym, ap, subst, ◌∙◌, rules}
 use Rattle.std.specs.List.{All}
 use Rattle.cell_model.specs.Copies.{ResolvedTxValue}
 use Rattle.script_defs.specs.Outcome.{first_without_code, run_from}
