@@ -1,0 +1,116 @@
+-- What is found for a script is the item that it is answered.
+use Rattle.std.proofs.Common.{◌≡◌, ℕ, zero, suc, ◌+◌, ◌/◌, ◌%◌, ◌^◌, ◌<◌, ◌≤◌, Bool, true, false, List, [], ◌∷◌, length, map, get_or, Option, Some, None, refl, sym, ap, subst, ◌∙◌, arith, eqb, cond}
+use Rattle.std.specs.Prelude.{slice_get, IsSomeAnd, ◌==◌, ◌||◌}
+use Rattle.std.specs.Option.{option_map}
+use Rattle.std.specs.Int.{w64, to_le_bytes}
+use Rattle.std.specs.List.{AllZip, enumerate_from, list_any}
+use Rattle.std.proofs.lemmas.Option.{slice_get-map, get_or_from_slice_get, slice_get_within}
+use Rattle.std.proofs.lemmas.Bool.{eqb-true}
+use Rattle.codec_defs.specs.Shape.{decoded}
+use Rattle.codec_defs.specs.Schema.{Header, CellOutput, cell_output, Transaction}
+use Rattle.cell_defs.specs.Row.{Row}
+use Rattle.cell_defs.specs.Cell.{data_of}
+use Rattle.cell_model.specs.Copies.{ResolvedValue}
+use Rattle.sys_defs.specs.World.{Call, Item, Here, NoIndex, Missing}
+use Rattle.sys_defs.specs.Table.{syscalls}
+use Rattle.script_defs.specs.Scene.{Scene, ShownCell}
+use Rattle.script_defs.specs.Items.{OutputWithData, answer, cell_at, items, item_at, output_of}
+use Rattle.script_defs.specs.Sources.{AtOutput}
+use Rattle.script_run.specs.declared.bytes.CellPart.{CellPart}
+use Rattle.script_run.specs.declared.bytes.Look.{Look}
+use Rattle.script_run.specs.Looks.{HasHashes, IsFound, cell_part, header_among, items_of}
+use Rattle.script_run.specs.Shown.{GroupValue, IsShownAs, output_row, output_rows}
+use Rattle.script_run.proofs.PlaceLemmas.{Beside, beside, beside-none, some-is}
+
+pub found : (headers : ℕ → Option Header) (epoch_length : ℕ) (item other : Item) (look : Look) → item ≡ other → IsFound headers epoch_length other look
+    → IsFound headers epoch_length item look
+found headers epoch_length item other look same is = subst (λ (it : Item). IsFound headers epoch_length it look) (sym same) is
+
+-- ---- Cells
+
+pub part-here : (cell : OutputWithData) (part kind : CellPart) (bytes : List ℕ) → part ≡ kind → cell_part kind cell ≡ Some bytes → answer (Some (cell_part part cell)) ≡ Here bytes
+part-here cell part kind bytes is here = ap (λ (p : CellPart). answer (Some (cell_part p cell))) is ∙ ap (λ (b : Option (List ℕ)). answer (Some b)) here
+
+pub none-there : {A B : Type 0} (R : A → B → Type 0) (f : B → Option (List ℕ)) (xs : List A) (ys : List B) (i : ℕ) → AllZip R xs ys → slice_get xs i ≡ None
+    → answer (option_map f (slice_get ys i)) ≡ NoIndex
+none-there R f xs ys i zip none = ap (λ (o : Option _). answer (option_map f o)) (beside-none R xs ys i zip none)
+
+pub one-there : {A : Type 0} (f : A → Option (List ℕ)) (xs : List A) (i : ℕ) (x : A) → slice_get xs i ≡ Some x → answer (option_map f (slice_get xs i)) ≡ answer (Some (f x))
+one-there f xs i x here = ap (λ (o : Option _). answer (option_map f o)) here
+
+pub shown-copy : (headers : ℕ → Option Header) (epoch_length : ℕ) (cells : List ShownCell) (copies : List ResolvedValue) (i : ℕ) (copy : ResolvedValue) (part : CellPart) (look : Look)
+    → AllZip IsShownAs copies cells → slice_get copies i ≡ Some copy
+    → ((cell : ShownCell) → IsShownAs copy cell → IsFound headers epoch_length (answer (Some (cell_part part (output_of cell)))) look)
+    → IsFound headers epoch_length (answer (option_map (λ cell. cell_part part (output_of cell)) (slice_get cells i))) look
+shown-copy headers epoch_length cells copies i copy part look zip here each =
+    let it : Beside IsShownAs copy cells i = beside IsShownAs copies cells i copy zip here in
+    found headers epoch_length _ _ look (one-there (λ cell. cell_part part (output_of cell)) cells i it.item it.there) (each it.item it.holds)
+
+pub has-hashes : (copy : ResolvedValue) (cell : ShownCell) → IsShownAs copy cell → HasHashes copy.row (output_of cell)
+has-hashes copy cell is = record { lock = is.lock; type_script = is.type_script; content_hash = is.content_hash }
+
+-- ---- Outputs
+
+enumerated : {A : Type 0} (n : ℕ) (xs : List A) (i : ℕ) (x : A) → slice_get xs i ≡ Some x → slice_get (enumerate_from n xs) i ≡ Some (n + i, x)
+enumerated n [] i x here = absurd cc
+enumerated n (y ∷ xs) zero x here =
+    let same : n ≡ n + 0 = omega arith in
+    ap Some (λ t. (same t, some-is y x here t))
+enumerated n (y ∷ xs) (suc i) x here =
+    let next : n + 1 + i ≡ n + suc i = omega arith in
+    enumerated (n + 1) xs i x here ∙ ap (λ (k : ℕ). Some (k, x)) next
+
+-- the row of an output
+pub its-row : (t : Transaction) (i : ℕ) (output : CellOutput) (row : Row) → slice_get t.raw.outputs i ≡ Some output → row ≡ get_or (output_rows t) i row
+    → row ≡ output_row t (i, output)
+unfolding output_rows
+its-row t i output row here is =
+    let none_more : 0 + i ≡ i = omega arith in
+    let at : slice_get (output_rows t) i ≡ Some (output_row t (i, output)) =
+    slice_get-map (output_row t) (enumerate_from 0 t.raw.outputs) i ∙ ap (option_map (output_row t)) (enumerated 0 t.raw.outputs i output here)
+    ∙ ap (λ (k : ℕ). Some (output_row t (k, output))) none_more in
+    is ∙ get_or_from_slice_get (output_rows t) i (output_row t (i, output)) row at
+
+pub row-hashes : (t : Transaction) (i : ℕ) (output : CellOutput) (row : Row) → row ≡ output_row t (i, output) → HasHashes row (record { output = output; content = data_of t i })
+row-hashes t i output row is = record { lock = ap (λ (r : Row). r.lock_hash) is; type_script = ap (λ (r : Row). r.type_hash) is; content_hash = ap (λ (r : Row). r.data_hash) is }
+
+-- ---- Headers
+
+-- a place among those of the header deps has a header
+pub record HasHeader (headers : ℕ → Option Header) (place : ℕ) : Type 0 where
+  pub it : Header
+  pub there : headers place ≡ Some it
+
+pub among : (headers : ℕ → Option Header) (places : List ℕ) (shown : List Header) (place : ℕ) → AllZip (λ p h. headers p ≡ Some h) places shown
+    → list_any (λ p. p == place) places ≡ true → HasHeader headers place
+among headers [] shown place zip any = absurd cc
+among headers (p ∷ places) [] place zip any = absurd zip
+among headers (p ∷ places) (h ∷ shown) place zip any =
+    elim (eqb p place) as (λ b. eqb p place ≡ b → HasHeader headers place) [
+      | true ↦ λ same. record { it = h; there = ap headers (sym (eqb-true p place same)) ∙ zip.0 }
+      | false ↦ λ other. among headers places shown place zip.1 (sym (ap (λ (b : Bool). b || list_any (λ q. q == place) places) other) ∙ any)
+    ] refl
+
+pub some-and : {A : Type 0} (P : A → Type 0) (o : Option A) (x : A) → o ≡ Some x → P x → IsSomeAnd o P
+some-and P o x is holds = subst (λ (it : Option _). IsSomeAnd it P) (sym is) holds
+
+-- ---- A syscall by its number
+
+pub at-number : (scene : Scene) (it : GroupValue) (call : Call) (n : ℕ) → call.number ≡ n
+    → items_of scene it call ≡ items_of scene it (record { number = n; index = call.index; source = call.source; field = call.field })
+at-number scene it call n is = ap (λ (number : ℕ). items_of scene it (record { number = number; index = call.index; source = call.source; field = call.field })) is
+
+-- ---- Numbers
+
+-- the lowest 64 bits have the bytes of the number
+pub low-bytes : (n : ℕ) → to_le_bytes w64 (n % 2 ^ 64) ≡ to_le_bytes w64 n
+low-bytes n =
+    let b0 : n % 2 ^ 64 % 256 ≡ n % 256 = omega arith in
+    let b1 : n % 2 ^ 64 / 256 % 256 ≡ n / 256 % 256 = omega arith in
+    let b2 : n % 2 ^ 64 / 65536 % 256 ≡ n / 65536 % 256 = omega arith in
+    let b3 : n % 2 ^ 64 / 16777216 % 256 ≡ n / 16777216 % 256 = omega arith in
+    let b4 : n % 2 ^ 64 / 4294967296 % 256 ≡ n / 4294967296 % 256 = omega arith in
+    let b5 : n % 2 ^ 64 / 1099511627776 % 256 ≡ n / 1099511627776 % 256 = omega arith in
+    let b6 : n % 2 ^ 64 / 281474976710656 % 256 ≡ n / 281474976710656 % 256 = omega arith in
+    let b7 : n % 2 ^ 64 / 72057594037927936 % 256 ≡ n / 72057594037927936 % 256 = omega arith in
+    λ t. b0 t ∷ b1 t ∷ b2 t ∷ b3 t ∷ b4 t ∷ b5 t ∷ b6 t ∷ b7 t ∷ []
