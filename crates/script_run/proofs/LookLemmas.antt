@@ -1,24 +1,29 @@
 -- What is found for a script is the item that it is answered.
 use Rattle.std.proofs.Common.{◌≡◌, ℕ, zero, suc, ◌+◌, ◌/◌, ◌%◌, ◌^◌, ◌<◌, ◌≤◌, Bool, true, false, List, [], ◌∷◌, length, map, get_or, Option, Some, None, refl, sym, ap, subst, ◌∙◌, arith, eqb, cond}
 use Rattle.std.specs.Prelude.{slice_get, IsSomeAnd, ◌==◌, ◌||◌}
-use Rattle.std.specs.Option.{option_map}
+use Rattle.std.specs.Option.{option_map, option_and_then}
 use Rattle.std.specs.Int.{w64, to_le_bytes}
 use Rattle.std.specs.List.{AllZip, enumerate_from, list_any}
 use Rattle.std.proofs.lemmas.Option.{slice_get-map, get_or_from_slice_get, slice_get_within}
 use Rattle.std.proofs.lemmas.Bool.{eqb-true}
+use Rattle.std.proofs.lemmas.List.{length-map}
+use Rattle.std.proofs.lemmas.List.FromFn.{length-enumerate_from}
 use Rattle.codec_defs.specs.Shape.{decoded}
-use Rattle.codec_defs.specs.Schema.{Header, CellOutput, cell_output, Transaction}
+use Rattle.codec_defs.specs.Schema.{Header, CellInput, CellOutput, cell_output, Transaction}
 use Rattle.cell_defs.specs.Row.{Row}
 use Rattle.cell_defs.specs.Cell.{data_of}
 use Rattle.cell_model.specs.Copies.{ResolvedValue}
-use Rattle.sys_defs.specs.World.{Call, Item, Here, NoIndex, Missing}
+use Rattle.sys_defs.specs.World.{Call, Item, Here, NoIndex, Missing, Unknown}
 use Rattle.sys_defs.specs.Table.{syscalls}
 use Rattle.script_defs.specs.Scene.{Scene, ShownCell}
-use Rattle.script_defs.specs.Items.{OutputWithData, answer, cell_at, items, item_at, output_of}
-use Rattle.script_defs.specs.Sources.{AtOutput}
+use Rattle.script_defs.specs.Items.{OutputWithData, answer, items, item_at, listed, output_of}
+use Rattle.script_defs.specs.Groups.{Group}
+use Rattle.script_defs.specs.Sources.{Place, place_of, source_of}
 use Rattle.script_run.specs.declared.bytes.CellPart.{CellPart}
+use Rattle.script_run.specs.declared.bytes.HeaderPart.{HeaderPart}
+use Rattle.script_run.specs.declared.bytes.InputPart.{InputPart}
 use Rattle.script_run.specs.declared.bytes.Look.{Look}
-use Rattle.script_run.specs.Looks.{HasHashes, IsFound, cell_part, header_among, items_of}
+use Rattle.script_run.specs.Looks.{HasHashes, IsFound, cell_part, header_among, header_part, input_part, items_of}
 use Rattle.script_run.specs.Shown.{GroupValue, IsShownAs, output_row, output_rows}
 use Rattle.script_run.proofs.PlaceLemmas.{Beside, beside, beside-none, some-is}
 
@@ -30,6 +35,9 @@ found headers epoch_length item other look same is = subst (λ (it : Item). IsFo
 
 pub part-here : (cell : OutputWithData) (part kind : CellPart) (bytes : List ℕ) → part ≡ kind → cell_part kind cell ≡ Some bytes → answer (Some (cell_part part cell)) ≡ Here bytes
 part-here cell part kind bytes is here = ap (λ (p : CellPart). answer (Some (cell_part p cell))) is ∙ ap (λ (b : Option (List ℕ)). answer (Some b)) here
+
+pub input-here : (input : CellInput) (part kind : InputPart) (bytes : List ℕ) → part ≡ kind → input_part kind input ≡ Some bytes → answer (Some (input_part part input)) ≡ Here bytes
+input-here input part kind bytes is here = ap (λ (p : InputPart). answer (Some (input_part p input))) is ∙ ap (λ (b : Option (List ℕ)). answer (Some b)) here
 
 pub none-there : {A B : Type 0} (R : A → B → Type 0) (f : B → Option (List ℕ)) (xs : List A) (ys : List B) (i : ℕ) → AllZip R xs ys → slice_get xs i ≡ None
     → answer (option_map f (slice_get ys i)) ≡ NoIndex
@@ -49,6 +57,21 @@ shown-copy headers epoch_length cells copies i copy part look zip here each =
 pub has-hashes : (copy : ResolvedValue) (cell : ShownCell) → IsShownAs copy cell → HasHashes copy.row (output_of cell)
 has-hashes copy cell is = record { lock = is.lock; type_script = is.type_script; content_hash = is.content_hash }
 
+-- a copy that is shown is an output
+pub no-output : (cells : List ShownCell) (copies : List ResolvedValue) (i : ℕ) (copy : ResolvedValue) → AllZip IsShownAs copies cells → slice_get copies i ≡ Some copy
+    → decoded cell_output copy.output ≡ None → ⊥
+no-output cells copies i copy zip here none =
+    let it : Beside IsShownAs copy cells i = beside IsShownAs copies cells i copy zip here in
+    let output = it.holds.output in
+    cc
+
+-- its row, as a part of what it is made of
+pub row-has-hashes : (copy : ResolvedValue) (row : Row) (cell : ShownCell) → row ≡ copy.row → IsShownAs copy cell → HasHashes row (output_of cell)
+row-has-hashes copy row cell same is = subst (λ (r : Row). HasHashes r (output_of cell)) (sym same) (has-hashes copy cell is)
+
+pub same-output : (copy : ResolvedValue) (cell : ShownCell) (output : CellOutput) → IsShownAs copy cell → decoded cell_output copy.output ≡ Some output → output ≡ cell.output
+same-output copy cell output is some = let it = is.output in cc
+
 -- ---- Outputs
 
 enumerated : {A : Type 0} (n : ℕ) (xs : List A) (i : ℕ) (x : A) → slice_get xs i ≡ Some x → slice_get (enumerate_from n xs) i ≡ Some (n + i, x)
@@ -59,6 +82,10 @@ enumerated n (y ∷ xs) zero x here =
 enumerated n (y ∷ xs) (suc i) x here =
     let next : n + 1 + i ≡ n + suc i = omega arith in
     enumerated (n + 1) xs i x here ∙ ap (λ (k : ℕ). Some (k, x)) next
+
+pub as-many-rows : (t : Transaction) → length (output_rows t) ≡ length t.raw.outputs
+unfolding output_rows
+as-many-rows t = length-map (enumerate_from 0 t.raw.outputs) (output_row t) ∙ length-enumerate_from 0 t.raw.outputs
 
 -- the row of an output
 pub its-row : (t : Transaction) (i : ℕ) (output : CellOutput) (row : Row) → slice_get t.raw.outputs i ≡ Some output → row ≡ get_or (output_rows t) i row
@@ -93,6 +120,59 @@ among headers (p ∷ places) (h ∷ shown) place zip any =
 
 pub some-and : {A : Type 0} (P : A → Type 0) (o : Option A) (x : A) → o ≡ Some x → P x → IsSomeAnd o P
 some-and P o x is holds = subst (λ (it : Option _). IsSomeAnd it P) (sym is) holds
+
+-- that of the block that made a cell, which is among those of the header deps
+pub made-among : (headers : ℕ → Option Header) (epoch_length : ℕ) (part : HeaderPart) (places : List ℕ) (shown : List Header) (copies : List ResolvedValue) (cells : List ShownCell)
+    (i : ℕ) (copy : ResolvedValue) (place : ℕ) → AllZip (λ p h. headers p ≡ Some h) places shown → AllZip (λ it cell. cell.header ≡ header_among places headers it.row.block) copies cells
+    → slice_get copies i ≡ Some copy → place ≡ copy.row.block → list_any (λ p. p == place) places ≡ true
+    → IsSomeAnd (headers place) (λ h. answer (option_map (λ cell. option_and_then (λ it. Some (header_part epoch_length part it)) cell.header) (slice_get cells i)) ≡ Here (header_part epoch_length part h))
+made-among headers epoch_length part places shown copies cells i copy place by_place zip here same any =
+    let h = among headers places shown place by_place any in
+    let it : Beside (λ (copy : ResolvedValue) (cell : ShownCell). cell.header ≡ header_among places headers copy.row.block) copy cells i = beside _ copies cells i copy zip here in
+    let header : it.item.header ≡ Some h.it = it.holds ∙ ap (header_among places headers) (sym same) ∙ ap (λ (b : Bool). cond b (headers place) None) any ∙ h.there in
+    some-and _ (headers place) h.it h.there
+    (one-there (λ cell. option_and_then (λ x. Some (header_part epoch_length part x)) cell.header) cells i it.item it.there
+    ∙ ap (λ (o : Option Header). answer (Some (option_and_then (λ x. Some (header_part epoch_length part x)) o))) header)
+
+pub made-elsewhere : (headers : ℕ → Option Header) (epoch_length : ℕ) (part : HeaderPart) (places : List ℕ) (copies : List ResolvedValue) (cells : List ShownCell) (i : ℕ)
+    (copy : ResolvedValue) (place : ℕ) → AllZip (λ it cell. cell.header ≡ header_among places headers it.row.block) copies cells → slice_get copies i ≡ Some copy
+    → place ≡ copy.row.block → list_any (λ p. p == place) places ≡ false
+    → answer (option_map (λ cell. option_and_then (λ it. Some (header_part epoch_length part it)) cell.header) (slice_get cells i)) ≡ Missing
+made-elsewhere headers epoch_length part places copies cells i copy place zip here same any =
+    let it : Beside (λ (copy : ResolvedValue) (cell : ShownCell). cell.header ≡ header_among places headers copy.row.block) copy cells i = beside _ copies cells i copy zip here in
+    let header : it.item.header ≡ None = it.holds ∙ ap (header_among places headers) (sym same) ∙ ap (λ (b : Bool). cond b (headers place) None) any in
+    one-there (λ cell. option_and_then (λ x. Some (header_part epoch_length part x)) cell.header) cells i it.item it.there
+    ∙ ap (λ (o : Option Header). answer (Some (option_and_then (λ x. Some (header_part epoch_length part x)) o))) header
+
+pub made-as : (headers : ℕ → Option Header) (places others : List ℕ) (copies same : List ResolvedValue) (cells : List ShownCell) → others ≡ places → same ≡ copies
+    → AllZip (λ it cell. cell.header ≡ header_among places headers it.row.block) copies cells → AllZip (λ it cell. cell.header ≡ header_among others headers it.row.block) same cells
+made-as headers places others copies same cells as_places as_copies zip =
+    subst (λ (ps : List ℕ). AllZip (λ it cell. cell.header ≡ header_among ps headers it.row.block) same cells) (sym as_places)
+    (subst (λ (cs : List ResolvedValue). AllZip (λ it cell. cell.header ≡ header_among places headers it.row.block) cs cells) (sym as_copies) zip)
+
+pub of-dep : (headers : ℕ → Option Header) (epoch_length : ℕ) (part : HeaderPart) (places : List ℕ) (shown : List Header) (i place : ℕ)
+    → AllZip (λ p h. headers p ≡ Some h) places shown → slice_get places i ≡ Some place
+    → IsSomeAnd (headers place) (λ h. answer (option_map (λ it. Some (header_part epoch_length part it)) (slice_get shown i)) ≡ Here (header_part epoch_length part h))
+of-dep headers epoch_length part places shown i place zip here =
+    let it : Beside (λ (p : ℕ) (h : Header). headers p ≡ Some h) place shown i = beside _ places shown i place zip here in
+    some-and _ (headers place) it.item it.holds (one-there (λ h. Some (header_part epoch_length part h)) shown i it.item it.there)
+
+-- ---- An item of a list
+
+-- what is asked of an item that stands at a place
+pub mapped : {I J : Type 0} (bytes : J → Option (List ℕ)) (of : I → Option J) (o : Option I)
+    → answer (option_map (λ it. option_and_then bytes it) (option_map of o)) ≡ answer (option_map (λ it. option_and_then bytes (of it)) o)
+mapped bytes of None = refl
+mapped bytes of (Some it) = refl
+
+pub listed-at : {I : Type 0} (scene : Scene) (group : Group) (call : Call) (at : Place → Option (Option I)) (bytes : I → Option (List ℕ)) (place : Place)
+    → Some (Some place) ≡ option_map (λ it. place_of scene group it call.index) (source_of call.source) → listed scene group call at (Some bytes) ≡ item_at at bytes (Some place)
+listed-at scene group call at bytes place is =
+    elim (source_of call.source) as (λ source. Some (Some place) ≡ option_map (λ it. place_of scene group it call.index) source
+        → (elim source [ None ↦ Unknown | Some it ↦ item_at at bytes (place_of scene group it call.index) ]) ≡ item_at at bytes (Some place)) [
+      | None ↦ λ none. absurd cc
+      | Some it ↦ λ some. ap (item_at at bytes) (sym (some-is _ _ some))
+    ] is
 
 -- ---- A syscall by its number
 

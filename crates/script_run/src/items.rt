@@ -2,17 +2,16 @@
 ghost use Rattle.std.specs.Prelude.{◌≡◌, ℕ, ◌*◌, ◌^◌, List, Option, Some, None, slice_get};
 ghost use Rattle.std.specs.List.{AllZip};
 ghost use Rattle.sys_defs.specs.World.{Here};
-ghost use Rattle.script_defs.specs.Sources.{AtOutput};
-ghost use Rattle.std.specs.Option.{option_map};
+ghost use Rattle.std.specs.Option.{option_map, option_and_then};
 ghost use Rattle.std.specs.Int.{w64, to_le_bytes};
 ghost use Rattle.codec_defs.specs.Schema.{Header};
-ghost use Rattle.cell_defs.specs.Cell.{occupied_by};
+ghost use Rattle.cell_defs.specs.Cell.{data_of, occupied_by};
 ghost use Rattle.script_defs.specs.Scene.{Scene, ShownCell};
 ghost use Rattle.script_defs.specs.Items as defs;
 ghost use Rattle.script_defs.specs.Items.{OutputWithData, answer, field, cell_fields, header_fields, input_fields, item_at, listed, output_of, whole};
 ghost use Rattle.script_run.specs.Looks.{HasHashes, IsFound, ShowsHeaders, cell_part, header_among, header_part, input_part, items_of};
 ghost use Rattle.script_run.specs.Places.{place_meaning};
-ghost use Rattle.script_run.specs.Shown.{IsShownAs, Shows};
+ghost use Rattle.script_run.specs.Shown.{IsShownAs, Shows, output_rows};
 
 use crate::bytes::{Bytes, CellPart, HeaderPart, InputPart, Look};
 use crate::groups::Group;
@@ -99,22 +98,23 @@ fn cell<'a>(tx: &ShownTx<'a>, group: &Group<'_>, call: &Call, part: Option<CellP
     let Some(part) = part else {
         return Look::Unknown;
     };
-    match target_of(tx.it, group, call.source, call.index) {
+    let it = tx.it;
+    match target_of(it, group, call.source, call.index) {
         Target::NoSource => Look::Unknown,
         Target::NoIndex => Look::NoIndex,
-        Target::At(place) => cell_at(tx, place, part),
+        Target::At(place) => cell_at(it, &tx.outputs, place, part),
     }
 }
 
-fn cell_at<'a>(tx: &ShownTx<'a>, place: Place, part: CellPart) -> Look<'a>
-    ensures { (headers : ℕ → Option Header) (length : ℕ) (scene : Scene) → Shows tx.now.it scene
+fn cell_at<'a>(tx: &'a ResolvedTx<'a>, rows: &[CellMeta], place: Place, part: CellPart) -> Look<'a>
+    requires { rows.now ≡ output_rows tx.now.tx }
+    ensures { (headers : ℕ → Option Header) (length : ℕ) (scene : Scene) → Shows tx.now scene
         → IsFound headers length (item_at (defs.cell_at scene) (cell_part part) (Some (place_meaning place))) result }
 {
-    let it = tx.it;
     match place {
-        Place::Input(i) => part_of_copy(&it.inputs, i, part),
-        Place::Output(i) => part_of_output(tx, i, part),
-        Place::CellDep(i) => part_of_copy(&it.deps, i, part),
+        Place::Input(i) => part_of_copy(&tx.inputs, i, part),
+        Place::Output(i) => part_of_output(&tx.tx, rows, i, part),
+        Place::CellDep(i) => part_of_copy(&tx.deps, i, part),
         Place::HeaderDep(_) => Look::NoIndex,
     }
 }
@@ -134,17 +134,17 @@ fn part_of_copy<'a>(copies: &'a [Resolved], i: usize, part: CellPart) -> Look<'a
     }
 }
 
-/// A part of an output of the transaction.
-fn part_of_output<'a>(tx: &ShownTx<'a>, i: usize, part: CellPart) -> Look<'a>
-    ensures { (headers : ℕ → Option Header) (length : ℕ) (scene : Scene) → scene.transaction ≡ tx.now.it.tx
-        → IsFound headers length (item_at (defs.cell_at scene) (cell_part part) (Some (AtOutput i))) result }
+/// A part of an output of a transaction.
+fn part_of_output<'a>(tx: &TxView<'a>, rows: &[CellMeta], i: usize, part: CellPart) -> Look<'a>
+    requires { rows.now ≡ output_rows tx.now }
+    ensures { (headers : ℕ → Option Header) (length : ℕ)
+        → IsFound headers length (answer (option_map (λ output. cell_part part (record { output = output; content = data_of tx.now i })) (slice_get tx.now.raw.outputs i))) result }
 {
-    if i >= tx.outputs.len() {
+    if i >= rows.len() {
         return Look::NoIndex;
     }
-    let it = tx.it;
-    let output = it.tx.raw().outputs_item(i);
-    part_of(&output, data_at(&it.tx, i), &tx.outputs[i], part)
+    let output = tx.raw().outputs_item(i);
+    part_of(&output, data_at(tx, i), &rows[i], part)
 }
 
 /// A part of an output with its data, whose hashes stand in its row.
@@ -240,17 +240,24 @@ fn header_at<'a>(tx: &ResolvedTx<'_>, place: Place, part: HeaderPart) -> Look<'a
 fn header_of_copy<'a>(places: &[u32], copies: &[Resolved], i: usize, part: HeaderPart) -> Look<'a>
     ensures { (headers : ℕ → Option Header) (length : ℕ) (cells : List ShownCell) (shown : List Header) → AllZip (λ place it. headers place ≡ Some it) places.now shown
         → AllZip (λ copy cell. cell.header ≡ header_among places.now headers copy.row.block) copies.now cells
-        → IsFound headers length (answer (option_map (λ cell. option_map (header_part length part) cell.header) (slice_get cells i))) result }
+        → IsFound headers length (answer (option_map (λ cell. option_and_then (λ h. Some (header_part length part h)) cell.header) (slice_get cells i))) result }
 {
     if i >= copies.len() {
         return Look::NoIndex;
     }
-    let copy = &copies[i];
-    if places.contains(&copy.meta.block) {
-        Look::InBlock(copy.meta.block, part)
+    let place = made_in(&copies[i]);
+    if places.contains(&place) {
+        Look::InBlock(place, part)
     } else {
         Look::Missing
     }
+}
+
+/// The place of the block that made a cell.
+fn made_in(copy: &Resolved) -> u32
+    ensures { result ≡ copy.now.row.block }
+{
+    copy.meta.block
 }
 
 /// A part of the header of a header dep.
