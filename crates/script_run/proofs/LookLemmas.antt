@@ -14,17 +14,20 @@ use Rattle.cell_defs.specs.Row.{Row}
 use Rattle.cell_defs.specs.Cell.{data_of}
 use Rattle.cell_model.specs.Copies.{ResolvedValue}
 use Rattle.sys_defs.specs.World.{Call, Item, Here, NoIndex, Missing, Unknown}
-use Rattle.sys_defs.specs.Table.{syscalls}
 use Rattle.script_defs.specs.Scene.{Scene, ShownCell}
-use Rattle.script_defs.specs.Items.{OutputWithData, answer, items, item_at, listed, output_of}
+use Rattle.script_defs.specs.Items.{OutputWithData, answer, item_at, listed, output_of}
 use Rattle.script_defs.specs.Groups.{Group}
 use Rattle.script_defs.specs.Sources.{Place, place_of, source_of}
 use Rattle.script_run.specs.declared.bytes.CellPart.{CellPart}
 use Rattle.script_run.specs.declared.bytes.HeaderPart.{HeaderPart}
 use Rattle.script_run.specs.declared.bytes.InputPart.{InputPart}
 use Rattle.script_run.specs.declared.bytes.Look.{Look}
-use Rattle.script_run.specs.Looks.{HasHashes, IsFound, cell_part, header_among, header_part, input_part, items_of}
-use Rattle.script_run.specs.Shown.{GroupValue, IsShownAs, output_row, output_rows}
+use Rattle.script_run.specs.declared.sources.Place as code
+use Rattle.script_run.specs.declared.sources.Target.{Target}
+use Rattle.script_run.specs.declared.sources.Target.TheVariants.{At}
+use Rattle.script_run.specs.Places.{place_meaning, target_meaning}
+use Rattle.script_run.specs.Looks.{HasHashes, IsFound, cell_part, header_among, header_part, input_part}
+use Rattle.script_run.specs.Shown.{IsShownAs, output_row, output_rows}
 use Rattle.script_run.proofs.PlaceLemmas.{Beside, beside, beside-none, some-is}
 
 pub found : (headers : ℕ → Option Header) (epoch_length : ℕ) (item other : Item) (look : Look) → item ≡ other → IsFound headers epoch_length other look
@@ -174,11 +177,14 @@ listed-at scene group call at bytes place is =
       | Some it ↦ λ some. ap (item_at at bytes) (sym (some-is _ _ some))
     ] is
 
--- ---- A syscall by its number
-
-pub at-number : (scene : Scene) (it : GroupValue) (call : Call) (n : ℕ) → call.number ≡ n
-    → items_of scene it call ≡ items_of scene it (record { number = n; index = call.index; source = call.source; field = call.field })
-at-number scene it call n is = ap (λ (number : ℕ). items_of scene it (record { number = number; index = call.index; source = call.source; field = call.field })) is
+-- an item of a list at the place that its source and index name
+pub listed-to : {I : Type 0} (scene : Scene) (group : Group) (call : Call) (at : Place → Option (Option I)) (bytes : I → Option (List ℕ)) (target : Target) (place : code.Place) (index source : ℕ)
+    → target_meaning target ≡ option_map (λ it. place_of scene group it index) (source_of source) → target ≡ At place → index ≡ call.index → source ≡ call.source
+    → listed scene group call at (Some bytes) ≡ item_at at bytes (Some (place_meaning place))
+listed-to scene group call at bytes target place index source named is same_index same_source =
+    let here : Some (Some (place_meaning place)) ≡ option_map (λ it. place_of scene group it call.index) (source_of call.source) =
+    sym (ap target_meaning is) ∙ named ∙ (λ t. option_map (λ it. place_of scene group it (same_index t)) (source_of (same_source t))) in
+    listed-at scene group call at bytes (place_meaning place) here
 
 -- ---- Numbers
 

@@ -1,0 +1,94 @@
+-- What a script is answered, by the number of the syscall.
+use Rattle.std.proofs.Common.{◌≡◌, ℕ, Bool, true, false, List, [], ◌∷◌, Option, Some, None, refl, sym, ap, ◌∙◌, arith, eqb, cond}
+use Rattle.std.specs.Prelude.{◌==◌}
+use Rattle.std.specs.Option.{option_map}
+use Rattle.std.specs.List.{find}
+use Rattle.std.proofs.lemmas.Bool.{ne_eqb}
+use Rattle.codec_defs.specs.Shape.{encoded}
+use Rattle.codec_defs.specs.Schema.{header, script, transaction}
+use Rattle.chain_defs.specs.Hashes.{transaction_hash}
+use Rattle.sys_defs.specs.Table.{Syscall, syscalls, row}
+use Rattle.sys_defs.specs.Table as table
+use Rattle.sys_defs.specs.World.{Call, Item, Here, Unknown}
+use Rattle.script_defs.specs.Scene.{Scene}
+use Rattle.script_defs.specs.Groups.{Group}
+use Rattle.script_defs.specs.Items.{cell_at, cell_fields, field, header_at, header_fields, input_at, input_fields, item_of_row, items, listed, whole, witness_at}
+use Rattle.script_run.specs.declared.bytes.CellPart.TheVariants.{Output, Data}
+use Rattle.script_run.specs.declared.bytes.InputPart.TheVariants.{Whole}
+use Rattle.script_run.specs.Looks.{cell_part, input_part, items_of, load_script_hash}
+use Rattle.script_run.specs.Shown.{GroupValue}
+
+at-number : (scene : Scene) (it : GroupValue) (call : Call) (n : ℕ) → call.number ≡ n
+    → items_of scene it call ≡ items_of scene it (record { number = n; index = call.index; source = call.source; field = call.field })
+at-number scene it call n is = ap (λ (number : ℕ). items_of scene it (record { number = number; index = call.index; source = call.source; field = call.field })) is
+
+pub at-2051 : (scene : Scene) (it : GroupValue) (call : Call) → call.number ≡ 2051 → items_of scene it call ≡ Here (encoded transaction scene.transaction)
+unfolding items syscalls
+at-2051 scene it call is = at-number scene it call 2051 is
+
+pub at-2052 : (scene : Scene) (it : GroupValue) (call : Call) → call.number ≡ 2052 → items_of scene it call ≡ Here (encoded script it.group.script)
+unfolding items syscalls
+at-2052 scene it call is = at-number scene it call 2052 is
+
+pub at-2061 : (scene : Scene) (it : GroupValue) (call : Call) → call.number ≡ 2061 → items_of scene it call ≡ Here (transaction_hash scene.transaction)
+unfolding items syscalls
+at-2061 scene it call is = at-number scene it call 2061 is
+
+pub at-2062 : (scene : Scene) (it : GroupValue) (call : Call) → call.number ≡ 2062 → items_of scene it call ≡ Here it.hash
+unfolding items syscalls
+at-2062 scene it call is = at-number scene it call 2062 is
+
+pub at-2071 : (scene : Scene) (it : GroupValue) (call : Call) → call.number ≡ 2071 → items_of scene it call ≡ listed scene it.group call (cell_at scene) (option_map cell_part (Some Output))
+unfolding items syscalls
+at-2071 scene it call is = at-number scene it call 2071 is
+
+pub at-2072 : (scene : Scene) (it : GroupValue) (call : Call) → call.number ≡ 2072 → items_of scene it call ≡ listed scene it.group call (header_at scene) (whole (encoded header))
+unfolding items syscalls
+at-2072 scene it call is = at-number scene it call 2072 is
+
+pub at-2073 : (scene : Scene) (it : GroupValue) (call : Call) → call.number ≡ 2073 → items_of scene it call ≡ listed scene it.group call (input_at scene) (option_map input_part (Some Whole))
+unfolding items syscalls
+at-2073 scene it call is = at-number scene it call 2073 is
+
+pub at-2074 : (scene : Scene) (it : GroupValue) (call : Call) → call.number ≡ 2074 → items_of scene it call ≡ listed scene it.group call (witness_at scene) (whole (λ witness. witness))
+unfolding items syscalls
+at-2074 scene it call is = at-number scene it call 2074 is
+
+pub at-2081 : (scene : Scene) (it : GroupValue) (call : Call) → call.number ≡ 2081 → items_of scene it call ≡ listed scene it.group call (cell_at scene) (field cell_fields call.field)
+unfolding items syscalls
+at-2081 scene it call is = at-number scene it call 2081 is
+
+pub at-2082 : (scene : Scene) (it : GroupValue) (call : Call) → call.number ≡ 2082 → items_of scene it call ≡ listed scene it.group call (header_at scene) (field (header_fields scene.epoch_length) call.field)
+unfolding items syscalls
+at-2082 scene it call is = at-number scene it call 2082 is
+
+pub at-2083 : (scene : Scene) (it : GroupValue) (call : Call) → call.number ≡ 2083 → items_of scene it call ≡ listed scene it.group call (input_at scene) (field input_fields call.field)
+unfolding items syscalls
+at-2083 scene it call is = at-number scene it call 2083 is
+
+pub at-2091 : (scene : Scene) (it : GroupValue) (call : Call) → call.number ≡ 2091 → items_of scene it call ≡ listed scene it.group call (cell_at scene) (option_map cell_part (Some Data))
+unfolding items syscalls
+at-2091 scene it call is = at-number scene it call 2091 is
+
+pub at-2092 : (scene : Scene) (it : GroupValue) (call : Call) → call.number ≡ 2092 → items_of scene it call ≡ listed scene it.group call (cell_at scene) (option_map cell_part (Some Data))
+unfolding items syscalls
+at-2092 scene it call is = at-number scene it call 2092 is
+
+-- ---- A number of no syscall that loads
+
+abbrev IsUnknown : Scene → Group → Call → List Syscall → Type 0
+IsUnknown scene group call rows = item_of_row scene group call (find (λ it. it.number == call.number) rows) ≡ Unknown
+
+other : (scene : Scene) (group : Group) (call : Call) (it : Syscall) (rows : List Syscall) → (it.number ≡ call.number → ⊥) → IsUnknown scene group call rows
+    → IsUnknown scene group call (it ∷ rows)
+other scene group call it rows differs later =
+    ap (λ (b : Bool). item_of_row scene group call (cond b (Some it) (find (λ syscall. syscall.number == call.number) rows))) (ne_eqb it.number call.number differs) ∙ later
+
+loads-nothing : (scene : Scene) (group : Group) (call : Call) (it : Syscall) (rows : List Syscall) → item_of_row scene group call (Some it) ≡ Unknown → IsUnknown scene group call rows
+    → IsUnknown scene group call (it ∷ rows)
+loads-nothing scene group call it rows nothing later =
+    elim (eqb it.number call.number) as (λ b. item_of_row scene group call (cond b (Some it) (find (λ syscall. syscall.number == call.number) rows)) ≡ Unknown) [
+      | true ↦ nothing
+      | false ↦ later
+    ]
+
