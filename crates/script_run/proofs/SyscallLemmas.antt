@@ -92,3 +92,26 @@ loads-nothing scene group call it rows nothing later =
       | false ↦ later
     ]
 
+pub no-load : (scene : Scene) (it : GroupValue) (call : Call)
+    → (call.number ≡ 2051 → ⊥) → (call.number ≡ 2052 → ⊥) → (call.number ≡ 2061 → ⊥) → (call.number ≡ 2062 → ⊥) → (call.number ≡ 2071 → ⊥) → (call.number ≡ 2072 → ⊥) → (call.number ≡ 2073 → ⊥) → (call.number ≡ 2074 → ⊥) → (call.number ≡ 2081 → ⊥) → (call.number ≡ 2082 → ⊥) → (call.number ≡ 2083 → ⊥) → (call.number ≡ 2091 → ⊥) → (call.number ≡ 2092 → ⊥)
+    → items_of scene it call ≡ Unknown
+unfolding items syscalls
+no-load scene it call not2051 not2052 not2061 not2062 not2071 not2072 not2073 not2074 not2081 not2082 not2083 not2091 not2092 =
+    let group = it.group in
+    let end : IsUnknown scene group call [] = refl in
+    let u2177 = loads-nothing scene group call (row 2177 table.Debugs table.Nothing) ([]) refl end in
+    let u2092 = other scene group call (row 2092 table.Loads table.CellData) (row 2177 table.Debugs table.Nothing ∷ []) (λ e. not2092 (sym e)) u2177 in
+    let u2091 = other scene group call (row 2091 table.LoadsCode table.CellData) (row 2092 table.Loads table.CellData ∷ row 2177 table.Debugs table.Nothing ∷ []) (λ e. not2091 (sym e)) u2092 in
+    let u2083 = other scene group call (row 2083 table.LoadsField table.Inputs) (row 2091 table.LoadsCode table.CellData ∷ row 2092 table.Loads table.CellData ∷ row 2177 table.Debugs table.Nothing ∷ []) (λ e. not2083 (sym e)) u2091 in
+    let u2082 = other scene group call (row 2082 table.LoadsField table.Headers) (row 2083 table.LoadsField table.Inputs ∷ row 2091 table.LoadsCode table.CellData ∷ row 2092 table.Loads table.CellData ∷ row 2177 table.Debugs table.Nothing ∷ []) (λ e. not2082 (sym e)) u2083 in
+    let u2081 = other scene group call (row 2081 table.LoadsField table.CellOutputs) (row 2082 table.LoadsField table.Headers ∷ row 2083 table.LoadsField table.Inputs ∷ row 2091 table.LoadsCode table.CellData ∷ row 2092 table.Loads table.CellData ∷ row 2177 table.Debugs table.Nothing ∷ []) (λ e. not2081 (sym e)) u2082 in
+    let u2074 = other scene group call (row 2074 table.Loads table.Witnesses) (row 2081 table.LoadsField table.CellOutputs ∷ row 2082 table.LoadsField table.Headers ∷ row 2083 table.LoadsField table.Inputs ∷ row 2091 table.LoadsCode table.CellData ∷ row 2092 table.Loads table.CellData ∷ row 2177 table.Debugs table.Nothing ∷ []) (λ e. not2074 (sym e)) u2081 in
+    let u2073 = other scene group call (row 2073 table.Loads table.Inputs) (row 2074 table.Loads table.Witnesses ∷ row 2081 table.LoadsField table.CellOutputs ∷ row 2082 table.LoadsField table.Headers ∷ row 2083 table.LoadsField table.Inputs ∷ row 2091 table.LoadsCode table.CellData ∷ row 2092 table.Loads table.CellData ∷ row 2177 table.Debugs table.Nothing ∷ []) (λ e. not2073 (sym e)) u2074 in
+    let u2072 = other scene group call (row 2072 table.Loads table.Headers) (row 2073 table.Loads table.Inputs ∷ row 2074 table.Loads table.Witnesses ∷ row 2081 table.LoadsField table.CellOutputs ∷ row 2082 table.LoadsField table.Headers ∷ row 2083 table.LoadsField table.Inputs ∷ row 2091 table.LoadsCode table.CellData ∷ row 2092 table.Loads table.CellData ∷ row 2177 table.Debugs table.Nothing ∷ []) (λ e. not2072 (sym e)) u2073 in
+    let u2071 = other scene group call (row 2071 table.Loads table.CellOutputs) (row 2072 table.Loads table.Headers ∷ row 2073 table.Loads table.Inputs ∷ row 2074 table.Loads table.Witnesses ∷ row 2081 table.LoadsField table.CellOutputs ∷ row 2082 table.LoadsField table.Headers ∷ row 2083 table.LoadsField table.Inputs ∷ row 2091 table.LoadsCode table.CellData ∷ row 2092 table.Loads table.CellData ∷ row 2177 table.Debugs table.Nothing ∷ []) (λ e. not2071 (sym e)) u2072 in
+    let u2062 = other scene group call (row 2062 table.Loads table.ScriptHash) (row 2071 table.Loads table.CellOutputs ∷ row 2072 table.Loads table.Headers ∷ row 2073 table.Loads table.Inputs ∷ row 2074 table.Loads table.Witnesses ∷ row 2081 table.LoadsField table.CellOutputs ∷ row 2082 table.LoadsField table.Headers ∷ row 2083 table.LoadsField table.Inputs ∷ row 2091 table.LoadsCode table.CellData ∷ row 2092 table.Loads table.CellData ∷ row 2177 table.Debugs table.Nothing ∷ []) (λ e. not2062 (sym e)) u2071 in
+    let u2061 = other scene group call (row 2061 table.Loads table.TransactionHash) (row 2062 table.Loads table.ScriptHash ∷ row 2071 table.Loads table.CellOutputs ∷ row 2072 table.Loads table.Headers ∷ row 2073 table.Loads table.Inputs ∷ row 2074 table.Loads table.Witnesses ∷ row 2081 table.LoadsField table.CellOutputs ∷ row 2082 table.LoadsField table.Headers ∷ row 2083 table.LoadsField table.Inputs ∷ row 2091 table.LoadsCode table.CellData ∷ row 2092 table.Loads table.CellData ∷ row 2177 table.Debugs table.Nothing ∷ []) (λ e. not2061 (sym e)) u2062 in
+    let u2052 = other scene group call (row 2052 table.Loads table.ScriptBytes) (row 2061 table.Loads table.TransactionHash ∷ row 2062 table.Loads table.ScriptHash ∷ row 2071 table.Loads table.CellOutputs ∷ row 2072 table.Loads table.Headers ∷ row 2073 table.Loads table.Inputs ∷ row 2074 table.Loads table.Witnesses ∷ row 2081 table.LoadsField table.CellOutputs ∷ row 2082 table.LoadsField table.Headers ∷ row 2083 table.LoadsField table.Inputs ∷ row 2091 table.LoadsCode table.CellData ∷ row 2092 table.Loads table.CellData ∷ row 2177 table.Debugs table.Nothing ∷ []) (λ e. not2052 (sym e)) u2061 in
+    let u2051 = other scene group call (row 2051 table.Loads table.TransactionBytes) (row 2052 table.Loads table.ScriptBytes ∷ row 2061 table.Loads table.TransactionHash ∷ row 2062 table.Loads table.ScriptHash ∷ row 2071 table.Loads table.CellOutputs ∷ row 2072 table.Loads table.Headers ∷ row 2073 table.Loads table.Inputs ∷ row 2074 table.Loads table.Witnesses ∷ row 2081 table.LoadsField table.CellOutputs ∷ row 2082 table.LoadsField table.Headers ∷ row 2083 table.LoadsField table.Inputs ∷ row 2091 table.LoadsCode table.CellData ∷ row 2092 table.Loads table.CellData ∷ row 2177 table.Debugs table.Nothing ∷ []) (λ e. not2051 (sym e)) u2052 in
+    let u93 = loads-nothing scene group call (row 93 table.Exits table.Nothing) (row 2051 table.Loads table.TransactionBytes ∷ row 2052 table.Loads table.ScriptBytes ∷ row 2061 table.Loads table.TransactionHash ∷ row 2062 table.Loads table.ScriptHash ∷ row 2071 table.Loads table.CellOutputs ∷ row 2072 table.Loads table.Headers ∷ row 2073 table.Loads table.Inputs ∷ row 2074 table.Loads table.Witnesses ∷ row 2081 table.LoadsField table.CellOutputs ∷ row 2082 table.LoadsField table.Headers ∷ row 2083 table.LoadsField table.Inputs ∷ row 2091 table.LoadsCode table.CellData ∷ row 2092 table.Loads table.CellData ∷ row 2177 table.Debugs table.Nothing ∷ []) refl u2051 in
+    ap (λ (b : Bool). cond b (Here it.hash) (items scene it.group call)) (ne_eqb call.number 2062 not2062) ∙ u93
