@@ -27,14 +27,6 @@ use Rattle.program_run.specs.Program.{ProgramWants, ProgramWantsPage}
 
 -- ---- the cost of loading
 
--- the budget pays for the loading
-pub paid-loading : (answer : Answer) (budget cost : ℕ) (program : Program) → cost ≡ loading_cycles program.file_bytes → cost ≤ budget
-    → run answer (charged (new_machine program.memory program.pc budget) cost) ≡ run_loaded answer budget program
-unfolding new_machine
-paid-loading answer budget cost program is paid =
-    let within : nat_lt budget (0 + loading_cycles program.file_bytes) ≡ false = grind (arith, nat_tests, paid, is) in
-    rw (within, is) refl
-
 -- the loading alone spends the budget
 pub spent-loading : (answer : Answer) (budget : ℕ) (file : List ℕ) (program : Program) (cost : ℕ) → Ok program ≡ load_elf file
     → cost ≡ loading_cycles program.file_bytes → budget < cost → Ok (Spent, cost) ≡ execution answer budget file
