@@ -1,5 +1,5 @@
 -- The cost of loading, and a program that runs alone.
-use Rattle.std.proofs.Common.{◌≡◌, ℕ, ◌+◌, ◌<◌, ◌≤◌, true, false, List, inl, inr, refl, sym, subst, arith}
+use Rattle.std.proofs.Common.{◌≡◌, ℕ, ◌+◌, ◌<◌, true, List, inl, inr, refl, subst, arith}
 use Rattle.std.proofs.Math.Path.{fun_ext}
 use Rattle.std.specs.Prelude.{Option, Some, None, Result, Ok, Err, nat_lt}
 use Rattle.std.proofs.lemmas.Bool.Decides.{nat_tests}
@@ -12,7 +12,7 @@ use Rattle.vm_defs.specs.Alone.{answer_ecall, syscall_number}
 use Rattle.vm_defs.specs.Elf.{Program, Segment, load_elf}
 use Rattle.vm_defs.specs.Memory.{Memory}
 use Rattle.vm_defs.specs.Step.{Machine, charged, step_of}
-use Rattle.vm_defs.specs.Program.{Answer, execution, loading_cycles, new_machine, run, run_loaded}
+use Rattle.vm_defs.specs.Program.{Answer, execution, loading_cycles, new_machine}
 use Rattle.sys_defs.specs.Table as table
 use Rattle.sys_defs.specs.Table.{deed_of}
 use Rattle.sys_defs.specs.World.{nothing}
@@ -26,14 +26,6 @@ use Rattle.program_run.specs.declared.program.Stopped.TheVariants.{Running}
 use Rattle.program_run.specs.Program.{ProgramWants, ProgramWantsPage}
 
 -- ---- the cost of loading
-
--- the budget pays for the loading
-pub paid-loading : (answer : Answer) (budget cost : ℕ) (program : Program) → cost ≡ loading_cycles program.file_bytes → cost ≤ budget
-    → run answer (charged (new_machine program.memory program.pc budget) cost) ≡ run_loaded answer budget program
-unfolding new_machine
-paid-loading answer budget cost program is paid =
-    let within : nat_lt budget (0 + loading_cycles program.file_bytes) ≡ false = grind (arith, nat_tests, paid, is) in
-    rw (within, is) refl
 
 -- the loading alone spends the budget
 pub spent-loading : (answer : Answer) (budget : ℕ) (file : List ℕ) (program : Program) (cost : ℕ) → Ok program ≡ load_elf file

@@ -1,10 +1,10 @@
 -- What came of a file, and where its run wants memory (docs/MACHINE.md, "A run").
-use Rattle.std.specs.Prelude.{◌≡◌, ◌⊎◌, ℕ, ◌≤◌, List, Result, Ok, Err}
+use Rattle.std.specs.Prelude.{◌≡◌, ℕ, ◌≤◌, List, Result, Ok, Err}
 use Rattle.vm_defs.specs.Alone.{answer_ecall}
 use Rattle.vm_defs.specs.Elf.{Program, Segment}
 use Rattle.vm_defs.specs.Program as programs
 use Rattle.vm_defs.specs.Program.{loading_cycles, new_machine}
-use Rattle.vm_defs.specs.Step.{Machine, charged}
+use Rattle.vm_defs.specs.Step.{charged}
 use Rattle.sys_defs.specs.World.{Items}
 use Rattle.vm_sys.specs.Running.{IsWithin, RunWants, RunWantsPage}
 use Rattle.elf_load.specs.Placing.{HoldsBytes}

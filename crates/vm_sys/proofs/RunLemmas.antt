@@ -1,8 +1,8 @@
 -- A run, stop by stop: how it ends, that what is left of it ends as the whole does, and that it ends.
-use Rattle.std.proofs.Common.{◌≡◌, ℕ, zero, suc, ◌+◌, ◌-◌, ◌<◌, ◌≤◌, true, ℤ, ◌⊎◌, inl, inr, refl, sym, ◌∙◌, ap, subst, arith}
+use Rattle.std.proofs.Common.{◌≡◌, ℕ, zero, suc, ◌+◌, ◌-◌, ◌<◌, ◌≤◌, ℤ, ◌⊎◌, inl, inr, refl, sym, ◌∙◌, ap, subst, arith}
 use Rattle.std.proofs.lemmas.Bool.{cases_lt}
-use Rattle.std.specs.Prelude.{Option, Some, None, Err}
-use Rattle.outside.specs.Causes.{CountsFault}
+use Rattle.std.specs.Prelude.{Option, Some, None}
+use Rattle.outside.specs.declared.disk.ReadStop.{ReadStop}
 use Rattle.vm_defs.specs.declared.outcome.Outcome.{Outcome}
 use Rattle.vm_defs.specs.declared.outcome.Outcome.TheVariants.{Exit, Fault, Spent}
 use Rattle.vm_defs.specs.declared.step.Step.{Step}
@@ -12,12 +12,15 @@ use Rattle.vm_defs.specs.Program.{Answer, KeepsAccount, Leads, Reaches, advance,
 use Rattle.vm_defs.proofs.ProgramLaws.{Pays, runs-stop-by-stop, step-pays, stop-goes-on}
 use Rattle.vm_defs.proofs.ReachLaws.{last-of, reaches-more, reached-on-the-way}
 use Rattle.vm_step.specs.Running as steps
-use Rattle.vm_step.specs.Running.{RunningMachine, HasRoom, LeavesRoom, WantsPage, next_range}
+use Rattle.vm_step.specs.Running.{RunningMachine, HasRoom, LeavesRoom, Stops, WantsPage, next_range}
 use Rattle.vm_step.proofs.Going.{has-room-later, touched}
 use Rattle.vm_mem.specs.Pages.{IsAllocated}
 use Rattle.sys_defs.specs.World.{Items}
 use Rattle.sys_defs.specs.Answer.{syscall}
 use Rattle.sys_laws.proofs.AccountLaws.{syscall-keeps, syscalls-keep-account}
+use Rattle.vm_sys.specs.declared.syscall.Sys.{Sys}
+use Rattle.vm_sys.specs.declared.syscall.Sys.TheVariants as sys
+use Rattle.vm_sys.specs.Answering.{Answers, IsAnswerOfSome}
 use Rattle.vm_sys.specs.Running.{Advances, AdvancesBySome, IsStoredBefore, IsWithin, RunLoadsItem, RunWants, RunWantsPage, StopLoadsItem, stopped}
 
 -- ---- the end
@@ -73,6 +76,24 @@ stop-pays machine =
       within = pays.within;
     }
 
+stopped-later : (machine : Machine) (result : Step) (new : Machine) → (result, new) ≡ stop_of machine → machine.cycles ≤ new.cycles
+stopped-later machine result new is =
+    let cycles : new.cycles ≡ (stop_of machine).1.cycles = ap (λ (next : Step × Machine). next.1.cycles) is in
+    let pays = stop-pays machine in
+    omega (arith, cycles, pays.cycles)
+
+-- also where memory is wanted
+pub stops-later : (old : RunningMachine) (new : Machine) (result : Step) → Stops old new result → old.machine.cycles ≤ new.cycles
+stops-later old new step.Went stops = absurd stops
+stops-later old new step.Ecall stops = stopped-later old.machine step.Ecall new stops
+stops-later old new (step.Fault number) stops = stopped-later old.machine (step.Fault number) new stops
+stops-later old new step.Spent stops = stopped-later old.machine step.Spent new stops
+stops-later old new step.NoMemory wants =
+    let before = leads-pays wants.steps old.machine wants.reached wants.leads in
+    let pays = step-pays wants.reached in
+    let cycles : new.cycles ≡ (step_of wants.reached).1.cycles = ap (λ (machine : Machine). machine.cycles) wants.stores.1 in
+    omega (arith, before.0, pays.cycles, cycles)
+
 -- the answer to a step, of a machine before the steps
 record Account (machine : Machine) (next : Option Outcome × Machine) : Type 0 where
   pub cycles : machine.cycles ≤ next.1.cycles
@@ -96,6 +117,41 @@ answered-account items machine step.NoMemory next pays = record { cycles = pays.
 stopped-account : (items : Items) (machine : Machine) → Account machine (stopped (syscall items) machine)
 stopped-account items machine = let stop = stop_of machine in answered-account items machine stop.0 stop.1 (stop-pays machine)
 
+-- a syscall that is answered, and one that was stopped
+answers-cycles : (answer : Sys) (end : Option Outcome) (next new : Machine) → Answers answer end next new → ((stop : ReadStop) → answer ≡ sys.Stop stop → ⊥)
+    → new.cycles ≡ next.cycles
+answers-cycles sys.Done None next new is goes = ap (λ (machine : Machine). machine.cycles) is
+answers-cycles sys.Done (Some end) next new is goes = absurd is
+answers-cycles (sys.Exit code) None next new is goes = absurd is
+answers-cycles (sys.Exit code) (Some (Exit expected)) next new is goes = ap (λ (machine : Machine). machine.cycles) is.1
+answers-cycles (sys.Exit code) (Some (Fault number)) next new is goes = absurd is
+answers-cycles (sys.Exit code) (Some Spent) next new is goes = absurd is
+answers-cycles (sys.Fault number) None next new is goes = absurd is
+answers-cycles (sys.Fault number) (Some (Exit code)) next new is goes = absurd is
+answers-cycles (sys.Fault number) (Some (Fault expected)) next new is goes = ap (λ (machine : Machine). machine.cycles) is.1
+answers-cycles (sys.Fault number) (Some Spent) next new is goes = absurd is
+answers-cycles sys.Spent None next new is goes = absurd is
+answers-cycles sys.Spent (Some (Exit code)) next new is goes = absurd is
+answers-cycles sys.Spent (Some (Fault number)) next new is goes = absurd is
+answers-cycles sys.Spent (Some Spent) next new is goes = ap (λ (machine : Machine). machine.cycles) is
+answers-cycles (sys.Stop stop) end next new is goes = absurd (goes stop refl)
+
+answered-later : (machine new : Machine) (answer : Sys) → IsAnswerOfSome (λ item. syscall (λ call. item) machine) new answer
+    → ((stop : ReadStop) → answer ≡ sys.Stop stop → ⊥) → machine.cycles ≤ new.cycles
+answered-later machine new answer is goes =
+    let next = syscall (λ call. is.0) machine in
+    let keeps = syscall-keeps (λ call. is.0) machine in
+    let same = answers-cycles answer next.0 next.1 new is.1 goes in
+    omega (arith, keeps.cycles, same)
+
+pub handled-later : (machine new : Machine) (answer : Sys) → IsAnswerOfSome (λ item. syscall (λ call. item) machine) new answer
+    → ((stop : ReadStop) → answer ≡ sys.Stop stop → new.cycles ≡ machine.cycles) → machine.cycles ≤ new.cycles
+handled-later machine new (sys.Stop stop) is unpaid = rw (unpaid stop refl) (omega arith)
+handled-later machine new sys.Done is unpaid = answered-later machine new sys.Done is (λ stop is. cc)
+handled-later machine new (sys.Exit code) is unpaid = answered-later machine new (sys.Exit code) is (λ stop is. cc)
+handled-later machine new (sys.Fault number) is unpaid = answered-later machine new (sys.Fault number) is (λ stop is. cc)
+handled-later machine new sys.Spent is unpaid = answered-later machine new sys.Spent is (λ stop is. cc)
+
 -- the cycles that are left
 pub cycles-left : (old new : RunningMachine) (end : Option Outcome) → AdvancesBySome old new end → end ≡ None
     → new.machine.budget - new.machine.cycles < old.machine.budget - old.machine.cycles
@@ -117,11 +173,6 @@ pub accounts-more : (start : Machine) (old new : RunningMachine) (end : Option O
 accounts-more start old new end so_far a is =
     let account = stopped-account (λ call. a.0) old.machine in
     rw (a.1.machine is) (record { cycles = omega (arith, so_far.cycles, account.cycles); budget = account.budget ∙ so_far.budget })
-
-pub ends-later : (start : Machine) (old new : RunningMachine) (end : Option Outcome) → Accounts start old.machine → AdvancesBySome old new end
-    → start.cycles ≤ new.machine.cycles
-ends-later start old new end so_far a =
-    let account = stopped-account (λ call. a.0) old.machine in omega (arith, so_far.cycles, account.cycles, a.1.cycles)
 
 pub ends-within : (start : Machine) (old new : RunningMachine) (end : Option Outcome) (outcome : Outcome) → Accounts start old.machine
     → AdvancesBySome old new end → end ≡ Some outcome → IsWithin start.budget outcome new.machine.cycles

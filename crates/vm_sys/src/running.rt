@@ -18,16 +18,16 @@ use vm_step::Machine;
 
 /// Runs the machine to its end: its steps, and the answers to its ECALLs over what surrounds the script.
 ///
-/// Over a world that tells what it shows, the end and the cycles are those of the definitions. Over any world a program
-/// that exits did so within the budget. It ends with an error only where memory is wanted, by a step that stores to a
-/// page without memory or by a syscall that loads an item, or where the world cannot be read.
+/// Over a world that tells what it shows, the end and the cycles are those of the definitions. Over any world no cycles
+/// are taken back, and a program that exits did so within the budget. It ends with an error only where memory is wanted,
+/// by a step that stores to a page without memory or by a syscall that loads an item, or where the world cannot be read.
 pub fn run<W: World>(machine: &mut Machine, world: &mut W) -> Result<Outcome, ReadStop>
     requires { machine.old.goes_on ≡ true }
     ensures told { W.told world.new ≡ W.told world.old }
     ensures loans { W.loans_of world.new ≡ W.loans_of world.old }
     ensures exact { (items : Items) → W.told world.old ≡ Some items → IfOk result (λ outcome. (outcome, machine.new.machine.cycles) ≡ programs.run (syscall items) machine.old.machine) }
     ensures within { IfOk result (λ outcome. IsWithin machine.old.machine.budget outcome machine.new.machine.cycles) }
-    ensures later { OnOk result (machine.old.machine.cycles ≤ machine.new.machine.cycles) }
+    ensures later { machine.old.machine.cycles ≤ machine.new.machine.cycles }
     ensures wants { (items : Items) → W.told world.old ≡ Some items → result ≡ Err NoMemory → RunWants items (IsAllocated machine.old.allocated) machine.old.machine }
     ensures cause { CountsFault (W.faults world.old) (W.faults world.new) (result ≡ Err DiskFault) }
     ensures undamaged { IsSome (W.told world.old) → (damage : Damage) → result ≡ Err (Damaged damage) → ⊥ }
@@ -49,6 +49,7 @@ fn advance<W: World>(machine: &mut Machine, world: &mut W) -> Result<Option<Outc
     ensures loans { W.loans_of world.new ≡ W.loans_of world.old }
     ensures some { IfOk result (AdvancesBySome machine.old machine.new) }
     ensures exact { (items : Items) → W.told world.old ≡ Some items → IfOk result (Advances (syscall items) machine.old machine.new) }
+    ensures later { machine.old.machine.cycles ≤ machine.new.machine.cycles }
     ensures wants { (items : Items) → W.told world.old ≡ Some items → result ≡ Err NoMemory → WantsPage machine.old machine.new.machine ⊎ StopLoadsItem items machine.old.machine }
     ensures cause { CountsFault (W.faults world.old) (W.faults world.new) (result ≡ Err DiskFault) }
     ensures undamaged { IsSome (W.told world.old) → (damage : Damage) → result ≡ Err (Damaged damage) → ⊥ }

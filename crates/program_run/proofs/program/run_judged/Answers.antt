@@ -5,7 +5,7 @@ use Rattle.vm_defs.specs.Program.{loading_cycles, new_machine}
 use Rattle.vm_defs.specs.Step.{Machine, charged}
 use Rattle.vm_mem.specs.Pages.{IsAllocated}
 use Rattle.elf_load.specs.Placing.{HoldsBytes}
-use Rattle.vm_sys.specs.Running.{IsWithin, RunWants}
+use Rattle.vm_sys.specs.Running.{RunWants}
 use Rattle.vm_sys.proofs.RunLemmas.{wants-beyond}
 use Rattle.program_run.proofs.ProgramLemmas.{start-budget}
 use Rattle.program_run.proofs.program.run_judged.Goals as goal

@@ -1,9 +1,9 @@
-use Rattle.std.proofs.Common.{◌≡◌, refl, ap, ◌∙◌}
+use Rattle.std.proofs.Common.{◌≡◌, refl, ap, ◌∙◌, arith}
 use Rattle.std.specs.Prelude.{Err}
 use Rattle.outside.specs.declared.disk.ReadStop.TheVariants.{NoMemory}
 use Rattle.sys_defs.specs.Answer.{syscall}
 use Rattle.sys_laws.proofs.AccountLaws.{syscalls-keep-account}
-use Rattle.vm_sys.proofs.RunLemmas.{accounts-more, accounts-none, cycles-left, ends-later, ends-within, run-ends, run-wants, runs-more, runs-none}
+use Rattle.vm_sys.proofs.RunLemmas.{accounts-more, accounts-none, cycles-left, ends-within, run-ends, run-wants, runs-more, runs-none}
 use Rattle.vm_sys.proofs.running.run.Goals as goal
 
 pub steps-init : goal.steps-init
@@ -28,9 +28,10 @@ returns-in-Ok-Some-clause-within g c =
     c.in-Ok-Some.ensures.some c.in-Ok-Some.field-0-is
 
 pub returns-in-Ok-Some-clause-later : goal.returns-in-Ok-Some-clause-later
-returns-in-Ok-Some-clause-later g c =
-    ends-later c.args.machine.now.machine c.steps.machine c.advance.new.machine c.in-Ok-Some.field-0 c.steps.invariant.accounts
-    c.in-Ok-Some.ensures.some
+returns-in-Ok-Some-clause-later g c = omega (arith, c.steps.invariant.accounts.cycles, c.advance.ensures.later)
+
+pub returns-in-Err-clause-later : goal.returns-in-Err-clause-later
+returns-in-Err-clause-later g c = omega (arith, c.steps.invariant.accounts.cycles, c.advance.ensures.later)
 
 pub steps-smaller : goal.steps-smaller
 steps-smaller g c =
