@@ -1,6 +1,7 @@
 // A program's run: what alone touches the machine.
 ghost use Rattle.std.specs.Prelude.{◌≡◌, ℕ, ◌^◌, ◌≤◌, Some, Ok, Err, IfOk, OnErr, IsSome};
 ghost use Rattle.outside.specs.Causes.{CountsFault};
+ghost use Rattle.outside.specs.declared.disk.Area.TheVariants.{Log};
 ghost use Rattle.outside.specs.declared.disk.Damage.{Damage};
 ghost use Rattle.outside.specs.declared.disk.ReadStop.TheVariants as read_stop;
 ghost use Rattle.vm_defs.specs.Elf.{load_elf, segments};
@@ -89,6 +90,7 @@ pub fn execute_in<W: World>(
     ensures running { (items : Items) → W.told world.old ≡ Some items → result ≡ Err (Stopped.Running read_stop.NoMemory) → ProgramWants items budget (segments file.now) (load_elf file.now) }
     ensures cause { CountsFault (W.faults world.old) (W.faults world.new) (result ≡ Err (Stopped.Running read_stop.DiskFault)) }
     ensures undamaged { IsSome (W.told world.old) → (damage : Damage) → result ≡ Err (Stopped.Running (read_stop.Damaged damage)) → ⊥ }
+    ensures damage { (damage : Damage) → result ≡ Err (Stopped.Running (read_stop.Damaged damage)) → damage.area ≡ Log }
 {
     let judged = match judge(file) {
         Ok(judged) => judged,
@@ -123,6 +125,7 @@ fn run_judged<W: World>(
     ensures running { (items : Items) → W.told world.old ≡ Some items → result ≡ Err (Stopped.Running read_stop.NoMemory) → ProgramWants items budget judged.now.segments (Ok judged.now.program) }
     ensures cause { CountsFault (W.faults world.old) (W.faults world.new) (result ≡ Err (Stopped.Running read_stop.DiskFault)) }
     ensures undamaged { IsSome (W.told world.old) → (damage : Damage) → result ≡ Err (Stopped.Running (read_stop.Damaged damage)) → ⊥ }
+    ensures damage { (damage : Damage) → result ≡ Err (Stopped.Running (read_stop.Damaged damage)) → damage.area ≡ Log }
 {
     let memory = match loaded(alloc, judged) {
         Ok(memory) => memory,

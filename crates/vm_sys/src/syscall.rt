@@ -1,6 +1,7 @@
 // A syscall from its number to its result.
 ghost use Rattle.std.specs.Prelude.{◌≡◌, ◌≢◌, ℕ, true, Some, IsSome};
 ghost use Rattle.outside.specs.Causes.{CountsFault};
+ghost use Rattle.outside.specs.declared.disk.Area.TheVariants.{Log};
 ghost use Rattle.outside.specs.declared.disk.Damage.{Damage};
 ghost use Rattle.outside.specs.declared.disk.ReadStop.TheVariants.{DiskFault, Damaged, NoMemory};
 ghost use Rattle.outside.specs.declared.disk.ReadStop.{ReadStop};
@@ -58,6 +59,7 @@ pub fn handle<W: World>(machine: &mut Machine, world: &mut W) -> Sys
     ensures unpaid { (stop : ReadStop) → result ≡ Sys.Stop stop → machine.new.machine.cycles ≡ machine.old.machine.cycles }
     ensures cause { CountsFault (W.faults world.old) (W.faults world.new) (result ≡ Sys.Stop DiskFault) }
     ensures undamaged { IsSome (W.told world.old) → (damage : Damage) → result ≡ Sys.Stop (Damaged damage) → ⊥ }
+    ensures damage { (damage : Damage) → result ≡ Sys.Stop (Damaged damage) → damage.area ≡ Log }
     ensures pages_kept { (page : ℕ) → IsAllocated machine.old.allocated page → IsAllocated machine.new.allocated page }
 {
     let deed = match deed_of(machine.reg(A7)) {
@@ -83,6 +85,7 @@ fn load<W: World>(machine: &mut Machine, world: &mut W, form: Form) -> Sys
     ensures unpaid { (stop : ReadStop) → result ≡ Sys.Stop stop → machine.new.machine.cycles ≡ machine.old.machine.cycles }
     ensures cause { CountsFault (W.faults world.old) (W.faults world.new) (result ≡ Sys.Stop DiskFault) }
     ensures undamaged { IsSome (W.told world.old) → (damage : Damage) → result ≡ Sys.Stop (Damaged damage) → ⊥ }
+    ensures damage { (damage : Damage) → result ≡ Sys.Stop (Damaged damage) → damage.area ≡ Log }
     ensures pages_kept { (page : ℕ) → IsAllocated machine.old.allocated page → IsAllocated machine.new.allocated page }
 {
     let found = match world.find(asked(machine, form)) {

@@ -1,6 +1,7 @@
 // What surrounds a script: where the items come from that its syscalls load.
 ghost use Rattle.std.specs.Prelude.{◌≡◌, ◌-◌, ◌^◌, ◌≤◌, Option, Some, Err, List, ℕ, IfOk, IfSome, IsSome};
 ghost use Rattle.outside.specs.Causes.{CountsFault};
+ghost use Rattle.outside.specs.declared.disk.Area.TheVariants.{Log};
 ghost use Rattle.outside.specs.declared.disk.Damage.{Damage};
 ghost use Rattle.outside.specs.declared.disk.ReadStop.TheVariants.{DiskFault, Damaged, NoMemory};
 ghost use Rattle.sys_defs.specs.World.{Items};
@@ -23,7 +24,8 @@ pub enum Found {
     Unknown,
 }
 
-/// What a script may ask for. The item that was found last is in hand.
+/// What a script may ask for. The item that was found last is in hand. What is damaged stands in LOG, where the kept
+/// blocks are.
 pub trait World {
     /// What each call asks for, where it tells that.
     ghost told: { Self → Option Items };
@@ -48,7 +50,8 @@ pub trait World {
         // That there is no such source or field is known without memory.
         ensures known { IfSome (told self.old) (λ told. told call ≡ items.Unknown → result ≡ Err NoMemory → ⊥) }
         ensures cause { CountsFault (faults self.old) (faults self.new) (result ≡ Err DiskFault) }
-        ensures undamaged { IsSome (told self.old) → (damage : Damage) → result ≡ Err (Damaged damage) → ⊥ };
+        ensures undamaged { IsSome (told self.old) → (damage : Damage) → result ≡ Err (Damaged damage) → ⊥ }
+        ensures damage { (damage : Damage) → result ≡ Err (Damaged damage) → damage.area ≡ Log };
 
     /// The bytes of the item in hand.
     fn bytes(&self) -> &[u8]
