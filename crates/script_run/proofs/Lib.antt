@@ -1,3 +1,5 @@
 mod PlaceLemmas
 mod LookLemmas
 mod SyscallLemmas
+mod ShowingLemmas
+mod HeaderLemmas

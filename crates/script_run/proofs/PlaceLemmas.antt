@@ -14,6 +14,12 @@ zip-lengths R [] (y ∷ ys) zip = absurd zip
 zip-lengths R (x ∷ xs) [] zip = absurd zip
 zip-lengths R (x ∷ xs) (y ∷ ys) zip = ap suc (zip-lengths R xs ys zip.1)
 
+pub zip-map : {A B : Type 0} (R Q : A → B → Type 0) → ((x : A) (y : B) → R x y → Q x y) → (xs : List A) (ys : List B) → AllZip R xs ys → AllZip Q xs ys
+zip-map R Q each [] [] zip = tt
+zip-map R Q each [] (y ∷ ys) zip = absurd zip
+zip-map R Q each (x ∷ xs) [] zip = absurd zip
+zip-map R Q each (x ∷ xs) (y ∷ ys) zip = (each x y zip.0, zip-map R Q each xs ys zip.1)
+
 -- an item beside one that is there
 pub record Beside {A B : Type 0} (R : A → B → Type 0) (x : A) (ys : List B) (i : ℕ) : Type 0 where
   pub item : B

@@ -1,6 +1,6 @@
 -- What is found for a script, beside what it is answered.
-use Rattle.std.specs.Prelude.{◌≡◌, ℕ, ◌*◌, ◌==◌, List, Option, Some, None, IsSomeAnd, if◌then◌else◌}
-use Rattle.std.specs.Option.{option_map}
+use Rattle.std.specs.Prelude.{◌≡◌, ℕ, ◌*◌, ◌==◌, List, Option, Some, None, IsSomeAnd, slice_get, if◌then◌else◌}
+use Rattle.std.specs.Option.{option_map, option_and_then}
 use Rattle.std.specs.List.{AllZip, list_any}
 use Rattle.codec_defs.specs.Shape.{encoded}
 use Rattle.codec_defs.specs.Schema.{Header, header, CellInput, cell_input, cell_output, out_point, script}
@@ -8,10 +8,12 @@ use Rattle.time_defs.specs.Epochs.{epoch_number}
 use Rattle.cell_defs.specs.Row.{Row}
 use Rattle.cell_defs.specs.Cell.{script_hash, data_hash, occupied_by}
 use Rattle.cell_model.specs.Copies.{ResolvedValue, ResolvedTxValue}
+use Rattle.chain_tree.specs.Told.{Stored}
 use Rattle.sys_defs.specs.World as world
 use Rattle.sys_defs.specs.World.{Call, Item, Items}
 use Rattle.script_defs.specs.Scene.{Scene, ShownCell}
 use Rattle.script_defs.specs.Items.{OutputWithData, items, u64_bytes}
+use Rattle.script_run.specs.Showing.{scene_shown}
 use Rattle.script_run.specs.Shown.{GroupValue}
 use Rattle.script_run.specs.declared.bytes.Bytes.{Bytes}
 use Rattle.script_run.specs.declared.bytes.Bytes.TheVariants.{Slice, Hash, Number, Header as header_bytes}
@@ -90,3 +92,14 @@ load_script_hash = 2062
 -- What the script of a group is answered, with the hash of the script as the group has it.
 abbrev pub items_of : Scene → GroupValue → Items
 items_of scene it call = if call.number == load_script_hash then world.Here it.hash else items scene it.group call
+
+-- ---- Kept blocks
+
+-- the header of the kept block at a place
+abbrev pub kept_header : List Stored → ℕ → Option Header
+kept_header stored place = option_map (λ it. it.block.header) (slice_get stored place)
+
+-- What surrounds the script of a group, where the kept blocks are told and show a scene.
+abbrev pub items_told : ℕ → ResolvedTxValue → GroupValue → Option (List Stored) → Option Items
+items_told epoch_length it group told =
+    option_and_then (λ stored. option_map (λ scene. items_of scene group) (scene_shown epoch_length stored it)) told

@@ -1,5 +1,5 @@
 // What surrounds the script of a group, and the run of its code there.
-ghost use Rattle.std.specs.Prelude.{◌≡◌, ◌^◌, ◌≤◌, List, Some, Err, IfOk, length};
+ghost use Rattle.std.specs.Prelude.{◌≡◌, ◌^◌, ◌*◌, ◌<◌, ◌≤◌, List, Some, Err, IfOk, IsSomeAnd, length, slice_get};
 ghost use Rattle.outside.specs.Causes.{CountsFault};
 ghost use Rattle.outside.specs.declared.disk.Area.TheVariants.{Log};
 ghost use Rattle.outside.specs.declared.disk.Damage.{Damage};
@@ -7,19 +7,161 @@ ghost use Rattle.outside.specs.declared.disk.ReadStop.TheVariants.{DiskFault, Da
 ghost use Rattle.vm_defs.specs.Program.{execution};
 ghost use Rattle.sys_defs.specs.Answer.{syscall};
 ghost use Rattle.program_run.specs.Program.{execution_of};
-ghost use Rattle.chain_tree.specs.Told.{Stored};
+ghost use Rattle.chain_tree.specs.Told.{Encodes, Stored};
+ghost use Rattle.codec_defs.specs.Schema.{Block, Header, header};
+ghost use Rattle.codec_defs.specs.Shape.{IsA};
+ghost use Rattle.time_defs.specs.Epochs.{epoch_number};
+ghost use Rattle.script_run.specs.Looks.{bytes_of, header_part};
 ghost use Rattle.script_defs.specs.Scene.{Scene};
 ghost use Rattle.script_defs.specs.Items.{items};
 ghost use Rattle.script_run.specs.Running.{ExitsWithin};
 ghost use Rattle.script_run.specs.Showing.{scene_shown};
 ghost use Rattle.script_run.specs.Shown.{HasItsHash};
 
+use crate::bytes::{Bytes, HeaderPart, Look};
 use crate::groups::Group;
+use crate::items::sought;
 use crate::shown::ShownTx;
 use chain_tree::{Blocks, Tree};
-use outside::ReadStop;
+use outside::{Area, Damage, ReadStop};
+use mol_schema::HeaderView;
 use program_run::Execution;
 use std::alloc::Global;
+use vm_sys::{Call, Found, World};
+
+/// What surrounds the script of a group.
+pub(crate) struct GroupWorld<'a, 'b, B: Blocks> {
+    tx: &'a ShownTx<'a>,
+    group: &'a Group<'a>,
+    tree: &'a Tree,
+    blocks: &'b mut B,
+    hand: Option<Bytes<'a>>,
+    ghost counts: { B.count blocks.now ≡ length tree.now.entries },
+}
+
+impl<'a, 'b, B: Blocks> World for GroupWorld<'a, 'b, B> {
+    ghost use Rattle.std.specs.Prelude.{ℕ, List, Option};
+    ghost use Rattle.std.specs.Option.{option_map};
+    ghost use Rattle.chain_tree.specs.Told.{Stored};
+    ghost use Rattle.script_run.specs.Looks.{bytes_of, items_told};
+
+    ghost told = { λ world. items_told world.tx.now.epoch_length world.tx.now.it world.group.now (B.told world.blocks.now) };
+
+    ghost here = { λ world. option_map bytes_of world.hand };
+
+    ghost faults = { λ world. B.faults world.blocks.now };
+
+    ghost last_fault = { λ world. B.last_fault world.blocks.now };
+
+    ghost Loans = { ℕ × B.Loans × Option (List Stored) × ℕ };
+
+    ghost loans_of = { λ world. (world.blocks.ghost_name, B.loans_of world.blocks.now, B.told world.blocks.now, B.count world.blocks.now) };
+
+    fn find(&mut self, call: Call) -> Result<Found, ReadStop> {
+        match sought(self.tx, self.group, &call) {
+            Look::Here(bytes) => {
+                self.hand = Some(bytes);
+                Ok(Found::Here)
+            }
+            Look::InBlock(place, part) => {
+                if place >= self.tree.len() {
+                    return Err(damaged());
+                }
+                let bytes = read_header(self.blocks, place, part, self.tx.epoch_length)?;
+                self.hand = Some(bytes);
+                Ok(Found::Here)
+            }
+            Look::NoIndex => Ok(Found::NoIndex),
+            Look::Missing => Ok(Found::Missing),
+            Look::Unknown => Ok(Found::Unknown),
+            Look::Broken => Err(damaged()),
+        }
+    }
+
+    fn bytes(&self) -> &[u8] {
+        match &self.hand {
+            Some(bytes) => bytes.as_slice(),
+            None => &[],
+        }
+    }
+}
+
+/// Where a block has its header: behind the size of the table and the offsets of its four fields.
+const HEADER_AT: usize = 20;
+
+const HEADER_END: usize = 228;
+
+/// Reads a part of the header of the block at a place.
+fn read_header<'a, B: Blocks>(
+    blocks: &mut B,
+    place: u32,
+    part: HeaderPart,
+    epoch_length: u32,
+) -> Result<Bytes<'a>, ReadStop>
+    requires within { place < B.count blocks.old }
+    ensures told { B.told blocks.new ≡ B.told blocks.old }
+    ensures count { B.count blocks.new ≡ B.count blocks.old }
+    ensures loans { B.loans_of blocks.new ≡ B.loans_of blocks.old }
+    ensures part { (stored : List Stored) (made : Stored) → B.told blocks.old ≡ Some stored → slice_get stored place ≡ Some made
+        → IfOk result (λ bytes. bytes_of bytes ≡ header_part epoch_length part made.block.header) }
+    ensures undamaged { (stored : List Stored) (made : Stored) → B.told blocks.old ≡ Some stored → slice_get stored place ≡ Some made
+        → (damage : Damage) → result ≡ Err (Damaged damage) → ⊥ }
+    ensures damage { (damage : Damage) → result ≡ Err (Damaged damage) → damage.area ≡ Log }
+    ensures cause { CountsFault (B.faults blocks.old) (B.faults blocks.new) (result ≡ Err DiskFault) }
+{
+    blocks.bring(place)?;
+    match header_of(blocks.block()) {
+        None => Err(damaged()),
+        Some(header) => Ok(part_of(header, part, epoch_length)),
+    }
+}
+
+/// The header of an encoded block: the rest is not looked at.
+fn header_of(block: &[u8]) -> Option<[u8; 208]>
+    ensures { (b : Block) → Encodes block.now b → IsSomeAnd result (λ it. IsA header it b.header) }
+{
+    if block.len() < HEADER_END {
+        return None;
+    }
+    let mut bytes = [0u8; 208];
+    bytes.copy_from_slice(&block[HEADER_AT..HEADER_END]);
+    Some(bytes)
+}
+
+/// A part of a header that is encoded.
+fn part_of<'a>(bytes: [u8; 208], part: HeaderPart, epoch_length: u32) -> Bytes<'a>
+    ensures { (h : Header) → IsA header bytes h → bytes_of result ≡ header_part epoch_length part h }
+{
+    match part {
+        HeaderPart::Whole => Bytes::Header(bytes),
+        HeaderPart::EpochNumber => {
+            Bytes::Number(epoch_of(number_in(&bytes), epoch_length).to_le_bytes())
+        }
+        HeaderPart::EpochStart => {
+            let epoch = epoch_of(number_in(&bytes), epoch_length);
+            Bytes::Number((epoch * u64::from(epoch_length)).to_le_bytes())
+        }
+        HeaderPart::EpochLength => Bytes::Number(u64::from(epoch_length).to_le_bytes()),
+    }
+}
+
+/// The number of a header that is encoded.
+fn number_in(bytes: &[u8; 208]) -> u64
+    ensures { (h : Header) → IsA header bytes.now h → result ≡ h.number }
+{
+    HeaderView::from_encoding(bytes).number()
+}
+
+fn epoch_of(number: u64, epoch_length: u32) -> u64
+    ensures value { result ≡ epoch_number epoch_length number }
+    ensures start { result * epoch_length ≤ number }
+{
+    if epoch_length == 0 {
+        0
+    } else {
+        number / u64::from(epoch_length)
+    }
+}
 
 /// Runs the code of a group within a budget in cycles, over what the group is shown. Damaged where a copy is no output,
 /// or a header dep's block is none.
@@ -46,4 +188,14 @@ pub(crate) fn run_code<B: Blocks>(
     ensures cause { CountsFault (B.faults blocks.old) (B.faults blocks.new) (result ≡ Err DiskFault) }
 {
     Err(ReadStop::NoMemory)
+}
+
+/// A block of LOG, or a copy out of it, that is not what was kept.
+fn damaged() -> ReadStop
+    ensures { result ≡ Damaged (record { area = Log; at = 0 }) }
+{
+    ReadStop::Damaged(Damage {
+        area: Area::Log,
+        at: 0,
+    })
 }
