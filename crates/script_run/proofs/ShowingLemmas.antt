@@ -4,7 +4,7 @@ use Rattle.std.specs.Prelude.{◌&&◌, ◌==◌, IfSome, IsSome, slice_get}
 use Rattle.std.specs.Option.{option_map, option_and_then}
 use Rattle.std.specs.List.{AllZip}
 use Rattle.std.specs.Str.{bytes_eq}
-use Rattle.std.proofs.lemmas.Bool.{and_parts, eqb-true}
+use Rattle.std.proofs.lemmas.Bool.{and_parts, eqb-true, false≢true}
 use Rattle.std.proofs.lemmas.Slice.Eq.{bytes_eq-Decides}
 use Rattle.codec_defs.specs.Shape.{decoded}
 use Rattle.codec_defs.specs.Schema.{Header, CellOutput, cell_output, Transaction}
@@ -167,10 +167,10 @@ pub record IsTold (epoch_length : ℕ) (it : ResolvedTxValue) (told : Option (Li
   pub shown : scene_shown epoch_length stored it ≡ Some scene
 
 pub is-told : (epoch_length : ℕ) (it : ResolvedTxValue) (group : GroupValue) (told : Option (List Stored)) → IsSome (items_told epoch_length it group told) → IsTold epoch_length it told
-is-told epoch_length it group None some = absurd some
+is-told epoch_length it group None some = absurd (false≢true some)
 is-told epoch_length it group (Some stored) some =
     elim (scene_shown epoch_length stored it) as (λ shown. scene_shown epoch_length stored it ≡ shown → IsSome (option_map (λ scene. items_of scene group) shown) → IsTold epoch_length it (Some stored)) [
-      | None ↦ λ none there. absurd there
+      | None ↦ λ none there. absurd (false≢true there)
       | Some scene ↦ λ is there. record { stored = stored; scene = scene; told_are = refl; shown = is }
     ] refl some
 

@@ -58,7 +58,8 @@ impl<'a, 'b, B: Blocks> World for GroupWorld<'a, 'b, B> {
     ghost loans_of = { λ world. (world.blocks.ghost_name, B.loans_of world.blocks.now, B.told world.blocks.now, B.count world.blocks.now) };
 
     fn find(&mut self, call: Call) -> Result<Found, ReadStop> {
-        match sought(self.tx, self.group, &call) {
+        let tx = self.tx;
+        match sought(tx, self.group, &call) {
             Look::Here(bytes) => {
                 self.hand = Some(bytes);
                 Ok(Found::Here)
@@ -67,7 +68,7 @@ impl<'a, 'b, B: Blocks> World for GroupWorld<'a, 'b, B> {
                 if place >= self.tree.len() {
                     return Err(damaged());
                 }
-                let bytes = read_header(self.blocks, place, part, self.tx.epoch_length)?;
+                let bytes = read_header(self.blocks, place, part, tx.epoch_length)?;
                 self.hand = Some(bytes);
                 Ok(Found::Here)
             }
