@@ -3,3 +3,4 @@ mod LookLemmas
 mod SyscallLemmas
 mod ShowingLemmas
 mod HeaderLemmas
+mod WorldLemmas

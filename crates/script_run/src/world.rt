@@ -25,21 +25,22 @@ use crate::shown::ShownTx;
 use chain_tree::{Blocks, Tree};
 use outside::{Area, Damage, ReadStop};
 use mol_schema::HeaderView;
-use program_run::Execution;
+use program_run::{Execution, Stopped, execute_in};
 use std::alloc::Global;
 use vm_sys::{Call, Found, World};
 
 /// What surrounds the script of a group.
-pub(crate) struct GroupWorld<'a, 'b, B: Blocks> {
-    tx: &'a ShownTx<'a>,
-    group: &'a Group<'a>,
-    tree: &'a Tree,
+#[derive(Drop)]
+pub(crate) struct GroupWorld<'a, 't, 'g, 'r, 'b, B: Blocks> {
+    tx: &'t ShownTx<'a>,
+    group: &'g Group<'a>,
+    tree: &'r Tree,
     blocks: &'b mut B,
     hand: Option<Bytes<'a>>,
     ghost counts: { B.count blocks.now ≡ length tree.now.entries },
 }
 
-impl<'a, 'b, B: Blocks> World for GroupWorld<'a, 'b, B> {
+impl<'a, 't, 'g, 'r, 'b, B: Blocks> World for GroupWorld<'a, 't, 'g, 'r, 'b, B> {
     ghost use Rattle.std.specs.Prelude.{ℕ, List, Option};
     ghost use Rattle.std.specs.Option.{option_map};
     ghost use Rattle.chain_tree.specs.Told.{Stored};
@@ -68,9 +69,13 @@ impl<'a, 'b, B: Blocks> World for GroupWorld<'a, 'b, B> {
                 if place >= self.tree.len() {
                     return Err(damaged());
                 }
-                let bytes = read_header(self.blocks, place, part, tx.epoch_length)?;
-                self.hand = Some(bytes);
-                Ok(Found::Here)
+                match read_header(self.blocks, place, part, tx.epoch_length) {
+                    Ok(bytes) => {
+                        self.hand = Some(bytes);
+                        Ok(Found::Here)
+                    }
+                    Err(stop) => Err(stop),
+                }
             }
             Look::NoIndex => Ok(Found::NoIndex),
             Look::Missing => Ok(Found::Missing),
@@ -166,10 +171,10 @@ fn epoch_of(number: u64, epoch_length: u32) -> u64
 
 /// Runs the code of a group within a budget in cycles, over what the group is shown. Damaged where a copy is no output,
 /// or a header dep's block is none.
-pub(crate) fn run_code<B: Blocks>(
-    _alloc: Global,
-    tx: &ShownTx<'_>,
-    group: &Group<'_>,
+pub(crate) fn run_code<'a, B: Blocks>(
+    alloc: Global,
+    tx: &ShownTx<'a>,
+    group: &Group<'a>,
     tree: &Tree,
     blocks: &mut B,
     code: &[u8],
@@ -188,7 +193,18 @@ pub(crate) fn run_code<B: Blocks>(
     ensures damage { (damage : Damage) → result ≡ Err (Damaged damage) → damage.area ≡ Log }
     ensures cause { CountsFault (B.faults blocks.old) (B.faults blocks.new) (result ≡ Err DiskFault) }
 {
-    Err(ReadStop::NoMemory)
+    let mut world = GroupWorld {
+        tx,
+        group,
+        tree,
+        blocks,
+        hand: None,
+    };
+    match execute_in(alloc, code, budget, &mut world) {
+        Ok(came) => Ok(came),
+        Err(Stopped::Loading) => Err(ReadStop::NoMemory),
+        Err(Stopped::Running(stop)) => Err(stop),
+    }
 }
 
 /// A block of LOG, or a copy out of it, that is not what was kept.
