@@ -3,9 +3,10 @@ use Rattle.std.proofs.Common.{◌≡◌, ℕ, Bool, true, false, List, [], ◌�
 use Rattle.std.specs.Prelude.{◌==◌}
 use Rattle.std.specs.Option.{option_map}
 use Rattle.std.specs.List.{find}
-use Rattle.std.proofs.lemmas.Bool.{ne_eqb}
+use Rattle.std.proofs.lemmas.Bool.{eqb-true, ne_eqb}
 use Rattle.codec_defs.specs.Shape.{encoded}
 use Rattle.codec_defs.specs.Schema.{header, script, transaction}
+use Rattle.cell_defs.specs.Cell.{script_hash}
 use Rattle.chain_defs.specs.Hashes.{transaction_hash}
 use Rattle.sys_defs.specs.Table.{Syscall, syscalls, row}
 use Rattle.sys_defs.specs.Table as table
@@ -16,7 +17,7 @@ use Rattle.script_defs.specs.Items.{cell_at, cell_fields, field, header_at, head
 use Rattle.script_run.specs.declared.bytes.CellPart.TheVariants.{Output, Data}
 use Rattle.script_run.specs.declared.bytes.InputPart.TheVariants.{Whole}
 use Rattle.script_run.specs.Looks.{cell_part, input_part, items_of, load_script_hash}
-use Rattle.script_run.specs.Shown.{GroupValue}
+use Rattle.script_run.specs.Shown.{GroupValue, HasItsHash}
 
 at-number : (scene : Scene) (it : GroupValue) (call : Call) (n : ℕ) → call.number ≡ n
     → items_of scene it call ≡ items_of scene it (record { number = n; index = call.index; source = call.source; field = call.field })
@@ -115,3 +116,19 @@ no-load scene it call not2051 not2052 not2061 not2062 not2071 not2072 not2073 no
     let u2051 = other scene group call (row 2051 table.Loads table.TransactionBytes) (row 2052 table.Loads table.ScriptBytes ∷ row 2061 table.Loads table.TransactionHash ∷ row 2062 table.Loads table.ScriptHash ∷ row 2071 table.Loads table.CellOutputs ∷ row 2072 table.Loads table.Headers ∷ row 2073 table.Loads table.Inputs ∷ row 2074 table.Loads table.Witnesses ∷ row 2081 table.LoadsField table.CellOutputs ∷ row 2082 table.LoadsField table.Headers ∷ row 2083 table.LoadsField table.Inputs ∷ row 2091 table.LoadsCode table.CellData ∷ row 2092 table.Loads table.CellData ∷ row 2177 table.Debugs table.Nothing ∷ []) (λ e. not2051 (sym e)) u2052 in
     let u93 = loads-nothing scene group call (row 93 table.Exits table.Nothing) (row 2051 table.Loads table.TransactionBytes ∷ row 2052 table.Loads table.ScriptBytes ∷ row 2061 table.Loads table.TransactionHash ∷ row 2062 table.Loads table.ScriptHash ∷ row 2071 table.Loads table.CellOutputs ∷ row 2072 table.Loads table.Headers ∷ row 2073 table.Loads table.Inputs ∷ row 2074 table.Loads table.Witnesses ∷ row 2081 table.LoadsField table.CellOutputs ∷ row 2082 table.LoadsField table.Headers ∷ row 2083 table.LoadsField table.Inputs ∷ row 2091 table.LoadsCode table.CellData ∷ row 2092 table.Loads table.CellData ∷ row 2177 table.Debugs table.Nothing ∷ []) refl u2051 in
     ap (λ (b : Bool). cond b (Here it.hash) (items scene it.group call)) (ne_eqb call.number 2062 not2062) ∙ u93
+
+-- ---- With the hash of the script as the group has it
+
+of-script-hash : (scene : Scene) (group : Group) (call : Call) → call.number ≡ 2062 → items scene group call ≡ Here (script_hash group.script)
+unfolding items syscalls
+of-script-hash scene group call is = ap (λ (number : ℕ). items scene group (record { number = number; index = call.index; source = call.source; field = call.field })) is
+
+as-items : (scene : Scene) (it : GroupValue) → HasItsHash it → (call : Call) → items_of scene it call ≡ items scene it.group call
+as-items scene it hash call =
+    elim (eqb call.number 2062) as (λ b. eqb call.number 2062 ≡ b → cond b (Here it.hash) (items scene it.group call) ≡ items scene it.group call) [
+      | true ↦ λ is. ap Here hash.hash ∙ sym (of-script-hash scene it.group call (eqb-true call.number 2062 is))
+      | false ↦ λ other. refl
+    ] refl
+
+pub same-items : (scene : Scene) (it : GroupValue) → HasItsHash it → items_of scene it ≡ items scene it.group
+same-items scene it hash = λ t call. as-items scene it hash call t

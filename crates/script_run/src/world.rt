@@ -40,6 +40,29 @@ pub(crate) struct GroupWorld<'a, 't, 'g, 'r, 'b, B: Blocks> {
     ghost counts: { B.count blocks.now ≡ length tree.now.entries },
 }
 
+impl<'a, 't, 'g, 'r, 'b, B: Blocks> GroupWorld<'a, 't, 'g, 'r, 'b, B> {
+    fn new(
+        tx: &'t ShownTx<'a>,
+        group: &'g Group<'a>,
+        tree: &'r Tree,
+        blocks: &'b mut B,
+    ) -> GroupWorld<'a, 't, 'g, 'r, 'b, B>
+        requires counts { B.count blocks.old ≡ length tree.now.entries }
+        ensures same_reference { result.blocks.ghost_name ≡ blocks.entry.ghost_name }
+        ensures blocks { result.blocks.now ≡ blocks.old }
+        ensures tx { result.tx.now ≡ tx.now }
+        ensures group { result.group.now ≡ group.now }
+    {
+        GroupWorld {
+            tx,
+            group,
+            tree,
+            blocks,
+            hand: None,
+        }
+    }
+}
+
 impl<'a, 't, 'g, 'r, 'b, B: Blocks> World for GroupWorld<'a, 't, 'g, 'r, 'b, B> {
     ghost use Rattle.std.specs.Prelude.{ℕ, List, Option};
     ghost use Rattle.std.specs.Option.{option_map};
@@ -193,14 +216,32 @@ pub(crate) fn run_code<'a, B: Blocks>(
     ensures damage { (damage : Damage) → result ≡ Err (Damaged damage) → damage.area ≡ Log }
     ensures cause { CountsFault (B.faults blocks.old) (B.faults blocks.new) (result ≡ Err DiskFault) }
 {
-    let mut world = GroupWorld {
-        tx,
-        group,
-        tree,
-        blocks,
-        hand: None,
-    };
-    match execute_in(alloc, code, budget, &mut world) {
+    let mut world = GroupWorld::new(tx, group, tree, blocks);
+    run_in(alloc, &mut world, code, budget)
+}
+
+/// Runs code within a budget in cycles, over what surrounds it.
+fn run_in<'a, 't, 'g, 'r, 'b, B: Blocks>(
+    alloc: Global,
+    world: &mut GroupWorld<'a, 't, 'g, 'r, 'b, B>,
+    code: &[u8],
+    budget: u64,
+) -> Result<Execution, ReadStop>
+    requires budget { budget ≤ 2 ^ 40 }
+    ensures same_reference { world.new.blocks.ghost_name ≡ world.old.blocks.ghost_name }
+    ensures told { B.told world.new.blocks.now ≡ B.told world.old.blocks.now }
+    ensures count { B.count world.new.blocks.now ≡ B.count world.old.blocks.now }
+    ensures loans { B.loans_of world.new.blocks.now ≡ B.loans_of world.old.blocks.now }
+    ensures came { (stored : List Stored) (scene : Scene) → B.told world.old.blocks.now ≡ Some stored
+        → scene_shown world.old.tx.now.epoch_length stored world.old.tx.now.it ≡ Some scene → HasItsHash world.old.group.now
+        → IfOk result (λ came. execution_of came ≡ execution (syscall (items scene world.old.group.now.group)) budget code.now) }
+    ensures within { IfOk result (ExitsWithin budget) }
+    ensures undamaged { (stored : List Stored) (scene : Scene) → B.told world.old.blocks.now ≡ Some stored
+        → scene_shown world.old.tx.now.epoch_length stored world.old.tx.now.it ≡ Some scene → (damage : Damage) → result ≡ Err (Damaged damage) → ⊥ }
+    ensures damage { (damage : Damage) → result ≡ Err (Damaged damage) → damage.area ≡ Log }
+    ensures cause { CountsFault (B.faults world.old.blocks.now) (B.faults world.new.blocks.now) (result ≡ Err DiskFault) }
+{
+    match execute_in(alloc, code, budget, world) {
         Ok(came) => Ok(came),
         Err(Stopped::Loading) => Err(ReadStop::NoMemory),
         Err(Stopped::Running(stop)) => Err(stop),
