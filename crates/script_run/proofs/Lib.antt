@@ -2,5 +2,10 @@ pub mod WalkLemmas
 pub mod ScriptLemmas
 pub mod GroupLemmas
 pub mod CodeLemmas
-pub mod ShowingLemmas
-pub mod RunningLemmas
+mod PlaceLemmas
+mod LookLemmas
+mod SyscallLemmas
+mod ShowingLemmas
+mod HeaderLemmas
+mod WorldLemmas
+mod RunningLemmas

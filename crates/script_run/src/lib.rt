@@ -10,6 +10,7 @@
 mod bytes;
 mod codes;
 mod groups;
+mod items;
 mod running;
 mod shown;
 mod sources;

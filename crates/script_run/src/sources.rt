@@ -3,14 +3,14 @@ ghost use Rattle.std.specs.Prelude.{◌≡◌, slice_get};
 ghost use Rattle.std.specs.Option.{option_map};
 ghost use Rattle.script_defs.specs.Scene.{Scene};
 ghost use Rattle.script_defs.specs.Sources as defs;
-ghost use Rattle.script_run.specs.Places.{place_meaning, source_meaning};
+ghost use Rattle.script_run.specs.Places.{target_meaning, place_meaning, source_meaning};
 ghost use Rattle.script_run.specs.Shown.{Shows};
 
 use crate::groups::Group;
 use cell_model::ResolvedTx;
 
 #[derive(Clone, Copy, Debug, PartialEq, Eq)]
-pub(crate) enum Source {
+enum Source {
     Inputs,
     Outputs,
     CellDeps,
@@ -30,9 +30,17 @@ pub(crate) enum Place {
     HeaderDep(usize),
 }
 
+/// What a source and an index name.
+#[derive(Clone, Copy, Debug, PartialEq, Eq)]
+pub(crate) enum Target {
+    NoSource,
+    NoIndex,
+    At(Place),
+}
+
 /// The source of a number; any other number is none.
 #[tactic(auto, unfolding(script_defs::specs::Sources::source_of, script_defs::specs::Sources::sources))]
-pub(crate) fn source_of(number: u64) -> Option<Source>
+fn source_of(number: u64) -> Option<Source>
     ensures { option_map source_meaning result ≡ defs.source_of number }
 {
     match number {
@@ -68,7 +76,7 @@ fn member(places: &[u32], index: u64) -> Option<usize>
 }
 
 /// The place of an index of a source.
-pub(crate) fn place_of(
+fn place_of(
     tx: &ResolvedTx<'_>,
     group: &Group<'_>,
     source: Source,
@@ -85,5 +93,18 @@ pub(crate) fn place_of(
         Source::GroupOutputs => Some(Place::Output(member(&group.outputs, index)?)),
         Source::GroupCellDeps => None,
         Source::GroupHeaderDeps => None,
+    }
+}
+
+/// What a call's source and index name. A source that there is not comes before an index.
+pub(crate) fn target_of(tx: &ResolvedTx<'_>, group: &Group<'_>, source: u64, index: u64) -> Target
+    ensures { (scene : Scene) → Shows tx.now scene → target_meaning result ≡ option_map (λ it. defs.place_of scene group.now.group it index) (defs.source_of source) }
+{
+    match source_of(source) {
+        None => Target::NoSource,
+        Some(source) => match place_of(tx, group, source, index) {
+            None => Target::NoIndex,
+            Some(place) => Target::At(place),
+        },
     }
 }
