@@ -23,8 +23,8 @@ use crate::groups::Group;
 use crate::items::sought;
 use crate::shown::ShownTx;
 use chain_tree::{Blocks, Tree};
-use outside::{Area, Damage, ReadStop};
 use mol_schema::HeaderView;
+use outside::{Area, Damage, ReadStop};
 use program_run::{Execution, Stopped, execute_in};
 use std::alloc::Global;
 use vm_sys::{Call, Found, World};
@@ -225,8 +225,7 @@ pub(crate) fn run_code<'a, B: Blocks>(
 /// Ends the loan of the blocks: they are as the world leaves them.
 fn give_back<'a, 't, 'g, 'r, 'b, B: Blocks>(world: GroupWorld<'a, 't, 'g, 'r, 'b, B>)
     ensures { world.exit.0.now ≡ world.entry.blocks.now }
-{
-}
+{}
 
 /// Runs code within a budget in cycles, over what surrounds it.
 fn run_in<'a, 't, 'g, 'r, 'b, B: Blocks>(
