@@ -172,7 +172,7 @@ pub listed-at : {I : Type 0} (scene : Scene) (group : Group) (call : Call) (at :
     → Some (Some place) ≡ option_map (λ it. place_of scene group it call.index) (source_of call.source) → listed scene group call at (Some bytes) ≡ item_at at bytes (Some place)
 listed-at scene group call at bytes place is =
     elim (source_of call.source) as (λ source. Some (Some place) ≡ option_map (λ it. place_of scene group it call.index) source
-        → (elim source [ None ↦ Unknown | Some it ↦ item_at at bytes (place_of scene group it call.index) ]) ≡ item_at at bytes (Some place)) [
+    → (elim source [ None ↦ Unknown | Some it ↦ item_at at bytes (place_of scene group it call.index) ]) ≡ item_at at bytes (Some place)) [
       | None ↦ λ none. absurd cc
       | Some it ↦ λ some. ap (item_at at bytes) (sym (some-is _ _ some))
     ] is

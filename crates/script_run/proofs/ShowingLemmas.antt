@@ -79,7 +79,7 @@ by-output stored headers copy cell output true is test shown =
 
 by-decoded : (stored : List Stored) (headers : List ℕ) (copy : ResolvedValue) (cell : ShownCell) (output : Option CellOutput) → decoded cell_output copy.output ≡ output
     → option_and_then (λ it. cond (has_hashes copy.row it copy.content)
-        (Some (record { output = it; content = copy.content; header = header_of stored headers copy.row.block })) None) output ≡ Some cell
+    (Some (record { output = it; content = copy.content; header = header_of stored headers copy.row.block })) None) output ≡ Some cell
     → CopyShown stored headers copy cell
 by-decoded stored headers copy cell None is shown = absurd cc
 by-decoded stored headers copy cell (Some output) is shown = by-output stored headers copy cell output (has_hashes copy.row output copy.content) is refl shown

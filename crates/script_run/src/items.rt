@@ -16,7 +16,7 @@ ghost use Rattle.script_run.specs.Shown.{IsShownAs, Shows, output_rows};
 use crate::bytes::{Bytes, CellPart, HeaderPart, InputPart, Look};
 use crate::groups::Group;
 use crate::shown::ShownTx;
-use crate::sources::{Target, Place, target_of};
+use crate::sources::{Place, Target, target_of};
 use cell_model::{CellMeta, Resolved, ResolvedTx, data_at};
 use mol_schema::{OutputView, TxView};
 use vm_sys::Call;
@@ -209,7 +209,12 @@ fn occupied_bytes(output: &OutputView<'_>, content: &[u8]) -> u64
 // ---- Headers
 
 /// A part of the header that a call names, where there is such a part.
-fn header<'a>(tx: &ResolvedTx<'_>, group: &Group<'_>, call: &Call, part: Option<HeaderPart>) -> Look<'a>
+fn header<'a>(
+    tx: &ResolvedTx<'_>,
+    group: &Group<'_>,
+    call: &Call,
+    part: Option<HeaderPart>,
+) -> Look<'a>
     ensures { (headers : ℕ → Option Header) (length : ℕ) (scene : Scene) → Shows tx.now scene → ShowsHeaders headers tx.now scene
         → IsFound headers length (listed scene group.now.group call.now (defs.header_at scene) (option_map (λ part h. Some (header_part length part h)) part)) result }
 {
@@ -274,7 +279,12 @@ fn header_of_dep<'a>(places: &[u32], i: usize, part: HeaderPart) -> Look<'a>
 // ---- Inputs and witnesses
 
 /// A part of the input that a call names, where there is such a part.
-fn input<'a>(tx: &ResolvedTx<'a>, group: &Group<'_>, call: &Call, part: Option<InputPart>) -> Look<'a>
+fn input<'a>(
+    tx: &ResolvedTx<'a>,
+    group: &Group<'_>,
+    call: &Call,
+    part: Option<InputPart>,
+) -> Look<'a>
     ensures { (headers : ℕ → Option Header) (length : ℕ) (scene : Scene) → Shows tx.now scene
         → IsFound headers length (listed scene group.now.group call.now (defs.input_at scene) (option_map input_part part)) result }
 {

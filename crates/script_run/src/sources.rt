@@ -76,12 +76,7 @@ fn member(places: &[u32], index: u64) -> Option<usize>
 }
 
 /// The place of an index of a source.
-fn place_of(
-    tx: &ResolvedTx<'_>,
-    group: &Group<'_>,
-    source: Source,
-    index: u64,
-) -> Option<Place>
+fn place_of(tx: &ResolvedTx<'_>, group: &Group<'_>, source: Source, index: u64) -> Option<Place>
     ensures { (scene : Scene) → Shows tx.now scene → option_map place_meaning result ≡ defs.place_of scene group.now.group (source_meaning source) index }
 {
     match source {

@@ -23,8 +23,8 @@ use crate::groups::Group;
 use crate::items::sought;
 use crate::shown::ShownTx;
 use chain_tree::{Blocks, Tree};
-use outside::{Area, Damage, ReadStop};
 use mol_schema::HeaderView;
+use outside::{Area, Damage, ReadStop};
 use program_run::{Execution, Stopped, execute_in};
 use std::alloc::Global;
 use vm_sys::{Call, Found, World};
@@ -32,10 +32,10 @@ use vm_sys::{Call, Found, World};
 /// What surrounds the script of a group.
 #[derive(Drop)]
 pub(crate) struct GroupWorld<'a, 't, 'g, 'r, 'b, B: Blocks> {
+    blocks: &'b mut B,
     tx: &'t ShownTx<'a>,
     group: &'g Group<'a>,
     tree: &'r Tree,
-    blocks: &'b mut B,
     hand: Option<Bytes<'a>>,
     ghost counts: { B.count blocks.now ≡ length tree.now.entries },
 }
@@ -217,8 +217,15 @@ pub(crate) fn run_code<'a, B: Blocks>(
     ensures cause { CountsFault (B.faults blocks.old) (B.faults blocks.new) (result ≡ Err DiskFault) }
 {
     let mut world = GroupWorld::new(tx, group, tree, blocks);
-    run_in(alloc, &mut world, code, budget)
+    let came = run_in(alloc, &mut world, code, budget);
+    give_back(world);
+    came
 }
+
+/// Ends the loan of the blocks: they are as the world leaves them.
+fn give_back<'a, 't, 'g, 'r, 'b, B: Blocks>(world: GroupWorld<'a, 't, 'g, 'r, 'b, B>)
+    ensures { world.exit.0.now ≡ world.entry.blocks.now }
+{}
 
 /// Runs code within a budget in cycles, over what surrounds it.
 fn run_in<'a, 't, 'g, 'r, 'b, B: Blocks>(
