@@ -1,5 +1,2 @@
 pub mod Showing
-pub mod Shown
-pub mod Places
-pub mod Looks
 pub mod Running
