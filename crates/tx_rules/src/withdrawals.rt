@@ -137,7 +137,7 @@ pub(crate) fn deposit_place(
     }
 }
 
-/// Places in rising order.
+/// Places in rising order, so that each withdrawing input takes a binary search.
 fn in_order(alloc: Global, places: &[u32]) -> Result<Vec<u32>, NoMemory>
     ensures rising { IfOk result (λ ordered. IsNonDecreasing ordered.items) }
     ensures same { IfOk result (λ ordered. IsPermutation places.now ordered.items) }
