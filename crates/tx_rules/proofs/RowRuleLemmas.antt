@@ -1,5 +1,5 @@
 -- J18 and J20 by the rows alone, and what stops behind them.
-use Rattle.std.proofs.Common.{◌≡◌, ℕ, ◌<◌, Bool, true, false, ◌&&◌, Option, Some, None, List, Result, Ok, Err, refl, sym, ap, ◌∙◌, subst, inl, inr, arith}
+use Rattle.std.proofs.Common.{◌≡◌, ℕ, ◌<◌, Bool, true, false, ◌&&◌, Option, Some, None, List, Result, Ok, Err, refl, sym, ap, subst, inl, inr, arith}
 use Rattle.std.specs.Prelude.{is_some, IsErrAnd}
 use Rattle.codec_defs.specs.Schema.{OutPoint, Transaction}
 use Rattle.outside.specs.declared.disk.ReadStop.TheVariants.{NoMemory}
