@@ -1,1 +1,3 @@
 pub mod ChangeLemmas
+pub mod SiteLemmas
+pub mod ExtLemmas

@@ -45,7 +45,8 @@ impl<'a, C: Cells> BlockCells<'a, C> {
             → with_changes self.new.changed (C.rows self.new.base.now) o
             ≡ row_after e (events_of tx.now height place) (with_changes self.old.changed (C.rows self.old.base.now)) o) }
     {
-        if place > 0 {
+        let is_cellbase = place == 0;
+        if !is_cellbase {
             self.changed.spend(tx)?;
         }
         self.changed.make(tx, hash, place, e)
