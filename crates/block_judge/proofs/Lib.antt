@@ -1,3 +1,4 @@
 pub mod ChangeLemmas
 pub mod SiteLemmas
 pub mod ExtLemmas
+pub mod RestLemmas
