@@ -3,6 +3,7 @@ use Rattle.std.proofs.Common.{◌≡◌, ℕ, suc, Bool, true, false, List, [], 
 use Rattle.std.specs.Prelude.{◌&&◌, ◌||◌, IsSomeAnd}
 use Rattle.std.specs.List.{list_any, flat_map}
 use Rattle.std.specs.Str.{bytes_eq}
+use Rattle.std.proofs.lemmas.Bool.{or_left, or_right}
 use Rattle.std.proofs.lemmas.List.Folds.{list_any-append}
 use Rattle.codec_defs.specs.Schema.{Header, UncleBlock, Block}
 use Rattle.chain_defs.specs.Kept.{header_hash, block_at, place_of}
@@ -11,7 +12,7 @@ use Rattle.chain_defs.proofs.KeptLaws.{place_of-there}
 use Rattle.chain_tree.specs.declared.entry.Entry.{Entry}
 use Rattle.chain_tree.specs.Blocks.{Describes, IndexesBlocks}
 use Rattle.block_defs.specs.Uncles.{embedded_uncles, known_headers}
-use Rattle.uncle_rules.specs.Embedded.{Embedded, embedded_at, embedded_in, embedded_from, UnclesValue, IndexesUncles}
+use Rattle.uncle_rules.specs.Embedded.{embedded_at, embedded_in, embedded_from, UnclesValue, IndexesUncles}
 use Rattle.uncle_rules.specs.Known.{has_number, is_named, is_on, is_named_on}
 use Rattle.uncle_rules.proofs.PlaceLemmas.{any_at, any-branch, named-none, named-some}
 
@@ -103,3 +104,27 @@ known-parts test blocks earlier =
     (map (λ (u : UncleBlock). u.header) (embedded_uncles blocks) ++ map (λ (u : UncleBlock). u.header) earlier)
     ∙ ap (λ (rest : Bool). list_any test (map (λ (b : Block). b.header) blocks) || rest)
     (list_any-append test (map (λ (u : UncleBlock). u.header) (embedded_uncles blocks)) (map (λ (u : UncleBlock). u.header) earlier))
+
+pub known-first : (hash : List ℕ) (number : Option ℕ) (kept : List Block) (parent : ℕ) (earlier : List UncleBlock)
+    → list_any (is_named hash number) (map (λ b. b.header) (branch kept parent)) ≡ true
+    → true ≡ list_any (is_named hash number) (known_headers (branch kept parent) earlier)
+known-first hash number kept parent earlier is =
+    sym (known-parts (is_named hash number) (branch kept parent) earlier ∙ or_left _ _ is)
+
+pub known-second : (hash : List ℕ) (number : Option ℕ) (kept : List Block) (parent : ℕ) (uncles : UnclesValue) (earlier : List UncleBlock)
+    → IndexesUncles kept uncles → list_any (is_named_on (branch_places kept parent) hash number) uncles.embedded ≡ true
+    → true ≡ list_any (is_named hash number) (known_headers (branch kept parent) earlier)
+known-second hash number kept parent uncles earlier are is =
+    sym (known-parts (is_named hash number) (branch kept parent) earlier
+    ∙ or_right _ _ (or_left _ _ (sym (embedded-same hash number kept parent uncles are) ∙ is)))
+
+pub known-third : (hash : List ℕ) (number : Option ℕ) (kept : List Block) (parent : ℕ) (uncles : UnclesValue) (earlier : List UncleBlock)
+    → IndexesUncles kept uncles → list_any (is_named hash number) (map (λ b. b.header) (branch kept parent)) ≡ false
+    → list_any (is_named_on (branch_places kept parent) hash number) uncles.embedded ≡ false
+    → list_any (is_named hash number) (map (λ uncle. uncle.header) earlier) ≡ list_any (is_named hash number) (known_headers (branch kept parent) earlier)
+known-third hash number kept parent uncles earlier are first second =
+    let last : Bool = list_any (is_named hash number) (map (λ (u : UncleBlock). u.header) earlier) in
+    let middle : Bool = list_any (is_named hash number) (map (λ (u : UncleBlock). u.header) (embedded_uncles (branch kept parent))) in
+    sym (known-parts (is_named hash number) (branch kept parent) earlier
+    ∙ ap (λ (front : Bool). front || (middle || last)) first
+    ∙ ap (λ (m : Bool). m || last) (sym (embedded-same hash number kept parent uncles are) ∙ second))

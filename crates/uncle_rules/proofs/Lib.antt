@@ -4,3 +4,4 @@ pub mod KnownLemmas
 pub mod LinkLemmas
 pub mod BranchLemmas
 pub mod WalkLemmas
+pub mod RuleLemmas

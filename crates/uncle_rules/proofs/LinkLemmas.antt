@@ -1,5 +1,5 @@
 -- Entries that are linked by their hashes: one more, and a walk along them.
-use Rattle.std.proofs.Common.{◌≡◌, ℕ, zero, suc, ◌+◌, ◌<◌, ◌≤◌, Bool, true, false, cond, List, [], ◌∷◌, ◌++◌, length, take, Option, Some, None, refl, sym, ap, ◌∙◌, subst, inl, inr, ◌⊎◌, arith}
+use Rattle.std.proofs.Common.{◌≡◌, ℕ, suc, ◌<◌, Bool, true, false, cond, List, [], ◌∷◌, ◌++◌, length, take, Option, Some, None, refl, sym, ap, ◌∙◌, subst, inl, inr, ◌⊎◌, arith}
 use Rattle.std.specs.Prelude.{◌&&◌, ◌||◌, option_map, slice_get}
 use Rattle.std.specs.Option.{option_or}
 use Rattle.std.specs.List.{list_any}
@@ -7,8 +7,7 @@ use Rattle.std.specs.Str.{bytes_eq}
 use Rattle.std.proofs.lemmas.Bool.{or_from, and_left}
 use Rattle.std.proofs.lemmas.Slice.Eq.{bytes_eq-Decides}
 use Rattle.std.proofs.lemmas.List.{take-append-le, take_at}
-use Rattle.std.proofs.lemmas.Option.{slice_get_within}
-use Rattle.chain_defs.proofs.KeptLaws.{slice_get-take, slice_get-pushed}
+use Rattle.chain_defs.proofs.KeptLaws.{slice_get-pushed}
 use Rattle.uncle_rules.specs.declared.index.Entry.{Entry}
 use Rattle.uncle_rules.specs.Linked.{last_of, IsLinked}
 
@@ -29,12 +28,12 @@ last_of-push (first ∷ later) entry hash =
 
 pub IsLinked-none : (latest : List ℕ → Option ℕ) → ((hash : List ℕ) → latest hash ≡ None) → IsLinked [] latest
 unfolding last_of
-IsLinked-none latest none = record { last = none; earlier = λ i entry there. absurd (cc); }
+IsLinked-none latest none = record { last = none; earlier = λ i entry there. absurd (cc) }
 
 -- maps with the same entries
 pub IsLinked-same : (entries : List Entry) (latest others : List ℕ → Option ℕ) → IsLinked entries latest → ((hash : List ℕ) → others hash ≡ latest hash)
     → IsLinked entries others
-IsLinked-same entries latest others linked same = record { last = λ hash. same hash ∙ linked.last hash; earlier = linked.earlier; }
+IsLinked-same entries latest others linked same = record { last = λ hash. same hash ∙ linked.last hash; earlier = linked.earlier }
 
 pub IsLinked-push : (entries : List Entry) (latest after : List ℕ → Option ℕ) (entry : Entry) (index : ℕ) → IsLinked entries latest
     → index ≡ length entries → entry.earlier ≡ latest entry.hash
@@ -82,6 +81,10 @@ pub record IsLast (hash : List ℕ) (test : Entry → Bool) (entries : List Entr
   pub same : entry.hash ≡ hash
   pub any : list_any (passes_with hash test) entries ≡ (list_any (passes_with hash test) (take i entries) || test entry)
 
+pub or-false : (b : Bool) → (b || false) ≡ b
+or-false true = refl
+or-false false = refl
+
 or-assoc : (a b d : Bool) → (a || (b || d)) ≡ ((a || b) || d)
 or-assoc true b d = refl
 or-assoc false b d = refl
@@ -115,7 +118,3 @@ any-linked hash test (first ∷ later) i found =
               ∙ ap (λ (t : Bool). (t && test first) || false) at ∙ or-false (test first);
         })
     by_parts None is false at found rest = absurd (cc)
-
-    or-false : (b : Bool) → (b || false) ≡ b
-    or-false true = refl
-    or-false false = refl

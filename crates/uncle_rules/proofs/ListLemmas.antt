@@ -1,7 +1,9 @@
 -- A list that is gone through: one element more.
-use Rattle.std.proofs.Common.{◌≡◌, ℕ, ◌+◌, ◌<◌, ◌≤◌, List, [], ◌∷◌, ◌++◌, length, map, take, Some, refl, sym, ap, ◌∙◌, arith, append_assoc, append-nil}
+use Rattle.std.proofs.Common.{◌≡◌, ℕ, ◌+◌, ◌<◌, ◌≤◌, List, [], ◌∷◌, ◌++◌, length, map, take, get_or, Bool, false, Some, refl, sym, ap, ◌∙◌, arith, append_assoc, append-nil}
 use Rattle.std.specs.Prelude.{slice_get, replicate}
-use Rattle.std.specs.List.{concat}
+use Rattle.std.specs.List.{concat, list_any}
+use Rattle.std.proofs.lemmas.Bool.{or_from}
+use Rattle.std.proofs.lemmas.List.Folds.{list_any_more}
 use Rattle.std.proofs.lemmas.List.{take_more, take_all, map-append}
 use Rattle.std.proofs.lemmas.Option.{slice_get_within, get_or_from_slice_get}
 use Rattle.hash_defs.specs.CkbHash.{ckbhash}
@@ -34,3 +36,12 @@ hash-some values i some all = ap (λ (l : List (List ℕ)). ckbhash (concat l)) 
     by_cases : (l : List (List ℕ)) → 0 < length l → ckbhash (concat l) ≡ hash_of_all l
     by_cases [] there = absurd (omega (arith, there))
     by_cases (first ∷ later) there = refl
+
+-- ---- A test
+
+-- one more that fails it
+pub any-next : {X : Type 0} (test : X → Bool) (xs : List X) (i : ℕ) (x : X) → list_any test (take i xs) ≡ false → slice_get xs i ≡ Some x → test x ≡ false
+    → list_any test (take (i + 1) xs) ≡ false
+any-next test xs i x before there fails =
+    list_any_more test xs i x (slice_get_within xs i x there)
+    ∙ or_from (list_any test (take i xs)) (test (get_or xs i x)) before (ap test (get_or_from_slice_get xs i x x there) ∙ fails)

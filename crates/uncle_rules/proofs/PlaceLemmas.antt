@@ -9,7 +9,7 @@ use Rattle.std.proofs.lemmas.Option.{same_Some}
 use Rattle.codec_defs.specs.Schema.{Block}
 use Rattle.chain_defs.specs.Kept.{block_hash, block_at, place_of, IsKept}
 use Rattle.chain_defs.specs.Branch.{branch_places, branch}
-use Rattle.chain_defs.proofs.KeptLaws.{place_of-there, place_of-none, hashes-differ}
+use Rattle.chain_defs.proofs.KeptLaws.{place_of-none, hashes-differ}
 use Rattle.uncle_rules.specs.Known.{has_number, is_named, is_on}
 
 -- the block at a place passes, if there is one
@@ -38,14 +38,14 @@ past-at test p k (block ∷ later) below =
     ap (λ (is : Bool). ((is || false) && test block) || any_at (p ∷ []) test (suc k) later) (ne_eqb p k (λ same. omega (arith, same, below)))
     ∙ past-at test p (suc k) later (omega (arith, below))
 
-one-at : (test : Block → Bool) (i k : ℕ) (kept : List Block) → any_at (k + i ∷ []) test k kept ≡ passes test (slice_get kept i)
+one-at : (test : Block → Bool) (i k : ℕ) (kept : List Block) → any_at ((k + i) ∷ []) test k kept ≡ passes test (slice_get kept i)
 one-at test i k [] = refl
 one-at test zero k (block ∷ later) =
-    ap (λ (is : Bool). ((is || false) && test block) || any_at (k + 0 ∷ []) test (suc k) later) (eq-eqb (k + 0) k (omega arith))
+    ap (λ (is : Bool). ((is || false) && test block) || any_at ((k + 0) ∷ []) test (suc k) later) (eq-eqb (k + 0) k (omega arith))
     ∙ ap (λ (rest : Bool). test block || rest) (past-at test (k + 0) (suc k) later (omega arith)) ∙ or-false (test block)
 one-at test (suc i) k (block ∷ later) =
     let next : k + suc i ≡ suc k + i = omega arith in
-    ap (λ (is : Bool). ((is || false) && test block) || any_at (k + suc i ∷ []) test (suc k) later) (ne_eqb (k + suc i) k (λ same. omega (arith, same)))
+    ap (λ (is : Bool). ((is || false) && test block) || any_at ((k + suc i) ∷ []) test (suc k) later) (ne_eqb (k + suc i) k (λ same. omega (arith, same)))
     ∙ ap (λ (n : ℕ). any_at (n ∷ []) test (suc k) later) next ∙ one-at test i (suc k) later
 
 apart : (a c h x y : Bool) → (((a || c) && h) || (x || y)) ≡ ((((a || false) && h) || x) || ((c && h) || y))

@@ -113,7 +113,13 @@ impl Uncles {
     }
 
     /// Whether a block on the branch of a parent embeds an uncle with this hash and number.
-    pub(crate) fn embeds(&self, tree: &Tree, parent: u32, hash: &[u8; 32], number: Option<u64>) -> bool
+    pub(crate) fn embeds(
+        &self,
+        tree: &Tree,
+        parent: u32,
+        hash: &[u8; 32],
+        number: Option<u64>,
+    ) -> bool
         requires { parent < length tree.now.entries }
         ensures { (kept : List Block) → IndexesBlocks kept tree.now.entries
             → result ≡ list_any (is_named_on (branch_places kept parent) hash.now number) self.now.embedded }

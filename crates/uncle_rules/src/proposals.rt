@@ -48,7 +48,11 @@ fn are_ids_distinct(alloc: Global, uncle: &UncleView<'_>) -> Result<bool, NoMemo
 }
 
 /// Whether an uncle's proposal ids are so many at most, all distinct, and its header commits to them.
-pub(crate) fn proposes_well(alloc: Global, spec: &Spec, uncle: &UncleView<'_>) -> Result<bool, NoMemory>
+pub(crate) fn proposes_well(
+    alloc: Global,
+    spec: &Spec,
+    uncle: &UncleView<'_>,
+) -> Result<bool, NoMemory>
     ensures { IfOk result (λ well. well ≡ rules.proposes_well spec.now uncle.now) }
 {
     if uncle.proposals_count() > spec.max_proposals as usize {

@@ -26,7 +26,8 @@ fn is_ancestor(tree: &Tree, parent: u32, hash: &[u8; 32], number: Option<u64>) -
 {
     match tree.find(hash) {
         None => false,
-        Some(place) => has_number(number, tree.entry(place).number) && is_on_branch(tree, parent, place),
+        Some(place) => has_number(number, tree.entry(place).number)
+            && is_on_branch(tree, parent, place),
     }
 }
 
@@ -35,7 +36,7 @@ fn is_earlier(block: &BlockView<'_>, earlier: usize, hash: &[u8; 32], number: Op
     requires { earlier ≤ length block.now.uncles }
     ensures { result ≡ list_any (known.is_named hash.now number) (map (λ uncle. uncle.header) (take earlier block.now.uncles)) }
 {
-    'earlier: for i in 0..earlier {
+    'uncles: for i in 0..earlier {
         if is_named(&block.uncles_item(i).header(), hash, number) {
             return true;
         }
@@ -58,9 +59,13 @@ fn is_known(
     ensures { (kept : List Block) → IndexesBlocks kept tree.now.entries → IndexesUncles kept uncles.now
         → result ≡ list_any (known.is_named hash.now number) (rules.known_headers (branch kept parent) (take earlier block.now.uncles)) }
 {
-    is_ancestor(tree, parent, hash, number)
-        || uncles.embeds(tree, parent, hash, number)
-        || is_earlier(block, earlier, hash, number)
+    if is_ancestor(tree, parent, hash, number) {
+        return true;
+    }
+    if uncles.embeds(tree, parent, hash, number) {
+        return true;
+    }
+    is_earlier(block, earlier, hash, number)
 }
 
 /// Whether a header's parent is known, with the number before its own.
@@ -81,7 +86,15 @@ fn stands_on(
     if number == 0 {
         return false;
     }
-    is_known(tree, uncles, parent, block, earlier, &parent_hash_of(header), Some(number - 1))
+    is_known(
+        tree,
+        uncles,
+        parent,
+        block,
+        earlier,
+        &parent_hash_of(header),
+        Some(number - 1),
+    )
 }
 
 /// Whether a header is not known.

@@ -1,8 +1,7 @@
-use Rattle.std.proofs.Common.{◌≡◌, Some, None, sym, ap, ◌∙◌}
+use Rattle.std.proofs.Common.{sym, ap, ◌∙◌}
 use Rattle.std.specs.Prelude.{◌&&◌, Bool}
 use Rattle.chain_defs.specs.Branch.{branch_places}
-use Rattle.chain_defs.specs.Kept.{place_of}
-use Rattle.uncle_rules.specs.Known.{has_number, is_on}
+use Rattle.uncle_rules.specs.Known.{is_on}
 use Rattle.uncle_rules.proofs.KnownLemmas.{ancestor-none, ancestor-some}
 use Rattle.uncle_rules.proofs.rule.is_ancestor.Goals as goal
 

@@ -1,4 +1,4 @@
-use Rattle.std.proofs.Common.{◌≡◌, ℕ, suc, List, take, Option, Some, None}
+use Rattle.std.proofs.Common.{◌≡◌, ℕ, List, take}
 use Rattle.std.specs.List.{list_any}
 use Rattle.codec_defs.specs.Schema.{Block}
 use Rattle.chain_defs.specs.Branch.{branch_places}
