@@ -43,13 +43,7 @@ impl<'a, C: Cells> BlockCells<'a, C> {
 
     /// Takes what the transaction at a place of the block does: it spends, but for a cellbase, and then makes. Its rows have
     /// the block's place `e`.
-    pub(crate) fn take(
-        &mut self,
-        _tx: &TxView<'_>,
-        _hash: &[u8; 32],
-        _place: u32,
-        _e: u32,
-    ) -> Result<(), NoMemory>
+    pub(crate) fn take(&mut self, _tx: &TxView<'_>, _hash: &[u8; 32], _place: u32, _e: u32) -> Result<(), NoMemory>
         requires hash { _hash.now ≡ transaction_hash _tx.now }
         ensures rows { OnOk result ((height : ℕ) (o : schema.OutPoint) → 0 < height
             → self.new o ≡ row_after _e (events_of _tx.now height _place) self.old o) }
