@@ -2,10 +2,10 @@ pub mod WalkLemmas
 pub mod ScriptLemmas
 pub mod GroupLemmas
 pub mod CodeLemmas
-mod PlaceLemmas
-mod LookLemmas
-mod SyscallLemmas
-mod ShowingLemmas
-mod HeaderLemmas
-mod WorldLemmas
-mod RunningLemmas
+pub mod PlaceLemmas
+pub mod LookLemmas
+pub mod SyscallLemmas
+pub mod ShowingLemmas
+pub mod HeaderLemmas
+pub mod WorldLemmas
+pub mod RunningLemmas

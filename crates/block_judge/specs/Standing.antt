@@ -1,0 +1,34 @@
+-- What a block is judged over, and what that stands for.
+use Rattle.std.specs.Prelude.{◌≡◌, ◌⊎◌, ℕ, ◌≤◌, List, Option, Some, IsTrue, IsSome}
+use Rattle.codec_defs.specs.Schema.{OutPoint}
+use Rattle.chain_defs.specs.Branch.{branch}
+use Rattle.chain_tree.specs.declared.entry.Entry.{Entry}
+use Rattle.chain_tree.specs.Blocks.{IndexesBlocks}
+use Rattle.chain_tree.specs.Told.{Stored, blocks_of}
+use Rattle.cell_defs.specs.Cell.{Cell, holds_its_own}
+use Rattle.cell_defs.specs.Events.{live_cell}
+use Rattle.cell_defs.specs.Row.{Row, live_row}
+
+-- Over kept blocks that are told the tree indexes them, and the rows are those of the live cells of the parent's branch, of which those with a
+-- type script hold what they occupy.
+pub record Stands (stored : List Stored) (entries : List Entry) (parent : ℕ) (rows : OutPoint → Option Row) : Type 0 where
+  pub indexed : IndexesBlocks (blocks_of stored) entries
+  pub live : (o : OutPoint) → rows o ≡ live_row (blocks_of stored) parent o
+  pub typed : (o : OutPoint) (cell : Cell) → live_cell (branch (blocks_of stored) parent) o ≡ Some cell → IsSome cell.output.type_script
+      → IsTrue (holds_its_own cell.output cell.content)
+
+-- the rules that are tried on a block
+abbrev pub IsTried : ℕ → Type 0
+IsTried rule = ((4 ≤ rule) × (rule ≤ 30)) ⊎ (rule ≡ 32)
+
+-- those that are tried on a transaction alone
+abbrev pub IsTriedAlone : ℕ → Type 0
+IsTriedAlone rule = (rule ≡ 18) ⊎ ((20 ≤ rule) × (rule ≤ 30))
+
+-- those on scripts
+abbrev pub IsScriptRule : ℕ → Type 0
+IsScriptRule rule = (28 ≤ rule) × (rule ≤ 30)
+
+-- those on a transaction
+abbrev pub IsTriedOnTransaction : ℕ → Type 0
+IsTriedOnTransaction rule = (18 ≤ rule) × (rule ≤ 30)

@@ -1,0 +1,81 @@
+// J28 to J30: the scripts of a transaction.
+ghost use Rattle.std.specs.Prelude.{◌≡◌, ◌^◌, ◌≤◌, ℕ, List, Option, None, Some, Err, IfOk, length};
+ghost use Rattle.fold_defs.specs.First.{first_failing};
+ghost use Rattle.outside.specs.Causes.{CountsFault};
+ghost use Rattle.outside.specs.declared.disk.Area.TheVariants.{Log};
+ghost use Rattle.outside.specs.declared.disk.Damage.{Damage};
+ghost use Rattle.outside.specs.declared.disk.ReadStop.TheVariants.{DiskFault, Damaged};
+ghost use Rattle.codec_defs.specs.Schema.{OutPoint};
+ghost use Rattle.cell_defs.specs.Row.{Row};
+ghost use Rattle.chain_tree.specs.Told.{Stored, blocks_of};
+ghost use Rattle.tx_defs.specs.Site.{Site};
+ghost use Rattle.tx_rules.specs.At.{IsSiteOf};
+ghost use Rattle.tx_rules.specs.Outcome.{IsFormed, IsResolved};
+ghost use Rattle.script_defs.specs.Scene.{scene_of};
+ghost use Rattle.script_defs.specs.Rules.{script_rules, cycles_of};
+ghost use Rattle.script_defs.specs.Rules as rules;
+ghost use Rattle.block_judge.specs.declared.stop.Judged.TheVariants.{Broken, Read};
+ghost use Rattle.block_judge.specs.Standing.{IsScriptRule};
+ghost use Rattle.block_judge.specs.Stops.{of_running};
+
+use crate::stop::Judged;
+use cell_model::ResolvedTx;
+use chain_tree::Blocks;
+use script_defs::Failure;
+use script_run::{ScriptStop, run_groups};
+use std::alloc::Global;
+use tx_rules::TxAt;
+
+/// The rule that a failure breaks.
+fn rule_of(failure: Failure) -> u8
+    ensures { result ≡ rules.rule_of failure }
+{
+    match failure {
+        Failure::NoCode(_) | Failure::ManyCodes(_) => 28,
+        Failure::BadElf(_, _) | Failure::MachineFault(_, _) | Failure::ExitNot0(_, _) => 29,
+        Failure::Spent => 30,
+    }
+}
+
+/// What a stop of the scripts is answered as.
+fn stopped(stop: ScriptStop) -> Judged
+    ensures { result ≡ of_running stop }
+{
+    match stop {
+        ScriptStop::Failed(failure) => Judged::Broken(rule_of(failure)),
+        ScriptStop::Read(stop) => Judged::Read(stop),
+    }
+}
+
+/// Runs the scripts of a transaction that was resolved, within so many cycles, and answers those that they take.
+pub(crate) fn run_scripts<B: Blocks>(
+    alloc: Global,
+    at: &TxAt<'_>,
+    resolved: &ResolvedTx<'_>,
+    blocks: &mut B,
+    left: u64,
+) -> Result<u64, Judged>
+    requires left { left ≤ 2 ^ 40 }
+    requires counts { B.count blocks.old ≡ length at.now.entries }
+    requires formed { IsFormed at.now.entries resolved.now.tx resolved.now }
+    ensures told { B.told blocks.new ≡ B.told blocks.old }
+    ensures count { B.count blocks.new ≡ B.count blocks.old }
+    ensures loans { B.loans_of blocks.new ≡ B.loans_of blocks.old }
+    ensures within { IfOk result (λ cycles. cycles ≤ left) }
+    ensures rule { (rule : ℕ) → result ≡ Err (Broken rule) → IsScriptRule rule }
+    ensures broken { (stored : List Stored) (rows : OutPoint → Option Row) (site : Site) → B.told blocks.old ≡ Some stored → IsSiteOf stored at.now rows site
+        → IsResolved (blocks_of stored) at.now.parent site resolved.now.tx resolved.now → (rule : ℕ) → result ≡ Err (Broken rule)
+        → first_failing (script_rules (scene_of site resolved.now.tx) left) ≡ Some rule }
+    ensures unbroken { (stored : List Stored) (rows : OutPoint → Option Row) (site : Site) → B.told blocks.old ≡ Some stored → IsSiteOf stored at.now rows site
+        → IsResolved (blocks_of stored) at.now.parent site resolved.now.tx resolved.now
+        → IfOk result (λ cycles. (first_failing (script_rules (scene_of site resolved.now.tx) left) ≡ None) × (cycles ≡ cycles_of (scene_of site resolved.now.tx) left)) }
+    ensures undamaged { (stored : List Stored) (rows : OutPoint → Option Row) (site : Site) → B.told blocks.old ≡ Some stored → IsSiteOf stored at.now rows site
+        → IsResolved (blocks_of stored) at.now.parent site resolved.now.tx resolved.now → (damage : Damage) → result ≡ Err (Read (Damaged damage)) → ⊥ }
+    ensures damage { (damage : Damage) → result ≡ Err (Read (Damaged damage)) → damage.area ≡ Log }
+    ensures cause { CountsFault (B.faults blocks.old) (B.faults blocks.new) (result ≡ Err (Read DiskFault)) }
+{
+    match run_groups(alloc, at.spec, resolved, at.tree, blocks, left) {
+        Ok(cycles) => Ok(cycles),
+        Err(stop) => Err(stopped(stop)),
+    }
+}

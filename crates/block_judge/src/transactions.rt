@@ -1,0 +1,100 @@
+// J18 to J30: one transaction.
+ghost use Rattle.std.specs.Prelude.{◌≡◌, ◌^◌, ◌≤◌, ◌++◌, ◌∷◌, ℕ, List, None, Some, Err, IfOk, length, map};
+ghost use Rattle.fold_defs.specs.First.{first_failing};
+ghost use Rattle.outside.specs.Causes.{CountsFault};
+ghost use Rattle.outside.specs.declared.disk.Area.TheVariants.{Log};
+ghost use Rattle.outside.specs.declared.disk.Damage.{Damage};
+ghost use Rattle.outside.specs.declared.disk.ReadStop.TheVariants.{DiskFault, Damaged};
+ghost use Rattle.chain_defs.specs.Hashes.{transaction_hash};
+ghost use Rattle.chain_tree.specs.Told.{Stored, blocks_of};
+ghost use Rattle.tx_defs.specs.Site.{Site};
+ghost use Rattle.tx_defs.specs.Rules.{form_rules, cell_rules};
+ghost use Rattle.tx_defs.specs.Capacity.{fee};
+ghost use Rattle.tx_defs.specs.Resolving.{inputs};
+ghost use Rattle.tx_rules.specs.At.{IsPlaced, IsSiteOf, found_row};
+ghost use Rattle.tx_rules.specs.Copying.{row_in};
+ghost use Rattle.script_defs.specs.Scene.{scene_of};
+ghost use Rattle.script_defs.specs.Rules.{script_rules, cycles_of};
+ghost use Rattle.block_judge.specs.declared.stop.Judged.TheVariants.{Broken, Read};
+ghost use Rattle.block_judge.specs.Standing.{IsTriedOnTransaction};
+ghost use Rattle.block_judge.specs.Stops.{of_resolving};
+
+use crate::scripts::run_scripts;
+use crate::stop::Judged;
+use cell_model::{Cells, Resolved};
+use chain_tree::Blocks;
+use mol_schema::TxView;
+use std::alloc::Global;
+use tx_rules::{TxAt, TxStop, resolve};
+
+/// A transaction that keeps its rules: its hash, its fee in shannons, the cycles of its scripts, and the cells of its
+/// inputs.
+#[derive(Drop)]
+pub(crate) struct Taken {
+    pub(crate) hash: [u8; 32],
+    pub(crate) fee: u64,
+    pub(crate) cycles: u64,
+    pub(crate) inputs: Vec<Resolved>,
+}
+
+/// What a stop of resolving is answered as: J19 is tried behind J18 and before the rules on the cells.
+fn stopped(stop: TxStop, proposed: bool) -> Judged
+    ensures { result ≡ of_resolving proposed stop }
+{
+    match stop {
+        TxStop::Broken(rule) => Judged::Broken(if rule == 18 || proposed { rule } else { 19 }),
+        TxStop::Read(stop) => Judged::Read(stop),
+    }
+}
+
+/// Judges a transaction within so many cycles, by J18 and J20 to J30, and by J19 where it is said whether its id is
+/// proposed.
+pub(crate) fn judge_transaction<C: Cells, B: Blocks>(
+    alloc: Global,
+    tx: &TxView<'_>,
+    at: &TxAt<'_>,
+    proposed: bool,
+    cells: &C,
+    blocks: &mut B,
+    left: u64,
+) -> Result<Taken, Judged>
+    requires placed { IsPlaced at.now }
+    requires left { left ≤ 2 ^ 40 }
+    requires counts { B.count blocks.old ≡ length at.now.entries }
+    ensures told { B.told blocks.new ≡ B.told blocks.old }
+    ensures count { B.count blocks.new ≡ B.count blocks.old }
+    ensures loans { B.loans_of blocks.new ≡ B.loans_of blocks.old }
+    ensures hash { IfOk result (λ taken. taken.hash ≡ transaction_hash tx.now) }
+    ensures within { IfOk result (λ taken. taken.cycles ≤ left) }
+    ensures rule { (rule : ℕ) → result ≡ Err (Broken rule) → IsTriedOnTransaction rule }
+    ensures broken { (stored : List Stored) (site : Site) → B.told blocks.old ≡ Some stored → IsSiteOf stored at.now (C.rows cells.now) site
+        → (rule : ℕ) → result ≡ Err (Broken rule)
+        → first_failing (form_rules tx.now ++ (19, proposed) ∷ cell_rules site tx.now ++ script_rules (scene_of site tx.now) left) ≡ Some rule }
+    ensures unbroken { (stored : List Stored) (site : Site) → B.told blocks.old ≡ Some stored → IsSiteOf stored at.now (C.rows cells.now) site
+        → IfOk result (λ _. first_failing (form_rules tx.now ++ (19, proposed) ∷ cell_rules site tx.now ++ script_rules (scene_of site tx.now) left) ≡ None) }
+    ensures fee { (stored : List Stored) (site : Site) → B.told blocks.old ≡ Some stored → IsSiteOf stored at.now (C.rows cells.now) site
+        → IfOk result (λ taken. taken.fee ≡ fee site tx.now) }
+    ensures cycles { (stored : List Stored) (site : Site) → B.told blocks.old ≡ Some stored → IsSiteOf stored at.now (C.rows cells.now) site
+        → IfOk result (λ taken. taken.cycles ≡ cycles_of (scene_of site tx.now) left) }
+    ensures spends { (stored : List Stored) (site : Site) → B.told blocks.old ≡ Some stored → IsSiteOf stored at.now (C.rows cells.now) site
+        → IfOk result (λ taken. map row_in taken.inputs.items ≡ map (found_row (blocks_of stored) at.now.parent) (inputs site tx.now)) }
+    ensures undamaged { (stored : List Stored) (site : Site) → B.told blocks.old ≡ Some stored → IsSiteOf stored at.now (C.rows cells.now) site
+        → (damage : Damage) → result ≡ Err (Read (Damaged damage)) → ⊥ }
+    ensures damage { (damage : Damage) → result ≡ Err (Read (Damaged damage)) → damage.area ≡ Log }
+    ensures cause { CountsFault (B.faults blocks.old) (B.faults blocks.new) (result ≡ Err (Read DiskFault)) }
+{
+    let ok = match resolve(alloc, tx, at, cells, blocks) {
+        Ok(ok) => ok,
+        Err(stop) => return Err(stopped(stop, proposed)),
+    };
+    if !proposed {
+        return Err(Judged::Broken(19));
+    }
+    let cycles = run_scripts(alloc, at, &ok.resolved, blocks, left)?;
+    Ok(Taken {
+        hash: ok.resolved.hash,
+        fee: ok.fee,
+        cycles,
+        inputs: ok.resolved.inputs,
+    })
+}
