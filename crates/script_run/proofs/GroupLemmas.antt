@@ -11,7 +11,7 @@ use Rattle.std.specs.Option.{option_map}
 use Rattle.std.proofs.lemmas.Option.{same_Some}
 use Rattle.codec_defs.specs.Schema.{Script, CellOutput, Transaction}
 use Rattle.cell_defs.specs.Cell.{script_hash}
-use Rattle.script_defs.specs.Groups.{Group, has_hash, first_scripts, places_with, present, input_locks, lock_group, type_group, lock_groups, type_groups, groups_of}
+use Rattle.script_defs.specs.Groups.{Group, has_hash, first_scripts, places_with, present, input_locks, lock_group, lock_groups, type_groups, groups_of}
 use Rattle.script_defs.specs.Scene.{Scene, ShownCell}
 use Rattle.script_run.specs.Shown.{GroupValue, HasItsHash}
 use Rattle.script_run.specs.Grouping.{group_for, grouped, new_group, with_group, with_input, with_output, changed, place_with, FindsEach}

@@ -1,9 +1,8 @@
 -- What a scene that is shown over kept blocks has.
 use Rattle.std.proofs.Common.{◌≡◌, ℕ, Bool, true, false, cond, List, [], ◌∷◌, length, map, Option, Some, None, refl, sym, ap, subst, ◌∙◌}
-use Rattle.std.specs.Prelude.{◌&&◌, ◌==◌, IfSome, IsSome, slice_get}
+use Rattle.std.specs.Prelude.{IfSome, IsSome}
 use Rattle.std.specs.Option.{option_map, option_and_then}
 use Rattle.std.specs.List.{AllZip}
-use Rattle.std.specs.Str.{bytes_eq}
 use Rattle.std.proofs.lemmas.Bool.{and_parts, eqb-true, false≢true}
 use Rattle.std.proofs.lemmas.Slice.Eq.{bytes_eq-Decides}
 use Rattle.codec_defs.specs.Shape.{decoded}
@@ -15,7 +14,7 @@ use Rattle.chain_tree.specs.Told.{Stored}
 use Rattle.tx_defs.specs.Site.{all_there}
 use Rattle.sys_defs.specs.World.{Items}
 use Rattle.script_defs.specs.Scene.{Scene, ShownCell}
-use Rattle.script_run.specs.Looks.{ShowsHeaders, header_among, items_of, items_told, kept_header}
+use Rattle.script_run.specs.Looks.{ShowsHeaders, items_of, items_told, kept_header}
 use Rattle.script_run.specs.Showing.{cell_shown, cells_shown, has_hashes, header_of, headers_shown, is_whole, same_hash, scene_shown, scene_with}
 use Rattle.script_run.specs.Shown.{GroupValue, IsShownAs, Shows}
 use Rattle.script_run.proofs.PlaceLemmas.{some-is, zip-lengths, zip-map}

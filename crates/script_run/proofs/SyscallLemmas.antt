@@ -1,5 +1,5 @@
 -- What a script is answered, by the number of the syscall.
-use Rattle.std.proofs.Common.{◌≡◌, ℕ, Bool, true, false, List, [], ◌∷◌, Option, Some, None, refl, sym, ap, ◌∙◌, arith, eqb, cond}
+use Rattle.std.proofs.Common.{◌≡◌, ℕ, Bool, true, false, List, [], ◌∷◌, Some, refl, sym, ap, ◌∙◌, eqb, cond}
 use Rattle.std.specs.Prelude.{◌==◌}
 use Rattle.std.specs.Option.{option_map}
 use Rattle.std.specs.List.{find}
@@ -10,13 +10,13 @@ use Rattle.cell_defs.specs.Cell.{script_hash}
 use Rattle.chain_defs.specs.Hashes.{transaction_hash}
 use Rattle.sys_defs.specs.Table.{Syscall, syscalls, row}
 use Rattle.sys_defs.specs.Table as table
-use Rattle.sys_defs.specs.World.{Call, Item, Here, Unknown}
+use Rattle.sys_defs.specs.World.{Call, Here, Unknown}
 use Rattle.script_defs.specs.Scene.{Scene}
 use Rattle.script_defs.specs.Groups.{Group}
 use Rattle.script_defs.specs.Items.{cell_at, cell_fields, field, header_at, header_fields, input_at, input_fields, item_of_row, items, listed, whole, witness_at}
 use Rattle.script_run.specs.declared.bytes.CellPart.TheVariants.{Output, Data}
 use Rattle.script_run.specs.declared.bytes.InputPart.TheVariants.{Whole}
-use Rattle.script_run.specs.Looks.{cell_part, input_part, items_of, load_script_hash}
+use Rattle.script_run.specs.Looks.{cell_part, input_part, items_of}
 use Rattle.script_run.specs.Shown.{GroupValue, HasItsHash}
 
 at-number : (scene : Scene) (it : GroupValue) (call : Call) (n : ℕ) → call.number ≡ n

@@ -1,5 +1,5 @@
 -- What a script is answered, by what was found for it.
-use Rattle.std.proofs.Common.{◌≡◌, ℕ, ◌<◌, ◌≤◌, List, length, Option, Some, None, refl, sym, ap, subst, ◌∙◌, arith}
+use Rattle.std.proofs.Common.{◌≡◌, ℕ, ◌<◌, List, length, Option, Some, None, refl, subst, arith}
 use Rattle.std.specs.Prelude.{IfSome, IsSome, IsSomeAnd, slice_get}
 use Rattle.std.specs.Option.{option_map}
 use Rattle.std.proofs.lemmas.Option.{slice_get_within}
@@ -11,10 +11,10 @@ use Rattle.script_defs.specs.Scene.{Scene}
 use Rattle.script_run.specs.declared.bytes.HeaderPart.{HeaderPart}
 use Rattle.script_run.specs.declared.bytes.Look.{Look}
 use Rattle.script_run.specs.declared.bytes.Look.TheVariants.{InBlock, Broken}
-use Rattle.script_run.specs.Looks.{IsFound, ShowsHeaders, header_part, items_of, items_told, kept_header}
+use Rattle.script_run.specs.Looks.{IsFound, ShowsHeaders, items_of, items_told, kept_header}
 use Rattle.script_run.specs.Showing.{scene_shown}
 use Rattle.script_run.specs.Shown.{GroupValue, Shows}
-use Rattle.script_run.proofs.ShowingLemmas.{IsTold, if-told, is-told, shown-over}
+use Rattle.script_run.proofs.ShowingLemmas.{if-told, is-told, shown-over}
 
 -- what was sought is found, over any scene that is shown
 abbrev pub Sought : ℕ → ResolvedTxValue → GroupValue → Call → Look → Type 0

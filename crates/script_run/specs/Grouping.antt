@@ -8,7 +8,7 @@ use Rattle.outside.specs.declared.disk.ReadStop.{ReadStop}
 use Rattle.outside.specs.declared.disk.ReadStop.TheVariants.{DiskFault, NoMemory, Damaged}
 use Rattle.codec_defs.specs.Schema.{Script}
 use Rattle.cell_defs.specs.Cell.{script_hash}
-use Rattle.script_defs.specs.Groups.{Group, first_scripts, places_with, present}
+use Rattle.script_defs.specs.Groups.{first_scripts, places_with, present}
 use Rattle.script_run.specs.Shown.{GroupValue}
 
 -- ---- The groups of scripts that inputs and outputs may have

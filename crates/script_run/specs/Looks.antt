@@ -7,11 +7,11 @@ use Rattle.codec_defs.specs.Schema.{Header, header, CellInput, cell_input, cell_
 use Rattle.time_defs.specs.Epochs.{epoch_number}
 use Rattle.cell_defs.specs.Row.{Row}
 use Rattle.cell_defs.specs.Cell.{script_hash, data_hash, occupied_by}
-use Rattle.cell_model.specs.Copies.{ResolvedValue, ResolvedTxValue}
+use Rattle.cell_model.specs.Copies.{ResolvedTxValue}
 use Rattle.chain_tree.specs.Told.{Stored}
 use Rattle.sys_defs.specs.World as world
 use Rattle.sys_defs.specs.World.{Call, Item, Items}
-use Rattle.script_defs.specs.Scene.{Scene, ShownCell}
+use Rattle.script_defs.specs.Scene.{Scene}
 use Rattle.script_defs.specs.Items.{OutputWithData, items, u64_bytes}
 use Rattle.script_run.specs.Showing.{scene_shown}
 use Rattle.script_run.specs.Shown.{GroupValue}

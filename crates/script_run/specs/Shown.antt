@@ -1,11 +1,11 @@
 -- A transaction with what it resolves to, beside the scene that its scripts are shown.
-use Rattle.std.specs.Prelude.{◌≡◌, ℕ, List, map, length, slice_get, Option, Some, None}
+use Rattle.std.specs.Prelude.{◌≡◌, ℕ, List, map, length, Some}
 use Rattle.std.specs.Option.{option_map}
 use Rattle.std.specs.List.{AllZip, enumerate_from}
 use Rattle.codec_defs.specs.Shape.{decoded}
 use Rattle.codec_defs.specs.Schema.{CellOutput, cell_output, Transaction}
 use Rattle.chain_defs.specs.Hashes.{transaction_hash}
-use Rattle.cell_defs.specs.Cell.{Cell, script_hash, data_hash, data_of}
+use Rattle.cell_defs.specs.Cell.{script_hash, data_hash, data_of}
 use Rattle.cell_defs.specs.Row.{Row, row_of}
 use Rattle.cell_model.specs.Copies.{ResolvedValue, ResolvedTxValue}
 use Rattle.script_defs.specs.Scene.{Scene, ShownCell}

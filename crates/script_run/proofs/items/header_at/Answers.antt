@@ -1,12 +1,10 @@
-use Rattle.std.proofs.Common.{◌≡◌, ℕ, List, Option, Some, ap, subst, sym, ◌∙◌}
+use Rattle.std.proofs.Common.{◌≡◌, ℕ, List, Some, ap, subst, sym, ◌∙◌}
 use Rattle.std.specs.Prelude.{slice_get}
 use Rattle.std.specs.List.{AllZip}
-use Rattle.codec_defs.specs.Schema.{Header}
-use Rattle.cell_model.specs.Copies.{ResolvedValue, ResolvedTxValue}
-use Rattle.script_defs.specs.Scene.{ShownCell}
+use Rattle.cell_model.specs.Copies.{ResolvedTxValue}
 use Rattle.script_defs.specs.Items.{header_at, item_at}
 use Rattle.script_run.specs.declared.sources.Place.{Place}
-use Rattle.script_run.specs.Looks.{header_among, header_part}
+use Rattle.script_run.specs.Looks.{header_part}
 use Rattle.script_run.specs.Places.{place_meaning}
 use Rattle.script_run.proofs.LookLemmas.{found, mapped, made-as}
 use Rattle.script_run.proofs.items.header_at.Goals as goal

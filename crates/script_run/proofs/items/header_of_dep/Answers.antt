@@ -1,4 +1,4 @@
-use Rattle.std.proofs.Common.{refl, arith}
+use Rattle.std.proofs.Common.{arith}
 use Rattle.std.proofs.lemmas.Option.{slice_get_past, slice_get-get_or}
 use Rattle.script_run.proofs.LookLemmas.{none-there, of-dep}
 use Rattle.script_run.proofs.items.header_of_dep.Goals as goal

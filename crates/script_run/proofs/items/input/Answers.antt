@@ -1,6 +1,6 @@
 use Rattle.std.proofs.Common.{◌≡◌, Option, Some, ap, sym, ◌∙◌}
 use Rattle.std.specs.Prelude.{slice_get}
-use Rattle.std.specs.Option.{option_map, option_and_then}
+use Rattle.std.specs.Option.{option_map}
 use Rattle.codec_defs.specs.Schema.{Transaction}
 use Rattle.cell_model.specs.Copies.{ResolvedTxValue}
 use Rattle.sys_defs.specs.World.{Call}

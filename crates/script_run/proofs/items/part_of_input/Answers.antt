@@ -1,9 +1,8 @@
 use Rattle.std.proofs.Common.{◌≡◌, Some, ap, sym, ◌∙◌}
 use Rattle.std.specs.Prelude.{slice_get}
-use Rattle.codec_defs.specs.Schema.{CellInput, RawTransaction, cell_input, out_point}
+use Rattle.codec_defs.specs.Schema.{RawTransaction, out_point}
 use Rattle.codec_defs.specs.Shape.{encoded}
-use Rattle.script_defs.specs.Items.{answer, u64_bytes}
-use Rattle.script_run.specs.declared.bytes.InputPart.{InputPart}
+use Rattle.script_defs.specs.Items.{u64_bytes}
 use Rattle.script_run.specs.Looks.{input_part}
 use Rattle.script_run.proofs.LookLemmas.{found, one-there, input-here}
 use Rattle.script_run.specs.declared.bytes.InputPart.TheVariants.{Whole, OutPoint, Since}

@@ -1,11 +1,10 @@
-use Rattle.std.proofs.Common.{◌≡◌, ℕ, Option, Some, rules, refl, subst, ap, sym, ◌∙◌}
-use Rattle.std.specs.Option.{option_map}
+use Rattle.std.proofs.Common.{◌≡◌, ℕ, rules, subst, ap, sym, ◌∙◌}
 use Rattle.codec_defs.specs.Shape.{encoded}
-use Rattle.codec_defs.specs.Schema.{CellInput, Header, Transaction, header, script, transaction}
+use Rattle.codec_defs.specs.Schema.{script, transaction}
 use Rattle.chain_defs.specs.Hashes.{transaction_hash}
 use Rattle.cell_model.specs.Copies.{ResolvedTxValue}
 use Rattle.sys_defs.specs.World.{Call, Here}
-use Rattle.script_defs.specs.Items.{OutputWithData, Asked, cell_at, cell_fields, field, header_at, header_fields, input_at, input_fields, listed}
+use Rattle.script_defs.specs.Items.{cell_at, cell_fields, field, header_at, header_fields, input_at, input_fields, listed}
 use Rattle.script_run.specs.Looks.{ShowsHeaders}
 use Rattle.script_run.specs.Shown.{GroupValue, Shows, ShownTxValue}
 use Rattle.script_run.proofs.LookLemmas.{found}

@@ -1,4 +1,4 @@
-use Rattle.std.proofs.Common.{◌≡◌, true, false, Ok, Err, sym, ap, ◌∙◌, rules}
+use Rattle.std.proofs.Common.{◌≡◌, Ok, Err, sym, ap, ◌∙◌, rules}
 use Rattle.cell_model.specs.Copies.{ResolvedTxValue}
 use Rattle.script_defs.specs.Codes.{NoCode, ManyCodes, code_of, is_type_id}
 use Rattle.script_run.specs.declared.stop.ScriptStop.TheVariants.{Failed}

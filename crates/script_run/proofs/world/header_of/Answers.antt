@@ -1,4 +1,4 @@
-use Rattle.std.proofs.Common.{◌≡◌, List, ℕ, arith, subst, sym}
+use Rattle.std.proofs.Common.{List, ℕ, arith, subst, sym}
 use Rattle.codec_defs.specs.Schema.{header}
 use Rattle.codec_defs.specs.Shape.{IsA}
 use Rattle.script_run.proofs.HeaderLemmas.{header-at, block-long}

@@ -1,4 +1,4 @@
-use Rattle.std.proofs.Common.{◌≡◌, ap, ◌∙◌}
+use Rattle.std.proofs.Common.{ap, ◌∙◌}
 use Rattle.vm_defs.specs.Program.{execution}
 use Rattle.sys_defs.specs.Answer.{syscall}
 use Rattle.sys_defs.specs.World.{Items}

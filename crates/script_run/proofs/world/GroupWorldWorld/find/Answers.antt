@@ -1,11 +1,11 @@
-use Rattle.std.proofs.Common.{◌≡◌, ℕ, ◌<◌, Some, refl, sym, ap, ◌∙◌, arith, rules}
+use Rattle.std.proofs.Common.{◌≡◌, ◌<◌, sym, ap, ◌∙◌, arith}
 use Rattle.std.specs.Prelude.{Err}
 use Rattle.outside.specs.declared.disk.ReadStop.TheVariants.{Damaged, NoMemory}
 use Rattle.sys_defs.specs.World.{Here, NoIndex, Missing, Unknown}
 use Rattle.script_run.specs.declared.bytes.Look.TheVariants as look
 use Rattle.script_run.specs.Looks.{bytes_of, header_part}
 use Rattle.script_run.specs.Shown.{ShownTxValue}
-use Rattle.script_run.proofs.WorldLemmas.{BlockTold, block-told, by-look, here-or-unknown, kept, not-broken, within-told}
+use Rattle.script_run.proofs.WorldLemmas.{block-told, by-look, here-or-unknown, kept, not-broken, within-told}
 use Rattle.script_run.proofs.world.GroupWorldWorld.find.Goals as goal
 
 pub returns-in-Here-clause-found : goal.returns-in-Here-clause-found
