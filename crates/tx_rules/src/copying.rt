@@ -186,13 +186,14 @@ fn take_read(
     ensures damage { (damage : Damage) → result ≡ Err (Damaged damage) → damage.area ≡ Log }
     ensures unread { result ≡ Err DiskFault → ⊥ }
 {
-    'order: for it in order {
-        let row = rows[it.1];
+    'order: for j in 0..order.len() {
+        let place = order[j].1;
+        let row = rows[place];
         if row.1.block != block {
             return Ok(());
         }
         let copy = copy_read(alloc, at, read, row.0, row.1)?;
-        taken[it.1] = Some(copy);
+        taken[place] = Some(copy);
     }
     Ok(())
 }

@@ -1,4 +1,4 @@
-use Rattle.std.proofs.Common.{◌≡◌, List, Option, Some, subst, ◌∙◌, rules}
+use Rattle.std.proofs.Common.{◌≡◌, List, Option, Some, subst, rules}
 use Rattle.chain_tree.specs.Told.{Stored}
 use Rattle.tx_rules.specs.Copying.{IsBlockAt}
 use Rattle.tx_rules.proofs.TakenLemmas.{hand-block}

@@ -1,4 +1,4 @@
-use Rattle.std.proofs.Common.{◌≡◌, ◌<◌, ℕ, length, Option, refl, ap, sym, subst, ◌∙◌, arith, rules}
+use Rattle.std.proofs.Common.{◌≡◌, ◌<◌, ℕ, length, refl, ap, sym, subst, ◌∙◌, arith, rules}
 use Rattle.std.specs.Prelude.{Some, slice_get, slice_index_or}
 use Rattle.std.proofs.lemmas.List.{length-set}
 use Rattle.std.proofs.lemmas.Option.{slice_get_read}
@@ -11,13 +11,13 @@ use Rattle.tx_rules.proofs.copying.take_read.Goals as goal
 
 pub returns-in_err-copy-clause-undamaged : goal.returns-in_err-copy-clause-undamaged
 returns-in_err-copy-clause-undamaged c stored seen site founds at_place is are_seen rows damage same =
-    let place = (slice_index_or c.args.order.now c.order.it-index (0, 0)).1 in
-    let below : place < length c.args.rows.now = c.requires.places c.order.it-index (0, 0) c.order-test.true in
-    let its_block : c.index-rows-it.result.1.block ≡ c.args.block = ap (λ (it : OutPoint × Row). it.1.block) (sym c.row.view_is) ∙ c.if-row-block.false in
-    let row = c.index-rows-it.result in
+    let place = (slice_index_or c.args.order.now c.order.j (0, 0)).1 in
+    let below : place < length c.args.rows.now = c.requires.places c.order.j (0, 0) c.order-test.true in
+    let its_block : c.index-rows-place.result.1.block ≡ c.args.block = ap (λ (it : OutPoint × Row). it.1.block) (sym c.row.view_is) ∙ c.if-row-block.false in
+    let row = c.index-rows-place.result in
     let same_row : row ≡ (c.row.inside.0.0, row.1) = ap (λ (it : OutPoint × Row). (it.0, row.1)) (sym c.row.view_is) in
     let next : IsNext stored c.args.at.now.parent site founds place row =
-    next-found stored c.args.at.now.parent site founds c.args.rows.now place row are_seen rows below c.index-rows-it.is in
+    next-found stored c.args.at.now.parent site founds c.args.rows.now place row are_seen rows below c.index-rows-place.is in
     let kept = c.requires.within in
     c.copy_read.ensures.undamaged next.found.cell
     (kept-output stored c.args.at.now seen site next.found c.row.inside.0.0 row.1 c.args.read.now c.requires.placed.parent (omega (arith, its_block, kept))
@@ -27,12 +27,12 @@ returns-in_err-copy-clause-undamaged c stored seen site founds at_place is are_s
 
 pub order-preserved : goal.order-preserved
 order-preserved c =
-    let place = (slice_index_or c.args.order.now c.order.it-index (0, 0)).1 in
-    let below : place < length c.args.rows.now = c.requires.places c.order.it-index (0, 0) c.order-test.true in
-    let its_block : c.index-rows-it.result.1.block ≡ c.args.block = ap (λ (it : OutPoint × Row). it.1.block) (sym c.row.view_is) ∙ c.if-row-block.false in
-    let row = c.index-rows-it.result in
+    let place = (slice_index_or c.args.order.now c.order.j (0, 0)).1 in
+    let below : place < length c.args.rows.now = c.requires.places c.order.j (0, 0) c.order-test.true in
+    let its_block : c.index-rows-place.result.1.block ≡ c.args.block = ap (λ (it : OutPoint × Row). it.1.block) (sym c.row.view_is) ∙ c.if-row-block.false in
+    let row = c.index-rows-place.result in
     let same_row : (c.row.inside.0.0, row.1) ≡ row = ap (λ (it : OutPoint × Row). (it.0, row.1)) c.row.view_is in
-    let here : slice_get c.args.rows.now place ≡ Some row = slice_get_read c.args.rows.now (length c.args.rows.now) place row refl below c.index-rows-it.is in
+    let here : slice_get c.args.rows.now place ≡ Some row = slice_get_read c.args.rows.now (length c.args.rows.now) place row refl below c.index-rows-place.is in
     let kept = c.requires.within in
     record {
       long = length-set c.order.taken place (Some c.in_ok-copy.copy) ∙ c.order.invariant.long;

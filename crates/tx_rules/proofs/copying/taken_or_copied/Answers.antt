@@ -1,5 +1,3 @@
-use Rattle.std.proofs.Common.{◌≡◌, ap, ◌∙◌, Ok}
-use Rattle.std.specs.Prelude.{IfOk}
 use Rattle.tx_rules.proofs.TakenLemmas.{row-copy}
 use Rattle.tx_rules.proofs.copying.taken_or_copied.Goals as goal
 
