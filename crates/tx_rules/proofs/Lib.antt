@@ -10,4 +10,5 @@ pub mod RowRuleLemmas
 pub mod RuleLemmas
 pub mod SearchLemmas
 pub mod SiteLemmas
+pub mod TakenLemmas
 pub mod WalkLemmas

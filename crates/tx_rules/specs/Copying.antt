@@ -1,12 +1,12 @@
 -- Rows of cells that a transaction sees, and what copies of them are.
-use Rattle.std.specs.Prelude.{◌≡◌, ℕ, List, Some, IsSome}
+use Rattle.std.specs.Prelude.{◌≡◌, ℕ, List, Option, Some, IsSome, IfSome, slice_get}
 use Rattle.codec_defs.specs.Shape.{decoded}
-use Rattle.codec_defs.specs.Schema.{OutPoint, cell_output}
+use Rattle.codec_defs.specs.Schema.{OutPoint, Block, cell_output}
 use Rattle.chain_tree.specs.Told.{Stored, blocks_of}
 use Rattle.cell_defs.specs.Row.{Row}
-use Rattle.cell_model.specs.Copies.{ResolvedValue}
+use Rattle.cell_model.specs.Copies.{ResolvedValue, IsCopyOf}
 use Rattle.tx_defs.specs.Site.{Site, Found}
-use Rattle.tx_rules.specs.At.{found_row}
+use Rattle.tx_rules.specs.At.{AtValue, IsSiteOf, found_row}
 
 -- A row with its out-point is that of a cell that the transaction sees.
 pub record IsFoundAt (stored : List Stored) (parent : ℕ) (site : Site) (found : Found) (row : OutPoint × Row) : Type 0 where
@@ -20,3 +20,19 @@ row_in copy = (copy.out_point, copy.row)
 -- the bytes of a copy are an output's
 abbrev pub HoldsOutput : ResolvedValue → Type 0
 HoldsOutput copy = IsSome (decoded cell_output copy.output)
+
+-- a block is the one at a place among those that are told
+abbrev pub IsBlockAt : Option (List Stored) → ℕ → Block → Type 0
+IsBlockAt told place block = IfSome told (λ stored. IfSome (slice_get stored place) (λ it. it.block ≡ block))
+
+-- A copy of an output is that of a row: it has the row, and over what is told the bytes of the cell that a transaction sees by it.
+pub record IsCopyOfRow (told : Option (List Stored)) (at : AtValue) (named : OutPoint × Row) (copy : ResolvedValue) : Type 0 where
+  pub row : row_in copy ≡ named
+  pub output : HoldsOutput copy
+  pub copied : (stored : List Stored) (seen : OutPoint → Option Row) (site : Site) (found : Found) → told ≡ Some stored → IsSiteOf stored at seen site
+      → IsFoundAt stored at.parent site found named → IsCopyOf found.cell copy
+
+-- each copy that is taken is that of the row at its place
+abbrev pub AreTaken : Option (List Stored) → AtValue → List (OutPoint × Row) → List (Option ResolvedValue) → Type 0
+AreTaken told at rows taken = (i : ℕ) (row : OutPoint × Row) (copy : ResolvedValue) → slice_get rows i ≡ Some row → slice_get taken i ≡ Some (Some copy)
+    → IsCopyOfRow told at row copy

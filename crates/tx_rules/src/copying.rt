@@ -1,5 +1,5 @@
-// Copies of the cells that rows name.
-ghost use Rattle.std.specs.Prelude.{◌≡◌, ◌<◌, List, length, map, Some, Err, IfOk, Option};
+// Copies of the cells that rows name, each kept block read once.
+ghost use Rattle.std.specs.Prelude.{◌≡◌, ◌<◌, ◌+◌, List, length, map, Some, None, Err, IfOk, IfSome, IsTrue, Option, replicate};
 ghost use Rattle.std.specs.List.{All, AllZip};
 ghost use Rattle.codec_defs.specs.Schema.{OutPoint, Block};
 ghost use Rattle.cell_defs.specs.Cell.{Cell};
@@ -12,12 +12,13 @@ ghost use Rattle.outside.specs.declared.disk.ReadStop.TheVariants.{DiskFault, Da
 ghost use Rattle.chain_tree.specs.Told.{Stored, blocks_of};
 ghost use Rattle.tx_defs.specs.Site.{Site, Found};
 ghost use Rattle.tx_rules.specs.At.{IsPlaced, IsSiteOf, AreSeen, found_row};
-ghost use Rattle.tx_rules.specs.Copying.{IsFoundAt, row_in, HoldsOutput};
+ghost use Rattle.tx_rules.specs.Copying.{IsFoundAt, IsBlockAt, IsCopyOfRow, AreTaken, row_in, HoldsOutput};
 ghost use Rattle.tx_rules.specs.Outcome.{Copies};
 
 use crate::at::{TxAt, damage_of};
 use cell_model::{CellMeta, OutPoint, Resolved, copy_of, fetch, output_at};
 use chain_tree::Blocks;
+use mol_schema::BlockView;
 use outside::{NoMemory, ReadStop};
 use std::alloc::Global;
 
@@ -51,6 +52,32 @@ fn copy_kept<B: Blocks>(
     }
 }
 
+/// A copy of an output of a block that is read.
+fn copy_read(
+    alloc: Global,
+    at: &TxAt<'_>,
+    block: &BlockView<'_>,
+    o: OutPoint,
+    meta: CellMeta,
+) -> Result<Resolved, ReadStop>
+    ensures out_point { IfOk result (λ copy. copy.out_point ≡ o) }
+    ensures row { IfOk result (λ copy. copy.row ≡ meta) }
+    ensures output { IfOk result HoldsOutput }
+    ensures copied { (cell : Cell) → output_in block.now meta.transaction o.index ≡ Some (cell.output, cell.content) → IfOk result (IsCopyOf cell) }
+    ensures undamaged { (cell : Cell) → output_in block.now meta.transaction o.index ≡ Some (cell.output, cell.content)
+        → (damage : Damage) → result ≡ Err (Damaged damage) → ⊥ }
+    ensures damage { (damage : Damage) → result ≡ Err (Damaged damage) → damage.area ≡ Log }
+    ensures unread { result ≡ Err DiskFault → ⊥ }
+{
+    let Some((output, content)) = output_at(block, &o, &meta) else {
+        return Err(ReadStop::Damaged(damage_of(at, &meta)));
+    };
+    match copy_of(alloc, o, meta, &output, content) {
+        Ok(copy) => Ok(copy),
+        Err(NoMemory) => Err(ReadStop::NoMemory),
+    }
+}
+
 /// A copy of an output of the block that is judged.
 fn copy_own(alloc: Global, at: &TxAt<'_>, o: OutPoint, meta: CellMeta) -> Result<Resolved, ReadStop>
     ensures out_point { IfOk result (λ copy. copy.out_point ≡ o) }
@@ -66,13 +93,7 @@ fn copy_own(alloc: Global, at: &TxAt<'_>, o: OutPoint, meta: CellMeta) -> Result
     let Some(block) = &at.block else {
         return Err(ReadStop::Damaged(damage_of(at, &meta)));
     };
-    let Some((output, content)) = output_at(block, &o, &meta) else {
-        return Err(ReadStop::Damaged(damage_of(at, &meta)));
-    };
-    match copy_of(alloc, o, meta, &output, content) {
-        Ok(copy) => Ok(copy),
-        Err(NoMemory) => Err(ReadStop::NoMemory),
-    }
+    copy_read(alloc, at, block, o, meta)
 }
 
 /// A copy of the cell of a row. Damaged where the row's block is none that the transaction sees, or has no such output.
@@ -108,7 +129,177 @@ fn copy_row<B: Blocks>(
     }
 }
 
-/// Copies of the cells of rows, in their order.
+/// The blocks of rows with the rows' places, those of one block side by side.
+fn by_block(alloc: Global, rows: &[(OutPoint, CellMeta)]) -> Result<Vec<(u32, usize)>, NoMemory>
+    ensures places { IfOk result (λ order. All (λ it. it.1 < length rows.now) order.items) }
+{
+    let mut order = Vec::new(alloc);
+    'rows: for i in 0..rows.len() {
+        let row = rows[i];
+        order.push((row.1.block, i))?;
+    }
+    order.sort_unstable();
+    Ok(order)
+}
+
+/// Whether several rows of one block start at a place of their order.
+fn starts_several(order: &[(u32, usize)], j: usize) -> bool
+    requires { j < length order.now }
+    ensures { IsTrue result → j + 1 < length order.now }
+{
+    let block = order[j].0;
+    (j == 0 || order[j - 1].0 != block) && j + 1 < order.len() && order[j + 1].0 == block
+}
+
+/// A place for the copy of each of so many rows.
+fn none_taken(alloc: Global, count: usize) -> Result<Vec<Option<Resolved>>, NoMemory>
+    ensures { IfOk result (λ taken. taken.items ≡ replicate count None) }
+{
+    let mut taken = Vec::new(alloc);
+    'rows: for _ in 0..count {
+        taken.push(None)?;
+    }
+    Ok(taken)
+}
+
+/// Takes copies of the cells of rows of a kept block that is read, each to its row's place: of those that the order
+/// begins with.
+fn take_read(
+    alloc: Global,
+    at: &TxAt<'_>,
+    read: &BlockView<'_>,
+    block: u32,
+    rows: &[(OutPoint, CellMeta)],
+    order: &[(u32, usize)],
+    taken: &mut [Option<Resolved>],
+) -> Result<(), ReadStop>
+    requires placed { IsPlaced at.now }
+    requires within { block < length at.now.entries }
+    requires places { All (λ it. it.1 < length rows.now) order.now }
+    requires long { length taken.old ≡ length rows.now }
+    ensures long { length taken.new ≡ length rows.now }
+    ensures taken { (told : Option (List Stored)) → IsBlockAt told block read.now → AreTaken told at.now rows.now taken.old
+        → IfOk result (λ _. AreTaken told at.now rows.now taken.new) }
+    ensures undamaged { (stored : List Stored) (seen : OutPoint → Option Row) (site : Site) (founds : List Found) → IsBlockAt (Some stored) block read.now
+        → IsSiteOf stored at.now seen site → AreSeen site founds → rows.now ≡ map (found_row (blocks_of stored) at.now.parent) founds
+        → (damage : Damage) → result ≡ Err (Damaged damage) → ⊥ }
+    ensures damage { (damage : Damage) → result ≡ Err (Damaged damage) → damage.area ≡ Log }
+    ensures unread { result ≡ Err DiskFault → ⊥ }
+{
+    'order: for j in 0..order.len() {
+        let place = order[j].1;
+        let row = rows[place];
+        if row.1.block != block {
+            return Ok(());
+        }
+        let copy = copy_read(alloc, at, read, row.0, row.1)?;
+        taken[place] = Some(copy);
+    }
+    Ok(())
+}
+
+/// Takes copies of the cells of rows of a kept block, which is read once, as `take_read` does.
+fn take_kept<B: Blocks>(
+    alloc: Global,
+    at: &TxAt<'_>,
+    blocks: &mut B,
+    meta: CellMeta,
+    rows: &[(OutPoint, CellMeta)],
+    order: &[(u32, usize)],
+    taken: &mut [Option<Resolved>],
+) -> Result<(), ReadStop>
+    requires placed { IsPlaced at.now }
+    requires counts { B.count blocks.old ≡ length at.now.entries }
+    requires within { meta.block < length at.now.entries }
+    requires places { All (λ it. it.1 < length rows.now) order.now }
+    requires long { length taken.old ≡ length rows.now }
+    ensures told { B.told blocks.new ≡ B.told blocks.old }
+    ensures count { B.count blocks.new ≡ B.count blocks.old }
+    ensures loans { B.loans_of blocks.new ≡ B.loans_of blocks.old }
+    ensures long { length taken.new ≡ length rows.now }
+    ensures taken { AreTaken (B.told blocks.old) at.now rows.now taken.old → IfOk result (λ _. AreTaken (B.told blocks.old) at.now rows.now taken.new) }
+    ensures undamaged { (stored : List Stored) (seen : OutPoint → Option Row) (site : Site) (founds : List Found) → B.told blocks.old ≡ Some stored
+        → IsSiteOf stored at.now seen site → AreSeen site founds → rows.now ≡ map (found_row (blocks_of stored) at.now.parent) founds
+        → (damage : Damage) → result ≡ Err (Damaged damage) → ⊥ }
+    ensures damage { (damage : Damage) → result ≡ Err (Damaged damage) → damage.area ≡ Log }
+    ensures cause { CountsFault (B.faults blocks.old) (B.faults blocks.new) (result ≡ Err DiskFault) }
+{
+    match blocks.bring(meta.block) {
+        Ok(()) => {}
+        Err(ReadStop::Damaged(_)) => return Err(ReadStop::Damaged(damage_of(at, &meta))),
+        Err(ReadStop::DiskFault) => return Err(ReadStop::DiskFault),
+        Err(ReadStop::NoMemory) => return Err(ReadStop::NoMemory),
+    }
+    let Some(read) = BlockView::read(blocks.block()) else {
+        return Err(ReadStop::Damaged(damage_of(at, &meta)));
+    };
+    take_read(alloc, at, &read, meta.block, rows, order, taken)
+}
+
+/// Takes copies of the cells of rows of kept blocks that made several of them, each to its row's place.
+fn take_several<B: Blocks>(
+    alloc: Global,
+    at: &TxAt<'_>,
+    blocks: &mut B,
+    rows: &[(OutPoint, CellMeta)],
+) -> Result<Vec<Option<Resolved>>, ReadStop>
+    requires placed { IsPlaced at.now }
+    requires counts { B.count blocks.old ≡ length at.now.entries }
+    ensures told { B.told blocks.new ≡ B.told blocks.old }
+    ensures count { B.count blocks.new ≡ B.count blocks.old }
+    ensures loans { B.loans_of blocks.new ≡ B.loans_of blocks.old }
+    ensures long { IfOk result (λ taken. length taken.items ≡ length rows.now) }
+    ensures taken { IfOk result (λ taken. AreTaken (B.told blocks.old) at.now rows.now taken.items) }
+    ensures undamaged { (stored : List Stored) (seen : OutPoint → Option Row) (site : Site) (founds : List Found) → B.told blocks.old ≡ Some stored
+        → IsSiteOf stored at.now seen site → AreSeen site founds → rows.now ≡ map (found_row (blocks_of stored) at.now.parent) founds
+        → (damage : Damage) → result ≡ Err (Damaged damage) → ⊥ }
+    ensures damage { (damage : Damage) → result ≡ Err (Damaged damage) → damage.area ≡ Log }
+    ensures cause { CountsFault (B.faults blocks.old) (B.faults blocks.new) (result ≡ Err DiskFault) }
+{
+    let Ok(order) = by_block(alloc, rows) else {
+        return Err(ReadStop::NoMemory);
+    };
+    let Ok(mut taken) = none_taken(alloc, rows.len()) else {
+        return Err(ReadStop::NoMemory);
+    };
+    let kept = at.tree.len();
+    'order: for j in 0..order.len() {
+        let row = rows[order[j].1];
+        if row.1.block < kept && starts_several(&order, j) {
+            take_kept(alloc, at, blocks, row.1, rows, &order[j..], &mut taken)?;
+        }
+    }
+    Ok(taken)
+}
+
+/// A copy of the cell of a row: the one that is taken, or else one that is copied now, as `copy_row` does.
+fn taken_or_copied<B: Blocks>(
+    alloc: Global,
+    at: &TxAt<'_>,
+    blocks: &mut B,
+    taken: Option<Resolved>,
+    o: OutPoint,
+    meta: CellMeta,
+) -> Result<Resolved, ReadStop>
+    requires placed { IsPlaced at.now }
+    requires counts { B.count blocks.old ≡ length at.now.entries }
+    requires taken { IfSome taken (IsCopyOfRow (B.told blocks.old) at.now (o, meta)) }
+    ensures told { B.told blocks.new ≡ B.told blocks.old }
+    ensures count { B.count blocks.new ≡ B.count blocks.old }
+    ensures loans { B.loans_of blocks.new ≡ B.loans_of blocks.old }
+    ensures copy { IfOk result (IsCopyOfRow (B.told blocks.old) at.now (o, meta)) }
+    ensures undamaged { (stored : List Stored) (rows : OutPoint → Option Row) (site : Site) (found : Found) → B.told blocks.old ≡ Some stored
+        → IsSiteOf stored at.now rows site → IsFoundAt stored at.now.parent site found (o, meta) → (damage : Damage) → result ≡ Err (Damaged damage) → ⊥ }
+    ensures damage { (damage : Damage) → result ≡ Err (Damaged damage) → damage.area ≡ Log }
+    ensures cause { CountsFault (B.faults blocks.old) (B.faults blocks.new) (result ≡ Err DiskFault) }
+{
+    match taken {
+        Some(copy) => Ok(copy),
+        None => copy_row(alloc, at, blocks, o, meta),
+    }
+}
+
+/// Copies of the cells of rows, in their order. A kept block is read once, also where it made several of them.
 pub(crate) fn fetch_all<B: Blocks>(
     alloc: Global,
     at: &TxAt<'_>,
@@ -131,9 +322,11 @@ pub(crate) fn fetch_all<B: Blocks>(
     ensures damage { (damage : Damage) → result ≡ Err (Damaged damage) → damage.area ≡ Log }
     ensures cause { CountsFault (B.faults blocks.old) (B.faults blocks.new) (result ≡ Err DiskFault) }
 {
+    let mut taken = take_several(alloc, at, blocks, rows)?;
     let mut copies = Vec::new(alloc);
-    'each: for row in rows {
-        let copy = copy_row(alloc, at, blocks, row.0, row.1)?;
+    'each: for i in 0..rows.len() {
+        let row = rows[i];
+        let copy = taken_or_copied(alloc, at, blocks, taken[i].take(), row.0, row.1)?;
         if copies.push(copy).is_err() {
             return Err(ReadStop::NoMemory);
         }

@@ -1,0 +1,10 @@
+use Rattle.std.proofs.Common.{◌≡◌, List, length, Option}
+use Rattle.chain_tree.specs.Told.{Stored}
+use Rattle.tx_rules.specs.Copying.{IsBlockAt, AreTaken}
+use Rattle.tx_rules.proofs.copying.take_read.Given as goal
+
+abbrev pub invariant-order : goal.invariant-order
+invariant-order l = record {
+  long : length l.taken ≡ length l.rows;
+  taken : (told : Option (List Stored)) → IsBlockAt told l.block l.read → AreTaken told l.at l.rows l.fn.taken → AreTaken told l.at l.rows l.taken;
+}

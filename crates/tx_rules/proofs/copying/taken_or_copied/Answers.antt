@@ -1,0 +1,7 @@
+use Rattle.tx_rules.proofs.TakenLemmas.{row-copy}
+use Rattle.tx_rules.proofs.copying.taken_or_copied.Goals as goal
+
+pub returns-in-None-clause-copy : goal.returns-in-None-clause-copy
+returns-in-None-clause-copy g c =
+    row-copy (g.B.Blocks.told c.args.blocks.now) c.args.at.now c.args.o c.args.meta c.copy_row.result c.copy_row.ensures.out_point c.copy_row.ensures.row
+    c.copy_row.ensures.output c.copy_row.ensures.copied
