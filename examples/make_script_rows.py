@@ -191,7 +191,7 @@ def loads_code(items, page, index, source, offset, count, pages=1):
 
 # ------------------------------------------------------- what a script sees
 
-T, U = exits(0), by_data(EXIT)      # their args are replaced by those of tables
+T, U = exits(0), by_data(EXIT)      # type scripts of cells
 
 
 class Shown:
@@ -336,6 +336,18 @@ def one_check(chain, call, budget=AMPLE, wanted='ok', more=()):
     return scene
 
 
+def on_large(chain):
+    """Items of several pages, whole and in parts."""
+    lock = by_data(CHECKS, b'\1')
+    content = b''.join(uint(it * it % 65521, 2) for it in range(4500))
+    scene = Scene(chain, [Cell(lock, None, content)], [Cell(lock, None, content[:5000])], [Cell(ANYONE, None, CHECKS), Cell(ANYONE)], [0])
+    items = scene.items(scene.groups()[0])
+    checks = [loads(items, 2092, 0, 1), loads(items, 2092, 0, 1, 0, 4095, 4097), loads(items, 2092, 0, 2), loads(items, 2051, 0, 0),
+              loads(items, 2092, 0, 1, 0, 8999), loads(items, 2081, 0, 1, 6), loads(items, 2081, 0, 2, 1)]
+    scene.deps[1].content = b''.join(checks)
+    exact(scene)
+
+
 def on_unknown(chain):
     """Fault 5: a number, a source or a field that there is not; it comes before an index and before memory."""
     def call(number, index=0, source=1, field=0, to=BUFFER, length_at=LENGTH):
@@ -446,15 +458,18 @@ def on_code(chain):
     tries('exit 0 -1', ends, 0, 1, 9)
 
 
-def elf_with(at, value, size):
-    return PROGRAM[:at] + uint(value, size) + PROGRAM[at + size:]
+def elf_with(*changes):
+    """The file of one segment, with numbers put in: (place, number, size)."""
+    found = PROGRAM
+    for at, value, size in changes:
+        found = found[:at] + uint(value, size) + found[at + size:]
+    return found
 
 
-BAD_ELF = {1: PROGRAM[:63], 2: b'\0' + PROGRAM[1:], 3: elf_with(18, 62, 2), 4: elf_with(54, 55, 2), 5: elf_with(68, 7, 4),
-           6: elf_with(96, len(PROGRAM), 8), 7: elf_with(104, 1 << 22, 8)}
-twice = elf_with(56, 2, 2)
-BAD_ELF[8] = twice[:120] + twice[64:120] + twice[120:]
-BAD_ELF[6] = PROGRAM[:96] + uint(13, 8) + uint(13, 8) + PROGRAM[112:]
+# by the number of the condition; the last has its program header twice
+BAD_ELF = {1: PROGRAM[:63], 2: elf_with((0, 0, 1)), 3: elf_with((18, 62, 2)), 4: elf_with((54, 55, 2)), 5: elf_with((68, 7, 4)),
+           6: elf_with((96, 13, 8), (104, 13, 8)), 7: elf_with((104, 1 << 22, 8)),
+           8: elf_with((56, 2, 2))[:120] + PROGRAM[64:]}
 
 
 def on_codes(chain):
@@ -683,7 +698,8 @@ def main():
     # Blocks 2 and 3 both stand on block 1, and blocks 4 and 5 behind 3: places are not heights.
     parents = [0, 1, 1, 3, 4]
     chain = Chain(10, parents)
-    for cases in (on_shown, on_witnesses, on_code_loads, on_unknown, on_memory, on_code, on_codes, on_groups, on_cycles, on_type_id):
+    for cases in (on_shown, on_witnesses, on_code_loads, on_large, on_unknown, on_memory, on_code, on_codes, on_groups, on_cycles,
+                  on_type_id):
         cases(chain)
     for length in (1, 2, 3, 4, 65535):
         on_epochs(Chain(length, parents))
