@@ -17,7 +17,10 @@ fn is_block(bytes: &[u8]) -> bool
 }
 
 /// The tree and the blocks of a genesis alone. None where it is none.
-pub(crate) fn of_genesis(alloc: Global, bytes: &[u8]) -> Result<Option<(Tree, ListBlocks)>, NoMemory> {
+pub(crate) fn of_genesis(
+    alloc: Global,
+    bytes: &[u8],
+) -> Result<Option<(Tree, ListBlocks)>, NoMemory> {
     let Some(block) = BlockView::read(bytes) else {
         return Ok(None);
     };
