@@ -172,7 +172,8 @@ def loads_whole(items, call, index, source, field=0):
         return [loads(items, call, index, source, field)]
     size, part = len(item), len(item) // 2
     return [loads(items, call, index, source, field, *how) for how in (
-        (0,), (part,), (size,), (size + 1,), (2 ** 64 - 1,), (0, 0), (part, 0), (0, max(size - 1, 0)), (part, 1))]
+        (0,), (part,), (size,), (size + 1,), (2 ** 64 - 1,), (0, 0), (part, 0), (0, max(size - 1, 0)), (part, 1),
+        (0, 2 ** 64 - 1))]
 
 
 def loads_code(items, page, index, source, offset, count, pages=1):
@@ -348,6 +349,19 @@ def on_large(chain):
     exact(scene)
 
 
+def on_contents(chain):
+    """Fewer data than outputs, or more: an output without data has no bytes."""
+    lock = by_data(CHECKS, b'\1')
+    for count in range(4):
+        cells = [Cell(lock), Cell(ANYONE)]
+        deps = [Cell(ANYONE, None, CHECKS), Cell(ANYONE)]
+        scene = Scene(chain, [Cell(lock)], cells, deps, contents=[b'one', b'two', b'three'][:count])
+        items = scene.items(scene.groups()[0])
+        deps[1].content = b''.join(loads(items, call, index, OUTPUTS, field) for call, field in
+                                   ((2071, 0), (2092, 0), (2081, 1), (2081, 6)) for index in range(4))
+        row(scene, 'ok')
+
+
 def on_unknown(chain):
     """Fault 5: a number, a source or a field that there is not; it comes before an index and before memory."""
     def call(number, index=0, source=1, field=0, to=BUFFER, length_at=LENGTH):
@@ -507,16 +521,24 @@ def on_codes(chain):
     for hash_type in (2, 3, 4, 128, 255):
         tries('no_code 0', Script(data_hash(PROGRAM), hash_type), [holds])
         tries('no_code 0', Script(T.hash(), hash_type), [holds])
-    # of equal data the first dep; no data is no program
+
+
+def on_files(chain):
+    """Data that is no program, and the cycles of loading and of each step."""
+    holds = Cell(ANYONE, T, PROGRAM, block=1)
+
+    def tries(wanted, script, deps, budget=AMPLE):
+        row(Scene(chain, [Cell(script)], [Cell(ANYONE)], deps), wanted, budget)
+
     tries('bad_elf 0 1', Script(bytes(32)), [holds, Cell(ANYONE)])
-    tries('bad_elf 0 1', Script(bytes(32)), [holds, Cell(ANYONE)], budget=0)
+    tries('bad_elf 0 1', Script(bytes(32)), [holds, Cell(ANYONE)], 0)
     tries('no_code 0', Script(bytes(32)), [holds])
-    tries('bad_elf 0 1', by_type, [Cell(ANYONE, T)])
+    tries('no_code 0', Script(ckbhash(b'')), [holds, Cell(ANYONE)])
+    tries('bad_elf 0 1', Script(T.hash(), BY_TYPE), [Cell(ANYONE, T)])
     tries('no_code 0', Script(data_hash(b'x')), [Cell(ANYONE)])
     for condition, code in BAD_ELF.items():
         for budget in (AMPLE, 0):
             tries('bad_elf 0 %d' % condition, by_data(code), [holds, Cell(ANYONE, None, code)], budget)
-    # the cycles of loading and of each step
     for budget, wanted in ((0, 'spent'), (2, 'spent'), (3, 'spent'), (4, 'spent'), (5, 'spent'), (504, 'spent'), (505, 'ok 505'),
                            (506, 'ok 505'), (2 ** 40, 'ok 505')):
         tries(wanted, OK, [holds], budget)
@@ -527,12 +549,16 @@ def on_codes(chain):
 PROGRAMS = [Cell(ANYONE, None, it) for it in (EXIT, COUNT, PROGRAM, CODE, CHECKS)]
 
 
-def on_groups(chain):
-    """The order of groups, and what one after the other leaves."""
-    def of(inputs, outputs=((ANYONE,),), deps=PROGRAMS):
-        return Scene(chain, [Cell(*it) for it in inputs], [Cell(*it) for it in outputs], deps)
+def of_cells(chain, inputs, outputs=((ANYONE,),), deps=PROGRAMS, **others):
+    """A transaction of cells, each with its lock and its type script."""
+    return Scene(chain, [Cell(*it) for it in inputs], [Cell(*it) for it in outputs], deps, **others)
 
-    deps = [*PROGRAMS, Cell(ANYONE, T, EXIT), Cell(ANYONE, None, RETURNS)]
+
+def on_groups(chain):
+    """The order of groups, and their members."""
+    def of(inputs, outputs=((ANYONE,),), deps=PROGRAMS):
+        return of_cells(chain, inputs, outputs, deps)
+
     # locks by their first inputs, then types by their first inputs and outputs: the group that fails is told
     a, b, c = (by_data(EXIT, bytes([0, it])) for it in range(3))
     for place, fails in enumerate((a, b, c)):
@@ -553,6 +579,7 @@ def on_groups(chain):
     row(of([(OK,)], []), 'ok 505')
     # scripts that differ in their args, their hash type or their code hash alone
     by_type = Script(T.hash(), BY_TYPE, b'\0')
+    deps = [*PROGRAMS, Cell(ANYONE, T, EXIT)]
     row(of([(exits(0),), (exits(1),)]), 'exit 1 1')
     row(of([(exits(0),), (by_type,), (Script(T.hash(), BY_TYPE, b'\5'),)], deps=deps), 'exit 2 5')
     row(of([(by_data(EXIT, b''),), (by_data(PROGRAM, b''),), (exits(-1),)]), 'exit 2 -1')
@@ -565,6 +592,20 @@ def on_groups(chain):
     for code in (1, -1, 127, -128):
         row(of([(exits(code),)]), 'exit 0 %d' % code)
     row(of([(exits(256),)]), 'ok')
+    # of two that share a cell of code each has its own args
+    row(of([(exits(0),), (exits(2),)], [(ANYONE, exits(3))]), 'exit 1 2')
+    # no input, and no group at all
+    row(of([], [(ANYONE, OK)]), 'ok 505')
+    row(of([], [(ANYONE, OK), (ANYONE, exits(2))]), 'exit 1 2')
+    for budget in (0, AMPLE):
+        row(of([]), 'ok 0', budget)
+
+
+def on_first_failure(chain):
+    """Which group is told."""
+    def of(inputs, outputs=((ANYONE,),), deps=PROGRAMS):
+        return of_cells(chain, inputs, outputs, deps)
+
     # J28 looks at all groups before one runs
     lacking = Script(b'\x01' * 32)
     many = Script(T.hash(), BY_TYPE)
@@ -588,8 +629,6 @@ def on_groups(chain):
                 row(of([(one,), (other,)], deps=deps), word.replace('%d', '0'), 20000)
         row(of([(OK,), (one,), (OK,)], deps=deps), word.replace('%d', '1'), 20000)
         row(of([(OK, one)], [(ANYONE, OK)], deps=deps), word.replace('%d', '1'), 20000)
-    # of two that share a cell of code each has its own args
-    row(of([(exits(0),), (exits(2),)], [(ANYONE, exits(3))]), 'exit 1 2')
 
 
 def on_cycles(chain):
@@ -624,82 +663,93 @@ def on_cycles(chain):
 
 # ------------------------------------------------------------------ TYPE_ID
 
-def on_type_id(chain):
-    whole = 10 ** 6
-    any_args = bytes(range(32))
+WHOLE = 10 ** 6             # the cycles of TYPE_ID
+ANY_ARGS = bytes(range(32))
 
-    def type_id(args):
-        return Script(TYPE_ID, BY_TYPE, args)
 
+def type_id(args):
+    return Script(TYPE_ID, BY_TYPE, args)
+
+
+def on_type_id_locks(chain):
+    def of(inputs, outputs=((ANYONE,),), deps=PROGRAMS):
+        return of_cells(chain, inputs, outputs, deps)
+
+    one = of([(type_id(ANY_ARGS),)], deps=())
+    assert exact(one) == WHOLE
+    row(of([(type_id(ANY_ARGS),), (type_id(ANY_ARGS),)]), 'exit 0 -2')
+    row(of([(type_id(ANY_ARGS),), (type_id(ANY_ARGS),)]), 'exit 0 -2', WHOLE)
+    row(of([(type_id(ANY_ARGS),), (type_id(ANY_ARGS),)]), 'spent', WHOLE - 1)
+    for size in (0, 1, 31, 33, 64):
+        row(of([(type_id(bytes(size)),)]), 'exit 0 -1')
+        row(of([(type_id(bytes(size)),)]), 'exit 0 -1', WHOLE)
+        row(of([(type_id(bytes(size)),)]), 'spent', WHOLE - 1)
+    row(of([(type_id(bytes(31)),)] * 2), 'exit 0 -1')
+    two = of([(type_id(ANY_ARGS),), (type_id(bytes(32)),)])
+    assert exact(two) == 2 * WHOLE
+    row(two, 'spent', WHOLE)
+    # J28 before it, and cycles that it leaves
+    row(of([(type_id(b''),), (Script(bytes(32)),)]), 'no_code 1')
+    row(of([(type_id(ANY_ARGS),), (OK,)]), 'spent', WHOLE + 504)
+    row(of([(type_id(ANY_ARGS),), (OK,)]), 'ok', WHOLE + 505)
+    row(of([(type_id(ANY_ARGS),), (exits(2),)]), 'exit 1 2')
+    row(of([(exits(2),), (type_id(b''),)]), 'exit 0 2')
+    row(of([(OK,), (type_id(ANY_ARGS),)]), 'spent', WHOLE + 504)
+    # by another hash type or another name there is no code
+    for hash_type in (0, 2, 255):
+        row(of([(Script(TYPE_ID, hash_type, ANY_ARGS),)]), 'no_code 0')
+    for name in (bytes(25) + b'TYPE_IE', b'\1' + bytes(24) + b'TYPE_ID', b'TYPE_ID' + bytes(25)):
+        row(of([(Script(name, BY_TYPE, ANY_ARGS),)]), 'no_code 0')
+
+
+def on_type_id_types(chain):
     def of(inputs, outputs=((ANYONE,),), sinces=(), deps=PROGRAMS):
-        return Scene(chain, [Cell(*it) for it in inputs], [Cell(*it) for it in outputs], deps, sinces=sinces)
+        return of_cells(chain, inputs, outputs, deps, sinces=sinces)
 
     def new(place, sinces=()):
         """The args of an output of the transaction with these sinces."""
         return ckbhash(of([(OK,)], sinces=sinces).cell_inputs[0] + uint(place, 8))
 
-    # as a lock
-    one = of([(type_id(any_args),)], deps=())
-    assert exact(one) == whole
-    row(of([(type_id(any_args),), (type_id(any_args),)]), 'exit 0 -2')
-    row(of([(type_id(any_args),), (type_id(any_args),)]), 'exit 0 -2', whole)
-    row(of([(type_id(any_args),), (type_id(any_args),)]), 'spent', whole - 1)
-    for size in (0, 1, 31, 33, 64):
-        row(of([(type_id(bytes(size)),)]), 'exit 0 -1')
-        row(of([(type_id(bytes(size)),)]), 'exit 0 -1', whole)
-        row(of([(type_id(bytes(size)),)]), 'spent', whole - 1)
-    row(of([(type_id(bytes(31)),)] * 2), 'exit 0 -1')
-    two = of([(type_id(any_args),), (type_id(bytes(32)),)])
-    assert exact(two) == 2 * whole
-    row(two, 'spent', whole)
-    # as a type script: a new one, at its place among all outputs
+    # a new one, at its place among all outputs
     for place in range(3):
         outputs = [(ANYONE,)] * 3
         outputs[place] = (ANYONE, type_id(new(place)))
-        assert exact(of([(OK,)], outputs)) == whole + 505
+        assert exact(of([(OK,)], outputs)) == WHOLE + 505
         outputs[place] = (ANYONE, type_id(new(place + 1)))
         row(of([(OK,)], outputs), 'exit 1 -3')
-        row(of([(OK,)], outputs), 'exit 1 -3', whole + 505)
-        row(of([(OK,)], outputs), 'spent', whole + 504)
-    row(of([(OK,)], [(ANYONE, type_id(any_args))]), 'exit 1 -3')
+        row(of([(OK,)], outputs), 'exit 1 -3', WHOLE + 505)
+        row(of([(OK,)], outputs), 'spent', WHOLE + 504)
+    row(of([(OK,)], [(ANYONE, type_id(ANY_ARGS))]), 'exit 1 -3')
     row(of([(OK,)], [(ANYONE, type_id(new(0)[:31] + b'\0'))]), 'exit 1 -3')
     row(of([(OK,)], [(ANYONE, type_id(new(0) + b'\0'))]), 'exit 1 -1')
     row(of([(OK,)], [(ANYONE, type_id(new(0)[:31]))] * 2), 'exit 1 -1')
     row(of([(OK,)], [(ANYONE, type_id(new(0)))] * 2), 'exit 1 -2')
-    row(of([(OK,)], [(ANYONE, type_id(any_args))] * 2), 'exit 1 -2')
+    row(of([(OK,)], [(ANYONE, type_id(ANY_ARGS))] * 2), 'exit 1 -2')
     # by all 44 bytes of the transaction's first input
     row(of([(OK,)], [(ANYONE, type_id(new(0, [77])))], [77]), 'ok')
     row(of([(OK,)], [(ANYONE, type_id(new(0)))], [77]), 'exit 1 -3')
     row(of([(OK,), (OK,)], [(ANYONE, type_id(ckbhash(of([(OK,)] * 2).cell_inputs[1] + uint(0, 8))))]), 'exit 1 -3')
     # one that is kept, one that is given up; its args are then any
-    row(of([(OK, type_id(any_args))], [(ANYONE, type_id(any_args))]), 'ok %d' % (whole + 505))
-    row(of([(OK,), (OK, type_id(any_args))], [(ANYONE,), (ANYONE, type_id(any_args))]), 'ok')
-    row(of([(OK, type_id(any_args))]), 'ok')
-    row(of([(OK, type_id(any_args))] * 2), 'exit 1 -2')
-    row(of([(OK, type_id(any_args))] * 2, [(ANYONE, type_id(any_args))]), 'exit 1 -2')
-    row(of([(OK, type_id(any_args))], [(ANYONE, type_id(any_args))] * 2), 'exit 1 -2')
-    row(of([(OK, type_id(any_args[:31]))], [(ANYONE, type_id(any_args[:31]))]), 'exit 1 -1')
-    # no code is looked for, and by another hash type or another name there is none
-    row(of([(OK,)], [(ANYONE, type_id(new(0)))], deps=[Cell(ANYONE, None, PROGRAM), Cell(ANYONE, type_id(new(0)), EXIT)]), 'ok')
-    for hash_type in (0, 2, 255):
-        row(of([(Script(TYPE_ID, hash_type, any_args),)]), 'no_code 0')
-    for name in (bytes(25) + b'TYPE_IE', b'\1' + bytes(24) + b'TYPE_ID', b'TYPE_ID' + bytes(25)):
-        row(of([(Script(name, BY_TYPE, any_args),)]), 'no_code 0')
-    # J28 before it, and cycles that it leaves
-    row(of([(type_id(b''),), (Script(bytes(32)),)]), 'no_code 1')
-    row(of([(type_id(any_args),), (OK,)]), 'spent', whole + 504)
-    row(of([(type_id(any_args),), (OK,)]), 'ok', whole + 505)
-    row(of([(type_id(any_args),), (exits(2),)]), 'exit 1 2')
-    row(of([(exits(2),), (type_id(b''),)]), 'exit 0 2')
-    row(of([(OK,), (type_id(any_args),)]), 'spent', whole + 504)
+    row(of([(OK, type_id(ANY_ARGS))], [(ANYONE, type_id(ANY_ARGS))]), 'ok %d' % (WHOLE + 505))
+    row(of([(OK,), (OK, type_id(ANY_ARGS))], [(ANYONE,), (ANYONE, type_id(ANY_ARGS))]), 'ok')
+    row(of([(OK, type_id(ANY_ARGS))]), 'ok')
+    row(of([(OK, type_id(ANY_ARGS))] * 2), 'exit 1 -2')
+    row(of([(OK, type_id(ANY_ARGS))] * 2, [(ANYONE, type_id(ANY_ARGS))]), 'exit 1 -2')
+    row(of([(OK, type_id(ANY_ARGS))], [(ANYONE, type_id(ANY_ARGS))] * 2), 'exit 1 -2')
+    row(of([(OK, type_id(ANY_ARGS[:31]))], [(ANYONE, type_id(ANY_ARGS[:31]))]), 'exit 1 -1')
+    # no code is looked for
+    deps = [Cell(ANYONE, None, PROGRAM), Cell(ANYONE, type_id(new(0)), EXIT)]
+    row(of([(OK,)], [(ANYONE, type_id(new(0)))], deps=deps), 'ok')
+    # without an input there is nothing that the args could be made of
+    row(of([], [(ANYONE, type_id(ANY_ARGS))]), 'exit 0 -3')
 
 
 def main():
     # Blocks 2 and 3 both stand on block 1, and blocks 4 and 5 behind 3: places are not heights.
     parents = [0, 1, 1, 3, 4]
     chain = Chain(10, parents)
-    for cases in (on_shown, on_witnesses, on_code_loads, on_large, on_unknown, on_memory, on_code, on_codes, on_groups, on_cycles,
-                  on_type_id):
+    for cases in (on_shown, on_witnesses, on_code_loads, on_large, on_contents, on_unknown, on_memory, on_code, on_codes, on_files,
+                  on_groups, on_first_failure, on_cycles, on_type_id_locks, on_type_id_types):
         cases(chain)
     for length in (1, 2, 3, 4, 65535):
         on_epochs(Chain(length, parents))

@@ -73,10 +73,17 @@ class Group:
 
 
 class Scene:
-    """A transaction over kept blocks. `chain` has `length`, that of an epoch, and `headers`, one a block."""
+    """A transaction over kept blocks. `chain` has `length`, that of an epoch, and `headers`, one a block.
 
-    def __init__(self, chain, inputs, outputs=(), deps=(), headers=(), witnesses=(), sinces=(), grouped=0):
+    `contents` are the `outputs_data`, where they are not the data of each output.
+    """
+
+    def __init__(self, chain, inputs, outputs=(), deps=(), headers=(), witnesses=(), sinces=(), grouped=0, contents=None):
         self.chain, self.inputs, self.outputs, self.deps = chain, list(inputs), list(outputs), list(deps)
+        if contents is None:
+            contents = [it.content for it in self.outputs]
+        for place, cell in enumerate(self.outputs):
+            cell.content = contents[place] if place < len(contents) else b''
         self.headers, self.witnesses = list(headers), list(witnesses)
         sinces = list(sinces) + [0] * (len(self.inputs) - len(sinces))
         self.cell_inputs = [uint(since, 8) + ckbhash(b'input %d' % place) + uint(place, 4)
@@ -87,7 +94,7 @@ class Scene:
         self.raw = table([
             uint(0, 4), fixvec([ckbhash(b'dep %d' % place) + uint(place, 4) + uint(kind, 1) for place, kind in points]),
             fixvec([ckbhash(chain.headers[place]) for place in self.headers]), fixvec(self.cell_inputs),
-            table([it.item() for it in self.outputs]), table([as_bytes(it.content) for it in self.outputs])])
+            table([it.item() for it in self.outputs]), table([as_bytes(it) for it in contents])])
         self.item = table([self.raw, table([as_bytes(it) for it in self.witnesses])])
 
     # ------------------------------------------------------------- groups
@@ -191,7 +198,8 @@ class Scene:
             return -1
         if len(group.inputs) > 1 or len(group.outputs) > 1:
             return -2
-        if not group.inputs and group.script.args != ckbhash(self.cell_inputs[0] + uint(group.outputs[0], 8)):
+        first = b''.join(self.cell_inputs[:1])
+        if not group.inputs and group.script.args != ckbhash(first + uint(group.outputs[0], 8)):
             return -3
         return 0
 
