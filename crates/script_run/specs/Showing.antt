@@ -34,7 +34,7 @@ has_hashes row output content =
 unfoldable pub cell_shown : List Stored → List ℕ → ResolvedValue → Option ShownCell
 cell_shown stored headers copy = option_and_then
     (λ output. if has_hashes copy.row output copy.content
-        then Some (record { output = output; content = copy.content; header = header_of stored headers copy.row.block }) else None)
+    then Some (record { output = output; content = copy.content; header = header_of stored headers copy.row.block }) else None)
     (decoded cell_output copy.output)
 
 abbrev pub cells_shown : List Stored → List ℕ → List ResolvedValue → Option (List ShownCell)

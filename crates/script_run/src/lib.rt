@@ -7,8 +7,16 @@
 //! `tx_rules`, which rule a failure breaks to the layers above.
 #![tactic(auto)]
 
+mod bytes;
+mod codes;
+mod groups;
+mod items;
 mod running;
+mod shown;
+mod sources;
 mod stop;
+mod type_id;
+mod world;
 
 pub use running::run_groups;
 pub use stop::ScriptStop;

@@ -1,27 +1,180 @@
 // All script groups of a transaction, one after the other.
-ghost use Rattle.std.specs.Prelude.{◌≡◌, ◌^◌, ◌≤◌, List, Some, Err, IfOk, length};
+ghost use Rattle.std.specs.Prelude.{◌≡◌, ◌^◌, ◌<◌, ◌≤◌, List, map, Some, Err, IfOk, length};
+ghost use Rattle.std.specs.List.{All, AllZip};
 ghost use Rattle.outside.specs.Causes.{CountsFault};
 ghost use Rattle.outside.specs.declared.disk.Area.TheVariants.{Log};
 ghost use Rattle.outside.specs.declared.disk.Damage.{Damage};
 ghost use Rattle.outside.specs.declared.disk.ReadStop.TheVariants.{DiskFault, Damaged};
+ghost use Rattle.program_run.specs.Program.{execution_of};
 ghost use Rattle.chain_tree.specs.Told.{Stored};
 ghost use Rattle.script_defs.specs.Scene.{Scene};
-ghost use Rattle.script_defs.specs.Outcome.{outcome_of};
-ghost use Rattle.script_run.specs.Running.{IsOutcome};
+ghost use Rattle.script_defs.specs.Outcome as defs;
+ghost use Rattle.script_run.specs.Running.{ExitsWithin, IsOutcome};
 ghost use Rattle.script_run.specs.Showing.{scene_shown};
+ghost use Rattle.script_run.specs.Shown.{HasItsHash, IsShownAs};
 ghost use Rattle.script_run.specs.declared.stop.ScriptStop.TheVariants.{Read};
 
+use crate::codes::{Codes, Located};
+use crate::groups::{Group, groups_of};
+use crate::shown::ShownTx;
 use crate::stop::ScriptStop;
+use crate::type_id::{TYPE_ID_CYCLES, is_type_id, type_id_exit};
+use crate::world::run_code;
 use cell_model::ResolvedTx;
 use chain_tree::{Blocks, Tree};
 use epochs::Spec;
-use outside::ReadStop;
+use mol_schema::TxView;
+use program_run::Execution;
+use script_defs::Failure;
 use std::alloc::Global;
+use vm_defs::Outcome;
+
+/// Why the code of a group is not found. Of TYPE_ID none is looked for.
+fn lacks_code(codes: &Codes<'_>, group: &Group<'_>, place: u32) -> Option<Failure>
+    ensures { (scene : Scene) → AllZip IsShownAs codes.now scene.deps → result ≡ defs.has_no_code scene place group.now.group }
+{
+    if is_type_id(&group.script) {
+        return None;
+    }
+    match codes.find(&group.script) {
+        Located::NoCode => Some(Failure::NoCode(place)),
+        Located::ManyCodes => Some(Failure::ManyCodes(place)),
+        Located::At(_) => None,
+    }
+}
+
+/// Why the code of the first group without one is not found.
+fn first_without_code(codes: &Codes<'_>, groups: &[Group<'_>]) -> Option<Failure>
+    requires few { length groups.now < 2 ^ 32 }
+    ensures { (scene : Scene) → AllZip IsShownAs codes.now scene.deps → result ≡ defs.first_without_code scene 0 (map (λ it. it.group) groups.now) }
+{
+    'groups: for i in 0..groups.len() {
+        if let Some(failure) = lacks_code(codes, &groups[i], i as u32) {
+            return Some(failure);
+        }
+    }
+    None
+}
+
+/// The cycles of a group that exited, which fails unless its code is 0.
+fn exited(place: u32, code: i8, cycles: u64) -> Result<u64, Failure>
+    ensures exact { result ≡ defs.exited place code cycles }
+    ensures cycles { IfOk result (λ taken. taken ≡ cycles) }
+{
+    if code == 0 {
+        Ok(cycles)
+    } else {
+        Err(Failure::ExitNot0(place, code))
+    }
+}
+
+/// What came of the code of a group.
+fn executed(place: u32, came: Execution, left: u64) -> Result<u64, Failure>
+    requires within { ExitsWithin left came }
+    ensures exact { result ≡ defs.executed place (execution_of came) }
+    ensures within { IfOk result (λ cycles. cycles ≤ left) }
+{
+    match came {
+        Execution::BadElf(condition) => Err(Failure::BadElf(place, condition)),
+        Execution::Ended { outcome, cycles } => match outcome {
+            Outcome::Exit(code) => exited(place, code, cycles),
+            Outcome::Fault(number) => Err(Failure::MachineFault(place, number)),
+            Outcome::Spent => Err(Failure::Spent),
+        },
+    }
+}
+
+/// TYPE_ID, of a group whose script it is.
+#[tactic(auto, unfolding(script_defs::specs::TypeId::type_id_cycles))]
+fn run_type_id(tx: &TxView<'_>, group: &Group<'_>, place: u32, left: u64) -> Result<u64, Failure>
+    ensures exact { (scene : Scene) → scene.transaction ≡ tx.now → result ≡ defs.run_type_id scene left place group.now.group }
+    ensures within { IfOk result (λ cycles. cycles ≤ left) }
+{
+    if left < TYPE_ID_CYCLES {
+        return Err(Failure::Spent);
+    }
+    exited(place, type_id_exit(tx, group), TYPE_ID_CYCLES)
+}
+
+/// Runs a group within the cycles that are left: `Ok` has those that it takes.
+fn run_group<B: Blocks>(
+    alloc: Global,
+    tx: &ShownTx<'_>,
+    codes: &Codes<'_>,
+    tree: &Tree,
+    blocks: &mut B,
+    group: &Group<'_>,
+    place: u32,
+    left: u64,
+) -> Result<u64, ScriptStop>
+    requires left { left ≤ 2 ^ 40 }
+    requires counts { B.count blocks.old ≡ length tree.now.entries }
+    requires codes { codes.now ≡ tx.now.it.deps }
+    ensures told { B.told blocks.new ≡ B.told blocks.old }
+    ensures count { B.count blocks.new ≡ B.count blocks.old }
+    ensures loans { B.loans_of blocks.new ≡ B.loans_of blocks.old }
+    ensures within { IfOk result (λ cycles. cycles ≤ left) }
+    ensures exact { (stored : List Stored) (scene : Scene) → B.told blocks.old ≡ Some stored → scene_shown tx.now.epoch_length stored tx.now.it ≡ Some scene
+        → HasItsHash group.now → IsOutcome (defs.run_group scene left place group.now.group) result }
+    ensures undamaged { (stored : List Stored) (scene : Scene) → B.told blocks.old ≡ Some stored → scene_shown tx.now.epoch_length stored tx.now.it ≡ Some scene
+        → (damage : Damage) → result ≡ Err (Read (Damaged damage)) → ⊥ }
+    ensures damage { (damage : Damage) → result ≡ Err (Read (Damaged damage)) → damage.area ≡ Log }
+    ensures cause { CountsFault (B.faults blocks.old) (B.faults blocks.new) (result ≡ Err (Read DiskFault)) }
+{
+    if is_type_id(&group.script) {
+        let it = tx.it;
+        let cycles = run_type_id(&it.tx, group, place, left)?;
+        return Ok(cycles);
+    }
+    match codes.find(&group.script) {
+        Located::NoCode => Err(ScriptStop::Failed(Failure::NoCode(place))),
+        Located::ManyCodes => Err(ScriptStop::Failed(Failure::ManyCodes(place))),
+        Located::At(code) => {
+            let came = run_code(alloc, tx, group, tree, blocks, code, left)?;
+            let cycles = executed(place, came, left)?;
+            Ok(cycles)
+        }
+    }
+}
+
+/// Runs groups one after the other, each within what those before it left of the budget.
+fn run_each<B: Blocks>(
+    alloc: Global,
+    tx: &ShownTx<'_>,
+    codes: &Codes<'_>,
+    tree: &Tree,
+    blocks: &mut B,
+    groups: &[Group<'_>],
+    budget: u64,
+) -> Result<u64, ScriptStop>
+    requires few { length groups.now < 2 ^ 32 }
+    requires budget { budget ≤ 2 ^ 40 }
+    requires counts { B.count blocks.old ≡ length tree.now.entries }
+    requires codes { codes.now ≡ tx.now.it.deps }
+    ensures told { B.told blocks.new ≡ B.told blocks.old }
+    ensures count { B.count blocks.new ≡ B.count blocks.old }
+    ensures loans { B.loans_of blocks.new ≡ B.loans_of blocks.old }
+    ensures within { IfOk result (λ cycles. cycles ≤ budget) }
+    ensures exact { (stored : List Stored) (scene : Scene) → B.told blocks.old ≡ Some stored → scene_shown tx.now.epoch_length stored tx.now.it ≡ Some scene
+        → All HasItsHash groups.now → IsOutcome (defs.run_from scene budget 0 (map (λ it. it.group) groups.now)) result }
+    ensures undamaged { (stored : List Stored) (scene : Scene) → B.told blocks.old ≡ Some stored → scene_shown tx.now.epoch_length stored tx.now.it ≡ Some scene
+        → (damage : Damage) → result ≡ Err (Read (Damaged damage)) → ⊥ }
+    ensures damage { (damage : Damage) → result ≡ Err (Read (Damaged damage)) → damage.area ≡ Log }
+    ensures cause { CountsFault (B.faults blocks.old) (B.faults blocks.new) (result ≡ Err (Read DiskFault)) }
+{
+    let mut used = 0;
+    'groups: for i in 0..groups.len() {
+        let left = budget - used;
+        let cycles = run_group(alloc, tx, codes, tree, blocks, &groups[i], i as u32, left)?;
+        used += cycles;
+    }
+    Ok(used)
+}
 
 /// Runs the script groups of a transaction within a budget in cycles: `Ok` has the cycles that they take. No group runs
 /// where the code of one is not found. Damaged, in LOG, where a copy is no output, or a header dep's block is none.
 pub fn run_groups<B: Blocks>(
-    _alloc: Global,
+    alloc: Global,
     spec: &Spec,
     tx: &ResolvedTx<'_>,
     tree: &Tree,
@@ -37,11 +190,17 @@ pub fn run_groups<B: Blocks>(
 
     // Over kept blocks that are told, where it shows a scene.
     ensures exact { (stored : List Stored) (scene : Scene) → B.told blocks.old ≡ Some stored → scene_shown spec.now.epoch_length stored tx.now ≡ Some scene
-        → IsOutcome (outcome_of scene budget) result }
+        → IsOutcome (defs.outcome_of scene budget) result }
     ensures undamaged { (stored : List Stored) (scene : Scene) → B.told blocks.old ≡ Some stored → scene_shown spec.now.epoch_length stored tx.now ≡ Some scene
         → (damage : Damage) → result ≡ Err (Read (Damaged damage)) → ⊥ }
     ensures damage { (damage : Damage) → result ≡ Err (Read (Damaged damage)) → damage.area ≡ Log }
     ensures cause { CountsFault (B.faults blocks.old) (B.faults blocks.new) (result ≡ Err (Read DiskFault)) }
 {
-    Err(ScriptStop::Read(ReadStop::NoMemory))
+    let shown = ShownTx::of(alloc, tx, spec.epoch_length)?;
+    let groups = groups_of(alloc, &shown)?;
+    let codes = Codes::of(alloc, &tx.deps)?;
+    if let Some(failure) = first_without_code(&codes, &groups) {
+        return Err(ScriptStop::Failed(failure));
+    }
+    run_each(alloc, &shown, &codes, tree, blocks, &groups, budget)
 }

@@ -1,1 +1,3 @@
 pub mod Embedded
+pub mod Known
+pub mod Linked

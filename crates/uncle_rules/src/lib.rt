@@ -6,7 +6,10 @@
 //! layers above.
 #![tactic(auto)]
 
+mod branch;
+mod header;
 mod index;
+mod proposals;
 mod rule;
 
 pub use index::Uncles;

@@ -1,0 +1,8 @@
+pub mod SceneLemmas
+pub mod ScriptLemmas
+pub mod TransactionLemmas
+pub mod ChangeLemmas
+pub mod SiteLemmas
+pub mod ExtLemmas
+pub mod RestLemmas
+pub mod CellbaseLemmas

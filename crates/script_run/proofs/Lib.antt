@@ -1,0 +1,11 @@
+pub mod WalkLemmas
+pub mod ScriptLemmas
+pub mod GroupLemmas
+pub mod CodeLemmas
+pub mod PlaceLemmas
+pub mod LookLemmas
+pub mod SyscallLemmas
+pub mod ShowingLemmas
+pub mod HeaderLemmas
+pub mod WorldLemmas
+pub mod RunningLemmas

@@ -1,0 +1,78 @@
+-- What a script is answered, by what was found for it.
+use Rattle.std.proofs.Common.{◌≡◌, ℕ, ◌<◌, List, length, Option, Some, None, refl, subst, arith}
+use Rattle.std.specs.Prelude.{IfSome, IsSome, IsSomeAnd, slice_get}
+use Rattle.std.specs.Option.{option_map}
+use Rattle.std.proofs.lemmas.Option.{slice_get_within}
+use Rattle.codec_defs.specs.Schema.{Header}
+use Rattle.cell_model.specs.Copies.{ResolvedTxValue}
+use Rattle.chain_tree.specs.Told.{Stored}
+use Rattle.sys_defs.specs.World.{Call, Item, Items, Here, Unknown}
+use Rattle.script_defs.specs.Scene.{Scene}
+use Rattle.script_run.specs.declared.bytes.HeaderPart.{HeaderPart}
+use Rattle.script_run.specs.declared.bytes.Look.{Look}
+use Rattle.script_run.specs.declared.bytes.Look.TheVariants.{InBlock, Broken}
+use Rattle.script_run.specs.Looks.{IsFound, ShowsHeaders, items_of, items_told, kept_header}
+use Rattle.script_run.specs.Showing.{scene_shown}
+use Rattle.script_run.specs.Shown.{GroupValue, Shows}
+use Rattle.script_run.proofs.ShowingLemmas.{if-told, is-told, shown-over}
+
+-- what was sought is found, over any scene that is shown
+abbrev pub Sought : ℕ → ResolvedTxValue → GroupValue → Call → Look → Type 0
+Sought epoch_length it group call look = (headers : ℕ → Option Header) (scene : Scene) → Shows it scene → ShowsHeaders headers it scene → scene.epoch_length ≡ epoch_length
+    → IsFound headers epoch_length (items_of scene group call) look
+
+found-over : (epoch_length : ℕ) (it : ResolvedTxValue) (group : GroupValue) (call : Call) (look other : Look) → Sought epoch_length it group call look → look ≡ other
+    → (stored : List Stored) (scene : Scene) → scene_shown epoch_length stored it ≡ Some scene → IsFound (kept_header stored) epoch_length (items_of scene group call) other
+found-over epoch_length it group call look other sought is stored scene shown =
+    let over = shown-over epoch_length stored it scene shown in
+    subst (λ (l : Look). IsFound (kept_header stored) epoch_length (items_of scene group call) l) is (sought (kept_header stored) scene over.shows over.headers over.length_is)
+
+pub by-look : (epoch_length : ℕ) (it : ResolvedTxValue) (group : GroupValue) (told : Option (List Stored)) (call : Call) (look other : Look) → Sought epoch_length it group call look → look ≡ other
+    → (P : Items → Type 0)
+    → ((stored : List Stored) (scene : Scene) → told ≡ Some stored → IsFound (kept_header stored) epoch_length (items_of scene group call) other → P (items_of scene group))
+    → IfSome (items_told epoch_length it group told) P
+by-look epoch_length it group told call look other sought is P each =
+    if-told epoch_length it group told P (λ stored scene told_are shown. each stored scene told_are (found-over epoch_length it group call look other sought is stored scene shown))
+
+-- a block that is kept at a place
+pub record Kept (stored : List Stored) (place : ℕ) (P : Header → Type 0) : Type 0 where
+  pub made : Stored
+  pub there : slice_get stored place ≡ Some made
+  pub holds : P made.block.header
+
+some-kept : (o : Option Stored) (P : Header → Type 0) → IsSomeAnd (option_map (λ it. it.block.header) o) P → (made : Stored) × (o ≡ Some made) × P made.block.header
+some-kept None P some = absurd some
+some-kept (Some made) P some = (made, refl, some)
+
+pub kept : (stored : List Stored) (place : ℕ) (P : Header → Type 0) → IsSomeAnd (kept_header stored place) P → Kept stored place P
+kept stored place P some = let t = some-kept (slice_get stored place) P some in record { made = t.0; there = t.1; holds = t.2 }
+
+-- kept blocks that are told have the block whose header was sought
+pub record BlockTold (epoch_length : ℕ) (it : ResolvedTxValue) (told : Option (List Stored)) (place : ℕ) : Type 0 where
+  pub stored : List Stored
+  pub told_are : told ≡ Some stored
+  pub made : Stored
+  pub there : slice_get stored place ≡ Some made
+
+pub block-told : (epoch_length : ℕ) (it : ResolvedTxValue) (group : GroupValue) (told : Option (List Stored)) (call : Call) (look : Look) (place : ℕ) (part : HeaderPart)
+    → Sought epoch_length it group call look → look ≡ InBlock place part → IsSome (items_told epoch_length it group told) → BlockTold epoch_length it told place
+block-told epoch_length it group told call look place part sought is some =
+    let t = is-told epoch_length it group told some in
+    let k = kept t.stored place _ (found-over epoch_length it group call look (InBlock place part) sought is t.stored t.scene t.shown) in
+    record { stored = t.stored; told_are = t.told_are; made = k.made; there = k.there }
+
+pub not-broken : (epoch_length : ℕ) (it : ResolvedTxValue) (group : GroupValue) (told : Option (List Stored)) (call : Call) (look : Look)
+    → Sought epoch_length it group call look → look ≡ Broken → IsSome (items_told epoch_length it group told) → ⊥
+not-broken epoch_length it group told call look sought is some =
+    let t = is-told epoch_length it group told some in
+    found-over epoch_length it group call look Broken sought is t.stored t.scene t.shown
+
+-- its place is before the end of what is told
+pub within-told : (epoch_length : ℕ) (it : ResolvedTxValue) (told : Option (List Stored)) (place count : ℕ) → BlockTold epoch_length it told place
+    → IfSome told (λ stored. length stored ≡ count) → place < count
+within-told epoch_length it told place count t all =
+    let as_many : length t.stored ≡ count = subst (λ (o : Option (List Stored)). IfSome o (λ stored. length stored ≡ count)) t.told_are all in
+    omega (arith, slice_get_within t.stored place t.made t.there)
+
+pub here-or-unknown : (item : Item) (bytes : List ℕ) → item ≡ Here bytes → item ≡ Unknown → ⊥
+here-or-unknown item bytes here unknown = cc

@@ -1,0 +1,7 @@
+use Rattle.script_run.proofs.LookLemmas.{found, one-there}
+use Rattle.std.proofs.Common.{Some}
+use Rattle.script_run.proofs.items.witness_at.Goals as goal
+
+pub returns : goal.returns
+returns c headers length =
+    found headers length _ _ c.slice.result (one-there Some c.args.tx.now.witnesses c.args.i c.witnesses_item.result.now c.witnesses_item.ensures.at) (c.slice.ensures headers length)

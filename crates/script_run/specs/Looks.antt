@@ -1,0 +1,105 @@
+-- What is found for a script, beside what it is answered.
+use Rattle.std.specs.Prelude.{◌≡◌, ℕ, ◌*◌, ◌==◌, List, Option, Some, None, IsSomeAnd, slice_get, if◌then◌else◌}
+use Rattle.std.specs.Option.{option_map, option_and_then}
+use Rattle.std.specs.List.{AllZip, list_any}
+use Rattle.codec_defs.specs.Shape.{encoded}
+use Rattle.codec_defs.specs.Schema.{Header, header, CellInput, cell_input, cell_output, out_point, script}
+use Rattle.time_defs.specs.Epochs.{epoch_number}
+use Rattle.cell_defs.specs.Row.{Row}
+use Rattle.cell_defs.specs.Cell.{script_hash, data_hash, occupied_by}
+use Rattle.cell_model.specs.Copies.{ResolvedTxValue}
+use Rattle.chain_tree.specs.Told.{Stored}
+use Rattle.sys_defs.specs.World as world
+use Rattle.sys_defs.specs.World.{Call, Item, Items}
+use Rattle.script_defs.specs.Scene.{Scene}
+use Rattle.script_defs.specs.Items.{OutputWithData, items, u64_bytes}
+use Rattle.script_run.specs.Showing.{scene_shown}
+use Rattle.script_run.specs.Shown.{GroupValue}
+use Rattle.script_run.specs.declared.bytes.Bytes.{Bytes}
+use Rattle.script_run.specs.declared.bytes.Bytes.TheVariants.{Slice, Hash, Number, Header as header_bytes}
+use Rattle.script_run.specs.declared.bytes.CellPart.{CellPart}
+use Rattle.script_run.specs.declared.bytes.CellPart.TheVariants as cell
+use Rattle.script_run.specs.declared.bytes.HeaderPart.{HeaderPart}
+use Rattle.script_run.specs.declared.bytes.HeaderPart.TheVariants as head
+use Rattle.script_run.specs.declared.bytes.InputPart.{InputPart}
+use Rattle.script_run.specs.declared.bytes.InputPart.TheVariants as input
+use Rattle.script_run.specs.declared.bytes.Look.{Look}
+use Rattle.script_run.specs.declared.bytes.Look.TheVariants.{Here, InBlock, NoIndex, Missing, Unknown, Broken}
+
+abbrev pub bytes_of : Bytes → List ℕ
+bytes_of (Slice bytes) = bytes.now
+bytes_of (Hash bytes) = bytes
+bytes_of (Number bytes) = bytes
+bytes_of (header_bytes bytes) = bytes
+
+-- ---- The bytes of a part, none where it is missing
+
+abbrev pub cell_part : CellPart → OutputWithData → Option (List ℕ)
+cell_part cell.Output = λ it. Some (encoded cell_output it.output)
+cell_part cell.Data = λ it. Some it.content
+cell_part cell.Capacity = λ it. Some (u64_bytes it.output.capacity)
+cell_part cell.DataHash = λ it. Some (data_hash it.content)
+cell_part cell.Lock = λ it. Some (encoded script it.output.lock)
+cell_part cell.LockHash = λ it. Some (script_hash it.output.lock)
+cell_part cell.TypeScript = λ it. option_map (encoded script) it.output.type_script
+cell_part cell.TypeHash = λ it. option_map script_hash it.output.type_script
+cell_part cell.Occupied = λ it. Some (u64_bytes (occupied_by it.output it.content))
+
+abbrev pub header_part : ℕ → HeaderPart → Header → List ℕ
+header_part epoch_length head.Whole = λ h. encoded header h
+header_part epoch_length head.EpochNumber = λ h. u64_bytes (epoch_number epoch_length h.number)
+header_part epoch_length head.EpochStart = λ h. u64_bytes (epoch_number epoch_length h.number * epoch_length)
+header_part epoch_length head.EpochLength = λ h. u64_bytes epoch_length
+
+abbrev pub input_part : InputPart → CellInput → Option (List ℕ)
+input_part input.Whole = λ it. Some (encoded cell_input it)
+input_part input.OutPoint = λ it. Some (encoded out_point it.previous_output)
+input_part input.Since = λ it. Some (u64_bytes it.since)
+
+-- a row has the hashes of an output with its data
+pub record HasHashes (row : Row) (it : OutputWithData) : Type 0 where
+  pub lock : row.lock_hash ≡ script_hash it.output.lock
+  pub type_script : row.type_hash ≡ option_map script_hash it.output.type_script
+  pub content_hash : row.data_hash ≡ data_hash it.content
+
+-- ---- Headers of kept blocks, by the places of the blocks
+
+-- that of a block, where its place is among those of the header deps
+abbrev pub header_among : List ℕ → (ℕ → Option Header) → ℕ → Option Header
+header_among places headers place = if list_any (λ it. it == place) places then headers place else None
+
+-- The scene shows the headers of the header deps, and of the blocks that made the cells where these are among them.
+pub record ShowsHeaders (headers : ℕ → Option Header) (it : ResolvedTxValue) (scene : Scene) : Type 0 where
+  pub inputs : AllZip (λ copy shown. shown.header ≡ header_among it.headers headers copy.row.block) it.inputs scene.inputs
+  pub deps : AllZip (λ copy shown. shown.header ≡ header_among it.headers headers copy.row.block) it.deps scene.deps
+  pub by_place : AllZip (λ place shown. headers place ≡ Some shown) it.headers scene.headers
+
+-- ---- What is found
+
+-- What is found is the item, with what the headers of kept blocks say. A copy that is no output is none.
+abbrev pub IsFound : (ℕ → Option Header) → ℕ → Item → Look → Type 0
+IsFound headers epoch_length item (Here bytes) = item ≡ world.Here (bytes_of bytes)
+IsFound headers epoch_length item (InBlock place part) = IsSomeAnd (headers place) (λ h. item ≡ world.Here (header_part epoch_length part h))
+IsFound headers epoch_length item NoIndex = item ≡ world.NoIndex
+IsFound headers epoch_length item Missing = item ≡ world.Missing
+IsFound headers epoch_length item Unknown = item ≡ world.Unknown
+IsFound headers epoch_length item Broken = ⊥
+
+-- the number of the syscall that loads the hash of the group's script
+abbrev pub load_script_hash : ℕ
+load_script_hash = 2062
+
+-- What the script of a group is answered, with the hash of the script as the group has it.
+abbrev pub items_of : Scene → GroupValue → Items
+items_of scene it call = if call.number == load_script_hash then world.Here it.hash else items scene it.group call
+
+-- ---- Kept blocks
+
+-- the header of the kept block at a place
+abbrev pub kept_header : List Stored → ℕ → Option Header
+kept_header stored place = option_map (λ it. it.block.header) (slice_get stored place)
+
+-- What surrounds the script of a group, where the kept blocks are told and show a scene.
+abbrev pub items_told : ℕ → ResolvedTxValue → GroupValue → Option (List Stored) → Option Items
+items_told epoch_length it group told =
+    option_and_then (λ stored. option_map (λ scene. items_of scene group) (scene_shown epoch_length stored it)) told

@@ -1,0 +1,63 @@
+-- A transaction with what it resolves to, beside the scene that its scripts are shown.
+use Rattle.std.specs.Prelude.{◌≡◌, ℕ, List, map, length, Some}
+use Rattle.std.specs.Option.{option_map}
+use Rattle.std.specs.List.{AllZip, enumerate_from}
+use Rattle.codec_defs.specs.Shape.{decoded}
+use Rattle.codec_defs.specs.Schema.{CellOutput, cell_output, Transaction}
+use Rattle.chain_defs.specs.Hashes.{transaction_hash}
+use Rattle.cell_defs.specs.Cell.{script_hash, data_hash, data_of}
+use Rattle.cell_defs.specs.Row.{Row, row_of}
+use Rattle.cell_model.specs.Copies.{ResolvedValue, ResolvedTxValue}
+use Rattle.script_defs.specs.Scene.{Scene, ShownCell}
+use Rattle.script_defs.specs.Groups.{Group}
+use Rattle.script_defs.specs.Codes as codes
+use Rattle.script_run.specs.declared.codes.Located.{Located}
+use Rattle.script_run.specs.declared.codes.Located.TheVariants.{NoCode, ManyCodes, At}
+
+-- a copy has the bytes of a shown cell, and its row has the hashes
+pub record IsShownAs (copy : ResolvedValue) (cell : ShownCell) : Type 0 where
+  pub output : decoded cell_output copy.output ≡ Some cell.output
+  pub content : copy.content ≡ cell.content
+  pub lock : copy.row.lock_hash ≡ script_hash cell.output.lock
+  pub type_script : copy.row.type_hash ≡ option_map script_hash cell.output.type_script
+  pub content_hash : copy.row.data_hash ≡ data_hash cell.content
+
+-- What is shown of it, but for the headers.
+pub record Shows (it : ResolvedTxValue) (scene : Scene) : Type 0 where
+  pub transaction : scene.transaction ≡ it.tx
+  pub hash : it.hash ≡ transaction_hash it.tx
+  pub whole : length it.inputs ≡ length it.tx.raw.inputs
+  pub inputs : AllZip IsShownAs it.inputs scene.inputs
+  pub deps : AllZip IsShownAs it.deps scene.deps
+  pub headers : length scene.headers ≡ length it.headers
+
+-- ---- Rows of outputs
+
+-- the row of an output, as of a cell that no block has made yet
+abbrev pub output_row : Transaction → ℕ × CellOutput → Row
+output_row t (index, output) = row_of 0 (record { output = output; content = data_of t index; height = 0; transaction = 0 })
+
+-- the row of each output
+unfoldable pub output_rows : Transaction → List Row
+output_rows t = map (output_row t) (enumerate_from 0 t.raw.outputs)
+
+-- the transaction, the rows of its outputs, and how many blocks an epoch has
+pub record ShownTxValue : Type 0 where
+  pub it : ResolvedTxValue
+  pub rows : List Row
+  pub epoch_length : ℕ
+
+-- ---- Groups and codes
+
+-- a group, and the hash of its script
+pub record GroupValue : Type 0 where
+  pub group : Group
+  pub hash : List ℕ
+
+pub record HasItsHash (it : GroupValue) : Type 0 where
+  pub hash : it.hash ≡ script_hash it.group.script
+
+abbrev pub code_meaning : Located → codes.Code
+code_meaning NoCode = codes.NoCode
+code_meaning ManyCodes = codes.ManyCodes
+code_meaning (At code) = codes.Is code.now

@@ -1,0 +1,341 @@
+// What a script is shown, as far as no kept block is read (RFC 0009; docs/MACHINE.md, "What a script is shown").
+ghost use Rattle.std.specs.Prelude.{◌≡◌, ℕ, ◌*◌, ◌^◌, List, Option, Some, None, slice_get};
+ghost use Rattle.std.specs.List.{AllZip};
+ghost use Rattle.sys_defs.specs.World.{Here};
+ghost use Rattle.std.specs.Option.{option_map, option_and_then};
+ghost use Rattle.std.specs.Int.{w64, to_le_bytes};
+ghost use Rattle.codec_defs.specs.Schema.{Header};
+ghost use Rattle.cell_defs.specs.Cell.{data_of, occupied_by};
+ghost use Rattle.script_defs.specs.Scene.{Scene, ShownCell};
+ghost use Rattle.script_defs.specs.Items as defs;
+ghost use Rattle.script_defs.specs.Items.{OutputWithData, answer, field, cell_fields, header_fields, input_fields, item_at, listed, output_of, whole};
+ghost use Rattle.script_run.specs.Looks.{HasHashes, IsFound, ShowsHeaders, cell_part, header_among, header_part, input_part, items_of};
+ghost use Rattle.script_run.specs.Places.{place_meaning};
+ghost use Rattle.script_run.specs.Shown.{IsShownAs, Shows, output_rows};
+
+use crate::bytes::{Bytes, CellPart, HeaderPart, InputPart, Look};
+use crate::groups::Group;
+use crate::shown::ShownTx;
+use crate::sources::{Place, Target, target_of};
+use cell_model::{CellMeta, Resolved, ResolvedTx, data_at};
+use mol_schema::{OutputView, TxView};
+use vm_sys::Call;
+
+const SHANNONS_PER_BYTE: u64 = 100_000_000;
+
+/// What a call asks for. A source or a field that there is not comes first, then an index, then what is missing.
+pub(crate) fn sought<'a>(tx: &ShownTx<'a>, group: &Group<'a>, call: &Call) -> Look<'a>
+    ensures { (headers : ℕ → Option Header) (scene : Scene) → Shows tx.now.it scene → ShowsHeaders headers tx.now.it scene → scene.epoch_length ≡ tx.now.epoch_length
+        → IsFound headers tx.now.epoch_length (items_of scene group.now call.now) result }
+{
+    let it = tx.it;
+    match call.number {
+        2051 => Look::Here(Bytes::Slice(it.tx.bytes())),
+        2052 => Look::Here(Bytes::Slice(group.script.bytes())),
+        2061 => Look::Here(Bytes::Hash(it.hash)),
+        2062 => Look::Here(Bytes::Hash(group.hash)),
+        2071 => cell(tx, group, call, Some(CellPart::Output)),
+        2072 => header(it, group, call, Some(HeaderPart::Whole)),
+        2073 => input(it, group, call, Some(InputPart::Whole)),
+        2074 => witness(it, group, call),
+        2081 => cell(tx, group, call, cell_field(call.field)),
+        2082 => header(it, group, call, header_field(call.field)),
+        2083 => input(it, group, call, input_field(call.field)),
+        2091 => cell(tx, group, call, Some(CellPart::Data)),
+        2092 => cell(tx, group, call, Some(CellPart::Data)),
+        _ => Look::Unknown,
+    }
+}
+
+// ---- Fields
+
+#[tactic(auto, unfolding(script_defs::specs::Items::cell_fields))]
+fn cell_field(number: u64) -> Option<CellPart>
+    ensures { option_map cell_part result ≡ field cell_fields number }
+{
+    match number {
+        0 => Some(CellPart::Capacity),
+        1 => Some(CellPart::DataHash),
+        2 => Some(CellPart::Lock),
+        3 => Some(CellPart::LockHash),
+        4 => Some(CellPart::TypeScript),
+        5 => Some(CellPart::TypeHash),
+        6 => Some(CellPart::Occupied),
+        _ => None,
+    }
+}
+
+#[tactic(auto, unfolding(script_defs::specs::Items::header_fields))]
+fn header_field(number: u64) -> Option<HeaderPart>
+    ensures { (length : ℕ) → option_map (λ part h. Some (header_part length part h)) result ≡ field (header_fields length) number }
+{
+    match number {
+        0 => Some(HeaderPart::EpochNumber),
+        1 => Some(HeaderPart::EpochStart),
+        2 => Some(HeaderPart::EpochLength),
+        _ => None,
+    }
+}
+
+#[tactic(auto, unfolding(script_defs::specs::Items::input_fields))]
+fn input_field(number: u64) -> Option<InputPart>
+    ensures { option_map input_part result ≡ field input_fields number }
+{
+    match number {
+        0 => Some(InputPart::OutPoint),
+        1 => Some(InputPart::Since),
+        _ => None,
+    }
+}
+
+// ---- Cells
+
+/// A part of the cell that a call names, where there is such a part.
+fn cell<'a>(tx: &ShownTx<'a>, group: &Group<'_>, call: &Call, part: Option<CellPart>) -> Look<'a>
+    ensures { (headers : ℕ → Option Header) (length : ℕ) (scene : Scene) → Shows tx.now.it scene
+        → IsFound headers length (listed scene group.now.group call.now (defs.cell_at scene) (option_map cell_part part)) result }
+{
+    let Some(part) = part else {
+        return Look::Unknown;
+    };
+    let it = tx.it;
+    match target_of(it, group, call.source, call.index) {
+        Target::NoSource => Look::Unknown,
+        Target::NoIndex => Look::NoIndex,
+        Target::At(place) => cell_at(it, &tx.outputs, place, part),
+    }
+}
+
+fn cell_at<'a>(tx: &'a ResolvedTx<'a>, rows: &[CellMeta], place: Place, part: CellPart) -> Look<'a>
+    requires { rows.now ≡ output_rows tx.now.tx }
+    ensures { (headers : ℕ → Option Header) (length : ℕ) (scene : Scene) → Shows tx.now scene
+        → IsFound headers length (item_at (defs.cell_at scene) (cell_part part) (Some (place_meaning place))) result }
+{
+    match place {
+        Place::Input(i) => part_of_copy(&tx.inputs, i, part),
+        Place::Output(i) => part_of_output(&tx.tx, rows, i, part),
+        Place::CellDep(i) => part_of_copy(&tx.deps, i, part),
+        Place::HeaderDep(_) => Look::NoIndex,
+    }
+}
+
+/// A part of the cell at a place of a list of copies.
+fn part_of_copy<'a>(copies: &'a [Resolved], i: usize, part: CellPart) -> Look<'a>
+    ensures { (headers : ℕ → Option Header) (length : ℕ) (cells : List ShownCell) → AllZip IsShownAs copies.now cells
+        → IsFound headers length (answer (option_map (λ cell. cell_part part (output_of cell)) (slice_get cells i))) result }
+{
+    if i >= copies.len() {
+        return Look::NoIndex;
+    }
+    let copy = &copies[i];
+    match OutputView::read(&copy.output) {
+        None => Look::Broken,
+        Some(output) => part_of(&output, &copy.content, &copy.meta, part),
+    }
+}
+
+/// A part of an output of a transaction.
+fn part_of_output<'a>(tx: &TxView<'a>, rows: &[CellMeta], i: usize, part: CellPart) -> Look<'a>
+    requires { rows.now ≡ output_rows tx.now }
+    ensures { (headers : ℕ → Option Header) (length : ℕ)
+        → IsFound headers length (answer (option_map (λ output. cell_part part (record { output = output; content = data_of tx.now i })) (slice_get tx.now.raw.outputs i))) result }
+{
+    if i >= rows.len() {
+        return Look::NoIndex;
+    }
+    let output = tx.raw().outputs_item(i);
+    part_of(&output, data_at(tx, i), &rows[i], part)
+}
+
+/// A part of an output with its data, whose hashes stand in its row.
+fn part_of<'a>(
+    output: &OutputView<'a>,
+    content: &'a [u8],
+    row: &CellMeta,
+    part: CellPart,
+) -> Look<'a>
+    ensures { (headers : ℕ → Option Header) (length : ℕ) (cell : OutputWithData) → output.now ≡ cell.output → content.now ≡ cell.content → HasHashes row.now cell
+        → IsFound headers length (answer (Some (cell_part part cell))) result }
+{
+    match part {
+        CellPart::Output => slice(output.bytes()),
+        CellPart::Data => slice(content),
+        CellPart::Capacity => number(output.capacity()),
+        CellPart::DataHash => Look::Here(Bytes::Hash(row.data_hash)),
+        CellPart::Lock => slice(output.lock().bytes()),
+        CellPart::LockHash => Look::Here(Bytes::Hash(row.lock_hash)),
+        CellPart::TypeScript => match output.type_script() {
+            None => Look::Missing,
+            Some(script) => slice(script.bytes()),
+        },
+        CellPart::TypeHash => match row.type_hash {
+            None => Look::Missing,
+            Some(hash) => Look::Here(Bytes::Hash(hash)),
+        },
+        CellPart::Occupied => occupied(output, content),
+    }
+}
+
+fn slice(bytes: &[u8]) -> Look<'_>
+    ensures { (headers : ℕ → Option Header) (length : ℕ) → IsFound headers length (Here bytes.now) result }
+{
+    Look::Here(Bytes::Slice(bytes))
+}
+
+fn number<'a>(n: u64) -> Look<'a>
+    ensures { (headers : ℕ → Option Header) (length : ℕ) → IsFound headers length (Here (to_le_bytes w64 n)) result }
+{
+    Look::Here(Bytes::Number(n.to_le_bytes()))
+}
+
+/// What an output occupies with its data, in shannons, of which the lowest 64 bits are shown.
+fn occupied<'a>(output: &OutputView<'_>, content: &[u8]) -> Look<'a>
+    ensures { (headers : ℕ → Option Header) (length : ℕ) → IsFound headers length (Here (to_le_bytes w64 (occupied_by output.now content.now))) result }
+{
+    number(occupied_bytes(output, content).wrapping_mul(SHANNONS_PER_BYTE))
+}
+
+fn occupied_bytes(output: &OutputView<'_>, content: &[u8]) -> u64
+    ensures { result * 10 ^ 8 ≡ occupied_by output.now content.now }
+{
+    let lock = 33 + output.lock().args().len() as u64;
+    let by_type = match output.type_script() {
+        None => 0,
+        Some(script) => 33 + script.args().len() as u64,
+    };
+    8 + lock + by_type + content.len() as u64
+}
+
+// ---- Headers
+
+/// A part of the header that a call names, where there is such a part.
+fn header<'a>(
+    tx: &ResolvedTx<'_>,
+    group: &Group<'_>,
+    call: &Call,
+    part: Option<HeaderPart>,
+) -> Look<'a>
+    ensures { (headers : ℕ → Option Header) (length : ℕ) (scene : Scene) → Shows tx.now scene → ShowsHeaders headers tx.now scene
+        → IsFound headers length (listed scene group.now.group call.now (defs.header_at scene) (option_map (λ part h. Some (header_part length part h)) part)) result }
+{
+    let Some(part) = part else {
+        return Look::Unknown;
+    };
+    match target_of(tx, group, call.source, call.index) {
+        Target::NoSource => Look::Unknown,
+        Target::NoIndex => Look::NoIndex,
+        Target::At(place) => header_at(tx, place, part),
+    }
+}
+
+fn header_at<'a>(tx: &ResolvedTx<'_>, place: Place, part: HeaderPart) -> Look<'a>
+    ensures { (headers : ℕ → Option Header) (length : ℕ) (scene : Scene) → ShowsHeaders headers tx.now scene
+        → IsFound headers length (item_at (defs.header_at scene) (λ h. Some (header_part length part h)) (Some (place_meaning place))) result }
+{
+    match place {
+        Place::Input(i) => header_of_copy(&tx.headers, &tx.inputs, i, part),
+        Place::Output(_) => Look::NoIndex,
+        Place::CellDep(i) => header_of_copy(&tx.headers, &tx.deps, i, part),
+        Place::HeaderDep(i) => header_of_dep(&tx.headers, i, part),
+    }
+}
+
+/// A part of the header of the block that made the cell at a place of a list of copies, where the block is among those
+/// of the header deps.
+fn header_of_copy<'a>(places: &[u32], copies: &[Resolved], i: usize, part: HeaderPart) -> Look<'a>
+    ensures { (headers : ℕ → Option Header) (length : ℕ) (cells : List ShownCell) (shown : List Header) → AllZip (λ place it. headers place ≡ Some it) places.now shown
+        → AllZip (λ copy cell. cell.header ≡ header_among places.now headers copy.row.block) copies.now cells
+        → IsFound headers length (answer (option_map (λ cell. option_and_then (λ h. Some (header_part length part h)) cell.header) (slice_get cells i))) result }
+{
+    if i >= copies.len() {
+        return Look::NoIndex;
+    }
+    let place = made_in(&copies[i]);
+    if places.contains(&place) {
+        Look::InBlock(place, part)
+    } else {
+        Look::Missing
+    }
+}
+
+/// The place of the block that made a cell.
+fn made_in(copy: &Resolved) -> u32
+    ensures { result ≡ copy.now.row.block }
+{
+    copy.meta.block
+}
+
+/// A part of the header of a header dep.
+fn header_of_dep<'a>(places: &[u32], i: usize, part: HeaderPart) -> Look<'a>
+    ensures { (headers : ℕ → Option Header) (length : ℕ) (shown : List Header) → AllZip (λ place it. headers place ≡ Some it) places.now shown
+        → IsFound headers length (answer (option_map (λ h. Some (header_part length part h)) (slice_get shown i))) result }
+{
+    if i >= places.len() {
+        return Look::NoIndex;
+    }
+    Look::InBlock(places[i], part)
+}
+
+// ---- Inputs and witnesses
+
+/// A part of the input that a call names, where there is such a part.
+fn input<'a>(
+    tx: &ResolvedTx<'a>,
+    group: &Group<'_>,
+    call: &Call,
+    part: Option<InputPart>,
+) -> Look<'a>
+    ensures { (headers : ℕ → Option Header) (length : ℕ) (scene : Scene) → Shows tx.now scene
+        → IsFound headers length (listed scene group.now.group call.now (defs.input_at scene) (option_map input_part part)) result }
+{
+    let Some(part) = part else {
+        return Look::Unknown;
+    };
+    match target_of(tx, group, call.source, call.index) {
+        Target::NoSource => Look::Unknown,
+        Target::NoIndex => Look::NoIndex,
+        Target::At(Place::Input(i)) => part_of_input(&tx.tx, i, part),
+        Target::At(Place::Output(_)) => Look::NoIndex,
+        Target::At(Place::CellDep(_)) => Look::NoIndex,
+        Target::At(Place::HeaderDep(_)) => Look::NoIndex,
+    }
+}
+
+fn part_of_input<'a>(tx: &TxView<'a>, i: usize, part: InputPart) -> Look<'a>
+    ensures { (headers : ℕ → Option Header) (length : ℕ) → IsFound headers length (answer (option_map (input_part part) (slice_get tx.now.raw.inputs i))) result }
+{
+    let raw = tx.raw();
+    if i >= raw.inputs_count() {
+        return Look::NoIndex;
+    }
+    let input = raw.inputs_item(i);
+    match part {
+        InputPart::Whole => slice(input.bytes()),
+        InputPart::OutPoint => slice(input.previous_output().bytes()),
+        InputPart::Since => number(input.since()),
+    }
+}
+
+/// The witness at the place of the input or output that a call names.
+fn witness<'a>(tx: &ResolvedTx<'a>, group: &Group<'_>, call: &Call) -> Look<'a>
+    ensures { (headers : ℕ → Option Header) (length : ℕ) (scene : Scene) → Shows tx.now scene
+        → IsFound headers length (listed scene group.now.group call.now (defs.witness_at scene) (whole (λ witness. witness))) result }
+{
+    match target_of(tx, group, call.source, call.index) {
+        Target::NoSource => Look::Unknown,
+        Target::NoIndex => Look::NoIndex,
+        Target::At(Place::Input(i)) => witness_at(&tx.tx, i),
+        Target::At(Place::Output(i)) => witness_at(&tx.tx, i),
+        Target::At(Place::CellDep(_)) => Look::NoIndex,
+        Target::At(Place::HeaderDep(_)) => Look::NoIndex,
+    }
+}
+
+fn witness_at<'a>(tx: &TxView<'a>, i: usize) -> Look<'a>
+    ensures { (headers : ℕ → Option Header) (length : ℕ) → IsFound headers length (answer (option_map Some (slice_get tx.now.witnesses i))) result }
+{
+    if i >= tx.witnesses_count() {
+        return Look::NoIndex;
+    }
+    slice(tx.witnesses_item(i))
+}

@@ -1,0 +1,266 @@
+// What surrounds the script of a group, and the run of its code there.
+ghost use Rattle.std.specs.Prelude.{◌≡◌, ◌^◌, ◌*◌, ◌<◌, ◌≤◌, List, Some, Err, IfOk, IsSomeAnd, length, slice_get};
+ghost use Rattle.outside.specs.Causes.{CountsFault};
+ghost use Rattle.outside.specs.declared.disk.Area.TheVariants.{Log};
+ghost use Rattle.outside.specs.declared.disk.Damage.{Damage};
+ghost use Rattle.outside.specs.declared.disk.ReadStop.TheVariants.{DiskFault, Damaged};
+ghost use Rattle.vm_defs.specs.Program.{execution};
+ghost use Rattle.sys_defs.specs.Answer.{syscall};
+ghost use Rattle.program_run.specs.Program.{execution_of};
+ghost use Rattle.chain_tree.specs.Told.{Encodes, Stored};
+ghost use Rattle.codec_defs.specs.Schema.{Block, Header, header};
+ghost use Rattle.codec_defs.specs.Shape.{IsA};
+ghost use Rattle.time_defs.specs.Epochs.{epoch_number};
+ghost use Rattle.script_run.specs.Looks.{bytes_of, header_part};
+ghost use Rattle.script_defs.specs.Scene.{Scene};
+ghost use Rattle.script_defs.specs.Items.{items};
+ghost use Rattle.script_run.specs.Running.{ExitsWithin};
+ghost use Rattle.script_run.specs.Showing.{scene_shown};
+ghost use Rattle.script_run.specs.Shown.{HasItsHash};
+
+use crate::bytes::{Bytes, HeaderPart, Look};
+use crate::groups::Group;
+use crate::items::sought;
+use crate::shown::ShownTx;
+use chain_tree::{Blocks, Tree};
+use mol_schema::HeaderView;
+use outside::{Area, Damage, ReadStop};
+use program_run::{Execution, Stopped, execute_in};
+use std::alloc::Global;
+use vm_sys::{Call, Found, World};
+
+/// What surrounds the script of a group.
+#[derive(Drop)]
+pub(crate) struct GroupWorld<'a, 't, 'g, 'r, 'b, B: Blocks> {
+    blocks: &'b mut B,
+    tx: &'t ShownTx<'a>,
+    group: &'g Group<'a>,
+    tree: &'r Tree,
+    hand: Option<Bytes<'a>>,
+    ghost counts: { B.count blocks.now ≡ length tree.now.entries },
+}
+
+impl<'a, 't, 'g, 'r, 'b, B: Blocks> GroupWorld<'a, 't, 'g, 'r, 'b, B> {
+    fn new(
+        tx: &'t ShownTx<'a>,
+        group: &'g Group<'a>,
+        tree: &'r Tree,
+        blocks: &'b mut B,
+    ) -> GroupWorld<'a, 't, 'g, 'r, 'b, B>
+        requires counts { B.count blocks.old ≡ length tree.now.entries }
+        ensures same_reference { result.blocks.ghost_name ≡ blocks.entry.ghost_name }
+        ensures blocks { result.blocks.now ≡ blocks.old }
+        ensures tx { result.tx.now ≡ tx.now }
+        ensures group { result.group.now ≡ group.now }
+    {
+        GroupWorld {
+            tx,
+            group,
+            tree,
+            blocks,
+            hand: None,
+        }
+    }
+}
+
+impl<'a, 't, 'g, 'r, 'b, B: Blocks> World for GroupWorld<'a, 't, 'g, 'r, 'b, B> {
+    ghost use Rattle.std.specs.Prelude.{ℕ, List, Option};
+    ghost use Rattle.std.specs.Option.{option_map};
+    ghost use Rattle.chain_tree.specs.Told.{Stored};
+    ghost use Rattle.script_run.specs.Looks.{bytes_of, items_told};
+
+    ghost told = { λ world. items_told world.tx.now.epoch_length world.tx.now.it world.group.now (B.told world.blocks.now) };
+
+    ghost here = { λ world. option_map bytes_of world.hand };
+
+    ghost faults = { λ world. B.faults world.blocks.now };
+
+    ghost last_fault = { λ world. B.last_fault world.blocks.now };
+
+    ghost Loans = { ℕ × B.Loans × Option (List Stored) × ℕ };
+
+    ghost loans_of = { λ world. (world.blocks.ghost_name, B.loans_of world.blocks.now, B.told world.blocks.now, B.count world.blocks.now) };
+
+    fn find(&mut self, call: Call) -> Result<Found, ReadStop> {
+        let tx = self.tx;
+        match sought(tx, self.group, &call) {
+            Look::Here(bytes) => {
+                self.hand = Some(bytes);
+                Ok(Found::Here)
+            }
+            Look::InBlock(place, part) => {
+                if place >= self.tree.len() {
+                    return Err(damaged());
+                }
+                match read_header(self.blocks, place, part, tx.epoch_length) {
+                    Ok(bytes) => {
+                        self.hand = Some(bytes);
+                        Ok(Found::Here)
+                    }
+                    Err(stop) => Err(stop),
+                }
+            }
+            Look::NoIndex => Ok(Found::NoIndex),
+            Look::Missing => Ok(Found::Missing),
+            Look::Unknown => Ok(Found::Unknown),
+            Look::Broken => Err(damaged()),
+        }
+    }
+
+    fn bytes(&self) -> &[u8] {
+        match &self.hand {
+            Some(bytes) => bytes.as_slice(),
+            None => &[],
+        }
+    }
+}
+
+/// Where a block has its header: behind the size of the table and the offsets of its four fields.
+const HEADER_AT: usize = 20;
+
+const HEADER_END: usize = 228;
+
+/// Reads a part of the header of the block at a place.
+fn read_header<'a, B: Blocks>(
+    blocks: &mut B,
+    place: u32,
+    part: HeaderPart,
+    epoch_length: u32,
+) -> Result<Bytes<'a>, ReadStop>
+    requires within { place < B.count blocks.old }
+    ensures told { B.told blocks.new ≡ B.told blocks.old }
+    ensures count { B.count blocks.new ≡ B.count blocks.old }
+    ensures loans { B.loans_of blocks.new ≡ B.loans_of blocks.old }
+    ensures part { (stored : List Stored) (made : Stored) → B.told blocks.old ≡ Some stored → slice_get stored place ≡ Some made
+        → IfOk result (λ bytes. bytes_of bytes ≡ header_part epoch_length part made.block.header) }
+    ensures undamaged { (stored : List Stored) (made : Stored) → B.told blocks.old ≡ Some stored → slice_get stored place ≡ Some made
+        → (damage : Damage) → result ≡ Err (Damaged damage) → ⊥ }
+    ensures damage { (damage : Damage) → result ≡ Err (Damaged damage) → damage.area ≡ Log }
+    ensures cause { CountsFault (B.faults blocks.old) (B.faults blocks.new) (result ≡ Err DiskFault) }
+{
+    blocks.bring(place)?;
+    match header_of(blocks.block()) {
+        None => Err(damaged()),
+        Some(header) => Ok(part_of(header, part, epoch_length)),
+    }
+}
+
+/// The header of an encoded block: the rest is not looked at.
+fn header_of(block: &[u8]) -> Option<[u8; 208]>
+    ensures { (b : Block) → Encodes block.now b → IsSomeAnd result (λ it. IsA header it b.header) }
+{
+    if block.len() < HEADER_END {
+        return None;
+    }
+    let mut bytes = [0u8; 208];
+    bytes.copy_from_slice(&block[HEADER_AT..HEADER_END]);
+    Some(bytes)
+}
+
+/// A part of a header that is encoded.
+fn part_of<'a>(bytes: [u8; 208], part: HeaderPart, epoch_length: u32) -> Bytes<'a>
+    ensures { (h : Header) → IsA header bytes h → bytes_of result ≡ header_part epoch_length part h }
+{
+    match part {
+        HeaderPart::Whole => Bytes::Header(bytes),
+        HeaderPart::EpochNumber => {
+            Bytes::Number(epoch_of(number_in(&bytes), epoch_length).to_le_bytes())
+        }
+        HeaderPart::EpochStart => {
+            let epoch = epoch_of(number_in(&bytes), epoch_length);
+            Bytes::Number((epoch * u64::from(epoch_length)).to_le_bytes())
+        }
+        HeaderPart::EpochLength => Bytes::Number(u64::from(epoch_length).to_le_bytes()),
+    }
+}
+
+/// The number of a header that is encoded.
+fn number_in(bytes: &[u8; 208]) -> u64
+    ensures { (h : Header) → IsA header bytes.now h → result ≡ h.number }
+{
+    HeaderView::from_encoding(bytes).number()
+}
+
+fn epoch_of(number: u64, epoch_length: u32) -> u64
+    ensures value { result ≡ epoch_number epoch_length number }
+    ensures start { result * epoch_length ≤ number }
+{
+    if epoch_length == 0 {
+        0
+    } else {
+        number / u64::from(epoch_length)
+    }
+}
+
+/// Runs the code of a group within a budget in cycles, over what the group is shown. Damaged where a copy is no output,
+/// or a header dep's block is none.
+pub(crate) fn run_code<'a, B: Blocks>(
+    alloc: Global,
+    tx: &ShownTx<'a>,
+    group: &Group<'a>,
+    tree: &Tree,
+    blocks: &mut B,
+    code: &[u8],
+    budget: u64,
+) -> Result<Execution, ReadStop>
+    requires budget { budget ≤ 2 ^ 40 }
+    requires counts { B.count blocks.old ≡ length tree.now.entries }
+    ensures told { B.told blocks.new ≡ B.told blocks.old }
+    ensures count { B.count blocks.new ≡ B.count blocks.old }
+    ensures loans { B.loans_of blocks.new ≡ B.loans_of blocks.old }
+    ensures came { (stored : List Stored) (scene : Scene) → B.told blocks.old ≡ Some stored → scene_shown tx.now.epoch_length stored tx.now.it ≡ Some scene
+        → HasItsHash group.now → IfOk result (λ came. execution_of came ≡ execution (syscall (items scene group.now.group)) budget code.now) }
+    ensures within { IfOk result (ExitsWithin budget) }
+    ensures undamaged { (stored : List Stored) (scene : Scene) → B.told blocks.old ≡ Some stored → scene_shown tx.now.epoch_length stored tx.now.it ≡ Some scene
+        → (damage : Damage) → result ≡ Err (Damaged damage) → ⊥ }
+    ensures damage { (damage : Damage) → result ≡ Err (Damaged damage) → damage.area ≡ Log }
+    ensures cause { CountsFault (B.faults blocks.old) (B.faults blocks.new) (result ≡ Err DiskFault) }
+{
+    let mut world = GroupWorld::new(tx, group, tree, blocks);
+    let came = run_in(alloc, &mut world, code, budget);
+    give_back(world);
+    came
+}
+
+/// Ends the loan of the blocks: they are as the world leaves them.
+fn give_back<'a, 't, 'g, 'r, 'b, B: Blocks>(world: GroupWorld<'a, 't, 'g, 'r, 'b, B>)
+    ensures { world.exit.0.now ≡ world.entry.blocks.now }
+{}
+
+/// Runs code within a budget in cycles, over what surrounds it.
+fn run_in<'a, 't, 'g, 'r, 'b, B: Blocks>(
+    alloc: Global,
+    world: &mut GroupWorld<'a, 't, 'g, 'r, 'b, B>,
+    code: &[u8],
+    budget: u64,
+) -> Result<Execution, ReadStop>
+    requires budget { budget ≤ 2 ^ 40 }
+    ensures same_reference { world.new.blocks.ghost_name ≡ world.old.blocks.ghost_name }
+    ensures told { B.told world.new.blocks.now ≡ B.told world.old.blocks.now }
+    ensures count { B.count world.new.blocks.now ≡ B.count world.old.blocks.now }
+    ensures loans { B.loans_of world.new.blocks.now ≡ B.loans_of world.old.blocks.now }
+    ensures came { (stored : List Stored) (scene : Scene) → B.told world.old.blocks.now ≡ Some stored
+        → scene_shown world.old.tx.now.epoch_length stored world.old.tx.now.it ≡ Some scene → HasItsHash world.old.group.now
+        → IfOk result (λ came. execution_of came ≡ execution (syscall (items scene world.old.group.now.group)) budget code.now) }
+    ensures within { IfOk result (ExitsWithin budget) }
+    ensures undamaged { (stored : List Stored) (scene : Scene) → B.told world.old.blocks.now ≡ Some stored
+        → scene_shown world.old.tx.now.epoch_length stored world.old.tx.now.it ≡ Some scene → (damage : Damage) → result ≡ Err (Damaged damage) → ⊥ }
+    ensures damage { (damage : Damage) → result ≡ Err (Damaged damage) → damage.area ≡ Log }
+    ensures cause { CountsFault (B.faults world.old.blocks.now) (B.faults world.new.blocks.now) (result ≡ Err DiskFault) }
+{
+    match execute_in(alloc, code, budget, world) {
+        Ok(came) => Ok(came),
+        Err(Stopped::Loading) => Err(ReadStop::NoMemory),
+        Err(Stopped::Running(stop)) => Err(stop),
+    }
+}
+
+/// A block of LOG, or a copy out of it, that is not what was kept.
+fn damaged() -> ReadStop
+    ensures { result ≡ Damaged (record { area = Log; at = 0 }) }
+{
+    ReadStop::Damaged(Damage {
+        area: Area::Log,
+        at: 0,
+    })
+}
