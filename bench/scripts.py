@@ -1,0 +1,94 @@
+"""The time of the script groups of a transaction, beside a plain interpreter in C.
+
+    python3 scripts.py PROGRAM [--calls 20000] [--rounds 3]
+
+PROGRAM is the program `group_rounds`, run as `PROGRAM CALLS < SCENE`. Each call
+runs the one group of a transaction; `rvref` runs the same file as often. Two
+files take part: one of three instructions, which exits with 0, for the start of
+a group; and one that first goes through a loop of 500 cycles. Both programs must
+print the sum of the cycles. The processor time of a run counts, the least of the
+rounds in which they take turns, and of the baseline the faster of the builds by
+`cc -O2` and `clang -O2`. The status is 1 above 25 microseconds a start, and above
+50 milliseconds for 1,000 calls with the loop.
+"""
+
+import argparse
+import os
+import shutil
+import subprocess
+import sys
+import tempfile
+
+import chaingen
+from chaingen import NULL, SPEC, as_bytes, ckbhash, fixvec, le, table
+from exec import BUDGET, FLAGS, HERE, run
+from start import addi
+
+LOOPS = 125         # of 4 cycles: an ADDI and a branch
+
+
+def elf(words):
+    return chaingen.elf(b''.join(word.to_bytes(4, 'little') for word in words))
+
+
+ENDS = [addi(17, 93), addi(10, 0), 0x73]
+COUNTS = [addi(5, LOOPS), -1 << 20 & 0xfff00000 | 5 << 15 | addi(5, 0), 0xfe029ee3]     # x5 -= 1; bne x5, x0, -4
+
+# name: the file, its cycles (a cycle for four bytes that are loaded, and 500 of ECALL), the most microseconds
+FILES = {'start': (elf(ENDS), 3 + 2 + 500, 25.0),
+         'loop': (elf(COUNTS + ENDS), 6 + 1 + 4 * LOOPS + 2 + 500, 50.0)}
+
+
+def scene(code):
+    """What `group_rounds` reads: a transaction with one input, whose lock is the code, and a dep that holds it."""
+    lock = table([ckbhash(code), b'\0', as_bytes(b'')])
+    output = table([le(10 ** 12, 8), lock, b''])
+    null_input = le(0, 8) + NULL
+    raw = table([le(0, 4), fixvec([ckbhash(b'dep') + le(0, 4) + b'\0']), fixvec([]), fixvec([null_input]), table([output]),
+                 table([as_bytes(b'')])])
+    genesis = table([bytes(208), table([]), table([]), fixvec([])])
+    parts = [SPEC, genesis, table([raw, table([])]), output, output, code]
+    return ''.join(it.hex() + '\n' for it in parts)
+
+
+def main():
+    a = argparse.ArgumentParser(description=__doc__.split('\n')[0])
+    a.add_argument('program')
+    a.add_argument('--calls', type=int, default=20000)
+    a.add_argument('--rounds', type=int, default=3)
+    a = a.parse_args()
+    own = os.path.abspath(a.program)
+    if not os.access(own, os.X_OK):
+        sys.exit('there is no program %s' % a.program)
+    calls, bad = str(a.calls), 0
+    with tempfile.TemporaryDirectory() as folder:
+        programs = {'group_rounds': [own, calls]}
+        for compiler in ('cc', 'clang'):
+            if shutil.which(compiler):
+                to = os.path.join(folder, 'rvref-' + compiler)
+                subprocess.run([compiler] + FLAGS + [os.path.join(HERE, 'rvref.c'), '-o', to], check=True)
+                programs['rvref ' + compiler] = [to, '-', BUDGET, calls]
+        for kind, (code, cycles, most) in FILES.items():
+            paths = {}
+            for suffix, content in (('scene', scene(code).encode()), ('elf', code)):
+                paths[suffix] = os.path.join(folder, suffix)
+                with open(paths[suffix], 'wb') as f:
+                    f.write(content)
+            best = {}
+            for _ in range(a.rounds):
+                for name, words in programs.items():
+                    used, _, text, status = run(words, paths['scene' if words[0] == own else 'elf'])
+                    if (text, status) != ('%d\n' % (cycles * a.calls), 0):
+                        sys.exit('%s prints %r, status %d' % (name, text, status))
+                    best[name] = min(used, best.get(name, used))
+            each = {name: seconds / a.calls * 1e6 for name, seconds in best.items()}
+            for name, microseconds in each.items():
+                print('%-6s %-14s %7.2f microseconds a call' % (kind, name, microseconds))
+            least = min(it for name, it in each.items() if name != 'group_rounds')
+            print('%-6s ratio          %7.2f' % (kind, each['group_rounds'] / least))
+            bad |= each['group_rounds'] > most
+    return bad
+
+
+if __name__ == '__main__':
+    sys.exit(main())

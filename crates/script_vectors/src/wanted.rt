@@ -1,0 +1,33 @@
+//! The answer that a row wants.
+
+use script_defs::Failure;
+
+/// Cycles, or a failure. None where the text is neither.
+pub(crate) fn wanted(text: &str) -> Option<Result<u64, Failure>> {
+    if text == "spent" {
+        return Some(Err(Failure::Spent));
+    }
+    let (word, numbers) = text.split_once(' ')?;
+    if word == "ok" {
+        return Some(Ok(numbers.parse().ok()?));
+    }
+    Some(Err(failure(word, numbers)?))
+}
+
+/// A failure with the place of its group.
+fn failure(word: &str, numbers: &str) -> Option<Failure> {
+    if word == "no_code" {
+        return Some(Failure::NoCode(numbers.parse().ok()?));
+    }
+    if word == "many_codes" {
+        return Some(Failure::ManyCodes(numbers.parse().ok()?));
+    }
+    let (group, number) = numbers.split_once(' ')?;
+    let group = group.parse().ok()?;
+    match word {
+        "bad_elf" => Some(Failure::BadElf(group, number.parse().ok()?)),
+        "fault" => Some(Failure::MachineFault(group, number.parse().ok()?)),
+        "exit" => Some(Failure::ExitNot0(group, number.parse().ok()?)),
+        _ => None,
+    }
+}
