@@ -13,19 +13,43 @@ ghost use Rattle.tx_rules.specs.At.{AtValue, IsSiteOf};
 ghost use Rattle.tx_rules.specs.Outcome.{IsFormed, IsResolved};
 ghost use Rattle.script_defs.specs.Scene.{scene_of};
 ghost use Rattle.script_defs.specs.Rules.{script_rules, cycles_of};
+ghost use Rattle.script_defs.specs.Rules as rules;
 ghost use Rattle.block_judge.specs.declared.stop.Judged.TheVariants.{Broken, Read};
 ghost use Rattle.block_judge.specs.Standing.{IsScriptRule};
+ghost use Rattle.block_judge.specs.Stops.{of_running};
 
 use crate::stop::Judged;
 use cell_model::ResolvedTx;
 use chain_tree::Blocks;
-use outside::ReadStop;
+use script_defs::Failure;
+use script_run::{ScriptStop, run_groups};
 use std::alloc::Global;
 use tx_rules::TxAt;
 
+/// The rule that a failure breaks.
+fn rule_of(failure: Failure) -> u8
+    ensures { result ≡ rules.rule_of failure }
+{
+    match failure {
+        Failure::NoCode(_) | Failure::ManyCodes(_) => 28,
+        Failure::BadElf(_, _) | Failure::MachineFault(_, _) | Failure::ExitNot0(_, _) => 29,
+        Failure::Spent => 30,
+    }
+}
+
+/// What a stop of the scripts is answered as.
+fn stopped(stop: ScriptStop) -> Judged
+    ensures { result ≡ of_running stop }
+{
+    match stop {
+        ScriptStop::Failed(failure) => Judged::Broken(rule_of(failure)),
+        ScriptStop::Read(stop) => Judged::Read(stop),
+    }
+}
+
 /// Runs the scripts of a transaction that was resolved, within so many cycles, and answers those that they take.
 pub(crate) fn run_scripts<B: Blocks>(
-    _alloc: Global,
+    alloc: Global,
     at: &TxAt<'_>,
     resolved: &ResolvedTx<'_>,
     blocks: &mut B,
@@ -50,5 +74,8 @@ pub(crate) fn run_scripts<B: Blocks>(
     ensures damage { (damage : Damage) → result ≡ Err (Read (Damaged damage)) → damage.area ≡ Log }
     ensures cause { CountsFault (B.faults blocks.old) (B.faults blocks.new) (result ≡ Err (Read DiskFault)) }
 {
-    Err(Judged::Read(ReadStop::NoMemory))
+    match run_groups(alloc, at.spec, resolved, at.tree, blocks, left) {
+        Ok(cycles) => Ok(cycles),
+        Err(stop) => Err(stopped(stop)),
+    }
 }

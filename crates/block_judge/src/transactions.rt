@@ -18,14 +18,15 @@ ghost use Rattle.script_defs.specs.Scene.{scene_of};
 ghost use Rattle.script_defs.specs.Rules.{script_rules, cycles_of};
 ghost use Rattle.block_judge.specs.declared.stop.Judged.TheVariants.{Broken, Read};
 ghost use Rattle.block_judge.specs.Standing.{IsTriedOnTransaction};
+ghost use Rattle.block_judge.specs.Stops.{of_resolving};
 
+use crate::scripts::run_scripts;
 use crate::stop::Judged;
-use cell_model::{CellMeta, Cells, OutPoint, Resolved};
+use cell_model::{Cells, Resolved};
 use chain_tree::Blocks;
 use mol_schema::TxView;
-use outside::ReadStop;
 use std::alloc::Global;
-use tx_rules::TxAt;
+use tx_rules::{TxAt, TxStop, resolve};
 
 /// A transaction that keeps its rules: its hash, its fee in shannons, the cycles of its scripts, and the cells of its
 /// inputs.
@@ -37,10 +38,20 @@ pub(crate) struct Taken {
     pub(crate) inputs: Vec<Resolved>,
 }
 
+/// What a stop of resolving is answered as: J19 is tried behind J18 and before the rules on the cells.
+fn stopped(stop: TxStop, proposed: bool) -> Judged
+    ensures { result ≡ of_resolving proposed stop }
+{
+    match stop {
+        TxStop::Broken(rule) => Judged::Broken(if rule == 18 || proposed { rule } else { 19 }),
+        TxStop::Read(stop) => Judged::Read(stop),
+    }
+}
+
 /// Judges a transaction within so many cycles, by J18 and J20 to J30, and by J19 where it is said whether its id is
 /// proposed.
 pub(crate) fn judge_transaction<C: Cells, B: Blocks>(
-    _alloc: Global,
+    alloc: Global,
     tx: &TxView<'_>,
     at: &TxAt<'_>,
     proposed: bool,
@@ -73,5 +84,18 @@ pub(crate) fn judge_transaction<C: Cells, B: Blocks>(
     ensures damage { (damage : Damage) → result ≡ Err (Read (Damaged damage)) → damage.area ≡ Log }
     ensures cause { CountsFault (B.faults blocks.old) (B.faults blocks.new) (result ≡ Err (Read DiskFault)) }
 {
-    Err(Judged::Read(ReadStop::NoMemory))
+    let ok = match resolve(alloc, tx, at, cells, blocks) {
+        Ok(ok) => ok,
+        Err(stop) => return Err(stopped(stop, proposed)),
+    };
+    if !proposed {
+        return Err(Judged::Broken(19));
+    }
+    let cycles = run_scripts(alloc, at, &ok.resolved, blocks, left)?;
+    Ok(Taken {
+        hash: ok.resolved.hash,
+        fee: ok.fee,
+        cycles,
+        inputs: ok.resolved.inputs,
+    })
 }

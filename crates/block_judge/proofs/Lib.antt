@@ -1,0 +1,3 @@
+pub mod SceneLemmas
+pub mod ScriptLemmas
+pub mod TransactionLemmas

@@ -1,0 +1,55 @@
+-- What comes of the scripts of a transaction, by the rules on them.
+use Rattle.std.proofs.Common.{◌≡◌, ℕ, ◌≤◌, Bool, true, false, List, [], ◌∷◌, Option, Some, None, Result, Ok, Err, refl, sym, ap, ◌∙◌, subst}
+use Rattle.fold_defs.specs.First.{first_failing}
+use Rattle.outside.specs.declared.disk.Damage.{Damage}
+use Rattle.outside.specs.declared.disk.ReadStop.TheVariants.{Damaged}
+use Rattle.script_defs.specs.declared.failure.Failure.{Failure}
+use Rattle.script_defs.specs.declared.failure.Failure.TheVariants.{NoCode, ManyCodes, BadElf, MachineFault, ExitNot0, Spent}
+use Rattle.script_defs.specs.Scene.{Scene}
+use Rattle.script_defs.specs.Outcome.{outcome_of}
+use Rattle.script_defs.specs.Rules.{rule_of, keeps, script_rules, cycles_in, cycles_of}
+use Rattle.script_run.specs.declared.stop.ScriptStop.{ScriptStop}
+use Rattle.script_run.specs.declared.stop.ScriptStop.TheVariants as running
+use Rattle.script_run.specs.Running.{IsOutcome}
+use Rattle.block_judge.specs.declared.stop.Judged.{Judged}
+use Rattle.block_judge.specs.declared.stop.Judged.TheVariants.{Broken, Read}
+use Rattle.block_judge.specs.Standing.{IsScriptRule}
+use Rattle.block_judge.specs.Stops.{of_running}
+
+-- the rules of an outcome
+abbrev rules_of : Result ℕ Failure → List (ℕ × Bool)
+rules_of outcome = (28, keeps 28 outcome) ∷ (29, keeps 29 outcome) ∷ (30, keeps 30 outcome) ∷ []
+
+none-fails : (cycles : ℕ) → first_failing (rules_of (Ok cycles)) ≡ None
+unfolding first_failing
+none-fails cycles = refl
+
+its-rule-fails : (f : Failure) → first_failing (rules_of (Err f)) ≡ Some (rule_of f)
+unfolding first_failing
+its-rule-fails (NoCode group) = refl
+its-rule-fails (ManyCodes group) = refl
+its-rule-fails (BadElf group condition) = refl
+its-rule-fails (MachineFault group number) = refl
+its-rule-fails (ExitNot0 group code) = refl
+its-rule-fails Spent = refl
+
+-- scripts that took cycles keep the rules
+pub scripts-keep : (scene : Scene) (left cycles : ℕ) → outcome_of scene left ≡ Ok cycles
+    → (first_failing (script_rules scene left) ≡ None) × (cycles ≡ cycles_of scene left)
+scripts-keep scene left cycles is =
+    (ap (λ (outcome : Result ℕ Failure). first_failing (rules_of outcome)) is ∙ none-fails cycles, sym (ap cycles_in is))
+
+-- those that fail break the rule of their failure first
+pub scripts-break : (scene : Scene) (left rule : ℕ) (stop : ScriptStop) → IsOutcome (outcome_of scene left) (Err stop)
+    → of_running stop ≡ Broken rule → first_failing (script_rules scene left) ≡ Some rule
+scripts-break scene left rule (running.Failed f) is same =
+    ap (λ (outcome : Result ℕ Failure). first_failing (rules_of outcome)) is ∙ its-rule-fails f ∙ ap Some (by_rule same)
+  where
+    by_rule : Broken (rule_of f) ≡ Broken rule → rule_of f ≡ rule
+    by_rule e = cc
+scripts-break scene left rule (running.Read stop) is same = absurd (cc)
+
+-- damage is handed on, and comes of damage alone
+pub damage-of-running : (stop : ScriptStop) (damage : Damage) → of_running stop ≡ Read (Damaged damage) → stop ≡ running.Read (Damaged damage)
+damage-of-running (running.Failed f) damage same = absurd (cc)
+damage-of-running (running.Read stop) damage same = cc
