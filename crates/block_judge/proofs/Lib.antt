@@ -1,3 +1,6 @@
 pub mod SceneLemmas
 pub mod ScriptLemmas
 pub mod TransactionLemmas
+pub mod ChangeLemmas
+pub mod SiteLemmas
+pub mod ExtLemmas

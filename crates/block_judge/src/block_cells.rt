@@ -1,61 +1,65 @@
 // The cells that a transaction of a block sees.
-ghost use Rattle.std.specs.Prelude.{◌≡◌, ◌<◌, ℕ, OnOk, OnErr};
+ghost use Rattle.std.specs.Prelude.{◌≡◌, ◌<◌, ℕ, OnOk};
 ghost use Rattle.codec_defs.specs.Schema as schema;
 ghost use Rattle.cell_defs.specs.Events.{events_of};
 ghost use Rattle.cell_defs.specs.Row.{row_after};
 ghost use Rattle.chain_defs.specs.Hashes.{transaction_hash};
+ghost use Rattle.block_judge.specs.Changes.{with_changes};
 
+use crate::changes::Changes;
 use cell_model::{CellMeta, Cells, OutPoint};
 use mol_schema::TxView;
 use outside::NoMemory;
 use std::alloc::Global;
-use std::collections::HashMap;
-use std::marker::Model;
 
-/// The cells of a branch, and beside them what the transactions of a block made and spent so far. Clauses see the rows.
+/// The cells of a branch, and beside them what the transactions of a block made and spent so far. The rows are those of
+/// the branch with what was changed.
 #[derive(Drop)]
 pub(crate) struct BlockCells<'a, C: Cells> {
     base: &'a C,
-    /// What was made, or spent, since.
-    changed: HashMap<([u8; 32], u32), Option<CellMeta>>,
-}
-
-impl<'a, C: Cells> Model for BlockCells<'a, C> {
-    ghost use Rattle.std.specs.Prelude.{Option};
-    ghost use Rattle.codec_defs.specs.Schema as schema;
-    ghost use Rattle.cell_defs.specs.Row.{Row};
-
-    ghost Value = { schema.OutPoint → Option Row };
-
-    ghost view = { λ cells. C.rows cells.base.now };
+    changed: Changes,
 }
 
 impl<'a, C: Cells> BlockCells<'a, C> {
     /// Those of the branch.
     pub(crate) fn of(alloc: Global, base: &'a C) -> BlockCells<'a, C>
-        ensures { (o : schema.OutPoint) → result o ≡ C.rows base.now o }
+        ensures rows { (o : schema.OutPoint) → with_changes result.changed (C.rows result.base.now) o ≡ C.rows base.now o }
     {
         BlockCells {
             base,
-            changed: HashMap::new(alloc),
+            changed: Changes::new(alloc),
         }
     }
 
     /// Takes what the transaction at a place of the block does: it spends, but for a cellbase, and then makes. Its rows have
-    /// the block's place `e`.
-    pub(crate) fn take(&mut self, _tx: &TxView<'_>, _hash: &[u8; 32], _place: u32, _e: u32) -> Result<(), NoMemory>
-        requires hash { _hash.now ≡ transaction_hash _tx.now }
+    /// the block's place `e`. Out of memory, a part of it may have been taken.
+    pub(crate) fn take(
+        &mut self,
+        tx: &TxView<'_>,
+        hash: &[u8; 32],
+        place: u32,
+        e: u32,
+    ) -> Result<(), NoMemory>
+        requires hash { hash.now ≡ transaction_hash tx.now }
         ensures rows { OnOk result ((height : ℕ) (o : schema.OutPoint) → 0 < height
-            → self.new o ≡ row_after _e (events_of _tx.now height _place) self.old o) }
+            → with_changes self.new.changed (C.rows self.new.base.now) o
+            ≡ row_after e (events_of tx.now height place) (with_changes self.old.changed (C.rows self.old.base.now)) o) }
     {
-        Err(NoMemory)
+        let is_cellbase = place == 0;
+        if !is_cellbase {
+            self.changed.spend(tx)?;
+        }
+        self.changed.make(tx, hash, place, e)
     }
 }
 
 impl<'a, C: Cells> Cells for BlockCells<'a, C> {
-    ghost rows = { λ cells. cells };
+    ghost rows = { λ cells. with_changes cells.changed (C.rows cells.base.now) };
 
     fn get(&self, o: &OutPoint) -> Option<CellMeta> {
-        self.base.get(o)
+        match self.changed.get(o) {
+            Some(row) => row,
+            None => self.base.get(o),
+        }
     }
 }

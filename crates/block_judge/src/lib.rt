@@ -10,7 +10,9 @@
 
 mod block_cells;
 mod cellbase;
+mod changes;
 mod scripts;
+mod spent;
 mod stop;
 mod transactions;
 

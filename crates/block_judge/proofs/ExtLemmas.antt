@@ -1,0 +1,72 @@
+-- The rows that an ext has of a transaction.
+use Rattle.std.proofs.Common.{◌≡◌, ℕ, zero, suc, ◌+◌, ◌<◌, nat_lt, inl, inr, ◌⊎◌, Bool, true, false, cond, List, [], ◌∷◌, ◌++◌, length, map, Option, Some, None, refl, sym, ap, ◌∙◌, subst, arith}
+use Rattle.std.specs.Prelude.{slice_index}
+use Rattle.std.specs.List.{All, filter, filter_map, cons_option}
+use Rattle.std.proofs.lemmas.Bool.{lt-ltb, le-ltb}
+use Rattle.std.proofs.lemmas.List.Elements.{All-head, All-tail}
+use Rattle.codec_defs.specs.Schema.{OutPoint, Transaction, Block}
+use Rattle.chain_defs.specs.Branch.{branch, branch_places}
+use Rattle.chain_tree.specs.Told.{Stored, blocks_of}
+use Rattle.cell_defs.specs.Row.{Row, row_of, row_on}
+use Rattle.cell_model.specs.Copies.{ResolvedValue}
+use Rattle.tx_defs.specs.Site.{Site, Found, height_at}
+use Rattle.tx_defs.specs.Resolving.{inputs}
+use Rattle.tx_rules.specs.At.{AtValue, IsSiteOf, found_row, AreSeen}
+use Rattle.tx_rules.specs.Copying.{row_in}
+use Rattle.tx_rules.proofs.SiteLemmas.{IsKeptRow, IsOwnRow, row-made, inputs-seen}
+use Rattle.block_defs.specs.Ext.{row_before, rows_spent}
+use Rattle.block_judge.proofs.SiteLemmas.{place-below}
+
+-- a row is that of a block below a place
+abbrev is_below : ℕ → OutPoint × Row → Bool
+is_below e it = nat_lt it.1.block e
+
+-- one row: it is below the block's place just where a block before made the cell
+row-before : (stored : List Stored) (at : AtValue) (rows : OutPoint → Option Row) (site : Site) (found : Found) (row : Row) (later : List (OutPoint × Row))
+    → at.parent < length at.entries → IsSiteOf stored at rows site → site.cell found.out_point ≡ Some found.cell
+    → row ≡ (found_row (blocks_of stored) at.parent found).1
+    → cond (is_below (length at.entries) (found_row (blocks_of stored) at.parent found)) (found_row (blocks_of stored) at.parent found ∷ later) later
+    ≡ cons_option (row_before (blocks_of stored) at.parent site found) later
+row-before stored at rows site found row later placed is seen its_row =
+    by_made (row-made stored at rows site found.out_point found.cell row placed is seen its_row)
+  where
+    high : height_at site ≡ length (branch (blocks_of stored) at.parent)
+    high = ap (λ (blocks : List Block). length blocks) is.on_branch
+
+    by_made : IsKeptRow stored at found.out_point found.cell row ⊎ IsOwnRow stored at found.out_point found.cell row
+        → cond (is_below (length at.entries) (found_row (blocks_of stored) at.parent found)) (found_row (blocks_of stored) at.parent found ∷ later) later
+        ≡ cons_option (row_before (blocks_of stored) at.parent site found) later
+    by_made (inl made) =
+        let low : (found_row (blocks_of stored) at.parent found).1.block < length at.entries =
+        subst (λ (r : Row). r.block < length at.entries) its_row made.below in
+        ap (λ (b : Bool). cond b (found_row (blocks_of stored) at.parent found ∷ later) later)
+        (lt-ltb (found_row (blocks_of stored) at.parent found).1.block (length at.entries) low)
+        ∙ ap (λ (place : ℕ). (found.out_point, row_of place found.cell) ∷ later) (place-below (blocks_of stored) at.parent found.cell.height made.height)
+        ∙ sym (ap (λ (b : Bool). cons_option (cond b (Some (found.out_point, row_on (blocks_of stored) at.parent found.cell)) None) later)
+        (lt-ltb found.cell.height (height_at site) (omega (arith, made.height, high))))
+    by_made (inr own) =
+        let last : (found_row (blocks_of stored) at.parent found).1.block ≡ length at.entries =
+        subst (λ (r : Row). r.block ≡ length at.entries) its_row own.last in
+        ap (λ (b : Bool). cond b (found_row (blocks_of stored) at.parent found ∷ later) later)
+        (le-ltb (found_row (blocks_of stored) at.parent found).1.block (length at.entries) (omega (arith, last)))
+        ∙ sym (ap (λ (b : Bool). cons_option (cond b (Some (found.out_point, row_on (blocks_of stored) at.parent found.cell)) None) later)
+        (le-ltb found.cell.height (height_at site) (omega (arith, own.height, high))))
+
+-- The rows below the block's place are those that blocks before it made.
+pub rows-before : (stored : List Stored) (at : AtValue) (rows : OutPoint → Option Row) (site : Site) (founds : List Found) → at.parent < length at.entries
+    → IsSiteOf stored at rows site → AreSeen site founds
+    → filter (λ it. nat_lt it.1.block (length at.entries)) (map (found_row (blocks_of stored) at.parent) founds)
+    ≡ filter_map (row_before (blocks_of stored) at.parent site) founds
+rows-before stored at rows site [] placed is seen = refl
+rows-before stored at rows site (found ∷ founds) placed is seen =
+    row-before stored at rows site found (found_row (blocks_of stored) at.parent found).1 (filter (is_below (length at.entries)) (map (found_row (blocks_of stored) at.parent) founds))
+    placed is (All-head (λ it. site.cell it.out_point ≡ Some it.cell) found founds seen) refl
+    ∙ ap (cons_option (row_before (blocks_of stored) at.parent site found))
+    (rows-before stored at rows site founds placed is (All-tail (λ it. site.cell it.out_point ≡ Some it.cell) found founds seen))
+
+pub rows-spent : (stored : List Stored) (at : AtValue) (rows : OutPoint → Option Row) (site : Site) (t : Transaction) (copies : List ResolvedValue)
+    → at.parent < length at.entries → IsSiteOf stored at rows site → map row_in copies ≡ map (found_row (blocks_of stored) at.parent) (inputs site t)
+    → filter (λ it. nat_lt it.1.block (length at.entries)) (map row_in copies) ≡ rows_spent (blocks_of stored) at.parent site t
+rows-spent stored at rows site t copies placed is spends =
+    ap (filter (λ (it : OutPoint × Row). nat_lt it.1.block (length at.entries))) spends
+    ∙ rows-before stored at rows site (inputs site t) placed is (inputs-seen site t)
