@@ -4,3 +4,4 @@ pub mod TransactionLemmas
 pub mod ChangeLemmas
 pub mod SiteLemmas
 pub mod ExtLemmas
+pub mod CellbaseLemmas
