@@ -1,5 +1,5 @@
 -- Rows with what transactions change, one change after the other.
-use Rattle.std.proofs.Common.{◌≡◌, ℕ, suc, ◌+◌, ◌<◌, ◌≤◌, Bool, true, false, cond, List, [], ◌∷◌, ◌++◌, length, map, take, min, Option, Some, None, refl, sym, ap, ◌∙◌, arith}
+use Rattle.std.proofs.Common.{◌≡◌, ℕ, ◌+◌, ◌<◌, ◌≤◌, Bool, true, false, cond, List, [], ◌∷◌, ◌++◌, length, map, take, min, Option, Some, None, refl, sym, ap, ◌∙◌, arith}
 use Rattle.std.specs.Prelude.{slice_get, ◌==◌, ◌||◌}
 use Rattle.std.specs.Option.{option_or}
 use Rattle.std.proofs.lemmas.List.{take_all, map-append, length-take}
@@ -7,8 +7,8 @@ use Rattle.std.proofs.lemmas.Bool.{ne_eqb}
 use Rattle.std.proofs.lemmas.Option.{slice_get_within}
 use Rattle.codec_defs.specs.Schema.{OutPoint, CellInput, CellOutput, RawTransaction, Transaction}
 use Rattle.chain_defs.specs.Hashes.{transaction_hash}
-use Rattle.cell_defs.specs.Cell.{Cell, data_of}
-use Rattle.cell_defs.specs.Events.{Event, Makes, Spends, names, out_point_of, same_out_point, last_naming, makes_from, makes_of, spends_of, events_of}
+use Rattle.cell_defs.specs.Cell.{data_of}
+use Rattle.cell_defs.specs.Events.{Event, Makes, Spends, names, same_out_point, last_naming, makes_from, makes_of, spends_of, events_of}
 use Rattle.cell_defs.specs.Row.{Row, row_of, row_left, row_or, row_after}
 use Rattle.cell_laws.proofs.EventLemmas.{last_naming-push, last_naming-append}
 use Rattle.tx_rules.proofs.AllThere.{take-push}

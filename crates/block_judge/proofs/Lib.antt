@@ -5,3 +5,4 @@ pub mod ChangeLemmas
 pub mod SiteLemmas
 pub mod ExtLemmas
 pub mod CellbaseLemmas
+pub mod RestLemmas

@@ -1,12 +1,11 @@
 -- The rows after the first transactions of a block, and the site of a transaction that they make.
-use Rattle.std.proofs.Common.{◌≡◌, ℕ, ◌+◌, ◌-◌, ◌<◌, inl, inr, ◌⊎◌, Bool, cond, List, [], ◌∷◌, ◌++◌, length, take, min, Option, Some, None, refl, sym, ap, ◌∙◌, subst, arith}
+use Rattle.std.proofs.Common.{◌≡◌, ℕ, ◌+◌, ◌-◌, ◌<◌, inl, inr, ◌⊎◌, Bool, cond, List, [], ◌∷◌, ◌++◌, length, take, min, Option, Some, None, refl, sym, ap, ◌∙◌, arith}
 use Rattle.std.specs.Prelude.{slice_get, slice_index, IsSome, IsTrue}
 use Rattle.std.specs.Option.{option_map, option_or}
 use Rattle.std.proofs.lemmas.Bool.{lt-ltb, le-ltb}
 use Rattle.std.proofs.lemmas.List.{append-nil, append_assoc, length-take}
 use Rattle.std.proofs.lemmas.Option.{slice_get_within, same_Some}
 use Rattle.codec_defs.specs.Schema.{OutPoint, Transaction, Block}
-use Rattle.time_defs.specs.Specification.{Specification}
 use Rattle.chain_defs.specs.Kept.{block_at}
 use Rattle.chain_defs.specs.Branch.{branch, branch_places}
 use Rattle.chain_defs.proofs.KeptLaws.{slice_get-below}
@@ -18,7 +17,6 @@ use Rattle.cell_defs.specs.Events.{Event, Makes, Spends, last_naming, cell_left,
 use Rattle.cell_defs.specs.Row.{Row, row_of, row_or, row_on, row_after, live_row, IsOutputOf}
 use Rattle.cell_laws.proofs.EventLemmas.{last_naming-append, made-last}
 use Rattle.cell_laws.proofs.OutputLaws.{IsMadeIn, made-in-block, cells-are-outputs, seen-cells-are-outputs}
-use Rattle.tx_defs.specs.Site.{Site, height_at}
 use Rattle.tx_rules.specs.At.{AtValue, IsSiteOf, IsMade, place_of_height}
 use Rattle.tx_rules.proofs.AllThere.{take-push}
 use Rattle.block_defs.specs.Transactions.{site_at}

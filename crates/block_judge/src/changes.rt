@@ -72,8 +72,8 @@ impl Changes {
     {
         let raw = tx.raw();
         'inputs: for i in 0..raw.inputs_count() {
-            let input = raw.inputs_item(i);
-            self.put(&out_point_of(&input.previous_output()), None)?;
+            let o = out_point_of(&raw.inputs_item(i).previous_output());
+            self.put(&o, None)?;
         }
         Ok(())
     }

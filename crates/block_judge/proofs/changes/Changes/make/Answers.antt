@@ -1,4 +1,4 @@
-use Rattle.std.proofs.Common.{◌≡◌, List, take, sym, ap, ◌∙◌, arith}
+use Rattle.std.proofs.Common.{List, take, sym, ap, ◌∙◌, arith}
 use Rattle.cell_defs.specs.Events.{Event, makes_from}
 use Rattle.cell_defs.specs.Row.{row_after}
 use Rattle.block_judge.specs.Changes.{with_changes}
