@@ -38,10 +38,15 @@ IsOfBody rule = (9 ≤ rule) × (rule ≤ 14)
 
 pub body-rule : (spec : Specification) (b : Block) (rule : ℕ) → first_failing (body_rules spec b) ≡ Some rule → (9 ≤ rule) × (rule ≤ 14)
 body-rule spec b rule is =
+    let from_14 : List (ℕ × Bool) = (14, commits_to_uncles b) ∷ [] in
+    let from_13 : List (ℕ × Bool) = (13, has_few_uncles b) ∷ from_14 in
+    let from_12 : List (ℕ × Bool) = (12, commits_to_transactions b) ∷ from_13 in
+    let from_11 : List (ℕ × Bool) = (11, commits_to_proposals b) ∷ from_12 in
+    let from_10 : List (ℕ × Bool) = (10, has_proposals spec b) ∷ from_11 in
     failing-one IsOfBody (body_rules spec b) rule
-    (listed 9 (fits_length spec b) (omega arith) (omega arith) _ (listed 10 (has_proposals spec b) (omega arith) (omega arith) _
-    (listed 11 (commits_to_proposals b) (omega arith) (omega arith) _ (listed 12 (commits_to_transactions b) (omega arith) (omega arith) _
-    (listed 13 (has_few_uncles b) (omega arith) (omega arith) _ (listed 14 (commits_to_uncles b) (omega arith) (omega arith) _
+    (listed 9 (fits_length spec b) (omega arith) (omega arith) from_10 (listed 10 (has_proposals spec b) (omega arith) (omega arith) from_11
+    (listed 11 (commits_to_proposals b) (omega arith) (omega arith) from_12 (listed 12 (commits_to_transactions b) (omega arith) (omega arith) from_13
+    (listed 13 (has_few_uncles b) (omega arith) (omega arith) from_14 (listed 14 (commits_to_uncles b) (omega arith) (omega arith) []
     (All-nil (λ row. IsOfBody row.0)))))))) is
   where
     listed : (n : ℕ) (test : Bool) → 9 ≤ n → n ≤ 14 → (rules : List (ℕ × Bool)) → All (λ row. IsOfBody row.0) rules → All (λ row. IsOfBody row.0) ((n, test) ∷ rules)

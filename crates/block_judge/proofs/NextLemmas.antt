@@ -1,12 +1,13 @@
 -- What the transactions of a block so far have in its ext and among its rules.
-use Rattle.std.proofs.Common.{◌≡◌, ℕ, ◌+◌, ◌≤◌, ◌<◌, Bool, List, [], ◌∷◌, ◌++◌, length, take, drop, Option, Some, None, refl, sym, ap, ◌∙◌, arith}
-use Rattle.std.specs.Prelude.{slice_get, is_some, nat_lt, map}
+use Rattle.std.proofs.Common.{◌≡◌, ℕ, ◌+◌, ◌≤◌, ◌<◌, Bool, true, false, ◌&&◌, List, [], ◌∷◌, ◌++◌, length, take, drop, Option, Some, None, refl, sym, ap, ◌∙◌, arith}
+use Rattle.std.specs.Prelude.{slice_get, is_some, nat_lt, nat_le, ◌^◌, map, IsTrue}
 use Rattle.std.specs.List.{list_any, filter}
 use Rattle.std.specs.Str.{bytes_eq}
 use Rattle.codec_defs.specs.Schema.{OutPoint, Transaction, Block}
 use Rattle.fold_defs.specs.First.{first_failing}
 use Rattle.fold_defs.proofs.FirstLemmas.{first_failing-append-fails, first_failing-append-holds, first_failing-none, finds_none}
-use Rattle.time_defs.specs.Specification.{Specification}
+use Rattle.std.proofs.lemmas.Bool.Decides.{nat_tests}
+use Rattle.time_defs.specs.Specification.{Specification, keeps_s5}
 use Rattle.chain_defs.specs.Branch.{branch}
 use Rattle.chain_defs.specs.Hashes.{transaction_hash}
 use Rattle.chain_tree.specs.Told.{Stored, blocks_of}
@@ -17,12 +18,14 @@ use Rattle.cell_model.specs.Copies.{ResolvedValue}
 use Rattle.cell_defs.specs.Row.{Row}
 use Rattle.cell_defs.specs.Ext.{Ext}
 use Rattle.tx_defs.specs.Site.{Site}
+use Rattle.window_defs.specs.Window.{earliest}
 use Rattle.tx_defs.specs.Capacity.{fee}
-use Rattle.tx_defs.specs.Rules.{form_rules, cell_rules}
+use Rattle.tx_defs.specs.Rules.{has_form, form_rules, cell_rules}
 use Rattle.script_defs.specs.Scene.{scene_of}
 use Rattle.script_defs.specs.Rules.{script_rules}
 use Rattle.block_defs.specs.Transactions.{site_at, transaction_rules, left_after, rules_from, rules_of_transactions}
 use Rattle.block_defs.specs.Ext.{fees_from, rows_spent, spent_from, ext_of}
+use Rattle.block_defs.specs.Rules.{site_after, broken_in_dry_run}
 use Rattle.block_judge.specs.Progress.{AreProposed}
 use Rattle.block_judge.proofs.ExtLemmas.{rows-spent}
 use Rattle.block_judge.proofs.RestLemmas.{fees-more, fees-all, spent-more, spent-all, rules-next, rules-end}
@@ -37,6 +40,10 @@ by-proposed site left t proposed ids id hash answer hash_is id_is asked are is =
     (sym (asked ∙ ap (λ (l : List ℕ). list_any (bytes_eq l) ids) (id_is ∙ ap (take 10) hash_is) ∙ are (take 10 (transaction_hash t))))
     ∙ is
 
+pub proposed-here : (spec : Specification) (on : List Block) (ids : List (List ℕ)) (height : ℕ)
+    → ((id : List ℕ) → list_any (bytes_eq id) ids ≡ is_some (earliest spec on id height)) → height ≡ length on → AreProposed spec on ids
+proposed-here spec on ids height are last id = are id ∙ ap (λ (n : ℕ). is_some (earliest spec on id n)) last
+
 -- the rows that the ext has of the next transaction
 pub spent-next : (stored : List Stored) (at : AtValue) (rows : OutPoint → Option Row) (site : Site) (t : Transaction) (copies taken : List ResolvedValue) (e : ℕ)
     (old before new : List (OutPoint × Row)) → at.parent < length at.entries → IsSiteOf stored at rows site → e ≡ length at.entries → copies ≡ taken
@@ -47,6 +54,14 @@ spent-next stored at rows site t copies taken e old before new placed is last sa
     ∙ ap (λ (n : ℕ). old ++ filter (λ it. nat_lt it.1.block n) (map row_in copies)) last
     ∙ ap (λ (l : List ResolvedValue). old ++ filter (λ it. nat_lt it.1.block (length at.entries)) (map row_in l)) same
     ∙ ap (λ (l : List (OutPoint × Row)). old ++ l) (rows-spent stored at rows site t taken placed is spends)
+
+-- the cycles of a block are few
+pub few-cycles : (cycles : ℕ) → IsTrue (keeps_s5 cycles) → cycles ≤ 2 ^ 40
+few-cycles cycles keeps = let within = behind (nat_le 1 cycles) (nat_le cycles (2 ^ 40)) keeps in grind (arith, nat_tests, within)
+  where
+    behind : (a b : Bool) → IsTrue (a && b) → IsTrue b
+    behind true b both = both
+    behind false b both = absurd (cc)
 
 -- ---- So far
 
@@ -111,3 +126,20 @@ judged-ext spec kept parent b place left ext so_far past =
           spent = spent_from spec kept parent b 1 (drop 1 b.transactions);
         }
     by_parts fees spent = rw (fees, spent) refl
+
+-- ---- Alone
+
+-- J19 is kept where no proposal is asked for
+unasked : (form : Bool) (rest : List (ℕ × Bool)) → first_failing ((18, form) ∷ (19, true) ∷ rest) ≡ first_failing ((18, form) ∷ rest)
+unfolding first_failing
+unasked true rest = refl
+unasked false rest = refl
+
+pub alone-judged : (spec : Specification) (on : List Block) (t : Transaction) (cycles : ℕ) (answer : Option ℕ) → cycles ≡ spec.max_cycles
+    → first_failing (form_rules t ++ (19, true) ∷ cell_rules (site_after spec on) t ++ script_rules (scene_of (site_after spec on) t) cycles) ≡ answer
+    → broken_in_dry_run spec on t ≡ answer
+unfolding broken_in_dry_run
+alone-judged spec on t cycles answer all is =
+    sym (unasked (has_form t) (cell_rules (site_after spec on) t ++ script_rules (scene_of (site_after spec on) t) spec.max_cycles))
+    ∙ ap (λ (n : ℕ). first_failing (form_rules t ++ (19, true) ∷ cell_rules (site_after spec on) t ++ script_rules (scene_of (site_after spec on) t) n)) (sym all)
+    ∙ is

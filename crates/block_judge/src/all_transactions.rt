@@ -67,6 +67,7 @@ impl<'a, C: Cells> Progress<'a, C> {
         cells: &'a C,
     ) -> Result<Progress<'a, C>, NoMemory>
         ensures left { IfOk result (λ progress. progress.left ≡ at.now.spec.max_cycles) }
+        ensures few { IfOk result (λ progress. progress.left ≤ 2 ^ 40) }
         ensures fees { IfOk result (λ progress. progress.ext.fees ≡ []) }
         ensures spent { IfOk result (λ progress. progress.ext.spent ≡ []) }
         ensures rows { IfOk result (λ progress. (height : ℕ) (o : OutPoint) → 0 < height

@@ -16,20 +16,23 @@ ghost use Rattle.block_defs.specs.Rules.{first_broken, broken_in_dry_run, site_a
 ghost use Rattle.block_judge.specs.declared.stop.Judged.TheVariants.{Broken, Read};
 ghost use Rattle.block_judge.specs.Standing.{IsTried, IsTriedAlone, Stands};
 
+use crate::ahead::{is_rated, judge_ahead};
+use crate::all_transactions::judge_transactions;
 use crate::stop::Judged;
+use crate::transactions::judge_transaction;
 use cell_model::{Cells, Ext};
 use chain_tree::{Blocks, Tree};
 use epochs::Spec;
 use mol_schema::{BlockView, TxView};
-use outside::ReadStop;
 use std::alloc::Global;
+use tx_rules::TxAt;
 use uncle_rules::Uncles;
 
 /// Judges a block on a parent in the tree, by J4 to J30 and then by what is looked at of J32: the first rule that it
 /// breaks, or its ext. The cells are those of the parent's branch, whichever the tip is on. Damaged where a kept block, or
 /// a row of the cells, is not what the tree and the branch say, which never comes over blocks that tell them.
 pub fn judge<C: Cells, B: Blocks>(
-    _alloc: Global,
+    alloc: Global,
     spec: &Spec,
     tree: &Tree,
     uncles: &Uncles,
@@ -60,15 +63,20 @@ pub fn judge<C: Cells, B: Blocks>(
     ensures damage { (damage : Damage) → result ≡ Err (Read (Damaged damage)) → damage.area ≡ Log }
     ensures cause { CountsFault (B.faults blocks.old) (B.faults blocks.new) (result ≡ Err (Read DiskFault)) }
 {
-    Err(Judged::Read(ReadStop::NoMemory))
+    judge_ahead(alloc, spec, tree, uncles, cells, parent, block)?;
+    let ext = judge_transactions(alloc, spec, tree, cells, blocks, parent, block)?;
+    if !is_rated(block) {
+        return Err(Judged::Broken(32));
+    }
+    Ok(ext)
 }
 
 /// Judges a transaction alone, at the height after the parent, by J18 and J20 to J30 with all cycles of a block: its fee
 /// in shannons and the cycles that its scripts take. Damaged as `judge` is.
-pub fn dry_run<C: Cells, B: Blocks>(
-    _alloc: Global,
-    spec: &Spec,
-    tree: &Tree,
+pub fn dry_run<'a, C: Cells, B: Blocks>(
+    alloc: Global,
+    spec: &'a Spec,
+    tree: &'a Tree,
     cells: &C,
     blocks: &mut B,
     parent: u32,
@@ -97,5 +105,12 @@ pub fn dry_run<C: Cells, B: Blocks>(
     ensures damage { (damage : Damage) → result ≡ Err (Read (Damaged damage)) → damage.area ≡ Log }
     ensures cause { CountsFault (B.faults blocks.old) (B.faults blocks.new) (result ≡ Err (Read DiskFault)) }
 {
-    Err(Judged::Read(ReadStop::NoMemory))
+    let at = TxAt {
+        spec,
+        tree,
+        parent,
+        block: None,
+    };
+    let taken = judge_transaction(alloc, tx, &at, true, cells, blocks, spec.max_cycles)?;
+    Ok((taken.fee, taken.cycles))
 }
