@@ -1,5 +1,5 @@
 -- What a block's transactions from a place on have in its ext and among its rules, one transaction at a time.
-use Rattle.std.proofs.Common.{◌≡◌, ℕ, suc, ◌+◌, ◌≤◌, List, [], ◌∷◌, ◌++◌, length, drop, Some, sym, ap, ◌∙◌, arith}
+use Rattle.std.proofs.Common.{◌≡◌, ℕ, suc, ◌+◌, ◌≤◌, List, [], ◌∷◌, ◌++◌, length, drop, Some, None, sym, ap, ◌∙◌, arith}
 use Rattle.std.specs.Prelude.{slice_get}
 use Rattle.std.proofs.lemmas.List.{append-nil, append_assoc, drop_all}
 use Rattle.std.proofs.lemmas.Option.{slice_get_within, get_or_from_slice_get}
@@ -7,6 +7,8 @@ use Rattle.std.proofs.Math.Seq.{drop-cons}
 use Rattle.codec_defs.specs.Schema.{OutPoint, Transaction, Block}
 use Rattle.time_defs.specs.Specification.{Specification}
 use Rattle.chain_defs.specs.Branch.{branch}
+use Rattle.fold_defs.specs.First.{first_failing}
+use Rattle.fold_defs.proofs.FirstLemmas.{first_failing-none, first_failing-append-holds, first_failing-append-fails, finds_none}
 use Rattle.cell_defs.specs.Row.{Row}
 use Rattle.tx_defs.specs.Capacity.{fee}
 use Rattle.block_defs.specs.Transactions.{site_at, transaction_rules, left_after, rules_from}
@@ -67,7 +69,7 @@ spent-all spec kept parent b place all old past so_far =
 
 -- ---- The rules
 
-pub rules-next : (spec : Specification) (on : List Block) (b : Block) (place left : ℕ) (t : Transaction) → slice_get b.transactions place ≡ Some t
+rules-next : (spec : Specification) (on : List Block) (b : Block) (place left : ℕ) (t : Transaction) → slice_get b.transactions place ≡ Some t
     → rules_from spec on b place left (drop place b.transactions)
     ≡ transaction_rules (site_at spec on b place) left t
     ++ rules_from spec on b (place + 1) (left_after (site_at spec on b place) left t) (drop (place + 1) b.transactions)
@@ -78,7 +80,28 @@ rules-next spec on b place left t there =
     ∙ ap (λ (n : ℕ). transaction_rules (site_at spec on b place) left t
     ++ rules_from spec on b n (left_after (site_at spec on b place) left t) (drop (place + 1) b.transactions)) next
 
+-- One that keeps its rules leaves those of the transactions behind it.
+pub rules-more : (spec : Specification) (on : List Block) (b : Block) (place left : ℕ) (t : Transaction) → slice_get b.transactions place ≡ Some t
+    → first_failing (transaction_rules (site_at spec on b place) left t) ≡ None
+    → first_failing (rules_from spec on b place left (drop place b.transactions))
+    ≡ first_failing (rules_from spec on b (place + 1) (left_after (site_at spec on b place) left t) (drop (place + 1) b.transactions))
+rules-more spec on b place left t there kept =
+    let own = transaction_rules (site_at spec on b place) left t in
+    let later = rules_from spec on b (place + 1) (left_after (site_at spec on b place) left t) (drop (place + 1) b.transactions) in
+    ap first_failing (rules-next spec on b place left t there) ∙ first_failing-append-holds own later ((finds_none own).0 kept)
+
+-- The first that one breaks is the first of all that are left.
+pub rules-broken : (spec : Specification) (on : List Block) (b : Block) (place left : ℕ) (t : Transaction) (rule : ℕ) → slice_get b.transactions place ≡ Some t
+    → first_failing (transaction_rules (site_at spec on b place) left t) ≡ Some rule
+    → first_failing (rules_from spec on b place left (drop place b.transactions)) ≡ Some rule
+rules-broken spec on b place left t rule there broken =
+    let own = transaction_rules (site_at spec on b place) left t in
+    let later = rules_from spec on b (place + 1) (left_after (site_at spec on b place) left t) (drop (place + 1) b.transactions) in
+    ap first_failing (rules-next spec on b place left t there) ∙ first_failing-append-fails rule own later broken
+
+-- Behind the last one none is left.
 pub rules-end : (spec : Specification) (on : List Block) (b : Block) (place left : ℕ) → length b.transactions ≤ place
-    → rules_from spec on b place left (drop place b.transactions) ≡ []
+    → first_failing (rules_from spec on b place left (drop place b.transactions)) ≡ None
 unfolding rules_from
-rules-end spec on b place left past = ap (rules_from spec on b place left) (drop_all place b.transactions past)
+rules-end spec on b place left past =
+    ap (λ (these : List Transaction). first_failing (rules_from spec on b place left these)) (drop_all place b.transactions past) ∙ first_failing-none

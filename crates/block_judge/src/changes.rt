@@ -41,7 +41,7 @@ fn out_point_of(o: &OutPointView<'_>) -> OutPoint
 }
 
 impl Changes {
-    /// None.
+    /// Where nothing was changed yet.
     pub(crate) fn new(alloc: Global) -> Changes
         ensures { (o : schema.OutPoint) → change_at result o ≡ None }
     {
