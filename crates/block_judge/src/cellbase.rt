@@ -1,7 +1,7 @@
 // J16 and J17: the cellbase of a block.
-ghost use Rattle.std.specs.Prelude.{◌≡◌, ◌<◌, ◌^◌, ◌&&◌, ◌==◌, IfOk, List, Option, not, drop, is_some, length, map, slice_get, Some};
+ghost use Rattle.std.specs.Prelude.{◌≡◌, ◌<◌, ◌^◌, ◌==◌, IfOk, Option, Some, not, drop, is_some, length, map, slice_get};
 ghost use Rattle.std.specs.List.{list_all, list_any, range_with_len};
-ghost use Rattle.codec_defs.specs.Schema.{OutPoint as an_out_point, Transaction};
+ghost use Rattle.codec_defs.specs.Schema.{OutPoint as an_out_point};
 ghost use Rattle.cell_defs.specs.Cell.{Cell};
 ghost use Rattle.chain_defs.specs.Hashes.{transaction_hash, are_distinct};
 ghost use Rattle.block_defs.specs.Cellbase as rules;

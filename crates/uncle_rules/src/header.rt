@@ -1,5 +1,5 @@
 // A header by its hash and its number.
-ghost use Rattle.std.specs.Prelude.{◌≡◌, length};
+ghost use Rattle.std.specs.Prelude.{◌≡◌};
 ghost use Rattle.chain_defs.specs.Kept.{header_hash};
 ghost use Rattle.uncle_rules.specs.Known as known;
 

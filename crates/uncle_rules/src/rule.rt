@@ -1,5 +1,5 @@
 // J15: the uncles of a block.
-ghost use Rattle.std.specs.Prelude.{◌≡◌, ◌<◌, ◌≤◌, ◌&&◌, ℕ, List, Some, length, map, take, slice_get, IfOk};
+ghost use Rattle.std.specs.Prelude.{◌≡◌, ◌<◌, ◌≤◌, ◌&&◌, List, length, map, take, IfOk};
 ghost use Rattle.std.specs.List.{list_any};
 ghost use Rattle.codec_defs.specs.Schema.{Block};
 ghost use Rattle.block_defs.specs.Uncles as rules;

@@ -1,4 +1,4 @@
-use Rattle.std.proofs.Common.{◌≡◌, ℕ, sym, ap, ◌∙◌, arith}
+use Rattle.std.proofs.Common.{ℕ, ap, ◌∙◌, arith}
 use Rattle.codec_defs.specs.Schema.{Header}
 use Rattle.block_defs.specs.Cellbase.{is_well_formed_cellbase}
 use Rattle.block_judge.proofs.CellbaseLemmas.{no-first, first-formed}

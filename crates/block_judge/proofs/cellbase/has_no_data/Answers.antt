@@ -1,4 +1,4 @@
-use Rattle.std.proofs.Common.{◌≡◌, true, false, sym, ap, ◌∙◌}
+use Rattle.std.proofs.Common.{sym, ◌∙◌}
 use Rattle.tx_rules.proofs.WalkLemmas.{every-fails, every-goes-on}
 use Rattle.block_judge.proofs.CellbaseLemmas.{is_empty}
 use Rattle.block_judge.proofs.cellbase.has_no_data.Goals as goal

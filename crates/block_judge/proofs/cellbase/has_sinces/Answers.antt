@@ -1,4 +1,4 @@
-use Rattle.std.proofs.Common.{◌≡◌, ℕ, true, false, eqb, Bool, sym, ap, ◌∙◌, rules, arith}
+use Rattle.std.proofs.Common.{sym, ◌∙◌}
 use Rattle.std.proofs.lemmas.Bool.{ne_eqb, eq-eqb}
 use Rattle.tx_rules.proofs.WalkLemmas.{every-fails, every-goes-on}
 use Rattle.block_defs.specs.Cellbase.{has_since}
