@@ -4,7 +4,7 @@ pub mod TransactionLemmas
 pub mod ChangeLemmas
 pub mod SiteLemmas
 pub mod ExtLemmas
-pub mod CellbaseLemmas
 pub mod RestLemmas
+pub mod CellbaseLemmas
 pub mod AheadLemmas
 pub mod NextLemmas

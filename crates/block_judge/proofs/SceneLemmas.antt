@@ -9,11 +9,10 @@ use Rattle.std.proofs.lemmas.List.{length-map}
 use Rattle.std.proofs.lemmas.List.Elements.{All-head, All-tail}
 use Rattle.std.proofs.lemmas.Option.{slice_get_within, slice_get-map, same_Some}
 use Rattle.std.proofs.lemmas.Slice.Eq.{bytes_eq-Decides}
-use Rattle.codec_defs.specs.Shape.{decoded}
-use Rattle.codec_defs.specs.Schema.{OutPoint, Header, CellOutput, Block, CellInput, Transaction, cell_output}
+use Rattle.codec_defs.specs.Schema.{OutPoint, Header, CellOutput, Block, CellInput, Transaction}
 use Rattle.time_defs.specs.Specification.{Specification}
 use Rattle.chain_defs.specs.Hashes.{transaction_hash}
-use Rattle.chain_defs.specs.Kept.{block_at, place_of, parent_place}
+use Rattle.chain_defs.specs.Kept.{block_at, place_of}
 use Rattle.chain_defs.specs.Branch.{branch, branch_places}
 use Rattle.chain_defs.proofs.KeptLaws.{slice_get-below}
 use Rattle.chain_defs.proofs.BranchLaws.{places_on}
@@ -31,7 +30,7 @@ use Rattle.tx_rules.specs.At.{AtValue, IsSiteOf, place_of_height}
 use Rattle.tx_rules.specs.Outcome.{Copies, IsFormed, IsResolved}
 use Rattle.tx_rules.proofs.BranchLemmas.{PlaceOfHeight, place-of-height}
 use Rattle.tx_rules.proofs.DepositLemmas.{heights-below, listed-below, EntryOfHeight, entry-of-height}
-use Rattle.script_defs.specs.Scene.{ShownCell, Scene, header_at, made_in, shown, scene_of}
+use Rattle.script_defs.specs.Scene.{ShownCell, header_at, made_in, shown, scene_of}
 use Rattle.script_run.specs.Showing.{header_of, same_hash, has_hashes, cell_shown, cells_shown, headers_shown, is_whole, scene_with, scene_shown}
 
 bytes-same : (xs ys : List ℕ) → xs ≡ ys → bytes_eq xs ys ≡ true

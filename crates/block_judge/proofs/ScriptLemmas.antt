@@ -1,5 +1,5 @@
 -- What comes of the scripts of a transaction, by the rules on them.
-use Rattle.std.proofs.Common.{◌≡◌, ℕ, ◌≤◌, Bool, true, false, List, [], ◌∷◌, Option, Some, None, Result, Ok, Err, refl, sym, ap, ◌∙◌, subst}
+use Rattle.std.proofs.Common.{◌≡◌, ℕ, Bool, List, [], ◌∷◌, Some, None, Result, Ok, Err, refl, sym, ap, ◌∙◌}
 use Rattle.fold_defs.specs.First.{first_failing}
 use Rattle.outside.specs.declared.disk.Damage.{Damage}
 use Rattle.outside.specs.declared.disk.ReadStop.TheVariants.{Damaged}
@@ -11,9 +11,7 @@ use Rattle.script_defs.specs.Rules.{rule_of, keeps, script_rules, cycles_in, cyc
 use Rattle.script_run.specs.declared.stop.ScriptStop.{ScriptStop}
 use Rattle.script_run.specs.declared.stop.ScriptStop.TheVariants as running
 use Rattle.script_run.specs.Running.{IsOutcome}
-use Rattle.block_judge.specs.declared.stop.Judged.{Judged}
 use Rattle.block_judge.specs.declared.stop.Judged.TheVariants.{Broken, Read}
-use Rattle.block_judge.specs.Standing.{IsScriptRule}
 use Rattle.block_judge.specs.Stops.{of_running}
 
 -- the rules of an outcome

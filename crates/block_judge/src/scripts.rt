@@ -9,7 +9,7 @@ ghost use Rattle.codec_defs.specs.Schema.{OutPoint};
 ghost use Rattle.cell_defs.specs.Row.{Row};
 ghost use Rattle.chain_tree.specs.Told.{Stored, blocks_of};
 ghost use Rattle.tx_defs.specs.Site.{Site};
-ghost use Rattle.tx_rules.specs.At.{AtValue, IsSiteOf};
+ghost use Rattle.tx_rules.specs.At.{IsSiteOf};
 ghost use Rattle.tx_rules.specs.Outcome.{IsFormed, IsResolved};
 ghost use Rattle.script_defs.specs.Scene.{scene_of};
 ghost use Rattle.script_defs.specs.Rules.{script_rules, cycles_of};

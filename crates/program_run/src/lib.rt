@@ -1,10 +1,10 @@
 //! The program of a file, run to its end within a budget in cycles.
 //!
-//! [`execute`] is the one call: what came of the file is `execution` of `vm_defs`, with the answer to
-//! ECALL that knows two syscalls. It judges the file, pays for its loading, and only then takes memory.
-//! How a file is read and a line written is left to `node_run`.
+//! What came of the file is `execution` of `vm_defs`: by [`execute_in`] with the syscalls over a world that surrounds the
+//! script, and by [`execute`] with those of a program that runs alone. The file is judged, its loading paid for, and only
+//! then is memory taken. How a file is read and a line written is left to `node_run`.
 #![tactic(auto)]
 
 mod program;
 
-pub use program::{Execution, OutOfMemory, execute};
+pub use program::{Execution, OutOfMemory, Stopped, execute, execute_in};

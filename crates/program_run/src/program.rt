@@ -1,33 +1,25 @@
 // A program's run: what alone touches the machine.
-ghost use Rattle.std.specs.Prelude.{◌≡◌, ℕ, ◌^◌, ◌≤◌, Some, Ok, Err, true, IfOk, OnErr, OnOk};
+ghost use Rattle.std.specs.Prelude.{◌≡◌, ℕ, ◌^◌, ◌≤◌, Some, Ok, Err, IfOk, OnErr, IsSome};
+ghost use Rattle.outside.specs.Causes.{CountsFault};
+ghost use Rattle.outside.specs.declared.disk.Damage.{Damage};
+ghost use Rattle.outside.specs.declared.disk.ReadStop.TheVariants as read_stop;
 ghost use Rattle.vm_defs.specs.Elf.{load_elf, segments};
 ghost use Rattle.vm_defs.specs.Alone as alone;
 ghost use Rattle.vm_defs.specs.Program as programs;
 ghost use Rattle.vm_defs.specs.Program.{execution, run_loaded};
 ghost use Rattle.vm_mem.specs.Pages.{IsAllocated};
-ghost use Rattle.vm_step.specs.Running.{LeavesRoom, WantsPage};
+ghost use Rattle.sys_defs.specs.World.{Items};
+ghost use Rattle.sys_defs.specs.Answer.{syscall};
 ghost use Rattle.elf_load.specs.Placing.{HoldsBytes};
-ghost use Rattle.program_run.specs.Program.{Advances, PaysForLoading, ProgramWantsPage, RunWantsPage, execution_of};
+ghost use Rattle.program_run.specs.Program.{IsJudged, KeepsBudget, PaysForLoading, ProgramWants, ProgramWantsPage, execution_of};
 
 use elf_load::{Judged, judge};
-use outside::NoMemory;
+use outside::{NoMemory, ReadStop};
 use std::alloc::Global;
-use vm_defs::{Outcome, Step};
+use vm_defs::Outcome;
 use vm_mem::Memory;
 use vm_step::Machine;
-
-/// The registers of a syscall: its first argument, and its number.
-const A0: u8 = 10;
-
-const A7: u8 = 17;
-
-/// The syscalls that there are (RFC 0009).
-const EXIT: u64 = 93;
-
-const DEBUG: u64 = 2177;
-
-/// The fault of any other.
-const UNKNOWN_SYSCALL: u8 = 5;
+use vm_sys::{Alone, World, run};
 
 /// What came of a file that was to be run.
 #[derive(Clone, Copy, Debug, PartialEq, Eq)]
@@ -47,18 +39,56 @@ pub enum OutOfMemory {
     Running,
 }
 
+/// Why a file was not run to its end.
+#[derive(Clone, Copy, Debug, PartialEq, Eq)]
+pub enum Stopped {
+    /// Memory was wanted before the first step.
+    Loading,
+    /// Memory was wanted at a step or by a syscall, or what surrounds the script could not be read.
+    Running(ReadStop),
+}
+
 /// Runs the program of a file to its end, within a budget in cycles.
 ///
 /// The file is judged, then its loading is paid for, and only then is memory taken and its bytes are copied. So a file
 /// that is no program, or whose loading spends the budget, costs a look at its headers. A run is out of memory only
 /// where it comes to a step that stores to a page without memory: no bytes of the file went there, and no step before
 /// stored to it.
-#[tactic(auto, unfolding(vm_defs::specs::Program::execution))]
 pub fn execute(alloc: Global, file: &[u8], budget: u64) -> Result<Execution, OutOfMemory>
     requires { budget ≤ 2 ^ 40 }
     ensures came { IfOk result (λ came. execution_of came ≡ execution alone.answer_ecall budget file.now) }
     ensures paid { OnErr result (PaysForLoading budget (load_elf file.now)) }
     ensures running { result ≡ Err OutOfMemory.Running → ProgramWantsPage budget (segments file.now) (load_elf file.now) }
+{
+    let mut alone = Alone;
+    match execute_in(alloc, file, budget, &mut alone) {
+        Ok(came) => Ok(came),
+        Err(Stopped::Loading) => Err(OutOfMemory::Loading),
+        Err(Stopped::Running(_)) => Err(OutOfMemory::Running),
+    }
+}
+
+/// Runs the program of a file to its end, within a budget in cycles, with the syscalls over what surrounds it.
+///
+/// The file is judged, paid for and placed as by [`execute`], before the world is asked for anything. Over any world a
+/// file is no program where it meets a condition, and a program that exits did so within the budget.
+#[tactic(auto, unfolding(vm_defs::specs::Program::execution))]
+pub fn execute_in<W: World>(
+    alloc: Global,
+    file: &[u8],
+    budget: u64,
+    world: &mut W,
+) -> Result<Execution, Stopped>
+    requires { budget ≤ 2 ^ 40 }
+    ensures told { W.told world.new ≡ W.told world.old }
+    ensures loans { W.loans_of world.new ≡ W.loans_of world.old }
+    ensures came { (items : Items) → W.told world.old ≡ Some items → IfOk result (λ came. execution_of came ≡ execution (syscall items) budget file.now) }
+    ensures elf { IfOk result (IsJudged (load_elf file.now)) }
+    ensures within { IfOk result (KeepsBudget budget) }
+    ensures paid { OnErr result (PaysForLoading budget (load_elf file.now)) }
+    ensures running { (items : Items) → W.told world.old ≡ Some items → result ≡ Err (Stopped.Running read_stop.NoMemory) → ProgramWants items budget (segments file.now) (load_elf file.now) }
+    ensures cause { CountsFault (W.faults world.old) (W.faults world.new) (result ≡ Err (Stopped.Running read_stop.DiskFault)) }
+    ensures undamaged { IsSome (W.told world.old) → (damage : Damage) → result ≡ Err (Stopped.Running (read_stop.Damaged damage)) → ⊥ }
 {
     let judged = match judge(file) {
         Ok(judged) => judged,
@@ -71,30 +101,37 @@ pub fn execute(alloc: Global, file: &[u8], budget: u64) -> Result<Execution, Out
             cycles: cost,
         });
     }
-    run_judged(alloc, &judged, budget, cost)
+    run_judged(alloc, &judged, budget, cost, world)
 }
 
 /// Places a file that was judged, and runs its program with the cost of loading paid.
-fn run_judged(
+fn run_judged<W: World>(
     alloc: Global,
     judged: &Judged,
     budget: u64,
     cost: u64,
-) -> Result<Execution, OutOfMemory>
+    world: &mut W,
+) -> Result<Execution, Stopped>
     requires bound { budget ≤ 2 ^ 40 }
     requires cost { cost ≡ programs.loading_cycles judged.now.program.file_bytes }
     requires paid { cost ≤ budget }
-    ensures came { IfOk result (λ came. execution_of came ≡ Ok (run_loaded alone.answer_ecall budget judged.now.program)) }
-    ensures running { result ≡ Err OutOfMemory.Running → ProgramWantsPage budget judged.now.segments (Ok judged.now.program) }
+    ensures told { W.told world.new ≡ W.told world.old }
+    ensures loans { W.loans_of world.new ≡ W.loans_of world.old }
+    ensures came { (items : Items) → W.told world.old ≡ Some items → IfOk result (λ came. execution_of came ≡ Ok (run_loaded (syscall items) budget judged.now.program)) }
+    ensures elf { IfOk result (IsJudged (Ok judged.now.program)) }
+    ensures within { IfOk result (KeepsBudget budget) }
+    ensures running { (items : Items) → W.told world.old ≡ Some items → result ≡ Err (Stopped.Running read_stop.NoMemory) → ProgramWants items budget judged.now.segments (Ok judged.now.program) }
+    ensures cause { CountsFault (W.faults world.old) (W.faults world.new) (result ≡ Err (Stopped.Running read_stop.DiskFault)) }
+    ensures undamaged { IsSome (W.told world.old) → (damage : Damage) → result ≡ Err (Stopped.Running (read_stop.Damaged damage)) → ⊥ }
 {
     let memory = match loaded(alloc, judged) {
         Ok(memory) => memory,
-        Err(_) => return Err(OutOfMemory::Loading),
+        Err(_) => return Err(Stopped::Loading),
     };
     let mut machine = Machine::new(memory, judged.pc(), cost, budget);
-    let outcome = match run(&mut machine) {
+    let outcome = match run(&mut machine, world) {
         Ok(outcome) => outcome,
-        Err(_) => return Err(OutOfMemory::Running),
+        Err(stop) => return Err(Stopped::Running(stop)),
     };
     Ok(Execution::Ended {
         outcome,
@@ -119,58 +156,4 @@ fn loading_cycles(count: u64) -> u64
     ensures bound { result ≤ 2 ^ 40 }
 {
     (count + 3) / 4
-}
-
-/// Runs the machine to its end.
-fn run(machine: &mut Machine) -> Result<Outcome, NoMemory>
-    requires { machine.old.goes_on ≡ true }
-    ensures ends { IfOk result (λ outcome. (outcome, machine.new.machine.cycles) ≡ programs.run alone.answer_ecall machine.old.machine) }
-    ensures wants_page { OnErr result (RunWantsPage (IsAllocated machine.old.allocated) machine.old.machine) }
-{
-    'steps: loop {
-        match advance(machine) {
-            Ok(Some(outcome)) => return Ok(outcome),
-            Ok(None) => {}
-            Err(_) => return Err(NoMemory),
-        }
-    }
-}
-
-/// Runs the machine to the first step that does not go by itself, and answers how that ended the program, if it did.
-#[inline(always)]
-fn advance(machine: &mut Machine) -> Result<Option<Outcome>, NoMemory>
-    requires { machine.old.goes_on ≡ true }
-    ensures advances { IfOk result (Advances machine.old machine.new) }
-    ensures wants_page { OnErr result (WantsPage machine.old machine.new.machine) }
-    ensures room { OnOk result (LeavesRoom machine.old.machine machine.new.allocated) }
-    ensures pages_kept { (page : ℕ) → IsAllocated machine.old.allocated page → IsAllocated machine.new.allocated page }
-{
-    match machine.run() {
-        Step::Went => unreachable!(),
-        Step::Ecall => Ok(answer_ecall(machine)),
-        Step::Fault(number) => Ok(Some(Outcome::Fault(number))),
-        Step::Spent => Ok(Some(Outcome::Spent)),
-        Step::NoMemory => Err(NoMemory),
-    }
-}
-
-/// How an ECALL ends the program, if it does. The machine is as it was.
-fn answer_ecall(machine: &Machine) -> Option<Outcome>
-    ensures { (result, machine.now.machine) ≡ alone.answer_ecall machine.now.machine }
-{
-    let number = machine.reg(A7);
-    if number == EXIT {
-        return Some(Outcome::Exit(low_byte(machine.reg(A0))));
-    }
-    if number == DEBUG {
-        return None;
-    }
-    Some(Outcome::Fault(UNKNOWN_SYSCALL))
-}
-
-/// The low byte of a register, as a signed number.
-fn low_byte(register: u64) -> i8
-    ensures { result ≡ alone.exit_code register }
-{
-    ((register % 0x100) as u8).cast_signed()
 }

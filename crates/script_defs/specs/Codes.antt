@@ -12,7 +12,7 @@ pub data Code : Type 0 where
   NoCode : Code
   -- more than one is, by a type script
   ManyCodes : Code
-  -- the bytes
+  -- these bytes
   Is : List ℕ → Code
 
 -- ---- Hash types
@@ -41,11 +41,11 @@ abbrev pub code_in : Option ShownCell → Code
 code_in None = NoCode
 code_in (Some cell) = Is cell.content
 
--- by data the first of them will do, since all hold the same code
+-- by data the first of them
 abbrev pub code_by_data : List ShownCell → List ℕ → Code
 code_by_data deps hash = code_in (find (has_data_hash hash) deps)
 
--- Of several by type none is taken, also where they are one cell that is named twice.
+-- By type just one: of several none is taken, also where they are one cell that is named twice (docs/DECISIONS.md).
 abbrev pub only_code : List ShownCell → Code
 only_code [] = NoCode
 only_code (cell ∷ []) = Is cell.content

@@ -42,11 +42,12 @@ output_types scene = map (λ output. output.type_script) scene.transaction.raw.o
 abbrev pub lock_group : Scene → Script → Group
 lock_group scene s = record { script = s; inputs = places_with (script_hash s) (map Some (input_locks scene)); outputs = [] }
 
--- One group for each type hash, in the order of first appearance, inputs before outputs.
+-- One group for each type hash, in the order of first appearance, inputs before outputs (docs/DECISIONS.md).
 abbrev pub type_group : Scene → Script → Group
 type_group scene s =
     record { script = s; inputs = places_with (script_hash s) (input_types scene); outputs = places_with (script_hash s) (output_types scene) }
 
+-- the scripts of those that have one
 abbrev pub present : Option Script → Option Script
 present s = s
 

@@ -15,7 +15,7 @@ use Rattle.script_defs.specs.Scene.{Scene, ShownCell}
 use Rattle.script_defs.specs.Groups.{Group}
 use Rattle.script_defs.specs.Sources.{Place, AtInput, AtOutput, AtCellDep, AtHeaderDep, source_of, place_of}
 
--- ---- What stands at a place: nothing of the kind that is asked for; `Some None` where it is missing
+-- ---- What stands at a place. `None`: the place has no such item. `Some None`: the item is missing.
 
 pub record OutputWithData : Type 0 where
   pub output : CellOutput
@@ -45,7 +45,7 @@ input_at scene (AtOutput place) = None
 input_at scene (AtCellDep place) = None
 input_at scene (AtHeaderDep place) = None
 
--- the witness at the place of an input or an output
+-- the witness at the place of an input or of an output, without its length; where there are fewer witnesses the place has none
 abbrev pub witness_at : Scene → Place → Option (Option (List ℕ))
 witness_at scene (AtInput place) = option_map Some (slice_get scene.transaction.witnesses place)
 witness_at scene (AtOutput place) = option_map Some (slice_get scene.transaction.witnesses place)
@@ -73,7 +73,7 @@ cell_fields =
     ∷ record { number = 6; bytes = λ cell. Some (u64_bytes (occupied_by cell.output cell.content)) }
     ∷ []
 
--- the number of the epoch, the number of its first block, and its length, by the block's number
+-- The number of the epoch, the number of its first block, and its length, by the block's number, for the genesis too (docs/DECISIONS.md).
 unfoldable pub header_fields : ℕ → List (Field Header)
 header_fields epoch_length =
     record { number = 0; bytes = λ h. Some (u64_bytes (epoch_number epoch_length h.number)) }
@@ -109,7 +109,7 @@ abbrev pub item_at : {I : Type 0} → (Place → Option (Option I)) → (I → O
 item_at at bytes None = NoIndex
 item_at at bytes (Some place) = answer (option_map (λ it. option_and_then bytes it) (at place))
 
--- An item of a list: a source or a field that there is not comes first, then an index, then what is missing.
+-- An item of a list. An unknown source or field decides first, then an index that has no such item, then an item that is missing.
 abbrev pub listed : {I : Type 0} → Scene → Group → Call → (Place → Option (Option I)) → Asked I → Item
 listed scene group call at None = Unknown
 listed scene group call at (Some bytes) = elim (source_of call.source) [
@@ -117,6 +117,7 @@ listed scene group call at (Some bytes) = elim (source_of call.source) [
   | Some source ↦ item_at at bytes (place_of scene group source call.index)
 ]
 
+-- What syscalls ask of cells, of headers, of inputs. The table has no row by which they would be asked for otherwise.
 abbrev pub cells_asked : Deed → ℕ → Asked OutputWithData
 cells_asked LoadsField number = field cell_fields number
 cells_asked Loads number = whole (λ cell. encoded cell_output cell.output)

@@ -19,15 +19,17 @@ abbrev pub keeps : ℕ → Result ℕ Failure → Bool
 keeps rule (Ok cycles) = true
 keeps rule (Err f) = not (rule_of f == rule)
 
+-- Of these rules the one is broken that the first failure breaks, and the others count as kept.
+
 -- J28: the code of every group is found, once.
 abbrev pub finds_each_code : Scene → ℕ → Bool
 finds_each_code scene left = keeps 28 (outcome_of scene left)
 
--- J29: every group exits with 0.
+-- J29: no group fails by its code, at a fault, or with an exit code that is not 0, before the cycles are spent.
 abbrev pub exits_well : Scene → ℕ → Bool
 exits_well scene left = keeps 29 (outcome_of scene left)
 
--- J30: within the cycles that are left.
+-- J30: the cycles that are left are enough up to the end, or up to such a failure.
 abbrev pub runs_within : Scene → ℕ → Bool
 runs_within scene left = keeps 30 (outcome_of scene left)
 

@@ -44,8 +44,8 @@ pub data Place : Type 0 where
 abbrev pub before : ℕ → ℕ → Option ℕ
 before end index = if nat_lt index end then Some index else None
 
--- The place of an index of a source; none at its end and past it. An index into a group is mapped to the place in the transaction. Cell deps
--- and header deps of a group are none.
+-- The place of an index of a source; none at its end and past it. An index into a group is mapped to the place in the transaction. A group has
+-- no cell deps and no header deps (docs/DECISIONS.md).
 abbrev pub place_of : Scene → Group → Source → ℕ → Option Place
 place_of scene group Inputs index = option_map AtInput (before (length scene.transaction.raw.inputs) index)
 place_of scene group Outputs index = option_map AtOutput (before (length scene.transaction.raw.outputs) index)

@@ -1,4 +1,5 @@
--- TYPE_ID, a script that is a rule: at most one cell on a branch has its hash (RFC 0022, "Type ID"; docs/RULES.md, "Script groups").
+-- TYPE_ID, a script that is a rule: its args are made of an input that is spent, so that no other cell is made with them (RFC 0022, "Type ID";
+-- docs/RULES.md, "Script groups").
 use Rattle.std.specs.Prelude.{ℕ, ℤ, pos, negsuc, Bool, ◌&&◌, ◌||◌, ◌==◌, not, nat_lt, List, [], ◌++◌, length, Option, Some, None, if◌then◌else◌, slice_get}
 use Rattle.std.specs.List.{list_all}
 use Rattle.std.specs.Str.{bytes_eq}
@@ -17,7 +18,7 @@ abbrev pub input_bytes : Option CellInput → List ℕ
 input_bytes None = []
 input_bytes (Some input) = encoded cell_input input
 
--- The args that the output at a place is given: the hash of the transaction's first input and of that place.
+-- The args that the output at a place is given: the hash of the 44 bytes of the transaction's first input, followed by the place as a u64.
 unfoldable pub new_type_id : Scene → ℕ → List ℕ
 new_type_id scene place = ckbhash (input_bytes (slice_get scene.transaction.raw.inputs 0) ++ to_le_bytes w64 place)
 
@@ -25,8 +26,8 @@ new_type_id scene place = ckbhash (input_bytes (slice_get scene.transaction.raw.
 abbrev pub is_new : Scene → Group → Bool
 is_new scene group = list_all (λ place. bytes_eq group.script.args (new_type_id scene place)) group.outputs
 
--- The code with which it exits: -1 where its args are no hash; -2 where it has more than one input or more than one output; -3 where it is made
--- anew with other args than the output's; else 0.
+-- The code with which it exits: -1 where its args are not 32 bytes; -2 where it has more than one input or more than one output; -3 where it
+-- has no input and its args are not those that its output is given; else 0.
 unfoldable pub type_id_exit : Scene → Group → ℤ
 type_id_exit scene group =
     if not (length group.script.args == 32) then negsuc 0

@@ -11,9 +11,9 @@ pub record Call : Type 0 where
 pub data Item : Type 0 where
   -- the item's bytes
   Here : List ℕ → Item
-  -- the source does not have such items, or its end is at the index or before it
+  -- the source has no such item at the index, which may be past its end
   NoIndex : Item
-  -- it has the index, and there is no such item
+  -- what stands at the index has no such field, or no header dep names the block that made it
   Missing : Item
   -- there is no such source or field
   Unknown : Item

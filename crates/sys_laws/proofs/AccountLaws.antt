@@ -1,9 +1,9 @@
 -- A syscall keeps the account, whatever it is answered.
-use Rattle.std.proofs.Common.{◌≡◌, ℕ, ◌+◌, ◌%◌, ◌≤◌, ◌==◌, nat_lt, ◌||◌, Bool, true, false, cond, List, length, take, drop, Option, Some, None, Result, Ok, Err, refl, arith}
+use Rattle.std.proofs.Common.{◌≡◌, ℕ, ◌+◌, ◌%◌, ◌≤◌, ◌==◌, nat_lt, ◌||◌, Bool, true, false, cond, ℤ, List, length, take, drop, Option, Some, None, Result, Ok, Err, refl, arith}
 use Rattle.std.specs.Prelude.{not}
 use Rattle.std.proofs.lemmas.Bool.Decides.{nat_tests}
 use Rattle.vm_defs.specs.declared.outcome.Outcome.{Outcome}
-use Rattle.vm_defs.specs.declared.outcome.Outcome.TheVariants.{Fault, Spent}
+use Rattle.vm_defs.specs.declared.outcome.Outcome.TheVariants.{Exit, Fault, Spent}
 use Rattle.vm_defs.specs.declared.memory.MemFault.{MemFault}
 use Rattle.vm_defs.specs.Memory.{Memory, page_size}
 use Rattle.vm_defs.specs.Memory as memory
@@ -17,13 +17,15 @@ use Rattle.sys_laws.specs.Laws.{SyscallsKeepAccount}
 
 -- ---- what one answer keeps
 
-record Keeps (machine : Machine) (next : Answered) : Type 0 where
+pub record Keeps (machine : Machine) (next : Answered) : Type 0 where
   pub budget : next.1.budget ≡ machine.budget
   pub cycles : machine.cycles ≤ next.1.cycles
   pub within : machine.cycles ≤ machine.budget → next.0 ≡ None → next.1.cycles ≤ machine.budget
+  -- an exit costs nothing
+  pub exits : (code : ℤ) → next.0 ≡ Some (Exit code) → next.1.cycles ≡ machine.cycles
 
 same-keeps : (machine : Machine) (outcome : Option Outcome) → Keeps machine (outcome, machine)
-same-keeps machine outcome = record { budget = refl; cycles = omega arith; within = λ inside none. inside }
+same-keeps machine outcome = record { budget = refl; cycles = omega arith; within = λ inside none. inside; exits = λ code exit. refl }
 
 either-keeps : (b : Bool) (machine : Machine) (one other : Answered) → Keeps machine one → Keeps machine other → Keeps machine (cond b one other)
 either-keeps true machine one other keeps keeps' = keeps
@@ -38,7 +40,7 @@ either-register false machine one other keeps keeps' = keeps'
 register-keeps : (machine paid : Machine) (i n : ℕ) → Keeps machine (None, paid) → Keeps machine (None, with_register paid i n)
 unfolding with_register
 register-keeps machine paid i n keeps =
-    either-register (i == 0) machine paid _ keeps (record { budget = keeps.budget; cycles = keeps.cycles; within = keeps.within })
+    either-register (i == 0) machine paid _ keeps (record { budget = keeps.budget; cycles = keeps.cycles; within = keeps.within; exits = λ code exit. cc })
 
 results-keeps : (machine : Machine) (n : ℕ) → Keeps machine (results machine n)
 results-keeps machine n = register-keeps machine machine 10 n (same-keeps machine None)
@@ -52,16 +54,16 @@ paid-keeps count machine = by_test (is_spent paid) refl
     paid = charged machine (loading_cycles count)
 
     by_test : (spent : Bool) → is_spent paid ≡ spent → Keeps machine (cond spent (Some Spent, paid) (results paid 0))
-    by_test true is = record { budget = refl; cycles = omega arith; within = λ inside none. cc }
+    by_test true is = record { budget = refl; cycles = omega arith; within = λ inside none. cc; exits = λ code exit. cc }
     by_test false is =
         let fits : machine.cycles + loading_cycles count ≤ machine.budget = grind (arith, nat_tests) in
-        register-keeps machine paid 10 0 (record { budget = refl; cycles = omega arith; within = λ inside none. fits })
+        register-keeps machine paid 10 0 (record { budget = refl; cycles = omega arith; within = λ inside none. fits; exits = λ code exit. cc })
 
 -- with other memory
 paid-after : (count : ℕ) (machine : Machine) (memory : Memory) → Keeps machine (paid_for count (record machine { memory = memory }))
 paid-after count machine memory =
     let keeps = paid-keeps count (record machine { memory = memory }) in
-    record { budget = keeps.budget; cycles = keeps.cycles; within = keeps.within }
+    record { budget = keeps.budget; cycles = keeps.cycles; within = keeps.within; exits = keeps.exits }
 
 -- ---- loading in part
 
@@ -129,7 +131,7 @@ deed-keeps items machine (Some Loads) = item-keeps Loads machine _
 deed-keeps items machine (Some LoadsField) = item-keeps LoadsField machine _
 deed-keeps items machine (Some LoadsCode) = item-keeps LoadsCode machine _
 
-syscall-keeps : (items : Items) (machine : Machine) → Keeps machine (syscall items machine)
+pub syscall-keeps : (items : Items) (machine : Machine) → Keeps machine (syscall items machine)
 unfolding syscall
 syscall-keeps items machine = deed-keeps items machine (deed_of (syscall_number machine))
 

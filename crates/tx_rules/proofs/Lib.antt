@@ -6,6 +6,8 @@ pub mod DepositLemmas
 pub mod Faults
 pub mod HeaderLemmas
 pub mod MoneyLemmas
+pub mod RowRuleLemmas
 pub mod RuleLemmas
+pub mod SearchLemmas
 pub mod SiteLemmas
 pub mod WalkLemmas

@@ -1,5 +1,5 @@
 -- Where a transaction is judged, as the code is handed it, and what that stands for.
-use Rattle.std.specs.Prelude.{◌≡◌, ◌⊎◌, ℕ, ◌^◌, ◌<◌, nat_lt, List, map, length, Option, Some, if◌then◌else◌, slice_index, IsTrue, IsSome}
+use Rattle.std.specs.Prelude.{◌≡◌, ◌⊎◌, ℕ, ◌^◌, ◌<◌, nat_lt, Bool, ◌&&◌, is_some, List, map, length, Option, Some, if◌then◌else◌, slice_index, IsTrue, IsSome}
 use Rattle.std.specs.Option.{option_map}
 use Rattle.std.specs.List.{All}
 use Rattle.codec_defs.specs.Schema.{OutPoint, Transaction, Block}
@@ -14,6 +14,7 @@ use Rattle.chain_tree.specs.Told.{Stored, blocks_of}
 use Rattle.cell_defs.specs.Cell.{Cell, holds_its_own}
 use Rattle.cell_defs.specs.Row.{Row, row_of, IsOutputOf}
 use Rattle.tx_defs.specs.Site.{Site, Found, height_at, all_there}
+use Rattle.tx_defs.specs.Resolving.{spends_each_once}
 
 -- The specification, the entries of the tree, the place of the parent, and the block that is judged, where the transaction stands in one.
 pub record AtValue : Type 0 where
@@ -69,6 +70,10 @@ find_row rows o = option_map (λ row. (o, row)) (rows o)
 
 abbrev pub input_rows : (OutPoint → Option Row) → Transaction → Option (List (OutPoint × Row))
 input_rows rows t = all_there (map (λ input. find_row rows input.previous_output) t.raw.inputs)
+
+-- J20 by rows alone: each input has one, and no two inputs spend one cell
+abbrev pub spends_rows : (OutPoint → Option Row) → Transaction → Bool
+spends_rows rows t = is_some (input_rows rows t) && spends_each_once t
 
 -- each of the cells is one that the transaction sees
 abbrev pub AreSeen : Site → List Found → Type 0

@@ -1,19 +1,23 @@
 -- What a transaction resolves to.
-use Rattle.std.specs.Prelude.{◌≡◌, ◌⊎◌, ℕ, ◌≤◌, false, List, ◌++◌, map, Option, Some, None, IsTrue, IsSome, slice_index}
+use Rattle.std.specs.Prelude.{◌≡◌, ◌⊎◌, ℕ, ◌≤◌, false, List, ◌++◌, map, Option, Some, None, Result, Err, IsErrAnd, IsTrue, IsSome, slice_index}
 use Rattle.std.specs.List.{All, AllZip}
 use Rattle.codec_defs.specs.Shape.{decoded}
-use Rattle.codec_defs.specs.Schema.{Transaction, cell_output, Block}
+use Rattle.codec_defs.specs.Schema.{OutPoint, Transaction, cell_output, Block}
+use Rattle.outside.specs.declared.disk.ReadStop.TheVariants.{NoMemory}
 use Rattle.chain_defs.specs.Hashes.{transaction_hash}
 use Rattle.chain_defs.specs.Branch.{branch_places}
 use Rattle.chain_tree.specs.declared.entry.Entry.{Entry}
 use Rattle.chain_tree.specs.Entries.{place_of_hash}
+use Rattle.cell_defs.specs.Row.{Row}
 use Rattle.cell_model.specs.Copies.{ResolvedValue, ResolvedTxValue, IsCopyOf}
 use Rattle.tx_defs.specs.Site.{Site, Found}
 use Rattle.tx_defs.specs.Resolving.{inputs, deps, heights}
 use Rattle.tx_defs.specs.Rules.{has_form}
 use Rattle.tx_defs.specs.Capacity as capacity
-use Rattle.tx_rules.specs.At.{found_row}
+use Rattle.tx_rules.specs.At.{found_row, spends_rows}
 use Rattle.tx_rules.specs.declared.capacity.Balance.{Balance}
+use Rattle.tx_rules.specs.declared.resolving.TxStop.{TxStop}
+use Rattle.tx_rules.specs.declared.resolving.TxStop.TheVariants.{Broken, Read}
 
 -- What is so of it over any source of blocks: the form is kept, each input has its own out-point, each header dep the place of its hash in the
 -- tree, and each copy an output.
@@ -35,6 +39,18 @@ pub record IsResolved (kept : List Block) (parent : ℕ) (site : Site) (t : Tran
   pub inputs_are : AllZip (Copies kept parent) (inputs site t) resolved.inputs
   pub deps_are : AllZip (Copies kept parent) (deps site t) resolved.deps
   pub headers_are : resolved.headers ≡ map (slice_index (branch_places kept parent)) (heights site t)
+
+-- a stop at a rule, or out of memory before it
+abbrev pub IsStopAt : ℕ → TxStop → Type 0
+IsStopAt rule stop = (stop ≡ Broken rule) ⊎ (stop ≡ Read NoMemory)
+
+-- J18 and J20 over any source of blocks: an answer says of them what the transaction and the rows do.
+pub record FollowsRows {T : Type 0} (rows : OutPoint → Option Row) (t : Transaction) (result : Result T TxStop) : Type 0 where
+  pub formless : has_form t ≡ false → IsErrAnd result (IsStopAt 18)
+  pub lost : IsTrue (has_form t) → spends_rows rows t ≡ false → IsErrAnd result (IsStopAt 20)
+  -- and the other way
+  pub form : result ≡ Err (Broken 18) → has_form t ≡ false
+  pub live : result ≡ Err (Broken 20) → IsTrue (has_form t) × (spends_rows rows t ≡ false)
 
 -- the rules that are tried
 abbrev pub IsTried : ℕ → Type 0

@@ -2,9 +2,15 @@
 //!
 //! [`resolve`] is the contract of use: over a tree, the live cells that the transaction sees and a source of kept
 //! blocks it answers the least of these rules that is broken, exactly by `tx_defs`, and otherwise the transaction with
-//! copies of the cells of its inputs and deps, its fee and its interest. It is linear in the transaction but for
-//! looking up out-points. It copies the cells of the inputs where J18 to J25 are kept, those of the deps where all are,
-//! and no other. That the transaction was proposed (J19), and what its scripts say (J28 to J30), is left to others.
+//! copies of the cells of its inputs and deps, its fee and its interest. What it answers of J18 and J20 stands on the
+//! transaction and the rows of its inputs alone, whatever the source tells. It copies the cells of the inputs where J18
+//! to J25 are kept, those of the deps where all are, and no other. That the transaction was proposed (J19), and what
+//! its scripts say (J28 to J30), is left to others.
+//!
+//! Its work is linear in the transaction and the cells that it names, the members of a dep group with them, but for
+//! three things. A copy of a cell, and a dep group, takes at most one reading of the whole block that made it. A header
+//! dep takes a walk of the logarithm of its height; J26 sorts the places of all of them, and searches them once for
+//! each withdrawing input, n log n. Out-points, hashes and deps are looked up in hash tables.
 #![tactic(auto)]
 
 mod age;

@@ -17,10 +17,10 @@ ghost use Rattle.tx_defs.specs.Rules as defs;
 ghost use Rattle.tx_defs.specs.Capacity as rules;
 ghost use Rattle.tx_defs.specs.Resolving.{inputs, deps, heights};
 ghost use Rattle.tx_rules.specs.At.{AtValue, IsPlaced, IsSiteOf, found_row, input_rows};
-ghost use Rattle.tx_rules.specs.Steps.{spending_rules, naming_rules, using_rules, finding_rules, paying_rules, Tells, Stops, AreFound, Pays};
+ghost use Rattle.tx_rules.specs.Steps.{spending_rules, naming_rules, using_rules, finding_rules, paying_rules, Tells, Stops, StopsLater, AreFound, Pays};
 ghost use Rattle.tx_rules.specs.declared.resolving.TxStop.TheVariants.{Read};
 ghost use Rattle.tx_rules.specs.Copying.{row_in, HoldsOutput};
-ghost use Rattle.tx_rules.specs.Outcome.{Copies, IsFormed, IsResolved, IsTried};
+ghost use Rattle.tx_rules.specs.Outcome.{Copies, FollowsRows, IsFormed, IsResolved, IsTried};
 
 use crate::age::{are_mature, meets_each_since};
 use crate::at::TxAt;
@@ -107,6 +107,7 @@ fn spent_rows<C: Cells>(
     cells: &C,
 ) -> Result<Vec<(OutPoint, CellMeta)>, TxStop>
     ensures stops { Stops result }
+    ensures by_rows { FollowsRows (C.rows cells.now) tx.now result }
     ensures unread { result ≡ Err (Read DiskFault) → ⊥ }
     ensures tells { (stored : List Stored) (at : AtValue) (site : Site) → IsSiteOf stored at (C.rows cells.now) site → Tells (spending_rules site tx.now) result }
     ensures form { IfOk result (λ _. IsTrue (defs.has_form tx.now)) }
@@ -138,6 +139,7 @@ fn named_rows<C: Cells, B: Blocks>(
     ensures count { B.count blocks.new ≡ B.count blocks.old }
     ensures loans { B.loans_of blocks.new ≡ B.loans_of blocks.old }
     ensures stops { Stops result }
+    ensures later { StopsLater result }
     ensures tells { (stored : List Stored) (site : Site) → B.told blocks.old ≡ Some stored → IsSiteOf stored at.now (C.rows cells.now) site
         → Tells (naming_rules site tx.now) result }
     ensures cells { (stored : List Stored) (site : Site) → B.told blocks.old ≡ Some stored → IsSiteOf stored at.now (C.rows cells.now) site
@@ -169,6 +171,7 @@ fn try_cells<C: Cells>(
     requires each { length spent.now ≡ length tx.now.raw.inputs }
     requires hash { hash ≡ transaction_hash tx.now }
     ensures stops { Stops result }
+    ensures later { StopsLater result }
     ensures unread { result ≡ Err (Read DiskFault) → ⊥ }
     ensures tells { (stored : List Stored) (site : Site) → IsSiteOf stored at.now (C.rows cells.now) site
         → spent.now ≡ map (found_row (blocks_of stored) at.now.parent) (inputs site tx.now)
@@ -191,6 +194,7 @@ fn try_cells<C: Cells>(
 
 /// J26 and J27: what it pays, over copies of the cells of its inputs and the places of its header deps.
 fn paid_by(
+    alloc: Global,
     tx: &TxView<'_>,
     at: &TxAt<'_>,
     copies: &[Resolved],
@@ -198,6 +202,7 @@ fn paid_by(
 ) -> Result<Balance, TxStop>
     requires placed { IsPlaced at.now }
     ensures stops { Stops result }
+    ensures later { StopsLater result }
     ensures unread { result ≡ Err (Read DiskFault) → ⊥ }
     ensures tells { (stored : List Stored) (rows : OutPoint → Option Row) (site : Site) → IsSiteOf stored at.now rows site
         → AllZip (Copies (blocks_of stored) at.now.parent) (inputs site tx.now) copies.now
@@ -206,7 +211,7 @@ fn paid_by(
         → AllZip (Copies (blocks_of stored) at.now.parent) (inputs site tx.now) copies.now
         → places.now ≡ map (slice_index (branch_places (blocks_of stored) at.now.parent)) (heights site tx.now) → IfOk result (Pays site tx.now) }
 {
-    if !names_deposits(tx, at, copies, places)? {
+    if !names_deposits(alloc, tx, at, copies, places)? {
         return Err(TxStop::Broken(26));
     }
     match balance_of(tx, at, copies, places)? {
@@ -229,6 +234,7 @@ fn find<C: Cells, B: Blocks>(
     ensures count { B.count blocks.new ≡ B.count blocks.old }
     ensures loans { B.loans_of blocks.new ≡ B.loans_of blocks.old }
     ensures stops { Stops result }
+    ensures by_rows { FollowsRows (C.rows cells.now) tx.now result }
     ensures tells { (stored : List Stored) (site : Site) → B.told blocks.old ≡ Some stored → IsSiteOf stored at.now (C.rows cells.now) site
         → Tells (finding_rules site tx.now) result }
     ensures found { (stored : List Stored) (site : Site) → B.told blocks.old ≡ Some stored → IsSiteOf stored at.now (C.rows cells.now) site
@@ -265,6 +271,7 @@ fn copy_cells<B: Blocks>(
     ensures count { B.count blocks.new ≡ B.count blocks.old }
     ensures loans { B.loans_of blocks.new ≡ B.loans_of blocks.old }
     ensures stops { Stops result }
+    ensures later { StopsLater result }
     ensures tells { (stored : List Stored) (rows : OutPoint → Option Row) (site : Site) → B.told blocks.old ≡ Some stored → IsSiteOf stored at.now rows site
         → AreFound (blocks_of stored) at.now.parent site tx.now finding.now.spent.items finding.now.named.items finding.now.places.items
         → Tells (paying_rules site tx.now) result }
@@ -282,7 +289,7 @@ fn copy_cells<B: Blocks>(
     ensures cause { CountsFault (B.faults blocks.old) (B.faults blocks.new) (result ≡ Err (Read DiskFault)) }
 {
     let inputs = fetch_all(alloc, at, blocks, &finding.spent)?;
-    let balance = paid_by(tx, at, &inputs, &finding.places)?;
+    let balance = paid_by(alloc, tx, at, &inputs, &finding.places)?;
     let deps = fetch_all(alloc, at, blocks, &finding.named)?;
     Ok(Copying {
         inputs,
@@ -306,6 +313,7 @@ pub fn resolve<'a, C: Cells, B: Blocks>(
     ensures loans { B.loans_of blocks.new ≡ B.loans_of blocks.old }
     ensures formed { IfOk result (λ ok. IsFormed at.now.entries tx.now ok.resolved) }
     ensures tried { (rule : ℕ) → result ≡ Err (TxStop.Broken rule) → IsTried rule }
+    ensures by_rows { FollowsRows (C.rows cells.now) tx.now result }
 
     // Over kept blocks that are told, at the site of the transaction: the first rule that is broken, or none.
     ensures broken { (stored : List Stored) (site : Site) → B.told blocks.old ≡ Some stored → IsSiteOf stored at.now (C.rows cells.now) site

@@ -2,6 +2,7 @@
 ghost use Rattle.std.specs.Prelude.{◌≡◌, ◌<◌, ◌&&◌, ◌||◌, ◌==◌, not, ℕ, List, length, map, Some, None, Err, IfOk, IfSome, slice_get, slice_index, Option, if◌then◌else◌};
 ghost use Rattle.std.specs.Option.{option_map, option_and_then};
 ghost use Rattle.std.specs.List.{AllZip, list_all, list_any};
+ghost use Rattle.std.specs.List.Sorted.{IsNonDecreasing, IsPermutation};
 ghost use Rattle.codec_defs.specs.Schema.{OutPoint};
 ghost use Rattle.cell_defs.specs.Cell.{Cell};
 ghost use Rattle.cell_defs.specs.Row.{Row};
@@ -9,6 +10,7 @@ ghost use Rattle.cell_model.specs.Copies.{IsCopyOf};
 ghost use Rattle.chain_defs.specs.Branch.{branch_places};
 ghost use Rattle.outside.specs.declared.disk.Area.TheVariants.{Log};
 ghost use Rattle.outside.specs.declared.disk.Damage.{Damage};
+ghost use Rattle.outside.specs.declared.disk.ReadStop.TheVariants.{DiskFault, Damaged};
 ghost use Rattle.chain_tree.specs.Told.{Stored, blocks_of};
 ghost use Rattle.tx_defs.specs.Site.{Site, Found, height_at};
 ghost use Rattle.tx_defs.specs.Resolving.{inputs, heights};
@@ -22,7 +24,8 @@ use crate::at::{TxAt, damage_of};
 use cell_model::Resolved;
 use epochs::Spec;
 use mol_schema::{OutputView, ScriptView, TxView, WitnessArgsView};
-use outside::Damage;
+use outside::{Damage, NoMemory, ReadStop};
+use std::alloc::Global;
 
 /// The hash type by which the DAO script is named: that of its type script.
 const BY_TYPE: u8 = 1;
@@ -134,25 +137,39 @@ pub(crate) fn deposit_place(
     }
 }
 
-/// Whether a block is among the header deps. Each withdrawing input goes through them: an input with its witness takes 80
-/// bytes and a header dep 32, so that these are about 10^8 comparisons of a u32 at most in a transaction of 2^20 bytes,
-/// and that only over as many live withdrawing cells.
-fn is_named(headers: &[u32], block: u32) -> bool
-    ensures { result ≡ list_any (λ place. place == block) headers.now }
+/// Places in rising order, so that each withdrawing input takes a binary search.
+fn in_order(alloc: Global, places: &[u32]) -> Result<Vec<u32>, NoMemory>
+    ensures rising { IfOk result (λ ordered. IsNonDecreasing ordered.items) }
+    ensures same { IfOk result (λ ordered. IsPermutation places.now ordered.items) }
 {
-    headers.iter().any(|place| *place == block)
+    let mut ordered = places.to_vec(alloc)?;
+    ordered.sort_unstable();
+    Ok(ordered)
 }
+
+/// Whether a block is among the header deps, by their places in rising order.
+fn is_named(ordered: &[u32], block: u32) -> bool
+    requires rising { IsNonDecreasing ordered.now }
+    ensures { result ≡ list_any (λ place. place == block) ordered.now }
+{
+    ordered.binary_search(&block).is_ok()
+}
+
 /// Whether the input at a place, if it withdraws, names its headers: that of the block that made its cell, and by its
-/// witness the one of its deposit block. Damaged as `withdrawing_made` is.
+/// witness the one of its deposit block. The places of the header deps come as they are named, and in rising order.
+/// Damaged as `withdrawing_made` is.
 fn withdraws_well(
     tx: &TxView<'_>,
     at: &TxAt<'_>,
     height: u64,
     headers: &[u32],
+    ordered: &[u32],
     i: usize,
     copy: &Resolved,
 ) -> Result<bool, Damage>
     requires placed { IsPlaced at.now }
+    requires rising { IsNonDecreasing ordered.now }
+    requires same { IsPermutation headers.now ordered.now }
     ensures well { (stored : List Stored) (rows : OutPoint → Option Row) (site : Site) (found : Found) → IsSiteOf stored at.now rows site
         → height ≡ height_at site → headers.now ≡ map (slice_index (branch_places (blocks_of stored) at.now.parent)) (heights site tx.now)
         → IsRowOf (blocks_of stored) at.now.parent site found copy.now.row → IsCopyOf found.cell copy.now
@@ -166,18 +183,20 @@ fn withdraws_well(
         return Ok(true);
     };
     let meta = &copy.meta;
-    Ok(is_named(headers, meta.block) && deposit_place(tx, at, headers, i, made).is_some())
+    Ok(is_named(ordered, meta.block) && deposit_place(tx, at, headers, i, made).is_some())
 }
 
-/// J26: each withdrawing input names its headers, over copies of its inputs' cells and the places of its header deps.
-/// Damaged where a row's block is none that the transaction sees, or a copy is no output.
-pub(crate) fn names_deposits(
+/// Whether each input withdraws well, over copies of its inputs' cells. Damaged as `withdraws_well` is.
+fn all_withdraw_well(
     tx: &TxView<'_>,
     at: &TxAt<'_>,
     copies: &[Resolved],
     headers: &[u32],
+    ordered: &[u32],
 ) -> Result<bool, Damage>
     requires placed { IsPlaced at.now }
+    requires rising { IsNonDecreasing ordered.now }
+    requires same { IsPermutation headers.now ordered.now }
     ensures named { (stored : List Stored) (rows : OutPoint → Option Row) (site : Site) → IsSiteOf stored at.now rows site
         → AllZip (Copies (blocks_of stored) at.now.parent) (inputs site tx.now) copies.now → headers.now ≡ map (slice_index (branch_places (blocks_of stored) at.now.parent)) (heights site tx.now)
         → IfOk result (λ named. named ≡ rules.names_deposits site tx.now) }
@@ -189,9 +208,37 @@ pub(crate) fn names_deposits(
     let height = at.height();
     'inputs: for i in 0..copies.len() {
         let copy = &copies[i];
-        if !withdraws_well(tx, at, height, headers, i, copy)? {
+        if !withdraws_well(tx, at, height, headers, ordered, i, copy)? {
             return Ok(false);
         }
     }
     Ok(true)
+}
+
+/// J26: each withdrawing input names its headers, over copies of its inputs' cells and the places of its header deps.
+/// Damaged where a row's block is none that the transaction sees, or a copy is no output.
+pub(crate) fn names_deposits(
+    alloc: Global,
+    tx: &TxView<'_>,
+    at: &TxAt<'_>,
+    copies: &[Resolved],
+    headers: &[u32],
+) -> Result<bool, ReadStop>
+    requires placed { IsPlaced at.now }
+    ensures named { (stored : List Stored) (rows : OutPoint → Option Row) (site : Site) → IsSiteOf stored at.now rows site
+        → AllZip (Copies (blocks_of stored) at.now.parent) (inputs site tx.now) copies.now → headers.now ≡ map (slice_index (branch_places (blocks_of stored) at.now.parent)) (heights site tx.now)
+        → IfOk result (λ named. named ≡ rules.names_deposits site tx.now) }
+    ensures undamaged { (stored : List Stored) (rows : OutPoint → Option Row) (site : Site) → IsSiteOf stored at.now rows site
+        → AllZip (Copies (blocks_of stored) at.now.parent) (inputs site tx.now) copies.now → headers.now ≡ map (slice_index (branch_places (blocks_of stored) at.now.parent)) (heights site tx.now)
+        → (damage : Damage) → result ≡ Err (Damaged damage) → ⊥ }
+    ensures damage { (damage : Damage) → result ≡ Err (Damaged damage) → damage.area ≡ Log }
+    ensures no_fault { result ≡ Err DiskFault → ⊥ }
+{
+    let Ok(ordered) = in_order(alloc, headers) else {
+        return Err(ReadStop::NoMemory);
+    };
+    match all_withdraw_well(tx, at, copies, headers, &ordered) {
+        Ok(named) => Ok(named),
+        Err(damage) => Err(ReadStop::Damaged(damage)),
+    }
 }

@@ -1,2 +1,3 @@
 pub mod Ranges
 pub mod Exits
+pub mod RunLemmas

@@ -1,3 +1,4 @@
 pub mod Deeds
 pub mod Finding
 pub mod Answering
+pub mod Running

@@ -28,6 +28,7 @@ pub(crate) fn load_part(machine: &mut Machine, item: &[u8]) -> Sys
     ensures answer { IsAnswer (loads_part machine.old.machine item.now) machine.new.machine result }
     ensures goes_on { machine.new.goes_on ≡ goes_on_of result }
     ensures stops { (stop : ReadStop) → result ≡ Sys.Stop stop → stop ≡ read_stop.NoMemory }
+    ensures unpaid { (stop : ReadStop) → result ≡ Sys.Stop stop → machine.new.machine.cycles ≡ machine.old.machine.cycles }
     ensures pages_kept { (page : ℕ) → IsAllocated machine.old.allocated page → IsAllocated machine.new.allocated page }
 {
     let to = machine.reg(A0);
@@ -132,6 +133,7 @@ pub(crate) fn load_code(machine: &mut Machine, item: &[u8]) -> Sys
     ensures answer { IsAnswer (loads_code machine.old.machine item.now) machine.new.machine result }
     ensures goes_on { machine.new.goes_on ≡ goes_on_of result }
     ensures stops { (stop : ReadStop) → result ≡ Sys.Stop stop → stop ≡ read_stop.NoMemory }
+    ensures unpaid { (stop : ReadStop) → result ≡ Sys.Stop stop → machine.new.machine.cycles ≡ machine.old.machine.cycles }
     ensures pages_kept { (page : ℕ) → IsAllocated machine.old.allocated page → IsAllocated machine.new.allocated page }
 {
     let to = machine.reg(A0);

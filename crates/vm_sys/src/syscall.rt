@@ -1,15 +1,17 @@
 // A syscall from its number to its result.
-ghost use Rattle.std.specs.Prelude.{◌≡◌, ℕ, true, Some, IsSome};
+ghost use Rattle.std.specs.Prelude.{◌≡◌, ◌≢◌, ℕ, true, Some, IsSome};
 ghost use Rattle.outside.specs.Causes.{CountsFault};
 ghost use Rattle.outside.specs.declared.disk.Damage.{Damage};
 ghost use Rattle.outside.specs.declared.disk.ReadStop.TheVariants.{DiskFault, Damaged, NoMemory};
 ghost use Rattle.outside.specs.declared.disk.ReadStop.{ReadStop};
 ghost use Rattle.sys_defs.specs.World.{Items};
+ghost use Rattle.sys_defs.specs.World as items_of;
 ghost use Rattle.sys_defs.specs.Answer.{asks, results, syscall, with_item, with_bytes};
 ghost use Rattle.vm_defs.specs.Alone as alone;
 ghost use Rattle.vm_mem.specs.Pages.{IsAllocated};
 ghost use Rattle.vm_sys.specs.Deeds.{form_meaning};
 ghost use Rattle.vm_sys.specs.Answering.{IsAnswer, IsAnswerOfSome, goes_on_of};
+ghost use Rattle.vm_sys.specs.Running.{LoadsItem};
 
 use super::call::{A0, A7, Deed, Form, asked, deed_of};
 use super::loading::{load_code, load_part};
@@ -41,6 +43,9 @@ pub enum Sys {
 }
 
 /// Answers an ECALL: the syscall whose number is in a7, over what surrounds the script.
+///
+/// Where the world tells what it shows, memory is wanted only by a call that loads from a source, and a field, that
+/// there is. A call that is stopped costs nothing.
 #[tactic(auto, unfolding(sys_defs::specs::Answer::syscall))]
 pub fn handle<W: World>(machine: &mut Machine, world: &mut W) -> Sys
     requires { machine.old.goes_on ≡ true }
@@ -49,6 +54,8 @@ pub fn handle<W: World>(machine: &mut Machine, world: &mut W) -> Sys
     ensures some { IsAnswerOfSome (λ item. syscall (λ call. item) machine.old.machine) machine.new.machine result }
     ensures exact { (items : Items) → W.told world.old ≡ Some items → IsAnswer (syscall items machine.old.machine) machine.new.machine result }
     ensures goes_on { machine.new.goes_on ≡ goes_on_of result }
+    ensures wants { (items : Items) → W.told world.old ≡ Some items → result ≡ Sys.Stop NoMemory → LoadsItem items machine.old.machine }
+    ensures unpaid { (stop : ReadStop) → result ≡ Sys.Stop stop → machine.new.machine.cycles ≡ machine.old.machine.cycles }
     ensures cause { CountsFault (W.faults world.old) (W.faults world.new) (result ≡ Sys.Stop DiskFault) }
     ensures undamaged { IsSome (W.told world.old) → (damage : Damage) → result ≡ Sys.Stop (Damaged damage) → ⊥ }
     ensures pages_kept { (page : ℕ) → IsAllocated machine.old.allocated page → IsAllocated machine.new.allocated page }
@@ -72,6 +79,8 @@ fn load<W: World>(machine: &mut Machine, world: &mut W, form: Form) -> Sys
     ensures some { IsAnswerOfSome (with_item (form_meaning form) machine.old.machine) machine.new.machine result }
     ensures exact { (items : Items) → W.told world.old ≡ Some items → IsAnswer (with_item (form_meaning form) machine.old.machine (items (asks machine.old.machine (form_meaning form)))) machine.new.machine result }
     ensures goes_on { machine.new.goes_on ≡ goes_on_of result }
+    ensures wants { (items : Items) → W.told world.old ≡ Some items → result ≡ Sys.Stop NoMemory → items (asks machine.old.machine (form_meaning form)) ≢ items_of.Unknown }
+    ensures unpaid { (stop : ReadStop) → result ≡ Sys.Stop stop → machine.new.machine.cycles ≡ machine.old.machine.cycles }
     ensures cause { CountsFault (W.faults world.old) (W.faults world.new) (result ≡ Sys.Stop DiskFault) }
     ensures undamaged { IsSome (W.told world.old) → (damage : Damage) → result ≡ Sys.Stop (Damaged damage) → ⊥ }
     ensures pages_kept { (page : ℕ) → IsAllocated machine.old.allocated page → IsAllocated machine.new.allocated page }
@@ -94,6 +103,7 @@ fn load_bytes(machine: &mut Machine, form: Form, item: &[u8]) -> Sys
     ensures answer { IsAnswer (with_bytes (form_meaning form) machine.old.machine item.now) machine.new.machine result }
     ensures goes_on { machine.new.goes_on ≡ goes_on_of result }
     ensures stops { (stop : ReadStop) → result ≡ Sys.Stop stop → stop ≡ NoMemory }
+    ensures unpaid { (stop : ReadStop) → result ≡ Sys.Stop stop → machine.new.machine.cycles ≡ machine.old.machine.cycles }
     ensures pages_kept { (page : ℕ) → IsAllocated machine.old.allocated page → IsAllocated machine.new.allocated page }
 {
     match form {

@@ -2,8 +2,9 @@
 ghost use Rattle.std.specs.Prelude.{◌≡◌, ◌-◌, ◌^◌, ◌≤◌, Option, Some, Err, List, ℕ, IfOk, IfSome, IsSome};
 ghost use Rattle.outside.specs.Causes.{CountsFault};
 ghost use Rattle.outside.specs.declared.disk.Damage.{Damage};
-ghost use Rattle.outside.specs.declared.disk.ReadStop.TheVariants.{DiskFault, Damaged};
+ghost use Rattle.outside.specs.declared.disk.ReadStop.TheVariants.{DiskFault, Damaged, NoMemory};
 ghost use Rattle.sys_defs.specs.World.{Items};
+ghost use Rattle.sys_defs.specs.World as items;
 ghost use Rattle.vm_sys.specs.Finding.{item_of};
 
 use super::call::Call;
@@ -44,6 +45,8 @@ pub trait World {
         ensures loans { loans_of self.new ≡ loans_of self.old }
         ensures here { IfOk result (λ found. found ≡ Found.Here → IsSome (here self.new)) }
         ensures found { IfOk result (λ found. IfSome (told self.old) (λ items. items call ≡ item_of found (here self.new))) }
+        // That there is no such source or field is known without memory.
+        ensures known { IfSome (told self.old) (λ told. told call ≡ items.Unknown → result ≡ Err NoMemory → ⊥) }
         ensures cause { CountsFault (faults self.old) (faults self.new) (result ≡ Err DiskFault) }
         ensures undamaged { IsSome (told self.old) → (damage : Damage) → result ≡ Err (Damaged damage) → ⊥ };
 
@@ -54,4 +57,34 @@ pub trait World {
 
     /// The last value of the count of faults.
     ghost last_fault: { (world : Self) → faults world ≤ 2 ^ 64 - 1 };
+}
+
+/// A world that shows nothing, as of a program that runs alone. It never fails.
+#[derive(Clone, Copy, Debug, PartialEq, Eq)]
+pub struct Alone;
+
+impl World for Alone {
+    ghost use Rattle.std.specs.Prelude.{Some, None, ⊤};
+    ghost use Rattle.std.proofs.Common.{arith};
+    ghost use Rattle.sys_defs.specs.World.{nothing};
+
+    ghost told = { λ alone. Some nothing };
+
+    ghost here = { λ alone. None };
+
+    ghost faults = { λ alone. 0 };
+
+    ghost last_fault = { λ alone. omega arith };
+
+    ghost Loans = { ⊤ };
+
+    ghost loans_of = { λ alone. tt };
+
+    fn find(&mut self, _call: Call) -> Result<Found, ReadStop> {
+        Ok(Found::Unknown)
+    }
+
+    fn bytes(&self) -> &[u8] {
+        &[]
+    }
 }

@@ -1,4 +1,4 @@
-use Rattle.std.proofs.Common.{◌≡◌, sym, ap, ◌∙◌}
+use Rattle.std.proofs.Common.{sym, ap, ◌∙◌}
 use Rattle.tx_rules.specs.At.{AtValue}
 use Rattle.script_defs.specs.Scene.{scene_of}
 use Rattle.block_judge.proofs.SceneLemmas.{scene-told}

@@ -1,10 +1,17 @@
-use Rattle.std.proofs.Common.{sym, ◌∙◌, ap}
-use Rattle.vm_defs.specs.Program.{loading_cycles}
-use Rattle.elf_load.specs.Judging.{program_in}
-use Rattle.program_run.proofs.ProgramLemmas.{spent-loading}
+use Rattle.std.proofs.Common.{refl, ap, ◌∙◌}
+use Rattle.std.specs.Prelude.{Err}
+use Rattle.vm_defs.specs.Elf.{load_elf, segments}
+use Rattle.vm_defs.specs.Program.{Answer, execution}
+use Rattle.sys_defs.specs.World.{nothing}
+use Rattle.program_run.proofs.ProgramLemmas.{is-alone, program-wants-alone, stopped-alone}
 use Rattle.program_run.proofs.program.execute.Goals as goal
 
-pub returns-then-cost-budget-clause-came : goal.returns-then-cost-budget-clause-came
-returns-then-cost-budget-clause-came c =
-    spent-loading _ c.args.file.now c.in-Ok.judged.program _ (sym (ap program_in c.in-Ok.is) ∙ c.judge.ensures.program)
-    (c.loading_cycles-cost.ensures.cycles ∙ ap loading_cycles c.file_bytes.ensures.bytes) c.if-cost-budget.true
+pub returns-in-Ok-clause-came : goal.returns-in-Ok-clause-came
+returns-in-Ok-clause-came c =
+    c.in-Ok.ensures.came nothing refl ∙ ap (λ (answer : Answer). execution answer c.args.budget c.args.file.now) is-alone
+
+pub returns-in-Err-Running-clause-running : goal.returns-in-Err-Running-clause-running
+returns-in-Err-Running-clause-running c = λ running.
+    program-wants-alone c.args.budget (segments c.args.file.now) (load_elf c.args.file.now)
+    (stopped-alone c.execute_in.result c.in-Err-Running.field-0-0 _ (c.in-Err-Running.is ∙ ap Err c.in-Err-Running.field-0-is)
+    (c.execute_in.ensures.running nothing refl) c.execute_in.ensures.cause (c.execute_in.ensures.undamaged refl))

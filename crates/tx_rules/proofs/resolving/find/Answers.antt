@@ -6,6 +6,7 @@ use Rattle.tx_rules.specs.At.{find_row, found_row}
 use Rattle.tx_rules.specs.Steps.{spending_rules, naming_rules, using_rules}
 use Rattle.tx_rules.proofs.AllThere.{all_there-long}
 use Rattle.tx_rules.proofs.RuleLemmas.{spent-inputs, tells-front, tells-back, tells-on, keeps-all}
+use Rattle.tx_rules.proofs.RowRuleLemmas.{follows-on, follows-behind, later-on}
 use Rattle.tx_rules.proofs.resolving.find.Goals as goal
 
 pub try_cells-requires-clause-each : goal.try_cells-requires-clause-each
@@ -55,3 +56,25 @@ returns-clause-found g c stored site told is = record {
   named_are = c.in_ok-named.ensures.cells stored site told is;
   places_are = c.in_ok-named.ensures.places stored site told is;
 }
+
+pub returns-in_err-spent-clause-by_rows : goal.returns-in_err-spent-clause-by_rows
+returns-in_err-spent-clause-by_rows g c =
+    follows-on (g.C.Cells.rows c.args.cells.now) c.args.tx.now c.in_err-spent.field-0.0 c.spent_rows.result c.from_residual.result c.in_err-spent.was
+    c.spent_rows.ensures.by_rows c.from_residual.ensures.1
+
+pub returns-in_err-named-clause-by_rows : goal.returns-in_err-named-clause-by_rows
+returns-in_err-named-clause-by_rows g c =
+    follows-behind (g.C.Cells.rows c.args.cells.now) c.args.tx.now c.in_ok-spent.spent c.spent_rows.result c.from_residual-in_err-named.result c.in_ok-spent.was
+    c.spent_rows.ensures.by_rows
+    (later-on c.in_err-named.field-0.0 c.named_rows.result c.from_residual-in_err-named.result c.in_err-named.was c.named_rows.ensures.later c.from_residual-in_err-named.ensures.1)
+
+pub returns-in_err-try_cells-clause-by_rows : goal.returns-in_err-try_cells-clause-by_rows
+returns-in_err-try_cells-clause-by_rows g c =
+    follows-behind (g.C.Cells.rows c.args.cells.now) c.args.tx.now c.in_ok-spent.spent c.spent_rows.result c.from_residual-in_err-try_cells.result c.in_ok-spent.was
+    c.spent_rows.ensures.by_rows
+    (later-on c.in_err-try_cells.field-0.0 c.try_cells.result c.from_residual-in_err-try_cells.result c.in_err-try_cells.was c.try_cells.ensures.later c.from_residual-in_err-try_cells.ensures.1)
+
+pub returns-clause-by_rows : goal.returns-clause-by_rows
+returns-clause-by_rows g c =
+    follows-behind (g.C.Cells.rows c.args.cells.now) c.args.tx.now c.in_ok-spent.spent c.spent_rows.result _ c.in_ok-spent.was
+    c.spent_rows.ensures.by_rows tt

@@ -1,13 +1,13 @@
-use Rattle.std.proofs.Common.{◌≡◌, true, false, sym, ◌∙◌, rules}
+use Rattle.std.proofs.Common.{◌≡◌, true, false, Err, ap, sym, ◌∙◌, rules}
 use Rattle.tx_defs.specs.Withdrawals.{names_deposits}
 use Rattle.tx_rules.specs.Steps.{paying_rules}
-use Rattle.tx_rules.proofs.RuleLemmas.{tells-damage, names-badly, pays-badly, pays-well}
+use Rattle.tx_rules.proofs.RuleLemmas.{tells-read, tells-damage, names-badly, pays-badly, pays-well}
 use Rattle.tx_rules.proofs.resolving.paid_by.Goals as goal
 
 pub returns-in_err-names_deposits-clause-tells : goal.returns-in_err-names_deposits-clause-tells
 returns-in_err-names_deposits-clause-tells c stored rows site is copies places =
-    tells-damage (paying_rules site c.args.tx.now) c.in_err-names_deposits.field-0.0 c.from_residual.result c.from_residual.ensures.1
-    (c.names_deposits.ensures.undamaged stored rows site is copies places c.in_err-names_deposits.field-0.0 c.in_err-names_deposits.was)
+    tells-read (paying_rules site c.args.tx.now) c.in_err-names_deposits.field-0.0 c.from_residual.result c.from_residual.ensures.1
+    (λ damage same. c.names_deposits.ensures.undamaged stored rows site is copies places damage (c.in_err-names_deposits.was ∙ ap Err same))
 
 pub returns-then-not-branch-clause-tells : goal.returns-then-not-branch-clause-tells
 returns-then-not-branch-clause-tells c stored rows site is copies places =

@@ -4,6 +4,7 @@ use Rattle.std.proofs.lemmas.Int.{to_z-of_z}
 use Rattle.tx_defs.specs.Capacity.{interest}
 use Rattle.tx_rules.specs.Steps.{finding_rules, paying_rules}
 use Rattle.tx_rules.proofs.RuleLemmas.{tells-front, tells-back, tells-on, stops-on, tried-of, damage-of, broken-of, undamaged-of, all-rules, keeps-all, copied-inputs}
+use Rattle.tx_rules.proofs.RowRuleLemmas.{follows-on, follows-behind, later-on}
 use Rattle.tx_rules.proofs.resolving.resolve.Goals as goal
 
 pub returns-in_err-found-clause-tried : goal.returns-in_err-found-clause-tried
@@ -74,3 +75,19 @@ returns-clause-interest g c stored site told is =
     let paid : c.in_ok-copied.copied.balance.interest ≡ interest site c.args.tx.now =
     (c.in_ok-copied.ensures.paid stored (g.C.Cells.rows c.args.cells.now) site (c.find.ensures.told ∙ told) is (c.in_ok-found.ensures.found stored site told is)).interest_is in
     to_z-of_z w128 c.in_ok-copied.copied.balance.interest (search rules) ∙ paid
+
+pub returns-in_err-found-clause-by_rows : goal.returns-in_err-found-clause-by_rows
+returns-in_err-found-clause-by_rows g c =
+    follows-on (g.C.Cells.rows c.args.cells.now) c.args.tx.now c.in_err-found.field-0.0 c.find.result c.from_residual.result c.in_err-found.was
+    c.find.ensures.by_rows c.from_residual.ensures.1
+
+pub returns-in_err-copied-clause-by_rows : goal.returns-in_err-copied-clause-by_rows
+returns-in_err-copied-clause-by_rows g c =
+    follows-behind (g.C.Cells.rows c.args.cells.now) c.args.tx.now c.in_ok-found.found c.find.result c.from_residual-in_err-copied.result c.in_ok-found.was
+    c.find.ensures.by_rows
+    (later-on c.in_err-copied.field-0.0 c.copy_cells.result c.from_residual-in_err-copied.result c.in_err-copied.was c.copy_cells.ensures.later c.from_residual-in_err-copied.ensures.1)
+
+pub returns-clause-by_rows : goal.returns-clause-by_rows
+returns-clause-by_rows g c =
+    follows-behind (g.C.Cells.rows c.args.cells.now) c.args.tx.now c.in_ok-found.found c.find.result _ c.in_ok-found.was
+    c.find.ensures.by_rows tt

@@ -1,6 +1,7 @@
 use Rattle.std.proofs.Common.{ℕ, ◌==◌, refl, sym, ap, ◌∙◌}
 use Rattle.std.specs.Prelude.{slice_index, is_some}
 use Rattle.std.specs.List.{list_any}
+use Rattle.std.proofs.lemmas.List.Sorted.{list_any-IsPermutation}
 use Rattle.cell_defs.specs.Row.{Row}
 use Rattle.cell_model.specs.Copies.{ResolvedValue}
 use Rattle.chain_defs.specs.Branch.{branch_places}
@@ -23,7 +24,8 @@ returns-then-is_named-clause-well c stored rows site found is height are its cop
     let made = made-some (is_withdrawing site.spec found.cell) c.in-Some.made found.cell.height
     (sym c.in-Some.is ∙ c.in_ok-made.ensures.made stored rows site found is height its copied) in
     let block = ap (λ (row : Row). row.block) c.meta.view_is ∙ ap (λ (it : ResolvedValue). it.row.block) c.copy.view_is in
-    let listed = c.is_named.ensures ∙ ap (λ (b : ℕ). list_any (λ place. place == b) c.args.headers.now) block
+    let listed = c.is_named.ensures ∙ ap (λ (b : ℕ). list_any (λ place. place == b) c.args.ordered.now) block
+    ∙ sym (list_any-IsPermutation (λ place. place == c.args.copy.now.row.block) c.args.headers.now c.args.ordered.now c.requires.same)
     ∙ ap (list_any (λ place. place == c.args.copy.now.row.block)) are
     ∙ named-same stored c.args.at.now rows site found c.args.copy.now.row (heights site c.args.tx.now) c.requires.placed is its (heights-below site c.args.tx.now) in
     named-well (is_withdrawing site.spec found.cell) (list_any (λ h. h == found.cell.height) (heights site c.args.tx.now))
@@ -37,7 +39,8 @@ returns-else-is_named-clause-well c stored rows site found is height are its cop
     let made = made-some (is_withdrawing site.spec found.cell) c.in-Some.made found.cell.height
     (sym c.in-Some.is ∙ c.in_ok-made.ensures.made stored rows site found is height its copied) in
     let block = ap (λ (row : Row). row.block) c.meta.view_is ∙ ap (λ (it : ResolvedValue). it.row.block) c.copy.view_is in
-    let listed = c.is_named.ensures ∙ ap (λ (b : ℕ). list_any (λ place. place == b) c.args.headers.now) block
+    let listed = c.is_named.ensures ∙ ap (λ (b : ℕ). list_any (λ place. place == b) c.args.ordered.now) block
+    ∙ sym (list_any-IsPermutation (λ place. place == c.args.copy.now.row.block) c.args.headers.now c.args.ordered.now c.requires.same)
     ∙ ap (list_any (λ place. place == c.args.copy.now.row.block)) are
     ∙ named-same stored c.args.at.now rows site found c.args.copy.now.row (heights site c.args.tx.now) c.requires.placed is its (heights-below site c.args.tx.now) in
     unnamed-well (is_withdrawing site.spec found.cell) (list_any (λ h. h == found.cell.height) (heights site c.args.tx.now))

@@ -10,7 +10,7 @@ use Rattle.tx_defs.specs.Resolving.{inputs, heights}
 use Rattle.tx_defs.specs.Withdrawals.{withdraws_well, names_deposits}
 use Rattle.tx_rules.specs.At.{IsSiteOf}
 use Rattle.tx_rules.specs.Outcome.{Copies}
-use Rattle.tx_rules.proofs.withdrawals.names_deposits.Given as goal
+use Rattle.tx_rules.proofs.withdrawals.all_withdraw_well.Given as goal
 
 abbrev pub invariant-inputs : goal.invariant-inputs
 invariant-inputs l = (stored : List Stored) (rows : OutPoint → Option Row) (site : Site) → IsSiteOf stored l.at rows site
