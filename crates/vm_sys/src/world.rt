@@ -67,13 +67,13 @@ pub trait World {
 pub struct Alone;
 
 impl World for Alone {
-    ghost use Rattle.std.specs.Prelude.{Some, None, ⊤};
+    ghost use Rattle.std.specs.Prelude.{Some, [], ⊤};
     ghost use Rattle.std.proofs.Common.{arith};
     ghost use Rattle.sys_defs.specs.World.{nothing};
 
     ghost told = { λ alone. Some nothing };
 
-    ghost here = { λ alone. None };
+    ghost here = { λ alone. Some [] };
 
     ghost faults = { λ alone. 0 };
 
