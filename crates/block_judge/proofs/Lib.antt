@@ -6,3 +6,5 @@ pub mod SiteLemmas
 pub mod ExtLemmas
 pub mod RestLemmas
 pub mod CellbaseLemmas
+pub mod AheadLemmas
+pub mod NextLemmas

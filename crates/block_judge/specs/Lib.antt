@@ -1,3 +1,4 @@
 pub mod Standing
 pub mod Stops
 pub mod Changes
+pub mod Progress

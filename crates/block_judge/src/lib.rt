@@ -8,12 +8,16 @@
 //! on a kept parent (J1 to J3), and what becomes of it, is left to the layer above.
 #![tactic(auto)]
 
+mod ahead;
+mod all_transactions;
 mod block_cells;
 mod cellbase;
 mod changes;
+mod judging;
 mod scripts;
 mod spent;
 mod stop;
 mod transactions;
 
+pub use judging::{dry_run, judge};
 pub use stop::Judged;

@@ -1,5 +1,5 @@
 // J18 to J30: one transaction.
-ghost use Rattle.std.specs.Prelude.{◌≡◌, ◌^◌, ◌≤◌, ◌++◌, ◌∷◌, ℕ, List, None, Some, Err, IfOk, length, map};
+ghost use Rattle.std.specs.Prelude.{◌≡◌, ◌^◌, ◌≤◌, ◌++◌, ◌∷◌, ℕ, true, List, None, Some, Err, IfOk, length, map};
 ghost use Rattle.fold_defs.specs.First.{first_failing};
 ghost use Rattle.outside.specs.Causes.{CountsFault};
 ghost use Rattle.outside.specs.declared.disk.Area.TheVariants.{Log};
@@ -16,7 +16,7 @@ ghost use Rattle.tx_rules.specs.Copying.{row_in};
 ghost use Rattle.script_defs.specs.Scene.{scene_of};
 ghost use Rattle.script_defs.specs.Rules.{script_rules, cycles_of};
 ghost use Rattle.block_judge.specs.declared.stop.Judged.TheVariants.{Broken, Read};
-ghost use Rattle.block_judge.specs.Standing.{IsTriedOnTransaction};
+ghost use Rattle.block_judge.specs.Standing.{IsTriedAlone, IsTriedOnTransaction};
 ghost use Rattle.block_judge.specs.Stops.{of_resolving};
 
 use crate::scripts::run_scripts;
@@ -67,6 +67,7 @@ pub(crate) fn judge_transaction<C: Cells, B: Blocks>(
     ensures hash { IfOk result (λ taken. taken.hash ≡ transaction_hash tx.now) }
     ensures within { IfOk result (λ taken. taken.cycles ≤ left) }
     ensures rule { (rule : ℕ) → result ≡ Err (Broken rule) → IsTriedOnTransaction rule }
+    ensures alone { proposed ≡ true → (rule : ℕ) → result ≡ Err (Broken rule) → IsTriedAlone rule }
     ensures broken { (stored : List Stored) (site : Site) → B.told blocks.old ≡ Some stored → IsSiteOf stored at.now (C.rows cells.now) site
         → (rule : ℕ) → result ≡ Err (Broken rule)
         → first_failing (form_rules tx.now ++ (19, proposed) ∷ cell_rules site tx.now ++ script_rules (scene_of site tx.now) left) ≡ Some rule }

@@ -1,5 +1,5 @@
 //! J4 to J8, one function a rule.
-ghost use Rattle.std.specs.Prelude.{◌≡◌, ◌<◌, List, length};
+ghost use Rattle.std.specs.Prelude.{◌≡◌, ◌<◌, ◌≤◌, IfSome, List, length};
 ghost use Rattle.codec_defs.specs.Schema.{Block};
 ghost use Rattle.fold_defs.specs.First.{first_failing};
 ghost use Rattle.chain_defs.specs.Branch.{branch};
@@ -56,6 +56,7 @@ pub fn check(spec: &Spec, tree: &Tree, parent: u32, header: &HeaderView<'_>) -> 
     requires { parent < length tree.now.entries }
     ensures of_blocks { (kept : List Block) (b : Block) → IndexesBlocks kept tree.now.entries → header.now ≡ b.header
         → result ≡ first_failing (rules.header_rules spec.now (branch kept parent) b) }
+    ensures tried { IfSome result (λ rule. (4 ≤ rule) × (rule ≤ 8)) }
 {
     if !has_version(header) {
         return Some(4);

@@ -1,2 +1,3 @@
 pub mod ProposingLemmas
 pub mod BranchLemmas
+pub mod ProposedLemmas

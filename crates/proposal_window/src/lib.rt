@@ -5,7 +5,9 @@
 //! no memory. What is done with the answer is left to others.
 #![tactic(auto)]
 
+mod proposed;
 mod proposers;
 mod proposing;
 
+pub use proposed::Proposed;
 pub use proposers::earliest;

@@ -1,0 +1,149 @@
+-- The rules that are tried ahead of the transactions, one group after another, and all rules of a block.
+use Rattle.std.proofs.Common.{◌≡◌, ℕ, ◌<◌, ◌≤◌, Bool, true, false, not, ◌&&◌, List, [], ◌∷◌, ◌++◌, length, map, Option, Some, None, refl, sym, ap, ◌∙◌, arith, append_assoc, subst}
+use Rattle.std.specs.Prelude.{option_map, is_some}
+use Rattle.std.specs.List.{All, list_any}
+use Rattle.std.proofs.lemmas.List.Elements.{All-nil, All-cons, All-head, All-tail}
+use Rattle.std.proofs.lemmas.Option.{same_Some}
+use Rattle.fold_defs.specs.First.{first_failing}
+use Rattle.fold_defs.proofs.FirstLemmas.{first_failing-append-fails, first_failing-append-holds, first_failing-fails, first_failing-holds, first_failing-none, finds_none}
+use Rattle.codec_defs.specs.Schema.{OutPoint, Transaction, Block}
+use Rattle.time_defs.specs.Specification.{Specification}
+use Rattle.chain_defs.specs.Branch.{branch}
+use Rattle.chain_defs.specs.Hashes.{transaction_hash, are_distinct}
+use Rattle.cell_defs.specs.Cell.{Cell}
+use Rattle.cell_defs.specs.Events.{live_cell}
+use Rattle.cell_defs.specs.Row.{Row, row_on, live_row}
+use Rattle.rule_defs.specs.Header.{header_rules}
+use Rattle.rule_defs.specs.Body.{fits_length, has_proposals, commits_to_proposals, commits_to_transactions, has_few_uncles, commits_to_uncles, body_rules}
+use Rattle.block_defs.specs.Uncles.{has_uncles}
+use Rattle.block_defs.specs.Cellbase.{has_cellbase, begins_with_cellbase, forms_cellbase}
+use Rattle.block_defs.specs.Transactions.{rules_of_transactions}
+use Rattle.block_defs.specs.Rules.{family_rules, is_rated, end_rules, all_rules, first_broken}
+
+-- ---- Rules ahead of the transactions
+
+abbrev pub ahead : Specification → List Block → Block → List (ℕ × Bool)
+ahead spec on b = header_rules spec on b ++ (body_rules spec b ++ family_rules spec on b)
+
+-- a rule that is broken is one of those that were listed
+failing-one : (Listed : ℕ → Type 0) (rules : List (ℕ × Bool)) (rule : ℕ) → All (λ row. Listed row.0) rules → first_failing rules ≡ Some rule → Listed rule
+unfolding first_failing
+failing-one Listed [] rule listed is = absurd (cc)
+failing-one Listed ((n, true) ∷ rules) rule listed is = failing-one Listed rules rule (All-tail (λ row. Listed row.0) (n, true) rules listed) is
+failing-one Listed ((n, false) ∷ rules) rule listed is =
+    subst Listed (same_Some n rule is) (All-head (λ row. Listed row.0) (n, false) rules listed)
+
+abbrev IsOfBody : ℕ → Type 0
+IsOfBody rule = (9 ≤ rule) × (rule ≤ 14)
+
+pub body-rule : (spec : Specification) (b : Block) (rule : ℕ) → first_failing (body_rules spec b) ≡ Some rule → (9 ≤ rule) × (rule ≤ 14)
+body-rule spec b rule is =
+    let from_14 : List (ℕ × Bool) = (14, commits_to_uncles b) ∷ [] in
+    let from_13 : List (ℕ × Bool) = (13, has_few_uncles b) ∷ from_14 in
+    let from_12 : List (ℕ × Bool) = (12, commits_to_transactions b) ∷ from_13 in
+    let from_11 : List (ℕ × Bool) = (11, commits_to_proposals b) ∷ from_12 in
+    let from_10 : List (ℕ × Bool) = (10, has_proposals spec b) ∷ from_11 in
+    failing-one IsOfBody (body_rules spec b) rule
+    (listed 9 (fits_length spec b) (omega arith) (omega arith) from_10 (listed 10 (has_proposals spec b) (omega arith) (omega arith) from_11
+    (listed 11 (commits_to_proposals b) (omega arith) (omega arith) from_12 (listed 12 (commits_to_transactions b) (omega arith) (omega arith) from_13
+    (listed 13 (has_few_uncles b) (omega arith) (omega arith) from_14 (listed 14 (commits_to_uncles b) (omega arith) (omega arith) []
+    (All-nil (λ row. IsOfBody row.0)))))))) is
+  where
+    listed : (n : ℕ) (test : Bool) → 9 ≤ n → n ≤ 14 → (rules : List (ℕ × Bool)) → All (λ row. IsOfBody row.0) rules → All (λ row. IsOfBody row.0) ((n, test) ∷ rules)
+    listed n test low high rules rest = All-cons (λ row. IsOfBody row.0) (n, test) rules (low, high) rest
+
+pub breaks-header : (spec : Specification) (on : List Block) (b : Block) (rule : ℕ) → Some rule ≡ first_failing (header_rules spec on b)
+    → first_failing (ahead spec on b) ≡ Some rule
+breaks-header spec on b rule is = first_failing-append-fails rule (header_rules spec on b) (body_rules spec b ++ family_rules spec on b) (sym is)
+
+pub breaks-body : (spec : Specification) (on : List Block) (b : Block) (rule : ℕ) → None ≡ first_failing (header_rules spec on b)
+    → Some rule ≡ first_failing (body_rules spec b) → first_failing (ahead spec on b) ≡ Some rule
+breaks-body spec on b rule header is =
+    first_failing-append-holds (header_rules spec on b) (body_rules spec b ++ family_rules spec on b) ((finds_none (header_rules spec on b)).0 (sym header))
+    ∙ first_failing-append-fails rule (body_rules spec b) (family_rules spec on b) (sym is)
+
+leaves-family : (spec : Specification) (on : List Block) (b : Block) → None ≡ first_failing (header_rules spec on b) → None ≡ first_failing (body_rules spec b)
+    → first_failing (ahead spec on b) ≡ first_failing (family_rules spec on b)
+leaves-family spec on b header body =
+    first_failing-append-holds (header_rules spec on b) (body_rules spec b ++ family_rules spec on b) ((finds_none (header_rules spec on b)).0 (sym header))
+    ∙ first_failing-append-holds (body_rules spec b) (family_rules spec on b) ((finds_none (body_rules spec b)).0 (sym body))
+
+pub breaks-15 : (spec : Specification) (on : List Block) (b : Block) → None ≡ first_failing (header_rules spec on b) → None ≡ first_failing (body_rules spec b)
+    → has_uncles spec on b ≡ false → first_failing (ahead spec on b) ≡ Some 15
+breaks-15 spec on b header body uncles = leaves-family spec on b header body ∙ first_failing-fails 15 (has_uncles spec on b) _ uncles
+
+pub breaks-16 : (spec : Specification) (on : List Block) (b : Block) → None ≡ first_failing (header_rules spec on b) → None ≡ first_failing (body_rules spec b)
+    → has_uncles spec on b ≡ true → has_cellbase b ≡ false → first_failing (ahead spec on b) ≡ Some 16
+breaks-16 spec on b header body uncles cellbase =
+    leaves-family spec on b header body ∙ first_failing-holds 15 (has_uncles spec on b) _ uncles ∙ first_failing-fails 16 (has_cellbase b) _ cellbase
+
+leaves-17 : (spec : Specification) (on : List Block) (b : Block) → None ≡ first_failing (header_rules spec on b) → None ≡ first_failing (body_rules spec b)
+    → has_uncles spec on b ≡ true → has_cellbase b ≡ true → first_failing (ahead spec on b) ≡ first_failing ((17, forms_cellbase (live_cell on) b) ∷ [])
+leaves-17 spec on b header body uncles cellbase =
+    leaves-family spec on b header body ∙ first_failing-holds 15 (has_uncles spec on b) _ uncles ∙ first_failing-holds 16 (has_cellbase b) _ cellbase
+
+pub breaks-17 : (spec : Specification) (on : List Block) (b : Block) → None ≡ first_failing (header_rules spec on b) → None ≡ first_failing (body_rules spec b)
+    → has_uncles spec on b ≡ true → has_cellbase b ≡ true → forms_cellbase (live_cell on) b ≡ false → first_failing (ahead spec on b) ≡ Some 17
+breaks-17 spec on b header body uncles cellbase form =
+    leaves-17 spec on b header body uncles cellbase ∙ first_failing-fails 17 (forms_cellbase (live_cell on) b) [] form
+
+pub keeps-ahead : (spec : Specification) (on : List Block) (b : Block) → None ≡ first_failing (header_rules spec on b) → None ≡ first_failing (body_rules spec b)
+    → has_uncles spec on b ≡ true → has_cellbase b ≡ true → forms_cellbase (live_cell on) b ≡ true → first_failing (ahead spec on b) ≡ None
+keeps-ahead spec on b header body uncles cellbase form =
+    leaves-17 spec on b header body uncles cellbase ∙ first_failing-holds 17 (forms_cellbase (live_cell on) b) [] form ∙ first_failing-none
+
+-- a block with a cellbase has a transaction
+pub has-first : (b : Block) → has_cellbase b ≡ true → 0 < length b.transactions
+unfolding has_cellbase
+has-first b is = by_list b.transactions is
+  where
+    by_list : (transactions : List Transaction) → (begins_with_cellbase transactions && are_distinct (map transaction_hash transactions)) ≡ true → 0 < length transactions
+    by_list [] none = absurd (cc)
+    by_list (first ∷ later) some = omega arith
+
+-- a row stands just where a cell is live
+pub live-there : (kept : List Block) (parent : ℕ) (o : OutPoint) (row : Option Row) → row ≡ live_row kept parent o
+    → is_some row ≡ is_some (live_cell (branch kept parent) o)
+unfolding live_row
+live-there kept parent o row is = ap is_some is ∙ by_cell (live_cell (branch kept parent) o)
+  where
+    by_cell : (live : Option Cell) → is_some (option_map (row_on kept parent) live) ≡ is_some live
+    by_cell None = refl
+    by_cell (Some cell) = refl
+
+-- ---- All rules
+
+in-two : (spec : Specification) (on : List Block) (b : Block) → all_rules spec on b ≡ ahead spec on b ++ (rules_of_transactions spec on b ++ end_rules b)
+unfolding all_rules
+in-two spec on b =
+    ap (λ (rest : List (ℕ × Bool)). header_rules spec on b ++ rest) (sym (append_assoc (body_rules spec b) (family_rules spec on b) (rules_of_transactions spec on b ++ end_rules b)))
+    ∙ sym (append_assoc (header_rules spec on b) (body_rules spec b ++ family_rules spec on b) (rules_of_transactions spec on b ++ end_rules b))
+
+pub first-ahead : (spec : Specification) (on : List Block) (b : Block) (rule : ℕ) → first_failing (ahead spec on b) ≡ Some rule → first_broken spec on b ≡ Some rule
+unfolding first_broken
+first-ahead spec on b rule is =
+    ap first_failing (in-two spec on b) ∙ first_failing-append-fails rule (ahead spec on b) (rules_of_transactions spec on b ++ end_rules b) is
+
+behind-ahead : (spec : Specification) (on : List Block) (b : Block) → first_failing (ahead spec on b) ≡ None
+    → first_broken spec on b ≡ first_failing (rules_of_transactions spec on b ++ end_rules b)
+unfolding first_broken
+behind-ahead spec on b kept =
+    ap first_failing (in-two spec on b)
+    ∙ first_failing-append-holds (ahead spec on b) (rules_of_transactions spec on b ++ end_rules b) ((finds_none (ahead spec on b)).0 kept)
+
+pub first-transaction : (spec : Specification) (on : List Block) (b : Block) (rule : ℕ) → first_failing (ahead spec on b) ≡ None
+    → first_failing (rules_of_transactions spec on b) ≡ Some rule → first_broken spec on b ≡ Some rule
+first-transaction spec on b rule kept is = behind-ahead spec on b kept ∙ first_failing-append-fails rule (rules_of_transactions spec on b) (end_rules b) is
+
+at-end : (spec : Specification) (on : List Block) (b : Block) → first_failing (ahead spec on b) ≡ None → first_failing (rules_of_transactions spec on b) ≡ None
+    → first_broken spec on b ≡ first_failing (end_rules b)
+at-end spec on b kept judged =
+    behind-ahead spec on b kept ∙ first_failing-append-holds (rules_of_transactions spec on b) (end_rules b) ((finds_none (rules_of_transactions spec on b)).0 judged)
+
+pub first-end : (spec : Specification) (on : List Block) (b : Block) → first_failing (ahead spec on b) ≡ None → first_failing (rules_of_transactions spec on b) ≡ None
+    → is_rated b ≡ false → first_broken spec on b ≡ Some 32
+first-end spec on b kept judged rated = at-end spec on b kept judged ∙ first_failing-fails 32 (is_rated b) [] rated
+
+pub keeps-all : (spec : Specification) (on : List Block) (b : Block) → first_failing (ahead spec on b) ≡ None → first_failing (rules_of_transactions spec on b) ≡ None
+    → is_rated b ≡ true → first_broken spec on b ≡ None
+keeps-all spec on b kept judged rated = at-end spec on b kept judged ∙ first_failing-holds 32 (is_rated b) [] rated ∙ first_failing-none

@@ -1,0 +1,73 @@
+// What is tried of a block ahead of its transactions, J4 to J17, and behind them, J32.
+ghost use Rattle.std.specs.Prelude.{◌≡◌, ◌<◌, ◌≤◌, ◌++◌, ℕ, List, None, Some, Err, IfOk, length};
+ghost use Rattle.fold_defs.specs.First.{first_failing};
+ghost use Rattle.outside.specs.declared.disk.ReadStop.{ReadStop as a_stop};
+ghost use Rattle.outside.specs.declared.disk.ReadStop.TheVariants.{NoMemory as no_memory};
+ghost use Rattle.chain_defs.specs.Branch.{branch};
+ghost use Rattle.chain_tree.specs.Told.{Stored, blocks_of};
+ghost use Rattle.rule_defs.specs.Header.{header_rules as rules_on_header};
+ghost use Rattle.rule_defs.specs.Body.{body_rules};
+ghost use Rattle.uncle_rules.specs.Embedded.{IndexesUncles};
+ghost use Rattle.block_defs.specs.Rules as rules;
+ghost use Rattle.block_judge.specs.declared.stop.Judged.TheVariants.{Broken, Read};
+ghost use Rattle.block_judge.specs.Standing.{Stands};
+
+use crate::cellbase::{forms_cellbase, has_cellbase};
+use crate::stop::Judged;
+use cell_model::Cells;
+use chain_tree::Tree;
+use dao_math::Dao;
+use epochs::Spec;
+use mol_schema::BlockView;
+use std::alloc::Global;
+use uncle_rules::{Uncles, uncles_ok};
+
+/// J4 to J17, over the cells of the parent's branch. No kept block is read.
+pub(crate) fn judge_ahead<C: Cells>(
+    alloc: Global,
+    spec: &Spec,
+    tree: &Tree,
+    uncles: &Uncles,
+    cells: &C,
+    parent: u32,
+    block: &BlockView<'_>,
+) -> Result<(), Judged>
+    requires parent { parent < length tree.now.entries }
+    ensures tried { (rule : ℕ) → result ≡ Err (Broken rule) → (4 ≤ rule) × (rule ≤ 17) }
+    ensures memory { (stop : a_stop) → result ≡ Err (Read stop) → stop ≡ no_memory }
+    ensures some { IfOk result (λ _. 0 < length block.now.transactions) }
+    ensures broken { (stored : List Stored) → Stands stored tree.now.entries parent (C.rows cells.now) → IndexesUncles (blocks_of stored) uncles.now
+        → (rule : ℕ) → result ≡ Err (Broken rule)
+        → first_failing (rules_on_header spec.now (branch (blocks_of stored) parent) block.now ++ (body_rules spec.now block.now
+        ++ rules.family_rules spec.now (branch (blocks_of stored) parent) block.now)) ≡ Some rule }
+    ensures unbroken { (stored : List Stored) → Stands stored tree.now.entries parent (C.rows cells.now) → IndexesUncles (blocks_of stored) uncles.now
+        → IfOk result (λ _. first_failing (rules_on_header spec.now (branch (blocks_of stored) parent) block.now ++ (body_rules spec.now block.now
+        ++ rules.family_rules spec.now (branch (blocks_of stored) parent) block.now)) ≡ None) }
+{
+    if let Some(rule) = header_rules::check(spec, tree, parent, &block.header()) {
+        return Err(Judged::Broken(rule));
+    }
+    if let Some(rule) = block_rules::check(alloc, spec, block)? {
+        return Err(Judged::Broken(rule));
+    }
+    if !uncles_ok(alloc, spec, tree, uncles, parent, block)? {
+        return Err(Judged::Broken(15));
+    }
+    if !has_cellbase(alloc, block)? {
+        return Err(Judged::Broken(16));
+    }
+    if !forms_cellbase(cells, block) {
+        return Err(Judged::Broken(17));
+    }
+    Ok(())
+}
+
+/// Of J32, what is looked at so far: C and AR of its DAO field are above 0.
+pub(crate) fn is_rated(block: &BlockView<'_>) -> bool
+    ensures { result ≡ rules.is_rated block.now }
+{
+    let mut bytes = [0; 32];
+    bytes.copy_from_slice(block.header().dao());
+    let field = Dao::read(&bytes);
+    field.c > 0 && field.ar > 0
+}

@@ -1,0 +1,196 @@
+// J18 to J30: the transactions of a block, one after the other.
+ghost use Rattle.std.specs.Prelude.{◌≡◌, ◌<◌, ◌^◌, ◌≤◌, ◌++◌, ◌∷◌, [], ℕ, List, None, Some, Err, IfOk, OnOk, length, take};
+ghost use Rattle.fold_defs.specs.First.{first_failing};
+ghost use Rattle.outside.specs.Causes.{CountsFault};
+ghost use Rattle.outside.specs.declared.disk.Area.TheVariants.{Log};
+ghost use Rattle.outside.specs.declared.disk.Damage.{Damage};
+ghost use Rattle.outside.specs.declared.disk.ReadStop.TheVariants.{DiskFault, Damaged};
+ghost use Rattle.codec_defs.specs.Schema.{OutPoint};
+ghost use Rattle.chain_defs.specs.Branch.{branch};
+ghost use Rattle.chain_tree.specs.Told.{Stored, blocks_of};
+ghost use Rattle.cell_defs.specs.Events.{events_of};
+ghost use Rattle.cell_defs.specs.Row.{row_after};
+ghost use Rattle.tx_defs.specs.Site.{Site};
+ghost use Rattle.tx_defs.specs.Capacity as capacity;
+ghost use Rattle.tx_rules.specs.At.{AreRated, IsPlaced, IsSiteOf};
+ghost use Rattle.block_defs.specs.Transactions.{transaction_rules, left_after, rules_of_transactions};
+ghost use Rattle.block_defs.specs.Ext.{ext_of, rows_spent};
+ghost use Rattle.block_judge.specs.declared.stop.Judged.TheVariants.{Broken, Read};
+ghost use Rattle.block_judge.specs.Changes.{with_changes};
+ghost use Rattle.block_judge.specs.Progress.{AreProposed};
+ghost use Rattle.block_judge.specs.Standing.{IsTriedOnTransaction, Stands};
+
+use crate::block_cells::BlockCells;
+use crate::spent::push_spent;
+use crate::stop::Judged;
+use crate::transactions::judge_transaction;
+use cell_model::{Cells, Ext, tx_hash};
+use chain_tree::{Blocks, Tree};
+use epochs::Spec;
+use mol_schema::{BlockView, TxView};
+use outside::NoMemory;
+use proposal_window::Proposed;
+use std::alloc::Global;
+use tx_rules::TxAt;
+
+/// What the transactions of a block so far leave: the cells that the next one sees, the cycles, and the ext of them.
+#[derive(Drop)]
+struct Progress<'a, C: Cells> {
+    cells: BlockCells<'a, C>,
+    left: u64,
+    ext: Ext,
+}
+
+/// The proposal id of a transaction, of its hash.
+fn id_of(hash: &[u8; 32]) -> [u8; 10]
+    ensures { result ≡ take 10 hash.now }
+{
+    let mut id = [0; 10];
+    id.copy_from_slice(&hash[..10]);
+    id
+}
+
+/// Puts a fee behind those that are there.
+fn push_fee(fees: &mut Vec<u64>, fee: u64) -> Result<(), NoMemory>
+    ensures { OnOk result (fees.new.items ≡ fees.old.items ++ fee ∷ []) }
+{
+    fees.push(fee)?;
+    Ok(())
+}
+
+impl<'a, C: Cells> Progress<'a, C> {
+    /// That of the cellbase alone: it takes no cycles, and the ext has nothing of it.
+    fn behind(
+        alloc: Global,
+        cellbase: &TxView<'_>,
+        at: &TxAt<'_>,
+        cells: &'a C,
+    ) -> Result<Progress<'a, C>, NoMemory>
+        ensures left { IfOk result (λ progress. progress.left ≡ at.now.spec.max_cycles) }
+        ensures few { IfOk result (λ progress. progress.left ≤ 2 ^ 40) }
+        ensures fees { IfOk result (λ progress. progress.ext.fees ≡ []) }
+        ensures spent { IfOk result (λ progress. progress.ext.spent ≡ []) }
+        ensures rows { IfOk result (λ progress. (height : ℕ) (o : OutPoint) → 0 < height
+            → with_changes progress.cells.changed (C.rows progress.cells.base.now) o
+            ≡ row_after (length at.now.entries) (events_of cellbase.now height 0) (C.rows cells.now) o) }
+    {
+        let spec = at.spec;
+        let mut cells = BlockCells::of(alloc, cells);
+        cells.take(cellbase, &tx_hash(cellbase), 0, at.tree.len())?;
+        Ok(Progress {
+            cells,
+            left: spec.max_cycles,
+            ext: Ext {
+                fees: Vec::new(alloc),
+                spent: Vec::new(alloc),
+            },
+        })
+    }
+
+    /// Judges the next transaction, which is at a place behind the cellbase, and takes what it does.
+    fn judge_next<B: Blocks>(
+        &mut self,
+        alloc: Global,
+        tx: &TxView<'_>,
+        at: &TxAt<'_>,
+        proposed: &Proposed,
+        blocks: &mut B,
+        place: u32,
+    ) -> Result<(), Judged>
+        requires placed { IsPlaced at.now }
+        requires left { self.old.left ≤ 2 ^ 40 }
+        requires counts { B.count blocks.old ≡ length at.now.entries }
+        ensures told { B.told blocks.new ≡ B.told blocks.old }
+        ensures count { B.count blocks.new ≡ B.count blocks.old }
+        ensures loans { B.loans_of blocks.new ≡ B.loans_of blocks.old }
+        ensures rule { (rule : ℕ) → result ≡ Err (Broken rule) → IsTriedOnTransaction rule }
+        ensures within { self.new.left ≤ self.old.left }
+        ensures rows { OnOk result ((height : ℕ) (o : OutPoint) → 0 < height
+            → with_changes self.new.cells.changed (C.rows self.new.cells.base.now) o
+            ≡ row_after (length at.now.entries) (events_of tx.now height place) (with_changes self.old.cells.changed (C.rows self.old.cells.base.now)) o) }
+
+        // At the site that its cells make.
+        ensures broken { (stored : List Stored) (site : Site) → B.told blocks.old ≡ Some stored
+            → IsSiteOf stored at.now (with_changes self.old.cells.changed (C.rows self.old.cells.base.now)) site → AreProposed site.spec site.branch proposed.now
+            → (rule : ℕ) → result ≡ Err (Broken rule) → first_failing (transaction_rules site self.old.left tx.now) ≡ Some rule }
+        ensures unbroken { (stored : List Stored) (site : Site) → B.told blocks.old ≡ Some stored
+            → IsSiteOf stored at.now (with_changes self.old.cells.changed (C.rows self.old.cells.base.now)) site → AreProposed site.spec site.branch proposed.now
+            → OnOk result (first_failing (transaction_rules site self.old.left tx.now) ≡ None) }
+        ensures cycles { (stored : List Stored) (site : Site) → B.told blocks.old ≡ Some stored
+            → IsSiteOf stored at.now (with_changes self.old.cells.changed (C.rows self.old.cells.base.now)) site
+            → OnOk result (self.new.left ≡ left_after site self.old.left tx.now) }
+        ensures fee { (stored : List Stored) (site : Site) → B.told blocks.old ≡ Some stored
+            → IsSiteOf stored at.now (with_changes self.old.cells.changed (C.rows self.old.cells.base.now)) site
+            → OnOk result (self.new.ext.fees ≡ self.old.ext.fees ++ capacity.fee site tx.now ∷ []) }
+        ensures spends { (stored : List Stored) (site : Site) → B.told blocks.old ≡ Some stored
+            → IsSiteOf stored at.now (with_changes self.old.cells.changed (C.rows self.old.cells.base.now)) site
+            → OnOk result (self.new.ext.spent ≡ self.old.ext.spent ++ rows_spent (blocks_of stored) at.now.parent site tx.now) }
+        ensures undamaged { (stored : List Stored) (site : Site) → B.told blocks.old ≡ Some stored
+            → IsSiteOf stored at.now (with_changes self.old.cells.changed (C.rows self.old.cells.base.now)) site
+            → (damage : Damage) → result ≡ Err (Read (Damaged damage)) → ⊥ }
+        ensures damage { (damage : Damage) → result ≡ Err (Read (Damaged damage)) → damage.area ≡ Log }
+        ensures cause { CountsFault (B.faults blocks.old) (B.faults blocks.new) (result ≡ Err (Read DiskFault)) }
+    {
+        let is_proposed = proposed.contains(&id_of(&tx_hash(tx)));
+        let taken = judge_transaction(alloc, tx, at, is_proposed, &self.cells, blocks, self.left)?;
+        let e = at.tree.len();
+        self.cells.take(tx, &taken.hash, place, e)?;
+        push_fee(&mut self.ext.fees, taken.fee)?;
+        push_spent(&mut self.ext.spent, &taken.inputs, e)?;
+        self.left -= taken.cycles;
+        Ok(())
+    }
+}
+
+/// Judges the transactions of a block behind its cellbase, by J18 to J30: the first rule that one of them breaks, or the
+/// block's ext. Where there are any, the proposal window is read once.
+pub(crate) fn judge_transactions<C: Cells, B: Blocks>(
+    alloc: Global,
+    spec: &Spec,
+    tree: &Tree,
+    cells: &C,
+    blocks: &mut B,
+    parent: u32,
+    block: &BlockView<'_>,
+) -> Result<Ext, Judged>
+    requires parent { parent < length tree.now.entries }
+    requires few { length tree.now.entries < 2 ^ 24 }
+    requires rated { AreRated tree.now.entries }
+    requires counts { B.count blocks.old ≡ length tree.now.entries }
+    requires some { 0 < length block.now.transactions }
+    ensures told { B.told blocks.new ≡ B.told blocks.old }
+    ensures count { B.count blocks.new ≡ B.count blocks.old }
+    ensures loans { B.loans_of blocks.new ≡ B.loans_of blocks.old }
+    ensures rule { (rule : ℕ) → result ≡ Err (Broken rule) → IsTriedOnTransaction rule }
+    ensures broken { (stored : List Stored) → B.told blocks.old ≡ Some stored → Stands stored tree.now.entries parent (C.rows cells.now)
+        → (rule : ℕ) → result ≡ Err (Broken rule) → first_failing (rules_of_transactions spec.now (branch (blocks_of stored) parent) block.now) ≡ Some rule }
+    ensures unbroken { (stored : List Stored) → B.told blocks.old ≡ Some stored → Stands stored tree.now.entries parent (C.rows cells.now)
+        → IfOk result (λ _. first_failing (rules_of_transactions spec.now (branch (blocks_of stored) parent) block.now) ≡ None) }
+    ensures ext { (stored : List Stored) → B.told blocks.old ≡ Some stored → Stands stored tree.now.entries parent (C.rows cells.now)
+        → IfOk result (λ ext. ext ≡ ext_of spec.now (blocks_of stored) parent block.now) }
+    ensures undamaged { (stored : List Stored) → B.told blocks.old ≡ Some stored → Stands stored tree.now.entries parent (C.rows cells.now)
+        → (damage : Damage) → result ≡ Err (Read (Damaged damage)) → ⊥ }
+    ensures damage { (damage : Damage) → result ≡ Err (Read (Damaged damage)) → damage.area ≡ Log }
+    ensures cause { CountsFault (B.faults blocks.old) (B.faults blocks.new) (result ≡ Err (Read DiskFault)) }
+{
+    let count = block.transactions_count();
+    if count == 1 {
+        return Ok(Ext {
+            fees: Vec::new(alloc),
+            spent: Vec::new(alloc),
+        });
+    }
+    let at = TxAt {
+        spec,
+        tree,
+        parent,
+        block: Some(BlockView::from_encoding(block.bytes())),
+    };
+    let proposed = Proposed::of(alloc, spec, tree, blocks, parent, at.height())?;
+    let mut progress = Progress::behind(alloc, &block.transactions_item(0), &at, cells)?;
+    'later: for place in 1..count {
+        let tx = block.transactions_item(place);
+        progress.judge_next(alloc, &tx, &at, &proposed, blocks, place as u32)?;
+    }
+    Ok(progress.ext)
+}

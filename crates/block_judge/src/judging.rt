@@ -1,0 +1,116 @@
+// A block judged by all rules, and a transaction judged alone.
+ghost use Rattle.std.specs.Prelude.{◌≡◌, ◌<◌, ◌^◌, ◌≤◌, ℕ, List, None, Some, Err, IfOk, length};
+ghost use Rattle.outside.specs.Causes.{CountsFault};
+ghost use Rattle.outside.specs.declared.disk.Area.TheVariants.{Log};
+ghost use Rattle.outside.specs.declared.disk.Damage.{Damage};
+ghost use Rattle.outside.specs.declared.disk.ReadStop.TheVariants.{DiskFault, Damaged};
+ghost use Rattle.chain_defs.specs.Branch.{branch};
+ghost use Rattle.chain_tree.specs.Told.{Stored, blocks_of};
+ghost use Rattle.tx_defs.specs.Capacity as capacity;
+ghost use Rattle.script_defs.specs.Rules.{cycles_of};
+ghost use Rattle.script_defs.specs.Scene.{scene_of};
+ghost use Rattle.tx_rules.specs.At.{AreRated};
+ghost use Rattle.uncle_rules.specs.Embedded.{IndexesUncles};
+ghost use Rattle.block_defs.specs.Ext.{ext_of};
+ghost use Rattle.block_defs.specs.Rules.{first_broken, broken_in_dry_run, site_after};
+ghost use Rattle.block_judge.specs.declared.stop.Judged.TheVariants.{Broken, Read};
+ghost use Rattle.block_judge.specs.Standing.{IsTried, IsTriedAlone, Stands};
+
+use crate::ahead::{is_rated, judge_ahead};
+use crate::all_transactions::judge_transactions;
+use crate::stop::Judged;
+use crate::transactions::judge_transaction;
+use cell_model::{Cells, Ext};
+use chain_tree::{Blocks, Tree};
+use epochs::Spec;
+use mol_schema::{BlockView, TxView};
+use std::alloc::Global;
+use tx_rules::TxAt;
+use uncle_rules::Uncles;
+
+/// Judges a block on a parent in the tree, by J4 to J30 and then by what is looked at of J32: the first rule that it
+/// breaks, or its ext. The cells are those of the parent's branch, whichever the tip is on. Damaged where a kept block, or
+/// a row of the cells, is not what the tree and the branch say, which never comes over blocks that tell them.
+pub fn judge<C: Cells, B: Blocks>(
+    alloc: Global,
+    spec: &Spec,
+    tree: &Tree,
+    uncles: &Uncles,
+    cells: &C,
+    blocks: &mut B,
+    parent: u32,
+    block: &BlockView<'_>,
+) -> Result<Ext, Judged>
+    requires parent { parent < length tree.now.entries }
+    requires few { length tree.now.entries < 2 ^ 24 }
+    requires rated { AreRated tree.now.entries }
+    requires counts { B.count blocks.old ≡ length tree.now.entries }
+    ensures told { B.told blocks.new ≡ B.told blocks.old }
+    ensures count { B.count blocks.new ≡ B.count blocks.old }
+    ensures loans { B.loans_of blocks.new ≡ B.loans_of blocks.old }
+    ensures tried { (rule : ℕ) → result ≡ Err (Broken rule) → IsTried rule }
+
+    // Over kept blocks that are told, with the cells of the parent's branch.
+    ensures broken { (stored : List Stored) → B.told blocks.old ≡ Some stored → Stands stored tree.now.entries parent (C.rows cells.now)
+        → IndexesUncles (blocks_of stored) uncles.now → (rule : ℕ) → result ≡ Err (Broken rule)
+        → first_broken spec.now (branch (blocks_of stored) parent) block.now ≡ Some rule }
+    ensures unbroken { (stored : List Stored) → B.told blocks.old ≡ Some stored → Stands stored tree.now.entries parent (C.rows cells.now)
+        → IndexesUncles (blocks_of stored) uncles.now → IfOk result (λ _. first_broken spec.now (branch (blocks_of stored) parent) block.now ≡ None) }
+    ensures ext { (stored : List Stored) → B.told blocks.old ≡ Some stored → Stands stored tree.now.entries parent (C.rows cells.now)
+        → IndexesUncles (blocks_of stored) uncles.now → IfOk result (λ ext. ext ≡ ext_of spec.now (blocks_of stored) parent block.now) }
+    ensures undamaged { (stored : List Stored) → B.told blocks.old ≡ Some stored → Stands stored tree.now.entries parent (C.rows cells.now)
+        → IndexesUncles (blocks_of stored) uncles.now → (damage : Damage) → result ≡ Err (Read (Damaged damage)) → ⊥ }
+    ensures damage { (damage : Damage) → result ≡ Err (Read (Damaged damage)) → damage.area ≡ Log }
+    ensures cause { CountsFault (B.faults blocks.old) (B.faults blocks.new) (result ≡ Err (Read DiskFault)) }
+{
+    judge_ahead(alloc, spec, tree, uncles, cells, parent, block)?;
+    let ext = judge_transactions(alloc, spec, tree, cells, blocks, parent, block)?;
+    if !is_rated(block) {
+        return Err(Judged::Broken(32));
+    }
+    Ok(ext)
+}
+
+/// Judges a transaction alone, at the height after the parent, by J18 and J20 to J30 with all cycles of a block: its fee
+/// in shannons and the cycles that its scripts take. Damaged as `judge` is.
+pub fn dry_run<'a, C: Cells, B: Blocks>(
+    alloc: Global,
+    spec: &'a Spec,
+    tree: &'a Tree,
+    cells: &C,
+    blocks: &mut B,
+    parent: u32,
+    tx: &TxView<'_>,
+) -> Result<(u64, u64), Judged>
+    requires parent { parent < length tree.now.entries }
+    requires few { length tree.now.entries < 2 ^ 24 }
+    requires rated { AreRated tree.now.entries }
+    requires counts { B.count blocks.old ≡ length tree.now.entries }
+    ensures told { B.told blocks.new ≡ B.told blocks.old }
+    ensures count { B.count blocks.new ≡ B.count blocks.old }
+    ensures loans { B.loans_of blocks.new ≡ B.loans_of blocks.old }
+    ensures tried { (rule : ℕ) → result ≡ Err (Broken rule) → IsTriedAlone rule }
+
+    // Over kept blocks that are told, with the cells of the parent's branch.
+    ensures broken { (stored : List Stored) → B.told blocks.old ≡ Some stored → Stands stored tree.now.entries parent (C.rows cells.now)
+        → (rule : ℕ) → result ≡ Err (Broken rule) → broken_in_dry_run spec.now (branch (blocks_of stored) parent) tx.now ≡ Some rule }
+    ensures unbroken { (stored : List Stored) → B.told blocks.old ≡ Some stored → Stands stored tree.now.entries parent (C.rows cells.now)
+        → IfOk result (λ _. broken_in_dry_run spec.now (branch (blocks_of stored) parent) tx.now ≡ None) }
+    ensures fee { (stored : List Stored) → B.told blocks.old ≡ Some stored → Stands stored tree.now.entries parent (C.rows cells.now)
+        → IfOk result (λ it. it.0 ≡ capacity.fee (site_after spec.now (branch (blocks_of stored) parent)) tx.now) }
+    ensures cycles { (stored : List Stored) → B.told blocks.old ≡ Some stored → Stands stored tree.now.entries parent (C.rows cells.now)
+        → IfOk result (λ it. it.1 ≡ cycles_of (scene_of (site_after spec.now (branch (blocks_of stored) parent)) tx.now) spec.now.max_cycles) }
+    ensures undamaged { (stored : List Stored) → B.told blocks.old ≡ Some stored → Stands stored tree.now.entries parent (C.rows cells.now)
+        → (damage : Damage) → result ≡ Err (Read (Damaged damage)) → ⊥ }
+    ensures damage { (damage : Damage) → result ≡ Err (Read (Damaged damage)) → damage.area ≡ Log }
+    ensures cause { CountsFault (B.faults blocks.old) (B.faults blocks.new) (result ≡ Err (Read DiskFault)) }
+{
+    let at = TxAt {
+        spec,
+        tree,
+        parent,
+        block: None,
+    };
+    let taken = judge_transaction(alloc, tx, &at, true, cells, blocks, spec.max_cycles)?;
+    Ok((taken.fee, taken.cycles))
+}
