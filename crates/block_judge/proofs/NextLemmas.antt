@@ -5,7 +5,6 @@ use Rattle.std.specs.List.{list_any, filter}
 use Rattle.std.specs.Str.{bytes_eq}
 use Rattle.codec_defs.specs.Schema.{OutPoint, Transaction, Block}
 use Rattle.fold_defs.specs.First.{first_failing}
-use Rattle.fold_defs.proofs.FirstLemmas.{first_failing-append-fails, first_failing-append-holds, first_failing-none, finds_none}
 use Rattle.std.proofs.lemmas.Bool.Decides.{nat_tests}
 use Rattle.time_defs.specs.Specification.{Specification, keeps_s5}
 use Rattle.chain_defs.specs.Branch.{branch}
@@ -28,7 +27,7 @@ use Rattle.block_defs.specs.Ext.{fees_from, rows_spent, spent_from, ext_of}
 use Rattle.block_defs.specs.Rules.{site_after, broken_in_dry_run}
 use Rattle.block_judge.specs.Progress.{AreProposed}
 use Rattle.block_judge.proofs.ExtLemmas.{rows-spent}
-use Rattle.block_judge.proofs.RestLemmas.{fees-more, fees-all, spent-more, spent-all, rules-next, rules-end}
+use Rattle.block_judge.proofs.RestLemmas.{fees-more, fees-all, spent-more, spent-all, rules-more, rules-broken, rules-end}
 
 -- J19 asked of the ids that are proposed, by those of the transaction's hash
 pub by-proposed : (site : Site) (left : ℕ) (t : Transaction) (proposed : Bool) (ids : List (List ℕ)) (id hash : List ℕ) (answer : Option ℕ)
@@ -86,9 +85,7 @@ pub judged-breaks : (spec : Specification) (kept : List Block) (parent : ℕ) (b
     → first_failing (transaction_rules (site_at spec (branch kept parent) b place) left t) ≡ Some rule
     → first_failing (rules_of_transactions spec (branch kept parent) b) ≡ Some rule
 judged-breaks spec kept parent b place left ext t rule so_far there is =
-    so_far.rules ∙ ap first_failing (rules-next spec (branch kept parent) b place left t there)
-    ∙ first_failing-append-fails rule (transaction_rules (site_at spec (branch kept parent) b place) left t)
-    (rules_from spec (branch kept parent) b (place + 1) (left_after (site_at spec (branch kept parent) b place) left t) (drop (place + 1) b.transactions)) is
+    so_far.rules ∙ rules-broken spec (branch kept parent) b place left t rule there is
 
 pub judged-more : (spec : Specification) (kept : List Block) (parent : ℕ) (b : Block) (place left less : ℕ) (old new : Ext) (t : Transaction)
     → IsJudgedTo spec kept parent b place left old → slice_get b.transactions place ≡ Some t
@@ -98,10 +95,7 @@ pub judged-more : (spec : Specification) (kept : List Block) (parent : ℕ) (b :
     → new.spent ≡ old.spent ++ rows_spent kept parent (site_at spec (branch kept parent) b place) t
     → IsJudgedTo spec kept parent b (place + 1) less new
 judged-more spec kept parent b place left less old new t so_far there keeps leaves pays spends = record {
-  rules = so_far.rules ∙ ap first_failing (rules-next spec (branch kept parent) b place left t there)
-      ∙ first_failing-append-holds (transaction_rules (site_at spec (branch kept parent) b place) left t)
-      (rules_from spec (branch kept parent) b (place + 1) (left_after (site_at spec (branch kept parent) b place) left t) (drop (place + 1) b.transactions))
-      ((finds_none (transaction_rules (site_at spec (branch kept parent) b place) left t)).0 keeps)
+  rules = so_far.rules ∙ rules-more spec (branch kept parent) b place left t there keeps
       ∙ ap (λ (n : ℕ). first_failing (rules_from spec (branch kept parent) b (place + 1) n (drop (place + 1) b.transactions))) (sym leaves);
   fees = fees-more spec (branch kept parent) b place t _ old.fees new.fees there so_far.fees pays;
   spent = spent-more spec kept parent b place t _ old.spent new.spent there so_far.spent spends;
@@ -110,7 +104,7 @@ judged-more spec kept parent b place left less old new t so_far there keeps leav
 pub judged-all : (spec : Specification) (kept : List Block) (parent : ℕ) (b : Block) (place left : ℕ) (ext : Ext) → IsJudgedTo spec kept parent b place left ext
     → length b.transactions ≤ place → first_failing (rules_of_transactions spec (branch kept parent) b) ≡ None
 judged-all spec kept parent b place left ext so_far past =
-    so_far.rules ∙ ap first_failing (rules-end spec (branch kept parent) b place left past) ∙ first_failing-none
+    so_far.rules ∙ rules-end spec (branch kept parent) b place left past
 
 pub judged-ext : (spec : Specification) (kept : List Block) (parent : ℕ) (b : Block) (place left : ℕ) (ext : Ext) → IsJudgedTo spec kept parent b place left ext
     → length b.transactions ≤ place → ext ≡ ext_of spec kept parent b
