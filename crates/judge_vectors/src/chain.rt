@@ -3,7 +3,7 @@
 use crate::kept::{
     add, apply, entry_of, ext_bytes, hash_of, may_judge, parent_hash, put, replayed, take_uncles,
 };
-use crate::lines::{numbered_line, refused_line, known_line, ok_line};
+use crate::lines::{known_line, numbered_line, ok_line, refused_line};
 use block_judge::{Judged, dry_run, judge};
 use cell_model::{Ext, ListBlocks};
 use cell_state::State;
@@ -50,7 +50,12 @@ pub(crate) fn chain_of(alloc: Global, spec: &[u8], genesis: &[u8]) -> Option<Cha
 }
 
 /// Lets the live cells be those of the branch that ends at a place.
-fn stand_at<L: Ledger>(alloc: Global, steps: &mut Steps<L>, chain: &mut Chain, place: u32) -> Option<()> {
+fn stand_at<L: Ledger>(
+    alloc: Global,
+    steps: &mut Steps<L>,
+    chain: &mut Chain,
+    place: u32,
+) -> Option<()> {
     if chain.at != place {
         chain.state = replayed(alloc, steps, &chain.tree, &mut chain.blocks, place)?;
         chain.at = place;

@@ -112,7 +112,12 @@ fn may_be_kept(alloc: Global, is_first: bool, block: &[u8], ext: &[u8]) -> Resul
 }
 
 /// Puts a block with its ext behind the others. None where they may not stand there.
-pub(crate) fn put(alloc: Global, blocks: &mut ListBlocks, block: &[u8], ext: Vec<u8>) -> Option<()> {
+pub(crate) fn put(
+    alloc: Global,
+    blocks: &mut ListBlocks,
+    block: &[u8],
+    ext: Vec<u8>,
+) -> Option<()> {
     let block = block.to_vec(alloc).ok()?;
     let kept = blocks.len();
     if kept >= MOST || !may_be_kept(alloc, kept == 0, &block, &ext).ok()? {

@@ -3,7 +3,12 @@
 use std::alloc::Global;
 
 /// A word, a number and a hash.
-pub(crate) fn numbered_line(alloc: Global, word: &str, number: u64, hash: &[u8; 32]) -> Option<String> {
+pub(crate) fn numbered_line(
+    alloc: Global,
+    word: &str,
+    number: u64,
+    hash: &[u8; 32],
+) -> Option<String> {
     let digits = hex::encode(alloc, hash).ok()?;
     format!(in alloc; "{word} {number} 0x{digits}").ok()
 }
