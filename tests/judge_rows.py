@@ -3,12 +3,17 @@
 
     python3 tests/judge_rows.py FOLDER [CASE ..]
 
-FOLDER has the cases, a JSON file each: `ops` in order, each with the `words` of a
+FOLDER has cases, a JSON file each: `ops` in order, each with the `words` of a
 command (`init`, `import`, `check` or `tip`), its input `in` in hex and its output
-`out`. The rows of each CASE, a file's name without .json, go to standard output;
-where none is named, those of all. An item that ends its input badly has no row.
+`out`. Their answers were made from the rules, not by this program. The rows of each
+CASE, a file's name without .json, go to standard output; where none is named, those
+of all. An item that ends its input badly has no row. The stored rows are those of
 
-A row has columns with a tab between two:
+    chain_02 chain_03 chain_04 chain_05 chain_06 dao_03 headers_02 headers_03
+    headers_04 special_00 special_03 special_04 special_12 special_17 syscalls_04
+    tx_03 tx_05 tx_06 tx_07 tx_08 tx_10 tx_11 tx_17 tx_21 tx_22
+
+Columns have a tab between two:
 
     chain  SPEC GENESIS  tip 0 HASH
     block  HEX           joined N HASH, known HASH or refused JN
@@ -20,6 +25,9 @@ import glob
 import json
 import os
 import sys
+
+# of a command for items, the word of a row
+WORDS = {'import': 'block', 'check': 'check'}
 
 
 def items_of(given):
@@ -50,7 +58,7 @@ def rows_of(op):
         yield 'tip', '', answers[0]
     else:
         for item, answer in zip(items, answers):
-            yield {'import': 'block', 'check': 'check'}[word], item.hex(), answer
+            yield WORDS[word], item.hex(), answer
 
 
 def main():
