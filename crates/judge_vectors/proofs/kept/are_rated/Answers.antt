@@ -1,4 +1,4 @@
-use Rattle.std.proofs.Common.{rules, arith}
+use Rattle.std.proofs.Common.{arith}
 use Rattle.std.proofs.lemmas.Option.{slice_get_within}
 use Rattle.judge_vectors.proofs.Rated.{rated-more}
 use Rattle.judge_vectors.proofs.kept.are_rated.Goals as goal
