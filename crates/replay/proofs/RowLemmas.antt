@@ -51,13 +51,13 @@ branch-some kept place below =
     omega (arith, within)
 
 -- The rows of a branch are those of its block's parent with the block's events applied.
-pub record Steps (kept : List Block) (parent place : ℕ) (b : Block) : Type 0 where
+pub record IsStep (kept : List Block) (parent place : ℕ) (b : Block) : Type 0 where
   pub height : ℕ
   pub above : 0 < height
   pub row : (o : OutPoint) → live_row kept place o ≡ row_after place (events_of_block height b) (live_row kept parent) o
 
 pub live_row-step : (kept : List Block) (parent place : ℕ) (b : Block) → block_at kept place ≡ Some b → parent_place kept place ≡ Some parent
-    → Steps kept parent place b
+    → IsStep kept parent place b
 live_row-step kept parent place b there found = record {
   height = length (branch (take place kept) parent);
   above = branch-some (take place kept) parent below;

@@ -73,6 +73,8 @@ pub(crate) fn apply_at<B: Blocks, L: Ledger>(
     ensures loans { B.loans_of blocks.new ≡ B.loans_of blocks.old }
     ensures rows { (stored : List Stored) (b : Block) → B.told blocks.old ≡ Some stored → block_at (blocks_of stored) place ≡ Some b
         → OnOk result ((height : ℕ) (o : OutPoint) → 0 < height → rows state.new o ≡ row_after place (events_of_block height b) (rows state.old) o) }
+    ensures fit { (stored : List Stored) (b : Block) → B.told blocks.old ≡ Some stored → block_at (blocks_of stored) place ≡ Some b
+        → OnOk result ((height : ℕ) → 0 < height → AllFit place (events_of_block height b) (rows state.old)) }
     ensures undamaged { (stored : List Stored) (b : Block) (height : ℕ) → B.told blocks.old ≡ Some stored → block_at (blocks_of stored) place ≡ Some b
         → 0 < height → AllFit place (events_of_block height b) (rows state.old) → (damage : disk.Damage) → result ≡ Err (Damaged damage) → ⊥ }
     ensures damage { (damage : disk.Damage) → result ≡ Err (Damaged damage) → damage.area ≡ Log }

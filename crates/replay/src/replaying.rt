@@ -35,6 +35,8 @@ pub fn replay<B: Blocks, L: Ledger>(
     ensures loans { B.loans_of blocks.new ≡ B.loans_of blocks.old }
     ensures rows { (stored : List Stored) → B.told blocks.old ≡ Some stored → IndexesBlocks (blocks_of stored) tree.now.entries
         → IfOk result (λ state. (o : OutPoint) → rows state o ≡ live_row (blocks_of stored) e o) }
+    ensures fit { (stored : List Stored) → B.told blocks.old ≡ Some stored → IndexesBlocks (blocks_of stored) tree.now.entries
+        → OnOk result (BranchFits (blocks_of stored) e) }
     ensures undamaged { (stored : List Stored) → B.told blocks.old ≡ Some stored → IndexesBlocks (blocks_of stored) tree.now.entries
         → BranchFits (blocks_of stored) e → (damage : Damage) → result ≡ Err (Damaged damage) → ⊥ }
     ensures damage { (damage : Damage) → result ≡ Err (Damaged damage) → damage.area ≡ Log }

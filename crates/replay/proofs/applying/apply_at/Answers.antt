@@ -25,3 +25,11 @@ returns-in-Err-apply-clause-undamaged g c stored b height tells there above fit 
     (all-same c.args.place (events_of_block height c.in-Some.block) (rows c.args.state.now) (rows c.reserve.new.self) c.in-Ok.ensures.rows
     (subst (λ (x : Block). AllFit c.args.place (events_of_block height x) (rows c.args.state.now)) (sym is) fit))
     (c.in-Err-apply.ensures.odd height above)
+
+pub returns-in-Ok-apply-clause-fit : goal.returns-in-Ok-apply-clause-fit
+returns-in-Ok-apply-clause-fit g c stored b tells there height above =
+    let is : c.in-Some.block ≡ b = same_Some c.in-Some.block b (c.in-Some.ensures.value
+    ∙ told-block stored c.block.result.now c.args.place b _ _ (c.in_ok-bring.ensures.told ∙ tells) c.in_ok-bring.ensures.taken c.block.ensures there) in
+    subst (λ (x : Block). AllFit c.args.place (events_of_block height x) (rows c.args.state.now)) is
+    (all-same c.args.place (events_of_block height c.in-Some.block) (rows c.reserve.new.self) (rows c.args.state.now) (λ o. sym (c.in-Ok.ensures.rows o))
+    (c.in-Ok-apply.ensures.fit height above))

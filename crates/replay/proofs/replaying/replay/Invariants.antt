@@ -6,9 +6,11 @@ use Rattle.chain_tree.specs.Blocks.{IndexesBlocks}
 use Rattle.chain_tree.specs.Told.{Stored, blocks_of}
 use Rattle.cell_defs.specs.Row.{live_row}
 use Rattle.cell_state.specs.State.{rows}
+use Rattle.replay.proofs.StepLemmas.{FitsBelow}
 use Rattle.replay.proofs.replaying.replay.Given as goal
 
--- The rows are those of the branch that ends with the place of the height so far. The source of blocks tells and counts the same.
+-- The rows are those of the branch that ends with the place of the height so far, and the blocks up to there fit. The source of blocks tells
+-- and counts the same.
 abbrev pub invariant-heights : goal.invariant-heights
 invariant-heights g l = record {
   told : g.B.Blocks.told l.blocks ≡ g.B.Blocks.told l.fn.blocks;
@@ -19,4 +21,6 @@ invariant-heights g l = record {
   most : l.height ≤ l.last;
   rows : (stored : List Stored) → g.B.Blocks.told l.fn.blocks ≡ Some stored → IndexesBlocks (blocks_of stored) l.tree.entries → (place : ℕ)
       → slice_get (branch_places (blocks_of stored) l.e) l.height ≡ Some place → (o : OutPoint) → rows l.state o ≡ live_row (blocks_of stored) place o;
+  fit : (stored : List Stored) → g.B.Blocks.told l.fn.blocks ≡ Some stored → IndexesBlocks (blocks_of stored) l.tree.entries
+      → FitsBelow (blocks_of stored) l.e l.height;
 }
