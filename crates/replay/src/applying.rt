@@ -1,0 +1,97 @@
+// One kept block at a time: the cells of the genesis, and the events of a block behind it.
+ghost use Rattle.std.specs.Prelude.{◌≡◌, ◌≤◌, ◌<◌, ◌+◌, ℕ, List, length, Some, None, Err, IfOk, OnOk};
+ghost use Rattle.codec_defs.specs.Schema.{OutPoint, Block};
+ghost use Rattle.outside.specs.Causes.{CountsFault};
+ghost use Rattle.outside.specs.declared.disk.Area.TheVariants.{Log};
+ghost use Rattle.outside.specs.declared.disk.Damage as disk;
+ghost use Rattle.outside.specs.declared.disk.ReadStop.TheVariants.{DiskFault, Damaged};
+ghost use Rattle.chain_defs.specs.Kept.{block_at};
+ghost use Rattle.chain_tree.specs.Told.{Stored, blocks_of};
+ghost use Rattle.cell_defs.specs.Events.{events_of_block};
+ghost use Rattle.cell_defs.specs.Row.{row_after};
+ghost use Rattle.cell_state.specs.Fit.{AllFit};
+ghost use Rattle.cell_state.specs.State.{rows};
+
+use cell_state::{State, outputs_in};
+use chain_tree::{Blocks, Tree};
+use mol_schema::BlockView;
+use outside::{Area, Damage, ReadStop, Steps};
+use std::alloc::Global;
+use std::sync::ledger::Ledger;
+
+/// Damage at the record of a kept block.
+fn damage_at(tree: &Tree, place: u32) -> Damage
+    requires { place < length tree.now.entries }
+    ensures { result.area ≡ Log }
+{
+    Damage {
+        area: Area::Log,
+        at: tree.entry(place).at,
+    }
+}
+
+/// The cells that the genesis leaves. Damaged where its bytes are no block.
+pub(crate) fn genesis_cells<B: Blocks>(
+    alloc: Global,
+    tree: &Tree,
+    blocks: &mut B,
+) -> Result<State, ReadStop>
+    requires some { 0 < length tree.now.entries }
+    requires counts { B.count blocks.old ≡ length tree.now.entries }
+    ensures told { B.told blocks.new ≡ B.told blocks.old }
+    ensures count { B.count blocks.new ≡ B.count blocks.old }
+    ensures loans { B.loans_of blocks.new ≡ B.loans_of blocks.old }
+    ensures rows { (stored : List Stored) (b : Block) → B.told blocks.old ≡ Some stored → block_at (blocks_of stored) 0 ≡ Some b
+        → IfOk result (λ state. (o : OutPoint) → rows state o ≡ row_after 0 (events_of_block 0 b) (λ _. None) o) }
+    ensures undamaged { (stored : List Stored) → B.told blocks.old ≡ Some stored → (damage : disk.Damage) → result ≡ Err (Damaged damage) → ⊥ }
+    ensures damage { (damage : disk.Damage) → result ≡ Err (Damaged damage) → damage.area ≡ Log }
+    ensures cause { CountsFault (B.faults blocks.old) (B.faults blocks.new) (result ≡ Err DiskFault) }
+{
+    blocks.bring(0)?;
+    let Some(block) = BlockView::read(blocks.block()) else {
+        return Err(ReadStop::Damaged(damage_at(tree, 0)));
+    };
+    match State::genesis(alloc, &block) {
+        Ok(state) => Ok(state),
+        Err(_) => Err(ReadStop::NoMemory),
+    }
+}
+
+/// Takes the events of the kept block at a place, which is not the genesis. Damaged where its bytes are no block, or its
+/// events do not fit.
+pub(crate) fn apply_at<B: Blocks, L: Ledger>(
+    state: &mut State,
+    tree: &Tree,
+    blocks: &mut B,
+    place: u32,
+    steps: &mut Steps<L>,
+) -> Result<(), ReadStop>
+    requires within { place < length tree.now.entries }
+    requires counts { B.count blocks.old ≡ length tree.now.entries }
+    ensures told { B.told blocks.new ≡ B.told blocks.old }
+    ensures count { B.count blocks.new ≡ B.count blocks.old }
+    ensures loans { B.loans_of blocks.new ≡ B.loans_of blocks.old }
+    ensures rows { (stored : List Stored) (b : Block) → B.told blocks.old ≡ Some stored → block_at (blocks_of stored) place ≡ Some b
+        → OnOk result ((height : ℕ) (o : OutPoint) → 0 < height → rows state.new o ≡ row_after place (events_of_block height b) (rows state.old) o) }
+    ensures fit { (stored : List Stored) (b : Block) → B.told blocks.old ≡ Some stored → block_at (blocks_of stored) place ≡ Some b
+        → OnOk result ((height : ℕ) → 0 < height → AllFit place (events_of_block height b) (rows state.old)) }
+    ensures undamaged { (stored : List Stored) (b : Block) (height : ℕ) → B.told blocks.old ≡ Some stored → block_at (blocks_of stored) place ≡ Some b
+        → 0 < height → AllFit place (events_of_block height b) (rows state.old) → (damage : disk.Damage) → result ≡ Err (Damaged damage) → ⊥ }
+    ensures damage { (damage : disk.Damage) → result ≡ Err (Damaged damage) → damage.area ≡ Log }
+    ensures cause { CountsFault (B.faults blocks.old) (B.faults blocks.new) (result ≡ Err DiskFault) }
+    ensures steps { OnOk result (steps.new ≡ steps.old + 1) }
+    ensures most { steps.new ≤ steps.old + 1 }
+{
+    blocks.bring(place)?;
+    let Some(block) = BlockView::read(blocks.block()) else {
+        return Err(ReadStop::Damaged(damage_at(tree, place)));
+    };
+    match state.reserve(outputs_in(&block)) {
+        Ok(()) => {}
+        Err(_) => return Err(ReadStop::NoMemory),
+    }
+    match state.apply(&block, place, steps) {
+        Ok(()) => Ok(()),
+        Err(_) => Err(ReadStop::Damaged(damage_at(tree, place))),
+    }
+}

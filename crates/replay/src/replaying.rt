@@ -1,0 +1,54 @@
+// The live cells of a branch, from the genesis up.
+ghost use Rattle.std.specs.Prelude.{◌≡◌, ◌≤◌, ◌<◌, ◌+◌, List, length, Some, Err, IfOk, OnOk, IfSome};
+ghost use Rattle.codec_defs.specs.Schema.{OutPoint};
+ghost use Rattle.outside.specs.Causes.{CountsFault};
+ghost use Rattle.outside.specs.declared.disk.Area.TheVariants.{Log};
+ghost use Rattle.outside.specs.declared.disk.Damage.{Damage};
+ghost use Rattle.outside.specs.declared.disk.ReadStop.TheVariants.{DiskFault, Damaged};
+ghost use Rattle.chain_tree.specs.Entries.{entry_at};
+ghost use Rattle.chain_tree.specs.Blocks.{IndexesBlocks};
+ghost use Rattle.chain_tree.specs.Told.{Stored, blocks_of};
+ghost use Rattle.cell_defs.specs.Row.{live_row};
+ghost use Rattle.cell_state.specs.State.{rows};
+ghost use Rattle.replay.specs.Fit.{BranchFits};
+
+use crate::applying::{apply_at, genesis_cells};
+use cell_state::State;
+use chain_tree::{Blocks, Tree};
+use outside::{ReadStop, Steps};
+use std::alloc::Global;
+use std::sync::ledger::Ledger;
+
+/// The live cells of the branch that ends with a place, replayed from the genesis: a step for each block behind it.
+/// Damaged where the bytes of one of the branch's blocks are no block, or its events do not fit the cells before it.
+pub fn replay<B: Blocks, L: Ledger>(
+    alloc: Global,
+    tree: &Tree,
+    blocks: &mut B,
+    e: u32,
+    steps: &mut Steps<L>,
+) -> Result<State, ReadStop>
+    requires within { e < length tree.now.entries }
+    requires counts { B.count blocks.old ≡ length tree.now.entries }
+    ensures told { B.told blocks.new ≡ B.told blocks.old }
+    ensures count { B.count blocks.new ≡ B.count blocks.old }
+    ensures loans { B.loans_of blocks.new ≡ B.loans_of blocks.old }
+    ensures rows { (stored : List Stored) → B.told blocks.old ≡ Some stored → IndexesBlocks (blocks_of stored) tree.now.entries
+        → IfOk result (λ state. (o : OutPoint) → rows state o ≡ live_row (blocks_of stored) e o) }
+    ensures fit { (stored : List Stored) → B.told blocks.old ≡ Some stored → IndexesBlocks (blocks_of stored) tree.now.entries
+        → OnOk result (BranchFits (blocks_of stored) e) }
+    ensures undamaged { (stored : List Stored) → B.told blocks.old ≡ Some stored → IndexesBlocks (blocks_of stored) tree.now.entries
+        → BranchFits (blocks_of stored) e → (damage : Damage) → result ≡ Err (Damaged damage) → ⊥ }
+    ensures damage { (damage : Damage) → result ≡ Err (Damaged damage) → damage.area ≡ Log }
+    ensures cause { CountsFault (B.faults blocks.old) (B.faults blocks.new) (result ≡ Err DiskFault) }
+    ensures steps { IfSome (entry_at tree.now.entries e) (λ entry. OnOk result (steps.new ≡ steps.old + entry.number)) }
+    ensures most { IfSome (entry_at tree.now.entries e) (λ entry. steps.new ≤ steps.old + entry.number) }
+{
+    let mut state = genesis_cells(alloc, tree, blocks)?;
+    let last = tree.entry(e).number;
+    'heights: for height in 0..last {
+        let place = tree.ancestor(e, height + 1);
+        apply_at(&mut state, tree, blocks, place, steps)?;
+    }
+    Ok(state)
+}
