@@ -1,14 +1,14 @@
-use Rattle.std.proofs.Common.{◌≡◌, ℕ, Some, None, refl, sym, ap, ◌∙◌, [], arith}
+use Rattle.std.proofs.Common.{Some, refl, ap, ◌∙◌, [], arith}
 use Rattle.outside.specs.declared.disk.ReadStop.TheVariants.{Damaged}
 use Rattle.chain_defs.specs.Branch.{branch}
 use Rattle.chain_tree.specs.Told.{blocks_of}
 use Rattle.tx_defs.specs.Site.{Site}
-use Rattle.tx_rules.specs.At.{AtValue, IsSiteOf}
+use Rattle.tx_rules.specs.At.{AtValue}
 use Rattle.block_defs.specs.Transactions.{site_at}
 use Rattle.block_judge.specs.declared.stop.Judged.TheVariants.{Broken, Read}
 use Rattle.block_judge.specs.Changes.{with_changes}
 use Rattle.block_judge.proofs.TransactionLemmas.{handed-on}
-use Rattle.block_judge.proofs.SiteLemmas.{AreRowsAfter, rows-after_none, rows-after_more, site-in_block}
+use Rattle.block_judge.proofs.SiteLemmas.{rows-after_none, rows-after_more, site-in_block}
 use Rattle.block_judge.proofs.NextLemmas.{proposed-here, judged-none, judged-breaks, judged-more, judged-all, judged-ext}
 use Rattle.block_judge.proofs.all_transactions.judge_transactions.Goals as goal
 
@@ -52,13 +52,13 @@ later-preserved g c = record {
       (with_changes c.later.progress.cells.changed (g.C.Cells.rows c.later.progress.cells.base.now)) _
       c.later.invariant.rows c.transactions_item-tx.ensures (λ height o above. c.in_ok-judge_next.ensures.rows height o above);
   judged = λ stored tells stands.
-    let at : AtValue = record { spec = c.args.spec.now; entries = c.args.tree.now.entries; parent = c.args.parent; block = Some c.from_encoding.result } in
-    let site : Site = site_at c.args.spec.now (branch (blocks_of stored) c.args.parent) c.args.block.now c.later.place in
-    let is = site-in_block stored at c.args.block.now c.later.place (g.C.Cells.rows c.args.cells.now)
-    (with_changes c.later.progress.cells.changed (g.C.Cells.rows c.later.progress.cells.base.now))
-    (ap Some (c.from_encoding.ensures c.args.block.now c.bytes.ensures)) c.requires.parent stands c.later.invariant.rows in
-    let proposed = proposed-here c.args.spec.now (branch (blocks_of stored) c.args.parent) c.in_ok-proposed.proposed c.height.result
-    (c.in_ok-proposed.ensures.proposed stored tells stands.indexed) (c.height.ensures.height stored _ site is) in
+      let at : AtValue = record { spec = c.args.spec.now; entries = c.args.tree.now.entries; parent = c.args.parent; block = Some c.from_encoding.result } in
+      let site : Site = site_at c.args.spec.now (branch (blocks_of stored) c.args.parent) c.args.block.now c.later.place in
+      let is = site-in_block stored at c.args.block.now c.later.place (g.C.Cells.rows c.args.cells.now)
+      (with_changes c.later.progress.cells.changed (g.C.Cells.rows c.later.progress.cells.base.now))
+      (ap Some (c.from_encoding.ensures c.args.block.now c.bytes.ensures)) c.requires.parent stands c.later.invariant.rows in
+      let proposed = proposed-here c.args.spec.now (branch (blocks_of stored) c.args.parent) c.in_ok-proposed.proposed c.height.result
+      (c.in_ok-proposed.ensures.proposed stored tells stands.indexed) (c.height.ensures.height stored _ site is) in
       judged-more c.args.spec.now (blocks_of stored) c.args.parent c.args.block.now c.later.place c.later.progress.left c.judge_next.new.self.left
       c.later.progress.ext c.judge_next.new.self.ext c.transactions_item-tx.result (c.later.invariant.judged stored tells stands) c.transactions_item-tx.ensures
       (c.in_ok-judge_next.ensures.unbroken stored site (c.later.invariant.told ∙ tells) is proposed)

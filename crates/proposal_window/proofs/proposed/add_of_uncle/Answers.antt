@@ -1,6 +1,5 @@
-use Rattle.std.proofs.Common.{sym, ap, ◌∙◌, refl, arith, false}
+use Rattle.std.proofs.Common.{◌∙◌, refl, arith, false}
 use Rattle.std.specs.Str.{bytes_eq}
-use Rattle.std.specs.HashSet.{contains}
 use Rattle.proposal_window.proofs.ProposedLemmas.{or-nothing, one-more-id, all-of}
 use Rattle.proposal_window.proofs.proposed.add_of_uncle.Goals as goal
 

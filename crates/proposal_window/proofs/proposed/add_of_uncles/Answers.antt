@@ -1,6 +1,4 @@
-use Rattle.std.proofs.Common.{sym, ap, ◌∙◌, refl, arith, false}
-use Rattle.std.specs.Str.{bytes_eq}
-use Rattle.std.specs.List.{list_any}
+use Rattle.std.proofs.Common.{◌∙◌, refl, arith, false}
 use Rattle.codec_defs.specs.Schema.{UncleBlock}
 use Rattle.proposal_window.proofs.ProposedLemmas.{or-nothing, any-more, all-of, among}
 use Rattle.proposal_window.proofs.proposed.add_of_uncles.Goals as goal
