@@ -1,3 +1,4 @@
+pub mod Ahead
 pub mod Standing
 pub mod Stops
 pub mod Changes
