@@ -1,5 +1,5 @@
 -- The rules that are tried ahead of the transactions, one group after another, and all rules of a block.
-use Rattle.std.proofs.Common.{◌≡◌, ℕ, ◌<◌, ◌≤◌, inl, inr, ◌⊎◌, Bool, true, false, ◌&&◌, List, [], ◌∷◌, ◌++◌, length, map, Option, Some, None, refl, sym, ap, ◌∙◌, arith, append_assoc, subst}
+use Rattle.std.proofs.Common.{◌≡◌, ℕ, ◌<◌, ◌≤◌, inl, inr, Bool, true, false, ◌&&◌, List, [], ◌∷◌, ◌++◌, length, map, Option, Some, None, refl, sym, ap, ◌∙◌, arith, append_assoc, subst}
 use Rattle.std.specs.Prelude.{option_map, is_some, Result, Ok, Err, IsErrAnd}
 use Rattle.std.specs.List.{All}
 use Rattle.std.proofs.lemmas.List.Elements.{All-nil, All-cons, All-head, All-tail}
@@ -161,6 +161,7 @@ stops-ahead {T = T} first stop step (Err given) was is broken memory = by_stop g
   where
     as_error : Judged → Result T Judged
     as_error it = Err it
+
     by_stop : (given : Judged) → step ≡ Err given → StopsAhead first given
     by_stop (Broken rule) same = inl (broken rule same)
     by_stop (Read NoMemory) same = tt
@@ -175,6 +176,7 @@ stops-behind {T = T} first stop step (Err given) was is none later = by_stop giv
   where
     as_error : Judged → Result T Judged
     as_error it = Err it
+
     by_stop : (given : Judged) → step ≡ Err given → StopsAhead first given
     by_stop (Broken rule) same = inr (later rule same, none)
     by_stop (Read NoMemory) same = tt
@@ -189,6 +191,7 @@ stops-unrated {T = T} rated stop step (Err given) was is below = by_stop given (
   where
     as_error : Judged → Result T Judged
     as_error it = Err it
+
     by_stop : (given : Judged) → step ≡ Err given → StopsRated rated given
     by_stop (Broken rule) same = λ last. let low = below rule same in absurd (omega (arith, low, last))
     by_stop (Read why) same = tt

@@ -1,5 +1,5 @@
 -- J18 and J20 over any source of blocks.
-use Rattle.std.proofs.Common.{◌≡◌, ℕ, zero, suc, ◌+◌, ◌-◌, ◌<◌, ◌≤◌, inl, inr, ◌⊎◌, Bool, true, false, ◌||◌, eqb, cond, Some, None, Result, Ok, Err, refl, sym, ap, ◌∙◌, subst, arith}
+use Rattle.std.proofs.Common.{◌≡◌, ℕ, zero, suc, ◌+◌, ◌-◌, ◌<◌, ◌≤◌, inl, inr, Bool, true, false, ◌||◌, eqb, cond, Result, Ok, Err, refl, sym, ap, ◌∙◌, subst, arith}
 use Rattle.std.specs.Prelude.{Option, IsErrAnd}
 use Rattle.outside.specs.declared.disk.ReadStop.TheVariants.{DiskFault, NoMemory, Damaged}
 use Rattle.codec_defs.specs.Schema.{OutPoint, Transaction}
@@ -23,6 +23,7 @@ kept-by-rows rows t result follows no_form no_cell =
     by_form : (b : Bool) → has_form t ≡ b → b ≡ true
     by_form true same = refl
     by_form false same = absurd (no_form (follows.formless same))
+
     by_cell : (b : Bool) → spends_rows rows t ≡ b → has_form t ≡ true → b ≡ true
     by_cell true same form = refl
     by_cell false same form = absurd (no_cell (follows.lost form same))
@@ -71,6 +72,7 @@ stops-by-rows {T = T} rows t (resolving.Broken rule) result follows tried was =
   where
     as_error : ℕ → Result T TxStop
     as_error n = Err (resolving.Broken n)
+
     formed : 20 ≤ rule → has_form t ≡ true
     formed low = by_form (has_form t) refl
       where
@@ -78,12 +80,14 @@ stops-by-rows {T = T} rows t (resolving.Broken rule) result follows tried was =
         by_form true same = refl
         by_form false same =
             absurd (not-at 18 rule (λ is. omega (arith, low, is)) (subst (λ (r : Result T TxStop). IsErrAnd r (IsStopAt 18)) was (follows.formless same)))
+
     by_rest : (rest : ℕ) → rule ≡ 20 + rest → StopsByRows (has_form t) (spends_rows rows t) (Broken rule)
     by_rest zero same = let its = follows.live (was ∙ ap as_error same) in inr (its.0, inl (same, its.1))
     by_rest (suc rest) same =
         let kept = stopped-by-rows rows t (resolving.Broken rule) result follows was (not-at 18 rule (λ is. omega (arith, same, is)))
-            (not-at 20 rule (λ is. omega (arith, same, is))) in
+        (not-at 20 rule (λ is. omega (arith, same, is))) in
         inr (kept.0, inr (omega (arith, same), kept.1))
+
     by_tried : IsTried rule → StopsByRows (has_form t) (spends_rows rows t) (Broken rule)
     by_tried (inl same) = inl (same, follows.form (was ∙ ap as_error same))
     by_tried (inr within) = by_rest (rule - 20) (omega (arith, within.0))
@@ -96,6 +100,7 @@ later-by-rows {T = T} form spends stop step (Err given) was is kept later = by_s
   where
     as_error : Judged → Result T Judged
     as_error it = Err it
+
     by_stop : (given : Judged) → step ≡ Err given → StopsByRows form spends given
     by_stop (Broken rule) same = inr (kept.0, inr (later rule same, kept.1))
     by_stop (Read NoMemory) same = tt

@@ -1,6 +1,6 @@
 -- What an answer on a transaction alone says of J18 and J20, whatever is told of kept blocks: of its form, and whether the rows have a cell of
 -- its own for each input.
-use Rattle.std.specs.Prelude.{◌≡◌, ◌⊎◌, ⊤, ℕ, ◌<◌, Bool, true, false, Result, Ok, Err}
+use Rattle.std.specs.Prelude.{◌≡◌, ◌⊎◌, ⊤, ◌<◌, Bool, true, false, Result, Ok, Err}
 use Rattle.outside.specs.declared.disk.ReadStop.TheVariants.{DiskFault, NoMemory, Damaged}
 use Rattle.block_judge.specs.declared.stop.Judged.{Judged}
 use Rattle.block_judge.specs.declared.stop.Judged.TheVariants.{Broken, Read}

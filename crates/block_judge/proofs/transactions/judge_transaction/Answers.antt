@@ -1,4 +1,4 @@
-use Rattle.std.proofs.Common.{◌≡◌, Bool, true, sym, ap, ◌∙◌, Err, subst, arith}
+use Rattle.std.proofs.Common.{Bool, sym, ap, ◌∙◌, Err, subst, arith}
 use Rattle.fold_defs.specs.First.{first_failing}
 use Rattle.outside.specs.declared.disk.ReadStop.TheVariants.{Damaged}
 use Rattle.codec_defs.specs.Schema.{Transaction}
