@@ -1,6 +1,6 @@
 -- The rules that are tried ahead of the transactions, one group after another, and all rules of a block.
-use Rattle.std.proofs.Common.{◌≡◌, ℕ, ◌<◌, ◌≤◌, Bool, true, false, ◌&&◌, List, [], ◌∷◌, ◌++◌, length, map, Option, Some, None, refl, sym, ap, ◌∙◌, arith, append_assoc, subst}
-use Rattle.std.specs.Prelude.{option_map, is_some}
+use Rattle.std.proofs.Common.{◌≡◌, ℕ, ◌<◌, ◌≤◌, inl, inr, Bool, true, false, ◌&&◌, List, [], ◌∷◌, ◌++◌, length, map, Option, Some, None, refl, sym, ap, ◌∙◌, arith, append_assoc, subst}
+use Rattle.std.specs.Prelude.{option_map, is_some, Result, Ok, Err, IsErrAnd}
 use Rattle.std.specs.List.{All}
 use Rattle.std.proofs.lemmas.List.Elements.{All-nil, All-cons, All-head, All-tail}
 use Rattle.std.proofs.lemmas.Option.{same_Some}
@@ -19,11 +19,13 @@ use Rattle.block_defs.specs.Uncles.{has_uncles}
 use Rattle.block_defs.specs.Cellbase.{has_cellbase, begins_with_cellbase, forms_cellbase}
 use Rattle.block_defs.specs.Transactions.{rules_of_transactions}
 use Rattle.block_defs.specs.Rules.{family_rules, is_rated, end_rules, all_rules, first_broken}
+use Rattle.outside.specs.declared.disk.ReadStop.{ReadStop}
+use Rattle.outside.specs.declared.disk.ReadStop.TheVariants.{DiskFault, NoMemory, Damaged}
+use Rattle.block_judge.specs.declared.stop.Judged.{Judged}
+use Rattle.block_judge.specs.declared.stop.Judged.TheVariants.{Broken, Read}
+use Rattle.block_judge.specs.Ahead.{ahead, StopsAhead, SaysAhead, StopsRated, SaysRated}
 
 -- ---- Rules ahead of the transactions
-
-abbrev pub ahead : Specification → List Block → Block → List (ℕ × Bool)
-ahead spec on b = header_rules spec on b ++ (body_rules spec b ++ family_rules spec on b)
 
 -- a rule that is broken is one of those that were listed
 failing-one : (Listed : ℕ → Type 0) (rules : List (ℕ × Bool)) (rule : ℕ) → All (λ row. Listed row.0) rules → first_failing rules ≡ Some rule → Listed rule
@@ -147,3 +149,49 @@ first-end spec on b kept judged rated = at-end spec on b kept judged ∙ first_f
 pub keeps-all : (spec : Specification) (on : List Block) (b : Block) → first_failing (ahead spec on b) ≡ None → first_failing (rules_of_transactions spec on b) ≡ None
     → is_rated b ≡ true → first_broken spec on b ≡ None
 keeps-all spec on b kept judged rated = at-end spec on b kept judged ∙ first_failing-holds 32 (is_rated b) [] rated ∙ first_failing-none
+
+-- ---- Answers over any source of blocks
+
+-- a step ahead of the transactions that stopped, handed on
+pub stops-ahead : {T U : Type 0} (first : Option ℕ) (stop : Judged) (step : Result T Judged) (result : Result U Judged) → step ≡ Err stop
+    → IsErrAnd result (λ it. it ≡ stop) → ((rule : ℕ) → step ≡ Err (Broken rule) → first ≡ Some rule)
+    → ((why : ReadStop) → step ≡ Err (Read why) → why ≡ NoMemory) → SaysAhead first result
+stops-ahead first stop step (Ok it) was is broken memory = absurd is
+stops-ahead {T = T} first stop step (Err given) was is broken memory = by_stop given (was ∙ ap as_error (sym is))
+  where
+    as_error : Judged → Result T Judged
+    as_error it = Err it
+
+    by_stop : (given : Judged) → step ≡ Err given → StopsAhead first given
+    by_stop (Broken rule) same = inl (broken rule same)
+    by_stop (Read NoMemory) same = tt
+    by_stop (Read DiskFault) same = let no = memory DiskFault same in absurd (cc)
+    by_stop (Read (Damaged damage)) same = let no = memory (Damaged damage) same in absurd (cc)
+
+-- a step behind them, where none is broken
+pub stops-behind : {T U : Type 0} (first : Option ℕ) (stop : Judged) (step : Result T Judged) (result : Result U Judged) → step ≡ Err stop
+    → IsErrAnd result (λ it. it ≡ stop) → first ≡ None → ((rule : ℕ) → step ≡ Err (Broken rule) → 17 < rule) → SaysAhead first result
+stops-behind first stop step (Ok it) was is none later = absurd is
+stops-behind {T = T} first stop step (Err given) was is none later = by_stop given (was ∙ ap as_error (sym is))
+  where
+    as_error : Judged → Result T Judged
+    as_error it = Err it
+
+    by_stop : (given : Judged) → step ≡ Err given → StopsAhead first given
+    by_stop (Broken rule) same = inr (later rule same, none)
+    by_stop (Read NoMemory) same = tt
+    by_stop (Read DiskFault) same = none
+    by_stop (Read (Damaged damage)) same = none
+
+-- a step that does not try J32
+pub stops-unrated : {T U : Type 0} (rated : Bool) (stop : Judged) (step : Result T Judged) (result : Result U Judged) → step ≡ Err stop
+    → IsErrAnd result (λ it. it ≡ stop) → ((rule : ℕ) → step ≡ Err (Broken rule) → rule < 32) → SaysRated rated result
+stops-unrated rated stop step (Ok it) was is below = absurd is
+stops-unrated {T = T} rated stop step (Err given) was is below = by_stop given (was ∙ ap as_error (sym is))
+  where
+    as_error : Judged → Result T Judged
+    as_error it = Err it
+
+    by_stop : (given : Judged) → step ≡ Err given → StopsRated rated given
+    by_stop (Broken rule) same = λ last. let low = below rule same in absurd (omega (arith, low, last))
+    by_stop (Read why) same = tt

@@ -8,3 +8,4 @@ pub mod RestLemmas
 pub mod CellbaseLemmas
 pub mod AheadLemmas
 pub mod NextLemmas
+pub mod RowsLemmas

@@ -1,4 +1,6 @@
+pub mod Ahead
 pub mod Standing
 pub mod Stops
+pub mod ByRows
 pub mod Changes
 pub mod Progress

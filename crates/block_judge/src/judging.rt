@@ -1,5 +1,6 @@
 // A block judged by all rules, and a transaction judged alone.
 ghost use Rattle.std.specs.Prelude.{◌≡◌, ◌<◌, ◌^◌, ◌≤◌, ℕ, List, None, Some, Err, IfOk, length};
+ghost use Rattle.fold_defs.specs.First.{first_failing};
 ghost use Rattle.outside.specs.Causes.{CountsFault};
 ghost use Rattle.outside.specs.declared.disk.Area.TheVariants.{Log};
 ghost use Rattle.outside.specs.declared.disk.Damage.{Damage};
@@ -9,11 +10,15 @@ ghost use Rattle.chain_tree.specs.Told.{Stored, blocks_of};
 ghost use Rattle.tx_defs.specs.Capacity as capacity;
 ghost use Rattle.script_defs.specs.Rules.{cycles_of};
 ghost use Rattle.script_defs.specs.Scene.{scene_of};
-ghost use Rattle.tx_rules.specs.At.{AreRated};
+ghost use Rattle.tx_defs.specs.Rules.{has_form};
+ghost use Rattle.tx_rules.specs.At.{AreRated, spends_rows};
 ghost use Rattle.uncle_rules.specs.Embedded.{IndexesUncles};
 ghost use Rattle.block_defs.specs.Ext.{ext_of};
+ghost use Rattle.block_defs.specs.Rules as defs;
 ghost use Rattle.block_defs.specs.Rules.{first_broken, broken_in_dry_run, site_after};
 ghost use Rattle.block_judge.specs.declared.stop.Judged.TheVariants.{Broken, Read};
+ghost use Rattle.block_judge.specs.Ahead.{SaysAhead, SaysRated, ahead as rules_ahead};
+ghost use Rattle.block_judge.specs.ByRows.{SaysByRows};
 ghost use Rattle.block_judge.specs.Standing.{IsTried, IsTriedAlone, Stands};
 
 use crate::ahead::{is_rated, judge_ahead};
@@ -49,6 +54,11 @@ pub fn judge<C: Cells, B: Blocks>(
     ensures count { B.count blocks.new ≡ B.count blocks.old }
     ensures loans { B.loans_of blocks.new ≡ B.loans_of blocks.old }
     ensures tried { (rule : ℕ) → result ≡ Err (Broken rule) → IsTried rule }
+
+    // Over any source of blocks: the rules ahead of the transactions, and the one behind them.
+    ensures ahead { (stored : List Stored) → Stands stored tree.now.entries parent (C.rows cells.now) → IndexesUncles (blocks_of stored) uncles.now
+        → SaysAhead (first_failing (rules_ahead spec.now (branch (blocks_of stored) parent) block.now)) result }
+    ensures rated { SaysRated (defs.is_rated block.now) result }
 
     // Over kept blocks that are told, with the cells of the parent's branch.
     ensures broken { (stored : List Stored) → B.told blocks.old ≡ Some stored → Stands stored tree.now.entries parent (C.rows cells.now)
@@ -90,6 +100,9 @@ pub fn dry_run<'a, C: Cells, B: Blocks>(
     ensures count { B.count blocks.new ≡ B.count blocks.old }
     ensures loans { B.loans_of blocks.new ≡ B.loans_of blocks.old }
     ensures tried { (rule : ℕ) → result ≡ Err (Broken rule) → IsTriedAlone rule }
+
+    // Over any source of blocks: J18 and J20.
+    ensures by_rows { SaysByRows (has_form tx.now) (spends_rows (C.rows cells.now) tx.now) result }
 
     // Over kept blocks that are told, with the cells of the parent's branch.
     ensures broken { (stored : List Stored) → B.told blocks.old ≡ Some stored → Stands stored tree.now.entries parent (C.rows cells.now)

@@ -8,14 +8,15 @@ ghost use Rattle.outside.specs.declared.disk.ReadStop.TheVariants.{DiskFault, Da
 ghost use Rattle.chain_defs.specs.Hashes.{transaction_hash};
 ghost use Rattle.chain_tree.specs.Told.{Stored, blocks_of};
 ghost use Rattle.tx_defs.specs.Site.{Site};
-ghost use Rattle.tx_defs.specs.Rules.{form_rules, cell_rules};
+ghost use Rattle.tx_defs.specs.Rules.{form_rules, cell_rules, has_form};
 ghost use Rattle.tx_defs.specs.Capacity.{fee};
 ghost use Rattle.tx_defs.specs.Resolving.{inputs};
-ghost use Rattle.tx_rules.specs.At.{IsPlaced, IsSiteOf, found_row};
+ghost use Rattle.tx_rules.specs.At.{IsPlaced, IsSiteOf, found_row, spends_rows};
 ghost use Rattle.tx_rules.specs.Copying.{row_in};
 ghost use Rattle.script_defs.specs.Scene.{scene_of};
 ghost use Rattle.script_defs.specs.Rules.{script_rules, cycles_of};
 ghost use Rattle.block_judge.specs.declared.stop.Judged.TheVariants.{Broken, Read};
+ghost use Rattle.block_judge.specs.ByRows.{SaysByRows};
 ghost use Rattle.block_judge.specs.Standing.{IsTriedAlone, IsTriedOnTransaction};
 ghost use Rattle.block_judge.specs.Stops.{of_resolving};
 
@@ -67,6 +68,8 @@ pub(crate) fn judge_transaction<C: Cells, B: Blocks>(
     ensures hash { IfOk result (λ taken. taken.hash ≡ transaction_hash tx.now) }
     ensures within { IfOk result (λ taken. taken.cycles ≤ left) }
     ensures rule { (rule : ℕ) → result ≡ Err (Broken rule) → IsTriedOnTransaction rule }
+    // J18 and J20 over any source of blocks.
+    ensures by_rows { proposed ≡ true → SaysByRows (has_form tx.now) (spends_rows (C.rows cells.now) tx.now) result }
     ensures alone { proposed ≡ true → (rule : ℕ) → result ≡ Err (Broken rule) → IsTriedAlone rule }
     ensures broken { (stored : List Stored) (site : Site) → B.told blocks.old ≡ Some stored → IsSiteOf stored at.now (C.rows cells.now) site
         → (rule : ℕ) → result ≡ Err (Broken rule)

@@ -1,4 +1,4 @@
-use Rattle.std.proofs.Common.{Some, None, ap, ◌∙◌}
+use Rattle.std.proofs.Common.{Some, None, refl, ap, ◌∙◌}
 use Rattle.outside.specs.declared.disk.ReadStop.TheVariants.{Damaged}
 use Rattle.time_defs.specs.Specification.{Specification}
 use Rattle.chain_defs.specs.Branch.{branch}
@@ -12,6 +12,7 @@ use Rattle.block_judge.specs.declared.stop.Judged.TheVariants.{Broken, Read}
 use Rattle.block_judge.proofs.TransactionLemmas.{handed-on}
 use Rattle.block_judge.proofs.SiteLemmas.{site-alone}
 use Rattle.block_judge.proofs.NextLemmas.{alone-judged}
+use Rattle.block_judge.proofs.RowsLemmas.{handed-by-rows, taken-by-rows}
 use Rattle.block_judge.proofs.judging.dry_run.Goals as goal
 
 pub returns-in_err-taken-clause-broken : goal.returns-in_err-taken-clause-broken
@@ -52,3 +53,11 @@ returns-clause-cycles g c stored tells stands =
     let site : Site = site_after c.args.spec.now (branch (blocks_of stored) c.args.parent) in
     let is : IsSiteOf stored at (g.C.Cells.rows c.args.cells.now) site = site-alone stored at (g.C.Cells.rows c.args.cells.now) stands in
     c.in_ok-taken.ensures.cycles stored site tells is ∙ ap (λ (s : Specification). cycles_of (scene_of site c.args.tx.now) s.max_cycles) c.spec.view_is
+
+pub returns-in_err-taken-clause-by_rows : goal.returns-in_err-taken-clause-by_rows
+returns-in_err-taken-clause-by_rows g c =
+    handed-by-rows _ _ c.in_err-taken.field-0.0 c.judge_transaction.result c.from_residual.result c.in_err-taken.was c.from_residual.ensures.1
+    (c.judge_transaction.ensures.by_rows refl)
+
+pub returns-clause-by_rows : goal.returns-clause-by_rows
+returns-clause-by_rows g c = taken-by-rows _ _ c.in_ok-taken.taken c.judge_transaction.result c.in_ok-taken.was (c.judge_transaction.ensures.by_rows refl)

@@ -1,4 +1,4 @@
-use Rattle.std.proofs.Common.{sym, ap, ◌∙◌, Err}
+use Rattle.std.proofs.Common.{Bool, sym, ap, ◌∙◌, Err, subst, arith}
 use Rattle.fold_defs.specs.First.{first_failing}
 use Rattle.outside.specs.declared.disk.ReadStop.TheVariants.{Damaged}
 use Rattle.codec_defs.specs.Schema.{Transaction}
@@ -8,6 +8,11 @@ use Rattle.script_defs.specs.Scene.{scene_of}
 use Rattle.script_defs.specs.Rules.{script_rules, cycles_of}
 use Rattle.block_judge.specs.declared.stop.Judged.TheVariants.{Broken, Read}
 use Rattle.block_judge.proofs.TransactionLemmas.{stops-resolving, damage-of-resolving, breaks-proposed, leaves-scripts, handed-on, its-transaction, resolved-own, spent-rows}
+use Rattle.block_judge.proofs.RowsLemmas.{stops-by-rows, resolved-by-rows, later-by-rows}
+use Rattle.block_judge.specs.Stops.{of_resolving}
+use Rattle.tx_defs.specs.Rules.{has_form}
+use Rattle.tx_rules.specs.At.{spends_rows}
+use Rattle.block_judge.specs.ByRows.{StopsByRows}
 use Rattle.block_judge.proofs.transactions.judge_transaction.Goals as goal
 
 pub returns-in-Err-clause-broken : goal.returns-in-Err-clause-broken
@@ -60,3 +65,20 @@ returns-clause-cycles g c stored site told is =
 pub returns-clause-spends : goal.returns-clause-spends
 returns-clause-spends g c stored site told is =
     spent-rows (blocks_of stored) c.args.at.now.parent site c.args.tx.now (ap (λ (ok : TxOk). ok.resolved) c.ok.view_is) (c.in-Ok.ensures.resolved stored site told is)
+
+pub returns-in-Err-clause-by_rows : goal.returns-in-Err-clause-by_rows
+returns-in-Err-clause-by_rows g c proposed =
+    let rows = g.C.Cells.rows c.args.cells.now in
+    subst (StopsByRows (has_form c.args.tx.now) (spends_rows rows c.args.tx.now))
+    (ap (λ (b : Bool). of_resolving b c.in-Err.stop) (sym proposed) ∙ sym c.stopped.ensures)
+    (stops-by-rows rows c.args.tx.now c.in-Err.stop c.resolve.result c.resolve.ensures.by_rows c.resolve.ensures.tried c.in-Err.is)
+
+pub returns-in_err-cycles-clause-by_rows : goal.returns-in_err-cycles-clause-by_rows
+returns-in_err-cycles-clause-by_rows g c proposed =
+    later-by-rows _ _ c.in_err-cycles.field-0.0 c.run_scripts.result c.from_residual.result c.in_err-cycles.was c.from_residual.ensures.1
+    (resolved-by-rows (g.C.Cells.rows c.args.cells.now) c.args.tx.now c.in-Ok.ok c.resolve.result c.resolve.ensures.by_rows c.in-Ok.is)
+    (λ rule same. let its = c.run_scripts.ensures.rule rule same in omega (arith, its.0))
+
+pub returns-clause-by_rows : goal.returns-clause-by_rows
+returns-clause-by_rows g c proposed =
+    resolved-by-rows (g.C.Cells.rows c.args.cells.now) c.args.tx.now c.in-Ok.ok c.resolve.result c.resolve.ensures.by_rows c.in-Ok.is
