@@ -1,24 +1,23 @@
 -- What an item that does not join is answered, case by case.
 use Rattle.std.proofs.Common.{◌≡◌, ◌↔◌, ℕ, ◌<◌, ◌≤◌, Bool, true, false, cond, List, length, Option, Some, None, refl, sym, ap, ◌∙◌, subst, inl, inr, ◌⊎◌, arith}
-use Rattle.std.specs.Prelude.{is_some, not, IsTrue}
+use Rattle.std.specs.Prelude.{is_some, IsTrue}
 use Rattle.std.proofs.lemmas.Bool.{cases_lt}
 use Rattle.std.proofs.lemmas.Bool.Decides.{Decides-ltb}
 use Rattle.codec_defs.specs.Schema.{Block}
 use Rattle.chain_defs.specs.Kept.{block_hash, place_of}
 use Rattle.chain_defs.specs.Branch.{branch}
 use Rattle.time_defs.specs.Specification.{Specification}
-use Rattle.rule_defs.specs.Rules.{first_broken}
-use Rattle.rule_defs.specs.Verdict.{verdict, verdict_of, verdict_of_block, verdict_on, verdict_by_rules, has_built_form, has_room, kept_limit}
-use Rattle.rule_defs.specs.Laws.{AnswersBlock, AnswersExactly}
-use Rattle.rule_defs.specs.declared.verdict.Verdict.{Verdict}
-use Rattle.rule_defs.specs.declared.verdict.Verdict.TheVariants.{Joined, Known, Refused, Unbuilt, Full}
+use Rattle.block_defs.specs.Rules.{first_broken}
+use Rattle.verdict_defs.specs.Verdict.{verdict, verdict_of, verdict_of_block, verdict_on, verdict_by_rules, has_room, kept_limit}
+use Rattle.verdict_defs.specs.Laws.{AnswersBlock, AnswersExactly}
+use Rattle.verdict_defs.specs.declared.verdict.Verdict.{Verdict}
+use Rattle.verdict_defs.specs.declared.verdict.Verdict.TheVariants.{Joined, Known, Refused, Full}
 
 -- the answers that need a look at the parent
 abbrev looks_further : Verdict → Bool
 looks_further (Joined number hash) = true
 looks_further (Known hash) = false
 looks_further (Refused rule) = true
-looks_further Unbuilt = false
 looks_further Full = true
 
 -- the answers to a block that breaks no rule
@@ -26,7 +25,6 @@ abbrev breaks_none : Verdict → Bool
 breaks_none (Joined number hash) = true
 breaks_none (Known hash) = false
 breaks_none (Refused rule) = false
-breaks_none Unbuilt = false
 breaks_none Full = true
 
 by_room : (b : Block) (room : Bool) → breaks_none (cond room (Joined b.header.number (block_hash b)) Full) ≡ true
@@ -45,31 +43,19 @@ further_on : (spec : Specification) (kept : List Block) (b : Block) (on : Option
 further_on spec kept b None = refl
 further_on spec kept b (Some parent) = further_by_rules kept b (first_broken spec (branch kept parent) b)
 
--- the verdict on a block by whether it is known, and on a new one by whether its form is judged
+-- the verdict on a block by whether it is known
 abbrev by_known : Specification → List Block → Block → Bool → Verdict
-by_known spec kept b known =
-    cond known (Known (block_hash b)) (cond (not (has_built_form b)) Unbuilt (verdict_on spec kept b (place_of kept b.header.parent_hash)))
+by_known spec kept b known = cond known (Known (block_hash b)) (verdict_on spec kept b (place_of kept b.header.parent_hash))
 
-abbrev by_form : Specification → List Block → Block → Bool → Verdict
-by_form spec kept b built = cond (not built) Unbuilt (verdict_on spec kept b (place_of kept b.header.parent_hash))
-
-new-not_known : (spec : Specification) (kept : List Block) (b : Block) (built : Bool) → by_form spec kept b built ≡ Known (block_hash b) → ⊥
-new-not_known spec kept b true e =
+new-not_known : (spec : Specification) (kept : List Block) (b : Block) → by_known spec kept b false ≡ Known (block_hash b) → ⊥
+new-not_known spec kept b e =
     let further = further_on spec kept b (place_of kept b.header.parent_hash) in
     let not_further : looks_further (verdict_on spec kept b (place_of kept b.header.parent_hash)) ≡ false = ap looks_further e in cc
-new-not_known spec kept b false e = cc
 
 known-exactly : (spec : Specification) (kept : List Block) (b : Block) (known : Bool)
     → (by_known spec kept b known ≡ Known (block_hash b)) ↔ IsTrue known
 known-exactly spec kept b true = (λ e. refl, λ e. refl)
-known-exactly spec kept b false = (λ e. absurd (new-not_known spec kept b (has_built_form b) e), λ e. absurd (cc))
-
-unbuilt-exactly : (spec : Specification) (kept : List Block) (b : Block) (built : Bool) → (by_form spec kept b built ≡ Unbuilt) ↔ (built ≡ false)
-unbuilt-exactly spec kept b false = (λ e. refl, λ e. refl)
-unbuilt-exactly spec kept b true = (further, λ e. absurd (cc))
-  where
-    further : by_form spec kept b true ≡ Unbuilt → true ≡ false
-    further e = sym (further_on spec kept b (place_of kept b.header.parent_hash)) ∙ ap looks_further e
+known-exactly spec kept b false = (λ e. absurd (new-not_known spec kept b e), λ e. absurd (cc))
 
 refused-exactly : (kept : List Block) (b : Block) (broken : Option ℕ) (rule : ℕ)
     → (verdict_by_rules kept b broken ≡ Refused rule) ↔ (broken ≡ Some rule)
@@ -109,23 +95,17 @@ full-exactly kept b =
 answers_block : (spec : Specification) (kept : List Block) (b : Block) → AnswersBlock spec kept b (verdict_of_block spec kept b)
 answers_block spec kept b = record {
   known = known-exactly spec kept b (is_some (place_of kept (block_hash b)));
-  unbuilt = λ new. subst (λ (answer : Verdict). (answer ≡ Unbuilt) ↔ (has_built_form b ≡ false)) (sym (as_new new))
-      (unbuilt-exactly spec kept b (has_built_form b));
-  without_parent = λ new built orphan. on_parent new built ∙ ap (verdict_on spec kept b) orphan;
-  refused = λ new built parent on rule. subst
+  without_parent = λ new orphan. on_parent new ∙ ap (verdict_on spec kept b) orphan;
+  refused = λ new parent on rule. subst
       (λ (answer : Verdict). (answer ≡ Refused rule) ↔ (first_broken spec (branch kept parent) b ≡ Some rule))
-      (sym (on_parent new built ∙ ap (verdict_on spec kept b) on))
+      (sym (on_parent new ∙ ap (verdict_on spec kept b) on))
       (refused-exactly kept b (first_broken spec (branch kept parent) b) rule);
-  full = λ new built parent on unbroken. subst (λ (answer : Verdict). (answer ≡ Full) ↔ (kept_limit ≤ length kept))
-      (sym (on_parent new built ∙ ap (verdict_on spec kept b) on ∙ ap (verdict_by_rules kept b) unbroken)) (full-exactly kept b);
+  full = λ new parent on unbroken. subst (λ (answer : Verdict). (answer ≡ Full) ↔ (kept_limit ≤ length kept))
+      (sym (on_parent new ∙ ap (verdict_on spec kept b) on ∙ ap (verdict_by_rules kept b) unbroken)) (full-exactly kept b);
 }
   where
-    as_new : place_of kept (block_hash b) ≡ None → verdict_of_block spec kept b ≡ by_form spec kept b (has_built_form b)
-    as_new new = ap (λ (found : Option ℕ). by_known spec kept b (is_some found)) new
-
-    on_parent : place_of kept (block_hash b) ≡ None → IsTrue (has_built_form b)
-        → verdict_of_block spec kept b ≡ verdict_on spec kept b (place_of kept b.header.parent_hash)
-    on_parent new built = as_new new ∙ ap (by_form spec kept b) built
+    on_parent : place_of kept (block_hash b) ≡ None → verdict_of_block spec kept b ≡ verdict_on spec kept b (place_of kept b.header.parent_hash)
+    on_parent new = ap (λ (found : Option ℕ). by_known spec kept b (is_some found)) new
 
 pub answers-exactly : AnswersExactly
 unfolding verdict

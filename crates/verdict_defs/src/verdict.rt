@@ -7,16 +7,14 @@ pub enum Verdict {
     Joined(u64, [u8; 32]),
     /// A block with this hash is kept already.
     Known([u8; 32]),
-    /// The first that it breaks of the rules that are judged, J1 to J32.
+    /// The first rule that it breaks, J1 to J32.
     Refused(u8),
-    /// It is a block of a form that this node does not judge yet.
-    Unbuilt,
     /// It breaks no rule, and there is no room for it: as many blocks are kept as may be.
     Full,
 }
 
 impl Verdict {
-    ghost use Rattle.rule_defs.specs.Verdict as rules;
+    ghost use Rattle.verdict_defs.specs.Verdict as rules;
 
     /// Whether the item is kept from now on.
     pub fn joins(&self) -> bool
@@ -26,13 +24,11 @@ impl Verdict {
             Verdict::Joined(_, _) => true,
             Verdict::Known(_) => false,
             Verdict::Refused(_) => false,
-            Verdict::Unbuilt => false,
             Verdict::Full => false,
         }
     }
 
-    /// Whether the item was refused: it broke a rule, its form is not judged yet, or there
-    /// was no room for it.
+    /// Whether the item was refused: it broke a rule, or there was no room for it.
     pub fn refuses(&self) -> bool
         ensures { result ≡ rules.refuses self.now }
     {
@@ -40,7 +36,6 @@ impl Verdict {
             Verdict::Joined(_, _) => false,
             Verdict::Known(_) => false,
             Verdict::Refused(_) => true,
-            Verdict::Unbuilt => true,
             Verdict::Full => true,
         }
     }

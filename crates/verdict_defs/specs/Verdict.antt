@@ -1,14 +1,14 @@
 -- The verdict on an item, over the kept blocks: the frame around the rules on a block. The first case that holds decides
 -- (docs/COMMANDS.md, "The text").
-use Rattle.std.specs.Prelude.{ℕ, ◌==◌, nat_lt, ◌&&◌, not, Bool, true, false, List, [], ◌∷◌, ◌++◌, length, Option, Some, None, is_some, if◌then◌else◌}
+use Rattle.std.specs.Prelude.{ℕ, nat_lt, Bool, true, false, List, [], ◌∷◌, ◌++◌, length, Option, Some, None, is_some, if◌then◌else◌}
 use Rattle.codec_defs.specs.Shape.{decoded}
 use Rattle.codec_defs.specs.Schema.{Block, block}
 use Rattle.chain_defs.specs.Kept.{block_hash, place_of}
 use Rattle.chain_defs.specs.Branch.{branch}
 use Rattle.time_defs.specs.Specification.{Specification}
-use Rattle.rule_defs.specs.Rules.{first_broken}
-use Rattle.rule_defs.specs.declared.verdict.Verdict.{Verdict}
-use Rattle.rule_defs.specs.declared.verdict.Verdict.TheVariants.{Joined, Known, Refused, Unbuilt, Full}
+use Rattle.block_defs.specs.Rules.{first_broken}
+use Rattle.verdict_defs.specs.declared.verdict.Verdict.{Verdict}
+use Rattle.verdict_defs.specs.declared.verdict.Verdict.TheVariants.{Joined, Known, Refused, Full}
 
 -- the most kept blocks, genesis included (docs/COMMANDS.md, "The text")
 unfoldable pub kept_limit : ℕ
@@ -17,10 +17,6 @@ kept_limit = 1000000
 -- there is room for one more
 abbrev pub has_room : List Block → Bool
 has_room kept = nat_lt (length kept) kept_limit
-
--- The forms that are judged: one transaction and no uncle.
-abbrev pub has_built_form : Block → Bool
-has_built_form b = (length b.transactions == 1) && (length b.uncles == 0)
 
 -- A block that breaks no rule joins where there is room.
 abbrev pub verdict_by_rules : List Block → Block → Option ℕ → Verdict
@@ -35,7 +31,6 @@ verdict_on spec kept b (Some parent) = verdict_by_rules kept b (first_broken spe
 abbrev pub verdict_of_block : Specification → List Block → Block → Verdict
 verdict_of_block spec kept b =
     if is_some (place_of kept (block_hash b)) then Known (block_hash b)
-    else if not (has_built_form b) then Unbuilt
     else verdict_on spec kept b (place_of kept b.header.parent_hash)
 
 -- J1: the item is a canonical `Block`.
@@ -50,15 +45,13 @@ abbrev pub joins : Verdict → Bool
 joins (Joined number hash) = true
 joins (Known hash) = false
 joins (Refused rule) = false
-joins Unbuilt = false
 joins Full = false
 
--- whether an item was refused: it broke a rule, its form is not judged yet, or there was no room for it
+-- whether an item was refused: it broke a rule, or there was no room for it
 abbrev pub refuses : Verdict → Bool
 refuses (Joined number hash) = false
 refuses (Known hash) = false
 refuses (Refused rule) = true
-refuses Unbuilt = true
 refuses Full = true
 
 abbrev pub block_list : Option Block → List Block

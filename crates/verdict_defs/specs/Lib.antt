@@ -1,0 +1,4 @@
+pub mod Verdict
+pub mod Chain
+pub mod Trial
+pub mod Laws
