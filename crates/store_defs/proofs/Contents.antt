@@ -9,7 +9,7 @@ use Rattle.std.proofs.lemmas.List.{length-append, take_at, drop_at, drop-drop, l
 use Rattle.std.proofs.lemmas.Nat.{from_le_bytes-to_le_bytes_4}
 use Rattle.std.specs.Cmp.Lexicographic.{bytes_decides}
 use Rattle.codec_defs.specs.Schema.{Block}
-use Rattle.rule_defs.specs.Verdict.{blocks_of_item}
+use Rattle.verdict_defs.specs.Verdict.{blocks_of_item}
 use Rattle.cell_defs.specs.Ext.{count_at}
 use Rattle.store_defs.specs.Log.{Record, LogContent, record_limit, records_of, magic, log_of, content_of_records, are_first, blocks_over, block_of_record, body_of_parts, parts_of_body}
 use Rattle.store_defs.specs.Rest.{EndsAt}

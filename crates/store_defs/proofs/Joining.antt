@@ -10,8 +10,8 @@ use Rattle.chain_defs.proofs.KeptLaws.{place_of-below}
 use Rattle.chain_defs.proofs.BranchLaws.{branch-last}
 use Rattle.time_defs.specs.Specification.{Specification}
 use Rattle.rule_defs.specs.Header.{follows, parent_of}
-use Rattle.rule_defs.proofs.VerdictLaws.{follows-unbroken}
-use Rattle.rule_defs.specs.Laws.{CanJoin}
+use Rattle.verdict_defs.proofs.VerdictLaws.{follows-unbroken}
+use Rattle.verdict_defs.specs.Laws.{CanJoin}
 use Rattle.cell_defs.specs.Ext.{row_size, is_ext}
 use Rattle.store_defs.specs.Store.{ext_of_joined}
 use Rattle.store_defs.specs.Log.{body_of_parts, parts_of_body, is_next_of, may_stand_on, block_if, block_of_parts}

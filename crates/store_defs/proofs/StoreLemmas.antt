@@ -10,10 +10,10 @@ use Rattle.codec_defs.specs.Shape.{decoded}
 use Rattle.codec_defs.specs.Schema.{Block, block}
 use Rattle.chain_defs.proofs.KeptLaws.{slice_get-pushed}
 use Rattle.time_defs.specs.Specification.{Specification, specification_of, broken_specification_rule}
-use Rattle.rule_defs.specs.Verdict.{kept_limit, block_list, blocks_of_item, kept_after}
-use Rattle.rule_defs.specs.Chain.{Chain, chain_of_genesis, chain_after}
-use Rattle.rule_defs.specs.Laws.{CanJoin}
-use Rattle.rule_defs.proofs.VerdictLaws.{keeps-what-joins}
+use Rattle.verdict_defs.specs.Verdict.{kept_limit, block_list, blocks_of_item, kept_after}
+use Rattle.verdict_defs.specs.Chain.{Chain, chain_of_genesis, chain_after}
+use Rattle.verdict_defs.specs.Laws.{CanJoin}
+use Rattle.verdict_defs.proofs.VerdictLaws.{keeps-what-joins}
 use Rattle.store_defs.specs.Genesis.{broken_by, broken_genesis_rule}
 use Rattle.store_defs.specs.Log.{Record, LogContent, record_limit, log_of, content_of_records, are_first, blocks_over, block_of_record}
 use Rattle.store_defs.specs.LogLaws.{record_of_joined, grown}

@@ -6,7 +6,7 @@ use Rattle.std.specs.Int.{w32, to_le_bytes}
 use Rattle.codec_defs.specs.Shape.{decoded}
 use Rattle.codec_defs.specs.Schema.{Block, block}
 use Rattle.chain_defs.specs.Kept.{block_hash, place_of, block_at}
-use Rattle.rule_defs.specs.Verdict.{blocks_of_item}
+use Rattle.verdict_defs.specs.Verdict.{blocks_of_item}
 use Rattle.time_defs.specs.Specification.{broken_specification_rule}
 use Rattle.cell_defs.specs.Ext.{count_at, is_ext}
 use Rattle.store_defs.specs.Genesis.{broken_genesis_rule}

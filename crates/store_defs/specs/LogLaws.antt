@@ -1,10 +1,10 @@
 -- What the bytes of a log hold, in words (docs/STORE.md, "The log").
-use Rattle.std.specs.Prelude.{◌≡◌, ℕ, ◌^◌, ◌<◌, true, List, [], ◌∷◌, ◌++◌, All, take, drop, length, Some, None}
+use Rattle.std.specs.Prelude.{◌≡◌, ℕ, ◌^◌, ◌<◌, List, [], ◌∷◌, ◌++◌, All, take, drop, length, Some, None, IsTrue}
 use Rattle.codec_defs.specs.Schema.{Block}
-use Rattle.time_defs.specs.Specification.{Specification}
-use Rattle.rule_defs.specs.Laws.{CanJoin}
+use Rattle.verdict_defs.specs.Chain.{Chain}
+use Rattle.verdict_defs.specs.Laws.{CanJoin}
 use Rattle.cell_defs.specs.Ext.{is_ext}
-use Rattle.store_defs.specs.Store.{ext_of_joined}
+use Rattle.store_defs.specs.Store.{ext_over}
 use Rattle.store_defs.specs.Log.{Record, record_at, records_of, all_record_bytes, record_limit, LogContent, content_of_records, block_of_record, log_of, body_of_parts, parts_of_body}
 use Rattle.store_defs.specs.Rest.{IsAtRest}
 
@@ -43,15 +43,11 @@ abbrev pub GrowsByABlock : Type 0
 GrowsByABlock = (records : List Record) (r : Record) (log : LogContent) (b : Block) → content_of_records records ≡ Some log
     → block_of_record log.blocks r ≡ Some b → length log.records < record_limit → content_of_records (records ++ r ∷ []) ≡ Some (grown log r b)
 
--- Law: the ext of a block that joins has the form of one.
-abbrev pub HasExtForm : Type 0
-HasExtForm = is_ext ext_of_joined ≡ true
+-- the record of an item that joins a chain, with its ext
+abbrev pub record_over : Chain → List ℕ → Record
+record_over chain item = record { kind = 3; body = body_of_parts item (ext_over chain item) }
 
--- the record of an item that joins
-abbrev pub record_of_joined : List ℕ → Record
-record_of_joined item = record { kind = 3; body = body_of_parts item ext_of_joined }
-
--- Law: the record of an item that can join over kept blocks is one of its block, which may stand behind those.
+-- Law: the record of an item that can join a chain, with an ext of the right form, is one of its block, which may stand behind the kept ones.
 abbrev pub TakesWhatJoins : Type 0
-TakesWhatJoins = (spec : Specification) (kept : List Block) (item : List ℕ) (can : CanJoin spec kept item) → length item < 2 ^ 31
-    → block_of_record kept (record_of_joined item) ≡ Some can.block
+TakesWhatJoins = (chain : Chain) (item : List ℕ) (can : CanJoin chain.spec chain.blocks item) → length item < 2 ^ 31 → IsTrue (is_ext (ext_over chain item))
+    → block_of_record chain.blocks (record_over chain item) ≡ Some can.block

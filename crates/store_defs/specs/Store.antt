@@ -1,9 +1,17 @@
 -- What an image of the disk keeps, and when it is sound (docs/STORE.md).
-use Rattle.std.specs.Prelude.{◌≡◌, ℕ, ◌+◌, ◌==◌, List, [], replicate, slice_get, length, take, Option, Some, None, if◌then◌else◌}
+use Rattle.std.specs.Prelude.{◌≡◌, ℕ, ◌+◌, ◌<◌, ◌==◌, List, [], slice_get, length, take, Option, Some, None, if◌then◌else◌}
 use Rattle.outside.specs.Image.{Image}
 use Rattle.outside.specs.Disk.{NoneNew, LeavesOnly}
+use Rattle.codec_defs.specs.Shape.{decoded}
+use Rattle.codec_defs.specs.Schema.{Block, block}
+use Rattle.fold_defs.specs.First.{first_failing}
+use Rattle.chain_defs.specs.Kept.{block_at, place_of}
+use Rattle.cell_defs.specs.Ext.{ext_bytes}
+use Rattle.block_defs.specs.Ext.{ext_of}
 use Rattle.time_defs.specs.Specification.{specification_of}
-use Rattle.rule_defs.specs.Chain.{Chain, chain_after}
+use Rattle.verdict_defs.specs.Chain.{Chain, chain_after}
+use Rattle.verdict_defs.specs.Laws.{MayJoin}
+use Rattle.store_defs.specs.Genesis.{genesis_rules}
 use Rattle.store_defs.specs.Log.{LogContent, Record, log_of, parts_of_body}
 
 -- What stands in the folder when a run begins.
@@ -27,17 +35,34 @@ store_of_log (Some log) = Keeps (chain_of log)
 unfoldable pub store_of : Image → Store
 store_of image = if length image.log == 0 then NoLog else store_of_log (log_of image.log)
 
--- The ext of a block that joins: of the forms that are judged today a block commits no transaction and spends nothing, so that it has no fee
--- and no row.
-abbrev pub ext_of_joined : List ℕ
-ext_of_joined = replicate 8 0
+-- ---- What joined
 
--- The block of a record joined over the blocks before it, and its ext is the one that it joins with.
+-- the bytes of the ext of a block on the parent at a place, where it has one
+abbrev pub ext_on : Chain → Block → Option ℕ → List ℕ
+ext_on chain b None = []
+ext_on chain b (Some parent) = ext_bytes (ext_of chain.spec chain.blocks parent b)
+
+abbrev pub ext_of_found : Chain → Option Block → List ℕ
+ext_of_found chain None = []
+ext_of_found chain (Some b) = ext_on chain b (place_of chain.blocks b.header.parent_hash)
+
+-- The ext that the block of an item has over a chain.
+unfoldable pub ext_over : Chain → List ℕ → List ℕ
+ext_over chain item = ext_of_found chain (decoded block item)
+
+-- The block of a record joined over the blocks before it, and its ext is its own.
 pub record HasJoined (before : Chain) (r : Record) (after : Chain) : Type 0 where
   pub item : List ℕ
-  pub parts : parts_of_body r.body ≡ Some (item, ext_of_joined)
+  pub parts : parts_of_body r.body ≡ Some (item, ext_over before item)
   pub kept : after ≡ chain_after before item
   pub grown : length after.blocks ≡ length before.blocks + 1
+
+-- A chain has joined: its genesis keeps the rules on one, and each block behind it could join over those before it.
+pub record IsJoined (chain : Chain) : Type 0 where
+  pub genesis : Block
+  pub first : block_at chain.blocks 0 ≡ Some genesis
+  pub good : first_failing (genesis_rules genesis) ≡ None
+  pub each : (place : ℕ) (b : Block) → 0 < place → block_at chain.blocks place ≡ Some b → MayJoin chain.spec (take place chain.blocks) b
 
 -- the chain where the first blocks of a log stand alone, so many of them
 abbrev pub chain_before : LogContent → ℕ → Chain

@@ -1,5 +1,5 @@
 // The laws of the log.
-ghost use Rattle.store_defs.specs.LogLaws.{ReadsTheRecords, KeepsTheRecords, EndsTheRecords, GivesTheParts, SaysItsRecords, GrowsByABlock, HasExtForm, TakesWhatJoins};
+ghost use Rattle.store_defs.specs.LogLaws.{ReadsTheRecords, KeepsTheRecords, EndsTheRecords, GivesTheParts, SaysItsRecords, GrowsByABlock, TakesWhatJoins};
 
 /// States what bytes hold: the records of which they are made, and no other, whatever stands behind
 /// them; and that they hold them as long as their front stays. It does nothing.
@@ -17,9 +17,8 @@ pub fn log_laws()
     ensures grows_by_a_block { GrowsByABlock }
 {}
 
-/// States that a log takes what joins: the record of an item that can join over kept blocks is one of its
-/// block, with an ext of the right form. It does nothing.
+/// States that a log takes what joins: the record of an item that can join a chain is one of its block,
+/// where its ext has the right form. It does nothing.
 pub fn join_laws()
-    ensures has_ext_form { HasExtForm }
     ensures takes_what_joins { TakesWhatJoins }
 {}

@@ -1,11 +1,12 @@
 // The laws of what an image stands for.
-ghost use Rattle.store_defs.specs.StoreLaws.{StandsAsItSays, StandsAfterAnItem, StandsForTheGenesis};
+ghost use Rattle.store_defs.specs.StoreLaws.{StandsAsItSays, StandsAfterAnItem, StandsForTheGenesis, StandsForWhatJoined};
 
 /// States that an image stands for a chain as long as its log says the same, that with the record of an
-/// item that joins behind the others it stands for the chain after that item, and that a new log stands
-/// for the chain of its genesis alone. It does nothing.
+/// item that joins behind the others it stands for the chain after that item, that a new log stands for
+/// the chain of its genesis alone, and that what an image stands for has joined. It does nothing.
 pub fn store_laws()
     ensures stands_as_it_says { StandsAsItSays }
     ensures stands_after_an_item { StandsAfterAnItem }
     ensures stands_for_the_genesis { StandsForTheGenesis }
+    ensures stands_for_what_joined { StandsForWhatJoined }
 {}

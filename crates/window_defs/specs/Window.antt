@@ -1,9 +1,9 @@
 -- The proposal window (RFC 0020, "Two-Step Transaction Confirmation"; docs/RULES.md, "A block"): a transaction is committed in a block some
 -- blocks behind one that proposes its id.
-use Rattle.std.specs.Prelude.{◌≡◌, ◌↔◌, ℕ, ◌+◌, ◌-◌, ◌<◌, ◌≤◌, nat_lt, Bool, false, IsTrue, List, [], ◌++◌, Option, Some, None, if◌then◌else◌}
+use Rattle.std.specs.Prelude.{◌≡◌, ◌↔◌, ℕ, ◌+◌, ◌-◌, ◌<◌, ◌≤◌, nat_lt, Bool, false, IsTrue, List, [], ◌∷◌, ◌++◌, Option, Some, None, is_some, if◌then◌else◌}
 use Rattle.std.specs.List.{list_any, flat_map, find, range_with_len}
 use Rattle.std.specs.Str.{bytes_eq}
-use Rattle.codec_defs.specs.Schema.{Block}
+use Rattle.codec_defs.specs.Schema.{UncleBlock, Block}
 use Rattle.time_defs.specs.Specification.{Specification}
 use Rattle.chain_defs.specs.Kept.{block_at}
 
@@ -40,3 +40,13 @@ pub record IsEarliest (spec : Specification) (branch : List Block) (id : List �
 abbrev pub EarliestIsEarliest : Type 0
 EarliestIsEarliest = (spec : Specification) (branch : List Block) (id : List ℕ) (height proposer : ℕ)
     → (earliest spec branch id height ≡ Some proposer) ↔ IsEarliest spec branch id height proposer
+
+-- a block that embeds one uncle more
+abbrev pub with_uncle : Block → UncleBlock → Block
+with_uncle b uncle = record b { uncles = b.uncles ++ uncle ∷ [] }
+
+-- Law: an uncle more can only add to what is proposed: what has a proposer still has one.
+abbrev pub UnclesOnlyAdd : Type 0
+UnclesOnlyAdd = (spec : Specification) (before later : List Block) (b : Block) (uncle : UncleBlock) (id : List ℕ) (height : ℕ)
+    → IsTrue (is_some (earliest spec (before ++ b ∷ later) id height))
+    → IsTrue (is_some (earliest spec (before ++ with_uncle b uncle ∷ later) id height))

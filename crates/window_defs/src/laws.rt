@@ -1,8 +1,10 @@
 // The law of the proposal window.
-ghost use Rattle.window_defs.specs.Window.{EarliestIsEarliest};
+ghost use Rattle.window_defs.specs.Window.{EarliestIsEarliest, UnclesOnlyAdd};
 
 /// States that the earliest proposer is the lowest height, from w_far to w_close before a height, at which the block of
-/// the branch or one of its uncles proposes the id. It does nothing.
+/// the branch or one of its uncles proposes the id, and that an uncle more can only add to what is proposed. It does
+/// nothing.
 pub fn window_laws()
     ensures is_earliest { EarliestIsEarliest }
+    ensures uncles_only_add { UnclesOnlyAdd }
 {}
