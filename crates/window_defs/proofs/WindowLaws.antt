@@ -1,13 +1,15 @@
 -- The first of some heights that passes a test, and the law of the proposal window.
 use Rattle.std.proofs.Common.{◌≡◌, ℕ, zero, suc, ◌+◌, ◌-◌, ◌<◌, ◌≤◌, Bool, true, false, cond, List, [], Some, None, refl, sym, ap, ◌∙◌, inl, inr, ◌⊎◌, arith}
-use Rattle.std.specs.Prelude.{nat_lt, if◌then◌else◌}
-use Rattle.std.specs.List.{find, range_with_len}
+use Rattle.std.specs.Prelude.{◌∷◌, ◌++◌, ◌||◌, nat_lt, is_some, slice_get, if◌then◌else◌}
+use Rattle.std.specs.List.{find, range_with_len, list_any, flat_map}
+use Rattle.std.specs.Str.{bytes_eq}
+use Rattle.std.proofs.lemmas.List.{append-nil, append_assoc}
 use Rattle.std.proofs.lemmas.Bool.{cases_lt, cases_eq}
 use Rattle.std.proofs.lemmas.Bool.Decides.{nat_tests}
 use Rattle.std.proofs.lemmas.Option.{same_Some}
-use Rattle.codec_defs.specs.Schema.{Block}
+use Rattle.codec_defs.specs.Schema.{UncleBlock, Block}
 use Rattle.time_defs.specs.Specification.{Specification}
-use Rattle.window_defs.specs.Window.{proposes_at, window, earliest, IsEarliest, EarliestIsEarliest}
+use Rattle.window_defs.specs.Window.{proposes_at, window, earliest, proposed_ids, proposes, with_uncle, IsEarliest, EarliestIsEarliest, UnclesOnlyAdd}
 
 -- ---- The first of a range
 
@@ -133,3 +135,55 @@ earliest-is-earliest spec branch id height proposer = (is, found)
           passes = earliest_is.proposed;
           first = λ n at_least before. earliest_is.lowest n before (omega (arith, at_least));
         })
+
+-- ---- An uncle more
+
+-- where a test passes at least where another does, it is found at least where that is
+find-more : (one other : ℕ → Bool) → ((n : ℕ) → one n ≡ true → other n ≡ true) → (heights : List ℕ)
+    → is_some (find one heights) ≡ true → is_some (find other heights) ≡ true
+find-more one other more [] is = is
+find-more one other more (n ∷ later) is = by_tests (find-more one other more later) (one n) (other n) refl refl is
+  where
+    by_tests : (is_some (find one later) ≡ true → is_some (find other later) ≡ true) → (a b : Bool) → one n ≡ a → other n ≡ b
+        → is_some (cond a (Some n) (find one later)) ≡ true → is_some (cond b (Some n) (find other later)) ≡ true
+    by_tests onward a true here there is = refl
+    by_tests onward true false here there is = let passes = more n here in cc
+    by_tests onward false false here there is = onward is
+
+any-front : {X : Type 0} (test : X → Bool) (xs ys : List X) → list_any test xs ≡ true → list_any test (xs ++ ys) ≡ true
+any-front test [] ys is = absurd (cc)
+any-front test (x ∷ xs) ys is = by_test (any-front test xs ys) (test x) is
+  where
+    by_test : (list_any test xs ≡ true → list_any test (xs ++ ys) ≡ true) → (b : Bool) → (b || list_any test xs) ≡ true → (b || list_any test (xs ++ ys)) ≡ true
+    by_test onward true is = refl
+    by_test onward false is = onward is
+
+proposals-push : (uncles : List UncleBlock) (uncle : UncleBlock)
+    → flat_map (λ u. u.proposals) (uncles ++ uncle ∷ []) ≡ flat_map (λ u. u.proposals) uncles ++ uncle.proposals
+proposals-push [] uncle = append-nil uncle.proposals
+proposals-push (first ∷ later) uncle =
+    ap (λ (ids : List (List ℕ)). first.proposals ++ ids) (proposals-push later uncle)
+    ∙ sym (append_assoc first.proposals (flat_map (λ u. u.proposals) later) uncle.proposals)
+
+ids-more : (b : Block) (uncle : UncleBlock) → proposed_ids (with_uncle b uncle) ≡ proposed_ids b ++ uncle.proposals
+ids-more b uncle =
+    ap (λ (ids : List (List ℕ)). b.proposals ++ ids) (proposals-push b.uncles uncle)
+    ∙ sym (append_assoc b.proposals (flat_map (λ u. u.proposals) b.uncles) uncle.proposals)
+
+proposes-more : (before later : List Block) (b : Block) (uncle : UncleBlock) (id : List ℕ) (height : ℕ)
+    → proposes id (slice_get (before ++ b ∷ later) height) ≡ true → proposes id (slice_get (before ++ with_uncle b uncle ∷ later) height) ≡ true
+proposes-more [] later b uncle id zero is =
+    ap (list_any (λ other. bytes_eq other id)) (ids-more b uncle) ∙ any-front (λ other. bytes_eq other id) (proposed_ids b) uncle.proposals is
+proposes-more [] later b uncle id (suc height) is = is
+proposes-more (first ∷ before) later b uncle id zero is = is
+proposes-more (first ∷ before) later b uncle id (suc height) is = proposes-more before later b uncle id height is
+
+at-more : (before later : List Block) (b : Block) (uncle : UncleBlock) (id : List ℕ) (height : ℕ)
+    → proposes_at (before ++ b ∷ later) id height ≡ true → proposes_at (before ++ with_uncle b uncle ∷ later) id height ≡ true
+unfolding proposes_at
+at-more before later b uncle id height is = proposes-more before later b uncle id height is
+
+pub uncles-only-add : UnclesOnlyAdd
+unfolding earliest
+uncles-only-add spec before later b uncle id height is =
+    find-more (proposes_at (before ++ b ∷ later) id) (proposes_at (before ++ with_uncle b uncle ∷ later) id) (at-more before later b uncle id) (window spec height) is
