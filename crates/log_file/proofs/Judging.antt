@@ -8,7 +8,7 @@ use Rattle.codec_defs.specs.Schema.{Block}
 use Rattle.codec_defs.specs.Schema as shapes
 use Rattle.chain_defs.specs.Kept.{place_of}
 use Rattle.fold_defs.specs.First.{first_failing}
-use Rattle.rule_defs.specs.Verdict.{kept_limit}
+use Rattle.verdict_defs.specs.Verdict.{kept_limit}
 use Rattle.chain_tree.specs.declared.entry.Entry.{Entry}
 use Rattle.chain_tree.specs.Blocks.{Describes, IndexesBlocks}
 use Rattle.store_defs.specs.Genesis.{is_first, genesis_rules, broken_by, broken_genesis_rule}

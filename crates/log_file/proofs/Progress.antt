@@ -7,7 +7,7 @@ use Rattle.std.specs.Cmp.Lexicographic.{bytes_decides}
 use Rattle.std.proofs.lemmas.Bool.{and_from, and_parts, and_right, le-leb, leb-true}
 use Rattle.std.proofs.lemmas.List.{append_assoc, append-nil, length-append, length-drop, length_push, drop-drop}
 use Rattle.codec_defs.specs.Schema.{Block}
-use Rattle.rule_defs.specs.Verdict.{blocks_of_item, kept_limit}
+use Rattle.verdict_defs.specs.Verdict.{blocks_of_item, kept_limit}
 use Rattle.time_defs.specs.Specification.{Specification, broken_specification_rule, specification_of}
 use Rattle.chain_tree.specs.declared.entry.Entry.{Entry}
 use Rattle.outside.specs.Image.{Image}

@@ -4,12 +4,12 @@ use Rattle.codec_defs.specs.Shape.{decoded}
 use Rattle.codec_defs.specs.Schema.{Block}
 use Rattle.codec_defs.specs.Schema as shapes
 use Rattle.chain_defs.specs.Kept.{place_of}
-use Rattle.rule_defs.specs.Verdict.{blocks_of_item}
+use Rattle.verdict_defs.specs.Verdict.{blocks_of_item}
 use Rattle.time_defs.specs.Specification.{broken_specification_rule}
 use Rattle.chain_tree.specs.declared.entry.Entry.{Entry}
 use Rattle.chain_tree.specs.Blocks.{Describes, IndexesBlocks}
 use Rattle.store_defs.specs.Genesis.{broken_genesis_rule}
-use Rattle.store_defs.specs.Log.{Record, block_of_record}
+use Rattle.store_defs.specs.Log.{Record, parts_of_body, block_of_record}
 
 abbrev pub record_of : ℕ → List ℕ → Record
 record_of kind body = record { kind = kind; body = body }
@@ -42,9 +42,18 @@ pub record AreBlocks (items : List (List ℕ)) (entries : List Entry) : Type 0 w
   pub decode : map (decoded shapes.block) items ≡ map Some blocks
   pub indexed : IndexesBlocks blocks entries
 
--- What contracts see of the blocks that were read: their encodings, and their entries.
+-- the ext beside the block of a record
+abbrev pub ext_in : Record → List ℕ
+ext_in r = elim (parts_of_body r.body) [
+  | None ↦ []
+  | Some parts ↦ parts.1
+]
+
+-- What contracts see of the blocks that were read: their encodings, beside each its ext, and their entries. The genesis has no ext: no byte stands
+-- for it.
 pub record BlocksValue : Type 0 where
   pub items : List (List ℕ)
+  pub exts : List (List ℕ)
   pub entries : List Entry
 
 -- They stand for these blocks.
@@ -60,6 +69,7 @@ pub record IsGenesisOf (at : ℕ) (r : Record) (value : BlocksValue) : Type 0 wh
   pub entries : value.entries ≡ entry ∷ []
   pub named : NamesBody at r entry
   pub items : value.items ≡ r.body ∷ []
+  pub exts : value.exts ≡ [] ∷ []
 
 -- one block more, from its record, whose body begins at this place
 pub record IsGrownBy (at : ℕ) (r : Record) (kept : List Block) (old new : BlocksValue) : Type 0 where
@@ -71,8 +81,9 @@ pub record IsGrownBy (at : ℕ) (r : Record) (kept : List Block) (old new : Bloc
   pub named : NamesBody at r entry
   pub item : List ℕ
   pub items : new.items ≡ old.items ++ item ∷ []
+  pub exts : new.exts ≡ old.exts ++ ext_in r ∷ []
 
--- a record's item and its block's entry, or nothing where it is none of a block that may stand behind these
-abbrev pub IsJudged : ℕ → Record → List Block → Option (List ℕ × Entry) → Type 0
+-- a record's item with its ext, and its block's entry, or nothing where it is none of a block that may stand behind these
+abbrev pub IsJudged : ℕ → Record → List Block → Option ((List ℕ × List ℕ) × Entry) → Type 0
 IsJudged at r kept None = block_of_record kept r ≡ None
-IsJudged at r kept (Some found) = IsBehind at r kept found.0 found.1
+IsJudged at r kept (Some found) = IsBehind at r kept found.0.0 found.1 × (found.0.1 ≡ ext_in r)

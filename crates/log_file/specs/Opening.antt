@@ -8,7 +8,7 @@ use Rattle.chain_tree.specs.Blocks.{IndexesBlocks}
 use Rattle.outside.specs.declared.disk.Area.TheVariants.{Log}
 use Rattle.outside.specs.Image.{Image}
 use Rattle.outside.specs.Disk.{write_area}
-use Rattle.log_file.specs.Grammar.{record_of, BlocksValue, StandFor}
+use Rattle.log_file.specs.Grammar.{record_of, ext_in, BlocksValue, StandFor}
 use Rattle.log_file.specs.Reading.{ReaderValue, IsReading}
 use Rattle.store_defs.specs.Log.{Record, record_bytes, all_record_bytes, record_at, records_of, LogContent, content_of_records, log_of}
 
@@ -20,13 +20,14 @@ NameBodies place (r ∷ records) [] = ⊥
 NameBodies place (r ∷ records) (entry ∷ entries) =
     (entry.at ≡ place + 6) × (entry.len ≡ length r.body) × NameBodies (place + length (record_bytes r)) records entries
 
--- The bytes are this log, and it is opened as this specification, these items and these entries. The first record that an entry
+-- The bytes are this log, and it is opened as this specification, these items with their exts and these entries. The first record that an entry
 -- names, that of the genesis, stands behind the start and the record of the specification.
-pub record IsOpened (bytes : List ℕ) (log : LogContent) (specification : Specification) (items : List (List ℕ)) (entries : List Entry) : Type 0 where
+pub record IsOpened (bytes : List ℕ) (log : LogContent) (specification : Specification) (items exts : List (List ℕ)) (entries : List Entry) : Type 0 where
   pub is_log : log_of bytes ≡ Some log
   pub says : content_of_records (records_of (drop 8 bytes)) ≡ Some log
   pub specified : specification ≡ specification_of log.specification
   pub decode : map (decoded block) items ≡ map Some log.blocks
+  pub exts : exts ≡ [] ∷ map ext_in log.records
   pub indexed : IndexesBlocks log.blocks entries
   pub named : NameBodies (14 + length log.specification) (record_of 2 log.genesis ∷ log.records) entries
 
@@ -41,6 +42,7 @@ pub record HasRead (bytes : List ℕ) (specification : Specification) (reader : 
   pub says : content_of_records records ≡ Some log
   pub specified : specification ≡ specification_of log.specification
   pub stand : StandFor log.blocks blocks
+  pub exts : blocks.exts ≡ [] ∷ map ext_in log.records
   pub counted : length log.blocks ≡ length log.records + 1
   pub named : NameBodies (14 + length log.specification) (record_of 2 log.genesis ∷ log.records) blocks.entries
   pub next : reader.at ≡ 14 + length log.specification + length (all_record_bytes (record_of 2 log.genesis ∷ log.records))

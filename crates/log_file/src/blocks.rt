@@ -5,7 +5,7 @@ ghost use Rattle.codec_defs.specs.Schema.{Block};
 ghost use Rattle.chain_defs.specs.Kept.{place_of};
 ghost use Rattle.chain_tree.specs.Entries.{place_of_hash, FollowsParent};
 ghost use Rattle.chain_tree.specs.Blocks.{Describes, IndexesBlocks};
-ghost use Rattle.rule_defs.specs.Verdict.{kept_limit};
+ghost use Rattle.verdict_defs.specs.Verdict.{kept_limit};
 ghost use Rattle.store_defs.specs.Log.{may_stand_on, block_of_record, record_limit};
 ghost use Rattle.log_file.specs.Grammar.{record_of, is_genesis, AreBlocks, NamesBody, StandFor, IsGenesisOf, IsGrownBy, IsJudged};
 
@@ -67,12 +67,17 @@ fn entry_behind(tree: &Tree, block: &BlockView<'_>, at: u64, len: u32) -> Option
     Some(entry)
 }
 
-/// The block in the body of a record, with its entry, if it may stand behind those of a tree.
-fn judged<'a>(tree: &Tree, kind: u8, body: &'a [u8], at: u64) -> Option<(&'a [u8], Entry)>
+/// The block in the body of a record with its ext, and its entry, if it may stand behind those of a tree.
+fn judged<'a>(
+    tree: &Tree,
+    kind: u8,
+    body: &'a [u8],
+    at: u64,
+) -> Option<((&'a [u8], &'a [u8]), Entry)>
     requires few { length tree.now.entries < 2 ^ 32 }
     requires fits { length body.now < 2 ^ 32 }
     ensures judged { (kept : List Block) → IndexesBlocks kept tree.now.entries
-        → IsJudged at (record_of kind body.now) kept (option_map (λ found. (found.0.now, found.1)) result) }
+        → IsJudged at (record_of kind body.now) kept (option_map (λ found. ((found.0.0.now, found.0.1.now), found.1)) result) }
     ensures follows { IfSome result (λ found. FollowsParent tree.now.entries found.1) }
     ensures new { IfSome result (λ found. place_of_hash tree.now.entries found.1.hash ≡ None) }
 {
@@ -85,26 +90,27 @@ fn judged<'a>(tree: &Tree, kind: u8, body: &'a [u8], at: u64) -> Option<(&'a [u8
     }
     let block = BlockView::read(item)?;
     let entry = entry_behind(tree, &block, at, body.len() as u32)?;
-    Some((item, entry))
+    Some(((item, ext), entry))
 }
 
-/// The encodings of blocks, genesis first, and the tree of their entries. Clauses see a `BlocksValue`.
+/// The encodings of blocks with their exts, genesis first, and the tree of their entries. Clauses see a `BlocksValue`.
 #[derive(Drop)]
 pub(crate) struct Blocks {
     items: Vec<Vec<u8>>,
+    exts: Vec<Vec<u8>>,
     tree: Tree,
 }
 
 impl Model for Blocks {
-    ghost use Rattle.std.specs.Prelude.{◌≤◌, map, length};
-    ghost use Rattle.rule_defs.specs.Verdict.{kept_limit};
+    ghost use Rattle.std.specs.Prelude.{◌≡◌, ◌≤◌, map, length};
+    ghost use Rattle.verdict_defs.specs.Verdict.{kept_limit};
     ghost use Rattle.log_file.specs.Grammar.{AreBlocks, BlocksValue};
 
     ghost Value = { BlocksValue };
 
-    ghost view = { λ blocks. record { items = map (λ item. item.items) blocks.items.items; entries = blocks.tree.entries } };
+    ghost view = { λ blocks. record { items = map (λ item. item.items) blocks.items.items; exts = map (λ ext. ext.items) blocks.exts.items; entries = blocks.tree.entries } };
 
-    ghost invariant = { λ blocks. AreBlocks (map (λ item. item.items) blocks.items.items) blocks.tree.entries × (length blocks.items.items ≤ kept_limit) };
+    ghost invariant = { λ blocks. AreBlocks (map (λ item. item.items) blocks.items.items) blocks.tree.entries × (length blocks.exts.items ≡ length blocks.items.items) × (length blocks.items.items ≤ kept_limit) };
 }
 
 impl Blocks {
@@ -133,17 +139,21 @@ impl Blocks {
         let tree = Tree::new(alloc, entry_of(&block, 0, at, body.len() as u32))?;
         let mut items = Vec::new(alloc);
         items.push(body.to_vec(alloc)?)?;
-        Ok(Blocks { items, tree })
+        let mut exts = Vec::new(alloc);
+        exts.push(Vec::new(alloc))?;
+        Ok(Blocks { items, exts, tree })
     }
 
-    /// The encodings, and the tree of the entries.
-    pub(crate) fn into_parts(self) -> (Vec<Vec<u8>>, Tree)
+    /// The encodings, their exts, and the tree of the entries.
+    pub(crate) fn into_parts(self) -> (Vec<Vec<u8>>, Vec<Vec<u8>>, Tree)
         ensures items { map (λ item. item.items) result.0.items ≡ self.items }
-        ensures entries { result.1.entries ≡ self.entries }
-        ensures blocks { AreBlocks (map (λ item. item.items) result.0.items) result.1.entries }
+        ensures exts { map (λ ext. ext.items) result.1.items ≡ self.exts }
+        ensures entries { result.2.entries ≡ self.entries }
+        ensures blocks { AreBlocks (map (λ item. item.items) result.0.items) result.2.entries }
+        ensures beside { length result.1.items ≡ length result.0.items }
         ensures few { length result.0.items ≤ kept_limit }
     {
-        (self.items, self.tree)
+        (self.items, self.exts, self.tree)
     }
 
     /// Puts the block of a record behind the others. The record's body begins at `at`.
@@ -165,11 +175,15 @@ impl Blocks {
         if self.tree.len() > RECORD_LIMIT {
             return Err(LogStop::NotAStore);
         }
-        let Some((item, entry)) = judged(&self.tree, kind, body, at) else {
+        let Some(((item, ext), entry)) = judged(&self.tree, kind, body, at) else {
             return Err(LogStop::NotAStore);
         };
+        let item = item.to_vec(alloc)?;
+        let ext = ext.to_vec(alloc)?;
         self.tree.reserve()?;
-        self.items.push(item.to_vec(alloc)?)?;
+        self.exts.reserve(1)?;
+        self.items.push(item)?;
+        self.exts.push_reserved(ext);
         self.tree.add(entry);
         Ok(())
     }

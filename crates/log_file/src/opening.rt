@@ -4,7 +4,7 @@ ghost use Rattle.std.specs.Prelude.{◌≡◌, ◌≢◌, ◌⊎◌, ◌+◌, �
 ghost use Rattle.outside.specs.Causes.{HasCause, CountsFault};
 ghost use Rattle.outside.specs.Disk.{OthersRead, IsDurable, NoneNew, IsAsBefore, LeavesOnly};
 ghost use Rattle.outside.specs.declared.disk.Area.TheVariants.{Log as log_area};
-ghost use Rattle.rule_defs.specs.Verdict.{kept_limit};
+ghost use Rattle.verdict_defs.specs.Verdict.{kept_limit};
 ghost use Rattle.store_defs.specs.Log.{Record, LogContent, log_of, records_of, end_of_log};
 ghost use Rattle.store_defs.specs.Rest.{EndsAt, IsSettled, HasLog};
 ghost use Rattle.store_defs.specs.Store.{IsOnlyRead};
@@ -28,6 +28,8 @@ pub struct Opened {
     pub spec: Spec,
     /// The encodings of the blocks, genesis first.
     pub blocks: Vec<Vec<u8>>,
+    /// Beside each its ext; no byte stands for that of the genesis.
+    pub exts: Vec<Vec<u8>>,
     /// The entry of a block says where in LOG the body of its record is.
     pub tree: Tree,
 }
@@ -50,11 +52,13 @@ fn synced_len<D: Disk>(disk: &mut D) -> Result<u64, Failed>
 fn read_log<D: Disk>(alloc: Global, disk: &mut D, len: u64) -> Result<(Opened, bool), LogStop>
     requires { IfSome (D.reads_as disk.old) (λ image. len ≡ length image.log) }
     ensures opened { IfSome (D.reads_as disk.old) (λ now. IfOk result (λ found. (log : LogContent)
-        × IsOpened now.log log found.0.spec (map (λ item. item.items) found.0.blocks.items) found.0.tree.entries)) }
+        × IsOpened now.log log found.0.spec (map (λ item. item.items) found.0.blocks.items)
+        (map (λ ext. ext.items) found.0.exts.items) found.0.tree.entries)) }
     ensures ends { IfSome (D.reads_as disk.old) (λ now. IfOk result (λ found. EndsAt found.0.log.place (records_of (drop 8 now.log)) now.log)) }
     ensures gate { IfSome (D.reads_as disk.old) (λ now. IfOk result (λ found. found.1 ≡ (slice_index now.log found.0.log.place == 1))) }
     ensures not_a_store { IfSome (D.reads_as disk.old) (λ now. result ≡ Err LogStop.NotAStore → log_of now.log ≡ None) }
     ensures blocks { IfOk result (λ found. AreBlocks (map (λ item. item.items) found.0.blocks.items) found.0.tree.entries) }
+    ensures beside { IfOk result (λ found. length found.0.exts.items ≡ length found.0.blocks.items) }
     ensures few { IfOk result (λ found. length found.0.blocks.items ≤ kept_limit) }
     ensures place { IfOk result (λ found. found.0.log.place ≤ 2 ^ 33 * (length found.0.blocks.items + 1)) }
     ensures as_before { IsAsBefore D.reads_as D.images D.moment D.left_since disk.old disk.new }
@@ -65,11 +69,12 @@ fn read_log<D: Disk>(alloc: Global, disk: &mut D, len: u64) -> Result<(Opened, b
     read_blocks(alloc, disk, &mut reader, &mut blocks)?;
     let open_gate = is_open(reader.ahead());
     let place = reader.at();
-    let (blocks, tree) = blocks.into_parts();
+    let (blocks, exts, tree) = blocks.into_parts();
     let opened = Opened {
         log: Log { place },
         spec,
         blocks,
+        exts,
         tree,
     };
     Ok((opened, open_gate))
@@ -101,11 +106,12 @@ fn mend<D: Disk>(disk: &mut D, place: u64, open_gate: bool) -> Result<(), Failed
 pub fn open<D: Disk>(alloc: Global, disk: &mut D) -> Result<Opened, LogStop>
     // Exactly a log is opened, but for faults and want of memory.
     ensures opened { IfSome (D.reads_as disk.old) (λ now. IfOk result (λ o. (log : LogContent)
-        × IsOpened now.log log o.spec (map (λ item. item.items) o.blocks.items) o.tree.entries)) }
+        × IsOpened now.log log o.spec (map (λ item. item.items) o.blocks.items) (map (λ ext. ext.items) o.exts.items) o.tree.entries)) }
     ensures not_a_store { IfSome (D.reads_as disk.old) (λ now. result ≡ Err LogStop.NotAStore → log_of now.log ≡ None) }
 
     // Of each disk, also of one that tells nothing:
     ensures blocks { IfOk result (λ o. AreBlocks (map (λ item. item.items) o.blocks.items) o.tree.entries) }
+    ensures beside { IfOk result (λ o. length o.exts.items ≡ length o.blocks.items) }
     ensures few { IfOk result (λ o. length o.blocks.items ≤ kept_limit) }
     ensures place { IfOk result (λ o. o.log.place ≤ 2 ^ 33 * (length o.blocks.items + 1)) }
 
@@ -123,6 +129,7 @@ pub fn open<D: Disk>(alloc: Global, disk: &mut D) -> Result<Opened, LogStop>
     ensures at_rest { IfSome (D.reads_as disk.old) (λ now. slice_index now.log (end_of_log now.log) ≢ 1 → D.reads_as disk.new ≡ D.reads_as disk.old) }
     ensures unwritten { IfErr result (λ stop. stop ≢ LogStop.DiskFault → D.reads_as disk.new ≡ D.reads_as disk.old) }
     ensures only_read { result ≡ Err LogStop.NotAStore → IsOnlyRead D.reads_as D.images D.moment D.left_since disk.old disk.new }
+    ensures no_log { IfSome (D.reads_as disk.old) (λ now. log_of now.log ≡ None → IsOnlyRead D.reads_as D.images D.moment D.left_since disk.old disk.new) }
     ensures others { OthersRead log_area (D.reads_as disk.old) (D.reads_as disk.new) }
     ensures cause { CountsFault (D.faults disk.old) (D.faults disk.new) (result ≡ Err LogStop.DiskFault) }
 {

@@ -1,7 +1,7 @@
 use Rattle.std.proofs.Common.{◌≡◌, ◌++◌, ◌∷◌, [], List, ℕ, Vec, Global, map, length, ◌≤◌, sym, ap, ◌∙◌, subst, inr, arith, rules}
 use Rattle.std.proofs.lemmas.List.{map_push, length-map}
 use Rattle.codec_defs.specs.Schema.{Block}
-use Rattle.rule_defs.specs.Verdict.{kept_limit}
+use Rattle.verdict_defs.specs.Verdict.{kept_limit}
 use Rattle.chain_tree.specs.declared.entry.Entry.{Entry}
 use Rattle.chain_tree.specs.Blocks.{IndexesBlocks}
 use Rattle.log_file.specs.Grammar.{record_of, BlocksValue, StandFor, IsGrownBy}
