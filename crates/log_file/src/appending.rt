@@ -12,6 +12,20 @@ use crate::body::Body;
 use crate::log::{Log, Rec};
 use outside::{Area, Disk, Failed, write_durably};
 
+/// How the record of `body` is named once it stands behind the others.
+pub fn rec_behind(log: &Log, body: &Body) -> Rec
+    requires limit { log.now.place ≤ 2 ^ 61 }
+    requires filled { 6 ≤ length body.now }
+    ensures { (r : Record) → body.now ≡ behind_gate r → Names result log.now.place r }
+{
+    let piece = body.piece();
+    Rec {
+        kind: piece[0],
+        at: log.place + 6,
+        len: (piece.len() - 6) as u32,
+    }
+}
+
 /// Puts the record of `body` behind the others, in four calls of the disk: the record and a closed gate behind it are
 /// written and synced, and then its own gate is opened and synced. It takes no memory.
 pub fn append<D: Disk>(log: Log, disk: &mut D, body: &Body) -> Result<(Log, Rec), Failed>
@@ -36,11 +50,7 @@ pub fn append<D: Disk>(log: Log, disk: &mut D, body: &Body) -> Result<(Log, Rec)
     let size = piece.len();
     write_durably(disk, Area::Log, log.place + 1, piece)?;
     write_durably(disk, Area::Log, log.place, &[1])?;
-    let rec = Rec {
-        kind: piece[0],
-        at: log.place + 6,
-        len: (size - 6) as u32,
-    };
+    let rec = rec_behind(&log, body);
     Ok((
         Log {
             place: log.place + size as u64,

@@ -22,7 +22,7 @@ mod reading;
 mod records;
 mod stop;
 
-pub use appending::append;
+pub use appending::{append, rec_behind};
 pub use body::{Body, parts};
 pub use creation::create;
 pub use ext::ext_form;
