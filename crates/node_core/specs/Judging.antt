@@ -1,19 +1,64 @@
 -- What is to become of a block and of an item.
-use Rattle.std.specs.Prelude.{◌≡◌, ℕ, false, List}
-use Rattle.codec_defs.specs.Schema.{Block}
-use Rattle.time_defs.specs.Specification.{Specification}
-use Rattle.rule_defs.specs.Verdict.{joins, verdict_of_block}
-use Rattle.rule_defs.specs.Chain.{Chain, verdict_over}
-use Rattle.node_core.specs.declared.node.Judged.{Judged}
-use Rattle.node_core.specs.declared.node.Judged.TheVariants.{Joins, Stays}
-use Rattle.node_core.specs.Node.{CanJoinAs, JoinsAs}
+use Rattle.std.specs.Prelude.{◌≡◌, ⊤, ℕ, ◌-◌, ◌<◌, false, List, length, Option, Some, None, IsTrue, IfSome}
+use Rattle.codec_defs.specs.Shape.{decoded}
+use Rattle.codec_defs.specs.Schema.{OutPoint, Block, block}
+use Rattle.chain_defs.specs.Kept.{block_hash, place_of}
+use Rattle.chain_defs.specs.Branch.{branch}
+use Rattle.chain_defs.specs.Tip.{tip_place}
+use Rattle.chain_tree.specs.declared.entry.Entry.{Entry}
+use Rattle.chain_tree.specs.Blocks.{Describes}
+use Rattle.cell_defs.specs.Row.{live_row}
+use Rattle.cell_state.specs.State.{StateValue, rows}
+use Rattle.rule_defs.specs.Header.{follows, parent_of}
+use Rattle.block_defs.specs.Rules.{is_rated}
+use Rattle.block_defs.specs.Ext.{ext_of}
+use Rattle.verdict_defs.specs.Verdict.{kept_limit, joins, verdict_of_block}
+use Rattle.verdict_defs.specs.Chain.{Chain, verdict_over}
+use Rattle.verdict_defs.specs.Laws.{MayJoin}
+use Rattle.node_core.specs.declared.deciding.Joining.{Joining}
+use Rattle.node_core.specs.declared.deciding.Decision.{Decision}
+use Rattle.node_core.specs.declared.deciding.Decision.TheVariants.{Joins, Stays}
 
--- a block can join with this entry, or this verdict is its own and it stays out
-abbrev pub IsJudgedBlock : Specification → List Block → Block → Judged → Type 0
-IsJudgedBlock spec kept b (Joins entry) = CanJoinAs spec kept b entry
-IsJudgedBlock spec kept b (Stays verdict) = (verdict ≡ verdict_of_block spec kept b) × (joins verdict ≡ false)
+-- The entry is that of a block that is not kept, on the kept parent that it names.
+pub record IsEntryOn (kept : List Block) (b : Block) (entry : Entry) : Type 0 where
+  pub new : place_of kept (block_hash b) ≡ None
+  pub on_kept : place_of kept b.header.parent_hash ≡ Some entry.parent
+  pub describes : Describes b entry
+
+-- the rows are those of the branch of the block's parent: of that branch where they are given, and else of the tip's
+abbrev pub AreCellsOn : List Block → ℕ → Option StateValue → Type 0
+AreCellsOn kept parent None = tip_place kept ≡ Some parent
+AreCellsOn kept parent (Some cells) = (o : OutPoint) → rows cells o ≡ live_row kept parent o
+
+-- All that is asked of a block to be kept, whether or not those before it joined.
+pub record IsReady (kept : List Block) (b : Block) (joining : Joining) : Type 0 where
+  pub entry : IsEntryOn kept b joining.entry
+  pub next : IsTrue (follows b (parent_of (branch kept joining.entry.parent)))
+  pub room : length kept < kept_limit
+  pub rated : IsTrue (is_rated b)
+  pub fees : length joining.ext.fees ≡ length b.transactions - 1
+  pub cells : AreCellsOn kept joining.entry.parent joining.cells
+
+abbrev pub IsReadyBlock : List Block → Block → Decision → Type 0
+IsReadyBlock kept b (Joins joining) = IsReady kept b joining
+IsReadyBlock kept b (Stays verdict) = joins verdict ≡ false
+
+abbrev pub IsReadyItem : List Block → List ℕ → Decision → Type 0
+IsReadyItem kept item (Joins joining) = (b : Block) × (decoded block item ≡ Some b) × IsReady kept b joining
+IsReadyItem kept item (Stays verdict) = joins verdict ≡ false
+
+-- It breaks no rule, and its ext is its own.
+pub record IsJudged (chain : Chain) (b : Block) (joining : Joining) : Type 0 where
+  pub may : MayJoin chain.spec chain.blocks b
+  pub on : may.parent ≡ joining.entry.parent
+  pub ext : joining.ext ≡ ext_of chain.spec chain.blocks joining.entry.parent b
+
+-- a block may join so, or this verdict is its own and it stays out
+abbrev pub IsDecidedBlock : Chain → Block → Decision → Type 0
+IsDecidedBlock chain b (Joins joining) = IsJudged chain b joining
+IsDecidedBlock chain b (Stays verdict) = verdict ≡ verdict_of_block chain.spec chain.blocks b
 
 -- an item too
-abbrev pub IsJudged : Chain → List ℕ → Judged → Type 0
-IsJudged chain item (Joins entry) = JoinsAs chain item entry
-IsJudged chain item (Stays verdict) = (verdict ≡ verdict_over chain item) × (joins verdict ≡ false)
+abbrev pub IsDecided : Chain → List ℕ → Decision → Type 0
+IsDecided chain item (Joins joining) = (b : Block) × (decoded block item ≡ Some b) × IsJudged chain b joining
+IsDecided chain item (Stays verdict) = verdict ≡ verdict_over chain item

@@ -1,17 +1,19 @@
 -- What contracts see of a node and of a new store, and a disk as a node left it.
-use Rattle.std.specs.Prelude.{◌≡◌, ℕ, ◌+◌, ◌*◌, ◌^◌, ◌<◌, ◌≤◌, List, length, map, Option, Some, None, IsTrue}
-use Rattle.std.specs.List.{filter_map}
+use Rattle.std.specs.Prelude.{◌≡◌, ℕ, ◌+◌, ◌*◌, ◌^◌, ◌<◌, ◌≤◌, List, length, Option, Some, None}
 use Rattle.outside.specs.Image.{Image}
 use Rattle.codec_defs.specs.Shape.{decoded}
-use Rattle.codec_defs.specs.Schema.{Block, block}
-use Rattle.chain_defs.specs.Kept.{block_hash, place_of}
-use Rattle.chain_defs.specs.Branch.{branch}
+use Rattle.codec_defs.specs.Schema.{OutPoint, Block, block}
+use Rattle.chain_defs.specs.Kept.{block_hash}
+use Rattle.chain_defs.specs.Tip.{tip_place}
 use Rattle.chain_tree.specs.declared.entry.Entry.{Entry}
-use Rattle.chain_tree.specs.Blocks.{Describes, IndexesBlocks}
-use Rattle.time_defs.specs.Specification.{Specification, broken_specification_rule}
-use Rattle.rule_defs.specs.Rules.{first_broken}
-use Rattle.rule_defs.specs.Verdict.{kept_limit, has_built_form}
-use Rattle.rule_defs.specs.Chain.{Chain}
+use Rattle.chain_tree.specs.Blocks.{IndexesBlocks}
+use Rattle.chain_tree.specs.Told.{Stored, blocks_of}
+use Rattle.cell_defs.specs.Row.{Row, live_row}
+use Rattle.tx_rules.specs.At.{AreRated}
+use Rattle.uncle_rules.specs.Embedded.{UnclesValue, IndexesUncles}
+use Rattle.time_defs.specs.Specification.{broken_specification_rule}
+use Rattle.verdict_defs.specs.Verdict.{kept_limit}
+use Rattle.verdict_defs.specs.Chain.{Chain}
 use Rattle.store_defs.specs.Genesis.{broken_genesis_rule}
 use Rattle.store_defs.specs.Log.{Record}
 use Rattle.store_defs.specs.Rest.{IsAtRest}
@@ -31,30 +33,18 @@ pub record IsOn (node : NodeValue) (reads : Option Image) (images : Image → Ty
   pub records : List Record
   pub rest : IsAtRest node.place records now.log
 
--- the blocks that items encode
-abbrev pub blocks_of : List (List ℕ) → List Block
-blocks_of items = filter_map (decoded block) items
+-- What is kept in memory: the tree indexes the blocks, and the other index their uncles; the rows are those of the live cells of the tip; the C
+-- and the AR of each block's DAO field are above 0; and no more blocks are kept than may be.
+pub record AreKept (stored : List Stored) (entries : List Entry) (uncles : UnclesValue) (rows : OutPoint → Option Row) : Type 0 where
+  pub indexed : IndexesBlocks (blocks_of stored) entries
+  pub uncles : IndexesUncles (blocks_of stored) uncles
+  pub live : (tip : ℕ) → tip_place (blocks_of stored) ≡ Some tip → (o : OutPoint) → rows o ≡ live_row (blocks_of stored) tip o
+  pub rated : AreRated entries
+  pub few : length stored ≤ kept_limit
 
--- What a node keeps: the items are blocks and nothing else, which these entries index, no more than may be kept, and in a log no longer than
--- their records may make it.
-pub record AreKept (items : List (List ℕ)) (entries : List Entry) (place : ℕ) : Type 0 where
-  pub decode : map (decoded block) items ≡ map Some (blocks_of items)
-  pub indexed : IndexesBlocks (blocks_of items) entries
-  pub few : length items ≤ kept_limit
-  pub within : place ≤ 2 ^ 33 * (length items + 1)
-
--- A block can join over kept blocks, on the parent that this entry names, and the entry is its own.
-pub record CanJoinAs (spec : Specification) (kept : List Block) (b : Block) (entry : Entry) : Type 0 where
-  pub new : place_of kept (block_hash b) ≡ None
-  pub built : IsTrue (has_built_form b)
-  pub on_kept : place_of kept b.header.parent_hash ≡ Some entry.parent
-  pub unbroken : first_broken spec (branch kept entry.parent) b ≡ None
-  pub room : length kept < kept_limit
-  pub describes : Describes b entry
-
--- The item is a canonical `Block` that can join a chain, and the entry is its own.
-abbrev pub JoinsAs : Chain → List ℕ → Entry → Type 0
-JoinsAs chain item entry = (b : Block) × (decoded block item ≡ Some b) × CanJoinAs chain.spec chain.blocks b entry
+-- A log is no longer than the records of so many blocks may make it.
+abbrev pub IsWithin : ℕ → ℕ → Type 0
+IsWithin count place = place ≤ 2 ^ 33 * (count + 1)
 
 -- a specification and a genesis that keep their rules, as handed in
 pub record NewStoreValue : Type 0 where

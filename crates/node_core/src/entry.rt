@@ -1,7 +1,6 @@
 // What the verdict looks at in a block, and what the tree keeps of it.
 ghost use Rattle.std.specs.Prelude.{◌≡◌, length};
 ghost use Rattle.chain_defs.specs.Kept.{block_hash};
-ghost use Rattle.rule_defs.specs.Verdict as rules;
 ghost use Rattle.chain_tree.specs.Blocks.{Describes};
 
 use blake2b_ckb::ckbhash;
@@ -14,13 +13,6 @@ pub(crate) fn hash_of(block: &BlockView<'_>) -> [u8; 32]
     ensures { result ≡ block_hash block.now }
 {
     ckbhash(block.header().bytes())
-}
-
-/// Whether its form is judged: one transaction and no uncle.
-pub(crate) fn has_built_form(block: &BlockView<'_>) -> bool
-    ensures { result ≡ rules.has_built_form block.now }
-{
-    block.transactions_count() == 1 && block.uncles_count() == 0
 }
 
 /// A field of 32 bytes.

@@ -1,19 +1,23 @@
 //! The node over a disk: the kept blocks of a store, and the judging of one item after another over them.
 //!
-//! [`Node`] is the contract of use. Its clauses see a `Chain` of `rule_defs`, and where the records of its log end:
-//! `open` answers the chain that a store keeps; `import` answers the verdict on an item, and where it joins puts its
-//! record on the disk and keeps it, so that at each moment a crash leaves the chain before the item or after it; `tip`
-//! and `tree` tell what is kept. [`judge`] accepts a specification and a genesis, and [`NewStore`] makes a store of
-//! them. How records lie in the log is left to `log_file`; what an item is cut from, and the lines that tell of
-//! verdicts, to `node_run`.
+//! [`Node`] is the contract of use. Its clauses see a `Chain` of `verdict_defs`, and where the records of its log end:
+//! `open` answers the chain that a store keeps; `import` answers the verdict on an item, and where it joins keeps it and
+//! puts its record on the disk, so that at each moment a crash leaves the chain before the item or after it; `check` judges
+//! a transaction alone; `tip`, `tree` and `state` tell what is kept. [`judge`] accepts a specification and a genesis, and
+//! [`NewStore`] makes a store of them. The kept blocks in memory are apart from the disk, in kept.rt. By which rules a
+//! block is judged is left to `block_judge`, how records lie in the log to `log_file`, what an item is cut from, and the
+//! lines that tell of verdicts, to `node_run`.
 #![tactic(auto)]
 
 mod area;
+mod deciding;
 mod entry;
+mod kept;
 mod new_store;
 mod node;
-mod rules;
+mod opening;
 
+pub use block_judge::Judged;
 pub use log_file::LogStop;
 pub use new_store::{NewStop, NewStore, judge};
 pub use node::Node;

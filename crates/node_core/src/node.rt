@@ -1,107 +1,100 @@
-// A node: the kept blocks of a store, on their disk.
-ghost use Rattle.std.specs.Prelude.{◌≡◌, ◌⊎◌, ◌<◌, ◌^◌, nat_lt, false, Err, List, Some, length, vec_capacity, IfOk, IfErr, OnOk, OnErr, IfSome};
+// A node: the kept blocks of a store, in memory and on their disk.
+ghost use Rattle.std.specs.Prelude.{◌≡◌, ◌≢◌, ◌⊎◌, ◌<◌, ◌≤◌, ◌+◌, ◌^◌, ℕ, false, Err, List, Some, length, IfOk, IfErr, OnOk, OnErr, IfSome, IsTrue};
 ghost use Rattle.outside.specs.Causes.{CountsFault};
 ghost use Rattle.outside.specs.Disk.{HasOneImage, LeavesOnly};
 ghost use Rattle.outside.specs.Image.{Image};
-ghost use Rattle.outside.specs.declared.disk.WriteStop.TheVariants.{DiskFault, NoMemory as no_memory};
+ghost use Rattle.outside.specs.declared.disk.Area.TheVariants.{Log as log_area};
+ghost use Rattle.outside.specs.declared.disk.Damage.{Damage};
+ghost use Rattle.outside.specs.declared.disk.ReadStop.TheVariants.{DiskFault, Damaged};
+ghost use Rattle.codec_defs.specs.Shape.{decoded};
+ghost use Rattle.codec_defs.specs.Schema as schema;
+ghost use Rattle.codec_defs.specs.Schema.{Block, OutPoint};
+ghost use Rattle.chain_defs.specs.Kept.{place_of};
 ghost use Rattle.chain_defs.specs.Tip as tips;
-ghost use Rattle.codec_defs.specs.Schema.{Block};
-ghost use Rattle.rule_defs.specs.Chain.{Chain, verdict_over, chain_after};
-ghost use Rattle.rule_defs.specs.Verdict.{joins, verdict_of_block, kept_limit};
-ghost use Rattle.store_defs.specs.LogLaws.{record_of_joined};
-ghost use Rattle.store_defs.specs.Store.{Keeps, store_of, StandsFor, IsSound, IsOnlyRead};
-ghost use Rattle.log_file.specs.Pieces.{behind_gate};
+ghost use Rattle.chain_defs.specs.Tip.{tip_place, best_branch};
+ghost use Rattle.cell_defs.specs.Ext.{ext_bytes, is_ext, count_at};
+ghost use Rattle.cell_defs.specs.Row.{live_row};
+ghost use Rattle.cell_state.specs.State.{rows};
 ghost use Rattle.chain_tree.specs.Blocks.{Describes, IndexesBlocks};
-ghost use Rattle.node_core.specs.Node.{IsOn, JoinsAs};
-ghost use Rattle.node_core.specs.Judging.{IsJudgedBlock, IsJudged};
+ghost use Rattle.block_judge.specs.declared.stop.Judged.TheVariants.{Broken, Read};
+ghost use Rattle.verdict_defs.specs.Chain.{Chain, verdict_over, chain_after};
+ghost use Rattle.verdict_defs.specs.Verdict.{joins};
+ghost use Rattle.verdict_defs.specs.Trial.{trial_on};
+ghost use Rattle.verdict_defs.specs.declared.trial.Trial.TheVariants.{Passes, Refused};
+ghost use Rattle.store_defs.specs.Store.{Keeps, store_of, StandsFor, IsSound, IsJoined, IsOnlyRead};
+ghost use Rattle.node_core.specs.Node.{IsOn};
+ghost use Rattle.node_core.specs.Judging.{IsReadyItem, IsDecided};
+ghost use Rattle.node_core.specs.declared.deciding.Decision.TheVariants.{Joins};
 
 use crate::area::sync_snapshots;
-use crate::entry::{entry_on, has_built_form, hash_of, parent_hash};
-use crate::rules::first_broken;
+use crate::deciding::{Decision, Joining};
+use crate::kept::Kept;
+use block_judge::Judged;
+use cell_model::Ext;
+use cell_state::State;
 use chain_tree::{Entry, Tree};
 use epochs::Spec;
-use log_file::{Body, Log, LogStop, append};
-use mol_schema::BlockView;
-use outside::{Disk, NoMemory, WriteStop};
-use rule_defs::Verdict;
+use log_file::{Body, Log, LogStop, append, rec_behind};
+use mol_schema::TxView;
+use outside::{Disk, NoMemory, ReadStop, Steps};
 use std::alloc::Global;
 use std::marker::Model;
+use std::sync::ledger::Ledger;
+use verdict_defs::Verdict;
 
-/// The most kept blocks, genesis included.
-const KEPT_LIMIT: u32 = 1_000_000;
+/// The most bytes of an ext: with an item below 2^31 bytes its record's length fits four bytes.
+const EXT_LIMIT: usize = (1 << 31) - 4;
 
-/// The ext of a block that joins: it pays no fee and spends nothing.
-const EXT_OF_JOINED: [u8; 8] = [0; 8];
-
-/// Whether one more may be kept beside so many.
-#[tactic(auto, unfolding(rule_defs::specs::Verdict::kept_limit))]
-fn has_room(count: u32) -> bool
-    ensures { result ≡ nat_lt count kept_limit }
+/// The bytes of an ext. Above the limit they are out of memory.
+fn bytes_of(alloc: Global, ext: &Ext) -> Result<Vec<u8>, NoMemory>
+    ensures bytes { IfOk result (λ bytes. bytes.items ≡ ext_bytes ext.now) }
+    ensures form { IfOk result (λ bytes. IsTrue (is_ext bytes.items)) }
+    ensures fees { IfOk result (λ bytes. count_at bytes.items 0 ≡ length ext.now.fees) }
+    ensures short { IfOk result (λ bytes. length bytes.items + 4 ≤ 2 ^ 31) }
 {
-    count < KEPT_LIMIT
-}
-
-/// Allocates all that one more block takes, before the disk is touched: its record, its places, and the copy of its
-/// bytes that it answers.
-fn prepare(
-    alloc: Global,
-    item: &[u8],
-    blocks: &mut Vec<Vec<u8>>,
-    tree: &mut Tree,
-    body: &mut Body,
-) -> Result<Vec<u8>, NoMemory>
-    requires { length item.now < 2 ^ 31 }
-    ensures copy { IfOk result (λ copy. copy.items ≡ item.now) }
-    ensures body { OnOk result (body.new ≡ behind_gate (record_of_joined item.now)) }
-    ensures blocks { blocks.new.items ≡ blocks.old.items }
-    ensures room { OnOk result (length blocks.new.items < vec_capacity blocks.new) }
-    ensures tree { tree.new.entries ≡ tree.old.entries }
-    ensures spare { OnOk result (0 < tree.new.spare) }
-{
-    body.fill(alloc, item, &EXT_OF_JOINED)?;
-    tree.reserve()?;
-    blocks.reserve(1)?;
-    Ok(item.to_vec(alloc)?)
-}
-
-/// What is to become of an item.
-#[derive(Clone, Copy)]
-enum Judged {
-    /// It can join, with this entry.
-    Joins(Entry),
-    /// It stays out, with this verdict.
-    Stays(Verdict),
+    if ext.fees.len() > EXT_LIMIT || ext.spent.len() > EXT_LIMIT {
+        return Err(NoMemory);
+    }
+    let bytes = ext.write(alloc)?;
+    if bytes.len() > EXT_LIMIT {
+        return Err(NoMemory);
+    }
+    Ok(bytes)
 }
 
 /// The kept blocks of a store. Clauses see their chain, and where the records of its log end.
 #[derive(Drop)]
 pub struct Node {
-    spec: Spec,
-    /// The encodings of the kept blocks, genesis first.
-    blocks: Vec<Vec<u8>>,
-    tree: Tree,
+    kept: Kept,
     log: Log,
     /// The record that is put behind the others next.
     body: Body,
 }
 
 impl Model for Node {
-    ghost use Rattle.std.specs.Prelude.{map};
-    ghost use Rattle.node_core.specs.Node.{NodeValue, blocks_of, AreKept};
+    ghost use Rattle.std.specs.Prelude.{◌≤◌, length};
+    ghost use Rattle.verdict_defs.specs.Verdict.{kept_limit};
+    ghost use Rattle.node_core.specs.Node.{NodeValue, IsWithin};
 
     ghost Value = { NodeValue };
 
-    ghost view = { λ node. record { chain = record { spec = node.spec; blocks = blocks_of (map (λ item. item.items) node.blocks.items) }; place = node.log.place } };
+    ghost view = { λ node. record { chain = node.kept; place = node.log.place } };
 
-    ghost invariant = { λ node. AreKept (map (λ item. item.items) node.blocks.items) node.tree.entries node.log.place };
+    ghost invariant = { λ node. (length node.kept.blocks ≤ kept_limit) × IsWithin (length node.kept.blocks) node.log.place };
 }
 
 impl Node {
-    /// Opens the store on a disk. After `Ok` a crash leaves each area as it reads.
-    pub fn open<D: Disk>(alloc: Global, disk: &mut D) -> Result<Node, LogStop>
+    /// Opens the store on a disk, and replays the branch of its tip. After `Ok` a crash leaves each area as it reads. Also a
+    /// log whose blocks have not joined may be answered as no store.
+    pub fn open<D: Disk, L: Ledger>(
+        alloc: Global,
+        disk: &mut D,
+        steps: &mut Steps<L>,
+    ) -> Result<Node, LogStop>
         ensures kept { IfOk result (λ node. IfSome (D.reads_as disk.old) (λ now. store_of now ≡ Keeps node.chain)) }
-        ensures not_a_store { result ≡ Err LogStop.NotAStore → IfSome (D.reads_as disk.old) (λ now. (chain : Chain) → store_of now ≡ Keeps chain → ⊥) }
-        ensures only_read { result ≡ Err LogStop.NotAStore → IsOnlyRead D.reads_as D.images D.moment D.left_since disk.old disk.new }
+        ensures not_a_store { result ≡ Err LogStop.NotAStore → IfSome (D.reads_as disk.old) (λ now. IsSound now → ⊥) }
+        ensures no_log { (now : Image) → D.reads_as disk.old ≡ Some now → ((chain : Chain) → store_of now ≡ Keeps chain → ⊥)
+            → IsOnlyRead D.reads_as D.images D.moment D.left_since disk.old disk.new }
         ensures there { IfOk result (λ node. IfSome (D.reads_as disk.new) (λ image. node.place < length image.log)) }
         ensures one_image { OnOk result (HasOneImage (D.reads_as disk.new) (D.images disk.new)) }
         ensures on { ((image : Image) → D.images disk.old image → IsSound image)
@@ -113,149 +106,141 @@ impl Node {
         if sync_snapshots(disk).is_err() {
             return Err(LogStop::DiskFault);
         }
-        match log_file::open(alloc, disk) {
+        let opened = match log_file::open(alloc, disk) {
+            Err(stop) => return Err(stop),
+            Ok(opened) => opened,
+        };
+        match Kept::of(
+            alloc,
+            opened.spec,
+            opened.blocks,
+            opened.exts,
+            opened.tree,
+            steps,
+        ) {
             Err(stop) => Err(stop),
-            Ok(opened) => Ok(Node {
-                spec: opened.spec,
-                blocks: opened.blocks,
-                tree: opened.tree,
+            Ok(kept) => Ok(Node {
+                kept,
                 log: opened.log,
                 body: Body::new(alloc),
             }),
         }
     }
 
-    /// What is to become of a block.
-    fn judge_block(&self, alloc: Global, block: &BlockView<'_>) -> Result<Judged, NoMemory>
-        ensures { IfOk result (IsJudgedBlock self.now.chain.spec self.now.chain.blocks block.now) }
-    {
-        let hash = hash_of(block);
-        if self.tree.find(&hash).is_some() {
-            return Ok(Judged::Stays(Verdict::Known(hash)));
-        }
-        if !has_built_form(block) {
-            return Ok(Judged::Stays(Verdict::Unbuilt));
-        }
-        let Some(parent) = self.tree.find(&parent_hash(block)) else {
-            return Ok(Judged::Stays(Verdict::Refused(3)));
-        };
-        if let Some(rule) = first_broken(alloc, &self.spec, &self.tree, parent, block)? {
-            return Ok(Judged::Stays(Verdict::Refused(rule)));
-        }
-        if !has_room(self.tree.len()) {
-            return Ok(Judged::Stays(Verdict::Full));
-        }
-        Ok(Judged::Joins(entry_on(block, hash, parent)))
-    }
-
-    /// What is to become of an item.
-    fn judge(&self, alloc: Global, item: &[u8]) -> Result<Judged, NoMemory>
-        ensures { IfOk result (IsJudged self.now.chain item.now) }
-    {
-        match BlockView::read(item) {
-            None => Ok(Judged::Stays(Verdict::Refused(1))),
-            Some(block) => self.judge_block(alloc, &block),
-        }
-    }
-
-    /// Puts the record of an item that can join on the disk, and keeps it.
-    fn join<D: Disk>(
+    /// Keeps an item that can join, and puts its record on the disk behind the others.
+    fn join<D: Disk, L: Ledger>(
         self,
         alloc: Global,
         disk: &mut D,
         item: &[u8],
-        entry: Entry,
-    ) -> Result<Node, WriteStop>
+        joining: Joining,
+        steps: &mut Steps<L>,
+    ) -> Result<Node, ReadStop>
         requires size { length item.now < 2 ^ 31 }
         requires there { IfSome (D.reads_as disk.old) (λ image. self.place < length image.log) }
-        requires joins { JoinsAs self.chain item.now entry }
-        ensures kept { IfOk result (λ node. node.chain ≡ chain_after self.chain item.now) }
+        requires ready { IsReadyItem self.chain.blocks item.now (Joins joining) }
+        ensures kept { IsDecided self.chain item.now (Joins joining) → IfOk result (λ node. node.chain ≡ chain_after self.chain item.now) }
         ensures there { IfOk result (λ node. IfSome (D.reads_as disk.new) (λ image. node.place < length image.log)) }
-        ensures on { IsOn self (D.reads_as disk.old) (D.images disk.old) → IfOk result (λ node. IsOn node (D.reads_as disk.new) (D.images disk.new)) }
-        ensures moments { IsOn self (D.reads_as disk.old) (D.images disk.old)
+        ensures on { IsDecided self.chain item.now (Joins joining) → IsOn self (D.reads_as disk.old) (D.images disk.old)
+            → IfOk result (λ node. IsOn node (D.reads_as disk.new) (D.images disk.new)) }
+        ensures moments { IsDecided self.chain item.now (Joins joining) → IsOn self (D.reads_as disk.old) (D.images disk.old)
             → LeavesOnly D.moment D.left_since disk.old disk.new (λ image. StandsFor self.chain image ⊎ StandsFor (chain_after self.chain item.now) image) }
-        ensures untouched { result ≡ Err no_memory → disk.new ≡ disk.old }
+        ensures untouched { IfErr result (λ stop. stop ≢ DiskFault → disk.new ≡ disk.old) }
+        ensures undamaged { IsDecided self.chain item.now (Joins joining) → IsJoined self.chain → (damage : Damage) → result ≡ Err (Damaged damage) → ⊥ }
+        ensures damage { (damage : Damage) → result ≡ Err (Damaged damage) → damage.area ≡ log_area }
         ensures cause { CountsFault (D.faults disk.old) (D.faults disk.new) (result ≡ Err DiskFault) }
+        ensures most { steps.new ≤ steps.old + 1 }
     {
         let Node {
-            spec,
-            mut blocks,
-            mut tree,
+            kept,
             log,
             mut body,
         } = self;
-        let copy = match prepare(alloc, item, &mut blocks, &mut tree, &mut body) {
-            Ok(copy) => copy,
-            Err(_) => return Err(WriteStop::NoMemory),
-        };
+        let ext = bytes_of(alloc, &joining.ext)?;
+        body.fill(alloc, item, &ext)?;
+        let rec = rec_behind(&log, &body);
+        let kept = kept.join(alloc, item, ext, rec, joining, steps)?;
         match append(log, disk, &body) {
-            Err(_) => Err(WriteStop::DiskFault),
-            Ok((log, rec)) => {
-                tree.add(Entry {
-                    at: rec.at,
-                    len: rec.len,
-                    ..entry
-                });
-                blocks.push_reserved(copy);
-                Ok(Node {
-                    spec,
-                    blocks,
-                    tree,
-                    log,
-                    body,
-                })
-            }
+            Err(_) => Err(ReadStop::DiskFault),
+            Ok((log, _)) => Ok(Node { kept, log, body }),
         }
     }
 
-    /// Judges an item over the kept blocks (docs/COMMANDS.md, "The text"), and where it joins puts its record on the disk and
-    /// keeps it. After an `Err` the disk has the record or not.
-    pub fn import<D: Disk>(
+    /// Judges an item over the kept blocks (docs/COMMANDS.md, "The text"), and where it joins keeps it and puts its record on
+    /// the disk. After an `Err` the disk has the record or not. Damaged where a kept block is not what those behind it say,
+    /// which never comes over a chain that has joined. A block on the tip takes one step.
+    pub fn import<D: Disk, L: Ledger>(
         self,
         alloc: Global,
         disk: &mut D,
         item: &[u8],
-    ) -> Result<(Node, Verdict), WriteStop>
+        steps: &mut Steps<L>,
+    ) -> Result<(Node, Verdict), ReadStop>
         requires size { length item.now < 2 ^ 31 }
         requires there { IfSome (D.reads_as disk.old) (λ image. self.place < length image.log) }
-        ensures verdict { IfOk result (λ answer. answer.1 ≡ verdict_over self.chain item.now) }
-        ensures kept { IfOk result (λ answer. answer.0.chain ≡ chain_after self.chain item.now) }
+        ensures verdict { IsJoined self.chain → IfOk result (λ answer. answer.1 ≡ verdict_over self.chain item.now) }
+        ensures kept { IsJoined self.chain → IfOk result (λ answer. answer.0.chain ≡ chain_after self.chain item.now) }
         ensures there { IfOk result (λ answer. IfSome (D.reads_as disk.new) (λ image. answer.0.place < length image.log)) }
         ensures on { IsOn self (D.reads_as disk.old) (D.images disk.old) → IfOk result (λ answer. IsOn answer.0 (D.reads_as disk.new) (D.images disk.new)) }
         ensures moments { IsOn self (D.reads_as disk.old) (D.images disk.old)
             → LeavesOnly D.moment D.left_since disk.old disk.new (λ image. StandsFor self.chain image ⊎ StandsFor (chain_after self.chain item.now) image) }
         ensures unwritten { IfOk result (λ answer. joins answer.1 ≡ false → disk.new ≡ disk.old) }
-        ensures untouched { result ≡ Err no_memory → disk.new ≡ disk.old }
+        ensures untouched { IfErr result (λ stop. stop ≢ DiskFault → disk.new ≡ disk.old) }
+        ensures undamaged { IsJoined self.chain → (damage : Damage) → result ≡ Err (Damaged damage) → ⊥ }
+        ensures damage { (damage : Damage) → result ≡ Err (Damaged damage) → damage.area ≡ log_area }
         ensures cause { CountsFault (D.faults disk.old) (D.faults disk.new) (result ≡ Err DiskFault) }
+        ensures steps { (b : Block) → decoded schema.block item.now ≡ Some b
+            → place_of self.chain.blocks b.header.parent_hash ≡ tip_place self.chain.blocks → steps.new ≤ steps.old + 1 }
     {
-        match self.judge(alloc, item) {
-            Err(_) => Err(WriteStop::NoMemory),
-            Ok(Judged::Stays(verdict)) => Ok((self, verdict)),
-            Ok(Judged::Joins(entry)) => {
-                let node = self.join(alloc, disk, item, entry)?;
-                Ok((node, Verdict::Joined(entry.number, entry.hash)))
+        let mut node = self;
+        match node.kept.decide(alloc, item, steps)? {
+            Decision::Stays(verdict) => Ok((node, verdict)),
+            Decision::Joins(joining) => {
+                let verdict = Verdict::Joined(joining.entry.number, joining.entry.hash);
+                let next = node.join(alloc, disk, item, joining, steps)?;
+                Ok((next, verdict))
             }
         }
+    }
+
+    /// Judges a transaction alone behind the tip: its fee in shannons, and the cycles of its scripts.
+    pub fn check(&mut self, alloc: Global, tx: &TxView<'_>) -> Result<(u64, u64), Judged>
+        ensures same { self.new ≡ self.old }
+        ensures passes { IsJoined self.old.chain → IfOk result (λ it. trial_on self.old.chain.spec (best_branch self.old.chain.blocks) tx.now ≡ Passes it.0 it.1) }
+        ensures broken { IsJoined self.old.chain → (rule : ℕ) → result ≡ Err (Broken rule)
+            → trial_on self.old.chain.spec (best_branch self.old.chain.blocks) tx.now ≡ Refused rule }
+        ensures undamaged { IsJoined self.old.chain → (damage : Damage) → result ≡ Err (Read (Damaged damage)) → ⊥ }
+        ensures damage { (damage : Damage) → result ≡ Err (Read (Damaged damage)) → damage.area ≡ log_area }
+        ensures reads { result ≢ Err (Read DiskFault) }
+    {
+        self.kept.check(alloc, tx)
     }
 
     /// What is kept of the tip.
     pub fn tip(&self) -> &Entry
         ensures { (block : Block) × (tips.tip self.now.chain.blocks ≡ Some block) × Describes block result.now }
     {
-        self.tree.entry(self.tree.tip())
+        self.kept.tip()
     }
 
     /// The tree of the kept blocks.
     pub fn tree(&self) -> &Tree
         ensures { IndexesBlocks self.now.chain.blocks result.now.entries }
     {
-        &self.tree
+        self.kept.tree()
+    }
+
+    /// The live cells of the tip.
+    pub fn state(&self) -> &State
+        ensures { (tip : ℕ) → tip_place self.now.chain.blocks ≡ Some tip → (o : OutPoint) → rows result.now o ≡ live_row self.now.chain.blocks tip o }
+    {
+        self.kept.state()
     }
 
     /// The specification of the chain.
     pub fn spec(&self) -> &Spec
         ensures { result.now ≡ self.now.chain.spec }
     {
-        &self.spec
+        &self.kept.spec
     }
 }

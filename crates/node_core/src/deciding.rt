@@ -1,0 +1,178 @@
+// What is to become of an item, over the kept blocks.
+ghost use Rattle.std.specs.Prelude.{◌≡◌, ◌≢◌, ◌≤◌, ◌<◌, ◌^◌, nat_lt, ℕ, List, length, None, Some, Err, IfOk};
+ghost use Rattle.codec_defs.specs.Shape.{decoded};
+ghost use Rattle.codec_defs.specs.Schema as schema;
+ghost use Rattle.codec_defs.specs.Schema.{Block};
+ghost use Rattle.chain_defs.specs.Kept.{place_of};
+ghost use Rattle.chain_defs.specs.Tip.{tip_place, best_branch};
+ghost use Rattle.outside.specs.declared.disk.Area.TheVariants.{Log};
+ghost use Rattle.outside.specs.declared.disk.Damage.{Damage};
+ghost use Rattle.outside.specs.declared.disk.ReadStop.TheVariants.{DiskFault, Damaged};
+ghost use Rattle.block_judge.specs.declared.stop.Judged.TheVariants.{Broken, Read};
+ghost use Rattle.verdict_defs.specs.Verdict.{kept_limit};
+ghost use Rattle.verdict_defs.specs.Trial.{trial_on};
+ghost use Rattle.verdict_defs.specs.declared.trial.Trial.TheVariants.{Passes, Refused};
+ghost use Rattle.store_defs.specs.Store.{IsJoined};
+ghost use Rattle.node_core.specs.Judging.{IsEntryOn, IsDecidedBlock, IsDecided, IsReadyBlock, IsReadyItem};
+
+use crate::entry::{entry_on, hash_of, parent_hash};
+use crate::kept::Kept;
+use block_judge::{Judged, dry_run, judge};
+use cell_model::Ext;
+use cell_state::State;
+use chain_tree::Entry;
+use mol_schema::{BlockView, TxView};
+use outside::{ReadStop, Steps};
+use replay::replay;
+use std::alloc::Global;
+use std::sync::ledger::Ledger;
+use verdict_defs::Verdict;
+
+/// The most kept blocks, genesis included.
+const KEPT_LIMIT: u32 = 1_000_000;
+
+/// Whether one more may be kept beside so many.
+#[tactic(auto, unfolding(verdict_defs::specs::Verdict::kept_limit))]
+fn has_room(count: u32) -> bool
+    ensures { result ≡ nat_lt count kept_limit }
+{
+    count < KEPT_LIMIT
+}
+
+/// A block that can join: its entry, its ext, and the live cells of its parent's branch where that is not the tip's.
+#[derive(Drop)]
+pub(crate) struct Joining {
+    pub(crate) entry: Entry,
+    pub(crate) ext: Ext,
+    pub(crate) cells: Option<State>,
+}
+
+/// What is to become of an item.
+#[derive(Drop)]
+pub(crate) enum Decision {
+    /// It can join.
+    Joins(Joining),
+    /// It stays out, with this verdict.
+    Stays(Verdict),
+}
+
+impl Kept {
+    /// Judges a block on a kept parent: by the cells of the tip where that is its parent, and else by those of its
+    /// parent's branch, which are made by replay.
+    fn judge_on<L: Ledger>(
+        &mut self,
+        alloc: Global,
+        block: &BlockView<'_>,
+        entry: Entry,
+        steps: &mut Steps<L>,
+    ) -> Result<Decision, ReadStop>
+        requires { IsEntryOn self.old.blocks block.now entry }
+        ensures same { self.new ≡ self.old }
+        ensures ready { IfOk result (IsReadyBlock self.old.blocks block.now) }
+        ensures decided { IsJoined self.old → IfOk result (IsDecidedBlock self.old block.now) }
+        ensures undamaged { IsJoined self.old → (damage : Damage) → result ≡ Err (Damaged damage) → ⊥ }
+        ensures damage { (damage : Damage) → result ≡ Err (Damaged damage) → damage.area ≡ Log }
+        ensures reads { result ≢ Err DiskFault }
+        ensures steps { tip_place self.old.blocks ≡ Some entry.parent → steps.new ≡ steps.old }
+    {
+        let parent = entry.parent;
+        let mut cells = None;
+        if parent != self.tree.tip() {
+            cells = Some(replay(alloc, &self.tree, &mut self.blocks, parent, steps)?);
+        }
+        let state = match &cells {
+            Some(cells) => cells,
+            None => &self.state,
+        };
+        match judge(
+            alloc,
+            &self.spec,
+            &self.tree,
+            &self.uncles,
+            state,
+            &mut self.blocks,
+            parent,
+            block,
+        ) {
+            Err(Judged::Broken(rule)) => Ok(Decision::Stays(Verdict::Refused(rule))),
+            Err(Judged::Read(stop)) => Err(stop),
+            Ok(ext) => {
+                if has_room(self.tree.len()) {
+                    Ok(Decision::Joins(Joining { entry, ext, cells }))
+                } else {
+                    Ok(Decision::Stays(Verdict::Full))
+                }
+            }
+        }
+    }
+
+    /// What is to become of a block.
+    fn decide_block<L: Ledger>(
+        &mut self,
+        alloc: Global,
+        block: &BlockView<'_>,
+        steps: &mut Steps<L>,
+    ) -> Result<Decision, ReadStop>
+        ensures same { self.new ≡ self.old }
+        ensures ready { IfOk result (IsReadyBlock self.old.blocks block.now) }
+        ensures decided { IsJoined self.old → IfOk result (IsDecidedBlock self.old block.now) }
+        ensures undamaged { IsJoined self.old → (damage : Damage) → result ≡ Err (Damaged damage) → ⊥ }
+        ensures damage { (damage : Damage) → result ≡ Err (Damaged damage) → damage.area ≡ Log }
+        ensures reads { result ≢ Err DiskFault }
+        ensures steps { place_of self.old.blocks block.now.header.parent_hash ≡ tip_place self.old.blocks → steps.new ≡ steps.old }
+    {
+        let hash = hash_of(block);
+        if self.tree.find(&hash).is_some() {
+            return Ok(Decision::Stays(Verdict::Known(hash)));
+        }
+        let Some(parent) = self.tree.find(&parent_hash(block)) else {
+            return Ok(Decision::Stays(Verdict::Refused(3)));
+        };
+        let entry = entry_on(block, hash, parent);
+        self.judge_on(alloc, block, entry, steps)
+    }
+
+    /// What is to become of an item.
+    pub(crate) fn decide<L: Ledger>(
+        &mut self,
+        alloc: Global,
+        item: &[u8],
+        steps: &mut Steps<L>,
+    ) -> Result<Decision, ReadStop>
+        ensures same { self.new ≡ self.old }
+        ensures ready { IfOk result (IsReadyItem self.old.blocks item.now) }
+        ensures decided { IsJoined self.old → IfOk result (IsDecided self.old item.now) }
+        ensures undamaged { IsJoined self.old → (damage : Damage) → result ≡ Err (Damaged damage) → ⊥ }
+        ensures damage { (damage : Damage) → result ≡ Err (Damaged damage) → damage.area ≡ Log }
+        ensures reads { result ≢ Err DiskFault }
+        ensures steps { (b : Block) → decoded schema.block item.now ≡ Some b
+            → place_of self.old.blocks b.header.parent_hash ≡ tip_place self.old.blocks → steps.new ≡ steps.old }
+    {
+        match BlockView::read(item) {
+            None => Ok(Decision::Stays(Verdict::Refused(1))),
+            Some(block) => self.decide_block(alloc, &block, steps),
+        }
+    }
+
+    /// Judges a transaction alone behind the tip: its fee in shannons, and the cycles of its scripts.
+    pub(crate) fn check(&mut self, alloc: Global, tx: &TxView<'_>) -> Result<(u64, u64), Judged>
+        ensures same { self.new ≡ self.old }
+        ensures passes { IsJoined self.old → IfOk result (λ it. trial_on self.old.spec (best_branch self.old.blocks) tx.now ≡ Passes it.0 it.1) }
+        ensures broken { IsJoined self.old → (rule : ℕ) → result ≡ Err (Broken rule)
+            → trial_on self.old.spec (best_branch self.old.blocks) tx.now ≡ Refused rule }
+        ensures undamaged { IsJoined self.old → (damage : Damage) → result ≡ Err (Read (Damaged damage)) → ⊥ }
+        ensures damage { (damage : Damage) → result ≡ Err (Read (Damaged damage)) → damage.area ≡ Log }
+        ensures reads { result ≢ Err (Read DiskFault) }
+    {
+        let tip = self.tree.tip();
+        dry_run(
+            alloc,
+            &self.spec,
+            &self.tree,
+            &self.state,
+            &mut self.blocks,
+            tip,
+            tx,
+        )
+    }
+}

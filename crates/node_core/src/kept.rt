@@ -1,0 +1,196 @@
+// The kept blocks in memory, and the live cells of the tip.
+ghost use Rattle.std.specs.Prelude.{◌≡◌, ◌≢◌, ◌≤◌, ◌<◌, ◌+◌, ◌++◌, ◌∷◌, [], ℕ, List, length, map, Some, Err, IfOk, IsTrue};
+ghost use Rattle.codec_defs.specs.Shape.{decoded};
+ghost use Rattle.codec_defs.specs.Schema as schema;
+ghost use Rattle.codec_defs.specs.Schema.{Block, OutPoint};
+ghost use Rattle.chain_defs.specs.Tip as tips;
+ghost use Rattle.chain_defs.specs.Tip.{tip_place};
+ghost use Rattle.cell_defs.specs.Events.{events_of_block};
+ghost use Rattle.cell_defs.specs.Row.{live_row};
+ghost use Rattle.cell_state.specs.Fit.{AllFit};
+ghost use Rattle.cell_state.specs.State.{rows, Grows};
+ghost use Rattle.cell_model.specs.ListBlocks.{IsExtFor};
+ghost use Rattle.chain_tree.specs.Blocks.{Describes, IndexesBlocks};
+ghost use Rattle.outside.specs.declared.disk.Area.TheVariants.{Log};
+ghost use Rattle.outside.specs.declared.disk.Damage.{Damage as a_damage};
+ghost use Rattle.outside.specs.declared.disk.ReadStop.TheVariants.{DiskFault, Damaged};
+ghost use Rattle.verdict_defs.specs.Laws.{MayJoin};
+ghost use Rattle.store_defs.specs.Store.{IsJoined};
+ghost use Rattle.node_core.specs.Judging.{IsReady};
+
+use crate::deciding::Joining;
+use cell_model::ListBlocks;
+use cell_state::{State, outputs_in};
+use chain_tree::{Entry, Tree};
+use epochs::Spec;
+use log_file::Rec;
+use mol_schema::BlockView;
+use outside::{Area, Damage, NoMemory, ReadStop, Steps};
+use std::alloc::Global;
+use std::marker::Model;
+use std::sync::ledger::Ledger;
+use uncle_rules::Uncles;
+
+/// The kept blocks with their exts, all that is looked up in them, and the live cells of the tip. Clauses see the chain.
+#[derive(Drop)]
+pub(crate) struct Kept {
+    pub(crate) spec: Spec,
+    pub(crate) blocks: ListBlocks,
+    pub(crate) tree: Tree,
+    pub(crate) uncles: Uncles,
+    pub(crate) state: State,
+}
+
+impl Model for Kept {
+    ghost use Rattle.chain_tree.specs.Told.{blocks_of};
+    ghost use Rattle.cell_state.specs.State.{rows};
+    ghost use Rattle.verdict_defs.specs.Chain.{Chain};
+    ghost use Rattle.node_core.specs.Node.{AreKept};
+
+    ghost Value = { Chain };
+
+    ghost view = { λ kept. record { spec = kept.spec; blocks = blocks_of kept.blocks.stored } };
+
+    ghost invariant = { λ kept. AreKept kept.blocks.stored kept.tree.entries kept.uncles (rows kept.state) };
+}
+
+/// The cells with those of a block at a place behind its parent's branch. Damaged where its events do not fit.
+fn grown<L: Ledger>(
+    cells: State,
+    block: &BlockView<'_>,
+    place: u32,
+    steps: &mut Steps<L>,
+) -> Result<State, ReadStop>
+    ensures of_branch { IfOk result (λ state. Grows block.now place cells state) }
+    ensures undamaged { (height : ℕ) → 0 < height → AllFit place (events_of_block height block.now) (rows cells)
+        → (damage : a_damage) → result ≡ Err (Damaged damage) → ⊥ }
+    ensures damage { (damage : a_damage) → result ≡ Err (Damaged damage) → damage.area ≡ Log }
+    ensures reads { result ≢ Err DiskFault }
+    ensures most { steps.new ≤ steps.old + 1 }
+{
+    let mut state = cells;
+    match state.reserve(outputs_in(block)) {
+        Ok(()) => {}
+        Err(_) => return Err(ReadStop::NoMemory),
+    }
+    match state.apply(block, place, steps) {
+        Ok(()) => Ok(state),
+        Err(_) => Err(ReadStop::Damaged(Damage {
+            area: Area::Log,
+            at: 0,
+        })),
+    }
+}
+
+impl Kept {
+    /// The live cells of the tip once a block at the end is kept: with its own where it becomes the tip.
+    fn state_with<L: Ledger>(
+        state: State,
+        tree: &Tree,
+        block: &BlockView<'_>,
+        joining: Joining,
+        steps: &mut Steps<L>,
+    ) -> Result<State, ReadStop>
+        requires few { length tree.now.entries < 2 ^ 32 }
+        ensures live { (kept : List Block) → IndexesBlocks kept tree.now.entries → IsReady kept block.now joining
+            → ((tip : ℕ) → tip_place kept ≡ Some tip → (o : OutPoint) → rows state o ≡ live_row kept tip o)
+            → IfOk result (λ next. (tip : ℕ) → tip_place (kept ++ block.now ∷ []) ≡ Some tip → (o : OutPoint)
+            → rows next o ≡ live_row (kept ++ block.now ∷ []) tip o) }
+        ensures undamaged { (kept : List Block) (height : ℕ) → IndexesBlocks kept tree.now.entries → IsReady kept block.now joining
+            → ((tip : ℕ) → tip_place kept ≡ Some tip → (o : OutPoint) → rows state o ≡ live_row kept tip o)
+            → 0 < height → AllFit (length kept) (events_of_block height block.now) (live_row kept joining.entry.parent)
+            → (damage : a_damage) → result ≡ Err (Damaged damage) → ⊥ }
+        ensures damage { (damage : a_damage) → result ≡ Err (Damaged damage) → damage.area ≡ Log }
+        ensures reads { result ≢ Err DiskFault }
+        ensures most { steps.new ≤ steps.old + 1 }
+    {
+        let place = tree.len();
+        if joining.entry.number <= tree.entry(tree.tip()).number {
+            return Ok(state);
+        }
+        match joining.cells {
+            Some(cells) => grown(cells, block, place, steps),
+            None => grown(state, block, place, steps),
+        }
+    }
+
+    /// Keeps the block of an item that was judged, with its ext; its record will have this name. Out of memory nothing is
+    /// kept at all. Damaged where its events do not fit its parent's branch, which never comes over a chain that has joined.
+    pub(crate) fn join<L: Ledger>(
+        self,
+        alloc: Global,
+        item: &[u8],
+        ext: Vec<u8>,
+        rec: Rec,
+        joining: Joining,
+        steps: &mut Steps<L>,
+    ) -> Result<Kept, ReadStop>
+        requires canonical { (b : Block) × (decoded schema.block item.now ≡ Some b) × IsReady self.blocks b joining }
+        requires ext { IsExtFor item.now ext.items }
+        ensures kept { (b : Block) → decoded schema.block item.now ≡ Some b
+            → IfOk result (λ kept. kept ≡ record { spec = self.spec; blocks = self.blocks ++ b ∷ [] }) }
+        ensures undamaged { (b : Block) → decoded schema.block item.now ≡ Some b → IsJoined self → MayJoin self.spec self.blocks b
+            → (damage : a_damage) → result ≡ Err (Damaged damage) → ⊥ }
+        ensures damage { (damage : a_damage) → result ≡ Err (Damaged damage) → damage.area ≡ Log }
+        ensures reads { result ≢ Err DiskFault }
+        ensures most { steps.new ≤ steps.old + 1 }
+    {
+        let Some(block) = BlockView::read(item) else {
+            return Err(ReadStop::NoMemory);
+        };
+        let Kept {
+            spec,
+            mut blocks,
+            mut tree,
+            mut uncles,
+            state,
+        } = self;
+        let entry = joining.entry;
+        let state = Kept::state_with(state, &tree, &block, joining, steps)?;
+        let place = tree.len();
+        uncles.reserve(block.uncles_count())?;
+        uncles.add(&block, place);
+        tree.reserve()?;
+        tree.add(Entry {
+            at: rec.at,
+            len: rec.len,
+            ..entry
+        });
+        blocks.push(copy_of(alloc, item)?, ext)?;
+        Ok(Kept {
+            spec,
+            blocks,
+            tree,
+            uncles,
+            state,
+        })
+    }
+
+    /// What is kept of the tip.
+    pub(crate) fn tip(&self) -> &Entry
+        ensures { (block : Block) × (tips.tip self.now.blocks ≡ Some block) × Describes block result.now }
+    {
+        self.tree.entry(self.tree.tip())
+    }
+
+    /// The tree of the kept blocks.
+    pub(crate) fn tree(&self) -> &Tree
+        ensures { IndexesBlocks self.now.blocks result.now.entries }
+    {
+        &self.tree
+    }
+
+    /// The live cells of the tip.
+    pub(crate) fn state(&self) -> &State
+        ensures { (tip : ℕ) → tip_place self.now.blocks ≡ Some tip → (o : OutPoint) → rows result.now o ≡ live_row self.now.blocks tip o }
+    {
+        &self.state
+    }
+}
+
+/// A copy of an item.
+fn copy_of(alloc: Global, item: &[u8]) -> Result<Vec<u8>, NoMemory>
+    ensures { IfOk result (λ copy. copy.items ≡ item.now) }
+{
+    Ok(item.to_vec(alloc)?)
+}

@@ -1,0 +1,144 @@
+// The kept blocks of a log that was read, and the live cells of their tip.
+ghost use Rattle.std.specs.Prelude.{◌≡◌, ◌≢◌, ◌≤◌, ◌<◌, ◌^◌, List, length, map, true, false, Some, Err, IfOk};
+ghost use Rattle.codec_defs.specs.Shape.{decoded};
+ghost use Rattle.codec_defs.specs.Schema as schema;
+ghost use Rattle.codec_defs.specs.Schema.{Block};
+ghost use Rattle.time_defs.specs.Dao.{field_of_bytes};
+ghost use Rattle.cell_defs.specs.Ext.{count_at};
+ghost use Rattle.cell_model.specs.ListBlocks.{contents, IsCanonical, IsExtFor};
+ghost use Rattle.tx_rules.specs.At.{AreRated};
+ghost use Rattle.uncle_rules.specs.Embedded.{embedded_from};
+ghost use Rattle.verdict_defs.specs.Verdict.{kept_limit};
+ghost use Rattle.store_defs.specs.Store.{IsJoined};
+ghost use Rattle.log_file.specs.Grammar.{AreBlocks};
+ghost use Rattle.log_file.specs.declared.stop.LogStop.TheVariants.{DiskFault, NotAStore};
+ghost use Rattle.node_core.specs.Opening.{HaveBlocks, HaveExts};
+
+use crate::kept::Kept;
+use cell_model::ListBlocks;
+use chain_tree::Tree;
+use dao_math::Dao;
+use epochs::Spec;
+use log_file::{LogStop, ext_form};
+use mol_schema::BlockView;
+use outside::{NoMemory, ReadStop, Steps};
+use replay::replay;
+use std::alloc::Global;
+use std::sync::ledger::Ledger;
+use uncle_rules::Uncles;
+
+/// Whether the C and the AR of a DAO field are above 0.
+fn is_rated(dao: &[u8; 32]) -> bool
+    ensures issued { result ≡ true → 0 < (field_of_bytes dao.now).issued }
+    ensures rate { result ≡ true → 0 < (field_of_bytes dao.now).rate }
+    ensures unrated { result ≡ false → (0 < (field_of_bytes dao.now).issued) × (0 < (field_of_bytes dao.now).rate) → ⊥ }
+{
+    let field = Dao::read(dao);
+    field.c > 0 && field.ar > 0
+}
+
+/// Whether they are in each entry of a tree.
+fn are_rated(tree: &Tree) -> bool
+    ensures rated { result ≡ true → AreRated tree.now.entries }
+    ensures unrated { result ≡ false → AreRated tree.now.entries → ⊥ }
+{
+    'entries: for place in 0..tree.len() {
+        if !is_rated(&tree.entry(place).dao) {
+            return false;
+        }
+    }
+    true
+}
+
+/// The count of fees of an ext.
+fn fees_in(ext: &[u8]) -> u32
+    requires { 4 ≤ length ext.now }
+    ensures { result ≡ count_at ext.now 0 }
+{
+    let mut count = [0; 4];
+    count.copy_from_slice(&ext[..4]);
+    u32::from_le_bytes(count)
+}
+
+/// Whether the bytes beside a block have the form of an ext, with a fee for each of its transactions after the first.
+fn is_ext_for(block: &[u8], ext: &[u8]) -> bool
+    requires { IsCanonical block.now }
+    ensures is { result ≡ true → IsExtFor block.now ext.now }
+    ensures is_not { result ≡ false → IsExtFor block.now ext.now → ⊥ }
+{
+    let Some(view) = BlockView::read(block) else {
+        return false;
+    };
+    ext_form(ext) && fees_in(ext) as usize == view.transactions_count().saturating_sub(1)
+}
+
+/// Whether each block behind the genesis has an ext beside it.
+fn have_exts(blocks: &[Vec<u8>], exts: &[Vec<u8>]) -> bool
+    requires beside { length exts.now ≡ length blocks.now }
+    requires canonical { HaveBlocks (contents blocks.now) }
+    ensures have { result ≡ true → HaveExts (contents blocks.now) (contents exts.now) }
+    ensures have_not { result ≡ false → HaveExts (contents blocks.now) (contents exts.now) → ⊥ }
+{
+    'places: for place in 1..blocks.len() {
+        if !is_ext_for(&blocks[place], &exts[place]) {
+            return false;
+        }
+    }
+    true
+}
+
+/// The uncles that blocks embed.
+fn uncles_of(alloc: Global, blocks: &[Vec<u8>]) -> Result<Uncles, NoMemory>
+    requires few { length blocks.now < 2 ^ 32 }
+    ensures { (kept : List Block) → map (decoded schema.block) (contents blocks.now) ≡ map Some kept
+        → IfOk result (λ uncles. uncles.embedded ≡ embedded_from 0 kept) }
+{
+    let mut uncles = Uncles::new(alloc);
+    'blocks: for place in 0..blocks.len() {
+        if let Some(block) = BlockView::read(&blocks[place]) {
+            uncles.reserve(block.uncles_count())?;
+            uncles.add(&block, place as u32);
+        }
+    }
+    Ok(uncles)
+}
+
+impl Kept {
+    /// The kept blocks of a log. Where a block's C or AR is 0, what stands beside it is no ext for it, or the events along
+    /// the tip's branch do not fit, they have not joined, and the log is none of a store.
+    pub(crate) fn of<L: Ledger>(
+        alloc: Global,
+        spec: Spec,
+        blocks: Vec<Vec<u8>>,
+        exts: Vec<Vec<u8>>,
+        tree: Tree,
+        steps: &mut Steps<L>,
+    ) -> Result<Kept, LogStop>
+        requires blocks { AreBlocks (contents blocks.items) tree.entries }
+        requires beside { length exts.items ≡ length blocks.items }
+        requires few { length blocks.items ≤ kept_limit }
+        ensures spec { IfOk result (λ kept. kept.spec ≡ spec) }
+        ensures blocks { IfOk result (λ kept. map (decoded schema.block) (contents blocks.items) ≡ map Some kept.blocks) }
+        ensures joined { (kept : List Block) → map (decoded schema.block) (contents blocks.items) ≡ map Some kept
+            → IsJoined (record { spec = spec; blocks = kept }) → HaveExts (contents blocks.items) (contents exts.items) → result ≢ Err NotAStore }
+        ensures reads { result ≢ Err DiskFault }
+    {
+        if !are_rated(&tree) || !have_exts(&blocks, &exts) {
+            return Err(LogStop::NotAStore);
+        }
+        let uncles = uncles_of(alloc, &blocks)?;
+        let mut blocks = ListBlocks::new(blocks, exts);
+        match replay(alloc, &tree, &mut blocks, tree.tip(), steps) {
+            Ok(state) => Ok(Kept {
+                spec,
+                blocks,
+                tree,
+                uncles,
+                state,
+            }),
+            Err(ReadStop::Damaged(_)) => Err(LogStop::NotAStore),
+            Err(ReadStop::DiskFault) => Err(LogStop::NoMemory),
+            Err(ReadStop::NoMemory) => Err(LogStop::NoMemory),
+        }
+    }
+}
