@@ -3,7 +3,9 @@ ghost use Rattle.std.specs.Prelude.{◌≡◌, ◌<◌, ◌≤◌, ◌++◌, ℕ
 ghost use Rattle.fold_defs.specs.First.{first_failing};
 ghost use Rattle.outside.specs.declared.disk.ReadStop.{ReadStop as a_stop};
 ghost use Rattle.outside.specs.declared.disk.ReadStop.TheVariants.{NoMemory as no_memory};
+ghost use Rattle.codec_defs.specs.Schema.{Block};
 ghost use Rattle.chain_defs.specs.Branch.{branch};
+ghost use Rattle.chain_tree.specs.Blocks.{IndexesBlocks};
 ghost use Rattle.chain_tree.specs.Told.{Stored, blocks_of};
 ghost use Rattle.rule_defs.specs.Header.{header_rules as rules_on_header};
 ghost use Rattle.rule_defs.specs.Body.{body_rules};
@@ -36,6 +38,8 @@ pub(crate) fn judge_ahead<C: Cells>(
     ensures tried { (rule : ℕ) → result ≡ Err (Broken rule) → (4 ≤ rule) × (rule ≤ 17) }
     ensures memory { (stop : a_stop) → result ≡ Err (Read stop) → stop ≡ no_memory }
     ensures some { IfOk result (λ _. 0 < length block.now.transactions) }
+    ensures header { (kept : List Block) → IndexesBlocks kept tree.now.entries
+        → IfOk result (λ _. first_failing (rules_on_header spec.now (branch kept parent) block.now) ≡ None) }
     ensures broken { (stored : List Stored) → Stands stored tree.now.entries parent (C.rows cells.now) → IndexesUncles (blocks_of stored) uncles.now
         → (rule : ℕ) → result ≡ Err (Broken rule)
         → first_failing (rules_on_header spec.now (branch (blocks_of stored) parent) block.now ++ (body_rules spec.now block.now

@@ -1,5 +1,5 @@
 // J18 to J30: the transactions of a block, one after the other.
-ghost use Rattle.std.specs.Prelude.{◌≡◌, ◌<◌, ◌^◌, ◌≤◌, ◌++◌, ◌∷◌, [], ℕ, List, None, Some, Err, IfOk, OnOk, length, take};
+ghost use Rattle.std.specs.Prelude.{◌≡◌, ◌+◌, ◌-◌, ◌<◌, ◌^◌, ◌≤◌, ◌++◌, ◌∷◌, [], ℕ, List, None, Some, Err, IfOk, OnOk, length, take};
 ghost use Rattle.fold_defs.specs.First.{first_failing};
 ghost use Rattle.outside.specs.Causes.{CountsFault};
 ghost use Rattle.outside.specs.declared.disk.Area.TheVariants.{Log};
@@ -105,6 +105,7 @@ impl<'a, C: Cells> Progress<'a, C> {
         ensures loans { B.loans_of blocks.new ≡ B.loans_of blocks.old }
         ensures rule { (rule : ℕ) → result ≡ Err (Broken rule) → IsTriedOnTransaction rule }
         ensures within { self.new.left ≤ self.old.left }
+        ensures fees { OnOk result (length self.new.ext.fees ≡ length self.old.ext.fees + 1) }
         ensures rows { OnOk result ((height : ℕ) (o : OutPoint) → 0 < height
             → with_changes self.new.cells.changed (C.rows self.new.cells.base.now) o
             ≡ row_after (length at.now.entries) (events_of tx.now height place) (with_changes self.old.cells.changed (C.rows self.old.cells.base.now)) o) }
@@ -162,6 +163,7 @@ pub(crate) fn judge_transactions<C: Cells, B: Blocks>(
     ensures count { B.count blocks.new ≡ B.count blocks.old }
     ensures loans { B.loans_of blocks.new ≡ B.loans_of blocks.old }
     ensures rule { (rule : ℕ) → result ≡ Err (Broken rule) → IsTriedOnTransaction rule }
+    ensures fees { IfOk result (λ ext. length ext.fees ≡ length block.now.transactions - 1) }
     ensures broken { (stored : List Stored) → B.told blocks.old ≡ Some stored → Stands stored tree.now.entries parent (C.rows cells.now)
         → (rule : ℕ) → result ≡ Err (Broken rule) → first_failing (rules_of_transactions spec.now (branch (blocks_of stored) parent) block.now) ≡ Some rule }
     ensures unbroken { (stored : List Stored) → B.told blocks.old ≡ Some stored → Stands stored tree.now.entries parent (C.rows cells.now)

@@ -1,11 +1,14 @@
 // A block judged by all rules, and a transaction judged alone.
-ghost use Rattle.std.specs.Prelude.{◌≡◌, ◌<◌, ◌^◌, ◌≤◌, ℕ, List, None, Some, Err, IfOk, length};
+ghost use Rattle.std.specs.Prelude.{◌≡◌, ◌-◌, ◌<◌, ◌^◌, ◌≤◌, ℕ, List, None, Some, Err, IfOk, length};
 ghost use Rattle.fold_defs.specs.First.{first_failing};
 ghost use Rattle.outside.specs.Causes.{CountsFault};
 ghost use Rattle.outside.specs.declared.disk.Area.TheVariants.{Log};
 ghost use Rattle.outside.specs.declared.disk.Damage.{Damage};
 ghost use Rattle.outside.specs.declared.disk.ReadStop.TheVariants.{DiskFault, Damaged};
+ghost use Rattle.codec_defs.specs.Schema.{Block};
 ghost use Rattle.chain_defs.specs.Branch.{branch};
+ghost use Rattle.rule_defs.specs.Header.{header_rules};
+ghost use Rattle.chain_tree.specs.Blocks.{IndexesBlocks};
 ghost use Rattle.chain_tree.specs.Told.{Stored, blocks_of};
 ghost use Rattle.tx_defs.specs.Capacity as capacity;
 ghost use Rattle.script_defs.specs.Rules.{cycles_of};
@@ -55,7 +58,11 @@ pub fn judge<C: Cells, B: Blocks>(
     ensures loans { B.loans_of blocks.new ≡ B.loans_of blocks.old }
     ensures tried { (rule : ℕ) → result ≡ Err (Broken rule) → IsTried rule }
 
-    // Over any source of blocks: the rules ahead of the transactions, and the one behind them.
+    // Over any source of blocks: the rules on the header, those ahead of the transactions, and the one behind them; and a fee for each
+    // transaction behind the cellbase.
+    ensures header { (kept : List Block) → IndexesBlocks kept tree.now.entries
+        → IfOk result (λ _. first_failing (header_rules spec.now (branch kept parent) block.now) ≡ None) }
+    ensures fees { IfOk result (λ ext. length ext.fees ≡ length block.now.transactions - 1) }
     ensures ahead { (stored : List Stored) → Stands stored tree.now.entries parent (C.rows cells.now) → IndexesUncles (blocks_of stored) uncles.now
         → SaysAhead (first_failing (rules_ahead spec.now (branch (blocks_of stored) parent) block.now)) result }
     ensures rated { SaysRated (defs.is_rated block.now) result }
