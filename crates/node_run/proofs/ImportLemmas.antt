@@ -9,9 +9,9 @@ use Rattle.outside.specs.Disk.{LeavesOnly}
 use Rattle.outside.specs.Streams.{Gives, Takes}
 use Rattle.outside.proofs.Streams.{gives_more, takes_more}
 use Rattle.outside.proofs.Moments.{started, leaves_also, leaves_then, now_too}
-use Rattle.rule_defs.specs.declared.verdict.Verdict.{Verdict}
-use Rattle.rule_defs.specs.Verdict as rules
-use Rattle.rule_defs.specs.Chain.{Chain, chain_after, verdict_over, chain_over, verdicts_over}
+use Rattle.verdict_defs.specs.declared.verdict.Verdict.{Verdict}
+use Rattle.verdict_defs.specs.Verdict as rules
+use Rattle.verdict_defs.specs.Chain.{Chain, chain_after, verdict_over, chain_over, verdicts_over}
 use Rattle.fold_defs.proofs.FoldLemmas.{keep-push, verdicts-push}
 use Rattle.store_defs.specs.Store.{StandsFor}
 use Rattle.report_defs.specs.declared.status.Status.{Status}

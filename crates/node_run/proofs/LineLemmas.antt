@@ -5,9 +5,9 @@ use Rattle.std.proofs.lemmas.List.{map-append}
 use Rattle.std.proofs.lemmas.List.Folds.{concat-append}
 use Rattle.std.proofs.lemmas.Bool.Decides.{leb_tells}
 use Rattle.std.proofs.lemmas.Grind.{common_steps}
-use Rattle.rule_defs.specs.declared.verdict.Verdict.{Verdict}
-use Rattle.rule_defs.specs.declared.verdict.Verdict.TheVariants.{Joined, Known, Refused, Unbuilt, Full}
-use Rattle.rule_defs.specs.Chain.{Chain, chain_after, verdict_over, verdicts_over, chain_over}
+use Rattle.verdict_defs.specs.declared.verdict.Verdict.{Verdict}
+use Rattle.verdict_defs.specs.declared.verdict.Verdict.TheVariants.{Joined, Known, Refused, Unbuilt, Full}
+use Rattle.verdict_defs.specs.Chain.{Chain, chain_after, verdict_over, verdicts_over, chain_over}
 use Rattle.fold_defs.proofs.FoldLemmas.{verdicts-append, verdicts-push}
 use Rattle.report_defs.specs.Text.{line}
 use Rattle.report_defs.specs.Report.{lines_over}

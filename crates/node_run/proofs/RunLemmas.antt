@@ -5,7 +5,7 @@ use Rattle.std.proofs.lemmas.Bool.Decides.{nat_tests}
 use Rattle.outside.specs.Image.{Image}
 use Rattle.outside.specs.Disk.{IsAsBefore}
 use Rattle.chain_defs.specs.Tip.{tip}
-use Rattle.rule_defs.specs.Chain.{Chain, chain_over}
+use Rattle.verdict_defs.specs.Chain.{Chain, chain_over}
 use Rattle.store_defs.specs.Log.{LogContent, log_of}
 use Rattle.store_defs.specs.Store.{Store, NoLog, Keeps, store_of, store_of_log, StandsFor, IsSound}
 use Rattle.report_defs.specs.declared.command.Command.{Command}

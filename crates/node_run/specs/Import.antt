@@ -2,8 +2,8 @@
 use Rattle.std.specs.Prelude.{◌≡◌, ◌⊎◌, ℕ, ◌≤◌, List, [], ◌∷◌, ◌++◌, length, take, Option, Some, Result, Ok, Err}
 use Rattle.std.specs.List.{concat, list_any}
 use Rattle.outside.specs.Image.{Image}
-use Rattle.rule_defs.specs.Verdict as rules
-use Rattle.rule_defs.specs.Chain.{Chain, verdict_over, verdicts_over, chain_over}
+use Rattle.verdict_defs.specs.Verdict as rules
+use Rattle.verdict_defs.specs.Chain.{Chain, verdict_over, verdicts_over, chain_over}
 use Rattle.store_defs.specs.Store.{StandsFor}
 use Rattle.report_defs.specs.declared.status.Status.{Status}
 use Rattle.report_defs.specs.declared.status.Status.TheVariants.{InputFault, SinkFault, DiskFault, NoMemory}

@@ -2,7 +2,7 @@
 ghost use Rattle.std.specs.Prelude.{◌≡◌, ◌⊎◌, ◌<◌, ◌≤◌, ◌^◌, Err, Some, length, string_bytes, IfOk, IfSome, if◌then◌else◌};
 ghost use Rattle.outside.specs.Causes.{CountsFault};
 ghost use Rattle.outside.specs.Disk.{LeavesOnly};
-ghost use Rattle.rule_defs.specs.Chain.{verdict_over, chain_after};
+ghost use Rattle.verdict_defs.specs.Chain.{verdict_over, chain_after};
 ghost use Rattle.store_defs.specs.Store.{StandsFor, IsOnlyRead};
 ghost use Rattle.report_defs.specs.Report as reports;
 ghost use Rattle.report_defs.specs.Status.{IsOneOf};
@@ -21,7 +21,7 @@ use item_reader::{Next, next_item};
 use node_core::Node;
 use outside::{Disk, NoMemory, Sink, Source};
 use report_defs::{End, Status};
-use rule_defs::Verdict;
+use verdict_defs::Verdict;
 use std::alloc::Global;
 
 /// The most bytes of an item.

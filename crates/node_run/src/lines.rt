@@ -7,7 +7,7 @@ ghost use Rattle.program_run.specs.Program.{execution_of};
 
 use program_run::Execution;
 use report_defs::End;
-use rule_defs::Verdict;
+use verdict_defs::Verdict;
 use std::alloc::{AllocError, Global};
 use vm_defs::Outcome;
 

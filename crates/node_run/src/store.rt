@@ -3,7 +3,7 @@ ghost use Rattle.std.specs.Prelude.{◌≡◌, ◌⊎◌, ◌↔◌, ◌<◌, �
 ghost use Rattle.outside.specs.Causes.{CountsFault};
 ghost use Rattle.outside.specs.Disk.{LeavesOnly};
 ghost use Rattle.outside.specs.Image.{Image};
-ghost use Rattle.rule_defs.specs.Chain.{Chain};
+ghost use Rattle.verdict_defs.specs.Chain.{Chain};
 ghost use Rattle.store_defs.specs.Store.{Keeps, store_of, StandsFor, IsSound, IsOnlyRead};
 ghost use Rattle.report_defs.specs.Status.{IsOneOf};
 ghost use Rattle.node_core.specs.Node.{IsOn};

@@ -4,15 +4,15 @@ use Rattle.std.specs.Prelude.{◌≡◌, ◌⊎◌, ℕ, ◌+◌, ◌-◌, ◌<�
 use Rattle.std.specs.List.{concat}
 use Rattle.std.specs.Io.KnownBytes.{IsAtEnd}
 use Rattle.outside.specs.Image.{Image}
-use Rattle.rule_defs.specs.Chain.{Chain}
-use Rattle.store_defs.specs.Store.{Store, NoLog, NotALog, Keeps, store_of}
+use Rattle.verdict_defs.specs.Chain.{Chain}
+use Rattle.store_defs.specs.Store.{Store, NoLog, NotALog, Keeps, store_of, StandsFor}
 use Rattle.report_defs.specs.declared.command.Command.{Command}
-use Rattle.report_defs.specs.declared.command.Command.TheVariants.{Init, Import, Tip, Exec}
+use Rattle.report_defs.specs.declared.command.Command.TheVariants.{Init, Import, Tip, Check, Exec}
 use Rattle.report_defs.specs.declared.status.Status.{Status}
 use Rattle.report_defs.specs.declared.status.Status.TheVariants.{Done, SomeRefused, BadWords, InputFault, SinkFault, DiskFault, NoMemory, NotAStore, CutInput, BadSize, StoreThere, BadGenesis, ExtraInput}
 use Rattle.report_defs.specs.Status.{IsOneOf}
 use Rattle.report_defs.specs.Items.{IsAtWord, Limits, split_of, end_offset}
-use Rattle.report_defs.specs.Report.{Report, text_of, init_limits, import_limits, lines_over, file_limit}
+use Rattle.report_defs.specs.Report.{Report, text_of, init_limits, import_limits, check_limits, lines_over, file_limit}
 
 -- ---- Statuses
 
@@ -37,6 +37,9 @@ import_statuses = Done ∷ SomeRefused ∷ InputFault ∷ SinkFault ∷ DiskFaul
 abbrev pub tip_statuses : List Status
 tip_statuses = Done ∷ SinkFault ∷ DiskFault ∷ NoMemory ∷ NotAStore ∷ []
 
+abbrev pub check_statuses : List Status
+check_statuses = Done ∷ SomeRefused ∷ InputFault ∷ SinkFault ∷ DiskFault ∷ NoMemory ∷ NotAStore ∷ CutInput ∷ BadSize ∷ ExtraInput ∷ []
+
 abbrev pub exec_statuses : List Status
 exec_statuses = Done ∷ InputFault ∷ SinkFault ∷ NoMemory ∷ ExtraInput ∷ []
 
@@ -45,6 +48,7 @@ statuses_of None = BadWords ∷ []
 statuses_of (Some Init) = init_statuses
 statuses_of (Some Import) = import_statuses
 statuses_of (Some Tip) = tip_statuses
+statuses_of (Some Check) = check_statuses
 statuses_of (Some (Exec budget)) = exec_statuses
 
 -- The run was stopped, and not by the sink.
@@ -130,6 +134,19 @@ TellsOfStore NoLog given taken status = FindsNoStore given taken status
 TellsOfStore NotALog given taken status = FindsNoStore given taken status
 TellsOfStore (Keeps chain) given taken status = TellsInOrder given taken status
 
+-- `check`
+pub record ChecksInOrder (given : List ℕ) (left : Option (List ℕ)) (taken : List ℕ) (status : Status) : Type 0 where
+  -- the input was read to its end before the item is judged
+  pub to_end : IsOneOf (Done ∷ SomeRefused ∷ []) status → IsAtEnd left
+  pub to_early_end : ReadsToTheEnd check_limits given left status
+  -- nothing is written but what follows the whole input
+  pub silent : IsStoppedBeforeTheSink status → taken ≡ []
+
+abbrev pub ChecksOverStore : Store → List ℕ → Option (List ℕ) → List ℕ → Status → Type 0
+ChecksOverStore NoLog given left taken status = FindsNoStore given taken status
+ChecksOverStore NotALog given left taken status = FindsNoStore given taken status
+ChecksOverStore (Keeps chain) given left taken status = ChecksInOrder given left taken status
+
 -- `exec`
 pub record ExecutesInOrder (given : List ℕ) (left : Option (List ℕ)) (taken : List ℕ) (status : Status) : Type 0 where
   pub to_end : status ≡ Done → IsAtEnd left
@@ -145,12 +162,17 @@ pub record ExecutesInOrder (given : List ℕ) (left : Option (List ℕ)) (taken 
 abbrev pub IsStoreOf : Option Image → Store → Type 0
 IsStoreOf reads store = (now : Image) × (reads ≡ Some now) × (store ≡ store_of now)
 
--- What a command finds in the folder: the store of what the disk reads as, or any where it does not look.
+-- a store that a disk has so, and that is sound where it is one
+abbrev pub IsSoundStoreOf : Option Image → Store → Type 0
+IsSoundStoreOf reads store = (now : Image) × (reads ≡ Some now) × (store ≡ store_of now) × ((chain : Chain) → store ≡ Keeps chain → StandsFor chain now)
+
+-- What a command finds in the folder: the store of what the disk reads as, or any where it does not look. What `init` finds need not be sound.
 abbrev pub Finds : Option Command → Option Image → Store → Type 0
 Finds None reads store = Unit {0}
 Finds (Some Init) reads store = IsStoreOf reads store
-Finds (Some Import) reads store = IsStoreOf reads store
-Finds (Some Tip) reads store = IsStoreOf reads store
+Finds (Some Import) reads store = IsSoundStoreOf reads store
+Finds (Some Tip) reads store = IsSoundStoreOf reads store
+Finds (Some Check) reads store = IsSoundStoreOf reads store
 Finds (Some (Exec budget)) reads store = Unit {0}
 
 -- By what the words ask for, over what stands in the folder.
@@ -159,4 +181,5 @@ KeepsOrder None store given left taken status = IsUntouched given taken
 KeepsOrder (Some Init) store given left taken status = InitsInOrder store given left taken status
 KeepsOrder (Some Import) store given left taken status = ImportsToStore store given left taken status
 KeepsOrder (Some Tip) store given left taken status = TellsOfStore store given taken status
+KeepsOrder (Some Check) store given left taken status = ChecksOverStore store given left taken status
 KeepsOrder (Some (Exec budget)) store given left taken status = ExecutesInOrder given left taken status

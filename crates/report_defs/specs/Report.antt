@@ -5,21 +5,24 @@ use Rattle.codec_defs.specs.Shape.{decoded}
 use Rattle.codec_defs.specs.Schema.{block}
 use Rattle.chain_defs.specs.Tip.{tip}
 use Rattle.time_defs.specs.Specification.{broken_specification_rule}
-use Rattle.rule_defs.specs.declared.verdict.Verdict.{Verdict}
-use Rattle.rule_defs.specs.Verdict.{refuses}
-use Rattle.rule_defs.specs.Chain.{Chain, verdicts_over}
+use Rattle.verdict_defs.specs.declared.verdict.Verdict.{Verdict}
+use Rattle.verdict_defs.specs.Verdict.{refuses}
+use Rattle.verdict_defs.specs.Chain.{Chain, verdicts_over}
+use Rattle.verdict_defs.specs.Trial.{trial}
+use Rattle.verdict_defs.specs.declared.trial.Trial.{Trial}
+use Rattle.verdict_defs.specs.declared.trial.Trial.TheVariants.{Passes, Refused}
 use Rattle.store_defs.specs.Genesis.{broken_genesis_rule}
 use Rattle.store_defs.specs.Store.{Store, NoLog, NotALog, Keeps}
 use Rattle.vm_defs.specs.Alone.{answer_ecall}
 use Rattle.vm_defs.specs.Program.{execution}
 use Rattle.report_defs.specs.declared.command.Command.{Command}
-use Rattle.report_defs.specs.declared.command.Command.TheVariants.{Init, Import, Tip, Exec}
+use Rattle.report_defs.specs.declared.command.Command.TheVariants.{Init, Import, Tip, Check, Exec}
 use Rattle.report_defs.specs.declared.end.End.{End}
 use Rattle.report_defs.specs.declared.end.End.TheVariants.{AtEnd, Cut, BadSize, Extra}
 use Rattle.report_defs.specs.declared.status.Status.{Status}
 use Rattle.report_defs.specs.declared.status.Status.TheVariants.{Done, SomeRefused, BadWords, NotAStore, CutInput, BadSize as BadSizeStatus, StoreThere, BadGenesis, ExtraInput}
 use Rattle.report_defs.specs.Items.{Limits, Split, split_of, end_offset}
-use Rattle.report_defs.specs.Text.{line, tip_line, genesis_line, bad_spec_line, bad_genesis_line, cut_line, bad_size_line, extra_line, execution_line}
+use Rattle.report_defs.specs.Text.{line, trial_line, tip_line, genesis_line, bad_spec_line, bad_genesis_line, cut_line, bad_size_line, extra_line, execution_line}
 use Rattle.report_defs.specs.Words.{command_of}
 
 pub record Report : Type 0 where
@@ -147,6 +150,43 @@ tip_report NoLog = report_without_lines [] NotAStore
 tip_report NotALog = report_without_lines [] NotAStore
 tip_report (Keeps chain) = report_without_lines (tip_line (tip chain.blocks)) Done
 
+-- ---- `check`
+
+-- one item, and nothing behind it
+abbrev pub check_item_limit : ℕ → Option ℕ
+check_item_limit zero = Some item_limit
+check_item_limit (suc place) = None
+
+abbrev pub check_limits : Limits
+check_limits = record { item = check_item_limit; input = None }
+
+-- a refused transaction has the status of a refused block
+abbrev pub status_of_trial : Trial → Status
+status_of_trial (Passes fee cycles) = Done
+status_of_trial (Refused rule) = SomeRefused
+
+abbrev pub report_of_trial : Trial → Report
+report_of_trial tried = report_without_lines (trial_line tried) (status_of_trial tried)
+
+-- The item is read, and the end of the input, before it is judged.
+abbrev pub report_of_one : Chain → List ℕ → ℕ → End → Report
+report_of_one chain item offset AtEnd = report_of_trial (trial chain item)
+report_of_one chain item offset Cut = report_of_end offset Cut
+report_of_one chain item offset BadSize = report_of_end offset BadSize
+report_of_one chain item offset Extra = report_of_end offset Extra
+
+abbrev pub report_of_first : Chain → List (List ℕ) → ℕ → End → Report
+report_of_first chain [] offset end = report_of_end offset (end_of_needed end)
+report_of_first chain (item ∷ more) offset end = report_of_one chain item offset end
+
+abbrev pub report_of_check : Chain → Split → Report
+report_of_check chain split = report_of_first chain split.items (end_offset split) split.end
+
+abbrev pub check_report : List ℕ → Store → Report
+check_report input NoLog = report_without_lines [] NotAStore
+check_report input NotALog = report_without_lines [] NotAStore
+check_report input (Keeps chain) = report_of_check chain (split_of check_limits input)
+
 -- ---- `exec`
 
 -- a file has at most 1,048,576 bytes
@@ -167,6 +207,7 @@ report_of_command None input store = report_without_lines [] BadWords
 report_of_command (Some Init) input store = init_report input store
 report_of_command (Some Import) input store = import_report input store
 report_of_command (Some Tip) input store = tip_report store
+report_of_command (Some Check) input store = check_report input store
 report_of_command (Some (Exec budget)) input store = exec_report budget input
 
 abbrev pub report : List (List ℕ) → List ℕ → Store → Report

@@ -5,16 +5,16 @@ use Rattle.std.specs.Prelude.{◌≡◌, ◌⊎◌, ℕ, ◌≤◌, List, [], �
 use Rattle.std.specs.List.{concat}
 use Rattle.outside.specs.Image.{Image}
 use Rattle.chain_defs.specs.Tip.{tip}
-use Rattle.rule_defs.specs.Chain.{Chain, chain_of_genesis, chain_over}
+use Rattle.verdict_defs.specs.Chain.{Chain, chain_of_genesis, chain_over}
 use Rattle.store_defs.specs.Store.{Store, NoLog, Keeps, store_of, StandsFor, IsSound}
 use Rattle.report_defs.specs.declared.command.Command.{Command}
-use Rattle.report_defs.specs.declared.command.Command.TheVariants.{Init, Import, Tip, Exec}
+use Rattle.report_defs.specs.declared.command.Command.TheVariants.{Init, Import, Tip, Check, Exec}
 use Rattle.report_defs.specs.declared.status.Status.{Status}
-use Rattle.report_defs.specs.declared.status.Status.TheVariants.{Done, InputFault, DiskFault, NoMemory, NotAStore, CutInput, BadSize, StoreThere, BadGenesis, ExtraInput}
+use Rattle.report_defs.specs.declared.status.Status.TheVariants.{Done, SomeRefused, InputFault, DiskFault, NoMemory, NotAStore, CutInput, BadSize, StoreThere, BadGenesis, ExtraInput}
 use Rattle.report_defs.specs.Status.{IsOneOf}
 use Rattle.report_defs.specs.Text.{tip_line}
 use Rattle.report_defs.specs.Items.{split_of}
-use Rattle.report_defs.specs.Report.{init_limits, import_limits, lines_over, report_of_command}
+use Rattle.report_defs.specs.Report.{text_of, init_limits, import_limits, check_limits, lines_over, report_of_check, report_of_command}
 use Rattle.report_defs.specs.Promise.{IsPrefix, Finds, MatchesReport, KeepsOrder}
 
 -- ---- A run and what it may keep
@@ -25,6 +25,7 @@ items_of None given = []
 items_of (Some Init) given = []
 items_of (Some Import) given = (split_of import_limits given).items
 items_of (Some Tip) given = []
+items_of (Some Check) given = []
 items_of (Some (Exec budget)) given = []
 
 -- What was taken agrees with a text: it is a front of it, or goes on behind it.
@@ -91,6 +92,8 @@ KeepsDisk (Some Import) now at_start at_exit meanwhile given taken status = (cha
     → KeepsStore chain (split_of import_limits given).items taken status at_start at_exit meanwhile
 KeepsDisk (Some Tip) now at_start at_exit meanwhile given taken status = (chain : Chain) → store_of now ≡ Keeps chain → Each at_start IsSound
     → KeepsStore chain [] taken status at_start at_exit meanwhile
+KeepsDisk (Some Check) now at_start at_exit meanwhile given taken status = (chain : Chain) → store_of now ≡ Keeps chain → Each at_start IsSound
+    → KeepsStore chain [] taken status at_start at_exit meanwhile
 KeepsDisk (Some (Exec budget)) now at_start at_exit meanwhile given taken status = Unit {0}
 
 -- Where each image at the start may be left by a past, each image at the exit may be left by that past and this run.
@@ -104,17 +107,18 @@ SurvivesMeanwhile command at_start meanwhile given = (genesis : Chain) (past : L
     → Each meanwhile (IsLeftBy genesis (record { items = items_of command given; taken = [] } ∷ past))
 
 -- What a query answers, over a chain: nothing where the command is none.
-abbrev pub Answers : Option Command → Chain → List ℕ → Type 0
-Answers None kept taken = Unit {0}
-Answers (Some Init) kept taken = Unit {0}
-Answers (Some Import) kept taken = Unit {0}
-Answers (Some Tip) kept taken = taken ≡ tip_line (tip kept.blocks)
-Answers (Some (Exec budget)) kept taken = Unit {0}
+abbrev pub Answers : Option Command → Chain → List ℕ → List ℕ → Type 0
+Answers None kept given taken = Unit {0}
+Answers (Some Init) kept given taken = Unit {0}
+Answers (Some Import) kept given taken = Unit {0}
+Answers (Some Tip) kept given taken = taken ≡ tip_line (tip kept.blocks)
+Answers (Some Check) kept given taken = taken ≡ text_of (report_of_check kept (split_of check_limits given))
+Answers (Some (Exec budget)) kept given taken = Unit {0}
 
 -- Where each image at the start may be left by a past, a query that is done answered as a replay of that past.
-abbrev pub AnswersAsReplay : Option Command → (Image → Type 0) → List ℕ → Status → Type 0
-AnswersAsReplay command at_start taken status = (genesis : Chain) (past : List Run) → Each at_start (IsLeftBy genesis past) → status ≡ Done
-    → (kept : Chain) × IsKeptBy genesis past kept × Answers command kept taken
+abbrev pub AnswersAsReplay : Option Command → (Image → Type 0) → List ℕ → List ℕ → Status → Type 0
+AnswersAsReplay command at_start given taken status = (genesis : Chain) (past : List Run) → Each at_start (IsLeftBy genesis past)
+    → IsOneOf (Done ∷ SomeRefused ∷ []) status → (kept : Chain) × IsKeptBy genesis past kept × Answers command kept given taken
 
 -- What a run promises, all of the bytes that its source gave and its sink took: the disk counts where it tells what it reads as.
 pub record IsPromised (command : Option Command) (reads : Option Image) (at_start at_exit meanwhile : Image → Type 0) (left : Option (List ℕ)) (given taken : List ℕ) (status : Status) : Type 0 where
@@ -123,7 +127,7 @@ pub record IsPromised (command : Option Command) (reads : Option Image) (at_star
   pub disk : (now : Image) → reads ≡ Some now → KeepsDisk command now at_start at_exit meanwhile given taken status
   pub survives : IsSome reads → Survives command at_start at_exit given taken
   pub at_each_moment : IsSome reads → SurvivesMeanwhile command at_start meanwhile given
-  pub answers : IsSome reads → AnswersAsReplay command at_start taken status
+  pub answers : IsSome reads → AnswersAsReplay command at_start given taken status
 
 -- ---- What is said of every disk
 
@@ -133,6 +137,7 @@ as_before None = []
 as_before (Some Init) = InputFault ∷ CutInput ∷ BadSize ∷ StoreThere ∷ BadGenesis ∷ ExtraInput ∷ []
 as_before (Some Import) = []
 as_before (Some Tip) = []
+as_before (Some Check) = []
 as_before (Some (Exec budget)) = []
 
 -- those that do not look at the disk
@@ -141,4 +146,14 @@ CallsNoDisk None = Unit {0}
 CallsNoDisk (Some Init) = ⊥
 CallsNoDisk (Some Import) = ⊥
 CallsNoDisk (Some Tip) = ⊥
+CallsNoDisk (Some Check) = ⊥
 CallsNoDisk (Some (Exec budget)) = Unit {0}
+
+-- those that open the store
+abbrev pub OpensStore : Option Command → Type 0
+OpensStore None = ⊥
+OpensStore (Some Init) = ⊥
+OpensStore (Some Import) = Unit {0}
+OpensStore (Some Tip) = Unit {0}
+OpensStore (Some Check) = Unit {0}
+OpensStore (Some (Exec budget)) = ⊥

@@ -4,8 +4,10 @@ use Rattle.std.specs.Fmt.{decimal, signed_decimal}
 use Rattle.hex.specs.Hex.{encode_lower}
 use Rattle.codec_defs.specs.Schema.{Block}
 use Rattle.chain_defs.specs.Kept.{block_hash}
-use Rattle.rule_defs.specs.declared.verdict.Verdict.{Verdict}
-use Rattle.rule_defs.specs.declared.verdict.Verdict.TheVariants.{Joined, Known, Refused, Unbuilt, Full}
+use Rattle.verdict_defs.specs.declared.verdict.Verdict.{Verdict}
+use Rattle.verdict_defs.specs.declared.verdict.Verdict.TheVariants.{Joined, Known, Refused, Full}
+use Rattle.verdict_defs.specs.declared.trial.Trial.{Trial}
+use Rattle.verdict_defs.specs.declared.trial.Trial.TheVariants as trials
 use Rattle.vm_defs.specs.declared.outcome.Outcome.{Outcome}
 use Rattle.vm_defs.specs.declared.outcome.Outcome.TheVariants.{Exit, Fault, Spent}
 use Rattle.vm_defs.specs.Program.{Execution}
@@ -22,8 +24,12 @@ abbrev pub line : Verdict → List ℕ
 line (Joined number hash) = codes "joined " ++ decimal number ++ codes " " ++ hash_text hash ++ line_feed
 line (Known hash) = codes "known " ++ hash_text hash ++ line_feed
 line (Refused rule) = codes "refused J" ++ decimal rule ++ line_feed
-line Unbuilt = codes "unbuilt" ++ line_feed
 line Full = codes "full" ++ line_feed
+
+-- the line of a transaction that was judged alone
+abbrev pub trial_line : Trial → List ℕ
+trial_line (trials.Passes fee cycles) = codes "ok " ++ decimal fee ++ codes " " ++ decimal cycles ++ line_feed
+trial_line (trials.Refused rule) = codes "refused J" ++ decimal rule ++ line_feed
 
 -- the line of a tip of this number and hash
 abbrev pub tip_line_of : ℕ → List ℕ → List ℕ

@@ -5,7 +5,7 @@ use Rattle.std.specs.Str.{bytes_eq}
 use Rattle.std.specs.Str.Parse.{digits_value}
 use Rattle.std.specs.Fmt.{decimal}
 use Rattle.report_defs.specs.declared.command.Command.{Command}
-use Rattle.report_defs.specs.declared.command.Command.TheVariants.{Init, Import, Tip, Exec}
+use Rattle.report_defs.specs.declared.command.Command.TheVariants.{Init, Import, Tip, Check, Exec}
 
 -- A number: decimal digits, without a sign or a leading zero but for `0` itself, at most a limit.
 unfoldable pub number_up_to : ℕ → List ℕ → Option ℕ
@@ -28,6 +28,7 @@ command_alone name =
     if bytes_eq name (codes "init") then Some Init
     else if bytes_eq name (codes "import") then Some Import
     else if bytes_eq name (codes "tip") then Some Tip
+    else if bytes_eq name (codes "check") then Some Check
     else None
 
 abbrev pub command_named : List (List ℕ) → Option Command

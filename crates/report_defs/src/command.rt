@@ -7,6 +7,8 @@ pub enum Command {
     Import,
     /// `tip`: the tip of the kept blocks is told.
     Tip,
+    /// `check`: a transaction is read from the input and judged alone, behind the tip.
+    Check,
     /// `exec`: the program of an ELF file is read from the input and run, within a budget in cycles.
     Exec { budget: u64 },
 }

@@ -6,7 +6,7 @@ ghost use Rattle.report_defs.specs.Status.{status_number};
 pub enum Status {
     /// All of the input that the command takes was read, and nothing below came.
     Done,
-    /// As `Done`, and an item was refused, is of a form that is not judged yet, or found no room.
+    /// As `Done`, and an item was refused, or found no room.
     SomeRefused,
     /// The words are not in the grammar.
     BadWords,

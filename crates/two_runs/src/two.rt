@@ -1,7 +1,7 @@
 // Two runs over one disk.
 ghost use Rattle.std.specs.Prelude.{◌∷◌, IsSome, List, map, string_bytes};
 ghost use Rattle.outside.specs.Image.{Image};
-ghost use Rattle.rule_defs.specs.Chain.{Chain};
+ghost use Rattle.verdict_defs.specs.Chain.{Chain};
 ghost use Rattle.report_defs.specs.Words.{command_of};
 ghost use Rattle.report_defs.specs.Status.{IsOneOf};
 ghost use Rattle.report_defs.specs.Promise.{statuses_of};

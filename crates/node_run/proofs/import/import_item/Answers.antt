@@ -1,7 +1,7 @@
 use Rattle.std.proofs.Common.{◌≡◌, [], refl, sym, ap, ◌∙◌, subst}
 use Rattle.outside.proofs.Streams.{takes_none}
-use Rattle.rule_defs.specs.Chain.{verdict_over}
-use Rattle.rule_defs.specs.declared.verdict.Verdict.{Verdict}
+use Rattle.verdict_defs.specs.Chain.{verdict_over}
+use Rattle.verdict_defs.specs.declared.verdict.Verdict.{Verdict}
 use Rattle.report_defs.specs.Text.{line}
 use Rattle.report_defs.specs.declared.status.Status.TheVariants.{SinkFault}
 use Rattle.node_run.specs.Import.{IsWritingStop}

@@ -4,7 +4,7 @@ use Rattle.outside.proofs.Streams.{gives_none, takes_none}
 use Rattle.outside.proofs.Moments.{leaves_also}
 use Rattle.report_defs.specs.declared.status.Status.TheVariants.{InputFault, SinkFault, DiskFault}
 use Rattle.report_defs.specs.Report.{item_limit, input_limit}
-use Rattle.rule_defs.specs.Verdict as rules
+use Rattle.verdict_defs.specs.Verdict as rules
 use Rattle.item_reader.specs.Items.{IsReadingStop, IsItemAt}
 use Rattle.node_run.specs.Import.{IsWritingStop}
 use Rattle.node_run.proofs.Faults.{no_fault, then_counts}
