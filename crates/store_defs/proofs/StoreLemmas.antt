@@ -16,9 +16,9 @@ use Rattle.verdict_defs.specs.Laws.{CanJoin}
 use Rattle.verdict_defs.proofs.VerdictLaws.{keeps-what-joins}
 use Rattle.store_defs.specs.Genesis.{broken_by, broken_genesis_rule}
 use Rattle.store_defs.specs.Log.{Record, LogContent, record_limit, log_of, content_of_records, are_first, blocks_over, block_of_record}
-use Rattle.store_defs.specs.LogLaws.{record_of_joined, grown}
+use Rattle.store_defs.specs.LogLaws.{record_over, grown}
 use Rattle.store_defs.specs.Rest.{IsAtRest}
-use Rattle.store_defs.specs.Store.{StandsFor, HasJoined, EachHasJoined, chain_of, chain_before, ext_of_joined}
+use Rattle.store_defs.specs.Store.{StandsFor, HasJoined, EachHasJoined, chain_of, chain_before, ext_over}
 use Rattle.store_defs.specs.StoreLaws.{StandsAsItSays, StandsAfterAnItem, StandsForTheGenesis}
 use Rattle.store_defs.proofs.Contents.{gives_the_parts, says_its_records, grows_by_a_block, said}
 use Rattle.store_defs.proofs.Joining.{takes_what_joins}
@@ -100,7 +100,7 @@ all_before log count le =
 module _ (chain : Chain) (item : List ℕ) (log : LogContent) (keeps : chain_of log ≡ chain) (can : CanJoin chain.spec chain.blocks item)
     (count : length log.blocks ≡ length log.records + 1) (short : length item < 2 ^ 31) where
   abbrev pub r : Record
-  r = record_of_joined item
+  r = record_over chain item
 
   abbrev pub b : Block
   b = can.block
@@ -116,7 +116,7 @@ module _ (chain : Chain) (item : List ℕ) (log : LogContent) (keeps : chain_of 
   joins_here : HasJoined chain r (chain_after chain item)
   joins_here = record {
     item = item;
-    parts = gives_the_parts item ext_of_joined (omega (arith, short));
+    parts = gives_the_parts item (ext_over chain item) (omega (arith, short));
     kept = refl;
     grown = ap length after ∙ length_push chain.blocks b;
   }
@@ -140,15 +140,15 @@ module _ (chain : Chain) (item : List ℕ) (log : LogContent) (keeps : chain_of 
   joined_after each place other there = joined_at each place other (slice_get-pushed log.records r place other there)
 
 pub stands_after_an_item : StandsAfterAnItem
-stands_after_an_item chain item image bytes place next records stands can short rest more =
+stands_after_an_item chain item image bytes place next records stands can short form rest more =
     let log : LogContent = stands.log in
-    let r : Record = record_of_joined item in
+    let r : Record = record_over chain item in
     let says : content_of_records records ≡ Some log = sym (says_its_records place records image.log rest) ∙ stands.is_log in
     let count : length log.blocks ≡ length log.records + 1 = counts_its_records records log says in
     let same : log.blocks ≡ chain.blocks = ap (λ (c : Chain). c.blocks) stands.keeps in
     let takes : block_of_record log.blocks r ≡ Some can.block =
-    ap (λ (blocks : List Block). block_of_record blocks r) same ∙ takes_what_joins chain.spec chain.blocks item can short in
-    let room : length log.records < record_limit = below_limit (length log.records) (omega (arith, count, ap length same, can.room)) in
+    ap (λ (blocks : List Block). block_of_record blocks r) same ∙ takes_what_joins chain item can short form in
+    let room : length log.records < record_limit = below_limit (length log.records) (omega (arith, count, ap length same, can.may.room)) in
     record {
       log = grown log r can.block;
       is_log = says_its_records next (records ++ r ∷ []) bytes more ∙ grows_by_a_block records r log can.block says takes room;
