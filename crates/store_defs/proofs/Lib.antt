@@ -3,3 +3,4 @@ pub mod Contents
 pub mod Resting
 pub mod Joining
 pub mod StoreLemmas
+pub mod JoinedLemmas

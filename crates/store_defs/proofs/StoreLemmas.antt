@@ -1,24 +1,21 @@
 -- What an image stands for, by what its log says.
-use Rattle.std.proofs.Common.{◌≡◌, ℕ, suc, ◌+◌, ◌<◌, ◌≤◌, ◌^◌, Bool, true, false, cond, leb, List, [], ◌∷◌, ◌++◌, length, take, Option, Some, None, refl, sym, ap, ◌∙◌, subst, inl, inr, ◌⊎◌, arith}
+use Rattle.std.proofs.Common.{◌≡◌, ℕ, suc, ◌+◌, ◌<◌, ◌≤◌, ◌^◌, Bool, true, false, cond, leb, List, [], ◌∷◌, ◌++◌, length, Option, Some, None, refl, sym, ap, ◌∙◌, subst, inl, inr, ◌⊎◌, arith}
 use Rattle.std.specs.Prelude.{◌&&◌, ◌==◌, is_none, slice_get}
-use Rattle.std.specs.Option.{option_map, option_and_then}
+use Rattle.std.specs.Option.{option_and_then}
 use Rattle.std.proofs.lemmas.Bool.{le-leb, and_from, and_parts}
 use Rattle.std.proofs.lemmas.List.{length_push, take-append-le, take_all}
-use Rattle.outside.specs.declared.disk.Area.TheVariants.{Log}
-use Rattle.outside.specs.Image.{Image, with_content}
 use Rattle.codec_defs.specs.Shape.{decoded}
 use Rattle.codec_defs.specs.Schema.{Block, block}
 use Rattle.chain_defs.proofs.KeptLaws.{slice_get-pushed}
-use Rattle.time_defs.specs.Specification.{Specification, specification_of, broken_specification_rule}
+use Rattle.time_defs.specs.Specification.{specification_of, broken_specification_rule}
 use Rattle.verdict_defs.specs.Verdict.{kept_limit, block_list, blocks_of_item, kept_after}
-use Rattle.verdict_defs.specs.Chain.{Chain, chain_of_genesis, chain_after}
+use Rattle.verdict_defs.specs.Chain.{Chain, chain_after}
 use Rattle.verdict_defs.specs.Laws.{CanJoin}
 use Rattle.verdict_defs.proofs.VerdictLaws.{keeps-what-joins}
 use Rattle.store_defs.specs.Genesis.{broken_by, broken_genesis_rule}
-use Rattle.store_defs.specs.Log.{Record, LogContent, record_limit, log_of, content_of_records, are_first, blocks_over, block_of_record}
+use Rattle.store_defs.specs.Log.{Record, LogContent, record_limit, content_of_records, are_first, blocks_over, block_of_record}
 use Rattle.store_defs.specs.LogLaws.{record_over, grown}
-use Rattle.store_defs.specs.Rest.{IsAtRest}
-use Rattle.store_defs.specs.Store.{StandsFor, HasJoined, EachHasJoined, chain_of, chain_before, ext_over}
+use Rattle.store_defs.specs.Store.{HasJoined, EachHasJoined, chain_of, chain_before, ext_over}
 use Rattle.store_defs.specs.StoreLaws.{StandsAsItSays, StandsAfterAnItem, StandsForTheGenesis}
 use Rattle.store_defs.proofs.Contents.{gives_the_parts, says_its_records, grows_by_a_block, said}
 use Rattle.store_defs.proofs.Joining.{takes_what_joins}
@@ -53,7 +50,7 @@ one_genesis item good = by_block (decoded block item) good
     by_block None good = absurd (cc)
     by_block (Some b) good = refl
 
-good_genesis : (one two : Record) → are_first one two ≡ true → is_none (broken_genesis_rule two.body) ≡ true
+pub good_genesis : (one two : Record) → are_first one two ≡ true → is_none (broken_genesis_rule two.body) ≡ true
 good_genesis one two first =
     (and_parts ((one.kind == 1) && is_none (broken_specification_rule one.body) && (two.kind == 2)) (is_none (broken_genesis_rule two.body)) first).1
 
@@ -136,8 +133,8 @@ module _ (chain : Chain) (item : List ℕ) (log : LogContent) (keeps : chain_of 
       (subst (λ (c : Chain). HasJoined c r (chain_before (grown log r b) (place + 2))) first
       (subst (λ (c : Chain). HasJoined chain r c) second joins_here))
 
-  pub joined_after : EachHasJoined log → EachHasJoined (grown log r b)
-  joined_after each place other there = joined_at each place other (slice_get-pushed log.records r place other there)
+  pub each_joined_after : EachHasJoined log → EachHasJoined (grown log r b)
+  each_joined_after each place other there = joined_at each place other (slice_get-pushed log.records r place other there)
 
 pub stands_after_an_item : StandsAfterAnItem
 stands_after_an_item chain item image bytes place next records stands can short form rest more =
@@ -153,7 +150,7 @@ stands_after_an_item chain item image bytes place next records stands can short 
       log = grown log r can.block;
       is_log = says_its_records next (records ++ r ∷ []) bytes more ∙ grows_by_a_block records r log can.block says takes room;
       keeps = keeps_after chain item log stands.keeps can count short;
-      joined = joined_after chain item log stands.keeps can count short stands.joined;
+      joined = each_joined_after chain item log stands.keeps can count short stands.joined;
       no_snap_a = stands.no_snap_a;
       no_snap_b = stands.no_snap_b;
     }
