@@ -78,7 +78,7 @@ joined_after chain item joined = by_joins (joins (verdict chain.spec chain.block
 -- ---- The genesis of a log
 
 -- what stands behind blocks has them in front
-over-front : (kept : List Block) (records : List Record) (all : List Block) → blocks_over kept records ≡ Some all
+pub over-front : (kept : List Block) (records : List Record) (all : List Block) → blocks_over kept records ≡ Some all
     → (more : List Block) × (all ≡ kept ++ more)
 over-front kept [] all over = ([], let same : kept ≡ all = (cc) in sym same ∙ sym (append-nil kept))
 over-front kept (r ∷ records) all over = by_found (λ x. over-front (kept ++ x ∷ []) records all) (block_of_record kept r) over
@@ -126,7 +126,7 @@ content_begins (one ∷ two ∷ records) log says = by_test (are_first one two &
     by_test true is says = by_blocks (and_parts (are_first one two) (leb (length records) record_limit) is).0 (blocks_over (blocks_of_item two.body) records) refl says
 
 -- what a log says its records say
-content_of_log : (bytes : List ℕ) (log : LogContent) → log_of bytes ≡ Some log → content_of_records (records_of (drop 8 bytes)) ≡ Some log
+pub content_of_log : (bytes : List ℕ) (log : LogContent) → log_of bytes ≡ Some log → content_of_records (records_of (drop 8 bytes)) ≡ Some log
 unfolding log_of
 content_of_log bytes log says = by_test (bytes_eq (take 8 bytes) magic) says
   where
@@ -137,7 +137,7 @@ content_of_log bytes log says = by_test (bytes_eq (take 8 bytes) magic) says
 -- ---- The blocks behind it
 
 -- Where what is kept after an item is one more, the item could join, and the block at the end is its own.
-joined_item : (spec : Specification) (kept : List Block) (item : List ℕ) → length (kept_after spec kept item) ≡ length kept + 1
+pub joined_item : (spec : Specification) (kept : List Block) (item : List ℕ) → length (kept_after spec kept item) ≡ length kept + 1
     → (can : CanJoin spec kept item) × (kept_after spec kept item ≡ kept ++ can.block ∷ [])
 joined_item spec kept item grown = by_joins (joins (verdict spec kept item)) refl
   where

@@ -4,3 +4,4 @@ pub mod Resting
 pub mod Joining
 pub mod StoreLemmas
 pub mod JoinedLemmas
+pub mod ExtLemmas

@@ -42,7 +42,7 @@ over-length kept (r ∷ records) all over = by_found (λ x. over-length (kept ++
     by_found again None over = absurd (cc)
     by_found again (Some x) over = omega (arith, again x over, length_push kept x)
 
-one_genesis : (item : List ℕ) → is_none (broken_genesis_rule item) ≡ true → length (blocks_of_item item) ≡ 1
+pub one_genesis : (item : List ℕ) → is_none (broken_genesis_rule item) ≡ true → length (blocks_of_item item) ≡ 1
 unfolding broken_genesis_rule
 one_genesis item good = by_block (decoded block item) good
   where
