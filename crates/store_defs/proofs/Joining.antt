@@ -1,5 +1,5 @@
--- An item that can join over kept blocks is taken by a log of those.
-use Rattle.std.proofs.Common.{◌≡◌, ℕ, Bool, true, false, cond, List, Option, Some, None, refl, sym, ap, ◌∙◌, arith}
+-- An item that can join a chain is taken by a log of it.
+use Rattle.std.proofs.Common.{◌≡◌, ℕ, Bool, true, List, Option, Some, None, refl, sym, ap, ◌∙◌, arith}
 use Rattle.std.specs.Prelude.{◌&&◌, not, is_some}
 use Rattle.std.specs.Option.{option_and_then}
 use Rattle.std.proofs.lemmas.Bool.{and_from}
@@ -10,39 +10,37 @@ use Rattle.chain_defs.proofs.KeptLaws.{place_of-below}
 use Rattle.chain_defs.proofs.BranchLaws.{branch-last}
 use Rattle.time_defs.specs.Specification.{Specification}
 use Rattle.rule_defs.specs.Header.{follows, parent_of}
+use Rattle.verdict_defs.specs.Laws.{MayJoin}
 use Rattle.verdict_defs.proofs.VerdictLaws.{follows-unbroken}
-use Rattle.verdict_defs.specs.Laws.{CanJoin}
-use Rattle.cell_defs.specs.Ext.{row_size, is_ext}
-use Rattle.store_defs.specs.Store.{ext_of_joined}
+use Rattle.cell_defs.specs.Ext.{is_ext}
+use Rattle.store_defs.specs.Store.{ext_over}
 use Rattle.store_defs.specs.Log.{body_of_parts, parts_of_body, is_next_of, may_stand_on, block_if, block_of_parts}
-use Rattle.store_defs.specs.LogLaws.{HasExtForm, TakesWhatJoins}
+use Rattle.store_defs.specs.LogLaws.{TakesWhatJoins}
 use Rattle.store_defs.proofs.Contents.{gives_the_parts}
-
-pub has_ext_form : HasExtForm
-unfolding is_ext row_size
-has_ext_form = refl
 
 next_follows : (b : Block) (parent : Option Block) → is_next_of b.header.number parent ≡ follows b parent
 next_follows b None = refl
 next_follows b (Some parent) = refl
 
-may_stand : (spec : Specification) (kept : List Block) (item : List ℕ) (can : CanJoin spec kept item) → may_stand_on kept can.block ≡ true
-may_stand spec kept item can =
-    let b : Block = can.block in
-    let last : parent_of (branch kept can.parent) ≡ block_at kept can.parent =
-    branch-last kept can.parent (place_of-below kept b.header.parent_hash can.parent can.on_kept) in
+-- A block that may join may stand behind the kept ones.
+pub may_stand : (spec : Specification) (kept : List Block) (b : Block) → MayJoin spec kept b → may_stand_on kept b ≡ true
+may_stand spec kept b may =
+    let last : parent_of (branch kept may.parent) ≡ block_at kept may.parent =
+    branch-last kept may.parent (place_of-below kept b.header.parent_hash may.parent may.on_kept) in
     let next : is_next_of b.header.number (option_and_then (block_at kept) (place_of kept b.header.parent_hash)) ≡ true =
-    ap (λ (place : Option ℕ). is_next_of b.header.number (option_and_then (block_at kept) place)) can.on_kept
-    ∙ next_follows b (block_at kept can.parent) ∙ ap (follows b) (sym last) ∙ follows-unbroken spec (branch kept can.parent) b can.unbroken in
-    let new : not (is_some (place_of kept (block_hash b))) ≡ true = ap (λ (place : Option ℕ). not (is_some place)) can.new in
+    ap (λ (place : Option ℕ). is_next_of b.header.number (option_and_then (block_at kept) place)) may.on_kept
+    ∙ next_follows b (block_at kept may.parent) ∙ ap (follows b) (sym last) ∙ follows-unbroken spec (branch kept may.parent) b may.unbroken in
+    let new : not (is_some (place_of kept (block_hash b))) ≡ true = ap (λ (place : Option ℕ). not (is_some place)) may.new in
     and_from (is_next_of b.header.number (option_and_then (block_at kept) (place_of kept b.header.parent_hash))) (not (is_some (place_of kept (block_hash b)))) next new
 
 pub takes_what_joins : TakesWhatJoins
-takes_what_joins spec kept item can short =
+takes_what_joins chain item can short form =
     let b : Block = can.block in
-    let parts : parts_of_body (body_of_parts item ext_of_joined) ≡ Some (item, ext_of_joined) = gives_the_parts item ext_of_joined (omega (arith, short)) in
-    let test : (is_ext ext_of_joined && may_stand_on kept b) ≡ true =
-    and_from (is_ext ext_of_joined) (may_stand_on kept b) has_ext_form (may_stand spec kept item can) in
+    let kept : List Block = chain.blocks in
+    let ext : List ℕ = ext_over chain item in
+    let parts : parts_of_body (body_of_parts item ext) ≡ Some (item, ext) = gives_the_parts item ext (omega (arith, short)) in
+    let test : (is_ext ext && may_stand_on kept b) ≡ true =
+    and_from (is_ext ext) (may_stand_on kept b) form (may_stand chain.spec kept b can.may) in
     ap (block_of_parts kept) parts
-    ∙ ap (option_and_then (λ (x : Block). block_if (is_ext ext_of_joined && may_stand_on kept x) (Some x))) can.canonical
+    ∙ ap (option_and_then (λ (x : Block). block_if (is_ext ext && may_stand_on kept x) (Some x))) can.canonical
     ∙ ap (λ (t : Bool). block_if t (Some b)) test

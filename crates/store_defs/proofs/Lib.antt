@@ -3,3 +3,5 @@ pub mod Contents
 pub mod Resting
 pub mod Joining
 pub mod StoreLemmas
+pub mod JoinedLemmas
+pub mod ExtLemmas

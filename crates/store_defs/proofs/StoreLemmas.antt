@@ -1,24 +1,21 @@
 -- What an image stands for, by what its log says.
-use Rattle.std.proofs.Common.{◌≡◌, ℕ, suc, ◌+◌, ◌<◌, ◌≤◌, ◌^◌, Bool, true, false, cond, leb, List, [], ◌∷◌, ◌++◌, length, take, Option, Some, None, refl, sym, ap, ◌∙◌, subst, inl, inr, ◌⊎◌, arith}
+use Rattle.std.proofs.Common.{◌≡◌, ℕ, suc, ◌+◌, ◌<◌, ◌≤◌, ◌^◌, Bool, true, false, cond, leb, List, [], ◌∷◌, ◌++◌, length, Option, Some, None, refl, sym, ap, ◌∙◌, subst, inl, inr, ◌⊎◌, arith}
 use Rattle.std.specs.Prelude.{◌&&◌, ◌==◌, is_none, slice_get}
-use Rattle.std.specs.Option.{option_map, option_and_then}
+use Rattle.std.specs.Option.{option_and_then}
 use Rattle.std.proofs.lemmas.Bool.{le-leb, and_from, and_parts}
 use Rattle.std.proofs.lemmas.List.{length_push, take-append-le, take_all}
-use Rattle.outside.specs.declared.disk.Area.TheVariants.{Log}
-use Rattle.outside.specs.Image.{Image, with_content}
 use Rattle.codec_defs.specs.Shape.{decoded}
 use Rattle.codec_defs.specs.Schema.{Block, block}
 use Rattle.chain_defs.proofs.KeptLaws.{slice_get-pushed}
-use Rattle.time_defs.specs.Specification.{Specification, specification_of, broken_specification_rule}
+use Rattle.time_defs.specs.Specification.{specification_of, broken_specification_rule}
 use Rattle.verdict_defs.specs.Verdict.{kept_limit, block_list, blocks_of_item, kept_after}
-use Rattle.verdict_defs.specs.Chain.{Chain, chain_of_genesis, chain_after}
+use Rattle.verdict_defs.specs.Chain.{Chain, chain_after}
 use Rattle.verdict_defs.specs.Laws.{CanJoin}
 use Rattle.verdict_defs.proofs.VerdictLaws.{keeps-what-joins}
 use Rattle.store_defs.specs.Genesis.{broken_by, broken_genesis_rule}
-use Rattle.store_defs.specs.Log.{Record, LogContent, record_limit, log_of, content_of_records, are_first, blocks_over, block_of_record}
-use Rattle.store_defs.specs.LogLaws.{record_of_joined, grown}
-use Rattle.store_defs.specs.Rest.{IsAtRest}
-use Rattle.store_defs.specs.Store.{StandsFor, HasJoined, EachHasJoined, chain_of, chain_before, ext_of_joined}
+use Rattle.store_defs.specs.Log.{Record, LogContent, record_limit, content_of_records, are_first, blocks_over, block_of_record}
+use Rattle.store_defs.specs.LogLaws.{record_over, grown}
+use Rattle.store_defs.specs.Store.{HasJoined, EachHasJoined, chain_of, chain_before, ext_over}
 use Rattle.store_defs.specs.StoreLaws.{StandsAsItSays, StandsAfterAnItem, StandsForTheGenesis}
 use Rattle.store_defs.proofs.Contents.{gives_the_parts, says_its_records, grows_by_a_block, said}
 use Rattle.store_defs.proofs.Joining.{takes_what_joins}
@@ -45,7 +42,7 @@ over-length kept (r ∷ records) all over = by_found (λ x. over-length (kept ++
     by_found again None over = absurd (cc)
     by_found again (Some x) over = omega (arith, again x over, length_push kept x)
 
-one_genesis : (item : List ℕ) → is_none (broken_genesis_rule item) ≡ true → length (blocks_of_item item) ≡ 1
+pub one_genesis : (item : List ℕ) → is_none (broken_genesis_rule item) ≡ true → length (blocks_of_item item) ≡ 1
 unfolding broken_genesis_rule
 one_genesis item good = by_block (decoded block item) good
   where
@@ -53,7 +50,7 @@ one_genesis item good = by_block (decoded block item) good
     by_block None good = absurd (cc)
     by_block (Some b) good = refl
 
-good_genesis : (one two : Record) → are_first one two ≡ true → is_none (broken_genesis_rule two.body) ≡ true
+pub good_genesis : (one two : Record) → are_first one two ≡ true → is_none (broken_genesis_rule two.body) ≡ true
 good_genesis one two first =
     (and_parts ((one.kind == 1) && is_none (broken_specification_rule one.body) && (two.kind == 2)) (is_none (broken_genesis_rule two.body)) first).1
 
@@ -100,7 +97,7 @@ all_before log count le =
 module _ (chain : Chain) (item : List ℕ) (log : LogContent) (keeps : chain_of log ≡ chain) (can : CanJoin chain.spec chain.blocks item)
     (count : length log.blocks ≡ length log.records + 1) (short : length item < 2 ^ 31) where
   abbrev pub r : Record
-  r = record_of_joined item
+  r = record_over chain item
 
   abbrev pub b : Block
   b = can.block
@@ -116,7 +113,7 @@ module _ (chain : Chain) (item : List ℕ) (log : LogContent) (keeps : chain_of 
   joins_here : HasJoined chain r (chain_after chain item)
   joins_here = record {
     item = item;
-    parts = gives_the_parts item ext_of_joined (omega (arith, short));
+    parts = gives_the_parts item (ext_over chain item) (omega (arith, short));
     kept = refl;
     grown = ap length after ∙ length_push chain.blocks b;
   }
@@ -136,24 +133,24 @@ module _ (chain : Chain) (item : List ℕ) (log : LogContent) (keeps : chain_of 
       (subst (λ (c : Chain). HasJoined c r (chain_before (grown log r b) (place + 2))) first
       (subst (λ (c : Chain). HasJoined chain r c) second joins_here))
 
-  pub joined_after : EachHasJoined log → EachHasJoined (grown log r b)
-  joined_after each place other there = joined_at each place other (slice_get-pushed log.records r place other there)
+  pub each_joined_after : EachHasJoined log → EachHasJoined (grown log r b)
+  each_joined_after each place other there = joined_at each place other (slice_get-pushed log.records r place other there)
 
 pub stands_after_an_item : StandsAfterAnItem
-stands_after_an_item chain item image bytes place next records stands can short rest more =
+stands_after_an_item chain item image bytes place next records stands can short form rest more =
     let log : LogContent = stands.log in
-    let r : Record = record_of_joined item in
+    let r : Record = record_over chain item in
     let says : content_of_records records ≡ Some log = sym (says_its_records place records image.log rest) ∙ stands.is_log in
     let count : length log.blocks ≡ length log.records + 1 = counts_its_records records log says in
     let same : log.blocks ≡ chain.blocks = ap (λ (c : Chain). c.blocks) stands.keeps in
     let takes : block_of_record log.blocks r ≡ Some can.block =
-    ap (λ (blocks : List Block). block_of_record blocks r) same ∙ takes_what_joins chain.spec chain.blocks item can short in
-    let room : length log.records < record_limit = below_limit (length log.records) (omega (arith, count, ap length same, can.room)) in
+    ap (λ (blocks : List Block). block_of_record blocks r) same ∙ takes_what_joins chain item can short form in
+    let room : length log.records < record_limit = below_limit (length log.records) (omega (arith, count, ap length same, can.may.room)) in
     record {
       log = grown log r can.block;
       is_log = says_its_records next (records ++ r ∷ []) bytes more ∙ grows_by_a_block records r log can.block says takes room;
       keeps = keeps_after chain item log stands.keeps can count short;
-      joined = joined_after chain item log stands.keeps can count short stands.joined;
+      joined = each_joined_after chain item log stands.keeps can count short stands.joined;
       no_snap_a = stands.no_snap_a;
       no_snap_b = stands.no_snap_b;
     }
