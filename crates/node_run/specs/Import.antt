@@ -6,14 +6,14 @@ use Rattle.verdict_defs.specs.Verdict as rules
 use Rattle.verdict_defs.specs.Chain.{Chain, verdict_over, verdicts_over, chain_over}
 use Rattle.store_defs.specs.Store.{StandsFor}
 use Rattle.report_defs.specs.declared.status.Status.{Status}
-use Rattle.report_defs.specs.declared.status.Status.TheVariants.{InputFault, SinkFault, DiskFault, NoMemory}
+use Rattle.report_defs.specs.declared.status.Status.TheVariants.{InputFault, SinkFault, DiskFault, NoMemory, NotAStore}
 use Rattle.report_defs.specs.Items.{AreItems}
 use Rattle.report_defs.specs.Text.{line}
 use Rattle.report_defs.specs.Report.{item_limit, input_limit, import_limits, lines_over}
 use Rattle.report_defs.specs.Promise.{IsStoppedBeforeTheSink}
 use Rattle.report_defs.specs.Survival.{Each}
 use Rattle.item_reader.specs.Items.{IsPartial, EndsAt}
-use Rattle.node_run.specs.Output.{IsPartOf}
+use Rattle.node_run.specs.Output.{IsPartOf, IsWritingStop}
 use Rattle.node_run.specs.declared.import.Ended.{Ended}
 
 -- the line of an item over a chain, and the lines of items one after the other
@@ -31,12 +31,9 @@ IsStop DiskFault = Unit {0}
 IsStop NoMemory = Unit {0}
 IsStop _ = ⊥
 
--- what stops the import of an item that was read
-abbrev pub IsWritingStop : Status → Type 0
-IsWritingStop SinkFault = Unit {0}
-IsWritingStop DiskFault = Unit {0}
-IsWritingStop NoMemory = Unit {0}
-IsWritingStop _ = ⊥
+-- what stops the import of an item that was read, of a store that is sound or not
+abbrev pub item_stops : List Status
+item_stops = SinkFault ∷ DiskFault ∷ NoMemory ∷ NotAStore ∷ []
 
 -- The import of an item was stopped: only the sink leaves a part of its line.
 pub record IsCutShort (text : List ℕ) (status : Status) (taken : List ℕ) : Type 0 where

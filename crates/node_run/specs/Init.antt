@@ -11,11 +11,9 @@ use Rattle.report_defs.specs.declared.status.Status.TheVariants.{Done, SinkFault
 use Rattle.report_defs.specs.Items.{IsItem, split_of, end_offset}
 use Rattle.report_defs.specs.Text.{bad_spec_line, bad_genesis_line}
 use Rattle.report_defs.specs.Report.{Report, text_of, item_limit, genesis_limit, init_limits, report_of_init, report_of_end}
-use Rattle.report_defs.specs.Promise.{IsPrefix, IsStoppedBeforeTheSink}
 use Rattle.item_reader.specs.Items.{IsReadingStop}
 use Rattle.node_core.specs.declared.new_store.NewStop.{NewStop}
 use Rattle.node_core.specs.declared.new_store.NewStop.TheVariants as stops
-use Rattle.node_run.specs.Import.{IsWritingStop}
 use Rattle.node_run.specs.declared.init.Input.{Input}
 use Rattle.node_run.specs.declared.init.Input.TheVariants as inputs
 
@@ -42,16 +40,6 @@ abbrev pub text_of_stop : NewStop → List ℕ
 text_of_stop (stops.BadSpec rule) = bad_spec_line rule
 text_of_stop (stops.BadGenesis rule) = bad_genesis_line rule
 text_of_stop stops.NoMemory = []
-
--- A report's text was stopped: only the sink leaves a part of it.
-pub record IsSaidInPart (report : Report) (status : Status) (taken : List ℕ) : Type 0 where
-  pub stop : IsWritingStop status
-  pub front : IsPrefix taken (text_of report)
-  pub silent : IsStoppedBeforeTheSink status → taken ≡ []
-
--- a report was told, or a part of it
-abbrev pub IsSaid : Report → Status → List ℕ → Type 0
-IsSaid report status taken = ((taken ≡ text_of report) × (status ≡ report.status)) ⊎ IsSaidInPart report status taken
 
 -- the disk has one image, which keeps the genesis alone
 abbrev pub StandsAlone : List ℕ → List ℕ → (Image → Type 0) → Type 0

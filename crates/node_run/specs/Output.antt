@@ -1,9 +1,10 @@
 -- What the sink took of a text.
-use Rattle.std.specs.Prelude.{◌≡◌, ◌⊎◌, ◌<◌, ℕ, List, length, Option, Result, Ok, Err}
+use Rattle.std.specs.Prelude.{◌≡◌, ◌⊎◌, ◌<◌, ℕ, List, [], length, Option, Result, Ok, Err}
 use Rattle.outside.specs.Streams.{Gives, Takes}
 use Rattle.report_defs.specs.declared.status.Status.{Status}
-use Rattle.report_defs.specs.declared.status.Status.TheVariants.{SinkFault}
-use Rattle.report_defs.specs.Promise.{IsPrefix}
+use Rattle.report_defs.specs.declared.status.Status.TheVariants.{SinkFault, DiskFault, NoMemory}
+use Rattle.report_defs.specs.Report.{Report, text_of}
+use Rattle.report_defs.specs.Promise.{IsPrefix, IsStoppedBeforeTheSink}
 
 -- the sink took some bytes, and P holds of them
 abbrev pub Took : Option (List ℕ) → Option (List ℕ) → (List ℕ → Type 0) → Type 0
@@ -27,3 +28,20 @@ IsWritten text (Err status) taken = IsPartOf text taken
 -- a text was taken and its status answered, or the sink failed
 abbrev pub IsToldAnswer : List ℕ → Status → Status → List ℕ → Type 0
 IsToldAnswer text status result taken = ((taken ≡ text) × (result ≡ status)) ⊎ (IsPartOf text taken × (result ≡ SinkFault))
+
+-- what stops a run when its input was read
+abbrev pub IsWritingStop : Status → Type 0
+IsWritingStop SinkFault = Unit {0}
+IsWritingStop DiskFault = Unit {0}
+IsWritingStop NoMemory = Unit {0}
+IsWritingStop _ = ⊥
+
+-- A report's text was stopped: only the sink leaves a part of it.
+pub record IsSaidInPart (report : Report) (status : Status) (taken : List ℕ) : Type 0 where
+  pub stop : IsWritingStop status
+  pub front : IsPrefix taken (text_of report)
+  pub silent : IsStoppedBeforeTheSink status → taken ≡ []
+
+-- a report was told, or a part of it
+abbrev pub IsSaid : Report → Status → List ℕ → Type 0
+IsSaid report status taken = ((taken ≡ text_of report) × (status ≡ report.status)) ⊎ IsSaidInPart report status taken

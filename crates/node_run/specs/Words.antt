@@ -1,13 +1,14 @@
 -- The parts of the grammar of words.
 use Rattle.std.specs.Prelude.{ℕ, ◌^◌, ◌≤◌, ◌==◌, nat_lt, ◌&&◌, ◌||◌, Bool, List, length, slice_index}
 use Rattle.report_defs.specs.declared.command.Command.{Command}
-use Rattle.report_defs.specs.declared.command.Command.TheVariants.{Init, Import, Tip, Exec}
+use Rattle.report_defs.specs.declared.command.Command.TheVariants.{Init, Import, Tip, Check, Exec}
 
 -- a budget is within its limit
 abbrev pub IsWithinLimit : Command → Type 0
 IsWithinLimit Init = Unit {0}
 IsWithinLimit Import = Unit {0}
 IsWithinLimit Tip = Unit {0}
+IsWithinLimit Check = Unit {0}
 IsWithinLimit (Exec budget) = budget ≤ 2 ^ 40
 
 -- It begins with a plus, or with a zero and is longer: a number may be read from such a word, but no number is written so.

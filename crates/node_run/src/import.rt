@@ -1,9 +1,10 @@
 // The command `import`: blocks, each answered by a line.
-ghost use Rattle.std.specs.Prelude.{◌≡◌, ◌⊎◌, ◌<◌, ◌≤◌, ◌^◌, Err, Some, length, string_bytes, IfOk, IfSome, if◌then◌else◌};
+ghost use Rattle.std.specs.Prelude.{◌≡◌, ◌⊎◌, ◌∷◌, ◌<◌, ◌≤◌, ◌^◌, Err, Some, length, string_bytes, IfOk, IfSome, if◌then◌else◌};
 ghost use Rattle.outside.specs.Causes.{CountsFault};
 ghost use Rattle.outside.specs.Disk.{LeavesOnly};
-ghost use Rattle.verdict_defs.specs.Chain.{verdict_over, chain_after};
-ghost use Rattle.store_defs.specs.Store.{StandsFor, IsOnlyRead};
+ghost use Rattle.outside.specs.Image.{Image};
+ghost use Rattle.verdict_defs.specs.Chain.{Chain, verdict_over, chain_after};
+ghost use Rattle.store_defs.specs.Store.{Keeps, store_of, StandsFor, IsJoined, IsOnlyRead};
 ghost use Rattle.report_defs.specs.Report as reports;
 ghost use Rattle.report_defs.specs.Status.{IsOneOf};
 ghost use Rattle.report_defs.specs.Promise.{import_statuses};
@@ -12,17 +13,18 @@ ghost use Rattle.item_reader.specs.Items.{Gave, IsNext};
 ghost use Rattle.node_core.specs.Node.{IsOn};
 ghost use Rattle.node_run.specs.Output.{Took, Transfers};
 ghost use Rattle.node_run.specs.Store.{Delivers};
-ghost use Rattle.node_run.specs.Import.{IsAnswered, AreImported, line_over};
+ghost use Rattle.node_run.specs.Import.{IsAnswered, AreImported, line_over, item_stops};
 
 use crate::lines::{closing_of_end, verdict_line};
 use crate::output::{Answer, status_of_end, tell, write_text};
-use crate::store::{open, status_of_writing};
+use crate::store::{open, status_of_reading};
 use item_reader::{Next, next_item};
 use node_core::Node;
-use outside::{Disk, NoMemory, Sink, Source};
+use outside::{Disk, NoMemory, Sink, Source, Steps};
 use report_defs::{End, Status};
-use verdict_defs::Verdict;
 use std::alloc::Global;
+use std::sync::ledger::Ledger;
+use verdict_defs::Verdict;
 
 /// The most bytes of an item.
 const ITEM_LIMIT: usize = 1 << 20;
@@ -48,18 +50,20 @@ fn next_block<S: Source>(alloc: Global, input: &mut S, offset: u64) -> Result<Ne
 }
 
 /// Judges an item, keeps what joins, and then writes its line.
-fn import_item<K: Sink, D: Disk>(
+fn import_item<K: Sink, D: Disk, L: Ledger>(
     alloc: Global,
     out: &mut K,
     disk: &mut D,
     node: Node,
     item: &[u8],
+    steps: &mut Steps<L>,
 ) -> Result<(Node, Verdict), Status>
     requires size { length item.now < 2 ^ 31 }
     requires there { IfSome (D.reads_as disk.old) (λ image. node.place < length image.log) }
-    ensures verdict { IfOk result (λ answer. answer.1 ≡ verdict_over node.chain item.now) }
-    ensures kept { IfOk result (λ answer. answer.0.chain ≡ chain_after node.chain item.now) }
-    ensures written { Took (K.taken out.old) (K.taken out.new) (IsAnswered (line_over node.chain item.now) result) }
+    ensures verdict { IsJoined node.chain → IfOk result (λ answer. answer.1 ≡ verdict_over node.chain item.now) }
+    ensures kept { IsJoined node.chain → IfOk result (λ answer. answer.0.chain ≡ chain_after node.chain item.now) }
+    ensures written { Took (K.taken out.old) (K.taken out.new) (λ taken. IsJoined node.chain → IsAnswered (line_over node.chain item.now) result taken) }
+    ensures status { (status : Status) → result ≡ Err status → IsOneOf item_stops status }
     ensures there { IfOk result (λ answer. IfSome (D.reads_as disk.new) (λ image. answer.0.place < length image.log)) }
     ensures on { IsOn node (D.reads_as disk.old) (D.images disk.old) → IfOk result (λ answer. IsOn answer.0 (D.reads_as disk.new) (D.images disk.new)) }
     ensures moments { IsOn node (D.reads_as disk.old) (D.images disk.old)
@@ -67,9 +71,9 @@ fn import_item<K: Sink, D: Disk>(
     ensures out_faults { CountsFault (K.faults out.old) (K.faults out.new) (result ≡ Err Status.SinkFault) }
     ensures disk_faults { CountsFault (D.faults disk.old) (D.faults disk.new) (result ≡ Err Status.DiskFault) }
 {
-    let (next, verdict) = match node.import(alloc, disk, item) {
+    let (next, verdict) = match node.import(alloc, disk, item, steps) {
         Ok(answer) => answer,
-        Err(stop) => return Err(status_of_writing(stop)),
+        Err(stop) => return Err(status_of_reading(stop)),
     };
     let text = match verdict_line(alloc, &verdict) {
         Ok(text) => text,
@@ -82,17 +86,19 @@ fn import_item<K: Sink, D: Disk>(
 }
 
 /// Reads the items, judges each and writes its line before the next is read.
-fn import_items<S: Source, K: Sink, D: Disk>(
+fn import_items<S: Source, K: Sink, D: Disk, L: Ledger>(
     alloc: Global,
     input: &mut S,
     out: &mut K,
     disk: &mut D,
     opened: Node,
+    steps: &mut Steps<L>,
 ) -> Result<Ended, Status>
     requires there { IfSome (D.reads_as disk.old) (λ image. opened.place < length image.log) }
     ensures imported { Transfers (S.left input.old) (S.left input.new) (K.taken out.old) (K.taken out.new)
-        (AreImported opened.chain (S.left input.new) result (IsOn opened (D.reads_as disk.old) (D.images disk.old)) (D.images disk.new)
-        (LeavesOnly D.moment D.left_since disk.old disk.new)) }
+        (λ given taken. IsJoined opened.chain → AreImported opened.chain (S.left input.new) result (IsOn opened (D.reads_as disk.old) (D.images disk.old))
+        (D.images disk.new) (LeavesOnly D.moment D.left_since disk.old disk.new) given taken) }
+    ensures status { (status : Status) → result ≡ Err status → IsOneOf (Status.InputFault ∷ item_stops) status }
     ensures input_faults { CountsFault (S.faults input.old) (S.faults input.new) (result ≡ Err Status.InputFault) }
     ensures out_faults { CountsFault (K.faults out.old) (K.faults out.new) (result ≡ Err Status.SinkFault) }
     ensures disk_faults { CountsFault (D.faults disk.old) (D.faults disk.new) (result ≡ Err Status.DiskFault) }
@@ -112,7 +118,7 @@ fn import_items<S: Source, K: Sink, D: Disk>(
             }
             Err(status) => return Err(status),
         };
-        let (next, verdict) = match import_item(alloc, out, disk, node, &item) {
+        let (next, verdict) = match import_item(alloc, out, disk, node, &item, steps) {
             Ok(answer) => answer,
             Err(status) => return Err(status),
         };
@@ -141,26 +147,28 @@ fn answer_to_end(alloc: Global, ended: &Ended) -> Result<Answer, NoMemory>
 }
 
 /// Imports what the input holds.
-pub fn import<S: Source, K: Sink, D: Disk>(
+pub fn import<S: Source, K: Sink, D: Disk, L: Ledger>(
     alloc: Global,
     input: &mut S,
     out: &mut K,
     disk: &mut D,
+    steps: &mut Steps<L>,
 ) -> Status
     ensures import { Transfers (S.left input.old) (S.left input.new) (K.taken out.old) (K.taken out.new)
         (λ given taken. Delivers Import (D.reads_as disk.old) (D.images disk.old) (D.images disk.new) (D.left_since disk.new (D.moment disk.old))
         (S.left input.new) given taken result) }
     ensures status { IsOneOf import_statuses result }
-    ensures loses_nothing { result ≡ Status.NotAStore → IsOnlyRead D.reads_as D.images D.moment D.left_since disk.old disk.new }
+    ensures no_log { (now : Image) → D.reads_as disk.old ≡ Some now → ((chain : Chain) → store_of now ≡ Keeps chain → ⊥)
+        → IsOnlyRead D.reads_as D.images D.moment D.left_since disk.old disk.new }
     ensures input_faults { CountsFault (S.faults input.old) (S.faults input.new) (result ≡ Status.InputFault) }
     ensures out_faults { CountsFault (K.faults out.old) (K.faults out.new) (result ≡ Status.SinkFault) }
     ensures disk_faults { CountsFault (D.faults disk.old) (D.faults disk.new) (result ≡ Status.DiskFault) }
 {
-    let node = match open(alloc, disk) {
+    let node = match open(alloc, disk, steps) {
         Ok(node) => node,
         Err(status) => return status,
     };
-    let ended = match import_items(alloc, input, out, disk, node) {
+    let ended = match import_items(alloc, input, out, disk, node, steps) {
         Ok(ended) => ended,
         Err(status) => return status,
     };

@@ -15,8 +15,8 @@ ghost use Rattle.node_run.specs.Output.{Took, Transfers};
 ghost use Rattle.node_run.specs.Store.{Delivers};
 ghost use Rattle.node_run.specs.Init.{IsReadOfInit, IsSaid, StandsAlone, new_statuses, text_of_stop};
 
-use crate::lines::{bad_genesis_line, bad_spec_line, closing_of_end, genesis_line};
-use crate::output::{Answer, status_of_end, tell};
+use crate::lines::{bad_genesis_line, bad_spec_line, genesis_line};
+use crate::output::{Answer, end_of_needed, tell, tell_early};
 use crate::store::status_of_writing;
 use item_reader::{Next, has_more, next_item};
 use node_core::{NewStop, judge};
@@ -41,18 +41,6 @@ enum Input {
         end: End,
         offset: u64,
     },
-}
-
-/// Where an item is needed, an input that ends between two items is cut.
-fn end_of_needed(end: End) -> End
-    ensures { result ≡ reports.end_of_needed end }
-{
-    match end {
-        End::AtEnd => End::Cut,
-        End::Cut => End::Cut,
-        End::BadSize => End::BadSize,
-        End::Extra => End::Extra,
-    }
 }
 
 /// Reads the input to its end, or to where it ends early.
@@ -108,24 +96,6 @@ fn read_genesis<S: Source>(
         specification,
         genesis,
     })
-}
-
-/// What is said of an input that ends early.
-fn tell_early<K: Sink>(alloc: Global, out: &mut K, end: End, offset: u64) -> Status
-    requires { end ≡ End.AtEnd → ⊥ }
-    ensures said { Took (K.taken out.old) (K.taken out.new) (IsSaid (reports.report_of_end offset end) result) }
-    ensures faults { CountsFault (K.faults out.old) (K.faults out.new) (result ≡ Status.SinkFault) }
-    ensures disk { result ≡ Status.DiskFault → ⊥ }
-{
-    let text = match closing_of_end(alloc, offset, end) {
-        Ok(text) => text,
-        Err(_) => return Status::NoMemory,
-    };
-    let answer = Answer {
-        text,
-        status: status_of_end(Status::Done, end),
-    };
-    tell(out, &answer)
 }
 
 /// What is said of a specification or a genesis that breaks a rule. The status is `NoMemory`.

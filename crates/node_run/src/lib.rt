@@ -7,6 +7,7 @@
 //! program `ckbdev`.
 #![tactic(auto)]
 
+mod check;
 mod exec;
 mod import;
 mod init;

@@ -7,8 +7,8 @@ ghost use Rattle.program_run.specs.Program.{execution_of};
 
 use program_run::Execution;
 use report_defs::End;
-use verdict_defs::Verdict;
 use std::alloc::{AllocError, Global};
+use verdict_defs::{Trial, Verdict};
 use vm_defs::Outcome;
 
 /// Adds a hash: `0x` and its bytes in lower-case hex digits.
@@ -69,8 +69,31 @@ pub fn verdict_line(alloc: Global, verdict: &Verdict) -> Result<String, AllocErr
         Verdict::Joined(number, hash) => numbered_line(alloc, "joined", *number, hash),
         Verdict::Known(hash) => hash_line(alloc, "known ", hash),
         Verdict::Refused(rule) => number_line(alloc, "refused J", u64::from(*rule)),
-        Verdict::Unbuilt => String::from_str(alloc, "unbuilt\n"),
         Verdict::Full => String::from_str(alloc, "full\n"),
+    }
+}
+
+/// The line of a transaction that passes.
+fn ok_line(alloc: Global, fee: u64, cycles: u64) -> Result<String, AllocError>
+    ensures { IfOk result (λ line. string_bytes line ≡ codes "ok " ++ decimal fee ++ codes " " ++ decimal cycles ++ text.line_feed) }
+{
+    let fee = fee.to_string(alloc)?;
+    let cycles = cycles.to_string(alloc)?;
+    let mut line = String::from_str(alloc, "ok ")?;
+    line.push_str(&fee)?;
+    line.push_str(" ")?;
+    line.push_str(&cycles)?;
+    line.push_str("\n")?;
+    Ok(line)
+}
+
+/// The line of a transaction that was judged alone.
+pub fn trial_line(alloc: Global, tried: &Trial) -> Result<String, AllocError>
+    ensures { IfOk result (λ line. string_bytes line ≡ text.trial_line tried.now) }
+{
+    match tried {
+        Trial::Passes(fee, cycles) => ok_line(alloc, *fee, *cycles),
+        Trial::Refused(rule) => number_line(alloc, "refused J", u64::from(*rule)),
     }
 }
 

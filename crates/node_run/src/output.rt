@@ -2,10 +2,12 @@
 ghost use Rattle.std.specs.Prelude.{◌≡◌, Err, string_bytes};
 ghost use Rattle.outside.specs.Causes.{CountsFault};
 ghost use Rattle.report_defs.specs.Report as reports;
-ghost use Rattle.node_run.specs.Output.{Took, IsWritten, IsToldAnswer};
+ghost use Rattle.node_run.specs.Output.{Took, IsWritten, IsToldAnswer, IsSaid};
 
+use crate::lines::closing_of_end;
 use outside::{Sink, write_all};
 use report_defs::{End, Status};
+use std::alloc::Global;
 
 /// A text, and the status behind it.
 #[derive(Drop)]
@@ -48,4 +50,34 @@ pub fn status_of_end(whole: Status, end: End) -> Status
         End::BadSize => Status::BadSize,
         End::Extra => Status::ExtraInput,
     }
+}
+
+/// Where an item is needed, an input that ends between two items is cut.
+pub fn end_of_needed(end: End) -> End
+    ensures { result ≡ reports.end_of_needed end }
+{
+    match end {
+        End::AtEnd => End::Cut,
+        End::Cut => End::Cut,
+        End::BadSize => End::BadSize,
+        End::Extra => End::Extra,
+    }
+}
+
+/// What is said of an input that ends early.
+pub fn tell_early<K: Sink>(alloc: Global, out: &mut K, end: End, offset: u64) -> Status
+    requires { end ≡ End.AtEnd → ⊥ }
+    ensures said { Took (K.taken out.old) (K.taken out.new) (IsSaid (reports.report_of_end offset end) result) }
+    ensures faults { CountsFault (K.faults out.old) (K.faults out.new) (result ≡ Status.SinkFault) }
+    ensures disk { result ≡ Status.DiskFault → ⊥ }
+{
+    let text = match closing_of_end(alloc, offset, end) {
+        Ok(text) => text,
+        Err(_) => return Status::NoMemory,
+    };
+    let answer = Answer {
+        text,
+        status: status_of_end(Status::Done, end),
+    };
+    tell(out, &answer)
 }

@@ -2,6 +2,7 @@
 ghost use Rattle.std.specs.Prelude.{◌≡◌, ◌⊎◌, ◌↔◌, ◌<◌, ◌∷◌, [], Err, Some, length, IfOk, IfSome};
 ghost use Rattle.outside.specs.Causes.{CountsFault};
 ghost use Rattle.outside.specs.Disk.{LeavesOnly};
+ghost use Rattle.outside.specs.declared.disk.Damage.{Damage};
 ghost use Rattle.outside.specs.Image.{Image};
 ghost use Rattle.verdict_defs.specs.Chain.{Chain};
 ghost use Rattle.store_defs.specs.Store.{Keeps, store_of, StandsFor, IsSound, IsOnlyRead};
@@ -10,9 +11,10 @@ ghost use Rattle.node_core.specs.Node.{IsOn};
 ghost use Rattle.node_run.specs.Store.{opening_stops};
 
 use node_core::{LogStop, Node};
-use outside::{Disk, WriteStop};
+use outside::{Disk, ReadStop, Steps, WriteStop};
 use report_defs::Status;
 use std::alloc::Global;
+use std::sync::ledger::Ledger;
 
 /// The status of a stop of opening.
 fn status_of_opening(stop: LogStop) -> Status
@@ -24,6 +26,19 @@ fn status_of_opening(stop: LogStop) -> Status
         LogStop::DiskFault => Status::DiskFault,
         LogStop::NotAStore => Status::NotAStore,
         LogStop::NoMemory => Status::NoMemory,
+    }
+}
+
+/// The status of a stop of judging. What is damaged has not joined.
+pub fn status_of_reading(stop: ReadStop) -> Status
+    ensures one_of { IsOneOf opening_stops result }
+    ensures none { result ≡ Status.NotAStore → (damage : Damage) × (stop ≡ ReadStop.Damaged damage) }
+    ensures fault { (result ≡ Status.DiskFault) ↔ (stop ≡ ReadStop.DiskFault) }
+{
+    match stop {
+        ReadStop::DiskFault => Status::DiskFault,
+        ReadStop::Damaged(_) => Status::NotAStore,
+        ReadStop::NoMemory => Status::NoMemory,
     }
 }
 
@@ -39,11 +54,16 @@ pub fn status_of_writing(stop: WriteStop) -> Status
 }
 
 /// Opens the store on a disk.
-pub fn open<D: Disk>(alloc: Global, disk: &mut D) -> Result<Node, Status>
+pub fn open<D: Disk, L: Ledger>(
+    alloc: Global,
+    disk: &mut D,
+    steps: &mut Steps<L>,
+) -> Result<Node, Status>
     ensures one_of { (status : Status) → result ≡ Err status → IsOneOf opening_stops status }
     ensures kept { IfOk result (λ node. IfSome (D.reads_as disk.old) (λ now. store_of now ≡ Keeps node.chain)) }
-    ensures not_a_store { result ≡ Err Status.NotAStore → IfSome (D.reads_as disk.old) (λ now. (chain : Chain) → store_of now ≡ Keeps chain → ⊥) }
-    ensures only_read { result ≡ Err Status.NotAStore → IsOnlyRead D.reads_as D.images D.moment D.left_since disk.old disk.new }
+    ensures not_a_store { result ≡ Err Status.NotAStore → IfSome (D.reads_as disk.old) (λ now. IsSound now → ⊥) }
+    ensures no_log { (now : Image) → D.reads_as disk.old ≡ Some now → ((chain : Chain) → store_of now ≡ Keeps chain → ⊥)
+        → IsOnlyRead D.reads_as D.images D.moment D.left_since disk.old disk.new }
     ensures there { IfOk result (λ node. IfSome (D.reads_as disk.new) (λ image. node.place < length image.log)) }
     ensures on { ((image : Image) → D.images disk.old image → IsSound image)
         → IfOk result (λ node. IfSome (D.reads_as disk.old) (λ _. IsOn node (D.reads_as disk.new) (D.images disk.new))) }
@@ -51,7 +71,7 @@ pub fn open<D: Disk>(alloc: Global, disk: &mut D) -> Result<Node, Status>
         → LeavesOnly D.moment D.left_since disk.old disk.new (λ image. D.images disk.old image ⊎ StandsFor chain image) }
     ensures cause { CountsFault (D.faults disk.old) (D.faults disk.new) (result ≡ Err Status.DiskFault) }
 {
-    match Node::open(alloc, disk) {
+    match Node::open(alloc, disk, steps) {
         Ok(node) => Ok(node),
         Err(stop) => Err(status_of_opening(stop)),
     }

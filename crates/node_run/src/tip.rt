@@ -1,7 +1,9 @@
 // The command `tip`: the tip of the kept blocks.
-ghost use Rattle.std.specs.Prelude.{◌≡◌, List, ℕ, Option, []};
+ghost use Rattle.std.specs.Prelude.{◌≡◌, List, ℕ, Option, Some, []};
 ghost use Rattle.outside.specs.Causes.{CountsFault};
-ghost use Rattle.store_defs.specs.Store.{IsOnlyRead};
+ghost use Rattle.store_defs.specs.Store.{Keeps, store_of, IsOnlyRead};
+ghost use Rattle.verdict_defs.specs.Chain.{Chain};
+ghost use Rattle.outside.specs.Image.{Image};
 ghost use Rattle.report_defs.specs.Status.{IsOneOf};
 ghost use Rattle.report_defs.specs.Promise.{tip_statuses};
 ghost use Rattle.report_defs.specs.declared.command.Command.TheVariants.{Tip};
@@ -11,20 +13,27 @@ ghost use Rattle.node_run.specs.Store.{Delivers};
 use crate::lines::tip_line;
 use crate::output::write_text;
 use crate::store::open;
-use outside::{Disk, Sink};
+use outside::{Disk, Sink, Steps};
 use report_defs::Status;
 use std::alloc::Global;
+use std::sync::ledger::Ledger;
 
 /// Tells the tip of the store.
-pub fn tip<K: Sink, D: Disk>(alloc: Global, out: &mut K, disk: &mut D) -> Status
+pub fn tip<K: Sink, D: Disk, L: Ledger>(
+    alloc: Global,
+    out: &mut K,
+    disk: &mut D,
+    steps: &mut Steps<L>,
+) -> Status
     ensures tip { Took (K.taken out.old) (K.taken out.new) (λ taken. (left : Option (List ℕ))
         → Delivers Tip (D.reads_as disk.old) (D.images disk.old) (D.images disk.new) (D.left_since disk.new (D.moment disk.old)) left [] taken result) }
     ensures status { IsOneOf tip_statuses result }
-    ensures loses_nothing { result ≡ Status.NotAStore → IsOnlyRead D.reads_as D.images D.moment D.left_since disk.old disk.new }
+    ensures no_log { (now : Image) → D.reads_as disk.old ≡ Some now → ((chain : Chain) → store_of now ≡ Keeps chain → ⊥)
+        → IsOnlyRead D.reads_as D.images D.moment D.left_since disk.old disk.new }
     ensures out_faults { CountsFault (K.faults out.old) (K.faults out.new) (result ≡ Status.SinkFault) }
     ensures disk_faults { CountsFault (D.faults disk.old) (D.faults disk.new) (result ≡ Status.DiskFault) }
 {
-    let node = match open(alloc, disk) {
+    let node = match open(alloc, disk, steps) {
         Ok(node) => node,
         Err(status) => return status,
     };

@@ -3,13 +3,15 @@ ghost use Rattle.std.specs.Prelude.{◌≡◌, ◌↔◌, None, Some, map, strin
 ghost use Rattle.outside.specs.Causes.{CountsFault};
 ghost use Rattle.outside.specs.Disk.{IsAsBefore};
 ghost use Rattle.outside.specs.Image.{Image};
-ghost use Rattle.store_defs.specs.Store.{NoLog, store_of, IsOnlyRead};
+ghost use Rattle.store_defs.specs.Store.{NoLog, Keeps, store_of, IsOnlyRead};
+ghost use Rattle.verdict_defs.specs.Chain.{Chain};
 ghost use Rattle.report_defs.specs.Words as grammar;
 ghost use Rattle.report_defs.specs.Status.{IsOneOf};
 ghost use Rattle.report_defs.specs.Promise.{statuses_of};
-ghost use Rattle.report_defs.specs.Survival.{IsPromised, CallsNoDisk, as_before};
+ghost use Rattle.report_defs.specs.Survival.{IsPromised, CallsNoDisk, OpensStore, as_before};
 ghost use Rattle.node_run.specs.Output.{Transfers};
 
+use crate::check::check;
 use crate::exec::exec;
 use crate::import::import;
 use crate::init::init;
@@ -21,8 +23,8 @@ use std::alloc::Global;
 use std::sync::ledger::Ledger;
 
 /// Does what the words ask for: reads the input, writes its text, and answers how it ended.
-/// The words are a folder, which is any word that is not empty, and a command: `init`, `import`, `tip`, or `exec` and a
-/// budget in cycles, at most 2^40.
+/// The words are a folder, which is any word that is not empty, and a command: `init`, `import`, `tip`, `check`, or `exec`
+/// and a budget in cycles, at most 2^40.
 pub fn run<S: Source, K: Sink, D: Disk, L: Ledger>(
     alloc: Global,
     words: &[String],
@@ -49,22 +51,23 @@ pub fn run<S: Source, K: Sink, D: Disk, L: Ledger>(
     ensures out_faults { CountsFault (K.faults out.old) (K.faults out.new) (result ≡ Status.SinkFault) }
     ensures disk_faults { CountsFault (D.faults disk.old) (D.faults disk.new) (result ≡ Status.DiskFault) }
 
-    // Where the disk is not called, is as it was, also for an `init` that finds a log, and is only read.
+    // Where the disk is not called, is as it was, also for an `init` that finds a log, and where it has no log and is only read.
     ensures uncalled { CallsNoDisk (grammar.command_of (map string_bytes words.now)) → disk.new ≡ disk.old }
     ensures as_before { IsOneOf (as_before (grammar.command_of (map string_bytes words.now))) result
         → IsAsBefore D.reads_as D.images D.moment D.left_since disk.old disk.new }
     ensures log_there { (now : Image) → D.reads_as disk.old ≡ Some now → (store_of now ≡ NoLog → ⊥)
         → grammar.command_of (map string_bytes words.now) ≡ Some Command.Init → IsAsBefore D.reads_as D.images D.moment D.left_since disk.old disk.new }
-    ensures loses_nothing { result ≡ Status.NotAStore → IsOnlyRead D.reads_as D.images D.moment D.left_since disk.old disk.new }
+    ensures loses_nothing { (now : Image) → D.reads_as disk.old ≡ Some now → ((chain : Chain) → store_of now ≡ Keeps chain → ⊥)
+        → OpensStore (grammar.command_of (map string_bytes words.now)) → IsOnlyRead D.reads_as D.images D.moment D.left_since disk.old disk.new }
 
-    // No step is counted.
-    ensures steps { steps.new ≡ steps.old }
+    // Only a command that opens the store counts steps.
+    ensures steps { (OpensStore (grammar.command_of (map string_bytes words.now)) → ⊥) → steps.new ≡ steps.old }
 {
-    let _ = steps;
     match command_of(words) {
         Some(Command::Init) => init(alloc, input, out, disk),
-        Some(Command::Import) => import(alloc, input, out, disk),
-        Some(Command::Tip) => tip(alloc, out, disk),
+        Some(Command::Import) => import(alloc, input, out, disk, steps),
+        Some(Command::Tip) => tip(alloc, out, disk, steps),
+        Some(Command::Check) => check(alloc, input, out, disk, steps),
         Some(Command::Exec { budget }) => exec(alloc, input, out, budget),
         None => Status::BadWords,
     }

@@ -49,6 +49,9 @@ fn command_alone(name: &[u8]) -> Option<Command>
     if name == b"tip".as_slice() {
         return Some(Command::Tip);
     }
+    if name == b"check".as_slice() {
+        return Some(Command::Check);
+    }
     None
 }
 

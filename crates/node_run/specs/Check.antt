@@ -1,0 +1,29 @@
+-- The parts of `check`: what was read.
+use Rattle.std.specs.Prelude.{◌≡◌, ℕ, ◌≤◌, List, ◌++◌, length, Option, Some, Result, Ok, Err}
+use Rattle.std.specs.Io.KnownBytes.{IsAtEnd}
+use Rattle.verdict_defs.specs.Chain.{Chain}
+use Rattle.report_defs.specs.declared.end.End.{End}
+use Rattle.report_defs.specs.declared.end.End.TheVariants.{AtEnd}
+use Rattle.report_defs.specs.declared.status.Status.{Status}
+use Rattle.report_defs.specs.Items.{IsItem, split_of, end_offset}
+use Rattle.report_defs.specs.Report.{item_limit, check_limits, report_of_check, report_of_end}
+use Rattle.item_reader.specs.Items.{IsReadingStop}
+use Rattle.node_run.specs.declared.check.Input.{Input}
+use Rattle.node_run.specs.declared.check.Input.TheVariants as inputs
+
+-- An item was given, and nothing behind it.
+pub record IsOne (left : Option (List ℕ)) (item given : List ℕ) : Type 0 where
+  pub same : given ≡ item
+  pub item_is : IsItem item_limit item
+  pub to_end : IsAtEnd left
+
+-- The input ends otherwise, whatever follows what was given, and over whatever chain.
+pub record EndsBeforeOne (left : Option (List ℕ)) (end : End) (offset : ℕ) (given : List ℕ) : Type 0 where
+  pub early : end ≡ AtEnd → ⊥
+  pub report : (chain : Chain) (more : List ℕ) → left ≡ Some more → report_of_check chain (split_of check_limits (given ++ more)) ≡ report_of_end offset end
+  pub enough : (more : List ℕ) → left ≡ Some more → end_offset (split_of check_limits (given ++ more)) ≤ length given
+
+abbrev pub IsReadOfCheck : Option (List ℕ) → Result Input Status → List ℕ → Type 0
+IsReadOfCheck left (Ok (inputs.One item)) given = IsOne left item.items given
+IsReadOfCheck left (Ok (inputs.Early end offset)) given = EndsBeforeOne left end offset given
+IsReadOfCheck left (Err status) given = IsReadingStop status
