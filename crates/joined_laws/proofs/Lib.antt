@@ -1,1 +1,3 @@
-
+pub mod EventFit
+pub mod TransactionFit
+pub mod FitLaws
