@@ -1,3 +1,4 @@
 pub mod RuleLemmas
 pub mod KeptLemmas
 pub mod RatedLaws
+pub mod TypedLaws
