@@ -2,11 +2,11 @@
 -- is live there is the same.
 use Rattle.std.proofs.Common.{◌≡◌, ℕ, zero, suc, ◌+◌, ◌-◌, ◌<◌, List, [], ◌∷◌, ◌++◌, length, take, drop, Option, Some, None, refl, sym, ap, ◌∙◌, subst, inl, inr, ◌⊎◌, arith}
 use Rattle.std.specs.Prelude.{slice_get}
-use Rattle.std.specs.Option.{option_and_then, option_map}
+use Rattle.std.specs.Option.{option_and_then}
 use Rattle.std.proofs.lemmas.List.{length_push, length-take-le, take-append-drop}
 use Rattle.std.proofs.lemmas.Option.{slice_get_within, same_Some}
 use Rattle.codec_defs.specs.Schema.{OutPoint, Block}
-use Rattle.chain_defs.specs.Kept.{block_at, place_of, parent_place}
+use Rattle.chain_defs.specs.Kept.{place_of, parent_place}
 use Rattle.chain_defs.specs.Branch.{places_within, branch_places, branch}
 use Rattle.chain_defs.proofs.KeptLaws.{slice_get-before, slice_get-push, slice_get-pushed}
 use Rattle.chain_defs.proofs.BranchLaws.{places_on, places_within-enough, parent_place-below}
@@ -16,10 +16,8 @@ use Rattle.cell_laws.proofs.JoinLemmas.{length-branch}
 use Rattle.cell_state.specs.Fit.{AllFit}
 use Rattle.replay.proofs.RowLemmas.{live_row-front}
 use Rattle.replay.proofs.FitLemmas.{all-same}
-use Rattle.verdict_defs.specs.Chain.{Chain}
 use Rattle.verdict_defs.specs.Laws.{MayJoin}
 use Rattle.verdict_defs.proofs.VerdictLaws.{branch-more}
-use Rattle.store_defs.specs.Store.{IsJoined}
 use Rattle.joined_laws.specs.Laws.{WhatJoinsFits, BranchesFit}
 use Rattle.joined_laws.proofs.KeptLemmas.{joined-before}
 

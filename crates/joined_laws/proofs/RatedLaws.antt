@@ -5,10 +5,9 @@ use Rattle.std.proofs.lemmas.Bool.{and_parts}
 use Rattle.std.proofs.lemmas.Bool.Decides.{Decides-ltb}
 use Rattle.std.proofs.lemmas.Option.{same_Some}
 use Rattle.codec_defs.specs.Schema.{Block}
-use Rattle.time_defs.specs.Dao.{DaoField, field_of_bytes}
+use Rattle.time_defs.specs.Dao.{field_of_bytes}
 use Rattle.chain_defs.specs.Kept.{block_at}
 use Rattle.chain_defs.specs.Branch.{branch}
-use Rattle.chain_tree.specs.declared.entry.Entry.{Entry}
 use Rattle.chain_tree.proofs.BlockLemmas.{described}
 use Rattle.block_defs.specs.Rules.{is_rated}
 use Rattle.verdict_defs.specs.Chain.{Chain}

@@ -1,8 +1,8 @@
 -- Live cells with a type script hold what they occupy: no cellbase makes one, and the rules ask it of each other output.
-use Rattle.std.proofs.Common.{◌≡◌, ℕ, zero, suc, ◌+◌, ◌<◌, Bool, true, false, List, [], ◌∷◌, ◌++◌, length, take, drop, Option, Some, None, refl, sym, ap, ◌∙◌, subst, arith}
-use Rattle.std.specs.Prelude.{◌&&◌, not, is_some, unwrap_or, slice_get, IsTrue, IsSome}
+use Rattle.std.proofs.Common.{◌≡◌, ℕ, zero, suc, ◌+◌, Bool, true, List, [], ◌∷◌, take, drop, Option, Some, None, sym, ap, ◌∙◌, subst, arith}
+use Rattle.std.specs.Prelude.{not, is_some, unwrap_or, slice_get, IsTrue, IsSome}
 use Rattle.std.specs.List.{list_all}
-use Rattle.std.proofs.lemmas.Bool.{and_parts}
+use Rattle.std.proofs.lemmas.Bool.{and_parts, false≢true}
 use Rattle.std.proofs.lemmas.Option.{same_Some}
 use Rattle.codec_defs.specs.Schema.{OutPoint, CellOutput, Transaction, Block}
 use Rattle.time_defs.specs.Specification.{Specification}
@@ -54,9 +54,8 @@ genesis-holds b o cell all is =
 plain-untyped : (t : Transaction) (i : ℕ) (output : CellOutput) → IsTrue (has_plain_output t) → slice_get t.raw.outputs i ≡ Some output
     → IsSome output.type_script → ⊥
 plain-untyped t i output plain there typed =
-    let untyped : not (is_some output.type_script) ≡ true =
-    each-at (λ (x : CellOutput). not (is_some x.type_script)) t.raw.outputs i output
-    (and_parts _ _ (and_parts _ _ plain).0).1 there in cc
+    false≢true (sym (ap not typed)
+    ∙ each-at (λ (x : CellOutput). not (is_some x.type_script)) t.raw.outputs i output (and_parts _ _ (and_parts _ _ plain).0).1 there)
 
 first-formed : (live : OutPoint → Option Cell) (number : ℕ) (txs : List Transaction) (t : Transaction) → IsTrue (is_first_well_formed live number txs)
     → slice_get txs 0 ≡ Some t → IsTrue (is_well_formed_cellbase live number t)
