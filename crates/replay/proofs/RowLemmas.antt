@@ -29,7 +29,7 @@ live_row-push kept b place o below =
     ∙ ap (λ (places : List ℕ). option_map (λ (cell : Cell). row_of (slice_index places cell.height) cell) (live_cell (branch kept place) o))
     (branch_places-push kept b place below)
 
-live_row-front : (front later : List Block) (place : ℕ) (o : OutPoint) → place < length front → live_row (front ++ later) place o ≡ live_row front place o
+pub live_row-front : (front later : List Block) (place : ℕ) (o : OutPoint) → place < length front → live_row (front ++ later) place o ≡ live_row front place o
 live_row-front front [] place o below = ap (λ (kept : List Block). live_row kept place o) (append-nil front)
 live_row-front front (b ∷ later) place o below =
     let more : length (front ++ b ∷ []) ≡ length front + 1 = length_push front b in

@@ -176,7 +176,7 @@ place_of-more kept (b ∷ more) hash place is =
     ∙ place_of-more (kept ++ b ∷ []) more hash place
     (place_of-push kept b hash ∙ ap (λ (found : Option ℕ). option_or found (cond (bytes_eq (block_hash b) hash) (Some (length kept)) None)) is)
 
-branch-more : (kept more : List Block) (place : ℕ) → place < length kept → branch (kept ++ more) place ≡ branch kept place
+pub branch-more : (kept more : List Block) (place : ℕ) → place < length kept → branch (kept ++ more) place ≡ branch kept place
 branch-more kept [] place below = ap (λ (blocks : List Block). branch blocks place) (append-nil kept)
 branch-more kept (b ∷ more) place below =
     ap (λ (blocks : List Block). branch blocks place) (sym (append_assoc kept (b ∷ []) more))

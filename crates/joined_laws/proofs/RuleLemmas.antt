@@ -1,0 +1,99 @@
+-- What single rules say of a block that breaks none, and of a genesis.
+use Rattle.std.proofs.Common.{◌≡◌, ℕ, zero, suc, Bool, List, [], ◌∷◌, ◌++◌, drop, Some, None, subst}
+use Rattle.std.specs.Prelude.{IsTrue, slice_get}
+use Rattle.std.proofs.lemmas.Bool.{and_parts}
+use Rattle.std.proofs.lemmas.Option.{same_Some}
+use Rattle.std.proofs.lemmas.List.Elements.{All-nil, All-cons, All-head, All-tail, All-drop}
+use Rattle.codec_defs.specs.Schema.{Transaction, Block}
+use Rattle.fold_defs.specs.First.{first_failing, AllHold}
+use Rattle.fold_defs.proofs.FirstLemmas.{finds_none}
+use Rattle.time_defs.specs.Specification.{Specification}
+use Rattle.cell_defs.specs.Events.{live_cell}
+use Rattle.tx_defs.specs.Site.{Site}
+use Rattle.tx_defs.specs.Capacity.{outputs_hold_their_own, makes_good_cells}
+use Rattle.block_defs.specs.Cellbase.{forms_cellbase}
+use Rattle.block_defs.specs.Transactions.{site_at, transaction_rules, left_after, rules_from, rules_of_transactions}
+use Rattle.block_defs.specs.Rules.{is_rated, end_rules, all_rules, first_broken}
+use Rattle.store_defs.specs.Genesis.{has_issued, all_hold_capacity, genesis_rules}
+
+-- ---- Rows in front and behind
+
+pub holds-front : (earlier later : List (ℕ × Bool)) → AllHold (earlier ++ later) → AllHold earlier
+holds-front [] later hold = All-nil (λ rule. IsTrue rule.1)
+holds-front (rule ∷ rules) later hold =
+    All-cons (λ rule. IsTrue rule.1) rule rules (All-head (λ rule. IsTrue rule.1) rule (rules ++ later) hold)
+    (holds-front rules later (All-tail (λ rule. IsTrue rule.1) rule (rules ++ later) hold))
+
+pub holds-behind : (earlier later : List (ℕ × Bool)) → AllHold (earlier ++ later) → AllHold later
+holds-behind [] later hold = hold
+holds-behind (rule ∷ rules) later hold = holds-behind rules later (All-tail (λ rule. IsTrue rule.1) rule (rules ++ later) hold)
+
+-- ---- A block
+
+all-hold : (spec : Specification) (branch : List Block) (b : Block) → first_broken spec branch b ≡ None → AllHold (all_rules spec branch b)
+unfolding first_broken
+all-hold spec branch b unbroken = (finds_none (all_rules spec branch b)).0 unbroken
+
+-- J17
+pub forms-unbroken : (spec : Specification) (branch : List Block) (b : Block) → first_broken spec branch b ≡ None
+    → IsTrue (forms_cellbase (live_cell branch) b)
+unfolding all_rules
+forms-unbroken spec branch b unbroken =
+    All-head (λ rule. IsTrue rule.1) (17, forms_cellbase (live_cell branch) b) (drop 14 (all_rules spec branch b))
+    (All-drop (λ rule. IsTrue rule.1) 13 (all_rules spec branch b) (all-hold spec branch b unbroken))
+
+behind-forms : (spec : Specification) (branch : List Block) (b : Block) → first_broken spec branch b ≡ None
+    → AllHold (rules_of_transactions spec branch b ++ end_rules b)
+unfolding all_rules
+behind-forms spec branch b unbroken = All-drop (λ rule. IsTrue rule.1) 14 (all_rules spec branch b) (all-hold spec branch b unbroken)
+
+-- J32
+pub rated-unbroken : (spec : Specification) (branch : List Block) (b : Block) → first_broken spec branch b ≡ None → IsTrue (is_rated b)
+rated-unbroken spec branch b unbroken =
+    All-head (λ rule. IsTrue rule.1) (32, is_rated b) []
+    (holds-behind (rules_of_transactions spec branch b) (end_rules b) (behind-forms spec branch b unbroken))
+
+-- the rules on all its transactions behind the first
+pub transactions-unbroken : (spec : Specification) (branch : List Block) (b : Block) → first_broken spec branch b ≡ None
+    → AllHold (rules_of_transactions spec branch b)
+transactions-unbroken spec branch b unbroken =
+    holds-front (rules_of_transactions spec branch b) (end_rules b) (behind-forms spec branch b unbroken)
+
+-- ---- A transaction
+
+-- J25, by the rules on it
+hold-by-rules : (site : Site) (left : ℕ) (t : Transaction) → AllHold (transaction_rules site left t) → IsTrue (outputs_hold_their_own t)
+hold-by-rules site left t hold =
+    let good : IsTrue (makes_good_cells site t) =
+    All-head (λ rule. IsTrue rule.1) (25, makes_good_cells site t) (drop 8 (transaction_rules site left t))
+    (All-drop (λ rule. IsTrue rule.1) 7 (transaction_rules site left t) hold) in
+    (and_parts _ _ good).0
+
+-- and by those on several transactions
+pub hold-from : (spec : Specification) (branch : List Block) (b : Block) (place left : ℕ) (txs : List Transaction) (i : ℕ) (t : Transaction)
+    → AllHold (rules_from spec branch b place left txs) → slice_get txs i ≡ Some t → IsTrue (outputs_hold_their_own t)
+unfolding rules_from
+hold-from spec branch b place left [] i t hold there = absurd (cc)
+hold-from spec branch b place left (first ∷ later) zero t hold there =
+    subst (λ (x : Transaction). IsTrue (outputs_hold_their_own x)) (same_Some first t there)
+    (hold-by-rules (site_at spec branch b place) left first
+    (holds-front (transaction_rules (site_at spec branch b place) left first)
+    (rules_from spec branch b (suc place) (left_after (site_at spec branch b place) left first) later) hold))
+hold-from spec branch b place left (first ∷ later) (suc i) t hold there =
+    hold-from spec branch b (suc place) (left_after (site_at spec branch b place) left first) later i t
+    (holds-behind (transaction_rules (site_at spec branch b place) left first)
+    (rules_from spec branch b (suc place) (left_after (site_at spec branch b place) left first) later) hold) there
+
+-- ---- A genesis
+
+-- G4
+pub issued-good : (genesis : Block) → first_failing (genesis_rules genesis) ≡ None → IsTrue (has_issued genesis)
+issued-good genesis good =
+    All-head (λ rule. IsTrue rule.1) (4, has_issued genesis) (drop 3 (genesis_rules genesis))
+    (All-drop (λ rule. IsTrue rule.1) 2 (genesis_rules genesis) ((finds_none (genesis_rules genesis)).0 good))
+
+-- G7
+pub capacity-good : (genesis : Block) → first_failing (genesis_rules genesis) ≡ None → IsTrue (all_hold_capacity genesis)
+capacity-good genesis good =
+    All-head (λ rule. IsTrue rule.1) (7, all_hold_capacity genesis) []
+    (All-drop (λ rule. IsTrue rule.1) 5 (genesis_rules genesis) ((finds_none (genesis_rules genesis)).0 good))
