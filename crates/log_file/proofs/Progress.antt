@@ -5,7 +5,7 @@ use Rattle.std.specs.Option.{option_map, option_and_then}
 use Rattle.std.specs.Str.{bytes_eq}
 use Rattle.std.specs.Cmp.Lexicographic.{bytes_decides}
 use Rattle.std.proofs.lemmas.Bool.{and_from, and_parts, and_right, le-leb, leb-true}
-use Rattle.std.proofs.lemmas.List.{append_assoc, append-nil, length-append, length-drop, length_push, drop-drop}
+use Rattle.std.proofs.lemmas.List.{append_assoc, append-nil, length-append, length-drop, length_push, map_push, drop-drop}
 use Rattle.codec_defs.specs.Schema.{Block}
 use Rattle.verdict_defs.specs.Verdict.{blocks_of_item, kept_limit}
 use Rattle.time_defs.specs.Specification.{Specification, broken_specification_rule, specification_of}
@@ -17,7 +17,7 @@ use Rattle.store_defs.specs.LogLaws.{grown}
 use Rattle.store_defs.specs.Rest.{EndsAt}
 use Rattle.store_defs.proofs.Records.{record_length, parts_at, records_of_none, records_of_some, size_of_all, size-push}
 use Rattle.store_defs.proofs.Contents.{grows_by_a_block}
-use Rattle.log_file.specs.Grammar.{record_of, is_specification, is_genesis, NamesBody, BlocksValue, StandFor, IsGenesisOf, IsGrownBy}
+use Rattle.log_file.specs.Grammar.{record_of, is_specification, is_genesis, ext_in, NamesBody, BlocksValue, StandFor, IsGenesisOf, IsGrownBy}
 use Rattle.log_file.specs.Reading.{ReaderValue, IsReading, IsAt, HasPassed, OfRecordHere, IsWrongHere}
 use Rattle.log_file.specs.Opening.{NameBodies, IsOpened, HasRead, HasReadAll}
 use Rattle.log_file.proofs.Judging.{limit_is, kept_limit_is, as_many}
@@ -179,6 +179,7 @@ begun log spec first second third blocks start one two reading =
       says = first_says one.r two.r one.is.0 two.is.genesis;
       specified = one.is.1;
       stand = two.is.stand;
+      exts = two.is.exts;
       counted = omega (arith, as_many blocks.items (blocks_of_item two.r.body) two.is.stand.decode, ap length two.is.items);
       named = subst (NameBodies (14 + length one.r.body) (record_of 2 two.r.body ∷ [])) (sym two.is.entries) named;
       next = omega (
@@ -216,6 +217,7 @@ one_more_read log spec old new before after so_far passed reading few =
       says = grows_by_a_block so_far.records r so_far.log is.block so_far.says is.is room;
       specified = so_far.specified;
       stand = is.stand;
+      exts = is.exts ∙ ap (λ (l : List (List ℕ)). l ++ ext_in r ∷ []) so_far.exts ∙ ap (λ (l : List (List ℕ)). [] ∷ l) (sym (map_push ext_in so_far.log.records r));
       counted = omega (arith, length_push kept is.block, length_push so_far.log.records r, so_far.counted);
       named = subst (NameBodies start (front ++ r ∷ [])) (sym is.entries) (names-push start front before.entries r is.entry so_far.named named);
       next = omega (arith, passed.at.at, so_far.next, size-push front r);
@@ -273,7 +275,7 @@ says_all : (log : List ℕ) (spec : Specification) (reader : ReaderValue) (block
 says_all log spec reader blocks all = split_end (records_of (drop 8 log)) all.so_far.records log reader.at all.so_far.split all.ended
 
 pub opened_all : (log : List ℕ) (spec : Specification) (reader : ReaderValue) (blocks : BlocksValue) → take 8 log ≡ magic → HasReadAll log spec reader blocks
-    → (content : LogContent) × IsOpened log content spec blocks.items blocks.entries
+    → (content : LogContent) × IsOpened log content spec blocks.items blocks.exts blocks.entries
 unfolding log_of
 opened_all log spec reader blocks begins all =
     let far = all.so_far in
@@ -285,6 +287,7 @@ opened_all log spec reader blocks begins all =
         says = says;
         specified = far.specified;
         decode = far.stand.decode;
+        beside = far.exts;
         indexed = far.stand.indexed;
         named = far.named;
       },
@@ -351,6 +354,7 @@ module _ (spec : Specification) (r0 r1 : ReaderValue) (b0 b1 : BlocksValue) wher
           says = far.says;
           specified = far.specified;
           stand = subst (StandFor far.log.blocks) (sym is) far.stand;
+          exts = ap (λ (b : BlocksValue). b.exts) is ∙ far.exts;
           counted = far.counted;
           named = subst (λ (b : BlocksValue). NameBodies (14 + length far.log.specification) (record_of 2 far.log.genesis ∷ far.log.records) b.entries) (sym is) far.named;
           next = at.at ∙ far.next;

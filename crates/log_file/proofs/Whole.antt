@@ -41,15 +41,16 @@ told_wrong_blocks (Some image) l1 spec len r0 r1 b1 E F is same size reading fro
     let none = on_same l1 (Some image) (λ image. HasRead image.log spec r1 b1 → F → content_of_records (records_of (drop 8 image.log)) ≡ None) same wrong in
     no_content image.log (none (front (reading image.log size)) (is e))
 
-pub told_opened : (reads : Option Image) (spec : Specification) (reader : ReaderValue) (blocks : BlocksValue) (items : List (List ℕ)) (entries : List Entry)
-    → items ≡ blocks.items → entries ≡ blocks.entries → IfSome reads (λ image. IsRead image.log spec reader blocks)
-    → IfSome reads (λ now. (log : LogContent) × IsOpened now.log log spec items entries)
-told_opened None spec reader blocks items entries is are all = tt
-told_opened (Some now) spec reader blocks items entries is are all =
+pub told_opened : (reads : Option Image) (spec : Specification) (reader : ReaderValue) (blocks : BlocksValue) (items exts : List (List ℕ)) (entries : List Entry)
+    → items ≡ blocks.items → exts ≡ blocks.exts → entries ≡ blocks.entries → IfSome reads (λ image. IsRead image.log spec reader blocks)
+    → IfSome reads (λ now. (log : LogContent) × IsOpened now.log log spec items exts entries)
+told_opened None spec reader blocks items exts entries is beside are all = tt
+told_opened (Some now) spec reader blocks items exts entries is beside are all =
     let found = opened_all now.log spec reader blocks all.begins all.all in (
       found.0,
-      subst (λ (l : List (List ℕ)). IsOpened now.log found.0 spec l entries) (sym is)
-          (subst (λ (l : List Entry). IsOpened now.log found.0 spec blocks.items l) (sym are) found.1),
+      subst (λ (l : List (List ℕ)). IsOpened now.log found.0 spec l exts entries) (sym is)
+          (subst (λ (l : List (List ℕ)). IsOpened now.log found.0 spec blocks.items l entries) (sym beside)
+          (subst (λ (l : List Entry). IsOpened now.log found.0 spec blocks.items blocks.exts l) (sym are) found.1)),
     )
 
 pub told_ends : (reads : Option Image) (spec : Specification) (reader : ReaderValue) (blocks : BlocksValue) (place : ℕ) → place ≡ reader.at

@@ -27,7 +27,7 @@ pub record IsOpened (bytes : List ℕ) (log : LogContent) (specification : Speci
   pub says : content_of_records (records_of (drop 8 bytes)) ≡ Some log
   pub specified : specification ≡ specification_of log.specification
   pub decode : map (decoded block) items ≡ map Some log.blocks
-  pub exts : exts ≡ [] ∷ map ext_in log.records
+  pub beside : exts ≡ [] ∷ map ext_in log.records
   pub indexed : IndexesBlocks log.blocks entries
   pub named : NameBodies (14 + length log.specification) (record_of 2 log.genesis ∷ log.records) entries
 

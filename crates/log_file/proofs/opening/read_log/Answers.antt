@@ -17,7 +17,8 @@ all_read g c =
 
 pub returns-clause-opened : goal.returns-clause-opened
 returns-clause-opened g c =
-    told_opened _ c.in_ok-spec.spec c.read_blocks.new.reader c.read_blocks.new.blocks _ _ c.into_parts-blocks.ensures.items c.into_parts-blocks.ensures.entries (all_read g c)
+    let parts = c.into_parts-blocks.ensures in
+    told_opened _ c.in_ok-spec.spec c.read_blocks.new.reader c.read_blocks.new.blocks _ _ _ parts.items parts.exts parts.entries (all_read g c)
 
 pub returns-clause-ends : goal.returns-clause-ends
 returns-clause-ends g c = told_ends _ c.in_ok-spec.spec c.read_blocks.new.reader c.read_blocks.new.blocks c.at-place.result c.at-place.ensures.value (all_read g c)

@@ -26,8 +26,11 @@ invariant_of-result c =
     let there : decoded shapes.block c.args.body.now ≡ Some c.in-Some.block = search rules in
     let copied : c.in_ok-to_vec.field-0.items ≡ c.args.body.now = search rules in
     let pushed : c.push.new.self.items ≡ c.in_ok-to_vec.field-0 ∷ [] = c.in_ok-push.ensures.items ∙ ap (λ (l : List (Vec ℕ Global)). l ++ c.in_ok-to_vec.field-0 ∷ []) c.new-items.ensures.items in
+    let beside : c.push-2.new.self.items ≡ c.new-2.result ∷ [] =
+    c.in_ok-push-2.ensures.items ∙ ap (λ (l : List (Vec ℕ Global)). l ++ c.new-2.result ∷ []) c.new-exts.ensures.items in
     let items : map bytes_of c.push.new.self.items ≡ c.args.body.now ∷ [] = ap (map bytes_of) pushed ∙ (λ i. copied i ∷ []) in (
       subst (λ (l : List (List ℕ)). AreBlocks l c.in_ok-tree.tree.entries) (sym items)
           (genesis_blocks c.args.body.now c.in-Some.block c.in_ok-tree.tree.entries there (c.in_ok-tree.ensures.of_blocks c.in-Some.block c.entry_of.ensures.describes)),
+      omega (arith, ap length pushed, ap length beside),
       omega (arith, kept_limit_is, ap length pushed),
     )

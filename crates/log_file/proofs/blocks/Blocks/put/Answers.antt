@@ -1,10 +1,10 @@
 use Rattle.std.proofs.Common.{◌≡◌, ◌++◌, ◌∷◌, [], List, ℕ, Vec, Global, map, length, ◌≤◌, sym, ap, ◌∙◌, subst, inr, arith, rules}
-use Rattle.std.proofs.lemmas.List.{map_push, length-map}
+use Rattle.std.proofs.lemmas.List.{map_push, length-map, length_push}
 use Rattle.codec_defs.specs.Schema.{Block}
 use Rattle.verdict_defs.specs.Verdict.{kept_limit}
 use Rattle.chain_tree.specs.declared.entry.Entry.{Entry}
 use Rattle.chain_tree.specs.Blocks.{IndexesBlocks}
-use Rattle.log_file.specs.Grammar.{record_of, BlocksValue, StandFor, IsGrownBy}
+use Rattle.log_file.specs.Grammar.{record_of, ext_in, BlocksValue, StandFor, IsGrownBy}
 use Rattle.log_file.proofs.Judging.{limit_is, grown, still_blocks, one_more}
 use Rattle.log_file.proofs.blocks.Blocks.put.Goals as goal
 
@@ -17,21 +17,31 @@ abbrev bytes_of : Vec ℕ Global → List ℕ
 bytes_of item = item.items
 
 abbrev before : goal.After-add → BlocksValue
-before c = record { items = map bytes_of c.self.inside.items.items; entries = c.self.inside.tree.entries }
+before c = record { items = map bytes_of c.self.inside.items.items; exts = map bytes_of c.self.inside.exts.items; entries = c.self.inside.tree.entries }
 
 abbrev after : goal.After-add → BlocksValue
-after c = record { items = map bytes_of c.push.new.self.items; entries = c.add.new.self.entries }
+after c = record { items = map bytes_of c.push.new.self.items; exts = map bytes_of c.push_reserved.new.self.items; entries = c.add.new.self.entries }
 
 one_longer : (c : goal.After-add) → (after c).items ≡ (before c).items ++ c.in-Some.item.now ∷ []
 one_longer c =
-    let copied : c.in_ok-to_vec.field-0.items ≡ c.in-Some.item.now = search rules in
-    ap (map bytes_of) c.in_ok-push.ensures.items ∙ map_push bytes_of c.self.inside.items.items c.in_ok-to_vec.field-0
+    let copied : c.in_ok-item.item.items ≡ c.in-Some.item.now = search rules in
+    ap (map bytes_of) c.in_ok-push.ensures.items ∙ map_push bytes_of c.self.inside.items.items c.in_ok-item.item
     ∙ ap (λ (x : List ℕ). (before c).items ++ x ∷ []) copied
+
+exts_longer : (c : goal.After-add) → c.push_reserved.new.self.items ≡ c.self.inside.exts.items ++ c.in_ok-ext.ext ∷ []
+exts_longer c = c.push_reserved.ensures.items ∙ ap (λ (l : List (Vec ℕ Global)). l ++ c.in_ok-ext.ext ∷ []) c.in_ok-reserve-2.ensures.items
+
+one_ext_more : (c : goal.After-add) → c.in-Some.ext.now ≡ ext_in (record_of c.args.kind c.args.body.now) → (after c).exts ≡ (before c).exts ++ ext_in (record_of c.args.kind c.args.body.now) ∷ []
+one_ext_more c is =
+    let copied : c.in_ok-ext.ext.items ≡ c.in-Some.ext.now = search rules in
+    ap (map bytes_of) (exts_longer c) ∙ map_push bytes_of c.self.inside.exts.items c.in_ok-ext.ext
+    ∙ ap (λ (x : List ℕ). (before c).exts ++ x ∷ []) (copied ∙ is)
 
 is_grown : (c : goal.After-add) (kept : List Block) → StandFor kept (before c) → IsGrownBy c.args.at (record_of c.args.kind c.args.body.now) kept (before c) (after c)
 is_grown c kept stand =
     let reserved = c.in_ok-reserve.ensures.entries in
-    grown c.args.at (record_of c.args.kind c.args.body.now) kept (before c) (after c) c.in-Some.item.now c.in-Some.entry stand (c.in-Some.ensures.judged kept stand.indexed) (one_longer c)
+    let judged = c.in-Some.ensures.judged kept stand.indexed in
+    grown c.args.at (record_of c.args.kind c.args.body.now) kept (before c) (after c) c.in-Some.item.now c.in-Some.entry stand judged.0 (one_longer c) (one_ext_more c judged.1)
     (c.add.ensures.entries ∙ ap (λ (l : List Entry). l ++ c.in-Some.entry ∷ []) reserved)
     (λ block described parent. c.add.ensures.of_blocks kept block (subst (IndexesBlocks kept) (sym reserved) stand.indexed) described parent)
 
@@ -45,11 +55,23 @@ few_here c =
       one_more (before c) old.blocks (after c).items c.in-Some.item.now c.len.result stand (c.len.ensures.of_blocks old.blocks old.indexed) (omega (arith, c.if-len-gt-RECORD_LIMIT.false)) (one_longer c),
     )
 
+-- an ext beside each block
+as_many_exts : (c : goal.After-add) → length c.push_reserved.new.self.items ≡ length c.push.new.self.items
+as_many_exts c =
+    omega (
+      arith,
+      ap length (exts_longer c),
+      ap length c.in_ok-push.ensures.items,
+      length_push c.self.inside.exts.items c.in_ok-ext.ext,
+      length_push c.self.inside.items.items c.in_ok-item.item,
+      c.self.invariant.1,
+    )
+
 pub invariant_of-self-2 : goal.invariant_of-self-2
 invariant_of-self-2 c =
     let old = c.self.invariant.0 in
     let stand : StandFor old.blocks (before c) = record { decode = old.decode; indexed = old.indexed } in
-    (still_blocks _ _ old.blocks (before c) (after c) (is_grown c old.blocks stand), few_here c)
+    (still_blocks _ _ old.blocks (before c) (after c) (is_grown c old.blocks stand), as_many_exts c, few_here c)
 
 pub returns-clause-few : goal.returns-clause-few
 returns-clause-few c = omega (arith, length-map c.push.new.self.items bytes_of, few_here c)
