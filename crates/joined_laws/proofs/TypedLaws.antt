@@ -22,7 +22,7 @@ use Rattle.store_defs.specs.Genesis.{all_hold_their_own, holds_capacity, all_hol
 use Rattle.store_defs.specs.Store.{IsJoined}
 use Rattle.joined_laws.specs.Laws.{TypedCellsHoldTheirOwn}
 use Rattle.joined_laws.proofs.RuleLemmas.{forms-unbroken, transactions-unbroken, hold-from, capacity-good}
-use Rattle.joined_laws.proofs.KeptLemmas.{joined-kept}
+use Rattle.store_defs.proofs.JoinedLemmas.{is_kept_of_joined}
 
 -- what is so of all elements is so at each place
 each-at : {X : Type 0} (p : X → Bool) (xs : List X) (i : ℕ) (x : X) → list_all p xs ≡ true → slice_get xs i ≡ Some x → p x ≡ true
@@ -106,5 +106,5 @@ kept-holds chain joined (suc place) b o cell there is typed =
 pub typed-cells-hold-their-own : TypedCellsHoldTheirOwn
 typed-cells-hold-their-own chain place o cell joined below live typed =
     let made = cells-are-outputs (branch chain.blocks place) o cell live in
-    let on = (IsBranch-branch chain.blocks place (joined-kept chain joined) below).among cell.height made.0 made.1 in
+    let on = (IsBranch-branch chain.blocks place (is_kept_of_joined chain joined) below).among cell.height made.0 made.1 in
     kept-holds chain joined on.0 made.0 o cell on.1 made.2 typed
