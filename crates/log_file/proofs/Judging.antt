@@ -13,6 +13,7 @@ use Rattle.chain_tree.specs.declared.entry.Entry.{Entry}
 use Rattle.chain_tree.specs.Blocks.{Describes, IndexesBlocks}
 use Rattle.store_defs.specs.Genesis.{is_first, genesis_rules, broken_by, broken_genesis_rule}
 use Rattle.store_defs.specs.Log.{Record, record_limit}
+use Rattle.store_defs.specs.LogLaws.{HasFittingBody}
 use Rattle.log_file.specs.Grammar.{record_of, is_genesis, ext_in, BlocksValue, AreBlocks, StandFor, IsBehind, IsGrownBy}
 
 pub limit_is : record_limit ≡ 999999
@@ -29,8 +30,8 @@ as_many items kept decode = sym (length-map items (decoded shapes.block)) ∙ ap
 pub grown : (place : ℕ) (r : Record) (kept : List Block) (old new : BlocksValue) (item : List ℕ) (entry : Entry) → StandFor kept old → IsBehind place r kept item entry
     → new.items ≡ old.items ++ item ∷ [] → new.exts ≡ old.exts ++ ext_in r ∷ [] → new.entries ≡ old.entries ++ entry ∷ []
     → ((block : Block) → Describes block entry → place_of kept block.header.parent_hash ≡ Some entry.parent → IndexesBlocks (kept ++ block ∷ []) new.entries)
-    → IsGrownBy place r kept old new
-grown place r kept old new item entry stand behind items exts entries indexed = record {
+    → HasFittingBody r → IsGrownBy place r kept old new
+grown place r kept old new item entry stand behind items exts entries indexed fits = record {
   block = behind.block;
   is = behind.is;
   stand = record {
@@ -44,6 +45,7 @@ grown place r kept old new item entry stand behind items exts entries indexed = 
   item = item;
   items = items;
   exts = exts;
+  fits = fits;
 }
 
 pub still_blocks : (place : ℕ) (r : Record) (kept : List Block) (old new : BlocksValue) → IsGrownBy place r kept old new → AreBlocks new.items new.entries

@@ -6,6 +6,7 @@ use Rattle.std.specs.Str.{bytes_eq}
 use Rattle.std.specs.Cmp.Lexicographic.{bytes_decides}
 use Rattle.std.proofs.lemmas.Bool.{and_from, and_parts, and_right, le-leb, leb-true}
 use Rattle.std.proofs.lemmas.List.{append_assoc, append-nil, length-append, length-drop, length_push, map_push, drop-drop}
+use Rattle.std.proofs.lemmas.List.Elements.{All-nil, All-push}
 use Rattle.codec_defs.specs.Schema.{Block}
 use Rattle.verdict_defs.specs.Verdict.{blocks_of_item, kept_limit}
 use Rattle.time_defs.specs.Specification.{Specification, broken_specification_rule, specification_of}
@@ -13,7 +14,7 @@ use Rattle.chain_tree.specs.declared.entry.Entry.{Entry}
 use Rattle.outside.specs.Image.{Image}
 use Rattle.store_defs.specs.Genesis.{broken_genesis_rule}
 use Rattle.store_defs.specs.Log.{Record, record_at, record_bytes, all_record_bytes, records_of, end_of_log, magic, LogContent, record_limit, are_first, block_of_record, blocks_over, content_of_records, log_of}
-use Rattle.store_defs.specs.LogLaws.{grown}
+use Rattle.store_defs.specs.LogLaws.{HasFittingBody, grown}
 use Rattle.store_defs.specs.Rest.{EndsAt}
 use Rattle.store_defs.proofs.Records.{record_length, parts_at, records_of_none, records_of_some, size_of_all, size-push}
 use Rattle.store_defs.proofs.Contents.{grows_by_a_block}
@@ -180,6 +181,7 @@ begun log spec first second third blocks start one two reading =
       specified = one.is.1;
       stand = two.is.stand;
       exts = two.is.exts;
+      fits = All-nil HasFittingBody;
       counted = omega (arith, as_many blocks.items (blocks_of_item two.r.body) two.is.stand.decode, ap length two.is.items);
       named = subst (NameBodies (14 + length one.r.body) (record_of 2 two.r.body ∷ [])) (sym two.is.entries) named;
       next = omega (
@@ -218,6 +220,7 @@ one_more_read log spec old new before after so_far passed reading few =
       specified = so_far.specified;
       stand = is.stand;
       exts = is.exts ∙ ap (λ (l : List (List ℕ)). l ++ ext_in r ∷ []) so_far.exts ∙ ap (λ (l : List (List ℕ)). [] ∷ l) (sym (map_push ext_in so_far.log.records r));
+      fits = All-push HasFittingBody so_far.log.records r so_far.fits is.fits;
       counted = omega (arith, length_push kept is.block, length_push so_far.log.records r, so_far.counted);
       named = subst (NameBodies start (front ++ r ∷ [])) (sym is.entries) (names-push start front before.entries r is.entry so_far.named named);
       next = omega (arith, passed.at.at, so_far.next, size-push front r);
@@ -288,6 +291,7 @@ opened_all log spec reader blocks begins all =
         specified = far.specified;
         decode = far.stand.decode;
         beside = far.exts;
+        fits = far.fits;
         indexed = far.stand.indexed;
         named = far.named;
       },
@@ -355,6 +359,7 @@ module _ (spec : Specification) (r0 r1 : ReaderValue) (b0 b1 : BlocksValue) wher
           specified = far.specified;
           stand = subst (StandFor far.log.blocks) (sym is) far.stand;
           exts = ap (λ (b : BlocksValue). b.exts) is ∙ far.exts;
+          fits = far.fits;
           counted = far.counted;
           named = subst (λ (b : BlocksValue). NameBodies (14 + length far.log.specification) (record_of 2 far.log.genesis ∷ far.log.records) b.entries) (sym is) far.named;
           next = at.at ∙ far.next;

@@ -10,6 +10,7 @@ use Rattle.chain_tree.specs.declared.entry.Entry.{Entry}
 use Rattle.chain_tree.specs.Blocks.{Describes, IndexesBlocks}
 use Rattle.store_defs.specs.Genesis.{broken_genesis_rule}
 use Rattle.store_defs.specs.Log.{Record, parts_of_body, block_of_record}
+use Rattle.store_defs.specs.LogLaws.{HasFittingBody}
 
 abbrev pub record_of : ℕ → List ℕ → Record
 record_of kind body = record { kind = kind; body = body }
@@ -82,6 +83,7 @@ pub record IsGrownBy (at : ℕ) (r : Record) (kept : List Block) (old new : Bloc
   pub item : List ℕ
   pub items : new.items ≡ old.items ++ item ∷ []
   pub exts : new.exts ≡ old.exts ++ ext_in r ∷ []
+  pub fits : HasFittingBody r
 
 -- a record's item with its ext, and its block's entry, or nothing where it is none of a block that may stand behind these
 abbrev pub IsJudged : ℕ → Record → List Block → Option ((List ℕ × List ℕ) × Entry) → Type 0

@@ -1,5 +1,5 @@
 -- What a log is opened as.
-use Rattle.std.specs.Prelude.{◌≡◌, ℕ, ◌+◌, ◌<◌, ◌==◌, List, [], ◌∷◌, ◌++◌, map, length, drop, slice_index, Some, None, if◌then◌else◌}
+use Rattle.std.specs.Prelude.{◌≡◌, ℕ, ◌+◌, ◌<◌, ◌==◌, List, [], ◌∷◌, ◌++◌, All, map, length, drop, slice_index, Some, None, if◌then◌else◌}
 use Rattle.codec_defs.specs.Shape.{decoded}
 use Rattle.codec_defs.specs.Schema.{block}
 use Rattle.time_defs.specs.Specification.{Specification, specification_of}
@@ -11,6 +11,7 @@ use Rattle.outside.specs.Disk.{write_area}
 use Rattle.log_file.specs.Grammar.{record_of, ext_in, BlocksValue, StandFor}
 use Rattle.log_file.specs.Reading.{ReaderValue, IsReading}
 use Rattle.store_defs.specs.Log.{Record, record_bytes, all_record_bytes, record_at, records_of, LogContent, content_of_records, log_of}
+use Rattle.store_defs.specs.LogLaws.{HasFittingBody}
 
 -- The entries name the bodies of these records, which stand one after the other from this place on.
 abbrev pub NameBodies : ℕ → List Record → List Entry → Type 0
@@ -28,6 +29,7 @@ pub record IsOpened (bytes : List ℕ) (log : LogContent) (specification : Speci
   pub specified : specification ≡ specification_of log.specification
   pub decode : map (decoded block) items ≡ map Some log.blocks
   pub beside : exts ≡ [] ∷ map ext_in log.records
+  pub fits : All HasFittingBody log.records
   pub indexed : IndexesBlocks log.blocks entries
   pub named : NameBodies (14 + length log.specification) (record_of 2 log.genesis ∷ log.records) entries
 
@@ -43,6 +45,7 @@ pub record HasRead (bytes : List ℕ) (specification : Specification) (reader : 
   pub specified : specification ≡ specification_of log.specification
   pub stand : StandFor log.blocks blocks
   pub exts : blocks.exts ≡ [] ∷ map ext_in log.records
+  pub fits : All HasFittingBody log.records
   pub counted : length log.blocks ≡ length log.records + 1
   pub named : NameBodies (14 + length log.specification) (record_of 2 log.genesis ∷ log.records) blocks.entries
   pub next : reader.at ≡ 14 + length log.specification + length (all_record_bytes (record_of 2 log.genesis ∷ log.records))

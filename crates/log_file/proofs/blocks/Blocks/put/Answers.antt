@@ -43,7 +43,7 @@ is_grown c kept stand =
     let judged = c.in-Some.ensures.judged kept stand.indexed in
     grown c.args.at (record_of c.args.kind c.args.body.now) kept (before c) (after c) c.in-Some.item.now c.in-Some.entry stand judged.0 (one_longer c) (one_ext_more c judged.1)
     (c.add.ensures.entries ∙ ap (λ (l : List Entry). l ++ c.in-Some.entry ∷ []) reserved)
-    (λ block described parent. c.add.ensures.of_blocks kept block (subst (IndexesBlocks kept) (sym reserved) stand.indexed) described parent)
+    (λ block described parent. c.add.ensures.of_blocks kept block (subst (IndexesBlocks kept) (sym reserved) stand.indexed) described parent) c.requires
 
 few_here : (c : goal.After-add) → length c.push.new.self.items ≤ kept_limit
 few_here c =
