@@ -38,6 +38,9 @@ returns-then-not-forms_cellbase-clause-broken g c stored stands uncles rule same
 pub returns-clause-some : goal.returns-clause-some
 returns-clause-some g c = has-first c.args.block.now (sym c.in_ok-has_cellbase.ensures ∙ c.if-not-branch-2.false)
 
+pub returns-clause-header : goal.returns-clause-header
+returns-clause-header g c kept indexes = sym (c.in_default.ensures.of_blocks kept c.args.block.now indexes c.header.ensures)
+
 pub returns-clause-unbroken : goal.returns-clause-unbroken
 returns-clause-unbroken g c stored stands uncles =
     keeps-ahead c.args.spec.now (branch (blocks_of stored) c.args.parent) c.args.block.now (c.in_default.ensures.of_blocks (blocks_of stored) c.args.block.now stands.indexed c.header.ensures)

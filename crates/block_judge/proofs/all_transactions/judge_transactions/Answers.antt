@@ -1,4 +1,4 @@
-use Rattle.std.proofs.Common.{Some, refl, ap, ◌∙◌, [], arith}
+use Rattle.std.proofs.Common.{Some, refl, ap, ◌∙◌, [], length, arith}
 use Rattle.outside.specs.declared.disk.ReadStop.TheVariants.{Damaged}
 use Rattle.chain_defs.specs.Branch.{branch}
 use Rattle.chain_tree.specs.Told.{blocks_of}
@@ -26,6 +26,10 @@ returns-then-count-eq1-clause-ext g c stored tells stands =
     (record { fees = c.new.result.items; spent = c.new-then-count-eq1.result.items }) refl c.new.ensures.items c.new-then-count-eq1.ensures.items)
     (omega (arith, c.if-count-eq1.true, c.transactions_count-count.ensures.value))
 
+pub returns-then-count-eq1-clause-fees : goal.returns-then-count-eq1-clause-fees
+returns-then-count-eq1-clause-fees g c =
+    omega (arith, ap length c.new.ensures.items, c.if-count-eq1.true, c.transactions_count-count.ensures.value)
+
 pub later-init : goal.later-init
 later-init g c = record {
   told = c.in_ok-proposed.ensures.told;
@@ -33,6 +37,8 @@ later-init g c = record {
   loans = c.in_ok-proposed.ensures.loans;
   faults = c.in_ok-proposed.ensures.cause.unchanged (λ fault. cc);
   left = c.in_ok-progress.ensures.few;
+  within = omega (arith, c.requires.some);
+  fees = omega (arith, ap length c.in_ok-progress.ensures.fees);
   rows = rows-after_more _ c.args.block.now 0 c.transactions_item.result (g.C.Cells.rows c.args.cells.now) (g.C.Cells.rows c.args.cells.now) _
       (rows-after_none _ c.args.block.now (g.C.Cells.rows c.args.cells.now) (g.C.Cells.rows c.args.cells.now) (λ o. refl)) c.transactions_item.ensures
       (λ height o above. c.in_ok-progress.ensures.rows height o above);
@@ -48,6 +54,8 @@ later-preserved g c = record {
   loans = c.judge_next.ensures.loans ∙ c.later.invariant.loans;
   faults = c.in_ok-judge_next.ensures.cause.unchanged (λ fault. cc) ∙ c.later.invariant.faults;
   left = omega (arith, c.judge_next.ensures.within, c.later.invariant.left);
+  within = omega (arith, c.later-test.true, c.transactions_count-count.ensures.value);
+  fees = omega (arith, c.in_ok-judge_next.ensures.fees, c.later.invariant.fees);
   rows = rows-after_more _ c.args.block.now c.later.place c.transactions_item-tx.result (g.C.Cells.rows c.args.cells.now)
       (with_changes c.later.progress.cells.changed (g.C.Cells.rows c.later.progress.cells.base.now)) _
       c.later.invariant.rows c.transactions_item-tx.ensures (λ height o above. c.in_ok-judge_next.ensures.rows height o above);
@@ -100,3 +108,7 @@ pub returns-clause-ext : goal.returns-clause-ext
 returns-clause-ext g c stored tells stands =
     judged-ext c.args.spec.now (blocks_of stored) c.args.parent c.args.block.now c.later.place c.later.progress.left c.later.progress.ext
     (c.later.invariant.judged stored tells stands) (omega (arith, c.later-test.false, c.transactions_count-count.ensures.value))
+
+pub returns-clause-fees : goal.returns-clause-fees
+returns-clause-fees g c =
+    omega (arith, c.later.invariant.fees, c.later.invariant.within, c.later-test.false, c.transactions_count-count.ensures.value)

@@ -1,4 +1,5 @@
-use Rattle.std.proofs.Common.{◌≡◌, Some, None, length, sym, ap, ◌∙◌, subst}
+use Rattle.std.proofs.Common.{◌≡◌, ◌+◌, Some, None, length, sym, ap, ◌∙◌, subst}
+use Rattle.std.proofs.lemmas.List.{length_push}
 use Rattle.fold_defs.specs.First.{first_failing}
 use Rattle.outside.specs.declared.disk.ReadStop.TheVariants.{Damaged}
 use Rattle.tx_rules.specs.At.{IsSiteOf}
@@ -40,3 +41,7 @@ returns-clause-spends g c stored site told is =
     (c.in_ok-taken.ensures.spends stored site told
     (subst (λ p. IsSiteOf stored c.args.at.now (with_changes p.cells.changed (g.C.Cells.rows p.cells.base.now)) site) (sym c.self.view_is) is))
     (ap (λ p. p.ext.spent) c.self.view_is) c.in_ok-push_spent.ensures
+
+pub returns-clause-fees : goal.returns-clause-fees
+returns-clause-fees g c =
+    ap length c.in_ok-push_fee.ensures ∙ length_push _ _ ∙ ap (λ p. length p.ext.fees + 1) c.self.view_is
