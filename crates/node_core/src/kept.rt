@@ -1,15 +1,18 @@
 // The kept blocks in memory, and the live cells of the tip.
-ghost use Rattle.std.specs.Prelude.{◌≡◌, ◌≢◌, ◌≤◌, ◌<◌, ◌+◌, ◌++◌, ◌∷◌, [], ℕ, List, length, map, Some, Err, IfOk, IsTrue};
+ghost use Rattle.std.specs.Prelude.{◌≡◌, ◌≢◌, ◌≤◌, ◌<◌, ◌+◌, ◌++◌, ◌∷◌, ◌^◌, [], ℕ, List, length, Some, None, Err, IfOk, OnOk};
 ghost use Rattle.codec_defs.specs.Shape.{decoded};
 ghost use Rattle.codec_defs.specs.Schema as schema;
 ghost use Rattle.codec_defs.specs.Schema.{Block, OutPoint};
+ghost use Rattle.chain_defs.specs.Kept.{place_of};
+ghost use Rattle.chain_tree.specs.Entries.{place_of_hash, FollowsParent};
+ghost use Rattle.uncle_rules.specs.Embedded.{embedded_in};
 ghost use Rattle.chain_defs.specs.Tip as tips;
 ghost use Rattle.chain_defs.specs.Tip.{tip_place};
 ghost use Rattle.cell_defs.specs.Events.{events_of_block};
 ghost use Rattle.cell_defs.specs.Row.{live_row};
 ghost use Rattle.cell_state.specs.Fit.{AllFit};
 ghost use Rattle.cell_state.specs.State.{rows, Grows};
-ghost use Rattle.cell_model.specs.ListBlocks.{IsExtFor};
+ghost use Rattle.cell_model.specs.ListBlocks.{IsCanonical, IsExtFor};
 ghost use Rattle.chain_tree.specs.Blocks.{Describes, IndexesBlocks};
 ghost use Rattle.outside.specs.declared.disk.Area.TheVariants.{Log};
 ghost use Rattle.outside.specs.declared.disk.Damage.{Damage as a_damage};
@@ -145,25 +148,26 @@ impl Kept {
             mut uncles,
             state,
         } = self;
-        let entry = joining.entry;
-        let state = Kept::state_with(state, &tree, &block, joining, steps)?;
-        let place = tree.len();
-        uncles.reserve(block.uncles_count())?;
-        uncles.add(&block, place);
-        tree.reserve()?;
-        tree.add(Entry {
+        let entry = Entry {
             at: rec.at,
             len: rec.len,
-            ..entry
-        });
-        blocks.push(copy_of(alloc, item)?, ext)?;
-        Ok(Kept {
-            spec,
-            blocks,
-            tree,
-            uncles,
-            state,
-        })
+            ..joining.entry
+        };
+        let state = Kept::state_with(state, &tree, &block, joining, steps)?;
+        match take_uncles(&mut uncles, &block, tree.len()) {
+            Ok(()) => {}
+            Err(_) => return Err(ReadStop::NoMemory),
+        }
+        match put(alloc, &mut blocks, &mut tree, item, ext, entry) {
+            Ok(()) => Ok(Kept {
+                spec,
+                blocks,
+                tree,
+                uncles,
+                state,
+            }),
+            Err(_) => Err(ReadStop::NoMemory),
+        }
     }
 
     /// What is kept of the tip.
@@ -188,9 +192,43 @@ impl Kept {
     }
 }
 
-/// A copy of an item.
-fn copy_of(alloc: Global, item: &[u8]) -> Result<Vec<u8>, NoMemory>
-    ensures { IfOk result (λ copy. copy.items ≡ item.now) }
+/// Takes the uncles of the block at a place behind those of the blocks before it.
+pub(crate) fn take_uncles(
+    uncles: &mut Uncles,
+    block: &BlockView<'_>,
+    place: u32,
+) -> Result<(), NoMemory>
+    ensures { OnOk result (uncles.new.embedded ≡ uncles.old.embedded ++ embedded_in place block.now) }
 {
-    Ok(item.to_vec(alloc)?)
+    uncles.reserve(block.uncles_count())?;
+    uncles.add(block, place);
+    Ok(())
+}
+
+/// Puts an item with its ext behind the others, and its entry.
+fn put(
+    alloc: Global,
+    blocks: &mut ListBlocks,
+    tree: &mut Tree,
+    item: &[u8],
+    ext: Vec<u8>,
+    entry: Entry,
+) -> Result<(), NoMemory>
+    requires few { length blocks.old.stored + 1 < 2 ^ 32 }
+    requires fewer { length tree.old.entries + 1 < 2 ^ 32 }
+    requires canonical { IsCanonical item.now }
+    requires ext { 0 < length blocks.old.stored → IsExtFor item.now ext.items }
+    requires parent { FollowsParent tree.old.entries entry }
+    requires new { place_of_hash tree.old.entries entry.hash ≡ None }
+    ensures blocks { (b : Block) → decoded schema.block item.now ≡ Some b
+        → OnOk result (blocks.new.stored ≡ blocks.old.stored ++ record { block = b; ext = ext.items } ∷ []) }
+    ensures entries { OnOk result (tree.new.entries ≡ tree.old.entries ++ entry ∷ []) }
+    ensures indexed { (kept : List Block) (b : Block) → IndexesBlocks kept tree.old.entries → Describes b entry
+        → place_of kept b.header.parent_hash ≡ Some entry.parent → OnOk result (IndexesBlocks (kept ++ b ∷ []) tree.new.entries) }
+{
+    let copy = item.to_vec(alloc)?;
+    tree.reserve()?;
+    blocks.push(copy, ext)?;
+    tree.add(entry);
+    Ok(())
 }

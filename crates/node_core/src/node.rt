@@ -22,6 +22,7 @@ ghost use Rattle.verdict_defs.specs.Verdict.{joins};
 ghost use Rattle.verdict_defs.specs.Trial.{trial_on};
 ghost use Rattle.verdict_defs.specs.declared.trial.Trial.TheVariants.{Passes, Refused};
 ghost use Rattle.store_defs.specs.Store.{Keeps, store_of, StandsFor, IsSound, IsJoined, IsOnlyRead};
+ghost use Rattle.log_file.specs.Pieces.{behind_gate, block_record};
 ghost use Rattle.node_core.specs.Node.{IsOn};
 ghost use Rattle.node_core.specs.Judging.{IsReadyItem, IsDecided};
 ghost use Rattle.node_core.specs.declared.deciding.Decision.TheVariants.{Joins};
@@ -59,6 +60,20 @@ fn bytes_of(alloc: Global, ext: &Ext) -> Result<Vec<u8>, NoMemory>
     if bytes.len() > EXT_LIMIT {
         return Err(NoMemory);
     }
+    Ok(bytes)
+}
+
+/// Makes the record of an item with its ext, and answers the bytes of the ext.
+fn fill(alloc: Global, body: &mut Body, item: &[u8], ext: &Ext) -> Result<Vec<u8>, NoMemory>
+    requires { length item.now < 2 ^ 31 }
+    ensures bytes { IfOk result (λ bytes. bytes.items ≡ ext_bytes ext.now) }
+    ensures form { IfOk result (λ bytes. IsTrue (is_ext bytes.items)) }
+    ensures fees { IfOk result (λ bytes. count_at bytes.items 0 ≡ length ext.now.fees) }
+    ensures filled { OnOk result (body.new ≡ behind_gate (block_record item.now (ext_bytes ext.now))) }
+    ensures short { OnOk result (length body.new < 2 ^ 33) }
+{
+    let bytes = bytes_of(alloc, ext)?;
+    body.fill(alloc, item, &bytes)?;
     Ok(bytes)
 }
 
@@ -156,8 +171,10 @@ impl Node {
             log,
             mut body,
         } = self;
-        let ext = bytes_of(alloc, &joining.ext)?;
-        body.fill(alloc, item, &ext)?;
+        let ext = match fill(alloc, &mut body, item, &joining.ext) {
+            Ok(ext) => ext,
+            Err(_) => return Err(ReadStop::NoMemory),
+        };
         let rec = rec_behind(&log, &body);
         let kept = kept.join(alloc, item, ext, rec, joining, steps)?;
         match append(log, disk, &body) {

@@ -14,7 +14,7 @@ ghost use Rattle.log_file.specs.Grammar.{AreBlocks};
 ghost use Rattle.log_file.specs.declared.stop.LogStop.TheVariants.{DiskFault, NotAStore};
 ghost use Rattle.node_core.specs.Opening.{HaveBlocks, HaveExts};
 
-use crate::kept::Kept;
+use crate::kept::{Kept, take_uncles};
 use cell_model::ListBlocks;
 use chain_tree::Tree;
 use dao_math::Dao;
@@ -96,8 +96,7 @@ fn uncles_of(alloc: Global, blocks: &[Vec<u8>]) -> Result<Uncles, NoMemory>
     let mut uncles = Uncles::new(alloc);
     'blocks: for place in 0..blocks.len() {
         if let Some(block) = BlockView::read(&blocks[place]) {
-            uncles.reserve(block.uncles_count())?;
-            uncles.add(&block, place as u32);
+            take_uncles(&mut uncles, &block, place as u32)?;
         }
     }
     Ok(uncles)
