@@ -4,8 +4,8 @@ use Rattle.std.specs.Option.{option_map}
 use Rattle.outside.specs.declared.disk.Area.TheVariants.{Log}
 use Rattle.outside.specs.Image.{Image, with_content}
 use Rattle.outside.specs.Disk.{OthersRead}
-use Rattle.rule_defs.specs.Chain.{chain_after}
-use Rattle.rule_defs.specs.Laws.{CanJoin}
+use Rattle.verdict_defs.specs.Chain.{chain_after}
+use Rattle.verdict_defs.specs.Laws.{CanJoin}
 use Rattle.store_defs.specs.Log.{record_bytes}
 use Rattle.store_defs.specs.LogLaws.{record_of_joined}
 use Rattle.store_defs.specs.Rest.{IsAtRest, IsBeforeOrAfter, IsSettled, HasLog}

@@ -11,12 +11,12 @@ use Rattle.time_defs.specs.Specification.{Specification}
 use Rattle.chain_defs.specs.Kept.{block_hash, place_of}
 use Rattle.chain_defs.specs.Branch.{branch}
 use Rattle.chain_defs.proofs.KeptLaws.{place_of-below, slice_get-below}
-use Rattle.rule_defs.specs.Verdict.{joins, verdict, verdict_of, verdict_of_block, kept_limit}
-use Rattle.rule_defs.specs.Chain.{Chain, verdict_over, chain_after}
-use Rattle.rule_defs.specs.Laws.{CanJoin}
-use Rattle.rule_defs.specs.declared.verdict.Verdict.{Verdict}
-use Rattle.rule_defs.specs.declared.verdict.Verdict.TheVariants.{Joined, Refused}
-use Rattle.rule_defs.proofs.VerdictLaws.{verdict-joined, keeps-what-joins, kept_after-stays, follows-unbroken}
+use Rattle.verdict_defs.specs.Verdict.{joins, verdict, verdict_of, verdict_of_block, kept_limit}
+use Rattle.verdict_defs.specs.Chain.{Chain, verdict_over, chain_after}
+use Rattle.verdict_defs.specs.Laws.{CanJoin}
+use Rattle.verdict_defs.specs.declared.verdict.Verdict.{Verdict}
+use Rattle.verdict_defs.specs.declared.verdict.Verdict.TheVariants.{Joined, Refused}
+use Rattle.verdict_defs.proofs.VerdictLaws.{verdict-joined, keeps-what-joins, kept_after-stays, follows-unbroken}
 use Rattle.chain_tree.specs.declared.entry.Entry.{Entry}
 use Rattle.chain_tree.specs.Entries.{entry_at, place_of_hash, FollowsParent}
 use Rattle.chain_tree.specs.Blocks.{Describes, IndexesBlocks}

@@ -7,7 +7,7 @@ use Rattle.outside.specs.Image.{Image, with_content, InArea}
 use Rattle.outside.specs.Disk.{cut_area, Cut, Follows, IsDurable, OthersRead}
 use Rattle.codec_defs.specs.Shape.{decoded}
 use Rattle.codec_defs.specs.Schema.{block}
-use Rattle.rule_defs.specs.Chain.{chain_of_genesis}
+use Rattle.verdict_defs.specs.Chain.{chain_of_genesis}
 use Rattle.store_defs.specs.Genesis.{broken_by, broken_genesis_rule}
 use Rattle.store_defs.specs.Rest.{IsSettled, HasOthers}
 use Rattle.store_defs.specs.Store.{StandsFor}

@@ -8,7 +8,7 @@ use Rattle.outside.specs.Causes.{CountsFault}
 use Rattle.outside.specs.Disk.{NoneNew, IsDurable, HasOneImage, OthersRead}
 use Rattle.codec_defs.specs.Schema.{Block}
 use Rattle.time_defs.specs.Specification.{Specification}
-use Rattle.rule_defs.specs.Chain.{Chain}
+use Rattle.verdict_defs.specs.Chain.{Chain}
 use Rattle.store_defs.specs.Log.{Record, LogContent, log_of, records_of}
 use Rattle.store_defs.specs.Rest.{IsSettled, HasLog}
 use Rattle.store_defs.specs.Store.{NoLog, NotALog, Keeps, store_of, store_of_log, chain_of, StandsFor, IsSound, EachHasJoined}
@@ -18,7 +18,7 @@ use Rattle.chain_tree.specs.Blocks.{IndexesBlocks}
 use Rattle.log_file.specs.Grammar.{AreBlocks}
 use Rattle.log_file.specs.Opening.{IsOpened}
 use Rattle.node_core.specs.Node.{IsOn, blocks_of, AreKept}
-use Rattle.rule_defs.specs.Verdict.{kept_limit}
+use Rattle.verdict_defs.specs.Verdict.{kept_limit}
 use Rattle.node_core.proofs.KeptLemmas.{blocks_of_all}
 use Rattle.node_core.proofs.DiskLemmas.{same_image}
 

@@ -5,7 +5,7 @@ use Rattle.codec_defs.specs.Schema.{Block}
 use Rattle.chain_defs.specs.Kept.{block_at}
 use Rattle.chain_defs.specs.Branch.{branch}
 use Rattle.rule_defs.specs.Header.{parent_of, follows}
-use Rattle.rule_defs.proofs.VerdictLaws.{parent_of-branch}
+use Rattle.verdict_defs.proofs.VerdictLaws.{parent_of-branch}
 use Rattle.chain_tree.specs.declared.entry.Entry.{Entry}
 use Rattle.chain_tree.specs.Blocks.{Describes, IndexesBlocks}
 use Rattle.chain_tree.proofs.BlockLemmas.{len-same}

@@ -35,9 +35,9 @@ pub record IsOn (node : NodeValue) (reads : Option Image) (images : Image → Ty
 
 -- What is kept in memory: the tree indexes the blocks, and the other index their uncles; the rows are those of the live cells of the tip; the C
 -- and the AR of each block's DAO field are above 0; and no more blocks are kept than may be.
-pub record AreKept (stored : List Stored) (entries : List Entry) (uncles : UnclesValue) (rows : OutPoint → Option Row) : Type 0 where
+pub record AreKept (stored : List Stored) (entries : List Entry) (index : UnclesValue) (rows : OutPoint → Option Row) : Type 0 where
   pub indexed : IndexesBlocks (blocks_of stored) entries
-  pub uncles : IndexesUncles (blocks_of stored) uncles
+  pub uncles : IndexesUncles (blocks_of stored) index
   pub live : (tip : ℕ) → tip_place (blocks_of stored) ≡ Some tip → (o : OutPoint) → rows o ≡ live_row (blocks_of stored) tip o
   pub rated : AreRated entries
   pub few : length stored ≤ kept_limit

@@ -1,5 +1,5 @@
 use Rattle.std.proofs.Common.{ap, sym, subst, ◌∙◌}
-use Rattle.rule_defs.specs.Verdict.{joins}
+use Rattle.verdict_defs.specs.Verdict.{joins}
 use Rattle.node_core.specs.Judging.{IsJudged}
 use Rattle.node_core.proofs.KeptLemmas.{stays, joined}
 use Rattle.node_core.proofs.node.Node.import.Goals as goal

@@ -2,7 +2,7 @@ use Rattle.std.proofs.Common.{◌≡◌, ◌++◌, ◌∷◌, [], ℕ, List, Vec
 use Rattle.std.proofs.lemmas.List.{map-append}
 use Rattle.codec_defs.specs.Schema.{Block}
 use Rattle.outside.proofs.Moments.{leaves_also, now_too}
-use Rattle.rule_defs.specs.Chain.{Chain, chain_after}
+use Rattle.verdict_defs.specs.Chain.{Chain, chain_after}
 use Rattle.store_defs.specs.LogLaws.{record_of_joined}
 use Rattle.chain_tree.specs.declared.entry.Entry.{Entry}
 use Rattle.chain_tree.specs.Blocks.{IndexesBlocks}
