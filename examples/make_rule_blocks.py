@@ -8,16 +8,21 @@ it must be answered with.
 A row is a word or words, a tab, and bytes in hex. `spec` and `genesis` begin a
 chain. Each other row is an item, tried in its order on the blocks that joined
 before it: `joined` or `refused J` and a number. Only J1, J3 and J4 to J14 are
-looked at, so that a block with uncles or with no transaction may join.
+looked at, so that a block with uncles or with no transaction may join. Where
+nothing else is asked for, a block has a cellbase and a DAO field that keep the
+later rules too.
 
 The lines are written down here, item by item. Hashes are Python's own Blake2b,
 roots and medians are computed as docs/RULES.md says, and nothing is taken from
 the program.
 """
 
-from make_store import ZERO_HASH, ckbhash, fixvec, table, uint
+from make_store import ZERO_HASH, as_bytes, ckbhash, fixvec, table, uint
 
 GREATEST = 2 ** 64 - 1
+
+# C, AR, S and U
+DAO = uint(10 ** 15, 8) + uint(10 ** 16, 8) + uint(0, 16)
 
 
 # ------------------------------------------------------------------- values
@@ -39,8 +44,13 @@ def raw(since, version=0):
 
 
 def transaction(raw_bytes, witness=b''):
-    witnesses = [uint(len(witness), 4) + witness] if witness else []
-    return table([raw_bytes, table(witnesses)])
+    return table([raw_bytes, table([as_bytes(witness)] if witness else [])])
+
+
+def cellbase(number, message=b''):
+    """A cellbase without an output; its witness names a lock, and has a message."""
+    lock = table([ZERO_HASH, b'\0', as_bytes(b'')])
+    return transaction(raw(number), table([lock, as_bytes(message)]))
 
 
 def raw_of(transaction_bytes):
@@ -84,8 +94,7 @@ class Chain:
         self.row('spec', uint(100, 4) + uint(self.target, 4) + uint(epoch_length, 4) + uint(2, 4) + uint(10, 4)
                  + uint(max_block_bytes, 4) + uint(max_proposals, 4) + uint(10 ** 9, 8) + uint(0, 8)
                  + uint(10 ** 12, 8) + uint(10 ** 11, 8) + uint(4, 8) + bytes(range(32)))
-        dao = uint(10 ** 15, 8) + uint(10 ** 16, 8) + uint(0, 16)
-        genesis = self.block(number=0, parent_hash=ZERO_HASH, timestamp=timestamp, dao=dao)
+        genesis = self.block(number=0, parent_hash=ZERO_HASH, timestamp=timestamp)
         self.row('genesis', genesis)
         self.keep(genesis)
 
@@ -110,7 +119,7 @@ class Chain:
         """The block on the last one that keeps J4 to J14, but for what changes in its header."""
         number = changes.get('number', len(self.blocks))
         if transactions is None:
-            transactions = [transaction(raw(number), pad)]
+            transactions = [cellbase(number, pad)]
         length = self.epoch_length
         fields = {
             'version': 0,
@@ -122,7 +131,7 @@ class Chain:
             'transactions_root': transactions_root(transactions),
             'proposals_hash': hash_of_all(list(proposals)),
             'uncles_hash': hash_of_all([ckbhash(u[12:220]) for u in uncles]),
-            'dao': uint(0, 32),
+            'dao': DAO,
             'nonce': 0,
         }
         assert set(changes) <= set(fields)
@@ -141,10 +150,10 @@ class Chain:
         self.row('refused J%d' % rule, self.block(**parts))
 
     def padded_to(self, length, **parts):
-        """The same block with a witness, so that it has this length. A witness of n bytes takes 8 + n."""
+        """The same block with a message in its cellbase, so that it has this length."""
         bare = len(self.block(**parts))
-        assert bare + 9 <= length
-        item = {'pad': bytes(length - bare - 8), **parts}
+        assert bare <= length
+        item = {'pad': bytes(length - bare), **parts}
         assert len(self.block(**item)) == length
         return item
 
@@ -155,7 +164,7 @@ def alone_and_before_a_later_one():
     chain.joins()
     number = len(chain.blocks)
     epoch = number // 10 + (number % 10 << 24) + (10 << 40)
-    root_now = transactions_root([transaction(raw(number))])
+    root_now = transactions_root([cellbase(number)])
     too_long = chain.padded_to(4001)
     three = [uncle(1), uncle(2), uncle(3)]
     chain.breaks(4, version=1)
@@ -180,7 +189,7 @@ def alone_and_before_a_later_one():
     chain.breaks(13, uncles=three, uncles_hash=ZERO_HASH)
     chain.breaks(14, uncles_hash=flipped(ZERO_HASH))
     # J17: the since of the cellbase's input is not the block's number
-    chain.breaks(14, uncles_hash=flipped(ZERO_HASH), transactions=[transaction(raw(number + 1))])
+    chain.breaks(14, uncles_hash=flipped(ZERO_HASH), transactions=[cellbase(number + 1)])
     chain.joins()
     return chain
 
@@ -330,7 +339,7 @@ def uncles():
     chain.breaks(14, uncles_hash=ckbhash(b''))
     # J12 beside J13, and J13 beside J14
     number = len(chain.blocks)
-    wrong_root = flipped(transactions_root([transaction(raw(number))]))
+    wrong_root = flipped(transactions_root([cellbase(number)]))
     chain.breaks(12, uncles=[one, two, one], transactions_root=wrong_root)
     chain.breaks(12, uncles=[one, two], transactions_root=wrong_root, uncles_hash=ZERO_HASH)
     chain.breaks(13, uncles=[one, two, one], uncles_hash=ZERO_HASH)

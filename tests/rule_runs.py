@@ -5,8 +5,8 @@
 
 The blocks are those of examples/make_rule_blocks.py, where each chain is a store
 of its own and its items are one input of `import`. The lines are the ones that
-script says, but for blocks of forms that are not judged yet. They owe nothing to
-the program.
+script says, for chains whose blocks keep J15 to J32 too. They owe nothing to the
+program.
 """
 
 import os
@@ -18,24 +18,11 @@ sys.dont_write_bytecode = True
 
 import make_rule_blocks as rules  # noqa: E402 (beside the path above)
 
-# chains of which no block joins that is not judged yet
+# chains of which no block joins that breaks a later rule
 CHAINS = ('alone_and_before_a_later_one', 'numbers', 'medians', 'greatest_timestamp', 'epochs', 'proposals')
 
 
-def number_at(item, place):
-    return int.from_bytes(item[place:place + 4], 'little')
-
-
-def is_judged(item):
-    """It has one transaction and no uncle."""
-    uncles, transactions, proposals = (number_at(item, place) for place in (8, 12, 16))
-    return transactions - uncles == 4 and number_at(item, transactions + 4) == 8 and proposals > transactions + 4
-
-
 def line_of(said, item):
-    if not is_judged(item):
-        assert said != 'joined'
-        return 'unbuilt\n'
     if said != 'joined':
         return said + '\n'
     return 'joined %d 0x%s\n' % (int.from_bytes(item[36:44], 'little'), rules.ckbhash(item[20:228]).hex())
