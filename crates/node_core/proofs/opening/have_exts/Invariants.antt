@@ -1,9 +1,7 @@
-use Rattle.std.proofs.Common.{ℕ, ◌<◌, []}
-use Rattle.std.specs.Prelude.{slice_index_or}
-use Rattle.cell_model.specs.ListBlocks.{contents, IsExtFor}
+use Rattle.std.proofs.Common.{◌<◌}
+use Rattle.cell_model.specs.ListBlocks.{contents}
+use Rattle.node_core.proofs.OpeningLemmas.{HaveExtsBelow}
 use Rattle.node_core.proofs.opening.have_exts.Given as goal
 
--- each before the place
 abbrev pub invariant-places : goal.invariant-places
-invariant-places l =
-    (place : ℕ) → 0 < place → place < l.place → IsExtFor (slice_index_or (contents l.blocks) place []) (slice_index_or (contents l.exts) place [])
+invariant-places l = (0 < l.place) × HaveExtsBelow (contents l.blocks) (contents l.exts) l.place
