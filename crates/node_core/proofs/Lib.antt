@@ -3,3 +3,4 @@ pub mod KeptLemmas
 pub mod DiskLemmas
 pub mod NewLemmas
 pub mod OpenLemmas
+pub mod OpeningLemmas

@@ -1,25 +1,35 @@
 -- A store that is opened: what its image keeps, and what its disk stands for then.
-use Rattle.std.proofs.Common.{◌≡◌, ℕ, ◌+◌, ◌*◌, ◌^◌, ◌≤◌, Bool, true, false, cond, List, [], ◌∷◌, length, drop, map, Option, Some, None, sym, ap, ◌∙◌, subst, inl, inr, ◌⊎◌, arith}
-use Rattle.std.specs.Prelude.{IfSome, ◌==◌}
+use Rattle.std.proofs.Common.{◌≡◌, ℕ, zero, suc, ◌+◌, ◌-◌, ◌*◌, ◌^◌, ◌<◌, ◌≤◌, Bool, true, false, cond, List, [], ◌∷◌, length, drop, map, Option, Some, None, refl, sym, ap, ◌∙◌, subst, inl, inr, ◌⊎◌, arith}
+use Rattle.std.specs.Prelude.{IfSome, IsTrue, ◌==◌, slice_index_or, Result, Ok, Err, IsOk, is_err}
 use Rattle.std.proofs.lemmas.Bool.{ne_eqb}
+use Rattle.std.proofs.lemmas.List.{get_or-map}
+use Rattle.std.proofs.lemmas.Option.{slice_get-get_or}
 use Rattle.outside.specs.declared.disk.Area.TheVariants.{Log, SnapA, SnapB}
 use Rattle.outside.specs.Image.{Image, with_content}
 use Rattle.outside.specs.Causes.{CountsFault}
-use Rattle.outside.specs.Disk.{NoneNew, IsDurable, HasOneImage, OthersRead}
-use Rattle.codec_defs.specs.Schema.{Block}
-use Rattle.time_defs.specs.Specification.{Specification}
-use Rattle.verdict_defs.specs.Chain.{Chain}
-use Rattle.store_defs.specs.Log.{Record, LogContent, log_of, records_of}
-use Rattle.store_defs.specs.Rest.{IsSettled, HasLog}
-use Rattle.store_defs.specs.Store.{NoLog, NotALog, Keeps, store_of, store_of_log, chain_of, StandsFor, IsSound, EachHasJoined}
-use Rattle.store_defs.proofs.Contents.{says_its_records}
-use Rattle.chain_tree.specs.declared.entry.Entry.{Entry}
-use Rattle.chain_tree.specs.Blocks.{IndexesBlocks}
-use Rattle.log_file.specs.Grammar.{AreBlocks}
-use Rattle.log_file.specs.Opening.{IsOpened}
-use Rattle.node_core.specs.Node.{IsOn, blocks_of, AreKept}
+use Rattle.outside.specs.Disk.{NoneNew, IsDurable, HasOneImage, OthersRead, LeavesOnly}
+use Rattle.outside.proofs.Moments.{leaves_also, leaves_then}
+use Rattle.codec_defs.specs.Shape.{decoded}
+use Rattle.codec_defs.specs.Schema.{Block, block}
+use Rattle.chain_defs.specs.Kept.{block_at}
+use Rattle.chain_defs.proofs.KeptLaws.{slice_get-below}
+use Rattle.cell_defs.specs.Ext.{count_at, is_ext}
+use Rattle.time_defs.specs.Specification.{Specification, specification_of}
 use Rattle.verdict_defs.specs.Verdict.{kept_limit}
-use Rattle.node_core.proofs.KeptLemmas.{blocks_of_all}
+use Rattle.verdict_defs.specs.Chain.{Chain}
+use Rattle.store_defs.specs.Log.{Record, LogContent, log_of, records_of, parts_of_body}
+use Rattle.store_defs.specs.Rest.{IsSettled, HasLog}
+use Rattle.store_defs.specs.Store.{NoLog, NotALog, Keeps, store_of, store_of_log, chain_of, StandsFor, IsSound, IsJoined, IsOnlyRead, EachHasJoined}
+use Rattle.store_defs.proofs.Contents.{says_its_records}
+use Rattle.store_defs.proofs.StoreLemmas.{counts_its_records}
+use Rattle.store_defs.proofs.JoinedLemmas.{joined_of_image}
+use Rattle.store_defs.proofs.ExtLemmas.{HoldsItsExt, exts_of_log}
+use Rattle.chain_tree.specs.declared.entry.Entry.{Entry}
+use Rattle.log_file.specs.Grammar.{record_of, ext_in}
+use Rattle.log_file.specs.Opening.{IsOpened}
+use Rattle.node_core.specs.Node.{IsOn, IsWithin}
+use Rattle.node_core.specs.Opening.{HaveExts}
+use Rattle.node_core.proofs.OpeningLemmas.{same-blocks, as-many, decoded-at}
 use Rattle.node_core.proofs.DiskLemmas.{same_image}
 
 -- ---- The store of an image
@@ -56,44 +66,136 @@ same_log one other same = (cc)
 
 -- ---- What was opened
 
-abbrev opened_chain : Specification → List (List ℕ) → Chain
-opened_chain spec items = record { spec = spec; blocks = blocks_of items }
+abbrev pub Opened : Specification → List (List ℕ) → List (List ℕ) → List Entry → Image → Type 0
+Opened spec items exts entries now = (log : LogContent) × IsOpened now.log log spec items exts entries
 
-chain_opened : (bytes : List ℕ) (log : LogContent) (spec : Specification) (items : List (List ℕ)) (entries : List Entry) → IsOpened bytes log spec items entries
-    → chain_of log ≡ opened_chain spec items
-chain_opened bytes log spec items entries is =
-    λ i. record { spec = sym is.specified i; blocks = sym (blocks_of_all items log.blocks is.decode) i }
+-- The chain that is kept then.
+pub record IsChainOf (chain : Chain) (spec : Specification) (items : List (List ℕ)) : Type 0 where
+  pub spec_is : chain.spec ≡ spec
+  pub decode : map (decoded block) items ≡ map Some chain.blocks
 
-abbrev pub Opened : Specification → List (List ℕ) → List Entry → Image → Type 0
-Opened spec items entries now = (log : LogContent) × IsOpened now.log log spec items entries
+chain_opened : (bytes : List ℕ) (log : LogContent) (chain : Chain) (spec : Specification) (items exts : List (List ℕ)) (entries : List Entry)
+    → IsChainOf chain spec items → IsOpened bytes log spec items exts entries → chain_of log ≡ chain
+chain_opened bytes log chain spec items exts entries of is =
+    let specified : specification_of log.specification ≡ chain.spec = sym is.specified ∙ sym of.spec_is in
+    let blocks : log.blocks ≡ chain.blocks = same-blocks log.blocks chain.blocks (sym is.decode ∙ of.decode) in
+    λ i. record { spec = specified i; blocks = blocks i }
 
-keeps_at : (spec : Specification) (items : List (List ℕ)) (entries : List Entry) (now : Image) → Opened spec items entries now
-    → store_of now ≡ Keeps (opened_chain spec items)
-keeps_at spec items entries now (log, is) = store_keeps now log is.is_log ∙ ap Keeps (chain_opened now.log log spec items entries is)
+keeps_at : (chain : Chain) (spec : Specification) (items exts : List (List ℕ)) (entries : List Entry) (now : Image) → IsChainOf chain spec items
+    → Opened spec items exts entries now → store_of now ≡ Keeps chain
+keeps_at chain spec items exts entries now of (log, is) =
+    store_keeps now log is.is_log ∙ ap Keeps (chain_opened now.log log chain spec items exts entries of is)
 
-pub opened_keeps : (reads mid : Option Image) (spec : Specification) (items : List (List ℕ)) (entries : List Entry) → mid ≡ reads
-    → IfSome mid (Opened spec items entries) → IfSome reads (λ now. store_of now ≡ Keeps (record { spec = spec; blocks = blocks_of items }))
-opened_keeps None mid spec items entries same opened = tt
-opened_keeps (Some now) mid spec items entries same opened =
-    keeps_at spec items entries now (subst (λ (o : Option Image). IfSome o (Opened spec items entries)) same opened)
+pub opened_keeps : (reads mid : Option Image) (chain : Chain) (spec : Specification) (items exts : List (List ℕ)) (entries : List Entry)
+    → IsChainOf chain spec items → mid ≡ reads → IfSome mid (Opened spec items exts entries) → IfSome reads (λ now. store_of now ≡ Keeps chain)
+opened_keeps None mid chain spec items exts entries of same opened = tt
+opened_keeps (Some now) mid chain spec items exts entries of same opened =
+    keeps_at chain spec items exts entries now of (subst (λ (o : Option Image). IfSome o (Opened spec items exts entries)) same opened)
 
-pub opened_nothing : {Stopped : Type 0} (reads mid : Option Image) → mid ≡ reads → IfSome mid (λ now. Stopped → log_of now.log ≡ None) → Stopped
-    → IfSome reads (λ now. (chain : Chain) → store_of now ≡ Keeps chain → ⊥)
-opened_nothing None mid same none stopped = tt
-opened_nothing {Stopped} (Some now) mid same none stopped = λ chain keeps.
-    no_store now chain (subst (λ (o : Option Image). IfSome o (λ now. Stopped → log_of now.log ≡ None)) same none stopped) keeps
+-- what a node asks of its chain and its place
+pub is_within : (chain : Chain) (spec : Specification) (items : List (List ℕ)) (place : ℕ) → IsChainOf chain spec items → length items ≤ kept_limit
+    → place ≤ 2 ^ 33 * (length items + 1) → (length chain.blocks ≤ kept_limit) × IsWithin (length chain.blocks) place
+is_within chain spec items place of few within =
+    let many : length items ≡ length chain.blocks = as-many items chain.blocks of.decode in
+    (omega (arith, few, many), subst (λ (n : ℕ). IsWithin n place) many within)
 
--- what is kept then
-pub are_kept : (items : List (List ℕ)) (entries : List Entry) (place : ℕ) → AreBlocks items entries → length items ≤ kept_limit → place ≤ 2 ^ 33 * (length items + 1)
-    → AreKept items entries place
-are_kept items entries place are few within =
-    let same : are.blocks ≡ blocks_of items = sym (blocks_of_all items are.blocks are.decode) in
+-- ---- Where nothing is opened
+
+-- a disk that keeps no chain has no log
+pub no_log_in : (now : Image) → ((chain : Chain) → store_of now ≡ Keeps chain → ⊥) → log_of now.log ≡ None
+no_log_in now nothing = by_found (log_of now.log) refl
+  where
+    by_found : (o : Option LogContent) → log_of now.log ≡ o → log_of now.log ≡ None
+    by_found None is = is
+    by_found (Some log) is = absurd (nothing (chain_of log) (store_keeps now log is))
+
+-- and none was opened
+pub none_opened : (mid : Option Image) (now : Image) (spec : Specification) (items exts : List (List ℕ)) (entries : List Entry) → mid ≡ Some now
+    → IfSome mid (Opened spec items exts entries) → ((chain : Chain) → store_of now ≡ Keeps chain → ⊥) → ⊥
+none_opened mid now spec items exts entries told opened nothing =
+    by_log (subst (λ (o : Option Image). IfSome o (Opened spec items exts entries)) told opened)
+  where
+    by_log : Opened spec items exts entries now → ⊥
+    by_log (log, is) = nothing (chain_of log) (store_keeps now log is.is_log)
+
+none_is_some : (log : LogContent) → Some log ≡ None → ⊥
+none_is_some log is = absurd (cc)
+
+no_log_sound : (now : Image) → log_of now.log ≡ None → IsSound now → ⊥
+no_log_sound now none (chain, stands) = none_is_some stands.log (sym stands.is_log ∙ none)
+
+-- where there is no log, the image is not sound
+pub not_sound : {Stopped : Type 0} (reads mid : Option Image) → mid ≡ reads → IfSome mid (λ now. Stopped → log_of now.log ≡ None) → Stopped
+    → IfSome reads (λ now. IsSound now → ⊥)
+not_sound None mid same none stopped = tt
+not_sound {Stopped} (Some now) mid same none stopped =
+    no_log_sound now (subst (λ (o : Option Image). IfSome o (λ now. Stopped → log_of now.log ≡ None)) same none stopped)
+
+no_record : Record
+no_record = record_of 0 []
+
+ext_is : (r : Record) (item ext : List ℕ) → parts_of_body r.body ≡ Some (item, ext) → ext_in r ≡ ext
+ext_is r item ext is =
+    ap (λ (o : Option (List ℕ × List ℕ)). elim o [
+      | None ↦ []
+      | Some parts ↦ parts.1
+    ]) is
+
+-- Beside each block of a log whose blocks joined stands an ext for it.
+exts_joined : (bytes : List ℕ) (log : LogContent) (spec : Specification) (items exts : List (List ℕ)) (entries : List Entry)
+    → IsOpened bytes log spec items exts entries → EachHasJoined log → HaveExts items exts
+exts_joined bytes log spec items exts entries is each zero above within = absurd (omega (arith, above))
+exts_joined bytes log spec items exts entries is each (suc before) above within =
+    let many : length log.blocks ≡ length log.records + 1 = counts_its_records (records_of (drop 8 bytes)) log is.says in
+    let low : before < length log.records = omega (arith, within, as-many items log.blocks is.decode, many) in
+    let next : before + 1 ≡ suc before = omega arith in
+    let r : Record = slice_index_or log.records before no_record in
+    let found = slice_get-below log.blocks (suc before) (omega (arith, low, many)) in
+    let here : block_at log.blocks (before + 1) ≡ Some found.0 = ap (block_at log.blocks) next ∙ found.1 in
+    let its : HoldsItsExt r found.0 =
+    exts_of_log bytes log is.is_log each before r found.0 (slice_get-get_or log.records before no_record low) here (is.fits before no_record low) in
+    let beside : slice_index_or exts (suc before) [] ≡ its.holds.ext =
+    ap (λ (l : List (List ℕ)). slice_index_or l (suc before) []) is.beside ∙ get_or-map ext_in log.records before no_record [] low
+    ∙ ext_is r its.holds.item its.holds.ext its.holds.parts in
     record {
-      decode = are.decode ∙ ap (map Some) same;
-      indexed = subst (λ (bs : List Block). IndexesBlocks bs entries) same are.indexed;
-      few = few;
-      within = within;
+      form = subst (λ (ext : List ℕ). IsTrue (is_ext ext)) (sym beside) its.holds.form;
+      fees = subst (λ (o : Option Block). IfSome o (λ b. count_at (slice_index_or exts (suc before) []) 0 ≡ length b.transactions - 1))
+          (sym (decoded-at items log.blocks (suc before) found.0 is.decode found.1)) (ap (λ (ext : List ℕ). count_at ext 0) beside ∙ its.fees);
     }
+
+-- what is never so of a log whose blocks joined
+abbrev pub NeverJoined : Specification → List (List ℕ) → List (List ℕ) → Type 0
+NeverJoined spec items exts = (kept : List Block) → map (decoded block) items ≡ map Some kept → IsJoined (record { spec = spec; blocks = kept })
+    → HaveExts items exts → ⊥
+
+never_sound : (now : Image) (spec : Specification) (items exts : List (List ℕ)) (entries : List Entry) → Opened spec items exts entries now
+    → NeverJoined spec items exts → IsSound now → ⊥
+never_sound now spec items exts entries (log, is) never (chain, stands) =
+    let log_is : stands.log ≡ log = same_log stands.log log (sym stands.is_log ∙ is.is_log) in
+    let joined : IsJoined (chain_of log) =
+    subst IsJoined (sym stands.keeps ∙ ap chain_of log_is) (joined_of_image chain now stands) in
+    let spec_joined : IsJoined (record { spec = spec; blocks = log.blocks }) =
+    subst (λ (s : Specification). IsJoined (record { spec = s; blocks = log.blocks })) (sym is.specified) joined in
+    never log.blocks is.decode spec_joined (exts_joined now.log log spec items exts entries is (subst EachHasJoined log_is stands.joined))
+
+-- Where the blocks of a log have not joined, the image is not sound.
+pub not_joined : (reads mid : Option Image) (spec : Specification) (items exts : List (List ℕ)) (entries : List Entry) → mid ≡ reads
+    → IfSome mid (Opened spec items exts entries) → NeverJoined spec items exts → IfSome reads (λ now. IsSound now → ⊥)
+not_joined None mid spec items exts entries same opened never = tt
+not_joined (Some now) mid spec items exts entries same opened never =
+    never_sound now spec items exts entries (subst (λ (o : Option Image). IfSome o (Opened spec items exts entries)) same opened) never
+
+-- ---- A disk that was only read
+
+module _ {D : Type 0} (reads_as : D → Option Image) (images : D → Image → Type 0) (moment : D → ℕ) (left_since : D → ℕ → Image → Type 0) where
+  pub only_read-then : (old mid new : D) → reads_as mid ≡ reads_as old → NoneNew (images old) (images mid) → LeavesOnly moment left_since old mid (images old)
+      → IsOnlyRead reads_as images moment left_since mid new → IsOnlyRead reads_as images moment left_since old new
+  only_read-then old mid new same none_new moments second = record {
+    reads = second.reads ∙ same;
+    images = λ image left. none_new image (second.images image left);
+    moments = leaves_then moment left_since old mid new (images old) moments
+        (leaves_also moment left_since mid new (images mid) (images old) second.moments none_new);
+  }
 
 -- ---- What a crash leaves
 
@@ -144,11 +246,11 @@ module _ (images0 images1 : Image → Type 0) (none_new : NoneNew images0 images
       inr (stands_so now image chain (sound now (subst (λ (o : Option Image). IfSome o images0) told read)) keeps left)
 
   -- when it is opened
-  module _ (images2 : Image → Type 0) (reads2 : Option Image) (place : ℕ) (spec : Specification) (items : List (List ℕ)) (entries : List Entry)
-      (read2 : IfSome reads2 images2) where
-    is_on_at : (now : Image) (log : LogContent) → IsSound now → IsOpened now.log log spec items entries → IsSettled place (records_of (drop 8 now.log)) reads2 images2
-        → ((image : Image) → images2 image → LeftSo images1 now image)
-        → IsOn (record { chain = opened_chain spec items; place = place }) reads2 images2
+  module _ (images2 : Image → Type 0) (reads2 : Option Image) (place : ℕ) (chain : Chain) (spec : Specification) (items exts : List (List ℕ)) (entries : List Entry)
+      (of : IsChainOf chain spec items) (read2 : IfSome reads2 images2) where
+    is_on_at : (now : Image) (log : LogContent) → IsSound now → IsOpened now.log log spec items exts entries
+        → IsSettled place (records_of (drop 8 now.log)) reads2 images2 → ((image : Image) → images2 image → LeftSo images1 now image)
+        → IsOn (record { chain = chain; place = place }) reads2 images2
     is_on_at now log is_sound is settled left =
         let mine = left_snaps now settled.now (left settled.now (subst (λ (o : Option Image). IfSome o images2) settled.told read2)) in
         record {
@@ -160,7 +262,7 @@ module _ (images0 images1 : Image → Type 0) (none_new : NoneNew images0 images
           stands = record {
             log = log;
             is_log = says_its_records place (records_of (drop 8 now.log)) settled.now.log settled.rest ∙ is.says;
-            keeps = chain_opened now.log log spec items entries is;
+            keeps = chain_opened now.log log chain spec items exts entries of is;
             joined = joined_so now log is_sound is.is_log;
             no_snap_a = mine.0;
             no_snap_b = mine.1;
@@ -169,31 +271,40 @@ module _ (images0 images1 : Image → Type 0) (none_new : NoneNew images0 images
           rest = settled.rest;
         }
 
-    by_log : (now : Image) → IsSound now → Opened spec items entries now → IsSettled place (records_of (drop 8 now.log)) reads2 images2
+    by_log : (now : Image) → IsSound now → Opened spec items exts entries now → IsSettled place (records_of (drop 8 now.log)) reads2 images2
         → ((image : Image) → images2 image → LeftSo images1 now image)
-        → IsOn (record { chain = opened_chain spec items; place = place }) reads2 images2
+        → IsOn (record { chain = chain; place = place }) reads2 images2
     by_log now is_sound (log, is) settled left = is_on_at now log is_sound is settled left
 
-    pub opened_on : (reads0 reads1 : Option Image) → IfSome reads0 images0 → reads1 ≡ reads0 → IfSome reads1 (Opened spec items entries)
+    pub opened_on : (reads0 reads1 : Option Image) → IfSome reads0 images0 → reads1 ≡ reads0 → IfSome reads1 (Opened spec items exts entries)
         → IfSome reads1 (λ now. IsSettled place (records_of (drop 8 now.log)) reads2 images2)
         → IfSome reads1 (λ now. (image : Image) → images2 image → LeftSo images1 now image)
-        → IfSome reads0 (λ _. IsOn (record { chain = record { spec = spec; blocks = blocks_of items }; place = place }) reads2 images2)
+        → IfSome reads0 (λ _. IsOn (record { chain = chain; place = place }) reads2 images2)
     opened_on None reads1 read same opened settled left = tt
     opened_on (Some now) reads1 read same opened settled left =
-        by_log now (sound now read) (subst (λ (o : Option Image). IfSome o (Opened spec items entries)) same opened)
+        by_log now (sound now read) (subst (λ (o : Option Image). IfSome o (Opened spec items exts entries)) same opened)
         (subst (λ (o : Option Image). IfSome o (λ now. IsSettled place (records_of (drop 8 now.log)) reads2 images2)) same settled)
         (subst (λ (o : Option Image). IfSome o (λ now. (image : Image) → images2 image → LeftSo images1 now image)) same left)
 
 -- ---- Counts
 
--- a count that was unchanged, and then counts the same fault
-pub then_counts : {First Fault : Type 0} (before still now : ℕ) → still ≡ before → CountsFault still now First → (Fault → First) → (First → Fault)
+pub ok_err : {T E : Type 0} (value : T) (stop : E) → Ok value ≡ Err stop → ⊥
+ok_err value stop is = absurd (cc)
+
+pub was_ok : {T E : Type 0} (result : Result T E) (failed : Bool) → failed ≡ is_err result → failed ≡ false → IsOk result
+was_ok (Ok value) failed is no_fault = refl
+was_ok (Err error) failed is no_fault = absurd (cc)
+
+-- a count that was unchanged, and then counts a fault that was not
+pub counts_none : {First Fault : Type 0} (before mid now : ℕ) → mid ≡ before → CountsFault mid now First → (First → ⊥) → (Fault → ⊥)
     → CountsFault before now Fault
-then_counts before still now unchanged counts there back = record {
-  later = omega (arith, unchanged, counts.later);
-  rose = λ fault. rw (← unchanged) (counts.rose (there fault));
-  unchanged = λ never. counts.unchanged (λ first. never (back first)) ∙ unchanged;
-}
+counts_none before mid now same counts never not =
+    let still : now ≡ before = counts.unchanged never ∙ same in
+    record {
+      later = omega (arith, still);
+      rose = λ fault. absurd (not fault);
+      unchanged = λ _. still;
+    }
 
 -- ---- What is said of what a disk reads as
 

@@ -1,0 +1,267 @@
+-- The kept blocks of a log: their ratings, their exts and their uncles.
+use Rattle.std.proofs.Common.{◌≡◌, ℕ, zero, suc, ◌+◌, ◌*◌, ◌^◌, ◌<◌, ◌≤◌, Bool, true, false, eqb, List, [], ◌∷◌, ◌++◌, map, length, take, drop, Vec, Global, Option, Some, None, refl, sym, ap, ◌∙◌, subst, append_assoc, arith}
+use Rattle.std.specs.Prelude.{nat_lt, slice_get, slice_index_or, IsTrue, IsSome}
+use Rattle.std.specs.Option.{unwrap_or}
+use Rattle.std.specs.List.{All}
+use Rattle.std.proofs.lemmas.Bool.{ltb-true, ltb-false, and_parts}
+use Rattle.std.proofs.lemmas.Bool.Decides.{Decides-eqb}
+use Rattle.std.proofs.lemmas.List.{append-nil, length-map, get_or-map, take_all}
+use Rattle.std.proofs.lemmas.List.Elements.{All-nil, All-cons}
+use Rattle.std.proofs.lemmas.Option.{same_Some}
+use Rattle.codec_defs.specs.Shape.{decoded}
+use Rattle.codec_defs.specs.Schema.{OutPoint, Block, block}
+use Rattle.time_defs.specs.Dao.{field_of_bytes}
+use Rattle.time_defs.specs.Specification.{Specification}
+use Rattle.chain_defs.specs.Tip.{tip_place}
+use Rattle.chain_defs.proofs.KeptLaws.{slice_get-below}
+use Rattle.cell_defs.specs.Ext.{count_at, row_size, are_rows, is_ext}
+use Rattle.cell_defs.specs.Row.{Row, live_row}
+use Rattle.chain_tree.specs.declared.entry.Entry.{Entry}
+use Rattle.chain_tree.specs.Entries.{entry_at}
+use Rattle.chain_tree.specs.Blocks.{IndexesBlocks}
+use Rattle.chain_tree.specs.Told.{Stored, blocks_of}
+use Rattle.chain_tree.proofs.BlockLemmas.{len-same}
+use Rattle.cell_model.specs.ListBlocks.{contents, IsCanonical, IsExtFor}
+use Rattle.cell_model.specs.ListBlocks as listed
+use Rattle.replay.specs.Fit.{BranchFits}
+use Rattle.tx_rules.specs.At.{AreRated}
+use Rattle.uncle_rules.specs.Embedded.{Embedded, embedded_in, embedded_from, UnclesValue, IndexesUncles}
+use Rattle.verdict_defs.specs.Verdict.{kept_limit}
+use Rattle.verdict_defs.specs.Chain.{Chain}
+use Rattle.store_defs.specs.Store.{IsJoined}
+use Rattle.joined_laws.proofs.RatedLaws.{entries-are-rated}
+use Rattle.joined_laws.proofs.FitLaws.{what-joins-fits}
+use Rattle.joined_laws.proofs.BranchFitLaws.{branches-fit}
+use Rattle.log_file.specs.Grammar.{AreBlocks}
+use Rattle.node_core.specs.Node.{AreKept}
+use Rattle.node_core.specs.Opening.{HaveExts}
+
+-- ---- Ratings
+
+abbrev pub IsRated : Entry → Type 0
+IsRated entry = (0 < (field_of_bytes entry.dao).issued) × (0 < (field_of_bytes entry.dao).rate)
+
+-- the entries before a place are rated
+abbrev pub AreRatedBelow : List Entry → ℕ → Type 0
+AreRatedBelow entries count = (place : ℕ) (entry : Entry) → place < count → entry_at entries place ≡ Some entry → IsRated entry
+
+rated-by : (entries : List Entry) (count : ℕ) (last : Entry) → AreRatedBelow entries count → entry_at entries count ≡ Some last → IsRated last
+    → (place : ℕ) (entry : Entry) → place < count + 1 → entry_at entries place ≡ Some entry → (b : Bool) → nat_lt place count ≡ b → IsRated entry
+rated-by entries count last earlier at_last is_rated place entry below there true before = earlier place entry (ltb-true place count before) there
+rated-by entries count last earlier at_last is_rated place entry below there false past =
+    let same : place ≡ count = omega (arith, below, ltb-false place count past) in
+    subst IsRated (ap (λ o. unwrap_or o last) (sym at_last ∙ ap (entry_at entries) (sym same) ∙ there)) is_rated
+
+-- one entry more
+pub rated-more : (entries : List Entry) (count : ℕ) (last : Entry) → AreRatedBelow entries count → entry_at entries count ≡ Some last → IsRated last
+    → AreRatedBelow entries (count + 1)
+rated-more entries count last earlier at_last is_rated place entry below there =
+    rated-by entries count last earlier at_last is_rated place entry below there (nat_lt place count) refl
+
+-- ---- Exts
+
+-- The form of an ext has room for its count of fees.
+pub ext-long : (bytes : List ℕ) → IsTrue (is_ext bytes) → 4 ≤ length bytes
+unfolding is_ext row_size
+ext-long bytes form =
+    let rows_at : ℕ = 4 + 8 * count_at bytes 0 in
+    let rows : ℕ = count_at bytes rows_at in
+    let test = and_parts (eqb (length bytes) (rows_at + 4 + 161 * rows)) (are_rows rows (drop (rows_at + 4) bytes)) form in
+    let long : length bytes ≡ rows_at + 4 + 161 * rows = (Decides-eqb (length bytes) (rows_at + 4 + 161 * rows)).0 test.0 in
+    omega (arith, long)
+
+-- ---- The blocks of encodings
+
+-- Blocks are known by their encodings.
+pub same-blocks : (kept other : List Block) → map Some kept ≡ map Some other → kept ≡ other
+same-blocks [] [] same = refl
+same-blocks [] (o ∷ other) same = absurd (cc)
+same-blocks (b ∷ kept) [] same = absurd (cc)
+same-blocks (b ∷ kept) (o ∷ other) same =
+    let first : b ≡ o = (cc) in
+    let later : map Some kept ≡ map Some other = (cc) in
+    λ i. first i ∷ same-blocks kept other later i
+
+-- Where they encode blocks, each is canonical.
+pub canonical-all : (items : List (List ℕ)) (kept : List Block) → map (decoded block) items ≡ map Some kept → All IsCanonical items
+canonical-all [] kept decode = All-nil IsCanonical
+canonical-all (item ∷ items) [] decode = absurd (cc)
+canonical-all (item ∷ items) (b ∷ kept) decode =
+    let first : decoded block item ≡ Some b = (cc) in
+    let later : map (decoded block) items ≡ map Some kept = (cc) in
+    All-cons IsCanonical item items (subst IsSome (sym first) refl) (canonical-all items kept later)
+
+pub as-many : (items : List (List ℕ)) (kept : List Block) → map (decoded block) items ≡ map Some kept → length items ≡ length kept
+as-many items kept decode = sym (length-map items (decoded block)) ∙ ap length decode ∙ length-map kept Some
+
+-- the block at a place
+pub decoded-at : (items : List (List ℕ)) (kept : List Block) (place : ℕ) (b : Block) → map (decoded block) items ≡ map Some kept
+    → slice_get kept place ≡ Some b → decoded block (slice_index_or items place []) ≡ Some b
+decoded-at [] [] place b decode there = absurd (cc)
+decoded-at [] (x ∷ kept) place b decode there = absurd (cc)
+decoded-at (item ∷ items) [] place b decode there = absurd (cc)
+decoded-at (item ∷ items) (x ∷ kept) zero b decode there =
+    let first : decoded block item ≡ Some x = (cc) in first ∙ there
+decoded-at (item ∷ items) (x ∷ kept) (suc place) b decode there =
+    let later : map (decoded block) items ≡ map Some kept = (cc) in decoded-at items kept place b later there
+
+-- the entries of a tree index the blocks of its encodings
+pub indexed-by : (items : List (List ℕ)) (entries : List Entry) (kept : List Block) → AreBlocks items entries → map (decoded block) items ≡ map Some kept
+    → IndexesBlocks kept entries
+indexed-by items entries kept are decode =
+    subst (λ (blocks : List Block). IndexesBlocks blocks entries) (same-blocks are.blocks kept (sym are.decode ∙ decode)) are.indexed
+
+-- ---- What is kept of them
+
+few-kept : (n : ℕ) → n ≤ kept_limit → n < 2 ^ 32
+unfolding kept_limit
+few-kept n few = omega (arith, few)
+
+pub few-blocks : (n : ℕ) → n ≤ kept_limit → n < 2 ^ 32
+few-blocks n few = few-kept n few
+
+-- What a source of blocks is made of.
+pub can-be-listed : (items exts : List (List ℕ)) (entries : List Entry) → AreBlocks items entries → length exts ≡ length items → length items ≤ kept_limit
+    → HaveExts items exts → listed.AreKept items exts
+can-be-listed items exts entries are beside few have = record {
+  lengths = beside;
+  few = few-kept (length items) few;
+  canonical = canonical-all items are.blocks are.decode;
+  later = have;
+}
+
+-- as many are stored as the tree has entries
+pub counts-entries : (items : List (List ℕ)) (entries : List Entry) (stored : List Stored) → AreBlocks items entries
+    → map (decoded block) items ≡ map Some (blocks_of stored) → length stored ≡ length entries
+counts-entries items entries stored are decode =
+    sym (length-map stored (λ (it : Stored). it.block)) ∙ sym (len-same (blocks_of stored) entries (indexed-by items entries (blocks_of stored) are decode))
+
+-- With the rows of the tip's branch all is kept.
+pub are-kept : (items : List (List ℕ)) (entries : List Entry) (before stored : List Stored) (index : UnclesValue) (rows : OutPoint → Option Row) (tip : ℕ)
+    → AreBlocks items entries → length items ≤ kept_limit → map (decoded block) items ≡ map Some (blocks_of before) → Some stored ≡ Some before
+    → AreRated entries → IndexesUncles (blocks_of before) index → tip_place (blocks_of before) ≡ Some tip
+    → ((o : OutPoint) → rows o ≡ live_row (blocks_of before) tip o) → AreKept stored entries index rows
+are-kept items entries before stored index rows tip are few decode told rated uncles at_tip live =
+    subst (λ (s : List Stored). AreKept s entries index rows) (sym (same_Some stored before told)) (record {
+      indexed = indexed-by items entries (blocks_of before) are decode;
+      uncles = uncles;
+      live = λ place there o. live o ∙ ap (λ (p : ℕ). live_row (blocks_of before) p o) (same_Some tip place (sym at_tip ∙ there));
+      rated = rated;
+      few = omega (arith, few, as-many items (blocks_of before) decode, length-map before (λ (it : Stored). it.block));
+    })
+
+-- ---- A chain that has joined
+
+abbrev chain_with : Specification → List Block → Chain
+chain_with spec kept = record { spec = spec; blocks = kept }
+
+pub rated-joined : (spec : Specification) (items : List (List ℕ)) (entries : List Entry) (kept : List Block) → AreBlocks items entries
+    → map (decoded block) items ≡ map Some kept → IsJoined (record { spec = spec; blocks = kept }) → AreRated entries
+rated-joined spec items entries kept are decode joined = entries-are-rated (chain_with spec kept) entries joined (indexed-by items entries kept are decode)
+
+pub fits-joined : (spec : Specification) (items : List (List ℕ)) (entries : List Entry) (kept : List Block) (stored : List Stored) (tip : ℕ) → AreBlocks items entries
+    → map (decoded block) items ≡ map Some (blocks_of stored) → map (decoded block) items ≡ map Some kept → IsJoined (record { spec = spec; blocks = kept })
+    → tip < length entries → BranchFits (blocks_of stored) tip
+fits-joined spec items entries kept stored tip are mine decode joined below =
+    subst (λ (blocks : List Block). BranchFits blocks tip) (same-blocks kept (blocks_of stored) (sym decode ∙ mine))
+    (branches-fit what-joins-fits (chain_with spec kept) tip joined (omega (arith, below, len-same kept entries (indexed-by items entries kept are decode))))
+
+-- ---- Uncles
+
+pub embedded-none : (from : ℕ) → embedded_from from [] ≡ []
+unfolding embedded_from
+embedded-none from = refl
+
+-- those of one block more
+embedded-push : (from : ℕ) (kept : List Block) (place : ℕ) (b : Block) → slice_get kept place ≡ Some b
+    → embedded_from from (take (place + 1) kept) ≡ embedded_from from (take place kept) ++ embedded_in (from + place) b
+unfolding embedded_from
+embedded-push from [] place b there = absurd (cc)
+embedded-push from (x ∷ kept) zero b there =
+    let same : x ≡ b = same_Some x b there in
+    let at : from ≡ from + 0 = omega arith in
+    append-nil (embedded_in from x) ∙ (λ i. embedded_in (at i) (same i))
+embedded-push from (x ∷ kept) (suc place) b there =
+    let at : suc from + place ≡ from + suc place = omega arith in
+    let more : suc place + 1 ≡ suc (place + 1) = omega arith in
+    ap (λ (n : ℕ). embedded_from from (take n (x ∷ kept))) more
+    ∙ ap (λ (l : List Embedded). embedded_in from x ++ l) (embedded-push (suc from) kept place b there)
+    ∙ sym (append_assoc (embedded_in from x) (embedded_from (suc from) (take place kept)) (embedded_in (suc from + place) b))
+    ∙ ap (λ (n : ℕ). (embedded_in from x ++ embedded_from (suc from) (take place kept)) ++ embedded_in n b) at
+
+pub uncles-more : (items : List (List ℕ)) (kept : List Block) (place : ℕ) (b : Block) (bytes : List ℕ) → map (decoded block) items ≡ map Some kept
+    → place < length items → bytes ≡ slice_index_or items place [] → decoded block bytes ≡ Some b
+    → embedded_from 0 (take (place + 1) kept) ≡ embedded_from 0 (take place kept) ++ embedded_in place b
+uncles-more items kept place b bytes decode within at is =
+    let found = slice_get-below kept place (omega (arith, within, as-many items kept decode)) in
+    let same : Some found.0 ≡ Some b = sym (decoded-at items kept place found.0 decode found.1) ∙ ap (decoded block) (sym at) ∙ is in
+    let its : 0 + place ≡ place = omega arith in
+    embedded-push 0 kept place b (found.1 ∙ same) ∙ ap (λ (n : ℕ). embedded_from 0 (take place kept) ++ embedded_in n b) its
+
+some-none : (b : Block) → Some b ≡ None → ⊥
+some-none b is = absurd (cc)
+
+-- the bytes at a place encode a block
+pub never-none : (items : List (List ℕ)) (kept : List Block) (place : ℕ) (bytes : List ℕ) → map (decoded block) items ≡ map Some kept → place < length items
+    → bytes ≡ slice_index_or items place [] → decoded block bytes ≡ None → ⊥
+never-none items kept place bytes decode within at none =
+    let found = slice_get-below kept place (omega (arith, within, as-many items kept decode)) in
+    some-none found.0 (sym (decoded-at items kept place found.0 decode found.1) ∙ ap (decoded block) (sym at) ∙ none)
+
+pub uncles-all : (items : List (List ℕ)) (kept : List Block) (place : ℕ) → map (decoded block) items ≡ map Some kept → length items ≤ place
+    → embedded_from 0 (take place kept) ≡ embedded_from 0 kept
+uncles-all items kept place decode past = ap (embedded_from 0) (take_all place kept (omega (arith, past, as-many items kept decode)))
+
+-- ---- Exts beside their blocks
+
+is-for : (bytes other ext more : List ℕ) → bytes ≡ other → ext ≡ more → IsExtFor bytes ext → IsExtFor other more
+is-for bytes other ext more same beside it =
+    subst (λ (e : List ℕ). IsExtFor other e) beside (subst (λ (b : List ℕ). IsExtFor b ext) same it)
+
+-- the bytes that stand at a place
+pub bytes-at : (vectors : List (Vec ℕ Global)) (place : ℕ) (vector : Vec ℕ Global) (bytes : List ℕ) → place < length vectors → bytes ≡ vector.items
+    → vector ≡ slice_index_or vectors place vector → bytes ≡ slice_index_or (contents vectors) place []
+bytes-at vectors place vector bytes within is at =
+    is ∙ ap (λ (v : Vec ℕ Global). v.items) at ∙ sym (get_or-map (λ (v : Vec ℕ Global). v.items) vectors place vector [] within)
+
+pub as-many-contents : (vectors : List (Vec ℕ Global)) → length (contents vectors) ≡ length vectors
+as-many-contents vectors = length-map vectors (λ (v : Vec ℕ Global). v.items)
+
+pub canonical-at : (items : List (List ℕ)) (place : ℕ) (bytes : List ℕ) → All IsCanonical items → place < length items → bytes ≡ slice_index_or items place []
+    → IsCanonical bytes
+canonical-at items place bytes canonical within at = subst IsCanonical (sym at) (canonical place [] within)
+
+-- each before a place and behind the genesis has its ext
+abbrev pub HaveExtsBelow : List (List ℕ) → List (List ℕ) → ℕ → Type 0
+HaveExtsBelow blocks exts count = (place : ℕ) → 0 < place → place < count → IsExtFor (slice_index_or blocks place []) (slice_index_or exts place [])
+
+exts-by : (blocks exts : List (List ℕ)) (count : ℕ) (bytes ext : List ℕ) → HaveExtsBelow blocks exts count → bytes ≡ slice_index_or blocks count []
+    → ext ≡ slice_index_or exts count [] → IsExtFor bytes ext → (place : ℕ) → 0 < place → place < count + 1 → (b : Bool) → nat_lt place count ≡ b
+    → IsExtFor (slice_index_or blocks place []) (slice_index_or exts place [])
+exts-by blocks exts count bytes ext earlier at beside is place above below true before = earlier place above (ltb-true place count before)
+exts-by blocks exts count bytes ext earlier at beside is place above below false past =
+    let same : count ≡ place = omega (arith, below, ltb-false place count past) in
+    subst (λ (n : ℕ). IsExtFor (slice_index_or blocks n []) (slice_index_or exts n [])) same (is-for bytes _ ext _ at beside is)
+
+-- one more
+pub exts-more : (blocks exts : List (List ℕ)) (count : ℕ) (bytes ext : List ℕ) → HaveExtsBelow blocks exts count → bytes ≡ slice_index_or blocks count []
+    → ext ≡ slice_index_or exts count [] → IsExtFor bytes ext → HaveExtsBelow blocks exts (count + 1)
+exts-more blocks exts count bytes ext earlier at beside is place above below =
+    exts-by blocks exts count bytes ext earlier at beside is place above below (nat_lt place count) refl
+
+-- one that has none
+pub exts-not : (blocks exts : List (List ℕ)) (place : ℕ) (bytes ext : List ℕ) → bytes ≡ slice_index_or blocks place [] → ext ≡ slice_index_or exts place []
+    → 0 < place → place < length blocks → (IsExtFor bytes ext → ⊥) → HaveExts blocks exts → ⊥
+exts-not blocks exts place bytes ext at beside above within not have = not (is-for _ bytes _ ext (sym at) (sym beside) (have place above within))
+
+-- the vectors as they were handed on
+pub canonical-in : (vectors seen : List (Vec ℕ Global)) (entries : List Entry) → AreBlocks (contents vectors) entries → seen ≡ vectors
+    → All IsCanonical (contents seen)
+canonical-in vectors seen entries are same =
+    subst (λ (v : List (Vec ℕ Global)). All IsCanonical (contents v)) (sym same) (canonical-all (contents vectors) are.blocks are.decode)
+
+pub exts-in : (blocks seen exts beside : List (Vec ℕ Global)) → seen ≡ blocks → beside ≡ exts → HaveExts (contents seen) (contents beside)
+    → HaveExts (contents blocks) (contents exts)
+exts-in blocks seen exts beside same too have =
+    subst (λ (v : List (Vec ℕ Global)). HaveExts (contents blocks) (contents v)) too
+    (subst (λ (v : List (Vec ℕ Global)). HaveExts (contents v) (contents beside)) same have)

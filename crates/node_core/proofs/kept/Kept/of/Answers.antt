@@ -1,0 +1,57 @@
+use Rattle.std.proofs.Common.{◌≡◌, ℕ, List, Vec, Global, Err, map, length, refl, sym, ap, ◌∙◌, arith}
+use Rattle.codec_defs.specs.Shape.{decoded}
+use Rattle.codec_defs.specs.Schema.{block}
+use Rattle.chain_tree.specs.Told.{blocks_of}
+use Rattle.cell_state.specs.State.{rows}
+use Rattle.cell_model.specs.ListBlocks.{contents}
+use Rattle.node_core.proofs.OpeningLemmas.{as-many-contents, few-blocks, canonical-in, exts-in, can-be-listed, counts-entries, indexed-by, are-kept, rated-joined, fits-joined}
+use Rattle.node_core.proofs.kept.Kept.of.Goals.{then-not-are_rated-via-then-not-are_rated, then-not-are_rated-via-else-not-are_rated+then-not-have_exts}
+use Rattle.node_core.proofs.kept.Kept.of.Goals as goal
+
+pub have_exts-requires-clause-canonical : goal.have_exts-requires-clause-canonical
+have_exts-requires-clause-canonical g c = canonical-in c.args.blocks.items c.deref.result.now c.args.tree.entries c.requires.blocks c.deref.ensures.value
+
+pub returns-then-not-are_rated-clause-joined : goal.returns-then-not-are_rated-clause-joined
+returns-then-not-are_rated-clause-joined g c = λ kept decode joined exts _. elim c.then-not-are_rated.branch [
+  | then-not-are_rated-via-then-not-are_rated w ↦
+    c.are_rated.ensures.unrated w.if-not-are_rated.true
+    (rated-joined c.args.spec (contents c.args.blocks.items) c.args.tree.entries kept c.requires.blocks decode joined)
+  | then-not-are_rated-via-else-not-are_rated+then-not-have_exts w ↦
+    w.have_exts.ensures.have_not w.if-not-have_exts.true
+    (exts-in w.deref.result.now c.args.blocks.items w.deref-else-not-are_rated.result.now c.args.exts.items
+    (sym w.deref.ensures.value) (sym w.deref-else-not-are_rated.ensures.value) exts)
+]
+
+pub uncles_of-requires : goal.uncles_of-requires
+uncles_of-requires g c = record { few = omega (arith, few-blocks (length c.args.blocks.items) c.requires.few, ap length c.deref-2.ensures.value) }
+
+pub new-blocks-requires : goal.new-blocks-requires
+new-blocks-requires g c =
+    can-be-listed (contents c.args.blocks.items) (contents c.args.exts.items) c.args.tree.entries c.requires.blocks
+    (omega (arith, c.requires.beside, as-many-contents c.args.blocks.items, as-many-contents c.args.exts.items))
+    (omega (arith, c.requires.few, as-many-contents c.args.blocks.items))
+    (exts-in c.args.blocks.items c.deref.result.now c.args.exts.items c.deref-else-not-are_rated.result.now
+    c.deref.ensures.value c.deref-else-not-are_rated.ensures.value (c.have_exts.ensures.have c.if-not-have_exts.false))
+
+pub replay-requires-clause-counts : goal.replay-requires-clause-counts
+replay-requires-clause-counts g c =
+    counts-entries (contents c.args.blocks.items) c.args.tree.entries c.new-blocks.result.stored c.requires.blocks c.new-blocks.ensures.blocks
+
+pub invariant_of-result : goal.invariant_of-result
+invariant_of-result g c =
+    let stored = c.new-blocks.result.stored in
+    let indexed = indexed-by (contents c.args.blocks.items) c.args.tree.entries (blocks_of stored) c.requires.blocks c.new-blocks.ensures.blocks in
+    are-kept (contents c.args.blocks.items) c.args.tree.entries stored c.replay.new.blocks.stored c.in_ok-uncles.uncles (rows c.in-Ok.state) c.tip.result
+    c.requires.blocks (omega (arith, c.requires.few, as-many-contents c.args.blocks.items)) c.new-blocks.ensures.blocks c.replay.ensures.told
+    (c.are_rated.ensures.rated c.if-not-are_rated.false)
+    (c.in_ok-uncles.ensures (blocks_of stored)
+    (ap (λ (v : List (Vec ℕ Global)). map (decoded block) (contents v)) c.deref-2.ensures.value ∙ c.new-blocks.ensures.blocks))
+    (c.tip.ensures.of_blocks (blocks_of stored) indexed) (c.in-Ok.ensures.rows stored refl indexed)
+
+pub returns-in-Err-Damaged-clause-joined : goal.returns-in-Err-Damaged-clause-joined
+returns-in-Err-Damaged-clause-joined g c = λ kept decode joined exts _.
+    let stored = c.new-blocks.result.stored in
+    let indexed = indexed-by (contents c.args.blocks.items) c.args.tree.entries (blocks_of stored) c.requires.blocks c.new-blocks.ensures.blocks in
+    c.replay.ensures.undamaged stored refl indexed
+    (fits-joined c.args.spec (contents c.args.blocks.items) c.args.tree.entries kept stored c.tip.result c.requires.blocks c.new-blocks.ensures.blocks decode joined
+    c.tip.ensures.within) c.in-Err-Damaged.field-0-0 (c.in-Err-Damaged.is ∙ ap Err c.in-Err-Damaged.field-0-is)
