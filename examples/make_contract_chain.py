@@ -1,0 +1,216 @@
+#!/usr/bin/env python3
+"""Makes a chain of twelve blocks with a contract, and two transactions behind it, beside this file.
+
+    python3 examples/make_contract_chain.py
+        contract-chain.bin  an input of `import`: fifteen items on the genesis below
+        contract-chain.txt  the lines that they must be answered with
+        transfer.bin        an input of `check` behind them: a transaction that runs the contract
+        transfer.txt        its line
+        refused.bin         another: one that breaks a rule
+        refused.txt         its line
+
+The contract is scripts/exit.elf, which exits with the first byte of its args, or with 0
+where they are empty. So it is a lock that opens without args, and one that never does
+with the byte 7. It lies in a cell of the genesis, which make_store.py makes:
+
+    python3 examples/make_store.py --window 2 11 \\
+        --output 23100000000 "$(od -An -v -tx1 examples/scripts/exit.elf)" > store.bin
+
+The lines are written down here, item by item, and owe nothing to the program: only
+the hashes are computed, by Python's own Blake2b, and the cycles, by script_machine.py.
+"""
+
+import os
+
+import make_store as store
+from make_first_blocks import input_and_text, joined
+from make_store import COIN, PROGRAM, SHANNONS, ZERO_HASH, Spec, as_bytes, ckbhash, fixvec, root, table, uint
+from script_scene import Cell, Scene, Script
+
+HERE = os.path.dirname(os.path.abspath(__file__))
+
+# w_far + 1 is 12: no cellbase of this chain pays a reward (docs/RULES.md, "The reward")
+SPEC = Spec(w_close=2, w_far=11)
+
+with open(os.path.join(HERE, 'scripts', 'exit.elf'), 'rb') as file:
+    CONTRACT = file.read()
+
+# whose cells anyone may spend, by the program that exits with 0
+ANYONE = Script(ckbhash(PROGRAM))
+OPEN = Script(ckbhash(CONTRACT))
+SHUT = Script(ckbhash(CONTRACT), args=b'\7')
+
+GENESIS = store.genesis(SPEC, outputs=((store.occupied(CONTRACT), CONTRACT),))
+
+
+# ------------------------------------------------------------ transactions
+
+class First:
+    """The transaction of the genesis: the program, the coin and the contract."""
+
+    hash = ckbhash(GENESIS.transactions[0].raw())
+    outputs = [Cell(ANYONE, content=content, capacity=capacity)
+               for capacity, content in GENESIS.transactions[0].outputs]
+
+
+# of each transaction: the code of both locks
+DEPS = [(First, 0), (First, 2)]
+
+
+def out_point(output):
+    transaction, place = output
+    return transaction.hash + uint(place, 4)
+
+
+def cell_of(output):
+    transaction, place = output
+    return transaction.outputs[place]
+
+
+class Transaction(Scene):
+    """Spends outputs, each an earlier transaction and a place among its outputs, and makes cells. It has no witness.
+
+    As a scene it says what its scripts are shown, and which cycles they take.
+    """
+
+    def __init__(self, spent, made, deps=tuple(DEPS), version=0):
+        super().__init__(None, map(cell_of, spent), made, map(cell_of, deps))
+        self.cell_inputs = [uint(0, 8) + out_point(it) for it in spent]
+        self.raw = table([
+            uint(version, 4), fixvec([out_point(it) + b'\0' for it in deps]), fixvec([]), fixvec(self.cell_inputs),
+            table([it.item() for it in self.outputs]), table([as_bytes(it.content) for it in self.outputs])])
+        self.item = table([self.raw, table([])])
+        self.hash = ckbhash(self.raw)
+        self.proposal_id = self.hash[:10]
+
+
+def ckb(count):
+    return count * SHANNONS
+
+
+# pays 1,000 CKB to each of the two locks of the contract, with a fee of 1,000 shannons
+FUNDS = Transaction([(First, 1)], [Cell(OPEN, capacity=ckb(1000)), Cell(SHUT, capacity=ckb(1000)),
+                                   Cell(ANYONE, capacity=COIN - ckb(2000) - 1000)])
+# spends what is open: the contract runs, and exits with 0
+SPENDS = Transaction([(FUNDS, 0)], [Cell(OPEN, capacity=ckb(400)), Cell(ANYONE, capacity=ckb(600) - 2000)])
+# the same cell once more
+SPENDS_TWICE = Transaction([(FUNDS, 0)], [Cell(ANYONE, capacity=ckb(1000) - 4000)])
+# spends what is shut: the contract runs, and exits with 7
+FORCES = Transaction([(FUNDS, 1)], [Cell(ANYONE, capacity=ckb(1000) - 5000)])
+# goes on from SPENDS
+SPENDS_ON = Transaction([(SPENDS, 0)], [Cell(OPEN, capacity=ckb(400) - 3000)])
+# behind the last block: an open cell and anyone's, so that both programs run
+TRANSFER = Transaction([(SPENDS_ON, 0), (SPENDS, 1)], [Cell(ANYONE, capacity=ckb(1000) - 15000)])
+
+
+# ------------------------------------------------------------------ blocks
+
+def hash_of_all(parts):
+    return ckbhash(b''.join(parts)) if parts else ZERO_HASH
+
+
+class Block:
+    """The next block on a parent: a cellbase and these transactions, the ids of those proposed, and uncles."""
+
+    def __init__(self, parent, commits=(), proposes=(), uncles=(), nonce=0):
+        self.number, self.timestamp, self.nonce = parent.number + 1, parent.timestamp + 1000, nonce
+        self.parent, self.commits, self.uncles = parent.hash(), commits, uncles
+        self.proposals = [it.proposal_id for it in proposes]
+        self.cellbase = store.cellbase(self.number)
+        made = sum(cell.occupied() for it in commits for cell in it.outputs)
+        freed = sum(cell.occupied() for it in commits for cell in it.inputs)
+        c, ar, s, u = parent.dao
+        second = SPEC.secondary(self.number)
+        self.dao = (c + SPEC.primary(self.number) + second, ar + ar * second // c,
+                    s + second - second * u // c, u + made - freed)
+
+    def transactions(self):
+        return [self.cellbase.item()] + [it.item for it in self.commits]
+
+    def header(self):
+        roots = [root([ckbhash(self.cellbase.raw())] + [it.hash for it in self.commits]),
+                 root(list(map(ckbhash, self.transactions())))]
+        return (uint(0, 4) + uint(SPEC.compact_target, 4) + uint(self.timestamp, 8) + uint(self.number, 8)
+                + uint(SPEC.epoch_field(self.number), 8) + self.parent + root(roots) + hash_of_all(self.proposals)
+                + hash_of_all([it.hash() for it in self.uncles]) + b''.join(uint(it, 8) for it in self.dao)
+                + uint(self.nonce, 16))
+
+    def as_uncle(self):
+        return table([self.header(), fixvec(self.proposals)])
+
+    def item(self):
+        return table([self.header(), table([it.as_uncle() for it in self.uncles]), table(self.transactions()),
+                      fixvec(self.proposals)])
+
+    def hash(self):
+        return ckbhash(self.header())
+
+
+# ------------------------------------------------------------------ inputs
+
+def contract_chain():
+    """The items with their lines, and the block that is the tip behind them."""
+    a1 = Block(GENESIS, proposes=[FUNDS])
+    # FUNDS was proposed one block before, and w_close is 2
+    too_early = Block(a1, commits=[FUNDS])
+    a2 = Block(a1)
+    # what is proposed may spend what is not there yet
+    a3 = Block(a2, commits=[FUNDS], proposes=[SPENDS, SPENDS_TWICE, FORCES])
+    a4 = Block(a3)
+    forces = Block(a4, commits=[FORCES])
+    a5 = Block(a4, commits=[SPENDS])
+    spends_twice = Block(a5, commits=[SPENDS_TWICE])
+    a6 = Block(a5)
+    # beside block 6, and never handed in: what it proposes counts from the block on that has it as an uncle
+    uncle = Block(a5, proposes=[SPENDS_ON], nonce=1)
+    a7 = Block(a6, uncles=[uncle])
+    a8 = Block(a7)
+    a9 = Block(a8, commits=[SPENDS_ON])
+    a10 = Block(a9)
+    a11 = Block(a10)
+    a12 = Block(a11)
+    return [
+        (a1.item(), joined(a1)),
+        (too_early.item(), 'refused J19'),
+        (a2.item(), joined(a2)),
+        (a3.item(), joined(a3)),
+        (a4.item(), joined(a4)),
+        (forces.item(), 'refused J29'),
+        (a5.item(), joined(a5)),
+        (spends_twice.item(), 'refused J20'),
+        (a6.item(), joined(a6)),
+        (a7.item(), joined(a7)),
+        (a8.item(), joined(a8)),
+        (a9.item(), joined(a9)),
+        (a10.item(), joined(a10)),
+        (a11.item(), joined(a11)),
+        (a12.item(), joined(a12)),
+    ], a12
+
+
+def passes(transaction, fee):
+    """The line of `check` where the transaction breaks no rule: the cycles are those of its scripts."""
+    said, cycles = transaction.outcome(SPEC.max_cycles).split()
+    assert said == 'ok'
+    return 'ok %d %s' % (fee, cycles)
+
+
+def transfer():
+    """A transaction behind the tip, with its line. It was never proposed: `check` does not ask for that."""
+    return TRANSFER.item, passes(TRANSFER, 10000)
+
+
+def refused():
+    """The one that no block may commit."""
+    return FORCES.item, 'refused J29'
+
+
+def main():
+    for name, items in (('contract-chain', contract_chain()[0]), ('transfer', [transfer()]), ('refused', [refused()])):
+        given, text = input_and_text(items)
+        store.write(os.path.join(HERE, name + '.bin'), given)
+        store.write(os.path.join(HERE, name + '.txt'), text)
+
+
+if __name__ == '__main__':
+    main()
