@@ -1,4 +1,4 @@
-use Rattle.std.proofs.Common.{◌≡◌, ◌++◌, List, sym, ap, ◌∙◌, arith}
+use Rattle.std.proofs.Common.{◌++◌, List, sym, ap, ◌∙◌, arith}
 use Rattle.cell_model.specs.ListBlocks.{contents}
 use Rattle.uncle_rules.specs.Embedded.{UnclesValue, Embedded, embedded_in}
 use Rattle.node_core.proofs.OpeningLemmas.{bytes-at, as-many-contents, embedded-none, never-none, uncles-more, uncles-all}
