@@ -1,5 +1,5 @@
 -- A store that is opened: what its image keeps, and what its disk stands for then.
-use Rattle.std.proofs.Common.{◌≡◌, ℕ, zero, suc, ◌+◌, ◌-◌, ◌*◌, ◌^◌, ◌<◌, ◌≤◌, Bool, true, false, cond, List, [], ◌∷◌, length, drop, map, Option, Some, None, refl, sym, ap, ◌∙◌, subst, inl, inr, ◌⊎◌, arith}
+use Rattle.std.proofs.Common.{◌≡◌, ℕ, zero, suc, ◌+◌, ◌-◌, ◌*◌, ◌^◌, ◌<◌, ◌≤◌, Bool, false, cond, List, [], ◌∷◌, length, drop, map, Option, Some, None, refl, sym, ap, ◌∙◌, subst, inl, inr, ◌⊎◌, arith}
 use Rattle.std.specs.Prelude.{IfSome, IsTrue, ◌==◌, slice_index_or, Result, Ok, Err, IsOk, is_err}
 use Rattle.std.proofs.lemmas.Bool.{ne_eqb}
 use Rattle.std.proofs.lemmas.List.{get_or-map}
@@ -20,7 +20,7 @@ use Rattle.verdict_defs.specs.Verdict.{kept_limit}
 use Rattle.verdict_defs.specs.Chain.{Chain}
 use Rattle.store_defs.specs.Log.{Record, LogContent, log_of, records_of, parts_of_body}
 use Rattle.store_defs.specs.Rest.{IsSettled, HasLog}
-use Rattle.store_defs.specs.Store.{NoLog, NotALog, Keeps, store_of, store_of_log, chain_of, StandsFor, IsSound, IsJoined, IsOnlyRead, EachHasJoined}
+use Rattle.store_defs.specs.Store.{NoLog, Keeps, store_of, store_of_log, chain_of, StandsFor, IsSound, IsJoined, IsOnlyRead, EachHasJoined}
 use Rattle.store_defs.proofs.Contents.{says_its_records}
 use Rattle.store_defs.proofs.StoreLemmas.{counts_its_records}
 use Rattle.store_defs.proofs.JoinedLemmas.{joined_of_image}
@@ -49,15 +49,6 @@ store_of_bytes (b ∷ bytes) log is =
 pub store_keeps : (image : Image) (log : LogContent) → log_of image.log ≡ Some log → store_of image ≡ Keeps (chain_of log)
 unfolding store_of
 store_keeps image log is = store_of_bytes image.log log is
-
-keeps_nothing : (none : Bool) (chain : Chain) → cond none NoLog NotALog ≡ Keeps chain → ⊥
-keeps_nothing true chain keeps = absurd (cc)
-keeps_nothing false chain keeps = absurd (cc)
-
-pub no_store : (image : Image) (chain : Chain) → log_of image.log ≡ None → store_of image ≡ Keeps chain → ⊥
-unfolding store_of
-no_store image chain none keeps =
-    keeps_nothing (length image.log == 0) chain (ap (λ (o : Option LogContent). cond (length image.log == 0) NoLog (store_of_log o)) (sym none) ∙ keeps)
 
 same_chain : (one other : Chain) → Keeps one ≡ Keeps other → one ≡ other
 same_chain one other same = (cc)
