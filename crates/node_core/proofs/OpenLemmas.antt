@@ -1,5 +1,5 @@
 -- A store that is opened: what its image keeps, and what its disk stands for then.
-use Rattle.std.proofs.Common.{◌≡◌, ℕ, zero, suc, ◌+◌, ◌-◌, ◌*◌, ◌^◌, ◌<◌, ◌≤◌, Bool, true, false, cond, List, [], ◌∷◌, length, drop, map, Option, Some, None, refl, sym, ap, ◌∙◌, subst, inl, inr, ◌⊎◌, arith}
+use Rattle.std.proofs.Common.{◌≡◌, ℕ, zero, suc, ◌+◌, ◌-◌, ◌*◌, ◌^◌, ◌<◌, ◌≤◌, Bool, false, cond, List, [], ◌∷◌, length, drop, map, Option, Some, None, refl, sym, ap, ◌∙◌, subst, inl, inr, ◌⊎◌, arith}
 use Rattle.std.specs.Prelude.{IfSome, IsTrue, ◌==◌, slice_index_or, Result, Ok, Err, IsOk, is_err}
 use Rattle.std.proofs.lemmas.Bool.{ne_eqb}
 use Rattle.std.proofs.lemmas.List.{get_or-map}
@@ -14,12 +14,13 @@ use Rattle.codec_defs.specs.Schema.{Block, block}
 use Rattle.chain_defs.specs.Kept.{block_at}
 use Rattle.chain_defs.proofs.KeptLaws.{slice_get-below}
 use Rattle.cell_defs.specs.Ext.{count_at, is_ext}
+use Rattle.cell_model.specs.ListBlocks.{IsExtFor}
 use Rattle.time_defs.specs.Specification.{Specification, specification_of}
 use Rattle.verdict_defs.specs.Verdict.{kept_limit}
 use Rattle.verdict_defs.specs.Chain.{Chain}
 use Rattle.store_defs.specs.Log.{Record, LogContent, log_of, records_of, parts_of_body}
 use Rattle.store_defs.specs.Rest.{IsSettled, HasLog}
-use Rattle.store_defs.specs.Store.{NoLog, NotALog, Keeps, store_of, store_of_log, chain_of, StandsFor, IsSound, IsJoined, IsOnlyRead, EachHasJoined}
+use Rattle.store_defs.specs.Store.{NoLog, Keeps, store_of, store_of_log, chain_of, StandsFor, IsSound, IsJoined, IsOnlyRead, EachHasJoined}
 use Rattle.store_defs.proofs.Contents.{says_its_records}
 use Rattle.store_defs.proofs.StoreLemmas.{counts_its_records}
 use Rattle.store_defs.proofs.JoinedLemmas.{joined_of_image}
@@ -48,15 +49,6 @@ store_of_bytes (b ∷ bytes) log is =
 pub store_keeps : (image : Image) (log : LogContent) → log_of image.log ≡ Some log → store_of image ≡ Keeps (chain_of log)
 unfolding store_of
 store_keeps image log is = store_of_bytes image.log log is
-
-keeps_nothing : (none : Bool) (chain : Chain) → cond none NoLog NotALog ≡ Keeps chain → ⊥
-keeps_nothing true chain keeps = absurd (cc)
-keeps_nothing false chain keeps = absurd (cc)
-
-pub no_store : (image : Image) (chain : Chain) → log_of image.log ≡ None → store_of image ≡ Keeps chain → ⊥
-unfolding store_of
-no_store image chain none keeps =
-    keeps_nothing (length image.log == 0) chain (ap (λ (o : Option LogContent). cond (length image.log == 0) NoLog (store_of_log o)) (sym none) ∙ keeps)
 
 same_chain : (one other : Chain) → Keeps one ≡ Keeps other → one ≡ other
 same_chain one other same = (cc)
@@ -141,27 +133,49 @@ ext_is r item ext is =
       | Some parts ↦ parts.1
     ]) is
 
+-- What stands beside a block of a record whose block joined is an ext for it.
+ext_for : (r : Record) (b : Block) (bytes ext : List ℕ) → HoldsItsExt r b → decoded block bytes ≡ Some b → ext ≡ ext_in r → IsExtFor bytes ext
+ext_for r b bytes ext its is beside =
+    let same : ext ≡ its.holds.ext = beside ∙ ext_is r its.holds.item its.holds.ext its.holds.parts in
+    record {
+      form = subst (λ (e : List ℕ). IsTrue (is_ext e)) (sym same) its.holds.form;
+      fees = subst (λ (o : Option Block). IfSome o (λ x. count_at ext 0 ≡ length x.transactions - 1)) (sym is)
+          (ap (λ (e : List ℕ). count_at e 0) same ∙ its.fees);
+    }
+
+ext_joined : (bytes : List ℕ) (log : LogContent) (spec : Specification) (items exts : List (List ℕ)) (entries : List Entry)
+    → IsOpened bytes log spec items exts entries → EachHasJoined log → (before : ℕ) → before < length log.records
+    → IsExtFor (slice_index_or items (suc before) []) (slice_index_or exts (suc before) [])
+ext_joined bytes log spec items exts entries is each before low =
+    ext_for r found.0 (slice_index_or items (suc before) []) (slice_index_or exts (suc before) []) its
+    (decoded-at items log.blocks (suc before) found.0 is.decode found.1) beside
+  where
+    r : Record
+    r = slice_index_or log.records before no_record
+
+    many : length log.blocks ≡ length log.records + 1
+    many = counts_its_records (records_of (drop 8 bytes)) log is.says
+
+    found : (b : Block) × (block_at log.blocks (suc before) ≡ Some b)
+    found = slice_get-below log.blocks (suc before) (omega (arith, low, many))
+
+    next : before + 1 ≡ suc before
+    next = omega arith
+
+    its : HoldsItsExt r found.0
+    its = exts_of_log bytes log is.is_log each before r found.0 (slice_get-get_or log.records before no_record low)
+        (ap (block_at log.blocks) next ∙ found.1) (is.fits before no_record low)
+
+    beside : slice_index_or exts (suc before) [] ≡ ext_in r
+    beside = ap (λ (l : List (List ℕ)). slice_index_or l (suc before) []) is.beside ∙ get_or-map ext_in log.records before no_record [] low
+
 -- Beside each block of a log whose blocks joined stands an ext for it.
 exts_joined : (bytes : List ℕ) (log : LogContent) (spec : Specification) (items exts : List (List ℕ)) (entries : List Entry)
     → IsOpened bytes log spec items exts entries → EachHasJoined log → HaveExts items exts
 exts_joined bytes log spec items exts entries is each zero above within = absurd (omega (arith, above))
 exts_joined bytes log spec items exts entries is each (suc before) above within =
     let many : length log.blocks ≡ length log.records + 1 = counts_its_records (records_of (drop 8 bytes)) log is.says in
-    let low : before < length log.records = omega (arith, within, as-many items log.blocks is.decode, many) in
-    let next : before + 1 ≡ suc before = omega arith in
-    let r : Record = slice_index_or log.records before no_record in
-    let found = slice_get-below log.blocks (suc before) (omega (arith, low, many)) in
-    let here : block_at log.blocks (before + 1) ≡ Some found.0 = ap (block_at log.blocks) next ∙ found.1 in
-    let its : HoldsItsExt r found.0 =
-    exts_of_log bytes log is.is_log each before r found.0 (slice_get-get_or log.records before no_record low) here (is.fits before no_record low) in
-    let beside : slice_index_or exts (suc before) [] ≡ its.holds.ext =
-    ap (λ (l : List (List ℕ)). slice_index_or l (suc before) []) is.beside ∙ get_or-map ext_in log.records before no_record [] low
-    ∙ ext_is r its.holds.item its.holds.ext its.holds.parts in
-    record {
-      form = subst (λ (ext : List ℕ). IsTrue (is_ext ext)) (sym beside) its.holds.form;
-      fees = subst (λ (o : Option Block). IfSome o (λ b. count_at (slice_index_or exts (suc before) []) 0 ≡ length b.transactions - 1))
-          (sym (decoded-at items log.blocks (suc before) found.0 is.decode found.1)) (ap (λ (ext : List ℕ). count_at ext 0) beside ∙ its.fees);
-    }
+    ext_joined bytes log spec items exts entries is each before (omega (arith, within, as-many items log.blocks is.decode, many))
 
 -- what is never so of a log whose blocks joined
 abbrev pub NeverJoined : Specification → List (List ℕ) → List (List ℕ) → Type 0

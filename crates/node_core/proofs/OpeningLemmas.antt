@@ -113,19 +113,17 @@ indexed-by items entries kept are decode =
 
 -- ---- What is kept of them
 
-few-kept : (n : ℕ) → n ≤ kept_limit → n < 2 ^ 32
-unfolding kept_limit
-few-kept n few = omega (arith, few)
-
+-- no more are kept than a place can number
 pub few-blocks : (n : ℕ) → n ≤ kept_limit → n < 2 ^ 32
-few-blocks n few = few-kept n few
+unfolding kept_limit
+few-blocks n few = omega (arith, few)
 
 -- What a source of blocks is made of.
 pub can-be-listed : (items exts : List (List ℕ)) (entries : List Entry) → AreBlocks items entries → length exts ≡ length items → length items ≤ kept_limit
     → HaveExts items exts → listed.AreKept items exts
 can-be-listed items exts entries are beside few have = record {
   lengths = beside;
-  few = few-kept (length items) few;
+  few = few-blocks (length items) few;
   canonical = canonical-all items are.blocks are.decode;
   later = have;
 }

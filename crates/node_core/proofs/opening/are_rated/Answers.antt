@@ -1,4 +1,4 @@
-use Rattle.std.proofs.Common.{◌≡◌, false, arith}
+use Rattle.std.proofs.Common.{arith}
 use Rattle.std.proofs.lemmas.Option.{slice_get_within}
 use Rattle.node_core.proofs.OpeningLemmas.{rated-more}
 use Rattle.node_core.proofs.opening.are_rated.Goals as goal

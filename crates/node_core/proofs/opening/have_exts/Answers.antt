@@ -1,5 +1,4 @@
-use Rattle.std.proofs.Common.{◌≡◌, ◌<◌, List, [], ℕ, length, arith}
-use Rattle.std.specs.Prelude.{slice_index_or}
+use Rattle.std.proofs.Common.{arith}
 use Rattle.cell_model.specs.ListBlocks.{contents}
 use Rattle.node_core.proofs.OpeningLemmas.{bytes-at, as-many-contents, canonical-at, exts-more, exts-not}
 use Rattle.node_core.proofs.opening.have_exts.Goals as goal

@@ -1,4 +1,4 @@
-use Rattle.std.proofs.Common.{◌≡◌, ◌++◌, List, sym, ap, ◌∙◌, arith}
+use Rattle.std.proofs.Common.{◌++◌, List, sym, ap, ◌∙◌, arith}
 use Rattle.cell_model.specs.ListBlocks.{contents}
 use Rattle.uncle_rules.specs.Embedded.{UnclesValue, Embedded, embedded_in}
 use Rattle.node_core.proofs.OpeningLemmas.{bytes-at, as-many-contents, embedded-none, never-none, uncles-more, uncles-all}
@@ -14,12 +14,12 @@ blocks-2-preserved c = λ kept decode.
     let at = bytes-at c.args.blocks.now c.blocks-2.place c.index-blocks-place.result c.deref.result.now (omega (arith, c.blocks-2-test.true)) c.deref.ensures.value c.index-blocks-place.is in
     elim c.match-read.branch [
       | in-Some+in_ok-take_uncles w ↦
-        ap (λ (u : UnclesValue). u.embedded) w.uncles-is ∙ w.in_ok-take_uncles.ensures
-        ∙ ap (λ (l : List Embedded). l ++ embedded_in c.blocks-2.place w.in-Some.block) (c.blocks-2.invariant kept decode)
-        ∙ sym (uncles-more (contents c.args.blocks.now) kept c.blocks-2.place w.in-Some.block c.deref.result.now decode (omega (arith, within, c.blocks-2-test.true)) at
-        (sym c.read.ensures.value ∙ w.in-Some.is))
+          ap (λ (u : UnclesValue). u.embedded) w.uncles-is ∙ w.in_ok-take_uncles.ensures
+          ∙ ap (λ (l : List Embedded). l ++ embedded_in c.blocks-2.place w.in-Some.block) (c.blocks-2.invariant kept decode)
+          ∙ sym (uncles-more (contents c.args.blocks.now) kept c.blocks-2.place w.in-Some.block c.deref.result.now decode (omega (arith, within, c.blocks-2-test.true)) at
+          (sym c.read.ensures.value ∙ w.in-Some.is))
       | in_default w ↦ absurd (never-none (contents c.args.blocks.now) kept c.blocks-2.place c.deref.result.now decode (omega (arith, within, c.blocks-2-test.true)) at
-        (sym c.read.ensures.value ∙ w.in_default.is))
+          (sym c.read.ensures.value ∙ w.in_default.is))
     ]
 
 pub returns : goal.returns

@@ -1,4 +1,4 @@
-use Rattle.std.proofs.Common.{◌≡◌, ℕ, List, Vec, Global, Err, map, length, refl, sym, ap, ◌∙◌, arith}
+use Rattle.std.proofs.Common.{ℕ, List, Vec, Global, Err, map, length, refl, sym, ap, ◌∙◌, arith}
 use Rattle.codec_defs.specs.Shape.{decoded}
 use Rattle.codec_defs.specs.Schema.{block}
 use Rattle.chain_tree.specs.Told.{blocks_of}
@@ -14,12 +14,12 @@ have_exts-requires-clause-canonical g c = canonical-in c.args.blocks.items c.der
 pub returns-then-not-are_rated-clause-joined : goal.returns-then-not-are_rated-clause-joined
 returns-then-not-are_rated-clause-joined g c = λ kept decode joined exts _. elim c.then-not-are_rated.branch [
   | then-not-are_rated-via-then-not-are_rated w ↦
-    c.are_rated.ensures.unrated w.if-not-are_rated.true
-    (rated-joined c.args.spec (contents c.args.blocks.items) c.args.tree.entries kept c.requires.blocks decode joined)
+      c.are_rated.ensures.unrated w.if-not-are_rated.true
+      (rated-joined c.args.spec (contents c.args.blocks.items) c.args.tree.entries kept c.requires.blocks decode joined)
   | then-not-are_rated-via-else-not-are_rated+then-not-have_exts w ↦
-    w.have_exts.ensures.have_not w.if-not-have_exts.true
-    (exts-in w.deref.result.now c.args.blocks.items w.deref-else-not-are_rated.result.now c.args.exts.items
-    (sym w.deref.ensures.value) (sym w.deref-else-not-are_rated.ensures.value) exts)
+      w.have_exts.ensures.have_not w.if-not-have_exts.true
+      (exts-in w.deref.result.now c.args.blocks.items w.deref-else-not-are_rated.result.now c.args.exts.items
+      (sym w.deref.ensures.value) (sym w.deref-else-not-are_rated.ensures.value) exts)
 ]
 
 pub uncles_of-requires : goal.uncles_of-requires
