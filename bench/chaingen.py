@@ -6,13 +6,16 @@ with a fork now and then.
 
 writes PREFIX.init (the input of `init`) and PREFIX.blocks (the input of
 `import`).  With --plain no block proposes or commits anything, so that each
-has its cellbase alone; the chain is valid under all rules either way.
+has its cellbase alone.  As a module it also makes chains in which each block
+commits as many transactions as the genesis has pairs of cells.  The chain is
+valid under all rules in each case.
 """
 
 import hashlib
 import sys
 
 COIN, FEE, OCCUPIED = 10 ** 15, 1000, 41 * 10 ** 8
+PAIRED = 10 ** 12       # what each cell of a pair has in the genesis
 L, W_FAR, PRIMARY, SECONDARY, HALVING = 10, 10, 10 ** 12, 10 ** 11, 1000
 NULL = bytes(32) + b'\xff' * 4
 ZERO = bytes(32)
@@ -114,31 +117,50 @@ class Heights:
     """What a block holds by its height alone.  Forks are one block deep and
     both their blocks commit and pay the same, so a branch has no say in it."""
 
-    def __init__(self, genesis_tx, plain, block_bytes):
+    def __init__(self, genesis_tx, plain, block_bytes, pairs):
         self.plain, self.block_bytes = plain, block_bytes
         self.dep = genesis_tx[1] + le(0, 4) + b'\0'
         self.coin, self.capacity = genesis_tx[1] + le(1, 4), COIN
-        self.dao = [DAO]
-        self.coming = {}        # height: the transaction that it commits
+        # the cells of each pair, and what the first of them has: each fee is taken from it
+        self.pairs = [(genesis_tx[1] + le(k, 4), genesis_tx[1] + le(k + 1, 4))
+                      for k in range(2, 2 + 2 * pairs, 2)]
+        self.first_of_pair = PAIRED
+        c, ar, s, u = DAO
+        self.dao = [(c + 2 * pairs * PAIRED, ar, s, u + 2 * pairs * OCCUPIED)]
+        self.coming = {}        # height: the transactions that it commits
         self.made = {}          # height: (transactions, ids)
+
+    def count_at(self, h):
+        """How many transactions a height commits. They are proposed two blocks before."""
+        if self.pairs:
+            return len(self.pairs) if h >= 3 else 0
+        return int(not self.plain and h % 4 == 2 and h >= 6)
 
     def commit_at(self, h):
         """Heights are asked for in rising order."""
         if h not in self.coming:
-            self.capacity -= FEE
-            tx = transaction([self.dep], [le(0, 8) + self.coin], [output(self.capacity)],
-                             [b''], [])
-            self.coin = tx[1] + le(0, 4)
-            self.coming[h] = tx
+            self.coming[h] = self.of_pairs() if self.pairs else [self.of_the_coin()]
         return self.coming[h]
+
+    def of_the_coin(self):
+        self.capacity -= FEE
+        tx = transaction([self.dep], [le(0, 8) + self.coin], [output(self.capacity)],
+                         [b''], [])
+        self.coin = tx[1] + le(0, 4)
+        return tx
+
+    def of_pairs(self):
+        """One for each pair, which spends its cells and makes the next: two cells with one lock, one script group."""
+        self.first_of_pair -= FEE
+        outputs = [output(self.first_of_pair), output(PAIRED)]
+        txs = [transaction([self.dep], [le(0, 8) + a, le(0, 8) + b], outputs, [b'', b''], [])
+               for a, b in self.pairs]
+        self.pairs = [(tx[1] + le(0, 4), tx[1] + le(1, 4)) for tx in txs]
+        return txs
 
     def reward(self, t):
         c, _, _, u = self.dao[t - 1]
-        fees = 0
-        if not self.plain and t % 4 == 2 and t >= 6:
-            fees = FEE - 4 * FEE // 10
-        if not self.plain and t % 4 == 0 and t >= 4:
-            fees = 4 * FEE // 10
+        fees = self.count_at(t) * (FEE - 4 * FEE // 10) + self.count_at(t + 2) * (4 * FEE // 10)
         return primary(t) + share(t, SECONDARY) * u // c + fees
 
     def at(self, h):
@@ -149,11 +171,8 @@ class Heights:
             reward = self.reward(h - W_FAR - 1)
             if reward >= OCCUPIED:
                 outputs, made = [output(reward)], OCCUPIED
-        others, ids = [], []
-        if not self.plain and h % 4 == 2 and h >= 6:
-            others.append(self.commit_at(h))
-        if not self.plain and h % 4 == 0 and h >= 4:
-            ids = [self.commit_at(h + 2)[1][:10]]
+        others = self.commit_at(h) if self.count_at(h) else []
+        ids = [tx[1][:10] for tx in self.commit_at(h + 2)] if self.count_at(h + 2) else []
 
         def with_cellbase(message):
             return [transaction([], [le(h, 8) + NULL], outputs, [b''] * len(outputs),
@@ -173,17 +192,20 @@ def lacking(size, txs, ids=()):
     return max(0, size - len(block(0, 0, 0, ZERO, DAO, 0, txs, list(ids))[0]))
 
 
-def make(seed, n, plain=False, block_bytes=0, genesis_bytes=0):
+def make(seed, n, plain=False, block_bytes=0, genesis_bytes=0, pairs=0):
     """(specification, genesis, blocks, [(number, hash)] of genesis and blocks,
     the tip's place).  The genesis, by data of a cell, and each block, by the
-    message of its cellbase, is made as long as is asked, if it is not longer."""
+    message of its cellbase, is made as long as is asked, if it is not longer.
+    With pairs each block from the third on commits so many transactions, and
+    none of the others."""
 
     def first_with(data):
-        return transaction([], [le(0, 8) + NULL], [output(17_300_000_000), output(COIN)],
-                           [FILE, data], [])
+        return transaction([], [le(0, 8) + NULL],
+                           [output(17_300_000_000), output(COIN)] + [output(PAIRED)] * (2 * pairs),
+                           [FILE, data] + [b''] * (2 * pairs), [])
 
     first = first_with(bytes(lacking(genesis_bytes, [first_with(b'')])))
-    heights = Heights(first, plain, block_bytes)
+    heights = Heights(first, plain, block_bytes, pairs)
     genesis, top = block(0, 0, 1000, ZERO, heights.dao[0], 0, [first], [])
     kept = [(0, top)]
     parents = [0]

@@ -2,7 +2,7 @@
 """The speed of `init`, `import` and opening, against a floor.
 
     python3 bench/importing.py CKBDEV [--sizes 2000,6000,20000] [--rounds 1]
-        [--disk FOLDER | --tmpfs] [--plain] [--sync fdatasync|fsync]
+        [--disk FOLDER | --tmpfs] [--plain] [--busy 1000] [--sync fdatasync|fsync]
         [--seed 0] [--limit SECONDS] [--no-strace]
 
 A generated chain (chaingen.py) of each size goes through `init`, `import` and
@@ -13,8 +13,11 @@ least elsewhere.
 --disk FOLDER  where the stores are made (default: the folder for temporary
                files); the kind of file system is printed
 --tmpfs        the stores are made in /dev/shm: no disk is waited for
---plain        no block proposes or commits, for a program that does not judge
-               such blocks yet
+--plain        no block of these chains proposes or commits: each has its
+               cellbase alone
+--busy         how many blocks one chain more has, in which each block from the
+               third on commits 100 transactions: each spends two cells and makes
+               two, with one lock, so that one script group runs; 0 leaves it out
 --sync         what the floor syncs with
 
 Columns: seconds of the whole `import`; microseconds per block, elapsed and of
@@ -23,6 +26,9 @@ drift, which is the longest run of the floor over its shortest; the ratio of the
 processor times; the peak of resident memory of `import`; the seconds of `tip`
 on the store, which are those of opening it, and its peak; the log's size.  The
 growth is the time per block of the longest chain over that of the shortest.
+The last row is the chain of --busy: no growth and no ratio of the last lines
+counts it. Its floor writes less, since the fees and spent cells that `import`
+keeps beside a block are not in the input.
 """
 
 import argparse
@@ -40,6 +46,8 @@ sys.dont_write_bytecode = True
 import chaingen  # noqa: E402
 
 HERE = os.path.dirname(os.path.abspath(__file__))
+# the transactions of a block of --busy
+PAIRS = 100
 TIME = '/usr/bin/time' if os.access('/usr/bin/time', os.X_OK) else None
 
 
@@ -91,11 +99,13 @@ def want(run, text, what):
 class Chain:
     """The files of one chain, and the texts that it must give."""
 
-    def __init__(self, seed, n, plain, work):
-        spec, genesis, blocks, kept, tip = chaingen.make(seed, n, plain)
+    def __init__(self, seed, n, plain, work, pairs=0):
+        spec, genesis, blocks, kept, tip = chaingen.make(seed, n, plain, pairs=pairs)
         self.n = n
-        self.first = os.path.join(work, 'init.%d' % n)
-        self.blocks = os.path.join(work, 'blocks.%d' % n)
+        # the first two blocks of a branch have their cellbases alone
+        self.transactions = pairs * sum(h > 2 for h, _ in kept)
+        self.first = os.path.join(work, 'init.%d.%d' % (n, pairs))
+        self.blocks = os.path.join(work, 'blocks.%d.%d' % (n, pairs))
         for path, content in ((self.first, spec + genesis), (self.blocks, b''.join(blocks))):
             with open(path, 'wb') as f:
                 f.write(content)
@@ -167,6 +177,7 @@ def main():
     a.add_argument('--disk')
     a.add_argument('--tmpfs', action='store_true')
     a.add_argument('--plain', action='store_true')
+    a.add_argument('--busy', type=int, default=1000)
     a.add_argument('--sync', choices=('fdatasync', 'fsync'), default='fdatasync')
     a.add_argument('--seed', type=int, default=0)
     a.add_argument('--limit', type=float, default=3600)
@@ -188,6 +199,8 @@ def main():
                         os.path.join(HERE, 'diskfloor.c'), '-o', bottom], check=True)
         print('stores on %s; the floor syncs by %s' % (file_system(place), a.sync))
         chains = [Chain(a.seed, n, a.plain, work) for n in sizes]
+        if a.busy:
+            chains.append(Chain(a.seed, a.busy, True, work, PAIRS))
         rows = [['blocks', 'import s', 'us/block', 'cpu us', 'floor us', 'floor cpu us',
                  'ratio', 'drift', 'cpu ratio', 'peak MiB', 'tip s', 'tip MiB', 'log MB']]
         wall, cpu, ratios, drifts = [], [], [], []
@@ -207,7 +220,7 @@ def main():
             ratios.append(run / base)
             drifts.append(max(b.wall for b in under_it) / min(b.wall for b in under_it))
             low = min(b.cpu for b in under_it)
-            rows.append([str(n), '%.2f' % run, '%.1f' % (wall[-1] * 1e6),
+            rows.append([str(n) + ' busy' * bool(chain.transactions), '%.2f' % run, '%.1f' % (wall[-1] * 1e6),
                          '%.1f' % (cpu[-1] * 1e6), '%.1f' % (base / n * 1e6),
                          '%.1f' % (low / n * 1e6), '%.2f' % ratios[-1], '%.2f' % drifts[-1],
                          '%.2f' % (cpu[-1] * n / low),
@@ -216,9 +229,13 @@ def main():
                          '%.1f' % (mine[0][2] / 1e6)])
         show(rows)
         long, short = sizes.index(max(sizes)), sizes.index(min(sizes))
-        print('ratio to the floor: %s' % ', '.join('%.2f' % r for r in ratios))
+        print('ratio to the floor: %s' % ', '.join('%.2f' % r for r in ratios[:len(sizes)]))
         print('growth from %d to %d blocks: %.2f elapsed, %.2f of the processor'
               % (sizes[short], sizes[long], wall[long] / wall[short], cpu[long] / cpu[short]))
+        if a.busy:
+            busy, count = chains[-1], chains[-1].transactions
+            print('%d blocks with %d transactions: %.0f us of the processor a block, %.1f us a transaction'
+                  % (busy.n, count, cpu[-1] * 1e6, cpu[-1] * 1e6 * busy.n / max(1, count)))
         if max(drifts) > 1.25:
             print('the floor itself drifted by more than a quarter: the elapsed ratios say little')
         if not TIME:

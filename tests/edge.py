@@ -7,7 +7,8 @@ script that builds and runs it, and what the README says that they print.
 runs each check, or those whose names have one of the words, and says which fail.
 The program is the one that ./ckbdev runs, which it builds where there is none.
 The lines that must come are these scripts' own: the chains and their hashes are
-made by bench/chaingen.py and examples/make_first_blocks.py.
+made by bench/chaingen.py, examples/make_first_blocks.py and
+examples/make_contract_chain.py.
 """
 
 import argparse

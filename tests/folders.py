@@ -9,8 +9,9 @@ import stat
 import subprocess
 import time
 
-from harness import (FIRST_INIT, FIRST_LINE, Ran, chain_of, file_with, first, line_of, log_of, must, must_answer,
-                     must_be, must_have_tip, new_folder, size_word, started, status_of, write)
+from harness import (CONTRACT_INIT, FIRST_INIT, FIRST_LINE, Ran, chain_of, contract, contract_store, file_with,
+                     first, line_of, log_of, must, must_answer, must_be, must_have_tip, new_folder, size_word, started,
+                     status_of, write)
 
 KILLS, MOST_LINES = 200, 10
 NOBODY = 65534
@@ -21,9 +22,9 @@ def record(kind, body):
     return b'\1' + bytes([kind]) + size_word(len(body)) + body
 
 
-def log_with(init, blocks):
-    """The log of a store with these blocks, each with an ext that tells no fee and no cell, up to its end."""
-    bodies = [size_word(len(block)) + block + bytes(8) for block in blocks]
+def log_with(init, blocks, exts=None):
+    """The log of a store with these blocks, up to its end. Without `exts` each tells of no fee and no cell."""
+    bodies = [size_word(len(block)) + block + ext for block, ext in zip(blocks, exts or [bytes(8)] * len(blocks))]
     return (b'CKBDEV01' + record(1, init[:100]) + record(2, init[100:])
             + b''.join(record(3, body) for body in bodies))
 
@@ -47,6 +48,26 @@ def check_bytes_of_the_log(program):
         must_have_tip(program, folder, chain.tip(9), 'behind all')
 
 
+def row(output, block, transaction):
+    """A row of an output, which a transaction of a block made: both by their places. It has no type script."""
+    cell = contract.cell_of(output)
+    return (contract.out_point(output) + size_word(block) + size_word(transaction) + contract.uint(cell.capacity, 8)
+            + contract.uint(cell.occupied(), 8) + cell.lock.hash() + bytes(33 + 32) + size_word(0))
+
+
+def check_exts_of_the_log(program):
+    """Behind the blocks of the chain with a contract stand the fees that they take and the cells that they spend."""
+    exts = {
+        3: first.fixvec([contract.uint(1000, 8)]) + first.fixvec([row((contract.First, 1), 0, 0)]),
+        5: first.fixvec([contract.uint(2000, 8)]) + first.fixvec([row((contract.FUNDS, 0), 3, 1)]),
+        9: first.fixvec([contract.uint(3000, 8)]) + first.fixvec([row((contract.SPENDS, 0), 5, 1)]),
+    }
+    blocks = [item for item, line in contract.contract_chain()[0] if line.startswith('joined')]
+    with contract_store(program) as folder:
+        wanted = log_with(CONTRACT_INIT, blocks, [exts.get(height, bytes(8)) for height in range(1, 13)])
+        must_be(log_of(folder), wanted + b'\0', 'the log')
+
+
 def check_what_is_no_store(program):
     chain = chain_of(2)
     whole = log_with(chain.init, chain.blocks)
@@ -64,7 +85,7 @@ def check_what_is_no_store(program):
     with new_folder() as folder:
         for what, log in logs.items():
             write(os.path.join(folder, 'log.bin'), log)
-            for command in ('tip', 'import'):
+            for command in ('tip', 'import', 'check'):
                 ran = Ran([program, folder, command], chain.blocks[0])
                 must_answer(ran, 7, b'', '%s of a folder with %s' % (command, what))
                 must_be(ran.read, 0, 'bytes read over %s' % what)
@@ -73,7 +94,7 @@ def check_what_is_no_store(program):
 # ------------------------------------------------------- folders that are refused
 
 def must_be_refused(program, folder, what, **how):
-    for command, given in (('init', FIRST_INIT), ('import', b''), ('tip', b'')):
+    for command, given in (('init', FIRST_INIT), ('import', b''), ('check', b''), ('tip', b'')):
         must_answer(Ran([program, folder, command], given, **how), 5, b'', '%s of %s' % (command, what))
 
 

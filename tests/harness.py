@@ -15,6 +15,7 @@ sys.dont_write_bytecode = True
 TOP = os.path.dirname(os.path.dirname(os.path.abspath(__file__)))
 sys.path[:0] = [os.path.join(TOP, 'bench'), os.path.join(TOP, 'examples')]
 import chaingen  # noqa: E402
+import make_contract_chain as contract  # noqa: E402
 import make_first_blocks as first  # noqa: E402
 
 SCRIPT = os.path.join(TOP, 'ckbdev')
@@ -26,6 +27,9 @@ PIECES = (1, 3, 4095, 65537, 1000003)
 # the input of `init` for the chain of the examples, and its line
 FIRST_INIT = first.SPEC.item() + first.GENESIS.item()
 FIRST_LINE = (first.genesis_line(first.GENESIS) + '\n').encode()
+# the same for the chain with a contract
+CONTRACT_INIT = contract.SPEC.item() + contract.GENESIS.item()
+CONTRACT_LINE = (first.genesis_line(contract.GENESIS) + '\n').encode()
 
 
 class Wrong(Exception):
@@ -167,6 +171,15 @@ def new_store(program, given=FIRST_INIT, line=FIRST_LINE):
     """The folder of a store that `init` made of this input."""
     with new_folder() as folder:
         must_answer(Ran([program, folder, 'init'], given), 0, line, 'init')
+        yield folder
+
+
+@contextlib.contextmanager
+def contract_store(program):
+    """The folder of a store that keeps the chain with a contract."""
+    given, text = first.input_and_text(contract.contract_chain()[0])
+    with new_store(program, CONTRACT_INIT, CONTRACT_LINE) as folder:
+        must_answer(Ran([program, folder, 'import'], given), 1, text, 'the chain with a contract')
         yield folder
 
 

@@ -7,8 +7,8 @@ import subprocess
 import sys
 import time
 
-from harness import (FIRST_INIT, FIRST_LINE, SCRIPT, SECONDS, TOP, Ran, chain_of, first, line_of, must, must_answer,
-                     must_be, new_folder, new_store, started, status_of)
+from harness import (CONTRACT_INIT, CONTRACT_LINE, FIRST_INIT, FIRST_LINE, SCRIPT, SECONDS, TOP, Ran, chain_of,
+                     contract, first, line_of, must, must_answer, must_be, new_folder, new_store, started, status_of)
 from streams import BAD_WORDS
 
 
@@ -233,13 +233,17 @@ def check_script_takes_the_build_of_the_gate(_):
 
 def check_examples(_):
     """examples/ has what its scripts make, and they make what they say."""
-    given, text = first.input_and_text(first.first_blocks()[0])
-    for name, wanted in (('spec.bin', first.SPEC.item()), ('genesis.bin', first.GENESIS.item()),
-                         ('first-blocks.bin', given), ('first-blocks.txt', text)):
+    files = {'spec.bin': first.SPEC.item(), 'genesis.bin': first.GENESIS.item()}
+    for name, items in (('first-blocks', first.first_blocks()[0]), ('contract-chain', contract.contract_chain()[0]),
+                        ('transfer', [contract.transfer()]), ('refused', [contract.refused()])):
+        files[name + '.bin'], files[name + '.txt'] = first.input_and_text(items)
+    for name, wanted in files.items():
         with open(os.path.join(TOP, 'examples', name), 'rb') as f:
             must_be(f.read(), wanted, 'examples/' + name)
     makes = [sys.executable, os.path.join(TOP, 'examples', 'make_store.py')]
     must_answer(Ran(makes), 0, FIRST_INIT, 'make_store.py without options')
+    words = ['--window', '2', '11', '--output', '23100000000', contract.CONTRACT.hex()]
+    must_answer(Ran(makes + words), 0, CONTRACT_INIT, 'make_store.py with a contract')
     for words, why in ((['--window', '3', '2'], b'S3'), (['--output', '4200000000', '0a0b'], b'G7')):
         ran = Ran(makes + words)
         must_be((ran.status, ran.out), (2, b''), repr(words))
@@ -264,12 +268,22 @@ def check_readme(_):
         './ckbdev chain tip': (0, (first.tip(tip) + '\n').encode()),
         './ckbdev chain exec 1000000 < examples/primes.elf': (0, b'exit 25 8337\n'),
     }
-    must('mkdir chain\n' in readme, 'the README does not make the folder')
+    makes = ('python3 examples/make_store.py --window 2 11 --output 23100000000 '
+             '"$(od -An -v -tx1 examples/scripts/exit.elf)"')
+    of_contract = {
+        makes + ' | ./ckbdev contract init': (0, CONTRACT_LINE),
+        './ckbdev contract import < examples/contract-chain.bin':
+            (1, first.input_and_text(contract.contract_chain()[0])[1]),
+        './ckbdev contract check < examples/transfer.bin': (0, (contract.transfer()[1] + '\n').encode()),
+        './ckbdev contract check < examples/refused.bin': (1, (contract.refused()[1] + '\n').encode()),
+    }
     with new_folder() as away:
-        os.mkdir(os.path.join(away, 'chain'))
+        for folder in ('chain', 'contract'):
+            must('mkdir %s\n' % folder in readme, 'the README does not make the folder %s' % folder)
+            os.mkdir(os.path.join(away, folder))
         for name in ('ckbdev', 'examples'):
             os.symlink(os.path.join(TOP, name), os.path.join(away, name))
-        for line, (status, wanted) in shown.items():
+        for line, (status, wanted) in {**shown, **of_contract}.items():
             must(line in readme, 'the README lacks the line %s' % line)
             must(wanted.decode() in readme, 'the README does not show what %s prints' % line)
             must_answer(Ran(['sh', '-c', line], cwd=away), status, wanted, line)

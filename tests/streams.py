@@ -4,9 +4,9 @@ import os
 import resource
 import subprocess
 
-from harness import (FIRST_INIT, FIRST_LINE, GENESIS_LIMIT, ITEM_LIMIT, PRIMES, Ran, chain_of, chaingen, file_with,
-                     first, line_of, log_of, must, must_answer, must_be, must_have_tip, new_folder, new_store,
-                     size_word, started, status_of, write)
+from harness import (CONTRACT_INIT, CONTRACT_LINE, FIRST_INIT, FIRST_LINE, GENESIS_LIMIT, ITEM_LIMIT, PRIMES, Ran,
+                     chain_of, chaingen, contract, contract_store, file_with, first, line_of, log_of, must, must_answer,
+                     must_be, must_have_tip, new_folder, new_store, size_word, started, status_of, write)
 
 SPEC, GENESIS = first.SPEC.item(), first.GENESIS.item()
 
@@ -24,7 +24,8 @@ A0, A7, ECALL = 10, 17, 0x73
 BAD_WORDS = [
     [], ['any'], ['import'], ['', 'import'], ['any', ''], ['any', 'Import'], ['any', 'import '],
     ['any', 'import', 'import'], ['any', 'import', ''], ['', 'init'], ['any', 'init', 'init'], ['any', 'INIT'],
-    ['', 'tip'], ['any', 'tip', '0'], ['any', 'tips'], ['any', 'exec'], ['any', 'exec', ''],
+    ['', 'tip'], ['any', 'tip', '0'], ['any', 'tips'], ['check'], ['', 'check'], ['any', 'Check'], ['any', 'checks'],
+    ['any', 'check', ''], ['any', 'check', '0'], ['any', 'check', 'check'], ['any', 'exec'], ['any', 'exec', ''],
     ['any', 'exec', '01'], ['any', 'exec', '-1'], ['any', 'exec', '+1'], ['any', 'exec', '0x1'],
     ['any', 'exec', '1 '], ['any', 'exec', '1099511627777'], ['any', 'exec', '5', '6'],
     [b'\xff', 'import'], ['any', b'\xff'],
@@ -238,6 +239,104 @@ def check_out_of_memory(program):
         must_have_tip(program, folder, chain.tip(34), 'with more memory')
 
 
+# ---------------------------------------------------------------------- check
+
+def tried_transactions():
+    """Transactions behind the chain with a contract, each with its status and its line."""
+    fee_of_none = first.store.SHANNONS * 400 - 3000
+    spends = [(contract.SPENDS_ON, 0)]
+
+    def paying(capacity, **how):
+        return contract.Transaction(spends, [contract.Cell(contract.ANYONE, capacity=capacity)], **how)
+
+    def refused(rule, transaction):
+        return 1, transaction.item, b'refused J%d\n' % rule
+
+    yield 0, contract.transfer()[0], (contract.transfer()[1] + '\n').encode()
+    yield refused(29, contract.FORCES)
+    # to the shannon: all that the input has, one less, and one more
+    yield 0, paying(fee_of_none).item, b'ok 0 1052\n'
+    yield 0, paying(fee_of_none - 1).item, b'ok 1 1052\n'
+    yield refused(27, paying(fee_of_none + 1))
+    # what the output occupies, and a shannon less
+    yield 0, paying(contract.ckb(41)).item, b'ok 35899997000 1052\n'
+    yield refused(25, paying(contract.ckb(41) - 1))
+    yield refused(18, paying(fee_of_none, version=1))
+    yield refused(18, contract.Transaction(spends, []))
+    yield refused(20, contract.SPENDS_TWICE)
+    yield refused(20, contract.Transaction(spends * 2, [contract.Cell(contract.ANYONE, capacity=contract.ckb(41))]))
+    # a dep that is spent, and no dep with the contract
+    yield refused(21, paying(fee_of_none, deps=(*contract.DEPS, (contract.FUNDS, 0))))
+    yield refused(28, paying(fee_of_none, deps=contract.DEPS[:1]))
+
+
+def no_transactions(transaction):
+    """Items that are no canonical `Transaction`."""
+    size = len(transaction)
+    yield size_word(4)
+    yield size_word(8) + size_word(8)
+    # a byte behind the witnesses
+    yield size_word(size + 1) + transaction[4:] + b'\0'
+    # a third field
+    parts = transaction[12:int.from_bytes(transaction[8:12], 'little')], first.table([])
+    yield first.table([*parts, first.fixvec([])])
+    yield first.table(list(parts[:1]))
+    yield first.GENESIS.item()
+    yield size_word(ITEM_LIMIT) + bytes(ITEM_LIMIT - 4)
+
+
+def inputs_of_check():
+    """(what, input, status, text)"""
+    good, line = contract.transfer()
+    for status, item, text in tried_transactions():
+        yield 'a transaction that is answered %r' % text, item, status, text
+    for item in no_transactions(good):
+        yield 'an item of %d bytes that is no transaction' % len(item), item, 1, b'refused J1\n'
+    yield 'nothing', b'', 8, b'cut 0\n'
+    yield 'a cut size word', good[:3], 8, b'cut 0\n'
+    yield 'a size word alone', good[:4], 8, b'cut 0\n'
+    yield 'a cut transaction', good[:-1], 8, b'cut 0\n'
+    for size in (0, 3, ITEM_LIMIT + 1, (1 << 32) - 1):
+        yield 'a size of %d' % size, size_word(size) + good, 9, b'bad size 0\n'
+    yield 'a byte too many', good + b'\0', 12, b'extra %d\n' % len(good)
+    yield 'a second transaction', good + good, 12, b'extra %d\n' % len(good)
+    # the end of the input is looked for before the transaction is judged
+    yield 'a byte behind what is no transaction', size_word(4) + b'\0', 12, b'extra 4\n'
+    longest = size_word(ITEM_LIMIT) + bytes(ITEM_LIMIT - 4)
+    yield 'a byte behind the longest item', longest + b'\0', 12, b'extra %d\n' % ITEM_LIMIT
+
+
+def check_statuses_of_check(program):
+    """Each, and that no run changes what is kept."""
+    _, tip = contract.contract_chain()
+    with contract_store(program) as folder:
+        before = log_of(folder)
+        for what, given, status, text in inputs_of_check():
+            for piped in (False, True):
+                must_answer(Ran([program, folder, 'check'], given, piped), status, text, what)
+            must_be(log_of(folder), before, 'the log behind a check of %s' % what)
+        must_be(sorted(os.listdir(folder)), ['log.bin', 'snap_a.bin', 'snap_b.bin'], 'what is in the folder')
+        must_have_tip(program, folder, (first.tip(tip) + '\n').encode(), 'behind all checks')
+    good, _ = contract.transfer()
+    # without the chain there is nothing that it could spend
+    with new_store(program, CONTRACT_INIT, CONTRACT_LINE) as folder:
+        must_answer(Ran([program, folder, 'check'], good), 1, b'refused J20\n', 'behind the genesis')
+        must_answer(Ran([program, folder, 'check'], contract.FUNDS.item), 0, b'ok 1000 505\n', 'behind the genesis')
+    with new_folder() as folder:
+        ran = Ran([program, folder, 'check'], good)
+        must_answer(ran, 7, b'', 'check, where no store is')
+        must_be(ran.read, 0, 'bytes read where no store is')
+
+
+def check_line_before_the_end(program):
+    """Who sends a byte too many need not end the input to be told so."""
+    good, _ = contract.transfer()
+    with contract_store(program) as folder, started([program, folder, 'check']) as process:
+        process.stdin.write(good + b'\0')
+        must_be(line_of(process), b'extra %d\n' % len(good), 'the line, before the input ends')
+        must_be(status_of(process), 12, 'status')
+
+
 # ----------------------------------------------------------------------- exec
 
 def check_statuses_of_exec(program):
@@ -266,7 +365,7 @@ def check_statuses_of_exec(program):
 
 def check_failing_input(program):
     with new_folder() as empty, new_store(program) as kept:
-        for words in ([empty, 'init'], [kept, 'import'], [kept, 'exec', '9']):
+        for words in ([empty, 'init'], [kept, 'import'], [kept, 'check'], [kept, 'exec', '9']):
             folder = os.open('/', os.O_RDONLY)
             try:
                 must_answer(Ran([program, *words], stdin=folder), 3, b'', '%s of a folder' % words[1])
@@ -308,6 +407,8 @@ def check_failing_output(program):
             must_answer(closed, 4, b'', 'tip with ' + closes)
             closed = Ran(['sh', '-c', 'exec "$@" ' + closes, '', program, folder, 'import'], block)
             must_answer(closed, 3 if '<' in closes else 4, b'', 'import with ' + closes)
+            closed = Ran(['sh', '-c', 'exec "$@" ' + closes, '', program, folder, 'check'], size_word(4))
+            must_answer(closed, 3 if '<' in closes else 4, b'', 'check with ' + closes)
             must_answer(Ran([program, folder, 'import'], block), 0,
                         ((line if '<' in closes else line.replace('joined 1', 'known')) + '\n').encode(),
                         'import behind one with ' + closes)
@@ -321,7 +422,7 @@ def check_full_output(program):
         primes = f.read()
     with open('/dev/full', 'wb') as full, new_folder() as empty, chain.store(program) as kept:
         runs = (([empty, 'init'], chain.init), ([kept, 'import'], chain.blocks[0]), ([kept, 'tip'], b''),
-                ([kept, 'exec', '9999'], primes))
+                ([kept, 'check'], size_word(4)), ([kept, 'exec', '9999'], primes))
         for words, content in runs:
             with file_with(content) as stdin:
                 process = subprocess.Popen([program, *words], stdin=stdin, stdout=full)
