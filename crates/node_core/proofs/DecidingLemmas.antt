@@ -34,7 +34,6 @@ use Rattle.verdict_defs.specs.Chain.{Chain}
 use Rattle.verdict_defs.specs.Trial.{trial_on, trial_by}
 use Rattle.verdict_defs.specs.declared.verdict.Verdict.{Verdict}
 use Rattle.verdict_defs.specs.declared.verdict.Verdict.TheVariants.{Joined, Known, Refused, Full}
-use Rattle.verdict_defs.specs.declared.trial.Trial.{Trial}
 use Rattle.verdict_defs.specs.declared.trial.Trial.TheVariants as trials
 use Rattle.store_defs.specs.Store.{IsJoined}
 use Rattle.joined_laws.proofs.TypedLaws.{typed-cells-hold-their-own}
@@ -45,7 +44,7 @@ use Rattle.node_core.specs.declared.deciding.Decision.{Decision}
 use Rattle.node_core.specs.declared.deciding.Decision.TheVariants.{Joins, Stays}
 use Rattle.node_core.specs.Node.{AreKept}
 use Rattle.node_core.proofs.JoiningLemmas.{few-heights}
-use Rattle.node_core.specs.Judging.{AreCellsOn, IsEntryOn, IsJudged, IsDecidedBlock, IsDecided, IsReady, IsReadyBlock, IsReadyItem}
+use Rattle.node_core.specs.Judging.{AreCellsOn, IsEntryOn, IsJudged, IsDecidedBlock, IsDecided, IsReady}
 
 -- ---- What it is judged over
 

@@ -1,15 +1,16 @@
 -- What is kept with one more block: the index, the uncles, and the live cells of the tip.
 use Rattle.std.proofs.Common.{◌≡◌, ℕ, suc, ◌+◌, ◌-◌, ◌≤◌, ◌<◌, ◌^◌, Bool, true, false, cond, ltb, List, [], ◌∷◌, ◌++◌, length, Option, Some, None, refl, sym, ap, ◌∙◌, subst, inl, inr, ◌⊎◌, arith}
 use Rattle.std.specs.Prelude.{Result, Ok, Err, IfOk, IsTrue, IsSomeAnd, slice_get}
-use Rattle.std.specs.Option.{option_and_then}
 use Rattle.std.proofs.lemmas.Bool.{and_parts}
 use Rattle.std.proofs.lemmas.Bool.Decides.{Decides-eqb, Decides-ltb, nat_tests}
 use Rattle.std.proofs.lemmas.List.{append-nil, append_assoc, length_push, length-map, map-append}
 use Rattle.std.proofs.lemmas.Option.{slice_get_within, same_Some}
-use Rattle.codec_defs.specs.Schema.{OutPoint, Block}
-use Rattle.chain_defs.specs.Kept.{block_hash, block_at, place_of, StandsOn, IsKept}
+use Rattle.codec_defs.specs.Shape.{decoded}
+use Rattle.codec_defs.specs.Schema.{OutPoint, Block, block}
+use Rattle.time_defs.specs.Specification.{Specification}
+use Rattle.chain_defs.specs.Kept.{block_hash, block_at, StandsOn, IsKept}
 use Rattle.chain_defs.specs.Branch.{branch}
-use Rattle.chain_defs.specs.Tip.{tip_place, tip}
+use Rattle.chain_defs.specs.Tip.{tip_place}
 use Rattle.chain_defs.proofs.KeptLaws.{slice_get-below, slice_get-pushed, place_of-below, place_of-there, IsKept-push}
 use Rattle.chain_defs.proofs.BranchLaws.{branch-last}
 use Rattle.chain_defs.proofs.TipLaws.{tip_place-below, tip_place-push}
@@ -24,10 +25,11 @@ use Rattle.replay.proofs.FitLemmas.{all-same}
 use Rattle.chain_tree.specs.declared.entry.Entry.{Entry}
 use Rattle.chain_tree.specs.Entries.{entry_at, place_of_hash, FollowsParent}
 use Rattle.chain_tree.specs.Blocks.{Describes, IndexesBlocks}
+use Rattle.chain_tree.specs.Told.{Stored, blocks_of}
 use Rattle.chain_tree.proofs.BlockLemmas.{len-same, entry-same, find-same}
 use Rattle.chain_tree.proofs.EntryLemmas.{and_some}
 use Rattle.tx_rules.specs.At.{AreRated}
-use Rattle.uncle_rules.specs.Embedded.{Embedded, embedded_in, embedded_from}
+use Rattle.uncle_rules.specs.Embedded.{Embedded, embedded_in, embedded_from, UnclesValue}
 use Rattle.block_defs.specs.Rules.{is_rated}
 use Rattle.verdict_defs.specs.Verdict.{kept_limit}
 use Rattle.verdict_defs.specs.Chain.{Chain}
@@ -36,6 +38,7 @@ use Rattle.verdict_defs.proofs.VerdictLaws.{parent_of-branch}
 use Rattle.store_defs.specs.Store.{IsJoined}
 use Rattle.joined_laws.proofs.FitLaws.{what-joins-fits}
 use Rattle.node_core.specs.declared.deciding.Joining.{Joining}
+use Rattle.node_core.specs.Node.{AreKept}
 use Rattle.node_core.specs.Judging.{AreCellsOn, IsReady}
 
 -- ---- A block that is ready
@@ -139,13 +142,6 @@ move-else kept b at entry found here joining place cells (Ok next) is_kept ready
     rows-move kept b at entry found here joining place cells next is_kept ready long high same grows
 move-else kept b at entry found here joining place cells (Err stop) is_kept ready long high same grows = tt
 
--- what is kept of the tip
-pub tip-described : (kept : List Block) (at : ℕ) (entry : Entry) → tip_place kept ≡ Some at → IsSomeAnd (block_at kept at) (λ block. Describes block entry)
-    → (block : Block) × (tip kept ≡ Some block) × Describes block entry
-tip-described kept at entry found here =
-    let top = some_block (block_at kept at) (λ block. Describes block entry) here in
-    (top.0, ap (option_and_then (block_at kept)) found ∙ top.1, top.2)
-
 -- ---- The index with one more block
 
 pub hash-new : (kept : List Block) (entries : List Entry) (b : Block) (joining : Joining) → IndexesBlocks kept entries → IsReady kept b joining
@@ -232,4 +228,51 @@ fits-on chain b joining joined may ready =
       above = branch-some chain.blocks may.parent (place_of-below chain.blocks b.header.parent_hash may.parent may.on_kept);
       fits = subst (λ (p : ℕ). AllFit (length chain.blocks) (events_of_block (length (branch chain.blocks may.parent)) b) (live_row chain.blocks p)) same
           (what-joins-fits chain b joined may);
+    }
+
+-- ---- All that is kept with one more block
+
+-- the item is the encoding of the block that is ready
+pub ready-for : (kept : List Block) (item : List ℕ) (b : Block) (joining : Joining) → ((x : Block) × (decoded block item ≡ Some x) × IsReady kept x joining)
+    → decoded block item ≡ Some b → IsReady kept b joining
+ready-for kept item b joining (x, is, ready) found = subst (λ (y : Block). IsReady kept y joining) (same_Some x b (sym is ∙ found)) ready
+
+-- an entry with the record's name
+pub describes-named : (b : Block) (entry named : Entry) → Describes b entry → named.hash ≡ entry.hash → named.number ≡ entry.number
+    → named.timestamp ≡ entry.timestamp → named.dao ≡ entry.dao → Describes b named
+describes-named b entry named is hash number timestamp dao = record {
+  hash = hash ∙ is.hash;
+  number = number ∙ is.number;
+  timestamp = timestamp ∙ is.timestamp;
+  dao = dao ∙ is.dao;
+}
+
+blocks-push : (stored after : List Stored) (b : Block) (ext : List ℕ) → after ≡ stored ++ record { block = b; ext = ext } ∷ []
+    → blocks_of after ≡ blocks_of stored ++ b ∷ []
+blocks-push stored after b ext is = ap blocks_of is ∙ map-append (λ (it : Stored). it.block) stored (record { block = b; ext = ext } ∷ [])
+
+abbrev pub chain_as : Specification → List Block → Chain
+chain_as spec blocks = record { spec = spec; blocks = blocks }
+
+pub chain-push : (spec : Specification) (stored after : List Stored) (b : Block) (ext : List ℕ) (chain : Chain) → chain_as spec (blocks_of stored) ≡ chain
+    → after ≡ stored ++ record { block = b; ext = ext } ∷ [] → chain_as spec (blocks_of after) ≡ chain_as chain.spec (chain.blocks ++ b ∷ [])
+chain-push spec stored after b ext chain whole is =
+    subst (λ (v : Chain). chain_as spec (blocks_of after) ≡ chain_as v.spec (v.blocks ++ b ∷ [])) whole
+    (ap (chain_as spec) (blocks-push stored after b ext is))
+
+pub are-kept-push : (stored after : List Stored) (entries later : List Entry) (index next : UnclesValue) (b : Block) (ext : List ℕ) (joining : Joining) (entry : Entry)
+    (place : ℕ) (old new : OutPoint → Option Row) → AreKept stored entries index old → IsReady (blocks_of stored) b joining
+    → after ≡ stored ++ record { block = b; ext = ext } ∷ [] → later ≡ entries ++ entry ∷ [] → Describes b entry → IndexesBlocks (blocks_of stored ++ b ∷ []) later
+    → place ≡ length (blocks_of stored) → next.embedded ≡ index.embedded ++ embedded_in place b
+    → ((tip : ℕ) → tip_place (blocks_of stored ++ b ∷ []) ≡ Some tip → (o : OutPoint) → new o ≡ live_row (blocks_of stored ++ b ∷ []) tip o)
+    → AreKept after later next new
+are-kept-push stored after entries later index next b ext joining entry place old new are ready grown entered describes indexed at uncles live =
+    let blocks : blocks_of after ≡ blocks_of stored ++ b ∷ [] = blocks-push stored after b ext grown in
+    record {
+      indexed = subst (λ (bs : List Block). IndexesBlocks bs later) (sym blocks) indexed;
+      uncles = uncles-push (blocks_of stored) b place index.embedded next.embedded at are.uncles uncles
+          ∙ ap (embedded_from 0) (sym blocks);
+      live = subst (λ (bs : List Block). (tip : ℕ) → tip_place bs ≡ Some tip → (o : OutPoint) → new o ≡ live_row bs tip o) (sym blocks) live;
+      rated = subst AreRated (sym entered) (rated-push entries b entry are.rated describes ready.rated);
+      few = omega (arith, ready.room, ap length grown, length_push stored (record { block = b; ext = ext }), length-map stored (λ (it : Stored). it.block));
     }

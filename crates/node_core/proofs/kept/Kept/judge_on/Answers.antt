@@ -1,4 +1,4 @@
-use Rattle.std.proofs.Common.{◌≡◌, None, Some, refl, sym, ap, ◌∙◌, subst}
+use Rattle.std.proofs.Common.{◌≡◌, None, Some, refl, ap, ◌∙◌, subst}
 use Rattle.std.specs.Prelude.{Err, length}
 use Rattle.fold_defs.specs.First.{first_failing}
 use Rattle.chain_defs.specs.Branch.{branch}

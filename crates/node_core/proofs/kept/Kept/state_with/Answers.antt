@@ -1,5 +1,5 @@
-use Rattle.std.proofs.Common.{◌≡◌, ℕ, ◌≤◌, ◌<◌, List, length, ◌∙◌, arith}
-use Rattle.node_core.proofs.JoiningLemmas.{given-cells, tip-cells, fits-parent, rows-stay, rows-move, move-else}
+use Rattle.std.proofs.Common.{arith}
+use Rattle.node_core.proofs.JoiningLemmas.{given-cells, tip-cells, fits-parent, rows-stay, move-else}
 use Rattle.node_core.proofs.kept.Kept.state_with.Goals as goal
 
 pub returns-then-entry-clause-live : goal.returns-then-entry-clause-live
