@@ -1,5 +1,5 @@
-pub mod RuleLemmas
-pub mod KeptLemmas
+pub mod DecidingLemmas
+pub mod JoiningLemmas
 pub mod DiskLemmas
 pub mod NewLemmas
 pub mod OpenLemmas

@@ -1,5 +1,5 @@
 // What is to become of an item, over the kept blocks.
-ghost use Rattle.std.specs.Prelude.{◌≡◌, ◌≢◌, ◌≤◌, ◌<◌, ◌^◌, nat_lt, ℕ, List, length, None, Some, Err, IfOk};
+ghost use Rattle.std.specs.Prelude.{◌≡◌, ◌≢◌, ◌≤◌, ◌<◌, ◌^◌, nat_lt, ℕ, List, length, None, Some, Err, IfOk, IfSome};
 ghost use Rattle.codec_defs.specs.Shape.{decoded};
 ghost use Rattle.codec_defs.specs.Schema as schema;
 ghost use Rattle.codec_defs.specs.Schema.{Block};
@@ -13,7 +13,7 @@ ghost use Rattle.verdict_defs.specs.Verdict.{kept_limit};
 ghost use Rattle.verdict_defs.specs.Trial.{trial_on};
 ghost use Rattle.verdict_defs.specs.declared.trial.Trial.TheVariants.{Passes, Refused};
 ghost use Rattle.store_defs.specs.Store.{IsJoined};
-ghost use Rattle.node_core.specs.Judging.{IsEntryOn, IsDecidedBlock, IsDecided, IsReadyBlock, IsReadyItem};
+ghost use Rattle.node_core.specs.Judging.{AreCellsOn, IsEntryOn, IsDecidedBlock, IsDecided, IsReadyBlock, IsReadyItem};
 
 use crate::entry::{entry_on, hash_of, parent_hash};
 use crate::kept::Kept;
@@ -56,9 +56,41 @@ pub(crate) enum Decision {
     Stays(Verdict),
 }
 
+/// The cells that are given, or else those of the tip.
+fn cells_or<'a>(given: &'a Option<State>, tip: &'a State) -> &'a State
+    ensures given { IfSome given.now (λ cells. result.now ≡ cells) }
+    ensures tip { given.now ≡ None → result.now ≡ tip.now }
+{
+    match given {
+        Some(cells) => cells,
+        None => tip,
+    }
+}
+
 impl Kept {
-    /// Judges a block on a kept parent: by the cells of the tip where that is its parent, and else by those of its
-    /// parent's branch, which are made by replay.
+    /// The live cells of the branch of a place, which are made by replay where that is not the tip's.
+    fn replayed<L: Ledger>(
+        &mut self,
+        alloc: Global,
+        place: u32,
+        steps: &mut Steps<L>,
+    ) -> Result<Option<State>, ReadStop>
+        requires { place < length self.old.blocks }
+        ensures same { self.new ≡ self.old }
+        ensures cells { IfOk result (AreCellsOn self.old.blocks place) }
+        ensures undamaged { IsJoined self.old → (damage : Damage) → result ≡ Err (Damaged damage) → ⊥ }
+        ensures damage { (damage : Damage) → result ≡ Err (Damaged damage) → damage.area ≡ Log }
+        ensures reads { result ≢ Err DiskFault }
+        ensures steps { tip_place self.old.blocks ≡ Some place → steps.new ≡ steps.old }
+    {
+        if place == self.tree.tip() {
+            return Ok(None);
+        }
+        let cells = replay(alloc, &self.tree, &mut self.blocks, place, steps)?;
+        Ok(Some(cells))
+    }
+
+    /// Judges a block on a kept parent, by the live cells of its parent's branch.
     fn judge_on<L: Ledger>(
         &mut self,
         alloc: Global,
@@ -76,14 +108,8 @@ impl Kept {
         ensures steps { tip_place self.old.blocks ≡ Some entry.parent → steps.new ≡ steps.old }
     {
         let parent = entry.parent;
-        let mut cells = None;
-        if parent != self.tree.tip() {
-            cells = Some(replay(alloc, &self.tree, &mut self.blocks, parent, steps)?);
-        }
-        let state = match &cells {
-            Some(cells) => cells,
-            None => &self.state,
-        };
+        let cells = self.replayed(alloc, parent, steps)?;
+        let state = cells_or(&cells, &self.state);
         match judge(
             alloc,
             &self.spec,

@@ -107,11 +107,16 @@ impl Kept {
         ensures reads { result ≢ Err DiskFault }
         ensures most { steps.new ≤ steps.old + 1 }
     {
+        let Joining {
+            entry,
+            ext: _ext,
+            cells,
+        } = joining;
         let place = tree.len();
-        if joining.entry.number <= tree.entry(tree.tip()).number {
+        if entry.number <= tree.entry(tree.tip()).number {
             return Ok(state);
         }
-        match joining.cells {
+        match cells {
             Some(cells) => grown(cells, block, place, steps),
             None => grown(state, block, place, steps),
         }

@@ -1,0 +1,214 @@
+-- What a block is judged over, and the verdict that it comes to.
+use Rattle.std.proofs.Common.{◌≡◌, ℕ, ◌-◌, ◌<◌, ◌^◌, Bool, true, false, cond, List, [], ◌∷◌, drop, length, Option, Some, None, refl, sym, ap, ◌∙◌, subst, arith}
+use Rattle.std.specs.Prelude.{Result, Ok, Err, nat_lt, is_some, IsTrue, IfOk, IfSome}
+use Rattle.std.proofs.lemmas.Bool.Decides.{Decides-ltb}
+use Rattle.std.proofs.lemmas.List.{length-map}
+use Rattle.std.proofs.lemmas.List.Elements.{All-head, All-tail}
+use Rattle.codec_defs.specs.Shape.{decoded}
+use Rattle.codec_defs.specs.Schema.{OutPoint, Transaction, Block, block}
+use Rattle.fold_defs.specs.First.{first_failing}
+use Rattle.fold_defs.proofs.FirstLemmas.{finds_none}
+use Rattle.time_defs.specs.Specification.{Specification}
+use Rattle.chain_defs.specs.Kept.{block_hash, place_of}
+use Rattle.chain_defs.specs.Branch.{branch}
+use Rattle.chain_defs.specs.Tip.{tip_place, best_branch}
+use Rattle.chain_defs.proofs.KeptLaws.{place_of-below}
+use Rattle.rule_defs.specs.Header.{has_version, follows, parent_of, header_rules}
+use Rattle.cell_defs.specs.Ext.{Ext}
+use Rattle.cell_defs.specs.Row.{Row, live_row}
+use Rattle.cell_state.specs.State.{StateValue, rows}
+use Rattle.chain_tree.specs.declared.entry.Entry.{Entry}
+use Rattle.chain_tree.specs.Blocks.{IndexesBlocks}
+use Rattle.chain_tree.specs.Told.{Stored, blocks_of}
+use Rattle.chain_tree.proofs.BlockLemmas.{len-same}
+use Rattle.uncle_rules.specs.Embedded.{UnclesValue}
+use Rattle.tx_defs.specs.Capacity.{fee}
+use Rattle.script_defs.specs.Scene.{scene_of}
+use Rattle.script_defs.specs.Rules.{cycles_of}
+use Rattle.block_defs.specs.Ext.{ext_of}
+use Rattle.block_defs.specs.Rules.{first_broken, broken_in_dry_run, site_after, is_rated}
+use Rattle.block_judge.specs.Standing.{Stands}
+use Rattle.replay.specs.Fit.{BranchFits}
+use Rattle.verdict_defs.specs.Verdict.{verdict, verdict_of, verdict_of_block, verdict_on, verdict_by_rules, kept_limit}
+use Rattle.verdict_defs.specs.Chain.{Chain}
+use Rattle.verdict_defs.specs.Trial.{trial_on, trial_by}
+use Rattle.verdict_defs.specs.declared.verdict.Verdict.{Verdict}
+use Rattle.verdict_defs.specs.declared.verdict.Verdict.TheVariants.{Joined, Known, Refused, Full}
+use Rattle.verdict_defs.specs.declared.trial.Trial.TheVariants as trials
+use Rattle.store_defs.specs.Store.{IsJoined}
+use Rattle.joined_laws.proofs.TypedLaws.{typed-cells-hold-their-own}
+use Rattle.joined_laws.proofs.FitLaws.{what-joins-fits}
+use Rattle.joined_laws.proofs.BranchFitLaws.{branches-fit}
+use Rattle.node_core.specs.declared.deciding.Joining.{Joining}
+use Rattle.node_core.specs.declared.deciding.Decision.{Decision}
+use Rattle.node_core.specs.declared.deciding.Decision.TheVariants.{Joins, Stays}
+use Rattle.node_core.specs.Node.{AreKept}
+use Rattle.node_core.proofs.JoiningLemmas.{few-heights}
+use Rattle.node_core.specs.Judging.{AreCellsOn, IsEntryOn, IsJudged, IsDecidedBlock, IsDecided, IsReady}
+
+-- ---- What it is judged over
+
+-- the rows of its parent's branch over a chain that has joined
+pub stands-on : (spec : Specification) (stored : List Stored) (entries : List Entry) (parent : ℕ) (found : OutPoint → Option Row)
+    → IsJoined (record { spec = spec; blocks = blocks_of stored }) → IndexesBlocks (blocks_of stored) entries → parent < length entries
+    → ((o : OutPoint) → found o ≡ live_row (blocks_of stored) parent o) → Stands stored entries parent found
+stands-on spec stored entries parent found joined indexed below live = record {
+  indexed = indexed;
+  live = live;
+  typed = λ o cell. typed-cells-hold-their-own (record { spec = spec; blocks = blocks_of stored }) parent o cell joined
+      (omega (arith, below, len-same (blocks_of stored) entries indexed));
+}
+
+-- those of the tip
+pub stands-tip : (spec : Specification) (stored : List Stored) (entries : List Entry) (index : UnclesValue) (found : OutPoint → Option Row) (tip : ℕ)
+    → AreKept stored entries index found → IsJoined (record { spec = spec; blocks = blocks_of stored }) → tip_place (blocks_of stored) ≡ Some tip
+    → tip < length entries → Stands stored entries tip found
+stands-tip spec stored entries index found tip are joined is below = stands-on spec stored entries tip found joined are.indexed below (are.live tip is)
+
+-- as many entries as blocks, and how many there may be
+pub as-many : (stored : List Stored) (entries : List Entry) (index : UnclesValue) (found : OutPoint → Option Row) → AreKept stored entries index found
+    → length stored ≡ length entries
+as-many stored entries index found are =
+    omega (arith, len-same (blocks_of stored) entries are.indexed, length-map stored (λ (it : Stored). it.block))
+
+pub few-entries : (stored : List Stored) (entries : List Entry) (index : UnclesValue) (found : OutPoint → Option Row) → AreKept stored entries index found
+    → length entries < 2 ^ 24
+few-entries stored entries index found are =
+    omega (arith, few-heights (length stored) are.few, as-many stored entries index found are)
+
+-- the rows of the cells that are at hand
+pub cells-at-hand : (kept : List Block) (parent : ℕ) (given : Option StateValue) (tip state : StateValue) → AreCellsOn kept parent given
+    → ((at : ℕ) → tip_place kept ≡ Some at → (o : OutPoint) → rows tip o ≡ live_row kept at o) → IfSome given (λ cells. state ≡ cells)
+    → (given ≡ None → state ≡ tip) → (o : OutPoint) → rows state o ≡ live_row kept parent o
+cells-at-hand kept parent None tip state on live some none o = ap (λ (s : StateValue). rows s o) (none refl) ∙ live parent on o
+cells-at-hand kept parent (Some cells) tip state on live some none o = ap (λ (s : StateValue). rows s o) some ∙ on o
+
+-- a place of a block
+pub within-entries : (kept blocks : List Block) (entries : List Entry) (place : ℕ) → kept ≡ blocks → IndexesBlocks kept entries → place < length blocks
+    → place < length entries
+within-entries kept blocks entries place seen indexed below = omega (arith, below, ap length seen, len-same kept entries indexed)
+
+-- those of its parent's branch
+pub stands-at-hand : (spec : Specification) (stored : List Stored) (entries : List Entry) (index : UnclesValue) (tip state : StateValue) (chain : Chain) (b : Block)
+    (entry : Entry) (given : Option StateValue) → record { spec = spec; blocks = blocks_of stored } ≡ chain → AreKept stored entries index (rows tip)
+    → IsEntryOn chain.blocks b entry → IsJoined chain → AreCellsOn chain.blocks entry.parent given → IfSome given (λ cells. state ≡ cells)
+    → (given ≡ None → state ≡ tip) → Stands stored entries entry.parent (rows state)
+stands-at-hand spec stored entries index tip state chain b entry given whole are on joined have some none =
+    let seen : blocks_of stored ≡ chain.blocks = ap (λ (v : Chain). v.blocks) whole in
+    stands-on spec stored entries entry.parent (rows state) (subst IsJoined (sym whole) joined) are.indexed
+    (within-entries (blocks_of stored) chain.blocks entries entry.parent seen are.indexed
+    (place_of-below chain.blocks b.header.parent_hash entry.parent on.on_kept))
+    (cells-at-hand (blocks_of stored) entry.parent given tip state
+    (subst (λ (kept : List Block). AreCellsOn kept entry.parent given) (sym seen) have) are.live some none)
+
+-- its parent's branch fits
+pub fits-below : (chain : Chain) (entries : List Entry) (parent : ℕ) → IsJoined chain → IndexesBlocks chain.blocks entries → parent < length entries
+    → BranchFits chain.blocks parent
+fits-below chain entries parent joined indexed below =
+    branches-fit what-joins-fits chain parent joined (omega (arith, below, len-same chain.blocks entries indexed))
+
+-- J5 is among the rules on a header.
+pub follows-by-header : (spec : Specification) (on : List Block) (b : Block) → first_failing (header_rules spec on b) ≡ None → IsTrue (follows b (parent_of on))
+follows-by-header spec on b unbroken =
+    let later : List (ℕ × Bool) = drop 2 (header_rules spec on b) in
+    All-head (λ rule. IsTrue rule.1) (5, follows b (parent_of on)) later
+    (All-tail (λ rule. IsTrue rule.1) (4, has_version b.header) ((5, follows b (parent_of on)) ∷ later)
+    ((finds_none (header_rules spec on b)).0 unbroken))
+
+-- there is room
+pub room-for : (count number : ℕ) (room : Bool) → room ≡ nat_lt count kept_limit → room ≡ true → count ≡ number → number < kept_limit
+room-for count number room is so same = omega (arith, (Decides-ltb count kept_limit).0 (sym is ∙ so), same)
+
+pub is-ready : (spec : Specification) (kept : List Block) (b : Block) (entry : Entry) (ext : Ext) (cells : Option StateValue) → IsEntryOn kept b entry
+    → first_failing (header_rules spec (branch kept entry.parent) b) ≡ None → length kept < kept_limit → is_rated b ≡ true
+    → length ext.fees ≡ length b.transactions - 1 → AreCellsOn kept entry.parent cells → IsReady kept b (record { entry = entry; ext = ext; cells = cells })
+is-ready spec kept b entry ext cells on unbroken room rated fees have = record {
+  entry = on;
+  next = follows-by-header spec (branch kept entry.parent) b unbroken;
+  room = room;
+  rated = rated;
+  fees = fees;
+  cells = have;
+}
+
+-- ---- The verdict on a block
+
+abbrev by_found : Specification → List Block → Block → Option ℕ → Verdict
+by_found spec kept b found = cond (is_some found) (Known (block_hash b)) (verdict_on spec kept b (place_of kept b.header.parent_hash))
+
+-- one that is new
+on-parent : (spec : Specification) (kept : List Block) (b : Block) (parent : Option ℕ) → place_of kept (block_hash b) ≡ None
+    → place_of kept b.header.parent_hash ≡ parent → verdict_of_block spec kept b ≡ verdict_on spec kept b parent
+on-parent spec kept b parent new on = ap (by_found spec kept b) new ∙ ap (verdict_on spec kept b) on
+
+module _ (spec : Specification) (kept : List Block) (b : Block) (entry : Entry) (on : IsEntryOn kept b entry) where
+  by-rules : (broken : Option ℕ) → first_broken spec (branch kept entry.parent) b ≡ broken → verdict_of_block spec kept b ≡ verdict_by_rules kept b broken
+  by-rules broken is = on-parent spec kept b (Some entry.parent) on.new on.on_kept ∙ ap (verdict_by_rules kept b) is
+
+  -- one that breaks a rule
+  pub verdict-refused : (rule : ℕ) → first_broken spec (branch kept entry.parent) b ≡ Some rule → Refused rule ≡ verdict_of_block spec kept b
+  verdict-refused rule is = sym (by-rules (Some rule) is)
+
+  -- one that finds no room
+  pub verdict-full : (count : ℕ) (room : Bool) → first_broken spec (branch kept entry.parent) b ≡ None → room ≡ nat_lt count kept_limit → room ≡ false
+      → count ≡ length kept → Full ≡ verdict_of_block spec kept b
+  verdict-full count room unbroken is none same =
+      let no_room : nat_lt (length kept) kept_limit ≡ false = ap (λ (n : ℕ). nat_lt n kept_limit) (sym same) ∙ sym is ∙ none in
+      sym (by-rules None unbroken ∙ ap (λ (r : Bool). cond r (Joined b.header.number (block_hash b)) Full) no_room)
+
+-- one that may join
+pub is-judged : (chain : Chain) (b : Block) (joining : Joining) → IsEntryOn chain.blocks b joining.entry
+    → first_broken chain.spec (branch chain.blocks joining.entry.parent) b ≡ None → length chain.blocks < kept_limit
+    → joining.ext ≡ ext_of chain.spec chain.blocks joining.entry.parent b → IsJudged chain b joining
+is-judged chain b joining on unbroken room ext = record {
+  may = record { new = on.new; parent = joining.entry.parent; on_kept = on.on_kept; unbroken = unbroken; room = room };
+  on = refl;
+  ext = ext;
+}
+
+-- ---- An item
+
+-- one that is no block
+pub verdict-no-block : (chain : Chain) (item : List ℕ) → decoded block item ≡ None → IsDecided chain item (Stays (Refused 1))
+unfolding verdict
+verdict-no-block chain item is = ap (verdict_of chain.spec chain.blocks) (sym is)
+
+-- one that is a block
+decided-item : (chain : Chain) (item : List ℕ) (b : Block) (decision : Decision) → decoded block item ≡ Some b → IsDecidedBlock chain b decision → IsDecided chain item decision
+unfolding verdict
+decided-item chain item b (Joins joining) is here = (b, is, here)
+decided-item chain item b (Stays answer) is here = here ∙ ap (verdict_of chain.spec chain.blocks) (sym is)
+
+pub decided-else : {E : Type 0} (chain : Chain) (item : List ℕ) (b : Block) (result : Result Decision E) → decoded block item ≡ Some b
+    → IfOk result (IsDecidedBlock chain b) → IfOk result (IsDecided chain item)
+decided-else chain item b (Ok decision) is here = decided-item chain item b decision is here
+decided-else chain item b (Err stop) is here = tt
+
+-- ---- A transaction alone
+
+abbrev branch_at : List Block → Option ℕ → List Block
+branch_at kept None = []
+branch_at kept (Some place) = branch kept place
+
+best-is : (kept : List Block) (tip : ℕ) → tip_place kept ≡ Some tip → best_branch kept ≡ branch kept tip
+best-is kept tip is = ap (branch_at kept) is
+
+module _ (spec : Specification) (kept : List Block) (t : Transaction) (tip : ℕ) (is : tip_place kept ≡ Some tip) where
+  by-rule : (broken : Option ℕ) → broken_in_dry_run spec (branch kept tip) t ≡ broken → trial_on spec (best_branch kept) t ≡ trial_by spec (branch kept tip) t broken
+  unfolding trial_on
+  by-rule broken found = ap (λ (on : List Block). trial_on spec on t) (best-is kept tip is) ∙ ap (trial_by spec (branch kept tip) t) found
+
+  pub trial-refused : (rule : ℕ) → broken_in_dry_run spec (branch kept tip) t ≡ Some rule → trial_on spec (best_branch kept) t ≡ trials.Refused rule
+  trial-refused rule found = by-rule (Some rule) found
+
+  pub trial-passes : (paid cycles : ℕ) → broken_in_dry_run spec (branch kept tip) t ≡ None → paid ≡ fee (site_after spec (branch kept tip)) t
+      → cycles ≡ cycles_of (scene_of (site_after spec (branch kept tip)) t) spec.max_cycles
+      → trial_on spec (best_branch kept) t ≡ trials.Passes paid cycles
+  trial-passes paid cycles found is_fee is_cycles = by-rule None found ∙ (λ i. trials.Passes (sym is_fee i) (sym is_cycles i))
+
+pub trial-passes-else : {E : Type 0} (spec : Specification) (kept : List Block) (t : Transaction) (tip : ℕ) (result : Result (ℕ × ℕ) E) → tip_place kept ≡ Some tip
+    → IfOk result (λ _. broken_in_dry_run spec (branch kept tip) t ≡ None) → IfOk result (λ it. it.0 ≡ fee (site_after spec (branch kept tip)) t)
+    → IfOk result (λ it. it.1 ≡ cycles_of (scene_of (site_after spec (branch kept tip)) t) spec.max_cycles)
+    → IfOk result (λ it. trial_on spec (best_branch kept) t ≡ trials.Passes it.0 it.1)
+trial-passes-else spec kept t tip (Ok it) is found is_fee is_cycles = trial-passes spec kept t tip is it.0 it.1 found is_fee is_cycles
+trial-passes-else spec kept t tip (Err stop) is found is_fee is_cycles = tt

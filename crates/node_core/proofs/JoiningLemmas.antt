@@ -1,0 +1,278 @@
+-- What is kept with one more block: the index, the uncles, and the live cells of the tip.
+use Rattle.std.proofs.Common.{◌≡◌, ℕ, suc, ◌+◌, ◌-◌, ◌≤◌, ◌<◌, ◌^◌, Bool, true, false, cond, ltb, List, [], ◌∷◌, ◌++◌, length, Option, Some, None, refl, sym, ap, ◌∙◌, subst, inl, inr, ◌⊎◌, arith}
+use Rattle.std.specs.Prelude.{Result, Ok, Err, IfOk, IsTrue, IsSomeAnd, slice_get}
+use Rattle.std.proofs.lemmas.Bool.{and_parts}
+use Rattle.std.proofs.lemmas.Bool.Decides.{Decides-eqb, Decides-ltb, nat_tests}
+use Rattle.std.proofs.lemmas.List.{append-nil, append_assoc, length_push, length-map, map-append}
+use Rattle.std.proofs.lemmas.Option.{slice_get_within, same_Some}
+use Rattle.codec_defs.specs.Shape.{decoded}
+use Rattle.codec_defs.specs.Schema.{OutPoint, Block, block}
+use Rattle.time_defs.specs.Specification.{Specification}
+use Rattle.chain_defs.specs.Kept.{block_hash, block_at, StandsOn, IsKept}
+use Rattle.chain_defs.specs.Branch.{branch}
+use Rattle.chain_defs.specs.Tip.{tip_place}
+use Rattle.chain_defs.proofs.KeptLaws.{slice_get-below, slice_get-pushed, place_of-below, place_of-there, IsKept-push}
+use Rattle.chain_defs.proofs.BranchLaws.{branch-last}
+use Rattle.chain_defs.proofs.TipLaws.{tip_place-below, tip_place-push}
+use Rattle.time_defs.specs.Dao.{field_of_bytes}
+use Rattle.rule_defs.specs.Header.{follows, parent_of}
+use Rattle.cell_defs.specs.Events.{events_of_block}
+use Rattle.cell_defs.specs.Row.{Row, live_row}
+use Rattle.cell_state.specs.Fit.{AllFit}
+use Rattle.cell_state.specs.State.{StateValue, rows, Grows}
+use Rattle.replay.proofs.RowLemmas.{live_row-front}
+use Rattle.replay.proofs.FitLemmas.{all-same}
+use Rattle.chain_tree.specs.declared.entry.Entry.{Entry}
+use Rattle.chain_tree.specs.Entries.{entry_at, place_of_hash, FollowsParent}
+use Rattle.chain_tree.specs.Blocks.{Describes, IndexesBlocks}
+use Rattle.chain_tree.specs.Told.{Stored, blocks_of}
+use Rattle.chain_tree.proofs.BlockLemmas.{len-same, entry-same, find-same}
+use Rattle.chain_tree.proofs.EntryLemmas.{and_some}
+use Rattle.tx_rules.specs.At.{AreRated}
+use Rattle.uncle_rules.specs.Embedded.{Embedded, embedded_in, embedded_from, UnclesValue}
+use Rattle.block_defs.specs.Rules.{is_rated}
+use Rattle.verdict_defs.specs.Verdict.{kept_limit}
+use Rattle.verdict_defs.specs.Chain.{Chain}
+use Rattle.verdict_defs.specs.Laws.{MayJoin}
+use Rattle.verdict_defs.proofs.VerdictLaws.{parent_of-branch}
+use Rattle.store_defs.specs.Store.{IsJoined}
+use Rattle.joined_laws.proofs.FitLaws.{what-joins-fits}
+use Rattle.node_core.specs.declared.deciding.Joining.{Joining}
+use Rattle.node_core.specs.Node.{AreKept}
+use Rattle.node_core.specs.Judging.{AreCellsOn, IsReady}
+
+-- ---- A block that is ready
+
+-- its number is the next behind its parent's
+next-number : (kept : List Block) (b : Block) (joining : Joining) (parent : Block) → IsReady kept b joining → block_at kept joining.entry.parent ≡ Some parent
+    → b.header.number ≡ parent.header.number + 1
+next-number kept b joining parent ready there =
+    let below = place_of-below kept b.header.parent_hash joining.entry.parent ready.entry.on_kept in
+    let last : parent_of (branch kept joining.entry.parent) ≡ Some parent = parent_of-branch kept joining.entry.parent below ∙ there in
+    let next : follows b (Some parent) ≡ true = ap (follows b) (sym last) ∙ ready.next in
+    (Decides-eqb b.header.number (parent.header.number + 1)).0 next
+
+-- it stands on its parent
+stands-ready : (kept : List Block) (b : Block) (joining : Joining) → IsReady kept b joining → StandsOn kept b
+stands-ready kept b joining ready =
+    let found = place_of-there kept b.header.parent_hash joining.entry.parent ready.entry.on_kept in
+    record {
+      place = joining.entry.parent;
+      parent = found.0;
+      named = ready.entry.on_kept;
+      there = found.1;
+      next = next-number kept b joining found.0 ready found.1;
+    }
+
+pub is_kept-ready : (kept : List Block) (b : Block) (joining : Joining) → IsKept kept → IsReady kept b joining → IsKept (kept ++ b ∷ [])
+is_kept-ready kept b joining is_kept ready = IsKept-push kept b is_kept (stands-ready kept b joining ready) ready.entry.new
+
+-- the rows of its parent's branch, by what is handed along
+pub given-cells : (kept : List Block) (b : Block) (joining : Joining) (cells : StateValue) → IsReady kept b joining → joining.cells ≡ Some cells
+    → (o : OutPoint) → rows cells o ≡ live_row kept joining.entry.parent o
+given-cells kept b joining cells ready is = subst (AreCellsOn kept joining.entry.parent) is ready.cells
+
+pub tip-cells : (kept : List Block) (b : Block) (joining : Joining) (state : StateValue) → IsReady kept b joining → joining.cells ≡ None
+    → ((tip : ℕ) → tip_place kept ≡ Some tip → (o : OutPoint) → rows state o ≡ live_row kept tip o)
+    → (o : OutPoint) → rows state o ≡ live_row kept joining.entry.parent o
+tip-cells kept b joining state ready is live = live joining.entry.parent (subst (AreCellsOn kept joining.entry.parent) is ready.cells)
+
+-- its events fit other rows that are the same
+pub fits-parent : (kept : List Block) (place height : ℕ) (b : Block) (parent : ℕ) (cells : StateValue) → place ≡ length kept
+    → ((o : OutPoint) → rows cells o ≡ live_row kept parent o) → AllFit (length kept) (events_of_block height b) (live_row kept parent)
+    → AllFit place (events_of_block height b) (rows cells)
+fits-parent kept place height b parent cells at same fit =
+    all-same place (events_of_block height b) (live_row kept parent) (rows cells) same
+    (subst (λ (p : ℕ). AllFit p (events_of_block height b) (live_row kept parent)) (sym at) fit)
+
+-- ---- The tip with one more block
+
+some_block : (found : Option Block) (P : Block → Type 0) → IsSomeAnd found P → (b : Block) × (found ≡ Some b) × P b
+some_block None P here = absurd here
+some_block (Some b) P here = (b, refl, here)
+
+low-test : (top number : ℕ) → number ≤ top → ltb top number ≡ false
+low-test top number low = grind (arith, nat_tests)
+
+high-test : (top number : ℕ) → top < number → ltb top number ≡ true
+high-test top number high = (Decides-ltb top number).1 high
+
+module _ (kept : List Block) (b : Block) (at : ℕ) (entry : Entry) (found : tip_place kept ≡ Some at)
+    (here : IsSomeAnd (block_at kept at) (λ block. Describes block entry)) where
+  top : (x : Block) × (block_at kept at ≡ Some x) × Describes x entry
+  top = some_block (block_at kept at) (λ block. Describes block entry) here
+
+  by_test : (t : Bool) → ltb top.0.header.number b.header.number ≡ t → tip_place (kept ++ b ∷ []) ≡ Some (cond t (length kept) at)
+  by_test t test = tip_place-push kept b at top.0 found top.1 ∙ ap (λ (x : Bool). Some (cond x (length kept) at)) test
+
+  stays_at : (number : ℕ) → number ≡ b.header.number → number ≤ entry.number → tip_place (kept ++ b ∷ []) ≡ Some at
+  stays_at number is low =
+      let same = top.2.number in
+      by_test false (low-test top.0.header.number b.header.number (omega (arith, is, low, same)))
+
+  moves_to : (number : ℕ) → number ≡ b.header.number → entry.number < number → tip_place (kept ++ b ∷ []) ≡ Some (length kept)
+  moves_to number is high =
+      let same = top.2.number in
+      by_test true (high-test top.0.header.number b.header.number (omega (arith, is, high, same)))
+
+  -- the rows of a tip that stays
+  pub rows-stay : (state : StateValue) (number : ℕ) → number ≡ b.header.number → number ≤ entry.number
+      → ((tip : ℕ) → tip_place kept ≡ Some tip → (o : OutPoint) → rows state o ≡ live_row kept tip o)
+      → (tip : ℕ) → tip_place (kept ++ b ∷ []) ≡ Some tip → (o : OutPoint) → rows state o ≡ live_row (kept ++ b ∷ []) tip o
+  rows-stay state number is low live tip now o =
+      let same : at ≡ tip = same_Some at tip (sym (stays_at number is low) ∙ now) in
+      subst (λ (p : ℕ). rows state o ≡ live_row (kept ++ b ∷ []) p o) same
+      (live at found o ∙ sym (live_row-front kept (b ∷ []) at o (tip_place-below kept at found)))
+
+  -- those of a block that becomes the tip
+  pub rows-move : (joining : Joining) (place : ℕ) (cells next : StateValue) → IsKept kept → IsReady kept b joining → place ≡ length kept
+      → entry.number < joining.entry.number → ((o : OutPoint) → rows cells o ≡ live_row kept joining.entry.parent o) → Grows b place cells next
+      → (tip : ℕ) → tip_place (kept ++ b ∷ []) ≡ Some tip → (o : OutPoint) → rows next o ≡ live_row (kept ++ b ∷ []) tip o
+  rows-move joining place cells next is_kept ready long high same grows tip now o =
+      let is : place ≡ tip = long ∙ same_Some (length kept) tip (sym (moves_to joining.entry.number ready.entry.describes.number high) ∙ now) in
+      subst (λ (p : ℕ). rows next o ≡ live_row (kept ++ b ∷ []) p o) is
+      (grows kept joining.entry.parent (is_kept-ready kept b joining is_kept ready) ready.entry.on_kept (sym long) same o)
+
+pub move-else : {E : Type 0} (kept : List Block) (b : Block) (at : ℕ) (entry : Entry) → tip_place kept ≡ Some at
+    → IsSomeAnd (block_at kept at) (λ block. Describes block entry) → (joining : Joining) (place : ℕ) (cells : StateValue) (result : Result StateValue E)
+    → IsKept kept → IsReady kept b joining → place ≡ length kept → entry.number < joining.entry.number
+    → ((o : OutPoint) → rows cells o ≡ live_row kept joining.entry.parent o) → IfOk result (λ next. Grows b place cells next)
+    → IfOk result (λ next. (tip : ℕ) → tip_place (kept ++ b ∷ []) ≡ Some tip → (o : OutPoint) → rows next o ≡ live_row (kept ++ b ∷ []) tip o)
+move-else kept b at entry found here joining place cells (Ok next) is_kept ready long high same grows =
+    rows-move kept b at entry found here joining place cells next is_kept ready long high same grows
+move-else kept b at entry found here joining place cells (Err stop) is_kept ready long high same grows = tt
+
+-- ---- The index with one more block
+
+pub hash-new : (kept : List Block) (entries : List Entry) (b : Block) (joining : Joining) → IndexesBlocks kept entries → IsReady kept b joining
+    → place_of_hash entries joining.entry.hash ≡ None
+hash-new kept entries b joining indexed ready =
+    ap (place_of_hash entries) ready.entry.describes.hash ∙ find-same kept entries (block_hash b) indexed ∙ ready.entry.new
+
+pub follows-parent : (kept : List Block) (entries : List Entry) (b : Block) (joining : Joining) (entry : Entry) → IndexesBlocks kept entries → IsReady kept b joining
+    → entry.parent ≡ joining.entry.parent → entry.number ≡ joining.entry.number → FollowsParent entries entry
+follows-parent kept entries b joining entry indexed ready parent number =
+    let below : joining.entry.parent < length entries =
+    omega (arith, place_of-below kept b.header.parent_hash joining.entry.parent ready.entry.on_kept, len-same kept entries indexed) in
+    let found = slice_get-below entries joining.entry.parent below in
+    let described = some_block (block_at kept joining.entry.parent) (λ block. Describes block found.0)
+    (entry-same kept entries joining.entry.parent found.0 indexed found.1) in
+    and_some (entry_at entries entry.parent) (λ on. entry.number ≡ on.number + 1) found.0 (ap (entry_at entries) parent ∙ found.1)
+    (number ∙ ready.entry.describes.number ∙ next-number kept b joining described.0 ready described.1 ∙ ap (λ (n : ℕ). n + 1) (sym described.2.number))
+
+-- the C and the AR of its DAO field are above 0
+issued-above : (b : Block) (entry : Entry) → Describes b entry → IsTrue (is_rated b)
+    → (0 < (field_of_bytes entry.dao).issued) × (0 < (field_of_bytes entry.dao).rate)
+issued-above b entry describes rated =
+    let parts = and_parts _ _ rated in
+    subst (λ (dao : List ℕ). (0 < (field_of_bytes dao).issued) × (0 < (field_of_bytes dao).rate)) (sym describes.dao)
+    ((Decides-ltb 0 (field_of_bytes b.header.dao).issued).0 parts.0, (Decides-ltb 0 (field_of_bytes b.header.dao).rate).0 parts.1)
+
+pub rated-push : (entries : List Entry) (b : Block) (entry : Entry) → AreRated entries → Describes b entry → IsTrue (is_rated b)
+    → AreRated (entries ++ entry ∷ [])
+rated-push entries b entry rated describes is place other there = by_place (slice_get-pushed entries entry place other there)
+  where
+    by_place : ((place < length entries) × (slice_get entries place ≡ Some other)) ⊎ ((place ≡ length entries) × (entry ≡ other))
+        → (0 < (field_of_bytes other.dao).issued) × (0 < (field_of_bytes other.dao).rate)
+    by_place (inl before) = rated place other before.1
+    by_place (inr last) =
+        subst (λ (e : Entry). (0 < (field_of_bytes e.dao).issued) × (0 < (field_of_bytes e.dao).rate)) last.1 (issued-above b entry describes is)
+
+-- the uncles of blocks and one more
+embedded-from-push : (kept : List Block) (b : Block) (place : ℕ) → embedded_from place (kept ++ b ∷ []) ≡ embedded_from place kept ++ embedded_in (place + length kept) b
+unfolding embedded_from
+embedded-from-push [] b place = append-nil (embedded_in place b) ∙ ap (λ (p : ℕ). embedded_in p b) (omega arith)
+embedded-from-push (first ∷ later) b place =
+    ap (λ (es : List Embedded). embedded_in place first ++ es) (embedded-from-push later b (suc place))
+    ∙ sym (append_assoc (embedded_in place first) (embedded_from (suc place) later) (embedded_in (suc place + length later) b))
+    ∙ ap (λ (p : ℕ). (embedded_in place first ++ embedded_from (suc place) later) ++ embedded_in p b) (omega arith)
+
+pub uncles-push : (kept : List Block) (b : Block) (place : ℕ) (old new : List Embedded) → place ≡ length kept → old ≡ embedded_from 0 kept
+    → new ≡ old ++ embedded_in place b → new ≡ embedded_from 0 (kept ++ b ∷ [])
+uncles-push kept b place old new long was is =
+    is ∙ ap (λ (es : List Embedded). es ++ embedded_in place b) was ∙ ap (λ (p : ℕ). embedded_from 0 kept ++ embedded_in p b) (omega (arith, long))
+    ∙ sym (embedded-from-push kept b 0)
+
+-- ---- Counts
+
+not_many : (count : ℕ) → count ≤ kept_limit → count + 1 < 2 ^ 24
+unfolding kept_limit
+not_many count few = omega (arith, few)
+
+pub few-kept : (count : ℕ) → count ≤ kept_limit → count + 1 < 2 ^ 32
+few-kept count few = omega (arith, not_many count few)
+
+pub few-heights : (count : ℕ) → count ≤ kept_limit → count < 2 ^ 24
+few-heights count few = omega (arith, not_many count few)
+
+-- ---- What fits
+
+branch-some : (kept : List Block) (place : ℕ) → place < length kept → 0 < length (branch kept place)
+branch-some kept place below =
+    let here = slice_get-below kept place below in
+    let within = slice_get_within (branch kept place) (length (branch kept place) - 1) here.0 (branch-last kept place below ∙ here.1) in
+    omega (arith, within)
+
+-- A block that may join fits its parent's cells.
+pub record FitsOn (kept : List Block) (b : Block) (parent : ℕ) : Type 0 where
+  pub height : ℕ
+  pub above : 0 < height
+  pub fits : AllFit (length kept) (events_of_block height b) (live_row kept parent)
+
+pub fits-on : (chain : Chain) (b : Block) (joining : Joining) → IsJoined chain → MayJoin chain.spec chain.blocks b → IsReady chain.blocks b joining
+    → FitsOn chain.blocks b joining.entry.parent
+fits-on chain b joining joined may ready =
+    let same : may.parent ≡ joining.entry.parent = same_Some may.parent joining.entry.parent (sym may.on_kept ∙ ready.entry.on_kept) in
+    record {
+      height = length (branch chain.blocks may.parent);
+      above = branch-some chain.blocks may.parent (place_of-below chain.blocks b.header.parent_hash may.parent may.on_kept);
+      fits = subst (λ (p : ℕ). AllFit (length chain.blocks) (events_of_block (length (branch chain.blocks may.parent)) b) (live_row chain.blocks p)) same
+          (what-joins-fits chain b joined may);
+    }
+
+-- ---- All that is kept with one more block
+
+-- the item is the encoding of the block that is ready
+pub ready-for : (kept : List Block) (item : List ℕ) (b : Block) (joining : Joining) → ((x : Block) × (decoded block item ≡ Some x) × IsReady kept x joining)
+    → decoded block item ≡ Some b → IsReady kept b joining
+ready-for kept item b joining (x, is, ready) found = subst (λ (y : Block). IsReady kept y joining) (same_Some x b (sym is ∙ found)) ready
+
+-- an entry with the record's name
+pub describes-named : (b : Block) (entry named : Entry) → Describes b entry → named.hash ≡ entry.hash → named.number ≡ entry.number
+    → named.timestamp ≡ entry.timestamp → named.dao ≡ entry.dao → Describes b named
+describes-named b entry named is hash number timestamp dao = record {
+  hash = hash ∙ is.hash;
+  number = number ∙ is.number;
+  timestamp = timestamp ∙ is.timestamp;
+  dao = dao ∙ is.dao;
+}
+
+blocks-push : (stored after : List Stored) (b : Block) (ext : List ℕ) → after ≡ stored ++ record { block = b; ext = ext } ∷ []
+    → blocks_of after ≡ blocks_of stored ++ b ∷ []
+blocks-push stored after b ext is = ap blocks_of is ∙ map-append (λ (it : Stored). it.block) stored (record { block = b; ext = ext } ∷ [])
+
+abbrev pub chain_as : Specification → List Block → Chain
+chain_as spec blocks = record { spec = spec; blocks = blocks }
+
+pub chain-push : (spec : Specification) (stored after : List Stored) (b : Block) (ext : List ℕ) (chain : Chain) → chain_as spec (blocks_of stored) ≡ chain
+    → after ≡ stored ++ record { block = b; ext = ext } ∷ [] → chain_as spec (blocks_of after) ≡ chain_as chain.spec (chain.blocks ++ b ∷ [])
+chain-push spec stored after b ext chain whole is =
+    subst (λ (v : Chain). chain_as spec (blocks_of after) ≡ chain_as v.spec (v.blocks ++ b ∷ [])) whole
+    (ap (chain_as spec) (blocks-push stored after b ext is))
+
+pub are-kept-push : (stored after : List Stored) (entries later : List Entry) (index next : UnclesValue) (b : Block) (ext : List ℕ) (joining : Joining) (entry : Entry)
+    (place : ℕ) (old new : OutPoint → Option Row) → AreKept stored entries index old → IsReady (blocks_of stored) b joining
+    → after ≡ stored ++ record { block = b; ext = ext } ∷ [] → later ≡ entries ++ entry ∷ [] → Describes b entry → IndexesBlocks (blocks_of stored ++ b ∷ []) later
+    → place ≡ length (blocks_of stored) → next.embedded ≡ index.embedded ++ embedded_in place b
+    → ((tip : ℕ) → tip_place (blocks_of stored ++ b ∷ []) ≡ Some tip → (o : OutPoint) → new o ≡ live_row (blocks_of stored ++ b ∷ []) tip o)
+    → AreKept after later next new
+are-kept-push stored after entries later index next b ext joining entry place old new are ready grown entered describes indexed at uncles live =
+    let blocks : blocks_of after ≡ blocks_of stored ++ b ∷ [] = blocks-push stored after b ext grown in
+    record {
+      indexed = subst (λ (bs : List Block). IndexesBlocks bs later) (sym blocks) indexed;
+      uncles = uncles-push (blocks_of stored) b place index.embedded next.embedded at are.uncles uncles
+          ∙ ap (embedded_from 0) (sym blocks);
+      live = subst (λ (bs : List Block). (tip : ℕ) → tip_place bs ≡ Some tip → (o : OutPoint) → new o ≡ live_row bs tip o) (sym blocks) live;
+      rated = subst AreRated (sym entered) (rated-push entries b entry are.rated describes ready.rated);
+      few = omega (arith, ready.room, ap length grown, length_push stored (record { block = b; ext = ext }), length-map stored (λ (it : Stored). it.block));
+    }

@@ -1,0 +1,85 @@
+use Rattle.std.proofs.Common.{◌≡◌, List, length, refl, sym, ap, ◌∙◌, subst, arith, rules}
+use Rattle.std.proofs.lemmas.Option.{same_Some}
+use Rattle.codec_defs.specs.Schema.{Block}
+use Rattle.chain_tree.specs.Told.{blocks_of}
+use Rattle.cell_state.specs.State.{rows}
+use Rattle.verdict_defs.specs.Chain.{Chain}
+use Rattle.node_core.specs.Judging.{IsReady}
+use Rattle.node_core.proofs.DecidingLemmas.{few-entries}
+use Rattle.node_core.proofs.JoiningLemmas.{few-kept, follows-parent, hash-new, FitsOn, fits-on, ready-for, describes-named, chain-push, are-kept-push}
+use Rattle.node_core.proofs.kept.Kept.join.Goals as goal
+
+pub returns-in_err-state-clause-undamaged : goal.returns-in_err-state-clause-undamaged
+returns-in_err-state-clause-undamaged g c b is joined may damage was =
+    let kept = blocks_of c.self.inside.blocks.stored in
+    let seen : kept ≡ c.args.self.blocks = ap (λ (v : Chain). v.blocks) c.self.view_is in
+    let same : c.in-Some.block ≡ b = same_Some c.in-Some.block b (c.in-Some.ensures.value ∙ is) in
+    let ready = subst (λ (bs : List Block). IsReady bs c.in-Some.block c.args.joining) (sym seen)
+    (ready-for c.args.self.blocks c.args.item.now c.in-Some.block c.args.joining c.requires.canonical (sym c.in-Some.ensures.value)) in
+    let own = fits-on c.args.self b c.args.joining joined may (ready-for c.args.self.blocks c.args.item.now b c.args.joining c.requires.canonical is) in
+    let fits : FitsOn kept c.in-Some.block c.args.joining.entry.parent =
+    subst (λ (bs : List Block). FitsOn bs c.in-Some.block c.args.joining.entry.parent) (sym seen)
+    (subst (λ (x : Block). FitsOn c.args.self.blocks x c.args.joining.entry.parent) (sym same) own) in
+    let no = c.in_err-state.ensures.undamaged kept fits.height c.self.invariant.indexed ready c.self.invariant.live fits.above fits.fits damage in
+    search (rules, no)
+
+pub put-requires-clause-few : goal.put-requires-clause-few
+put-requires-clause-few g c = few-kept (length c.self.inside.blocks.stored) c.self.invariant.few
+
+pub put-requires-clause-fewer : goal.put-requires-clause-fewer
+put-requires-clause-fewer g c =
+    let few = few-entries c.self.inside.blocks.stored c.self.inside.tree.entries c.self.inside.uncles (rows c.self.inside.state) c.self.invariant in
+    omega (arith, few)
+
+pub put-requires-clause-parent : goal.put-requires-clause-parent
+put-requires-clause-parent g c =
+    let kept = blocks_of c.self.inside.blocks.stored in
+    let seen : kept ≡ c.args.self.blocks = ap (λ (v : Chain). v.blocks) c.self.view_is in
+    let ready = subst (λ (bs : List Block). IsReady bs c.in-Some.block c.args.joining) (sym seen)
+    (ready-for c.args.self.blocks c.args.item.now c.in-Some.block c.args.joining c.requires.canonical (sym c.in-Some.ensures.value)) in
+    follows-parent kept c.self.inside.tree.entries c.in-Some.block c.args.joining
+    (record {
+      hash = c.args.joining.entry.hash;
+      parent = c.args.joining.entry.parent;
+      number = c.args.joining.entry.number;
+      timestamp = c.args.joining.entry.timestamp;
+      dao = c.args.joining.entry.dao;
+      at = c.args.rec.at;
+      len = c.args.rec.len;
+    }) c.self.invariant.indexed ready refl refl
+
+pub put-requires-clause-new : goal.put-requires-clause-new
+put-requires-clause-new g c =
+    let kept = blocks_of c.self.inside.blocks.stored in
+    let seen : kept ≡ c.args.self.blocks = ap (λ (v : Chain). v.blocks) c.self.view_is in
+    let ready = subst (λ (bs : List Block). IsReady bs c.in-Some.block c.args.joining) (sym seen)
+    (ready-for c.args.self.blocks c.args.item.now c.in-Some.block c.args.joining c.requires.canonical (sym c.in-Some.ensures.value)) in
+    hash-new kept c.self.inside.tree.entries c.in-Some.block c.args.joining c.self.invariant.indexed ready
+
+pub invariant_of-result : goal.invariant_of-result
+invariant_of-result g c =
+    let kept = blocks_of c.self.inside.blocks.stored in
+    let seen : kept ≡ c.args.self.blocks = ap (λ (v : Chain). v.blocks) c.self.view_is in
+    let is = sym c.in-Some.ensures.value in
+    let ready = subst (λ (bs : List Block). IsReady bs c.in-Some.block c.args.joining) (sym seen)
+    (ready-for c.args.self.blocks c.args.item.now c.in-Some.block c.args.joining c.requires.canonical is) in
+    let describes = describes-named c.in-Some.block c.args.joining.entry
+    (record {
+      hash = c.args.joining.entry.hash;
+      parent = c.args.joining.entry.parent;
+      number = c.args.joining.entry.number;
+      timestamp = c.args.joining.entry.timestamp;
+      dao = c.args.joining.entry.dao;
+      at = c.args.rec.at;
+      len = c.args.rec.len;
+    }) ready.entry.describes refl refl refl refl in
+    are-kept-push c.self.inside.blocks.stored c.put.new.blocks.stored c.self.inside.tree.entries c.put.new.tree.entries c.self.inside.uncles c.take_uncles.new.uncles
+    c.in-Some.block c.args.ext.items c.args.joining _ c.len.result (rows c.self.inside.state) (rows c.in_ok-state.state) c.self.invariant ready
+    (c.in-Ok-put.ensures.blocks c.in-Some.block is) c.in-Ok-put.ensures.entries describes
+    (c.in-Ok-put.ensures.indexed kept c.in-Some.block c.self.invariant.indexed describes ready.entry.on_kept)
+    (c.len.ensures.of_blocks kept c.self.invariant.indexed) c.in-Ok.ensures
+    (c.in_ok-state.ensures.live kept c.self.invariant.indexed ready c.self.invariant.live)
+
+pub returns-in-Ok-put-clause-kept : goal.returns-in-Ok-put-clause-kept
+returns-in-Ok-put-clause-kept g c b is =
+    chain-push c.self.inside.spec c.self.inside.blocks.stored c.put.new.blocks.stored b c.args.ext.items c.args.self c.self.view_is (c.in-Ok-put.ensures.blocks b is)

@@ -1,0 +1,91 @@
+use Rattle.std.proofs.Common.{◌≡◌, None, Some, refl, ap, ◌∙◌, subst}
+use Rattle.std.specs.Prelude.{Err, length}
+use Rattle.fold_defs.specs.First.{first_failing}
+use Rattle.chain_defs.specs.Branch.{branch}
+use Rattle.chain_defs.proofs.KeptLaws.{place_of-below}
+use Rattle.rule_defs.specs.Header.{header_rules}
+use Rattle.chain_tree.specs.Told.{blocks_of}
+use Rattle.cell_state.specs.State.{rows}
+use Rattle.block_defs.specs.Ext.{ext_of}
+use Rattle.block_defs.specs.Rules.{first_broken}
+use Rattle.verdict_defs.specs.Chain.{Chain}
+use Rattle.verdict_defs.specs.Verdict.{verdict_of_block}
+use Rattle.verdict_defs.specs.declared.verdict.Verdict.TheVariants.{Refused}
+use Rattle.node_core.proofs.DecidingLemmas.{as-many, few-entries, within-entries, stands-at-hand, room-for, is-ready, is-judged, verdict-refused, verdict-full}
+use Rattle.node_core.proofs.kept.Kept.judge_on.Goals as goal
+
+pub replayed-requires : goal.replayed-requires
+replayed-requires g c = place_of-below c.args.self.now.blocks c.args.block.now.header.parent_hash c.args.entry.parent c.requires.on_kept
+
+pub judge-requires-clause-parent : goal.judge-requires-clause-parent
+judge-requires-clause-parent g c =
+    within-entries (blocks_of c.self.inside.blocks.stored) c.args.self.now.blocks c.self.inside.tree.entries c.args.entry.parent
+    (ap (λ (v : Chain). v.blocks) (c.self.view_is ∙ c.replayed.ensures.same)) c.self.invariant.indexed
+    (place_of-below c.args.self.now.blocks c.args.block.now.header.parent_hash c.args.entry.parent c.requires.on_kept)
+
+pub judge-requires-clause-few : goal.judge-requires-clause-few
+judge-requires-clause-few g c =
+    few-entries c.self.inside.blocks.stored c.self.inside.tree.entries c.self.inside.uncles (rows c.self.inside.state) c.self.invariant
+
+pub judge-requires-clause-counts : goal.judge-requires-clause-counts
+judge-requires-clause-counts g c =
+    as-many c.self.inside.blocks.stored c.self.inside.tree.entries c.self.inside.uncles (rows c.self.inside.state) c.self.invariant
+
+pub returns-in-Err-Broken-clause-decided : goal.returns-in-Err-Broken-clause-decided
+returns-in-Err-Broken-clause-decided g c joined =
+    let whole = c.self.view_is ∙ c.replayed.ensures.same in
+    let stands = stands-at-hand c.self.inside.spec c.self.inside.blocks.stored c.self.inside.tree.entries c.self.inside.uncles c.self.inside.state
+    c.cells_or-state.result.now c.args.self.now c.args.block.now c.args.entry c.in_ok-cells.cells whole c.self.invariant c.requires joined
+    c.in_ok-cells.ensures.cells c.cells_or-state.ensures.given c.cells_or-state.ensures.tip in
+    let refused : Refused c.in-Err-Broken.rule ≡ verdict_of_block c.args.self.now.spec c.args.self.now.blocks c.args.block.now =
+    verdict-refused c.args.self.now.spec c.args.self.now.blocks c.args.block.now c.args.entry c.requires c.in-Err-Broken.rule
+    (subst (λ (v : Chain). first_broken v.spec (branch v.blocks c.args.entry.parent) c.args.block.now ≡ Some c.in-Err-Broken.rule) whole
+    (c.in-Err-Broken.ensures.broken c.self.inside.blocks.stored refl stands c.self.invariant.uncles c.in-Err-Broken.rule (ap Err c.in-Err-Broken.field-0-is))) in
+    let is = c.in-Err-Broken.rule-is in
+    (cc)
+
+pub returns-in-Err-Read-clause-undamaged : goal.returns-in-Err-Read-clause-undamaged
+returns-in-Err-Read-clause-undamaged g c joined damage was =
+    let whole = c.self.view_is ∙ c.replayed.ensures.same in
+    let stands = stands-at-hand c.self.inside.spec c.self.inside.blocks.stored c.self.inside.tree.entries c.self.inside.uncles c.self.inside.state
+    c.cells_or-state.result.now c.args.self.now c.args.block.now c.args.entry c.in_ok-cells.cells whole c.self.invariant c.requires joined
+    c.in_ok-cells.ensures.cells c.cells_or-state.ensures.given c.cells_or-state.ensures.tip in
+    let read = c.in-Err-Read.field-0-is in
+    let is = c.in-Err-Read.stop-is in
+    c.in-Err-Read.ensures.undamaged c.self.inside.blocks.stored refl stands c.self.invariant.uncles damage (cc)
+
+pub returns-then-has_room-clause-ready : goal.returns-then-has_room-clause-ready
+returns-then-has_room-clause-ready g c =
+    let whole = c.self.view_is ∙ c.replayed.ensures.same in
+    is-ready c.args.self.now.spec c.args.self.now.blocks c.args.block.now c.args.entry c.in-Ok.ext c.in_ok-cells.cells c.requires
+    (subst (λ (v : Chain). first_failing (header_rules v.spec (branch v.blocks c.args.entry.parent) c.args.block.now) ≡ None) whole
+    (c.in-Ok.ensures.header (blocks_of c.self.inside.blocks.stored) c.self.invariant.indexed))
+    (room-for c.len.result _ c.has_room.result c.has_room.ensures c.if-has_room.true
+    (c.len.ensures.of_blocks (blocks_of c.self.inside.blocks.stored) c.self.invariant.indexed ∙ ap (λ (v : Chain). length v.blocks) whole))
+    c.in-Ok.ensures.rated c.in-Ok.ensures.fees c.in_ok-cells.ensures.cells
+
+pub returns-then-has_room-clause-decided : goal.returns-then-has_room-clause-decided
+returns-then-has_room-clause-decided g c joined =
+    let whole = c.self.view_is ∙ c.replayed.ensures.same in
+    let stands = stands-at-hand c.self.inside.spec c.self.inside.blocks.stored c.self.inside.tree.entries c.self.inside.uncles c.self.inside.state
+    c.cells_or-state.result.now c.args.self.now c.args.block.now c.args.entry c.in_ok-cells.cells whole c.self.invariant c.requires joined
+    c.in_ok-cells.ensures.cells c.cells_or-state.ensures.given c.cells_or-state.ensures.tip in
+    is-judged c.args.self.now c.args.block.now (record { entry = c.args.entry; ext = c.in-Ok.ext; cells = c.in_ok-cells.cells }) c.requires
+    (subst (λ (v : Chain). first_broken v.spec (branch v.blocks c.args.entry.parent) c.args.block.now ≡ None) whole
+    (c.in-Ok.ensures.unbroken c.self.inside.blocks.stored refl stands c.self.invariant.uncles))
+    (room-for c.len.result _ c.has_room.result c.has_room.ensures c.if-has_room.true
+    (c.len.ensures.of_blocks (blocks_of c.self.inside.blocks.stored) c.self.invariant.indexed ∙ ap (λ (v : Chain). length v.blocks) whole))
+    (subst (λ (v : Chain). c.in-Ok.ext ≡ ext_of v.spec v.blocks c.args.entry.parent c.args.block.now) whole
+    (c.in-Ok.ensures.ext c.self.inside.blocks.stored refl stands c.self.invariant.uncles))
+
+pub returns-clause-decided : goal.returns-clause-decided
+returns-clause-decided g c joined =
+    let whole = c.self.view_is ∙ c.replayed.ensures.same in
+    let stands = stands-at-hand c.self.inside.spec c.self.inside.blocks.stored c.self.inside.tree.entries c.self.inside.uncles c.self.inside.state
+    c.cells_or-state.result.now c.args.self.now c.args.block.now c.args.entry c.in_ok-cells.cells whole c.self.invariant c.requires joined
+    c.in_ok-cells.ensures.cells c.cells_or-state.ensures.given c.cells_or-state.ensures.tip in
+    verdict-full c.args.self.now.spec c.args.self.now.blocks c.args.block.now c.args.entry c.requires c.len.result c.has_room.result
+    (subst (λ (v : Chain). first_broken v.spec (branch v.blocks c.args.entry.parent) c.args.block.now ≡ None) whole
+    (c.in-Ok.ensures.unbroken c.self.inside.blocks.stored refl stands c.self.invariant.uncles))
+    c.has_room.ensures c.if-has_room.false
+    (c.len.ensures.of_blocks (blocks_of c.self.inside.blocks.stored) c.self.invariant.indexed ∙ ap (λ (v : Chain). length v.blocks) whole)
