@@ -1,5 +1,6 @@
 pub mod RuleLemmas
 pub mod KeptLemmas
+pub mod WritingLemmas
 pub mod DiskLemmas
 pub mod NewLemmas
 pub mod OpenLemmas
