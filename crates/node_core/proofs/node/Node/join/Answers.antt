@@ -1,6 +1,5 @@
-use Rattle.std.proofs.Common.{◌≡◌, ℕ, ◌<◌, List, Err, length, refl, ap, sym, ◌∙◌, subst}
+use Rattle.std.proofs.Common.{rules, ◌≡◌, ℕ, ◌<◌, length, refl, ap, sym, ◌∙◌, subst}
 use Rattle.std.specs.Prelude.{IfSome, IsOk}
-use Rattle.outside.specs.declared.disk.ReadStop.TheVariants.{Damaged}
 use Rattle.outside.proofs.Moments.{leaves_also, now_too}
 use Rattle.cell_defs.specs.Ext.{ext_bytes}
 use Rattle.verdict_defs.specs.Chain.{Chain, chain_after}
@@ -57,9 +56,8 @@ invariant_of-result g c =
 pub returns-in_err-kept-clause-undamaged : goal.returns-in_err-kept-clause-undamaged
 returns-in_err-kept-clause-undamaged g c decided joined damage same =
     let seen : c.self.inside.kept ≡ c.args.self.chain = ap (λ (v : NodeValue). v.chain) c.self.view_is in
-    let stop : c.in_err-kept.error ≡ Damaged damage = (cc) in
     c.join.ensures.undamaged decided.0 decided.1 (subst IsJoined (sym seen) joined)
-    (subst (λ (k : Chain). MayJoin k.spec k.blocks decided.0) (sym seen) decided.2.may) damage (c.in_err-kept.is ∙ ap Err stop)
+    (subst (λ (k : Chain). MayJoin k.spec k.blocks decided.0) (sym seen) decided.2.may) damage (search rules)
 
 pub returns-in-Ok-append-clause-cause : goal.returns-in-Ok-append-clause-cause
 returns-in-Ok-append-clause-cause g c =
