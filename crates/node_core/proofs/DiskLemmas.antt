@@ -25,6 +25,14 @@ counts_none before now still none = record {
   unchanged = λ other. still;
 }
 
+-- a count that counts the same fault
+pub counts_also : {First Fault : Type 0} (before now : ℕ) → CountsFault before now First → (Fault → First) → (First → Fault) → CountsFault before now Fault
+counts_also before now counts there back = record {
+  later = counts.later;
+  rose = λ fault. counts.rose (there fault);
+  unchanged = λ never. counts.unchanged (λ first. never (back first));
+}
+
 pub same_image : (image now : Image) → image.log ≡ now.log → image.snap_a ≡ now.snap_a → image.snap_b ≡ now.snap_b → image ≡ now
 same_image image now log snap_a snap_b = λ i. record { log = log i; snap_a = snap_a i; snap_b = snap_b i }
 

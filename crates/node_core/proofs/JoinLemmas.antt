@@ -14,14 +14,27 @@ use Rattle.verdict_defs.specs.Laws.{MayJoin, CanJoin}
 use Rattle.verdict_defs.specs.declared.verdict.Verdict.TheVariants.{Joined}
 use Rattle.verdict_defs.proofs.VerdictLaws.{verdict-joined, keeps-what-joins, kept_after-stays}
 use Rattle.store_defs.specs.LogLaws.{record_over}
-use Rattle.store_defs.specs.Store.{ext_on, ext_of_found, ext_over}
+use Rattle.store_defs.specs.Store.{ext_on, ext_of_found, ext_over, IsJoined}
 use Rattle.log_file.specs.Pieces.{block_record}
 use Rattle.node_core.specs.declared.deciding.Joining.{Joining}
+use Rattle.node_core.specs.declared.deciding.Decision.{Decision}
 use Rattle.node_core.specs.declared.deciding.Decision.TheVariants.{Joins}
 use Rattle.node_core.specs.Judging.{IsReadyItem, IsDecided}
 use Rattle.node_core.specs.Node.{IsWithin}
 
 -- ---- What was decided
+
+-- what was decided over this chain
+pub decided_on : (inside chain : Chain) (item : List ℕ) (decision is : Decision) → inside ≡ chain → decision ≡ is
+    → (IsJoined inside → IsDecided inside item decision) → IsJoined chain → IsDecided chain item is
+decided_on inside chain item decision is same found decided joined =
+    subst (λ (d : Decision). IsDecided chain item d) found
+    (subst (λ (k : Chain). IsDecided k item decision) same (decided (subst IsJoined (sym same) joined)))
+
+pub ready_on : (inside chain : Chain) (item : List ℕ) (decision is : Decision) → inside ≡ chain → decision ≡ is
+    → IsReadyItem inside.blocks item decision → IsReadyItem chain.blocks item is
+ready_on inside chain item decision is same found ready =
+    subst (λ (d : Decision). IsReadyItem chain.blocks item d) found (subst (λ (k : Chain). IsReadyItem k.blocks item decision) same ready)
 
 -- it can join
 pub can_join : (chain : Chain) (item : List ℕ) (joining : Joining) → IsDecided chain item (Joins joining) → CanJoin chain.spec chain.blocks item
