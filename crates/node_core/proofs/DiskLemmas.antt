@@ -1,18 +1,37 @@
 -- What a node's disk is before a block joins, while it does and after.
-use Rattle.std.proofs.Common.{◌≡◌, ℕ, ◌+◌, ◌<◌, ◌^◌, List, [], ◌∷◌, ◌++◌, length, Option, Some, sym, ap, ◌∙◌, subst, inl, inr, ◌⊎◌}
+use Rattle.std.proofs.Common.{◌≡◌, ℕ, ◌+◌, ◌<◌, ◌^◌, List, [], ◌∷◌, ◌++◌, length, Option, Some, sym, ap, ◌∙◌, subst, inl, inr, ◌⊎◌, arith}
+use Rattle.std.specs.Prelude.{IsTrue}
 use Rattle.std.specs.Option.{option_map}
 use Rattle.outside.specs.declared.disk.Area.TheVariants.{Log}
+use Rattle.outside.specs.Causes.{CountsFault}
 use Rattle.outside.specs.Image.{Image, with_content}
 use Rattle.outside.specs.Disk.{OthersRead}
 use Rattle.verdict_defs.specs.Chain.{chain_after}
 use Rattle.verdict_defs.specs.Laws.{CanJoin}
 use Rattle.store_defs.specs.Log.{record_bytes}
-use Rattle.store_defs.specs.LogLaws.{record_of_joined}
+use Rattle.store_defs.specs.LogLaws.{record_over}
 use Rattle.store_defs.specs.Rest.{IsAtRest, IsBeforeOrAfter, IsSettled, HasLog}
-use Rattle.store_defs.specs.Store.{StandsFor}
+use Rattle.cell_defs.specs.Ext.{is_ext}
+use Rattle.store_defs.specs.Store.{ext_over, StandsFor}
 use Rattle.store_defs.proofs.Contents.{says_its_records}
 use Rattle.store_defs.proofs.StoreLemmas.{stands_as_it_says, stands_after_an_item}
 use Rattle.node_core.specs.Node.{NodeValue, IsOn}
+
+-- without a fault the count stands still
+pub counts_none : {Fault : Type 0} (before now : ℕ) → now ≡ before → (Fault → ⊥) → CountsFault before now Fault
+counts_none before now still none = record {
+  later = omega (arith, still);
+  rose = λ fault. absurd (none fault);
+  unchanged = λ other. still;
+}
+
+-- a count that counts the same fault
+pub counts_also : {First Fault : Type 0} (before now : ℕ) → CountsFault before now First → (Fault → First) → (First → Fault) → CountsFault before now Fault
+counts_also before now counts there back = record {
+  later = counts.later;
+  rose = λ fault. counts.rose (there fault);
+  unchanged = λ never. counts.unchanged (λ first. never (back first));
+}
 
 pub same_image : (image now : Image) → image.log ≡ now.log → image.snap_a ≡ now.snap_a → image.snap_b ≡ now.snap_b → image ≡ now
 same_image image now log snap_a snap_b = λ i. record { log = log i; snap_a = snap_a i; snap_b = snap_b i }
@@ -30,22 +49,23 @@ module _ (node : NodeValue) (reads : Option Image) (images : Image → Type 0) (
     durable = λ image left. ap (λ (i : Image). i.log) (on.one image left);
   }
 
-  module _ (item : List ℕ) (can : CanJoin node.chain.spec node.chain.blocks item) (short : length item < 2 ^ 31) where
-    stands_so : (bytes : List ℕ) → IsBeforeOrAfter place on.records (record_of_joined item) bytes
+  module _ (item : List ℕ) (can : CanJoin node.chain.spec node.chain.blocks item) (short : length item < 2 ^ 31)
+      (form : IsTrue (is_ext (ext_over node.chain item))) where
+    stands_so : (bytes : List ℕ) → IsBeforeOrAfter place on.records (record_over node.chain item) bytes
         → StandsFor node.chain (with_content Log bytes on.now) ⊎ StandsFor (chain_after node.chain item) (with_content Log bytes on.now)
     stands_so bytes (inl before) = inl (stands_as_it_says node.chain on.now bytes on.stands
         (says_its_records place on.records bytes before ∙ sym (says_its_records place on.records on.now.log rests)))
-    stands_so bytes (inr after) = inr (stands_after_an_item node.chain item on.now bytes place (place + length (record_bytes (record_of_joined item)))
-        on.records on.stands can short rests after)
+    stands_so bytes (inr after) = inr (stands_after_an_item node.chain item on.now bytes place (place + length (record_bytes (record_over node.chain item)))
+        on.records on.stands can short form rests after)
 
     -- while its record is put behind the others
-    pub stands_either : (image : Image) → HasLog (IsBeforeOrAfter place on.records (record_of_joined item)) images image
+    pub stands_either : (image : Image) → HasLog (IsBeforeOrAfter place on.records (record_over node.chain item)) images image
         → StandsFor node.chain image ⊎ StandsFor (chain_after node.chain item) image
     stands_either image (before, left, (bytes, either, is)) =
         subst (λ (i : Image). StandsFor node.chain i ⊎ StandsFor (chain_after node.chain item) i)
         (ap (with_content Log bytes) (sym (on.one before left)) ∙ sym is) (stands_so bytes either)
 
-    snaps_stay : (image : Image) → HasLog (IsBeforeOrAfter place on.records (record_of_joined item)) images image
+    snaps_stay : (image : Image) → HasLog (IsBeforeOrAfter place on.records (record_over node.chain item)) images image
         → (image.snap_a ≡ on.now.snap_a) × (image.snap_b ≡ on.now.snap_b)
     snaps_stay image (before, left, (bytes, either, is)) =
         let same : image ≡ with_content Log bytes on.now = is ∙ ap (with_content Log bytes) (on.one before left) in
@@ -58,9 +78,9 @@ module _ (node : NodeValue) (reads : Option Image) (images : Image → Type 0) (
         let same : Some now ≡ Some (with_content Log bytes on.now) = wrote ∙ ap (option_map (with_content Log bytes)) told in
         (cc)
 
-    module _ (next : ℕ) (reads1 : Option Image) (images1 : Image → Type 0) (settled : IsSettled next (on.records ++ record_of_joined item ∷ []) reads1 images1)
+    module _ (next : ℕ) (reads1 : Option Image) (images1 : Image → Type 0) (settled : IsSettled next (on.records ++ record_over node.chain item ∷ []) reads1 images1)
         (others : OthersRead Log reads reads1)
-        (left_so : (image : Image) → images1 image → HasLog (IsBeforeOrAfter place on.records (record_of_joined item)) images image) where
+        (left_so : (image : Image) → images1 image → HasLog (IsBeforeOrAfter place on.records (record_over node.chain item)) images image) where
       now_is : settled.now ≡ with_content Log settled.now.log on.now
       now_is = by_bytes others
         where
@@ -82,7 +102,7 @@ module _ (node : NodeValue) (reads : Option Image) (images : Image → Type 0) (
         told = settled.told;
         one = one_now;
         stands = subst (StandsFor (chain_after node.chain item)) (sym now_is)
-            (stands_after_an_item node.chain item on.now settled.now.log place next on.records on.stands can short rests settled.rest);
-        records = on.records ++ record_of_joined item ∷ [];
+            (stands_after_an_item node.chain item on.now settled.now.log place next on.records on.stands can short form rests settled.rest);
+        records = on.records ++ record_over node.chain item ∷ [];
         rest = settled.rest;
       }

@@ -1,0 +1,113 @@
+-- An item that joins: it can, its record is its own, and what is kept with it.
+use Rattle.std.proofs.Common.{◌≡◌, ℕ, ◌+◌, ◌-◌, ◌*◌, ◌<◌, ◌≤◌, ◌^◌, List, [], ◌∷◌, ◌++◌, length, Option, Some, sym, ap, ◌∙◌, subst, arith}
+use Rattle.std.specs.Prelude.{false, IsTrue, IfSome}
+use Rattle.std.proofs.lemmas.List.{length_push}
+use Rattle.codec_defs.specs.Shape.{decoded}
+use Rattle.codec_defs.specs.Schema.{Block, block}
+use Rattle.chain_defs.specs.Kept.{block_hash}
+use Rattle.cell_defs.specs.Ext.{ext_bytes, is_ext, count_at}
+use Rattle.cell_model.specs.ListBlocks.{IsExtFor}
+use Rattle.block_defs.specs.Ext.{ext_of}
+use Rattle.verdict_defs.specs.Verdict.{kept_limit, joins}
+use Rattle.verdict_defs.specs.Chain.{Chain, chain_after, verdict_over}
+use Rattle.verdict_defs.specs.Laws.{MayJoin, CanJoin}
+use Rattle.verdict_defs.specs.declared.verdict.Verdict.TheVariants.{Joined}
+use Rattle.verdict_defs.proofs.VerdictLaws.{verdict-joined, keeps-what-joins, kept_after-stays}
+use Rattle.store_defs.specs.LogLaws.{record_over}
+use Rattle.store_defs.specs.Store.{ext_on, ext_of_found, ext_over, IsJoined}
+use Rattle.log_file.specs.Pieces.{block_record}
+use Rattle.node_core.specs.declared.deciding.Joining.{Joining}
+use Rattle.node_core.specs.declared.deciding.Decision.{Decision}
+use Rattle.node_core.specs.declared.deciding.Decision.TheVariants.{Joins}
+use Rattle.node_core.specs.Judging.{IsReadyItem, IsDecided}
+use Rattle.node_core.specs.Node.{IsWithin}
+
+-- ---- What was decided
+
+-- what was decided over this chain
+pub decided_on : (inside chain : Chain) (item : List ℕ) (decision is : Decision) → inside ≡ chain → decision ≡ is
+    → (IsJoined inside → IsDecided inside item decision) → IsJoined chain → IsDecided chain item is
+decided_on inside chain item decision is same found decided joined =
+    subst (λ (d : Decision). IsDecided chain item d) found
+    (subst (λ (k : Chain). IsDecided k item decision) same (decided (subst IsJoined (sym same) joined)))
+
+pub ready_on : (inside chain : Chain) (item : List ℕ) (decision is : Decision) → inside ≡ chain → decision ≡ is
+    → IsReadyItem inside.blocks item decision → IsReadyItem chain.blocks item is
+ready_on inside chain item decision is same found ready =
+    subst (λ (d : Decision). IsReadyItem chain.blocks item d) found (subst (λ (k : Chain). IsReadyItem k.blocks item decision) same ready)
+
+-- it can join
+pub can_join : (chain : Chain) (item : List ℕ) (joining : Joining) → IsDecided chain item (Joins joining) → CanJoin chain.spec chain.blocks item
+can_join chain item joining (b, is, judged) = record { block = b; canonical = is; may = judged.may }
+
+ext_is : (chain : Chain) (item : List ℕ) (joining : Joining) → IsDecided chain item (Joins joining) → ext_over chain item ≡ ext_bytes joining.ext
+unfolding ext_over
+ext_is chain item joining (b, is, judged) =
+    ap (ext_of_found chain) is ∙ ap (ext_on chain b) judged.may.on_kept
+    ∙ ap (λ (parent : ℕ). ext_bytes (ext_of chain.spec chain.blocks parent b)) judged.on ∙ ap ext_bytes (sym judged.ext)
+
+-- its ext is its own
+pub record_is : (chain : Chain) (item : List ℕ) (joining : Joining) → IsDecided chain item (Joins joining)
+    → block_record item (ext_bytes joining.ext) ≡ record_over chain item
+record_is chain item joining decided = ap (block_record item) (sym (ext_is chain item joining decided))
+
+pub form_is : (chain : Chain) (item bytes : List ℕ) (joining : Joining) → IsDecided chain item (Joins joining) → bytes ≡ ext_bytes joining.ext
+    → IsTrue (is_ext bytes) → IsTrue (is_ext (ext_over chain item))
+form_is chain item bytes joining decided same form =
+    subst (λ (l : List ℕ). IsTrue (is_ext l)) (same ∙ sym (ext_is chain item joining decided)) form
+
+-- its verdict
+pub verdict_is : (chain : Chain) (item : List ℕ) (joining : Joining) → IsDecided chain item (Joins joining) → IsReadyItem chain.blocks item (Joins joining)
+    → Joined joining.entry.number joining.entry.hash ≡ verdict_over chain item
+unfolding can_join
+verdict_is chain item joining (b, is, judged) (other, is_other, ready) =
+    let found : Some other ≡ Some b = sym is_other ∙ is in
+    let same : other ≡ b = (cc) in
+    ap (λ (number : ℕ). Joined number joining.entry.hash) (ready.entry.describes.number ∙ ap (λ (x : Block). x.header.number) same)
+    ∙ ap (λ (hash : List ℕ). Joined b.header.number hash) (ready.entry.describes.hash ∙ ap block_hash same)
+    ∙ sym (verdict-joined chain.spec chain.blocks item (can_join chain item joining (b, is, judged)))
+
+-- what is kept after an item that stays out
+pub stays_so : (chain : Chain) (item : List ℕ) → joins (verdict_over chain item) ≡ false → chain ≡ chain_after chain item
+stays_so chain item left =
+    ap (λ (blocks : List Block). record { spec = chain.spec; blocks = blocks }) (sym (kept_after-stays chain.spec chain.blocks item left))
+
+-- ---- What is put beside it
+
+-- bytes of the form of an ext with as many fees may stand beside it
+pub is_ext_for : (kept : List Block) (item ext : List ℕ) (joining : Joining) → IsReadyItem kept item (Joins joining) → IsTrue (is_ext ext)
+    → count_at ext 0 ≡ length joining.ext.fees → IsExtFor item ext
+is_ext_for kept item ext joining (b, is, ready) form count = record {
+  form = form;
+  fees = subst (λ (o : Option Block). IfSome o (λ x. count_at ext 0 ≡ length x.transactions - 1)) (sym is) (count ∙ ready.fees);
+}
+
+-- ---- What is kept with it
+
+-- the place is within the limit of the log
+pub place_limit : (count place : ℕ) → count ≤ kept_limit → IsWithin count place → place ≤ 2 ^ 61
+unfolding kept_limit
+place_limit count place few within = omega (arith, few, within)
+
+module _ (inside chain next : Chain) (item : List ℕ) (joining : Joining) (same : inside ≡ chain)
+    (kept : (b : Block) → decoded block item ≡ Some b → next ≡ record { spec = inside.spec; blocks = inside.blocks ++ b ∷ [] }) where
+  -- the chain after it
+  pub is_after : IsDecided chain item (Joins joining) → next ≡ chain_after chain item
+  unfolding can_join
+  is_after (b, is, judged) =
+      kept b is ∙ ap (λ (c : Chain). record { spec = c.spec; blocks = c.blocks ++ b ∷ [] }) same
+      ∙ ap (λ (blocks : List Block). record { spec = chain.spec; blocks = blocks })
+      (sym ((keeps-what-joins chain.spec chain.blocks item).0 (can_join chain item joining (b, is, judged))).1)
+
+  module _ (ready : IsReadyItem chain.blocks item (Joins joining)) where
+    one_more : length next.blocks ≡ length chain.blocks + 1
+    one_more =
+        ap (λ (c : Chain). length c.blocks) (kept ready.0 ready.1) ∙ length_push inside.blocks ready.0
+        ∙ ap (λ (c : Chain). length c.blocks + 1) same
+
+    pub few_after : length next.blocks ≤ kept_limit
+    few_after = omega (arith, one_more, ready.2.room)
+
+    pub within_after : (place end size : ℕ) → IsWithin (length inside.blocks) place → end ≡ place + size → size < 2 ^ 33 → IsWithin (length next.blocks) end
+    within_after place end size within sum short =
+        omega (arith, one_more, ap (λ (c : Chain). length c.blocks) same, within, sum, short)
