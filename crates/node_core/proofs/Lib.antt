@@ -1,7 +1,7 @@
 pub mod DecidingLemmas
 pub mod JoiningLemmas
 pub mod WritingLemmas
-pub mod JoinLemmas
+pub mod ImportLemmas
 pub mod DiskLemmas
 pub mod NewLemmas
 pub mod OpenLemmas

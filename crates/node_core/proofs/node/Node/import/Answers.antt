@@ -10,7 +10,7 @@ use Rattle.store_defs.proofs.JoinedLemmas.{joined_of_image}
 use Rattle.node_core.specs.Node.{NodeValue, IsOn}
 use Rattle.node_core.specs.Judging.{IsReadyItem, IsDecided}
 use Rattle.node_core.specs.declared.deciding.Decision.TheVariants.{Joins, Stays}
-use Rattle.node_core.proofs.JoinLemmas.{decided_on, ready_on, verdict_is, stays_so}
+use Rattle.node_core.proofs.ImportLemmas.{decided_on, ready_on, verdict_is, stays_so}
 use Rattle.node_core.proofs.DiskLemmas.{counts_none, counts_also}
 use Rattle.node_core.proofs.node.Node.import.Goals as goal
 

@@ -12,7 +12,7 @@ use Rattle.node_core.specs.Node.{NodeValue, IsOn}
 use Rattle.node_core.specs.Judging.{IsReadyItem}
 use Rattle.node_core.specs.declared.deciding.Decision.TheVariants.{Joins}
 use Rattle.node_core.proofs.WritingLemmas.{piece_long}
-use Rattle.node_core.proofs.JoinLemmas.{can_join, record_is, form_is, is_ext_for, place_limit, is_after, few_after, within_after}
+use Rattle.node_core.proofs.ImportLemmas.{can_join, record_is, form_is, is_ext_for, place_limit, is_after, few_after, within_after}
 use Rattle.node_core.proofs.DiskLemmas.{counts_none, settled_on, stands_either, is_on_after}
 use Rattle.node_core.proofs.node.Node.join.Goals as goal
 
