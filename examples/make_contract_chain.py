@@ -54,7 +54,7 @@ class First:
 
 
 # of each transaction: the code of both locks
-DEPS = [(First, 0), (First, 2)]
+DEPS = (First, 0), (First, 2)
 
 
 def out_point(output):
@@ -73,9 +73,9 @@ class Transaction(Scene):
     As a scene it says what its scripts are shown, and which cycles they take.
     """
 
-    def __init__(self, spent, made, deps=tuple(DEPS), version=0):
+    def __init__(self, spent, made, deps=DEPS, since=0, version=0):
         super().__init__(None, map(cell_of, spent), made, map(cell_of, deps))
-        self.cell_inputs = [uint(0, 8) + out_point(it) for it in spent]
+        self.cell_inputs = [uint(since, 8) + out_point(it) for it in spent]
         self.raw = table([
             uint(version, 4), fixvec([out_point(it) + b'\0' for it in deps]), fixvec([]), fixvec(self.cell_inputs),
             table([it.item() for it in self.outputs]), table([as_bytes(it.content) for it in self.outputs])])

@@ -5,8 +5,8 @@ import resource
 import subprocess
 
 from harness import (CONTRACT_INIT, CONTRACT_LINE, FIRST_INIT, FIRST_LINE, GENESIS_LIMIT, ITEM_LIMIT, PRIMES, Ran,
-                     chain_of, chaingen, contract, contract_store, file_with, first, line_of, log_of, must, must_answer,
-                     must_be, must_have_tip, new_folder, new_store, size_word, started, status_of, write)
+                     chain_of, chaingen, contract, contract_store, file_with, first, line_of, log_of, must,
+                     must_answer, must_be, must_have_tip, new_folder, new_store, size_word, started, status_of, write)
 
 SPEC, GENESIS = first.SPEC.item(), first.GENESIS.item()
 
@@ -237,6 +237,8 @@ def check_out_of_memory(program):
         must(after.out.startswith(b''.join(chain.known(at) for at in range(1, count + 1))),
              'a block that was answered is not kept')
         must_have_tip(program, folder, chain.tip(34), 'with more memory')
+        ran = Ran([program, folder, 'check'], size_word(4), preexec_fn=limit)
+        must_answer(ran, 6, b'', 'check, where memory does not hold the blocks')
 
 
 # ---------------------------------------------------------------------- check
@@ -261,6 +263,9 @@ def tried_transactions():
     # what the output occupies, and a shannon less
     yield 0, paying(contract.ckb(41)).item, b'ok 35899997000 1052\n'
     yield refused(25, paying(contract.ckb(41) - 1))
+    # the block behind the tip has the number 13
+    yield 0, paying(fee_of_none, since=13).item, b'ok 0 1052\n'
+    yield refused(24, paying(fee_of_none, since=14))
     yield refused(18, paying(fee_of_none, version=1))
     yield refused(18, contract.Transaction(spends, []))
     yield refused(20, contract.SPENDS_TWICE)
@@ -287,7 +292,7 @@ def no_transactions(transaction):
 
 def inputs_of_check():
     """(what, input, status, text)"""
-    good, line = contract.transfer()
+    good, _ = contract.transfer()
     for status, item, text in tried_transactions():
         yield 'a transaction that is answered %r' % text, item, status, text
     for item in no_transactions(good):
@@ -321,7 +326,12 @@ def check_statuses_of_check(program):
     # without the chain there is nothing that it could spend
     with new_store(program, CONTRACT_INIT, CONTRACT_LINE) as folder:
         must_answer(Ran([program, folder, 'check'], good), 1, b'refused J20\n', 'behind the genesis')
-        must_answer(Ran([program, folder, 'check'], contract.FUNDS.item), 0, b'ok 1000 505\n', 'behind the genesis')
+    # it has the cycles of a whole block, and not one more
+    for cycles, status, text in ((505, 0, b'ok 1000 505\n'), (504, 1, b'refused J30\n')):
+        given = first.changed(contract.SPEC, max_cycles=cycles).item() + contract.GENESIS.item()
+        with new_store(program, given, CONTRACT_LINE) as folder:
+            ran = Ran([program, folder, 'check'], contract.FUNDS.item)
+            must_answer(ran, status, text, 'with %d cycles a block' % cycles)
     with new_folder() as folder:
         ran = Ran([program, folder, 'check'], good)
         must_answer(ran, 7, b'', 'check, where no store is')
