@@ -4,8 +4,10 @@ use Rattle.std.specs.Prelude.{Option, Some, None, IfSome}
 use Rattle.std.specs.List.{concat}
 use Rattle.outside.specs.Image.{Image}
 use Rattle.outside.specs.Disk.{LeavesOnly}
+use Rattle.codec_defs.specs.Shape.{decoded}
+use Rattle.codec_defs.specs.Schema.{Transaction, transaction}
 use Rattle.verdict_defs.specs.Chain.{Chain}
-use Rattle.verdict_defs.specs.Trial.{trial}
+use Rattle.verdict_defs.specs.Trial.{trial, trial_of}
 use Rattle.verdict_defs.specs.declared.trial.Trial.{Trial}
 use Rattle.verdict_defs.specs.declared.trial.Trial.TheVariants.{Passes, Refused}
 use Rattle.store_defs.specs.Store.{Store, NoLog, NotALog, Keeps, store_of, StandsFor, IsSound, IsJoined}
@@ -64,6 +66,11 @@ one_split left item given one = split_of-is check_limits given (record { items =
   within = tt;
   ends = end_at-nothing None None (length (concat (item ∷ [])));
 })
+
+-- what comes of the bytes of an item is what comes of what they decode to
+pub trial_of_bytes : (chain : Chain) (item : List ℕ) (found : Option Transaction) → found ≡ decoded transaction item → trial_of chain found ≡ trial chain item
+unfolding trial
+trial_of_bytes chain item found is = ap (trial_of chain) is
 
 -- ---- What is said over a chain
 
