@@ -19,7 +19,7 @@ use Rattle.report_defs.specs.declared.status.Status.TheVariants.{Done, SomeRefus
 use Rattle.report_defs.specs.declared.end.End.{End}
 use Rattle.report_defs.specs.declared.end.End.TheVariants as ends
 use Rattle.report_defs.specs.Status.{IsOneOf}
-use Rattle.report_defs.specs.Items.{AreItems, split_of, end_offset}
+use Rattle.report_defs.specs.Items.{AreItems, split_of}
 use Rattle.report_defs.specs.Text.{trial_line}
 use Rattle.report_defs.specs.Report.{Report, text_of, check_limits, check_item_limit, status_of_trial, report_of_trial, report_of_first, report_of_check, report_of_end}
 use Rattle.report_defs.specs.Promise.{IsPrefix, MatchesReport, ChecksInOrder}
