@@ -24,8 +24,9 @@ use Rattle.item_reader.specs.Items.{EndsAt, IsNext}
 use Rattle.item_reader.specs.declared.next.Next.{Next}
 use Rattle.item_reader.proofs.Reading.{left_nothing}
 use Rattle.node_run.specs.Store.{Delivers}
-use Rattle.node_run.specs.Import.{IsStop, IsWritingStop}
-use Rattle.node_run.specs.Init.{AreBoth, EndsEarly, IsSaid, StandsAlone, new_statuses}
+use Rattle.node_run.specs.Import.{IsStop}
+use Rattle.node_run.specs.Init.{AreBoth, EndsEarly, StandsAlone, new_statuses}
+use Rattle.node_run.specs.Output.{IsSaid, IsWritingStop}
 use Rattle.node_run.proofs.StoreLemmas.{if_told, stop_says}
 use Rattle.node_run.proofs.Statuses.{each_of, is_early, IsEarly, stop_not_reported, writing_stops}
 

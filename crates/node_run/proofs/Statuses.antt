@@ -9,7 +9,8 @@ use Rattle.report_defs.specs.Status.{IsOneOf}
 use Rattle.report_defs.specs.Report.{status_of_end}
 use Rattle.report_defs.specs.Promise.{IsReported, reported, ended_early, IsStoppedBeforeTheSink, import_statuses, tip_statuses}
 use Rattle.item_reader.specs.Items.{IsReadingStop}
-use Rattle.node_run.specs.Import.{IsStop, IsWritingStop}
+use Rattle.node_run.specs.Import.{IsStop}
+use Rattle.node_run.specs.Output.{IsWritingStop}
 use Rattle.node_run.specs.Store.{opening_stops}
 
 -- each of these statuses has P

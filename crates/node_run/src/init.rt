@@ -11,9 +11,9 @@ ghost use Rattle.report_defs.specs.Promise.{init_statuses};
 ghost use Rattle.report_defs.specs.Survival.{as_before};
 ghost use Rattle.report_defs.specs.declared.command.Command.TheVariants.{Init as init_command};
 ghost use Rattle.item_reader.specs.Items.{Gave};
-ghost use Rattle.node_run.specs.Output.{Took, Transfers};
+ghost use Rattle.node_run.specs.Output.{Took, Transfers, IsSaid};
 ghost use Rattle.node_run.specs.Store.{Delivers};
-ghost use Rattle.node_run.specs.Init.{IsReadOfInit, IsSaid, StandsAlone, new_statuses, text_of_stop};
+ghost use Rattle.node_run.specs.Init.{IsReadOfInit, StandsAlone, new_statuses, text_of_stop};
 
 use crate::lines::{bad_genesis_line, bad_spec_line, genesis_line};
 use crate::output::{Answer, end_of_needed, tell, tell_early};

@@ -4,8 +4,7 @@ use Rattle.verdict_defs.specs.Chain.{verdict_over}
 use Rattle.verdict_defs.specs.declared.verdict.Verdict.{Verdict}
 use Rattle.report_defs.specs.Text.{line}
 use Rattle.report_defs.specs.declared.status.Status.TheVariants.{SinkFault}
-use Rattle.node_run.specs.Import.{IsWritingStop}
-use Rattle.node_run.specs.Output.{IsPartOf}
+use Rattle.node_run.specs.Output.{IsPartOf, IsWritingStop}
 use Rattle.node_run.proofs.ImportLemmas.{cut_before_line}
 use Rattle.node_run.proofs.Statuses.{not_early}
 use Rattle.node_run.proofs.import.import_item.Goals as goal

@@ -6,7 +6,7 @@ use Rattle.report_defs.specs.declared.status.Status.TheVariants.{InputFault, Sin
 use Rattle.report_defs.specs.Report.{item_limit, input_limit}
 use Rattle.verdict_defs.specs.Verdict as rules
 use Rattle.item_reader.specs.Items.{IsReadingStop, IsItemAt}
-use Rattle.node_run.specs.Import.{IsWritingStop}
+use Rattle.node_run.specs.Output.{IsWritingStop}
 use Rattle.node_run.proofs.Faults.{no_fault, then_counts}
 use Rattle.node_run.proofs.ImportLemmas.{whole_more, imported_to_end, imported_to_fault, imported_to_line, leaves_none, leaves_item, exit_of_item, on_stands, keeps_more, or_then, or_else, item_limit-is, input_limit-is}
 use Rattle.node_run.proofs.import.import_items.Goals as goal
