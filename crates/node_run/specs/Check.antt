@@ -1,13 +1,19 @@
 -- The parts of `check`: what was read.
-use Rattle.std.specs.Prelude.{◌≡◌, ℕ, ◌≤◌, List, ◌++◌, length, Option, Some, Result, Ok, Err}
+use Rattle.std.specs.Prelude.{◌≡◌, ℕ, ◌≤◌, List, [], ◌∷◌, ◌++◌, length, Option, Some, Result, Ok, Err}
 use Rattle.std.specs.Io.KnownBytes.{IsAtEnd}
+use Rattle.outside.specs.Image.{Image}
 use Rattle.verdict_defs.specs.Chain.{Chain}
+use Rattle.store_defs.specs.Store.{StandsFor}
+use Rattle.report_defs.specs.declared.command.Command.TheVariants.{Check}
 use Rattle.report_defs.specs.declared.end.End.{End}
 use Rattle.report_defs.specs.declared.end.End.TheVariants.{AtEnd}
 use Rattle.report_defs.specs.declared.status.Status.{Status}
+use Rattle.report_defs.specs.declared.status.Status.TheVariants.{Done, SomeRefused}
+use Rattle.report_defs.specs.Status.{IsOneOf}
 use Rattle.report_defs.specs.Items.{IsItem, split_of, end_offset}
-use Rattle.report_defs.specs.Report.{item_limit, check_limits, report_of_check, report_of_end}
+use Rattle.report_defs.specs.Report.{text_of, item_limit, check_limits, report_of_check, report_of_end}
 use Rattle.item_reader.specs.Items.{IsReadingStop}
+use Rattle.node_run.specs.Store.{Delivers}
 use Rattle.node_run.specs.declared.check.Input.{Input}
 use Rattle.node_run.specs.declared.check.Input.TheVariants as inputs
 
@@ -27,3 +33,9 @@ abbrev pub IsReadOfCheck : Option (List ℕ) → Result Input Status → List �
 IsReadOfCheck left (Ok (inputs.One item)) given = IsOne left item.items given
 IsReadOfCheck left (Ok (inputs.Early end offset)) given = EndsBeforeOne left end offset given
 IsReadOfCheck left (Err status) given = IsReadingStop status
+
+-- What `check` delivers, and what it answered over a store that is sound: the report on what was given, also of a source that does not tell what is left.
+pub record DeliversCheck (reads : Option Image) (at_start at_exit meanwhile : Image → Type 0) (left : Option (List ℕ)) (given taken : List ℕ) (status : Status) : Type 0 where
+  pub delivers : Delivers Check reads at_start at_exit meanwhile left given taken status
+  pub answers : (now : Image) (chain : Chain) → reads ≡ Some now → StandsFor chain now → IsOneOf (Done ∷ SomeRefused ∷ []) status
+      → taken ≡ text_of (report_of_check chain (split_of check_limits given))

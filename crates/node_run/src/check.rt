@@ -9,11 +9,9 @@ ghost use Rattle.report_defs.specs.Report as reports;
 ghost use Rattle.report_defs.specs.Text as text;
 ghost use Rattle.report_defs.specs.Status.{IsOneOf};
 ghost use Rattle.report_defs.specs.Promise.{check_statuses};
-ghost use Rattle.report_defs.specs.declared.command.Command.TheVariants.{Check as check_command};
 ghost use Rattle.item_reader.specs.Items.{Gave};
 ghost use Rattle.node_run.specs.Output.{Transfers};
-ghost use Rattle.node_run.specs.Store.{Delivers};
-ghost use Rattle.node_run.specs.Check.{IsReadOfCheck};
+ghost use Rattle.node_run.specs.Check.{IsReadOfCheck, DeliversCheck};
 
 use crate::lines::trial_line;
 use crate::output::{Answer, end_of_needed, tell, tell_early};
@@ -103,7 +101,7 @@ pub fn check<S: Source, K: Sink, D: Disk, L: Ledger>(
     steps: &mut Steps<L>,
 ) -> Status
     ensures check { Transfers (S.left input.old) (S.left input.new) (K.taken out.old) (K.taken out.new)
-        (λ given taken. Delivers check_command (D.reads_as disk.old) (D.images disk.old) (D.images disk.new) (D.left_since disk.new (D.moment disk.old))
+        (λ given taken. DeliversCheck (D.reads_as disk.old) (D.images disk.old) (D.images disk.new) (D.left_since disk.new (D.moment disk.old))
         (S.left input.new) given taken result) }
     ensures status { IsOneOf check_statuses result }
     ensures no_log { (now : Image) → D.reads_as disk.old ≡ Some now → ((chain : Chain) → store_of now ≡ Keeps chain → ⊥)
