@@ -78,7 +78,7 @@ both_split left specification genesis given both =
       ends = end_at-nothing None None (length (concat (specification ∷ genesis ∷ [])));
     })
 
-all_given : (left : Option (List ℕ)) (given more : List ℕ) → IsAtEnd left → left ≡ Some more → given ++ more ≡ given
+pub all_given : (left : Option (List ℕ)) (given more : List ℕ) → IsAtEnd left → left ≡ Some more → given ++ more ≡ given
 all_given left given more at_end is = ap (λ bs. given ++ bs) (left_nothing left more at_end is) ∙ append-nil given
 
 -- ---- What the disk holds
@@ -149,20 +149,20 @@ there_at_once reads at_start at_exit meanwhile left other = record {
 abbrev full : List ℕ → Report
 full whole = report_of_init (split_of init_limits whole)
 
-said_text : (report : Report) (left : Option (List ℕ)) (given taken : List ℕ) (status : Status) → IsSaid report status taken
+pub said_text : (full : List ℕ → Report) (report : Report) (left : Option (List ℕ)) (given taken : List ℕ) (status : Status) → IsSaid report status taken
     → ((more : List ℕ) → left ≡ Some more → full (given ++ more) ≡ report) → MatchesReport full given left taken status
-said_text report left given taken status (inl said) says = record {
+said_text full report left given taken status (inl said) says = record {
   front = λ more is. subst (IsPrefix taken) (said.0 ∙ sym (ap (λ (r : Report). text_of r) (says more is))) ([], sym (append-nil taken));
   whole_text = λ more is told. said.0 ∙ sym (ap (λ (r : Report). text_of r) (says more is));
   same_status = λ more is told. said.1 ∙ sym (ap (λ (r : Report). r.status) (says more is));
 }
-said_text report left given taken status (inr part) says = record {
+said_text full report left given taken status (inr part) says = record {
   front = λ more is. subst (IsPrefix taken) (sym (ap (λ (r : Report). text_of r) (says more is))) part.front;
   whole_text = λ more is told. absurd (stop_not_reported status (writing_stops status part.stop) told);
   same_status = λ more is told. absurd (stop_not_reported status (writing_stops status part.stop) told);
 }
 
-said_silent : (report : Report) (status : Status) (taken : List ℕ) → IsSaid report status taken → (IsEarly report.status → ⊥) → IsStoppedBeforeTheSink status → taken ≡ []
+pub said_silent : (report : Report) (status : Status) (taken : List ℕ) → IsSaid report status taken → (IsEarly report.status → ⊥) → IsStoppedBeforeTheSink status → taken ≡ []
 said_silent report status taken (inl said) never early = absurd (never (subst IsEarly said.1 (is_early status early)))
 said_silent report status taken (inr part) never early = part.silent early
 
@@ -207,7 +207,7 @@ early_status ends.Cut early told = each_of (λ s. s ≡ CutInput → ⊥) (Done 
 early_status ends.BadSize early told = each_of (λ s. s ≡ BadSize → ⊥) (Done ∷ BadGenesis ∷ []) BadSize (λ e. cc, (λ e. cc, tt)) told refl
 early_status ends.Extra early told = each_of (λ s. s ≡ ExtraInput → ⊥) (Done ∷ BadGenesis ∷ []) ExtraInput (λ e. cc, (λ e. cc, tt)) told refl
 
-no_stop : (end : End) → IsEarly (status_of_end Done end) → ⊥
+pub no_stop : (end : End) → IsEarly (status_of_end Done end) → ⊥
 no_stop ends.AtEnd stop = stop
 no_stop ends.Cut stop = stop
 no_stop ends.BadSize stop = stop
@@ -224,7 +224,7 @@ pub init_early : (reads : Option Image) (at_start at_exit meanwhile : Image → 
     → Delivers Init reads at_start at_exit meanwhile left given taken status
 init_early reads at_start at_exit meanwhile left given taken end offset status none here said =
     delivers_new reads at_start at_exit meanwhile left given taken status none
-    (said_text (report_of_end offset end) left given taken status said here.report)
+    (said_text full (report_of_end offset end) left given taken status said here.report)
     (λ told. absurd (said_early end offset status taken here.early said told))
     (λ told. here.enough)
     (said_silent (report_of_end offset end) status taken said (no_stop end))
@@ -242,7 +242,7 @@ pub init_both : (reads : Option Image) (at_start at_exit meanwhile : Image → T
     → Delivers Init reads at_start at_exit meanwhile left given taken status
 init_both reads at_start at_exit meanwhile left given taken specification genesis status none both said made =
     delivers_new reads at_start at_exit meanwhile left given taken status none
-    (said_text (report_of_new specification genesis) left given taken status said (λ more is. ap full (all_given left given more both.to_end is) ∙ ap report_of_init split))
+    (said_text full (report_of_new specification genesis) left given taken status said (λ more is. ap full (all_given left given more both.to_end is) ∙ ap report_of_init split))
     (λ told. both.to_end)
     (λ told more is. rw (all_given left given more both.to_end is, split)
     (omega (arith, ap length both.whole, length-append specification genesis, length-append specification (genesis ++ []), length-append genesis [])))

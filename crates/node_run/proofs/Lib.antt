@@ -7,4 +7,5 @@ pub mod ImportReport
 pub mod ExecLemmas
 pub mod WordLemmas
 pub mod InitLemmas
+pub mod CheckLemmas
 pub mod RunLemmas

@@ -6,7 +6,7 @@ use Rattle.std.proofs.lemmas.List.Folds.{concat-append}
 use Rattle.std.proofs.lemmas.Bool.Decides.{leb_tells}
 use Rattle.std.proofs.lemmas.Grind.{common_steps}
 use Rattle.verdict_defs.specs.declared.verdict.Verdict.{Verdict}
-use Rattle.verdict_defs.specs.declared.verdict.Verdict.TheVariants.{Joined, Known, Refused, Unbuilt, Full}
+use Rattle.verdict_defs.specs.declared.verdict.Verdict.TheVariants.{Joined, Known, Refused, Full}
 use Rattle.verdict_defs.specs.Chain.{Chain, chain_after, verdict_over, verdicts_over, chain_over}
 use Rattle.fold_defs.proofs.FoldLemmas.{verdicts-append, verdicts-push}
 use Rattle.report_defs.specs.Text.{line}
@@ -40,7 +40,6 @@ pub line_some : (verdict : Verdict) → 0 < length (line verdict)
 line_some (Joined number hash) = omega arith
 line_some (Known hash) = omega arith
 line_some (Refused rule) = omega arith
-line_some Unbuilt = omega arith
 line_some Full = omega arith
 
 pub concat-push : (items : List (List ℕ)) (item : List ℕ) → concat (items ++ item ∷ []) ≡ concat items ++ item

@@ -1,13 +1,11 @@
 -- What a run promises of the disk for any list of runs before it.
-use Rattle.std.proofs.Common.{◌≡◌, inl, inr, ℕ, false, List, [], ◌∷◌, length, take, refl, ap, sym, ◌∙◌, subst, arith}
-use Rattle.std.specs.Prelude.{Option, Some, None, IfSome, IsSome, ◌==◌}
-use Rattle.std.proofs.lemmas.Bool.Decides.{nat_tests}
+use Rattle.std.proofs.Common.{◌≡◌, inl, inr, ℕ, List, [], ◌∷◌, length, take, refl, ap, sym, ◌∙◌, subst, arith}
+use Rattle.std.specs.Prelude.{Option, Some, None, IfSome, IsSome}
 use Rattle.outside.specs.Image.{Image}
 use Rattle.outside.specs.Disk.{IsAsBefore}
 use Rattle.chain_defs.specs.Tip.{tip}
 use Rattle.verdict_defs.specs.Chain.{Chain, chain_over}
-use Rattle.store_defs.specs.Log.{LogContent, log_of}
-use Rattle.store_defs.specs.Store.{Store, NoLog, Keeps, store_of, store_of_log, StandsFor, IsSound}
+use Rattle.store_defs.specs.Store.{Store, NoLog, Keeps, store_of, StandsFor, IsSound}
 use Rattle.report_defs.specs.declared.command.Command.{Command}
 use Rattle.report_defs.specs.declared.command.Command.TheVariants.{Init, Import, Tip, Check, Exec}
 use Rattle.report_defs.specs.declared.status.Status.{Status}
@@ -20,24 +18,7 @@ use Rattle.report_defs.specs.Survival.{Each, Run, IsFront, IsKeptBy, IsLeftBy, K
 use Rattle.node_run.specs.Store.{Delivers}
 use Rattle.node_run.specs.Check.{DeliversCheck}
 use Rattle.node_run.proofs.LineLemmas.{front_of_none}
-use Rattle.node_run.proofs.StoreLemmas.{same_chain}
-
--- ---- The store of an image that stands for a chain
-
-empty_log : log_of [] ≡ None
-unfolding log_of
-empty_log = refl
-
-no_log_of : (bytes : List ℕ) (log : LogContent) → length bytes ≡ 0 → log_of bytes ≡ Some log → ⊥
-no_log_of [] log none is = let never : None ≡ Some log = sym empty_log ∙ is in cc
-no_log_of (b ∷ bs) log none is = omega (arith, none)
-
-pub store_of_stands : (chain : Chain) (image : Image) → StandsFor chain image → store_of image ≡ Keeps chain
-unfolding store_of
-store_of_stands chain image stands =
-    let some : length image.log ≡ 0 → ⊥ = λ none. no_log_of image.log stands.log none stands.is_log in
-    let test : (length image.log == 0) ≡ false = grind (arith, nat_tests) in
-    rw test (ap store_of_log stands.is_log ∙ ap Keeps stands.keeps)
+use Rattle.node_run.proofs.StoreLemmas.{same_chain, store_of_stands}
 
 -- ---- Runs that keep what was kept
 

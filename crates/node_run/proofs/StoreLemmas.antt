@@ -1,13 +1,15 @@
 -- What a command delivers of a store, whether it was opened or not.
-use Rattle.std.proofs.Common.{◌≡◌, ◌⊎◌, inl, inr, ℕ, ◌≤◌, List, [], ◌∷◌, length, take, refl, ap, sym, ◌∙◌, subst, arith, append-nil}
-use Rattle.std.specs.Prelude.{Option, Some, IfSome}
+use Rattle.std.proofs.Common.{◌≡◌, ◌⊎◌, inl, inr, ℕ, ◌≤◌, false, List, [], ◌∷◌, length, take, refl, ap, sym, ◌∙◌, subst, arith, append-nil}
+use Rattle.std.specs.Prelude.{Option, Some, None, IfSome, ◌==◌}
+use Rattle.std.proofs.lemmas.Bool.Decides.{nat_tests}
 use Rattle.outside.specs.Image.{Image}
 use Rattle.outside.specs.Disk.{LeavesOnly}
 use Rattle.outside.proofs.Moments.{leaves_also, leaves_then, now_too}
 use Rattle.codec_defs.specs.Schema.{Block}
 use Rattle.chain_defs.specs.Kept.{block_hash}
 use Rattle.verdict_defs.specs.Chain.{Chain, chain_over}
-use Rattle.store_defs.specs.Store.{Store, NoLog, NotALog, Keeps, store_of, StandsFor, IsSound, IsJoined}
+use Rattle.store_defs.specs.Log.{LogContent, log_of}
+use Rattle.store_defs.specs.Store.{Store, NoLog, NotALog, Keeps, store_of, store_of_log, StandsFor, IsSound, IsJoined}
 use Rattle.store_defs.proofs.JoinedLemmas.{joined_of_image}
 use Rattle.report_defs.specs.declared.command.Command.{Command}
 use Rattle.report_defs.specs.declared.status.Status.{Status}
@@ -40,8 +42,25 @@ pub opened_there : (reads : Option Image) (chain : Chain) (now : Image) → IfSo
     → ((chain : Chain) → store_of now ≡ Keeps chain → ⊥) → ⊥
 opened_there reads chain now kept told none = none chain (if_told reads (λ now. store_of now ≡ Keeps chain) now kept told)
 
-same_chain : (a b : Chain) → Keeps a ≡ Keeps b → a ≡ b
+pub same_chain : (a b : Chain) → Keeps a ≡ Keeps b → a ≡ b
 same_chain a b e = cc
+
+-- ---- The store of an image that stands for a chain
+
+empty_log : log_of [] ≡ None
+unfolding log_of
+empty_log = refl
+
+no_log_of : (bytes : List ℕ) (log : LogContent) → length bytes ≡ 0 → log_of bytes ≡ Some log → ⊥
+no_log_of [] log none is = let never : None ≡ Some log = sym empty_log ∙ is in cc
+no_log_of (b ∷ bs) log none is = omega (arith, none)
+
+pub store_of_stands : (chain : Chain) (image : Image) → StandsFor chain image → store_of image ≡ Keeps chain
+unfolding store_of
+store_of_stands chain image stands =
+    let some : length image.log ≡ 0 → ⊥ = λ none. no_log_of image.log stands.log none stands.is_log in
+    let test : (length image.log == 0) ≡ false = grind (arith, nat_tests) in
+    rw test (ap store_of_log stands.is_log ∙ ap Keeps stands.keeps)
 
 -- ---- Where a store was opened
 

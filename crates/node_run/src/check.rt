@@ -83,6 +83,7 @@ fn judge_item(alloc: Global, node: &mut Node, item: &[u8]) -> Result<Trial, Stat
 fn answer_to(alloc: Global, tried: &Trial) -> Result<Answer, NoMemory>
     ensures text { IfOk result (λ answer. string_bytes answer.text ≡ text.trial_line tried.now) }
     ensures status { IfOk result (λ answer. answer.status ≡ reports.status_of_trial tried.now) }
+    ensures one_of { IfOk result (λ answer. IsOneOf (Status.Done ∷ Status.SomeRefused ∷ []) answer.status) }
 {
     let text = trial_line(alloc, tried)?;
     let status = match tried {

@@ -1,0 +1,235 @@
+-- What `check` read, told and left at each exit.
+use Rattle.std.proofs.Common.{◌≡◌, ◌⊎◌, inl, inr, ℕ, ◌≤◌, false, List, [], ◌∷◌, ◌++◌, length, refl, ap, sym, ◌∙◌, subst, arith, append_assoc, append-nil, length-append}
+use Rattle.std.specs.Prelude.{Option, Some, None, IfSome}
+use Rattle.std.specs.List.{concat}
+use Rattle.outside.specs.Image.{Image}
+use Rattle.outside.specs.Disk.{LeavesOnly}
+use Rattle.codec_defs.specs.Shape.{decoded}
+use Rattle.codec_defs.specs.Schema.{Transaction, transaction}
+use Rattle.verdict_defs.specs.Chain.{Chain}
+use Rattle.verdict_defs.specs.Trial.{trial, trial_of}
+use Rattle.verdict_defs.specs.declared.trial.Trial.{Trial}
+use Rattle.verdict_defs.specs.declared.trial.Trial.TheVariants.{Passes, Refused}
+use Rattle.store_defs.specs.Store.{Store, NoLog, NotALog, Keeps, store_of, StandsFor, IsSound, IsJoined}
+use Rattle.store_defs.proofs.JoinedLemmas.{joined_of_image}
+use Rattle.report_defs.specs.declared.command.Command.TheVariants.{Check}
+use Rattle.report_defs.specs.declared.status.Status.{Status}
+use Rattle.report_defs.specs.declared.status.Status.TheVariants.{Done, SomeRefused, NoMemory, NotAStore}
+use Rattle.report_defs.specs.declared.end.End.{End}
+use Rattle.report_defs.specs.declared.end.End.TheVariants as ends
+use Rattle.report_defs.specs.Status.{IsOneOf}
+use Rattle.report_defs.specs.Items.{Split, AreItems, split_of, end_offset}
+use Rattle.report_defs.specs.Text.{trial_line}
+use Rattle.report_defs.specs.Report.{Report, text_of, check_limits, check_item_limit, status_of_trial, report_of_trial, report_of_first, report_of_check, report_of_end, report_of_command}
+use Rattle.report_defs.specs.Promise.{IsPrefix, MatchesReport, ChecksInOrder, KeepsOrder, IsSoundStoreOf, FindsNoStore}
+use Rattle.report_defs.proofs.ItemLemmas.{split_of-is, end_at-nothing}
+use Rattle.item_reader.specs.Items.{EndsAt}
+use Rattle.node_core.specs.Node.{NodeValue, IsOn}
+use Rattle.node_run.specs.Check.{DeliversCheck, IsOne, EndsBeforeOne}
+use Rattle.node_run.specs.Import.{IsStop}
+use Rattle.node_run.specs.Output.{IsSaid, IsToldAnswer, IsWritingStop}
+use Rattle.node_run.specs.Store.{Delivers, opening_stops}
+use Rattle.node_run.proofs.ImportLemmas.{on_stands}
+use Rattle.node_run.proofs.InitLemmas.{said_text, said_silent, no_stop, all_given}
+use Rattle.node_run.proofs.StoreLemmas.{if_told, same_chain, store_of_stands, keeps_opened, keeps_read, keeps_unopened, none_says, stop_says, by_disk_or_memory}
+use Rattle.node_run.proofs.Statuses.{IsEarly, not_early, stop_not_reported, stop_not_done, stop_not_ended, writing_stops, opening_stop, only_at_end}
+
+-- ---- What was read
+
+-- the reading ends behind some items
+pub ends_before_one : (items : List (List ℕ)) (limit : Option ℕ) (left : Option (List ℕ)) (end last : End) (offset : ℕ) (given whole : List ℕ)
+    → whole ≡ concat items ++ given → AreItems check_limits 0 items → check_item_limit (length items) ≡ limit → offset ≡ length (concat items)
+    → EndsAt limit None offset left end given → ((chain : Chain) (at : ℕ) → report_of_first chain items at end ≡ report_of_end at last) → (last ≡ ends.AtEnd → ⊥)
+    → EndsBeforeOne left last offset whole
+ends_before_one items limit left end last offset given whole whole_is all limit_is offset_is ends_here says early = record {
+  early = early;
+  report = λ chain more is. ap (report_of_check chain) (split more is) ∙ says chain (length (concat items)) ∙ ap (λ n. report_of_end n last) (sym offset_is);
+  enough = λ more is. rw (split more is) (omega (arith, ap length whole_is, length-append (concat items) given));
+}
+  where
+    here : EndsAt (check_item_limit (length items)) None (length (concat items)) left end given
+    here = subst (λ l. EndsAt l None (length (concat items)) left end given) (sym limit_is) (subst (λ n. EndsAt limit None n left end given) offset_is ends_here)
+
+    split : (more : List ℕ) → left ≡ Some more → split_of check_limits (whole ++ more) ≡ record { items = items; rest = given ++ more; end = end }
+    split more is = split_of-is check_limits (whole ++ more) (record { items = items; rest = given ++ more; end = end }) (record {
+      whole = ap (λ bs. bs ++ more) whole_is ∙ append_assoc (concat items) given more;
+      items = all;
+      within = tt;
+      ends = here.ends more is;
+    })
+
+one_split : (left : Option (List ℕ)) (item given : List ℕ) → IsOne left item given
+    → split_of check_limits given ≡ record { items = item ∷ []; rest = []; end = ends.AtEnd }
+one_split left item given one = split_of-is check_limits given (record { items = item ∷ []; rest = []; end = ends.AtEnd }) (record {
+  whole = one.same ∙ sym (append-nil item) ∙ sym (append-nil (item ++ []));
+  items = (one.item_is, tt);
+  within = tt;
+  ends = end_at-nothing None None (length (concat (item ∷ [])));
+})
+
+-- what comes of the bytes of an item is what comes of what they decode to
+pub trial_of_bytes : (chain : Chain) (item : List ℕ) (found : Option Transaction) → found ≡ decoded transaction item → trial_of chain found ≡ trial chain item
+unfolding trial
+trial_of_bytes chain item found is = ap (trial_of chain) is
+
+-- ---- What is said over a chain
+
+abbrev full : Chain → List ℕ → Report
+full chain whole = report_of_check chain (split_of check_limits whole)
+
+-- the text, how far was read and written, and the answer where the item was judged
+abbrev pub IsChecked : Chain → List ℕ → Option (List ℕ) → List ℕ → Status → Type 0
+IsChecked chain given left taken status = MatchesReport (full chain) given left taken status × ChecksInOrder given left taken status
+    × (IsOneOf (Done ∷ SomeRefused ∷ []) status → taken ≡ text_of (full chain given))
+
+-- the run was stopped before the sink
+pub check_stopped : (chain : Chain) (left : Option (List ℕ)) (given : List ℕ) (status : Status) → IsStop status → IsChecked chain given left [] status
+check_stopped chain left given status stop = (
+  record {
+    front = λ more is. (text_of (full chain (given ++ more)), refl);
+    whole_text = λ more is told. absurd (stop_not_reported status stop told);
+    same_status = λ more is told. absurd (stop_not_reported status stop told);
+  },
+  record {
+    to_end = λ told. absurd (stop_not_done status stop told);
+    to_early_end = λ told. absurd (stop_not_ended status stop told);
+    silent = λ early. refl;
+  },
+  λ told. absurd (stop_not_done status stop told),
+)
+
+said_early : (end : End) (offset : ℕ) (status : Status) (taken : List ℕ) → (end ≡ ends.AtEnd → ⊥) → IsSaid (report_of_end offset end) status taken
+    → IsOneOf (Done ∷ SomeRefused ∷ []) status → ⊥
+said_early end offset status taken early (inl said) told = early (only_at_end false end (subst (λ s. IsOneOf (Done ∷ SomeRefused ∷ []) s) said.1 told))
+said_early end offset status taken early (inr part) told = stop_not_done status (writing_stops status part.stop) told
+
+-- the input ends early
+pub check_early : (chain : Chain) (left : Option (List ℕ)) (given taken : List ℕ) (end : End) (offset : ℕ) (status : Status)
+    → EndsBeforeOne left end offset given → IsSaid (report_of_end offset end) status taken → IsChecked chain given left taken status
+check_early chain left given taken end offset status here said = (
+  said_text (full chain) (report_of_end offset end) left given taken status said (here.report chain),
+  record {
+    to_end = λ told. absurd (said_early end offset status taken here.early said told);
+    to_early_end = λ told. here.enough;
+    silent = said_silent (report_of_end offset end) status taken said (no_stop end);
+  },
+  λ told. absurd (said_early end offset status taken here.early said told),
+)
+
+trial_no_stop : (tried : Trial) → IsEarly (status_of_trial tried) → ⊥
+trial_no_stop (Passes fee cycles) stop = stop
+trial_no_stop (Refused rule) stop = stop
+
+said_of : (report : Report) (text taken : List ℕ) (status result : Status) → text ≡ text_of report → status ≡ report.status
+    → IsToldAnswer text status result taken → IsSaid report result taken
+said_of report text taken status result text_is status_is (inl told) = inl (told.0 ∙ text_is, told.1 ∙ status_is)
+said_of report text taken status result text_is status_is (inr part) = inr (record {
+  stop = subst IsWritingStop (sym part.1) tt;
+  front = subst (IsPrefix taken) text_is part.0.front;
+  silent = λ early. absurd (not_early result part.1 early);
+})
+
+said_done : (report : Report) (status : Status) (taken : List ℕ) → IsSaid report status taken → IsOneOf (Done ∷ SomeRefused ∷ []) status → taken ≡ text_of report
+said_done report status taken (inl said) done = said.0
+said_done report status taken (inr part) done = absurd (stop_not_done status (writing_stops status part.stop) done)
+
+-- the item was judged
+pub check_told : (chain : Chain) (left : Option (List ℕ)) (item given taken text : List ℕ) (tried : Trial) (status result : Status)
+    → IsOne left item given → tried ≡ trial chain item → text ≡ trial_line tried → status ≡ status_of_trial tried
+    → IsToldAnswer text status result taken → IsChecked chain given left taken result
+check_told chain left item given taken text tried status result one tried_is text_is status_is told = (
+  said_text (full chain) report left given taken result said
+      (λ more is. ap (full chain) (all_given left given more one.to_end is) ∙ ap (report_of_check chain) (one_split left item given one)),
+  record {
+    to_end = λ done. one.to_end;
+    to_early_end = λ ended more is. rw (all_given left given more one.to_end is, one_split left item given one)
+        (omega (arith, ap length one.same, length-append item []));
+    silent = said_silent report result taken said (trial_no_stop (trial chain item));
+  },
+  λ done. said_done report result taken said done ∙ sym (ap (λ (s : Split). text_of (report_of_check chain s)) (one_split left item given one)),
+)
+  where
+    report : Report
+    report = report_of_trial (trial chain item)
+
+    said : IsSaid report result taken
+    said = said_of report text taken status result (text_is ∙ ap (λ (t : Trial). trial_line t) tried_is) (status_is ∙ ap (λ (t : Trial). status_of_trial t) tried_is) told
+
+-- over a chain that has joined, judging is stopped by missing memory alone
+pub memory_stop : (status : Status) → IsOneOf (NotAStore ∷ NoMemory ∷ []) status → (status ≡ NotAStore → ⊥) → IsStop status
+memory_stop status (inl none) sound = absurd (sound none)
+memory_stop status (inr (inl memory)) sound = subst IsStop (sym memory) tt
+memory_stop status (inr (inr never)) sound = absurd never
+
+-- ---- What is delivered of a store
+
+finds_none : (status : Status) → IsOneOf opening_stops status → FindsNoStore [] [] status
+finds_none status one = record { untouched = record { unread = refl; unwritten = refl }; answer = one }
+
+module _ {D : Type 0} (reads_as : D → Option Image) (images : D → Image → Type 0) (moment : D → ℕ) (left_since : D → ℕ → Image → Type 0)
+    (counts_now : (disk : D) (t : ℕ) (image : Image) → t ≤ moment disk → images disk image → left_since disk t image) where
+  -- the store was opened
+  pub check_opened : (old new : D) (node : NodeValue) (left : Option (List ℕ)) (given taken : List ℕ) (status : Status)
+      → IfSome (reads_as old) (λ now. store_of now ≡ Keeps node.chain)
+      → (((image : Image) → images old image → IsSound image) → IfSome (reads_as old) (λ _. IsOn node (reads_as new) (images new)))
+      → ((now : Image) (chain : Chain) → reads_as old ≡ Some now → store_of now ≡ Keeps chain → ((image : Image) → images old image → IsSound image)
+          → LeavesOnly moment left_since old new (λ image. images old image ⊎ StandsFor chain image))
+      → (IsJoined node.chain → IsChecked node.chain given left taken status)
+      → DeliversCheck (reads_as old) (images old) (images new) (left_since new (moment old)) left given taken status
+  check_opened old new node left given taken status kept on moments says = record {
+    delivers = delivers;
+    answers = λ now chain told stands done.
+        let here : node.chain ≡ chain = same_chain node.chain chain
+            (sym (if_told (reads_as old) (λ image. store_of image ≡ Keeps node.chain) now kept told) ∙ store_of_stands chain now stands) in
+        subst (λ (k : Chain). taken ≡ text_of (full k given)) here ((says (subst IsJoined (sym here) (joined_of_image chain now stands))).2 done);
+  }
+    where
+      same : (store : Store) → IsSoundStoreOf (reads_as old) store → store ≡ Keeps node.chain
+      same store found = found.2 ∙ if_told (reads_as old) (λ now. store_of now ≡ Keeps node.chain) found.0 kept found.1
+
+      joined : (store : Store) → IsSoundStoreOf (reads_as old) store → IsJoined node.chain
+      joined store found = joined_of_image node.chain found.0 (found.3 node.chain (same store found))
+
+      delivers : Delivers Check (reads_as old) (images old) (images new) (left_since new (moment old)) left given taken status
+      delivers = record {
+        text = λ store found.
+            subst (λ (s : Store). MatchesReport (λ whole. report_of_command (Some Check) whole s) given left taken status) (sym (same store found)) (says (joined store found)).0;
+        order = λ store found. subst (λ (s : Store). KeepsOrder (Some Check) s given left taken status) (sym (same store found)) (says (joined store found)).1;
+        disk = keeps_opened (reads_as old) node.chain [] (images old) (images new) (left_since new (moment old)) taken status kept
+            (λ now told keeps sound. keeps_read images moment left_since counts_now old new node.chain taken status (moments now node.chain told keeps sound)
+            (on_stands node node.chain (reads_as new) (images new) refl
+            (if_told (reads_as old) (λ _. IsOn node (reads_as new) (images new)) now (on sound) told)));
+      }
+
+  -- none was opened
+  pub check_unopened : (old new : D) (left : Option (List ℕ)) (status : Status) → IsOneOf opening_stops status
+      → (status ≡ NotAStore → IfSome (reads_as old) (λ now. IsSound now → ⊥)) → IfSome (reads_as old) (images old)
+      → ((now : Image) (chain : Chain) → reads_as old ≡ Some now → store_of now ≡ Keeps chain → ((image : Image) → images old image → IsSound image)
+          → LeavesOnly moment left_since old new (λ image. images old image ⊎ StandsFor chain image))
+      → DeliversCheck (reads_as old) (images old) (images new) (left_since new (moment old)) left [] [] status
+  check_unopened old new left status one none here moments = record {
+    delivers = record {
+      text = text;
+      order = order;
+      disk = λ now told chain keeps sound. keeps_unopened images moment left_since counts_now old new chain [] status
+          (by_disk_or_memory status one (λ e. there now told (sound now (if_told (reads_as old) (images old) now here told)) e))
+          (moments now chain told keeps sound);
+    };
+    answers = λ now chain told stands done. absurd (stop_not_done status (opening_stop status one (there now told (chain, stands))) done);
+  }
+    where
+      there : (now : Image) → reads_as old ≡ Some now → IsSound now → status ≡ NotAStore → ⊥
+      there now told sound e = if_told (reads_as old) (λ image. IsSound image → ⊥) now (none e) told sound
+
+      stop : (chain : Chain) → IsSoundStoreOf (reads_as old) (Keeps chain) → IsStop status
+      stop chain found = opening_stop status one (there found.0 found.1 (chain, found.3 chain refl))
+
+      text : (store : Store) → IsSoundStoreOf (reads_as old) store → MatchesReport (λ whole. report_of_command (Some Check) whole store) [] left [] status
+      text NoLog found = none_says (λ whole. report_of_command (Some Check) whole NoLog) left status one (λ input. refl)
+      text NotALog found = none_says (λ whole. report_of_command (Some Check) whole NotALog) left status one (λ input. refl)
+      text (Keeps chain) found = stop_says (λ whole. report_of_command (Some Check) whole (Keeps chain)) left status (stop chain found)
+
+      order : (store : Store) → IsSoundStoreOf (reads_as old) store → KeepsOrder (Some Check) store [] left [] status
+      order NoLog found = finds_none status one
+      order NotALog found = finds_none status one
+      order (Keeps chain) found = (check_stopped chain left [] status (stop chain found)).1
