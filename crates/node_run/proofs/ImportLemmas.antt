@@ -13,24 +13,27 @@ use Rattle.verdict_defs.specs.declared.verdict.Verdict.{Verdict}
 use Rattle.verdict_defs.specs.Verdict as rules
 use Rattle.verdict_defs.specs.Chain.{Chain, chain_after, verdict_over, chain_over, verdicts_over}
 use Rattle.fold_defs.proofs.FoldLemmas.{keep-push, verdicts-push}
-use Rattle.store_defs.specs.Store.{StandsFor}
+use Rattle.store_defs.specs.Store.{StandsFor, IsJoined}
+use Rattle.store_defs.proofs.JoinedLemmas.{joined_of_image, joined_after}
 use Rattle.report_defs.specs.declared.status.Status.{Status}
-use Rattle.report_defs.specs.declared.status.Status.TheVariants.{DiskFault, NoMemory}
+use Rattle.report_defs.specs.declared.status.Status.TheVariants.{InputFault, SinkFault, DiskFault, NoMemory, NotAStore}
 use Rattle.report_defs.specs.Status.{IsOneOf}
 use Rattle.report_defs.specs.Text.{line}
 use Rattle.report_defs.specs.Items.{IsItem, AreItems}
 use Rattle.report_defs.proofs.ItemLemmas.{all_items-append}
 use Rattle.report_defs.specs.Report.{item_limit, input_limit, import_limits}
+use Rattle.report_defs.specs.Promise.{import_statuses}
 use Rattle.report_defs.specs.Survival.{Each}
 use Rattle.item_reader.specs.Items.{IsPartial, IsItemAt, EndsAt, IsReadingStop, IsNext}
 use Rattle.item_reader.specs.declared.next.Next.{Next}
 use Rattle.item_reader.proofs.Reading.{few_partial}
 use Rattle.node_core.specs.Node.{NodeValue, IsOn}
 use Rattle.node_run.specs.Output.{Transfers, IsPartOf}
-use Rattle.node_run.specs.Import.{AreImported, IsCutShort, KeepsSome, line_over, text_over}
+use Rattle.node_run.specs.Import.{AreImported, IsCutShort, KeepsSome, line_over, text_over, item_stops}
+use Rattle.node_run.specs.Store.{opening_stops}
 use Rattle.node_run.specs.declared.import.Ended.{Ended}
 use Rattle.node_run.proofs.LineLemmas.{concat-push, lines-push, line_some, take_all}
-use Rattle.node_run.proofs.Statuses.{reading_stops, writing_stops, disk_stops}
+use Rattle.node_run.proofs.Statuses.{each_of, reading_stops, writing_stops, disk_stops}
 
 pub item_limit-is : item_limit ≡ 1048576
 unfolding item_limit
@@ -40,18 +43,21 @@ pub input_limit-is : input_limit ≡ 1099511627776
 unfolding input_limit
 input_limit-is = refl
 
--- Whole items were imported, and nothing of a next one was read. Where the node was on its disk it is so now, and at each moment a crash
--- left what joined of some of them.
+-- Whole items were imported, and nothing of a next one was read. Over a chain that has joined they are answered by their lines. Where the
+-- node was on its disk it is so now, and at each moment a crash left what joined of some of them.
 pub record Whole (chain : Chain) (offset : ℕ) (left_old left_new taken_old taken_new : Option (List ℕ)) (now : Chain) (refused : Bool)
     (was_on is_on : Type 0) (leaves : (Image → Type 0) → Type 0) : Type 0 where
   pub items : List (List ℕ)
+  pub taken : List ℕ
   pub gives : Gives left_old left_new (concat items)
-  pub takes : Takes taken_old taken_new (text_over chain items)
+  pub takes : Takes taken_old taken_new taken
   pub all : AreItems import_limits 0 items
   pub place : offset ≡ length (concat items)
   pub within : offset ≤ input_limit
-  pub kept_now : now ≡ chain_over chain items
-  pub any_refused : refused ≡ list_any rules.refuses (verdicts_over chain items)
+  pub joined : IsJoined chain → IsJoined now
+  pub lines : IsJoined chain → taken ≡ text_over chain items
+  pub kept_now : IsJoined chain → now ≡ chain_over chain items
+  pub any_refused : IsJoined chain → refused ≡ list_any rules.refuses (verdicts_over chain items)
   pub on : was_on → is_on
   pub moments : was_on → leaves (KeepsSome chain items)
 
@@ -84,6 +90,10 @@ pub on_stands : (node : NodeValue) (chain : Chain) (reads : Option Image) (image
     → (image : Image) → images image → StandsFor chain image
 on_stands node chain reads images is on image left =
     subst (λ (k : Chain). StandsFor k image) is (subst (λ (i : Image). StandsFor node.chain i) (sym (on.one image left)) on.stands)
+
+-- the chain of a node on its disk has joined
+pub joined_on : (node : NodeValue) (reads : Option Image) (images : Image → Type 0) → IsOn node reads images → IsJoined node.chain
+joined_on node reads images on = joined_of_image node.chain on.now on.stands
 
 module _ {D : Type 0} (images : D → Image → Type 0) (moment : D → ℕ) (left_since : D → ℕ → Image → Type 0)
     (counts_now : (disk : D) (t : ℕ) (image : Image) → t ≤ moment disk → images disk image → left_since disk t image) where
@@ -128,6 +138,28 @@ cut_before_line verdict status one = record {
   silent = λ early. refl;
 }
 
+-- ---- What stops it
+
+-- where the store stops an item
+pub item_stopped : (status : Status) → IsOneOf opening_stops status → IsOneOf item_stops status
+item_stopped status one =
+    each_of (λ s. IsOneOf item_stops s) opening_stops status
+    (inr (inr (inr (inl refl))), (inr (inl refl), (inr (inr (inl refl)), tt))) one
+
+pub no_input_fault : (status : Status) → IsOneOf item_stops status → status ≡ InputFault → ⊥
+no_input_fault status one =
+    each_of (λ s. s ≡ InputFault → ⊥) item_stops status (λ e. cc, (λ e. cc, (λ e. cc, (λ e. cc, tt)))) one
+
+pub reading_stopped : (status : Status) → IsReadingStop status → IsOneOf (InputFault ∷ item_stops) status
+reading_stopped InputFault stop = inl refl
+reading_stopped NoMemory stop = inr (inr (inr (inl refl)))
+reading_stopped _ stop = absurd stop
+
+pub items_stop_import : (status : Status) → IsOneOf (InputFault ∷ item_stops) status → IsOneOf import_statuses status
+items_stop_import status one =
+    each_of (λ s. IsOneOf import_statuses s) (InputFault ∷ item_stops) status
+    (inr (inr (inl refl)), (inr (inr (inr (inl refl))), (inr (inr (inr (inr (inl refl)))), (inr (inr (inr (inr (inr (inl refl))))), (inr (inr (inr (inr (inr (inr (inl refl)))))), tt))))) one
+
 -- ---- The loop
 
 or_false : (b : Bool) → (b || false) ≡ b
@@ -146,29 +178,34 @@ pub whole_more : (chain : Chain) (offset : ℕ) (left_old left left_new taken_ol
     (item given text : List ℕ) (verdict : Verdict) (size : ℕ) (any : Bool)
     → size ≡ length item → any ≡ (refused || rules.refuses verdict)
     → (whole : Whole chain offset left_old left taken_old taken now refused was_on is_on leaves) → IsItemAt item_limit (Some input_limit) offset item given
-    → Gives left left_new given → Takes taken taken_new text → verdict ≡ verdict_over now item → new ≡ chain_after now item
-    → text ≡ line_over now item → (is_on → on_new) → (was_on → leaves_new (KeepsSome chain (whole.items ++ item ∷ [])))
+    → Gives left left_new given → Takes taken taken_new text
+    → (IsJoined now → verdict ≡ verdict_over now item) → (IsJoined now → new ≡ chain_after now item) → (IsJoined now → text ≡ line_over now item)
+    → (is_on → on_new) → (was_on → leaves_new (KeepsSome chain (whole.items ++ item ∷ [])))
     → Whole chain (offset + size) left_old left_new taken_old taken_new new any was_on on_new leaves_new
 whole_more chain offset left_old left left_new taken_old taken taken_new now new refused was_on is_on on_new leaves leaves_new item given text verdict size any
-    long either whole at gives takes judged kept_is text_is goes_on moments =
-    let same : now ≡ chain_over chain whole.items = whole.kept_now in
-    record {
-      items = whole.items ++ item ∷ [];
-      gives = rw concat-push (gives_more left_old left left_new (concat whole.items) item whole.gives (subst (Gives left left_new) at.same gives));
-      takes = rw lines-push (takes_more taken_old taken taken_new (text_over chain whole.items) (line_over (chain_over chain whole.items) item) whole.takes
-          (subst (Takes taken taken_new) (text_is ∙ ap (λ (k : Chain). line_over k item) same) takes));
-      all = all-push whole.items item whole.all at.is_item;
-      place = omega (arith, long, whole.place, ap length (concat-push whole.items item), length-append (concat whole.items) item);
-      within = rw long at.within;
-      kept_now = kept_is ∙ ap (λ (k : Chain). chain_after k item) same ∙ sym (keep-push chain_after chain whole.items item);
-      any_refused =
-          either ∙ ap (λ b. b || rules.refuses verdict) whole.any_refused
-          ∙ ap (λ (v : Verdict). list_any rules.refuses (verdicts_over chain whole.items) || rules.refuses v) (judged ∙ ap (λ (k : Chain). verdict_over k item) same)
-          ∙ sym (any-push (verdicts_over chain whole.items) (verdict_over (chain_over chain whole.items) item))
-          ∙ sym (ap (list_any rules.refuses) (verdicts-push chain_after verdict_over chain whole.items item));
-      on = λ was. goes_on (whole.on was);
-      moments = moments;
-    }
+    long either whole at gives takes judged kept_is text_is goes_on moments = record {
+  items = whole.items ++ item ∷ [];
+  taken = whole.taken ++ text;
+  gives = rw concat-push (gives_more left_old left left_new (concat whole.items) item whole.gives (subst (Gives left left_new) at.same gives));
+  takes = takes_more taken_old taken taken_new whole.taken text whole.takes takes;
+  all = all-push whole.items item whole.all at.is_item;
+  place = omega (arith, long, whole.place, ap length (concat-push whole.items item), length-append (concat whole.items) item);
+  within = rw long at.within;
+  joined = λ joined. subst IsJoined (sym (kept_is (whole.joined joined))) (joined_after now item (whole.joined joined));
+  lines = λ joined.
+      ap (λ bs. bs ++ text) (whole.lines joined)
+      ∙ ap (λ bs. text_over chain whole.items ++ bs) (text_is (whole.joined joined) ∙ ap (λ (k : Chain). line_over k item) (whole.kept_now joined))
+      ∙ sym (lines-push chain whole.items item);
+  kept_now = λ joined. kept_is (whole.joined joined) ∙ ap (λ (k : Chain). chain_after k item) (whole.kept_now joined) ∙ sym (keep-push chain_after chain whole.items item);
+  any_refused = λ joined.
+      either ∙ ap (λ b. b || rules.refuses verdict) (whole.any_refused joined)
+      ∙ ap (λ (v : Verdict). list_any rules.refuses (verdicts_over chain whole.items) || rules.refuses v)
+      (judged (whole.joined joined) ∙ ap (λ (k : Chain). verdict_over k item) (whole.kept_now joined))
+      ∙ sym (any-push (verdicts_over chain whole.items) (verdict_over (chain_over chain whole.items) item))
+      ∙ sym (ap (list_any rules.refuses) (verdicts-push chain_after verdict_over chain whole.items item));
+  on = λ was. goes_on (whole.on was);
+  moments = moments;
+}
 
 -- ---- The exits
 
@@ -178,13 +215,13 @@ pub imported_to_end : (chain : Chain) (offset : ℕ) (left_old left left_new tak
     → Whole chain offset left_old left taken_old taken now ended.refused was_on is_on leaves → Gives left left_new given
     → EndsAt (Some item_limit) (Some input_limit) offset left_new ended.end given → IsPartial item_limit (Some input_limit) offset given → ended.offset ≡ offset
     → (is_on → Each images (StandsFor now))
-    → Transfers left_old left_new taken_old taken (AreImported chain left_new (Ok ended) was_on images leaves)
+    → Transfers left_old left_new taken_old taken (λ given taken. IsJoined chain → AreImported chain left_new (Ok ended) was_on images leaves given taken)
 imported_to_end chain offset left_old left left_new taken_old taken now ended was_on is_on images leaves given whole gives ends partial there stand = (
   concat whole.items ++ given,
-  text_over chain whole.items,
+  whole.taken,
   gives_more left_old left left_new (concat whole.items) given whole.gives gives,
   whole.takes,
-  record {
+  λ joined. record {
     items = whole.items;
     before = whole.items;
     rest = given;
@@ -197,13 +234,13 @@ imported_to_end chain offset left_old left left_new taken_old taken now ended wa
     came = (
       refl,
       record {
-        lines = refl;
-        refused = whole.any_refused;
+        lines = whole.lines joined;
+        refused = whole.any_refused joined;
         offset = there ∙ whole.place;
         ends = rw (← whole.place) ends;
       },
     );
-    exit = λ was. λ image left. inl (subst (λ (k : Chain). StandsFor k image) whole.kept_now (stand (whole.on was) image left));
+    exit = λ was. λ image left. inl (subst (λ (k : Chain). StandsFor k image) (whole.kept_now joined) (stand (whole.on was) image left));
     moments = whole.moments;
   },
 )
@@ -215,13 +252,13 @@ pub imported_to_fault : (chain : Chain) (offset : ℕ) (left_old left left_new t
     → IsPartial item_limit (Some input_limit) offset given ⊎ IsItemAt item_limit (Some input_limit) offset given given
     → (is_on → Each images (StandsFor now))
     → (leaves (KeepsSome chain whole.items) → leaves (KeepsSome chain (whole.items ++ given ∷ [])))
-    → Transfers left_old left_new taken_old taken (AreImported chain left_new (Err status) was_on images leaves)
+    → Transfers left_old left_new taken_old taken (λ given taken. IsJoined chain → AreImported chain left_new (Err status) was_on images leaves given taken)
 imported_to_fault chain offset left_old left left_new taken_old taken now refused was_on is_on images leaves status given whole gives stop (inl partial) stand weaker = (
   concat whole.items ++ given,
-  text_over chain whole.items,
+  whole.taken,
   gives_more left_old left left_new (concat whole.items) given whole.gives gives,
   whole.takes,
-  record {
+  λ joined. record {
     items = whole.items;
     before = whole.items;
     rest = given;
@@ -234,20 +271,20 @@ imported_to_fault chain offset left_old left left_new taken_old taken now refuse
     came = record {
       stop = reading_stops status stop;
       part = [];
-      taken_is = sym (append-nil (text_over chain whole.items));
+      taken_is = whole.lines joined ∙ sym (append-nil (text_over chain whole.items));
       silent = λ early. refl;
       last = inl (refl, refl);
     };
-    exit = λ was. λ image left. inl (subst (λ (k : Chain). StandsFor k image) whole.kept_now (stand (whole.on was) image left));
+    exit = λ was. λ image left. inl (subst (λ (k : Chain). StandsFor k image) (whole.kept_now joined) (stand (whole.on was) image left));
     moments = whole.moments;
   },
 )
 imported_to_fault chain offset left_old left left_new taken_old taken now refused was_on is_on images leaves status given whole gives stop (inr at) stand weaker = (
   concat whole.items ++ given,
-  text_over chain whole.items,
+  whole.taken,
   gives_more left_old left left_new (concat whole.items) given whole.gives gives,
   whole.takes,
-  record {
+  λ joined. record {
     items = whole.items ++ given ∷ [];
     before = whole.items;
     rest = [];
@@ -260,7 +297,7 @@ imported_to_fault chain offset left_old left left_new taken_old taken now refuse
     came = record {
       stop = reading_stops status stop;
       part = [];
-      taken_is = sym (append-nil (text_over chain whole.items));
+      taken_is = whole.lines joined ∙ sym (append-nil (text_over chain whole.items));
       silent = λ early. refl;
       last = inr (
         given,
@@ -272,7 +309,7 @@ imported_to_fault chain offset left_old left left_new taken_old taken now refuse
         },
       );
     };
-    exit = λ was. λ image left. inl (subst (λ (k : Chain). StandsFor k image) whole.kept_now (stand (whole.on was) image left));
+    exit = λ was. λ image left. inl (subst (λ (k : Chain). StandsFor k image) (whole.kept_now joined) (stand (whole.on was) image left));
     moments = λ was. weaker (whole.moments was);
   },
 )
@@ -281,17 +318,18 @@ imported_to_fault chain offset left_old left left_new taken_old taken now refuse
 pub imported_to_line : (chain : Chain) (offset : ℕ) (left_old left left_new taken_old taken taken_new : Option (List ℕ)) (now : Chain) (refused : Bool)
     (was_on is_on : Type 0) (images : Image → Type 0) (leaves leaves_new : (Image → Type 0) → Type 0) (status : Status) (item given part : List ℕ)
     → (whole : Whole chain offset left_old left taken_old taken now refused was_on is_on leaves) → IsItemAt item_limit (Some input_limit) offset item given
-    → Gives left left_new given → Takes taken taken_new part → IsCutShort (line_over now item) status part
-    → (is_on → Each images (λ image. StandsFor (chain_over chain whole.items) image ⊎ StandsFor (chain_over chain (whole.items ++ item ∷ [])) image))
+    → Gives left left_new given → Takes taken taken_new part → (IsJoined now → IsCutShort (line_over now item) status part)
+    → (IsJoined chain → is_on → Each images (λ image. StandsFor (chain_over chain whole.items) image ⊎ StandsFor (chain_over chain (whole.items ++ item ∷ [])) image))
     → (was_on → leaves_new (KeepsSome chain (whole.items ++ item ∷ [])))
-    → Transfers left_old left_new taken_old taken_new (AreImported chain left_new (Err status) was_on images leaves_new)
+    → Transfers left_old left_new taken_old taken_new (λ given taken. IsJoined chain → AreImported chain left_new (Err status) was_on images leaves_new given taken)
 imported_to_line chain offset left_old left left_new taken_old taken taken_new now refused was_on is_on images leaves leaves_new status item given part
-    whole at gives takes short exit moments =
-    let same : now ≡ chain_over chain whole.items = whole.kept_now in (
-      concat whole.items ++ item,
-      text_over chain whole.items ++ part,
-      gives_more left_old left left_new (concat whole.items) item whole.gives (subst (Gives left left_new) at.same gives),
-      takes_more taken_old taken taken_new (text_over chain whole.items) part whole.takes takes,
+    whole at gives takes short exit moments = (
+  concat whole.items ++ item,
+  whole.taken ++ part,
+  gives_more left_old left left_new (concat whole.items) item whole.gives (subst (Gives left left_new) at.same gives),
+  takes_more taken_old taken taken_new whole.taken part whole.takes takes,
+  λ joined.
+      let cut = short (whole.joined joined) in
       record {
         items = whole.items ++ item ∷ [];
         before = whole.items;
@@ -303,16 +341,16 @@ imported_to_line chain offset left_old left left_new taken_old taken taken_new n
           partial = few_partial item_limit (Some input_limit) (length (concat (whole.items ++ item ∷ []))) [] (omega arith);
         };
         came = record {
-          stop = writing_stops status short.stop;
+          stop = writing_stops status cut.stop;
           part = part;
-          taken_is = refl;
-          silent = short.silent;
-          last = inr (item, refl, refl, subst (λ (k : Chain). IsPartOf (line_over k item) part) same short.part);
+          taken_is = ap (λ bs. bs ++ part) (whole.lines joined);
+          silent = cut.silent;
+          last = inr (item, refl, refl, subst (λ (k : Chain). IsPartOf (line_over k item) part) (whole.kept_now joined) cut.part);
         };
-        exit = λ was. exit (whole.on was);
+        exit = λ was. exit joined (whole.on was);
         moments = moments;
       },
-    )
+)
 
 -- `a || b` where a is known
 pub or_then : (a b : Bool) → a ≡ true → (a || b) ≡ a

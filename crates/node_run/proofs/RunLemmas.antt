@@ -1,40 +1,24 @@
 -- What a run promises of the disk for any list of runs before it.
-use Rattle.std.proofs.Common.{◌≡◌, inl, inr, ℕ, false, List, [], ◌∷◌, length, take, refl, ap, sym, ◌∙◌, subst, arith}
-use Rattle.std.specs.Prelude.{Option, Some, None, IfSome, IsSome, ◌==◌}
-use Rattle.std.proofs.lemmas.Bool.Decides.{nat_tests}
+use Rattle.std.proofs.Common.{◌≡◌, inl, inr, ℕ, List, [], ◌∷◌, length, take, refl, ap, sym, ◌∙◌, subst, arith}
+use Rattle.std.specs.Prelude.{Option, Some, None, IfSome, IsSome}
 use Rattle.outside.specs.Image.{Image}
 use Rattle.outside.specs.Disk.{IsAsBefore}
 use Rattle.chain_defs.specs.Tip.{tip}
 use Rattle.verdict_defs.specs.Chain.{Chain, chain_over}
-use Rattle.store_defs.specs.Log.{LogContent, log_of}
-use Rattle.store_defs.specs.Store.{Store, NoLog, Keeps, store_of, store_of_log, StandsFor, IsSound}
+use Rattle.store_defs.specs.Store.{Store, NoLog, Keeps, store_of, StandsFor, IsSound}
 use Rattle.report_defs.specs.declared.command.Command.{Command}
-use Rattle.report_defs.specs.declared.command.Command.TheVariants.{Init, Import, Tip, Exec}
+use Rattle.report_defs.specs.declared.command.Command.TheVariants.{Init, Import, Tip, Check, Exec}
 use Rattle.report_defs.specs.declared.status.Status.{Status}
-use Rattle.report_defs.specs.declared.status.Status.TheVariants.{Done, BadWords}
+use Rattle.report_defs.specs.declared.status.Status.TheVariants.{Done, SomeRefused, BadWords}
+use Rattle.report_defs.specs.Status.{IsOneOf}
 use Rattle.report_defs.specs.Text.{tip_line}
 use Rattle.report_defs.specs.Report.{report_of_command, exec_report}
-use Rattle.report_defs.specs.Promise.{MatchesReport, KeepsOrder, ExecutesInOrder, Finds}
+use Rattle.report_defs.specs.Promise.{MatchesReport, KeepsOrder, ExecutesInOrder, Finds, IsReported}
 use Rattle.report_defs.specs.Survival.{Each, Run, IsFront, IsKeptBy, IsLeftBy, KeepsStore, KeepsDisk, Answers, IsPromised, items_of}
 use Rattle.node_run.specs.Store.{Delivers}
+use Rattle.node_run.specs.Check.{DeliversCheck}
 use Rattle.node_run.proofs.LineLemmas.{front_of_none}
-
--- ---- The store of an image that stands for a chain
-
-empty_log : log_of [] ≡ None
-unfolding log_of
-empty_log = refl
-
-no_log_of : (bytes : List ℕ) (log : LogContent) → length bytes ≡ 0 → log_of bytes ≡ Some log → ⊥
-no_log_of [] log none is = let never : None ≡ Some log = sym empty_log ∙ is in cc
-no_log_of (b ∷ bs) log none is = omega (arith, none)
-
-pub store_of_stands : (chain : Chain) (image : Image) → StandsFor chain image → store_of image ≡ Keeps chain
-unfolding store_of
-store_of_stands chain image stands =
-    let some : length image.log ≡ 0 → ⊥ = λ none. no_log_of image.log stands.log none stands.is_log in
-    let test : (length image.log == 0) ≡ false = grind (arith, nat_tests) in
-    rw test (ap store_of_log stands.is_log ∙ ap Keeps stands.keeps)
+use Rattle.node_run.proofs.StoreLemmas.{same_chain, store_of_stands}
 
 -- ---- Runs that keep what was kept
 
@@ -118,12 +102,19 @@ import_promised reads at_start at_exit meanwhile left given taken status here ke
       (first.0, first.1, tt);
 }
 
+-- what was done is reported
+reported : (status : Status) → IsOneOf (Done ∷ SomeRefused ∷ []) status → IsReported status
+reported status (inl done) = inl done
+reported status (inr (inl refused)) = inr (inl refused)
+reported status (inr (inr never)) = absurd never
+
 -- the line of `tip` is that of the chain that a past left
 tip_answers : (reads : Option Image) (at_start at_exit meanwhile : Image → Type 0) (taken : List ℕ) (status : Status) (now : Image) (kept : Chain)
-    → Delivers Tip reads at_start at_exit meanwhile (Some []) [] taken status → reads ≡ Some now → store_of now ≡ Keeps kept → status ≡ Done
+    → Delivers Tip reads at_start at_exit meanwhile (Some []) [] taken status → reads ≡ Some now → StandsFor kept now → IsOneOf (Done ∷ SomeRefused ∷ []) status
     → taken ≡ tip_line (tip kept.blocks)
-tip_answers reads at_start at_exit meanwhile taken status now kept delivers told keeps done =
-    (delivers.text (Keeps kept) (now, told, sym keeps)).whole_text [] refl (inl done)
+tip_answers reads at_start at_exit meanwhile taken status now kept delivers told stands done =
+    (delivers.text (Keeps kept) (now, told, sym (store_of_stands kept now stands), λ chain same. subst (λ (k : Chain). StandsFor k now) (same_chain kept chain same) stands)).whole_text
+    [] refl (reported status done)
 
 pub tip_promised : (reads : Option Image) (at_start at_exit meanwhile : Image → Type 0) (left : Option (List ℕ)) (taken : List ℕ) (status : Status)
     → IfSome reads at_start → ((left : Option (List ℕ)) → Delivers Tip reads at_start at_exit meanwhile left [] taken status)
@@ -145,7 +136,30 @@ tip_promised reads at_start at_exit meanwhile left taken status here all =
       answers = λ told genesis past by done.
           let now = told_image reads told in
           let first = by now.0 (reads_here reads at_start now.0 here now.1) in
-          (first.0, first.1, tip_answers reads at_start at_exit meanwhile taken status now.0 first.0 (all (Some [])) now.1 (store_of_stands first.0 now.0 first.2) done);
+          (first.0, first.1, tip_answers reads at_start at_exit meanwhile taken status now.0 first.0 (all (Some [])) now.1 first.2 done);
+    }
+
+pub check_promised : (reads : Option Image) (at_start at_exit meanwhile : Image → Type 0) (left : Option (List ℕ)) (given taken : List ℕ) (status : Status)
+    → IfSome reads at_start → DeliversCheck reads at_start at_exit meanwhile left given taken status
+    → IsPromised (Some Check) reads at_start at_exit meanwhile left given taken status
+check_promised reads at_start at_exit meanwhile left given taken status here checked =
+    let kept = checked.delivers in
+    record {
+      text = kept.text;
+      order = kept.order;
+      disk = kept.disk;
+      survives = λ told.
+          let now = told_image reads told in
+          survives_store now.0 at_start at_exit meanwhile taken status []
+          (reads_here reads at_start now.0 here now.1) (kept.disk now.0 now.1);
+      at_each_moment = λ told.
+          let now = told_image reads told in
+          survives_store_meanwhile now.0 at_start at_exit meanwhile taken status []
+          (reads_here reads at_start now.0 here now.1) (kept.disk now.0 now.1);
+      answers = λ told genesis past by done.
+          let now = told_image reads told in
+          let first = by now.0 (reads_here reads at_start now.0 here now.1) in
+          (first.0, first.1, checked.answers now.0 first.0 now.1 first.2 done);
     }
 
 -- where a log is there, `init` leaves the disk as it was
@@ -187,7 +201,7 @@ module _ {D : Type 0} (reads_as : D → Option Image) (images : D → Image → 
   pub uncalled_promised : (command : Option Command) (old : D) (left : Option (List ℕ)) (given taken : List ℕ) (status : Status) → items_of command given ≡ []
       → ((store : Store) → Finds command (reads_as old) store → MatchesReport (λ whole. report_of_command command whole store) given left taken status × KeepsOrder command store given left taken status)
       → ((now : Image) → KeepsDisk command now (images old) (images old) (left_since old (moment old)) given taken status)
-      → ((kept : Chain) → Answers command kept taken)
+      → ((kept : Chain) → Answers command kept given taken)
       → IsPromised command (reads_as old) (images old) (images old) (left_since old (moment old)) left given taken status
   uncalled_promised command old left given taken status none says disk answers = record {
     text = λ store found. (says store found).0;

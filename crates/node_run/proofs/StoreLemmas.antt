@@ -1,20 +1,23 @@
 -- What a command delivers of a store, whether it was opened or not.
-use Rattle.std.proofs.Common.{◌≡◌, ◌⊎◌, inl, inr, ℕ, ◌≤◌, List, [], ◌∷◌, length, take, refl, ap, sym, ◌∙◌, subst, arith, append-nil}
-use Rattle.std.specs.Prelude.{Option, Some, IfSome}
+use Rattle.std.proofs.Common.{◌≡◌, ◌⊎◌, inl, inr, ℕ, ◌≤◌, false, List, [], ◌∷◌, length, take, refl, ap, sym, ◌∙◌, subst, arith, append-nil}
+use Rattle.std.specs.Prelude.{Option, Some, None, IfSome, ◌==◌}
+use Rattle.std.proofs.lemmas.Bool.Decides.{nat_tests}
 use Rattle.outside.specs.Image.{Image}
 use Rattle.outside.specs.Disk.{LeavesOnly}
 use Rattle.outside.proofs.Moments.{leaves_also, leaves_then, now_too}
 use Rattle.codec_defs.specs.Schema.{Block}
 use Rattle.chain_defs.specs.Kept.{block_hash}
 use Rattle.verdict_defs.specs.Chain.{Chain, chain_over}
-use Rattle.store_defs.specs.Store.{Store, NoLog, NotALog, Keeps, store_of, StandsFor, IsSound}
+use Rattle.store_defs.specs.Log.{LogContent, log_of}
+use Rattle.store_defs.specs.Store.{Store, NoLog, NotALog, Keeps, store_of, store_of_log, StandsFor, IsSound, IsJoined}
+use Rattle.store_defs.proofs.JoinedLemmas.{joined_of_image}
 use Rattle.report_defs.specs.declared.command.Command.{Command}
 use Rattle.report_defs.specs.declared.status.Status.{Status}
 use Rattle.report_defs.specs.declared.status.Status.TheVariants.{Done, DiskFault, NoMemory, NotAStore}
 use Rattle.report_defs.specs.Status.{IsOneOf}
 use Rattle.report_defs.specs.Text.{tip_line, tip_line_of}
 use Rattle.report_defs.specs.Report.{Report, report_without_lines, text_of, report_of_command, tip_report}
-use Rattle.report_defs.specs.Promise.{IsPrefix, MatchesReport, KeepsOrder, IsStoreOf, FindsNoStore, TellsInOrder, IsStoppedBeforeTheSink}
+use Rattle.report_defs.specs.Promise.{IsPrefix, MatchesReport, KeepsOrder, IsSoundStoreOf, Finds, FindsNoStore, TellsInOrder, IsStoppedBeforeTheSink}
 use Rattle.report_defs.specs.Survival.{Each, IsFront, KeepsStore, KeepsDisk}
 use Rattle.node_run.specs.Import.{IsStop, KeepsSome}
 use Rattle.node_run.specs.Store.{Delivers, opening_stops}
@@ -27,23 +30,56 @@ pub if_told : (reads : Option Image) (P : Image → Type 0) (now : Image) → If
 if_told reads P now known told = subst (λ (r : Option Image). IfSome r P) told known
 
 -- the store that a command finds is the one that was opened
-pub opened_store : (reads : Option Image) (chain : Chain) (store : Store) → IfSome reads (λ now. store_of now ≡ Keeps chain) → IsStoreOf reads store → store ≡ Keeps chain
+pub opened_store : (reads : Option Image) (chain : Chain) (store : Store) → IfSome reads (λ now. store_of now ≡ Keeps chain) → IsSoundStoreOf reads store → store ≡ Keeps chain
 opened_store reads chain store kept found = found.2 ∙ if_told reads (λ now. store_of now ≡ Keeps chain) found.0 kept found.1
 
-same_chain : (a b : Chain) → Keeps a ≡ Keeps b → a ≡ b
+-- and its chain has joined
+opened_joined : (reads : Option Image) (chain : Chain) (store : Store) → IfSome reads (λ now. store_of now ≡ Keeps chain) → IsSoundStoreOf reads store → IsJoined chain
+opened_joined reads chain store kept found = joined_of_image chain found.0 (found.3 chain (opened_store reads chain store kept found))
+
+-- where a store was opened, there is one
+pub opened_there : (reads : Option Image) (chain : Chain) (now : Image) → IfSome reads (λ now. store_of now ≡ Keeps chain) → reads ≡ Some now
+    → ((chain : Chain) → store_of now ≡ Keeps chain → ⊥) → ⊥
+opened_there reads chain now kept told none = none chain (if_told reads (λ now. store_of now ≡ Keeps chain) now kept told)
+
+pub same_chain : (a b : Chain) → Keeps a ≡ Keeps b → a ≡ b
 same_chain a b e = cc
+
+-- ---- The store of an image that stands for a chain
+
+empty_log : log_of [] ≡ None
+unfolding log_of
+empty_log = refl
+
+no_log_of : (bytes : List ℕ) (log : LogContent) → length bytes ≡ 0 → log_of bytes ≡ Some log → ⊥
+no_log_of [] log none is = let never : None ≡ Some log = sym empty_log ∙ is in cc
+no_log_of (b ∷ bs) log none is = omega (arith, none)
+
+pub store_of_stands : (chain : Chain) (image : Image) → StandsFor chain image → store_of image ≡ Keeps chain
+unfolding store_of
+store_of_stands chain image stands =
+    let some : length image.log ≡ 0 → ⊥ = λ none. no_log_of image.log stands.log none stands.is_log in
+    let test : (length image.log == 0) ≡ false = grind (arith, nat_tests) in
+    rw test (ap store_of_log stands.is_log ∙ ap Keeps stands.keeps)
 
 -- ---- Where a store was opened
 
+-- What is said is said of a chain that has joined.
 pub delivers : (command : Command) (reads : Option Image) (chain : Chain) (at_start at_exit meanwhile : Image → Type 0) (left : Option (List ℕ)) (given taken : List ℕ) (status : Status)
+    → ((store : Store) → Finds (Some command) reads store → IsSoundStoreOf reads store)
     → IfSome reads (λ now. store_of now ≡ Keeps chain)
-    → MatchesReport (λ whole. report_of_command (Some command) whole (Keeps chain)) given left taken status × KeepsOrder (Some command) (Keeps chain) given left taken status
+    → (IsJoined chain → MatchesReport (λ whole. report_of_command (Some command) whole (Keeps chain)) given left taken status × KeepsOrder (Some command) (Keeps chain) given left taken status)
     → ((now : Image) → reads ≡ Some now → KeepsDisk (Some command) now at_start at_exit meanwhile given taken status)
     → Delivers command reads at_start at_exit meanwhile left given taken status
-delivers command reads chain at_start at_exit meanwhile left given taken status kept says disk = record {
-  text = λ store found.
-      subst (λ (s : Store). MatchesReport (λ whole. report_of_command (Some command) whole s) given left taken status) (sym (opened_store reads chain store kept found)) says.0;
-  order = λ store found. subst (λ (s : Store). KeepsOrder (Some command) s given left taken status) (sym (opened_store reads chain store kept found)) says.1;
+delivers command reads chain at_start at_exit meanwhile left given taken status sound kept says disk = record {
+  text = λ store finds.
+      let found = sound store finds in
+      subst (λ (s : Store). MatchesReport (λ whole. report_of_command (Some command) whole s) given left taken status) (sym (opened_store reads chain store kept found))
+      (says (opened_joined reads chain store kept found)).0;
+  order = λ store finds.
+      let found = sound store finds in
+      subst (λ (s : Store). KeepsOrder (Some command) s given left taken status) (sym (opened_store reads chain store kept found))
+      (says (opened_joined reads chain store kept found)).1;
   disk = disk;
 }
 
@@ -123,11 +159,18 @@ stop_says full left status stop = record {
 finds_none : (status : Status) → IsOneOf opening_stops status → FindsNoStore [] [] status
 finds_none status one = record { untouched = record { unread = refl; unwritten = refl }; answer = one }
 
--- the opening was stopped otherwise than by what the disk holds
-pub stopped_opening : (reads : Option Image) (status : Status) (chain : Chain)
-    → (status ≡ NotAStore → IfSome reads (λ now. (chain : Chain) → store_of now ≡ Keeps chain → ⊥))
-    → IsStoreOf reads (Keeps chain) → status ≡ NotAStore → ⊥
-stopped_opening reads status chain none found e = if_told reads (λ now. (chain : Chain) → store_of now ≡ Keeps chain → ⊥) found.0 (none e) found.1 chain (sym found.2)
+-- what is sound is opened, where nothing else stops it
+pub sound_opening : (reads : Option Image) (status : Status) (now : Image) → (status ≡ NotAStore → IfSome reads (λ now. IsSound now → ⊥))
+    → reads ≡ Some now → IsSound now → status ≡ NotAStore → ⊥
+sound_opening reads status now none told sound e = if_told reads (λ now. IsSound now → ⊥) now (none e) told sound
+
+-- so is what a disk reads as, where each of its images is sound
+pub sound_here : (reads : Option Image) (images : Image → Type 0) (now : Image) → IfSome reads images → reads ≡ Some now → Each images IsSound → IsSound now
+sound_here reads images now here told sound = sound now (if_told reads images now here told)
+
+stopped_opening : (reads : Option Image) (status : Status) (chain : Chain) → (status ≡ NotAStore → IfSome reads (λ now. IsSound now → ⊥))
+    → IsSoundStoreOf reads (Keeps chain) → status ≡ NotAStore → ⊥
+stopped_opening reads status chain none found = sound_opening reads status found.0 none found.1 (chain, found.3 chain refl)
 
 pub by_disk_or_memory : (status : Status) → IsOneOf opening_stops status → (status ≡ NotAStore → ⊥) → IsOneOf (DiskFault ∷ NoMemory ∷ []) status
 by_disk_or_memory status (inl none) there = absurd (there none)
@@ -135,8 +178,9 @@ by_disk_or_memory status (inr later) there = later
 
 -- A command that opens the store. Its report and order are given for where there is none, and for a chain where the run was stopped.
 pub unopened : (command : Command) (reads : Option Image) (at_start at_exit meanwhile : Image → Type 0) (left : Option (List ℕ)) (status : Status)
+    → ((store : Store) → Finds (Some command) reads store → IsSoundStoreOf reads store)
     → IsOneOf opening_stops status
-    → (status ≡ NotAStore → IfSome reads (λ now. (chain : Chain) → store_of now ≡ Keeps chain → ⊥))
+    → (status ≡ NotAStore → IfSome reads (λ now. IsSound now → ⊥))
     → ((input : List ℕ) → report_of_command (Some command) input NoLog ≡ report_without_lines [] NotAStore)
     → ((input : List ℕ) → report_of_command (Some command) input NotALog ≡ report_without_lines [] NotAStore)
     → (FindsNoStore [] [] status → KeepsOrder (Some command) NoLog [] left [] status)
@@ -144,15 +188,19 @@ pub unopened : (command : Command) (reads : Option Image) (at_start at_exit mean
     → ((chain : Chain) → IsStop status → KeepsOrder (Some command) (Keeps chain) [] left [] status)
     → ((now : Image) → reads ≡ Some now → KeepsDisk (Some command) now at_start at_exit meanwhile [] [] status)
     → Delivers command reads at_start at_exit meanwhile left [] [] status
-unopened command reads at_start at_exit meanwhile left status one none no_log not_a_log order_none order_not order_stop disk = record { text = text; order = order; disk = disk }
+unopened command reads at_start at_exit meanwhile left status sound one none no_log not_a_log order_none order_not order_stop disk = record {
+  text = λ store finds. text store (sound store finds);
+  order = λ store finds. order store (sound store finds);
+  disk = disk;
+}
   where
-    text : (store : Store) → IsStoreOf reads store → MatchesReport (λ whole. report_of_command (Some command) whole store) [] left [] status
+    text : (store : Store) → IsSoundStoreOf reads store → MatchesReport (λ whole. report_of_command (Some command) whole store) [] left [] status
     text NoLog found = none_says (λ whole. report_of_command (Some command) whole NoLog) left status one no_log
     text NotALog found = none_says (λ whole. report_of_command (Some command) whole NotALog) left status one not_a_log
     text (Keeps chain) found =
         stop_says (λ whole. report_of_command (Some command) whole (Keeps chain)) left status (opening_stop status one (stopped_opening reads status chain none found))
 
-    order : (store : Store) → IsStoreOf reads store → KeepsOrder (Some command) store [] left [] status
+    order : (store : Store) → IsSoundStoreOf reads store → KeepsOrder (Some command) store [] left [] status
     order NoLog found = order_none (finds_none status one)
     order NotALog found = order_not (finds_none status one)
     order (Keeps chain) found = order_stop chain (opening_stop status one (stopped_opening reads status chain none found))

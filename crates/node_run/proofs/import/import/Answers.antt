@@ -1,18 +1,19 @@
 use Rattle.std.proofs.Common.{◌++◌, [], refl, ap, sym, subst, ◌∙◌}
 use Rattle.std.proofs.lemmas.List.{append-nil}
-use Rattle.std.specs.Prelude.{Err, string_bytes}
+use Rattle.std.specs.Prelude.{Err, string_bytes, if◌then◌else◌}
 use Rattle.outside.proofs.Streams.{gives_none, takes_none, takes_more}
 use Rattle.report_defs.specs.declared.command.Command.TheVariants.{Import}
 use Rattle.report_defs.specs.declared.status.Status.{Status}
-use Rattle.report_defs.specs.declared.status.Status.TheVariants.{NoMemory}
+use Rattle.report_defs.specs.declared.status.Status.TheVariants.{Done, SomeRefused, NoMemory}
 use Rattle.report_defs.specs.Items.{split_of}
-use Rattle.report_defs.specs.Report.{import_limits, closing_of_end}
+use Rattle.report_defs.specs.Report.{import_limits, closing_of_end, status_of_end}
 use Rattle.node_core.specs.Node.{IsOn}
 use Rattle.node_run.specs.Output.{IsToldAnswer}
 use Rattle.node_run.specs.Import.{text_over}
 use Rattle.node_run.proofs.Faults.{then_counts, counts_also}
-use Rattle.node_run.proofs.StoreLemmas.{delivers, keeps_opened, keeps_unopened, unopened, stopped_opening, by_disk_or_memory, if_told}
-use Rattle.node_run.proofs.ImportReport.{stopped_import, stopped_at_once, stopped_behind, stopped_acknowledges, stopped_take, ended_import, last_status, keeps_given, keeps_all_given}
+use Rattle.node_run.proofs.ImportLemmas.{joined_on, items_stop_import}
+use Rattle.node_run.proofs.StoreLemmas.{delivers, keeps_opened, keeps_unopened, opened_there, unopened, sound_opening, sound_here, by_disk_or_memory, if_told}
+use Rattle.node_run.proofs.ImportReport.{stopped_import, stopped_at_once, stopped_behind, stopped_acknowledges, stopped_take, ended_import, keeps_given, keeps_all_given}
 use Rattle.node_run.proofs.import.import.Goals as goal
 
 pub returns-in-Err-clause-import : goal.returns-in-Err-clause-import
@@ -25,18 +26,18 @@ returns-in-Err-clause-import g c = (
       let status = c.in-Err.status in
       let one = c.in-Err.ensures.one_of status refl in
       unopened Import (g.D.Disk.reads_as c.args.disk.now) (g.D.Disk.images c.args.disk.now) (g.D.Disk.images c.open.new.disk)
-      (g.D.Disk.left_since c.open.new.disk (g.D.Disk.moment c.args.disk.now)) left status one (λ e. c.in-Err.ensures.not_a_store (ap Err e)) (λ input. refl) (λ input. refl)
+      (g.D.Disk.left_since c.open.new.disk (g.D.Disk.moment c.args.disk.now)) left status (λ store found. found) one (λ e. c.in-Err.ensures.not_a_store (ap Err e)) (λ input. refl) (λ input. refl)
       (λ none. none) (λ none. none) (λ chain stop. stopped_at_once chain left status stop)
       (λ now told chain keeps sound. keeps_unopened g.D.Disk.images g.D.Disk.moment g.D.Disk.left_since g.met.D.Disk.counts_now c.args.disk.now c.open.new.disk chain
       (split_of import_limits []).items status
-      (by_disk_or_memory status one (stopped_opening (g.D.Disk.reads_as c.args.disk.now) status chain (λ e. c.in-Err.ensures.not_a_store (ap Err e)) (now, told, sym keeps)))
+      (by_disk_or_memory status one (sound_opening (g.D.Disk.reads_as c.args.disk.now) status now (λ e. c.in-Err.ensures.not_a_store (ap Err e)) told
+      (sound_here (g.D.Disk.reads_as c.args.disk.now) (g.D.Disk.images c.args.disk.now) now (g.met.D.Disk.reads_image c.args.disk.now) told sound)))
       (c.in-Err.ensures.moments now chain told keeps sound)),
 )
 
 pub returns-in-Err-import_items-clause-import : goal.returns-in-Err-import_items-clause-import
 returns-in-Err-import_items-clause-import g c =
     let came = c.in-Err-import_items.ensures.imported in
-    let are = came.4 in
     let chain = c.in-Ok.node.chain in
     let status = c.in-Err-import_items.status in
     let reads = g.D.Disk.reads_as c.args.disk.now in (
@@ -45,12 +46,13 @@ returns-in-Err-import_items-clause-import g c =
       came.2,
       came.3,
       delivers Import reads chain (g.D.Disk.images c.args.disk.now) (g.D.Disk.images c.import_items.new.disk)
-          (g.D.Disk.left_since c.import_items.new.disk (g.D.Disk.moment c.args.disk.now)) (g.S.Source.left c.import_items.new.input) came.0 came.1 status c.in-Ok.ensures.kept
-          (stopped_import chain are.items are.before are.rest came.0 came.1 (g.S.Source.left c.import_items.new.input) status are.are_given are.came)
+          (g.D.Disk.left_since c.import_items.new.disk (g.D.Disk.moment c.args.disk.now)) (g.S.Source.left c.import_items.new.input) came.0 came.1 status (λ store found. found) c.in-Ok.ensures.kept
+          (λ joined. let are = came.4 joined in stopped_import chain are.items are.before are.rest came.0 came.1 (g.S.Source.left c.import_items.new.input) status are.are_given are.came)
           (keeps_opened reads chain (split_of import_limits came.0).items (g.D.Disk.images c.args.disk.now) (g.D.Disk.images c.import_items.new.disk)
           (g.D.Disk.left_since c.import_items.new.disk (g.D.Disk.moment c.args.disk.now)) came.1 status c.in-Ok.ensures.kept
           (λ now told keeps sound.
           let on = if_told reads (λ _. IsOn c.in-Ok.node (g.D.Disk.reads_as c.open.new.disk) (g.D.Disk.images c.open.new.disk)) now (c.in-Ok.ensures.on sound) told in
+          let are = came.4 (joined_on c.in-Ok.node (g.D.Disk.reads_as c.open.new.disk) (g.D.Disk.images c.open.new.disk) on) in
           keeps_given g.D.Disk.images g.D.Disk.moment g.D.Disk.left_since g.met.D.Disk.counts_now c.args.disk.now c.open.new.disk c.import_items.new.disk chain
           are.items are.before are.rest came.0 came.1 status are.are_given
           (stopped_acknowledges chain status are.items are.before are.rest came.1 are.came) (stopped_take chain status are.items are.before are.rest came.1 are.came)
@@ -60,7 +62,6 @@ returns-in-Err-import_items-clause-import g c =
 pub returns-in-Err-answer_to_end-clause-import : goal.returns-in-Err-answer_to_end-clause-import
 returns-in-Err-answer_to_end-clause-import g c =
     let came = c.in-Ok-import_items.ensures.imported in
-    let are = came.4 in
     let chain = c.in-Ok.node.chain in
     let left = g.S.Source.left c.import_items.new.input in
     let reads = g.D.Disk.reads_as c.args.disk.now in (
@@ -69,13 +70,14 @@ returns-in-Err-answer_to_end-clause-import g c =
       came.2,
       came.3,
       delivers Import reads chain (g.D.Disk.images c.args.disk.now) (g.D.Disk.images c.import_items.new.disk)
-          (g.D.Disk.left_since c.import_items.new.disk (g.D.Disk.moment c.args.disk.now)) left came.0 came.1 NoMemory c.in-Ok.ensures.kept
-          (stopped_import chain are.items are.items are.rest came.0 came.1 left NoMemory are.are_given
+          (g.D.Disk.left_since c.import_items.new.disk (g.D.Disk.moment c.args.disk.now)) left came.0 came.1 NoMemory (λ store found. found) c.in-Ok.ensures.kept
+          (λ joined. let are = came.4 joined in stopped_import chain are.items are.items are.rest came.0 came.1 left NoMemory are.are_given
           (stopped_behind chain left c.in-Ok-import_items.ended are.items are.rest came.0 came.1 are.are_given are.came.1 NoMemory tt))
           (keeps_opened reads chain (split_of import_limits came.0).items (g.D.Disk.images c.args.disk.now) (g.D.Disk.images c.import_items.new.disk)
           (g.D.Disk.left_since c.import_items.new.disk (g.D.Disk.moment c.args.disk.now)) came.1 NoMemory c.in-Ok.ensures.kept
           (λ now told keeps sound.
           let on = if_told reads (λ _. IsOn c.in-Ok.node (g.D.Disk.reads_as c.open.new.disk) (g.D.Disk.images c.open.new.disk)) now (c.in-Ok.ensures.on sound) told in
+          let are = came.4 (joined_on c.in-Ok.node (g.D.Disk.reads_as c.open.new.disk) (g.D.Disk.images c.open.new.disk) on) in
           keeps_all_given g.D.Disk.images g.D.Disk.moment g.D.Disk.left_since g.met.D.Disk.counts_now c.args.disk.now c.open.new.disk c.import_items.new.disk chain
           are.items are.before are.rest came.0 came.1 NoMemory are.are_given are.came.0 [] (are.came.1.lines ∙ sym (append-nil (text_over chain are.items)))
           (c.in-Ok.ensures.moments now chain told keeps sound) (are.exit on) (are.moments on))),
@@ -84,28 +86,27 @@ returns-in-Err-answer_to_end-clause-import g c =
 pub returns-clause-import : goal.returns-clause-import
 returns-clause-import g c =
     let came = c.in-Ok-import_items.ensures.imported in
-    let are = came.4 in
     let told = c.tell.ensures.told in
     let chain = c.in-Ok.node.chain in
     let left = g.S.Source.left c.import_items.new.input in
     let reads = g.D.Disk.reads_as c.args.disk.now in
     let ended = c.in-Ok-import_items.ended in
     let answer = c.in-Ok-answer_to_end.answer in
-    let last : IsToldAnswer (closing_of_end ended.offset ended.end)
-    (last_status chain left ended are.items are.rest came.0 came.1 are.are_given are.came.1) c.tell.result told.0 =
-    subst (λ text. IsToldAnswer text (last_status chain left ended are.items are.rest came.0 came.1 are.are_given are.came.1) c.tell.result told.0) c.in-Ok-answer_to_end.ensures.text
+    let last : IsToldAnswer (closing_of_end ended.offset ended.end) (status_of_end (if ended.refused then SomeRefused else Done) ended.end) c.tell.result told.0 =
+    subst (λ text. IsToldAnswer text (status_of_end (if ended.refused then SomeRefused else Done) ended.end) c.tell.result told.0) c.in-Ok-answer_to_end.ensures.text
     (subst (λ (s : Status). IsToldAnswer (string_bytes answer.text) s c.tell.result told.0) c.in-Ok-answer_to_end.ensures.status told.2) in (
       came.0,
       came.1 ++ told.0,
       came.2,
       takes_more (g.K.Sink.taken c.args.out.now) (g.K.Sink.taken c.import_items.new.out) (g.K.Sink.taken c.tell.new.out) came.1 told.0 came.3 told.1,
       delivers Import reads chain (g.D.Disk.images c.args.disk.now) (g.D.Disk.images c.import_items.new.disk)
-          (g.D.Disk.left_since c.import_items.new.disk (g.D.Disk.moment c.args.disk.now)) left came.0 (came.1 ++ told.0) c.tell.result c.in-Ok.ensures.kept
-          (ended_import chain left ended are.items are.rest came.0 came.1 are.are_given are.came.1 told.0 c.tell.result last)
+          (g.D.Disk.left_since c.import_items.new.disk (g.D.Disk.moment c.args.disk.now)) left came.0 (came.1 ++ told.0) c.tell.result (λ store found. found) c.in-Ok.ensures.kept
+          (λ joined. let are = came.4 joined in ended_import chain left ended are.items are.rest came.0 came.1 are.are_given are.came.1 told.0 c.tell.result last)
           (keeps_opened reads chain (split_of import_limits came.0).items (g.D.Disk.images c.args.disk.now) (g.D.Disk.images c.import_items.new.disk)
           (g.D.Disk.left_since c.import_items.new.disk (g.D.Disk.moment c.args.disk.now)) (came.1 ++ told.0) c.tell.result c.in-Ok.ensures.kept
           (λ now known keeps sound.
           let on = if_told reads (λ _. IsOn c.in-Ok.node (g.D.Disk.reads_as c.open.new.disk) (g.D.Disk.images c.open.new.disk)) now (c.in-Ok.ensures.on sound) known in
+          let are = came.4 (joined_on c.in-Ok.node (g.D.Disk.reads_as c.open.new.disk) (g.D.Disk.images c.open.new.disk) on) in
           keeps_all_given g.D.Disk.images g.D.Disk.moment g.D.Disk.left_since g.met.D.Disk.counts_now c.args.disk.now c.open.new.disk c.import_items.new.disk chain
           are.items are.before are.rest came.0 (came.1 ++ told.0) c.tell.result are.are_given are.came.0 told.0 (ap (λ bs. bs ++ told.0) are.came.1.lines)
           (c.in-Ok.ensures.moments now chain known keeps sound) (are.exit on) (are.moments on))),
@@ -121,3 +122,15 @@ pub returns-in-Err-import_items-clause-disk_faults : goal.returns-in-Err-import_
 returns-in-Err-import_items-clause-disk_faults g c =
     then_counts (g.D.Disk.faults c.args.disk.now) (g.D.Disk.faults c.open.new.disk) (g.D.Disk.faults c.import_items.new.disk)
     (c.in-Ok.ensures.cause.unchanged (λ e. cc)) c.in-Err-import_items.ensures.disk_faults (λ e. ap Err e) (λ e. cc)
+
+pub returns-in-Err-import_items-clause-status : goal.returns-in-Err-import_items-clause-status
+returns-in-Err-import_items-clause-status g c = items_stop_import c.in-Err-import_items.status (c.in-Err-import_items.ensures.status c.in-Err-import_items.status refl)
+
+pub returns-in-Err-import_items-clause-no_log : goal.returns-in-Err-import_items-clause-no_log
+returns-in-Err-import_items-clause-no_log g c = λ now told none. absurd (opened_there (g.D.Disk.reads_as c.args.disk.now) c.in-Ok.node.chain now c.in-Ok.ensures.kept told none)
+
+pub returns-in-Err-answer_to_end-clause-no_log : goal.returns-in-Err-answer_to_end-clause-no_log
+returns-in-Err-answer_to_end-clause-no_log g c = λ now told none. absurd (opened_there (g.D.Disk.reads_as c.args.disk.now) c.in-Ok.node.chain now c.in-Ok.ensures.kept told none)
+
+pub returns-clause-no_log : goal.returns-clause-no_log
+returns-clause-no_log g c = λ now told none. absurd (opened_there (g.D.Disk.reads_as c.args.disk.now) c.in-Ok.node.chain now c.in-Ok.ensures.kept told none)

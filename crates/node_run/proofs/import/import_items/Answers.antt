@@ -1,4 +1,4 @@
-use Rattle.std.proofs.Common.{◌≡◌, length, ap, sym, ◌∙◌, arith, refl, subst, []}
+use Rattle.std.proofs.Common.{◌≡◌, ◌∷◌, inr, length, ap, sym, ◌∙◌, arith, refl, subst, []}
 use Rattle.std.specs.Prelude.{Err, Some, ◌||◌}
 use Rattle.outside.proofs.Streams.{gives_none, takes_none}
 use Rattle.outside.proofs.Moments.{leaves_also}
@@ -6,9 +6,10 @@ use Rattle.report_defs.specs.declared.status.Status.TheVariants.{InputFault, Sin
 use Rattle.report_defs.specs.Report.{item_limit, input_limit}
 use Rattle.verdict_defs.specs.Verdict as rules
 use Rattle.item_reader.specs.Items.{IsReadingStop, IsItemAt}
-use Rattle.node_run.specs.Output.{IsWritingStop}
+use Rattle.report_defs.specs.Status.{IsOneOf}
+use Rattle.node_run.specs.Import.{item_stops}
 use Rattle.node_run.proofs.Faults.{no_fault, then_counts}
-use Rattle.node_run.proofs.ImportLemmas.{whole_more, imported_to_end, imported_to_fault, imported_to_line, leaves_none, leaves_item, exit_of_item, on_stands, keeps_more, or_then, or_else, item_limit-is, input_limit-is}
+use Rattle.node_run.proofs.ImportLemmas.{whole_more, imported_to_end, imported_to_fault, imported_to_line, leaves_none, leaves_item, exit_of_item, on_stands, joined_on, no_input_fault, reading_stopped, keeps_more, or_then, or_else, item_limit-is, input_limit-is}
 use Rattle.node_run.proofs.import.import_items.Goals as goal
 use Rattle.node_run.proofs.import.import_items.Goals.{then-refused, else-refused}
 
@@ -16,13 +17,16 @@ pub items-init : goal.items-init
 items-init g c = record {
   whole = record {
     items = [];
+    taken = [];
     gives = gives_none (g.S.Source.left c.args.input.now);
     takes = takes_none (g.K.Sink.taken c.args.out.now);
     all = tt;
     place = refl;
     within = omega (arith, input_limit-is);
-    kept_now = refl;
-    any_refused = refl;
+    joined = λ joined. joined;
+    lines = λ joined. refl;
+    kept_now = λ joined. refl;
+    any_refused = λ joined. refl;
     on = λ on. on;
     moments = λ on. leaves_none g.D.Disk.images g.D.Disk.moment g.D.Disk.left_since g.met.D.Disk.counts_now g.met.D.Disk.only_now c.args.disk.now c.args.opened
         (g.D.Disk.reads_as c.args.disk.now) on;
@@ -64,10 +68,12 @@ returns-in-Err-import_item-clause-imported g c =
     imported_to_line c.args.opened.chain c.items.offset (g.S.Source.left c.args.input.now) (g.S.Source.left c.items.input) (g.S.Source.left c.next_block.new.input)
     (g.K.Sink.taken c.args.out.now) (g.K.Sink.taken c.items.out) (g.K.Sink.taken c.import_item.new.out) c.items.node.chain c.items.refused _ _ _ _ _
     c.in-Err-import_item.status c.deref.result.now next.0 written.0 whole at next.1 written.1 written.2
-    (λ on. exit_of_item g.D.Disk.images g.D.Disk.moment g.D.Disk.left_since g.met.D.Disk.counts_now c.items.disk c.import_item.new.disk c.args.opened.chain c.items.node.chain
-    whole.items c.deref.result.now whole.kept_now (c.in-Err-import_item.ensures.moments on))
+    (λ joined on. exit_of_item g.D.Disk.images g.D.Disk.moment g.D.Disk.left_since g.met.D.Disk.counts_now c.items.disk c.import_item.new.disk c.args.opened.chain c.items.node.chain
+    whole.items c.deref.result.now (whole.kept_now joined) (c.in-Err-import_item.ensures.moments on))
     (λ was. leaves_item g.D.Disk.images g.D.Disk.moment g.D.Disk.left_since g.met.D.Disk.counts_now c.args.disk.now c.items.disk c.import_item.new.disk c.args.opened.chain
-    c.items.node.chain whole.items c.deref.result.now whole.kept_now (whole.moments was) (c.in-Err-import_item.ensures.moments (whole.on was)))
+    c.items.node.chain whole.items c.deref.result.now
+    (whole.kept_now (joined_on c.args.opened (g.D.Disk.reads_as c.args.disk.now) (g.D.Disk.images c.args.disk.now) was))
+    (whole.moments was) (c.in-Err-import_item.ensures.moments (whole.on was)))
 
 pub returns-in-Err-clause-input_faults : goal.returns-in-Err-clause-input_faults
 returns-in-Err-clause-input_faults g c =
@@ -89,7 +95,8 @@ pub returns-in-Err-import_item-clause-input_faults : goal.returns-in-Err-import_
 returns-in-Err-import_item-clause-input_faults g c =
     no_fault (g.S.Source.faults c.args.input.now) (g.S.Source.faults c.next_block.new.input)
     (c.in-Ok-Item.ensures.faults.unchanged (λ e. (cc)) ∙ c.items.invariant.input_unchanged)
-    (λ e. let is : c.in-Err-import_item.status ≡ InputFault = cc in subst IsWritingStop is c.in-Err-import_item.ensures.written.2.stop)
+    (λ e. let is : c.in-Err-import_item.status ≡ InputFault = cc in
+    no_input_fault c.in-Err-import_item.status (c.in-Err-import_item.ensures.status c.in-Err-import_item.status refl) is)
 
 pub returns-in-Err-import_item-clause-out_faults : goal.returns-in-Err-import_item-clause-out_faults
 returns-in-Err-import_item-clause-out_faults g c =
@@ -102,6 +109,16 @@ returns-in-Err-import_item-clause-disk_faults g c =
     then_counts (g.D.Disk.faults c.args.disk.now) (g.D.Disk.faults c.items.disk) (g.D.Disk.faults c.import_item.new.disk)
     c.items.invariant.disk_unchanged c.in-Err-import_item.ensures.disk_faults
     (λ e. let is : c.in-Err-import_item.status ≡ DiskFault = cc in ap Err is) (λ e. let is : c.in-Err-import_item.status ≡ DiskFault = cc in ap Err is)
+
+pub returns-in-Err-clause-status : goal.returns-in-Err-clause-status
+returns-in-Err-clause-status g c = λ status e.
+    let same : c.in-Err.status ≡ status = cc in
+    subst (λ s. IsOneOf (InputFault ∷ item_stops) s) same (reading_stopped c.in-Err.status c.in-Err.ensures.next.2.0)
+
+pub returns-in-Err-import_item-clause-status : goal.returns-in-Err-import_item-clause-status
+returns-in-Err-import_item-clause-status g c = λ status e.
+    let same : c.in-Err-import_item.status ≡ status = cc in
+    subst (λ s. IsOneOf (InputFault ∷ item_stops) s) same (inr (c.in-Err-import_item.ensures.status c.in-Err-import_item.status refl))
 
 pub import_item-requires-clause-size : goal.import_item-requires-clause-size
 import_item-requires-clause-size g c =
@@ -144,7 +161,8 @@ items-preserved g c =
           _ _ _ _ _ item next.0 written.0 c.in-Ok.answer.1 c.len.result c.if-refused.refused size any
           whole at next.1 written.1 c.in-Ok.ensures.verdict c.in-Ok.ensures.kept written.2 c.in-Ok.ensures.on
           (λ was. leaves_item g.D.Disk.images g.D.Disk.moment g.D.Disk.left_since g.met.D.Disk.counts_now c.args.disk.now c.items.disk c.import_item.new.disk c.args.opened.chain
-          c.items.node.chain whole.items item whole.kept_now (whole.moments was) (c.in-Ok.ensures.moments (whole.on was)));
+          c.items.node.chain whole.items item (whole.kept_now (joined_on c.args.opened (g.D.Disk.reads_as c.args.disk.now) (g.D.Disk.images c.args.disk.now) was))
+          (whole.moments was) (c.in-Ok.ensures.moments (whole.on was)));
       there = c.in-Ok.ensures.there;
       input_unchanged = c.in-Ok-Item.ensures.faults.unchanged (λ e. (cc)) ∙ c.items.invariant.input_unchanged;
       out_unchanged = c.in-Ok.ensures.out_faults.unchanged (λ e. (cc)) ∙ c.items.invariant.out_unchanged;

@@ -1,10 +1,10 @@
-use Rattle.std.proofs.Common.{[], subst}
+use Rattle.std.proofs.Common.{[], subst, sym}
 use Rattle.std.specs.Prelude.{Option}
 use Rattle.outside.proofs.Streams.{gives_none, takes_none}
 use Rattle.report_defs.specs.declared.command.Command.{Command}
 use Rattle.report_defs.specs.declared.status.Status.TheVariants.{BadWords}
-use Rattle.report_defs.specs.Survival.{IsPromised}
-use Rattle.node_run.proofs.RunLemmas.{import_promised, tip_promised, init_promised, exec_promised, words_promised}
+use Rattle.report_defs.specs.Survival.{IsPromised, OpensStore}
+use Rattle.node_run.proofs.RunLemmas.{import_promised, tip_promised, check_promised, init_promised, exec_promised, words_promised}
 use Rattle.node_run.proofs.top.run.Goals as goal
 
 pub returns-in-Some-Init-clause-run : goal.returns-in-Some-Init-clause-run
@@ -51,6 +51,21 @@ returns-in-Some-Tip-clause-run g c =
           (g.met.D.Disk.reads_image c.args.disk.now) told.2),
     )
 
+pub returns-in-Some-Check-clause-run : goal.returns-in-Some-Check-clause-run
+returns-in-Some-Check-clause-run g c =
+    let is = rw c.in-Some-Check.field-0-is at c.in-Some-Check.ensures.command in
+    let kept = c.check.ensures.check in (
+      kept.0,
+      kept.1,
+      kept.2,
+      kept.3,
+      subst (λ (o : Option Command). IsPromised o (g.D.Disk.reads_as c.args.disk.now) (g.D.Disk.images c.args.disk.now) (g.D.Disk.images c.check.new.disk)
+          (g.D.Disk.left_since c.check.new.disk (g.D.Disk.moment c.args.disk.now)) (g.S.Source.left c.check.new.input) kept.0 kept.1 c.check.result) is
+          (check_promised (g.D.Disk.reads_as c.args.disk.now) (g.D.Disk.images c.args.disk.now) (g.D.Disk.images c.check.new.disk)
+          (g.D.Disk.left_since c.check.new.disk (g.D.Disk.moment c.args.disk.now)) (g.S.Source.left c.check.new.input) kept.0 kept.1 c.check.result
+          (g.met.D.Disk.reads_image c.args.disk.now) kept.4),
+    )
+
 pub returns-in-Some-Exec-clause-run : goal.returns-in-Some-Exec-clause-run
 returns-in-Some-Exec-clause-run g c =
     let is = rw c.in-Some-Exec.field-0-is at c.in-Some-Exec.ensures.command in
@@ -76,3 +91,30 @@ returns-in-None-clause-run g c = (
       (words_promised g.D.Disk.reads_as g.D.Disk.images g.D.Disk.moment g.D.Disk.left_since g.met.D.Disk.reads_image g.met.D.Disk.only_now c.args.disk.now
       (g.S.Source.left c.args.input.now)),
 )
+
+pub returns-in-Some-Import-clause-loses_nothing : goal.returns-in-Some-Import-clause-loses_nothing
+returns-in-Some-Import-clause-loses_nothing g c = λ now told none opens. c.import.ensures.no_log now told none
+
+pub returns-in-Some-Import-clause-steps : goal.returns-in-Some-Import-clause-steps
+returns-in-Some-Import-clause-steps g c = λ never. absurd (never (subst OpensStore (rw c.in-Some-Import.field-0-is at c.in-Some-Import.ensures.command) tt))
+
+pub returns-in-Some-Tip-clause-loses_nothing : goal.returns-in-Some-Tip-clause-loses_nothing
+returns-in-Some-Tip-clause-loses_nothing g c = λ now told none opens. c.tip.ensures.no_log now told none
+
+pub returns-in-Some-Tip-clause-steps : goal.returns-in-Some-Tip-clause-steps
+returns-in-Some-Tip-clause-steps g c = λ never. absurd (never (subst OpensStore (rw c.in-Some-Tip.field-0-is at c.in-Some-Tip.ensures.command) tt))
+
+pub returns-in-Some-Check-clause-loses_nothing : goal.returns-in-Some-Check-clause-loses_nothing
+returns-in-Some-Check-clause-loses_nothing g c = λ now told none opens. c.check.ensures.no_log now told none
+
+pub returns-in-Some-Check-clause-steps : goal.returns-in-Some-Check-clause-steps
+returns-in-Some-Check-clause-steps g c = λ never. absurd (never (subst OpensStore (rw c.in-Some-Check.field-0-is at c.in-Some-Check.ensures.command) tt))
+
+pub returns-in-Some-Init-clause-loses_nothing : goal.returns-in-Some-Init-clause-loses_nothing
+returns-in-Some-Init-clause-loses_nothing g c = λ now told none opens. absurd (subst OpensStore (sym (rw c.in-Some-Init.field-0-is at c.in-Some-Init.ensures.command)) opens)
+
+pub returns-in-Some-Exec-clause-loses_nothing : goal.returns-in-Some-Exec-clause-loses_nothing
+returns-in-Some-Exec-clause-loses_nothing g c = λ now told none opens. absurd (subst OpensStore (sym (rw c.in-Some-Exec.field-0-is at c.in-Some-Exec.ensures.command)) opens)
+
+pub returns-in-None-clause-loses_nothing : goal.returns-in-None-clause-loses_nothing
+returns-in-None-clause-loses_nothing g c = λ now told none opens. absurd (subst OpensStore (sym c.in-None.ensures.command) opens)
