@@ -185,7 +185,7 @@ module _ {D : Type 0} (reads_as : D → Option Image) (images : D → Image → 
       → IfSome (reads_as old) (λ now. store_of now ≡ Keeps node.chain)
       → (((image : Image) → images old image → IsSound image) → IfSome (reads_as old) (λ _. IsOn node (reads_as new) (images new)))
       → ((now : Image) (chain : Chain) → reads_as old ≡ Some now → store_of now ≡ Keeps chain → ((image : Image) → images old image → IsSound image)
-          → LeavesOnly moment left_since old new (λ image. images old image ⊎ StandsFor chain image))
+      → LeavesOnly moment left_since old new (λ image. images old image ⊎ StandsFor chain image))
       → (IsJoined node.chain → IsChecked node.chain given left taken status)
       → DeliversCheck (reads_as old) (images old) (images new) (left_since new (moment old)) left given taken status
   check_opened old new node left given taken status kept on moments says = record {
@@ -204,7 +204,7 @@ module _ {D : Type 0} (reads_as : D → Option Image) (images : D → Image → 
   pub check_unopened : (old new : D) (left : Option (List ℕ)) (status : Status) → IsOneOf opening_stops status
       → (status ≡ NotAStore → IfSome (reads_as old) (λ now. IsSound now → ⊥)) → IfSome (reads_as old) (images old)
       → ((now : Image) (chain : Chain) → reads_as old ≡ Some now → store_of now ≡ Keeps chain → ((image : Image) → images old image → IsSound image)
-          → LeavesOnly moment left_since old new (λ image. images old image ⊎ StandsFor chain image))
+      → LeavesOnly moment left_since old new (λ image. images old image ⊎ StandsFor chain image))
       → DeliversCheck (reads_as old) (images old) (images new) (left_since new (moment old)) left [] [] status
   check_unopened old new left status one none here moments = record {
     delivers = unopened Check (reads_as old) (images old) (images new) (left_since new (moment old)) left status (λ store found. found) one none
