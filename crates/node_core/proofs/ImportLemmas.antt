@@ -1,5 +1,5 @@
 -- An item that joins: it can, its record is its own, and what is kept with it.
-use Rattle.std.proofs.Common.{◌≡◌, ℕ, ◌+◌, ◌-◌, ◌*◌, ◌<◌, ◌≤◌, ◌^◌, List, [], ◌∷◌, ◌++◌, length, Option, Some, sym, ap, ◌∙◌, subst, arith}
+use Rattle.std.proofs.Common.{◌≡◌, ℕ, ◌+◌, ◌-◌, ◌<◌, ◌≤◌, ◌^◌, List, [], ◌∷◌, ◌++◌, length, Option, Some, sym, ap, ◌∙◌, subst, arith}
 use Rattle.std.specs.Prelude.{false, IsTrue, IfSome}
 use Rattle.std.proofs.lemmas.List.{length_push}
 use Rattle.codec_defs.specs.Shape.{decoded}
@@ -10,7 +10,7 @@ use Rattle.cell_model.specs.ListBlocks.{IsExtFor}
 use Rattle.block_defs.specs.Ext.{ext_of}
 use Rattle.verdict_defs.specs.Verdict.{kept_limit, joins}
 use Rattle.verdict_defs.specs.Chain.{Chain, chain_after, verdict_over}
-use Rattle.verdict_defs.specs.Laws.{MayJoin, CanJoin}
+use Rattle.verdict_defs.specs.Laws.{CanJoin}
 use Rattle.verdict_defs.specs.declared.verdict.Verdict.TheVariants.{Joined}
 use Rattle.verdict_defs.proofs.VerdictLaws.{verdict-joined, keeps-what-joins, kept_after-stays}
 use Rattle.store_defs.specs.LogLaws.{record_over}

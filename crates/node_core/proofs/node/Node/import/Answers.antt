@@ -1,6 +1,5 @@
-use Rattle.std.proofs.Common.{rules, ◌≡◌, ◌⊎◌, Ok, Err, arith, ap, sym, ◌∙◌, subst}
+use Rattle.std.proofs.Common.{rules, ◌≡◌, ◌⊎◌, Ok, arith, ap, sym, ◌∙◌, subst}
 use Rattle.outside.specs.Disk.{LeavesOnly}
-use Rattle.outside.specs.declared.disk.ReadStop.TheVariants.{DiskFault}
 use Rattle.chain_defs.specs.Kept.{place_of}
 use Rattle.chain_defs.specs.Tip.{tip_place}
 use Rattle.verdict_defs.specs.Verdict.{joins}

@@ -4,7 +4,6 @@ use Rattle.outside.proofs.Moments.{leaves_also, now_too}
 use Rattle.cell_defs.specs.Ext.{ext_bytes}
 use Rattle.verdict_defs.specs.Chain.{Chain, chain_after}
 use Rattle.verdict_defs.specs.Laws.{MayJoin}
-use Rattle.store_defs.specs.Log.{Record}
 use Rattle.store_defs.specs.LogLaws.{record_over}
 use Rattle.store_defs.specs.Store.{IsJoined}
 use Rattle.log_file.specs.Pieces.{behind_gate, block_record}
@@ -50,7 +49,7 @@ invariant_of-result g c =
     let seen : c.self.inside.kept ≡ c.args.self.chain = ap (λ (v : NodeValue). v.chain) c.self.view_is in (
       few_after c.self.inside.kept c.args.self.chain c.in_ok-kept.kept c.args.item.now c.args.joining seen c.in_ok-kept.ensures.kept c.requires.ready,
       within_after c.self.inside.kept c.args.self.chain c.in_ok-kept.kept c.args.item.now c.args.joining seen c.in_ok-kept.ensures.kept c.requires.ready
-      c.self.inside.log.place c.in-Ok-append.log.place (length c.fill.new.body) c.self.invariant.1 c.in-Ok-append.ensures.place c.in-Ok.ensures.short,
+          c.self.inside.log.place c.in-Ok-append.log.place (length c.fill.new.body) c.self.invariant.1 c.in-Ok-append.ensures.place c.in-Ok.ensures.short,
     )
 
 pub returns-in_err-kept-clause-undamaged : goal.returns-in_err-kept-clause-undamaged
