@@ -10,7 +10,7 @@ use Rattle.verdict_defs.specs.Chain.{Chain}
 use Rattle.verdict_defs.specs.Trial.{trial, trial_of}
 use Rattle.verdict_defs.specs.declared.trial.Trial.{Trial}
 use Rattle.verdict_defs.specs.declared.trial.Trial.TheVariants.{Passes, Refused}
-use Rattle.store_defs.specs.Store.{Store, NoLog, NotALog, Keeps, store_of, StandsFor, IsSound, IsJoined}
+use Rattle.store_defs.specs.Store.{Keeps, store_of, StandsFor, IsSound, IsJoined}
 use Rattle.store_defs.proofs.JoinedLemmas.{joined_of_image}
 use Rattle.report_defs.specs.declared.command.Command.TheVariants.{Check}
 use Rattle.report_defs.specs.declared.status.Status.{Status}
@@ -18,20 +18,20 @@ use Rattle.report_defs.specs.declared.status.Status.TheVariants.{Done, SomeRefus
 use Rattle.report_defs.specs.declared.end.End.{End}
 use Rattle.report_defs.specs.declared.end.End.TheVariants as ends
 use Rattle.report_defs.specs.Status.{IsOneOf}
-use Rattle.report_defs.specs.Items.{Split, AreItems, split_of, end_offset}
+use Rattle.report_defs.specs.Items.{Split, AreItems, split_of}
 use Rattle.report_defs.specs.Text.{trial_line}
-use Rattle.report_defs.specs.Report.{Report, text_of, check_limits, check_item_limit, status_of_trial, report_of_trial, report_of_first, report_of_check, report_of_end, report_of_command}
-use Rattle.report_defs.specs.Promise.{IsPrefix, MatchesReport, ChecksInOrder, KeepsOrder, IsSoundStoreOf, FindsNoStore}
+use Rattle.report_defs.specs.Report.{Report, text_of, check_limits, check_item_limit, status_of_trial, report_of_trial, report_of_first, report_of_check, report_of_end}
+use Rattle.report_defs.specs.Promise.{IsPrefix, MatchesReport, ChecksInOrder}
 use Rattle.report_defs.proofs.ItemLemmas.{split_of-is, end_at-nothing}
 use Rattle.item_reader.specs.Items.{EndsAt}
 use Rattle.node_core.specs.Node.{NodeValue, IsOn}
 use Rattle.node_run.specs.Check.{DeliversCheck, IsOne, EndsBeforeOne}
 use Rattle.node_run.specs.Import.{IsStop}
 use Rattle.node_run.specs.Output.{IsSaid, IsToldAnswer, IsWritingStop}
-use Rattle.node_run.specs.Store.{Delivers, opening_stops}
+use Rattle.node_run.specs.Store.{opening_stops}
 use Rattle.node_run.proofs.ImportLemmas.{on_stands}
 use Rattle.node_run.proofs.InitLemmas.{said_text, said_silent, no_stop, all_given}
-use Rattle.node_run.proofs.StoreLemmas.{if_told, same_chain, store_of_stands, keeps_opened, keeps_read, keeps_unopened, none_says, stop_says, by_disk_or_memory}
+use Rattle.node_run.proofs.StoreLemmas.{if_told, same_chain, store_of_stands, delivers, unopened, sound_opening, sound_here, keeps_opened, keeps_read, keeps_unopened, by_disk_or_memory}
 use Rattle.node_run.proofs.Statuses.{IsEarly, not_early, stop_not_reported, stop_not_done, stop_not_ended, writing_stops, opening_stop, only_at_end}
 
 -- ---- What was read
@@ -163,9 +163,6 @@ memory_stop status (inr (inr never)) sound = absurd never
 
 -- ---- What is delivered of a store
 
-finds_none : (status : Status) → IsOneOf opening_stops status → FindsNoStore [] [] status
-finds_none status one = record { untouched = record { unread = refl; unwritten = refl }; answer = one }
-
 module _ {D : Type 0} (reads_as : D → Option Image) (images : D → Image → Type 0) (moment : D → ℕ) (left_since : D → ℕ → Image → Type 0)
     (counts_now : (disk : D) (t : ℕ) (image : Image) → t ≤ moment disk → images disk image → left_since disk t image) where
   -- the store was opened
@@ -177,29 +174,17 @@ module _ {D : Type 0} (reads_as : D → Option Image) (images : D → Image → 
       → (IsJoined node.chain → IsChecked node.chain given left taken status)
       → DeliversCheck (reads_as old) (images old) (images new) (left_since new (moment old)) left given taken status
   check_opened old new node left given taken status kept on moments says = record {
-    delivers = delivers;
+    delivers = delivers Check (reads_as old) node.chain (images old) (images new) (left_since new (moment old)) left given taken status (λ store found. found) kept
+        (λ joined. ((says joined).0, (says joined).1))
+        (keeps_opened (reads_as old) node.chain [] (images old) (images new) (left_since new (moment old)) taken status kept
+        (λ now told keeps sound. keeps_read images moment left_since counts_now old new node.chain taken status (moments now node.chain told keeps sound)
+        (on_stands node node.chain (reads_as new) (images new) refl
+        (if_told (reads_as old) (λ _. IsOn node (reads_as new) (images new)) now (on sound) told))));
     answers = λ now chain told stands done.
         let here : node.chain ≡ chain = same_chain node.chain chain
             (sym (if_told (reads_as old) (λ image. store_of image ≡ Keeps node.chain) now kept told) ∙ store_of_stands chain now stands) in
         subst (λ (k : Chain). taken ≡ text_of (full k given)) here ((says (subst IsJoined (sym here) (joined_of_image chain now stands))).2 done);
   }
-    where
-      same : (store : Store) → IsSoundStoreOf (reads_as old) store → store ≡ Keeps node.chain
-      same store found = found.2 ∙ if_told (reads_as old) (λ now. store_of now ≡ Keeps node.chain) found.0 kept found.1
-
-      joined : (store : Store) → IsSoundStoreOf (reads_as old) store → IsJoined node.chain
-      joined store found = joined_of_image node.chain found.0 (found.3 node.chain (same store found))
-
-      delivers : Delivers Check (reads_as old) (images old) (images new) (left_since new (moment old)) left given taken status
-      delivers = record {
-        text = λ store found.
-            subst (λ (s : Store). MatchesReport (λ whole. report_of_command (Some Check) whole s) given left taken status) (sym (same store found)) (says (joined store found)).0;
-        order = λ store found. subst (λ (s : Store). KeepsOrder (Some Check) s given left taken status) (sym (same store found)) (says (joined store found)).1;
-        disk = keeps_opened (reads_as old) node.chain [] (images old) (images new) (left_since new (moment old)) taken status kept
-            (λ now told keeps sound. keeps_read images moment left_since counts_now old new node.chain taken status (moments now node.chain told keeps sound)
-            (on_stands node node.chain (reads_as new) (images new) refl
-            (if_told (reads_as old) (λ _. IsOn node (reads_as new) (images new)) now (on sound) told)));
-      }
 
   -- none was opened
   pub check_unopened : (old new : D) (left : Option (List ℕ)) (status : Status) → IsOneOf opening_stops status
@@ -208,28 +193,11 @@ module _ {D : Type 0} (reads_as : D → Option Image) (images : D → Image → 
           → LeavesOnly moment left_since old new (λ image. images old image ⊎ StandsFor chain image))
       → DeliversCheck (reads_as old) (images old) (images new) (left_since new (moment old)) left [] [] status
   check_unopened old new left status one none here moments = record {
-    delivers = record {
-      text = text;
-      order = order;
-      disk = λ now told chain keeps sound. keeps_unopened images moment left_since counts_now old new chain [] status
-          (by_disk_or_memory status one (λ e. there now told (sound now (if_told (reads_as old) (images old) now here told)) e))
-          (moments now chain told keeps sound);
-    };
-    answers = λ now chain told stands done. absurd (stop_not_done status (opening_stop status one (there now told (chain, stands))) done);
+    delivers = unopened Check (reads_as old) (images old) (images new) (left_since new (moment old)) left status (λ store found. found) one none
+        (λ input. refl) (λ input. refl) (λ none. none) (λ none. none) (λ chain stop. (check_stopped chain left [] status stop).1)
+        (λ now told chain keeps sound. keeps_unopened images moment left_since counts_now old new chain [] status
+        (by_disk_or_memory status one (sound_opening (reads_as old) status now none told (sound_here (reads_as old) (images old) now here told sound)))
+        (moments now chain told keeps sound));
+    answers = λ now chain told stands done.
+        absurd (stop_not_done status (opening_stop status one (sound_opening (reads_as old) status now none told (chain, stands))) done);
   }
-    where
-      there : (now : Image) → reads_as old ≡ Some now → IsSound now → status ≡ NotAStore → ⊥
-      there now told sound e = if_told (reads_as old) (λ image. IsSound image → ⊥) now (none e) told sound
-
-      stop : (chain : Chain) → IsSoundStoreOf (reads_as old) (Keeps chain) → IsStop status
-      stop chain found = opening_stop status one (there found.0 found.1 (chain, found.3 chain refl))
-
-      text : (store : Store) → IsSoundStoreOf (reads_as old) store → MatchesReport (λ whole. report_of_command (Some Check) whole store) [] left [] status
-      text NoLog found = none_says (λ whole. report_of_command (Some Check) whole NoLog) left status one (λ input. refl)
-      text NotALog found = none_says (λ whole. report_of_command (Some Check) whole NotALog) left status one (λ input. refl)
-      text (Keeps chain) found = stop_says (λ whole. report_of_command (Some Check) whole (Keeps chain)) left status (stop chain found)
-
-      order : (store : Store) → IsSoundStoreOf (reads_as old) store → KeepsOrder (Some Check) store [] left [] status
-      order NoLog found = finds_none status one
-      order NotALog found = finds_none status one
-      order (Keeps chain) found = (check_stopped chain left [] status (stop chain found)).1

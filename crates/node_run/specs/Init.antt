@@ -1,5 +1,5 @@
 -- The parts of `init`: what was read, and what is said of it.
-use Rattle.std.specs.Prelude.{◌≡◌, ◌⊎◌, ℕ, ◌≤◌, List, [], ◌∷◌, ◌++◌, length, Option, Some, Result, Ok, Err}
+use Rattle.std.specs.Prelude.{◌≡◌, ℕ, ◌≤◌, List, [], ◌∷◌, ◌++◌, length, Option, Some, Result, Ok, Err}
 use Rattle.std.specs.Io.KnownBytes.{IsAtEnd}
 use Rattle.outside.specs.Image.{Image}
 use Rattle.verdict_defs.specs.Chain.{chain_of_genesis}
@@ -10,7 +10,7 @@ use Rattle.report_defs.specs.declared.status.Status.{Status}
 use Rattle.report_defs.specs.declared.status.Status.TheVariants.{Done, SinkFault, DiskFault, NoMemory, BadGenesis}
 use Rattle.report_defs.specs.Items.{IsItem, split_of, end_offset}
 use Rattle.report_defs.specs.Text.{bad_spec_line, bad_genesis_line}
-use Rattle.report_defs.specs.Report.{Report, text_of, item_limit, genesis_limit, init_limits, report_of_init, report_of_end}
+use Rattle.report_defs.specs.Report.{item_limit, genesis_limit, init_limits, report_of_init, report_of_end}
 use Rattle.item_reader.specs.Items.{IsReadingStop}
 use Rattle.node_core.specs.declared.new_store.NewStop.{NewStop}
 use Rattle.node_core.specs.declared.new_store.NewStop.TheVariants as stops

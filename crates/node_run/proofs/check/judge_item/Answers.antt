@@ -1,4 +1,4 @@
-use Rattle.std.proofs.Common.{◌≡◌, ap, sym, ◌∙◌}
+use Rattle.std.proofs.Common.{ap, sym, ◌∙◌}
 use Rattle.std.specs.Prelude.{Some, None, Err}
 use Rattle.node_run.proofs.CheckLemmas.{trial_of_bytes}
 use Rattle.node_run.proofs.check.judge_item.Goals as goal
