@@ -1,6 +1,6 @@
 -- What `check` read, told and left at each exit.
-use Rattle.std.proofs.Common.{◌≡◌, ◌⊎◌, inl, inr, ℕ, ◌≤◌, false, List, [], ◌∷◌, ◌++◌, length, refl, ap, sym, ◌∙◌, subst, arith, append_assoc, append-nil, length-append}
-use Rattle.std.specs.Prelude.{Option, Some, None, IfSome}
+use Rattle.std.proofs.Common.{◌≡◌, ◌⊎◌, inl, inr, ℕ, ◌≤◌, Bool, true, false, List, [], ◌∷◌, ◌++◌, length, refl, ap, sym, ◌∙◌, subst, arith, append_assoc, append-nil, length-append}
+use Rattle.std.specs.Prelude.{Option, Some, None, IfSome, ◌==◌, if◌then◌else◌}
 use Rattle.std.specs.List.{concat}
 use Rattle.outside.specs.Image.{Image}
 use Rattle.outside.specs.Disk.{LeavesOnly}
@@ -10,7 +10,8 @@ use Rattle.verdict_defs.specs.Chain.{Chain}
 use Rattle.verdict_defs.specs.Trial.{trial, trial_of}
 use Rattle.verdict_defs.specs.declared.trial.Trial.{Trial}
 use Rattle.verdict_defs.specs.declared.trial.Trial.TheVariants.{Passes, Refused}
-use Rattle.store_defs.specs.Store.{Keeps, store_of, StandsFor, IsSound, IsJoined}
+use Rattle.store_defs.specs.Log.{LogContent, log_of}
+use Rattle.store_defs.specs.Store.{NoLog, Keeps, chain_of, store_of_log, store_of, StandsFor, IsSound, IsJoined}
 use Rattle.store_defs.proofs.JoinedLemmas.{joined_of_image}
 use Rattle.report_defs.specs.declared.command.Command.TheVariants.{Check}
 use Rattle.report_defs.specs.declared.status.Status.{Status}
@@ -18,21 +19,21 @@ use Rattle.report_defs.specs.declared.status.Status.TheVariants.{Done, SomeRefus
 use Rattle.report_defs.specs.declared.end.End.{End}
 use Rattle.report_defs.specs.declared.end.End.TheVariants as ends
 use Rattle.report_defs.specs.Status.{IsOneOf}
-use Rattle.report_defs.specs.Items.{Split, AreItems, split_of}
+use Rattle.report_defs.specs.Items.{AreItems, split_of}
 use Rattle.report_defs.specs.Text.{trial_line}
 use Rattle.report_defs.specs.Report.{Report, text_of, check_limits, check_item_limit, status_of_trial, report_of_trial, report_of_first, report_of_check, report_of_end}
 use Rattle.report_defs.specs.Promise.{IsPrefix, MatchesReport, ChecksInOrder}
 use Rattle.report_defs.proofs.ItemLemmas.{split_of-is, end_at-nothing}
 use Rattle.item_reader.specs.Items.{EndsAt}
 use Rattle.node_core.specs.Node.{NodeValue, IsOn}
-use Rattle.node_run.specs.Check.{DeliversCheck, IsOne, EndsBeforeOne}
+use Rattle.node_run.specs.Check.{IsOne, EndsBeforeOne, DeliversCheck}
 use Rattle.node_run.specs.Import.{IsStop}
 use Rattle.node_run.specs.Output.{IsSaid, IsToldAnswer, IsWritingStop}
 use Rattle.node_run.specs.Store.{opening_stops}
 use Rattle.node_run.proofs.ImportLemmas.{on_stands}
 use Rattle.node_run.proofs.InitLemmas.{said_text, said_silent, no_stop, all_given}
-use Rattle.node_run.proofs.StoreLemmas.{if_told, same_chain, store_of_stands, delivers, unopened, sound_opening, sound_here, keeps_opened, keeps_read, keeps_unopened, by_disk_or_memory}
-use Rattle.node_run.proofs.Statuses.{IsEarly, not_early, stop_not_reported, stop_not_done, stop_not_ended, writing_stops, opening_stop, only_at_end}
+use Rattle.node_run.proofs.StoreLemmas.{if_told, same_chain, store_of_stands, delivers, keeps_opened, keeps_read, keeps_unopened, unopened, sound_opening, sound_here, by_disk_or_memory}
+use Rattle.node_run.proofs.Statuses.{IsEarly, not_early, stop_not_reported, stop_not_done, stop_not_ended, writing_stops, opening_not_done, only_at_end}
 
 -- ---- What was read
 
@@ -74,29 +75,30 @@ trial_of_bytes chain item found is = ap (trial_of chain) is
 
 -- ---- What is said over a chain
 
-abbrev full : Chain → List ℕ → Report
+abbrev pub full : Chain → List ℕ → Report
 full chain whole = report_of_check chain (split_of check_limits whole)
 
--- the text, how far was read and written, and the answer where the item was judged
-abbrev pub IsChecked : Chain → List ℕ → Option (List ℕ) → List ℕ → Status → Type 0
-IsChecked chain given left taken status = MatchesReport (full chain) given left taken status × ChecksInOrder given left taken status
-    × (IsOneOf (Done ∷ SomeRefused ∷ []) status → taken ≡ text_of (full chain given))
+-- What is said over a chain that has joined: the text, how far was read and written, and what was answered.
+pub record IsChecked (chain : Chain) (given : List ℕ) (left : Option (List ℕ)) (taken : List ℕ) (status : Status) : Type 0 where
+  pub text : MatchesReport (full chain) given left taken status
+  pub order : ChecksInOrder given left taken status
+  pub answers : IsOneOf (Done ∷ SomeRefused ∷ []) status → taken ≡ text_of (full chain given)
 
 -- the run was stopped before the sink
 pub check_stopped : (chain : Chain) (left : Option (List ℕ)) (given : List ℕ) (status : Status) → IsStop status → IsChecked chain given left [] status
-check_stopped chain left given status stop = (
-  record {
+check_stopped chain left given status stop = record {
+  text = record {
     front = λ more is. (text_of (full chain (given ++ more)), refl);
     whole_text = λ more is told. absurd (stop_not_reported status stop told);
     same_status = λ more is told. absurd (stop_not_reported status stop told);
-  },
-  record {
+  };
+  order = record {
     to_end = λ told. absurd (stop_not_done status stop told);
     to_early_end = λ told. absurd (stop_not_ended status stop told);
     silent = λ early. refl;
-  },
-  λ told. absurd (stop_not_done status stop told),
-)
+  };
+  answers = λ told. absurd (stop_not_done status stop told);
+}
 
 said_early : (end : End) (offset : ℕ) (status : Status) (taken : List ℕ) → (end ≡ ends.AtEnd → ⊥) → IsSaid (report_of_end offset end) status taken
     → IsOneOf (Done ∷ SomeRefused ∷ []) status → ⊥
@@ -106,15 +108,15 @@ said_early end offset status taken early (inr part) told = stop_not_done status 
 -- the input ends early
 pub check_early : (chain : Chain) (left : Option (List ℕ)) (given taken : List ℕ) (end : End) (offset : ℕ) (status : Status)
     → EndsBeforeOne left end offset given → IsSaid (report_of_end offset end) status taken → IsChecked chain given left taken status
-check_early chain left given taken end offset status here said = (
-  said_text (full chain) (report_of_end offset end) left given taken status said (here.report chain),
-  record {
+check_early chain left given taken end offset status here said = record {
+  text = said_text (full chain) (report_of_end offset end) left given taken status said (here.report chain);
+  order = record {
     to_end = λ told. absurd (said_early end offset status taken here.early said told);
     to_early_end = λ told. here.enough;
     silent = said_silent (report_of_end offset end) status taken said (no_stop end);
-  },
-  λ told. absurd (said_early end offset status taken here.early said told),
-)
+  };
+  answers = λ told. absurd (said_early end offset status taken here.early said told);
+}
 
 trial_no_stop : (tried : Trial) → IsEarly (status_of_trial tried) → ⊥
 trial_no_stop (Passes fee cycles) stop = stop
@@ -129,28 +131,31 @@ said_of report text taken status result text_is status_is (inr part) = inr (reco
   silent = λ early. absurd (not_early result part.1 early);
 })
 
-said_done : (report : Report) (status : Status) (taken : List ℕ) → IsSaid report status taken → IsOneOf (Done ∷ SomeRefused ∷ []) status → taken ≡ text_of report
-said_done report status taken (inl said) done = said.0
-said_done report status taken (inr part) done = absurd (stop_not_done status (writing_stops status part.stop) done)
+-- a report was told whole where nothing stopped the run
+all_said : (report : Report) (status : Status) (taken : List ℕ) → IsSaid report status taken → IsOneOf (Done ∷ SomeRefused ∷ []) status → taken ≡ text_of report
+all_said report status taken (inl said) done = said.0
+all_said report status taken (inr part) done = absurd (stop_not_done status (writing_stops status part.stop) done)
 
 -- the item was judged
 pub check_told : (chain : Chain) (left : Option (List ℕ)) (item given taken text : List ℕ) (tried : Trial) (status result : Status)
     → IsOne left item given → tried ≡ trial chain item → text ≡ trial_line tried → status ≡ status_of_trial tried
     → IsToldAnswer text status result taken → IsChecked chain given left taken result
-check_told chain left item given taken text tried status result one tried_is text_is status_is told = (
-  said_text (full chain) report left given taken result said
-      (λ more is. ap (full chain) (all_given left given more one.to_end is) ∙ ap (report_of_check chain) (one_split left item given one)),
-  record {
+check_told chain left item given taken text tried status result one tried_is text_is status_is told = record {
+  text = said_text (full chain) report left given taken result said (λ more is. ap (full chain) (all_given left given more one.to_end is) ∙ whole);
+  order = record {
     to_end = λ done. one.to_end;
     to_early_end = λ ended more is. rw (all_given left given more one.to_end is, one_split left item given one)
         (omega (arith, ap length one.same, length-append item []));
     silent = said_silent report result taken said (trial_no_stop (trial chain item));
-  },
-  λ done. said_done report result taken said done ∙ sym (ap (λ (s : Split). text_of (report_of_check chain s)) (one_split left item given one)),
-)
+  };
+  answers = λ done. all_said report result taken said done ∙ sym (ap (λ (r : Report). text_of r) whole);
+}
   where
     report : Report
     report = report_of_trial (trial chain item)
+
+    whole : full chain given ≡ report
+    whole = ap (report_of_check chain) (one_split left item given one)
 
     said : IsSaid report result taken
     said = said_of report text taken status result (text_is ∙ ap (λ (t : Trial). trial_line t) tried_is) (status_is ∙ ap (λ (t : Trial). status_of_trial t) tried_is) told
@@ -170,34 +175,33 @@ module _ {D : Type 0} (reads_as : D → Option Image) (images : D → Image → 
       → IfSome (reads_as old) (λ now. store_of now ≡ Keeps node.chain)
       → (((image : Image) → images old image → IsSound image) → IfSome (reads_as old) (λ _. IsOn node (reads_as new) (images new)))
       → ((now : Image) (chain : Chain) → reads_as old ≡ Some now → store_of now ≡ Keeps chain → ((image : Image) → images old image → IsSound image)
-          → LeavesOnly moment left_since old new (λ image. images old image ⊎ StandsFor chain image))
+      → LeavesOnly moment left_since old new (λ image. images old image ⊎ StandsFor chain image))
       → (IsJoined node.chain → IsChecked node.chain given left taken status)
       → DeliversCheck (reads_as old) (images old) (images new) (left_since new (moment old)) left given taken status
   check_opened old new node left given taken status kept on moments says = record {
     delivers = delivers Check (reads_as old) node.chain (images old) (images new) (left_since new (moment old)) left given taken status (λ store found. found) kept
-        (λ joined. ((says joined).0, (says joined).1))
+        (λ joined. ((says joined).text, (says joined).order))
         (keeps_opened (reads_as old) node.chain [] (images old) (images new) (left_since new (moment old)) taken status kept
         (λ now told keeps sound. keeps_read images moment left_since counts_now old new node.chain taken status (moments now node.chain told keeps sound)
         (on_stands node node.chain (reads_as new) (images new) refl
         (if_told (reads_as old) (λ _. IsOn node (reads_as new) (images new)) now (on sound) told))));
     answers = λ now chain told stands done.
-        let here : node.chain ≡ chain = same_chain node.chain chain
+        let same : node.chain ≡ chain = same_chain node.chain chain
             (sym (if_told (reads_as old) (λ image. store_of image ≡ Keeps node.chain) now kept told) ∙ store_of_stands chain now stands) in
-        subst (λ (k : Chain). taken ≡ text_of (full k given)) here ((says (subst IsJoined (sym here) (joined_of_image chain now stands))).2 done);
+        (says (subst IsJoined (sym same) (joined_of_image chain now stands))).answers done ∙ ap (λ (k : Chain). text_of (full k given)) same;
   }
 
   -- none was opened
   pub check_unopened : (old new : D) (left : Option (List ℕ)) (status : Status) → IsOneOf opening_stops status
       → (status ≡ NotAStore → IfSome (reads_as old) (λ now. IsSound now → ⊥)) → IfSome (reads_as old) (images old)
       → ((now : Image) (chain : Chain) → reads_as old ≡ Some now → store_of now ≡ Keeps chain → ((image : Image) → images old image → IsSound image)
-          → LeavesOnly moment left_since old new (λ image. images old image ⊎ StandsFor chain image))
+      → LeavesOnly moment left_since old new (λ image. images old image ⊎ StandsFor chain image))
       → DeliversCheck (reads_as old) (images old) (images new) (left_since new (moment old)) left [] [] status
   check_unopened old new left status one none here moments = record {
     delivers = unopened Check (reads_as old) (images old) (images new) (left_since new (moment old)) left status (λ store found. found) one none
-        (λ input. refl) (λ input. refl) (λ none. none) (λ none. none) (λ chain stop. (check_stopped chain left [] status stop).1)
+        (λ input. refl) (λ input. refl) (λ never. never) (λ never. never) (λ chain stop. (check_stopped chain left [] status stop).order)
         (λ now told chain keeps sound. keeps_unopened images moment left_since counts_now old new chain [] status
         (by_disk_or_memory status one (sound_opening (reads_as old) status now none told (sound_here (reads_as old) (images old) now here told sound)))
         (moments now chain told keeps sound));
-    answers = λ now chain told stands done.
-        absurd (stop_not_done status (opening_stop status one (sound_opening (reads_as old) status now none told (chain, stands))) done);
+    answers = λ now chain told stands done. absurd (opening_not_done status one done);
   }

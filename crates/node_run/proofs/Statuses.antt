@@ -74,6 +74,18 @@ opening_stop status (inr (inl fault)) there = subst IsStop (sym fault) tt
 opening_stop status (inr (inr (inl memory))) there = subst IsStop (sym memory) tt
 opening_stop status (inr (inr (inr never))) there = absurd never
 
+-- what stops an opening is no answer
+abbrev IsOpeningStop : Status → Type 0
+IsOpeningStop NotAStore = Unit {0}
+IsOpeningStop DiskFault = Unit {0}
+IsOpeningStop NoMemory = Unit {0}
+IsOpeningStop _ = ⊥
+
+pub opening_not_done : (status : Status) → IsOneOf opening_stops status → IsOneOf (Done ∷ SomeRefused ∷ []) status → ⊥
+opening_not_done status one told =
+    each_of (λ s. IsOpeningStop s → ⊥) (Done ∷ SomeRefused ∷ []) status (λ n. n, (λ n. n, tt)) told
+    (each_of IsOpeningStop opening_stops status (tt, (tt, (tt, tt))) one)
+
 -- ---- Those of each command
 
 pub import_opening : (status : Status) → IsOneOf opening_stops status → IsOneOf import_statuses status

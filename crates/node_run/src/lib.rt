@@ -1,4 +1,4 @@
-//! One run of the program: its words, and the four commands over a source, a sink and a disk.
+//! One run of the program: its words, and the five commands over a source, a sink and a disk.
 //!
 //! [`run`] is the one call. Its contract says what the sink takes, how far the source is read, how the
 //! run ends and what it leaves of the disk, by the report that `report_defs` defines, for every source,
