@@ -32,7 +32,7 @@ use Rattle.node_run.specs.Output.{IsSaid, IsToldAnswer, IsWritingStop}
 use Rattle.node_run.specs.Store.{opening_stops}
 use Rattle.node_run.proofs.ImportLemmas.{on_stands}
 use Rattle.node_run.proofs.InitLemmas.{said_text, said_silent, no_stop, all_given}
-use Rattle.node_run.proofs.StoreLemmas.{if_told, delivers, keeps_opened, keeps_read, keeps_unopened, unopened, sound_opening, sound_here, by_disk_or_memory}
+use Rattle.node_run.proofs.StoreLemmas.{if_told, same_chain, store_of_stands, delivers, keeps_opened, keeps_read, keeps_unopened, unopened, sound_opening, sound_here, by_disk_or_memory}
 use Rattle.node_run.proofs.Statuses.{IsEarly, not_early, stop_not_reported, stop_not_done, stop_not_ended, writing_stops, opening_not_done, only_at_end}
 
 -- ---- What was read
@@ -168,16 +168,6 @@ memory_stop status (inr (inr never)) sound = absurd never
 
 -- ---- What is delivered of a store
 
--- what an image stands for is what it keeps
-chain_kept : (empty : Bool) (found : Option LogContent) (log : LogContent) (kept : Chain) → (if empty then NoLog else store_of_log found) ≡ Keeps kept
-    → found ≡ Some log → chain_of log ≡ kept
-chain_kept true found log kept keeps is = absurd (cc)
-chain_kept false found log kept keeps is = let same : Keeps (chain_of log) ≡ Keeps kept = sym (ap store_of_log is) ∙ keeps in cc
-
-kept_stands : (kept chain : Chain) (image : Image) → store_of image ≡ Keeps kept → StandsFor chain image → kept ≡ chain
-unfolding store_of
-kept_stands kept chain image keeps stands = sym (chain_kept (length image.log == 0) (log_of image.log) stands.log kept keeps stands.is_log) ∙ stands.keeps
-
 module _ {D : Type 0} (reads_as : D → Option Image) (images : D → Image → Type 0) (moment : D → ℕ) (left_since : D → ℕ → Image → Type 0)
     (counts_now : (disk : D) (t : ℕ) (image : Image) → t ≤ moment disk → images disk image → left_since disk t image) where
   -- the store was opened
@@ -196,7 +186,8 @@ module _ {D : Type 0} (reads_as : D → Option Image) (images : D → Image → 
         (on_stands node node.chain (reads_as new) (images new) refl
         (if_told (reads_as old) (λ _. IsOn node (reads_as new) (images new)) now (on sound) told))));
     answers = λ now chain told stands done.
-        let same : node.chain ≡ chain = kept_stands node.chain chain now (if_told (reads_as old) (λ image. store_of image ≡ Keeps node.chain) now kept told) stands in
+        let same : node.chain ≡ chain = same_chain node.chain chain
+            (sym (if_told (reads_as old) (λ image. store_of image ≡ Keeps node.chain) now kept told) ∙ store_of_stands chain now stands) in
         (says (subst IsJoined (sym same) (joined_of_image chain now stands))).answers done ∙ ap (λ (k : Chain). text_of (full k given)) same;
   }
 

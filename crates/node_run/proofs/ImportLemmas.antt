@@ -16,7 +16,7 @@ use Rattle.fold_defs.proofs.FoldLemmas.{keep-push, verdicts-push}
 use Rattle.store_defs.specs.Store.{StandsFor, IsJoined}
 use Rattle.store_defs.proofs.JoinedLemmas.{joined_of_image, joined_after}
 use Rattle.report_defs.specs.declared.status.Status.{Status}
-use Rattle.report_defs.specs.declared.status.Status.TheVariants.{InputFault, SinkFault, DiskFault, NoMemory, NotAStore}
+use Rattle.report_defs.specs.declared.status.Status.TheVariants.{InputFault, DiskFault, NoMemory}
 use Rattle.report_defs.specs.Status.{IsOneOf}
 use Rattle.report_defs.specs.Text.{line}
 use Rattle.report_defs.specs.Items.{IsItem, AreItems}
