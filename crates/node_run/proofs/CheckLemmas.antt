@@ -1,6 +1,6 @@
 -- What `check` read, told and left at each exit.
-use Rattle.std.proofs.Common.{◌≡◌, ◌⊎◌, inl, inr, ℕ, ◌≤◌, Bool, true, false, List, [], ◌∷◌, ◌++◌, length, refl, ap, sym, ◌∙◌, subst, arith, append_assoc, append-nil, length-append}
-use Rattle.std.specs.Prelude.{Option, Some, None, IfSome, ◌==◌, if◌then◌else◌}
+use Rattle.std.proofs.Common.{◌≡◌, ◌⊎◌, inl, inr, ℕ, ◌≤◌, false, List, [], ◌∷◌, ◌++◌, length, refl, ap, sym, ◌∙◌, subst, arith, append_assoc, append-nil, length-append}
+use Rattle.std.specs.Prelude.{Option, Some, None, IfSome}
 use Rattle.std.specs.List.{concat}
 use Rattle.outside.specs.Image.{Image}
 use Rattle.outside.specs.Disk.{LeavesOnly}
@@ -10,8 +10,7 @@ use Rattle.verdict_defs.specs.Chain.{Chain}
 use Rattle.verdict_defs.specs.Trial.{trial, trial_of}
 use Rattle.verdict_defs.specs.declared.trial.Trial.{Trial}
 use Rattle.verdict_defs.specs.declared.trial.Trial.TheVariants.{Passes, Refused}
-use Rattle.store_defs.specs.Log.{LogContent, log_of}
-use Rattle.store_defs.specs.Store.{NoLog, Keeps, chain_of, store_of_log, store_of, StandsFor, IsSound, IsJoined}
+use Rattle.store_defs.specs.Store.{Keeps, store_of, StandsFor, IsSound, IsJoined}
 use Rattle.store_defs.proofs.JoinedLemmas.{joined_of_image}
 use Rattle.report_defs.specs.declared.command.Command.TheVariants.{Check}
 use Rattle.report_defs.specs.declared.status.Status.{Status}
@@ -187,7 +186,7 @@ module _ {D : Type 0} (reads_as : D → Option Image) (images : D → Image → 
         (if_told (reads_as old) (λ _. IsOn node (reads_as new) (images new)) now (on sound) told))));
     answers = λ now chain told stands done.
         let same : node.chain ≡ chain = same_chain node.chain chain
-            (sym (if_told (reads_as old) (λ image. store_of image ≡ Keeps node.chain) now kept told) ∙ store_of_stands chain now stands) in
+        (sym (if_told (reads_as old) (λ image. store_of image ≡ Keeps node.chain) now kept told) ∙ store_of_stands chain now stands) in
         (says (subst IsJoined (sym same) (joined_of_image chain now stands))).answers done ∙ ap (λ (k : Chain). text_of (full k given)) same;
   }
 

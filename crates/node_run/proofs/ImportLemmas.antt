@@ -184,28 +184,28 @@ pub whole_more : (chain : Chain) (offset : ℕ) (left_old left left_new taken_ol
     → Whole chain (offset + size) left_old left_new taken_old taken_new new any was_on on_new leaves_new
 whole_more chain offset left_old left left_new taken_old taken taken_new now new refused was_on is_on on_new leaves leaves_new item given text verdict size any
     long either whole at gives takes judged kept_is text_is goes_on moments = record {
-  items = whole.items ++ item ∷ [];
-  taken = whole.taken ++ text;
-  gives = rw concat-push (gives_more left_old left left_new (concat whole.items) item whole.gives (subst (Gives left left_new) at.same gives));
-  takes = takes_more taken_old taken taken_new whole.taken text whole.takes takes;
-  all = all-push whole.items item whole.all at.is_item;
-  place = omega (arith, long, whole.place, ap length (concat-push whole.items item), length-append (concat whole.items) item);
-  within = rw long at.within;
-  joined = λ joined. subst IsJoined (sym (kept_is (whole.joined joined))) (joined_after now item (whole.joined joined));
-  lines = λ joined.
-      ap (λ bs. bs ++ text) (whole.lines joined)
-      ∙ ap (λ bs. text_over chain whole.items ++ bs) (text_is (whole.joined joined) ∙ ap (λ (k : Chain). line_over k item) (whole.kept_now joined))
-      ∙ sym (lines-push chain whole.items item);
-  kept_now = λ joined. kept_is (whole.joined joined) ∙ ap (λ (k : Chain). chain_after k item) (whole.kept_now joined) ∙ sym (keep-push chain_after chain whole.items item);
-  any_refused = λ joined.
-      either ∙ ap (λ b. b || rules.refuses verdict) (whole.any_refused joined)
-      ∙ ap (λ (v : Verdict). list_any rules.refuses (verdicts_over chain whole.items) || rules.refuses v)
-      (judged (whole.joined joined) ∙ ap (λ (k : Chain). verdict_over k item) (whole.kept_now joined))
-      ∙ sym (any-push (verdicts_over chain whole.items) (verdict_over (chain_over chain whole.items) item))
-      ∙ sym (ap (list_any rules.refuses) (verdicts-push chain_after verdict_over chain whole.items item));
-  on = λ was. goes_on (whole.on was);
-  moments = moments;
-}
+      items = whole.items ++ item ∷ [];
+      taken = whole.taken ++ text;
+      gives = rw concat-push (gives_more left_old left left_new (concat whole.items) item whole.gives (subst (Gives left left_new) at.same gives));
+      takes = takes_more taken_old taken taken_new whole.taken text whole.takes takes;
+      all = all-push whole.items item whole.all at.is_item;
+      place = omega (arith, long, whole.place, ap length (concat-push whole.items item), length-append (concat whole.items) item);
+      within = rw long at.within;
+      joined = λ joined. subst IsJoined (sym (kept_is (whole.joined joined))) (joined_after now item (whole.joined joined));
+      lines = λ joined.
+          ap (λ bs. bs ++ text) (whole.lines joined)
+          ∙ ap (λ bs. text_over chain whole.items ++ bs) (text_is (whole.joined joined) ∙ ap (λ (k : Chain). line_over k item) (whole.kept_now joined))
+          ∙ sym (lines-push chain whole.items item);
+      kept_now = λ joined. kept_is (whole.joined joined) ∙ ap (λ (k : Chain). chain_after k item) (whole.kept_now joined) ∙ sym (keep-push chain_after chain whole.items item);
+      any_refused = λ joined.
+          either ∙ ap (λ b. b || rules.refuses verdict) (whole.any_refused joined)
+          ∙ ap (λ (v : Verdict). list_any rules.refuses (verdicts_over chain whole.items) || rules.refuses v)
+          (judged (whole.joined joined) ∙ ap (λ (k : Chain). verdict_over k item) (whole.kept_now joined))
+          ∙ sym (any-push (verdicts_over chain whole.items) (verdict_over (chain_over chain whole.items) item))
+          ∙ sym (ap (list_any rules.refuses) (verdicts-push chain_after verdict_over chain whole.items item));
+      on = λ was. goes_on (whole.on was);
+      moments = moments;
+    }
 
 -- ---- The exits
 
@@ -324,33 +324,33 @@ pub imported_to_line : (chain : Chain) (offset : ℕ) (left_old left left_new ta
     → Transfers left_old left_new taken_old taken_new (λ given taken. IsJoined chain → AreImported chain left_new (Err status) was_on images leaves_new given taken)
 imported_to_line chain offset left_old left left_new taken_old taken taken_new now refused was_on is_on images leaves leaves_new status item given part
     whole at gives takes short exit moments = (
-  concat whole.items ++ item,
-  whole.taken ++ part,
-  gives_more left_old left left_new (concat whole.items) item whole.gives (subst (Gives left left_new) at.same gives),
-  takes_more taken_old taken taken_new whole.taken part whole.takes takes,
-  λ joined.
-      let cut = short (whole.joined joined) in
-      record {
-        items = whole.items ++ item ∷ [];
-        before = whole.items;
-        rest = [];
-        are_given = record {
-          whole = sym (append-nil (concat (whole.items ++ item ∷ [])) ∙ concat-push whole.items item);
-          all = all-push whole.items item whole.all at.is_item;
-          within = rw concat-push (omega (arith, at.within, whole.place, length-append (concat whole.items) item));
-          partial = few_partial item_limit (Some input_limit) (length (concat (whole.items ++ item ∷ []))) [] (omega arith);
-        };
-        came = record {
-          stop = writing_stops status cut.stop;
-          part = part;
-          taken_is = ap (λ bs. bs ++ part) (whole.lines joined);
-          silent = cut.silent;
-          last = inr (item, refl, refl, subst (λ (k : Chain). IsPartOf (line_over k item) part) (whole.kept_now joined) cut.part);
-        };
-        exit = λ was. exit joined (whole.on was);
-        moments = moments;
-      },
-)
+      concat whole.items ++ item,
+      whole.taken ++ part,
+      gives_more left_old left left_new (concat whole.items) item whole.gives (subst (Gives left left_new) at.same gives),
+      takes_more taken_old taken taken_new whole.taken part whole.takes takes,
+      λ joined.
+          let cut = short (whole.joined joined) in
+          record {
+            items = whole.items ++ item ∷ [];
+            before = whole.items;
+            rest = [];
+            are_given = record {
+              whole = sym (append-nil (concat (whole.items ++ item ∷ [])) ∙ concat-push whole.items item);
+              all = all-push whole.items item whole.all at.is_item;
+              within = rw concat-push (omega (arith, at.within, whole.place, length-append (concat whole.items) item));
+              partial = few_partial item_limit (Some input_limit) (length (concat (whole.items ++ item ∷ []))) [] (omega arith);
+            };
+            came = record {
+              stop = writing_stops status cut.stop;
+              part = part;
+              taken_is = ap (λ bs. bs ++ part) (whole.lines joined);
+              silent = cut.silent;
+              last = inr (item, refl, refl, subst (λ (k : Chain). IsPartOf (line_over k item) part) (whole.kept_now joined) cut.part);
+            };
+            exit = λ was. exit joined (whole.on was);
+            moments = moments;
+          },
+    )
 
 -- `a || b` where a is known
 pub or_then : (a b : Bool) → a ≡ true → (a || b) ≡ a
