@@ -14,7 +14,7 @@ use Rattle.store_defs.specs.Store.{Keeps, store_of, StandsFor, IsSound, IsJoined
 use Rattle.store_defs.proofs.JoinedLemmas.{joined_of_image}
 use Rattle.report_defs.specs.declared.command.Command.TheVariants.{Check}
 use Rattle.report_defs.specs.declared.status.Status.{Status}
-use Rattle.report_defs.specs.declared.status.Status.TheVariants.{Done, SomeRefused, NoMemory, NotAStore}
+use Rattle.report_defs.specs.declared.status.Status.TheVariants.{Done, SomeRefused, InputFault, SinkFault, DiskFault, NoMemory, NotAStore}
 use Rattle.report_defs.specs.declared.end.End.{End}
 use Rattle.report_defs.specs.declared.end.End.TheVariants as ends
 use Rattle.report_defs.specs.Status.{IsOneOf}
@@ -204,3 +204,39 @@ module _ {D : Type 0} (reads_as : D → Option Image) (images : D → Image → 
         (moments now chain told keeps sound));
     answers = λ now chain told stands done. absurd (opening_not_done status one done);
   }
+
+-- ---- No fault
+
+-- what stops the judging is none
+pub not_input : (status : Status) → IsOneOf (NotAStore ∷ NoMemory ∷ []) status → status ≡ InputFault → ⊥
+not_input status (inl none) e = cc
+not_input status (inr (inl memory)) e = cc
+not_input status (inr (inr never)) e = never
+
+pub not_sink : (status : Status) → IsOneOf (NotAStore ∷ NoMemory ∷ []) status → status ≡ SinkFault → ⊥
+not_sink status (inl none) e = cc
+not_sink status (inr (inl memory)) e = cc
+not_sink status (inr (inr never)) e = never
+
+pub not_disk : (status : Status) → IsOneOf (NotAStore ∷ NoMemory ∷ []) status → status ≡ DiskFault → ⊥
+not_disk status (inl none) e = cc
+not_disk status (inr (inl memory)) e = cc
+not_disk status (inr (inr never)) e = never
+
+-- an answer that was told has its own status, or that of the sink
+pub told_one : (text : List ℕ) (status result : Status) (taken : List ℕ) → IsOneOf (Done ∷ SomeRefused ∷ []) status → IsToldAnswer text status result taken
+    → IsOneOf (SinkFault ∷ Done ∷ SomeRefused ∷ []) result
+told_one text status result taken one (inl told) = inr (subst (λ (s : Status). IsOneOf (Done ∷ SomeRefused ∷ []) s) (sym told.1) one)
+told_one text status result taken one (inr failed) = inl failed.1
+
+pub told_not_input : (status : Status) → IsOneOf (SinkFault ∷ Done ∷ SomeRefused ∷ []) status → status ≡ InputFault → ⊥
+told_not_input status (inl sink) e = cc
+told_not_input status (inr (inl done)) e = cc
+told_not_input status (inr (inr (inl refused))) e = cc
+told_not_input status (inr (inr (inr never))) e = never
+
+pub told_not_disk : (status : Status) → IsOneOf (SinkFault ∷ Done ∷ SomeRefused ∷ []) status → status ≡ DiskFault → ⊥
+told_not_disk status (inl sink) e = cc
+told_not_disk status (inr (inl done)) e = cc
+told_not_disk status (inr (inr (inl refused))) e = cc
+told_not_disk status (inr (inr (inr never))) e = never

@@ -3,8 +3,8 @@ use Rattle.std.specs.Prelude.{Err, string_bytes}
 use Rattle.outside.proofs.Streams.{gives_none, takes_none}
 use Rattle.verdict_defs.specs.Trial.{trial}
 use Rattle.report_defs.specs.declared.status.Status.TheVariants.{NoMemory}
-use Rattle.node_run.proofs.CheckLemmas.{check_opened, check_unopened, check_stopped, check_early, check_told, memory_stop}
-use Rattle.node_run.proofs.Faults.{counts_also}
+use Rattle.node_run.proofs.CheckLemmas.{check_opened, check_unopened, check_stopped, check_early, check_told, memory_stop, told_one, not_input, not_sink, not_disk, told_not_input, told_not_disk}
+use Rattle.node_run.proofs.Faults.{no_fault, counts_also}
 use Rattle.node_run.proofs.Statuses.{reading_stops}
 use Rattle.node_run.proofs.check.check.Goals as goal
 
@@ -96,3 +96,27 @@ returns-clause-check g c =
           c.in-Ok.node left read.0 [] NoMemory c.in-Ok.ensures.kept c.in-Ok.ensures.on c.in-Ok.ensures.moments
           (λ joined. check_stopped c.in-Ok.node.chain left read.0 NoMemory tt),
     )
+
+pub returns-in-Err-judge_item-clause-input_faults : goal.returns-in-Err-judge_item-clause-input_faults
+returns-in-Err-judge_item-clause-input_faults g c =
+    no_fault _ _ (c.in-Ok-One.ensures.faults.unchanged (λ e. cc)) (not_input c.in-Err-judge_item.status (c.in-Err-judge_item.ensures.stop c.in-Err-judge_item.status refl))
+
+pub returns-in-Err-judge_item-clause-out_faults : goal.returns-in-Err-judge_item-clause-out_faults
+returns-in-Err-judge_item-clause-out_faults g c =
+    no_fault _ _ refl (not_sink c.in-Err-judge_item.status (c.in-Err-judge_item.ensures.stop c.in-Err-judge_item.status refl))
+
+pub returns-in-Err-judge_item-clause-disk_faults : goal.returns-in-Err-judge_item-clause-disk_faults
+returns-in-Err-judge_item-clause-disk_faults g c =
+    no_fault _ _ (c.in-Ok.ensures.cause.unchanged (λ e. cc)) (not_disk c.in-Err-judge_item.status (c.in-Err-judge_item.ensures.stop c.in-Err-judge_item.status refl))
+
+pub returns-in-Ok-answer_to-clause-input_faults : goal.returns-in-Ok-answer_to-clause-input_faults
+returns-in-Ok-answer_to-clause-input_faults g c =
+    no_fault _ _ (c.in-Ok-One.ensures.faults.unchanged (λ e. cc))
+    (told_not_input c.tell.result (told_one (string_bytes c.in-Ok-answer_to.answer.text) c.in-Ok-answer_to.answer.status c.tell.result c.tell.ensures.told.0
+    c.in-Ok-answer_to.ensures.one_of c.tell.ensures.told.2))
+
+pub returns-in-Ok-answer_to-clause-disk_faults : goal.returns-in-Ok-answer_to-clause-disk_faults
+returns-in-Ok-answer_to-clause-disk_faults g c =
+    no_fault _ _ (c.in-Ok.ensures.cause.unchanged (λ e. cc))
+    (told_not_disk c.tell.result (told_one (string_bytes c.in-Ok-answer_to.answer.text) c.in-Ok-answer_to.answer.status c.tell.result c.tell.ensures.told.0
+    c.in-Ok-answer_to.ensures.one_of c.tell.ensures.told.2))

@@ -4,13 +4,14 @@ use Rattle.outside.proofs.Streams.{takes_none}
 use Rattle.verdict_defs.specs.Chain.{verdict_over}
 use Rattle.verdict_defs.specs.declared.verdict.Verdict.{Verdict}
 use Rattle.report_defs.specs.Text.{line}
-use Rattle.report_defs.specs.declared.status.Status.TheVariants.{SinkFault, NoMemory}
+use Rattle.report_defs.specs.declared.status.Status.TheVariants.{SinkFault, DiskFault, NoMemory}
 use Rattle.node_run.specs.Output.{IsPartOf, IsWritingStop}
 use Rattle.report_defs.specs.Status.{IsOneOf}
 use Rattle.node_run.specs.Import.{item_stops}
 use Rattle.node_run.proofs.ImportLemmas.{cut_before_line, item_stopped}
 use Rattle.node_run.proofs.StoreLemmas.{by_disk_or_memory}
 use Rattle.node_run.proofs.Statuses.{not_early}
+use Rattle.node_run.proofs.Faults.{no_fault, counts_also}
 use Rattle.node_run.proofs.import.import_item.Goals as goal
 
 pub returns-in-Err-clause-written : goal.returns-in-Err-clause-written
@@ -53,3 +54,14 @@ pub returns-in-Err-clause-status : goal.returns-in-Err-clause-status
 returns-in-Err-clause-status g c = λ status e.
     let same : c.status_of_reading.result ≡ status = cc in
     subst (λ s. IsOneOf item_stops s) same (item_stopped c.status_of_reading.result c.status_of_reading.ensures.one_of)
+
+pub returns-in-Err-write_text-clause-out_faults : goal.returns-in-Err-write_text-clause-out_faults
+returns-in-Err-write_text-clause-out_faults g c =
+    counts_also _ _ c.in-Err-write_text.ensures.faults
+    (λ e. let same : c.in-Err-write_text.status ≡ SinkFault = (cc) in ap Err same)
+    (λ e. let same : c.in-Err-write_text.status ≡ SinkFault = (cc) in ap Err same)
+
+pub returns-in-Err-write_text-clause-disk_faults : goal.returns-in-Err-write_text-clause-disk_faults
+returns-in-Err-write_text-clause-disk_faults g c =
+    let sink : c.in-Err-write_text.status ≡ SinkFault = c.in-Err-write_text.ensures.stop c.in-Err-write_text.status refl in
+    no_fault _ _ (c.in-Ok.ensures.cause.unchanged (λ e. cc)) (λ e. cc)
