@@ -1,7 +1,13 @@
--- What a function did to a count of faults.
-use Rattle.std.proofs.Common.{◌≡◌, ℕ, refl, ◌∙◌, arith}
-use Rattle.std.specs.Prelude.{Err}
+-- What a function did to a count of faults, and which answers are none.
+use Rattle.std.proofs.Common.{◌≡◌, ℕ, Bool, true, false, List, refl, sym, ◌∙◌, subst, inl, inr, arith}
+use Rattle.std.specs.Prelude.{Err, if◌then◌else◌}
 use Rattle.outside.specs.Causes.{HasCause, CountsFault}
+use Rattle.report_defs.specs.declared.end.End.{End}
+use Rattle.report_defs.specs.declared.end.End.TheVariants.{AtEnd, Cut, BadSize, Extra}
+use Rattle.report_defs.specs.declared.status.Status.{Status}
+use Rattle.report_defs.specs.declared.status.Status.TheVariants.{Done, SomeRefused, InputFault, DiskFault}
+use Rattle.report_defs.specs.Report.{status_of_end}
+use Rattle.node_run.specs.Output.{IsToldAnswer}
 
 -- what a failed call did to the count
 pub failed_counts : {T E Fault : Type 0} (before now : ℕ) (error : E) → HasCause {T = T} before now (Err error) → Fault → CountsFault before now Fault
@@ -31,3 +37,30 @@ then_counts before still now unchanged counts there back = record {
 -- the same fault by another name
 pub counts_also : {First Fault : Type 0} (before now : ℕ) → CountsFault before now First → (Fault → First) → (First → Fault) → CountsFault before now Fault
 counts_also before now counts there back = then_counts before before now refl counts there back
+
+-- ---- What an input that ended is answered
+
+abbrev pub IsNoFault : Status → Type 0
+IsNoFault InputFault = ⊥
+IsNoFault DiskFault = ⊥
+IsNoFault _ = Unit {0}
+
+pub end_no_fault : (refused : Bool) (end : End) → IsNoFault (status_of_end (if refused then SomeRefused else Done) end)
+end_no_fault true AtEnd = tt
+end_no_fault false AtEnd = tt
+end_no_fault true Cut = tt
+end_no_fault false Cut = tt
+end_no_fault true BadSize = tt
+end_no_fault false BadSize = tt
+end_no_fault true Extra = tt
+end_no_fault false Extra = tt
+
+pub told_no_fault : (text : List ℕ) (status result : Status) (taken : List ℕ) → IsNoFault status → IsToldAnswer text status result taken → IsNoFault result
+told_no_fault text status result taken none (inl told) = subst IsNoFault (sym told.1) none
+told_no_fault text status result taken none (inr failed) = subst IsNoFault (sym failed.1) tt
+
+pub no_input_there : (status : Status) → IsNoFault status → status ≡ InputFault → ⊥
+no_input_there status none same = subst IsNoFault same none
+
+pub no_disk_there : (status : Status) → IsNoFault status → status ≡ DiskFault → ⊥
+no_disk_there status none same = subst IsNoFault same none

@@ -10,7 +10,7 @@ use Rattle.report_defs.specs.Report.{import_limits, closing_of_end, status_of_en
 use Rattle.node_core.specs.Node.{IsOn}
 use Rattle.node_run.specs.Output.{IsToldAnswer}
 use Rattle.node_run.specs.Import.{text_over}
-use Rattle.node_run.proofs.Faults.{then_counts, counts_also}
+use Rattle.node_run.proofs.Faults.{then_counts, counts_also, no_fault, IsNoFault, end_no_fault, told_no_fault, no_input_there, no_disk_there}
 use Rattle.node_run.proofs.ImportLemmas.{joined_on, items_stop_import}
 use Rattle.node_run.proofs.StoreLemmas.{delivers, keeps_opened, keeps_unopened, opened_there, unopened, sound_opening, sound_here, by_disk_or_memory, if_told}
 use Rattle.node_run.proofs.ImportReport.{stopped_import, stopped_at_once, stopped_behind, stopped_acknowledges, stopped_take, ended_import, keeps_given, keeps_all_given}
@@ -134,3 +134,19 @@ returns-in-Err-answer_to_end-clause-no_log g c = λ now told none. absurd (opene
 
 pub returns-clause-no_log : goal.returns-clause-no_log
 returns-clause-no_log g c = λ now told none. absurd (opened_there (g.D.Disk.reads_as c.args.disk.now) c.in-Ok.node.chain now c.in-Ok.ensures.kept told none)
+
+pub returns-clause-input_faults : goal.returns-clause-input_faults
+returns-clause-input_faults g c =
+    let own : IsNoFault c.in-Ok-answer_to_end.answer.status =
+    subst IsNoFault (sym c.in-Ok-answer_to_end.ensures.status) (end_no_fault c.in-Ok-import_items.ended.refused c.in-Ok-import_items.ended.end) in
+    no_fault _ _ (c.in-Ok-import_items.ensures.input_faults.unchanged (λ e. cc))
+    (no_input_there c.tell.result
+    (told_no_fault (string_bytes c.in-Ok-answer_to_end.answer.text) c.in-Ok-answer_to_end.answer.status c.tell.result c.tell.ensures.told.0 own c.tell.ensures.told.2))
+
+pub returns-clause-disk_faults : goal.returns-clause-disk_faults
+returns-clause-disk_faults g c =
+    let own : IsNoFault c.in-Ok-answer_to_end.answer.status =
+    subst IsNoFault (sym c.in-Ok-answer_to_end.ensures.status) (end_no_fault c.in-Ok-import_items.ended.refused c.in-Ok-import_items.ended.end) in
+    no_fault _ _ (c.in-Ok-import_items.ensures.disk_faults.unchanged (λ e. cc) ∙ c.in-Ok.ensures.cause.unchanged (λ e. cc))
+    (no_disk_there c.tell.result
+    (told_no_fault (string_bytes c.in-Ok-answer_to_end.answer.text) c.in-Ok-answer_to_end.answer.status c.tell.result c.tell.ensures.told.0 own c.tell.ensures.told.2))
