@@ -192,12 +192,13 @@ def lacking(size, txs, ids=()):
     return max(0, size - len(block(0, 0, 0, ZERO, DAO, 0, txs, list(ids))[0]))
 
 
-def make(seed, n, plain=False, block_bytes=0, genesis_bytes=0, pairs=0):
+def make(seed, n, plain=False, block_bytes=0, genesis_bytes=0, pairs=0, row=False):
     """(specification, genesis, blocks, [(number, hash)] of genesis and blocks,
     the tip's place).  The genesis, by data of a cell, and each block, by the
     message of its cellbase, is made as long as is asked, if it is not longer.
     With pairs each block from the third on commits so many transactions, and
-    none of the others."""
+    none of the others.  In a row each block stands on the one before it; else
+    some have a sibling that a later one stands on."""
 
     def first_with(data):
         return transaction([], [le(0, 8) + NULL],
@@ -214,7 +215,7 @@ def make(seed, n, plain=False, block_bytes=0, genesis_bytes=0, pairs=0):
     for i in range(1, n + 1):
         if sibling:
             parent, sibling = i - 1, False
-        elif i >= 2 and (seed + 3 * i) % 7 == 0:
+        elif not row and i >= 2 and (seed + 3 * i) % 7 == 0:
             parent, sibling = parents[tip], True
         else:
             parent = tip

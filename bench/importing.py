@@ -2,7 +2,7 @@
 """The speed of `init`, `import` and opening, against a floor.
 
     python3 bench/importing.py CKBDEV [--sizes 2000,6000,20000] [--rounds 1]
-        [--disk FOLDER | --tmpfs] [--plain] [--busy 1000] [--sync fdatasync|fsync]
+        [--disk FOLDER | --tmpfs] [--plain] [--row] [--busy 1000] [--sync fdatasync|fsync]
         [--seed 0] [--limit SECONDS] [--no-strace]
 
 A generated chain (chaingen.py) of each size goes through `init`, `import` and
@@ -13,6 +13,9 @@ least elsewhere.
 --disk FOLDER  where the stores are made (default: the folder for temporary
                files); the kind of file system is printed
 --tmpfs        the stores are made in /dev/shm: no disk is waited for
+--row          each block stands on the one before it: two in seven of the others
+               stand on another branch than the tip's, whose cells are made
+               for them from the genesis on
 --plain        no block of these chains proposes or commits: each has its
                cellbase alone
 --busy         how many blocks one chain more has, in which each block from the
@@ -99,8 +102,8 @@ def want(run, text, what):
 class Chain:
     """The files of one chain, and the texts that it must give."""
 
-    def __init__(self, seed, n, plain, work, pairs=0):
-        spec, genesis, blocks, kept, tip = chaingen.make(seed, n, plain, pairs=pairs)
+    def __init__(self, seed, n, plain, work, pairs=0, row=False):
+        spec, genesis, blocks, kept, tip = chaingen.make(seed, n, plain, pairs=pairs, row=row)
         self.n = n
         # the first two blocks of a branch have their cellbases alone
         self.transactions = pairs * sum(h > 2 for h, _ in kept)
@@ -177,6 +180,7 @@ def main():
     a.add_argument('--disk')
     a.add_argument('--tmpfs', action='store_true')
     a.add_argument('--plain', action='store_true')
+    a.add_argument('--row', action='store_true')
     a.add_argument('--busy', type=int, default=1000)
     a.add_argument('--sync', choices=('fdatasync', 'fsync'), default='fdatasync')
     a.add_argument('--seed', type=int, default=0)
@@ -198,9 +202,9 @@ def main():
         subprocess.run([os.environ.get('CC', 'cc'), '-std=c11', '-O2',
                         os.path.join(HERE, 'diskfloor.c'), '-o', bottom], check=True)
         print('stores on %s; the floor syncs by %s' % (file_system(place), a.sync))
-        chains = [Chain(a.seed, n, a.plain, work) for n in sizes]
+        chains = [Chain(a.seed, n, a.plain, work, row=a.row) for n in sizes]
         if a.busy:
-            chains.append(Chain(a.seed, a.busy, True, work, PAIRS))
+            chains.append(Chain(a.seed, a.busy, True, work, PAIRS, a.row))
         rows = [['blocks', 'import s', 'us/block', 'cpu us', 'floor us', 'floor cpu us',
                  'ratio', 'drift', 'cpu ratio', 'peak MiB', 'tip s', 'tip MiB', 'log MB']]
         wall, cpu, ratios, drifts = [], [], [], []
