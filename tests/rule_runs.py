@@ -1,12 +1,12 @@
 #!/usr/bin/env python3
-"""Rows of crates/run_vectors/stdin over blocks that break J4 to J14.
+"""Rows of crates/run_vectors/stdin over blocks that break J4 to J14, J16, J17 or J32, and over two that break G4.
 
     python3 tests/rule_runs.py
 
-The blocks are those of examples/make_rule_blocks.py, where each chain is a store
-of its own and its items are one input of `import`. The lines are the ones that
-script says, for chains whose blocks keep J15 to J32 too. They owe nothing to the
-program.
+The blocks are those of examples/make_rule_blocks.py and of the chain below, where
+each chain is a store of its own and its items are one input of `import`. The lines
+are the ones that stand beside the blocks, for chains whose blocks keep the other
+rules up to J32 too. They owe nothing to the program.
 """
 
 import os
@@ -17,9 +17,84 @@ sys.path.insert(0, os.path.join(os.path.dirname(HERE), 'examples'))
 sys.dont_write_bytecode = True
 
 import make_rule_blocks as rules  # noqa: E402 (beside the path above)
+from make_rule_blocks import ZERO_HASH, as_bytes, ckbhash, fixvec, table, uint  # noqa: E402
+
+LOCK = table([ZERO_HASH, b'\0', as_bytes(b'')])
+# a `CellbaseWitness`: a lock and a message
+WITNESS = table([LOCK, as_bytes(b'')])
+NULL_OUT_POINT = ZERO_HASH + uint(0xffffffff, 4)
+
+
+def output(type_script=b''):
+    return table([uint(100 * 10 ** 8, 8), LOCK, type_script])
+
+
+def transaction(since, version=0, cell_deps=(), header_deps=(), inputs=1, outputs=(), data=(), witnesses=(WITNESS,)):
+    raw = [uint(version, 4), fixvec(cell_deps), fixvec(header_deps), fixvec([uint(since, 8) + NULL_OUT_POINT] * inputs),
+           table(outputs), table([as_bytes(it) for it in data])]
+    return table([table(raw), table([as_bytes(it) for it in witnesses])])
+
+
+def cellbases():
+    """J16 and J17: each part of a cellbase's form broken alone. J32: C or AR is 0."""
+    chain = rules.Chain()
+    chain.joins()
+    number = len(chain.blocks)
+
+    def breaks(rule, *transactions, **changes):
+        chain.breaks(rule, transactions=list(transactions), **changes)
+
+    good = transaction(number)
+    spends = table([table([uint(0, 4), fixvec([]), fixvec([]), fixvec([uint(0, 8) + ZERO_HASH + uint(0, 4)]),
+                           table([output()]), table([as_bytes(b'')])]), table([])])
+    breaks(16)
+    breaks(16, transaction(number, inputs=0))
+    breaks(16, transaction(number, inputs=2))
+    breaks(16, spends, good)
+    breaks(16, good, transaction(number + 1))
+    # the same one twice
+    breaks(16, good, spends, spends)
+    for since in (number - 1, number + 1, 0, number << 8, 1 << 63 | number):
+        breaks(17, transaction(since))
+    breaks(17, transaction(number, version=1))
+    breaks(17, transaction(number, version=1 << 31))
+    breaks(17, transaction(number, cell_deps=[ckbhash(b'') + uint(0, 4) + b'\0']))
+    breaks(17, transaction(number, header_deps=[ckbhash(chain.head(0))]))
+    breaks(17, transaction(number, outputs=[output(), output()], data=[b'', b'']))
+    breaks(17, transaction(number, outputs=[output(LOCK)], data=[b'']))
+    breaks(17, transaction(number, outputs=[output()]))
+    breaks(17, transaction(number, data=[b'']))
+    breaks(17, transaction(number, outputs=[output()], data=[b'', b'']))
+    breaks(17, transaction(number, outputs=[output()], data=[b'\0']))
+    breaks(17, transaction(number, witnesses=[]))
+    breaks(17, transaction(number, witnesses=[b'']))
+    breaks(17, transaction(number, witnesses=[LOCK]))
+    breaks(17, transaction(number, witnesses=[WITNESS + b'\0']))
+    breaks(17, transaction(number, witnesses=[table([LOCK, as_bytes(b''), b''])]))
+    breaks(17, transaction(number, witnesses=[b'', WITNESS]))
+    # the form of the cellbase comes before the rules on a transaction behind it, and on the DAO field
+    breaks(17, transaction(number, version=1), spends)
+    none, some = uint(0, 8), uint(1, 8)
+    breaks(17, transaction(number, version=1), dao=4 * none)
+    breaks(32, good, dao=none + 3 * some)
+    breaks(32, good, dao=some + none + 2 * some)
+    breaks(32, good, dao=4 * none)
+    chain.joins(transactions=[transaction(number, witnesses=[WITNESS, b'', WITNESS + b'\0'])])
+    return chain
+
+
+def genesis_without(parts):
+    """A specification, and a genesis with 0 for these parts of its DAO field: C is part 0, AR part 1."""
+    spec, genesis = (bytes.fromhex(row.split('\t')[1]) for row in rules.Chain().rows)
+    for part in parts:
+        at = 20 + 160 + 8 * part
+        genesis = genesis[:at] + bytes(8) + genesis[at + 8:]
+    return spec + genesis
+
 
 # chains of which no block joins that breaks a later rule
-CHAINS = ('alone_and_before_a_later_one', 'numbers', 'medians', 'greatest_timestamp', 'epochs', 'proposals')
+CHAINS = tuple(getattr(rules, it) for it in ('alone_and_before_a_later_one', 'numbers', 'medians', 'greatest_timestamp',
+                                             'epochs', 'proposals')) + (cellbases,)
 
 
 def line_of(said, item):
@@ -43,8 +118,9 @@ def stores(rows):
 
 
 def main():
-    for name in CHAINS:
-        for n, (spec, genesis, items) in enumerate(list(stores(getattr(rules, name)().rows))):
+    for chain in CHAINS:
+        name = chain.__name__
+        for n, (spec, genesis, items) in enumerate(list(stores(chain().rows))):
             lines = [line_of(said, item) for said, item in items]
             refused = any(not it.startswith('joined') for it in lines)
             print('folder\t%s %d' % (name, n))
@@ -52,6 +128,9 @@ def main():
             print('\t'.join([name, 'init', '0', (spec + genesis).hex(), ('genesis 0x%s\n' % digest).encode().hex()]))
             print('\t'.join([name, 'import', str(int(refused)), b''.join(item for _, item in items).hex(),
                              ''.join(lines).encode().hex()]))
+    for parts in ((0,), (1,)):
+        print('folder\tgenesis without part %d' % parts)
+        print('\t'.join(['genesis', 'init', '11', genesis_without(parts).hex(), b'bad genesis G4\n'.hex()]))
 
 
 if __name__ == '__main__':
