@@ -3,7 +3,8 @@
 it must be answered with.
 
     python3 make_rule_blocks.py
-        the rows that crates/rule_vectors reads, on standard output
+        rows that crates/rule_vectors reads, on standard output: those from the 236th
+        on, up to the ones of make_window_rows.py
 
 A row is a word or words, a tab, and bytes in hex. `spec` and `genesis` begin a
 chain. Each other row is an item, tried in its order on the blocks that joined

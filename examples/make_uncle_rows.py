@@ -1,7 +1,8 @@
 #!/usr/bin/env python3
-"""Makes the rows on the rule on uncles that crates/uncle_vectors reads.
+"""Makes the rows on the rule on uncles that crates/rule_vectors reads.
 
-    python3 make_uncle_rows.py > ../crates/uncle_vectors/stdin
+    python3 make_uncle_rows.py
+        these rows on standard output; they stand behind those of make_window_rows.py
 
 A row is a word and its columns, with a tab between two, bytes in hex:
 

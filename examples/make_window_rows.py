@@ -1,7 +1,8 @@
 #!/usr/bin/env python3
-"""Makes the rows on the proposal window that crates/window_vectors reads.
+"""Makes the rows on the proposal window that crates/rule_vectors reads.
 
-    python3 make_window_rows.py > ../crates/window_vectors/stdin
+    python3 make_window_rows.py
+        these rows on standard output; they stand behind those of make_rule_blocks.py
 
 A row is a word and its columns, with a tab between two, bytes in hex:
 

@@ -1,172 +1,100 @@
-//! Tries the rules J4 to J14 on each row of its standard input.
+//! The rules on a block apart from its transactions: tries each row of its standard input, and prints the rows that differ.
 //!
-//! A row is what it begins, or what an item is answered, a tab, and bytes in hex. `spec` and `genesis` begin a chain, each
-//! other row is an item, tried on the blocks that joined before it: `joined`, `known` or `refused J` and a number. The first
-//! rows were made by a program that was written from docs/RULES.md alone, those from the 236th on by
-//! examples/make_rule_blocks.py. The program prints each row that differs, with the answer that it got, and how many agree;
-//! its status is 1 where one differs.
+//! A row is a word and its columns, with a tab between two, bytes in hex. `spec` and `genesis` begin a chain, and a `block`
+//! joins it whatever rules it breaks. `earliest` asks for the earliest proposer of an id and `uncles` for J15; both are asked
+//! of the blocks that joined so far, and examples/make_window_rows.py and examples/make_uncle_rows.py say what their columns
+//! are. A row that begins with `joined`, `known` or `refused J` and a number is an item that must be answered so: it joins
+//! where it keeps J4 to J14. The first 235 rows were made by a program that was written from docs/RULES.md alone. Those of
+//! examples/make_rule_blocks.py stand behind them, then those on the window, then those on uncles.
 #![tactic(auto)]
 
-use blake2b_ckb::ckbhash;
-use chain_tree::{Entry, Tree};
+mod chain;
+mod items;
+mod uncles;
+mod window;
+
+use chain::{Chain, chain_of, join};
 use epochs::Spec;
-use mol_schema::{BlockView, HeaderView};
-use outside::NoMemory;
+use mol_schema::BlockView;
 use std::alloc::Global;
+use std::io;
 use std::io::{BufRead, BufReader};
 use std::process::ExitCode;
-use std::{fmt, io};
 
-/// The kept blocks, and the specification of their chain.
+/// The chain of the rows so far, and the specification that waits for its genesis.
 #[derive(Drop)]
-struct Chain {
-    spec: Spec,
-    tree: Tree,
+struct Table {
+    spec: Option<Spec>,
+    chain: Option<Chain>,
 }
 
-#[derive(Drop)]
-enum Answer {
-    Joined,
-    Known,
-    Refused(u8),
+/// Joins a block, and says that it did.
+fn joins(alloc: Global, chain: &mut Chain, digits: &str) -> Option<bool> {
+    let bytes = hex::decode(alloc, digits).ok()?;
+    join(alloc, chain, &BlockView::read(&bytes)?)?;
+    Some(true)
 }
 
-impl fmt::Display for Answer {
-    fn fmt<W: fmt::Write>(&self, f: &mut fmt::Formatter<W>) -> fmt::Result {
-        match self {
-            Answer::Joined => f.write_str("joined"),
-            Answer::Known => f.write_str("known"),
-            Answer::Refused(rule) => write!(f, "refused J{rule}"),
-        }
+/// Whether an item is answered as its row wants.
+fn is_answered(alloc: Global, chain: &mut Chain, wanted: &str, digits: &str) -> Option<bool> {
+    let item = hex::decode(alloc, digits).ok()?;
+    Some(items::answer(alloc, chain, &item)?.as_str() == wanted)
+}
+
+/// Whether the rule on uncles holds as a row has it.
+fn has_uncles(alloc: Global, chain: &Chain, columns: &str) -> Option<bool> {
+    let (columns, wanted) = columns.rsplit_once('\t')?;
+    let (parent, block) = columns.split_once('\t')?;
+    Some(uncles::keeps(alloc, chain, parent, block)? == (wanted == "yes"))
+}
+
+/// Whether the earliest proposer is the one of a row.
+fn is_proposed(alloc: Global, chain: &mut Chain, columns: &str) -> Option<bool> {
+    let (columns, wanted) = columns.rsplit_once('\t')?;
+    let (parent, columns) = columns.split_once('\t')?;
+    let (id, height) = columns.split_once('\t')?;
+    let bytes = hex::decode(alloc, id).ok()?;
+    let id = <[u8; 10]>::try_from(&bytes[..]).ok()?;
+    match window::found(chain, parent.parse().ok()?, &id, height.parse().ok()?)? {
+        Some(proposer) => Some(proposer == wanted.parse().ok()?),
+        None => Some(wanted == "none"),
     }
 }
 
-fn hash_in(bytes: &[u8]) -> Option<[u8; 32]> {
-    <[u8; 32]>::try_from(bytes).ok()
-}
-
-fn entry_of(header: &HeaderView<'_>, parent: u32) -> Entry {
-    Entry {
-        hash: ckbhash(header.bytes()),
-        parent,
-        number: header.number(),
-        timestamp: header.timestamp(),
-        dao: [0; 32],
-        at: 0,
-        len: 0,
+/// Whether the row holds; None where it is none.
+fn agrees(alloc: Global, table: &mut Table, row: &str) -> Option<bool> {
+    let (word, columns) = row.split_once('\t')?;
+    if word == "spec" {
+        table.spec = Spec::read(&hex::decode(alloc, columns).ok()?).ok();
+        return Some(table.spec.is_some());
     }
-}
-
-/// Adds a block that follows a kept one, and says whether it does.
-fn join(tree: &mut Tree, entry: Entry) -> Result<bool, NoMemory> {
-    if tree.len() >= 1_000_000 || entry.parent >= tree.len() {
-        return Ok(false);
+    if word == "genesis" {
+        table.chain = chain_of(alloc, table.spec?, &hex::decode(alloc, columns).ok()?);
+        return Some(table.chain.is_some());
     }
-    if tree.entry(entry.parent).number + 1 != entry.number {
-        return Ok(false);
-    }
-    if let Some(_) = tree.find(&entry.hash) {
-        return Ok(false);
-    }
-    tree.reserve()?;
-    tree.add(entry);
-    Ok(true)
-}
-
-/// The answer to an item. None where a block that breaks none of the rules does not follow its parent.
-fn judge(alloc: Global, chain: &mut Chain, bytes: &[u8]) -> Result<Option<Answer>, NoMemory> {
-    let Some(block) = BlockView::read(bytes) else {
-        return Ok(Some(Answer::Refused(1)));
+    let Some(chain) = &mut table.chain else {
+        return None;
     };
-    let header = block.header();
-    if let Some(_) = chain.tree.find(&ckbhash(header.bytes())) {
-        return Ok(Some(Answer::Known));
+    match word {
+        "block" => joins(alloc, chain, columns),
+        "earliest" => is_proposed(alloc, chain, columns),
+        "uncles" => has_uncles(alloc, chain, columns),
+        wanted => is_answered(alloc, chain, wanted, columns),
     }
-    let Some(parent_hash) = hash_in(header.parent_hash()) else {
-        return Ok(None);
-    };
-    let Some(parent) = chain.tree.find(&parent_hash) else {
-        return Ok(Some(Answer::Refused(3)));
-    };
-    if let Some(rule) = header_rules::check(&chain.spec, &chain.tree, parent, &header) {
-        return Ok(Some(Answer::Refused(rule)));
-    }
-    if let Some(rule) = block_rules::check(alloc, &chain.spec, &block)? {
-        return Ok(Some(Answer::Refused(rule)));
-    }
-    Ok(if join(&mut chain.tree, entry_of(&header, parent))? {
-        Some(Answer::Joined)
-    } else {
-        None
-    })
 }
 
-/// The chain of a specification and a genesis.
-fn chain_of(alloc: Global, spec: Spec, genesis: &[u8]) -> Result<Option<Chain>, NoMemory> {
-    let Some(block) = BlockView::read(genesis) else {
-        return Ok(None);
-    };
-    let entry = entry_of(&block.header(), 0);
-    if entry.number != 0 {
-        return Ok(None);
-    }
-    let tree = Tree::new(alloc, entry)?;
-    Ok(Some(Chain { spec, tree }))
-}
-
-/// Tries a row, and says whether it agrees, which none does out of memory. A specification waits for its genesis.
-fn try_row(
-    rt: HostRuntime,
-    spec: &mut Option<Spec>,
-    chain: &mut Option<Chain>,
-    wanted: &str,
-    bytes: &[u8],
-) -> io::Result<bool> {
-    if wanted == "spec" {
-        *spec = Spec::read(bytes).ok();
-        return Ok(spec.is_some());
-    }
-    if wanted == "genesis" {
-        let Some(spec) = *spec else {
-            return Ok(false);
-        };
-        *chain = chain_of(rt.alloc(), spec, bytes).unwrap_or(None);
-        return Ok(chain.is_some());
-    }
-    let Some(chain) = chain else {
-        return Ok(false);
-    };
-    let Ok(Some(answer)) = judge(rt.alloc(), chain, bytes) else {
-        return Ok(false);
-    };
-    let got = format!(in rt.alloc(); "{answer}")?;
-    if got.as_str() != wanted {
-        println!(rt; "got: {got}")?;
-    }
-    Ok(got.as_str() == wanted)
-}
-
-fn main(rt: HostRuntime) -> io::Result<ExitCode> {
+/// Tries each row, and prints those that differ and how many agree.
+fn try_rows(rt: HostRuntime, table: &mut Table) -> io::Result<ExitCode> {
     let alloc = rt.alloc();
-    let mut spec = None;
-    let mut chain = None;
     let mut rows = 0u64;
     let mut agreed = 0u64;
-    for line in BufReader::new(alloc, rt.reader())?.lines(alloc) {
-        let line = line?;
+    for row in BufReader::new(alloc, rt.reader())?.lines(alloc) {
+        let row = row?;
         rows = rows.saturating_add(1);
-        let Some((wanted, digits)) = line.split_once('\t') else {
-            println!(rt; "row {rows} is none")?;
-            continue;
-        };
-        let Ok(bytes) = hex::decode(alloc, digits) else {
-            println!(rt; "row {rows} is none")?;
-            continue;
-        };
-        if try_row(rt, &mut spec, &mut chain, wanted, &bytes)? {
+        if agrees(alloc, table, &row) == Some(true) {
             agreed = agreed.saturating_add(1);
         } else {
-            println!(rt; "row {rows} differs: {wanted}")?;
+            println!(rt; "row {rows} differs")?;
         }
     }
     println!(rt; "{agreed} of {rows} rows agree")?;
@@ -175,4 +103,12 @@ fn main(rt: HostRuntime) -> io::Result<ExitCode> {
     } else {
         ExitCode::FAILURE
     })
+}
+
+fn main(rt: HostRuntime) -> io::Result<ExitCode> {
+    let mut table = Table {
+        spec: None,
+        chain: None,
+    };
+    try_rows(rt, &mut table)
 }

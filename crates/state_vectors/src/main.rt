@@ -133,36 +133,44 @@ fn answer<L: Ledger>(
     }
 }
 
-fn try_rows<L: Ledger>(rt: HostRuntime, blank: Blank) -> io::Result<ExitCode>
-    requires name { blank.name ≡ L.name }
-    requires parts { blank.parts ≡ L.parts }
-    requires some { 0 < L.parts }
-{
+/// Tries a row, and says whether it agrees.
+fn try_row<L: Ledger>(
+    rt: HostRuntime,
+    state: &mut Option<State>,
+    steps: &mut Steps<L>,
+    row: &str,
+) -> io::Result<bool> {
     let alloc = rt.alloc();
-    let mut steps = Steps::<L>::new(blank);
-    let mut state = None;
+    let Some((wanted, digits)) = row.split_once('\t') else {
+        return Ok(false);
+    };
+    let Ok(bytes) = hex::decode(alloc, digits) else {
+        return Ok(false);
+    };
+    let Some(got) = answer(alloc, state, steps, wanted, &bytes)? else {
+        return Ok(false);
+    };
+    if got.as_str() != wanted {
+        println!(rt; "got: {got}")?;
+    }
+    Ok(got.as_str() == wanted)
+}
+
+/// Tries each row, and prints those that differ and how many agree.
+fn try_rows<L: Ledger>(
+    rt: HostRuntime,
+    state: &mut Option<State>,
+    steps: &mut Steps<L>,
+) -> io::Result<ExitCode> {
+    let alloc = rt.alloc();
     let mut rows = 0u64;
     let mut agreed = 0u64;
-    for line in BufReader::new(alloc, rt.reader())?.lines(alloc) {
-        let line = line?;
+    for row in BufReader::new(alloc, rt.reader())?.lines(alloc) {
         rows = rows.saturating_add(1);
-        let Some((wanted, digits)) = line.split_once('\t') else {
-            println!(rt; "row {rows} is none")?;
-            continue;
-        };
-        let Ok(bytes) = hex::decode(alloc, digits) else {
-            println!(rt; "row {rows} is none")?;
-            continue;
-        };
-        match answer(alloc, &mut state, &mut steps, wanted, &bytes)? {
-            None => println!(rt; "row {rows} has no answer")?,
-            Some(got) => {
-                if got.as_str() == wanted {
-                    agreed = agreed.saturating_add(1);
-                } else {
-                    println!(rt; "row {rows} differs, got: {got}")?;
-                }
-            }
+        if try_row(rt, state, steps, &row?)? {
+            agreed = agreed.saturating_add(1);
+        } else {
+            println!(rt; "row {rows} differs")?;
         }
     }
     println!(rt; "{agreed} of {rows} rows agree")?;
@@ -173,6 +181,16 @@ fn try_rows<L: Ledger>(rt: HostRuntime, blank: Blank) -> io::Result<ExitCode>
     })
 }
 
+fn begin<L: Ledger>(rt: HostRuntime, blank: Blank) -> io::Result<ExitCode>
+    requires name { blank.name ≡ L.name }
+    requires parts { blank.parts ≡ L.parts }
+    requires some { 0 < L.parts }
+{
+    let mut steps = Steps::<L>::new(blank);
+    let mut state = None;
+    try_rows(rt, &mut state, &mut steps)
+}
+
 fn main(rt: HostRuntime) -> io::Result<ExitCode> {
-    try_rows::<Brand>(rt, Blank::new(1))
+    begin::<Brand>(rt, Blank::new(1))
 }

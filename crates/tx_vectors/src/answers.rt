@@ -9,33 +9,36 @@ use std::alloc::Global;
 use std::io;
 use tx_rules::{TxAt, TxOk, TxStop, resolve};
 
+/// Adds a word, behind a comma but for the first.
+fn add_word(text: &mut String, word: &str) -> io::Result<()> {
+    if !text.is_empty() {
+        text.push(',')?;
+    }
+    text.push_str(word)?;
+    Ok(())
+}
+
 /// The index of each cell and the length of its data.
 fn cells_text(alloc: Global, cells: &[Resolved]) -> io::Result<String> {
+    if cells.is_empty() {
+        return Ok(format!(in alloc; "-")?);
+    }
     let mut text = String::new(alloc);
     for cell in cells {
-        if !text.is_empty() {
-            text.push(',')?;
-        }
         let index = cell.out_point.index;
         let len = cell.content.len();
-        text.push_str(format!(in alloc; "{index}/{len}")?.as_str())?;
-    }
-    if text.is_empty() {
-        text.push('-')?;
+        add_word(&mut text, format!(in alloc; "{index}/{len}")?.as_str())?;
     }
     Ok(text)
 }
 
 fn places_text(alloc: Global, places: &[u32]) -> io::Result<String> {
+    if places.is_empty() {
+        return Ok(format!(in alloc; "-")?);
+    }
     let mut text = String::new(alloc);
     for place in places {
-        if !text.is_empty() {
-            text.push(',')?;
-        }
-        text.push_str(format!(in alloc; "{place}")?.as_str())?;
-    }
-    if text.is_empty() {
-        text.push('-')?;
+        add_word(&mut text, format!(in alloc; "{place}")?.as_str())?;
     }
     Ok(text)
 }

@@ -39,6 +39,13 @@ struct Chain {
     state: State,
 }
 
+/// The chain of the rows so far, and the specification that its genesis follows.
+#[derive(Drop)]
+struct Table {
+    spec: Option<Spec>,
+    chain: Option<Chain>,
+}
+
 fn chain_of<L: Ledger>(
     alloc: Global,
     steps: &mut Steps<L>,
@@ -109,6 +116,18 @@ fn shadow<L: Ledger>(
     Ok(true)
 }
 
+/// What a transaction is answered behind the last block.
+fn answer_alone(alloc: Global, chain: &mut Chain, tx: &[u8]) -> io::Result<String> {
+    alone(
+        alloc,
+        &chain.spec,
+        &chain.tree,
+        &mut chain.blocks,
+        &chain.state,
+        tx,
+    )
+}
+
 /// What the last transaction of the front of a block is answered.
 fn answer_within<L: Ledger>(
     alloc: Global,
@@ -143,39 +162,41 @@ fn answer_within<L: Ledger>(
 fn answer<L: Ledger>(
     alloc: Global,
     steps: &mut Steps<L>,
-    spec: &mut Option<Spec>,
-    chain: &mut Option<Chain>,
+    table: &mut Table,
     word: &str,
     parts: &[Vec<u8>],
 ) -> io::Result<Option<String>> {
     let Some(first) = parts.first() else {
         return Ok(None);
     };
-    let second = parts.get(1);
     if word == "spec" {
-        *spec = Spec::read(first).ok();
+        table.spec = Spec::read(first).ok();
         return Ok(Some(format!(in alloc; "spec")?));
     }
     if word == "genesis" {
-        let Some(spec) = *spec else {
+        let Some(spec) = table.spec else {
             return Ok(None);
         };
-        *chain = chain_of(alloc, steps, spec, first).unwrap_or(None);
+        table.chain = chain_of(alloc, steps, spec, first).unwrap_or(None);
         return Ok(Some(format!(in alloc; "genesis")?));
     }
-    let Some(chain) = chain else {
-        return Ok(None);
-    };
+    match &mut table.chain {
+        Some(chain) => answer_on(alloc, steps, chain, word, first, parts.get(1)),
+        None => Ok(None),
+    }
+}
+
+/// What a row gives on a chain, as its word. None where it is none.
+fn answer_on<L: Ledger>(
+    alloc: Global,
+    steps: &mut Steps<L>,
+    chain: &mut Chain,
+    word: &str,
+    first: &[u8],
+    second: Option<&Vec<u8>>,
+) -> io::Result<Option<String>> {
     let Some(second) = second else {
-        let got = alone(
-            alloc,
-            &chain.spec,
-            &chain.tree,
-            &mut chain.blocks,
-            &chain.state,
-            first,
-        )?;
-        return Ok(Some(got));
+        return Ok(Some(answer_alone(alloc, chain, first)?));
     };
     let done = match word {
         "block" => next(alloc, steps, chain, first, second),
@@ -200,37 +221,44 @@ fn bytes_of(alloc: Global, words: &str) -> io::Result<Option<Vec<Vec<u8>>>> {
     Ok(Some(parts))
 }
 
-fn try_rows<L: Ledger>(rt: HostRuntime, blank: Blank) -> io::Result<ExitCode>
-    requires name { blank.name ≡ L.name }
-    requires parts { blank.parts ≡ L.parts }
-    requires some { 0 < L.parts }
-{
+/// Tries a row, and says whether it agrees.
+fn try_row<L: Ledger>(
+    rt: HostRuntime,
+    steps: &mut Steps<L>,
+    table: &mut Table,
+    row: &str,
+) -> io::Result<bool> {
     let alloc = rt.alloc();
-    let mut steps = Steps::<L>::new(blank);
-    let mut spec = None;
-    let mut chain = None;
+    let Some((wanted, words)) = row.split_once('\t') else {
+        return Ok(false);
+    };
+    let Some(parts) = bytes_of(alloc, words)? else {
+        return Ok(false);
+    };
+    let Some(got) = answer(alloc, steps, table, wanted, &parts)? else {
+        return Ok(false);
+    };
+    if got.as_str() != wanted {
+        println!(rt; "got: {got}")?;
+    }
+    Ok(got.as_str() == wanted)
+}
+
+/// Tries each row, and prints those that differ and how many agree.
+fn try_rows<L: Ledger>(
+    rt: HostRuntime,
+    steps: &mut Steps<L>,
+    table: &mut Table,
+) -> io::Result<ExitCode> {
+    let alloc = rt.alloc();
     let mut rows = 0u64;
     let mut agreed = 0u64;
-    for line in BufReader::new(alloc, rt.reader())?.lines(alloc) {
-        let line = line?;
+    for row in BufReader::new(alloc, rt.reader())?.lines(alloc) {
         rows = rows.saturating_add(1);
-        let Some((wanted, words)) = line.split_once('\t') else {
-            println!(rt; "row {rows} is none")?;
-            continue;
-        };
-        let Some(parts) = bytes_of(alloc, words)? else {
-            println!(rt; "row {rows} is none")?;
-            continue;
-        };
-        match answer(alloc, &mut steps, &mut spec, &mut chain, wanted, &parts)? {
-            None => println!(rt; "row {rows} has no answer")?,
-            Some(got) => {
-                if got.as_str() == wanted {
-                    agreed = agreed.saturating_add(1);
-                } else {
-                    println!(rt; "row {rows} differs, got: {got}")?;
-                }
-            }
+        if try_row(rt, steps, table, &row?)? {
+            agreed = agreed.saturating_add(1);
+        } else {
+            println!(rt; "row {rows} differs")?;
         }
     }
     println!(rt; "{agreed} of {rows} rows agree")?;
@@ -241,6 +269,19 @@ fn try_rows<L: Ledger>(rt: HostRuntime, blank: Blank) -> io::Result<ExitCode>
     })
 }
 
+fn begin<L: Ledger>(rt: HostRuntime, blank: Blank) -> io::Result<ExitCode>
+    requires name { blank.name ≡ L.name }
+    requires parts { blank.parts ≡ L.parts }
+    requires some { 0 < L.parts }
+{
+    let mut steps = Steps::<L>::new(blank);
+    let mut table = Table {
+        spec: None,
+        chain: None,
+    };
+    try_rows(rt, &mut steps, &mut table)
+}
+
 fn main(rt: HostRuntime) -> io::Result<ExitCode> {
-    try_rows::<Brand>(rt, Blank::new(1))
+    begin::<Brand>(rt, Blank::new(1))
 }

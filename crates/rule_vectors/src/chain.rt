@@ -1,0 +1,135 @@
+//! A chain in memory: its tree, its blocks with their exts, and the uncles that they embed.
+
+ghost use Rattle.std.specs.Prelude.{◌≡◌, ◌<◌, true, false, length, IfSome};
+ghost use Rattle.cell_model.specs.ListBlocks.{IsCanonical, IsExtFor};
+
+use blake2b_ckb::ckbhash;
+use cell_model::{Ext, ListBlocks};
+use chain_tree::{Entry, Tree};
+use epochs::Spec;
+use mol_schema::{BlockView, HeaderView};
+use std::alloc::Global;
+use uncle_rules::Uncles;
+
+const BLOCK_LIMIT: u32 = 1_000_000;
+
+#[derive(Drop)]
+pub(crate) struct Chain {
+    pub(crate) spec: Spec,
+    pub(crate) tree: Tree,
+    pub(crate) blocks: ListBlocks,
+    pub(crate) uncles: Uncles,
+}
+
+fn entry_of(header: &HeaderView<'_>, parent: u32) -> Entry {
+    Entry {
+        hash: ckbhash(header.bytes()),
+        parent,
+        number: header.number(),
+        timestamp: header.timestamp(),
+        dao: [0; 32],
+        at: 0,
+        len: 0,
+    }
+}
+
+/// Whether the bytes are a block, and what stands beside a later one is an ext with a fee for each of its transactions
+/// after the first.
+fn may_be_kept(alloc: Global, is_first: bool, block: &[u8], ext: &[u8]) -> Option<bool>
+    ensures { IfSome result (λ may. may ≡ true → IsCanonical block.now × (is_first ≡ false → IsExtFor block.now ext.now)) }
+{
+    let Some(view) = BlockView::read(block) else {
+        return Some(false);
+    };
+    if is_first {
+        return Some(true);
+    }
+    match Ext::read(alloc, ext) {
+        Ok(Some(ext)) => Some(ext.fees.len() == view.transactions_count().saturating_sub(1)),
+        Ok(None) => Some(false),
+        Err(_) => None,
+    }
+}
+
+/// An ext with no rows, whose fees are 0.
+fn ext_of(alloc: Global, block: &BlockView<'_>) -> Option<Vec<u8>> {
+    let fees = block.transactions_count().saturating_sub(1);
+    if fees > u32::MAX as usize {
+        return None;
+    }
+    let mut ext = Vec::new(alloc);
+    ext.extend_from_slice(&(fees as u32).to_le_bytes()).ok()?;
+    for _ in 0..fees {
+        ext.extend_from_slice(&[0; 8]).ok()?;
+    }
+    ext.extend_from_slice(&[0; 4]).ok()?;
+    Some(ext)
+}
+
+/// Puts a block behind the others. None where it may not stand there, or there is no memory.
+fn keep(alloc: Global, blocks: &mut ListBlocks, block: &BlockView<'_>) -> Option<()> {
+    let ext = ext_of(alloc, block)?;
+    let block = block.bytes().to_vec(alloc).ok()?;
+    let kept = blocks.len();
+    if kept >= BLOCK_LIMIT || !may_be_kept(alloc, kept == 0, &block, &ext)? {
+        return None;
+    }
+    blocks.push(block, ext).ok()
+}
+
+/// Takes the uncles of a block at a place.
+fn take_uncles(uncles: &mut Uncles, block: &BlockView<'_>, place: u32) -> Option<()> {
+    uncles.reserve(block.uncles_count()).ok()?;
+    uncles.add(block, place);
+    Some(())
+}
+
+/// The chain of a specification and a genesis.
+pub(crate) fn chain_of(alloc: Global, spec: Spec, genesis: &[u8]) -> Option<Chain> {
+    let block = BlockView::read(genesis)?;
+    let entry = entry_of(&block.header(), 0);
+    if entry.number != 0 {
+        return None;
+    }
+    let tree = Tree::new(alloc, entry).ok()?;
+    let mut blocks = ListBlocks::new(Vec::new(alloc), Vec::new(alloc));
+    keep(alloc, &mut blocks, &block)?;
+    let mut uncles = Uncles::new(alloc);
+    take_uncles(&mut uncles, &block, 0)?;
+    Some(Chain {
+        spec,
+        tree,
+        blocks,
+        uncles,
+    })
+}
+
+/// Adds an entry on its parent; None where it does not follow this.
+fn add(tree: &mut Tree, entry: Entry) -> Option<()> {
+    if tree.len() >= BLOCK_LIMIT || entry.parent >= tree.len() {
+        return None;
+    }
+    if tree.entry(entry.parent).number + 1 != entry.number || tree.find(&entry.hash).is_some() {
+        return None;
+    }
+    tree.reserve().ok()?;
+    tree.add(entry);
+    Some(())
+}
+
+/// The place of the block that a header names as its parent.
+pub(crate) fn parent_of(tree: &Tree, header: &HeaderView<'_>) -> Option<u32>
+    ensures { IfSome result (λ place. place < length tree.now.entries) }
+{
+    tree.find(&<[u8; 32]>::try_from(header.parent_hash()).ok()?)
+}
+
+/// Joins a block to its parent, whatever rules it breaks. None where it does not follow this.
+pub(crate) fn join(alloc: Global, chain: &mut Chain, block: &BlockView<'_>) -> Option<()> {
+    let header = block.header();
+    let parent = parent_of(&chain.tree, &header)?;
+    let place = chain.tree.len();
+    add(&mut chain.tree, entry_of(&header, parent))?;
+    take_uncles(&mut chain.uncles, block, place)?;
+    keep(alloc, &mut chain.blocks, block)
+}
