@@ -74,6 +74,9 @@ opening_stop status (inr (inl fault)) there = subst IsStop (sym fault) tt
 opening_stop status (inr (inr (inl memory))) there = subst IsStop (sym memory) tt
 opening_stop status (inr (inr (inr never))) there = absurd never
 
+pub opening_no_sink : (status : Status) → IsOneOf opening_stops status → status ≡ SinkFault → ⊥
+opening_no_sink status one = each_of (λ s. s ≡ SinkFault → ⊥) opening_stops status (λ e. cc, (λ e. cc, (λ e. cc, tt))) one
+
 -- what stops an opening is no answer
 abbrev IsOpeningStop : Status → Type 0
 IsOpeningStop NotAStore = Unit {0}
@@ -111,6 +114,13 @@ pub tip_opening : (status : Status) → IsOneOf opening_stops status → IsOneOf
 tip_opening status one =
     each_of (λ s. IsOneOf tip_statuses s) opening_stops status
     (inr (inr (inr (inr (inl refl)))), (inr (inr (inl refl)), (inr (inr (inr (inl refl))), tt))) one
+
+pub tip_telling : (status : Status) → IsOneOf (Done ∷ SinkFault ∷ NoMemory ∷ []) status → IsOneOf tip_statuses status
+tip_telling status one =
+    each_of (λ s. IsOneOf tip_statuses s) (Done ∷ SinkFault ∷ NoMemory ∷ []) status (inl refl, (inr (inl refl), (inr (inr (inr (inl refl))), tt))) one
+
+pub tip_no_disk_fault : (status : Status) → IsOneOf (Done ∷ SinkFault ∷ NoMemory ∷ []) status → status ≡ DiskFault → ⊥
+tip_no_disk_fault status one = each_of (λ s. s ≡ DiskFault → ⊥) (Done ∷ SinkFault ∷ NoMemory ∷ []) status (λ e. cc, (λ e. cc, (λ e. cc, tt))) one
 
 -- ---- The status behind the end of an import
 
