@@ -21,18 +21,18 @@ use Rattle.report_defs.specs.Status.{IsOneOf}
 use Rattle.report_defs.specs.Items.{AreItems, split_of}
 use Rattle.report_defs.specs.Text.{trial_line}
 use Rattle.report_defs.specs.Report.{Report, text_of, check_limits, check_item_limit, status_of_trial, report_of_trial, report_of_first, report_of_check, report_of_end}
-use Rattle.report_defs.specs.Promise.{IsPrefix, MatchesReport, ChecksInOrder}
+use Rattle.report_defs.specs.Promise.{IsPrefix, check_statuses}
 use Rattle.report_defs.proofs.ItemLemmas.{split_of-is, end_at-nothing}
-use Rattle.item_reader.specs.Items.{EndsAt}
+use Rattle.item_reader.specs.Items.{EndsAt, IsReadingStop}
 use Rattle.node_core.specs.Node.{NodeValue, IsOn}
-use Rattle.node_run.specs.Check.{IsOne, EndsBeforeOne, DeliversCheck}
+use Rattle.node_run.specs.Check.{IsOne, EndsBeforeOne, full, IsChecked, DeliversCheck}
 use Rattle.node_run.specs.Import.{IsStop}
-use Rattle.node_run.specs.Output.{IsSaid, IsToldAnswer, IsWritingStop}
+use Rattle.node_run.specs.Output.{early_ends, IsSaid, IsToldAnswer, IsWritingStop}
 use Rattle.node_run.specs.Store.{opening_stops}
 use Rattle.node_run.proofs.ImportLemmas.{on_stands}
 use Rattle.node_run.proofs.InitLemmas.{said_text, said_silent, no_stop, all_given}
 use Rattle.node_run.proofs.StoreLemmas.{if_told, same_chain, store_of_stands, delivers, keeps_opened, keeps_read, keeps_unopened, unopened, sound_opening, sound_here, by_disk_or_memory}
-use Rattle.node_run.proofs.Statuses.{IsEarly, not_early, stop_not_reported, stop_not_done, stop_not_ended, writing_stops, opening_not_done, only_at_end}
+use Rattle.node_run.proofs.Statuses.{each_of, IsEarly, not_early, stop_not_reported, stop_not_done, stop_not_ended, writing_stops, opening_not_done, only_at_end}
 
 -- ---- What was read
 
@@ -73,15 +73,6 @@ unfolding trial
 trial_of_bytes chain item found is = ap (trial_of chain) is
 
 -- ---- What is said over a chain
-
-abbrev pub full : Chain → List ℕ → Report
-full chain whole = report_of_check chain (split_of check_limits whole)
-
--- What is said over a chain that has joined: the text, how far was read and written, and what was answered.
-pub record IsChecked (chain : Chain) (given : List ℕ) (left : Option (List ℕ)) (taken : List ℕ) (status : Status) : Type 0 where
-  pub text : MatchesReport (full chain) given left taken status
-  pub order : ChecksInOrder given left taken status
-  pub answers : IsOneOf (Done ∷ SomeRefused ∷ []) status → taken ≡ text_of (full chain given)
 
 -- the run was stopped before the sink
 pub check_stopped : (chain : Chain) (left : Option (List ℕ)) (given : List ℕ) (status : Status) → IsStop status → IsChecked chain given left [] status
@@ -240,3 +231,41 @@ told_not_disk status (inl sink) e = cc
 told_not_disk status (inr (inl done)) e = cc
 told_not_disk status (inr (inr (inl refused))) e = cc
 told_not_disk status (inr (inr (inr never))) e = never
+
+-- ---- The statuses of a run over a store that was opened
+
+pub reading_statuses : (status : Status) → IsReadingStop status → IsOneOf check_statuses status
+reading_statuses InputFault stop = inr (inr (inl refl))
+reading_statuses NoMemory stop = inr (inr (inr (inr (inr (inl refl)))))
+reading_statuses _ stop = absurd stop
+
+pub judging_statuses : (status : Status) → IsOneOf (NotAStore ∷ NoMemory ∷ []) status → IsOneOf check_statuses status
+judging_statuses status one =
+    each_of (λ s. IsOneOf check_statuses s) (NotAStore ∷ NoMemory ∷ []) status
+    (inr (inr (inr (inr (inr (inr (inl refl)))))), (inr (inr (inr (inr (inr (inl refl))))), tt)) one
+
+pub told_statuses : (status : Status) → IsOneOf (SinkFault ∷ Done ∷ SomeRefused ∷ []) status → IsOneOf check_statuses status
+told_statuses status one =
+    each_of (λ s. IsOneOf check_statuses s) (SinkFault ∷ Done ∷ SomeRefused ∷ []) status
+    (inr (inr (inr (inl refl))), (inl refl, (inr (inl refl), tt))) one
+
+pub early_statuses : (status : Status) → IsOneOf early_ends status → IsOneOf check_statuses status
+early_statuses status one =
+    each_of (λ s. IsOneOf check_statuses s) early_ends status (
+      inr (inr (inr (inl refl))),
+      (
+        inr (inr (inr (inr (inr (inl refl))))),
+        (
+          inr (inr (inr (inr (inr (inr (inr (inl refl))))))),
+          (inr (inr (inr (inr (inr (inr (inr (inr (inl refl)))))))), (inr (inr (inr (inr (inr (inr (inr (inr (inr (inl refl))))))))), tt)),
+        ),
+      ),
+    ) one
+
+pub early_no_disk_fault : (status : Status) → IsOneOf early_ends status → status ≡ DiskFault → ⊥
+early_no_disk_fault status one =
+    each_of (λ s. s ≡ DiskFault → ⊥) early_ends status (λ e. cc, (λ e. cc, (λ e. cc, (λ e. cc, (λ e. cc, tt))))) one
+
+pub early_no_input_fault : (status : Status) → IsOneOf early_ends status → status ≡ InputFault → ⊥
+early_no_input_fault status one =
+    each_of (λ s. s ≡ InputFault → ⊥) early_ends status (λ e. cc, (λ e. cc, (λ e. cc, (λ e. cc, (λ e. cc, tt))))) one

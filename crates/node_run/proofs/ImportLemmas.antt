@@ -16,7 +16,7 @@ use Rattle.fold_defs.proofs.FoldLemmas.{keep-push, verdicts-push}
 use Rattle.store_defs.specs.Store.{StandsFor, IsJoined}
 use Rattle.store_defs.proofs.JoinedLemmas.{joined_of_image, joined_after}
 use Rattle.report_defs.specs.declared.status.Status.{Status}
-use Rattle.report_defs.specs.declared.status.Status.TheVariants.{InputFault, DiskFault, NoMemory}
+use Rattle.report_defs.specs.declared.status.Status.TheVariants.{InputFault, SinkFault, DiskFault, NoMemory}
 use Rattle.report_defs.specs.Status.{IsOneOf}
 use Rattle.report_defs.specs.Text.{line}
 use Rattle.report_defs.specs.Items.{IsItem, AreItems}
@@ -28,12 +28,12 @@ use Rattle.item_reader.specs.Items.{IsPartial, IsItemAt, EndsAt, IsReadingStop, 
 use Rattle.item_reader.specs.declared.next.Next.{Next}
 use Rattle.item_reader.proofs.Reading.{few_partial}
 use Rattle.node_core.specs.Node.{NodeValue, IsOn}
-use Rattle.node_run.specs.Output.{Transfers, IsPartOf}
-use Rattle.node_run.specs.Import.{AreImported, IsCutShort, KeepsSome, line_over, text_over, item_stops}
+use Rattle.node_run.specs.Output.{Transfers, IsPartOf, IsWritten, IsWritingStop}
+use Rattle.node_run.specs.Import.{AreImported, IsAnswered, IsCutShort, KeepsSome, line_over, text_over, item_stops}
 use Rattle.node_run.specs.Store.{opening_stops}
 use Rattle.node_run.specs.declared.import.Ended.{Ended}
 use Rattle.node_run.proofs.LineLemmas.{concat-push, lines-push, line_some, take_all}
-use Rattle.node_run.proofs.Statuses.{each_of, reading_stops, writing_stops, disk_stops}
+use Rattle.node_run.proofs.Statuses.{each_of, not_early, reading_stops, writing_stops, disk_stops}
 
 pub item_limit-is : item_limit ≡ 1048576
 unfolding item_limit
@@ -138,7 +138,24 @@ cut_before_line verdict status one = record {
   silent = λ early. refl;
 }
 
+-- the sink took the line, or stopped it
+pub line_written : {V : Type 0} (text : List ℕ) (result : Result V Status) (taken : List ℕ) → ((status : Status) → result ≡ Err status → status ≡ SinkFault)
+    → IsWritten text result taken → IsAnswered text result taken
+line_written text (Ok v) taken stop written = written
+line_written text (Err status) taken stop part = record {
+  stop = subst IsWritingStop (sym (stop status refl)) tt;
+  part = part;
+  silent = λ early. absurd (not_early status (stop status refl) early);
+}
+
 -- ---- What stops it
+
+-- what stops a line stops an item
+pub line_stopped : (status : Status) → IsOneOf (SinkFault ∷ NoMemory ∷ []) status → IsOneOf item_stops status
+line_stopped status one = each_of (λ s. IsOneOf item_stops s) (SinkFault ∷ NoMemory ∷ []) status (inl refl, (inr (inr (inl refl)), tt)) one
+
+pub line_no_disk_fault : (status : Status) → IsOneOf (SinkFault ∷ NoMemory ∷ []) status → status ≡ DiskFault → ⊥
+line_no_disk_fault status one = each_of (λ s. s ≡ DiskFault → ⊥) (SinkFault ∷ NoMemory ∷ []) status (λ e. cc, (λ e. cc, tt)) one
 
 -- where the store stops an item
 pub item_stopped : (status : Status) → IsOneOf opening_stops status → IsOneOf item_stops status

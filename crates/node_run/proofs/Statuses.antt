@@ -1,5 +1,5 @@
 -- Statuses by tables.
-use Rattle.std.proofs.Common.{◌≡◌, inl, inr, Bool, true, false, List, [], ◌∷◌, refl, sym, subst}
+use Rattle.std.proofs.Common.{◌≡◌, inl, inr, ℕ, Bool, true, false, List, [], ◌∷◌, refl, sym, ◌∙◌, subst}
 use Rattle.std.specs.Prelude.{if◌then◌else◌}
 use Rattle.report_defs.specs.declared.status.Status.{Status}
 use Rattle.report_defs.specs.declared.status.Status.TheVariants.{Done, SomeRefused, InputFault, SinkFault, DiskFault, NoMemory, NotAStore, CutInput, BadSize, ExtraInput}
@@ -10,7 +10,7 @@ use Rattle.report_defs.specs.Report.{status_of_end}
 use Rattle.report_defs.specs.Promise.{IsReported, reported, ended_early, IsStoppedBeforeTheSink, import_statuses, tip_statuses}
 use Rattle.item_reader.specs.Items.{IsReadingStop}
 use Rattle.node_run.specs.Import.{IsStop}
-use Rattle.node_run.specs.Output.{IsWritingStop}
+use Rattle.node_run.specs.Output.{IsToldAnswer, IsWritingStop}
 use Rattle.node_run.specs.Store.{opening_stops}
 
 -- each of these statuses has P
@@ -74,6 +74,12 @@ opening_stop status (inr (inl fault)) there = subst IsStop (sym fault) tt
 opening_stop status (inr (inr (inl memory))) there = subst IsStop (sym memory) tt
 opening_stop status (inr (inr (inr never))) there = absurd never
 
+pub opening_no_input : (status : Status) → IsOneOf opening_stops status → status ≡ InputFault → ⊥
+opening_no_input status one = each_of (λ s. s ≡ InputFault → ⊥) opening_stops status (λ e. cc, (λ e. cc, (λ e. cc, tt))) one
+
+pub opening_no_sink : (status : Status) → IsOneOf opening_stops status → status ≡ SinkFault → ⊥
+opening_no_sink status one = each_of (λ s. s ≡ SinkFault → ⊥) opening_stops status (λ e. cc, (λ e. cc, (λ e. cc, tt))) one
+
 -- what stops an opening is no answer
 abbrev IsOpeningStop : Status → Type 0
 IsOpeningStop NotAStore = Unit {0}
@@ -107,10 +113,22 @@ import_end refused ends.Cut = inr (inr (inr (inr (inr (inr (inr (inl refl)))))))
 import_end refused ends.BadSize = inr (inr (inr (inr (inr (inr (inr (inr (inl refl))))))))
 import_end refused ends.Extra = inr (inr (inr (inr (inr (inr (inr (inr (inr (inl refl)))))))))
 
+pub import_told : (text : List ℕ) (refused : Bool) (end : End) (status result : Status) (taken : List ℕ)
+    → status ≡ status_of_end (if refused then SomeRefused else Done) end → IsToldAnswer text status result taken → IsOneOf import_statuses result
+import_told text refused end status result taken is (inl told) = subst (λ (s : Status). IsOneOf import_statuses s) (sym (told.1 ∙ is)) (import_end refused end)
+import_told text refused end status result taken is (inr failed) = inr (inr (inr (inl failed.1)))
+
 pub tip_opening : (status : Status) → IsOneOf opening_stops status → IsOneOf tip_statuses status
 tip_opening status one =
     each_of (λ s. IsOneOf tip_statuses s) opening_stops status
     (inr (inr (inr (inr (inl refl)))), (inr (inr (inl refl)), (inr (inr (inr (inl refl))), tt))) one
+
+pub tip_telling : (status : Status) → IsOneOf (Done ∷ SinkFault ∷ NoMemory ∷ []) status → IsOneOf tip_statuses status
+tip_telling status one =
+    each_of (λ s. IsOneOf tip_statuses s) (Done ∷ SinkFault ∷ NoMemory ∷ []) status (inl refl, (inr (inl refl), (inr (inr (inr (inl refl))), tt))) one
+
+pub tip_no_disk_fault : (status : Status) → IsOneOf (Done ∷ SinkFault ∷ NoMemory ∷ []) status → status ≡ DiskFault → ⊥
+tip_no_disk_fault status one = each_of (λ s. s ≡ DiskFault → ⊥) (Done ∷ SinkFault ∷ NoMemory ∷ []) status (λ e. cc, (λ e. cc, (λ e. cc, tt))) one
 
 -- ---- The status behind the end of an import
 

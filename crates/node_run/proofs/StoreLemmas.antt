@@ -17,10 +17,10 @@ use Rattle.report_defs.specs.declared.status.Status.TheVariants.{Done, DiskFault
 use Rattle.report_defs.specs.Status.{IsOneOf}
 use Rattle.report_defs.specs.Text.{tip_line, tip_line_of}
 use Rattle.report_defs.specs.Report.{Report, report_without_lines, text_of, report_of_command, tip_report}
-use Rattle.report_defs.specs.Promise.{IsPrefix, MatchesReport, KeepsOrder, IsSoundStoreOf, Finds, FindsNoStore, TellsInOrder, IsStoppedBeforeTheSink}
+use Rattle.report_defs.specs.Promise.{IsPrefix, MatchesReport, KeepsOrder, IsSoundStoreOf, Finds, FindsNoStore, IsStoppedBeforeTheSink}
 use Rattle.report_defs.specs.Survival.{Each, IsFront, KeepsStore, KeepsDisk}
 use Rattle.node_run.specs.Import.{IsStop, KeepsSome}
-use Rattle.node_run.specs.Store.{Delivers, opening_stops}
+use Rattle.node_run.specs.Store.{Delivers, IsTipTold, opening_stops}
 use Rattle.node_run.proofs.LineLemmas.{front_of_all, front_of_none, take_all}
 use Rattle.node_run.proofs.Statuses.{stop_not_reported, opening_reported, opening_stop}
 
@@ -214,7 +214,7 @@ tip_line_is found block number hash line is number_is hash_is line_is =
 
 pub tip_stopped : (chain : Chain) (left : Option (List ℕ)) (taken line : List ℕ) (status : Status) → IsStop status
     → IsPrefix taken line → line ≡ text_of (tip_report (Keeps chain)) → (IsStoppedBeforeTheSink status → taken ≡ [])
-    → MatchesReport (λ whole. tip_report (Keeps chain)) [] left taken status × TellsInOrder [] taken status
+    → IsTipTold chain left taken status
 tip_stopped chain left taken line status stop front is silent = (
   record {
     front = λ more told. subst (IsPrefix taken) is front;
@@ -225,7 +225,7 @@ tip_stopped chain left taken line status stop front is silent = (
 )
 
 pub tip_told : (chain : Chain) (left : Option (List ℕ)) (taken : List ℕ) → taken ≡ text_of (tip_report (Keeps chain)) → (IsStoppedBeforeTheSink Done → ⊥)
-    → MatchesReport (λ whole. tip_report (Keeps chain)) [] left taken Done × TellsInOrder [] taken Done
+    → IsTipTold chain left taken Done
 tip_told chain left taken is never = (
   record {
     front = λ more told. subst (IsPrefix taken) is ([], sym (append-nil taken));

@@ -11,7 +11,8 @@ use Rattle.report_defs.specs.declared.status.Status.{Status}
 use Rattle.report_defs.specs.declared.status.Status.TheVariants.{Done, SomeRefused}
 use Rattle.report_defs.specs.Status.{IsOneOf}
 use Rattle.report_defs.specs.Items.{IsItem, split_of, end_offset}
-use Rattle.report_defs.specs.Report.{text_of, item_limit, check_limits, report_of_check, report_of_end}
+use Rattle.report_defs.specs.Report.{Report, text_of, item_limit, check_limits, report_of_check, report_of_end}
+use Rattle.report_defs.specs.Promise.{MatchesReport, ChecksInOrder}
 use Rattle.item_reader.specs.Items.{IsReadingStop}
 use Rattle.node_run.specs.Store.{Delivers}
 use Rattle.node_run.specs.declared.check.Input.{Input}
@@ -33,6 +34,16 @@ abbrev pub IsReadOfCheck : Option (List ℕ) → Result Input Status → List �
 IsReadOfCheck left (Ok (inputs.One item)) given = IsOne left item.items given
 IsReadOfCheck left (Ok (inputs.Early end offset)) given = EndsBeforeOne left end offset given
 IsReadOfCheck left (Err status) given = IsReadingStop status
+
+-- the report on a whole input
+abbrev pub full : Chain → List ℕ → Report
+full chain whole = report_of_check chain (split_of check_limits whole)
+
+-- What is said over a chain that has joined: the text, how far was read and written, and what was answered.
+pub record IsChecked (chain : Chain) (given : List ℕ) (left : Option (List ℕ)) (taken : List ℕ) (status : Status) : Type 0 where
+  pub text : MatchesReport (full chain) given left taken status
+  pub order : ChecksInOrder given left taken status
+  pub answers : IsOneOf (Done ∷ SomeRefused ∷ []) status → taken ≡ text_of (full chain given)
 
 -- What `check` delivers, and what it answered over a store that is sound: the report on what was given, also of a source that does not tell what is left.
 pub record DeliversCheck (reads : Option Image) (at_start at_exit meanwhile : Image → Type 0) (left : Option (List ℕ)) (given taken : List ℕ) (status : Status) : Type 0 where

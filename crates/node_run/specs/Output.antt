@@ -1,8 +1,8 @@
 -- What the sink took of a text.
-use Rattle.std.specs.Prelude.{◌≡◌, ◌⊎◌, ◌<◌, ℕ, List, [], length, Option, Result, Ok, Err}
+use Rattle.std.specs.Prelude.{◌≡◌, ◌⊎◌, ◌<◌, ℕ, List, [], ◌∷◌, length, Option, Result, Ok, Err}
 use Rattle.outside.specs.Streams.{Gives, Takes}
 use Rattle.report_defs.specs.declared.status.Status.{Status}
-use Rattle.report_defs.specs.declared.status.Status.TheVariants.{SinkFault, DiskFault, NoMemory}
+use Rattle.report_defs.specs.declared.status.Status.TheVariants.{SinkFault, DiskFault, NoMemory, CutInput, BadSize, ExtraInput}
 use Rattle.report_defs.specs.Report.{Report, text_of}
 use Rattle.report_defs.specs.Promise.{IsPrefix, IsStoppedBeforeTheSink}
 
@@ -45,3 +45,7 @@ pub record IsSaidInPart (report : Report) (status : Status) (taken : List ℕ) :
 -- a report was told, or a part of it
 abbrev pub IsSaid : Report → Status → List ℕ → Type 0
 IsSaid report status taken = ((taken ≡ text_of report) × (status ≡ report.status)) ⊎ IsSaidInPart report status taken
+
+-- how the telling of an early end ends
+abbrev pub early_ends : List Status
+early_ends = SinkFault ∷ NoMemory ∷ CutInput ∷ BadSize ∷ ExtraInput ∷ []

@@ -11,7 +11,7 @@ ghost use Rattle.report_defs.specs.Status.{IsOneOf};
 ghost use Rattle.report_defs.specs.Promise.{check_statuses};
 ghost use Rattle.item_reader.specs.Items.{Gave};
 ghost use Rattle.node_run.specs.Output.{Transfers};
-ghost use Rattle.node_run.specs.Check.{IsReadOfCheck, DeliversCheck};
+ghost use Rattle.node_run.specs.Check.{IsReadOfCheck, IsChecked, DeliversCheck};
 
 use crate::lines::trial_line;
 use crate::output::{Answer, end_of_needed, tell, tell_early};
@@ -93,6 +93,35 @@ fn answer_to(alloc: Global, tried: &Trial) -> Result<Answer, NoMemory>
     Ok(Answer { text, status })
 }
 
+/// Judges the transaction that the input holds, and tells what came of it.
+fn check_input<S: Source, K: Sink>(
+    alloc: Global,
+    input: &mut S,
+    out: &mut K,
+    node: &mut Node,
+) -> Status
+    ensures checked { Transfers (S.left input.old) (S.left input.new) (K.taken out.old) (K.taken out.new)
+        (λ given taken. IsJoined node.old.chain → IsChecked node.old.chain given (S.left input.new) taken result) }
+    ensures status { IsOneOf check_statuses result }
+    ensures disk { result ≡ Status.DiskFault → ⊥ }
+    ensures input_faults { CountsFault (S.faults input.old) (S.faults input.new) (result ≡ Status.InputFault) }
+    ensures out_faults { CountsFault (K.faults out.old) (K.faults out.new) (result ≡ Status.SinkFault) }
+{
+    let item = match read_input(alloc, input) {
+        Ok(Input::One { item }) => item,
+        Ok(Input::Early { end, offset }) => return tell_early(alloc, out, end, offset),
+        Err(status) => return status,
+    };
+    let tried = match judge_item(alloc, node, &item) {
+        Ok(tried) => tried,
+        Err(status) => return status,
+    };
+    match answer_to(alloc, &tried) {
+        Ok(answer) => tell(out, &answer),
+        Err(_) => Status::NoMemory,
+    }
+}
+
 /// Judges the transaction that the input holds, behind the tip of the store.
 pub fn check<S: Source, K: Sink, D: Disk, L: Ledger>(
     alloc: Global,
@@ -115,17 +144,5 @@ pub fn check<S: Source, K: Sink, D: Disk, L: Ledger>(
         Ok(node) => node,
         Err(status) => return status,
     };
-    let item = match read_input(alloc, input) {
-        Ok(Input::One { item }) => item,
-        Ok(Input::Early { end, offset }) => return tell_early(alloc, out, end, offset),
-        Err(status) => return status,
-    };
-    let tried = match judge_item(alloc, &mut node, &item) {
-        Ok(tried) => tried,
-        Err(status) => return status,
-    };
-    match answer_to(alloc, &tried) {
-        Ok(answer) => tell(out, &answer),
-        Err(_) => Status::NoMemory,
-    }
+    check_input(alloc, input, out, &mut node)
 }

@@ -1,5 +1,5 @@
 // The command `import`: blocks, each answered by a line.
-ghost use Rattle.std.specs.Prelude.{◌≡◌, ◌⊎◌, ◌∷◌, ◌<◌, ◌≤◌, ◌^◌, Err, Some, length, string_bytes, IfOk, IfSome, if◌then◌else◌};
+ghost use Rattle.std.specs.Prelude.{◌≡◌, ◌⊎◌, [], ◌∷◌, ◌<◌, ◌≤◌, ◌^◌, Err, Some, length, string_bytes, IfOk, IfSome, if◌then◌else◌};
 ghost use Rattle.outside.specs.Causes.{CountsFault};
 ghost use Rattle.outside.specs.Disk.{LeavesOnly};
 ghost use Rattle.outside.specs.Image.{Image};
@@ -7,6 +7,7 @@ ghost use Rattle.verdict_defs.specs.Chain.{Chain, verdict_over, chain_after};
 ghost use Rattle.store_defs.specs.Store.{Keeps, store_of, StandsFor, IsJoined, IsOnlyRead};
 ghost use Rattle.report_defs.specs.Report as reports;
 ghost use Rattle.report_defs.specs.Status.{IsOneOf};
+ghost use Rattle.report_defs.specs.Text.{line};
 ghost use Rattle.report_defs.specs.Promise.{import_statuses};
 ghost use Rattle.report_defs.specs.declared.command.Command.TheVariants.{Import};
 ghost use Rattle.item_reader.specs.Items.{Gave, IsNext};
@@ -49,6 +50,18 @@ fn next_block<S: Source>(alloc: Global, input: &mut S, offset: u64) -> Result<Ne
     next_item(alloc, input, ITEM_LIMIT, Some(INPUT_LIMIT), offset)
 }
 
+/// Writes the line of a verdict.
+fn write_verdict<K: Sink>(alloc: Global, out: &mut K, verdict: &Verdict) -> Result<(), Status>
+    ensures written { Took (K.taken out.old) (K.taken out.new) (IsAnswered (line verdict.now) result) }
+    ensures status { (status : Status) → result ≡ Err status → IsOneOf (Status.SinkFault ∷ Status.NoMemory ∷ []) status }
+    ensures faults { CountsFault (K.faults out.old) (K.faults out.new) (result ≡ Err Status.SinkFault) }
+{
+    match verdict_line(alloc, verdict) {
+        Ok(text) => write_text(out, text.as_bytes()),
+        Err(_) => Err(Status::NoMemory),
+    }
+}
+
 /// Judges an item, keeps what joins, and then writes its line.
 fn import_item<K: Sink, D: Disk, L: Ledger>(
     alloc: Global,
@@ -75,11 +88,7 @@ fn import_item<K: Sink, D: Disk, L: Ledger>(
         Ok(answer) => answer,
         Err(stop) => return Err(status_of_reading(stop)),
     };
-    let text = match verdict_line(alloc, &verdict) {
-        Ok(text) => text,
-        Err(_) => return Err(Status::NoMemory),
-    };
-    match write_text(out, text.as_bytes()) {
+    match write_verdict(alloc, out, &verdict) {
         Ok(()) => Ok((next, verdict)),
         Err(status) => Err(status),
     }

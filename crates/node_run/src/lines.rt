@@ -61,6 +61,21 @@ fn number_line(alloc: Global, front: &str, number: u64) -> Result<String, AllocE
     Ok(line)
 }
 
+/// A text and two numbers.
+fn numbers_line(alloc: Global, front: &str, first: u64, second: u64) -> Result<String, AllocError>
+    ensures { IfOk result (λ line. string_bytes line
+        ≡ front.now ++ decimal first ++ codes " " ++ decimal second ++ text.line_feed) }
+{
+    let first = first.to_string(alloc)?;
+    let second = second.to_string(alloc)?;
+    let mut line = String::from_str(alloc, front)?;
+    line.push_str(&first)?;
+    line.push_str(" ")?;
+    line.push_str(&second)?;
+    line.push_str("\n")?;
+    Ok(line)
+}
+
 /// The line of an item that was imported.
 pub fn verdict_line(alloc: Global, verdict: &Verdict) -> Result<String, AllocError>
     ensures { IfOk result (λ line. string_bytes line ≡ text.line verdict.now) }
@@ -73,26 +88,12 @@ pub fn verdict_line(alloc: Global, verdict: &Verdict) -> Result<String, AllocErr
     }
 }
 
-/// The line of a transaction that passes.
-fn ok_line(alloc: Global, fee: u64, cycles: u64) -> Result<String, AllocError>
-    ensures { IfOk result (λ line. string_bytes line ≡ codes "ok " ++ decimal fee ++ codes " " ++ decimal cycles ++ text.line_feed) }
-{
-    let fee = fee.to_string(alloc)?;
-    let cycles = cycles.to_string(alloc)?;
-    let mut line = String::from_str(alloc, "ok ")?;
-    line.push_str(&fee)?;
-    line.push_str(" ")?;
-    line.push_str(&cycles)?;
-    line.push_str("\n")?;
-    Ok(line)
-}
-
 /// The line of a transaction that was judged alone.
 pub fn trial_line(alloc: Global, tried: &Trial) -> Result<String, AllocError>
     ensures { IfOk result (λ line. string_bytes line ≡ text.trial_line tried.now) }
 {
     match tried {
-        Trial::Passes(fee, cycles) => ok_line(alloc, *fee, *cycles),
+        Trial::Passes(fee, cycles) => numbers_line(alloc, "ok ", *fee, *cycles),
         Trial::Refused(rule) => number_line(alloc, "refused J", u64::from(*rule)),
     }
 }
@@ -152,28 +153,13 @@ fn exit_line(alloc: Global, code: i8, cycles: u64) -> Result<String, AllocError>
     Ok(line)
 }
 
-/// The line of a program that met a fault.
-fn fault_line(alloc: Global, number: u8, cycles: u64) -> Result<String, AllocError>
-    ensures { IfOk result (λ line. string_bytes line
-        ≡ codes "fault " ++ decimal number ++ codes " " ++ decimal cycles ++ text.line_feed) }
-{
-    let number = number.to_string(alloc)?;
-    let cycles = cycles.to_string(alloc)?;
-    let mut line = String::from_str(alloc, "fault ")?;
-    line.push_str(&number)?;
-    line.push_str(" ")?;
-    line.push_str(&cycles)?;
-    line.push_str("\n")?;
-    Ok(line)
-}
-
 /// The line of a program that ended.
 fn outcome_line(alloc: Global, outcome: Outcome, cycles: u64) -> Result<String, AllocError>
     ensures { IfOk result (λ line. string_bytes line ≡ text.outcome_line outcome cycles) }
 {
     match outcome {
         Outcome::Exit(code) => exit_line(alloc, code, cycles),
-        Outcome::Fault(number) => fault_line(alloc, number, cycles),
+        Outcome::Fault(number) => numbers_line(alloc, "fault ", u64::from(number), cycles),
         Outcome::Spent => String::from_str(alloc, "spent\n"),
     }
 }

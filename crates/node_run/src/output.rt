@@ -2,7 +2,8 @@
 ghost use Rattle.std.specs.Prelude.{◌≡◌, Err, string_bytes};
 ghost use Rattle.outside.specs.Causes.{CountsFault};
 ghost use Rattle.report_defs.specs.Report as reports;
-ghost use Rattle.node_run.specs.Output.{Took, IsWritten, IsToldAnswer, IsSaid};
+ghost use Rattle.report_defs.specs.Status.{IsOneOf};
+ghost use Rattle.node_run.specs.Output.{Took, IsWritten, IsToldAnswer, IsSaid, early_ends};
 
 use crate::lines::closing_of_end;
 use outside::{Sink, write_all};
@@ -69,6 +70,7 @@ pub fn tell_early<K: Sink>(alloc: Global, out: &mut K, end: End, offset: u64) ->
     requires { end ≡ End.AtEnd → ⊥ }
     ensures said { Took (K.taken out.old) (K.taken out.new) (IsSaid (reports.report_of_end offset end) result) }
     ensures faults { CountsFault (K.faults out.old) (K.faults out.new) (result ≡ Status.SinkFault) }
+    ensures one_of { IsOneOf early_ends result }
     ensures disk { result ≡ Status.DiskFault → ⊥ }
 {
     let text = match closing_of_end(alloc, offset, end) {

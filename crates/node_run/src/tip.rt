@@ -1,5 +1,5 @@
 // The command `tip`: the tip of the kept blocks.
-ghost use Rattle.std.specs.Prelude.{◌≡◌, List, ℕ, Option, Some, []};
+ghost use Rattle.std.specs.Prelude.{◌≡◌, ◌∷◌, List, ℕ, Option, Some, []};
 ghost use Rattle.outside.specs.Causes.{CountsFault};
 ghost use Rattle.store_defs.specs.Store.{Keeps, store_of, IsOnlyRead};
 ghost use Rattle.verdict_defs.specs.Chain.{Chain};
@@ -8,15 +8,33 @@ ghost use Rattle.report_defs.specs.Status.{IsOneOf};
 ghost use Rattle.report_defs.specs.Promise.{tip_statuses};
 ghost use Rattle.report_defs.specs.declared.command.Command.TheVariants.{Tip};
 ghost use Rattle.node_run.specs.Output.{Took};
-ghost use Rattle.node_run.specs.Store.{Delivers};
+ghost use Rattle.node_run.specs.Store.{Delivers, IsTipTold};
 
 use crate::lines::tip_line;
 use crate::output::write_text;
 use crate::store::open;
+use node_core::Node;
 use outside::{Disk, Sink, Steps};
 use report_defs::Status;
 use std::alloc::Global;
 use std::sync::ledger::Ledger;
+
+/// Writes the line of the tip of a node.
+fn write_tip<K: Sink>(alloc: Global, out: &mut K, node: &Node) -> Status
+    ensures told { Took (K.taken out.old) (K.taken out.new) (λ taken. (left : Option (List ℕ)) → IsTipTold node.now.chain left taken result) }
+    ensures status { IsOneOf (Status.Done ∷ Status.SinkFault ∷ Status.NoMemory ∷ []) result }
+    ensures faults { CountsFault (K.faults out.old) (K.faults out.new) (result ≡ Status.SinkFault) }
+{
+    let tip = node.tip();
+    let line = match tip_line(alloc, tip.number, &tip.hash) {
+        Ok(line) => line,
+        Err(_) => return Status::NoMemory,
+    };
+    match write_text(out, line.as_bytes()) {
+        Ok(()) => Status::Done,
+        Err(status) => status,
+    }
+}
 
 /// Tells the tip of the store.
 pub fn tip<K: Sink, D: Disk, L: Ledger>(
@@ -37,13 +55,5 @@ pub fn tip<K: Sink, D: Disk, L: Ledger>(
         Ok(node) => node,
         Err(status) => return status,
     };
-    let tip = node.tip();
-    let line = match tip_line(alloc, tip.number, &tip.hash) {
-        Ok(line) => line,
-        Err(_) => return Status::NoMemory,
-    };
-    match write_text(out, line.as_bytes()) {
-        Ok(()) => Status::Done,
-        Err(status) => status,
-    }
+    write_tip(alloc, out, &node)
 }

@@ -1,4 +1,4 @@
-use Rattle.std.proofs.Common.{◌++◌, [], refl, ap, sym, subst, ◌∙◌}
+use Rattle.std.proofs.Common.{inl, inr, ◌++◌, [], refl, ap, sym, subst, ◌∙◌}
 use Rattle.std.proofs.lemmas.List.{append-nil}
 use Rattle.std.specs.Prelude.{Err, string_bytes, if◌then◌else◌}
 use Rattle.outside.proofs.Streams.{gives_none, takes_none, takes_more}
@@ -14,6 +14,7 @@ use Rattle.node_run.proofs.Faults.{then_counts, counts_also, no_fault, IsNoFault
 use Rattle.node_run.proofs.ImportLemmas.{joined_on, items_stop_import}
 use Rattle.node_run.proofs.StoreLemmas.{delivers, keeps_opened, keeps_unopened, opened_there, unopened, sound_opening, sound_here, by_disk_or_memory, if_told}
 use Rattle.node_run.proofs.ImportReport.{stopped_import, stopped_at_once, stopped_behind, stopped_acknowledges, stopped_take, ended_import, keeps_given, keeps_all_given}
+use Rattle.node_run.proofs.Statuses.{import_opening, import_told, opening_no_input, opening_no_sink}
 use Rattle.node_run.proofs.import.import.Goals as goal
 
 pub returns-in-Err-clause-import : goal.returns-in-Err-clause-import
@@ -150,3 +151,41 @@ returns-clause-disk_faults g c =
     no_fault _ _ (c.in-Ok-import_items.ensures.disk_faults.unchanged (λ e. cc) ∙ c.in-Ok.ensures.cause.unchanged (λ e. cc))
     (no_disk_there c.tell.result
     (told_no_fault (string_bytes c.in-Ok-answer_to_end.answer.text) c.in-Ok-answer_to_end.answer.status c.tell.result c.tell.ensures.told.0 own c.tell.ensures.told.2))
+
+pub returns-in-Err-clause-status : goal.returns-in-Err-clause-status
+returns-in-Err-clause-status g c = import_opening c.in-Err.status (c.in-Err.ensures.one_of c.in-Err.status refl)
+
+pub returns-in-Err-clause-no_log : goal.returns-in-Err-clause-no_log
+returns-in-Err-clause-no_log g c = c.in-Err.ensures.no_log
+
+pub returns-in-Err-clause-input_faults : goal.returns-in-Err-clause-input_faults
+returns-in-Err-clause-input_faults g c = no_fault _ _ refl (opening_no_input c.in-Err.status (c.in-Err.ensures.one_of c.in-Err.status refl))
+
+pub returns-in-Err-clause-out_faults : goal.returns-in-Err-clause-out_faults
+returns-in-Err-clause-out_faults g c = no_fault _ _ refl (opening_no_sink c.in-Err.status (c.in-Err.ensures.one_of c.in-Err.status refl))
+
+pub returns-in-Err-clause-disk_faults : goal.returns-in-Err-clause-disk_faults
+returns-in-Err-clause-disk_faults g c = counts_also _ _ c.in-Err.ensures.cause (λ e. ap Err e) (λ e. cc)
+
+pub returns-in-Err-answer_to_end-clause-status : goal.returns-in-Err-answer_to_end-clause-status
+returns-in-Err-answer_to_end-clause-status g c = inr (inr (inr (inr (inr (inl refl)))))
+
+pub returns-in-Err-answer_to_end-clause-input_faults : goal.returns-in-Err-answer_to_end-clause-input_faults
+returns-in-Err-answer_to_end-clause-input_faults g c = no_fault _ _ (c.in-Ok-import_items.ensures.input_faults.unchanged (λ e. cc)) (λ e. cc)
+
+pub returns-in-Err-answer_to_end-clause-out_faults : goal.returns-in-Err-answer_to_end-clause-out_faults
+returns-in-Err-answer_to_end-clause-out_faults g c = no_fault _ _ (c.in-Ok-import_items.ensures.out_faults.unchanged (λ e. cc)) (λ e. cc)
+
+pub returns-in-Err-answer_to_end-clause-disk_faults : goal.returns-in-Err-answer_to_end-clause-disk_faults
+returns-in-Err-answer_to_end-clause-disk_faults g c =
+    no_fault _ _ (c.in-Ok-import_items.ensures.disk_faults.unchanged (λ e. (cc)) ∙ c.in-Ok.ensures.cause.unchanged (λ e. (cc))) (λ e. cc)
+
+pub returns-clause-status : goal.returns-clause-status
+returns-clause-status g c =
+    import_told (string_bytes c.in-Ok-answer_to_end.answer.text) c.in-Ok-import_items.ended.refused c.in-Ok-import_items.ended.end
+    c.in-Ok-answer_to_end.answer.status c.tell.result c.tell.ensures.told.0 c.in-Ok-answer_to_end.ensures.status c.tell.ensures.told.2
+
+pub returns-clause-out_faults : goal.returns-clause-out_faults
+returns-clause-out_faults g c =
+    then_counts (g.K.Sink.faults c.args.out.now) (g.K.Sink.faults c.import_items.new.out) (g.K.Sink.faults c.tell.new.out)
+    (c.in-Ok-import_items.ensures.out_faults.unchanged (λ e. cc)) c.tell.ensures.faults (λ e. e) (λ e. e)

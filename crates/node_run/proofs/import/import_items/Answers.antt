@@ -1,7 +1,9 @@
 use Rattle.std.proofs.Common.{◌≡◌, ◌∷◌, inr, length, ap, sym, ◌∙◌, arith, refl, subst, []}
 use Rattle.std.specs.Prelude.{Err, Some, ◌||◌}
 use Rattle.outside.proofs.Streams.{gives_none, takes_none}
+use Rattle.outside.specs.Disk.{LeavesOnly}
 use Rattle.outside.proofs.Moments.{leaves_also}
+use Rattle.node_core.specs.Node.{IsOn}
 use Rattle.report_defs.specs.declared.status.Status.TheVariants.{InputFault, SinkFault, DiskFault}
 use Rattle.report_defs.specs.Report.{item_limit, input_limit}
 use Rattle.verdict_defs.specs.Verdict as rules
@@ -45,15 +47,35 @@ returns-in-Ok-End-clause-imported g c =
     let next = rw c.in-Ok-End.field-0-is at c.in-Ok-End.ensures.next in
     imported_to_end c.args.opened.chain c.items.offset (g.S.Source.left c.args.input.now) (g.S.Source.left c.items.input) (g.S.Source.left c.next_block.new.input)
     (g.K.Sink.taken c.args.out.now) (g.K.Sink.taken c.items.out) c.items.node.chain (record { end = c.in-Ok-End.end; offset = c.items.offset; refused = c.items.refused })
-    _ _ _ _ next.0 c.items.invariant.whole next.1 next.2.0 next.2.1 refl
+    (IsOn c.args.opened (g.D.Disk.reads_as c.args.disk.now) (g.D.Disk.images c.args.disk.now)) (IsOn c.items.node (g.D.Disk.reads_as c.items.disk) (g.D.Disk.images c.items.disk))
+    (g.D.Disk.images c.items.disk) (LeavesOnly g.D.Disk.moment g.D.Disk.left_since c.args.disk.now c.items.disk) next.0 c.items.invariant.whole next.1 next.2.0 next.2.1 refl
     (on_stands c.items.node c.items.node.chain (g.D.Disk.reads_as c.items.disk) (g.D.Disk.images c.items.disk) refl)
+
+pub returns-in-Ok-End-clause-status : goal.returns-in-Ok-End-clause-status
+returns-in-Ok-End-clause-status g c = λ status e. cc
+
+pub returns-in-Ok-End-clause-input_faults : goal.returns-in-Ok-End-clause-input_faults
+returns-in-Ok-End-clause-input_faults g c =
+    no_fault (g.S.Source.faults c.args.input.now) (g.S.Source.faults c.next_block.new.input)
+    (c.in-Ok-End.ensures.faults.unchanged (λ e. (cc)) ∙ c.items.invariant.input_unchanged) (λ e. cc)
+
+pub returns-in-Ok-End-clause-out_faults : goal.returns-in-Ok-End-clause-out_faults
+returns-in-Ok-End-clause-out_faults g c = no_fault (g.K.Sink.faults c.args.out.now) (g.K.Sink.faults c.items.out) c.items.invariant.out_unchanged (λ e. cc)
+
+pub returns-in-Ok-End-clause-disk_faults : goal.returns-in-Ok-End-clause-disk_faults
+returns-in-Ok-End-clause-disk_faults g c = no_fault (g.D.Disk.faults c.args.disk.now) (g.D.Disk.faults c.items.disk) c.items.invariant.disk_unchanged (λ e. cc)
+
+pub import_item-requires-clause-there : goal.import_item-requires-clause-there
+import_item-requires-clause-there g c = c.items.invariant.there
 
 pub returns-in-Err-clause-imported : goal.returns-in-Err-clause-imported
 returns-in-Err-clause-imported g c =
     let next = c.in-Err.ensures.next in
     let whole = c.items.invariant.whole in
     imported_to_fault c.args.opened.chain c.items.offset (g.S.Source.left c.args.input.now) (g.S.Source.left c.items.input) (g.S.Source.left c.next_block.new.input)
-    (g.K.Sink.taken c.args.out.now) (g.K.Sink.taken c.items.out) c.items.node.chain c.items.refused _ _ _ _ c.in-Err.status
+    (g.K.Sink.taken c.args.out.now) (g.K.Sink.taken c.items.out) c.items.node.chain c.items.refused
+    (IsOn c.args.opened (g.D.Disk.reads_as c.args.disk.now) (g.D.Disk.images c.args.disk.now)) (IsOn c.items.node (g.D.Disk.reads_as c.items.disk) (g.D.Disk.images c.items.disk))
+    (g.D.Disk.images c.items.disk) (LeavesOnly g.D.Disk.moment g.D.Disk.left_since c.args.disk.now c.items.disk) c.in-Err.status
     next.0 whole next.1 next.2.0 next.2.1
     (on_stands c.items.node c.items.node.chain (g.D.Disk.reads_as c.items.disk) (g.D.Disk.images c.items.disk) refl)
     (λ so_far. leaves_also g.D.Disk.moment g.D.Disk.left_since _ _ _ _ so_far (keeps_more c.args.opened.chain whole.items next.0))
@@ -66,7 +88,9 @@ returns-in-Err-import_item-clause-imported g c =
     let at : IsItemAt item_limit (Some input_limit) c.items.offset c.deref.result.now next.0 =
     subst (λ bytes. IsItemAt item_limit (Some input_limit) c.items.offset bytes next.0) (sym c.deref.ensures.value) next.2 in
     imported_to_line c.args.opened.chain c.items.offset (g.S.Source.left c.args.input.now) (g.S.Source.left c.items.input) (g.S.Source.left c.next_block.new.input)
-    (g.K.Sink.taken c.args.out.now) (g.K.Sink.taken c.items.out) (g.K.Sink.taken c.import_item.new.out) c.items.node.chain c.items.refused _ _ _ _ _
+    (g.K.Sink.taken c.args.out.now) (g.K.Sink.taken c.items.out) (g.K.Sink.taken c.import_item.new.out) c.items.node.chain c.items.refused
+    (IsOn c.args.opened (g.D.Disk.reads_as c.args.disk.now) (g.D.Disk.images c.args.disk.now)) (IsOn c.items.node (g.D.Disk.reads_as c.items.disk) (g.D.Disk.images c.items.disk))
+    (g.D.Disk.images c.import_item.new.disk) (LeavesOnly g.D.Disk.moment g.D.Disk.left_since c.args.disk.now c.items.disk) (LeavesOnly g.D.Disk.moment g.D.Disk.left_since c.args.disk.now c.import_item.new.disk)
     c.in-Err-import_item.status c.deref.result.now next.0 written.0 whole at next.1 written.1 written.2
     (λ joined on. exit_of_item g.D.Disk.images g.D.Disk.moment g.D.Disk.left_since g.met.D.Disk.counts_now c.items.disk c.import_item.new.disk c.args.opened.chain c.items.node.chain
     whole.items c.deref.result.now (whole.kept_now joined) (c.in-Err-import_item.ensures.moments on))
@@ -158,7 +182,9 @@ items-preserved g c =
     record {
       whole = whole_more c.args.opened.chain c.items.offset (g.S.Source.left c.args.input.now) (g.S.Source.left c.items.input) (g.S.Source.left c.next_block.new.input)
           (g.K.Sink.taken c.args.out.now) (g.K.Sink.taken c.items.out) (g.K.Sink.taken c.import_item.new.out) c.items.node.chain c.in-Ok.answer.0.chain c.items.refused
-          _ _ _ _ _ item next.0 written.0 c.in-Ok.answer.1 c.len.result c.if-refused.refused size any
+          (IsOn c.args.opened (g.D.Disk.reads_as c.args.disk.now) (g.D.Disk.images c.args.disk.now)) (IsOn c.items.node (g.D.Disk.reads_as c.items.disk) (g.D.Disk.images c.items.disk))
+          (IsOn c.in-Ok.answer.0 (g.D.Disk.reads_as c.import_item.new.disk) (g.D.Disk.images c.import_item.new.disk)) (LeavesOnly g.D.Disk.moment g.D.Disk.left_since c.args.disk.now c.items.disk)
+          (LeavesOnly g.D.Disk.moment g.D.Disk.left_since c.args.disk.now c.import_item.new.disk) item next.0 written.0 c.in-Ok.answer.1 c.len.result c.if-refused.refused size any
           whole at next.1 written.1 c.in-Ok.ensures.verdict c.in-Ok.ensures.kept written.2 c.in-Ok.ensures.on
           (λ was. leaves_item g.D.Disk.images g.D.Disk.moment g.D.Disk.left_since g.met.D.Disk.counts_now c.args.disk.now c.items.disk c.import_item.new.disk c.args.opened.chain
           c.items.node.chain whole.items item (whole.kept_now (joined_on c.args.opened (g.D.Disk.reads_as c.args.disk.now) (g.D.Disk.images c.args.disk.now) was))

@@ -1,15 +1,12 @@
-use Rattle.std.proofs.Common.{◌≡◌, [], refl, ap, sym, ◌∙◌, subst}
-use Rattle.std.specs.Prelude.{Err, string_bytes}
+use Rattle.std.proofs.Common.{[], refl, ap}
+use Rattle.std.specs.Prelude.{Err}
 use Rattle.outside.proofs.Streams.{takes_none}
-use Rattle.chain_defs.specs.Tip.{tip}
 use Rattle.report_defs.specs.declared.command.Command.TheVariants.{Tip}
-use Rattle.report_defs.specs.declared.status.Status.TheVariants.{Done, SinkFault, NoMemory}
-use Rattle.report_defs.specs.Text.{tip_line}
 use Rattle.node_core.specs.Node.{IsOn}
-use Rattle.node_run.specs.Import.{IsStop}
 use Rattle.node_run.proofs.ImportLemmas.{on_stands}
-use Rattle.node_run.proofs.StoreLemmas.{delivers, keeps_opened, keeps_read, keeps_unopened, unopened, sound_opening, sound_here, by_disk_or_memory, tip_stopped, tip_told, tip_line_is, if_told}
-use Rattle.node_run.proofs.Statuses.{not_early, is_early}
+use Rattle.node_run.proofs.StoreLemmas.{delivers, keeps_opened, keeps_read, keeps_unopened, opened_there, unopened, sound_opening, sound_here, by_disk_or_memory, if_told}
+use Rattle.node_run.proofs.Statuses.{tip_opening, tip_telling, tip_no_disk_fault, opening_no_sink}
+use Rattle.node_run.proofs.Faults.{no_fault, counts_also}
 use Rattle.node_run.proofs.tip.tip.Goals as goal
 
 pub returns-in-Err-clause-tip : goal.returns-in-Err-clause-tip
@@ -27,61 +24,43 @@ returns-in-Err-clause-tip g c = (
       (c.in-Err.ensures.moments now chain told keeps sound)),
 )
 
-pub returns-in-Err-tip_line-clause-tip : goal.returns-in-Err-tip_line-clause-tip
-returns-in-Err-tip_line-clause-tip g c = (
-  [],
-  takes_none (g.K.Sink.taken c.args.out.now),
-  λ left.
-      let chain = c.in-Ok.node.chain in
-      delivers Tip (g.D.Disk.reads_as c.args.disk.now) chain (g.D.Disk.images c.args.disk.now) (g.D.Disk.images c.open.new.disk)
-      (g.D.Disk.left_since c.open.new.disk (g.D.Disk.moment c.args.disk.now)) left [] [] NoMemory (λ store found. found) c.in-Ok.ensures.kept
-      (λ joined. tip_stopped chain left [] (tip_line (tip chain.blocks)) NoMemory tt (tip_line (tip chain.blocks), refl) refl (λ early. refl))
-      (keeps_opened (g.D.Disk.reads_as c.args.disk.now) chain [] (g.D.Disk.images c.args.disk.now) (g.D.Disk.images c.open.new.disk)
-      (g.D.Disk.left_since c.open.new.disk (g.D.Disk.moment c.args.disk.now)) [] NoMemory c.in-Ok.ensures.kept
-      (λ now told keeps sound. keeps_read g.D.Disk.images g.D.Disk.moment g.D.Disk.left_since g.met.D.Disk.counts_now c.args.disk.now c.open.new.disk chain [] NoMemory
-      (c.in-Ok.ensures.moments now chain told keeps sound)
-      (on_stands c.in-Ok.node chain (g.D.Disk.reads_as c.open.new.disk) (g.D.Disk.images c.open.new.disk) refl
-      (if_told (g.D.Disk.reads_as c.args.disk.now) (λ _. IsOn c.in-Ok.node (g.D.Disk.reads_as c.open.new.disk) (g.D.Disk.images c.open.new.disk)) now (c.in-Ok.ensures.on sound) told)))),
-)
-
-pub returns-in-Ok-write_text-clause-tip : goal.returns-in-Ok-write_text-clause-tip
-returns-in-Ok-write_text-clause-tip g c = let written = c.in-Ok-write_text.ensures.written in (
-  written.0,
-  written.1,
-  λ left.
-      let chain = c.in-Ok.node.chain in
-      let line : written.0 ≡ tip_line (tip chain.blocks) =
-      written.2 ∙ c.as_bytes.ensures.value ∙ tip_line_is (tip chain.blocks) c.tip-tip.ensures.0 c.tip-tip.result.now.number c.tip-tip.result.now.hash (string_bytes c.in-Ok-tip_line.line)
-      c.tip-tip.ensures.1 c.tip-tip.ensures.2.number c.tip-tip.ensures.2.hash c.in-Ok-tip_line.ensures in
-      delivers Tip (g.D.Disk.reads_as c.args.disk.now) chain (g.D.Disk.images c.args.disk.now) (g.D.Disk.images c.open.new.disk)
-      (g.D.Disk.left_since c.open.new.disk (g.D.Disk.moment c.args.disk.now)) left [] written.0 Done (λ store found. found) c.in-Ok.ensures.kept
-      (λ joined. tip_told chain left written.0 line (λ early. is_early Done early))
-      (keeps_opened (g.D.Disk.reads_as c.args.disk.now) chain [] (g.D.Disk.images c.args.disk.now) (g.D.Disk.images c.open.new.disk)
-      (g.D.Disk.left_since c.open.new.disk (g.D.Disk.moment c.args.disk.now)) written.0 Done c.in-Ok.ensures.kept
-      (λ now told keeps sound. keeps_read g.D.Disk.images g.D.Disk.moment g.D.Disk.left_since g.met.D.Disk.counts_now c.args.disk.now c.open.new.disk chain written.0 Done
-      (c.in-Ok.ensures.moments now chain told keeps sound)
-      (on_stands c.in-Ok.node chain (g.D.Disk.reads_as c.open.new.disk) (g.D.Disk.images c.open.new.disk) refl
-      (if_told (g.D.Disk.reads_as c.args.disk.now) (λ _. IsOn c.in-Ok.node (g.D.Disk.reads_as c.open.new.disk) (g.D.Disk.images c.open.new.disk)) now (c.in-Ok.ensures.on sound) told)))),
-)
-
 pub returns-clause-tip : goal.returns-clause-tip
-returns-clause-tip g c = let written = c.in-Err-write_text.ensures.written in (
-  written.0,
-  written.1,
+returns-clause-tip g c = let told = c.write_tip.ensures.told in (
+  told.0,
+  told.1,
   λ left.
       let chain = c.in-Ok.node.chain in
-      let status = c.in-Err-write_text.status in
-      let sink : status ≡ SinkFault = c.in-Err-write_text.ensures.stop status refl in
-      let line : c.as_bytes.result.now ≡ tip_line (tip chain.blocks) =
-      c.as_bytes.ensures.value ∙ tip_line_is (tip chain.blocks) c.tip-tip.ensures.0 c.tip-tip.result.now.number c.tip-tip.result.now.hash (string_bytes c.in-Ok-tip_line.line)
-      c.tip-tip.ensures.1 c.tip-tip.ensures.2.number c.tip-tip.ensures.2.hash c.in-Ok-tip_line.ensures in
       delivers Tip (g.D.Disk.reads_as c.args.disk.now) chain (g.D.Disk.images c.args.disk.now) (g.D.Disk.images c.open.new.disk)
-      (g.D.Disk.left_since c.open.new.disk (g.D.Disk.moment c.args.disk.now)) left [] written.0 status (λ store found. found) c.in-Ok.ensures.kept
-      (λ joined. tip_stopped chain left written.0 c.as_bytes.result.now status (subst IsStop (sym sink) tt) written.2.front line (λ early. absurd (not_early status sink early)))
+      (g.D.Disk.left_since c.open.new.disk (g.D.Disk.moment c.args.disk.now)) left [] told.0 c.write_tip.result (λ store found. found) c.in-Ok.ensures.kept
+      (λ joined. told.2 left)
       (keeps_opened (g.D.Disk.reads_as c.args.disk.now) chain [] (g.D.Disk.images c.args.disk.now) (g.D.Disk.images c.open.new.disk)
-      (g.D.Disk.left_since c.open.new.disk (g.D.Disk.moment c.args.disk.now)) written.0 status c.in-Ok.ensures.kept
-      (λ now told keeps sound. keeps_read g.D.Disk.images g.D.Disk.moment g.D.Disk.left_since g.met.D.Disk.counts_now c.args.disk.now c.open.new.disk chain written.0 status
-      (c.in-Ok.ensures.moments now chain told keeps sound)
+      (g.D.Disk.left_since c.open.new.disk (g.D.Disk.moment c.args.disk.now)) told.0 c.write_tip.result c.in-Ok.ensures.kept
+      (λ now known keeps sound. keeps_read g.D.Disk.images g.D.Disk.moment g.D.Disk.left_since g.met.D.Disk.counts_now c.args.disk.now c.open.new.disk chain told.0 c.write_tip.result
+      (c.in-Ok.ensures.moments now chain known keeps sound)
       (on_stands c.in-Ok.node chain (g.D.Disk.reads_as c.open.new.disk) (g.D.Disk.images c.open.new.disk) refl
-      (if_told (g.D.Disk.reads_as c.args.disk.now) (λ _. IsOn c.in-Ok.node (g.D.Disk.reads_as c.open.new.disk) (g.D.Disk.images c.open.new.disk)) now (c.in-Ok.ensures.on sound) told)))),
+      (if_told (g.D.Disk.reads_as c.args.disk.now) (λ _. IsOn c.in-Ok.node (g.D.Disk.reads_as c.open.new.disk) (g.D.Disk.images c.open.new.disk)) now (c.in-Ok.ensures.on sound) known)))),
 )
+
+pub returns-in-Err-clause-status : goal.returns-in-Err-clause-status
+returns-in-Err-clause-status g c = tip_opening c.in-Err.status (c.in-Err.ensures.one_of c.in-Err.status refl)
+
+pub returns-in-Err-clause-no_log : goal.returns-in-Err-clause-no_log
+returns-in-Err-clause-no_log g c = c.in-Err.ensures.no_log
+
+pub returns-in-Err-clause-out_faults : goal.returns-in-Err-clause-out_faults
+returns-in-Err-clause-out_faults g c = no_fault _ _ refl (opening_no_sink c.in-Err.status (c.in-Err.ensures.one_of c.in-Err.status refl))
+
+pub returns-in-Err-clause-disk_faults : goal.returns-in-Err-clause-disk_faults
+returns-in-Err-clause-disk_faults g c = counts_also _ _ c.in-Err.ensures.cause (λ e. ap Err e) (λ e. cc)
+
+pub returns-clause-status : goal.returns-clause-status
+returns-clause-status g c = tip_telling c.write_tip.result c.write_tip.ensures.status
+
+pub returns-clause-no_log : goal.returns-clause-no_log
+returns-clause-no_log g c = λ now told none. absurd (opened_there (g.D.Disk.reads_as c.args.disk.now) c.in-Ok.node.chain now c.in-Ok.ensures.kept told none)
+
+pub returns-clause-out_faults : goal.returns-clause-out_faults
+returns-clause-out_faults g c = c.write_tip.ensures.faults
+
+pub returns-clause-disk_faults : goal.returns-clause-disk_faults
+returns-clause-disk_faults g c = no_fault _ _ (c.in-Ok.ensures.cause.unchanged (λ e. cc)) (tip_no_disk_fault c.write_tip.result c.write_tip.ensures.status)
