@@ -1,6 +1,7 @@
-// A row: the call, what surrounds it, and the answer.
+// Rows of syscalls: the call, what surrounds it, and the answer.
 ghost use Rattle.std.specs.Prelude.{◌≡◌};
 
+use crate::row::Row;
 use crate::shown::Shown;
 use std::alloc::Global;
 use vm_defs::{PAGE_COUNT, PAGE_SIZE};
@@ -9,28 +10,6 @@ use vm_step::Machine;
 use vm_sys::{Sys, handle};
 
 const BUDGET_LIMIT: u64 = 1 << 40;
-
-/// What is left of a row.
-#[derive(Drop)]
-pub(crate) struct Row<'a> {
-    rest: &'a str,
-}
-
-impl<'a> Row<'a> {
-    pub(crate) fn new(line: &'a str) -> Row<'a> {
-        Row { rest: line }
-    }
-
-    fn word(&mut self) -> &'a str {
-        let (word, rest) = self.rest.split_once('\t').unwrap_or((self.rest, ""));
-        self.rest = rest;
-        word
-    }
-
-    fn count(&mut self) -> Option<u64> {
-        self.word().parse::<u64>().ok()
-    }
-}
 
 /// The numbers of a column in hex, with commas between two; what is not there is 0.
 #[derive(Drop)]
