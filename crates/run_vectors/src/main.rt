@@ -25,6 +25,7 @@ use outside::Steps;
 use row::{Call, row_of};
 use std::alloc::{AllocError, Global};
 use std::io;
+use std::io::{BufRead, BufReader};
 use std::marker::Brand;
 use std::process::ExitCode;
 use std::sync::ledger::{Blank, Ledger};
@@ -89,16 +90,13 @@ fn agrees<L: Ledger>(
 }
 
 /// How many rows say what a run must answer, and how many of them agree.
-fn agreed_rows<L: Ledger>(
-    rt: HostRuntime,
-    trial: &mut Trial,
-    steps: &mut Steps<L>,
-    text: &str,
-) -> io::Result<(u64, u64)> {
+fn agreed_rows<L: Ledger>(rt: HostRuntime, steps: &mut Steps<L>) -> io::Result<(u64, u64)> {
+    let alloc = rt.alloc();
+    let mut trial = Trial::new(alloc);
     let mut rows = 0u64;
     let mut agreed = 0u64;
-    for line in text.lines() {
-        match agrees(rt, trial, steps, line)? {
+    for line in BufReader::new(alloc, rt.reader())?.lines(alloc) {
+        match agrees(rt, &mut trial, steps, &line?)? {
             None => {}
             Some(false) => rows = rows.saturating_add(1),
             Some(true) => {
@@ -110,19 +108,13 @@ fn agreed_rows<L: Ledger>(
     Ok((rows, agreed))
 }
 
-fn agreed_from_new<L: Ledger>(rt: HostRuntime, steps: &mut Steps<L>) -> io::Result<(u64, u64)> {
-    let text = io::read_to_string(rt.alloc(), rt.stdin())?;
-    let mut trial = Trial::new(rt.alloc());
-    agreed_rows(rt, &mut trial, steps, &text)
-}
-
 fn run_rows<L: Ledger>(rt: HostRuntime, blank: Blank) -> io::Result<ExitCode>
     requires name { blank.name ≡ L.name }
     requires parts { blank.parts ≡ L.parts }
     requires some { 0 < L.parts }
 {
     let mut steps = Steps::<L>::new(blank);
-    let (rows, agreed) = agreed_from_new(rt, &mut steps)?;
+    let (rows, agreed) = agreed_rows(rt, &mut steps)?;
     let of_hostile = agreed_hostile(rt.alloc(), &mut steps)?;
     println!(rt; "{of_hostile} of 4 rows made here agree")?;
     println!(rt; "{agreed} of {rows} rows agree")?;

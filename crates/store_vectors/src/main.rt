@@ -17,6 +17,7 @@ use outside_mem::MemDisk;
 use row::Row;
 use std::alloc::Global;
 use std::io;
+use std::io::{BufRead, BufReader};
 use std::process::ExitCode;
 
 /// What the rows act on.
@@ -84,15 +85,17 @@ impl Store {
 }
 
 /// How many rows there are, and how many of them agree.
-fn compare(rt: HostRuntime, store: &mut Store, text: &str) -> io::Result<(u64, u64)> {
+fn compare(rt: HostRuntime, store: &mut Store) -> io::Result<(u64, u64)> {
+    let alloc = rt.alloc();
     let mut rows = 0u64;
     let mut agreed = 0u64;
-    for line in text.lines() {
+    for line in BufReader::new(alloc, rt.reader())?.lines(alloc) {
+        let line = line?;
         if line.starts_with('#') {
             continue;
         }
         rows = rows.saturating_add(1);
-        if store.agrees(rt.alloc(), &mut Row::new(line)) == Some(true) {
+        if store.agrees(alloc, &mut Row::new(&line)) == Some(true) {
             agreed = agreed.saturating_add(1);
         } else {
             println!(rt; "differs: {line}")?;
@@ -101,19 +104,18 @@ fn compare(rt: HostRuntime, store: &mut Store, text: &str) -> io::Result<(u64, u
     Ok((rows, agreed))
 }
 
-fn compare_from_new(rt: HostRuntime, text: &str) -> io::Result<(u64, u64)> {
+fn compare_from_new(rt: HostRuntime) -> io::Result<(u64, u64)> {
     match Store::new(rt.alloc()) {
         Some(store) => {
             let mut store = store;
-            compare(rt, &mut store, text)
+            compare(rt, &mut store)
         }
         None => Ok((1, 0)),
     }
 }
 
 fn main(rt: HostRuntime) -> io::Result<ExitCode> {
-    let text = io::read_to_string(rt.alloc(), rt.stdin())?;
-    let (rows, agreed) = compare_from_new(rt, &text)?;
+    let (rows, agreed) = compare_from_new(rt)?;
     println!(rt; "{agreed} of {rows} rows agree")?;
     Ok(if agreed == rows {
         ExitCode::SUCCESS
