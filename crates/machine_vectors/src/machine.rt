@@ -64,8 +64,18 @@ fn looked_at(alloc: Global, machine: &mut Machine, call: &str, row: &mut Row) ->
     }
 }
 
-fn name_of(alloc: Global, answer: Step) -> Option<String> {
-    format!(in alloc; "{answer:?}").ok()
+fn name_of(answer: Step) -> &'static str {
+    match answer {
+        Step::Went => "Went",
+        Step::Ecall => "Ecall",
+        Step::Fault(1) => "Fault(1)",
+        Step::Fault(2) => "Fault(2)",
+        Step::Fault(3) => "Fault(3)",
+        Step::Fault(4) => "Fault(4)",
+        Step::Fault(_) => "Fault",
+        Step::Spent => "Spent",
+        Step::NoMemory => "NoMemory",
+    }
 }
 
 impl Held {
@@ -85,7 +95,7 @@ impl Held {
     }
 
     /// One step, or a run: the answer, and the cycles then.
-    fn stepped(self, alloc: Global, call: &str, row: &mut Row) -> Option<(Held, bool)> {
+    fn stepped(self, call: &str, row: &mut Row) -> Option<(Held, bool)> {
         let Held::Going(going) = self else {
             return None;
         };
@@ -95,8 +105,7 @@ impl Held {
         } else {
             machine.run()
         };
-        let agrees = name_of(alloc, answer)?.as_str() == row.word()
-            && machine.cycles() == row.number()?;
+        let agrees = name_of(answer) == row.word() && machine.cycles() == row.number()?;
         match answer {
             Step::Went => Some((Held::Going(Going(machine)), agrees)),
             Step::Ecall => Some((Held::Going(Going(machine)), agrees)),
@@ -146,8 +155,8 @@ impl Held {
     pub(crate) fn after(self, alloc: Global, call: &str, row: &mut Row) -> Option<(Held, bool)> {
         match call {
             "machine" => self.started(row),
-            "step" => self.stepped(alloc, call, row),
-            "run" => self.stepped(alloc, call, row),
+            "step" => self.stepped(call, row),
+            "run" => self.stepped(call, row),
             "charge" => self.charged(row),
             call => self.acted(alloc, call, row),
         }

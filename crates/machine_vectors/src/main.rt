@@ -1,57 +1,82 @@
-//! Memory, a machine and files of programs: makes the call of each row of its standard input, and prints the rows that
-//! differ.
+//! The machine: makes the call of each row of its standard input, and prints the rows that differ.
 //!
 //! A row begins with what it calls, has a column for each argument and ends with the answer, with a tab between two;
-//! numbers and bytes are in hex, `-` for no bytes. `memory` makes new memory, `elf` one into which a file is loaded, and
-//! `machine` a machine of that memory; the rows below act on it. Its call may then also be one of memory. A line that begins
-//! with `#` tells what follows. The answers were worked by hand from docs/MACHINE.md, the words of code are those of an
-//! assembler's text, which stands beside them.
+//! numbers and bytes are in hex, `-` for no bytes. A line that begins with `#` tells what follows.
+//!
+//! `memory` makes new memory, `elf` one into which a file is loaded, and `machine` a machine of that memory; the rows below
+//! act on it. Its call may then also be one of memory. The answers were worked by hand from docs/MACHINE.md, the words of code
+//! are those of an assembler's text, which stands beside them.
+//!
+//! `decode` has a word, the instruction that it encodes as an assembler's text, or `none`, and its length in bytes, or 0. The
+//! rows were made by a program that was written from the instruction table alone, and agree with binutils and LLVM. At the end
+//! the program tells how many of the 49,152 patterns of a compressed form are instructions, and of the 32,768 patterns of
+//! opcode, funct3 and funct7 with x0 for each register.
+//!
+//! `alu` has an operation, two registers and what the operation gives of them. The rows were made by a program that was
+//! written from the RISC-V manual alone.
+//!
+//! `syscall` has the registers a0 to a5 and a7 in hex, the budget, what the world answers, memory before the call, its pages
+//! of code, and the answer. Behind `done` are a0, the cycles, what the call changed in memory, and its pages of code; at any
+//! other answer these are not looked at. The answers are those of a program that was written from RFC 0009 and
+//! docs/MACHINE.md alone.
 #![tactic(auto)]
 
+mod alu;
+mod decode;
 mod elf;
 mod machine;
 mod memory;
 mod row;
+mod shown;
+mod syscall;
+mod text;
 
 use machine::Held;
 use row::Row;
 use std::alloc::Global;
-use std::io;
-use std::io::{BufRead, BufReader};
 use std::process::ExitCode;
+use std::{io, mem};
 use vm_mem::Memory;
 
-/// What is held after a row, and whether it agrees; None where it is no row.
-fn after(alloc: Global, held: Held, line: &str) -> Option<(Held, bool)> {
-    let mut row = Row::new(line);
-    match row.word() {
+/// What is held after a row of memory or a machine, and whether it agrees; None where it is no row.
+fn after(alloc: Global, held: Held, call: &str, row: &mut Row) -> Option<(Held, bool)> {
+    match call {
         "memory" => Some((Held::Memory(Memory::new(alloc).ok()?), true)),
         "elf" => {
-            let (memory, agrees) = elf::agrees(alloc, &mut row)?;
+            let (memory, agrees) = elf::agrees(alloc, row)?;
             Some((Held::Memory(memory), agrees))
         }
-        call => held.after(alloc, call, &mut row),
+        call => held.after(alloc, call, row),
     }
 }
 
-/// How many rows there are, and how many of them agree. A line that is no row ends it.
-fn compare(rt: HostRuntime) -> io::Result<(u64, u64)> {
-    let alloc = rt.alloc();
+/// Whether what is held answers what the row says. Behind what is no row nothing is held.
+fn agrees_on_held(alloc: Global, held: &mut Held, call: &str, row: &mut Row) -> Option<bool> {
+    let (next, agrees) = after(alloc, mem::replace(held, Held::Nothing), call, row)?;
+    *held = next;
+    Some(agrees)
+}
+
+/// Whether the call answers what the row says; None where it is no row.
+fn agrees(alloc: Global, held: &mut Held, row: &mut Row) -> Option<bool> {
+    match row.word() {
+        "decode" => decode::agrees(alloc, row),
+        "alu" => alu::agrees(row),
+        "syscall" => syscall::agrees(alloc, row),
+        call => agrees_on_held(alloc, held, call, row),
+    }
+}
+
+/// How many rows there are, and how many of them agree.
+fn compare(rt: HostRuntime, held: &mut Held, text: &str) -> io::Result<(u64, u64)> {
     let mut rows = 0u64;
     let mut agreed = 0u64;
-    let mut held = Held::Nothing;
-    for line in BufReader::new(alloc, rt.reader())?.lines(alloc) {
-        let line = line?;
+    for line in text.lines() {
         if line.starts_with('#') {
             continue;
         }
         rows = rows.saturating_add(1);
-        let Some((next, agrees)) = after(alloc, held, &line) else {
-            println!(rt; "no row: {line}")?;
-            return Ok((rows, agreed));
-        };
-        held = next;
-        if agrees {
+        if agrees(rt.alloc(), held, &mut Row::new(line)) == Some(true) {
             agreed = agreed.saturating_add(1);
         } else {
             println!(rt; "differs: {line}")?;
@@ -60,9 +85,19 @@ fn compare(rt: HostRuntime) -> io::Result<(u64, u64)> {
     Ok((rows, agreed))
 }
 
+fn compare_from_new(rt: HostRuntime, text: &str) -> io::Result<(u64, u64)> {
+    let mut held = Held::Nothing;
+    compare(rt, &mut held, text)
+}
+
 fn main(rt: HostRuntime) -> io::Result<ExitCode> {
-    let (rows, agreed) = compare(rt)?;
+    let text = io::read_to_string(rt.alloc(), rt.stdin())?;
+    let (rows, agreed) = compare_from_new(rt, &text)?;
     println!(rt; "{agreed} of {rows} rows agree")?;
+    let found = decode::compressed_count();
+    println!(rt; "{found} of 49152 compressed patterns are instructions")?;
+    let found = decode::full_count();
+    println!(rt; "{found} of 32768 full patterns are instructions")?;
     Ok(if agreed == rows {
         ExitCode::SUCCESS
     } else {

@@ -1,7 +1,8 @@
 // Rows of memory.
 
 use crate::row::Row;
-use std::alloc::{AllocError, Global};
+use crate::text::text;
+use std::alloc::Global;
 use vm_mem::{Ins, MemFault, MemStop, Memory, Width};
 
 const PAGE_SIZE: u64 = 4096;
@@ -49,14 +50,6 @@ fn is_done(done: Result<(), MemFault>, wanted: &str) -> bool {
     }
 }
 
-/// An ADDI as an assembler takes it, and the length; no row asks for another instruction.
-fn text_of(alloc: Global, ins: Ins, length: u8) -> Result<String, AllocError> {
-    match ins {
-        Ins::Addi { rd, rs1, imm } => format!(in alloc; "addi x{rd},x{rs1},{imm} {length}"),
-        _ => format!(in alloc; "another"),
-    }
-}
-
 fn agrees_on_load(memory: &Memory, row: &mut Row) -> Option<bool> {
     let at = row.number()?;
     let width = width_of(row.word())?;
@@ -69,15 +62,19 @@ fn agrees_on_fetch(memory: &Memory, row: &mut Row) -> Option<bool> {
     Some(is_number(found, row.word()))
 }
 
+/// The instruction as an assembler's text, and behind a space its length.
+fn is_instruction(alloc: Global, ins: Ins, length: u8, wanted: &str) -> Option<bool> {
+    let text = text(alloc, ins).ok()?;
+    let (named, digits) = wanted.rsplit_once(' ')?;
+    Some(text.as_str() == named && digits.parse() == Ok(length))
+}
+
 /// The instruction and its length, `none`, or the fault.
 fn agrees_on_instruction(alloc: Global, memory: &mut Memory, row: &mut Row) -> Option<bool> {
     let at = row.number()?;
     let wanted = row.word();
     match memory.instruction(at) {
-        Ok(Some((ins, length))) => {
-            let text = text_of(alloc, ins, length).ok()?;
-            Some(text.as_str() == wanted)
-        }
+        Ok(Some((ins, length))) => is_instruction(alloc, ins, length, wanted),
         Ok(None) => Some(wanted == "none"),
         Err(fault) => Some(wanted == name_of(fault)),
     }

@@ -24,6 +24,11 @@ impl<'a> Row<'a> {
         u64::from_str_radix(self.word(), 16).ok()
     }
 
+    /// A number in decimal.
+    pub(crate) fn count(&mut self) -> Option<u64> {
+        self.word().parse::<u64>().ok()
+    }
+
     pub(crate) fn bytes(&mut self, alloc: Global) -> Option<Vec<u8>> {
         match self.word() {
             "-" => Some(Vec::new(alloc)),

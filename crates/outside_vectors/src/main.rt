@@ -14,7 +14,6 @@ use outside_mem::{MemDisk, MemSink, MemSource};
 use row::Row;
 use std::alloc::Global;
 use std::io;
-use std::io::{BufRead, BufReader};
 use std::process::ExitCode;
 use streams::Trickle;
 
@@ -65,14 +64,12 @@ impl Outside {
 }
 
 /// How many rows there are, and how many of them agree.
-fn compare(rt: HostRuntime, outside: &mut Outside) -> io::Result<(u64, u64)> {
-    let alloc = rt.alloc();
+fn compare(rt: HostRuntime, outside: &mut Outside, text: &str) -> io::Result<(u64, u64)> {
     let mut rows = 0u64;
     let mut agreed = 0u64;
-    for row in BufReader::new(alloc, rt.reader())?.lines(alloc) {
-        let row = row?;
+    for row in text.lines() {
         rows = rows.saturating_add(1);
-        if outside.agrees(alloc, &mut Row::new(&row)) == Some(true) {
+        if outside.agrees(rt.alloc(), &mut Row::new(row)) == Some(true) {
             agreed = agreed.saturating_add(1);
         } else {
             println!(rt; "differs: {row}")?;
@@ -81,13 +78,14 @@ fn compare(rt: HostRuntime, outside: &mut Outside) -> io::Result<(u64, u64)> {
     Ok((rows, agreed))
 }
 
-fn compare_from_new(rt: HostRuntime) -> io::Result<(u64, u64)> {
+fn compare_from_new(rt: HostRuntime, text: &str) -> io::Result<(u64, u64)> {
     let mut outside = Outside::new(rt.alloc());
-    compare(rt, &mut outside)
+    compare(rt, &mut outside, text)
 }
 
 fn main(rt: HostRuntime) -> io::Result<ExitCode> {
-    let (rows, agreed) = compare_from_new(rt)?;
+    let text = io::read_to_string(rt.alloc(), rt.stdin())?;
+    let (rows, agreed) = compare_from_new(rt, &text)?;
     println!(rt; "{agreed} of {rows} rows agree")?;
     Ok(if agreed == rows {
         ExitCode::SUCCESS

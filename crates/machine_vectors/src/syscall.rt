@@ -1,6 +1,7 @@
-// A row: the call, what surrounds it, and the answer.
+// Rows of syscalls: the call, what surrounds it, and the answer.
 ghost use Rattle.std.specs.Prelude.{◌≡◌};
 
+use crate::row::Row;
 use crate::shown::Shown;
 use std::alloc::Global;
 use vm_defs::{PAGE_COUNT, PAGE_SIZE};
@@ -9,28 +10,6 @@ use vm_step::Machine;
 use vm_sys::{Sys, handle};
 
 const BUDGET_LIMIT: u64 = 1 << 40;
-
-/// What is left of a row.
-#[derive(Drop)]
-pub(crate) struct Row<'a> {
-    rest: &'a str,
-}
-
-impl<'a> Row<'a> {
-    pub(crate) fn new(line: &'a str) -> Row<'a> {
-        Row { rest: line }
-    }
-
-    fn word(&mut self) -> &'a str {
-        let (word, rest) = self.rest.split_once('\t').unwrap_or((self.rest, ""));
-        self.rest = rest;
-        word
-    }
-
-    fn count(&mut self) -> Option<u64> {
-        self.word().parse::<u64>().ok()
-    }
-}
 
 /// The numbers of a column in hex, with commas between two; what is not there is 0.
 #[derive(Drop)]
@@ -46,29 +25,37 @@ impl<'a> Numbers<'a> {
     }
 }
 
-/// Writes the bytes of a column, each run of them behind its address.
+/// Writes a run of bytes, which stand behind their address.
+fn write_run(alloc: Global, memory: &mut Memory, run: &str) -> Option<()> {
+    let (at, digits) = run.split_once(':')?;
+    let at = u64::from_str_radix(at, 16).ok()?;
+    let bytes = hex::decode(alloc, digits).ok()?;
+    memory.copy_in(at, &bytes).ok()
+}
+
+/// Writes the runs of bytes of a column.
 fn write_runs(alloc: Global, memory: &mut Memory, column: &str) -> Option<()> {
     if column == "-" {
         return Some(());
     }
     for run in column.split(';') {
-        let (at, digits) = run.split_once(':')?;
-        let at = u64::from_str_radix(at, 16).ok()?;
-        let bytes = hex::decode(alloc, digits).ok()?;
-        if memory.copy_in(at, &bytes).is_err() {
-            return None;
-        }
+        write_run(alloc, memory, run)?;
     }
     Some(())
+}
+
+fn make_page_code(memory: &mut Memory, page: &str) -> Option<()> {
+    let page = page.parse::<u64>().ok()?;
+    if page >= PAGE_COUNT {
+        return None;
+    }
+    memory.set_code(page * PAGE_SIZE, 1).ok()
 }
 
 /// Makes the pages of a column code.
 fn make_code(memory: &mut Memory, column: &str) -> Option<()> {
     for page in column.split(',') {
-        let page = page.parse::<u64>().ok()?;
-        if page >= PAGE_COUNT || memory.set_code(page * PAGE_SIZE, 1).is_err() {
-            return None;
-        }
+        make_page_code(memory, page)?;
     }
     Some(())
 }
@@ -87,21 +74,35 @@ fn set_call(machine: &mut Machine, column: &str)
     machine.set_reg(17, numbers.next());
 }
 
-/// Whether two memories have the same bytes, and the same pages of code.
-fn are_alike(memory: &Memory, other: &Memory) -> bool {
+fn is_same_word(memory: &Memory, other: &Memory, at: u64) -> bool {
+    memory.load(at, Width::B8) == other.load(at, Width::B8)
+}
+
+fn is_data(memory: &Memory, at: u64) -> bool {
+    memory.fetch(at) == Err(MemFault::RunData)
+}
+
+fn have_same_bytes(memory: &Memory, other: &Memory) -> bool {
     for word in 0..PAGE_COUNT * PAGE_SIZE / 8 {
-        if memory.load(8 * word, Width::B8) != other.load(8 * word, Width::B8) {
-            return false;
-        }
-    }
-    for page in 0..PAGE_COUNT {
-        let is_data = memory.fetch(PAGE_SIZE * page) == Err(MemFault::RunData);
-        let other_is_data = other.fetch(PAGE_SIZE * page) == Err(MemFault::RunData);
-        if is_data != other_is_data {
+        if !is_same_word(memory, other, 8 * word) {
             return false;
         }
     }
     true
+}
+
+fn have_same_code(memory: &Memory, other: &Memory) -> bool {
+    for page in 0..PAGE_COUNT {
+        if is_data(memory, PAGE_SIZE * page) != is_data(other, PAGE_SIZE * page) {
+            return false;
+        }
+    }
+    true
+}
+
+/// Whether two memories have the same bytes, and the same pages of code.
+fn are_alike(memory: &Memory, other: &Memory) -> bool {
+    have_same_bytes(memory, other) && have_same_code(memory, other)
 }
 
 fn agrees_on_done(
@@ -143,16 +144,15 @@ pub(crate) fn agrees(alloc: Global, row: &mut Row) -> Option<bool> {
             }
             agrees_on_done(alloc, &mut machine, before, row)
         }
-        answer => Some(is_named(alloc, answer, wanted)?),
+        answer => is_named(answer, wanted),
     }
 }
 
-fn is_named(alloc: Global, answer: Sys, wanted: &str) -> Option<bool> {
-    let name = match answer {
-        Sys::Exit(code) => format!(in alloc; "exit {code}").ok()?,
-        Sys::Fault(number) => format!(in alloc; "fault {number}").ok()?,
-        Sys::Spent => format!(in alloc; "spent").ok()?,
-        _ => format!(in alloc; "stop").ok()?,
-    };
-    Some(name.as_str() == wanted)
+fn is_named(answer: Sys, wanted: &str) -> Option<bool> {
+    match answer {
+        Sys::Exit(code) => Some(wanted.strip_prefix("exit ")?.parse() == Ok(code)),
+        Sys::Fault(number) => Some(wanted.strip_prefix("fault ")?.parse() == Ok(number)),
+        Sys::Spent => Some(wanted == "spent"),
+        _ => Some(wanted == "stop"),
+    }
 }
