@@ -16,6 +16,14 @@ use std::io;
 use std::io::{BufRead, BufReader};
 use std::process::ExitCode;
 
+/// The blobs and the chain of the rows so far, and the specification.
+#[derive(Drop)]
+struct Table {
+    blobs: Vec<Vec<u8>>,
+    spec: Option<Spec>,
+    chain: Option<Chain>,
+}
+
 /// Puts a block with its ext on a chain.
 fn next(alloc: Global, chain: &mut Chain, columns: &str) -> Option<bool> {
     let (block, ext) = columns.split_once('\t')?;
@@ -24,56 +32,45 @@ fn next(alloc: Global, chain: &mut Chain, columns: &str) -> Option<bool> {
     add(alloc, &mut chain.tree, &mut chain.blocks, &block, &ext).ok()
 }
 
-/// Whether the row holds; None where it is none.
-fn agrees(
-    alloc: Global,
-    blobs: &mut Vec<Vec<u8>>,
-    spec: &mut Option<Spec>,
-    chain: &mut Option<Chain>,
-    row: &str,
-) -> Option<bool> {
-    let (word, columns) = row.split_once('\t')?;
-    match word {
-        "blob" => {
-            blobs.push(hex::decode(alloc, columns).ok()?).ok()?;
-            Some(true)
-        }
-        "spec" => {
-            *spec = Spec::read(&hex::decode(alloc, columns).ok()?).ok();
-            Some(spec.is_some())
-        }
-        "genesis" => {
-            let bytes = hex::decode(alloc, columns).ok()?;
-            *chain = of_genesis(alloc, &bytes).ok()?;
-            Some(chain.is_some())
-        }
-        _ => {
-            let Some(spec) = *spec else {
-                return None;
-            };
-            let Some(chain) = chain else {
-                return None;
-            };
-            if word == "block" {
-                next(alloc, chain, columns)
-            } else {
-                agrees_at(alloc, blobs, &spec, chain, columns)
-            }
-        }
+/// Whether a row with bytes alone holds; None where it is none.
+fn takes(alloc: Global, table: &mut Table, word: &str, digits: &str) -> Option<bool> {
+    let bytes = hex::decode(alloc, digits).ok()?;
+    if word == "blob" {
+        table.blobs.push(bytes).ok()?;
+        return Some(true);
     }
+    if word == "spec" {
+        table.spec = Spec::read(&bytes).ok();
+        return Some(table.spec.is_some());
+    }
+    table.chain = of_genesis(alloc, &bytes).ok()?;
+    Some(table.chain.is_some())
 }
 
-fn main(rt: HostRuntime) -> io::Result<ExitCode> {
+/// Whether the row holds; None where it is none.
+fn agrees(alloc: Global, table: &mut Table, row: &str) -> Option<bool> {
+    let (word, columns) = row.split_once('\t')?;
+    if word == "blob" || word == "spec" || word == "genesis" {
+        return takes(alloc, table, word, columns);
+    }
+    let Some(chain) = &mut table.chain else {
+        return None;
+    };
+    if word == "block" {
+        return next(alloc, chain, columns);
+    }
+    agrees_at(alloc, &table.blobs, &table.spec?, chain, columns)
+}
+
+/// Tries each row, and prints those that differ and how many agree.
+fn try_rows(rt: HostRuntime, table: &mut Table) -> io::Result<ExitCode> {
     let alloc = rt.alloc();
-    let mut blobs = Vec::new(alloc);
-    let mut spec = None;
-    let mut chain = None;
     let mut rows = 0u64;
     let mut agreed = 0u64;
     for row in BufReader::new(alloc, rt.reader())?.lines(alloc) {
         let row = row?;
         rows = rows.saturating_add(1);
-        if agrees(alloc, &mut blobs, &mut spec, &mut chain, &row) == Some(true) {
+        if agrees(alloc, table, &row) == Some(true) {
             agreed = agreed.saturating_add(1);
         } else {
             println!(rt; "row {rows} differs")?;
@@ -85,4 +82,13 @@ fn main(rt: HostRuntime) -> io::Result<ExitCode> {
     } else {
         ExitCode::FAILURE
     })
+}
+
+fn main(rt: HostRuntime) -> io::Result<ExitCode> {
+    let mut table = Table {
+        blobs: Vec::new(rt.alloc()),
+        spec: None,
+        chain: None,
+    };
+    try_rows(rt, &mut table)
 }
