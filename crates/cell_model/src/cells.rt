@@ -7,7 +7,7 @@ use mol_schema::TxView;
 use std::marker::Model;
 
 /// An output of a transaction, by the transaction's hash and the output's index. Clauses see the schema's `OutPoint`.
-#[derive(Clone, Copy, Debug, PartialEq, Eq)]
+#[derive(Clone, Copy, PartialEq, Eq)]
 pub struct OutPoint {
     pub tx_hash: [u8; 32],
     pub index: u32,
@@ -24,7 +24,7 @@ impl Model for OutPoint {
 }
 
 /// What is kept of a live cell: its row. Clauses see a `Row` of the definitions.
-#[derive(Clone, Copy, Debug, PartialEq, Eq)]
+#[derive(Clone, Copy, PartialEq, Eq)]
 pub struct CellMeta {
     /// The place among the kept blocks of the block that made it. In the block that is judged: how many are kept.
     pub block: u32,

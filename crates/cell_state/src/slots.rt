@@ -16,7 +16,7 @@ use std::marker::Model;
 const MOST: u64 = 1 << 50;
 
 /// What stands at an out-point. Where no block is being applied each slot is `Live`.
-#[derive(Clone, Copy, Debug, PartialEq, Eq)]
+#[derive(Clone, Copy, PartialEq, Eq)]
 pub(crate) enum Slot {
     /// Live, with its row from before the block.
     Live(CellMeta),

@@ -1,14 +1,29 @@
-use Rattle.std.proofs.Common.{◌++◌, arith}
+use Rattle.std.proofs.Common.{◌≡◌, ◌++◌, length, arith, rules}
 use Rattle.std.specs.Int.{w32, w64, to_le_bytes}
 use Rattle.std.proofs.lemmas.Grind.{common_steps}
+use Rattle.std.proofs.lemmas.List.{length-append}
+use Rattle.cell_defs.specs.Ext.{type_bytes}
 use Rattle.cell_model.proofs.RowLemmas.{has_form}
 use Rattle.cell_model.proofs.row.put_row.Goals as goal
+
+pub returns-clause-written : goal.returns-clause-written
+returns-clause-written c = grind (arith, common_steps)
+
+pub returns-clause-size : goal.returns-clause-size
+returns-clause-size c =
+    let tx_hash : length c.args.o.now.tx_hash ≡ 32 = search rules in
+    let lock_hash : length c.args.meta.now.lock_hash ≡ 32 = search rules in
+    let type_hash : length (type_bytes c.args.meta.now.type_hash) ≡ 33 = search rules in
+    let data_hash : length c.args.meta.now.data_hash ≡ 32 = search rules in
+    simp length-append (omega (arith, tx_hash, lock_hash, type_hash, data_hash))
 
 pub returns-clause-form : goal.returns-clause-form
 returns-clause-form c =
     let o = c.args.o.now in
     let row = c.args.meta.now in
+    let tx_hash : length o.tx_hash ≡ 32 = search rules in
+    let lock_hash : length row.lock_hash ≡ 32 = search rules in
     has_form
     (o.tx_hash ++ to_le_bytes w32 o.index ++ to_le_bytes w32 row.block ++ to_le_bytes w32 row.transaction
     ++ to_le_bytes w64 row.capacity ++ to_le_bytes w64 row.occupied ++ row.lock_hash)
-    row.data_hash (to_le_bytes w32 row.data_len) row.type_hash (grind (arith, common_steps))
+    row.data_hash (to_le_bytes w32 row.data_len) row.type_hash (simp length-append (omega (arith, tx_hash, lock_hash)))
