@@ -35,16 +35,25 @@ pub(crate) fn is_type_id(script: &ScriptView<'_>) -> bool
     script.hash_type() == BY_TYPE && script.code_hash() == TYPE_ID_CODE_HASH.as_slice()
 }
 
+/// The bytes of the first input: none where there is none.
+fn first_input<'a>(tx: &TxView<'a>) -> &'a [u8]
+    ensures { result.now ≡ defs.input_bytes (slice_get tx.now.raw.inputs 0) }
+{
+    let raw = tx.raw();
+    if raw.inputs_count() > 0 {
+        raw.inputs_item(0).bytes()
+    } else {
+        &[]
+    }
+}
+
 /// The args that the output at a place is given.
 #[tactic(auto, unfolding(script_defs::specs::TypeId::new_type_id))]
 fn new_type_id(tx: &TxView<'_>, place: u32) -> [u8; 32]
     ensures { (scene : Scene) → scene.transaction ≡ tx.now → result ≡ defs.new_type_id scene place }
 {
     let mut hasher = Hasher::new();
-    let raw = tx.raw();
-    if raw.inputs_count() > 0 {
-        hasher.update(raw.inputs_item(0).bytes());
-    }
+    hasher.update(first_input(tx));
     hasher.update(&u64::from(place).to_le_bytes());
     hasher.finalize()
 }
