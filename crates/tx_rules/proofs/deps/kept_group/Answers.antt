@@ -1,13 +1,14 @@
-use Rattle.std.proofs.Common.{◌≡◌, Some, ap, ◌∙◌, rules}
+use Rattle.std.proofs.Common.{◌≡◌, Some, ap, ◌∙◌}
 use Rattle.codec_defs.specs.Shape.{decoded}
 use Rattle.codec_defs.specs.Schema.{Block, block}
+use Rattle.cell_defs.specs.Row.{Row}
 use Rattle.cell_model.specs.Copies.{output_in}
 use Rattle.cell_model.proofs.CopyLemmas.{named_output, encodes}
 use Rattle.tx_rules.proofs.deps.kept_group.Goals as goal
 
 pub returns-clause-rows : goal.returns-clause-rows
 returns-clause-rows g c = λ stored cell tells named.
-    let taken : g.B.Blocks.in_hand c.bring.new.self ≡ Some c.args.meta.now.block = search rules in
+    let taken : g.B.Blocks.in_hand c.bring.new.self ≡ Some c.args.meta.now.block = c.in_ok-bring.ensures.taken ∙ ap (λ (row : Row). Some row.block) c.meta.view_is in
     let in_hand = encodes c.block.result.now _ _ stored c.args.meta.now.block named.made (c.in_ok-bring.ensures.told ∙ tells) taken named.there c.block.ensures in
     let read : Some c.in-Some.block ≡ decoded block c.block.result.now = c.in-Some.ensures.value in
     let block_is : c.in-Some.block ≡ named.made.block = cc in
@@ -16,7 +17,7 @@ returns-clause-rows g c = λ stored cell tells named.
 
 pub returns-clause-undamaged : goal.returns-clause-undamaged
 returns-clause-undamaged g c = λ stored cell tells named.
-    let taken : g.B.Blocks.in_hand c.bring.new.self ≡ Some c.args.meta.now.block = search rules in
+    let taken : g.B.Blocks.in_hand c.bring.new.self ≡ Some c.args.meta.now.block = c.in_ok-bring.ensures.taken ∙ ap (λ (row : Row). Some row.block) c.meta.view_is in
     let in_hand = encodes c.block.result.now _ _ stored c.args.meta.now.block named.made (c.in_ok-bring.ensures.told ∙ tells) taken named.there c.block.ensures in
     let read : Some c.in-Some.block ≡ decoded block c.block.result.now = c.in-Some.ensures.value in
     let block_is : c.in-Some.block ≡ named.made.block = cc in
