@@ -89,9 +89,9 @@ fn index_in(bytes: &[u8]) -> Option<u64>
     if bytes.len() != 8 {
         return None;
     }
-    Some(u64::from_le_bytes([
-        bytes[0], bytes[1], bytes[2], bytes[3], bytes[4], bytes[5], bytes[6], bytes[7],
-    ]))
+    let mut index = [0; 8];
+    index.copy_from_slice(bytes);
+    Some(u64::from_le_bytes(index))
 }
 
 /// The index of the header dep of the deposit block of the input at a place, as its witness has it.
