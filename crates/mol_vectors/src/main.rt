@@ -18,6 +18,7 @@ mod views;
 
 use std::alloc::{AllocError, Global};
 use std::io;
+use std::io::{BufRead, BufReader};
 use std::process::ExitCode;
 use std::string::String;
 
@@ -68,24 +69,19 @@ fn agrees_on_field(alloc: Global, view: &str, accessor: &str, rest: &str) -> Opt
     Some(text(alloc, answer).ok()?.as_str() == wanted)
 }
 
-/// How many rows there are, and how many of them agree.
-fn compare(rt: HostRuntime, text: &str) -> io::Result<(u64, u64)> {
+fn main(rt: HostRuntime) -> io::Result<ExitCode> {
+    let alloc = rt.alloc();
     let mut rows = 0u64;
     let mut agreed = 0u64;
-    for row in text.lines() {
+    for row in BufReader::new(alloc, rt.reader())?.lines(alloc) {
+        let row = row?;
         rows = rows.saturating_add(1);
-        if agrees(rt.alloc(), row) == Some(true) {
+        if agrees(alloc, &row) == Some(true) {
             agreed = agreed.saturating_add(1);
         } else {
             println!(rt; "differs: {row}")?;
         }
     }
-    Ok((rows, agreed))
-}
-
-fn main(rt: HostRuntime) -> io::Result<ExitCode> {
-    let text = io::read_to_string(rt.alloc(), rt.stdin())?;
-    let (rows, agreed) = compare(rt, &text)?;
     println!(rt; "{agreed} of {rows} rows agree")?;
     Ok(if agreed == rows {
         ExitCode::SUCCESS
