@@ -2,6 +2,7 @@
 
 ghost use Rattle.std.specs.Prelude.{◌≡◌, ◌+◌, ◌<◌, ◌≤◌, length};
 ghost use Rattle.hash_defs.specs.CkbHash.{compress, final_flag, mix, round, rounds, word_at, words, work_vector};
+ghost use Rattle.blake2b_ckb.specs.Compression.{half_mix};
 
 pub(crate) const BLOCK_LEN: usize = 128;
 
@@ -56,24 +57,42 @@ fn words(block: &[u8]) -> [u64; 16]
     ]
 }
 
-// The mixing function G. Its places are constants once it is inlined.
+// Half of the mixing function G: it takes one message word, and turns by two widths.
 #[inline(always)]
-fn mix(mut v: [u64; 16], a: usize, b: usize, c: usize, d: usize, x: u64, y: u64) -> [u64; 16]
+fn half_mix(
+    mut v: [u64; 16],
+    a: usize,
+    b: usize,
+    c: usize,
+    d: usize,
+    word: u64,
+    first: u32,
+    second: u32,
+) -> [u64; 16]
+    requires a { a < 16 }
+    requires b { b < 16 }
+    requires c { c < 16 }
+    requires d { d < 16 }
+    ensures { result ≡ half_mix v a b c d word first second }
+{
+    v[a] = v[a].wrapping_add(v[b]).wrapping_add(word);
+    v[d] = (v[d] ^ v[a]).rotate_right(first);
+    v[c] = v[c].wrapping_add(v[d]);
+    v[b] = (v[b] ^ v[c]).rotate_right(second);
+    v
+}
+
+// The mixing function G. Its places and widths are constants once it is inlined.
+#[inline(always)]
+fn mix(v: [u64; 16], a: usize, b: usize, c: usize, d: usize, x: u64, y: u64) -> [u64; 16]
     requires a { a < 16 }
     requires b { b < 16 }
     requires c { c < 16 }
     requires d { d < 16 }
     ensures { result ≡ mix v a b c d x y }
 {
-    v[a] = v[a].wrapping_add(v[b]).wrapping_add(x);
-    v[d] = (v[d] ^ v[a]).rotate_right(32);
-    v[c] = v[c].wrapping_add(v[d]);
-    v[b] = (v[b] ^ v[c]).rotate_right(24);
-    v[a] = v[a].wrapping_add(v[b]).wrapping_add(y);
-    v[d] = (v[d] ^ v[a]).rotate_right(16);
-    v[c] = v[c].wrapping_add(v[d]);
-    v[b] = (v[b] ^ v[c]).rotate_right(63);
-    v
+    let v = half_mix(v, a, b, c, d, x, 32, 24);
+    half_mix(v, a, b, c, d, y, 16, 63)
 }
 
 // A round, on the message words in its order.
@@ -91,30 +110,48 @@ fn round(v: [u64; 16], s: [u64; 16]) -> [u64; 16]
     mix(v, 3, 4, 9, 14, s[14], s[15])
 }
 
-// A round whose order of the message words is written out.
-macro_rules! round_in_order {
-    ($v:ident, $m:ident, $($place:literal)*) => {
-        round($v, [$($m[$place]),*])
+// A round on message words.
+macro_rules! round_on {
+    ($v:ident, $($word:ident)*) => {
+        round($v, [$($word),*])
     };
 }
 
-// The twelve rounds, each in the order of its row of SIGMA.
+// The twelve rounds, each on the message words in the order of its row of SIGMA.
 #[inline(always)]
 fn rounds(v: [u64; 16], m: [u64; 16]) -> [u64; 16]
     ensures { result ≡ rounds v m 12 }
 {
-    let v = round_in_order!(v, m, 0 1 2 3 4 5 6 7 8 9 10 11 12 13 14 15);
-    let v = round_in_order!(v, m, 14 10 4 8 9 15 13 6 1 12 0 2 11 7 5 3);
-    let v = round_in_order!(v, m, 11 8 12 0 5 2 15 13 10 14 3 6 7 1 9 4);
-    let v = round_in_order!(v, m, 7 9 3 1 13 12 11 14 2 6 5 10 4 0 15 8);
-    let v = round_in_order!(v, m, 9 0 5 7 2 4 10 15 14 1 11 12 6 8 3 13);
-    let v = round_in_order!(v, m, 2 12 6 10 0 11 8 3 4 13 7 5 15 14 1 9);
-    let v = round_in_order!(v, m, 12 5 1 15 14 13 4 10 0 7 6 3 9 2 8 11);
-    let v = round_in_order!(v, m, 13 11 7 14 12 1 3 9 5 0 15 4 8 6 2 10);
-    let v = round_in_order!(v, m, 6 15 14 9 11 3 0 8 12 2 13 7 1 4 10 5);
-    let v = round_in_order!(v, m, 10 2 8 4 7 6 1 5 15 11 9 14 3 12 13 0);
-    let v = round_in_order!(v, m, 0 1 2 3 4 5 6 7 8 9 10 11 12 13 14 15);
-    round_in_order!(v, m, 14 10 4 8 9 15 13 6 1 12 0 2 11 7 5 3)
+    let [
+        m0,
+        m1,
+        m2,
+        m3,
+        m4,
+        m5,
+        m6,
+        m7,
+        m8,
+        m9,
+        m10,
+        m11,
+        m12,
+        m13,
+        m14,
+        m15,
+    ] = m;
+    let v = round_on!(v, m0 m1 m2 m3 m4 m5 m6 m7 m8 m9 m10 m11 m12 m13 m14 m15);
+    let v = round_on!(v, m14 m10 m4 m8 m9 m15 m13 m6 m1 m12 m0 m2 m11 m7 m5 m3);
+    let v = round_on!(v, m11 m8 m12 m0 m5 m2 m15 m13 m10 m14 m3 m6 m7 m1 m9 m4);
+    let v = round_on!(v, m7 m9 m3 m1 m13 m12 m11 m14 m2 m6 m5 m10 m4 m0 m15 m8);
+    let v = round_on!(v, m9 m0 m5 m7 m2 m4 m10 m15 m14 m1 m11 m12 m6 m8 m3 m13);
+    let v = round_on!(v, m2 m12 m6 m10 m0 m11 m8 m3 m4 m13 m7 m5 m15 m14 m1 m9);
+    let v = round_on!(v, m12 m5 m1 m15 m14 m13 m4 m10 m0 m7 m6 m3 m9 m2 m8 m11);
+    let v = round_on!(v, m13 m11 m7 m14 m12 m1 m3 m9 m5 m0 m15 m4 m8 m6 m2 m10);
+    let v = round_on!(v, m6 m15 m14 m9 m11 m3 m0 m8 m12 m2 m13 m7 m1 m4 m10 m5);
+    let v = round_on!(v, m10 m2 m8 m4 m7 m6 m1 m5 m15 m11 m9 m14 m3 m12 m13 m0);
+    let v = round_on!(v, m0 m1 m2 m3 m4 m5 m6 m7 m8 m9 m10 m11 m12 m13 m14 m15);
+    round_on!(v, m14 m10 m4 m8 m9 m15 m13 m6 m1 m12 m0 m2 m11 m7 m5 m3)
 }
 
 fn final_flag(last: bool) -> u64

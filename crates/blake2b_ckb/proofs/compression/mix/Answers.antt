@@ -1,11 +1,8 @@
-use Rattle.std.proofs.Common.{◌≡◌, ℕ, ◌+◌, ◌%◌, ◌^◌, arith}
+use Rattle.std.proofs.Common.{refl}
 use Rattle.hash_defs.specs.CkbHash.{mix}
+use Rattle.blake2b_ckb.specs.Compression.{half_mix}
 use Rattle.blake2b_ckb.proofs.compression.mix.Goals as goal
 
--- the sum of three words, with the carries dropped at once or one after the other
-wrapped_sum : (p q n : ℕ) → ((p + q) % 2 ^ 64 + n) % 2 ^ 64 ≡ (p + (q + n)) % 2 ^ 64
-wrapped_sum p q n = omega arith
-
 pub returns : goal.returns
-unfolding mix
-returns c = simp (c.rotate_right-4.ensures, c.rotate_right-3.ensures, c.rotate_right-2.ensures, c.rotate_right.ensures, wrapped_sum)
+unfolding mix half_mix
+returns c = rw (c.half_mix.ensures, c.half_mix-v.ensures) refl
