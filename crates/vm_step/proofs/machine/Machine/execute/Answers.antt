@@ -1,5 +1,170 @@
+-- Each arm leaves what the kind of its instruction ensures. An immediate is a number of 64 bits, and reads as itself.
+use Rattle.std.proofs.Common.{◌≡◌, rules, sym, w64}
+use mir.Val.{of_z, to_z}
 use Rattle.vm_defs.specs.Step.{effect}
 use Rattle.vm_step.proofs.machine.Machine.execute.Goals as goal
+
+pub returns-in-Lui : goal.returns-in-Lui
+unfolding effect
+returns-in-Lui c =
+    let imm : to_z w64 (of_z w64 c.in-Lui.imm) ≡ c.in-Lui.imm = search rules in
+    rw c.in-Lui.is (rw (c.cast_unsigned.ensures, imm) at c.paid_write.ensures)
+
+pub returns-in-Auipc : goal.returns-in-Auipc
+unfolding effect
+returns-in-Auipc c =
+    let imm : to_z w64 (of_z w64 c.in-Auipc.imm) ≡ c.in-Auipc.imm = search rules in
+    rw (c.in-Auipc.is, sym (rw imm at c.moved-value.ensures)) c.paid_write-in-Auipc.ensures
+
+pub returns-in-Jal : goal.returns-in-Jal
+unfolding effect
+returns-in-Jal c =
+    let imm : to_z w64 (of_z w64 c.in-Jal.imm) ≡ c.in-Jal.imm = search rules in
+    rw (c.in-Jal.is, sym (rw imm at c.moved-target.ensures)) c.paid_jump.ensures
+
+pub returns-in-Lb : goal.returns-in-Lb
+unfolding effect
+returns-in-Lb c =
+    let imm : to_z w64 (of_z w64 c.in-Lb.imm) ≡ c.in-Lb.imm = search rules in
+    rw c.in-Lb.is (rw imm at c.paid_load.ensures)
+
+pub returns-in-Lh : goal.returns-in-Lh
+unfolding effect
+returns-in-Lh c =
+    let imm : to_z w64 (of_z w64 c.in-Lh.imm) ≡ c.in-Lh.imm = search rules in
+    rw c.in-Lh.is (rw imm at c.paid_load-in-Lh.ensures)
+
+pub returns-in-Lw : goal.returns-in-Lw
+unfolding effect
+returns-in-Lw c =
+    let imm : to_z w64 (of_z w64 c.in-Lw.imm) ≡ c.in-Lw.imm = search rules in
+    rw c.in-Lw.is (rw imm at c.paid_load-in-Lw.ensures)
+
+pub returns-in-Ld : goal.returns-in-Ld
+unfolding effect
+returns-in-Ld c =
+    let imm : to_z w64 (of_z w64 c.in-Ld.imm) ≡ c.in-Ld.imm = search rules in
+    rw c.in-Ld.is (rw imm at c.paid_load-in-Ld.ensures)
+
+pub returns-in-Lbu : goal.returns-in-Lbu
+unfolding effect
+returns-in-Lbu c =
+    let imm : to_z w64 (of_z w64 c.in-Lbu.imm) ≡ c.in-Lbu.imm = search rules in
+    rw c.in-Lbu.is (rw imm at c.paid_load-in-Lbu.ensures)
+
+pub returns-in-Lhu : goal.returns-in-Lhu
+unfolding effect
+returns-in-Lhu c =
+    let imm : to_z w64 (of_z w64 c.in-Lhu.imm) ≡ c.in-Lhu.imm = search rules in
+    rw c.in-Lhu.is (rw imm at c.paid_load-in-Lhu.ensures)
+
+pub returns-in-Lwu : goal.returns-in-Lwu
+unfolding effect
+returns-in-Lwu c =
+    let imm : to_z w64 (of_z w64 c.in-Lwu.imm) ≡ c.in-Lwu.imm = search rules in
+    rw c.in-Lwu.is (rw imm at c.paid_load-in-Lwu.ensures)
+
+pub returns-in-Sb : goal.returns-in-Sb
+unfolding effect
+returns-in-Sb c =
+    let imm : to_z w64 (of_z w64 c.in-Sb.imm) ≡ c.in-Sb.imm = search rules in
+    rw c.in-Sb.is (rw imm at c.paid_store.ensures)
+
+pub returns-in-Sh : goal.returns-in-Sh
+unfolding effect
+returns-in-Sh c =
+    let imm : to_z w64 (of_z w64 c.in-Sh.imm) ≡ c.in-Sh.imm = search rules in
+    rw c.in-Sh.is (rw imm at c.paid_store-in-Sh.ensures)
+
+pub returns-in-Sw : goal.returns-in-Sw
+unfolding effect
+returns-in-Sw c =
+    let imm : to_z w64 (of_z w64 c.in-Sw.imm) ≡ c.in-Sw.imm = search rules in
+    rw c.in-Sw.is (rw imm at c.paid_store-in-Sw.ensures)
+
+pub returns-in-Sd : goal.returns-in-Sd
+unfolding effect
+returns-in-Sd c =
+    let imm : to_z w64 (of_z w64 c.in-Sd.imm) ≡ c.in-Sd.imm = search rules in
+    rw c.in-Sd.is (rw imm at c.paid_store-in-Sd.ensures)
+
+pub returns-in-Addi : goal.returns-in-Addi
+unfolding effect
+returns-in-Addi c =
+    let imm : to_z w64 (of_z w64 c.in-Addi.imm) ≡ c.in-Addi.imm = search rules in
+    rw c.in-Addi.is (rw imm at c.by_immediate.ensures)
+
+pub returns-in-Slti : goal.returns-in-Slti
+unfolding effect
+returns-in-Slti c =
+    let imm : to_z w64 (of_z w64 c.in-Slti.imm) ≡ c.in-Slti.imm = search rules in
+    rw c.in-Slti.is (rw imm at c.by_immediate-in-Slti.ensures)
+
+pub returns-in-Sltiu : goal.returns-in-Sltiu
+unfolding effect
+returns-in-Sltiu c =
+    let imm : to_z w64 (of_z w64 c.in-Sltiu.imm) ≡ c.in-Sltiu.imm = search rules in
+    rw c.in-Sltiu.is (rw imm at c.by_immediate-in-Sltiu.ensures)
+
+pub returns-in-Xori : goal.returns-in-Xori
+unfolding effect
+returns-in-Xori c =
+    let imm : to_z w64 (of_z w64 c.in-Xori.imm) ≡ c.in-Xori.imm = search rules in
+    rw c.in-Xori.is (rw imm at c.by_immediate-in-Xori.ensures)
+
+pub returns-in-Ori : goal.returns-in-Ori
+unfolding effect
+returns-in-Ori c =
+    let imm : to_z w64 (of_z w64 c.in-Ori.imm) ≡ c.in-Ori.imm = search rules in
+    rw c.in-Ori.is (rw imm at c.by_immediate-in-Ori.ensures)
+
+pub returns-in-Andi : goal.returns-in-Andi
+unfolding effect
+returns-in-Andi c =
+    let imm : to_z w64 (of_z w64 c.in-Andi.imm) ≡ c.in-Andi.imm = search rules in
+    rw c.in-Andi.is (rw imm at c.by_immediate-in-Andi.ensures)
+
+pub returns-in-Slli : goal.returns-in-Slli
+unfolding effect
+returns-in-Slli c =
+    let imm : to_z w64 (of_z w64 c.in-Slli.imm) ≡ c.in-Slli.imm = search rules in
+    rw c.in-Slli.is (rw imm at c.by_immediate-in-Slli.ensures)
+
+pub returns-in-Srli : goal.returns-in-Srli
+unfolding effect
+returns-in-Srli c =
+    let imm : to_z w64 (of_z w64 c.in-Srli.imm) ≡ c.in-Srli.imm = search rules in
+    rw c.in-Srli.is (rw imm at c.by_immediate-in-Srli.ensures)
+
+pub returns-in-Srai : goal.returns-in-Srai
+unfolding effect
+returns-in-Srai c =
+    let imm : to_z w64 (of_z w64 c.in-Srai.imm) ≡ c.in-Srai.imm = search rules in
+    rw c.in-Srai.is (rw imm at c.by_immediate-in-Srai.ensures)
+
+pub returns-in-Addiw : goal.returns-in-Addiw
+unfolding effect
+returns-in-Addiw c =
+    let imm : to_z w64 (of_z w64 c.in-Addiw.imm) ≡ c.in-Addiw.imm = search rules in
+    rw c.in-Addiw.is (rw imm at c.by_immediate-in-Addiw.ensures)
+
+pub returns-in-Slliw : goal.returns-in-Slliw
+unfolding effect
+returns-in-Slliw c =
+    let imm : to_z w64 (of_z w64 c.in-Slliw.imm) ≡ c.in-Slliw.imm = search rules in
+    rw c.in-Slliw.is (rw imm at c.by_immediate-in-Slliw.ensures)
+
+pub returns-in-Srliw : goal.returns-in-Srliw
+unfolding effect
+returns-in-Srliw c =
+    let imm : to_z w64 (of_z w64 c.in-Srliw.imm) ≡ c.in-Srliw.imm = search rules in
+    rw c.in-Srliw.is (rw imm at c.by_immediate-in-Srliw.ensures)
+
+pub returns-in-Sraiw : goal.returns-in-Sraiw
+unfolding effect
+returns-in-Sraiw c =
+    let imm : to_z w64 (of_z w64 c.in-Sraiw.imm) ≡ c.in-Sraiw.imm = search rules in
+    rw c.in-Sraiw.is (rw imm at c.by_immediate-in-Sraiw.ensures)
 
 pub returns-in-Add : goal.returns-in-Add
 unfolding effect
@@ -112,3 +277,19 @@ returns-in-Remw c = rw c.in-Remw.is c.by_registers-in-Remw.ensures
 pub returns-in-Remuw : goal.returns-in-Remuw
 unfolding effect
 returns-in-Remuw c = rw c.in-Remuw.is c.by_registers-in-Remuw.ensures
+
+pub returns-in-Fence : goal.returns-in-Fence
+unfolding effect
+returns-in-Fence c = rw c.in-Fence.is c.paid_advance.ensures
+
+pub returns-in-FenceI : goal.returns-in-FenceI
+unfolding effect
+returns-in-FenceI c = rw c.in-FenceI.is c.paid_advance-in-FenceI.ensures
+
+pub returns-in-Ecall : goal.returns-in-Ecall
+unfolding effect
+returns-in-Ecall c = rw c.in-Ecall.is c.paid_ecall.ensures
+
+pub returns-in-Ebreak : goal.returns-in-Ebreak
+unfolding effect
+returns-in-Ebreak c = rw c.in-Ebreak.is c.paid_advance-in-Ebreak.ensures
