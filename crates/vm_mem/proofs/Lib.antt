@@ -9,3 +9,4 @@ pub mod Cleared
 pub mod WithinPage
 pub mod Slotted
 pub mod StoreLaws
+pub mod LowBytes

@@ -176,12 +176,7 @@ impl Paged {
         ensures refused { (fault : MemFault) → result ≡ Err (MemStop.Fault fault) → self.new ≡ self.old }
     {
         let bytes = value.to_le_bytes();
-        match width {
-            Width::B1 => self.copy_in(at, &bytes[..1]),
-            Width::B2 => self.copy_in(at, &bytes[..2]),
-            Width::B4 => self.copy_in(at, &bytes[..4]),
-            Width::B8 => self.copy_in(at, &bytes),
-        }
+        self.copy_in(at, &bytes[..size(width) as usize])
     }
 
     // Whether bytes lie in one page of data that is allocated.
@@ -291,7 +286,8 @@ impl Paged {
 // How many bytes a load or a store moves.
 #[inline(always)]
 fn size(width: Width) -> u64
-    ensures { result ≡ byte_count width }
+    ensures count { result ≡ byte_count width }
+    ensures bound { result ≤ 8 }
 {
     match width {
         Width::B1 => 1,
