@@ -9,8 +9,9 @@ pub(crate) fn read_count(bytes: &[u8], at: usize) -> u32
     requires { at + 4 ≤ length bytes.now }
     ensures { result ≡ count_at bytes.now at }
 {
-    let four = &bytes[at..at + 4];
-    u32::from_le_bytes([four[0], four[1], four[2], four[3]])
+    let mut four = [0; 4];
+    four.copy_from_slice(&bytes[at..at + 4]);
+    u32::from_le_bytes(four)
 }
 
 /// The number that the eight bytes from `at` on are.
@@ -18,8 +19,7 @@ pub(crate) fn read_u64(bytes: &[u8], at: usize) -> u64
     requires { at + 8 ≤ length bytes.now }
     ensures { result ≡ u64_field bytes.now at }
 {
-    let eight = &bytes[at..at + 8];
-    u64::from_le_bytes([
-        eight[0], eight[1], eight[2], eight[3], eight[4], eight[5], eight[6], eight[7],
-    ])
+    let mut eight = [0; 8];
+    eight.copy_from_slice(&bytes[at..at + 8]);
+    u64::from_le_bytes(eight)
 }

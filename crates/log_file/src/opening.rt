@@ -65,8 +65,14 @@ fn read_log<D: Disk>(alloc: Global, disk: &mut D, len: u64) -> Result<(Opened, b
     ensures cause { CountsFault (D.faults disk.old) (D.faults disk.new) (result ≡ Err LogStop.DiskFault) }
 {
     let mut reader = Reader::new(alloc, len);
-    let (spec, mut blocks) = read_front(alloc, disk, &mut reader)?;
-    read_blocks(alloc, disk, &mut reader, &mut blocks)?;
+    let (spec, mut blocks) = match read_front(alloc, disk, &mut reader) {
+        Ok(front) => front,
+        Err(stop) => return Err(stop),
+    };
+    match read_blocks(alloc, disk, &mut reader, &mut blocks) {
+        Ok(()) => {}
+        Err(stop) => return Err(stop),
+    }
     let open_gate = is_open(reader.ahead());
     let place = reader.at();
     let (blocks, exts, tree) = blocks.into_parts();
@@ -133,8 +139,16 @@ pub fn open<D: Disk>(alloc: Global, disk: &mut D) -> Result<Opened, LogStop>
     ensures others { OthersRead log_area (D.reads_as disk.old) (D.reads_as disk.new) }
     ensures cause { CountsFault (D.faults disk.old) (D.faults disk.new) (result ≡ Err LogStop.DiskFault) }
 {
-    let len = synced_len(disk)?;
-    let (opened, open_gate) = read_log(alloc, disk, len)?;
-    mend(disk, opened.log.place, open_gate)?;
-    Ok(opened)
+    let len = match synced_len(disk) {
+        Ok(len) => len,
+        Err(_) => return Err(LogStop::DiskFault),
+    };
+    let (opened, open_gate) = match read_log(alloc, disk, len) {
+        Ok(found) => found,
+        Err(stop) => return Err(stop),
+    };
+    match mend(disk, opened.log.place, open_gate) {
+        Ok(()) => Ok(opened),
+        Err(_) => Err(LogStop::DiskFault),
+    }
 }

@@ -51,7 +51,10 @@ fn read_spec<D: Disk>(alloc: Global, disk: &mut D, reader: &mut Reader) -> Resul
     ensures as_before { IsAsBefore D.reads_as D.images D.moment D.left_since disk.old disk.new }
     ensures cause { CountsFault (D.faults disk.old) (D.faults disk.new) (result ≡ Err LogStop.DiskFault) }
 {
-    reader.fill_record(alloc, disk)?;
+    match reader.fill_record(alloc, disk) {
+        Ok(()) => {}
+        Err(stop) => return Err(stop),
+    }
     let Some((kind, body)) = record_at(reader.ahead()) else {
         return Err(LogStop::NotAStore);
     };
@@ -79,12 +82,18 @@ fn read_genesis<D: Disk>(
     ensures as_before { IsAsBefore D.reads_as D.images D.moment D.left_since disk.old disk.new }
     ensures cause { CountsFault (D.faults disk.old) (D.faults disk.new) (result ≡ Err LogStop.DiskFault) }
 {
-    reader.fill_record(alloc, disk)?;
+    match reader.fill_record(alloc, disk) {
+        Ok(()) => {}
+        Err(stop) => return Err(stop),
+    }
     let place = reader.at();
     let Some((kind, body)) = record_at(reader.ahead()) else {
         return Err(LogStop::NotAStore);
     };
-    let blocks = Blocks::of_genesis(alloc, kind, body, place + 6)?;
+    let blocks = match Blocks::of_genesis(alloc, kind, body, place + 6) {
+        Ok(blocks) => blocks,
+        Err(stop) => return Err(stop),
+    };
     let size = 6 + body.len();
     reader.skip(size);
     Ok(blocks)
@@ -104,10 +113,18 @@ pub(crate) fn read_front<D: Disk>(
     ensures as_before { IsAsBefore D.reads_as D.images D.moment D.left_since disk.old disk.new }
     ensures cause { CountsFault (D.faults disk.old) (D.faults disk.new) (result ≡ Err LogStop.DiskFault) }
 {
-    read_start(alloc, disk, reader)?;
-    let spec = read_spec(alloc, disk, reader)?;
-    let blocks = read_genesis(alloc, disk, reader)?;
-    Ok((spec, blocks))
+    match read_start(alloc, disk, reader) {
+        Ok(()) => {}
+        Err(stop) => return Err(stop),
+    }
+    let spec = match read_spec(alloc, disk, reader) {
+        Ok(spec) => spec,
+        Err(stop) => return Err(stop),
+    };
+    match read_genesis(alloc, disk, reader) {
+        Ok(blocks) => Ok((spec, blocks)),
+        Err(stop) => Err(stop),
+    }
 }
 
 /// Reads the record of one block more, if a record stands here, and answers whether one does.
@@ -132,12 +149,18 @@ fn read_block<D: Disk>(
     ensures as_before { IsAsBefore D.reads_as D.images D.moment D.left_since disk.old disk.new }
     ensures cause { CountsFault (D.faults disk.old) (D.faults disk.new) (result ≡ Err LogStop.DiskFault) }
 {
-    reader.fill_record(alloc, disk)?;
+    match reader.fill_record(alloc, disk) {
+        Ok(()) => {}
+        Err(stop) => return Err(stop),
+    }
     let place = reader.at();
     let Some((kind, body)) = record_at(reader.ahead()) else {
         return Ok(false);
     };
-    blocks.put(alloc, kind, body, place + 6)?;
+    match blocks.put(alloc, kind, body, place + 6) {
+        Ok(()) => {}
+        Err(stop) => return Err(stop),
+    }
     let size = 6 + body.len();
     reader.skip(size);
     Ok(true)

@@ -1,25 +1,27 @@
-use Rattle.std.proofs.Common.{◌∙◌, arith}
+use Rattle.std.proofs.Common.{refl, ◌∙◌, arith, rules}
 use Rattle.outside.proofs.Moments.{leaves_also, leaves_then}
+use Rattle.log_file.proofs.Exits.{on_each}
+use Rattle.log_file.proofs.Front.{on_same}
 use Rattle.log_file.proofs.Judging.{kept_limit_is}
 use Rattle.log_file.proofs.Settling.{others_kept, durable_on, told_settled, told_moments}
 use Rattle.log_file.proofs.opening.open.Goals as goal
 
-pub returns-in_err-len-clause-others : goal.returns-in_err-len-clause-others
-returns-in_err-len-clause-others g c = others_kept _ _ c.synced_len.ensures.same
+pub returns-in-Err-clause-others : goal.returns-in-Err-clause-others
+returns-in-Err-clause-others g c = others_kept _ _ c.synced_len.ensures.same
 
-pub returns-in_err-opened-clause-others : goal.returns-in_err-opened-clause-others
-returns-in_err-opened-clause-others g c = others_kept _ _ (c.read_log.ensures.as_before.reads ∙ c.synced_len.ensures.same)
+pub returns-in-Err-read_log-clause-others : goal.returns-in-Err-read_log-clause-others
+returns-in-Err-read_log-clause-others g c = others_kept _ _ (c.read_log.ensures.as_before.reads ∙ c.synced_len.ensures.same)
 
 pub mend-requires-clause-limit : goal.mend-requires-clause-limit
-mend-requires-clause-limit g c = omega (arith, c.in_ok-opened.ensures.place, c.in_ok-opened.ensures.few, kept_limit_is)
+mend-requires-clause-limit g c = omega (arith, c.in-Ok-read_log.ensures.place, c.in-Ok-read_log.ensures.few, kept_limit_is)
 
-pub returns-in_err-mend-clause-moments : goal.returns-in_err-mend-clause-moments
-returns-in_err-mend-clause-moments g c =
+pub returns-in-Err-mend-clause-moments : goal.returns-in-Err-mend-clause-moments
+returns-in-Err-mend-clause-moments g c =
     let moment = g.D.Disk.moment in
     let left_since = g.D.Disk.left_since in
-    let sync = c.in_ok-len.ensures in
-    let read = c.in_ok-opened.ensures in
-    told_moments _ _ _ c.in_ok-opened.opened.log.place (g.D.Disk.images c.args.disk.now) (g.D.Disk.images c.read_log.new.disk) _ _ sync.same (read.as_before.reads ∙ sync.same) read.ends
+    let sync = c.in-Ok.ensures in
+    let read = c.in-Ok-read_log.ensures in
+    told_moments _ _ _ c.in-Ok-read_log.found.0.log.place (g.D.Disk.images c.args.disk.now) (g.D.Disk.images c.read_log.new.disk) _ _ sync.same (read.as_before.reads ∙ sync.same) read.ends
     (durable_on _ _ (g.D.Disk.images c.synced_len.new.disk) _ (read.as_before.reads ∙ sync.same) read.as_before.images sync.durable)
     (λ image left. sync.images image ((read.as_before.images image).0 left)) c.mend.ensures.moments
     (λ P Q here ends weaker. leaves_then moment left_since _ _ _ P
@@ -27,23 +29,197 @@ returns-in_err-mend-clause-moments g c =
     (leaves_also moment left_since _ _ _ P read.as_before.moments (λ image left. here image (sync.images image left))))
     (leaves_also moment left_since _ _ Q P ends weaker))
 
-pub returns-clause-settled : goal.returns-clause-settled
-returns-clause-settled g c =
-    let sync = c.in_ok-len.ensures in
-    let read = c.in_ok-opened.ensures in
-    told_settled _ _ _ _ c.in_ok-opened.opened.log.place (g.D.Disk.images c.mend.new.disk) sync.same (read.as_before.reads ∙ sync.same) read.ends c.in_ok-mend.ensures.mended
-    (c.in_ok-mend.ensures.durable (durable_on _ _ (g.D.Disk.images c.synced_len.new.disk) _ (read.as_before.reads ∙ sync.same) read.as_before.images sync.durable))
+pub returns-in-Ok-mend-clause-settled : goal.returns-in-Ok-mend-clause-settled
+returns-in-Ok-mend-clause-settled g c =
+    let sync = c.in-Ok.ensures in
+    let read = c.in-Ok-read_log.ensures in
+    told_settled _ _ _ _ c.in-Ok-read_log.found.0.log.place (g.D.Disk.images c.mend.new.disk) sync.same (read.as_before.reads ∙ sync.same) read.ends c.in-Ok-mend.ensures.mended
+    (c.in-Ok-mend.ensures.durable (durable_on _ _ (g.D.Disk.images c.synced_len.new.disk) _ (read.as_before.reads ∙ sync.same) read.as_before.images sync.durable))
 
-pub returns-clause-moments : goal.returns-clause-moments
-returns-clause-moments g c =
+pub returns-in-Ok-mend-clause-moments : goal.returns-in-Ok-mend-clause-moments
+returns-in-Ok-mend-clause-moments g c =
     let moment = g.D.Disk.moment in
     let left_since = g.D.Disk.left_since in
-    let sync = c.in_ok-len.ensures in
-    let read = c.in_ok-opened.ensures in
-    told_moments _ _ _ c.in_ok-opened.opened.log.place (g.D.Disk.images c.args.disk.now) (g.D.Disk.images c.read_log.new.disk) _ _ sync.same (read.as_before.reads ∙ sync.same) read.ends
+    let sync = c.in-Ok.ensures in
+    let read = c.in-Ok-read_log.ensures in
+    told_moments _ _ _ c.in-Ok-read_log.found.0.log.place (g.D.Disk.images c.args.disk.now) (g.D.Disk.images c.read_log.new.disk) _ _ sync.same (read.as_before.reads ∙ sync.same) read.ends
     (durable_on _ _ (g.D.Disk.images c.synced_len.new.disk) _ (read.as_before.reads ∙ sync.same) read.as_before.images sync.durable)
     (λ image left. sync.images image ((read.as_before.images image).0 left)) c.mend.ensures.moments
     (λ P Q here ends weaker. leaves_then moment left_since _ _ _ P
     (leaves_then moment left_since _ _ _ P (leaves_also moment left_since _ _ _ P sync.moments here)
     (leaves_also moment left_since _ _ _ P read.as_before.moments (λ image left. here image (sync.images image left))))
     (leaves_also moment left_since _ _ Q P ends weaker))
+
+pub returns-in-Err-clause-opened : goal.returns-in-Err-clause-opened
+returns-in-Err-clause-opened g c = on_each (g.D.Disk.reads_as c.args.disk.now) _ (λ _. tt)
+
+pub returns-in-Err-clause-settled : goal.returns-in-Err-clause-settled
+returns-in-Err-clause-settled g c = on_each (g.D.Disk.reads_as c.args.disk.now) _ (λ _. tt)
+
+pub returns-in-Err-clause-mended : goal.returns-in-Err-clause-mended
+returns-in-Err-clause-mended g c = on_each (g.D.Disk.reads_as c.args.disk.now) _ (λ _. tt)
+
+pub returns-in-Err-clause-blocks : goal.returns-in-Err-clause-blocks
+returns-in-Err-clause-blocks g c = tt
+
+pub returns-in-Err-clause-beside : goal.returns-in-Err-clause-beside
+returns-in-Err-clause-beside g c = tt
+
+pub returns-in-Err-clause-few : goal.returns-in-Err-clause-few
+returns-in-Err-clause-few g c = tt
+
+pub returns-in-Err-clause-place : goal.returns-in-Err-clause-place
+returns-in-Err-clause-place g c = tt
+
+pub returns-in-Err-clause-there : goal.returns-in-Err-clause-there
+returns-in-Err-clause-there g c = tt
+
+pub returns-in-Err-clause-not_a_store : goal.returns-in-Err-clause-not_a_store
+returns-in-Err-clause-not_a_store g c = search rules
+
+pub returns-in-Err-clause-at_rest : goal.returns-in-Err-clause-at_rest
+returns-in-Err-clause-at_rest g c = on_each (g.D.Disk.reads_as c.args.disk.now) _ (λ _ _. c.in-Err.ensures.same)
+
+pub returns-in-Err-clause-unwritten : goal.returns-in-Err-clause-unwritten
+returns-in-Err-clause-unwritten g c = λ _. c.in-Err.ensures.same
+
+pub returns-in-Err-clause-only_read : goal.returns-in-Err-clause-only_read
+returns-in-Err-clause-only_read g c = search rules
+
+pub returns-in-Err-clause-no_log : goal.returns-in-Err-clause-no_log
+returns-in-Err-clause-no_log g c = search rules
+
+pub returns-in-Err-clause-cause : goal.returns-in-Err-clause-cause
+returns-in-Err-clause-cause g c = search rules
+
+pub returns-in-Err-clause-moments : goal.returns-in-Err-clause-moments
+returns-in-Err-clause-moments g c = search rules
+
+pub returns-in-Err-read_log-clause-opened : goal.returns-in-Err-read_log-clause-opened
+returns-in-Err-read_log-clause-opened g c = on_each (g.D.Disk.reads_as c.args.disk.now) _ (λ _. tt)
+
+pub returns-in-Err-read_log-clause-settled : goal.returns-in-Err-read_log-clause-settled
+returns-in-Err-read_log-clause-settled g c = on_each (g.D.Disk.reads_as c.args.disk.now) _ (λ _. tt)
+
+pub returns-in-Err-read_log-clause-mended : goal.returns-in-Err-read_log-clause-mended
+returns-in-Err-read_log-clause-mended g c = on_each (g.D.Disk.reads_as c.args.disk.now) _ (λ _. tt)
+
+pub returns-in-Err-read_log-clause-blocks : goal.returns-in-Err-read_log-clause-blocks
+returns-in-Err-read_log-clause-blocks g c = tt
+
+pub returns-in-Err-read_log-clause-beside : goal.returns-in-Err-read_log-clause-beside
+returns-in-Err-read_log-clause-beside g c = tt
+
+pub returns-in-Err-read_log-clause-few : goal.returns-in-Err-read_log-clause-few
+returns-in-Err-read_log-clause-few g c = tt
+
+pub returns-in-Err-read_log-clause-place : goal.returns-in-Err-read_log-clause-place
+returns-in-Err-read_log-clause-place g c = tt
+
+pub returns-in-Err-read_log-clause-there : goal.returns-in-Err-read_log-clause-there
+returns-in-Err-read_log-clause-there g c = tt
+
+pub returns-in-Err-read_log-clause-not_a_store : goal.returns-in-Err-read_log-clause-not_a_store
+returns-in-Err-read_log-clause-not_a_store g c = search rules
+
+pub returns-in-Err-read_log-clause-at_rest : goal.returns-in-Err-read_log-clause-at_rest
+returns-in-Err-read_log-clause-at_rest g c = on_each (g.D.Disk.reads_as c.args.disk.now) _ (λ _ _. c.in-Err-read_log.ensures.as_before.reads ∙ c.in-Ok.ensures.same)
+
+pub returns-in-Err-read_log-clause-unwritten : goal.returns-in-Err-read_log-clause-unwritten
+returns-in-Err-read_log-clause-unwritten g c = λ _. c.in-Err-read_log.ensures.as_before.reads ∙ c.in-Ok.ensures.same
+
+pub returns-in-Err-read_log-clause-only_read : goal.returns-in-Err-read_log-clause-only_read
+returns-in-Err-read_log-clause-only_read g c = search rules
+
+pub returns-in-Err-read_log-clause-no_log : goal.returns-in-Err-read_log-clause-no_log
+returns-in-Err-read_log-clause-no_log g c = search rules
+
+pub returns-in-Err-read_log-clause-cause : goal.returns-in-Err-read_log-clause-cause
+returns-in-Err-read_log-clause-cause g c = search rules
+
+pub returns-in-Err-read_log-clause-moments : goal.returns-in-Err-read_log-clause-moments
+returns-in-Err-read_log-clause-moments g c = search rules
+
+pub returns-in-Err-mend-clause-opened : goal.returns-in-Err-mend-clause-opened
+returns-in-Err-mend-clause-opened g c = on_each (g.D.Disk.reads_as c.args.disk.now) _ (λ _. tt)
+
+pub returns-in-Err-mend-clause-settled : goal.returns-in-Err-mend-clause-settled
+returns-in-Err-mend-clause-settled g c = on_each (g.D.Disk.reads_as c.args.disk.now) _ (λ _. tt)
+
+pub returns-in-Err-mend-clause-mended : goal.returns-in-Err-mend-clause-mended
+returns-in-Err-mend-clause-mended g c = on_each (g.D.Disk.reads_as c.args.disk.now) _ (λ _. tt)
+
+pub returns-in-Err-mend-clause-blocks : goal.returns-in-Err-mend-clause-blocks
+returns-in-Err-mend-clause-blocks g c = tt
+
+pub returns-in-Err-mend-clause-beside : goal.returns-in-Err-mend-clause-beside
+returns-in-Err-mend-clause-beside g c = tt
+
+pub returns-in-Err-mend-clause-few : goal.returns-in-Err-mend-clause-few
+returns-in-Err-mend-clause-few g c = tt
+
+pub returns-in-Err-mend-clause-place : goal.returns-in-Err-mend-clause-place
+returns-in-Err-mend-clause-place g c = tt
+
+pub returns-in-Err-mend-clause-there : goal.returns-in-Err-mend-clause-there
+returns-in-Err-mend-clause-there g c = tt
+
+pub returns-in-Err-mend-clause-not_a_store : goal.returns-in-Err-mend-clause-not_a_store
+returns-in-Err-mend-clause-not_a_store g c = search rules
+
+pub returns-in-Err-mend-clause-at_rest : goal.returns-in-Err-mend-clause-at_rest
+returns-in-Err-mend-clause-at_rest g c = search rules
+
+pub returns-in-Err-mend-clause-unwritten : goal.returns-in-Err-mend-clause-unwritten
+returns-in-Err-mend-clause-unwritten g c = λ other. absurd (other refl)
+
+pub returns-in-Err-mend-clause-only_read : goal.returns-in-Err-mend-clause-only_read
+returns-in-Err-mend-clause-only_read g c = search rules
+
+pub returns-in-Err-mend-clause-no_log : goal.returns-in-Err-mend-clause-no_log
+returns-in-Err-mend-clause-no_log g c = search rules
+
+pub returns-in-Err-mend-clause-cause : goal.returns-in-Err-mend-clause-cause
+returns-in-Err-mend-clause-cause g c = search rules
+
+pub returns-in-Err-mend-clause-others : goal.returns-in-Err-mend-clause-others
+returns-in-Err-mend-clause-others g c = search rules
+
+pub returns-in-Ok-mend-clause-opened : goal.returns-in-Ok-mend-clause-opened
+returns-in-Ok-mend-clause-opened g c = on_same _ _ _ c.in-Ok.ensures.same c.in-Ok-read_log.ensures.opened
+
+pub returns-in-Ok-mend-clause-blocks : goal.returns-in-Ok-mend-clause-blocks
+returns-in-Ok-mend-clause-blocks g c = c.in-Ok-read_log.ensures.blocks
+
+pub returns-in-Ok-mend-clause-beside : goal.returns-in-Ok-mend-clause-beside
+returns-in-Ok-mend-clause-beside g c = c.in-Ok-read_log.ensures.beside
+
+pub returns-in-Ok-mend-clause-few : goal.returns-in-Ok-mend-clause-few
+returns-in-Ok-mend-clause-few g c = c.in-Ok-read_log.ensures.few
+
+pub returns-in-Ok-mend-clause-place : goal.returns-in-Ok-mend-clause-place
+returns-in-Ok-mend-clause-place g c = c.in-Ok-read_log.ensures.place
+
+pub returns-in-Ok-mend-clause-there : goal.returns-in-Ok-mend-clause-there
+returns-in-Ok-mend-clause-there g c = c.in-Ok-mend.ensures.there
+
+pub returns-in-Ok-mend-clause-mended : goal.returns-in-Ok-mend-clause-mended
+returns-in-Ok-mend-clause-mended g c = on_same _ _ _ (c.in-Ok-read_log.ensures.as_before.reads ∙ c.in-Ok.ensures.same) c.in-Ok-mend.ensures.mended
+
+pub returns-in-Ok-mend-clause-unwritten : goal.returns-in-Ok-mend-clause-unwritten
+returns-in-Ok-mend-clause-unwritten g c = tt
+
+pub returns-in-Ok-mend-clause-not_a_store : goal.returns-in-Ok-mend-clause-not_a_store
+returns-in-Ok-mend-clause-not_a_store g c = search rules
+
+pub returns-in-Ok-mend-clause-only_read : goal.returns-in-Ok-mend-clause-only_read
+returns-in-Ok-mend-clause-only_read g c = search rules
+
+pub returns-in-Ok-mend-clause-no_log : goal.returns-in-Ok-mend-clause-no_log
+returns-in-Ok-mend-clause-no_log g c = search rules
+
+pub returns-in-Ok-mend-clause-others : goal.returns-in-Ok-mend-clause-others
+returns-in-Ok-mend-clause-others g c = search rules
+
+pub returns-in-Ok-mend-clause-cause : goal.returns-in-Ok-mend-clause-cause
+returns-in-Ok-mend-clause-cause g c = search rules

@@ -1,26 +1,72 @@
 use Rattle.std.proofs.Common.{rules}
+use Rattle.log_file.proofs.Exits.{on_each}
 use Rattle.log_file.proofs.Front.{told_wrong_start, told_wrong_spec, told_wrong_genesis, told_begun}
 use Rattle.log_file.proofs.records.read_front.Goals as goal
 
-pub returns-in_err-read_start-clause-wrong : goal.returns-in_err-read_start-clause-wrong
-returns-in_err-read_start-clause-wrong g c = told_wrong_start _ c.args.reader.now _ _ (λ e. search rules) c.in_err-read_start.ensures.wrong
+pub returns-in-Err-clause-wrong : goal.returns-in-Err-clause-wrong
+returns-in-Err-clause-wrong g c = told_wrong_start _ c.args.reader.now _ _ (λ e. search rules) c.in-Err.ensures.wrong
 
-pub returns-in_err-spec-clause-wrong : goal.returns-in_err-spec-clause-wrong
-returns-in_err-spec-clause-wrong g c =
-    let start = c.in_ok-read_start.ensures in
-    told_wrong_spec _ _ c.args.reader.now c.read_start.new.reader _ _ (λ e. search rules) start.as_before.reads start.at.at start.reading c.in_err-spec.ensures.wrong
+pub returns-in-Err-read_spec-clause-wrong : goal.returns-in-Err-read_spec-clause-wrong
+returns-in-Err-read_spec-clause-wrong g c =
+    let start = c.in-Ok.ensures in
+    told_wrong_spec _ _ c.args.reader.now c.read_start.new.reader _ _ (λ e. search rules) start.as_before.reads start.at.at start.reading c.in-Err-read_spec.ensures.wrong
 
-pub returns-in_err-blocks-clause-wrong : goal.returns-in_err-blocks-clause-wrong
-returns-in_err-blocks-clause-wrong g c =
-    let start = c.in_ok-read_start.ensures in
-    let one = c.in_ok-spec.ensures in
-    told_wrong_genesis _ _ _ c.in_ok-spec.spec c.args.reader.now c.read_start.new.reader c.read_spec.new.reader _ _ (λ e. search rules) start.as_before.reads one.as_before.reads
-    start.at.at start.reading one.reading one.found c.in_err-blocks.ensures.wrong
+pub returns-in-Err-read_genesis-clause-wrong : goal.returns-in-Err-read_genesis-clause-wrong
+returns-in-Err-read_genesis-clause-wrong g c =
+    let start = c.in-Ok.ensures in
+    let one = c.in-Ok-read_spec.ensures in
+    told_wrong_genesis _ _ _ c.in-Ok-read_spec.spec c.args.reader.now c.read_start.new.reader c.read_spec.new.reader _ _ (λ e. search rules) start.as_before.reads one.as_before.reads
+    start.at.at start.reading one.reading one.found c.in-Err-read_genesis.ensures.wrong
 
-pub returns-clause-found : goal.returns-clause-found
-returns-clause-found g c =
-    let start = c.in_ok-read_start.ensures in
-    let one = c.in_ok-spec.ensures in
-    let two = c.in_ok-blocks.ensures in
-    told_begun _ _ _ c.in_ok-spec.spec c.args.reader.now c.read_start.new.reader c.read_spec.new.reader c.read_genesis.new.reader c.in_ok-blocks.blocks start.as_before.reads
+pub returns-in-Ok-read_genesis-clause-found : goal.returns-in-Ok-read_genesis-clause-found
+returns-in-Ok-read_genesis-clause-found g c =
+    let start = c.in-Ok.ensures in
+    let one = c.in-Ok-read_spec.ensures in
+    let two = c.in-Ok-read_genesis.ensures in
+    told_begun _ _ _ c.in-Ok-read_spec.spec c.args.reader.now c.read_start.new.reader c.read_spec.new.reader c.read_genesis.new.reader c.in-Ok-read_genesis.blocks start.as_before.reads
     one.as_before.reads start.at.at start.reading one.reading one.found two.reading two.found
+
+pub returns-in-Err-clause-start : goal.returns-in-Err-clause-start
+returns-in-Err-clause-start g c = on_each (g.D.Disk.reads_as c.args.disk.now) _ (λ _ _. tt)
+
+pub returns-in-Err-clause-found : goal.returns-in-Err-clause-found
+returns-in-Err-clause-found g c = on_each (g.D.Disk.reads_as c.args.disk.now) _ (λ _ _. tt)
+
+pub returns-in-Err-clause-place : goal.returns-in-Err-clause-place
+returns-in-Err-clause-place g c = tt
+
+pub returns-in-Err-clause-as_before : goal.returns-in-Err-clause-as_before
+returns-in-Err-clause-as_before g c = search rules
+
+pub returns-in-Err-clause-cause : goal.returns-in-Err-clause-cause
+returns-in-Err-clause-cause g c = search rules
+
+pub returns-in-Err-read_spec-clause-start : goal.returns-in-Err-read_spec-clause-start
+returns-in-Err-read_spec-clause-start g c = on_each (g.D.Disk.reads_as c.args.disk.now) _ (λ _ _. tt)
+
+pub returns-in-Err-read_spec-clause-found : goal.returns-in-Err-read_spec-clause-found
+returns-in-Err-read_spec-clause-found g c = on_each (g.D.Disk.reads_as c.args.disk.now) _ (λ _ _. tt)
+
+pub returns-in-Err-read_spec-clause-place : goal.returns-in-Err-read_spec-clause-place
+returns-in-Err-read_spec-clause-place g c = tt
+
+pub returns-in-Err-read_spec-clause-as_before : goal.returns-in-Err-read_spec-clause-as_before
+returns-in-Err-read_spec-clause-as_before g c = search rules
+
+pub returns-in-Err-read_spec-clause-cause : goal.returns-in-Err-read_spec-clause-cause
+returns-in-Err-read_spec-clause-cause g c = search rules
+
+pub returns-in-Err-read_genesis-clause-start : goal.returns-in-Err-read_genesis-clause-start
+returns-in-Err-read_genesis-clause-start g c = on_each (g.D.Disk.reads_as c.args.disk.now) _ (λ _ _. tt)
+
+pub returns-in-Err-read_genesis-clause-found : goal.returns-in-Err-read_genesis-clause-found
+returns-in-Err-read_genesis-clause-found g c = on_each (g.D.Disk.reads_as c.args.disk.now) _ (λ _ _. tt)
+
+pub returns-in-Err-read_genesis-clause-place : goal.returns-in-Err-read_genesis-clause-place
+returns-in-Err-read_genesis-clause-place g c = tt
+
+pub returns-in-Err-read_genesis-clause-as_before : goal.returns-in-Err-read_genesis-clause-as_before
+returns-in-Err-read_genesis-clause-as_before g c = search rules
+
+pub returns-in-Err-read_genesis-clause-cause : goal.returns-in-Err-read_genesis-clause-cause
+returns-in-Err-read_genesis-clause-cause g c = search rules

@@ -1,6 +1,7 @@
 use Rattle.std.proofs.Common.{◌≡◌, Some, rules}
 use Rattle.store_defs.specs.Log.{record_at}
 use Rattle.log_file.specs.Grammar.{record_of}
+use Rattle.log_file.proofs.Exits.{on_each, no_error, same_stop}
 use Rattle.log_file.proofs.Pieces.{told_passed, told_here}
 use Rattle.log_file.proofs.records.read_spec.Goals as goal
 
@@ -8,10 +9,55 @@ pub returns-in_default-spec_of-clause-wrong : goal.returns-in_default-spec_of-cl
 returns-in_default-spec_of-clause-wrong g c =
     let found : Some (record_of c.in-Some.kind c.in-Some.body.now) ≡ record_at c.ahead.result.now = search rules in
     told_here _ _ _ c.args.reader.now c.fill_record.new.self (record_of c.in-Some.kind c.in-Some.body.now) c.ahead.result.now c.ahead.ensures found
-    (λ e. search rules) c.in_ok-fill_record.ensures.found
+    (λ e. search rules) c.in-Ok.ensures.found
 
 pub returns-clause-found : goal.returns-clause-found
 returns-clause-found g c =
     let found : Some (record_of c.in-Some.kind c.in-Some.body.now) ≡ record_at c.ahead.result.now = search rules in
     told_passed _ _ c.args.reader.now c.fill_record.new.self c.skip.new.self (record_of c.in-Some.kind c.in-Some.body.now) c.ahead.result.now c.fill_record.ensures.at c.skip.ensures.at
-    c.ahead.ensures found (search rules) c.in_ok-fill_record.ensures.found
+    c.ahead.ensures found (search rules) c.in-Ok.ensures.found
+
+pub returns-in-Err-clause-at : goal.returns-in-Err-clause-at
+returns-in-Err-clause-at g c = tt
+
+pub returns-in-Err-clause-found : goal.returns-in-Err-clause-found
+returns-in-Err-clause-found g c = on_each (g.D.Disk.reads_as c.args.disk.now) _ (λ _ _. tt)
+
+pub returns-in_default-clause-at : goal.returns-in_default-clause-at
+returns-in_default-clause-at g c = tt
+
+pub returns-in_default-clause-found : goal.returns-in_default-clause-found
+returns-in_default-clause-found g c = on_each (g.D.Disk.reads_as c.args.disk.now) _ (λ _ _. tt)
+
+pub returns-in_default-spec_of-clause-at : goal.returns-in_default-spec_of-clause-at
+returns-in_default-spec_of-clause-at g c = tt
+
+pub returns-in_default-spec_of-clause-found : goal.returns-in_default-spec_of-clause-found
+returns-in_default-spec_of-clause-found g c = on_each (g.D.Disk.reads_as c.args.disk.now) _ (λ _ _. tt)
+
+pub returns-in-Err-clause-reading : goal.returns-in-Err-clause-reading
+returns-in-Err-clause-reading g c = c.in-Err.ensures.reading
+
+pub returns-in-Err-clause-as_before : goal.returns-in-Err-clause-as_before
+returns-in-Err-clause-as_before g c = c.in-Err.ensures.as_before
+
+pub returns-in-Err-clause-wrong : goal.returns-in-Err-clause-wrong
+returns-in-Err-clause-wrong g c = on_each (g.D.Disk.reads_as c.args.disk.now) _ (λ _ _ e. absurd (c.in-Err.ensures.reads (same_stop _ _ e)))
+
+pub returns-in_default-clause-reading : goal.returns-in_default-clause-reading
+returns-in_default-clause-reading g c = c.in-Ok.ensures.reading
+
+pub returns-in_default-clause-as_before : goal.returns-in_default-clause-as_before
+returns-in_default-clause-as_before g c = c.in-Ok.ensures.as_before
+
+pub returns-in_default-spec_of-clause-reading : goal.returns-in_default-spec_of-clause-reading
+returns-in_default-spec_of-clause-reading g c = c.in-Ok.ensures.reading
+
+pub returns-in_default-spec_of-clause-as_before : goal.returns-in_default-spec_of-clause-as_before
+returns-in_default-spec_of-clause-as_before g c = c.in-Ok.ensures.as_before
+
+pub returns-clause-as_before : goal.returns-clause-as_before
+returns-clause-as_before g c = c.in-Ok.ensures.as_before
+
+pub returns-clause-wrong : goal.returns-clause-wrong
+returns-clause-wrong g c = on_each (g.D.Disk.reads_as c.args.disk.now) _ (λ _ _ e. absurd (no_error _ _ e))

@@ -1,0 +1,96 @@
+use Rattle.std.proofs.Common.{sym}
+use Rattle.log_file.proofs.Exits.{on_each, no_answer, no_error, not_yes, same_stop}
+use Rattle.log_file.proofs.records.read_block.Goals as goal
+
+pub returns-in-Err-clause-at : goal.returns-in-Err-clause-at
+returns-in-Err-clause-at g c = λ e. absurd (no_answer _ _ e)
+
+pub returns-in-Err-clause-longer : goal.returns-in-Err-clause-longer
+returns-in-Err-clause-longer g c = λ e. absurd (no_answer _ _ e)
+
+pub returns-in-Err-clause-few : goal.returns-in-Err-clause-few
+returns-in-Err-clause-few g c = λ e. absurd (no_answer _ _ e)
+
+pub returns-in-Err-clause-stays : goal.returns-in-Err-clause-stays
+returns-in-Err-clause-stays g c = λ e. absurd (no_answer _ _ e)
+
+pub returns-in-Err-clause-found : goal.returns-in-Err-clause-found
+returns-in-Err-clause-found g c = on_each (g.D.Disk.reads_as c.args.disk.now) _ (λ _ _ e. absurd (no_answer _ _ e))
+
+pub returns-in-Err-clause-ended : goal.returns-in-Err-clause-ended
+returns-in-Err-clause-ended g c = on_each (g.D.Disk.reads_as c.args.disk.now) _ (λ _ _ e. absurd (no_answer _ _ e))
+
+pub returns-in-Err-clause-byte : goal.returns-in-Err-clause-byte
+returns-in-Err-clause-byte g c = on_each (g.D.Disk.reads_as c.args.disk.now) _ (λ _ _ e. absurd (no_answer _ _ e))
+
+pub returns-in-Err-clause-reading : goal.returns-in-Err-clause-reading
+returns-in-Err-clause-reading g c = c.in-Err.ensures.reading
+
+pub returns-in-Err-clause-as_before : goal.returns-in-Err-clause-as_before
+returns-in-Err-clause-as_before g c = c.in-Err.ensures.as_before
+
+pub returns-in-Err-put-clause-at : goal.returns-in-Err-put-clause-at
+returns-in-Err-put-clause-at g c = λ e. absurd (no_answer _ _ e)
+
+pub returns-in-Err-put-clause-longer : goal.returns-in-Err-put-clause-longer
+returns-in-Err-put-clause-longer g c = λ e. absurd (no_answer _ _ e)
+
+pub returns-in-Err-put-clause-few : goal.returns-in-Err-put-clause-few
+returns-in-Err-put-clause-few g c = λ e. absurd (no_answer _ _ e)
+
+pub returns-in-Err-put-clause-stays : goal.returns-in-Err-put-clause-stays
+returns-in-Err-put-clause-stays g c = λ e. absurd (no_answer _ _ e)
+
+pub returns-in-Err-put-clause-found : goal.returns-in-Err-put-clause-found
+returns-in-Err-put-clause-found g c = on_each (g.D.Disk.reads_as c.args.disk.now) _ (λ _ _ e. absurd (no_answer _ _ e))
+
+pub returns-in-Err-put-clause-ended : goal.returns-in-Err-put-clause-ended
+returns-in-Err-put-clause-ended g c = on_each (g.D.Disk.reads_as c.args.disk.now) _ (λ _ _ e. absurd (no_answer _ _ e))
+
+pub returns-in-Err-put-clause-byte : goal.returns-in-Err-put-clause-byte
+returns-in-Err-put-clause-byte g c = on_each (g.D.Disk.reads_as c.args.disk.now) _ (λ _ _ e. absurd (no_answer _ _ e))
+
+pub returns-in-Err-put-clause-reading : goal.returns-in-Err-put-clause-reading
+returns-in-Err-put-clause-reading g c = c.in-Ok.ensures.reading
+
+pub returns-in-Err-put-clause-as_before : goal.returns-in-Err-put-clause-as_before
+returns-in-Err-put-clause-as_before g c = c.in-Ok.ensures.as_before
+
+pub returns-in-Err-clause-wrong : goal.returns-in-Err-clause-wrong
+returns-in-Err-clause-wrong g c = on_each (g.D.Disk.reads_as c.args.disk.now) _ (λ _ _ e _ _. absurd (c.in-Err.ensures.reads (same_stop _ _ e)))
+
+pub returns-in_default-clause-at : goal.returns-in_default-clause-at
+returns-in_default-clause-at g c = λ e. absurd (not_yes e)
+
+pub returns-in_default-clause-longer : goal.returns-in_default-clause-longer
+returns-in_default-clause-longer g c = λ e. absurd (not_yes e)
+
+pub returns-in_default-clause-few : goal.returns-in_default-clause-few
+returns-in_default-clause-few g c = λ e. absurd (not_yes e)
+
+pub returns-in_default-clause-found : goal.returns-in_default-clause-found
+returns-in_default-clause-found g c = on_each (g.D.Disk.reads_as c.args.disk.now) _ (λ _ _ e. absurd (not_yes e))
+
+pub returns-in_default-clause-reading : goal.returns-in_default-clause-reading
+returns-in_default-clause-reading g c = c.in-Ok.ensures.reading
+
+pub returns-in_default-clause-as_before : goal.returns-in_default-clause-as_before
+returns-in_default-clause-as_before g c = c.in-Ok.ensures.as_before
+
+pub returns-in_default-clause-wrong : goal.returns-in_default-clause-wrong
+returns-in_default-clause-wrong g c = on_each (g.D.Disk.reads_as c.args.disk.now) _ (λ _ _ e. absurd (no_error _ _ e))
+
+pub returns-clause-stays : goal.returns-clause-stays
+returns-clause-stays g c = λ e. absurd (not_yes (sym e))
+
+pub returns-clause-ended : goal.returns-clause-ended
+returns-clause-ended g c = on_each (g.D.Disk.reads_as c.args.disk.now) _ (λ _ _ e. absurd (not_yes (sym e)))
+
+pub returns-clause-byte : goal.returns-clause-byte
+returns-clause-byte g c = on_each (g.D.Disk.reads_as c.args.disk.now) _ (λ _ _ e. absurd (not_yes (sym e)))
+
+pub returns-clause-wrong : goal.returns-clause-wrong
+returns-clause-wrong g c = on_each (g.D.Disk.reads_as c.args.disk.now) _ (λ _ _ e. absurd (no_error _ _ e))
+
+pub returns-clause-as_before : goal.returns-clause-as_before
+returns-clause-as_before g c = c.in-Ok.ensures.as_before
