@@ -1,4 +1,4 @@
-use Rattle.state_vectors.proofs.main.Given as goal
+use Rattle.cell_vectors.proofs.main.Given as goal
 
 -- the ledger is that of the blank
 abbrev pub ghosts-begin : goal.ghosts-begin

@@ -1,4 +1,4 @@
-// Rows by their hash, and made-up ones.
+//! Rows by their hash, and made-up ones.
 use blake2b_ckb::{Hasher, ckbhash};
 use cell_model::{CellMeta, OutPoint};
 
