@@ -1,10 +1,10 @@
-//! A transaction with what it resolves to, as a row has it, and what comes of its groups.
+//! A transaction with what it resolves to, as a row has it, and what comes of its script groups.
 
 use crate::kept::Chain;
 use crate::wanted::wanted;
 use cell_model::{OutPoint, Resolved, ResolvedTx, meta_of, tx_hash};
-use epochs::Spec;
 use mol_schema::{OutputView, TxView};
+use script_defs::Failure;
 use script_run::{ScriptStop, run_groups};
 use std::alloc::Global;
 
@@ -59,46 +59,88 @@ fn places_of(alloc: Global, column: &str) -> Option<Vec<u32>> {
     Some(places)
 }
 
-/// What the groups of a transaction are answered within a budget. None where they may not be run.
-fn outcome(
-    alloc: Global,
-    spec: &Spec,
-    tx: &ResolvedTx<'_>,
-    chain: &mut Chain,
-    budget: u64,
-) -> Option<Result<u64, ScriptStop>> {
-    if budget > MOST_CYCLES || chain.blocks.len() != chain.tree.len() {
-        return None;
-    }
-    Some(run_groups(alloc, spec, tx, &chain.tree, &mut chain.blocks, budget))
-}
-
-/// Whether a transaction is answered as its row wants; None where that is none.
-pub(crate) fn agrees_at(
+/// A transaction with the cells of its inputs, its resolved deps and the places of its header deps.
+fn resolved_of<'a>(
     alloc: Global,
     blobs: &[Vec<u8>],
-    spec: &Spec,
-    chain: &mut Chain,
+    tx: TxView<'a>,
     columns: &str,
-) -> Option<bool> {
-    let (answer, columns) = columns.split_once('\t')?;
-    let (budget, columns) = columns.split_once('\t')?;
-    let (tx, columns) = columns.split_once('\t')?;
+) -> Option<ResolvedTx<'a>> {
     let (inputs, columns) = columns.split_once('\t')?;
     let (deps, headers) = columns.split_once('\t')?;
-    let bytes = hex::decode(alloc, tx).ok()?;
-    let tx = TxView::read(&bytes)?;
-    let resolved = ResolvedTx {
+    Some(ResolvedTx {
         hash: tx_hash(&tx),
         tx,
         inputs: cells_of(alloc, blobs, inputs)?,
         deps: cells_of(alloc, blobs, deps)?,
         headers: places_of(alloc, headers)?,
-    };
-    let got = outcome(alloc, spec, &resolved, chain, budget.parse().ok()?)?;
-    match (got, wanted(answer)?) {
-        (Ok(cycles), Ok(wanted)) => Some(cycles == wanted),
-        (Err(ScriptStop::Failed(failure)), Err(wanted)) => Some(failure == wanted),
-        _ => Some(false),
+    })
+}
+
+/// What the groups of a transaction are answered within a budget. None where they may not be run.
+fn outcome(
+    alloc: Global,
+    chain: &mut Chain,
+    tx: &ResolvedTx<'_>,
+    budget: u64,
+) -> Option<Result<u64, ScriptStop>> {
+    if budget > MOST_CYCLES || chain.blocks.len() != chain.tree.len() {
+        return None;
     }
+    Some(run_groups(
+        alloc,
+        &chain.spec,
+        tx,
+        &chain.tree,
+        &mut chain.blocks,
+        budget,
+    ))
+}
+
+fn is_wanted(got: Result<u64, ScriptStop>, wanted: &Result<u64, Failure>) -> bool {
+    match (got, wanted) {
+        (Ok(cycles), Ok(wanted)) => cycles == *wanted,
+        (Err(ScriptStop::Failed(failure)), Err(wanted)) => failure == *wanted,
+        _ => false,
+    }
+}
+
+/// Whether so many runs are each answered as is wanted.
+fn agree(
+    alloc: Global,
+    chain: &mut Chain,
+    tx: &ResolvedTx<'_>,
+    budget: u64,
+    rounds: u32,
+    wanted: &Result<u64, Failure>,
+) -> Option<bool> {
+    for _ in 0..rounds {
+        if !is_wanted(outcome(alloc, chain, tx, budget)?, wanted) {
+            return Some(false);
+        }
+    }
+    Some(true)
+}
+
+/// Whether a transaction is answered as its row wants, so many times; None where that is none.
+pub(crate) fn agrees(
+    alloc: Global,
+    blobs: &[Vec<u8>],
+    chain: &mut Chain,
+    rounds: u32,
+    columns: &str,
+) -> Option<bool> {
+    let (answer, columns) = columns.split_once('\t')?;
+    let (budget, columns) = columns.split_once('\t')?;
+    let (tx, columns) = columns.split_once('\t')?;
+    let bytes = hex::decode(alloc, tx).ok()?;
+    let tx = resolved_of(alloc, blobs, TxView::read(&bytes)?, columns)?;
+    agree(
+        alloc,
+        chain,
+        &tx,
+        budget.parse().ok()?,
+        rounds,
+        &wanted(answer)?,
+    )
 }
