@@ -1,4 +1,5 @@
-//! Encodings that are read and written: tries each row of its standard input, and prints the rows that differ.
+//! Encodings that are read and written, hashes and roots: tries each row of its standard input, and prints the rows that
+//! differ.
 //!
 //! A row is one of these, with a tab between two columns, bytes in hex and `-` for no bytes:
 //!
@@ -6,19 +7,22 @@
 //!   `N` fields, and a fixvec of items of `SIZE` bytes;
 //! - a view, `uncut`, and bytes that it reads, but not where they are cut short, at whatever place;
 //! - a view, an accessor, a place in a list or 0, bytes, and what the accessor gives;
-//! - `Builder`, what is made, its fields with a comma between two, and the bytes that are made.
+//! - `Builder`, what is made, its fields with a comma between two, and the bytes that are made;
+//! - `hash`, a message, and its hash, which it also has in pieces;
+//! - `root`, items with a comma between two, and their Merkle root.
 //!
-//! The rows were made by programs that were written from RFC 0008 and the schema alone, or by hand from them.
+//! The rows on encodings were made by programs that were written from RFC 0008 and the schema alone, or by hand from them.
+//! Those on hashes and roots come from outside.
 #![tactic(auto)]
 
 mod builder;
 mod fields;
+mod hash;
 mod parts;
 mod views;
 
 use std::alloc::{AllocError, Global};
 use std::io;
-use std::io::{BufRead, BufReader};
 use std::process::ExitCode;
 use std::string::String;
 
@@ -48,11 +52,18 @@ fn bytes_of(alloc: Global, digits: &str) -> Option<Vec<u8>> {
 
 /// Whether the row holds; None where it is none.
 fn agrees(alloc: Global, row: &str) -> Option<bool> {
-    let (view, rest) = row.split_once('\t')?;
-    let (word, rest) = rest.split_once('\t')?;
-    if view == "Builder" {
-        return builder::agrees(alloc, word, rest);
+    let (view, columns) = row.split_once('\t')?;
+    match view {
+        "hash" => hash::agrees_on_message(alloc, columns),
+        "root" => hash::agrees_on_root(alloc, columns),
+        "Builder" => builder::agrees(alloc, columns),
+        view => agrees_on_view(alloc, view, columns),
     }
+}
+
+/// Whether a view reads the bytes of a row, or gives what it has.
+fn agrees_on_view(alloc: Global, view: &str, columns: &str) -> Option<bool> {
+    let (word, rest) = columns.split_once('\t')?;
     match word {
         "some" => views::reads(view, &bytes_of(alloc, rest)?),
         "none" => Some(!views::reads(view, &bytes_of(alloc, rest)?)?),
@@ -69,19 +80,24 @@ fn agrees_on_field(alloc: Global, view: &str, accessor: &str, rest: &str) -> Opt
     Some(text(alloc, answer).ok()?.as_str() == wanted)
 }
 
-fn main(rt: HostRuntime) -> io::Result<ExitCode> {
-    let alloc = rt.alloc();
+/// How many rows there are, and how many of them agree. Those that differ are printed.
+fn compare(rt: HostRuntime, text: &str) -> io::Result<(u64, u64)> {
     let mut rows = 0u64;
     let mut agreed = 0u64;
-    for row in BufReader::new(alloc, rt.reader())?.lines(alloc) {
-        let row = row?;
+    for row in text.lines() {
         rows = rows.saturating_add(1);
-        if agrees(alloc, &row) == Some(true) {
+        if agrees(rt.alloc(), row) == Some(true) {
             agreed = agreed.saturating_add(1);
         } else {
             println!(rt; "differs: {row}")?;
         }
     }
+    Ok((rows, agreed))
+}
+
+fn main(rt: HostRuntime) -> io::Result<ExitCode> {
+    let text = io::read_to_string(rt.alloc(), rt.stdin())?;
+    let (rows, agreed) = compare(rt, &text)?;
     println!(rt; "{agreed} of {rows} rows agree")?;
     Ok(if agreed == rows {
         ExitCode::SUCCESS

@@ -1,6 +1,6 @@
 use Rattle.std.proofs.Common.{◌≡◌, [], ◌++◌, List, ℕ, ap, refl, sym, ◌∙◌}
 use Rattle.std.proofs.lemmas.List.{append_assoc, take-append-drop}
-use Rattle.hash_vectors.proofs.message.digest_in_pieces.Goals as goal
+use Rattle.format_vectors.proofs.hash.digest_in_pieces.Goals as goal
 
 pub pieces-init : goal.pieces-init
 pieces-init c = ([], (c.new-hasher.ensures, refl))

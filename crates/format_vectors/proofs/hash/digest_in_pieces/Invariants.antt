@@ -1,6 +1,6 @@
 use Rattle.std.proofs.Common.{◌≡◌, ℕ, List, ◌++◌, length}
 use Rattle.blake2b_ckb.specs.Hasher.{Holds}
-use Rattle.hash_vectors.proofs.message.digest_in_pieces.Given as goal
+use Rattle.format_vectors.proofs.hash.digest_in_pieces.Given as goal
 
 -- the hasher holds the message's bytes before the rest
 abbrev pub invariant-pieces : goal.invariant-pieces

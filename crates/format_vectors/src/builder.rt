@@ -5,7 +5,8 @@ use mol_write::Builder;
 use std::alloc::Global;
 
 /// What is made, its fields, and the bytes that it has.
-pub(crate) fn agrees(alloc: Global, made: &str, rest: &str) -> Option<bool> {
+pub(crate) fn agrees(alloc: Global, columns: &str) -> Option<bool> {
+    let (made, rest) = columns.split_once('\t')?;
     let (fields, wanted) = rest.split_once('\t')?;
     let bytes = match made {
         "table" => built(alloc, fields)?.table().ok()?,
