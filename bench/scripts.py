@@ -2,11 +2,12 @@
 
     python3 scripts.py PROGRAM [--calls 20000] [--rounds 3]
 
-PROGRAM is the program `group_rounds`, run as `PROGRAM CALLS < SCENE`. Each call
-runs the one group of a transaction; `rvref` runs the same file as often. Two
-files take part: one of three instructions, which exits with 0, for the start of
-a group; and one that first goes through a loop of 500 cycles. Both programs must
-print the sum of the cycles. The processor time of a run counts, the least of the
+PROGRAM is the program `tx_vectors`, run as `PROGRAM < ROWS`. Each call runs the
+one group of a transaction; `rvref` runs the same file as often. Two files take
+part: one of three instructions, which exits with 0, for the start of a group; and
+one that first goes through a loop of 500 cycles. `tx_vectors` must find that each
+call takes the cycles that its row has, and `rvref` must print the sum of them.
+The processor time of a run counts, the least of the
 rounds in which they take turns, and of the baseline the faster of the builds by
 `cc -O2` and `clang -O2`. The status is 1 above 25 microseconds a start, and above
 50 milliseconds for 1,000 calls with the loop.
@@ -39,16 +40,17 @@ FILES = {'start': (elf(ENDS), 3 + 2 + 500, 25.0),
          'loop': (elf(COUNTS + ENDS), 6 + 1 + 4 * LOOPS + 2 + 500, 50.0)}
 
 
-def scene(code):
-    """What `group_rounds` reads: a transaction with one input, whose lock is the code, and a dep that holds it."""
+def rows(code, cycles, calls):
+    """What `tx_vectors` reads: a transaction with one input, whose lock is the code, and a dep that holds it, many times."""
     lock = table([ckbhash(code), b'\0', as_bytes(b'')])
     output = table([le(10 ** 12, 8), lock, b''])
     null_input = le(0, 8) + NULL
     raw = table([le(0, 4), fixvec([ckbhash(b'dep') + le(0, 4) + b'\0']), fixvec([]), fixvec([null_input]), table([output]),
                  table([as_bytes(b'')])])
     genesis = table([bytes(208), table([]), table([]), fixvec([])])
-    parts = [SPEC, genesis, table([raw, table([])]), output, output, code]
-    return ''.join(it.hex() + '\n' for it in parts)
+    lines = [('spec', SPEC), ('genesis', genesis), ('blob', output), ('blob', b''), ('blob', code),
+             ('rounds', str(calls), 'ok %d' % cycles, BUDGET, table([raw, table([])]), '0,0,0,1', '0,0,0,2', '-')]
+    return ''.join('\t'.join(it if isinstance(it, str) else it.hex() for it in line) + '\n' for line in lines)
 
 
 def main():
@@ -62,7 +64,7 @@ def main():
         sys.exit('there is no program %s' % a.program)
     calls, bad = str(a.calls), 0
     with tempfile.TemporaryDirectory() as folder:
-        programs = {'group_rounds': [own, calls]}
+        programs = {'tx_vectors': [own]}
         for compiler in ('cc', 'clang'):
             if shutil.which(compiler):
                 to = os.path.join(folder, 'rvref-' + compiler)
@@ -70,23 +72,24 @@ def main():
                 programs['rvref ' + compiler] = [to, '-', BUDGET, calls]
         for kind, (code, cycles, most) in FILES.items():
             paths = {}
-            for suffix, content in (('scene', scene(code).encode()), ('elf', code)):
+            for suffix, content in (('rows', rows(code, cycles, a.calls).encode()), ('elf', code)):
                 paths[suffix] = os.path.join(folder, suffix)
                 with open(paths[suffix], 'wb') as f:
                     f.write(content)
             best = {}
             for _ in range(a.rounds):
                 for name, words in programs.items():
-                    used, _, text, status = run(words, paths['scene' if words[0] == own else 'elf'])
-                    if (text, status) != ('%d\n' % (cycles * a.calls), 0):
+                    used, _, text, status = run(words, paths['rows' if words[0] == own else 'elf'])
+                    wanted = '6 of 6 rows agree\n' if words[0] == own else '%d\n' % (cycles * a.calls)
+                    if (text, status) != (wanted, 0):
                         sys.exit('%s prints %r, status %d' % (name, text, status))
                     best[name] = min(used, best.get(name, used))
             each = {name: seconds / a.calls * 1e6 for name, seconds in best.items()}
             for name, microseconds in each.items():
                 print('%-6s %-14s %7.2f microseconds a call' % (kind, name, microseconds))
-            least = min(it for name, it in each.items() if name != 'group_rounds')
-            print('%-6s ratio          %7.2f' % (kind, each['group_rounds'] / least))
-            bad |= each['group_rounds'] > most
+            least = min(it for name, it in each.items() if name != 'tx_vectors')
+            print('%-6s ratio          %7.2f' % (kind, each['tx_vectors'] / least))
+            bad |= each['tx_vectors'] > most
     return bad
 
 

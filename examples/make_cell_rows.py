@@ -1,7 +1,7 @@
 #!/usr/bin/env python3
 """Makes the rows on cells, their rows and exts that crates/cell_vectors reads.
 
-    python3 make_cell_rows.py > ../crates/cell_vectors/stdin
+    (python3 make_cell_rows.py; python3 make_state_rows.py) > ../crates/cell_vectors/stdin
 
 A row is a word and its columns, with a tab between two, bytes in hex and `-`
 for no bytes. The last column is the answer that is wanted:

@@ -1,7 +1,8 @@
 #!/usr/bin/env python3
-"""Makes the rows on the script groups of transactions that crates/script_vectors reads.
+"""Makes the rows on the script groups of transactions that crates/tx_vectors reads.
 
-    python3 make_script_rows.py > ../crates/script_vectors/stdin
+    python3 make_script_rows.py
+        the rows, on standard output; they stand behind those of tests/transactions.py
 
 A row is a word and its columns, with a tab between two, bytes in hex:
 
@@ -9,8 +10,9 @@ A row is a word and its columns, with a tab between two, bytes in hex:
     spec    a specification: a new chain begins
     genesis its first block
     block   a block on one before it, with its ext
-    row     what comes of a transaction, a budget, the transaction, the cells of
+    groups  what comes of a transaction, a budget, the transaction, the cells of
             its inputs, its resolved deps, and the places of its header deps
+    rounds  how many times, and the same: each time that comes of it
 
 What comes of it is `ok CYCLES`, `no_code G`, `many_codes G`, `bad_elf G E`,
 `fault G K`, `exit G CODE` or `spent`, with the place G of a group. A cell is the
@@ -80,13 +82,14 @@ def cell_text(cell):
     return '%d,%d,%d,%d' % (cell.block, cell.tx, blob(cell.item()), blob(cell.content))
 
 
-def row(scene, wanted=None, budget=AMPLE):
-    """The answer, which is the one that is wanted, where one is."""
+def row(scene, wanted=None, budget=AMPLE, rounds=None):
+    """The answer, which is the one that is wanted, where one is. It comes so many times, where that is given."""
     answer = scene.outcome(budget)
     if wanted and answer.split()[:len(wanted.split())] != wanted.split():
         raise AssertionError('%s, not %s' % (answer, wanted))
     cells = [joined(map(cell_text, it)) for it in (scene.inputs, scene.deps)]
-    LINES.append('\t'.join(['row', answer, str(budget), scene.item.hex(), *cells, joined(scene.headers)]))
+    word = ['groups'] if rounds is None else ['rounds', str(rounds)]
+    LINES.append('\t'.join([*word, answer, str(budget), scene.item.hex(), *cells, joined(scene.headers)]))
     return int(answer[3:]) if answer.startswith('ok') else None
 
 
@@ -753,6 +756,8 @@ def main():
         cases(chain)
     for length in (1, 2, 3, 4, 65535):
         on_epochs(Chain(length, parents))
+    alone = Scene(Chain(10, []), [Cell(OK, capacity=10 ** 12)], [Cell(OK)], [Cell(OK, content=PROGRAM)])
+    row(alone, 'ok 505', 1 << 40, rounds=3)
     print('\n'.join(LINES))
 
 

@@ -3,11 +3,20 @@
 must be answered with, and the rows that are then live.
 
     python3 make_state_rows.py
-        the rows that crates/state_vectors reads, on standard output
+        rows that crates/cell_vectors reads, on standard output; they stand behind
+        those of make_cell_rows.py
 
-A row is what is wanted, a tab, and bytes in hex (crates/state_vectors says
-which). The cells are kept in a dict, as docs/RULES.md ("Cells") and
-docs/STORE.md say; nothing is taken from the program.
+A row is `state`, what is wanted, and bytes in hex, with a tab between two:
+
+    genesis             a Block: live cells begin with its cells
+    ok PLACE, not_live PLACE OUTPOINT, live PLACE OUTPOINT
+                        a Block: what it is answered at that place
+    load COUNT          so many made-up rows are added
+    rows COUNT HASH     how many rows there are, and the hash of all in order
+    row HASH, none      an out-point: the hash of its row
+
+A row is hashed as docs/STORE.md has its bytes. The cells are kept in a dict, as
+docs/RULES.md ("Cells") and docs/STORE.md say; nothing is taken from the program.
 """
 
 from make_store import ZERO_HASH, ckbhash, fixvec, table, uint
@@ -88,7 +97,7 @@ class Cells:
         self.rows = {}
         for tx, (_, (tx_hash, _, outputs, datas)) in enumerate(transactions):
             self.make(0, tx, tx_hash, outputs, datas, False)
-        print('genesis\t' + block(transactions, 0).hex())
+        print('state\tgenesis\t' + block(transactions, 0).hex())
 
     def make(self, place, tx, tx_hash, outputs, datas, tried):
         for i, output in enumerate(outputs):
@@ -114,15 +123,15 @@ class Cells:
         odd = self.tried(place, transactions)
         if odd:
             self.rows = before
-        print('%s\t%s' % (odd or 'ok %d' % place, block(transactions, number).hex()))
+        print('state\t%s\t%s' % (odd or 'ok %d' % place, block(transactions, number).hex()))
         self.all()
 
     def all(self):
         rows = [self.rows[o] for o in sorted(self.rows, key=order)]
-        print('rows %d %s\t' % (len(rows), ckbhash(b''.join(rows)).hex()))
+        print('state\trows %d %s\t' % (len(rows), ckbhash(b''.join(rows)).hex()))
 
     def row(self, o):
-        print('%s\t%s' % ('row ' + ckbhash(self.rows[o]).hex() if o in self.rows else 'none', o.hex()))
+        print('state\t%s\t%s' % ('row ' + ckbhash(self.rows[o]).hex() if o in self.rows else 'none', o.hex()))
 
     def load(self, count):
         for i in range(count):
@@ -131,7 +140,7 @@ class Cells:
             type_bytes = b'\1' + tx_hash if i % 2 == 0 else b'\0' + ZERO_HASH
             self.rows.setdefault(o, o + uint(i % 1000, 4) + uint(i % 7, 4) + uint(i * 1000000007, 8) + uint(i * 1009, 8)
                                  + ckbhash(uint(i, 4)) + type_bytes + ZERO_HASH + uint(i, 4))
-        print('load %d\t' % count)
+        print('state\tload %d\t' % count)
 
 
 # --------------------------------------------------------------------- rows

@@ -1,24 +1,25 @@
 #!/usr/bin/env python3
 """Rows of crates/tx_vectors/stdin: transactions on small chains, each with its answer.
 
-    python3 tests/transactions.py
+    (python3 tests/transactions.py; python3 examples/make_script_rows.py) > crates/tx_vectors/stdin
 
 For each way to break one of J18 and J20 to J27 there is a transaction that breaks
 it, and one that just keeps it. The answers are written down here, case by case,
 and owe nothing to the program: only hashes and encodings are computed.
 
-A row is an answer, a tab, and what is tried:
+A row is a word and its columns, with a tab between two, bytes in hex:
 
-    spec        the specification of a new chain, in hex
-    genesis     its genesis
-    block       the next block, and its ext
-    row         an out-point that gets the row of another
-    ok FEE INTEREST DEPS HEADERS, or broken N
-                a transaction alone behind the last block; or the first transactions
-                of a block and the whole block, for the one behind them
+    spec         the specification of a new chain
+    genesis      its genesis
+    block        the next block, and its ext
+    shadow       an out-point that gets the row of another
+    transaction  the answer, and a transaction alone behind the last block
+    within       the answer, the first transactions of the next block, and the whole
+                 block: the one behind them is tried
 
-DEPS has for each resolved dep its index and the length of its data, HEADERS the
-places of the header deps; each is - where there is none.
+The answer is `ok FEE INTEREST DEPS HEADERS`, or `broken N`. DEPS has for each
+resolved dep its index and the length of its data, HEADERS the places of the header
+deps; each is - where there is none.
 """
 
 import os
@@ -101,8 +102,8 @@ class Chain:
         self.first = Tx([(0, NULL_OUT_POINT)], genesis_outputs, genesis_data)
         self.put('genesis', [self.first], timestamp, 10 ** 16)
 
-    def row(self, answer, *items):
-        self.rows.append('%s\t%s' % (answer, ' '.join(it.hex() for it in items)))
+    def row(self, *columns):
+        self.rows.append('\t'.join(it if isinstance(it, str) else it.hex() for it in columns))
 
     def block(self, txs, timestamp, rate=10 ** 16):
         number = len(self.blocks)
@@ -131,17 +132,17 @@ class Chain:
         return ckbhash(self.heads[height])
 
     def ok(self, tx, fee, interest=0, deps='-', headers='-'):
-        self.row('ok %d %d %s %s' % (fee, interest, deps, headers), tx.item)
+        self.row('transaction', 'ok %d %d %s %s' % (fee, interest, deps, headers), tx.item)
 
     def broken(self, rule, tx):
-        self.row('broken %d' % rule, tx.item)
+        self.row('transaction', 'broken %d' % rule, tx.item)
 
     def within(self, answer, txs, place):
         """The transaction at a place of the next block."""
         number = len(self.blocks)
         before = self.block(txs[:place], 1000 + 1000 * number)[1]
         whole = self.block(txs, 1000 + 1000 * number)[1]
-        self.row(answer, before, whole)
+        self.row('within', answer, before, whole)
 
 
 # -------------------------------------------------------------------- cases
@@ -376,9 +377,9 @@ def outputs(rows):
     # an output whose out-point is live; only by a row that was put there
     shadows = of(at(1), (output(10 ** 11), b''), (output(10 ** 11), b''))
     chain.ok(shadows, 8 * 10 ** 11)
-    chain.row('row', shadows.point(2), at(1))
+    chain.row('shadow', shadows.point(2), at(1))
     chain.ok(shadows, 8 * 10 ** 11)
-    chain.row('row', shadows.point(1), at(1))
+    chain.row('shadow', shadows.point(1), at(1))
     chain.broken(25, shadows)
 
 

@@ -42,14 +42,14 @@ fn occupied_by(alloc: Global, columns: &str) -> Option<String> {
     format!(in alloc; "{shannons}").ok()
 }
 
+/// Adds a column with the bytes, and a comma behind it.
+fn put_bytes(alloc: Global, text: &mut String, bytes: &[u8]) -> Result<(), AllocError> {
+    text.push_str(text_of(alloc, bytes)?.as_str())?;
+    text.push(',')
+}
+
 /// The fields of a row, with a comma between two.
 fn row_text(alloc: Global, meta: &CellMeta) -> Result<String, AllocError> {
-    let lock_hash = text_of(alloc, &meta.lock_hash)?;
-    let type_hash = match &meta.type_hash {
-        None => text_of(alloc, &[])?,
-        Some(hash) => text_of(alloc, hash)?,
-    };
-    let data_hash = text_of(alloc, &meta.data_hash)?;
     let CellMeta {
         block,
         tx,
@@ -58,9 +58,15 @@ fn row_text(alloc: Global, meta: &CellMeta) -> Result<String, AllocError> {
         data_len,
         ..
     } = *meta;
-    format!(in alloc;
-        "{block},{tx},{capacity},{occupied},{lock_hash},{type_hash},{data_hash},{data_len}"
-    )
+    let mut text = format!(in alloc; "{block},{tx},{capacity},{occupied},")?;
+    put_bytes(alloc, &mut text, &meta.lock_hash)?;
+    match &meta.type_hash {
+        None => put_bytes(alloc, &mut text, &[])?,
+        Some(hash) => put_bytes(alloc, &mut text, hash)?,
+    }
+    put_bytes(alloc, &mut text, &meta.data_hash)?;
+    text.push_str(format!(in alloc; "{data_len}")?.as_str())?;
+    Ok(text)
 }
 
 /// The row of an output with its data.

@@ -19,6 +19,9 @@
 //! of code, and the answer. Behind `done` are a0, the cycles, what the call changed in memory, and its pages of code; at any
 //! other answer these are not looked at. The answers are those of a program that was written from RFC 0009 and
 //! docs/MACHINE.md alone.
+//!
+//! `program` has a file, how many times it is run, each time from a new machine, and the cycles of each run, which exits with
+//! 0. bench/start.py makes such a row, to measure how long it takes.
 #![tactic(auto)]
 
 mod alu;
@@ -26,6 +29,7 @@ mod decode;
 mod elf;
 mod machine;
 mod memory;
+mod program;
 mod row;
 mod shown;
 mod syscall;
@@ -63,6 +67,7 @@ fn agrees(alloc: Global, held: &mut Held, row: &mut Row) -> Option<bool> {
         "decode" => decode::agrees(alloc, row),
         "alu" => alu::agrees(row),
         "syscall" => syscall::agrees(alloc, row),
+        "program" => program::agrees(alloc, row),
         call => agrees_on_held(alloc, held, call, row),
     }
 }

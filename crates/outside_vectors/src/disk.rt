@@ -1,93 +1,85 @@
-// Rows of disks.
+// Rows of a folder's files.
 
-use crate::row::Row;
-use outside::{Area, Disk, write_durably};
-use outside_mem::NoDisk;
+use crate::row::{Row, area_of};
+use outside::{Area, Disk, Failed};
+use outside_os::{Claim, FolderDisk};
 use std::alloc::Global;
+use std::rt::Files;
 
-fn area_of(name: &str) -> Option<Area> {
-    match name {
-        "log" => Some(Area::Log),
-        "snap_a" => Some(Area::SnapA),
-        "snap_b" => Some(Area::SnapB),
-        _ => None,
+const LIMIT: u64 = 1_000_000;
+
+/// The number, or `failed`.
+pub(crate) fn is_count(counted: Result<u64, Failed>, row: &mut Row) -> Option<bool> {
+    let word = row.word();
+    match counted {
+        Ok(n) => Some(word.parse() == Ok(n)),
+        Err(Failed) => Some(word == "failed"),
     }
 }
 
-/// An area, and what else the call takes.
-pub(crate) fn agrees<D: Disk>(
+/// From where on, how many bytes are there and which six are in the buffer then, which dashes fill before.
+fn agrees_on_read<R: Files + Drop>(
     alloc: Global,
-    disk: &mut D,
-    call: &str,
-    row: &mut Row,
-) -> Option<bool> {
-    let area = area_of(row.word())?;
-    match call {
-        "len" => Some(disk.len(area).ok()? == row.number()?),
-        "read" => agrees_on_read(alloc, disk, area, row),
-        "write" => agrees_on_write(alloc, disk, area, row),
-        "cut" => agrees_on_cut(disk, area, row),
-        "sync" => Some(disk.sync(area).is_ok() == row.is_ok()?),
-        "write_durably" => agrees_on_durable(alloc, disk, area, row),
-        _ => None,
-    }
-}
-
-/// From where on, and the bytes that are there, of the first ten.
-fn agrees_on_read<D: Disk>(alloc: Global, disk: &mut D, area: Area, row: &mut Row) -> Option<bool> {
-    let mut into = [b'-'; 10];
-    let n = disk.read(area, row.number()?, &mut into).ok()?;
-    Some(into.get(..n)? == row.bytes(alloc)?.as_slice())
-}
-
-/// A write within a small area, which is two calls: where, and the bytes.
-fn agrees_on_write<D: Disk>(
-    alloc: Global,
-    disk: &mut D,
+    disk: &mut FolderDisk<R>,
     area: Area,
     row: &mut Row,
-) -> Option<bool> {
+) -> Option<bool>
+where
+    R::File: Claim,
+{
+    let mut into = [b'-'; 6];
+    let read = disk.read(area, row.number()?, &mut into);
+    let counted = is_count(read.map(|n| n as u64), row)?;
+    Some(counted && into.as_slice() == row.bytes(alloc)?.as_slice())
+}
+
+fn agrees_on_write<R: Files + Drop>(
+    alloc: Global,
+    disk: &mut FolderDisk<R>,
+    area: Area,
+    row: &mut Row,
+) -> Option<bool>
+where
+    R::File: Claim,
+{
     let at = row.number()?;
     let piece = row.bytes(alloc)?;
-    let len = disk.len(area).ok()?;
-    if at > len || len >= 1_000 || piece.len() >= 1_000 {
+    if at > LIMIT || piece.len() as u64 > LIMIT {
         return None;
     }
     Some(disk.write(area, at, &piece).is_ok() == row.is_ok()?)
 }
 
-/// A cut within an area, which is two calls: the new length.
-fn agrees_on_cut<D: Disk>(disk: &mut D, area: Area, row: &mut Row) -> Option<bool> {
-    let len = row.number()?;
-    if len > disk.len(area).ok()? {
-        return None;
-    }
-    Some(disk.cut(area, len).is_ok() == row.is_ok()?)
-}
-
-/// A write at the front, and its sync: the bytes.
-fn agrees_on_durable<D: Disk>(
+/// A call, an area, and what else the call takes.
+pub(crate) fn agrees<R: Files + Drop>(
     alloc: Global,
-    disk: &mut D,
-    area: Area,
+    disk: &mut FolderDisk<R>,
+    call: &str,
     row: &mut Row,
-) -> Option<bool> {
-    let piece = row.bytes(alloc)?;
-    if piece.len() >= 1_000 {
-        return None;
+) -> Option<bool>
+where
+    R::File: Claim,
+{
+    let area = area_of(row.word())?;
+    match call {
+        "len" => is_count(disk.len(area), row),
+        "read" => agrees_on_read(alloc, disk, area, row),
+        "write" => agrees_on_write(alloc, disk, area, row),
+        "cut" => Some(disk.cut(area, row.number()?).is_ok() == row.is_ok()?),
+        "sync" => Some(disk.sync(area).is_ok() == row.is_ok()?),
+        _ => None,
     }
-    Some(write_durably(disk, area, 0, &piece).is_ok() == row.is_ok()?)
 }
 
-/// Each call where no disk is: an area.
-pub(crate) fn agrees_on_none(row: &mut Row) -> Option<bool> {
-    let area = area_of(row.word())?;
-    let mut disk = NoDisk::new();
-    let mut into = [7; 2];
-    let some = disk.len(area).is_ok()
-        || disk.read(area, 0, &mut into).is_ok()
-        || disk.write(area, 0, b"x").is_ok()
-        || disk.cut(area, 0).is_ok()
-        || disk.sync(area).is_ok();
-    Some(some == row.is_ok()?)
+/// Whether each call of a disk fails.
+pub(crate) fn is_refused<R: Files + Drop>(disk: &mut FolderDisk<R>) -> bool
+where
+    R::File: Claim,
+{
+    let mut into = [0];
+    disk.len(Area::Log).is_err()
+        && disk.read(Area::SnapB, 0, &mut into).is_err()
+        && disk.write(Area::SnapA, 0, b"lost").is_err()
+        && disk.cut(Area::Log, 0).is_err()
+        && disk.sync(Area::SnapB).is_err()
 }

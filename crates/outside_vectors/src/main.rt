@@ -1,91 +1,151 @@
-//! Streams and a disk in memory that fail when they are told to: makes the call of each row of its standard input, and
-//! prints the rows that differ.
+//! The streams and the disks behind the traits of `outside`, in memory and of `outside_os`, at calls that fail and that move few
+//! bytes: makes the call of each row of its standard input, and prints the rows that differ.
 //!
-//! A row begins with what it calls, has a column for each argument and ends with the answer, `ok` or `failed` where there
-//! is no other. Bytes are in hex, `-` for none. `source`, `sink` and `disk` make new ones, with the numbers of the calls
-//! that fail; the rows below use them. The answers were worked by hand.
+//! A row begins with what it calls, has a column for each argument and ends with the answer, with a tab between two, `ok` or
+//! `failed` where there is no other; bytes are in hex, `-` for none. A line that begins with `#` tells what follows. The
+//! answers were worked by hand.
+//!
+//! Behind `memory` are the streams and the disk of `outside_mem`: `source`, `sink` and `disk` make new ones, with the numbers
+//! of the calls that fail.
+//!
+//! The other rows are about the adapters of `outside_os` over a system that is a fake, call by call, and on real files: which
+//! bytes they move, what they answer, and which calls they make. No clause tells these. `system` makes a new fake, with what
+//! its calls do in order and the bytes of its file and of its input, and behind the list they succeed: `N` moves at most so
+//! many bytes, `interrupted`, `broken` and `pipe` fail. `noted` has the calls that were made since the last `noted`. `real`
+//! goes to a disk on real files; `open` makes a new one on a folder.
 #![tactic(auto)]
 
 mod disk;
+mod files;
+mod memory;
+mod memory_disk;
+mod memory_streams;
 mod row;
 mod streams;
+mod system;
 
-use outside_mem::{MemDisk, MemSink, MemSource};
+use memory::Memory;
+use outside_os::{FolderDisk, StdinSource, StdoutSink};
 use row::Row;
-use std::alloc::Global;
+use std::alloc::{AllocError, Global};
 use std::io;
+use std::io::ErrorKind;
 use std::process::ExitCode;
-use streams::Trickle;
+use system::{Runtime, System, Turn};
 
 /// What the rows act on.
 #[derive(Drop)]
-struct Outside {
-    source: Trickle<MemSource>,
-    into: [u8; 7],
-    sink: Trickle<MemSink>,
-    disk: MemDisk,
+struct Adapters<'a> {
+    system: &'a System,
+    source: StdinSource<Runtime<'a>>,
+    sink: StdoutSink<Runtime<'a>>,
+    disk: FolderDisk<Runtime<'a>>,
+    real: FolderDisk<HostRuntime>,
+    memory: Memory,
 }
 
-impl Outside {
-    fn new(alloc: Global) -> Outside {
-        Outside {
-            source: Trickle(MemSource::new(Vec::new(alloc), Vec::new(alloc))),
-            into: [0; 7],
-            sink: Trickle(MemSink::new(alloc, Vec::new(alloc))),
-            disk: MemDisk::new(alloc, Vec::new(alloc)),
+fn turn_of(word: &str) -> Option<Turn> {
+    match word {
+        "interrupted" => Some(Turn::Errs(ErrorKind::Interrupted)),
+        "broken" => Some(Turn::Errs(ErrorKind::Other)),
+        "pipe" => Some(Turn::Errs(ErrorKind::BrokenPipe)),
+        digits => Some(Turn::Moves(digits.parse().ok()?)),
+    }
+}
+
+fn turns_of(alloc: Global, column: &str) -> Option<Vec<Turn>> {
+    let mut turns = Vec::new(alloc);
+    if column == "-" {
+        return Some(turns);
+    }
+    for word in column.split(',') {
+        turns.push(turn_of(word)?).ok()?;
+    }
+    Some(turns)
+}
+
+fn new_disk<'a>(alloc: Global, system: &'a System) -> Result<FolderDisk<Runtime<'a>>, AllocError> {
+    Ok(FolderDisk::new(Runtime(system), String::from_str(alloc, "d")?))
+}
+
+impl<'a> Adapters<'a> {
+    fn new(rt: HostRuntime, system: &'a System) -> Result<Adapters<'a>, AllocError> {
+        Ok(Adapters {
+            system,
+            source: StdinSource::new(Runtime(system)),
+            sink: StdoutSink::new(Runtime(system)),
+            disk: new_disk(rt.alloc(), system)?,
+            real: FolderDisk::new(rt, String::new(rt.alloc())),
+            memory: Memory::new(rt.alloc()),
+        })
+    }
+
+    /// A new fake, and new adapters over it.
+    fn begin(&mut self, alloc: Global, row: &mut Row) -> Option<bool> {
+        let turns = turns_of(alloc, row.word())?;
+        self.system.begin(&turns, &row.bytes(alloc)?).ok()?;
+        self.source = StdinSource::new(Runtime(self.system));
+        self.sink = StdoutSink::new(Runtime(self.system));
+        self.disk = new_disk(alloc, self.system).ok()?;
+        Some(true)
+    }
+
+    fn agrees_on_real(&mut self, rt: HostRuntime, row: &mut Row) -> Option<bool> {
+        match row.word() {
+            "open" => {
+                let folder = String::from_str(rt.alloc(), row.word()).ok()?;
+                self.real = FolderDisk::new(rt, folder);
+                Some(true)
+            }
+            call => disk::agrees(rt.alloc(), &mut self.real, call, row),
         }
     }
 
     /// Whether the call answers what the row says; None where it is no row.
-    fn agrees(&mut self, alloc: Global, row: &mut Row) -> Option<bool> {
+    fn agrees(&mut self, rt: HostRuntime, row: &mut Row) -> Option<bool> {
+        let alloc = rt.alloc();
         match row.word() {
-            "source" => {
-                let bytes = row.bytes(alloc)?;
-                self.source = Trickle(MemSource::new(bytes, row.numbers(alloc)?));
-                Some(true)
-            }
-            "sink" => {
-                self.sink = Trickle(MemSink::new(alloc, row.numbers(alloc)?));
-                Some(true)
-            }
-            "disk" => {
-                self.disk = MemDisk::new(alloc, row.numbers(alloc)?);
-                Some(true)
-            }
-            "read_full" => streams::agrees_on_read(alloc, &mut self.source, &mut self.into, row),
-            "write_all" => streams::agrees_on_write(alloc, &mut self.sink, row),
-            "taken" => Some(self.sink.0.taken() == row.bytes(alloc)?.as_slice()),
-            "sink_starved" => Some(self.sink.0.starved() == row.number()?),
-            "disk_starved" => Some(self.disk.starved() == row.number()?),
-            "no_disk" => disk::agrees_on_none(row),
+            "memory" => self.memory.agrees(alloc, row),
+            "system" => self.begin(alloc, row),
+            "noted" => Some(self.system.has_noted(row.word())),
+            "holds" => Some(self.system.holds(&row.bytes(alloc)?)),
+            "taken" => Some(self.system.has_taken(&row.bytes(alloc)?)),
+            "source" => streams::agrees_on_read(alloc, &mut self.source, row),
+            "sink" => streams::agrees_on_write(alloc, &mut self.sink, row),
+            "real" => self.agrees_on_real(rt, row),
+            "files" => files::agrees(rt, row.word(), row),
             call => disk::agrees(alloc, &mut self.disk, call, row),
         }
     }
 }
 
 /// How many rows there are, and how many of them agree.
-fn compare(rt: HostRuntime, outside: &mut Outside, text: &str) -> io::Result<(u64, u64)> {
+fn compare(rt: HostRuntime, adapters: &mut Adapters, text: &str) -> io::Result<(u64, u64)> {
     let mut rows = 0u64;
     let mut agreed = 0u64;
-    for row in text.lines() {
+    for line in text.lines() {
+        if line.starts_with('#') {
+            continue;
+        }
         rows = rows.saturating_add(1);
-        if outside.agrees(rt.alloc(), &mut Row::new(row)) == Some(true) {
+        if adapters.agrees(rt, &mut Row::new(line)) == Some(true) {
             agreed = agreed.saturating_add(1);
         } else {
-            println!(rt; "differs: {row}")?;
+            println!(rt; "differs: {line}")?;
         }
     }
     Ok((rows, agreed))
 }
 
-fn compare_from_new(rt: HostRuntime, text: &str) -> io::Result<(u64, u64)> {
-    let mut outside = Outside::new(rt.alloc());
-    compare(rt, &mut outside, text)
+fn compare_from_new(rt: HostRuntime, system: &System, text: &str) -> io::Result<(u64, u64)> {
+    let mut adapters = Adapters::new(rt, system)?;
+    compare(rt, &mut adapters, text)
 }
 
 fn main(rt: HostRuntime) -> io::Result<ExitCode> {
     let text = io::read_to_string(rt.alloc(), rt.stdin())?;
-    let (rows, agreed) = compare_from_new(rt, &text)?;
+    let system = System::new(rt.alloc());
+    let (rows, agreed) = compare_from_new(rt, &system, &text)?;
     println!(rt; "{agreed} of {rows} rows agree")?;
     Ok(if agreed == rows {
         ExitCode::SUCCESS

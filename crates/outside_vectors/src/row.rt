@@ -1,5 +1,6 @@
 // A row's columns, one after the other.
 
+use outside::Area;
 use std::alloc::Global;
 
 /// What is left of a row.
@@ -45,5 +46,14 @@ impl<'a> Row<'a> {
             numbers.push(digits.parse().ok()?).ok()?;
         }
         Some(numbers)
+    }
+}
+
+pub(crate) fn area_of(name: &str) -> Option<Area> {
+    match name {
+        "log" => Some(Area::Log),
+        "snap_a" => Some(Area::SnapA),
+        "snap_b" => Some(Area::SnapB),
+        _ => None,
     }
 }

@@ -1,59 +1,25 @@
-// Rows of streams that move few bytes a call.
-ghost use Rattle.std.specs.Prelude.{◌≡◌, ◌+◌, ◌<◌};
+// Rows of the streams.
 
+use crate::disk::is_count;
 use crate::row::Row;
-use outside::{Failed, Sink, Source, read_full, write_all};
+use outside::{Sink, Source};
 use std::alloc::Global;
 
-const MOST: usize = 3;
-
-// A source or a sink that moves at most `MOST` bytes a call.
-#[derive(Drop)]
-pub(crate) struct Trickle<T>(pub(crate) T);
-
-impl<S: Source> Source for Trickle<S> {
-    ghost left = { λ trickle. S.left trickle.0 };
-
-    ghost faults = { λ trickle. S.faults trickle.0 };
-
-    ghost last_fault = { λ trickle. S.last_fault trickle.0 };
-
-    fn read(&mut self, into: &mut [u8]) -> Result<usize, Failed> {
-        let n = into.len().min(MOST);
-        self.0.read(&mut into[..n])
-    }
-}
-
-impl<K: Sink> Sink for Trickle<K> {
-    ghost taken = { λ trickle. K.taken trickle.0 };
-
-    ghost faults = { λ trickle. K.faults trickle.0 };
-
-    ghost last_fault = { λ trickle. K.last_fault trickle.0 };
-
-    fn write(&mut self, piece: &[u8]) -> Result<usize, Failed> {
-        let n = piece.len().min(MOST);
-        self.0.write(&piece[..n])
-    }
-}
-
-/// How many bytes are read, or `failed`, and what the buffer is then. It is the same one for each row.
+/// How many bytes are read, and which four are in the buffer then, which dashes fill before.
 pub(crate) fn agrees_on_read<S: Source>(
     alloc: Global,
     source: &mut S,
-    into: &mut [u8],
     row: &mut Row,
 ) -> Option<bool> {
-    let read = read_full(source, into);
-    let word = row.word();
-    let counted = match read {
-        Ok(n) => word.parse() == Ok(n),
-        Err(Failed) => word == "failed",
-    };
-    Some(counted && &*into == row.bytes(alloc)?.as_slice())
+    let mut into = [b'-'; 4];
+    let read = source.read(&mut into);
+    let counted = is_count(read.map(|n| n as u64), row)?;
+    Some(counted && into.as_slice() == row.bytes(alloc)?.as_slice())
 }
 
+/// The bytes, and how many are taken.
 pub(crate) fn agrees_on_write<K: Sink>(alloc: Global, sink: &mut K, row: &mut Row) -> Option<bool> {
-    let bytes = row.bytes(alloc)?;
-    Some(write_all(sink, &bytes).is_ok() == row.is_ok()?)
+    let piece = row.bytes(alloc)?;
+    let written = sink.write(&piece);
+    is_count(written.map(|n| n as u64), row)
 }

@@ -1,15 +1,25 @@
-//! The rules on a block apart from its transactions: tries each row of its standard input, and prints the rows that differ.
+//! Time, money, and the rules on a block apart from its transactions: tries each row of its standard input, and prints the
+//! rows that differ.
 //!
-//! A row is a word and its columns, with a tab between two, bytes in hex. `spec` and `genesis` begin a chain, and a `block`
+//! A row is a word and its columns, with a tab between two, bytes in hex. Behind `time` stands what is called of epochs, sinces
+//! and the DAO's numbers, then its arguments and its answer; numbers are in decimal, or in hex behind `0x`. These answers come
+//! from the rules and were worked by hand.
+//!
+//! The other rows are about a chain. `spec` and `genesis` begin a chain, and a `block`
 //! joins it whatever rules it breaks. `earliest` asks for the earliest proposer of an id and `uncles` for J15; both are asked
 //! of the blocks that joined so far, and examples/make_window_rows.py and examples/make_uncle_rows.py say what their columns
 //! are. A row that begins with `joined`, `known` or `refused J` and a number is an item that must be answered so: it joins
-//! where it keeps J4 to J14. The first 235 rows were made by a program that was written from docs/RULES.md alone. Those of
+//! where it keeps J4 to J14. The first 235 of these rows were made by a program that was written from docs/RULES.md alone. Those of
 //! examples/make_rule_blocks.py stand behind them, then those on the window, then those on uncles.
 #![tactic(auto)]
 
 mod chain;
+mod dao;
+mod epoch;
 mod items;
+mod row;
+mod since;
+mod time;
 mod uncles;
 mod window;
 
@@ -18,7 +28,6 @@ use epochs::Spec;
 use mol_schema::BlockView;
 use std::alloc::Global;
 use std::io;
-use std::io::{BufRead, BufReader};
 use std::process::ExitCode;
 
 /// The chain of the rows so far, and the specification that waits for its genesis.
@@ -64,6 +73,9 @@ fn is_proposed(alloc: Global, chain: &mut Chain, columns: &str) -> Option<bool> 
 /// Whether the row holds; None where it is none.
 fn agrees(alloc: Global, table: &mut Table, row: &str) -> Option<bool> {
     let (word, columns) = row.split_once('\t')?;
+    if word == "time" {
+        return time::agrees(alloc, columns);
+    }
     if word == "spec" {
         table.spec = Spec::read(&hex::decode(alloc, columns).ok()?).ok();
         return Some(table.spec.is_some());
@@ -83,32 +95,36 @@ fn agrees(alloc: Global, table: &mut Table, row: &str) -> Option<bool> {
     }
 }
 
-/// Tries each row, and prints those that differ and how many agree.
-fn try_rows(rt: HostRuntime, table: &mut Table) -> io::Result<ExitCode> {
-    let alloc = rt.alloc();
+/// How many rows there are, and how many of them agree. Those that differ are printed.
+fn compare(rt: HostRuntime, table: &mut Table, text: &str) -> io::Result<(u64, u64)> {
     let mut rows = 0u64;
     let mut agreed = 0u64;
-    for row in BufReader::new(alloc, rt.reader())?.lines(alloc) {
-        let row = row?;
+    for row in text.lines() {
         rows = rows.saturating_add(1);
-        if agrees(alloc, table, &row) == Some(true) {
+        if agrees(rt.alloc(), table, row) == Some(true) {
             agreed = agreed.saturating_add(1);
         } else {
             println!(rt; "row {rows} differs")?;
         }
     }
+    Ok((rows, agreed))
+}
+
+fn compare_from_new(rt: HostRuntime, text: &str) -> io::Result<(u64, u64)> {
+    let mut table = Table {
+        spec: None,
+        chain: None,
+    };
+    compare(rt, &mut table, text)
+}
+
+fn main(rt: HostRuntime) -> io::Result<ExitCode> {
+    let text = io::read_to_string(rt.alloc(), rt.stdin())?;
+    let (rows, agreed) = compare_from_new(rt, &text)?;
     println!(rt; "{agreed} of {rows} rows agree")?;
     Ok(if agreed == rows {
         ExitCode::SUCCESS
     } else {
         ExitCode::FAILURE
     })
-}
-
-fn main(rt: HostRuntime) -> io::Result<ExitCode> {
-    let mut table = Table {
-        spec: None,
-        chain: None,
-    };
-    try_rows(rt, &mut table)
 }

@@ -1,22 +1,34 @@
-// A chain in memory: its tree, its blocks with their exts, and the live cells behind the last.
-ghost use Rattle.std.specs.Prelude.{◌≡◌, ◌<◌, true, false, IfOk};
+//! A chain in memory: its tree, its blocks with their exts, and the live cells behind the last.
+
+ghost use Rattle.std.specs.Prelude.{◌≡◌, ◌<◌, true, false};
 ghost use Rattle.time_defs.specs.Dao.{field_of_bytes};
 ghost use Rattle.cell_model.specs.ListBlocks.{IsCanonical, IsExtFor};
 ghost use Rattle.tx_rules.specs.At.{AreRated, IsPlaced};
 
 use blake2b_ckb::ckbhash;
-use cell_model::{Ext, ListBlocks};
+use cell_model::{Cells, Ext, ListBlocks, OutPoint};
 use cell_state::{State, outputs_in};
 use chain_tree::{Entry, Tree};
 use dao_math::Dao;
-use mol_schema::{BlockView, HeaderView};
-use outside::{NoMemory, Steps};
+use epochs::Spec;
+use mol_schema::{BlockView, HeaderView, OutPointView};
+use outside::Steps;
 use std::alloc::Global;
 use std::sync::ledger::Ledger;
 use tx_rules::TxAt;
 
 /// The most blocks of a chain.
 const MOST: u32 = 1_000_000;
+
+/// A chain, the bytes of its blocks, and the live cells behind them, where they stand in a row.
+#[derive(Drop)]
+pub(crate) struct Chain {
+    pub(crate) spec: Spec,
+    pub(crate) tree: Tree,
+    pub(crate) blocks: ListBlocks,
+    pub(crate) state: State,
+    items: Vec<Vec<u8>>,
+}
 
 fn entry_of(header: &HeaderView<'_>, parent: u32) -> Entry {
     let mut dao = [0; 32];
@@ -54,125 +66,168 @@ fn are_rated(tree: &Tree) -> bool
 }
 
 /// Whether a transaction may be judged there.
-pub fn is_placed(at: &TxAt<'_>) -> bool
+pub(crate) fn is_placed(at: &TxAt<'_>) -> bool
     ensures { result ≡ true → IsPlaced at.now }
 {
     at.tree.len() <= MOST && at.parent < at.tree.len() && are_rated(at.tree)
 }
 
-/// The tree and the blocks of a genesis alone. None where it is none.
-pub fn of_genesis(alloc: Global, bytes: &[u8]) -> Result<Option<(Tree, ListBlocks)>, NoMemory> {
-    let Some(block) = BlockView::read(bytes) else {
-        return Ok(None);
-    };
-    let entry = entry_of(&block.header(), 0);
-    if entry.number != 0 {
-        return Ok(None);
-    }
-    let mut blocks = ListBlocks::new(Vec::new(alloc), Vec::new(alloc));
-    if !put(alloc, &mut blocks, bytes, &[])? {
-        return Ok(None);
-    }
-    Ok(Some((Tree::new(alloc, entry)?, blocks)))
-}
-
-/// Adds an entry that follows a kept one, and says whether it does.
-fn join(tree: &mut Tree, entry: Entry) -> Result<bool, NoMemory> {
-    if tree.len() >= MOST || entry.parent >= tree.len() {
-        return Ok(false);
-    }
-    if tree.entry(entry.parent).number + 1 != entry.number {
-        return Ok(false);
-    }
-    if let Some(_) = tree.find(&entry.hash) {
-        return Ok(false);
-    }
-    tree.reserve()?;
-    tree.add(entry);
-    Ok(true)
-}
-
 /// Whether the bytes are a block, and what stands beside a later one is an ext with a fee for each of its transactions
 /// after the first.
-fn may_be_kept(alloc: Global, is_first: bool, block: &[u8], ext: &[u8]) -> Result<bool, NoMemory>
-    ensures { IfOk result (λ may. may ≡ true → IsCanonical block.now × (is_first ≡ false → IsExtFor block.now ext.now)) }
+fn may_be_kept(alloc: Global, is_first: bool, block: &[u8], ext: &[u8]) -> bool
+    ensures { result ≡ true → IsCanonical block.now × (is_first ≡ false → IsExtFor block.now ext.now) }
 {
     let Some(view) = BlockView::read(block) else {
-        return Ok(false);
+        return false;
     };
     if is_first {
-        return Ok(true);
+        return true;
     }
-    let Some(ext) = Ext::read(alloc, ext)? else {
-        return Ok(false);
-    };
-    Ok(ext.fees.len() == view.transactions_count().saturating_sub(1))
+    match Ext::read(alloc, ext) {
+        Ok(Some(ext)) => ext.fees.len() == view.transactions_count().saturating_sub(1),
+        _ => false,
+    }
 }
 
-/// Puts a block with its ext behind the others, where they may stand there.
-fn put(alloc: Global, blocks: &mut ListBlocks, block: &[u8], ext: &[u8]) -> Result<bool, NoMemory> {
-    let block = block.to_vec(alloc)?;
-    let ext = ext.to_vec(alloc)?;
+/// Puts a block with its ext behind the others; None where they may not stand there.
+fn put(alloc: Global, blocks: &mut ListBlocks, block: &[u8], ext: &[u8]) -> Option<()> {
+    let block = block.to_vec(alloc).ok()?;
+    let ext = ext.to_vec(alloc).ok()?;
     let kept = blocks.len();
-    if kept >= MOST || !may_be_kept(alloc, kept == 0, &block, &ext)? {
-        return Ok(false);
+    if kept >= MOST || !may_be_kept(alloc, kept == 0, &block, &ext) {
+        return None;
     }
-    blocks.push(block, ext)?;
-    Ok(true)
+    blocks.push(block, ext).ok()
 }
 
-/// Puts a block with its ext behind the last one, and says whether it stands on it.
-pub fn add(
-    alloc: Global,
-    tree: &mut Tree,
-    blocks: &mut ListBlocks,
-    bytes: &[u8],
-    ext: &[u8],
-) -> Result<bool, NoMemory> {
-    let Some(block) = BlockView::read(bytes) else {
-        return Ok(false);
-    };
-    let mut parent_hash = [0; 32];
-    parent_hash.copy_from_slice(block.header().parent_hash());
-    let Some(parent) = tree.find(&parent_hash) else {
-        return Ok(false);
-    };
-    Ok(join(tree, entry_of(&block.header(), parent))? && put(alloc, blocks, bytes, ext)?)
+/// Adds an entry; None where it does not follow a kept one.
+fn join(tree: &mut Tree, entry: Entry) -> Option<()> {
+    if tree.len() >= MOST || entry.parent >= tree.len() {
+        return None;
+    }
+    if tree.entry(entry.parent).number + 1 != entry.number {
+        return None;
+    }
+    if tree.find(&entry.hash).is_some() {
+        return None;
+    }
+    tree.reserve().ok()?;
+    tree.add(entry);
+    Some(())
 }
 
-/// Applies a block at a place to live cells, and says whether it fits.
-pub fn apply<L: Ledger>(
+/// Applies a block at a place to live cells; None where it does not fit.
+fn apply<L: Ledger>(
     state: &mut State,
     steps: &mut Steps<L>,
     bytes: &[u8],
-    e: u32,
-) -> Result<bool, NoMemory> {
-    let Some(block) = BlockView::read(bytes) else {
-        return Ok(false);
-    };
-    state.reserve(outputs_in(&block))?;
-    Ok(state.apply(&block, e, steps).is_ok())
+    place: u32,
+) -> Option<()> {
+    let block = BlockView::read(bytes)?;
+    state.reserve(outputs_in(&block)).ok()?;
+    state.apply(&block, place, steps).ok()
 }
 
-/// The live cells behind blocks in a row, the genesis first. None where they are no such blocks.
-pub fn replayed<L: Ledger>(
-    alloc: Global,
+fn out_point_in(bytes: &[u8]) -> Option<OutPoint> {
+    let view = OutPointView::read(bytes)?;
+    let mut tx_hash = [0; 32];
+    tx_hash.copy_from_slice(view.tx_hash());
+    Some(OutPoint {
+        tx_hash,
+        index: view.index(),
+    })
+}
+
+/// The tree of a genesis alone.
+fn tree_of(alloc: Global, genesis: &BlockView<'_>) -> Option<Tree> {
+    let entry = entry_of(&genesis.header(), 0);
+    if entry.number != 0 {
+        return None;
+    }
+    Tree::new(alloc, entry).ok()
+}
+
+/// The chain of a genesis alone. None where it is none.
+pub(crate) fn of_genesis(alloc: Global, spec: Spec, bytes: &[u8]) -> Option<Chain> {
+    let genesis = BlockView::read(bytes)?;
+    let mut chain = Chain {
+        spec,
+        tree: tree_of(alloc, &genesis)?,
+        blocks: ListBlocks::new(Vec::new(alloc), Vec::new(alloc)),
+        state: State::genesis(alloc, &genesis).ok()?,
+        items: Vec::new(alloc),
+    };
+    chain.keep(alloc, bytes, &[])?;
+    Some(chain)
+}
+
+impl Chain {
+    /// Keeps the bytes of a block, and its ext.
+    fn keep(&mut self, alloc: Global, block: &[u8], ext: &[u8]) -> Option<()> {
+        put(alloc, &mut self.blocks, block, ext)?;
+        self.items.push(block.to_vec(alloc).ok()?).ok()
+    }
+
+    /// Puts a block with its ext on the one that it names; None where that is not kept, or the cells do not fit.
+    pub(crate) fn add<L: Ledger>(
+        &mut self,
+        alloc: Global,
+        steps: &mut Steps<L>,
+        bytes: &[u8],
+        ext: &[u8],
+    ) -> Option<()> {
+        let header = BlockView::read(bytes)?.header();
+        let mut parent_hash = [0; 32];
+        parent_hash.copy_from_slice(header.parent_hash());
+        let parent = self.tree.find(&parent_hash)?;
+        let place = self.tree.len();
+        join(&mut self.tree, entry_of(&header, parent))?;
+        self.keep(alloc, bytes, ext)?;
+        apply(&mut self.state, steps, bytes, place)
+    }
+
+    /// Gives an out-point that has no row the row of another; None where there is none.
+    pub(crate) fn shadow<L: Ledger>(
+        &mut self,
+        steps: &mut Steps<L>,
+        new: &[u8],
+        old: &[u8],
+    ) -> Option<()> {
+        let new = out_point_in(new)?;
+        let row = self.state.get(&out_point_in(old)?)?;
+        if self.state.get(&new).is_some() {
+            return None;
+        }
+        self.state.reserve(1).ok()?;
+        self.state.load_row(new, row, steps);
+        Some(())
+    }
+
+    /// The live cells behind the blocks, which stand in a row, and one more.
+    pub(crate) fn state_behind<L: Ledger>(
+        &self,
+        alloc: Global,
+        steps: &mut Steps<L>,
+        front: &[u8],
+    ) -> Option<State> {
+        let genesis = BlockView::read(self.items.first()?)?;
+        let mut state = State::genesis(alloc, &genesis).ok()?;
+        apply_all(&mut state, steps, self.items.get(1..)?, front)?;
+        Some(state)
+    }
+}
+
+/// Applies blocks from the first place on, and one more.
+fn apply_all<L: Ledger>(
+    state: &mut State,
     steps: &mut Steps<L>,
     items: &[Vec<u8>],
-) -> Result<Option<State>, NoMemory> {
-    let Some(first) = items.first() else {
-        return Ok(None);
-    };
-    let Some(genesis) = BlockView::read(first) else {
-        return Ok(None);
-    };
-    let mut state = State::genesis(alloc, &genesis)?;
-    let mut e = 0u32;
-    for item in &items[1..] {
-        e = e.saturating_add(1);
-        if !apply(&mut state, steps, item, e)? {
-            return Ok(None);
-        }
+    last: &[u8],
+) -> Option<()> {
+    let mut place = 1u32;
+    for item in items {
+        apply(state, steps, item, place)?;
+        place = place.saturating_add(1);
     }
-    Ok(Some(state))
+    apply(state, steps, last, place)
 }

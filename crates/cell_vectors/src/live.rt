@@ -1,0 +1,126 @@
+//! The live cells behind blocks, one after the other.
+
+use crate::bytes_of;
+use crate::row::{hash_on, made_up, out_point_in};
+use blake2b_ckb::Hasher;
+use cell_model::Cells;
+use cell_state::{Odd, State, outputs_in};
+use mol_schema::BlockView;
+use outside::{NoMemory, Steps};
+use std::alloc::Global;
+use std::string::String;
+use std::sync::ledger::Ledger;
+
+/// Whether the live cells answer what the columns want; None where they are no row.
+pub(crate) fn agrees<L: Ledger>(
+    alloc: Global,
+    state: &mut Option<State>,
+    steps: &mut Steps<L>,
+    columns: &str,
+) -> Option<bool> {
+    let (wanted, digits) = columns.split_once('\t')?;
+    let bytes = bytes_of(alloc, digits)?;
+    if wanted == "genesis" {
+        *state = State::genesis(alloc, &BlockView::read(&bytes)?).ok();
+        return Some(state.is_some());
+    }
+    match state {
+        Some(state) => is_answered(alloc, state, steps, wanted, &bytes),
+        None => None,
+    }
+}
+
+fn is_answered<L: Ledger>(
+    alloc: Global,
+    state: &mut State,
+    steps: &mut Steps<L>,
+    wanted: &str,
+    bytes: &[u8],
+) -> Option<bool> {
+    let (word, rest) = wanted.split_once(' ').unwrap_or((wanted, ""));
+    let answer = match word {
+        "load" => loaded(alloc, state, steps, rest.parse().ok()?)?,
+        "rows" => digest(alloc, state)?,
+        "row" => found(alloc, state, bytes)?,
+        "none" => found(alloc, state, bytes)?,
+        _ => applied(alloc, state, steps, place_of(rest)?, bytes)?,
+    };
+    Some(answer.as_str() == wanted)
+}
+
+/// The number in front of a word.
+fn place_of(text: &str) -> Option<u32> {
+    let (place, _) = text.split_once(' ').unwrap_or((text, ""));
+    place.parse().ok()
+}
+
+/// Adds so many made-up rows, but for those that are there.
+fn load<L: Ledger>(state: &mut State, steps: &mut Steps<L>, count: u32) -> Result<(), NoMemory> {
+    for i in 0..count {
+        let (o, meta) = made_up(i);
+        if state.get(&o).is_none() {
+            state.reserve(1)?;
+            state.load_row(o, meta, steps);
+        }
+    }
+    Ok(())
+}
+
+fn loaded<L: Ledger>(
+    alloc: Global,
+    state: &mut State,
+    steps: &mut Steps<L>,
+    count: u32,
+) -> Option<String> {
+    load(state, steps, count).ok()?;
+    format!(in alloc; "load {count}").ok()
+}
+
+/// How many rows there are and the hash of all in order.
+fn digest(alloc: Global, state: &State) -> Option<String> {
+    let mut hasher = Hasher::new();
+    for row in &state.sorted(alloc).ok()? {
+        hash_on(&mut hasher, &row.0, &row.1);
+    }
+    let hash = hex::encode(alloc, hasher.finalize()).ok()?;
+    let count = state.rows();
+    format!(in alloc; "rows {count} {hash}").ok()
+}
+
+/// The hash of the row of an out-point, or `none`.
+fn found(alloc: Global, state: &State, bytes: &[u8]) -> Option<String> {
+    let o = out_point_in(bytes)?;
+    let Some(meta) = state.get(&o) else {
+        return format!(in alloc; "none").ok();
+    };
+    let mut hasher = Hasher::new();
+    hash_on(&mut hasher, &o, &meta);
+    let hash = hex::encode(alloc, hasher.finalize()).ok()?;
+    format!(in alloc; "row {hash}").ok()
+}
+
+/// What a block at a place is answered.
+fn applied<L: Ledger>(
+    alloc: Global,
+    state: &mut State,
+    steps: &mut Steps<L>,
+    place: u32,
+    bytes: &[u8],
+) -> Option<String> {
+    let block = BlockView::read(bytes)?;
+    state.reserve(outputs_in(&block)).ok()?;
+    match state.apply(&block, place, steps) {
+        Ok(()) => format!(in alloc; "ok {place}").ok(),
+        Err(odd) => odd_text(alloc, place, odd),
+    }
+}
+
+fn odd_text(alloc: Global, place: u32, odd: Odd) -> Option<String> {
+    let (word, o) = match odd {
+        Odd::NotLive(o) => ("not_live", o),
+        Odd::Live(o) => ("live", o),
+    };
+    let tx_hash = hex::encode(alloc, o.tx_hash).ok()?;
+    let index = o.index;
+    format!(in alloc; "{word} {place} {tx_hash}:{index}").ok()
+}

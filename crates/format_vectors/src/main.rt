@@ -1,0 +1,107 @@
+//! Encodings that are read and written, hashes and roots: tries each row of its standard input, and prints the rows that
+//! differ.
+//!
+//! A row is one of these, with a tab between two columns, bytes in hex and `-` for no bytes:
+//!
+//! - a view, what its `read` answers (`some` or `none`), and bytes. `Table/N` and `Fixvec/SIZE` name a table of
+//!   `N` fields, and a fixvec of items of `SIZE` bytes;
+//! - a view, `uncut`, and bytes that it reads, but not where they are cut short, at whatever place;
+//! - a view, an accessor, a place in a list or 0, bytes, and what the accessor gives;
+//! - `Builder`, what is made, its fields with a comma between two, and the bytes that are made;
+//! - `hash`, a message, and its hash, which it also has in pieces;
+//! - `root`, items with a comma between two, and their Merkle root.
+//!
+//! The rows on encodings were made by programs that were written from RFC 0008 and the schema alone, or by hand from them.
+//! Those on hashes and roots come from outside.
+#![tactic(auto)]
+
+mod builder;
+mod fields;
+mod hash;
+mod parts;
+mod views;
+
+use std::alloc::{AllocError, Global};
+use std::io;
+use std::process::ExitCode;
+use std::string::String;
+
+/// What an accessor gives.
+#[derive(Clone, Copy)]
+pub(crate) enum Answer<'a> {
+    Number(u128),
+    Bytes(&'a [u8]),
+    Nothing,
+}
+
+fn text(alloc: Global, answer: Answer) -> Result<String, AllocError> {
+    match answer {
+        Answer::Number(n) => format!(in alloc; "{n}"),
+        Answer::Bytes([]) => format!(in alloc; "-"),
+        Answer::Bytes(bytes) => hex::encode(alloc, bytes),
+        Answer::Nothing => format!(in alloc; "none"),
+    }
+}
+
+fn bytes_of(alloc: Global, digits: &str) -> Option<Vec<u8>> {
+    if digits == "-" {
+        return Some(Vec::new(alloc));
+    }
+    hex::decode(alloc, digits).ok()
+}
+
+/// Whether the row holds; None where it is none.
+fn agrees(alloc: Global, row: &str) -> Option<bool> {
+    let (view, columns) = row.split_once('\t')?;
+    match view {
+        "hash" => hash::agrees_on_message(alloc, columns),
+        "root" => hash::agrees_on_root(alloc, columns),
+        "Builder" => builder::agrees(alloc, columns),
+        view => agrees_on_view(alloc, view, columns),
+    }
+}
+
+/// Whether a view reads the bytes of a row, or gives what it has.
+fn agrees_on_view(alloc: Global, view: &str, columns: &str) -> Option<bool> {
+    let (word, rest) = columns.split_once('\t')?;
+    match word {
+        "some" => views::reads(view, &bytes_of(alloc, rest)?),
+        "none" => Some(!views::reads(view, &bytes_of(alloc, rest)?)?),
+        "uncut" => views::reads_uncut(view, &bytes_of(alloc, rest)?),
+        _ => agrees_on_field(alloc, view, word, rest),
+    }
+}
+
+fn agrees_on_field(alloc: Global, view: &str, accessor: &str, rest: &str) -> Option<bool> {
+    let (place, rest) = rest.split_once('\t')?;
+    let (digits, wanted) = rest.split_once('\t')?;
+    let bytes = bytes_of(alloc, digits)?;
+    let answer = views::field(view, &bytes, accessor, place.parse().ok()?)?;
+    Some(text(alloc, answer).ok()?.as_str() == wanted)
+}
+
+/// How many rows there are, and how many of them agree. Those that differ are printed.
+fn compare(rt: HostRuntime, text: &str) -> io::Result<(u64, u64)> {
+    let mut rows = 0u64;
+    let mut agreed = 0u64;
+    for row in text.lines() {
+        rows = rows.saturating_add(1);
+        if agrees(rt.alloc(), row) == Some(true) {
+            agreed = agreed.saturating_add(1);
+        } else {
+            println!(rt; "differs: {row}")?;
+        }
+    }
+    Ok((rows, agreed))
+}
+
+fn main(rt: HostRuntime) -> io::Result<ExitCode> {
+    let text = io::read_to_string(rt.alloc(), rt.stdin())?;
+    let (rows, agreed) = compare(rt, &text)?;
+    println!(rt; "{agreed} of {rows} rows agree")?;
+    Ok(if agreed == rows {
+        ExitCode::SUCCESS
+    } else {
+        ExitCode::FAILURE
+    })
+}

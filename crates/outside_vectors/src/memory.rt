@@ -1,0 +1,58 @@
+// Rows of the streams and the disk in memory.
+
+use crate::memory_streams::Trickle;
+use crate::row::Row;
+use crate::{memory_disk, memory_streams};
+use outside_mem::{MemDisk, MemSink, MemSource};
+use std::alloc::Global;
+
+/// What the rows `memory` act on.
+#[derive(Drop)]
+pub(crate) struct Memory {
+    source: Trickle<MemSource>,
+    into: [u8; 7],
+    sink: Trickle<MemSink>,
+    disk: MemDisk,
+}
+
+impl Memory {
+    pub(crate) fn new(alloc: Global) -> Memory {
+        Memory {
+            source: Trickle(MemSource::new(Vec::new(alloc), Vec::new(alloc))),
+            into: [0; 7],
+            sink: Trickle(MemSink::new(alloc, Vec::new(alloc))),
+            disk: MemDisk::new(alloc, Vec::new(alloc)),
+        }
+    }
+
+    /// Whether the call answers what the row says; None where it is no row.
+    pub(crate) fn agrees(&mut self, alloc: Global, row: &mut Row) -> Option<bool> {
+        match row.word() {
+            "source" => {
+                let bytes = row.bytes(alloc)?;
+                self.source = Trickle(MemSource::new(bytes, row.numbers(alloc)?));
+                Some(true)
+            }
+            "sink" => {
+                self.sink = Trickle(MemSink::new(alloc, row.numbers(alloc)?));
+                Some(true)
+            }
+            "disk" => {
+                self.disk = MemDisk::new(alloc, row.numbers(alloc)?);
+                Some(true)
+            }
+            "read_full" => memory_streams::agrees_on_read(
+                alloc,
+                &mut self.source,
+                &mut self.into,
+                row,
+            ),
+            "write_all" => memory_streams::agrees_on_write(alloc, &mut self.sink, row),
+            "taken" => Some(self.sink.0.taken() == row.bytes(alloc)?.as_slice()),
+            "sink_starved" => Some(self.sink.0.starved() == row.number()?),
+            "disk_starved" => Some(self.disk.starved() == row.number()?),
+            "no_disk" => memory_disk::agrees_on_none(row),
+            call => memory_disk::agrees(alloc, &mut self.disk, call, row),
+        }
+    }
+}

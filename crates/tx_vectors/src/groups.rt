@@ -1,0 +1,146 @@
+//! A transaction with what it resolves to, as a row has it, and what comes of its script groups.
+
+use crate::kept::Chain;
+use crate::wanted::wanted;
+use cell_model::{OutPoint, Resolved, ResolvedTx, meta_of, tx_hash};
+use mol_schema::{OutputView, TxView};
+use script_defs::Failure;
+use script_run::{ScriptStop, run_groups};
+use std::alloc::Global;
+
+/// The greatest budget of a call.
+const MOST_CYCLES: u64 = 1 << 40;
+
+/// A cell of a row. What is kept of it is computed here; its out-point is any.
+fn cell_of(alloc: Global, blobs: &[Vec<u8>], text: &str) -> Option<Resolved> {
+    let (block, text) = text.split_once(',')?;
+    let (tx, text) = text.split_once(',')?;
+    let (output, content) = text.split_once(',')?;
+    let output: usize = output.parse().ok()?;
+    let content: usize = content.parse().ok()?;
+    let output = blobs.get(output)?.to_vec(alloc).ok()?;
+    let content = blobs.get(content)?.to_vec(alloc).ok()?;
+    if content.len() > u32::MAX as usize {
+        return None;
+    }
+    let view = OutputView::read(&output)?;
+    let meta = meta_of(block.parse().ok()?, tx.parse().ok()?, &view, &content);
+    let out_point = OutPoint {
+        tx_hash: [7; 32],
+        index: 7,
+    };
+    Some(Resolved {
+        out_point,
+        meta,
+        output,
+        content,
+    })
+}
+
+fn cells_of(alloc: Global, blobs: &[Vec<u8>], column: &str) -> Option<Vec<Resolved>> {
+    let mut cells = Vec::new(alloc);
+    if column == "-" {
+        return Some(cells);
+    }
+    for text in column.split(' ') {
+        cells.push(cell_of(alloc, blobs, text)?).ok()?;
+    }
+    Some(cells)
+}
+
+fn places_of(alloc: Global, column: &str) -> Option<Vec<u32>> {
+    let mut places = Vec::new(alloc);
+    if column == "-" {
+        return Some(places);
+    }
+    for text in column.split(' ') {
+        places.push(text.parse().ok()?).ok()?;
+    }
+    Some(places)
+}
+
+/// A transaction with the cells of its inputs, its resolved deps and the places of its header deps.
+fn resolved_of<'a>(
+    alloc: Global,
+    blobs: &[Vec<u8>],
+    tx: TxView<'a>,
+    columns: &str,
+) -> Option<ResolvedTx<'a>> {
+    let (inputs, columns) = columns.split_once('\t')?;
+    let (deps, headers) = columns.split_once('\t')?;
+    Some(ResolvedTx {
+        hash: tx_hash(&tx),
+        tx,
+        inputs: cells_of(alloc, blobs, inputs)?,
+        deps: cells_of(alloc, blobs, deps)?,
+        headers: places_of(alloc, headers)?,
+    })
+}
+
+/// What the groups of a transaction are answered within a budget. None where they may not be run.
+fn outcome(
+    alloc: Global,
+    chain: &mut Chain,
+    tx: &ResolvedTx<'_>,
+    budget: u64,
+) -> Option<Result<u64, ScriptStop>> {
+    if budget > MOST_CYCLES || chain.blocks.len() != chain.tree.len() {
+        return None;
+    }
+    Some(run_groups(
+        alloc,
+        &chain.spec,
+        tx,
+        &chain.tree,
+        &mut chain.blocks,
+        budget,
+    ))
+}
+
+fn is_wanted(got: Result<u64, ScriptStop>, wanted: &Result<u64, Failure>) -> bool {
+    match (got, wanted) {
+        (Ok(cycles), Ok(wanted)) => cycles == *wanted,
+        (Err(ScriptStop::Failed(failure)), Err(wanted)) => failure == *wanted,
+        _ => false,
+    }
+}
+
+/// Whether so many runs are each answered as is wanted.
+fn agree(
+    alloc: Global,
+    chain: &mut Chain,
+    tx: &ResolvedTx<'_>,
+    budget: u64,
+    rounds: u32,
+    wanted: &Result<u64, Failure>,
+) -> Option<bool> {
+    for _ in 0..rounds {
+        if !is_wanted(outcome(alloc, chain, tx, budget)?, wanted) {
+            return Some(false);
+        }
+    }
+    Some(true)
+}
+
+/// Whether a transaction is answered as its row wants, so many times; None where that is none.
+pub(crate) fn agrees(
+    alloc: Global,
+    blobs: &[Vec<u8>],
+    chain: &mut Chain,
+    rounds: u32,
+    columns: &str,
+) -> Option<bool> {
+    let (answer, columns) = columns.split_once('\t')?;
+    let (budget, columns) = columns.split_once('\t')?;
+    let (tx, columns) = columns.split_once('\t')?;
+    let bytes = hex::decode(alloc, tx).ok()?;
+    let tx = resolved_of(alloc, blobs, TxView::read(&bytes)?, columns)?;
+    agree(
+        alloc,
+        chain,
+        &tx,
+        budget.parse().ok()?,
+        rounds,
+        &wanted(answer)?,
+    )
+}
