@@ -1,10 +1,10 @@
 #!/usr/bin/env python3
 """The memory of live cells, beside how many there are.
 
-    (cd crates/cell_vectors && rt run)   # builds it
+    (cd crates/tx_vectors && rt run)   # builds it
     python3 bench/cells.py [--most 220]
 
-The program cell_vectors adds made-up rows, one after the other. Each line has
+The program tx_vectors adds made-up rows, one after the other. Each line has
 a count of rows, the peak of resident memory in bytes, and how many that is a
 row: all of it, and without what the program takes for no row. The counts are
 1,000,000 and those at which the table is full and has just grown. Where all of
@@ -17,7 +17,7 @@ import subprocess
 import sys
 
 sys.dont_write_bytecode = True
-PROGRAM = os.path.join(os.path.dirname(os.path.abspath(__file__)), '..', 'crates', 'cell_vectors', 'out', 'cell_vectors')
+PROGRAM = os.path.join(os.path.dirname(os.path.abspath(__file__)), '..', 'crates', 'tx_vectors', 'out', 'tx_vectors')
 # 9 rows on average fill a group of the table, and the groups are a power of 2
 COUNTS = (9 << 16, (9 << 16) + 1, 1000000, 9 << 17, (9 << 17) + 1)
 

@@ -1,10 +1,11 @@
 #!/usr/bin/env python3
-"""Makes the rows on cells, their rows and exts that crates/cell_vectors reads.
+"""Makes the rows on cells, their rows and exts that crates/tx_vectors reads.
 
-    (python3 make_cell_rows.py; python3 make_state_rows.py) > ../crates/cell_vectors/stdin
+    python3 make_cell_rows.py
+        the rows, on standard output; they stand in front of all others
 
-A row is a word and its columns, with a tab between two, bytes in hex and `-`
-for no bytes. The last column is the answer that is wanted:
+A row is `cell`, a word and its columns, with a tab between two, bytes in hex and
+`-` for no bytes. The last column is the answer that is wanted:
 
     occupied          lock args, type args or `-`, data, all as lengths: shannons
     data hash         data: its hash
@@ -31,7 +32,7 @@ def hexed(content):
 
 
 def emit(*columns):
-    print('\t'.join(c if isinstance(c, str) else hexed(c) if isinstance(c, bytes) else str(c) for c in columns))
+    print('cell\t' + '\t'.join(c if isinstance(c, str) else hexed(c) if isinstance(c, bytes) else str(c) for c in columns))
 
 
 # ------------------------------------------------------------------- values

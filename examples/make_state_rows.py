@@ -3,7 +3,7 @@
 must be answered with, and the rows that are then live.
 
     python3 make_state_rows.py
-        rows that crates/cell_vectors reads, on standard output; they stand behind
+        rows that crates/tx_vectors reads, on standard output; they stand behind
         those of make_cell_rows.py
 
 A row is `state`, what is wanted, and bytes in hex, with a tab between two:

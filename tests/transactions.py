@@ -1,7 +1,10 @@
 #!/usr/bin/env python3
 """Rows of crates/tx_vectors/stdin: transactions on small chains, each with its answer.
 
-    (python3 tests/transactions.py; python3 examples/make_script_rows.py) > crates/tx_vectors/stdin
+    python3 tests/transactions.py
+
+In that file they stand behind those of examples/make_cell_rows.py and
+make_state_rows.py, and before those of make_script_rows.py there.
 
 For each way to break one of J18 and J20 to J27 there is a transaction that breaks
 it, and one that just keeps it. The answers are written down here, case by case,

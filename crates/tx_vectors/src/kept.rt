@@ -74,7 +74,7 @@ pub(crate) fn is_placed(at: &TxAt<'_>) -> bool
 
 /// Whether the bytes are a block, and what stands beside a later one is an ext with a fee for each of its transactions
 /// after the first.
-fn may_be_kept(alloc: Global, is_first: bool, block: &[u8], ext: &[u8]) -> bool
+pub(crate) fn may_be_kept(alloc: Global, is_first: bool, block: &[u8], ext: &[u8]) -> bool
     ensures { result ≡ true → IsCanonical block.now × (is_first ≡ false → IsExtFor block.now ext.now) }
 {
     let Some(view) = BlockView::read(block) else {
@@ -128,7 +128,7 @@ fn apply<L: Ledger>(
     state.apply(&block, place, steps).ok()
 }
 
-fn out_point_in(bytes: &[u8]) -> Option<OutPoint> {
+pub(crate) fn out_point_in(bytes: &[u8]) -> Option<OutPoint> {
     let view = OutPointView::read(bytes)?;
     let mut tx_hash = [0; 32];
     tx_hash.copy_from_slice(view.tx_hash());

@@ -1,6 +1,11 @@
-//! Transactions and their scripts: tries each row of its standard input, and prints the rows that differ.
+//! Cells, transactions and their scripts: tries each row of its standard input, and prints the rows that differ.
 //!
-//! A row is a word and its columns, with a tab between two, bytes in hex. `spec` and `genesis` begin a chain, and `block` puts
+//! A row is a word and its columns, with a tab between two, bytes in hex. Behind `cell` stands what is asked of cells, their
+//! rows and the exts of blocks; blocks are kept, one behind the other, and copied from: examples/make_cell_rows.py makes these
+//! rows. Behind `state` stands what blocks are answered that are applied to live cells, one after the other, and which rows are
+//! live then: examples/make_state_rows.py. Both files say what the columns are.
+//!
+//! The other rows are about a chain. `spec` and `genesis` begin a chain, and `block` puts
 //! a block with its ext on it. `shadow`, `transaction` and `within` stand behind the last block, where all blocks stand in a
 //! row: tests/transactions.py makes them, and says what their columns are. `groups` and `rounds` are about a transaction's
 //! script groups, and name by their places the bytes of the rows `blob`: examples/make_script_rows.py makes them, and says
@@ -8,12 +13,19 @@
 #![tactic(auto)]
 
 mod answers;
+mod cells;
+mod copies;
 mod groups;
 mod kept;
+mod live;
+mod row;
+mod values;
 mod wanted;
 
 ghost use Rattle.std.specs.Prelude.{◌≡◌, ◌<◌};
 
+use cell_model::ListBlocks;
+use cell_state::State;
 use epochs::Spec;
 use kept::{Chain, of_genesis};
 use outside::Steps;
@@ -23,9 +35,11 @@ use std::marker::Brand;
 use std::process::ExitCode;
 use std::sync::ledger::{Blank, Ledger};
 
-/// The specification, the chain and the blobs of the rows so far.
+/// What the rows act on: blocks that are copied from, live cells; the specification, the chain and the blobs so far.
 #[derive(Drop)]
 struct Table {
+    blocks: ListBlocks,
+    state: Option<State>,
     spec: Option<Spec>,
     chain: Option<Chain>,
     blobs: Vec<Vec<u8>>,
@@ -117,6 +131,8 @@ impl Table {
     ) -> Option<bool> {
         let (word, columns) = row.split_once('\t')?;
         match word {
+            "cell" => cells::agrees(alloc, &mut self.blocks, columns),
+            "state" => live::agrees(alloc, &mut self.state, steps, columns),
             "spec" => {
                 self.spec = Spec::read(&hex::decode(alloc, columns).ok()?).ok();
                 Some(self.spec.is_some())
@@ -179,10 +195,13 @@ fn begin<L: Ledger>(rt: HostRuntime, blank: Blank) -> io::Result<ExitCode>
     requires some { 0 < L.parts }
 {
     let mut steps = Steps::<L>::new(blank);
+    let alloc = rt.alloc();
     let mut table = Table {
+        blocks: ListBlocks::new(Vec::new(alloc), Vec::new(alloc)),
+        state: None,
         spec: None,
         chain: None,
-        blobs: Vec::new(rt.alloc()),
+        blobs: Vec::new(alloc),
     };
     try_rows(rt, &mut table, &mut steps)
 }

@@ -1,12 +1,9 @@
 //! Kept blocks, and what is copied out of them.
 
-ghost use Rattle.std.specs.Prelude.{◌≡◌, true, false, IfSome};
-ghost use Rattle.cell_model.specs.ListBlocks.{IsCanonical, IsExtFor};
-
-use crate::{bytes_of, text_of};
-use cell_model::{CellMeta, Ext, ListBlocks, OutPoint, Resolved, fetch};
+use crate::cells::{bytes_of, text_of};
+use crate::kept::may_be_kept;
+use cell_model::{CellMeta, ListBlocks, OutPoint, Resolved, fetch};
 use chain_tree::Blocks;
-use mol_schema::BlockView;
 use outside::{Area, Damage, ReadStop};
 use std::alloc::Global;
 use std::string::String;
@@ -19,7 +16,7 @@ pub(crate) fn keep(alloc: Global, blocks: &mut ListBlocks, columns: &str) -> Opt
     let block = bytes_of(alloc, block)?;
     let ext = bytes_of(alloc, ext)?;
     let kept = blocks.len();
-    if kept >= BLOCK_LIMIT || !may_be_kept(alloc, kept == 0, &block, &ext)? {
+    if kept >= BLOCK_LIMIT || !may_be_kept(alloc, kept == 0, &block, &ext) {
         return None;
     }
     blocks.push(block, ext).ok()?;
@@ -86,22 +83,4 @@ pub(crate) fn spent(alloc: Global, blocks: &mut ListBlocks, columns: &str) -> Op
     }
     blocks.bring(place).ok()?;
     text_of(alloc, blocks.spent()).ok()
-}
-
-/// Whether the bytes are a block, and what stands beside a later one is an ext with a fee for each of its transactions
-/// after the first.
-fn may_be_kept(alloc: Global, is_first: bool, block: &[u8], ext: &[u8]) -> Option<bool>
-    ensures { IfSome result (λ may. may ≡ true → IsCanonical block.now × (is_first ≡ false → IsExtFor block.now ext.now)) }
-{
-    let Some(view) = BlockView::read(block) else {
-        return Some(false);
-    };
-    if is_first {
-        return Some(true);
-    }
-    match Ext::read(alloc, ext) {
-        Ok(Some(ext)) => Some(ext.fees.len() == view.transactions_count().saturating_sub(1)),
-        Ok(None) => Some(false),
-        Err(_) => None,
-    }
 }

@@ -1,6 +1,6 @@
 //! What occupies, hashes, rows and exts are.
 
-use crate::{bytes_of, text_of};
+use crate::cells::{bytes_of, text_of};
 use cell_model::{CellMeta, Ext, OutPoint, data_hash, meta_of, occupied, script_hash, tx_hash};
 use mol_schema::{OutputView, ScriptView, TxView};
 use std::alloc::{AllocError, Global};

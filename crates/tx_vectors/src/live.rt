@@ -1,7 +1,8 @@
 //! The live cells behind blocks, one after the other.
 
-use crate::bytes_of;
-use crate::row::{hash_on, made_up, out_point_in};
+use crate::cells::bytes_of;
+use crate::kept::out_point_in;
+use crate::row::{hash_on, made_up};
 use blake2b_ckb::Hasher;
 use cell_model::Cells;
 use cell_state::{Odd, State, outputs_in};

@@ -22,13 +22,6 @@ pub(crate) fn hash_on(hasher: &mut Hasher, o: &OutPoint, meta: &CellMeta) {
     hasher.update(&meta.data_len.to_le_bytes());
 }
 
-/// The out-point in 36 bytes.
-pub(crate) fn out_point_in(bytes: &[u8]) -> Option<OutPoint> {
-    let tx_hash = <[u8; 32]>::try_from(bytes.get(..32)?).ok()?;
-    let index = u32::from_le_bytes(<[u8; 4]>::try_from(bytes.get(32..)?).ok()?);
-    Some(OutPoint { tx_hash, index })
-}
-
 /// The index of a made-up row: four rows have a hash in common, and their order by bytes is another than by number.
 fn made_up_index(i: u32) -> u32 {
     match i % 4 {
