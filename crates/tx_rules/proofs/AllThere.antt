@@ -1,5 +1,5 @@
 -- Values that are all there, gone through from the first one on.
-use Rattle.std.proofs.Common.{◌≡◌, ℕ, zero, suc, ◌+◌, ◌≤◌, List, [], ◌∷◌, ◌++◌, length, map, take, Option, Some, None, refl, sym, ap, ◌∙◌, subst}
+use Rattle.std.proofs.Common.{◌≡◌, ℕ, zero, suc, ◌+◌, ◌≤◌, List, [], ◌∷◌, ◌++◌, length, map, take, Option, Some, None, refl, sym, ap, ◌∙◌, subst, append_assoc}
 use Rattle.std.specs.Prelude.{slice_get}
 use Rattle.std.specs.Option.{option_map, option_and_then}
 use Rattle.std.specs.List.{All}
@@ -45,6 +45,19 @@ there-more {Y = Y} f xs i x y ys so_far there is =
     sym (all_there-push (map f (take i xs)) ys y (sym so_far))
     ∙ ap (λ (found : Option Y). all_there (map f (take i xs) ++ found ∷ [])) (sym is)
     ∙ ap all_there (sym (map-append f (take i xs) (x ∷ [])) ∙ ap (map f) (sym (take-push xs i x there)))
+
+-- behind others
+pub there-more-behind : {X Y : Type 0} (f : X → Option Y) (xs : List X) (i : ℕ) (x : X) (y : Y) (old new : List Y)
+    → Some new ≡ option_map (λ ys. old ++ ys) (all_there (map f (take i xs))) → slice_get xs i ≡ Some x → f x ≡ Some y
+    → Some (new ++ y ∷ []) ≡ option_map (λ ys. old ++ ys) (all_there (map f (take (i + 1) xs)))
+there-more-behind {Y = Y} f xs i x y old new so_far there is = by_front (all_there (map f (take i xs))) refl so_far
+  where
+    by_front : (front : Option (List Y)) → all_there (map f (take i xs)) ≡ front → Some new ≡ option_map (λ (ys : List Y). old ++ ys) front
+        → Some (new ++ y ∷ []) ≡ option_map (λ (ys : List Y). old ++ ys) (all_there (map f (take (i + 1) xs)))
+    by_front None are same = absurd (cc)
+    by_front (Some ys) are same =
+        ap (λ (zs : List Y). Some (zs ++ y ∷ [])) (same_Some new (old ++ ys) same) ∙ ap Some (append_assoc old ys (y ∷ []))
+        ∙ ap (option_map (λ (zs : List Y). old ++ zs)) (there-more f xs i x y ys (sym are) there is)
 
 -- one of the values is not there
 pub there-none : {X Y : Type 0} (f : X → Option Y) (xs : List X) (i : ℕ) (x : X) → slice_get xs i ≡ Some x → f x ≡ None → all_there (map f xs) ≡ None

@@ -1,6 +1,6 @@
 -- The cells that cell deps stand for, by the rows of the cells that a transaction sees.
 use Rattle.std.proofs.Common.{◌≡◌, ℕ, ◌+◌, ◌<◌, ◌≤◌, Bool, true, false, cond, eqb, List, [], ◌∷◌, ◌++◌, length, map, take, Option, Some, None, refl, sym, ap, ◌∙◌, inl, inr, ◌⊎◌, arith, append_assoc, append-nil, Result, Ok, Err}
-use Rattle.std.specs.Prelude.{slice_get, IfOk}
+use Rattle.std.specs.Prelude.{slice_get, IfOk, if◌then◌else◌}
 use Rattle.std.specs.Option.{option_map, option_and_then}
 use Rattle.std.specs.List.{flat_map}
 use Rattle.std.proofs.lemmas.List.{map-append}
@@ -13,7 +13,7 @@ use Rattle.cell_model.specs.Copies.{NamesOutput}
 use Rattle.tx_defs.specs.Site.{Site, Found, find_cell, all_there}
 use Rattle.tx_defs.specs.Resolving.{cells_of_dep, members_of}
 use Rattle.tx_rules.specs.At.{AtValue, IsSiteOf, found_row, find_row, place_of_height}
-use Rattle.tx_rules.specs.Members.{member_rows}
+use Rattle.tx_rules.specs.Members.{Adds, member_rows}
 use Rattle.tx_rules.proofs.AllThere.{take-push, all_there-push, all_there-map, there-none}
 use Rattle.tx_rules.proofs.SiteLemmas.{IsKeptRow, IsOwnRow, row-made, row-seen, find_row-found}
 
@@ -162,6 +162,18 @@ deps-more {Y = Y} {Z = Z} g site deps i dep so_far rows cells before there here 
         ∙ ap Some (sym (map-append g (flat_map (λ zs. zs) lists) ys) ∙ ap (map g) (sym (flat_map-push lists ys)))
         ∙ sym (ap (λ (found : Option (List (List Y))). option_map (map g) (option_map (flat_map (λ zs. zs)) found)) all)
 
+-- those that are added for one dep more
+pub deps-added : {Y Z : Type 0} (g : Y → Z) (site : Site) (deps : List CellDep) (i : ℕ) (dep : CellDep) (so_far new : List Z) (cells : CellDep → Option (List Y))
+    → Some so_far ≡ option_map (map g) (option_map (flat_map (λ ys. ys)) (all_there (map cells (take i deps)))) → slice_get deps i ≡ Some dep
+    → Some new ≡ option_map (λ these. so_far ++ these) (option_map (map g) (cells dep))
+    → Some new ≡ option_map (map g) (option_map (flat_map (λ ys. ys)) (all_there (map cells (take (i + 1) deps))))
+deps-added {Y = Y} {Z = Z} g site deps i dep so_far new cells before there here = by_cells (cells dep) refl here
+  where
+    by_cells : (found : Option (List Y)) → cells dep ≡ found → Some new ≡ option_map (λ (these : List Z). so_far ++ these) (option_map (map g) found)
+        → Some new ≡ option_map (map g) (option_map (flat_map (λ ys. ys)) (all_there (map cells (take (i + 1) deps))))
+    by_cells None are same = absurd (cc)
+    by_cells (Some ys) are same = same ∙ deps-more g site deps i dep so_far (map g ys) cells before there (sym (ap (option_map (map g)) are))
+
 -- one dep that does not resolve
 pub deps-none : {Y Z : Type 0} (g : Y → Z) (deps : List CellDep) (i : ℕ) (dep : CellDep) (cells : CellDep → Option (List Y)) → slice_get deps i ≡ Some dep
     → None ≡ option_map (map g) (cells dep) → None ≡ option_map (map g) (option_map (flat_map (λ ys. ys)) (all_there (map cells deps)))
@@ -174,11 +186,17 @@ deps-none {Y = Y} g deps i dep cells there none =
 
 -- ---- What is answered
 
-pub none-of : {X Y : Type 0} (f : X → Y) (found : Option X) (other : Option Y) → option_map f found ≡ other → found ≡ None → None ≡ other
-none-of f found other is none = sym (ap (option_map f) none) ∙ is
+-- rows that are all there and are added
+pub all-added : {X : Type 0} (old new : List X) (all : Bool) (rows : Option (List X)) → all ≡ true → Adds old all new rows
+    → Some new ≡ option_map (λ these. old ++ these) rows
+all-added old new all rows are adds = ap (λ (b : Bool). if b then Some new else None) (sym are) ∙ adds
 
-pub some-of : {X Y : Type 0} (f : X → Y) (found : Option X) (other : Option Y) (x : X) → option_map f found ≡ other → found ≡ Some x → Some (f x) ≡ other
-some-of f found other x is some = sym (ap (option_map f) some) ∙ is
+pub none-added : {X : Type 0} (old new : List X) (all : Bool) (rows : Option (List X)) → all ≡ false → Adds old all new rows → None ≡ rows
+none-added {X = X} old new all rows are adds = by_rows rows (ap (λ (b : Bool). if b then Some new else None) (sym are) ∙ adds)
+  where
+    by_rows : (these : Option (List X)) → None ≡ option_map (λ (xs : List X). old ++ xs) these → None ≡ these
+    by_rows None is = refl
+    by_rows (Some xs) is = absurd (cc)
 
 -- an answer of equal value
 pub ok-same : {X E Y : Type 0} (result : Result X E) (f : X → Y) (one other : Y) → one ≡ other → IfOk result (λ x. f x ≡ one) → IfOk result (λ x. f x ≡ other)

@@ -1,6 +1,6 @@
 -- The rows of the members of a dep group.
-use Rattle.std.specs.Prelude.{ℕ, List, map, Option}
-use Rattle.std.specs.Option.{option_and_then}
+use Rattle.std.specs.Prelude.{◌≡◌, ℕ, Bool, List, ◌++◌, map, Option, Some, None, if◌then◌else◌}
+use Rattle.std.specs.Option.{option_map, option_and_then}
 use Rattle.codec_defs.specs.Schema.{OutPoint}
 use Rattle.cell_defs.specs.Row.{Row}
 use Rattle.tx_defs.specs.Site.{all_there}
@@ -14,3 +14,7 @@ rows_of rows members = all_there (map (find_row rows) members)
 -- those of the members that a group's data lists
 abbrev pub member_rows : (OutPoint → Option Row) → List ℕ → Option (List (OutPoint × Row))
 member_rows rows content = option_and_then (rows_of rows) (members_of content)
+
+-- A list has grown by rows, if all of them are there.
+abbrev pub Adds : {X : Type 0} → List X → Bool → List X → Option (List X) → Type 0
+Adds old all new rows = (if all then Some new else None) ≡ option_map (λ these. old ++ these) rows

@@ -236,40 +236,39 @@ fn take_kept<B: Blocks>(
     take_read(alloc, at, &read, meta.block, rows, order, taken)
 }
 
-/// Takes copies of the cells of rows of kept blocks that made several of them, each to its row's place.
+/// Takes copies of the cells of rows of kept blocks that made several of them, each to its row's place. The order has
+/// the rows by their blocks.
 fn take_several<B: Blocks>(
     alloc: Global,
     at: &TxAt<'_>,
     blocks: &mut B,
     rows: &[(OutPoint, CellMeta)],
-) -> Result<Vec<Option<Resolved>>, ReadStop>
+    order: &[(u32, usize)],
+    taken: &mut [Option<Resolved>],
+) -> Result<(), ReadStop>
     requires placed { IsPlaced at.now }
     requires counts { B.count blocks.old ≡ length at.now.entries }
+    requires places { All (λ it. it.1 < length rows.now) order.now }
+    requires long { length taken.old ≡ length rows.now }
     ensures told { B.told blocks.new ≡ B.told blocks.old }
     ensures count { B.count blocks.new ≡ B.count blocks.old }
     ensures loans { B.loans_of blocks.new ≡ B.loans_of blocks.old }
-    ensures long { IfOk result (λ taken. length taken.items ≡ length rows.now) }
-    ensures taken { IfOk result (λ taken. AreTaken (B.told blocks.old) at.now rows.now taken.items) }
+    ensures long { length taken.new ≡ length rows.now }
+    ensures taken { AreTaken (B.told blocks.old) at.now rows.now taken.old → IfOk result (λ _. AreTaken (B.told blocks.old) at.now rows.now taken.new) }
     ensures undamaged { (stored : List Stored) (seen : OutPoint → Option Row) (site : Site) (founds : List Found) → B.told blocks.old ≡ Some stored
         → IsSiteOf stored at.now seen site → AreSeen site founds → rows.now ≡ map (found_row (blocks_of stored) at.now.parent) founds
         → (damage : Damage) → result ≡ Err (Damaged damage) → ⊥ }
     ensures damage { (damage : Damage) → result ≡ Err (Damaged damage) → damage.area ≡ Log }
     ensures cause { CountsFault (B.faults blocks.old) (B.faults blocks.new) (result ≡ Err DiskFault) }
 {
-    let Ok(order) = by_block(alloc, rows) else {
-        return Err(ReadStop::NoMemory);
-    };
-    let Ok(mut taken) = none_taken(alloc, rows.len()) else {
-        return Err(ReadStop::NoMemory);
-    };
     let kept = at.tree.len();
     'order: for j in 0..order.len() {
         let row = rows[order[j].1];
-        if row.1.block < kept && starts_several(&order, j) {
-            take_kept(alloc, at, blocks, row.1, rows, &order[j..], &mut taken)?;
+        if row.1.block < kept && starts_several(order, j) {
+            take_kept(alloc, at, blocks, row.1, rows, &order[j..], taken)?;
         }
     }
-    Ok(taken)
+    Ok(())
 }
 
 /// A copy of the cell of a row: the one that is taken, or else one that is copied now, as `copy_row` does.
@@ -299,6 +298,40 @@ fn taken_or_copied<B: Blocks>(
     }
 }
 
+/// Copies of the cells of rows, in their order: each the one that is taken to its row's place, or else one that is
+/// copied now, as `copy_row` does.
+fn copy_each<B: Blocks>(
+    alloc: Global,
+    at: &TxAt<'_>,
+    blocks: &mut B,
+    rows: &[(OutPoint, CellMeta)],
+    taken: &mut [Option<Resolved>],
+) -> Result<Vec<Resolved>, ReadStop>
+    requires placed { IsPlaced at.now }
+    requires counts { B.count blocks.old ≡ length at.now.entries }
+    requires long { length taken.old ≡ length rows.now }
+    requires taken { AreTaken (B.told blocks.old) at.now rows.now taken.old }
+    ensures told { B.told blocks.new ≡ B.told blocks.old }
+    ensures count { B.count blocks.new ≡ B.count blocks.old }
+    ensures loans { B.loans_of blocks.new ≡ B.loans_of blocks.old }
+    ensures copies { IfOk result (λ copies. AllZip (IsCopyOfRow (B.told blocks.old) at.now) rows.now copies.items) }
+    ensures undamaged { (stored : List Stored) (seen : OutPoint → Option Row) (site : Site) (founds : List Found) → B.told blocks.old ≡ Some stored
+        → IsSiteOf stored at.now seen site → AreSeen site founds → rows.now ≡ map (found_row (blocks_of stored) at.now.parent) founds
+        → (damage : Damage) → result ≡ Err (Damaged damage) → ⊥ }
+    ensures damage { (damage : Damage) → result ≡ Err (Damaged damage) → damage.area ≡ Log }
+    ensures cause { CountsFault (B.faults blocks.old) (B.faults blocks.new) (result ≡ Err DiskFault) }
+{
+    let mut copies = Vec::new(alloc);
+    'each: for i in 0..rows.len() {
+        let row = rows[i];
+        let copy = taken_or_copied(alloc, at, blocks, taken[i].take(), row.0, row.1)?;
+        if copies.push(copy).is_err() {
+            return Err(ReadStop::NoMemory);
+        }
+    }
+    Ok(copies)
+}
+
 /// Copies of the cells of rows, in their order. A kept block is read once, also where it made several of them.
 pub(crate) fn fetch_all<B: Blocks>(
     alloc: Global,
@@ -322,14 +355,12 @@ pub(crate) fn fetch_all<B: Blocks>(
     ensures damage { (damage : Damage) → result ≡ Err (Damaged damage) → damage.area ≡ Log }
     ensures cause { CountsFault (B.faults blocks.old) (B.faults blocks.new) (result ≡ Err DiskFault) }
 {
-    let mut taken = take_several(alloc, at, blocks, rows)?;
-    let mut copies = Vec::new(alloc);
-    'each: for i in 0..rows.len() {
-        let row = rows[i];
-        let copy = taken_or_copied(alloc, at, blocks, taken[i].take(), row.0, row.1)?;
-        if copies.push(copy).is_err() {
-            return Err(ReadStop::NoMemory);
-        }
-    }
-    Ok(copies)
+    let Ok(order) = by_block(alloc, rows) else {
+        return Err(ReadStop::NoMemory);
+    };
+    let Ok(mut taken) = none_taken(alloc, rows.len()) else {
+        return Err(ReadStop::NoMemory);
+    };
+    take_several(alloc, at, blocks, rows, &order, &mut taken)?;
+    copy_each(alloc, at, blocks, rows, &mut taken)
 }

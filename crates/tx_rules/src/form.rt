@@ -5,6 +5,7 @@ ghost use Rattle.codec_defs.specs.Schema.{cell_dep};
 ghost use Rattle.chain_defs.specs.Hashes.{are_distinct};
 ghost use Rattle.tx_defs.specs.Rules as rules;
 
+use crate::arrays::array_of;
 use mol_schema::TxView;
 use outside::NoMemory;
 use std::alloc::Global;
@@ -15,9 +16,7 @@ fn dep_at(tx: &TxView<'_>, i: usize) -> [u8; 37]
     requires { i < length tx.now.raw.cell_deps }
     ensures { slice_get (map (encoded cell_dep) tx.now.raw.cell_deps) i ≡ Some result }
 {
-    let mut bytes = [0; 37];
-    bytes.copy_from_slice(tx.raw().cell_deps_item(i).bytes());
-    bytes
+    array_of(tx.raw().cell_deps_item(i).bytes())
 }
 
 /// Whether no two cell deps are equal, by all their bytes.
@@ -38,9 +37,7 @@ pub(crate) fn header_dep_at(tx: &TxView<'_>, i: usize) -> [u8; 32]
     requires { i < length tx.now.raw.header_deps }
     ensures { slice_get tx.now.raw.header_deps i ≡ Some result }
 {
-    let mut hash = [0; 32];
-    hash.copy_from_slice(tx.raw().header_deps_item(i));
-    hash
+    array_of(tx.raw().header_deps_item(i))
 }
 
 /// Whether no two header deps are equal.

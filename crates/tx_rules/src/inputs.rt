@@ -6,6 +6,7 @@ ghost use Rattle.codec_defs.specs.Schema.{out_point};
 ghost use Rattle.tx_defs.specs.Resolving.{spends_each_once};
 ghost use Rattle.tx_rules.specs.At as sites;
 
+use crate::arrays::array_of;
 use cell_model::{CellMeta, Cells, OutPoint};
 use mol_schema::{OutPointView, TxView};
 use outside::NoMemory;
@@ -16,10 +17,8 @@ use std::collections::HashSet;
 pub(crate) fn out_point_of(o: &OutPointView<'_>) -> OutPoint
     ensures { result ≡ o.now }
 {
-    let mut tx_hash = [0; 32];
-    tx_hash.copy_from_slice(o.tx_hash());
     OutPoint {
-        tx_hash,
+        tx_hash: array_of(o.tx_hash()),
         index: o.index(),
     }
 }
@@ -59,9 +58,7 @@ fn spent_at(tx: &TxView<'_>, i: usize) -> [u8; 36]
     requires { i < length tx.now.raw.inputs }
     ensures { slice_get (map (λ input. encoded out_point input.previous_output) tx.now.raw.inputs) i ≡ Some result }
 {
-    let mut bytes = [0; 36];
-    bytes.copy_from_slice(tx.raw().inputs_item(i).previous_output().bytes());
-    bytes
+    array_of(tx.raw().inputs_item(i).previous_output().bytes())
 }
 
 /// Whether no two of its inputs spend one cell.

@@ -15,6 +15,7 @@
 #![tactic(auto)]
 
 mod age;
+mod arrays;
 mod at;
 mod capacity;
 mod copying;

@@ -50,7 +50,7 @@ pub struct TxOk<'a> {
 }
 
 /// Why a transaction was not resolved.
-#[derive(Clone, Copy, PartialEq, Eq)]
+#[derive(Clone, Copy)]
 pub enum TxStop {
     /// The first rule that it breaks: 18, or one of 20 to 27.
     Broken(u8),

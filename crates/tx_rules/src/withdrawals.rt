@@ -20,6 +20,7 @@ ghost use Rattle.tx_rules.specs.Outcome.{Copies};
 ghost use Rattle.tx_rules.specs.Seen.{IsRowOf};
 
 use crate::age::made_at;
+use crate::arrays::array_of;
 use crate::at::{TxAt, damage_of};
 use cell_model::Resolved;
 use epochs::Spec;
@@ -89,9 +90,7 @@ fn index_in(bytes: &[u8]) -> Option<u64>
     if bytes.len() != 8 {
         return None;
     }
-    let mut index = [0; 8];
-    index.copy_from_slice(bytes);
-    Some(u64::from_le_bytes(index))
+    Some(u64::from_le_bytes(array_of(bytes)))
 }
 
 /// The index of the header dep of the deposit block of the input at a place, as its witness has it.

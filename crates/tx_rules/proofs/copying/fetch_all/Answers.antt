@@ -1,77 +1,55 @@
-use Rattle.std.proofs.Common.{◌≡◌, ◌∷◌, [], ◌++◌, List, length, take, Option, Some, Ok, refl, sym, ◌∙◌, ◌+◌, subst, rules, arith}
-use Rattle.std.specs.Prelude.{IfSome, slice_get, slice_set}
-use Rattle.std.specs.List.{AllZip}
-use Rattle.std.proofs.lemmas.List.{take_all, length-set}
-use Rattle.std.proofs.lemmas.Option.{slice_get_read}
-use Rattle.codec_defs.specs.Schema.{OutPoint}
-use Rattle.cell_defs.specs.Row.{Row}
+use Rattle.std.proofs.Common.{◌≡◌, List, length, drop, map, Option, None, sym, ap, ◌∙◌, subst, arith, rules}
+use Rattle.std.specs.List.{All, AllZip}
+use Rattle.std.proofs.lemmas.List.{take_at, length-replicate}
+use Rattle.std.proofs.lemmas.Result.{IfOk-weaker}
+use Rattle.chain_tree.specs.Told.{Stored, blocks_of}
 use Rattle.cell_model.specs.Copies.{ResolvedValue}
-use Rattle.chain_tree.specs.Told.{Stored}
-use Rattle.tx_rules.specs.Copying.{AreTaken, IsCopyOfRow}
-use Rattle.tx_rules.proofs.SiteLemmas.{IsNext, next-found, zip-more}
-use Rattle.tx_rules.proofs.TakenLemmas.{taken-here, taken-less, copies-rows, copies-outputs, copies-cells}
+use Rattle.tx_rules.specs.Copying.{AreTaken, HoldsOutput, IsCopyOfRow, row_in}
+use Rattle.tx_rules.specs.Outcome.{Copies}
+use Rattle.tx_rules.proofs.TakenLemmas.{taken-none, copies-rows, copies-outputs, copies-cells}
 use Rattle.tx_rules.proofs.copying.fetch_all.Goals as goal
 
-pub returns-in_err-taken-clause-undamaged : goal.returns-in_err-taken-clause-undamaged
-returns-in_err-taken-clause-undamaged g c stored seen site founds tells is are_seen rows damage same =
+pub returns-in_err-take_several-clause-undamaged : goal.returns-in_err-take_several-clause-undamaged
+returns-in_err-take_several-clause-undamaged g c stored seen site founds tells is are_seen rows damage same =
     c.take_several.ensures.undamaged stored seen site founds tells is are_seen rows damage (search rules)
 
-pub taken_or_copied-requires-clause-taken : goal.taken_or_copied-requires-clause-taken
-taken_or_copied-requires-clause-taken g c =
-    let row = c.index-rows-i.result in
-    let slot = c.index_mut.result.now in
-    let below = c.each-test.true in
-    let long = c.each.invariant.long in
-    let here : slice_get c.args.rows.now c.each.i ≡ Some row = slice_get_read c.args.rows.now (length c.args.rows.now) c.each.i row refl below c.index-rows-i.is in
-    let there : slice_get c.each.taken.items c.each.i ≡ Some slot =
-    slice_get_read c.each.taken.items (length c.each.taken.items) c.each.i slot refl (omega (arith, below, long)) c.index_mut.ensures.value in
-    subst (λ (told : Option (List Stored)). IfSome c.take.result (IsCopyOfRow told c.args.at.now row)) (sym c.each.invariant.told)
-    (subst (λ (it : Option ResolvedValue). IfSome it (IsCopyOfRow (g.B.Blocks.told c.args.blocks.now) c.args.at.now row)) (sym c.take.ensures.value)
-    (taken-here (g.B.Blocks.told c.args.blocks.now) c.args.at.now c.args.rows.now c.each.taken.items c.each.i row slot c.each.invariant.taken here there))
-
-pub returns-in_err-copy-clause-undamaged : goal.returns-in_err-copy-clause-undamaged
-returns-in_err-copy-clause-undamaged g c stored seen site founds tells is are_seen rows damage same =
-    let next : IsNext stored c.args.at.now.parent site founds c.each.i c.index-rows-i.result =
-    next-found stored c.args.at.now.parent site founds c.args.rows.now c.each.i c.index-rows-i.result are_seen rows c.each-test.true c.index-rows-i.is in
-    c.taken_or_copied.ensures.undamaged stored seen site next.found (c.each.invariant.told ∙ tells) is next.at damage (search rules)
-
-pub each-preserved : goal.each-preserved
-each-preserved g c =
-    let told = g.B.Blocks.told c.args.blocks.now in
-    let row = c.index-rows-i.result in
-    let pushed : c.push.new.self.items ≡ c.each.copies.items ++ c.in_ok-copy.copy ∷ [] = search rules in
-    let unchanged : g.B.Blocks.faults c.taken_or_copied.new.blocks ≡ g.B.Blocks.faults c.each.blocks =
-    c.taken_or_copied.ensures.cause.unchanged (λ fault. let was : c.taken_or_copied.result ≡ Ok c.in_ok-copy.copy = c.in_ok-copy.was in cc) in
-    let copy : IsCopyOfRow told c.args.at.now row c.in_ok-copy.copy =
-    subst (λ (t : Option (List Stored)). IsCopyOfRow t c.args.at.now row c.in_ok-copy.copy) c.each.invariant.told c.in_ok-copy.ensures.copy in
-    record {
-      told = c.taken_or_copied.ensures.told ∙ c.each.invariant.told;
-      count = c.taken_or_copied.ensures.count ∙ c.each.invariant.count;
-      loans = c.taken_or_copied.ensures.loans ∙ c.each.invariant.loans;
-      faults = unchanged ∙ c.each.invariant.faults;
-      long = length-set c.each.taken.items c.each.i c.take.new.self ∙ c.each.invariant.long;
-      taken = subst (λ (slot : Option ResolvedValue). AreTaken told c.args.at.now c.args.rows.now (slice_set c.each.taken.items c.each.i slot))
-          (sym c.take.ensures.after) (taken-less told c.args.at.now c.args.rows.now c.each.taken.items c.each.i c.each.invariant.taken);
-      copies = subst (λ (copies : List ResolvedValue). AllZip (IsCopyOfRow told c.args.at.now) (take (c.each.i + 1) c.args.rows.now) copies) (sym pushed)
-          (zip-more (IsCopyOfRow told c.args.at.now) c.args.rows.now c.each.copies.items c.each.i row c.in_ok-copy.copy c.each-test.true c.index-rows-i.is
-          c.each.invariant.copies copy);
-    }
+pub copy_each-requires-clause-taken : goal.copy_each-requires-clause-taken
+copy_each-requires-clause-taken g c =
+    let none = c.in-Ok-none_taken.ensures in
+    let long : length c.in-Ok-none_taken.taken.items ≡ length c.args.rows.now = ap length none ∙ length-replicate (length c.args.rows.now) None in
+    let filled = c.in-Ok-none_taken.taken.ok in
+    let still = c.take_several.ensures.long in
+    let items : c.deref_mut-2.result.now ≡ c.take_several.new.taken =
+    c.deref_mut-2.ensures.value
+    ∙ take_at c.take_several.new.taken (drop (length c.take_several.new.taken) c.in-Ok-none_taken.taken.items) c.in-Ok-none_taken.taken.len (omega (arith, filled, long, still)) in
+    let before : AreTaken (g.B.Blocks.told c.args.blocks.now) c.args.at.now c.args.rows.now c.deref_mut.result.now =
+    subst (λ (slots : List (Option ResolvedValue)). AreTaken (g.B.Blocks.told c.args.blocks.now) c.args.at.now c.args.rows.now slots)
+    (sym (c.deref_mut.ensures.value ∙ none)) (taken-none (g.B.Blocks.told c.args.blocks.now) c.args.at.now c.args.rows.now (length c.args.rows.now)) in
+    subst (λ (slots : List (Option ResolvedValue)). AreTaken (g.B.Blocks.told c.take_several.new.blocks) c.args.at.now c.args.rows.now slots) (sym items)
+    (subst (λ (told : Option (List Stored)). AreTaken told c.args.at.now c.args.rows.now c.take_several.new.taken) (sym c.take_several.ensures.told)
+    (c.in_ok-take_several.ensures.taken before))
 
 pub returns-clause-rows : goal.returns-clause-rows
 returns-clause-rows g c =
-    let past = c.each-test.false in
-    copies-rows (g.B.Blocks.told c.args.blocks.now) c.args.at.now (take c.each.i c.args.rows.now) c.each.copies.items c.each.invariant.copies
-    ∙ take_all c.each.i c.args.rows.now (omega (arith, past))
+    let told = g.B.Blocks.told c.take_several.new.blocks in
+    IfOk-weaker c.copy_each.result (λ copies. AllZip (IsCopyOfRow told c.args.at.now) c.args.rows.now copies.items) (λ copies. map row_in copies.items ≡ c.args.rows.now)
+    (λ copies each. copies-rows told c.args.at.now c.args.rows.now copies.items each) c.copy_each.ensures.copies
 
 pub returns-clause-outputs : goal.returns-clause-outputs
 returns-clause-outputs g c =
-    copies-outputs (g.B.Blocks.told c.args.blocks.now) c.args.at.now (take c.each.i c.args.rows.now) c.each.copies.items c.each.invariant.copies
+    let told = g.B.Blocks.told c.take_several.new.blocks in
+    IfOk-weaker c.copy_each.result (λ copies. AllZip (IsCopyOfRow told c.args.at.now) c.args.rows.now copies.items) (λ copies. All HoldsOutput copies.items)
+    (λ copies each. copies-outputs told c.args.at.now c.args.rows.now copies.items each) c.copy_each.ensures.copies
 
 pub returns-clause-copied : goal.returns-clause-copied
 returns-clause-copied g c stored seen site founds tells is are_seen rows =
-    let past = c.each-test.false in
-    let all : take c.each.i c.args.rows.now ≡ c.args.rows.now = take_all c.each.i c.args.rows.now (omega (arith, past)) in
-    copies-cells stored c.args.at.now seen site founds c.args.rows.now c.each.copies.items is are_seen rows
-    (subst (λ (named : List (OutPoint × Row)). AllZip (IsCopyOfRow (Some stored) c.args.at.now) named c.each.copies.items) all
-    (subst (λ (told : Option (List Stored)). AllZip (IsCopyOfRow told c.args.at.now) (take c.each.i c.args.rows.now) c.each.copies.items) tells
-    c.each.invariant.copies))
+    let told = g.B.Blocks.told c.take_several.new.blocks in
+    IfOk-weaker c.copy_each.result (λ copies. AllZip (IsCopyOfRow told c.args.at.now) c.args.rows.now copies.items)
+    (λ copies. AllZip (Copies (blocks_of stored) c.args.at.now.parent) founds copies.items)
+    (λ copies each. copies-cells stored c.args.at.now seen site founds c.args.rows.now copies.items is are_seen rows
+    (subst (λ (t : Option (List Stored)). AllZip (IsCopyOfRow t c.args.at.now) c.args.rows.now copies.items) (c.take_several.ensures.told ∙ tells) each))
+    c.copy_each.ensures.copies
+
+pub returns-clause-undamaged : goal.returns-clause-undamaged
+returns-clause-undamaged g c stored seen site founds tells is are_seen rows damage same =
+    c.copy_each.ensures.undamaged stored seen site founds (c.take_several.ensures.told ∙ tells) is are_seen rows damage same

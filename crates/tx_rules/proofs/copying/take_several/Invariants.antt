@@ -8,6 +8,6 @@ invariant-order g l = record {
   count : g.B.Blocks.count l.blocks ≡ g.B.Blocks.count l.fn.blocks;
   loans : g.B.Blocks.loans_of l.blocks ≡ g.B.Blocks.loans_of l.fn.blocks;
   faults : g.B.Blocks.faults l.blocks ≡ g.B.Blocks.faults l.fn.blocks;
-  long : length l.taken.items ≡ length l.rows;
-  taken : AreTaken (g.B.Blocks.told l.fn.blocks) l.at l.rows l.taken.items;
+  long : length l.taken ≡ length l.rows;
+  taken : AreTaken (g.B.Blocks.told l.fn.blocks) l.at l.rows l.fn.taken → AreTaken (g.B.Blocks.told l.fn.blocks) l.at l.rows l.taken;
 }

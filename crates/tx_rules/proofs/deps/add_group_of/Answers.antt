@@ -5,7 +5,7 @@ use Rattle.cell_model.specs.Copies.{NamesOutput, output_in}
 use Rattle.tx_rules.specs.At.{AtValue}
 use Rattle.tx_rules.proofs.SiteLemmas.{IsOwnRow, output-of}
 use Rattle.tx_rules.proofs.DepLemmas.{kept-names, own-row}
-use Rattle.tx_rules.proofs.deps.group_of.Goals as goal
+use Rattle.tx_rules.proofs.deps.add_group_of.Goals as goal
 
 pub returns-then-meta-len-clause-rows : goal.returns-then-meta-len-clause-rows
 returns-then-meta-len-clause-rows g c = λ stored site cell tells is seen its_row.
@@ -15,7 +15,7 @@ returns-then-meta-len-clause-rows g c = λ stored site cell tells is seen its_ro
     let names : NamesOutput stored c.args.o.now c.args.meta.now cell =
     kept-names stored c.args.at.now rows site c.args.o.now cell c.args.meta.now c.requires.placed.parent is seen its_row
     (omega (arith, long, block, c.if-meta-len.true, c.len.ensures.len)) in
-    c.kept_group.ensures.rows stored cell tells names
+    c.add_kept_group.ensures.rows stored cell tells names
 
 pub returns-then-meta-len-clause-undamaged : goal.returns-then-meta-len-clause-undamaged
 returns-then-meta-len-clause-undamaged g c = λ stored site cell tells is seen its_row.
@@ -25,7 +25,7 @@ returns-then-meta-len-clause-undamaged g c = λ stored site cell tells is seen i
     let names : NamesOutput stored c.args.o.now c.args.meta.now cell =
     kept-names stored c.args.at.now rows site c.args.o.now cell c.args.meta.now c.requires.placed.parent is seen its_row
     (omega (arith, long, block, c.if-meta-len.true, c.len.ensures.len)) in
-    c.kept_group.ensures.undamaged stored cell tells names
+    c.add_kept_group.ensures.undamaged stored cell tells names
 
 pub returns-else-meta-len-clause-rows : goal.returns-else-meta-len-clause-rows
 returns-else-meta-len-clause-rows g c = λ stored site cell tells is seen its_row.
@@ -37,7 +37,7 @@ returns-else-meta-len-clause-rows g c = λ stored site cell tells is seen its_ro
     (omega (arith, long, block, c.if-meta-len.false, c.len.ensures.len)) in
     let output : output_in own.block c.args.meta.now.transaction c.args.o.now.index ≡ Some (cell.output, cell.content) =
     ap (λ (row : Row). output_in own.block row.transaction c.args.o.now.index) its_row ∙ output-of own.block c.args.o.now cell own.output in
-    c.own_group.ensures.rows own.block cell.output cell.content own.judged own.last output
+    c.add_own_group.ensures.rows own.block cell.output cell.content own.judged own.last output
 
 pub returns-else-meta-len-clause-undamaged : goal.returns-else-meta-len-clause-undamaged
 returns-else-meta-len-clause-undamaged g c = λ stored site cell tells is seen its_row.
@@ -49,4 +49,4 @@ returns-else-meta-len-clause-undamaged g c = λ stored site cell tells is seen i
     (omega (arith, long, block, c.if-meta-len.false, c.len.ensures.len)) in
     let output : output_in own.block c.args.meta.now.transaction c.args.o.now.index ≡ Some (cell.output, cell.content) =
     ap (λ (row : Row). output_in own.block row.transaction c.args.o.now.index) its_row ∙ output-of own.block c.args.o.now cell own.output in
-    c.own_group.ensures.undamaged own.block cell.output cell.content own.judged own.last output
+    c.add_own_group.ensures.undamaged own.block cell.output cell.content own.judged own.last output
