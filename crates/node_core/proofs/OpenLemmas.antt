@@ -305,6 +305,9 @@ module _ (images0 images1 : Image → Type 0) (none_new : NoneNew images0 images
 pub ok_err : {T E : Type 0} (value : T) (stop : E) → Ok value ≡ Err stop → ⊥
 ok_err value stop is = absurd (cc)
 
+pub same_stop : {T E : Type 0} (first second : E) → ◌≡◌ {A = Result T E} (Err first) (Err second) → first ≡ second
+same_stop first second is = cc
+
 pub was_ok : {T E : Type 0} (result : Result T E) (failed : Bool) → failed ≡ is_err result → failed ≡ false → IsOk result
 was_ok (Ok value) failed is no_fault = refl
 was_ok (Err error) failed is no_fault = absurd (cc)

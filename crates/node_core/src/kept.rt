@@ -35,6 +35,7 @@ use std::sync::ledger::Ledger;
 use uncle_rules::Uncles;
 
 /// The kept blocks with their exts, all that is looked up in them, and the live cells of the tip. Clauses see the chain.
+// At an exit it is dropped by a call, which is one step of the proof; else each of its fields, and theirs, is one.
 #[derive(Drop)]
 pub(crate) struct Kept {
     pub(crate) spec: Spec,
@@ -144,6 +145,7 @@ impl Kept {
         ensures most { steps.new ≤ steps.old + 1 }
     {
         let Some(block) = BlockView::read(item) else {
+            drop(self);
             return Err(ReadStop::NoMemory);
         };
         let Kept {
@@ -158,12 +160,23 @@ impl Kept {
             len: rec.len,
             ..joining.entry
         };
-        let state = Kept::state_with(state, &tree, &block, joining, steps)?;
-        match take_uncles(&mut uncles, &block, tree.len()) {
-            Ok(()) => {}
-            Err(_) => return Err(ReadStop::NoMemory),
-        }
-        match put(alloc, &mut blocks, &mut tree, item, ext, entry) {
+        let state = match Kept::state_with(state, &tree, &block, joining, steps) {
+            Ok(state) => state,
+            Err(stop) => {
+                drop((blocks, tree, uncles));
+                return Err(stop);
+            }
+        };
+        match put(
+            alloc,
+            &mut blocks,
+            &mut tree,
+            &mut uncles,
+            &block,
+            item,
+            ext,
+            entry,
+        ) {
             Ok(()) => Ok(Kept {
                 spec,
                 blocks,
@@ -171,7 +184,10 @@ impl Kept {
                 uncles,
                 state,
             }),
-            Err(_) => Err(ReadStop::NoMemory),
+            Err(_) => {
+                drop((blocks, tree, uncles, state));
+                Err(ReadStop::NoMemory)
+            }
         }
     }
 
@@ -210,11 +226,13 @@ pub(crate) fn take_uncles(
     Ok(())
 }
 
-/// Puts an item with its ext behind the others, and its entry.
+/// Puts an item with its ext behind the others, and its block's entry and uncles.
 fn put(
     alloc: Global,
     blocks: &mut ListBlocks,
     tree: &mut Tree,
+    uncles: &mut Uncles,
+    block: &BlockView<'_>,
     item: &[u8],
     ext: Vec<u8>,
     entry: Entry,
@@ -230,7 +248,10 @@ fn put(
     ensures entries { OnOk result (tree.new.entries ≡ tree.old.entries ++ entry ∷ []) }
     ensures indexed { (kept : List Block) (b : Block) → IndexesBlocks kept tree.old.entries → Describes b entry
         → place_of kept b.header.parent_hash ≡ Some entry.parent → OnOk result (IndexesBlocks (kept ++ b ∷ []) tree.new.entries) }
+    ensures uncles { (kept : List Block) → IndexesBlocks kept tree.old.entries
+        → OnOk result (uncles.new.embedded ≡ uncles.old.embedded ++ embedded_in (length kept) block.now) }
 {
+    take_uncles(uncles, block, tree.len())?;
     let copy = item.to_vec(alloc)?;
     tree.reserve()?;
     blocks.push(copy, ext)?;

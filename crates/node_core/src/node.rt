@@ -173,12 +173,21 @@ impl Node {
         } = self;
         let ext = match fill(alloc, &mut body, item, &joining.ext) {
             Ok(ext) => ext,
-            Err(_) => return Err(ReadStop::NoMemory),
+            Err(_) => {
+                drop(kept);
+                return Err(ReadStop::NoMemory);
+            }
         };
         let rec = rec_behind(&log, &body);
-        let kept = kept.join(alloc, item, ext, rec, joining, steps)?;
+        let kept = match kept.join(alloc, item, ext, rec, joining, steps) {
+            Ok(kept) => kept,
+            Err(stop) => return Err(stop),
+        };
         match append(log, disk, &body) {
-            Err(_) => Err(ReadStop::DiskFault),
+            Err(_) => {
+                drop(kept);
+                Err(ReadStop::DiskFault)
+            }
             Ok((log, _)) => Ok(Node { kept, log, body }),
         }
     }
@@ -210,12 +219,21 @@ impl Node {
             → place_of self.chain.blocks b.header.parent_hash ≡ tip_place self.chain.blocks → steps.new ≤ steps.old + 1 }
     {
         let mut node = self;
-        match node.kept.decide(alloc, item, steps)? {
+        let decision = match node.kept.decide(alloc, item, steps) {
+            Ok(decision) => decision,
+            Err(stop) => {
+                drop(node);
+                return Err(stop);
+            }
+        };
+        match decision {
             Decision::Stays(verdict) => Ok((node, verdict)),
             Decision::Joins(joining) => {
                 let verdict = Verdict::Joined(joining.entry.number, joining.entry.hash);
-                let next = node.join(alloc, disk, item, joining, steps)?;
-                Ok((next, verdict))
+                match node.join(alloc, disk, item, joining, steps) {
+                    Ok(next) => Ok((next, verdict)),
+                    Err(stop) => Err(stop),
+                }
             }
         }
     }

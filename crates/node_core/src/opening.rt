@@ -12,6 +12,8 @@ ghost use Rattle.verdict_defs.specs.Verdict.{kept_limit};
 ghost use Rattle.store_defs.specs.Store.{IsJoined};
 ghost use Rattle.log_file.specs.Grammar.{AreBlocks};
 ghost use Rattle.log_file.specs.declared.stop.LogStop.TheVariants.{DiskFault, NotAStore};
+ghost use Rattle.outside.specs.declared.disk.Damage.{Damage};
+ghost use Rattle.outside.specs.declared.disk.ReadStop.TheVariants.{Damaged};
 ghost use Rattle.node_core.specs.Opening.{HaveBlocks, HaveExts};
 
 use crate::kept::{Kept, take_uncles};
@@ -102,6 +104,18 @@ fn uncles_of(alloc: Global, blocks: &[Vec<u8>]) -> Result<Uncles, NoMemory>
     Ok(uncles)
 }
 
+/// Why a log is not opened whose blocks were not replayed. They are in memory, so no disk is at fault.
+fn stop_of_replay(stop: ReadStop) -> LogStop
+    ensures damaged { result ≡ NotAStore → (damage : Damage) × (stop ≡ Damaged damage) }
+    ensures reads { result ≢ DiskFault }
+{
+    match stop {
+        ReadStop::Damaged(_) => LogStop::NotAStore,
+        ReadStop::DiskFault => LogStop::NoMemory,
+        ReadStop::NoMemory => LogStop::NoMemory,
+    }
+}
+
 impl Kept {
     /// The kept blocks of a log. Where a block's C or AR is 0, what stands beside it is no ext for it, or the events along
     /// the tip's branch do not fit, they have not joined, and the log is none of a store.
@@ -125,7 +139,10 @@ impl Kept {
         if !are_rated(&tree) || !have_exts(&blocks, &exts) {
             return Err(LogStop::NotAStore);
         }
-        let uncles = uncles_of(alloc, &blocks)?;
+        let uncles = match uncles_of(alloc, &blocks) {
+            Ok(uncles) => uncles,
+            Err(_) => return Err(LogStop::NoMemory),
+        };
         let mut blocks = ListBlocks::new(blocks, exts);
         match replay(alloc, &tree, &mut blocks, tree.tip(), steps) {
             Ok(state) => Ok(Kept {
@@ -135,9 +152,7 @@ impl Kept {
                 uncles,
                 state,
             }),
-            Err(ReadStop::Damaged(_)) => Err(LogStop::NotAStore),
-            Err(ReadStop::DiskFault) => Err(LogStop::NoMemory),
-            Err(ReadStop::NoMemory) => Err(LogStop::NoMemory),
+            Err(stop) => Err(stop_of_replay(stop)),
         }
     }
 }

@@ -7,10 +7,11 @@ use Rattle.verdict_defs.specs.Chain.{Chain}
 use Rattle.node_core.specs.Judging.{IsReady}
 use Rattle.node_core.proofs.DecidingLemmas.{few-entries}
 use Rattle.node_core.proofs.JoiningLemmas.{few-kept, follows-parent, hash-new, FitsOn, fits-on, ready-for, describes-named, chain-push, are-kept-push}
+use Rattle.node_core.proofs.OpenLemmas.{ok_err}
 use Rattle.node_core.proofs.kept.Kept.join.Goals as goal
 
-pub returns-in_err-state-clause-undamaged : goal.returns-in_err-state-clause-undamaged
-returns-in_err-state-clause-undamaged g c b is joined may damage was =
+pub returns-in-Err-clause-undamaged : goal.returns-in-Err-clause-undamaged
+returns-in-Err-clause-undamaged g c b is joined may damage was =
     let kept = blocks_of c.self.inside.blocks.stored in
     let seen : kept ≡ c.args.self.blocks = ap (λ (v : Chain). v.blocks) c.self.view_is in
     let same : c.in-Some.block ≡ b = same_Some c.in-Some.block b (c.in-Some.ensures.value ∙ is) in
@@ -20,7 +21,7 @@ returns-in_err-state-clause-undamaged g c b is joined may damage was =
     let fits : FitsOn kept c.in-Some.block c.args.joining.entry.parent =
     subst (λ (bs : List Block). FitsOn bs c.in-Some.block c.args.joining.entry.parent) (sym seen)
     (subst (λ (x : Block). FitsOn c.args.self.blocks x c.args.joining.entry.parent) (sym same) own) in
-    let no = c.in_err-state.ensures.undamaged kept fits.height c.self.invariant.indexed ready c.self.invariant.live fits.above fits.fits damage in
+    let no = c.in-Err.ensures.undamaged kept fits.height c.self.invariant.indexed ready c.self.invariant.live fits.above fits.fits damage in
     search (rules, no)
 
 pub put-requires-clause-few : goal.put-requires-clause-few
@@ -73,13 +74,36 @@ invariant_of-result g c =
       at = c.args.rec.at;
       len = c.args.rec.len;
     }) ready.entry.describes refl refl refl refl in
-    are-kept-push c.self.inside.blocks.stored c.put.new.blocks.stored c.self.inside.tree.entries c.put.new.tree.entries c.self.inside.uncles c.take_uncles.new.uncles
-    c.in-Some.block c.args.ext.items c.args.joining _ c.len.result (rows c.self.inside.state) (rows c.in_ok-state.state) c.self.invariant ready
+    are-kept-push c.self.inside.blocks.stored c.put.new.blocks.stored c.self.inside.tree.entries c.put.new.tree.entries c.self.inside.uncles c.put.new.uncles
+    c.in-Some.block c.args.ext.items c.args.joining _ (length kept) (rows c.self.inside.state) (rows c.in-Ok.state) c.self.invariant ready
     (c.in-Ok-put.ensures.blocks c.in-Some.block is) c.in-Ok-put.ensures.entries describes
     (c.in-Ok-put.ensures.indexed kept c.in-Some.block c.self.invariant.indexed describes ready.entry.on_kept)
-    (c.len.ensures.of_blocks kept c.self.invariant.indexed) c.in-Ok.ensures
-    (c.in_ok-state.ensures.live kept c.self.invariant.indexed ready c.self.invariant.live)
+    refl (c.in-Ok-put.ensures.uncles kept c.self.invariant.indexed)
+    (c.in-Ok.ensures.live kept c.self.invariant.indexed ready c.self.invariant.live)
 
 pub returns-in-Ok-put-clause-kept : goal.returns-in-Ok-put-clause-kept
 returns-in-Ok-put-clause-kept g c b is =
     chain-push c.self.inside.spec c.self.inside.blocks.stored c.put.new.blocks.stored b c.args.ext.items c.args.self c.self.view_is (c.in-Ok-put.ensures.blocks b is)
+
+pub returns-in_default-clause-kept : goal.returns-in_default-clause-kept
+returns-in_default-clause-kept g c = λ _ _. tt
+
+pub returns-in-Err-clause-kept : goal.returns-in-Err-clause-kept
+returns-in-Err-clause-kept g c = λ _ _. tt
+
+pub returns-in-Err-put-clause-kept : goal.returns-in-Err-put-clause-kept
+returns-in-Err-put-clause-kept g c = λ _ _. tt
+
+pub returns-in-Ok-put-clause-undamaged : goal.returns-in-Ok-put-clause-undamaged
+returns-in-Ok-put-clause-undamaged g c = λ _ _ _ _ _ e. ok_err _ _ e
+
+pub returns-in-Ok-put-clause-damage : goal.returns-in-Ok-put-clause-damage
+returns-in-Ok-put-clause-damage g c = λ _ e. absurd (ok_err _ _ e)
+
+pub returns-in-Ok-put-clause-reads : goal.returns-in-Ok-put-clause-reads
+returns-in-Ok-put-clause-reads g c = λ e. ok_err _ _ e
+
+pub state_with-requires : goal.state_with-requires
+state_with-requires g c = record {
+  few = omega (arith, few-entries c.self.inside.blocks.stored c.self.inside.tree.entries c.self.inside.uncles (rows c.self.inside.state) c.self.invariant);
+}

@@ -12,6 +12,7 @@ use Rattle.verdict_defs.specs.Chain.{Chain}
 use Rattle.verdict_defs.specs.Verdict.{verdict_of_block}
 use Rattle.verdict_defs.specs.declared.verdict.Verdict.TheVariants.{Refused}
 use Rattle.node_core.proofs.DecidingLemmas.{as-many, few-entries, within-entries, stands-at-hand, room-for, is-ready, is-judged, verdict-refused, verdict-full}
+use Rattle.node_core.proofs.OpenLemmas.{ok_err}
 use Rattle.node_core.proofs.kept.Kept.judge_on.Goals as goal
 
 pub replayed-requires : goal.replayed-requires
@@ -89,3 +90,36 @@ returns-clause-decided g c joined =
     (c.in-Ok.ensures.unbroken c.self.inside.blocks.stored refl stands c.self.invariant.uncles))
     c.has_room.ensures c.if-has_room.false
     (c.len.ensures.of_blocks (blocks_of c.self.inside.blocks.stored) c.self.invariant.indexed ∙ ap (λ (v : Chain). length v.blocks) whole)
+
+pub returns-in-Err-Broken-clause-undamaged : goal.returns-in-Err-Broken-clause-undamaged
+returns-in-Err-Broken-clause-undamaged g c = λ _ _ e. ok_err _ _ e
+
+pub returns-in-Err-Broken-clause-damage : goal.returns-in-Err-Broken-clause-damage
+returns-in-Err-Broken-clause-damage g c = λ _ e. absurd (ok_err _ _ e)
+
+pub returns-in-Err-Broken-clause-reads : goal.returns-in-Err-Broken-clause-reads
+returns-in-Err-Broken-clause-reads g c = λ e. ok_err _ _ e
+
+pub returns-then-has_room-clause-undamaged : goal.returns-then-has_room-clause-undamaged
+returns-then-has_room-clause-undamaged g c = λ _ _ e. ok_err _ _ e
+
+pub returns-then-has_room-clause-damage : goal.returns-then-has_room-clause-damage
+returns-then-has_room-clause-damage g c = λ _ e. absurd (ok_err _ _ e)
+
+pub returns-then-has_room-clause-reads : goal.returns-then-has_room-clause-reads
+returns-then-has_room-clause-reads g c = λ e. ok_err _ _ e
+
+pub returns-clause-undamaged : goal.returns-clause-undamaged
+returns-clause-undamaged g c = λ _ _ e. ok_err _ _ e
+
+pub returns-clause-damage : goal.returns-clause-damage
+returns-clause-damage g c = λ _ e. absurd (ok_err _ _ e)
+
+pub returns-clause-reads : goal.returns-clause-reads
+returns-clause-reads g c = λ e. ok_err _ _ e
+
+pub returns-in-Err-Read-clause-ready : goal.returns-in-Err-Read-clause-ready
+returns-in-Err-Read-clause-ready g c = tt
+
+pub returns-in-Err-Read-clause-decided : goal.returns-in-Err-Read-clause-decided
+returns-in-Err-Read-clause-decided g c = λ _. tt

@@ -5,6 +5,7 @@ use Rattle.chain_tree.specs.Told.{blocks_of}
 use Rattle.cell_state.specs.State.{rows}
 use Rattle.cell_model.specs.ListBlocks.{contents}
 use Rattle.node_core.proofs.OpeningLemmas.{as-many-contents, few-blocks, canonical-in, exts-in, can-be-listed, counts-entries, indexed-by, are-kept, rated-joined, fits-joined}
+use Rattle.node_core.proofs.OpenLemmas.{same_stop}
 use Rattle.node_core.proofs.kept.Kept.of.Goals.{then-not-are_rated-via-then-not-are_rated, then-not-are_rated-via-else-not-are_rated+then-not-have_exts}
 use Rattle.node_core.proofs.kept.Kept.of.Goals as goal
 
@@ -41,17 +42,36 @@ pub invariant_of-result : goal.invariant_of-result
 invariant_of-result g c =
     let stored = c.new-blocks.result.stored in
     let indexed = indexed-by (contents c.args.blocks.items) c.args.tree.entries (blocks_of stored) c.requires.blocks c.new-blocks.ensures.blocks in
-    are-kept (contents c.args.blocks.items) c.args.tree.entries stored c.replay.new.blocks.stored c.in_ok-uncles.uncles (rows c.in-Ok.state) c.tip.result
+    are-kept (contents c.args.blocks.items) c.args.tree.entries stored c.replay.new.blocks.stored c.in-Ok.uncles (rows c.in-Ok-replay.state) c.tip.result
     c.requires.blocks (omega (arith, c.requires.few, as-many-contents c.args.blocks.items)) c.new-blocks.ensures.blocks c.replay.ensures.told
     (c.are_rated.ensures.rated c.if-not-are_rated.false)
-    (c.in_ok-uncles.ensures (blocks_of stored)
+    (c.in-Ok.ensures (blocks_of stored)
     (ap (λ (v : List (Vec ℕ Global)). map (decoded block) (contents v)) c.deref-2.ensures.value ∙ c.new-blocks.ensures.blocks))
-    (c.tip.ensures.of_blocks (blocks_of stored) indexed) (c.in-Ok.ensures.rows stored refl indexed)
+    (c.tip.ensures.of_blocks (blocks_of stored) indexed) (c.in-Ok-replay.ensures.rows stored refl indexed)
 
-pub returns-in-Err-Damaged-clause-joined : goal.returns-in-Err-Damaged-clause-joined
-returns-in-Err-Damaged-clause-joined g c = λ kept decode joined exts _.
+pub returns-in-Err-replay-clause-joined : goal.returns-in-Err-replay-clause-joined
+returns-in-Err-replay-clause-joined g c = λ kept decode joined exts none.
+    let found = c.stop_of_replay.ensures.damaged (same_stop _ _ none) in
     let stored = c.new-blocks.result.stored in
     let indexed = indexed-by (contents c.args.blocks.items) c.args.tree.entries (blocks_of stored) c.requires.blocks c.new-blocks.ensures.blocks in
     c.replay.ensures.undamaged stored refl indexed
     (fits-joined c.args.spec (contents c.args.blocks.items) c.args.tree.entries kept stored c.tip.result c.requires.blocks c.new-blocks.ensures.blocks decode joined
-    c.tip.ensures.within) c.in-Err-Damaged.field-0-0 (c.in-Err-Damaged.is ∙ ap Err c.in-Err-Damaged.field-0-is)
+    c.tip.ensures.within) found.0 (c.in-Err-replay.is ∙ ap Err found.1)
+
+pub returns-then-not-are_rated-clause-spec : goal.returns-then-not-are_rated-clause-spec
+returns-then-not-are_rated-clause-spec g c = tt
+
+pub returns-then-not-are_rated-clause-blocks : goal.returns-then-not-are_rated-clause-blocks
+returns-then-not-are_rated-clause-blocks g c = tt
+
+pub returns-in-Err-clause-spec : goal.returns-in-Err-clause-spec
+returns-in-Err-clause-spec g c = tt
+
+pub returns-in-Err-clause-blocks : goal.returns-in-Err-clause-blocks
+returns-in-Err-clause-blocks g c = tt
+
+pub returns-in-Err-replay-clause-spec : goal.returns-in-Err-replay-clause-spec
+returns-in-Err-replay-clause-spec g c = tt
+
+pub returns-in-Err-replay-clause-blocks : goal.returns-in-Err-replay-clause-blocks
+returns-in-Err-replay-clause-blocks g c = tt

@@ -13,12 +13,12 @@ use Rattle.node_core.proofs.ImportLemmas.{decided_on, ready_on, verdict_is, stay
 use Rattle.node_core.proofs.DiskLemmas.{counts_none, counts_also}
 use Rattle.node_core.proofs.node.Node.import.Goals as goal
 
-pub returns-in_err-next-in-Joins-clause-moments : goal.returns-in_err-next-in-Joins-clause-moments
-returns-in_err-next-in-Joins-clause-moments g c = λ on.
+pub returns-in-Err-join-clause-moments : goal.returns-in-Err-join-clause-moments
+returns-in-Err-join-clause-moments g c = λ on.
     let chain_is : c.node.inside.kept ≡ c.args.self.chain = ap (λ (v : NodeValue). v.chain) c.node.view_is in
     let same : c.decide.new.self ≡ c.args.self.chain = c.decide.ensures.same ∙ chain_is in
-    let decided = decided_on c.node.inside.kept c.args.self.chain c.args.item.now c.in_ok-verdict.field-0 (Joins c.in-Joins.joining) chain_is c.in-Joins.is
-    c.in_ok-verdict.ensures.decided (joined_of_image c.args.self.chain on.now on.stands) in
+    let decided = decided_on c.node.inside.kept c.args.self.chain c.args.item.now c.in-Ok.decision (Joins c.in-Joins.joining) chain_is c.in-Joins.is
+    c.in-Ok.ensures.decided (joined_of_image c.args.self.chain on.now on.stands) in
     let before : record { chain = c.decide.new.self; place = c.node.inside.log.place } ≡ c.args.self =
     ap (λ (k : Chain). record { chain = k; place = c.node.inside.log.place }) c.decide.ensures.same ∙ c.node.view_is in
     subst (λ (k : Chain). LeavesOnly g.D.Disk.moment g.D.Disk.left_since c.args.disk.now c.join.new.disk
@@ -26,55 +26,55 @@ returns-in_err-next-in-Joins-clause-moments g c = λ on.
     (c.join.ensures.moments (subst (λ (k : Chain). IsDecided k c.args.item.now (Joins c.in-Joins.joining)) (sym same) decided)
     (subst (λ (v : NodeValue). IsOn v (g.D.Disk.reads_as c.args.disk.now) (g.D.Disk.images c.args.disk.now)) (sym before) on))
 
-pub returns-in_err-next-in-Joins-clause-undamaged : goal.returns-in_err-next-in-Joins-clause-undamaged
-returns-in_err-next-in-Joins-clause-undamaged g c joined damage told =
+pub returns-in-Err-join-clause-undamaged : goal.returns-in-Err-join-clause-undamaged
+returns-in-Err-join-clause-undamaged g c joined damage told =
     let chain_is : c.node.inside.kept ≡ c.args.self.chain = ap (λ (v : NodeValue). v.chain) c.node.view_is in
     let same : c.decide.new.self ≡ c.args.self.chain = c.decide.ensures.same ∙ chain_is in
-    let decided = decided_on c.node.inside.kept c.args.self.chain c.args.item.now c.in_ok-verdict.field-0 (Joins c.in-Joins.joining) chain_is c.in-Joins.is
-    c.in_ok-verdict.ensures.decided joined in
+    let decided = decided_on c.node.inside.kept c.args.self.chain c.args.item.now c.in-Ok.decision (Joins c.in-Joins.joining) chain_is c.in-Joins.is
+    c.in-Ok.ensures.decided joined in
     c.join.ensures.undamaged (subst (λ (k : Chain). IsDecided k c.args.item.now (Joins c.in-Joins.joining)) (sym same) decided)
     (subst IsJoined (sym same) joined) damage (search rules)
 
-pub returns-in_err-next-in-Joins-clause-cause : goal.returns-in_err-next-in-Joins-clause-cause
-returns-in_err-next-in-Joins-clause-cause g c = counts_also _ _ c.join.ensures.cause (λ told. search rules) (λ told. search rules)
+pub returns-in-Err-join-clause-cause : goal.returns-in-Err-join-clause-cause
+returns-in-Err-join-clause-cause g c = counts_also _ _ c.join.ensures.cause (λ told. search rules) (λ told. search rules)
 
 pub returns-in-Stays-clause-kept : goal.returns-in-Stays-clause-kept
 returns-in-Stays-clause-kept g c joined =
     let chain_is : c.node.inside.kept ≡ c.args.self.chain = ap (λ (v : NodeValue). v.chain) c.node.view_is in
     let decided : IsDecided c.args.self.chain c.args.item.now (Stays c.in-Stays.verdict) =
-    decided_on c.node.inside.kept c.args.self.chain c.args.item.now c.in_ok-verdict.field-0 (Stays c.in-Stays.verdict) chain_is c.in-Stays.is
-    c.in_ok-verdict.ensures.decided joined in
+    decided_on c.node.inside.kept c.args.self.chain c.args.item.now c.in-Ok.decision (Stays c.in-Stays.verdict) chain_is c.in-Stays.is
+    c.in-Ok.ensures.decided joined in
     let left : IsReadyItem c.args.self.chain.blocks c.args.item.now (Stays c.in-Stays.verdict) =
-    ready_on c.node.inside.kept c.args.self.chain c.args.item.now c.in_ok-verdict.field-0 (Stays c.in-Stays.verdict) chain_is c.in-Stays.is
-    c.in_ok-verdict.ensures.ready in
+    ready_on c.node.inside.kept c.args.self.chain c.args.item.now c.in-Ok.decision (Stays c.in-Stays.verdict) chain_is c.in-Stays.is
+    c.in-Ok.ensures.ready in
     c.decide.ensures.same ∙ chain_is ∙ stays_so c.args.self.chain c.args.item.now (ap joins (sym decided) ∙ left)
 
-pub returns-in_ok-next-in-Joins-clause-verdict : goal.returns-in_ok-next-in-Joins-clause-verdict
-returns-in_ok-next-in-Joins-clause-verdict g c joined =
+pub returns-in-Ok-join-clause-verdict : goal.returns-in-Ok-join-clause-verdict
+returns-in-Ok-join-clause-verdict g c joined =
     let chain_is : c.node.inside.kept ≡ c.args.self.chain = ap (λ (v : NodeValue). v.chain) c.node.view_is in
     verdict_is c.args.self.chain c.args.item.now c.in-Joins.joining
-    (decided_on c.node.inside.kept c.args.self.chain c.args.item.now c.in_ok-verdict.field-0 (Joins c.in-Joins.joining) chain_is c.in-Joins.is
-    c.in_ok-verdict.ensures.decided joined)
-    (ready_on c.node.inside.kept c.args.self.chain c.args.item.now c.in_ok-verdict.field-0 (Joins c.in-Joins.joining) chain_is c.in-Joins.is
-    c.in_ok-verdict.ensures.ready)
+    (decided_on c.node.inside.kept c.args.self.chain c.args.item.now c.in-Ok.decision (Joins c.in-Joins.joining) chain_is c.in-Joins.is
+    c.in-Ok.ensures.decided joined)
+    (ready_on c.node.inside.kept c.args.self.chain c.args.item.now c.in-Ok.decision (Joins c.in-Joins.joining) chain_is c.in-Joins.is
+    c.in-Ok.ensures.ready)
 
-pub returns-in_ok-next-in-Joins-clause-on : goal.returns-in_ok-next-in-Joins-clause-on
-returns-in_ok-next-in-Joins-clause-on g c = λ on.
+pub returns-in-Ok-join-clause-on : goal.returns-in-Ok-join-clause-on
+returns-in-Ok-join-clause-on g c = λ on.
     let chain_is : c.node.inside.kept ≡ c.args.self.chain = ap (λ (v : NodeValue). v.chain) c.node.view_is in
     let same : c.decide.new.self ≡ c.args.self.chain = c.decide.ensures.same ∙ chain_is in
-    let decided = decided_on c.node.inside.kept c.args.self.chain c.args.item.now c.in_ok-verdict.field-0 (Joins c.in-Joins.joining) chain_is c.in-Joins.is
-    c.in_ok-verdict.ensures.decided (joined_of_image c.args.self.chain on.now on.stands) in
+    let decided = decided_on c.node.inside.kept c.args.self.chain c.args.item.now c.in-Ok.decision (Joins c.in-Joins.joining) chain_is c.in-Joins.is
+    c.in-Ok.ensures.decided (joined_of_image c.args.self.chain on.now on.stands) in
     let before : record { chain = c.decide.new.self; place = c.node.inside.log.place } ≡ c.args.self =
     ap (λ (k : Chain). record { chain = k; place = c.node.inside.log.place }) c.decide.ensures.same ∙ c.node.view_is in
-    c.in_ok-next-in-Joins.ensures.on (subst (λ (k : Chain). IsDecided k c.args.item.now (Joins c.in-Joins.joining)) (sym same) decided)
+    c.in-Ok-join.ensures.on (subst (λ (k : Chain). IsDecided k c.args.item.now (Joins c.in-Joins.joining)) (sym same) decided)
     (subst (λ (v : NodeValue). IsOn v (g.D.Disk.reads_as c.args.disk.now) (g.D.Disk.images c.args.disk.now)) (sym before) on)
 
-pub returns-in_ok-next-in-Joins-clause-moments : goal.returns-in_ok-next-in-Joins-clause-moments
-returns-in_ok-next-in-Joins-clause-moments g c = λ on.
+pub returns-in-Ok-join-clause-moments : goal.returns-in-Ok-join-clause-moments
+returns-in-Ok-join-clause-moments g c = λ on.
     let chain_is : c.node.inside.kept ≡ c.args.self.chain = ap (λ (v : NodeValue). v.chain) c.node.view_is in
     let same : c.decide.new.self ≡ c.args.self.chain = c.decide.ensures.same ∙ chain_is in
-    let decided = decided_on c.node.inside.kept c.args.self.chain c.args.item.now c.in_ok-verdict.field-0 (Joins c.in-Joins.joining) chain_is c.in-Joins.is
-    c.in_ok-verdict.ensures.decided (joined_of_image c.args.self.chain on.now on.stands) in
+    let decided = decided_on c.node.inside.kept c.args.self.chain c.args.item.now c.in-Ok.decision (Joins c.in-Joins.joining) chain_is c.in-Joins.is
+    c.in-Ok.ensures.decided (joined_of_image c.args.self.chain on.now on.stands) in
     let before : record { chain = c.decide.new.self; place = c.node.inside.log.place } ≡ c.args.self =
     ap (λ (k : Chain). record { chain = k; place = c.node.inside.log.place }) c.decide.ensures.same ∙ c.node.view_is in
     subst (λ (k : Chain). LeavesOnly g.D.Disk.moment g.D.Disk.left_since c.args.disk.now c.join.new.disk
@@ -82,12 +82,48 @@ returns-in_ok-next-in-Joins-clause-moments g c = λ on.
     (c.join.ensures.moments (subst (λ (k : Chain). IsDecided k c.args.item.now (Joins c.in-Joins.joining)) (sym same) decided)
     (subst (λ (v : NodeValue). IsOn v (g.D.Disk.reads_as c.args.disk.now) (g.D.Disk.images c.args.disk.now)) (sym before) on))
 
-pub returns-in_ok-next-in-Joins-clause-cause : goal.returns-in_ok-next-in-Joins-clause-cause
-returns-in_ok-next-in-Joins-clause-cause g c =
-    let was : c.join.result ≡ Ok c.in_ok-next-in-Joins.next = c.in_ok-next-in-Joins.was in
+pub returns-in-Ok-join-clause-cause : goal.returns-in-Ok-join-clause-cause
+returns-in-Ok-join-clause-cause g c =
+    let was : c.join.result ≡ Ok c.in-Ok-join.next = c.in-Ok-join.is in
     counts_none _ _ (c.join.ensures.cause.unchanged (λ told. absurd (cc))) (λ told. absurd (cc))
 
-pub returns-in_ok-next-in-Joins-clause-steps : goal.returns-in_ok-next-in-Joins-clause-steps
-returns-in_ok-next-in-Joins-clause-steps g c b is on_tip =
+pub returns-in-Ok-join-clause-steps : goal.returns-in-Ok-join-clause-steps
+returns-in-Ok-join-clause-steps g c b is on_tip =
     let chain_is : c.node.inside.kept ≡ c.args.self.chain = ap (λ (v : NodeValue). v.chain) c.node.view_is in
     omega (arith, c.join.ensures.most, c.decide.ensures.steps b is (subst (λ (k : Chain). place_of k.blocks b.header.parent_hash ≡ tip_place k.blocks) (sym chain_is) on_tip))
+
+pub returns-in-Err-clause-verdict : goal.returns-in-Err-clause-verdict
+returns-in-Err-clause-verdict g c = λ _. tt
+
+pub returns-in-Err-clause-kept : goal.returns-in-Err-clause-kept
+returns-in-Err-clause-kept g c = λ _. tt
+
+pub returns-in-Err-clause-on : goal.returns-in-Err-clause-on
+returns-in-Err-clause-on g c = λ _. tt
+
+pub returns-in-Err-clause-there : goal.returns-in-Err-clause-there
+returns-in-Err-clause-there g c = tt
+
+pub returns-in-Err-clause-unwritten : goal.returns-in-Err-clause-unwritten
+returns-in-Err-clause-unwritten g c = tt
+
+pub returns-in-Err-join-clause-verdict : goal.returns-in-Err-join-clause-verdict
+returns-in-Err-join-clause-verdict g c = λ _. tt
+
+pub returns-in-Err-join-clause-kept : goal.returns-in-Err-join-clause-kept
+returns-in-Err-join-clause-kept g c = λ _. tt
+
+pub returns-in-Err-join-clause-on : goal.returns-in-Err-join-clause-on
+returns-in-Err-join-clause-on g c = λ _. tt
+
+pub returns-in-Err-join-clause-there : goal.returns-in-Err-join-clause-there
+returns-in-Err-join-clause-there g c = tt
+
+pub returns-in-Err-join-clause-unwritten : goal.returns-in-Err-join-clause-unwritten
+returns-in-Err-join-clause-unwritten g c = tt
+
+pub returns-in-Stays-clause-untouched : goal.returns-in-Stays-clause-untouched
+returns-in-Stays-clause-untouched g c = tt
+
+pub returns-in-Ok-join-clause-untouched : goal.returns-in-Ok-join-clause-untouched
+returns-in-Ok-join-clause-untouched g c = tt

@@ -47,13 +47,13 @@ append-requires-clause-filled g c =
 pub invariant_of-result : goal.invariant_of-result
 invariant_of-result g c =
     let seen : c.self.inside.kept ≡ c.args.self.chain = ap (λ (v : NodeValue). v.chain) c.self.view_is in (
-      few_after c.self.inside.kept c.args.self.chain c.in_ok-kept.kept c.args.item.now c.args.joining seen c.in_ok-kept.ensures.kept c.requires.ready,
-      within_after c.self.inside.kept c.args.self.chain c.in_ok-kept.kept c.args.item.now c.args.joining seen c.in_ok-kept.ensures.kept c.requires.ready
+      few_after c.self.inside.kept c.args.self.chain c.in-Ok-join.kept c.args.item.now c.args.joining seen c.in-Ok-join.ensures.kept c.requires.ready,
+      within_after c.self.inside.kept c.args.self.chain c.in-Ok-join.kept c.args.item.now c.args.joining seen c.in-Ok-join.ensures.kept c.requires.ready
           c.self.inside.log.place c.in-Ok-append.log.place (length c.fill.new.body) c.self.invariant.1 c.in-Ok-append.ensures.place c.in-Ok.ensures.short,
     )
 
-pub returns-in_err-kept-clause-undamaged : goal.returns-in_err-kept-clause-undamaged
-returns-in_err-kept-clause-undamaged g c decided joined damage same =
+pub returns-in-Err-join-clause-undamaged : goal.returns-in-Err-join-clause-undamaged
+returns-in-Err-join-clause-undamaged g c decided joined damage same =
     let seen : c.self.inside.kept ≡ c.args.self.chain = ap (λ (v : NodeValue). v.chain) c.self.view_is in
     c.join.ensures.undamaged decided.0 decided.1 (subst IsJoined (sym seen) joined)
     (subst (λ (k : Chain). MayJoin k.spec k.blocks decided.0) (sym seen) decided.2.may) damage (search rules)
@@ -75,8 +75,8 @@ returns-in-Err-append-clause-moments g c = λ decided on.
 
 pub returns-in-Ok-append-clause-kept : goal.returns-in-Ok-append-clause-kept
 returns-in-Ok-append-clause-kept g c =
-    is_after c.self.inside.kept c.args.self.chain c.in_ok-kept.kept c.args.item.now c.args.joining
-    (ap (λ (v : NodeValue). v.chain) c.self.view_is) c.in_ok-kept.ensures.kept
+    is_after c.self.inside.kept c.args.self.chain c.in-Ok-join.kept c.args.item.now c.args.joining
+    (ap (λ (v : NodeValue). v.chain) c.self.view_is) c.in-Ok-join.ensures.kept
 
 pub returns-in-Ok-append-clause-on : goal.returns-in-Ok-append-clause-on
 returns-in-Ok-append-clause-on g c = λ decided on.
@@ -86,9 +86,9 @@ returns-in-Ok-append-clause-on g c = λ decided on.
     let filled : c.fill.new.body ≡ behind_gate (record_over c.args.self.chain c.args.item.now) =
     c.in-Ok.ensures.filled ∙ ap behind_gate (record_is c.args.self.chain c.args.item.now c.args.joining decided) in
     let settled = settled_on c.args.self _ _ on c.self.inside.log.place at in
-    let kept : c.in_ok-kept.kept ≡ chain_after c.args.self.chain c.args.item.now =
-    is_after c.self.inside.kept c.args.self.chain c.in_ok-kept.kept c.args.item.now c.args.joining
-    (ap (λ (v : NodeValue). v.chain) c.self.view_is) c.in_ok-kept.ensures.kept decided in
+    let kept : c.in-Ok-join.kept ≡ chain_after c.args.self.chain c.args.item.now =
+    is_after c.self.inside.kept c.args.self.chain c.in-Ok-join.kept c.args.item.now c.args.joining
+    (ap (λ (v : NodeValue). v.chain) c.self.view_is) c.in-Ok-join.ensures.kept decided in
     subst (λ (chain : Chain). IsOn (record { chain = chain; place = c.in-Ok-append.log.place }) (g.D.Disk.reads_as c.append.new.disk) (g.D.Disk.images c.append.new.disk)) (sym kept)
     (is_on_after c.args.self _ _ on c.self.inside.log.place at c.args.item.now can c.requires.size form c.in-Ok-append.log.place _ _
     (c.in-Ok-append.ensures.settled on.records (record_over c.args.self.chain c.args.item.now) filled settled)
@@ -106,3 +106,39 @@ returns-in-Ok-append-clause-moments g c = λ decided on.
     leaves_also g.D.Disk.moment g.D.Disk.left_since _ _ _ _
     (c.append.ensures.moments on.records (record_over c.args.self.chain c.args.item.now) filled (settled_on c.args.self _ _ on c.self.inside.log.place at))
     (stands_either c.args.self _ _ on c.self.inside.log.place at c.args.item.now can c.requires.size form)
+
+pub returns-in-Err-clause-kept : goal.returns-in-Err-clause-kept
+returns-in-Err-clause-kept g c = λ _. tt
+
+pub returns-in-Err-clause-there : goal.returns-in-Err-clause-there
+returns-in-Err-clause-there g c = tt
+
+pub returns-in-Err-clause-on : goal.returns-in-Err-clause-on
+returns-in-Err-clause-on g c = λ _ _. tt
+
+pub returns-in-Err-join-clause-kept : goal.returns-in-Err-join-clause-kept
+returns-in-Err-join-clause-kept g c = λ _. tt
+
+pub returns-in-Err-join-clause-there : goal.returns-in-Err-join-clause-there
+returns-in-Err-join-clause-there g c = tt
+
+pub returns-in-Err-join-clause-on : goal.returns-in-Err-join-clause-on
+returns-in-Err-join-clause-on g c = λ _ _. tt
+
+pub returns-in-Err-append-clause-kept : goal.returns-in-Err-append-clause-kept
+returns-in-Err-append-clause-kept g c = λ _. tt
+
+pub returns-in-Err-append-clause-there : goal.returns-in-Err-append-clause-there
+returns-in-Err-append-clause-there g c = tt
+
+pub returns-in-Err-append-clause-on : goal.returns-in-Err-append-clause-on
+returns-in-Err-append-clause-on g c = λ _ _. tt
+
+pub returns-in-Err-clause-untouched : goal.returns-in-Err-clause-untouched
+returns-in-Err-clause-untouched g c = λ _. refl
+
+pub returns-in-Err-join-clause-untouched : goal.returns-in-Err-join-clause-untouched
+returns-in-Err-join-clause-untouched g c = λ _. refl
+
+pub returns-in-Ok-append-clause-untouched : goal.returns-in-Ok-append-clause-untouched
+returns-in-Ok-append-clause-untouched g c = tt

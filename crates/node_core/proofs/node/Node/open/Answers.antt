@@ -87,3 +87,27 @@ pub returns-in-Ok-of-clause-cause : goal.returns-in-Ok-of-clause-cause
 returns-in-Ok-of-clause-cause g c =
     counts_none _ _ _ (c.sync_snapshots.ensures.cause.unchanged (was_ok c.sync_snapshots.result c.is_err.result c.is_err.ensures.value c.if-is_err.false))
     c.open.ensures.cause (λ fault. ok_err _ _ (sym c.in-Ok.is ∙ fault)) (λ fault. ok_err _ _ fault)
+
+pub returns-in-Err-clause-kept : goal.returns-in-Err-clause-kept
+returns-in-Err-clause-kept g c = tt
+
+pub returns-in-Err-clause-there : goal.returns-in-Err-clause-there
+returns-in-Err-clause-there g c = tt
+
+pub returns-in-Err-clause-one_image : goal.returns-in-Err-clause-one_image
+returns-in-Err-clause-one_image g c = tt
+
+pub returns-in-Err-clause-on : goal.returns-in-Err-clause-on
+returns-in-Err-clause-on g c = λ _. tt
+
+pub returns-in-Err-of-clause-kept : goal.returns-in-Err-of-clause-kept
+returns-in-Err-of-clause-kept g c = tt
+
+pub returns-in-Err-of-clause-there : goal.returns-in-Err-of-clause-there
+returns-in-Err-of-clause-there g c = tt
+
+pub returns-in-Err-of-clause-one_image : goal.returns-in-Err-of-clause-one_image
+returns-in-Err-of-clause-one_image g c = tt
+
+pub returns-in-Err-of-clause-on : goal.returns-in-Err-of-clause-on
+returns-in-Err-of-clause-on g c = λ _. tt

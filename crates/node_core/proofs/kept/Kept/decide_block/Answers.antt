@@ -1,0 +1,27 @@
+use Rattle.std.proofs.Common.{refl}
+use Rattle.node_core.proofs.OpenLemmas.{ok_err}
+use Rattle.node_core.proofs.kept.Kept.decide_block.Goals as goal
+
+pub returns-then-is_some-clause-undamaged : goal.returns-then-is_some-clause-undamaged
+returns-then-is_some-clause-undamaged g c = λ _ _ e. ok_err _ _ e
+
+pub returns-then-is_some-clause-damage : goal.returns-then-is_some-clause-damage
+returns-then-is_some-clause-damage g c = λ _ e. absurd (ok_err _ _ e)
+
+pub returns-then-is_some-clause-reads : goal.returns-then-is_some-clause-reads
+returns-then-is_some-clause-reads g c = λ e. ok_err _ _ e
+
+pub returns-then-is_some-clause-steps : goal.returns-then-is_some-clause-steps
+returns-then-is_some-clause-steps g c = λ _. refl
+
+pub returns-in_default-clause-undamaged : goal.returns-in_default-clause-undamaged
+returns-in_default-clause-undamaged g c = λ _ _ e. ok_err _ _ e
+
+pub returns-in_default-clause-damage : goal.returns-in_default-clause-damage
+returns-in_default-clause-damage g c = λ _ e. absurd (ok_err _ _ e)
+
+pub returns-in_default-clause-reads : goal.returns-in_default-clause-reads
+returns-in_default-clause-reads g c = λ e. ok_err _ _ e
+
+pub returns-in_default-clause-steps : goal.returns-in_default-clause-steps
+returns-in_default-clause-steps g c = λ _. refl
