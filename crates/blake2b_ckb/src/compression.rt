@@ -60,7 +60,7 @@ fn words(block: &[u8]) -> [u64; 16]
 // Half of the mixing function G: it takes one message word, and turns by two widths.
 #[inline(always)]
 fn half_mix(
-    mut v: [u64; 16],
+    v: &mut [u64; 16],
     a: usize,
     b: usize,
     c: usize,
@@ -68,45 +68,44 @@ fn half_mix(
     word: u64,
     first: u32,
     second: u32,
-) -> [u64; 16]
+)
     requires a { a < 16 }
     requires b { b < 16 }
     requires c { c < 16 }
     requires d { d < 16 }
-    ensures { result ≡ half_mix v a b c d word first second }
+    ensures { v.new ≡ half_mix v.old a b c d word first second }
 {
     v[a] = v[a].wrapping_add(v[b]).wrapping_add(word);
     v[d] = (v[d] ^ v[a]).rotate_right(first);
     v[c] = v[c].wrapping_add(v[d]);
     v[b] = (v[b] ^ v[c]).rotate_right(second);
-    v
 }
 
 // The mixing function G. Its places and widths are constants once it is inlined.
 #[inline(always)]
-fn mix(v: [u64; 16], a: usize, b: usize, c: usize, d: usize, x: u64, y: u64) -> [u64; 16]
+fn mix(v: &mut [u64; 16], a: usize, b: usize, c: usize, d: usize, x: u64, y: u64)
     requires a { a < 16 }
     requires b { b < 16 }
     requires c { c < 16 }
     requires d { d < 16 }
-    ensures { result ≡ mix v a b c d x y }
+    ensures { v.new ≡ mix v.old a b c d x y }
 {
-    let v = half_mix(v, a, b, c, d, x, 32, 24);
+    half_mix(v, a, b, c, d, x, 32, 24);
     half_mix(v, a, b, c, d, y, 16, 63)
 }
 
 // A round, on the message words in its order.
 #[inline(always)]
-fn round(v: [u64; 16], s: [u64; 16]) -> [u64; 16]
-    ensures { result ≡ round v s }
+fn round(v: &mut [u64; 16], s: [u64; 16])
+    ensures { v.new ≡ round v.old s }
 {
-    let v = mix(v, 0, 4, 8, 12, s[0], s[1]);
-    let v = mix(v, 1, 5, 9, 13, s[2], s[3]);
-    let v = mix(v, 2, 6, 10, 14, s[4], s[5]);
-    let v = mix(v, 3, 7, 11, 15, s[6], s[7]);
-    let v = mix(v, 0, 5, 10, 15, s[8], s[9]);
-    let v = mix(v, 1, 6, 11, 12, s[10], s[11]);
-    let v = mix(v, 2, 7, 8, 13, s[12], s[13]);
+    mix(v, 0, 4, 8, 12, s[0], s[1]);
+    mix(v, 1, 5, 9, 13, s[2], s[3]);
+    mix(v, 2, 6, 10, 14, s[4], s[5]);
+    mix(v, 3, 7, 11, 15, s[6], s[7]);
+    mix(v, 0, 5, 10, 15, s[8], s[9]);
+    mix(v, 1, 6, 11, 12, s[10], s[11]);
+    mix(v, 2, 7, 8, 13, s[12], s[13]);
     mix(v, 3, 4, 9, 14, s[14], s[15])
 }
 
@@ -119,8 +118,8 @@ macro_rules! round_on {
 
 // The twelve rounds, each on the message words in the order of its row of SIGMA.
 #[inline(always)]
-fn rounds(v: [u64; 16], m: [u64; 16]) -> [u64; 16]
-    ensures { result ≡ rounds v m 12 }
+fn rounds(v: &mut [u64; 16], m: [u64; 16])
+    ensures { v.new ≡ rounds v.old m 12 }
 {
     let [
         m0,
@@ -140,17 +139,17 @@ fn rounds(v: [u64; 16], m: [u64; 16]) -> [u64; 16]
         m14,
         m15,
     ] = m;
-    let v = round_on!(v, m0 m1 m2 m3 m4 m5 m6 m7 m8 m9 m10 m11 m12 m13 m14 m15);
-    let v = round_on!(v, m14 m10 m4 m8 m9 m15 m13 m6 m1 m12 m0 m2 m11 m7 m5 m3);
-    let v = round_on!(v, m11 m8 m12 m0 m5 m2 m15 m13 m10 m14 m3 m6 m7 m1 m9 m4);
-    let v = round_on!(v, m7 m9 m3 m1 m13 m12 m11 m14 m2 m6 m5 m10 m4 m0 m15 m8);
-    let v = round_on!(v, m9 m0 m5 m7 m2 m4 m10 m15 m14 m1 m11 m12 m6 m8 m3 m13);
-    let v = round_on!(v, m2 m12 m6 m10 m0 m11 m8 m3 m4 m13 m7 m5 m15 m14 m1 m9);
-    let v = round_on!(v, m12 m5 m1 m15 m14 m13 m4 m10 m0 m7 m6 m3 m9 m2 m8 m11);
-    let v = round_on!(v, m13 m11 m7 m14 m12 m1 m3 m9 m5 m0 m15 m4 m8 m6 m2 m10);
-    let v = round_on!(v, m6 m15 m14 m9 m11 m3 m0 m8 m12 m2 m13 m7 m1 m4 m10 m5);
-    let v = round_on!(v, m10 m2 m8 m4 m7 m6 m1 m5 m15 m11 m9 m14 m3 m12 m13 m0);
-    let v = round_on!(v, m0 m1 m2 m3 m4 m5 m6 m7 m8 m9 m10 m11 m12 m13 m14 m15);
+    round_on!(v, m0 m1 m2 m3 m4 m5 m6 m7 m8 m9 m10 m11 m12 m13 m14 m15);
+    round_on!(v, m14 m10 m4 m8 m9 m15 m13 m6 m1 m12 m0 m2 m11 m7 m5 m3);
+    round_on!(v, m11 m8 m12 m0 m5 m2 m15 m13 m10 m14 m3 m6 m7 m1 m9 m4);
+    round_on!(v, m7 m9 m3 m1 m13 m12 m11 m14 m2 m6 m5 m10 m4 m0 m15 m8);
+    round_on!(v, m9 m0 m5 m7 m2 m4 m10 m15 m14 m1 m11 m12 m6 m8 m3 m13);
+    round_on!(v, m2 m12 m6 m10 m0 m11 m8 m3 m4 m13 m7 m5 m15 m14 m1 m9);
+    round_on!(v, m12 m5 m1 m15 m14 m13 m4 m10 m0 m7 m6 m3 m9 m2 m8 m11);
+    round_on!(v, m13 m11 m7 m14 m12 m1 m3 m9 m5 m0 m15 m4 m8 m6 m2 m10);
+    round_on!(v, m6 m15 m14 m9 m11 m3 m0 m8 m12 m2 m13 m7 m1 m4 m10 m5);
+    round_on!(v, m10 m2 m8 m4 m7 m6 m1 m5 m15 m11 m9 m14 m3 m12 m13 m0);
+    round_on!(v, m0 m1 m2 m3 m4 m5 m6 m7 m8 m9 m10 m11 m12 m13 m14 m15);
     round_on!(v, m14 m10 m4 m8 m9 m15 m13 m6 m1 m12 m0 m2 m11 m7 m5 m3)
 }
 
@@ -192,7 +191,8 @@ pub(crate) fn compress(state: &mut [u64; 8], block: &[u8], count: u128, last: bo
     ensures { state.new ≡ compress state.old block.now count last }
 {
     let h = *state;
-    let v = rounds(work_vector(h, count, last), words(block));
+    let mut v = work_vector(h, count, last);
+    rounds(&mut v, words(block));
     *state = [
         h[0] ^ v[0] ^ v[8],
         h[1] ^ v[1] ^ v[9],

@@ -4,4 +4,4 @@ use Rattle.blake2b_ckb.proofs.compression.compress.Goals as goal
 
 pub returns : goal.returns
 unfolding compress
-returns c = rw (c.rounds-v.ensures, c.work_vector.ensures, c.words.ensures) refl
+returns c = rw (c.rounds.ensures, c.work_vector-v.ensures, c.words.ensures) refl

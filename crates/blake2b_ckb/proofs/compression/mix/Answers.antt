@@ -5,4 +5,4 @@ use Rattle.blake2b_ckb.proofs.compression.mix.Goals as goal
 
 pub returns : goal.returns
 unfolding mix half_mix
-returns c = rw (c.half_mix.ensures, c.half_mix-v.ensures) refl
+returns c = rw (c.half_mix-2.ensures, c.half_mix.ensures) refl

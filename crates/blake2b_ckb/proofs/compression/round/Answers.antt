@@ -4,4 +4,4 @@ use Rattle.blake2b_ckb.proofs.compression.round.Goals as goal
 
 pub returns : goal.returns
 unfolding round
-returns c = rw (c.mix.ensures, c.mix-v-7.ensures, c.mix-v-6.ensures, c.mix-v-5.ensures, c.mix-v-4.ensures, c.mix-v-3.ensures, c.mix-v-2.ensures, c.mix-v.ensures) refl
+returns c = rw (c.mix-8.ensures, c.mix-7.ensures, c.mix-6.ensures, c.mix-5.ensures, c.mix-4.ensures, c.mix-3.ensures, c.mix-2.ensures, c.mix.ensures) refl
