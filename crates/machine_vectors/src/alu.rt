@@ -3,6 +3,37 @@
 use crate::row::Row;
 use rv_alu::{Alu, op};
 
+const OPERATIONS: [(&str, Alu); 28] = [
+    ("ADD", Alu::Add),
+    ("SUB", Alu::Sub),
+    ("SLL", Alu::Sll),
+    ("SLT", Alu::Slt),
+    ("SLTU", Alu::Sltu),
+    ("XOR", Alu::Xor),
+    ("SRL", Alu::Srl),
+    ("SRA", Alu::Sra),
+    ("OR", Alu::Or),
+    ("AND", Alu::And),
+    ("ADDW", Alu::Addw),
+    ("SUBW", Alu::Subw),
+    ("SLLW", Alu::Sllw),
+    ("SRLW", Alu::Srlw),
+    ("SRAW", Alu::Sraw),
+    ("MUL", Alu::Mul),
+    ("MULH", Alu::Mulh),
+    ("MULHSU", Alu::Mulhsu),
+    ("MULHU", Alu::Mulhu),
+    ("DIV", Alu::Div),
+    ("DIVU", Alu::Divu),
+    ("REM", Alu::Rem),
+    ("REMU", Alu::Remu),
+    ("MULW", Alu::Mulw),
+    ("DIVW", Alu::Divw),
+    ("DIVUW", Alu::Divuw),
+    ("REMW", Alu::Remw),
+    ("REMUW", Alu::Remuw),
+];
+
 /// Two registers, and what the operation gives of them.
 pub(crate) fn agrees(row: &mut Row) -> Option<bool> {
     let operation = operation_of(row.word())?;
@@ -12,35 +43,10 @@ pub(crate) fn agrees(row: &mut Row) -> Option<bool> {
 }
 
 fn operation_of(name: &str) -> Option<Alu> {
-    match name {
-        "ADD" => Some(Alu::Add),
-        "SUB" => Some(Alu::Sub),
-        "SLL" => Some(Alu::Sll),
-        "SLT" => Some(Alu::Slt),
-        "SLTU" => Some(Alu::Sltu),
-        "XOR" => Some(Alu::Xor),
-        "SRL" => Some(Alu::Srl),
-        "SRA" => Some(Alu::Sra),
-        "OR" => Some(Alu::Or),
-        "AND" => Some(Alu::And),
-        "ADDW" => Some(Alu::Addw),
-        "SUBW" => Some(Alu::Subw),
-        "SLLW" => Some(Alu::Sllw),
-        "SRLW" => Some(Alu::Srlw),
-        "SRAW" => Some(Alu::Sraw),
-        "MUL" => Some(Alu::Mul),
-        "MULH" => Some(Alu::Mulh),
-        "MULHSU" => Some(Alu::Mulhsu),
-        "MULHU" => Some(Alu::Mulhu),
-        "DIV" => Some(Alu::Div),
-        "DIVU" => Some(Alu::Divu),
-        "REM" => Some(Alu::Rem),
-        "REMU" => Some(Alu::Remu),
-        "MULW" => Some(Alu::Mulw),
-        "DIVW" => Some(Alu::Divw),
-        "DIVUW" => Some(Alu::Divuw),
-        "REMW" => Some(Alu::Remw),
-        "REMUW" => Some(Alu::Remuw),
-        _ => None,
+    for (known, operation) in OPERATIONS {
+        if known == name {
+            return Some(operation);
+        }
     }
+    None
 }

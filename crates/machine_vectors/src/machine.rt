@@ -1,10 +1,11 @@
 // Rows of a machine.
-ghost use Rattle.std.specs.Prelude.{◌≡◌, ◌<◌, IfSome, true};
+ghost use Rattle.std.specs.Prelude.{◌≡◌, ◌<◌, ◌≤◌, ◌^◌, IfSome, true};
 
-use crate::memory;
 use crate::row::Row;
+use crate::{elf, memory};
 use std::alloc::Global;
 use std::marker::Model;
+use std::mem;
 use vm_mem::Memory;
 use vm_step::{Machine, Step};
 
@@ -78,25 +79,47 @@ fn name_of(answer: Step) -> &'static str {
     }
 }
 
+/// Where the program begins, the cycles that were taken, and the most.
+fn start_of(row: &mut Row) -> Option<(u64, u64, u64)>
+    ensures { IfSome result (λ start. (start.1 ≤ start.2) × (start.2 ≤ 2 ^ 40)) }
+{
+    let pc = row.number()?;
+    let cycles = row.number()?;
+    let budget = row.number()?;
+    if budget <= CYCLES_LIMIT && cycles <= budget {
+        Some((pc, cycles, budget))
+    } else {
+        None
+    }
+}
+
+fn cycles_of(row: &mut Row) -> Option<u64>
+    ensures { IfSome result (λ cycles. cycles ≤ 2 ^ 40) }
+{
+    let cycles = row.number()?;
+    if cycles <= CYCLES_LIMIT {
+        Some(cycles)
+    } else {
+        None
+    }
+}
+
 impl Held {
-    /// Where the program begins, the cycles that were taken and the most: a machine of the memory.
-    fn started(self, row: &mut Row) -> Option<(Held, bool)> {
-        let Held::Memory(memory) = self else {
-            return None;
-        };
-        let pc = row.number()?;
-        let cycles = row.number()?;
-        let budget = row.number()?;
-        if budget > CYCLES_LIMIT || cycles > budget {
-            return None;
+    /// A machine of the memory.
+    fn started(&mut self, row: &mut Row) -> Option<bool> {
+        let (pc, cycles, budget) = start_of(row)?;
+        match mem::replace(self, Held::Nothing) {
+            Held::Memory(memory) => {
+                *self = Held::Going(Going(Machine::new(memory, pc, cycles, budget)));
+                Some(true)
+            }
+            _ => None,
         }
-        let machine = Machine::new(memory, pc, cycles, budget);
-        Some((Held::Going(Going(machine)), true))
     }
 
     /// One step, or a run: the answer, and the cycles then.
-    fn stepped(self, call: &str, row: &mut Row) -> Option<(Held, bool)> {
-        let Held::Going(going) = self else {
+    fn stepped(&mut self, call: &str, row: &mut Row) -> Option<bool> {
+        let Held::Going(going) = mem::replace(self, Held::Nothing) else {
             return None;
         };
         let mut machine = going.0;
@@ -105,60 +128,58 @@ impl Held {
         } else {
             machine.run()
         };
-        let agrees = name_of(answer) == row.word() && machine.cycles() == row.number()?;
-        match answer {
-            Step::Went => Some((Held::Going(Going(machine)), agrees)),
-            Step::Ecall => Some((Held::Going(Going(machine)), agrees)),
-            _ => Some((Held::Ended(machine), agrees)),
-        }
+        let is_named = name_of(answer) == row.word();
+        let is_paid = row.number() == Some(machine.cycles());
+        *self = match answer {
+            Step::Went => Held::Going(Going(machine)),
+            Step::Ecall => Held::Going(Going(machine)),
+            _ => Held::Ended(machine),
+        };
+        Some(is_named && is_paid)
     }
 
     /// Cycles that are charged: `within` or `spent`.
-    fn charged(self, row: &mut Row) -> Option<(Held, bool)> {
-        let Held::Going(going) = self else {
+    fn charged(&mut self, row: &mut Row) -> Option<bool> {
+        let cycles = cycles_of(row)?;
+        let Held::Going(going) = mem::replace(self, Held::Nothing) else {
             return None;
         };
-        let cycles = row.number()?;
-        if cycles > CYCLES_LIMIT {
-            return None;
-        }
         let mut machine = going.0;
         if machine.charge(cycles) {
-            Some((Held::Going(Going(machine)), row.word() == "within"))
+            *self = Held::Going(Going(machine));
+            Some(row.word() == "within")
         } else {
-            Some((Held::Ended(machine), row.word() == "spent"))
+            *self = Held::Ended(machine);
+            Some(row.word() == "spent")
         }
     }
 
-    fn acted(self, alloc: Global, call: &str, row: &mut Row) -> Option<(Held, bool)> {
+    fn looked_at(&mut self, alloc: Global, call: &str, row: &mut Row) -> Option<bool> {
         match self {
             Held::Nothing => None,
-            Held::Memory(memory) => {
-                let mut memory = memory;
-                let agrees = memory::agrees(alloc, &mut memory, call, row)?;
-                Some((Held::Memory(memory), agrees))
-            }
-            Held::Going(going) => {
-                let mut machine = going.0;
-                let agrees = looked_at(alloc, &mut machine, call, row)?;
-                Some((Held::Going(Going(machine)), agrees))
-            }
-            Held::Ended(machine) => {
-                let mut machine = machine;
-                let agrees = looked_at(alloc, &mut machine, call, row)?;
-                Some((Held::Ended(machine), agrees))
-            }
+            Held::Memory(memory) => memory::agrees(alloc, memory, call, row),
+            Held::Going(going) => looked_at(alloc, &mut going.0, call, row),
+            Held::Ended(machine) => looked_at(alloc, machine, call, row),
         }
     }
 
-    /// What is held after the call of a row, and whether the answer is the row's; None where it is no row.
-    pub(crate) fn after(self, alloc: Global, call: &str, row: &mut Row) -> Option<(Held, bool)> {
+    /// Whether what is held answers what the row says; None where it is no row.
+    pub(crate) fn agrees(&mut self, alloc: Global, call: &str, row: &mut Row) -> Option<bool> {
         match call {
+            "memory" => {
+                *self = Held::Memory(Memory::new(alloc).ok()?);
+                Some(true)
+            }
+            "elf" => {
+                let (memory, agrees) = elf::agrees(alloc, row)?;
+                *self = Held::Memory(memory);
+                Some(agrees)
+            }
             "machine" => self.started(row),
             "step" => self.stepped(call, row),
             "run" => self.stepped(call, row),
             "charge" => self.charged(row),
-            call => self.acted(alloc, call, row),
+            call => self.looked_at(alloc, call, row),
         }
     }
 }

@@ -38,28 +38,8 @@ mod text;
 use machine::Held;
 use row::Row;
 use std::alloc::Global;
+use std::io;
 use std::process::ExitCode;
-use std::{io, mem};
-use vm_mem::Memory;
-
-/// What is held after a row of memory or a machine, and whether it agrees; None where it is no row.
-fn after(alloc: Global, held: Held, call: &str, row: &mut Row) -> Option<(Held, bool)> {
-    match call {
-        "memory" => Some((Held::Memory(Memory::new(alloc).ok()?), true)),
-        "elf" => {
-            let (memory, agrees) = elf::agrees(alloc, row)?;
-            Some((Held::Memory(memory), agrees))
-        }
-        call => held.after(alloc, call, row),
-    }
-}
-
-/// Whether what is held answers what the row says. Behind what is no row nothing is held.
-fn agrees_on_held(alloc: Global, held: &mut Held, call: &str, row: &mut Row) -> Option<bool> {
-    let (next, agrees) = after(alloc, mem::replace(held, Held::Nothing), call, row)?;
-    *held = next;
-    Some(agrees)
-}
 
 /// Whether the call answers what the row says; None where it is no row.
 fn agrees(alloc: Global, held: &mut Held, row: &mut Row) -> Option<bool> {
@@ -68,7 +48,7 @@ fn agrees(alloc: Global, held: &mut Held, row: &mut Row) -> Option<bool> {
         "alu" => alu::agrees(row),
         "syscall" => syscall::agrees(alloc, row),
         "program" => program::agrees(alloc, row),
-        call => agrees_on_held(alloc, held, call, row),
+        call => held.agrees(alloc, call, row),
     }
 }
 

@@ -1,5 +1,5 @@
 // Rows of syscalls: the call, what surrounds it, and the answer.
-ghost use Rattle.std.specs.Prelude.{◌≡◌};
+ghost use Rattle.std.specs.Prelude.{◌≡◌, true};
 
 use crate::row::Row;
 use crate::shown::Shown;
@@ -105,6 +105,19 @@ fn are_alike(memory: &Memory, other: &Memory) -> bool {
     have_same_bytes(memory, other) && have_same_code(memory, other)
 }
 
+fn write(memory: &mut Memory, alloc: Global, runs: &str, changes: &str, code: &str) -> Option<()> {
+    write_runs(alloc, memory, runs)?;
+    write_runs(alloc, memory, changes)?;
+    make_code(memory, code)
+}
+
+/// Memory with runs of bytes, and over them what a call changes, and its pages of code.
+fn memory_of(alloc: Global, runs: &str, changes: &str, code: &str) -> Option<Memory> {
+    let mut memory = Memory::new(alloc).ok()?;
+    let is_written = write(&mut memory, alloc, runs, changes, code);
+    is_written.map(|()| memory)
+}
+
 fn agrees_on_done(
     alloc: Global,
     machine: &mut Machine,
@@ -113,39 +126,10 @@ fn agrees_on_done(
 ) -> Option<bool> {
     let result = u64::from_str_radix(row.word(), 16).ok()?;
     let cycles = row.count()?;
-    let mut wanted = Memory::new(alloc).ok()?;
-    write_runs(alloc, &mut wanted, before)?;
-    write_runs(alloc, &mut wanted, row.word())?;
-    make_code(&mut wanted, row.word())?;
+    let changes = row.word();
+    let wanted = memory_of(alloc, before, changes, row.word())?;
     let is_paid = machine.reg(10) == result && machine.cycles() == cycles;
     Some(is_paid && are_alike(machine.memory_mut(), &wanted))
-}
-
-/// Whether the call of a row is answered as the row says; None where it is no row.
-pub(crate) fn agrees(alloc: Global, row: &mut Row) -> Option<bool> {
-    let registers = row.word();
-    let budget = row.count()?;
-    if budget > BUDGET_LIMIT {
-        return None;
-    }
-    let mut world = Shown::new(alloc, row.word())?;
-    let before = row.word();
-    let mut memory = Memory::new(alloc).ok()?;
-    write_runs(alloc, &mut memory, before)?;
-    make_code(&mut memory, row.word())?;
-    let mut machine = Machine::new(memory, 0, 0, budget);
-    set_call(&mut machine, registers);
-    let wanted = row.word();
-    let answer = handle(&mut machine, &mut world);
-    match answer {
-        Sys::Done => {
-            if wanted != "done" {
-                return Some(false);
-            }
-            agrees_on_done(alloc, &mut machine, before, row)
-        }
-        answer => is_named(answer, wanted),
-    }
 }
 
 fn is_named(answer: Sys, wanted: &str) -> Option<bool> {
@@ -155,4 +139,49 @@ fn is_named(answer: Sys, wanted: &str) -> Option<bool> {
         Sys::Spent => Some(wanted == "spent"),
         _ => Some(wanted == "stop"),
     }
+}
+
+/// The answer of the call that a machine is at, over a world that shows an item.
+fn answer_of(alloc: Global, machine: &mut Machine, item: &str) -> Option<Sys>
+    requires { machine.old.goes_on ≡ true }
+{
+    let mut world = Shown::new(alloc, item)?;
+    Some(handle(machine, &mut world))
+}
+
+fn agrees_on(
+    alloc: Global,
+    machine: &mut Machine,
+    item: &str,
+    before: &str,
+    row: &mut Row,
+) -> Option<bool>
+    requires { machine.old.goes_on ≡ true }
+{
+    let wanted = row.word();
+    match answer_of(alloc, machine, item)? {
+        Sys::Done => {
+            if wanted == "done" {
+                agrees_on_done(alloc, machine, before, row)
+            } else {
+                Some(false)
+            }
+        }
+        answer => is_named(answer, wanted),
+    }
+}
+
+/// Whether the call of a row is answered as the row says; None where it is no row.
+pub(crate) fn agrees(alloc: Global, row: &mut Row) -> Option<bool> {
+    let registers = row.word();
+    let budget = row.count()?;
+    if budget > BUDGET_LIMIT {
+        return None;
+    }
+    let item = row.word();
+    let before = row.word();
+    let memory = memory_of(alloc, before, "-", row.word())?;
+    let mut machine = Machine::new(memory, 0, 0, budget);
+    set_call(&mut machine, registers);
+    agrees_on(alloc, &mut machine, item, before, row)
 }
