@@ -1,5 +1,5 @@
 -- What a function's clauses say where it ends in an error.
-use Rattle.std.proofs.Common.{◌≡◌, ℕ, Result, Ok, Err, refl, ap, subst, arith}
+use Rattle.std.proofs.Common.{◌≡◌, ℕ, Bool, true, false, Result, Ok, Err, refl, ap, subst, arith}
 use Rattle.outside.specs.Causes.{CountsFault}
 use Rattle.outside.specs.declared.disk.Damage.{Damage}
 use Rattle.outside.specs.declared.disk.ReadStop.{ReadStop}
@@ -7,15 +7,18 @@ use Rattle.outside.specs.declared.disk.ReadStop.TheVariants.{DiskFault, NoMemory
 use Rattle.block_judge.specs.declared.stop.Judged.{Judged}
 use Rattle.block_judge.specs.declared.stop.Judged.TheVariants.{Broken, Read}
 
+pub same_stop : {T E : Type 0} {stop given : E} → ◌≡◌ {A = Result T E} (Err stop) (Err given) → stop ≡ given
+same_stop same = cc
+
+pub same_rule : {T : Type 0} {rule given : ℕ} → ◌≡◌ {A = Result T Judged} (Err (Broken rule)) (Err (Broken given)) → rule ≡ given
+same_rule same = cc
+
 -- an error is that of the step that gave it
 pub as_step : {T U E : Type 0} {stop given : E} → ◌≡◌ {A = Result U E} (Err stop) (Err given) → ◌≡◌ {A = Result T E} (Err stop) (Err given)
-as_step {T = T} {E = E} {stop = stop} {given = given} same = ap as_error same_stop
+as_step {T = T} {E = E} same = ap as_error (same_stop same)
   where
     as_error : E → Result T E
     as_error it = Err it
-
-    same_stop : stop ≡ given
-    same_stop = cc
 
 pub as_read : {T U : Type 0} {stop given : ReadStop} → ◌≡◌ {A = Result U Judged} (Err (Read stop)) (Err (Read given)) → ◌≡◌ {A = Result T ReadStop} (Err stop) (Err given)
 as_read {T = T} {stop = stop} {given = given} same = ap as_error same_stop
@@ -47,6 +50,12 @@ no_damage same = absurd (cc)
 
 pub no_fault : {T : Type 0} → ◌≡◌ {A = Result T Judged} (Err (Read NoMemory)) (Err (Read DiskFault)) → ⊥
 no_fault same = absurd (cc)
+
+pub no_read : {T : Type 0} {rule : ℕ} {stop : ReadStop} → ◌≡◌ {A = Result T Judged} (Err (Broken rule)) (Err (Read stop)) → ⊥
+no_read same = absurd (cc)
+
+pub not_both : {test : Bool} → test ≡ true → test ≡ false → ⊥
+not_both holds fails = absurd (cc)
 
 -- ---- The count of faults
 

@@ -92,9 +92,16 @@ pub(crate) fn judge_transaction<C: Cells, B: Blocks>(
         Err(stop) => return Err(stopped(stop, proposed)),
     };
     if !proposed {
+        drop(ok);
         return Err(Judged::Broken(19));
     }
-    let cycles = run_scripts(alloc, at, &ok.resolved, blocks, left)?;
+    let cycles = match run_scripts(alloc, at, &ok.resolved, blocks, left) {
+        Ok(cycles) => cycles,
+        Err(stop) => {
+            drop(ok);
+            return Err(stop);
+        }
+    };
     Ok(Taken {
         hash: ok.resolved.hash,
         fee: ok.fee,
