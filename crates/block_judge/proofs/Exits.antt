@@ -13,6 +13,9 @@ same_stop same = cc
 pub same_rule : {T : Type 0} {rule given : ℕ} → ◌≡◌ {A = Result T Judged} (Err (Broken rule)) (Err (Broken given)) → rule ≡ given
 same_rule same = cc
 
+pub same_read : {T : Type 0} {stop given : ReadStop} → ◌≡◌ {A = Result T Judged} (Err (Read stop)) (Err (Read given)) → stop ≡ given
+same_read same = cc
+
 -- an error is that of the step that gave it
 pub as_step : {T U E : Type 0} {stop given : E} → ◌≡◌ {A = Result U E} (Err stop) (Err given) → ◌≡◌ {A = Result T E} (Err stop) (Err given)
 as_step {T = T} {E = E} same = ap as_error (same_stop same)
@@ -21,22 +24,16 @@ as_step {T = T} {E = E} same = ap as_error (same_stop same)
     as_error it = Err it
 
 pub as_read : {T U : Type 0} {stop given : ReadStop} → ◌≡◌ {A = Result U Judged} (Err (Read stop)) (Err (Read given)) → ◌≡◌ {A = Result T ReadStop} (Err stop) (Err given)
-as_read {T = T} {stop = stop} {given = given} same = ap as_error same_stop
+as_read {T = T} same = ap as_error (same_read same)
   where
     as_error : ReadStop → Result T ReadStop
     as_error it = Err it
 
-    same_stop : stop ≡ given
-    same_stop = cc
-
 pub as_judged : {T U : Type 0} {stop given : ReadStop} → ◌≡◌ {A = Result T ReadStop} (Err stop) (Err given) → ◌≡◌ {A = Result U Judged} (Err (Read stop)) (Err (Read given))
-as_judged {U = U} {stop = stop} {given = given} same = ap as_error same_stop
+as_judged {U = U} same = ap as_error (same_stop same)
   where
     as_error : ReadStop → Result U Judged
     as_error it = Err (Read it)
-
-    same_stop : stop ≡ given
-    same_stop = cc
 
 -- no answer is an error; what could not be read breaks no rule, and want of memory is neither damage nor a fault
 pub no_error : {T E : Type 0} {value : T} {stop : E} → ◌≡◌ {A = Result T E} (Ok value) (Err stop) → ⊥
@@ -53,6 +50,12 @@ no_fault same = absurd (cc)
 
 pub no_read : {T : Type 0} {rule : ℕ} {stop : ReadStop} → ◌≡◌ {A = Result T Judged} (Err (Broken rule)) (Err (Read stop)) → ⊥
 no_read same = absurd (cc)
+
+pub not_damage : {damage : Damage} → Damaged damage ≡ NoMemory → ⊥
+not_damage same = absurd (cc)
+
+pub not_fault : DiskFault ≡ NoMemory → ⊥
+not_fault same = absurd (cc)
 
 pub not_both : {test : Bool} → test ≡ true → test ≡ false → ⊥
 not_both holds fails = absurd (cc)
