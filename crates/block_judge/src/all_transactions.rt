@@ -61,6 +61,16 @@ fn push_fee(fees: &mut Vec<u64>, fee: u64) -> Result<(), NoMemory>
     Ok(())
 }
 
+/// Puts what an ext has of a transaction behind what is there: its fee, and the rows of its inputs that kept blocks made,
+/// of which there are `e`.
+fn push_ext(ext: &mut Ext, taken: &Taken, e: u32) -> Result<(), NoMemory>
+    ensures fees { OnOk result (ext.new.fees ≡ ext.old.fees ++ taken.now.fee ∷ []) }
+    ensures spent { OnOk result (ext.new.spent ≡ ext.old.spent ++ filter (λ it. nat_lt it.1.block e) (map row_in taken.now.inputs.items)) }
+{
+    push_fee(&mut ext.fees, taken.fee)?;
+    push_spent(&mut ext.spent, &taken.inputs, e)
+}
+
 impl<'a, C: Cells> Progress<'a, C> {
     /// That of the cellbase alone: it takes no cycles, and the ext has nothing of it.
     fn behind(
@@ -109,8 +119,7 @@ impl<'a, C: Cells> Progress<'a, C> {
             ≡ row_after e (events_of tx.now height place) (with_changes self.old.cells.changed (C.rows self.old.cells.base.now)) o) }
     {
         self.cells.take(tx, &taken.hash, place, e)?;
-        push_fee(&mut self.ext.fees, taken.fee)?;
-        push_spent(&mut self.ext.spent, &taken.inputs, e)?;
+        push_ext(&mut self.ext, taken, e)?;
         self.left -= taken.cycles;
         Ok(())
     }
@@ -237,7 +246,10 @@ pub(crate) fn judge_transactions<C: Cells, B: Blocks>(
         let tx = block.transactions_item(place);
         match progress.judge_next(alloc, &tx, &at, &proposed, blocks, place as u32) {
             Ok(()) => {}
-            Err(stop) => return Err(stop),
+            Err(stop) => {
+                drop(progress);
+                return Err(stop);
+            }
         }
     }
     Ok(progress.ext)
