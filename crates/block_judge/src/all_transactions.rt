@@ -101,13 +101,7 @@ impl<'a, C: Cells> Progress<'a, C> {
     }
 
     /// Takes what a transaction at a place behind the cellbase does, which keeps its rules.
-    fn take(
-        &mut self,
-        tx: &TxView<'_>,
-        taken: &Taken,
-        place: u32,
-        e: u32,
-    ) -> Result<(), NoMemory>
+    fn take(&mut self, tx: &TxView<'_>, taken: &Taken, place: u32, e: u32) -> Result<(), NoMemory>
         requires hash { taken.now.hash ≡ transaction_hash tx.now }
         requires cycles { taken.now.cycles ≤ self.old.left }
         ensures within { self.new.left ≤ self.old.left }
@@ -246,10 +240,7 @@ pub(crate) fn judge_transactions<C: Cells, B: Blocks>(
         let tx = block.transactions_item(place);
         match progress.judge_next(alloc, &tx, &at, &proposed, blocks, place as u32) {
             Ok(()) => {}
-            Err(stop) => {
-                drop(progress);
-                return Err(stop);
-            }
+            Err(stop) => return Err(stop),
         }
     }
     Ok(progress.ext)

@@ -7,11 +7,7 @@ use cell_model::{CellMeta, OutPoint, Resolved};
 use outside::NoMemory;
 
 /// Puts the row of an input behind those that are there, if a kept block made it, of which there are `e`.
-fn push_row(
-    spent: &mut Vec<(OutPoint, CellMeta)>,
-    input: &Resolved,
-    e: u32,
-) -> Result<(), NoMemory>
+fn push_row(spent: &mut Vec<(OutPoint, CellMeta)>, input: &Resolved, e: u32) -> Result<(), NoMemory>
     ensures { OnOk result (spent.new.items ≡ spent.old.items ++ (if nat_lt input.now.row.block e then row_in input.now ∷ [] else [])) }
 {
     if input.meta.block < e {

@@ -91,6 +91,7 @@ pub(crate) fn judge_transaction<C: Cells, B: Blocks>(
         Ok(ok) => ok,
         Err(stop) => return Err(stopped(stop, proposed)),
     };
+    // What was resolved is dropped by a call, which is one step of the proof; else each of its fields is one.
     if !proposed {
         drop(ok);
         return Err(Judged::Broken(19));

@@ -1,4 +1,4 @@
-use Rattle.std.proofs.Common.{◌≡◌, ℕ, ◌<◌, length, Some, None, sym, ap, ◌∙◌, arith}
+use Rattle.std.proofs.Common.{◌≡◌, ◌<◌, length, Some, None, sym, ap, ◌∙◌, arith}
 use Rattle.std.proofs.lemmas.Result.{IfOk-weaker}
 use Rattle.fold_defs.specs.First.{first_failing}
 use Rattle.chain_defs.specs.Branch.{branch}
@@ -66,7 +66,7 @@ returns g c = record {
       (λ _. first_failing (family_rules c.args.spec.now (branch (blocks_of stored) c.args.parent) c.args.block.now) ≡ None)
       (λ _. first_failing (ahead c.args.spec.now (branch (blocks_of stored) c.args.parent) c.args.block.now) ≡ None)
       (λ _ keeps.
-          leaves-family c.args.spec.now (branch (blocks_of stored) c.args.parent) c.args.block.now
-          (c.in_default.ensures.of_blocks (blocks_of stored) c.args.block.now stands.indexed c.header.ensures) (sym c.in_default-broken.is ∙ c.in-Ok.ensures) ∙ keeps)
+      leaves-family c.args.spec.now (branch (blocks_of stored) c.args.parent) c.args.block.now
+      (c.in_default.ensures.of_blocks (blocks_of stored) c.args.block.now stands.indexed c.header.ensures) (sym c.in_default-broken.is ∙ c.in-Ok.ensures) ∙ keeps)
       (c.judge_family.ensures.unbroken stored stands uncles);
 }

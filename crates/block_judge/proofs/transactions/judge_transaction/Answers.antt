@@ -1,4 +1,4 @@
-use Rattle.std.proofs.Common.{◌≡◌, ℕ, inr, Bool, Some, Err, sym, ap, ◌∙◌, subst, arith, rules}
+use Rattle.std.proofs.Common.{◌≡◌, inr, Bool, Some, Err, sym, ap, ◌∙◌, subst, arith}
 use Rattle.fold_defs.specs.First.{first_failing}
 use Rattle.outside.specs.declared.disk.ReadStop.TheVariants.{DiskFault, Damaged}
 use Rattle.codec_defs.specs.Schema.{Transaction}

@@ -1,4 +1,4 @@
-use Rattle.std.proofs.Common.{◌≡◌, ℕ, ◌-◌, [], ◌∷◌, ◌++◌, Some, None, length, refl, ap, ◌∙◌, arith, rules}
+use Rattle.std.proofs.Common.{ℕ, ◌-◌, [], ◌∷◌, ◌++◌, Some, None, length, refl, ap, ◌∙◌, arith, rules}
 use Rattle.std.proofs.lemmas.List.{length_push}
 use Rattle.block_judge.proofs.Exits.{as_step, no_error, no_rule, no_damage, no_fault, counts-on, counts-none}
 use Rattle.block_judge.proofs.NextLemmas.{by-proposed, spent-next}
