@@ -1,6 +1,6 @@
 -- The rules that are tried ahead of the transactions, one group after another, and all rules of a block.
 use Rattle.std.proofs.Common.{◌≡◌, ℕ, ◌<◌, ◌≤◌, inl, inr, Bool, true, false, ◌&&◌, List, [], ◌∷◌, ◌++◌, length, map, Option, Some, None, refl, sym, ap, ◌∙◌, arith, append_assoc, subst}
-use Rattle.std.specs.Prelude.{option_map, is_some, Result, Ok, Err, IsErrAnd}
+use Rattle.std.specs.Prelude.{option_map, is_some}
 use Rattle.std.specs.List.{All}
 use Rattle.std.proofs.lemmas.List.Elements.{All-nil, All-cons, All-head, All-tail}
 use Rattle.std.proofs.lemmas.Option.{same_Some}
@@ -23,7 +23,8 @@ use Rattle.outside.specs.declared.disk.ReadStop.{ReadStop}
 use Rattle.outside.specs.declared.disk.ReadStop.TheVariants.{DiskFault, NoMemory, Damaged}
 use Rattle.block_judge.specs.declared.stop.Judged.{Judged}
 use Rattle.block_judge.specs.declared.stop.Judged.TheVariants.{Broken, Read}
-use Rattle.block_judge.specs.Ahead.{ahead, StopsAhead, SaysAhead, StopsRated, SaysRated}
+use Rattle.block_judge.specs.Ahead.{ahead, StopsAhead, StopsRated}
+use Rattle.block_judge.proofs.Exits.{not_damage, not_fault}
 
 -- ---- Rules ahead of the transactions
 
@@ -64,35 +65,31 @@ breaks-body spec on b rule header is =
     first_failing-append-holds (header_rules spec on b) (body_rules spec b ++ family_rules spec on b) ((finds_none (header_rules spec on b)).0 (sym header))
     ∙ first_failing-append-fails rule (body_rules spec b) (family_rules spec on b) (sym is)
 
-leaves-family : (spec : Specification) (on : List Block) (b : Block) → None ≡ first_failing (header_rules spec on b) → None ≡ first_failing (body_rules spec b)
+pub leaves-family : (spec : Specification) (on : List Block) (b : Block) → None ≡ first_failing (header_rules spec on b) → None ≡ first_failing (body_rules spec b)
     → first_failing (ahead spec on b) ≡ first_failing (family_rules spec on b)
 leaves-family spec on b header body =
     first_failing-append-holds (header_rules spec on b) (body_rules spec b ++ family_rules spec on b) ((finds_none (header_rules spec on b)).0 (sym header))
     ∙ first_failing-append-holds (body_rules spec b) (family_rules spec on b) ((finds_none (body_rules spec b)).0 (sym body))
 
-pub breaks-15 : (spec : Specification) (on : List Block) (b : Block) → None ≡ first_failing (header_rules spec on b) → None ≡ first_failing (body_rules spec b)
-    → has_uncles spec on b ≡ false → first_failing (ahead spec on b) ≡ Some 15
-breaks-15 spec on b header body uncles = leaves-family spec on b header body ∙ first_failing-fails 15 (has_uncles spec on b) _ uncles
+pub breaks-15 : (spec : Specification) (on : List Block) (b : Block) → has_uncles spec on b ≡ false → first_failing (family_rules spec on b) ≡ Some 15
+breaks-15 spec on b uncles = first_failing-fails 15 (has_uncles spec on b) _ uncles
 
-pub breaks-16 : (spec : Specification) (on : List Block) (b : Block) → None ≡ first_failing (header_rules spec on b) → None ≡ first_failing (body_rules spec b)
-    → has_uncles spec on b ≡ true → has_cellbase b ≡ false → first_failing (ahead spec on b) ≡ Some 16
-breaks-16 spec on b header body uncles cellbase =
-    leaves-family spec on b header body ∙ first_failing-holds 15 (has_uncles spec on b) _ uncles ∙ first_failing-fails 16 (has_cellbase b) _ cellbase
+pub breaks-16 : (spec : Specification) (on : List Block) (b : Block) → has_uncles spec on b ≡ true → has_cellbase b ≡ false
+    → first_failing (family_rules spec on b) ≡ Some 16
+breaks-16 spec on b uncles cellbase = first_failing-holds 15 (has_uncles spec on b) _ uncles ∙ first_failing-fails 16 (has_cellbase b) _ cellbase
 
-leaves-17 : (spec : Specification) (on : List Block) (b : Block) → None ≡ first_failing (header_rules spec on b) → None ≡ first_failing (body_rules spec b)
-    → has_uncles spec on b ≡ true → has_cellbase b ≡ true → first_failing (ahead spec on b) ≡ first_failing ((17, forms_cellbase (live_cell on) b) ∷ [])
-leaves-17 spec on b header body uncles cellbase =
-    leaves-family spec on b header body ∙ first_failing-holds 15 (has_uncles spec on b) _ uncles ∙ first_failing-holds 16 (has_cellbase b) _ cellbase
+leaves-17 : (spec : Specification) (on : List Block) (b : Block) → has_uncles spec on b ≡ true → has_cellbase b ≡ true
+    → first_failing (family_rules spec on b) ≡ first_failing ((17, forms_cellbase (live_cell on) b) ∷ [])
+leaves-17 spec on b uncles cellbase = first_failing-holds 15 (has_uncles spec on b) _ uncles ∙ first_failing-holds 16 (has_cellbase b) _ cellbase
 
-pub breaks-17 : (spec : Specification) (on : List Block) (b : Block) → None ≡ first_failing (header_rules spec on b) → None ≡ first_failing (body_rules spec b)
-    → has_uncles spec on b ≡ true → has_cellbase b ≡ true → forms_cellbase (live_cell on) b ≡ false → first_failing (ahead spec on b) ≡ Some 17
-breaks-17 spec on b header body uncles cellbase form =
-    leaves-17 spec on b header body uncles cellbase ∙ first_failing-fails 17 (forms_cellbase (live_cell on) b) [] form
+pub breaks-17 : (spec : Specification) (on : List Block) (b : Block) → has_uncles spec on b ≡ true → has_cellbase b ≡ true
+    → forms_cellbase (live_cell on) b ≡ false → first_failing (family_rules spec on b) ≡ Some 17
+breaks-17 spec on b uncles cellbase form = leaves-17 spec on b uncles cellbase ∙ first_failing-fails 17 (forms_cellbase (live_cell on) b) [] form
 
-pub keeps-ahead : (spec : Specification) (on : List Block) (b : Block) → None ≡ first_failing (header_rules spec on b) → None ≡ first_failing (body_rules spec b)
-    → has_uncles spec on b ≡ true → has_cellbase b ≡ true → forms_cellbase (live_cell on) b ≡ true → first_failing (ahead spec on b) ≡ None
-keeps-ahead spec on b header body uncles cellbase form =
-    leaves-17 spec on b header body uncles cellbase ∙ first_failing-holds 17 (forms_cellbase (live_cell on) b) [] form ∙ first_failing-none
+pub keeps-family : (spec : Specification) (on : List Block) (b : Block) → has_uncles spec on b ≡ true → has_cellbase b ≡ true
+    → forms_cellbase (live_cell on) b ≡ true → first_failing (family_rules spec on b) ≡ None
+keeps-family spec on b uncles cellbase form =
+    leaves-17 spec on b uncles cellbase ∙ first_failing-holds 17 (forms_cellbase (live_cell on) b) [] form ∙ first_failing-none
 
 -- a block with a cellbase has a transaction
 pub has-first : (b : Block) → has_cellbase b ≡ true → 0 < length b.transactions
@@ -152,46 +149,22 @@ keeps-all spec on b kept judged rated = at-end spec on b kept judged ∙ first_f
 
 -- ---- Answers over any source of blocks
 
--- a step ahead of the transactions that stopped, handed on
-pub stops-ahead : {T U : Type 0} (first : Option ℕ) (stop : Judged) (step : Result T Judged) (result : Result U Judged) → step ≡ Err stop
-    → IsErrAnd result (λ it. it ≡ stop) → ((rule : ℕ) → step ≡ Err (Broken rule) → first ≡ Some rule)
-    → ((why : ReadStop) → step ≡ Err (Read why) → why ≡ NoMemory) → SaysAhead first result
-stops-ahead first stop step (Ok it) was is broken memory = absurd is
-stops-ahead {T = T} first stop step (Err given) was is broken memory = by_stop given (was ∙ ap as_error (sym is))
-  where
-    as_error : Judged → Result T Judged
-    as_error it = Err it
+-- a stop ahead of the transactions
+pub stops-ahead : (first : Option ℕ) (stop : Judged) → ((rule : ℕ) → stop ≡ Broken rule → first ≡ Some rule)
+    → ((why : ReadStop) → stop ≡ Read why → why ≡ NoMemory) → StopsAhead first stop
+stops-ahead first (Broken rule) broken memory = inl (broken rule refl)
+stops-ahead first (Read NoMemory) broken memory = tt
+stops-ahead first (Read DiskFault) broken memory = absurd (not_fault (memory DiskFault refl))
+stops-ahead first (Read (Damaged damage)) broken memory = absurd (not_damage (memory (Damaged damage) refl))
 
-    by_stop : (given : Judged) → step ≡ Err given → StopsAhead first given
-    by_stop (Broken rule) same = inl (broken rule same)
-    by_stop (Read NoMemory) same = tt
-    by_stop (Read DiskFault) same = let no = memory DiskFault same in absurd (cc)
-    by_stop (Read (Damaged damage)) same = let no = memory (Damaged damage) same in absurd (cc)
+-- one behind them, where none is broken
+pub stops-behind : (first : Option ℕ) (stop : Judged) → first ≡ None → ((rule : ℕ) → stop ≡ Broken rule → 17 < rule) → StopsAhead first stop
+stops-behind first (Broken rule) none later = inr (later rule refl, none)
+stops-behind first (Read NoMemory) none later = tt
+stops-behind first (Read DiskFault) none later = none
+stops-behind first (Read (Damaged damage)) none later = none
 
--- a step behind them, where none is broken
-pub stops-behind : {T U : Type 0} (first : Option ℕ) (stop : Judged) (step : Result T Judged) (result : Result U Judged) → step ≡ Err stop
-    → IsErrAnd result (λ it. it ≡ stop) → first ≡ None → ((rule : ℕ) → step ≡ Err (Broken rule) → 17 < rule) → SaysAhead first result
-stops-behind first stop step (Ok it) was is none later = absurd is
-stops-behind {T = T} first stop step (Err given) was is none later = by_stop given (was ∙ ap as_error (sym is))
-  where
-    as_error : Judged → Result T Judged
-    as_error it = Err it
-
-    by_stop : (given : Judged) → step ≡ Err given → StopsAhead first given
-    by_stop (Broken rule) same = inr (later rule same, none)
-    by_stop (Read NoMemory) same = tt
-    by_stop (Read DiskFault) same = none
-    by_stop (Read (Damaged damage)) same = none
-
--- a step that does not try J32
-pub stops-unrated : {T U : Type 0} (rated : Bool) (stop : Judged) (step : Result T Judged) (result : Result U Judged) → step ≡ Err stop
-    → IsErrAnd result (λ it. it ≡ stop) → ((rule : ℕ) → step ≡ Err (Broken rule) → rule < 32) → SaysRated rated result
-stops-unrated rated stop step (Ok it) was is below = absurd is
-stops-unrated {T = T} rated stop step (Err given) was is below = by_stop given (was ∙ ap as_error (sym is))
-  where
-    as_error : Judged → Result T Judged
-    as_error it = Err it
-
-    by_stop : (given : Judged) → step ≡ Err given → StopsRated rated given
-    by_stop (Broken rule) same = λ last. let low = below rule same in absurd (omega (arith, low, last))
-    by_stop (Read why) same = tt
+-- one at a rule before J32
+pub stops-unrated : (rated : Bool) (stop : Judged) → ((rule : ℕ) → stop ≡ Broken rule → rule < 32) → StopsRated rated stop
+stops-unrated rated (Broken rule) below = λ last. let low = below rule refl in absurd (omega (arith, low, last))
+stops-unrated rated (Read why) below = tt

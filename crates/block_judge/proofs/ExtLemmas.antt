@@ -1,8 +1,9 @@
 -- The rows that an ext has of a transaction.
-use Rattle.std.proofs.Common.{◌≡◌, ℕ, ◌<◌, nat_lt, inl, inr, ◌⊎◌, Bool, cond, List, [], ◌∷◌, length, map, Option, Some, None, refl, sym, ap, ◌∙◌, subst, arith}
+use Rattle.std.proofs.Common.{◌≡◌, ℕ, ◌+◌, ◌<◌, ◌≤◌, nat_lt, inl, inr, ◌⊎◌, Bool, cond, List, [], ◌∷◌, ◌++◌, length, map, take, get_or, Option, Some, None, refl, sym, ap, ◌∙◌, subst, arith}
 use Rattle.std.specs.List.{filter, filter_map, cons_option}
 use Rattle.std.proofs.lemmas.Bool.{lt-ltb, le-ltb}
-use Rattle.std.proofs.lemmas.List.Elements.{All-head, All-tail}
+use Rattle.std.proofs.lemmas.List.{append_assoc, map-append, take_all, take_more}
+use Rattle.std.proofs.lemmas.List.Elements.{All-head, All-tail, filter-append}
 use Rattle.codec_defs.specs.Schema.{OutPoint, Transaction, Block}
 use Rattle.chain_defs.specs.Branch.{branch}
 use Rattle.chain_tree.specs.Told.{Stored, blocks_of}
@@ -69,3 +70,28 @@ pub rows-spent : (stored : List Stored) (at : AtValue) (rows : OutPoint → Opti
 rows-spent stored at rows site t copies placed is spends =
     ap (filter (λ (it : OutPoint × Row). nat_lt it.1.block (length at.entries))) spends
     ∙ rows-before stored at rows site (inputs site t) placed is (inputs-seen site t)
+
+-- ---- One input after the other
+
+-- the rows of the inputs up to one more
+pub spent-more : (e : ℕ) (copies : List ResolvedValue) (i : ℕ) (copy : ResolvedValue) (old before new : List (OutPoint × Row)) → i < length copies
+    → copy ≡ get_or copies i copy → before ≡ old ++ filter (λ it. nat_lt it.1.block e) (map row_in (take i copies))
+    → new ≡ before ++ cond (nat_lt copy.row.block e) (row_in copy ∷ []) []
+    → new ≡ old ++ filter (λ it. nat_lt it.1.block e) (map row_in (take (i + 1) copies))
+spent-more e copies i copy old before new within is so_far pushed =
+    pushed
+    ∙ ap (λ (front : List (OutPoint × Row)). front ++ filter (is_below e) (row_in copy ∷ [])) so_far
+    ∙ append_assoc old (filter (is_below e) (map row_in (take i copies))) (filter (is_below e) (row_in copy ∷ []))
+    ∙ ap (λ (rows : List (OutPoint × Row)). old ++ rows) (sym one_more)
+  where
+    one_more : filter (is_below e) (map row_in (take (i + 1) copies)) ≡ filter (is_below e) (map row_in (take i copies)) ++ filter (is_below e) (row_in copy ∷ [])
+    one_more =
+        ap (λ (some : List ResolvedValue). filter (is_below e) (map row_in some))
+        (take_more copies i copy within ∙ ap (λ (it : ResolvedValue). take i copies ++ it ∷ []) (sym is))
+        ∙ ap (filter (is_below e)) (map-append row_in (take i copies) (copy ∷ []))
+        ∙ filter-append (is_below e) (map row_in (take i copies)) (row_in copy ∷ [])
+
+pub spent-each : (e : ℕ) (copies : List ResolvedValue) (i : ℕ) (old new : List (OutPoint × Row)) → length copies ≤ i
+    → new ≡ old ++ filter (λ it. nat_lt it.1.block e) (map row_in (take i copies)) → new ≡ old ++ filter (λ it. nat_lt it.1.block e) (map row_in copies)
+spent-each e copies i old new past so_far =
+    so_far ∙ ap (λ (all : List ResolvedValue). old ++ filter (is_below e) (map row_in all)) (take_all i copies past)

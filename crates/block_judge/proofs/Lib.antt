@@ -9,3 +9,4 @@ pub mod CellbaseLemmas
 pub mod AheadLemmas
 pub mod NextLemmas
 pub mod RowsLemmas
+pub mod Exits

@@ -92,20 +92,13 @@ stops-by-rows {T = T} rows t (resolving.Broken rule) result follows tried was =
     by_tried (inl same) = inl (same, follows.form (was ∙ ap as_error same))
     by_tried (inr within) = by_rest (rule - 20) (omega (arith, within.0))
 
--- a stop behind both, handed on
-pub later-by-rows : {T U : Type 0} (form spends : Bool) (stop : Judged) (step : Result T Judged) (result : Result U Judged) → step ≡ Err stop
-    → IsErrAnd result (λ it. it ≡ stop) → (form ≡ true) × (spends ≡ true) → ((rule : ℕ) → step ≡ Err (Broken rule) → 20 < rule) → SaysByRows form spends result
-later-by-rows form spends stop step (Ok it) was is kept later = absurd is
-later-by-rows {T = T} form spends stop step (Err given) was is kept later = by_stop given (was ∙ ap as_error (sym is))
-  where
-    as_error : Judged → Result T Judged
-    as_error it = Err it
-
-    by_stop : (given : Judged) → step ≡ Err given → StopsByRows form spends given
-    by_stop (Broken rule) same = inr (kept.0, inr (later rule same, kept.1))
-    by_stop (Read NoMemory) same = tt
-    by_stop (Read DiskFault) same = kept
-    by_stop (Read (Damaged damage)) same = kept
+-- a stop behind both
+pub later-by-rows : (form spends : Bool) (stop : Judged) → (form ≡ true) × (spends ≡ true) → ((rule : ℕ) → stop ≡ Broken rule → 20 < rule)
+    → StopsByRows form spends stop
+later-by-rows form spends (Broken rule) kept later = inr (kept.0, inr (later rule refl, kept.1))
+later-by-rows form spends (Read NoMemory) kept later = tt
+later-by-rows form spends (Read DiskFault) kept later = kept
+later-by-rows form spends (Read (Damaged damage)) kept later = kept
 
 -- an answer that is handed on says the same
 pub handed-by-rows : {T U : Type 0} (form spends : Bool) (stop : Judged) (step : Result T Judged) (result : Result U Judged) → step ≡ Err stop

@@ -1,8 +1,7 @@
 -- What comes of the scripts of a transaction, by the rules on them.
-use Rattle.std.proofs.Common.{◌≡◌, ℕ, Bool, List, [], ◌∷◌, Some, None, Result, Ok, Err, refl, sym, ap, ◌∙◌}
+use Rattle.std.proofs.Common.{◌≡◌, ◌≤◌, ℕ, Bool, List, [], ◌∷◌, Some, None, Result, Ok, Err, refl, sym, ap, ◌∙◌, arith}
 use Rattle.fold_defs.specs.First.{first_failing}
-use Rattle.outside.specs.declared.disk.Damage.{Damage}
-use Rattle.outside.specs.declared.disk.ReadStop.TheVariants.{Damaged}
+use Rattle.outside.specs.declared.disk.ReadStop.{ReadStop}
 use Rattle.script_defs.specs.declared.failure.Failure.{Failure}
 use Rattle.script_defs.specs.declared.failure.Failure.TheVariants.{NoCode, ManyCodes, BadElf, MachineFault, ExitNot0, Spent}
 use Rattle.script_defs.specs.Scene.{Scene}
@@ -12,6 +11,7 @@ use Rattle.script_run.specs.declared.stop.ScriptStop.{ScriptStop}
 use Rattle.script_run.specs.declared.stop.ScriptStop.TheVariants as running
 use Rattle.script_run.specs.Running.{IsOutcome}
 use Rattle.block_judge.specs.declared.stop.Judged.TheVariants.{Broken, Read}
+use Rattle.block_judge.specs.Standing.{IsScriptRule}
 use Rattle.block_judge.specs.Stops.{of_running}
 
 -- the rules of an outcome
@@ -47,7 +47,20 @@ scripts-break scene left rule (running.Failed f) is same =
     by_rule e = cc
 scripts-break scene left rule (running.Read stop) is same = absurd (cc)
 
--- damage is handed on, and comes of damage alone
-pub damage-of-running : (stop : ScriptStop) (damage : Damage) → of_running stop ≡ Read (Damaged damage) → stop ≡ running.Read (Damaged damage)
-damage-of-running (running.Failed f) damage same = absurd (cc)
-damage-of-running (running.Read stop) damage same = cc
+-- the rules that are tried
+pub script-rule : (stop : ScriptStop) (rule : ℕ) → of_running stop ≡ Broken rule → IsScriptRule rule
+script-rule (running.Failed f) rule same = let is : rule_of f ≡ rule = cc in let its = one_of f in (omega (arith, is, its.0), omega (arith, is, its.1))
+  where
+    one_of : (failure : Failure) → (28 ≤ rule_of failure) × (rule_of failure ≤ 30)
+    one_of (NoCode group) = (omega arith, omega arith)
+    one_of (ManyCodes group) = (omega arith, omega arith)
+    one_of (BadElf group condition) = (omega arith, omega arith)
+    one_of (MachineFault group number) = (omega arith, omega arith)
+    one_of (ExitNot0 group code) = (omega arith, omega arith)
+    one_of Spent = (omega arith, omega arith)
+script-rule (running.Read stop) rule same = absurd (cc)
+
+-- what could not be read is handed on, and comes of that alone
+pub reads-running : (stop : ScriptStop) (given : ReadStop) → of_running stop ≡ Read given → stop ≡ running.Read given
+reads-running (running.Failed f) given same = absurd (cc)
+reads-running (running.Read stop) given same = cc

@@ -1,5 +1,5 @@
 -- The rules on a transaction, tried one group after another.
-use Rattle.std.proofs.Common.{◌≡◌, ℕ, Bool, true, false, ◌||◌, ◌==◌, eqb, cond, List, [], ◌∷◌, ◌++◌, map, Some, None, Result, Err, refl, sym, ap, ◌∙◌, subst}
+use Rattle.std.proofs.Common.{◌≡◌, ℕ, inl, inr, Bool, true, false, ◌||◌, ◌==◌, eqb, cond, List, [], ◌∷◌, ◌++◌, map, Some, None, Result, Err, refl, sym, ap, ◌∙◌, subst, arith}
 use Rattle.std.specs.Prelude.{IsErrAnd}
 use Rattle.std.specs.List.{AllZip, list_any}
 use Rattle.std.proofs.lemmas.Bool.{eq-eqb, eqb-true}
@@ -7,8 +7,7 @@ use Rattle.std.proofs.lemmas.Option.{same_Some}
 use Rattle.codec_defs.specs.Schema.{OutPoint, Block, Transaction}
 use Rattle.fold_defs.specs.First.{first_failing}
 use Rattle.fold_defs.proofs.FirstLemmas.{first_failing-append-fails, first_failing-append-holds, finds_none}
-use Rattle.outside.specs.declared.disk.Damage.{Damage}
-use Rattle.outside.specs.declared.disk.ReadStop.TheVariants.{Damaged}
+use Rattle.outside.specs.declared.disk.ReadStop.{ReadStop}
 use Rattle.cell_defs.specs.Row.{Row}
 use Rattle.cell_model.specs.Copies.{ResolvedValue, ResolvedTxValue}
 use Rattle.tx_defs.specs.Site.{Site, Found}
@@ -16,11 +15,12 @@ use Rattle.tx_defs.specs.Resolving.{inputs}
 use Rattle.tx_defs.specs.Rules.{has_form, form_rules, cell_rules, broken_transaction_rule}
 use Rattle.tx_rules.specs.At.{found_row}
 use Rattle.tx_rules.specs.Copying.{row_in}
-use Rattle.tx_rules.specs.Outcome.{Copies, IsResolved}
+use Rattle.tx_rules.specs.Outcome.{Copies, IsResolved, IsTried}
 use Rattle.tx_rules.specs.declared.resolving.TxStop.{TxStop}
 use Rattle.tx_rules.specs.declared.resolving.TxStop.TheVariants as resolving
 use Rattle.block_judge.specs.declared.stop.Judged.{Judged}
 use Rattle.block_judge.specs.declared.stop.Judged.TheVariants.{Broken, Read}
+use Rattle.block_judge.specs.Standing.{IsTriedAlone, IsTriedOnTransaction}
 use Rattle.block_judge.specs.Stops.{with_proposed, of_resolving}
 
 -- ---- One list of rules, with J19 behind J18
@@ -68,10 +68,44 @@ stops-resolving site t scripts proposed (resolving.Broken number) rule broken sa
     by_rule e = cc
 stops-resolving site t scripts proposed (resolving.Read stop) rule broken same = absurd (cc)
 
-pub damage-of-resolving : (proposed : Bool) (stop : TxStop) (damage : Damage) → of_resolving proposed stop ≡ Read (Damaged damage)
-    → stop ≡ resolving.Read (Damaged damage)
-damage-of-resolving proposed (resolving.Broken number) damage same = absurd (cc)
-damage-of-resolving proposed (resolving.Read stop) damage same = cc
+pub reads-resolving : (proposed : Bool) (stop : TxStop) (given : ReadStop) → of_resolving proposed stop ≡ Read given → stop ≡ resolving.Read given
+reads-resolving proposed (resolving.Broken number) given same = absurd (cc)
+reads-resolving proposed (resolving.Read stop) given same = cc
+
+-- the rules that are tried
+pub tried-resolving : (proposed : Bool) (stop : TxStop) (rule : ℕ) → ((number : ℕ) → stop ≡ resolving.Broken number → IsTried number)
+    → of_resolving proposed stop ≡ Broken rule → IsTriedOnTransaction rule
+tried-resolving proposed (resolving.Read stop) rule tried same = absurd (cc)
+tried-resolving proposed (resolving.Broken number) rule tried same = by_test (eqb number 18 || proposed) by_rule (tried number refl)
+  where
+    by_rule : with_proposed proposed number ≡ rule
+    by_rule = cc
+
+    by_test : (b : Bool) → cond b number 19 ≡ rule → IsTried number → IsTriedOnTransaction rule
+    by_test true is (inl its) = (omega (arith, is, its), omega (arith, is, its))
+    by_test true is (inr its) = (omega (arith, is, its.0), omega (arith, is, its.1))
+    by_test false is its = (omega (arith, is), omega (arith, is))
+
+pub alone-resolving : (proposed : Bool) (stop : TxStop) (rule : ℕ) → proposed ≡ true → ((number : ℕ) → stop ≡ resolving.Broken number → IsTried number)
+    → of_resolving proposed stop ≡ Broken rule → IsTriedAlone rule
+alone-resolving proposed (resolving.Read stop) rule alone tried same = absurd (cc)
+alone-resolving false (resolving.Broken number) rule alone tried same = absurd (cc)
+alone-resolving true (resolving.Broken number) rule alone tried same = by_test (eqb number 18) by_rule (tried number refl)
+  where
+    by_rule : with_proposed true number ≡ rule
+    by_rule = cc
+
+    by_test : (b : Bool) → cond (b || true) number 19 ≡ rule → IsTried number → IsTriedAlone rule
+    by_test true is its = tries is its
+      where
+        tries : number ≡ rule → IsTried number → IsTriedAlone rule
+        tries is (inl its) = inl (omega (arith, is, its))
+        tries is (inr its) = inr (omega (arith, is, its.0), omega (arith, is, its.1))
+    by_test false is its = tries is its
+      where
+        tries : number ≡ rule → IsTried number → IsTriedAlone rule
+        tries is (inl its) = inl (omega (arith, is, its))
+        tries is (inr its) = inr (omega (arith, is, its.0), omega (arith, is, its.1))
 
 unproposed : (form : Bool) (cells later : List (ℕ × Bool)) → first_failing ((18, form) ∷ cells) ≡ None → first_failing ((18, form) ∷ (19, false) ∷ later) ≡ Some 19
 unfolding first_failing

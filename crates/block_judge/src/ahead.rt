@@ -21,8 +21,49 @@ use chain_tree::Tree;
 use dao_math::Dao;
 use epochs::Spec;
 use mol_schema::BlockView;
+use outside::ReadStop;
 use std::alloc::Global;
 use uncle_rules::{Uncles, uncles_ok};
+
+/// J15 to J17: the uncles of a block, and its cellbase.
+fn judge_family<C: Cells>(
+    alloc: Global,
+    spec: &Spec,
+    tree: &Tree,
+    uncles: &Uncles,
+    cells: &C,
+    parent: u32,
+    block: &BlockView<'_>,
+) -> Result<(), Judged>
+    requires parent { parent < length tree.now.entries }
+    ensures tried { (rule : ℕ) → result ≡ Err (Broken rule) → (15 ≤ rule) × (rule ≤ 17) }
+    ensures memory { (stop : a_stop) → result ≡ Err (Read stop) → stop ≡ no_memory }
+    ensures some { IfOk result (λ _. 0 < length block.now.transactions) }
+    ensures broken { (stored : List Stored) → Stands stored tree.now.entries parent (C.rows cells.now) → IndexesUncles (blocks_of stored) uncles.now
+        → (rule : ℕ) → result ≡ Err (Broken rule)
+        → first_failing (rules.family_rules spec.now (branch (blocks_of stored) parent) block.now) ≡ Some rule }
+    ensures unbroken { (stored : List Stored) → Stands stored tree.now.entries parent (C.rows cells.now) → IndexesUncles (blocks_of stored) uncles.now
+        → IfOk result (λ _. first_failing (rules.family_rules spec.now (branch (blocks_of stored) parent) block.now) ≡ None) }
+{
+    let has_uncles = match uncles_ok(alloc, spec, tree, uncles, parent, block) {
+        Ok(has) => has,
+        Err(_) => return Err(Judged::Read(ReadStop::NoMemory)),
+    };
+    if !has_uncles {
+        return Err(Judged::Broken(15));
+    }
+    let begins = match has_cellbase(alloc, block) {
+        Ok(has) => has,
+        Err(_) => return Err(Judged::Read(ReadStop::NoMemory)),
+    };
+    if !begins {
+        return Err(Judged::Broken(16));
+    }
+    if !forms_cellbase(cells, block) {
+        return Err(Judged::Broken(17));
+    }
+    Ok(())
+}
 
 /// J4 to J17, over the cells of the parent's branch. No kept block is read.
 pub(crate) fn judge_ahead<C: Cells>(
@@ -51,19 +92,14 @@ pub(crate) fn judge_ahead<C: Cells>(
     if let Some(rule) = header_rules::check(spec, tree, parent, &block.header()) {
         return Err(Judged::Broken(rule));
     }
-    if let Some(rule) = block_rules::check(alloc, spec, block)? {
+    let broken = match block_rules::check(alloc, spec, block) {
+        Ok(broken) => broken,
+        Err(_) => return Err(Judged::Read(ReadStop::NoMemory)),
+    };
+    if let Some(rule) = broken {
         return Err(Judged::Broken(rule));
     }
-    if !uncles_ok(alloc, spec, tree, uncles, parent, block)? {
-        return Err(Judged::Broken(15));
-    }
-    if !has_cellbase(alloc, block)? {
-        return Err(Judged::Broken(16));
-    }
-    if !forms_cellbase(cells, block) {
-        return Err(Judged::Broken(17));
-    }
-    Ok(())
+    judge_family(alloc, spec, tree, uncles, cells, parent, block)
 }
 
 /// Of J32, what is looked at so far: C and AR of its DAO field are above 0.

@@ -1,5 +1,6 @@
 // J18 to J30: the transactions of a block, one after the other.
-ghost use Rattle.std.specs.Prelude.{◌≡◌, ◌+◌, ◌-◌, ◌<◌, ◌^◌, ◌≤◌, ◌++◌, ◌∷◌, [], ℕ, List, None, Some, Err, IfOk, OnOk, length, take};
+ghost use Rattle.std.specs.Prelude.{◌≡◌, ◌+◌, ◌-◌, ◌<◌, ◌^◌, ◌≤◌, ◌++◌, ◌∷◌, [], ℕ, nat_lt, List, None, Some, Err, IfOk, OnOk, length, map, take};
+ghost use Rattle.std.specs.List.{filter};
 ghost use Rattle.fold_defs.specs.First.{first_failing};
 ghost use Rattle.outside.specs.Causes.{CountsFault};
 ghost use Rattle.outside.specs.declared.disk.Area.TheVariants.{Log};
@@ -7,12 +8,14 @@ ghost use Rattle.outside.specs.declared.disk.Damage.{Damage};
 ghost use Rattle.outside.specs.declared.disk.ReadStop.TheVariants.{DiskFault, Damaged};
 ghost use Rattle.codec_defs.specs.Schema.{OutPoint};
 ghost use Rattle.chain_defs.specs.Branch.{branch};
+ghost use Rattle.chain_defs.specs.Hashes.{transaction_hash};
 ghost use Rattle.chain_tree.specs.Told.{Stored, blocks_of};
 ghost use Rattle.cell_defs.specs.Events.{events_of};
 ghost use Rattle.cell_defs.specs.Row.{row_after};
 ghost use Rattle.tx_defs.specs.Site.{Site};
 ghost use Rattle.tx_defs.specs.Capacity as capacity;
 ghost use Rattle.tx_rules.specs.At.{AreRated, IsPlaced, IsSiteOf};
+ghost use Rattle.tx_rules.specs.Copying.{row_in};
 ghost use Rattle.block_defs.specs.Transactions.{transaction_rules, left_after, rules_of_transactions};
 ghost use Rattle.block_defs.specs.Ext.{ext_of, rows_spent};
 ghost use Rattle.block_judge.specs.declared.stop.Judged.TheVariants.{Broken, Read};
@@ -23,12 +26,12 @@ ghost use Rattle.block_judge.specs.Standing.{IsTriedOnTransaction, Stands};
 use crate::block_cells::BlockCells;
 use crate::spent::push_spent;
 use crate::stop::Judged;
-use crate::transactions::judge_transaction;
+use crate::transactions::{Taken, judge_transaction};
 use cell_model::{Cells, Ext, tx_hash};
 use chain_tree::{Blocks, Tree};
 use epochs::Spec;
 use mol_schema::{BlockView, TxView};
-use outside::NoMemory;
+use outside::{NoMemory, ReadStop};
 use proposal_window::Proposed;
 use std::alloc::Global;
 use tx_rules::TxAt;
@@ -58,6 +61,16 @@ fn push_fee(fees: &mut Vec<u64>, fee: u64) -> Result<(), NoMemory>
     Ok(())
 }
 
+/// Puts what an ext has of a transaction behind what is there: its fee, and the rows of its inputs that kept blocks made,
+/// of which there are `e`.
+fn push_ext(ext: &mut Ext, taken: &Taken, e: u32) -> Result<(), NoMemory>
+    ensures fees { OnOk result (ext.new.fees ≡ ext.old.fees ++ taken.now.fee ∷ []) }
+    ensures spent { OnOk result (ext.new.spent ≡ ext.old.spent ++ filter (λ it. nat_lt it.1.block e) (map row_in taken.now.inputs.items)) }
+{
+    push_fee(&mut ext.fees, taken.fee)?;
+    push_spent(&mut ext.spent, &taken.inputs, e)
+}
+
 impl<'a, C: Cells> Progress<'a, C> {
     /// That of the cellbase alone: it takes no cycles, and the ext has nothing of it.
     fn behind(
@@ -85,6 +98,24 @@ impl<'a, C: Cells> Progress<'a, C> {
                 spent: Vec::new(alloc),
             },
         })
+    }
+
+    /// Takes what a transaction at a place behind the cellbase does, which keeps its rules.
+    fn take(&mut self, tx: &TxView<'_>, taken: &Taken, place: u32, e: u32) -> Result<(), NoMemory>
+        requires hash { taken.now.hash ≡ transaction_hash tx.now }
+        requires cycles { taken.now.cycles ≤ self.old.left }
+        ensures within { self.new.left ≤ self.old.left }
+        ensures left { OnOk result (self.new.left ≡ self.old.left - taken.now.cycles) }
+        ensures fees { OnOk result (self.new.ext.fees ≡ self.old.ext.fees ++ taken.now.fee ∷ []) }
+        ensures spent { OnOk result (self.new.ext.spent ≡ self.old.ext.spent ++ filter (λ it. nat_lt it.1.block e) (map row_in taken.now.inputs.items)) }
+        ensures rows { OnOk result ((height : ℕ) (o : OutPoint) → 0 < height
+            → with_changes self.new.cells.changed (C.rows self.new.cells.base.now) o
+            ≡ row_after e (events_of tx.now height place) (with_changes self.old.cells.changed (C.rows self.old.cells.base.now)) o) }
+    {
+        self.cells.take(tx, &taken.hash, place, e)?;
+        push_ext(&mut self.ext, taken, e)?;
+        self.left -= taken.cycles;
+        Ok(())
     }
 
     /// Judges the next transaction, which is at a place behind the cellbase, and takes what it does.
@@ -133,13 +164,22 @@ impl<'a, C: Cells> Progress<'a, C> {
         ensures cause { CountsFault (B.faults blocks.old) (B.faults blocks.new) (result ≡ Err (Read DiskFault)) }
     {
         let is_proposed = proposed.contains(&id_of(&tx_hash(tx)));
-        let taken = judge_transaction(alloc, tx, at, is_proposed, &self.cells, blocks, self.left)?;
-        let e = at.tree.len();
-        self.cells.take(tx, &taken.hash, place, e)?;
-        push_fee(&mut self.ext.fees, taken.fee)?;
-        push_spent(&mut self.ext.spent, &taken.inputs, e)?;
-        self.left -= taken.cycles;
-        Ok(())
+        let taken = match judge_transaction(
+            alloc,
+            tx,
+            at,
+            is_proposed,
+            &self.cells,
+            blocks,
+            self.left,
+        ) {
+            Ok(taken) => taken,
+            Err(stop) => return Err(stop),
+        };
+        match self.take(tx, &taken, place, at.tree.len()) {
+            Ok(()) => Ok(()),
+            Err(_) => Err(Judged::Read(ReadStop::NoMemory)),
+        }
     }
 }
 
@@ -188,11 +228,20 @@ pub(crate) fn judge_transactions<C: Cells, B: Blocks>(
         parent,
         block: Some(BlockView::from_encoding(block.bytes())),
     };
-    let proposed = Proposed::of(alloc, spec, tree, blocks, parent, at.height())?;
-    let mut progress = Progress::behind(alloc, &block.transactions_item(0), &at, cells)?;
+    let proposed = match Proposed::of(alloc, spec, tree, blocks, parent, at.height()) {
+        Ok(proposed) => proposed,
+        Err(stop) => return Err(Judged::Read(stop)),
+    };
+    let mut progress = match Progress::behind(alloc, &block.transactions_item(0), &at, cells) {
+        Ok(progress) => progress,
+        Err(_) => return Err(Judged::Read(ReadStop::NoMemory)),
+    };
     'later: for place in 1..count {
         let tx = block.transactions_item(place);
-        progress.judge_next(alloc, &tx, &at, &proposed, blocks, place as u32)?;
+        match progress.judge_next(alloc, &tx, &at, &proposed, blocks, place as u32) {
+            Ok(()) => {}
+            Err(stop) => return Err(stop),
+        }
     }
     Ok(progress.ext)
 }

@@ -80,8 +80,14 @@ pub fn judge<C: Cells, B: Blocks>(
     ensures damage { (damage : Damage) → result ≡ Err (Read (Damaged damage)) → damage.area ≡ Log }
     ensures cause { CountsFault (B.faults blocks.old) (B.faults blocks.new) (result ≡ Err (Read DiskFault)) }
 {
-    judge_ahead(alloc, spec, tree, uncles, cells, parent, block)?;
-    let ext = judge_transactions(alloc, spec, tree, cells, blocks, parent, block)?;
+    match judge_ahead(alloc, spec, tree, uncles, cells, parent, block) {
+        Ok(()) => {}
+        Err(stop) => return Err(stop),
+    }
+    let ext = match judge_transactions(alloc, spec, tree, cells, blocks, parent, block) {
+        Ok(ext) => ext,
+        Err(stop) => return Err(stop),
+    };
     if !is_rated(block) {
         return Err(Judged::Broken(32));
     }
@@ -131,6 +137,8 @@ pub fn dry_run<'a, C: Cells, B: Blocks>(
         parent,
         block: None,
     };
-    let taken = judge_transaction(alloc, tx, &at, true, cells, blocks, spec.max_cycles)?;
-    Ok((taken.fee, taken.cycles))
+    match judge_transaction(alloc, tx, &at, true, cells, blocks, spec.max_cycles) {
+        Ok(taken) => Ok((taken.fee, taken.cycles)),
+        Err(stop) => Err(stop),
+    }
 }

@@ -6,7 +6,7 @@ ghost use Rattle.block_judge.specs.declared.stop.Judged.TheVariants.{Read};
 use outside::{Damage, NoMemory, ReadStop};
 
 /// Why a block or a transaction is not taken.
-#[derive(Clone, Copy, PartialEq, Eq)]
+#[derive(Clone, Copy)]
 pub enum Judged {
     /// The first rule that it breaks.
     Broken(u8),

@@ -91,10 +91,18 @@ pub(crate) fn judge_transaction<C: Cells, B: Blocks>(
         Ok(ok) => ok,
         Err(stop) => return Err(stopped(stop, proposed)),
     };
+    // What was resolved is dropped by a call, which is one step of the proof; else each of its fields is one.
     if !proposed {
+        drop(ok);
         return Err(Judged::Broken(19));
     }
-    let cycles = run_scripts(alloc, at, &ok.resolved, blocks, left)?;
+    let cycles = match run_scripts(alloc, at, &ok.resolved, blocks, left) {
+        Ok(cycles) => cycles,
+        Err(stop) => {
+            drop(ok);
+            return Err(stop);
+        }
+    };
     Ok(Taken {
         hash: ok.resolved.hash,
         fee: ok.fee,

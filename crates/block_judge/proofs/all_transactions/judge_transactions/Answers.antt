@@ -1,50 +1,84 @@
-use Rattle.std.proofs.Common.{Some, refl, ap, ◌∙◌, [], length, arith}
-use Rattle.outside.specs.declared.disk.ReadStop.TheVariants.{Damaged}
+use Rattle.std.proofs.Common.{◌≡◌, ℕ, ◌-◌, ◌≤◌, Some, refl, ap, ◌∙◌, [], length, arith}
 use Rattle.chain_defs.specs.Branch.{branch}
 use Rattle.chain_tree.specs.Told.{blocks_of}
 use Rattle.tx_defs.specs.Site.{Site}
 use Rattle.tx_rules.specs.At.{AtValue}
 use Rattle.block_defs.specs.Transactions.{site_at}
-use Rattle.block_judge.specs.declared.stop.Judged.TheVariants.{Broken, Read}
 use Rattle.block_judge.specs.Changes.{with_changes}
-use Rattle.block_judge.proofs.TransactionLemmas.{handed-on}
+use Rattle.block_judge.proofs.Exits.{as_step, as_read, as_judged, no_error, no_rule, no_damage, no_fault, counts-on, counts-none, counts-still, counts-behind}
 use Rattle.block_judge.proofs.SiteLemmas.{rows-after_none, rows-after_more, site-in_block}
 use Rattle.block_judge.proofs.NextLemmas.{proposed-here, judged-none, judged-breaks, judged-more, judged-all, judged-ext}
 use Rattle.block_judge.proofs.all_transactions.judge_transactions.Goals as goal
 
-pub returns-then-count-eq1-clause-unbroken : goal.returns-then-count-eq1-clause-unbroken
-returns-then-count-eq1-clause-unbroken g c stored tells stands =
-    judged-all c.args.spec.now (blocks_of stored) c.args.parent c.args.block.now 1 c.args.spec.now.max_cycles (record { fees = []; spent = [] })
-    (judged-none c.args.spec.now (blocks_of stored) c.args.parent c.args.block.now c.args.spec.now.max_cycles (record { fees = []; spent = [] }) refl refl refl)
-    (omega (arith, c.if-count-eq1.true, c.transactions_count-count.ensures.value))
+pub returns-then-count-eq1 : goal.returns-then-count-eq1
+returns-then-count-eq1 g c =
+    let alone : 1 ≡ length c.args.block.now.transactions = omega (arith, c.if-count-eq1.true, c.transactions_count-count.ensures.value) in record {
+      told = refl;
+      count = refl;
+      loans = refl;
+      rule = λ rule same. absurd (no_error same);
+      fees = ap length c.new.ensures.items ∙ ap (λ (n : ℕ). n - 1) alone;
+      broken = λ stored tells stands rule same. absurd (no_error same);
+      unbroken = λ stored tells stands.
+          judged-all c.args.spec.now (blocks_of stored) c.args.parent c.args.block.now 1 c.args.spec.now.max_cycles (record { fees = []; spent = [] })
+          (judged-none c.args.spec.now (blocks_of stored) c.args.parent c.args.block.now c.args.spec.now.max_cycles (record { fees = []; spent = [] }) refl refl refl)
+          (omega (arith, alone));
+      ext = λ stored tells stands.
+          judged-ext c.args.spec.now (blocks_of stored) c.args.parent c.args.block.now 1 c.args.spec.now.max_cycles
+          (record { fees = c.new.result.items; spent = c.new-then-count-eq1.result.items })
+          (judged-none c.args.spec.now (blocks_of stored) c.args.parent c.args.block.now c.args.spec.now.max_cycles
+          (record { fees = c.new.result.items; spent = c.new-then-count-eq1.result.items }) refl c.new.ensures.items c.new-then-count-eq1.ensures.items)
+          (omega (arith, alone));
+      undamaged = λ stored tells stands damage same. no_error same;
+      damage = λ damage same. absurd (no_error same);
+      cause = counts-still (λ fault. no_error fault);
+    }
 
-pub returns-then-count-eq1-clause-ext : goal.returns-then-count-eq1-clause-ext
-returns-then-count-eq1-clause-ext g c stored tells stands =
-    judged-ext c.args.spec.now (blocks_of stored) c.args.parent c.args.block.now 1 c.args.spec.now.max_cycles
-    (record { fees = c.new.result.items; spent = c.new-then-count-eq1.result.items })
-    (judged-none c.args.spec.now (blocks_of stored) c.args.parent c.args.block.now c.args.spec.now.max_cycles
-    (record { fees = c.new.result.items; spent = c.new-then-count-eq1.result.items }) refl c.new.ensures.items c.new-then-count-eq1.ensures.items)
-    (omega (arith, c.if-count-eq1.true, c.transactions_count-count.ensures.value))
+pub returns-in-Err : goal.returns-in-Err
+returns-in-Err g c = record {
+  told = c.of.ensures.told;
+  count = c.of.ensures.count;
+  loans = c.of.ensures.loans;
+  rule = λ rule same. absurd (no_rule same);
+  fees = tt;
+  broken = λ stored tells stands rule same. absurd (no_rule same);
+  unbroken = λ stored tells stands. tt;
+  ext = λ stored tells stands. tt;
+  undamaged = λ stored tells stands damage same. c.in-Err.ensures.undamaged stored tells stands.indexed damage (as_read same);
+  damage = λ damage same. c.in-Err.ensures.damage damage (as_read same);
+  cause = counts-on as_judged as_read c.in-Err.ensures.cause;
+}
 
-pub returns-then-count-eq1-clause-fees : goal.returns-then-count-eq1-clause-fees
-returns-then-count-eq1-clause-fees g c =
-    omega (arith, ap length c.new.ensures.items, c.if-count-eq1.true, c.transactions_count-count.ensures.value)
+pub returns-in-Err-behind : goal.returns-in-Err-behind
+returns-in-Err-behind g c = record {
+  told = c.of.ensures.told;
+  count = c.of.ensures.count;
+  loans = c.of.ensures.loans;
+  rule = λ rule same. absurd (no_rule same);
+  fees = tt;
+  broken = λ stored tells stands rule same. absurd (no_rule same);
+  unbroken = λ stored tells stands. tt;
+  ext = λ stored tells stands. tt;
+  undamaged = λ stored tells stands damage same. no_damage same;
+  damage = λ damage same. absurd (no_damage same);
+  cause = counts-none no_error no_fault c.in-Ok.ensures.cause;
+}
 
 pub later-init : goal.later-init
 later-init g c = record {
-  told = c.in_ok-proposed.ensures.told;
-  count = c.in_ok-proposed.ensures.count;
-  loans = c.in_ok-proposed.ensures.loans;
-  faults = c.in_ok-proposed.ensures.cause.unchanged (λ fault. cc);
-  left = c.in_ok-progress.ensures.few;
+  told = c.in-Ok.ensures.told;
+  count = c.in-Ok.ensures.count;
+  loans = c.in-Ok.ensures.loans;
+  faults = c.in-Ok.ensures.cause.unchanged no_error;
+  left = c.in-Ok-behind.ensures.few;
   within = omega (arith, c.requires.some);
-  fees = omega (arith, ap length c.in_ok-progress.ensures.fees);
+  fees = omega (arith, ap length c.in-Ok-behind.ensures.fees);
   rows = rows-after_more _ c.args.block.now 0 c.transactions_item.result (g.C.Cells.rows c.args.cells.now) (g.C.Cells.rows c.args.cells.now) _
       (rows-after_none _ c.args.block.now (g.C.Cells.rows c.args.cells.now) (g.C.Cells.rows c.args.cells.now) (λ o. refl)) c.transactions_item.ensures
-      (λ height o above. c.in_ok-progress.ensures.rows height o above);
+      (λ height o above. c.in-Ok-behind.ensures.rows height o above);
   judged = λ stored tells stands.
-      judged-none c.args.spec.now (blocks_of stored) c.args.parent c.args.block.now c.in_ok-progress.progress.left c.in_ok-progress.progress.ext
-      c.in_ok-progress.ensures.left c.in_ok-progress.ensures.fees c.in_ok-progress.ensures.spent;
+      judged-none c.args.spec.now (blocks_of stored) c.args.parent c.args.block.now c.in-Ok-behind.progress.left c.in-Ok-behind.progress.ext
+      c.in-Ok-behind.ensures.left c.in-Ok-behind.ensures.fees c.in-Ok-behind.ensures.spent;
 }
 
 pub later-preserved : goal.later-preserved
@@ -52,63 +86,75 @@ later-preserved g c = record {
   told = c.judge_next.ensures.told ∙ c.later.invariant.told;
   count = c.judge_next.ensures.count ∙ c.later.invariant.count;
   loans = c.judge_next.ensures.loans ∙ c.later.invariant.loans;
-  faults = c.in_ok-judge_next.ensures.cause.unchanged (λ fault. cc) ∙ c.later.invariant.faults;
+  faults = c.in-Ok-judge_next.ensures.cause.unchanged no_error ∙ c.later.invariant.faults;
   left = omega (arith, c.judge_next.ensures.within, c.later.invariant.left);
   within = omega (arith, c.later-test.true, c.transactions_count-count.ensures.value);
-  fees = omega (arith, c.in_ok-judge_next.ensures.fees, c.later.invariant.fees);
+  fees = omega (arith, c.in-Ok-judge_next.ensures.fees, c.later.invariant.fees);
   rows = rows-after_more _ c.args.block.now c.later.place c.transactions_item-tx.result (g.C.Cells.rows c.args.cells.now)
       (with_changes c.later.progress.cells.changed (g.C.Cells.rows c.later.progress.cells.base.now)) _
-      c.later.invariant.rows c.transactions_item-tx.ensures (λ height o above. c.in_ok-judge_next.ensures.rows height o above);
+      c.later.invariant.rows c.transactions_item-tx.ensures (λ height o above. c.in-Ok-judge_next.ensures.rows height o above);
   judged = λ stored tells stands.
       let at : AtValue = record { spec = c.args.spec.now; entries = c.args.tree.now.entries; parent = c.args.parent; block = Some c.from_encoding.result } in
       let site : Site = site_at c.args.spec.now (branch (blocks_of stored) c.args.parent) c.args.block.now c.later.place in
       let is = site-in_block stored at c.args.block.now c.later.place (g.C.Cells.rows c.args.cells.now)
       (with_changes c.later.progress.cells.changed (g.C.Cells.rows c.later.progress.cells.base.now))
       (ap Some (c.from_encoding.ensures c.args.block.now c.bytes.ensures)) c.requires.parent stands c.later.invariant.rows in
-      let proposed = proposed-here c.args.spec.now (branch (blocks_of stored) c.args.parent) c.in_ok-proposed.proposed c.height.result
-      (c.in_ok-proposed.ensures.proposed stored tells stands.indexed) (c.height.ensures.height stored _ site is) in
+      let proposed = proposed-here c.args.spec.now (branch (blocks_of stored) c.args.parent) c.in-Ok.proposed c.height.result
+      (c.in-Ok.ensures.proposed stored tells stands.indexed) (c.height.ensures.height stored _ site is) in
       judged-more c.args.spec.now (blocks_of stored) c.args.parent c.args.block.now c.later.place c.later.progress.left c.judge_next.new.self.left
       c.later.progress.ext c.judge_next.new.self.ext c.transactions_item-tx.result (c.later.invariant.judged stored tells stands) c.transactions_item-tx.ensures
-      (c.in_ok-judge_next.ensures.unbroken stored site (c.later.invariant.told ∙ tells) is proposed)
-      (c.in_ok-judge_next.ensures.cycles stored site (c.later.invariant.told ∙ tells) is)
-      (c.in_ok-judge_next.ensures.fee stored site (c.later.invariant.told ∙ tells) is)
-      (c.in_ok-judge_next.ensures.spends stored site (c.later.invariant.told ∙ tells) is);
+      (c.in-Ok-judge_next.ensures.unbroken stored site (c.later.invariant.told ∙ tells) is proposed)
+      (c.in-Ok-judge_next.ensures.cycles stored site (c.later.invariant.told ∙ tells) is)
+      (c.in-Ok-judge_next.ensures.fee stored site (c.later.invariant.told ∙ tells) is)
+      (c.in-Ok-judge_next.ensures.spends stored site (c.later.invariant.told ∙ tells) is);
 }
 
-pub returns-in_err-judge_next-clause-broken : goal.returns-in_err-judge_next-clause-broken
-returns-in_err-judge_next-clause-broken g c stored tells stands rule same =
-    let at : AtValue = record { spec = c.args.spec.now; entries = c.args.tree.now.entries; parent = c.args.parent; block = Some c.from_encoding.result } in
-    let site : Site = site_at c.args.spec.now (branch (blocks_of stored) c.args.parent) c.args.block.now c.later.place in
-    let is = site-in_block stored at c.args.block.now c.later.place (g.C.Cells.rows c.args.cells.now)
-    (with_changes c.later.progress.cells.changed (g.C.Cells.rows c.later.progress.cells.base.now))
-    (ap Some (c.from_encoding.ensures c.args.block.now c.bytes.ensures)) c.requires.parent stands c.later.invariant.rows in
-    let proposed = proposed-here c.args.spec.now (branch (blocks_of stored) c.args.parent) c.in_ok-proposed.proposed c.height.result
-    (c.in_ok-proposed.ensures.proposed stored tells stands.indexed) (c.height.ensures.height stored _ site is) in
-    judged-breaks c.args.spec.now (blocks_of stored) c.args.parent c.args.block.now c.later.place c.later.progress.left c.later.progress.ext
-    c.transactions_item-tx.result rule (c.later.invariant.judged stored tells stands) c.transactions_item-tx.ensures
-    (c.judge_next.ensures.broken stored site (c.later.invariant.told ∙ tells) is proposed rule
-    (handed-on c.in_err-judge_next.field-0.0 (Broken rule) c.judge_next.result c.from_residual-in_err-judge_next.result c.in_err-judge_next.was c.from_residual-in_err-judge_next.ensures.1 same))
+pub returns-in-Err-judge_next : goal.returns-in-Err-judge_next
+returns-in-Err-judge_next g c =
+    let at : AtValue = record { spec = c.args.spec.now; entries = c.args.tree.now.entries; parent = c.args.parent; block = Some c.from_encoding.result } in record {
+      told = c.judge_next.ensures.told ∙ c.later.invariant.told;
+      count = c.judge_next.ensures.count ∙ c.later.invariant.count;
+      loans = c.judge_next.ensures.loans ∙ c.later.invariant.loans;
+      rule = λ rule same. c.in-Err-judge_next.ensures.rule rule (as_step same);
+      fees = tt;
+      broken = λ stored tells stands rule same.
+          let site : Site = site_at c.args.spec.now (branch (blocks_of stored) c.args.parent) c.args.block.now c.later.place in
+          let is = site-in_block stored at c.args.block.now c.later.place (g.C.Cells.rows c.args.cells.now)
+          (with_changes c.later.progress.cells.changed (g.C.Cells.rows c.later.progress.cells.base.now))
+          (ap Some (c.from_encoding.ensures c.args.block.now c.bytes.ensures)) c.requires.parent stands c.later.invariant.rows in
+          let proposed = proposed-here c.args.spec.now (branch (blocks_of stored) c.args.parent) c.in-Ok.proposed c.height.result
+          (c.in-Ok.ensures.proposed stored tells stands.indexed) (c.height.ensures.height stored _ site is) in
+          judged-breaks c.args.spec.now (blocks_of stored) c.args.parent c.args.block.now c.later.place c.later.progress.left c.later.progress.ext
+          c.transactions_item-tx.result rule (c.later.invariant.judged stored tells stands) c.transactions_item-tx.ensures
+          (c.in-Err-judge_next.ensures.broken stored site (c.later.invariant.told ∙ tells) is proposed rule (as_step same));
+      unbroken = λ stored tells stands. tt;
+      ext = λ stored tells stands. tt;
+      undamaged = λ stored tells stands damage same.
+          let site : Site = site_at c.args.spec.now (branch (blocks_of stored) c.args.parent) c.args.block.now c.later.place in
+          let is = site-in_block stored at c.args.block.now c.later.place (g.C.Cells.rows c.args.cells.now)
+          (with_changes c.later.progress.cells.changed (g.C.Cells.rows c.later.progress.cells.base.now))
+          (ap Some (c.from_encoding.ensures c.args.block.now c.bytes.ensures)) c.requires.parent stands c.later.invariant.rows in
+          c.in-Err-judge_next.ensures.undamaged stored site (c.later.invariant.told ∙ tells) is damage (as_step same);
+      damage = λ damage same. c.in-Err-judge_next.ensures.damage damage (as_step same);
+      cause = counts-behind c.later.invariant.faults (counts-on as_step as_step c.in-Err-judge_next.ensures.cause);
+    }
 
-pub returns-in_err-judge_next-clause-undamaged : goal.returns-in_err-judge_next-clause-undamaged
-returns-in_err-judge_next-clause-undamaged g c stored tells stands damage same =
-    let at : AtValue = record { spec = c.args.spec.now; entries = c.args.tree.now.entries; parent = c.args.parent; block = Some c.from_encoding.result } in
-    let site : Site = site_at c.args.spec.now (branch (blocks_of stored) c.args.parent) c.args.block.now c.later.place in
-    let is = site-in_block stored at c.args.block.now c.later.place (g.C.Cells.rows c.args.cells.now)
-    (with_changes c.later.progress.cells.changed (g.C.Cells.rows c.later.progress.cells.base.now))
-    (ap Some (c.from_encoding.ensures c.args.block.now c.bytes.ensures)) c.requires.parent stands c.later.invariant.rows in
-    c.judge_next.ensures.undamaged stored site (c.later.invariant.told ∙ tells) is damage
-    (handed-on c.in_err-judge_next.field-0.0 (Read (Damaged damage)) c.judge_next.result c.from_residual-in_err-judge_next.result c.in_err-judge_next.was c.from_residual-in_err-judge_next.ensures.1 same)
-
-pub returns-clause-unbroken : goal.returns-clause-unbroken
-returns-clause-unbroken g c stored tells stands =
-    judged-all c.args.spec.now (blocks_of stored) c.args.parent c.args.block.now c.later.place c.later.progress.left c.later.progress.ext
-    (c.later.invariant.judged stored tells stands) (omega (arith, c.later-test.false, c.transactions_count-count.ensures.value))
-
-pub returns-clause-ext : goal.returns-clause-ext
-returns-clause-ext g c stored tells stands =
-    judged-ext c.args.spec.now (blocks_of stored) c.args.parent c.args.block.now c.later.place c.later.progress.left c.later.progress.ext
-    (c.later.invariant.judged stored tells stands) (omega (arith, c.later-test.false, c.transactions_count-count.ensures.value))
-
-pub returns-clause-fees : goal.returns-clause-fees
-returns-clause-fees g c =
-    omega (arith, c.later.invariant.fees, c.later.invariant.within, c.later-test.false, c.transactions_count-count.ensures.value)
+pub returns : goal.returns
+returns g c =
+    let past : length c.args.block.now.transactions ≤ c.later.place = omega (arith, c.later-test.false, c.transactions_count-count.ensures.value) in record {
+      told = c.later.invariant.told;
+      count = c.later.invariant.count;
+      loans = c.later.invariant.loans;
+      rule = λ rule same. absurd (no_error same);
+      fees = omega (arith, c.later.invariant.fees, c.later.invariant.within, past);
+      broken = λ stored tells stands rule same. absurd (no_error same);
+      unbroken = λ stored tells stands.
+          judged-all c.args.spec.now (blocks_of stored) c.args.parent c.args.block.now c.later.place c.later.progress.left c.later.progress.ext
+          (c.later.invariant.judged stored tells stands) past;
+      ext = λ stored tells stands.
+          judged-ext c.args.spec.now (blocks_of stored) c.args.parent c.args.block.now c.later.place c.later.progress.left c.later.progress.ext
+          (c.later.invariant.judged stored tells stands) past;
+      undamaged = λ stored tells stands damage same. no_error same;
+      damage = λ damage same. absurd (no_error same);
+      cause = counts-behind c.later.invariant.faults (counts-still (λ fault. no_error fault));
+    }

@@ -1,23 +1,46 @@
-use Rattle.std.proofs.Common.{sym, ap, ◌∙◌}
+use Rattle.std.proofs.Common.{Err, sym, ap, ◌∙◌}
+use Rattle.outside.specs.declared.disk.ReadStop.TheVariants.{DiskFault, Damaged}
 use Rattle.tx_rules.specs.At.{AtValue}
 use Rattle.script_defs.specs.Scene.{scene_of}
+use Rattle.block_judge.specs.Stops.{of_running}
+use Rattle.block_judge.proofs.Exits.{same_stop, no_error, counts-on, counts-none}
 use Rattle.block_judge.proofs.SceneLemmas.{scene-told}
-use Rattle.block_judge.proofs.ScriptLemmas.{scripts-keep, scripts-break, damage-of-running}
+use Rattle.block_judge.proofs.ScriptLemmas.{scripts-keep, scripts-break, script-rule, reads-running}
 use Rattle.block_judge.proofs.scripts.run_scripts.Goals as goal
 
-pub returns-in-Ok-clause-unbroken : goal.returns-in-Ok-clause-unbroken
-returns-in-Ok-clause-unbroken g c stored rows site told is resolves =
-    scripts-keep (scene_of site c.args.resolved.now.tx) c.args.left c.in-Ok.cycles (c.in-Ok.ensures.exact stored (scene_of site c.args.resolved.now.tx) told
-    (scene-told stored c.args.at.now rows site c.at.inside.spec.now c.args.resolved.now is c.requires.formed resolves (ap (λ (at : AtValue). at.spec) c.at.view_is)))
+pub returns-in-Ok : goal.returns-in-Ok
+returns-in-Ok g c = record {
+  told = c.run_groups.ensures.told;
+  count = c.run_groups.ensures.count;
+  loans = c.run_groups.ensures.loans;
+  within = c.in-Ok.ensures.within;
+  rule = λ rule same. absurd (no_error same);
+  broken = λ stored rows site told is resolves rule same. absurd (no_error same);
+  unbroken = λ stored rows site told is resolves.
+      scripts-keep (scene_of site c.args.resolved.now.tx) c.args.left c.in-Ok.cycles (c.in-Ok.ensures.exact stored (scene_of site c.args.resolved.now.tx) told
+      (scene-told stored c.args.at.now rows site c.at.inside.spec.now c.args.resolved.now is c.requires.formed resolves (ap (λ (at : AtValue). at.spec) c.at.view_is)));
+  undamaged = λ stored rows site told is resolves damage same. no_error same;
+  damage = λ damage same. absurd (no_error same);
+  cause = counts-none no_error no_error c.in-Ok.ensures.cause;
+}
 
-pub returns-in-Err-clause-broken : goal.returns-in-Err-clause-broken
-returns-in-Err-clause-broken g c stored rows site told is resolves rule same =
-    scripts-break (scene_of site c.args.resolved.now.tx) c.args.left rule c.in-Err.stop (c.in-Err.ensures.exact stored (scene_of site c.args.resolved.now.tx) told
-    (scene-told stored c.args.at.now rows site c.at.inside.spec.now c.args.resolved.now is c.requires.formed resolves (ap (λ (at : AtValue). at.spec) c.at.view_is)))
-    (sym c.stopped.ensures ∙ cc)
-
-pub returns-in-Err-clause-undamaged : goal.returns-in-Err-clause-undamaged
-returns-in-Err-clause-undamaged g c stored rows site told is resolves damage same =
-    c.in-Err.ensures.undamaged stored (scene_of site c.args.resolved.now.tx) told
-    (scene-told stored c.args.at.now rows site c.at.inside.spec.now c.args.resolved.now is c.requires.formed resolves (ap (λ (at : AtValue). at.spec) c.at.view_is))
-    damage (let its = damage-of-running c.in-Err.stop damage (sym c.stopped.ensures ∙ cc) in cc)
+pub returns-in-Err : goal.returns-in-Err
+returns-in-Err g c = record {
+  told = c.run_groups.ensures.told;
+  count = c.run_groups.ensures.count;
+  loans = c.run_groups.ensures.loans;
+  within = tt;
+  rule = λ rule same. script-rule c.in-Err.stop rule (sym c.stopped.ensures ∙ same_stop same);
+  broken = λ stored rows site told is resolves rule same.
+      scripts-break (scene_of site c.args.resolved.now.tx) c.args.left rule c.in-Err.stop (c.in-Err.ensures.exact stored (scene_of site c.args.resolved.now.tx) told
+      (scene-told stored c.args.at.now rows site c.at.inside.spec.now c.args.resolved.now is c.requires.formed resolves (ap (λ (at : AtValue). at.spec) c.at.view_is)))
+      (sym c.stopped.ensures ∙ same_stop same);
+  unbroken = λ stored rows site told is resolves. tt;
+  undamaged = λ stored rows site told is resolves damage same.
+      c.in-Err.ensures.undamaged stored (scene_of site c.args.resolved.now.tx) told
+      (scene-told stored c.args.at.now rows site c.at.inside.spec.now c.args.resolved.now is c.requires.formed resolves (ap (λ (at : AtValue). at.spec) c.at.view_is))
+      damage (ap Err (reads-running c.in-Err.stop (Damaged damage) (sym c.stopped.ensures ∙ same_stop same)));
+  damage = λ damage same. c.in-Err.ensures.damage damage (ap Err (reads-running c.in-Err.stop (Damaged damage) (sym c.stopped.ensures ∙ same_stop same)));
+  cause = counts-on (λ fault. ap Err (c.stopped.ensures ∙ ap of_running (same_stop fault)))
+      (λ fault. ap Err (reads-running c.in-Err.stop DiskFault (sym c.stopped.ensures ∙ same_stop fault))) c.in-Err.ensures.cause;
+}

@@ -1,84 +1,135 @@
-use Rattle.std.proofs.Common.{Bool, sym, ap, ◌∙◌, Err, subst, arith}
+use Rattle.std.proofs.Common.{◌≡◌, inr, Bool, Some, Err, sym, ap, ◌∙◌, subst, arith}
 use Rattle.fold_defs.specs.First.{first_failing}
-use Rattle.outside.specs.declared.disk.ReadStop.TheVariants.{Damaged}
+use Rattle.outside.specs.declared.disk.ReadStop.TheVariants.{DiskFault, Damaged}
 use Rattle.codec_defs.specs.Schema.{Transaction}
 use Rattle.chain_tree.specs.Told.{blocks_of}
+use Rattle.tx_rules.specs.At.{spends_rows}
 use Rattle.tx_rules.specs.declared.resolving.TxOk.{TxOk}
+use Rattle.tx_defs.specs.Rules.{has_form}
 use Rattle.script_defs.specs.Scene.{scene_of}
 use Rattle.script_defs.specs.Rules.{script_rules, cycles_of}
-use Rattle.block_judge.specs.declared.stop.Judged.TheVariants.{Broken, Read}
-use Rattle.block_judge.proofs.TransactionLemmas.{stops-resolving, damage-of-resolving, breaks-proposed, leaves-scripts, handed-on, its-transaction, resolved-own, spent-rows}
-use Rattle.block_judge.proofs.RowsLemmas.{stops-by-rows, resolved-by-rows, later-by-rows}
-use Rattle.block_judge.specs.Stops.{of_resolving}
-use Rattle.tx_defs.specs.Rules.{has_form}
-use Rattle.tx_rules.specs.At.{spends_rows}
 use Rattle.block_judge.specs.ByRows.{StopsByRows}
+use Rattle.block_judge.specs.Stops.{of_resolving}
+use Rattle.block_judge.proofs.Exits.{same_stop, same_rule, as_step, no_error, no_read, not_both, counts-on, counts-none, counts-behind}
+use Rattle.block_judge.proofs.TransactionLemmas.{stops-resolving, reads-resolving, tried-resolving, alone-resolving, breaks-proposed, leaves-scripts, its-transaction, resolved-own, spent-rows}
+use Rattle.block_judge.proofs.RowsLemmas.{stops-by-rows, resolved-by-rows, later-by-rows}
 use Rattle.block_judge.proofs.transactions.judge_transaction.Goals as goal
 
-pub returns-in-Err-clause-broken : goal.returns-in-Err-clause-broken
-returns-in-Err-clause-broken g c stored site told is rule same =
-    stops-resolving site c.args.tx.now (script_rules (scene_of site c.args.tx.now) c.args.left) c.args.proposed c.in-Err.stop rule
-    (λ number its. c.in-Err.ensures.broken stored site told is number (ap Err its)) (sym c.stopped.ensures ∙ cc)
+pub returns-in-Err : goal.returns-in-Err
+returns-in-Err g c = record {
+  told = c.resolve.ensures.told;
+  count = c.resolve.ensures.count;
+  loans = c.resolve.ensures.loans;
+  hash = tt;
+  within = tt;
+  rule = λ rule same.
+      tried-resolving c.args.proposed c.in-Err.stop rule (λ number its. c.in-Err.ensures.tried number (ap Err its)) (sym c.stopped.ensures ∙ same_stop same);
+  by_rows = λ proposed.
+      let rows = g.C.Cells.rows c.args.cells.now in
+      subst (StopsByRows (has_form c.args.tx.now) (spends_rows rows c.args.tx.now))
+      (ap (λ (b : Bool). of_resolving b c.in-Err.stop) (sym proposed) ∙ sym c.stopped.ensures)
+      (stops-by-rows rows c.args.tx.now c.in-Err.stop c.resolve.result c.resolve.ensures.by_rows c.resolve.ensures.tried c.in-Err.is);
+  alone = λ proposed rule same.
+      alone-resolving c.args.proposed c.in-Err.stop rule proposed (λ number its. c.in-Err.ensures.tried number (ap Err its)) (sym c.stopped.ensures ∙ same_stop same);
+  broken = λ stored site told is rule same.
+      stops-resolving site c.args.tx.now (script_rules (scene_of site c.args.tx.now) c.args.left) c.args.proposed c.in-Err.stop rule
+      (λ number its. c.in-Err.ensures.broken stored site told is number (ap Err its)) (sym c.stopped.ensures ∙ same_stop same);
+  unbroken = λ stored site told is. tt;
+  fee = λ stored site told is. tt;
+  cycles = λ stored site told is. tt;
+  spends = λ stored site told is. tt;
+  undamaged = λ stored site told is damage same.
+      c.in-Err.ensures.undamaged stored site told is damage
+      (ap Err (reads-resolving c.args.proposed c.in-Err.stop (Damaged damage) (sym c.stopped.ensures ∙ same_stop same)));
+  damage = λ damage same.
+      c.in-Err.ensures.damage damage (ap Err (reads-resolving c.args.proposed c.in-Err.stop (Damaged damage) (sym c.stopped.ensures ∙ same_stop same)));
+  cause = counts-on (λ fault. ap Err (c.stopped.ensures ∙ ap (of_resolving c.args.proposed) (same_stop fault)))
+      (λ fault. ap Err (reads-resolving c.args.proposed c.in-Err.stop DiskFault (sym c.stopped.ensures ∙ same_stop fault))) c.in-Err.ensures.cause;
+}
 
-pub returns-in-Err-clause-undamaged : goal.returns-in-Err-clause-undamaged
-returns-in-Err-clause-undamaged g c stored site told is damage same =
-    c.in-Err.ensures.undamaged stored site told is damage (ap Err (damage-of-resolving c.args.proposed c.in-Err.stop damage (sym c.stopped.ensures ∙ cc)))
+pub returns-then-not-proposed : goal.returns-then-not-proposed
+returns-then-not-proposed g c = record {
+  told = c.resolve.ensures.told;
+  count = c.resolve.ensures.count;
+  loans = c.resolve.ensures.loans;
+  hash = tt;
+  within = tt;
+  rule = λ rule same. let is : 19 ≡ rule = same_rule same in (omega (arith, is), omega (arith, is));
+  by_rows = λ proposed. absurd (not_both proposed c.if-not-proposed.true);
+  alone = λ proposed. absurd (not_both proposed c.if-not-proposed.true);
+  broken = λ stored site told is rule same.
+      breaks-proposed site c.args.tx.now (script_rules (scene_of site c.args.tx.now) c.args.left) c.args.proposed c.if-not-proposed.true
+      (c.in-Ok.ensures.unbroken stored site told is) ∙ ap Some (same_rule same);
+  unbroken = λ stored site told is. tt;
+  fee = λ stored site told is. tt;
+  cycles = λ stored site told is. tt;
+  spends = λ stored site told is. tt;
+  undamaged = λ stored site told is damage same. no_read same;
+  damage = λ damage same. absurd (no_read same);
+  cause = counts-none no_error no_read c.in-Ok.ensures.cause;
+}
 
-pub returns-then-not-proposed-clause-broken : goal.returns-then-not-proposed-clause-broken
-returns-then-not-proposed-clause-broken g c stored site told is rule same =
-    breaks-proposed site c.args.tx.now (script_rules (scene_of site c.args.tx.now) c.args.left) c.args.proposed c.if-not-proposed.true
-    (c.in-Ok.ensures.unbroken stored site told is) ∙ cc
+pub returns-in-Err-run_scripts : goal.returns-in-Err-run_scripts
+returns-in-Err-run_scripts g c = record {
+  told = c.run_scripts.ensures.told ∙ c.resolve.ensures.told;
+  count = c.run_scripts.ensures.count ∙ c.resolve.ensures.count;
+  loans = c.run_scripts.ensures.loans ∙ c.resolve.ensures.loans;
+  hash = tt;
+  within = tt;
+  rule = λ rule same. let its = c.in-Err-run_scripts.ensures.rule rule (as_step same) in (omega (arith, its.0), its.1);
+  by_rows = λ proposed.
+      later-by-rows _ _ c.in-Err-run_scripts.stop
+      (resolved-by-rows (g.C.Cells.rows c.args.cells.now) c.args.tx.now c.in-Ok.ok c.resolve.result c.resolve.ensures.by_rows c.in-Ok.is)
+      (λ rule same. let its = c.in-Err-run_scripts.ensures.rule rule (ap Err same) in omega (arith, its.0));
+  alone = λ proposed rule same. let its = c.in-Err-run_scripts.ensures.rule rule (as_step same) in inr (omega (arith, its.0), its.1);
+  broken = λ stored site told is rule same.
+      let its = ap (λ (ok : TxOk). ok.resolved) c.ok.view_is in
+      leaves-scripts site c.args.tx.now (script_rules (scene_of site c.args.tx.now) c.args.left) c.args.proposed c.if-not-proposed.false
+      (c.in-Ok.ensures.unbroken stored site told is)
+      ∙ ap (λ (t : Transaction). first_failing (script_rules (scene_of site t) c.args.left)) (sym (its-transaction c.args.tx.now its c.in-Ok.ensures.formed.tx))
+      ∙ c.in-Err-run_scripts.ensures.broken stored (g.C.Cells.rows c.args.cells.now) site (c.resolve.ensures.told ∙ told) is
+      (resolved-own (blocks_of stored) c.args.at.now.parent site c.args.tx.now its c.in-Ok.ensures.formed.tx (c.in-Ok.ensures.resolved stored site told is)) rule
+      (as_step same);
+  unbroken = λ stored site told is. tt;
+  fee = λ stored site told is. tt;
+  cycles = λ stored site told is. tt;
+  spends = λ stored site told is. tt;
+  undamaged = λ stored site told is damage same.
+      c.in-Err-run_scripts.ensures.undamaged stored (g.C.Cells.rows c.args.cells.now) site (c.resolve.ensures.told ∙ told) is
+      (resolved-own (blocks_of stored) c.args.at.now.parent site c.args.tx.now (ap (λ (ok : TxOk). ok.resolved) c.ok.view_is) c.in-Ok.ensures.formed.tx
+      (c.in-Ok.ensures.resolved stored site told is)) damage (as_step same);
+  damage = λ damage same. c.in-Err-run_scripts.ensures.damage damage (as_step same);
+  cause = counts-behind (c.in-Ok.ensures.cause.unchanged no_error) (counts-on as_step as_step c.in-Err-run_scripts.ensures.cause);
+}
 
-pub returns-in_err-cycles-clause-broken : goal.returns-in_err-cycles-clause-broken
-returns-in_err-cycles-clause-broken g c stored site told is rule same =
-    let its = ap (λ (ok : TxOk). ok.resolved) c.ok.view_is in
-    leaves-scripts site c.args.tx.now (script_rules (scene_of site c.args.tx.now) c.args.left) c.args.proposed c.if-not-proposed.false
-    (c.in-Ok.ensures.unbroken stored site told is)
-    ∙ ap (λ (t : Transaction). first_failing (script_rules (scene_of site t) c.args.left)) (sym (its-transaction c.args.tx.now its c.in-Ok.ensures.formed.tx))
-    ∙ c.run_scripts.ensures.broken stored (g.C.Cells.rows c.args.cells.now) site (c.resolve.ensures.told ∙ told) is
-    (resolved-own (blocks_of stored) c.args.at.now.parent site c.args.tx.now its c.in-Ok.ensures.formed.tx (c.in-Ok.ensures.resolved stored site told is)) rule
-    (handed-on c.in_err-cycles.field-0.0 (Broken rule) c.run_scripts.result c.from_residual.result c.in_err-cycles.was c.from_residual.ensures.1 same)
-
-pub returns-in_err-cycles-clause-undamaged : goal.returns-in_err-cycles-clause-undamaged
-returns-in_err-cycles-clause-undamaged g c stored site told is damage same =
-    c.run_scripts.ensures.undamaged stored (g.C.Cells.rows c.args.cells.now) site (c.resolve.ensures.told ∙ told) is
-    (resolved-own (blocks_of stored) c.args.at.now.parent site c.args.tx.now (ap (λ (ok : TxOk). ok.resolved) c.ok.view_is) c.in-Ok.ensures.formed.tx
-    (c.in-Ok.ensures.resolved stored site told is)) damage
-    (handed-on c.in_err-cycles.field-0.0 (Read (Damaged damage)) c.run_scripts.result c.from_residual.result c.in_err-cycles.was c.from_residual.ensures.1 same)
-
-pub returns-clause-unbroken : goal.returns-clause-unbroken
-returns-clause-unbroken g c stored site told is =
-    let its = ap (λ (ok : TxOk). ok.resolved) c.ok.view_is in
-    leaves-scripts site c.args.tx.now (script_rules (scene_of site c.args.tx.now) c.args.left) c.args.proposed c.if-not-proposed.false
-    (c.in-Ok.ensures.unbroken stored site told is)
-    ∙ ap (λ (t : Transaction). first_failing (script_rules (scene_of site t) c.args.left)) (sym (its-transaction c.args.tx.now its c.in-Ok.ensures.formed.tx))
-    ∙ (c.in_ok-cycles.ensures.unbroken stored (g.C.Cells.rows c.args.cells.now) site (c.resolve.ensures.told ∙ told) is
-    (resolved-own (blocks_of stored) c.args.at.now.parent site c.args.tx.now its c.in-Ok.ensures.formed.tx (c.in-Ok.ensures.resolved stored site told is))).0
-
-pub returns-clause-cycles : goal.returns-clause-cycles
-returns-clause-cycles g c stored site told is =
-    let its = ap (λ (ok : TxOk). ok.resolved) c.ok.view_is in
-    (c.in_ok-cycles.ensures.unbroken stored (g.C.Cells.rows c.args.cells.now) site (c.resolve.ensures.told ∙ told) is
-    (resolved-own (blocks_of stored) c.args.at.now.parent site c.args.tx.now its c.in-Ok.ensures.formed.tx (c.in-Ok.ensures.resolved stored site told is))).1
-    ∙ ap (λ (t : Transaction). cycles_of (scene_of site t) c.args.left) (its-transaction c.args.tx.now its c.in-Ok.ensures.formed.tx)
-
-pub returns-clause-spends : goal.returns-clause-spends
-returns-clause-spends g c stored site told is =
-    spent-rows (blocks_of stored) c.args.at.now.parent site c.args.tx.now (ap (λ (ok : TxOk). ok.resolved) c.ok.view_is) (c.in-Ok.ensures.resolved stored site told is)
-
-pub returns-in-Err-clause-by_rows : goal.returns-in-Err-clause-by_rows
-returns-in-Err-clause-by_rows g c proposed =
-    let rows = g.C.Cells.rows c.args.cells.now in
-    subst (StopsByRows (has_form c.args.tx.now) (spends_rows rows c.args.tx.now))
-    (ap (λ (b : Bool). of_resolving b c.in-Err.stop) (sym proposed) ∙ sym c.stopped.ensures)
-    (stops-by-rows rows c.args.tx.now c.in-Err.stop c.resolve.result c.resolve.ensures.by_rows c.resolve.ensures.tried c.in-Err.is)
-
-pub returns-in_err-cycles-clause-by_rows : goal.returns-in_err-cycles-clause-by_rows
-returns-in_err-cycles-clause-by_rows g c proposed =
-    later-by-rows _ _ c.in_err-cycles.field-0.0 c.run_scripts.result c.from_residual.result c.in_err-cycles.was c.from_residual.ensures.1
-    (resolved-by-rows (g.C.Cells.rows c.args.cells.now) c.args.tx.now c.in-Ok.ok c.resolve.result c.resolve.ensures.by_rows c.in-Ok.is)
-    (λ rule same. let its = c.run_scripts.ensures.rule rule same in omega (arith, its.0))
-
-pub returns-clause-by_rows : goal.returns-clause-by_rows
-returns-clause-by_rows g c proposed =
-    resolved-by-rows (g.C.Cells.rows c.args.cells.now) c.args.tx.now c.in-Ok.ok c.resolve.result c.resolve.ensures.by_rows c.in-Ok.is
+pub returns : goal.returns
+returns g c = record {
+  told = c.run_scripts.ensures.told ∙ c.resolve.ensures.told;
+  count = c.run_scripts.ensures.count ∙ c.resolve.ensures.count;
+  loans = c.run_scripts.ensures.loans ∙ c.resolve.ensures.loans;
+  hash = ap (λ (ok : TxOk). ok.resolved.hash) c.ok.view_is ∙ c.in-Ok.ensures.formed.hash;
+  within = c.in-Ok-run_scripts.ensures.within;
+  rule = λ rule same. absurd (no_error same);
+  by_rows = λ proposed.
+      resolved-by-rows (g.C.Cells.rows c.args.cells.now) c.args.tx.now c.in-Ok.ok c.resolve.result c.resolve.ensures.by_rows c.in-Ok.is;
+  alone = λ proposed rule same. absurd (no_error same);
+  broken = λ stored site told is rule same. absurd (no_error same);
+  unbroken = λ stored site told is.
+      let its = ap (λ (ok : TxOk). ok.resolved) c.ok.view_is in
+      leaves-scripts site c.args.tx.now (script_rules (scene_of site c.args.tx.now) c.args.left) c.args.proposed c.if-not-proposed.false
+      (c.in-Ok.ensures.unbroken stored site told is)
+      ∙ ap (λ (t : Transaction). first_failing (script_rules (scene_of site t) c.args.left)) (sym (its-transaction c.args.tx.now its c.in-Ok.ensures.formed.tx))
+      ∙ (c.in-Ok-run_scripts.ensures.unbroken stored (g.C.Cells.rows c.args.cells.now) site (c.resolve.ensures.told ∙ told) is
+      (resolved-own (blocks_of stored) c.args.at.now.parent site c.args.tx.now its c.in-Ok.ensures.formed.tx (c.in-Ok.ensures.resolved stored site told is))).0;
+  fee = λ stored site told is. ap (λ (ok : TxOk). ok.fee) c.ok.view_is ∙ c.in-Ok.ensures.fee stored site told is;
+  cycles = λ stored site told is.
+      let its = ap (λ (ok : TxOk). ok.resolved) c.ok.view_is in
+      (c.in-Ok-run_scripts.ensures.unbroken stored (g.C.Cells.rows c.args.cells.now) site (c.resolve.ensures.told ∙ told) is
+      (resolved-own (blocks_of stored) c.args.at.now.parent site c.args.tx.now its c.in-Ok.ensures.formed.tx (c.in-Ok.ensures.resolved stored site told is))).1
+      ∙ ap (λ (t : Transaction). cycles_of (scene_of site t) c.args.left) (its-transaction c.args.tx.now its c.in-Ok.ensures.formed.tx);
+  spends = λ stored site told is.
+      spent-rows (blocks_of stored) c.args.at.now.parent site c.args.tx.now (ap (λ (ok : TxOk). ok.resolved) c.ok.view_is) (c.in-Ok.ensures.resolved stored site told is);
+  undamaged = λ stored site told is damage same. no_error same;
+  damage = λ damage same. absurd (no_error same);
+  cause = counts-behind (c.in-Ok.ensures.cause.unchanged no_error) (counts-none no_error no_error c.in-Ok-run_scripts.ensures.cause);
+}

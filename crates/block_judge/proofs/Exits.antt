@@ -1,0 +1,127 @@
+-- What a function's clauses say where it ends in an error.
+use Rattle.std.proofs.Common.{◌≡◌, ℕ, Bool, true, false, Result, Ok, Err, refl, sym, ap, subst, arith, ◌∙◌}
+use Rattle.std.specs.Prelude.{⊤}
+use Rattle.outside.specs.Causes.{CountsFault}
+use Rattle.outside.specs.declared.disk.Damage.{Damage}
+use Rattle.outside.specs.declared.disk.ReadStop.{ReadStop}
+use Rattle.outside.specs.declared.disk.ReadStop.TheVariants.{DiskFault, NoMemory, Damaged}
+use Rattle.block_judge.specs.declared.stop.Judged.{Judged}
+use Rattle.block_judge.specs.declared.stop.Judged.TheVariants.{Broken, Read}
+
+-- ---- One error is another
+
+abbrev stop_or : {T E : Type 0} → E → Result T E → E
+stop_or other (Ok it) = other
+stop_or other (Err stop) = stop
+
+abbrev read_or : ReadStop → Judged → ReadStop
+read_or other (Broken rule) = other
+read_or other (Read stop) = stop
+
+abbrev rule_or : ℕ → Judged → ℕ
+rule_or other (Broken rule) = rule
+rule_or other (Read stop) = other
+
+pub same_stop : {T E : Type 0} {stop given : E} → ◌≡◌ {A = Result T E} (Err stop) (Err given) → stop ≡ given
+same_stop {stop = stop} same = ap (stop_or stop) same
+
+pub same_rule : {T : Type 0} {rule given : ℕ} → ◌≡◌ {A = Result T Judged} (Err (Broken rule)) (Err (Broken given)) → rule ≡ given
+same_rule {rule = rule} same = ap (rule_or rule) (same_stop same)
+
+pub same_read : {T : Type 0} {stop given : ReadStop} → ◌≡◌ {A = Result T Judged} (Err (Read stop)) (Err (Read given)) → stop ≡ given
+same_read {stop = stop} same = ap (read_or stop) (same_stop same)
+
+-- an error is that of the step that gave it
+pub as_step : {T U E : Type 0} {stop given : E} → ◌≡◌ {A = Result U E} (Err stop) (Err given) → ◌≡◌ {A = Result T E} (Err stop) (Err given)
+as_step {T = T} {E = E} same = ap as_error (same_stop same)
+  where
+    as_error : E → Result T E
+    as_error it = Err it
+
+pub as_read : {T U : Type 0} {stop given : ReadStop} → ◌≡◌ {A = Result U Judged} (Err (Read stop)) (Err (Read given)) → ◌≡◌ {A = Result T ReadStop} (Err stop) (Err given)
+as_read {T = T} same = ap as_error (same_read same)
+  where
+    as_error : ReadStop → Result T ReadStop
+    as_error it = Err it
+
+pub as_judged : {T U : Type 0} {stop given : ReadStop} → ◌≡◌ {A = Result T ReadStop} (Err stop) (Err given) → ◌≡◌ {A = Result U Judged} (Err (Read stop)) (Err (Read given))
+as_judged {U = U} same = ap as_error (same_stop same)
+  where
+    as_error : ReadStop → Result U Judged
+    as_error it = Err (Read it)
+
+-- ---- One is not another
+
+abbrev IsFine : {T E : Type 0} → Result T E → Type 0
+IsFine (Ok it) = ⊤
+IsFine (Err stop) = ⊥
+
+abbrev IsRead : Judged → Type 0
+IsRead (Broken rule) = ⊥
+IsRead (Read stop) = ⊤
+
+abbrev IsMemory : ReadStop → Type 0
+IsMemory NoMemory = ⊤
+IsMemory DiskFault = ⊥
+IsMemory (Damaged damage) = ⊥
+
+abbrev IsFalse : Bool → Type 0
+IsFalse true = ⊥
+IsFalse false = ⊤
+
+-- no answer is an error
+pub no_error : {T E : Type 0} {value : T} {stop : E} → ◌≡◌ {A = Result T E} (Ok value) (Err stop) → ⊥
+no_error {T = T} {E = E} same = subst (λ (it : Result T E). IsFine it) same tt
+
+-- what could not be read breaks no rule
+pub no_rule : {T : Type 0} {stop : ReadStop} {rule : ℕ} → ◌≡◌ {A = Result T Judged} (Err (Read stop)) (Err (Broken rule)) → ⊥
+no_rule same = subst IsRead (same_stop same) tt
+
+pub no_read : {T : Type 0} {rule : ℕ} {stop : ReadStop} → ◌≡◌ {A = Result T Judged} (Err (Broken rule)) (Err (Read stop)) → ⊥
+no_read same = subst IsRead (sym (same_stop same)) tt
+
+-- want of memory is neither damage nor a fault
+pub not_damage : {damage : Damage} → Damaged damage ≡ NoMemory → ⊥
+not_damage same = subst IsMemory (sym same) tt
+
+pub not_fault : DiskFault ≡ NoMemory → ⊥
+not_fault same = subst IsMemory (sym same) tt
+
+pub no_damage : {T : Type 0} {damage : Damage} → ◌≡◌ {A = Result T Judged} (Err (Read NoMemory)) (Err (Read (Damaged damage))) → ⊥
+no_damage same = not_damage (sym (same_read same))
+
+pub no_fault : {T : Type 0} → ◌≡◌ {A = Result T Judged} (Err (Read NoMemory)) (Err (Read DiskFault)) → ⊥
+no_fault same = not_fault (sym (same_read same))
+
+pub not_both : {test : Bool} → test ≡ true → test ≡ false → ⊥
+not_both holds fails = subst IsFalse (sym fails ∙ holds) tt
+
+-- ---- The count of faults
+
+-- the error of a step is handed on
+pub counts-on : {before now : ℕ} {Fault Same : Type 0} → (Fault → Same) → (Same → Fault) → CountsFault before now Fault → CountsFault before now Same
+counts-on to from counts = record {
+  later = counts.later;
+  rose = λ fault. counts.rose (from fault);
+  unchanged = λ none. counts.unchanged (λ fault. none (to fault));
+}
+
+-- neither the answer of the step nor the function's is a fault
+pub counts-none : {before now : ℕ} {Fault Other : Type 0} → (Fault → ⊥) → (Other → ⊥) → CountsFault before now Fault → CountsFault before now Other
+counts-none no_step no_other counts = record {
+  later = counts.later;
+  rose = λ fault. absurd (no_other fault);
+  unchanged = λ none. counts.unchanged no_step;
+}
+
+-- nothing was read
+pub counts-still : {now : ℕ} {Fault : Type 0} → (Fault → ⊥) → CountsFault now now Fault
+counts-still no_fault = record {
+  later = omega arith;
+  rose = λ fault. absurd (no_fault fault);
+  unchanged = λ none. refl;
+}
+
+-- it stood still before
+pub counts-behind : {before between now : ℕ} {Fault : Type 0} → between ≡ before → CountsFault between now Fault → CountsFault before now Fault
+counts-behind {now = now} {Fault = Fault} still counts = subst (λ (n : ℕ). CountsFault n now Fault) still counts
