@@ -75,8 +75,10 @@ pub(crate) fn are_mature(at: &TxAt<'_>, found: &[(OutPoint, CellMeta)]) -> Resul
 {
     let height = at.height();
     'rows: for i in 0..found.len() {
-        if !is_mature(at, height, &found[i].1)? {
-            return Ok(false);
+        match is_mature(at, height, &found[i].1) {
+            Ok(true) => {}
+            Ok(false) => return Ok(false),
+            Err(damage) => return Err(damage),
         }
     }
     Ok(true)
@@ -162,8 +164,10 @@ pub(crate) fn meets_each_since(
     let median = at.tree.median(at.parent);
     'inputs: for i in 0..found.len() {
         let since = raw.inputs_item(i).since();
-        if !meets_since(at, height, median, since, &found[i].1)? {
-            return Ok(false);
+        match meets_since(at, height, median, since, &found[i].1) {
+            Ok(true) => {}
+            Ok(false) => return Ok(false),
+            Err(damage) => return Err(damage),
         }
     }
     Ok(true)

@@ -79,8 +79,10 @@ pub(crate) fn withdrawing_made(
     if !is_dao_script(spec, &output.type_script()) || !has_withdrawing_data(&copy.content) {
         return Ok(None);
     }
-    let made = made_at(at, height, &copy.meta)?;
-    Ok(Some(made))
+    match made_at(at, height, &copy.meta) {
+        Ok(made) => Ok(Some(made)),
+        Err(damage) => Err(damage),
+    }
 }
 
 /// The index that 8 bytes are.
@@ -178,8 +180,10 @@ fn withdraws_well(
         → (damage : Damage) → result ≡ Err damage → ⊥ }
     ensures damage { (damage : Damage) → result ≡ Err damage → damage.area ≡ Log }
 {
-    let Some(made) = withdrawing_made(at, height, copy)? else {
-        return Ok(true);
+    let made = match withdrawing_made(at, height, copy) {
+        Ok(Some(made)) => made,
+        Ok(None) => return Ok(true),
+        Err(damage) => return Err(damage),
     };
     let meta = &copy.meta;
     Ok(is_named(ordered, meta.block) && deposit_place(tx, at, headers, i, made).is_some())
@@ -207,8 +211,10 @@ fn all_withdraw_well(
     let height = at.height();
     'inputs: for i in 0..copies.len() {
         let copy = &copies[i];
-        if !withdraws_well(tx, at, height, headers, ordered, i, copy)? {
-            return Ok(false);
+        match withdraws_well(tx, at, height, headers, ordered, i, copy) {
+            Ok(true) => {}
+            Ok(false) => return Ok(false),
+            Err(damage) => return Err(damage),
         }
     }
     Ok(true)
