@@ -58,7 +58,10 @@ fn is_mature(at: &TxAt<'_>, height: u64, meta: &CellMeta) -> Result<bool, Damage
     if meta.tx != 0 {
         return Ok(true);
     }
-    let made = made_at(at, height, meta)?;
+    let made = match made_at(at, height, meta) {
+        Ok(made) => made,
+        Err(damage) => return Err(damage),
+    };
     let spec = at.spec;
     Ok(made == 0 || span_over(spec.maturity, spec.epoch_length, made, height))
 }
@@ -131,8 +134,14 @@ fn meets_since(
         → (damage : Damage) → result ≡ Err damage → ⊥ }
     ensures damage { (damage : Damage) → result ≡ Err damage → damage.area ≡ Log }
 {
-    let made = made_at(at, height, meta)?;
-    let start = start_at(at, median, meta)?;
+    let made = match made_at(at, height, meta) {
+        Ok(made) => made,
+        Err(damage) => return Err(damage),
+    };
+    let start = match start_at(at, median, meta) {
+        Ok(start) => start,
+        Err(damage) => return Err(damage),
+    };
     let spec = at.spec;
     let spending = SinceAt {
         number: height,

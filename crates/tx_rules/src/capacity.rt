@@ -145,7 +145,10 @@ fn held_out(tx: &TxView<'_>) -> Option<u64>
     let raw = tx.raw();
     let mut sum: u64 = 0;
     'outputs: for i in 0..raw.outputs_count() {
-        sum = sum.checked_add(raw.outputs_item(i).capacity())?;
+        match sum.checked_add(raw.outputs_item(i).capacity()) {
+            None => return None,
+            Some(total) => sum = total,
+        }
     }
     Some(sum)
 }

@@ -25,8 +25,10 @@ fn are_deps_distinct(alloc: Global, tx: &TxView<'_>) -> Result<bool, NoMemory>
 {
     let mut seen: HashSet<[u8; 37]> = HashSet::new(alloc);
     'later: for i in (0..tx.raw().cell_deps_count()).rev() {
-        if !seen.insert(dep_at(tx, i))? {
-            return Ok(false);
+        match seen.insert(dep_at(tx, i)) {
+            Ok(true) => {}
+            Ok(false) => return Ok(false),
+            Err(_) => return Err(NoMemory),
         }
     }
     Ok(true)
@@ -46,8 +48,10 @@ fn are_header_deps_distinct(alloc: Global, tx: &TxView<'_>) -> Result<bool, NoMe
 {
     let mut seen: HashSet<[u8; 32]> = HashSet::new(alloc);
     'later: for i in (0..tx.raw().header_deps_count()).rev() {
-        if !seen.insert(header_dep_at(tx, i))? {
-            return Ok(false);
+        match seen.insert(header_dep_at(tx, i)) {
+            Ok(true) => {}
+            Ok(false) => return Ok(false),
+            Err(_) => return Err(NoMemory),
         }
     }
     Ok(true)

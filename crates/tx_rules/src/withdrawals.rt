@@ -103,8 +103,13 @@ fn deposit_index(tx: &TxView<'_>, i: usize) -> Option<u64>
     if i >= tx.witnesses_count() {
         return None;
     }
-    let args = WitnessArgsView::read(tx.witnesses_item(i))?;
-    index_in(args.input_type()?)
+    let Some(args) = WitnessArgsView::read(tx.witnesses_item(i)) else {
+        return None;
+    };
+    match args.input_type() {
+        None => None,
+        Some(bytes) => index_in(bytes),
+    }
 }
 
 /// The place of the header dep that the witness of the input at a place names.
@@ -130,7 +135,9 @@ pub(crate) fn deposit_place(
         → headers.now ≡ map (slice_index (branch_places (blocks_of stored) at.now.parent)) (heights site tx.now) → made ≡ cell.height
         → result ≡ option_map (slice_index (branch_places (blocks_of stored) at.now.parent)) (rules.deposit_height (heights site tx.now) tx.now i cell) }
 {
-    let place = named_place(tx, headers, i)?;
+    let Some(place) = named_place(tx, headers, i) else {
+        return None;
+    };
     if place < at.tree.len() && at.tree.entry(place).number < made {
         Some(place)
     } else {
