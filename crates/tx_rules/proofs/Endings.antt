@@ -1,7 +1,7 @@
 -- Where a function ends: what it counts of faults over calls that follow one another, and what its answer is not.
-use Rattle.std.proofs.Common.{◌≡◌, ℕ, ◌∙◌, Option, Some, None, Result, Ok, Err, refl, subst, arith, rules}
+use Rattle.std.proofs.Common.{◌≡◌, ℕ, Option, Some, None, Result, Ok, Err, subst, arith, rules}
 use Rattle.std.specs.Prelude.{IsSome}
-use Rattle.outside.specs.Causes.{CountsFault, Rose}
+use Rattle.outside.specs.Causes.{CountsFault}
 use Rattle.outside.specs.declared.disk.Area.TheVariants.{Log}
 use Rattle.outside.specs.declared.disk.Damage.{Damage}
 use Rattle.outside.specs.declared.disk.ReadStop.{ReadStop}

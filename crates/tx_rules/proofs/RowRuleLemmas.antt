@@ -1,5 +1,5 @@
 -- J18 and J20 by the rows alone, and what stops behind them.
-use Rattle.std.proofs.Common.{◌≡◌, ℕ, ◌<◌, Bool, true, false, ◌&&◌, Option, Some, None, List, Result, Ok, Err, refl, sym, ap, subst, inl, inr, arith}
+use Rattle.std.proofs.Common.{◌≡◌, ℕ, ◌<◌, Bool, true, false, ◌&&◌, Option, Some, None, List, Result, Ok, Err, refl, ap, subst, inl, inr, arith}
 use Rattle.std.specs.Prelude.{is_some, ◌≤◌}
 use Rattle.codec_defs.specs.Schema.{OutPoint, Transaction}
 use Rattle.outside.specs.declared.disk.Area.TheVariants.{Log}
@@ -10,7 +10,7 @@ use Rattle.cell_defs.specs.Row.{Row}
 use Rattle.tx_defs.specs.Resolving.{spends_each_once}
 use Rattle.tx_defs.specs.Rules.{has_form}
 use Rattle.tx_rules.specs.At.{input_rows, spends_rows}
-use Rattle.tx_rules.specs.Outcome.{IsStopAt, FollowsRows, IsTried}
+use Rattle.tx_rules.specs.Outcome.{FollowsRows, IsTried}
 use Rattle.tx_rules.specs.Steps.{IsStop, IsLater, StopsLater}
 use Rattle.tx_rules.specs.declared.resolving.TxStop.{TxStop}
 use Rattle.tx_rules.specs.declared.resolving.TxStop.TheVariants.{Broken, Read}

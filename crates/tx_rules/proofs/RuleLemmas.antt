@@ -1,5 +1,5 @@
 -- The rules in groups, rule by rule, and the groups one after another.
-use Rattle.std.proofs.Common.{◌≡◌, ℕ, Bool, true, false, List, [], ◌∷◌, ◌++◌, map, Option, Some, None, Result, Ok, Err, refl, sym, ap, ◌∙◌, subst}
+use Rattle.std.proofs.Common.{◌≡◌, ℕ, Bool, true, false, List, [], ◌∷◌, ◌++◌, map, Option, Some, None, Result, Err, refl, sym, ap, ◌∙◌, subst}
 use Rattle.std.specs.Prelude.{◌&&◌, is_some, unwrap_or}
 use Rattle.std.specs.Option.{option_map}
 use Rattle.std.specs.List.{list_all}
@@ -25,7 +25,7 @@ use Rattle.tx_defs.specs.Rules.{has_form, broken_transaction_rule}
 use Rattle.tx_rules.specs.At.{AtValue, IsSiteOf, place_of_height, found_row, find_row, input_rows, spends_rows}
 use Rattle.tx_rules.specs.Copying.{row_in}
 use Rattle.tx_rules.specs.Outcome.{IsTried}
-use Rattle.tx_rules.specs.Steps.{spending_rules, naming_rules, using_rules, finding_rules, paying_rules, StopsAt, Tells, IsStop, Stops}
+use Rattle.tx_rules.specs.Steps.{spending_rules, naming_rules, using_rules, finding_rules, paying_rules, StopsAt, Tells, Stops}
 use Rattle.tx_rules.specs.declared.resolving.TxStop.{TxStop}
 use Rattle.tx_rules.specs.declared.resolving.TxStop.TheVariants.{Broken, Read}
 use Rattle.tx_rules.proofs.AllThere.{all_there-back}

@@ -1,5 +1,5 @@
 -- A source of kept blocks over calls that follow one another.
-use Rattle.std.proofs.Common.{◌≡◌, ℕ, List, Option, refl, ◌∙◌}
+use Rattle.std.proofs.Common.{ℕ, List, Option, refl, ◌∙◌}
 use Rattle.chain_tree.specs.Told.{Stored}
 use Rattle.tx_rules.specs.Source.{IsSameSource}
 

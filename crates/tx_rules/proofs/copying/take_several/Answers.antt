@@ -1,4 +1,4 @@
-use Rattle.std.proofs.Common.{◌≡◌, List, length, Option, refl, ap, sym, subst, ◌∙◌}
+use Rattle.std.proofs.Common.{List, length, Option, refl, ap, sym, subst, ◌∙◌}
 use Rattle.chain_tree.specs.Told.{Stored}
 use Rattle.cell_model.specs.Copies.{ResolvedValue}
 use Rattle.tx_rules.specs.Copying.{AreTaken}

@@ -1,4 +1,4 @@
-use Rattle.std.proofs.Common.{◌≡◌, Some, None, Err, refl, map, ap, ◌∙◌}
+use Rattle.std.proofs.Common.{◌≡◌, Some, None, Err, map, ap}
 use Rattle.std.specs.Prelude.{slice_index}
 use Rattle.std.specs.Option.{option_map}
 use Rattle.outside.specs.declared.disk.ReadStop.TheVariants.{DiskFault}

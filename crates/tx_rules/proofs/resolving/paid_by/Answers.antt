@@ -1,4 +1,4 @@
-use Rattle.std.proofs.Common.{◌≡◌, true, false, Err, refl, ap, sym, ◌∙◌}
+use Rattle.std.proofs.Common.{◌≡◌, true, Err, refl, ap, sym, ◌∙◌}
 use Rattle.outside.specs.declared.disk.ReadStop.TheVariants.{DiskFault}
 use Rattle.tx_defs.specs.Withdrawals.{names_deposits}
 use Rattle.tx_rules.specs.Steps.{paying_rules}
