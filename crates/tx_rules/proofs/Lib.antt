@@ -3,12 +3,13 @@ pub mod AllThere
 pub mod BranchLemmas
 pub mod DepLemmas
 pub mod DepositLemmas
-pub mod Faults
+pub mod Endings
 pub mod HeaderLemmas
 pub mod MoneyLemmas
 pub mod RowRuleLemmas
 pub mod RuleLemmas
 pub mod SearchLemmas
 pub mod SiteLemmas
+pub mod SourceLemmas
 pub mod TakenLemmas
 pub mod WalkLemmas

@@ -1,14 +1,17 @@
 -- J18 and J20 by the rows alone, and what stops behind them.
-use Rattle.std.proofs.Common.{◌≡◌, ℕ, ◌<◌, Bool, true, false, ◌&&◌, Option, Some, None, List, Result, Ok, Err, refl, sym, ap, subst, inl, inr, arith}
-use Rattle.std.specs.Prelude.{is_some, IsErrAnd}
+use Rattle.std.proofs.Common.{◌≡◌, ℕ, ◌<◌, Bool, true, false, ◌&&◌, Option, Some, None, List, Result, Ok, Err, refl, ap, subst, inl, inr, arith}
+use Rattle.std.specs.Prelude.{is_some, ◌≤◌}
 use Rattle.codec_defs.specs.Schema.{OutPoint, Transaction}
-use Rattle.outside.specs.declared.disk.ReadStop.TheVariants.{NoMemory}
+use Rattle.outside.specs.declared.disk.Area.TheVariants.{Log}
+use Rattle.outside.specs.declared.disk.Damage.{Damage}
+use Rattle.outside.specs.declared.disk.ReadStop.{ReadStop}
+use Rattle.outside.specs.declared.disk.ReadStop.TheVariants.{DiskFault, NoMemory, Damaged}
 use Rattle.cell_defs.specs.Row.{Row}
 use Rattle.tx_defs.specs.Resolving.{spends_each_once}
 use Rattle.tx_defs.specs.Rules.{has_form}
 use Rattle.tx_rules.specs.At.{input_rows, spends_rows}
-use Rattle.tx_rules.specs.Outcome.{IsStopAt, FollowsRows}
-use Rattle.tx_rules.specs.Steps.{IsLater, StopsLater}
+use Rattle.tx_rules.specs.Outcome.{FollowsRows, IsTried}
+use Rattle.tx_rules.specs.Steps.{IsStop, IsLater, StopsLater}
 use Rattle.tx_rules.specs.declared.resolving.TxStop.{TxStop}
 use Rattle.tx_rules.specs.declared.resolving.TxStop.TheVariants.{Broken, Read}
 
@@ -17,28 +20,69 @@ use Rattle.tx_rules.specs.declared.resolving.TxStop.TheVariants.{Broken, Read}
 pub none-lost : (rows : OutPoint → Option Row) (t : Transaction) → input_rows rows t ≡ None → spends_rows rows t ≡ false
 none-lost rows t none = ap (λ (found : Option (List (OutPoint × Row))). is_some found && spends_each_once t) none
 
+pub twice-lost : (rows : OutPoint → Option Row) (t : Transaction) → spends_each_once t ≡ false → spends_rows rows t ≡ false
+twice-lost rows t twice = both (is_some (input_rows rows t)) (spends_each_once t) twice
+  where
+    both : (some once : Bool) → once ≡ false → (some && once) ≡ false
+    both true once is = is
+    both false once is = refl
+
 pub some-once : (rows : OutPoint → Option Row) (t : Transaction) (found : List (OutPoint × Row)) → input_rows rows t ≡ Some found
     → spends_rows rows t ≡ spends_each_once t
 some-once rows t found some = ap (λ (it : Option (List (OutPoint × Row))). is_some it && spends_each_once t) some
 
 -- ---- What stops later
 
-later-rule : {T : Type 0} (result : Result T TxStop) (rule : ℕ) → StopsLater result → result ≡ Err (Broken rule) → 20 < rule
-later-rule {T = T} result rule later same = subst (λ (r : Result T TxStop). StopsLater r) same later
+-- the rules behind J20
+pub later-21 : IsLater (Broken 21)
+later-21 = (omega arith, omega arith)
 
-pub later-on : {T U : Type 0} (stop : TxStop) (step : Result T TxStop) (result : Result U TxStop) → step ≡ Err stop → StopsLater step
-    → IsErrAnd result (λ given. given ≡ stop) → StopsLater result
-later-on stop step (Ok v) was later is = tt
-later-on {T = T} stop step (Err given) was later is = subst IsLater (sym is) (subst (λ (s : Result T TxStop). StopsLater s) was later)
+pub later-22 : IsLater (Broken 22)
+later-22 = (omega arith, omega arith)
+
+pub later-23 : IsLater (Broken 23)
+later-23 = (omega arith, omega arith)
+
+pub later-24 : IsLater (Broken 24)
+later-24 = (omega arith, omega arith)
+
+pub later-25 : IsLater (Broken 25)
+later-25 = (omega arith, omega arith)
+
+pub later-26 : IsLater (Broken 26)
+later-26 = (omega arith, omega arith)
+
+pub later-27 : IsLater (Broken 27)
+later-27 = (omega arith, omega arith)
+
+later-rule : {T : Type 0} (result : Result T TxStop) (rule : ℕ) → StopsLater result → result ≡ Err (Broken rule) → 20 < rule
+later-rule {T = T} result rule later same = let high : (20 < rule) × (rule ≤ 27) = subst (λ (r : Result T TxStop). StopsLater r) same later in high.0
+
+-- at what could not be read
+pub later-read : (stop : ReadStop) → ((damage : Damage) → stop ≡ Damaged damage → damage.area ≡ Log) → IsLater (Read stop)
+later-read DiskFault in_log = tt
+later-read NoMemory in_log = tt
+later-read (Damaged damage) in_log = in_log damage refl
+
+-- what stops later is a stop
+pub later-stops : (stop : TxStop) → IsLater stop → IsStop stop
+later-stops (Broken rule) later = inr (let above = later.0 in omega (arith, above), later.1)
+later-stops (Read DiskFault) later = tt
+later-stops (Read NoMemory) later = tt
+later-stops (Read (Damaged damage)) later = later
 
 -- ---- Each answer
 
-pub follows-memory : {T : Type 0} (rows : OutPoint → Option Row) (t : Transaction) (result : Result T TxStop) → IsErrAnd result (λ stop. stop ≡ Read NoMemory)
-    → FollowsRows rows t result
-follows-memory rows t (Ok v) is = absurd is
-follows-memory rows t (Err stop) is = record {
-  formless = λ bad. inr is;
-  lost = λ form bad. inr is;
+pub tried-18 : IsTried 18
+tried-18 = inl refl
+
+pub tried-20 : IsTried 20
+tried-20 = inr (omega arith, omega arith)
+
+pub follows-memory : {T : Type 0} (rows : OutPoint → Option Row) (t : Transaction) → FollowsRows {T = T} rows t (Err (Read NoMemory))
+follows-memory rows t = record {
+  formless = λ bad. inr refl;
+  lost = λ form bad. inr refl;
   form = λ same. absurd (cc);
   live = λ same. absurd (cc);
 }
@@ -72,30 +116,23 @@ follows-kept rows t result form spends later = record {
 
 -- ---- Handed on
 
-pub follows-on : {T U : Type 0} (rows : OutPoint → Option Row) (t : Transaction) (stop : TxStop) (step : Result T TxStop) (result : Result U TxStop)
-    → step ≡ Err stop → FollowsRows rows t step → IsErrAnd result (λ given. given ≡ stop) → FollowsRows rows t result
-follows-on rows t stop step (Ok v) was follows is = absurd is
-follows-on {T = T} rows t stop step (Err given) was follows is = record {
-  formless = λ bad. subst (IsStopAt 18) (sym is) (here.formless bad);
-  lost = λ form bad. subst (IsStopAt 20) (sym is) (here.lost form bad);
-  form = λ same. here.form (cc);
-  live = λ same. here.live (cc);
+pub follows-on : {T U : Type 0} (rows : OutPoint → Option Row) (t : Transaction) (stop : TxStop) → FollowsRows {T = T} rows t (Err stop)
+    → FollowsRows {T = U} rows t (Err stop)
+follows-on rows t stop follows = record {
+  formless = follows.formless;
+  lost = follows.lost;
+  form = λ same. follows.form (cc);
+  live = λ same. follows.live (cc);
 }
-  where
-    here : FollowsRows {T = T} rows t (Err stop)
-    here = subst (λ (s : Result T TxStop). FollowsRows rows t s) was follows
 
 -- what is kept where a step goes on, and what it answers behind it
 by_true : (b : Bool) → (b ≡ false → ⊥) → b ≡ true
 by_true true none = refl
 by_true false none = absurd (none refl)
 
-pub follows-behind : {T U : Type 0} (rows : OutPoint → Option Row) (t : Transaction) (v : T) (step : Result T TxStop) (result : Result U TxStop) → step ≡ Ok v
-    → FollowsRows rows t step → StopsLater result → FollowsRows rows t result
-follows-behind {T = T} rows t v step result was follows later = follows-kept rows t result form (by_true (spends_rows rows t) (done.lost form)) later
+pub follows-behind : {T U : Type 0} (rows : OutPoint → Option Row) (t : Transaction) (v : T) (result : Result U TxStop) → FollowsRows {T = T} rows t (Ok v)
+    → StopsLater result → FollowsRows rows t result
+follows-behind rows t v result done later = follows-kept rows t result form (by_true (spends_rows rows t) (done.lost form)) later
   where
-    done : FollowsRows {T = T} rows t (Ok v)
-    done = subst (λ (s : Result T TxStop). FollowsRows rows t s) was follows
-
     form : has_form t ≡ true
     form = by_true (has_form t) done.formless

@@ -1,6 +1,6 @@
 -- The rules in groups, rule by rule, and the groups one after another.
-use Rattle.std.proofs.Common.{◌≡◌, ℕ, Bool, true, false, List, [], ◌∷◌, ◌++◌, map, Option, Some, None, Result, Ok, Err, refl, sym, ap, ◌∙◌, subst}
-use Rattle.std.specs.Prelude.{◌&&◌, is_some, unwrap_or, IsErrAnd}
+use Rattle.std.proofs.Common.{◌≡◌, ℕ, Bool, true, false, List, [], ◌∷◌, ◌++◌, map, Option, Some, None, Result, Err, refl, sym, ap, ◌∙◌, subst}
+use Rattle.std.specs.Prelude.{◌&&◌, is_some, unwrap_or}
 use Rattle.std.specs.Option.{option_map}
 use Rattle.std.specs.List.{list_all}
 use Rattle.std.proofs.lemmas.List.Folds.{list_all-append}
@@ -22,10 +22,10 @@ use Rattle.tx_defs.specs.Age.{is_mature, uses_mature_cells, meets_each_since}
 use Rattle.tx_defs.specs.Withdrawals.{names_deposits}
 use Rattle.tx_defs.specs.Capacity.{makes_good_cells, balances}
 use Rattle.tx_defs.specs.Rules.{has_form, broken_transaction_rule}
-use Rattle.tx_rules.specs.At.{AtValue, IsSiteOf, place_of_height, found_row, find_row, input_rows}
+use Rattle.tx_rules.specs.At.{AtValue, IsSiteOf, place_of_height, found_row, find_row, input_rows, spends_rows}
 use Rattle.tx_rules.specs.Copying.{row_in}
 use Rattle.tx_rules.specs.Outcome.{IsTried}
-use Rattle.tx_rules.specs.Steps.{spending_rules, naming_rules, using_rules, finding_rules, paying_rules, StopsAt, Tells, IsStop, Stops}
+use Rattle.tx_rules.specs.Steps.{spending_rules, naming_rules, using_rules, finding_rules, paying_rules, StopsAt, Tells, Stops}
 use Rattle.tx_rules.specs.declared.resolving.TxStop.{TxStop}
 use Rattle.tx_rules.specs.declared.resolving.TxStop.TheVariants.{Broken, Read}
 use Rattle.tx_rules.proofs.AllThere.{all_there-back}
@@ -50,17 +50,12 @@ map-some : {X Y : Type 0} (f : X → Y) (found : Option (List X)) (ys : Option (
 map-some f None ys is = ap is_some (sym is)
 map-some f (Some xs) ys is = ap is_some (sym is)
 
-pub not-live : (stored : List Stored) (at : AtValue) (rows : OutPoint → Option Row) (site : Site) (t : Transaction) → IsSiteOf stored at rows site
-    → input_rows rows t ≡ None → spends_live_cells site t ≡ false
-not-live stored at rows site t is none =
+-- J20 at the site is J20 by the rows
+pub spends-by-rows : (stored : List Stored) (at : AtValue) (rows : OutPoint → Option Row) (site : Site) (t : Transaction) → IsSiteOf stored at rows site
+    → spends_live_cells site t ≡ spends_rows rows t
+spends-by-rows stored at rows site t is =
     ap (λ (live : Bool). live && spends_each_once t)
-    (map-some (found_row (blocks_of stored) at.parent) (input_cells site t) None (sym none ∙ input_rows-cells stored at rows site t is))
-
-pub spends-as-distinct : (stored : List Stored) (at : AtValue) (rows : OutPoint → Option Row) (site : Site) (t : Transaction) (found : List (OutPoint × Row))
-    → IsSiteOf stored at rows site → input_rows rows t ≡ Some found → spends_live_cells site t ≡ spends_each_once t
-spends-as-distinct stored at rows site t found is some =
-    ap (λ (live : Bool). live && spends_each_once t)
-    (map-some (found_row (blocks_of stored) at.parent) (input_cells site t) (Some found) (sym some ∙ input_rows-cells stored at rows site t is))
+    (map-some (found_row (blocks_of stored) at.parent) (input_cells site t) (input_rows rows t) (input_rows-cells stored at rows site t is))
 
 -- ---- Deps
 
@@ -95,17 +90,6 @@ pub read-stops : (rules : List (ℕ × Bool)) (stop : ReadStop) → ((damage : D
 read-stops rules DiskFault none = tt
 read-stops rules NoMemory none = tt
 read-stops rules (Damaged damage) none = none damage refl
-
--- a step that stops where reading does
-pub tells-read : {T : Type 0} (rules : List (ℕ × Bool)) (stop : ReadStop) (result : Result T TxStop) → IsErrAnd result (λ given. given ≡ Read stop)
-    → ((damage : Damage) → stop ≡ Damaged damage → ⊥) → Tells rules result
-tells-read rules stop (Ok v) is none = absurd is
-tells-read rules stop (Err given) is none = subst (StopsAt rules) (sym is) (read-stops rules stop none)
-
--- no step stops at a damage that there is not
-pub tells-damage : {T : Type 0} (rules : List (ℕ × Bool)) (damage : Damage) (result : Result T TxStop) → IsErrAnd result (λ given. given ≡ Read (Damaged damage))
-    → ⊥ → Tells rules result
-tells-damage rules damage result is none = absurd none
 
 -- ---- Age and outputs
 
@@ -171,42 +155,19 @@ pays-well site t named good =
 
 -- ---- One group after another
 
-stops-front : (front back : List (ℕ × Bool)) (stop : TxStop) → StopsAt front stop → StopsAt (front ++ back) stop
+-- a stop in the first group
+pub stops-front : (front back : List (ℕ × Bool)) (stop : TxStop) → StopsAt front stop → StopsAt (front ++ back) stop
 stops-front front back (Broken rule) is = first_failing-append-fails rule front back is
 stops-front front back (Read DiskFault) is = tt
 stops-front front back (Read NoMemory) is = tt
 stops-front front back (Read (Damaged damage)) is = is
 
-stops-back : (front back : List (ℕ × Bool)) (stop : TxStop) → first_failing front ≡ None → StopsAt back stop → StopsAt (front ++ back) stop
+-- a stop in the second where the first is kept
+pub stops-back : (front back : List (ℕ × Bool)) (stop : TxStop) → first_failing front ≡ None → StopsAt back stop → StopsAt (front ++ back) stop
 stops-back front back (Broken rule) none is = first_failing-append-holds front back ((finds_none front).0 none) ∙ is
 stops-back front back (Read DiskFault) none is = tt
 stops-back front back (Read NoMemory) none is = tt
 stops-back front back (Read (Damaged damage)) none is = is
-
--- a stop in the first group, with its error handed on
-pub tells-front : {T U : Type 0} (front back : List (ℕ × Bool)) (stop : TxStop) (step : Result T TxStop) (result : Result U TxStop)
-    → step ≡ Err stop → Tells front step → IsErrAnd result (λ given. given ≡ stop) → Tells (front ++ back) result
-tells-front front back stop step (Ok v) was tells is = absurd is
-tells-front {T = T} front back stop step (Err given) was tells is =
-    subst (StopsAt (front ++ back)) (sym is) (stops-front front back stop (subst (λ (s : Result T TxStop). Tells front s) was tells))
-
--- what the second group says where the first is kept
-pub tells-back : {T : Type 0} (front back : List (ℕ × Bool)) (result : Result T TxStop) → first_failing front ≡ None → Tells back result
-    → Tells (front ++ back) result
-tells-back front back (Ok v) none tells = first_failing-append-holds front back ((finds_none front).0 none) ∙ tells
-tells-back front back (Err stop) none tells = stops-back front back stop none tells
-
--- the same of an error that is handed on
-pub tells-on : {T U : Type 0} (rules : List (ℕ × Bool)) (stop : TxStop) (step : Result T TxStop) (result : Result U TxStop)
-    → step ≡ Err stop → Tells rules step → IsErrAnd result (λ given. given ≡ stop) → Tells rules result
-tells-on rules stop step (Ok v) was tells is = absurd is
-tells-on {T = T} rules stop step (Err given) was tells is =
-    subst (StopsAt rules) (sym is) (subst (λ (s : Result T TxStop). Tells rules s) was tells)
-
-pub stops-on : {T U : Type 0} (stop : TxStop) (step : Result T TxStop) (result : Result U TxStop) → step ≡ Err stop → Stops step
-    → IsErrAnd result (λ given. given ≡ stop) → Stops result
-stops-on stop step (Ok v) was stops is = tt
-stops-on {T = T} stop step (Err given) was stops is = subst IsStop (sym is) (subst (λ (s : Result T TxStop). Stops s) was stops)
 
 -- ---- All of them
 

@@ -1,5 +1,5 @@
 -- Copies that are taken to the places of their rows.
-use Rattle.std.proofs.Common.{◌≡◌, ℕ, ◌<◌, List, [], ◌∷◌, length, map, Option, Some, None, refl, sym, ap, ◌∙◌, subst, inl, inr, ◌⊎◌}
+use Rattle.std.proofs.Common.{◌≡◌, ℕ, ◌<◌, List, [], ◌∷◌, length, map, Option, Some, None, refl, sym, ap, ◌∙◌, subst, inl, inr, ◌⊎◌, arith}
 use Rattle.std.proofs.lemmas.List.Elements.{All-nil, All-cons, All-head, All-tail}
 use Rattle.std.specs.Prelude.{Result, Ok, Err, IfOk, IfSome, slice_get, slice_set, replicate, zero, suc}
 use Rattle.std.specs.List.{All, AllZip}
@@ -10,11 +10,13 @@ use Rattle.chain_tree.specs.Told.{Stored, Encodes, blocks_of}
 use Rattle.cell_defs.specs.Cell.{Cell}
 use Rattle.cell_defs.specs.Row.{Row}
 use Rattle.cell_model.specs.Copies.{ResolvedValue, IsCopyOf, NamesOutput, output_in}
-use Rattle.cell_model.proofs.CopyLemmas.{named_output}
+use Rattle.cell_model.proofs.CopyLemmas.{named_output, encodes}
 use Rattle.tx_defs.specs.Site.{Site, Found}
 use Rattle.tx_rules.specs.At.{AtValue, IsSiteOf, AreSeen, found_row}
 use Rattle.tx_rules.specs.Copying.{IsFoundAt, IsBlockAt, IsCopyOfRow, AreTaken, HoldsOutput, row_in}
 use Rattle.tx_rules.specs.Outcome.{Copies}
+use Rattle.chain_defs.proofs.KeptLaws.{slice_get-below}
+use Rattle.tx_rules.proofs.Endings.{nothing_read}
 use Rattle.tx_rules.proofs.SiteLemmas.{copied-of-kept}
 
 -- ---- A copy out of a kept block that is read
@@ -155,6 +157,16 @@ hand-block told now hand place bytes read same in_hand is of_hand =
     by_told : (t : Option (List Stored)) → IfSome t (λ stored. IfSome (slice_get stored place) (λ it. Encodes bytes it.block)) → IsBlockAt t place read
     by_told None encodes = tt
     by_told (Some stored) encodes = by_made (slice_get stored place) encodes
+
+-- which are those of a block, where something is told
+pub hand-reads : (stored : List Stored) (told now : Option (List Stored)) (hand : Option ℕ) (count place : ℕ) (bytes : List ℕ) → told ≡ Some stored → now ≡ told
+    → hand ≡ Some place → IfSome told (λ all. length all ≡ count) → place < count → None ≡ decoded block bytes
+    → IfSome now (λ all. IfSome hand (λ e. IfSome (slice_get all e) (λ it. Encodes bytes it.block))) → ⊥
+hand-reads stored told now hand count place bytes tells same in_hand all within nothing of_hand =
+    let long : length stored ≡ count = subst (λ (t : Option (List Stored)). IfSome t (λ all. length all ≡ count)) tells all in
+    let there = slice_get-below stored place (omega (arith, within, long)) in
+    let encoded : decoded block bytes ≡ Some there.0.block = encodes bytes now hand stored place there.0 (same ∙ tells) in_hand there.1 of_hand in
+    nothing_read there.0.block (nothing ∙ encoded)
 
 -- the copy that is taken at a place is its row's
 pub taken-here : (told : Option (List Stored)) (at : AtValue) (rows : List (OutPoint × Row)) (slots : List (Option ResolvedValue)) (i : ℕ) (named : OutPoint × Row)

@@ -3,4 +3,5 @@ pub mod Copying
 pub mod Members
 pub mod Outcome
 pub mod Seen
+pub mod Source
 pub mod Steps

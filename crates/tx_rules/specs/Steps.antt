@@ -1,5 +1,5 @@
 -- What the steps of judging a transaction say: the rules in groups, and tables by answer.
-use Rattle.std.specs.Prelude.{◌≡◌, ℕ, ◌<◌, Bool, List, [], ◌∷◌, map, Result, Ok, Err, Some, None, slice_index}
+use Rattle.std.specs.Prelude.{◌≡◌, ℕ, ◌<◌, ◌≤◌, Bool, List, [], ◌∷◌, map, Result, Ok, Err, Some, None, slice_index}
 use Rattle.codec_defs.specs.Schema.{OutPoint, Transaction, Block}
 use Rattle.fold_defs.specs.First.{first_failing}
 use Rattle.outside.specs.declared.disk.Area.TheVariants.{Log}
@@ -67,10 +67,12 @@ abbrev pub Stops : {T : Type 0} → Result T TxStop → Type 0
 Stops (Ok v) = Unit {0}
 Stops (Err stop) = IsStop stop
 
--- behind J18 and J20 a step stops at none of them
+-- behind J18 and J20 a step stops at a later rule
 abbrev pub IsLater : TxStop → Type 0
-IsLater (Broken rule) = 20 < rule
-IsLater (Read stop) = Unit {0}
+IsLater (Broken rule) = (20 < rule) × (rule ≤ 27)
+IsLater (Read DiskFault) = Unit {0}
+IsLater (Read NoMemory) = Unit {0}
+IsLater (Read (Damaged damage)) = damage.area ≡ Log
 
 abbrev pub StopsLater : {T : Type 0} → Result T TxStop → Type 0
 StopsLater (Ok v) = Unit {0}

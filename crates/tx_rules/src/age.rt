@@ -58,7 +58,10 @@ fn is_mature(at: &TxAt<'_>, height: u64, meta: &CellMeta) -> Result<bool, Damage
     if meta.tx != 0 {
         return Ok(true);
     }
-    let made = made_at(at, height, meta)?;
+    let made = match made_at(at, height, meta) {
+        Ok(made) => made,
+        Err(damage) => return Err(damage),
+    };
     let spec = at.spec;
     Ok(made == 0 || span_over(spec.maturity, spec.epoch_length, made, height))
 }
@@ -75,8 +78,10 @@ pub(crate) fn are_mature(at: &TxAt<'_>, found: &[(OutPoint, CellMeta)]) -> Resul
 {
     let height = at.height();
     'rows: for i in 0..found.len() {
-        if !is_mature(at, height, &found[i].1)? {
-            return Ok(false);
+        match is_mature(at, height, &found[i].1) {
+            Ok(true) => {}
+            Ok(false) => return Ok(false),
+            Err(damage) => return Err(damage),
         }
     }
     Ok(true)
@@ -129,8 +134,14 @@ fn meets_since(
         → (damage : Damage) → result ≡ Err damage → ⊥ }
     ensures damage { (damage : Damage) → result ≡ Err damage → damage.area ≡ Log }
 {
-    let made = made_at(at, height, meta)?;
-    let start = start_at(at, median, meta)?;
+    let made = match made_at(at, height, meta) {
+        Ok(made) => made,
+        Err(damage) => return Err(damage),
+    };
+    let start = match start_at(at, median, meta) {
+        Ok(start) => start,
+        Err(damage) => return Err(damage),
+    };
     let spec = at.spec;
     let spending = SinceAt {
         number: height,
@@ -162,8 +173,10 @@ pub(crate) fn meets_each_since(
     let median = at.tree.median(at.parent);
     'inputs: for i in 0..found.len() {
         let since = raw.inputs_item(i).since();
-        if !meets_since(at, height, median, since, &found[i].1)? {
-            return Ok(false);
+        match meets_since(at, height, median, since, &found[i].1) {
+            Ok(true) => {}
+            Ok(false) => return Ok(false),
+            Err(damage) => return Err(damage),
         }
     }
     Ok(true)

@@ -94,8 +94,10 @@ fn counted(
     ensures damage { (damage : Damage) → result ≡ Err damage → damage.area ≡ Log }
 {
     let meta = &copy.meta;
-    let Some(made) = withdrawing_made(at, height, copy)? else {
-        return Ok(counted_plain(meta.capacity));
+    let made = match withdrawing_made(at, height, copy) {
+        Ok(Some(made)) => made,
+        Ok(None) => return Ok(counted_plain(meta.capacity)),
+        Err(damage) => return Err(damage),
     };
     match deposit_place(tx, at, headers, i, made) {
         None => Ok(counted_plain(meta.capacity)),
@@ -123,8 +125,10 @@ fn counted_in(
     let mut sum: u64 = 0;
     'inputs: for i in 0..copies.len() {
         let copy = &copies[i];
-        let Some(more) = counted(tx, at, height, headers, i, copy)? else {
-            return Ok(None);
+        let more = match counted(tx, at, height, headers, i, copy) {
+            Ok(Some(more)) => more,
+            Ok(None) => return Ok(None),
+            Err(damage) => return Err(damage),
         };
         match sum.checked_add(more) {
             None => return Ok(None),
@@ -141,7 +145,10 @@ fn held_out(tx: &TxView<'_>) -> Option<u64>
     let raw = tx.raw();
     let mut sum: u64 = 0;
     'outputs: for i in 0..raw.outputs_count() {
-        sum = sum.checked_add(raw.outputs_item(i).capacity())?;
+        match sum.checked_add(raw.outputs_item(i).capacity()) {
+            None => return None,
+            Some(total) => sum = total,
+        }
     }
     Some(sum)
 }
@@ -185,8 +192,10 @@ pub(crate) fn balance_of(
         → IsTrue (names_deposits site tx.now) → (damage : Damage) → result ≡ Err damage → ⊥ }
     ensures damage { (damage : Damage) → result ≡ Err damage → damage.area ≡ Log }
 {
-    let Some(counted) = counted_in(tx, at, copies, headers)? else {
-        return Ok(None);
+    let counted = match counted_in(tx, at, copies, headers) {
+        Ok(Some(counted)) => counted,
+        Ok(None) => return Ok(None),
+        Err(damage) => return Err(damage),
     };
     let Some(held) = held_out(tx) else {
         return Ok(None);

@@ -14,6 +14,7 @@ ghost use Rattle.tx_defs.specs.Site.{Site, Found};
 ghost use Rattle.tx_rules.specs.At.{IsPlaced, IsSiteOf, AreSeen, found_row};
 ghost use Rattle.tx_rules.specs.Copying.{IsFoundAt, IsBlockAt, IsCopyOfRow, AreTaken, row_in, HoldsOutput};
 ghost use Rattle.tx_rules.specs.Outcome.{Copies};
+ghost use Rattle.tx_rules.specs.Source.{IsSameSource};
 
 use crate::at::{TxAt, damage_of};
 use cell_model::{CellMeta, OutPoint, Resolved, copy_of, fetch, output_at};
@@ -32,9 +33,7 @@ fn copy_kept<B: Blocks>(
 ) -> Result<Resolved, ReadStop>
     requires counts { B.count blocks.old ≡ length at.now.entries }
     requires within { meta.block < length at.now.entries }
-    ensures told { B.told blocks.new ≡ B.told blocks.old }
-    ensures count { B.count blocks.new ≡ B.count blocks.old }
-    ensures loans { B.loans_of blocks.new ≡ B.loans_of blocks.old }
+    ensures source { IsSameSource B.told B.count B.loans_of blocks.old blocks.new }
     ensures out_point { IfOk result (λ copy. copy.out_point ≡ o) }
     ensures row { IfOk result (λ copy. copy.row ≡ meta) }
     ensures output { IfOk result HoldsOutput }
@@ -106,9 +105,7 @@ fn copy_row<B: Blocks>(
 ) -> Result<Resolved, ReadStop>
     requires placed { IsPlaced at.now }
     requires counts { B.count blocks.old ≡ length at.now.entries }
-    ensures told { B.told blocks.new ≡ B.told blocks.old }
-    ensures count { B.count blocks.new ≡ B.count blocks.old }
-    ensures loans { B.loans_of blocks.new ≡ B.loans_of blocks.old }
+    ensures source { IsSameSource B.told B.count B.loans_of blocks.old blocks.new }
     ensures out_point { IfOk result (λ copy. copy.out_point ≡ o) }
     ensures row { IfOk result (λ copy. copy.row ≡ meta) }
     ensures output { IfOk result HoldsOutput }
@@ -192,7 +189,10 @@ fn take_read(
         if row.1.block != block {
             return Ok(());
         }
-        let copy = copy_read(alloc, at, read, row.0, row.1)?;
+        let copy = match copy_read(alloc, at, read, row.0, row.1) {
+            Ok(copy) => copy,
+            Err(stop) => return Err(stop),
+        };
         taken[place] = Some(copy);
     }
     Ok(())
@@ -213,9 +213,7 @@ fn take_kept<B: Blocks>(
     requires within { meta.block < length at.now.entries }
     requires places { All (λ it. it.1 < length rows.now) order.now }
     requires long { length taken.old ≡ length rows.now }
-    ensures told { B.told blocks.new ≡ B.told blocks.old }
-    ensures count { B.count blocks.new ≡ B.count blocks.old }
-    ensures loans { B.loans_of blocks.new ≡ B.loans_of blocks.old }
+    ensures source { IsSameSource B.told B.count B.loans_of blocks.old blocks.new }
     ensures long { length taken.new ≡ length rows.now }
     ensures taken { AreTaken (B.told blocks.old) at.now rows.now taken.old → IfOk result (λ _. AreTaken (B.told blocks.old) at.now rows.now taken.new) }
     ensures undamaged { (stored : List Stored) (seen : OutPoint → Option Row) (site : Site) (founds : List Found) → B.told blocks.old ≡ Some stored
@@ -250,9 +248,7 @@ fn take_several<B: Blocks>(
     requires counts { B.count blocks.old ≡ length at.now.entries }
     requires places { All (λ it. it.1 < length rows.now) order.now }
     requires long { length taken.old ≡ length rows.now }
-    ensures told { B.told blocks.new ≡ B.told blocks.old }
-    ensures count { B.count blocks.new ≡ B.count blocks.old }
-    ensures loans { B.loans_of blocks.new ≡ B.loans_of blocks.old }
+    ensures source { IsSameSource B.told B.count B.loans_of blocks.old blocks.new }
     ensures long { length taken.new ≡ length rows.now }
     ensures taken { AreTaken (B.told blocks.old) at.now rows.now taken.old → IfOk result (λ _. AreTaken (B.told blocks.old) at.now rows.now taken.new) }
     ensures undamaged { (stored : List Stored) (seen : OutPoint → Option Row) (site : Site) (founds : List Found) → B.told blocks.old ≡ Some stored
@@ -265,7 +261,10 @@ fn take_several<B: Blocks>(
     'order: for j in 0..order.len() {
         let row = rows[order[j].1];
         if row.1.block < kept && starts_several(order, j) {
-            take_kept(alloc, at, blocks, row.1, rows, &order[j..], taken)?;
+            match take_kept(alloc, at, blocks, row.1, rows, &order[j..], taken) {
+                Ok(()) => {}
+                Err(stop) => return Err(stop),
+            }
         }
     }
     Ok(())
@@ -283,9 +282,7 @@ fn taken_or_copied<B: Blocks>(
     requires placed { IsPlaced at.now }
     requires counts { B.count blocks.old ≡ length at.now.entries }
     requires taken { IfSome taken (IsCopyOfRow (B.told blocks.old) at.now (o, meta)) }
-    ensures told { B.told blocks.new ≡ B.told blocks.old }
-    ensures count { B.count blocks.new ≡ B.count blocks.old }
-    ensures loans { B.loans_of blocks.new ≡ B.loans_of blocks.old }
+    ensures source { IsSameSource B.told B.count B.loans_of blocks.old blocks.new }
     ensures copy { IfOk result (IsCopyOfRow (B.told blocks.old) at.now (o, meta)) }
     ensures undamaged { (stored : List Stored) (rows : OutPoint → Option Row) (site : Site) (found : Found) → B.told blocks.old ≡ Some stored
         → IsSiteOf stored at.now rows site → IsFoundAt stored at.now.parent site found (o, meta) → (damage : Damage) → result ≡ Err (Damaged damage) → ⊥ }
@@ -311,9 +308,7 @@ fn copy_each<B: Blocks>(
     requires counts { B.count blocks.old ≡ length at.now.entries }
     requires long { length taken.old ≡ length rows.now }
     requires taken { AreTaken (B.told blocks.old) at.now rows.now taken.old }
-    ensures told { B.told blocks.new ≡ B.told blocks.old }
-    ensures count { B.count blocks.new ≡ B.count blocks.old }
-    ensures loans { B.loans_of blocks.new ≡ B.loans_of blocks.old }
+    ensures source { IsSameSource B.told B.count B.loans_of blocks.old blocks.new }
     ensures copies { IfOk result (λ copies. AllZip (IsCopyOfRow (B.told blocks.old) at.now) rows.now copies.items) }
     ensures undamaged { (stored : List Stored) (seen : OutPoint → Option Row) (site : Site) (founds : List Found) → B.told blocks.old ≡ Some stored
         → IsSiteOf stored at.now seen site → AreSeen site founds → rows.now ≡ map (found_row (blocks_of stored) at.now.parent) founds
@@ -324,7 +319,10 @@ fn copy_each<B: Blocks>(
     let mut copies = Vec::new(alloc);
     'each: for i in 0..rows.len() {
         let row = rows[i];
-        let copy = taken_or_copied(alloc, at, blocks, taken[i].take(), row.0, row.1)?;
+        let copy = match taken_or_copied(alloc, at, blocks, taken[i].take(), row.0, row.1) {
+            Ok(copy) => copy,
+            Err(stop) => return Err(stop),
+        };
         if copies.push(copy).is_err() {
             return Err(ReadStop::NoMemory);
         }
@@ -341,9 +339,7 @@ pub(crate) fn fetch_all<B: Blocks>(
 ) -> Result<Vec<Resolved>, ReadStop>
     requires placed { IsPlaced at.now }
     requires counts { B.count blocks.old ≡ length at.now.entries }
-    ensures told { B.told blocks.new ≡ B.told blocks.old }
-    ensures count { B.count blocks.new ≡ B.count blocks.old }
-    ensures loans { B.loans_of blocks.new ≡ B.loans_of blocks.old }
+    ensures source { IsSameSource B.told B.count B.loans_of blocks.old blocks.new }
     ensures rows { IfOk result (λ copies. map row_in copies.items ≡ rows.now) }
     ensures outputs { IfOk result (λ copies. All HoldsOutput copies.items) }
     ensures copied { (stored : List Stored) (seen : OutPoint → Option Row) (site : Site) (founds : List Found) → B.told blocks.old ≡ Some stored
@@ -361,6 +357,9 @@ pub(crate) fn fetch_all<B: Blocks>(
     let Ok(mut taken) = none_taken(alloc, rows.len()) else {
         return Err(ReadStop::NoMemory);
     };
-    take_several(alloc, at, blocks, rows, &order, &mut taken)?;
+    match take_several(alloc, at, blocks, rows, &order, &mut taken) {
+        Ok(()) => {}
+        Err(stop) => return Err(stop),
+    }
     copy_each(alloc, at, blocks, rows, &mut taken)
 }

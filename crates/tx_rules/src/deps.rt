@@ -14,6 +14,7 @@ ghost use Rattle.tx_defs.specs.Site.{Site};
 ghost use Rattle.tx_defs.specs.Resolving.{cells_of_dep, dep_cells};
 ghost use Rattle.tx_rules.specs.At.{IsPlaced, IsSiteOf, found_row, place_of_height};
 ghost use Rattle.tx_rules.specs.Members.{Adds, rows_of, member_rows};
+ghost use Rattle.tx_rules.specs.Source.{IsSameSource};
 
 use crate::at::{TxAt, damage_of};
 use crate::inputs::find_row;
@@ -97,9 +98,7 @@ fn add_kept_group<C: Cells, B: Blocks>(
     found: &mut Vec<(OutPoint, CellMeta)>,
 ) -> Result<bool, ReadStop>
     requires within { meta.now.block < B.count blocks.old }
-    ensures told { B.told blocks.new ≡ B.told blocks.old }
-    ensures count { B.count blocks.new ≡ B.count blocks.old }
-    ensures loans { B.loans_of blocks.new ≡ B.loans_of blocks.old }
+    ensures source { IsSameSource B.told B.count B.loans_of blocks.old blocks.new }
     ensures rows { (stored : List Stored) (cell : Cell) → B.told blocks.old ≡ Some stored → NamesOutput stored o.now meta.now cell
         → IfOk result (λ all. Adds found.old.items all found.new.items (member_rows (C.rows cells.now) cell.content)) }
     ensures undamaged { (stored : List Stored) (cell : Cell) → B.told blocks.old ≡ Some stored → NamesOutput stored o.now meta.now cell
@@ -107,7 +106,10 @@ fn add_kept_group<C: Cells, B: Blocks>(
     ensures damage { (damage : Damage) → result ≡ Err (Damaged damage) → damage.area ≡ Log }
     ensures cause { CountsFault (B.faults blocks.old) (B.faults blocks.new) (result ≡ Err DiskFault) }
 {
-    blocks.bring(meta.block)?;
+    match blocks.bring(meta.block) {
+        Ok(()) => {}
+        Err(stop) => return Err(stop),
+    }
     let Some(block) = BlockView::read(blocks.block()) else {
         return Err(ReadStop::Damaged(damage_of(at, meta)));
     };
@@ -151,9 +153,7 @@ fn add_group_of<C: Cells, B: Blocks>(
 ) -> Result<bool, ReadStop>
     requires placed { IsPlaced at.now }
     requires counts { B.count blocks.old ≡ length at.now.entries }
-    ensures told { B.told blocks.new ≡ B.told blocks.old }
-    ensures count { B.count blocks.new ≡ B.count blocks.old }
-    ensures loans { B.loans_of blocks.new ≡ B.loans_of blocks.old }
+    ensures source { IsSameSource B.told B.count B.loans_of blocks.old blocks.new }
     ensures rows { (stored : List Stored) (site : Site) (cell : Cell) → B.told blocks.old ≡ Some stored → IsSiteOf stored at.now (C.rows cells.now) site
         → site.cell o.now ≡ Some cell → meta.now ≡ row_of (place_of_height (blocks_of stored) at.now.parent cell.height) cell
         → IfOk result (λ all. Adds found.old.items all found.new.items (member_rows (C.rows cells.now) cell.content)) }
@@ -180,9 +180,7 @@ fn add_dep<C: Cells, B: Blocks>(
 ) -> Result<bool, ReadStop>
     requires placed { IsPlaced at.now }
     requires counts { B.count blocks.old ≡ length at.now.entries }
-    ensures told { B.told blocks.new ≡ B.told blocks.old }
-    ensures count { B.count blocks.new ≡ B.count blocks.old }
-    ensures loans { B.loans_of blocks.new ≡ B.loans_of blocks.old }
+    ensures source { IsSameSource B.told B.count B.loans_of blocks.old blocks.new }
     ensures resolved { (stored : List Stored) (site : Site) → B.told blocks.old ≡ Some stored → IsSiteOf stored at.now (C.rows cells.now) site
         → IfOk result (λ all. Adds found.old.items all found.new.items (option_map (map (found_row (blocks_of stored) at.now.parent)) (cells_of_dep site dep.now))) }
     ensures undamaged { (stored : List Stored) (site : Site) → B.told blocks.old ≡ Some stored → IsSiteOf stored at.now (C.rows cells.now) site
@@ -214,9 +212,7 @@ pub(crate) fn resolved_deps<C: Cells, B: Blocks>(
 ) -> Result<Option<Vec<(OutPoint, CellMeta)>>, ReadStop>
     requires placed { IsPlaced at.now }
     requires counts { B.count blocks.old ≡ length at.now.entries }
-    ensures told { B.told blocks.new ≡ B.told blocks.old }
-    ensures count { B.count blocks.new ≡ B.count blocks.old }
-    ensures loans { B.loans_of blocks.new ≡ B.loans_of blocks.old }
+    ensures source { IsSameSource B.told B.count B.loans_of blocks.old blocks.new }
     ensures resolved { (stored : List Stored) (site : Site) → B.told blocks.old ≡ Some stored → IsSiteOf stored at.now (C.rows cells.now) site
         → IfOk result (λ found. option_map (λ rows. rows.items) found ≡ option_map (map (found_row (blocks_of stored) at.now.parent)) (dep_cells site tx.now)) }
     ensures undamaged { (stored : List Stored) (site : Site) → B.told blocks.old ≡ Some stored → IsSiteOf stored at.now (C.rows cells.now) site
@@ -227,8 +223,10 @@ pub(crate) fn resolved_deps<C: Cells, B: Blocks>(
     let raw = tx.raw();
     let mut found = Vec::new(alloc);
     'deps: for i in 0..raw.cell_deps_count() {
-        if !add_dep(at, cells, blocks, &raw.cell_deps_item(i), &mut found)? {
-            return Ok(None);
+        match add_dep(at, cells, blocks, &raw.cell_deps_item(i), &mut found) {
+            Ok(true) => {}
+            Ok(false) => return Ok(None),
+            Err(stop) => return Err(stop),
         }
     }
     Ok(Some(found))

@@ -1,5 +1,5 @@
 // J18: what a transaction is by itself.
-ghost use Rattle.std.specs.Prelude.{◌≡◌, ◌<◌, IfOk, Some, length, map, slice_get};
+ghost use Rattle.std.specs.Prelude.{◌≡◌, ◌<◌, ◌&&◌, ◌==◌, nat_lt, IfOk, Some, length, map, slice_get};
 ghost use Rattle.codec_defs.specs.Shape.{encoded};
 ghost use Rattle.codec_defs.specs.Schema.{cell_dep};
 ghost use Rattle.chain_defs.specs.Hashes.{are_distinct};
@@ -25,8 +25,10 @@ fn are_deps_distinct(alloc: Global, tx: &TxView<'_>) -> Result<bool, NoMemory>
 {
     let mut seen: HashSet<[u8; 37]> = HashSet::new(alloc);
     'later: for i in (0..tx.raw().cell_deps_count()).rev() {
-        if !seen.insert(dep_at(tx, i))? {
-            return Ok(false);
+        match seen.insert(dep_at(tx, i)) {
+            Ok(true) => {}
+            Ok(false) => return Ok(false),
+            Err(_) => return Err(NoMemory),
         }
     }
     Ok(true)
@@ -46,11 +48,26 @@ fn are_header_deps_distinct(alloc: Global, tx: &TxView<'_>) -> Result<bool, NoMe
 {
     let mut seen: HashSet<[u8; 32]> = HashSet::new(alloc);
     'later: for i in (0..tx.raw().header_deps_count()).rev() {
-        if !seen.insert(header_dep_at(tx, i))? {
-            return Ok(false);
+        match seen.insert(header_dep_at(tx, i)) {
+            Ok(true) => {}
+            Ok(false) => return Ok(false),
+            Err(_) => return Err(NoMemory),
         }
     }
     Ok(true)
+}
+
+/// Whether it has version 0, an input, an output, and as many data as outputs.
+fn has_parts(tx: &TxView<'_>) -> bool
+    ensures { result ≡ ((tx.now.raw.version == 0) && nat_lt 0 (length tx.now.raw.inputs) && nat_lt 0 (length tx.now.raw.outputs)
+        && (length tx.now.raw.outputs_data == length tx.now.raw.outputs)) }
+{
+    let raw = tx.raw();
+    let outputs = raw.outputs_count();
+    raw.version() == 0
+        && raw.inputs_count() > 0
+        && outputs > 0
+        && raw.outputs_data_count() == outputs
 }
 
 /// J18: it has version 0, an input, an output, as many data as outputs, no two equal cell deps and no two equal header
@@ -58,13 +75,12 @@ fn are_header_deps_distinct(alloc: Global, tx: &TxView<'_>) -> Result<bool, NoMe
 pub(crate) fn has_form(alloc: Global, tx: &TxView<'_>) -> Result<bool, NoMemory>
     ensures { IfOk result (λ kept. kept ≡ rules.has_form tx.now) }
 {
-    let raw = tx.raw();
-    let outputs = raw.outputs_count();
-    if raw.version() != 0 || raw.inputs_count() == 0 || outputs == 0 {
+    if !has_parts(tx) {
         return Ok(false);
     }
-    if raw.outputs_data_count() != outputs || !are_deps_distinct(alloc, tx)? {
-        return Ok(false);
+    match are_deps_distinct(alloc, tx) {
+        Ok(true) => are_header_deps_distinct(alloc, tx),
+        Ok(false) => Ok(false),
+        Err(NoMemory) => Err(NoMemory),
     }
-    are_header_deps_distinct(alloc, tx)
 }

@@ -77,7 +77,11 @@ pub(crate) fn header_places(
     'deps: for i in 0..tx.raw().header_deps_count() {
         match mature_place(at, &header_dep_at(tx, i)) {
             None => return Ok(None),
-            Some(place) => places.push(place)?,
+            Some(place) => {
+                if places.push(place).is_err() {
+                    return Err(NoMemory);
+                }
+            }
         }
     }
     Ok(Some(places))

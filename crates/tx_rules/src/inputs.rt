@@ -67,8 +67,10 @@ pub(crate) fn are_inputs_distinct(alloc: Global, tx: &TxView<'_>) -> Result<bool
 {
     let mut seen: HashSet<[u8; 36]> = HashSet::new(alloc);
     'later: for i in (0..tx.raw().inputs_count()).rev() {
-        if !seen.insert(spent_at(tx, i))? {
-            return Ok(false);
+        match seen.insert(spent_at(tx, i)) {
+            Ok(true) => {}
+            Ok(false) => return Ok(false),
+            Err(_) => return Err(NoMemory),
         }
     }
     Ok(true)

@@ -4,7 +4,7 @@ ghost use Rattle.std.specs.List.{All, AllZip};
 ghost use Rattle.outside.specs.Causes.{CountsFault};
 ghost use Rattle.outside.specs.declared.disk.Area.TheVariants.{Log};
 ghost use Rattle.outside.specs.declared.disk.Damage.{Damage};
-ghost use Rattle.outside.specs.declared.disk.ReadStop.TheVariants.{DiskFault, Damaged, NoMemory as no_memory};
+ghost use Rattle.outside.specs.declared.disk.ReadStop.TheVariants.{DiskFault, Damaged};
 ghost use Rattle.codec_defs.specs.Schema.{OutPoint};
 ghost use Rattle.cell_defs.specs.Row.{Row};
 ghost use Rattle.chain_defs.specs.Hashes.{transaction_hash};
@@ -19,6 +19,7 @@ ghost use Rattle.tx_defs.specs.Resolving.{inputs, deps, heights};
 ghost use Rattle.tx_rules.specs.At.{AtValue, IsPlaced, IsSiteOf, found_row, input_rows};
 ghost use Rattle.tx_rules.specs.Steps.{spending_rules, naming_rules, using_rules, finding_rules, paying_rules, Tells, Stops, StopsLater, AreFound, Pays};
 ghost use Rattle.tx_rules.specs.declared.resolving.TxStop.TheVariants.{Read};
+ghost use Rattle.tx_rules.specs.Source.{IsSameSource};
 ghost use Rattle.tx_rules.specs.Copying.{row_in, HoldsOutput};
 ghost use Rattle.tx_rules.specs.Outcome.{Copies, FollowsRows, IsFormed, IsResolved, IsTried};
 
@@ -58,30 +59,6 @@ pub enum TxStop {
     Read(ReadStop),
 }
 
-impl From<ReadStop> for TxStop {
-    ghost from_gives = { λ stop given. given ≡ Read stop };
-
-    fn from(stop: ReadStop) -> Self {
-        TxStop::Read(stop)
-    }
-}
-
-impl From<Damage> for TxStop {
-    ghost from_gives = { λ damage given. given ≡ Read (Damaged damage) };
-
-    fn from(damage: Damage) -> Self {
-        TxStop::Read(ReadStop::Damaged(damage))
-    }
-}
-
-impl From<NoMemory> for TxStop {
-    ghost from_gives = { λ _ given. given ≡ Read no_memory };
-
-    fn from(_: NoMemory) -> Self {
-        TxStop::Read(ReadStop::NoMemory)
-    }
-}
-
 /// What is found of a transaction that keeps J18 and J20 to J25: its hash, the rows of the cells of its inputs and of
 /// its resolved deps, and the places of its header deps.
 #[derive(Drop)]
@@ -113,16 +90,21 @@ fn spent_rows<C: Cells>(
     ensures form { IfOk result (λ _. IsTrue (defs.has_form tx.now)) }
     ensures rows { IfOk result (λ rows. input_rows (C.rows cells.now) tx.now ≡ Some rows.items) }
 {
-    if !has_form(alloc, tx)? {
-        return Err(TxStop::Broken(18));
+    match has_form(alloc, tx) {
+        Ok(true) => {}
+        Ok(false) => return Err(TxStop::Broken(18)),
+        Err(NoMemory) => return Err(TxStop::Read(ReadStop::NoMemory)),
     }
-    let Some(rows) = live_inputs(alloc, tx, cells)? else {
-        return Err(TxStop::Broken(20));
-    };
-    if !are_inputs_distinct(alloc, tx)? {
-        return Err(TxStop::Broken(20));
+    match are_inputs_distinct(alloc, tx) {
+        Ok(true) => {}
+        Ok(false) => return Err(TxStop::Broken(20)),
+        Err(NoMemory) => return Err(TxStop::Read(ReadStop::NoMemory)),
     }
-    Ok(rows)
+    match live_inputs(alloc, tx, cells) {
+        Ok(Some(rows)) => Ok(rows),
+        Ok(None) => Err(TxStop::Broken(20)),
+        Err(NoMemory) => Err(TxStop::Read(ReadStop::NoMemory)),
+    }
 }
 
 /// J21 and J22: the rows of its resolved deps, and the places of its header deps.
@@ -135,10 +117,7 @@ fn named_rows<C: Cells, B: Blocks>(
 ) -> Result<(Vec<(OutPoint, CellMeta)>, Vec<u32>), TxStop>
     requires placed { IsPlaced at.now }
     requires counts { B.count blocks.old ≡ length at.now.entries }
-    ensures told { B.told blocks.new ≡ B.told blocks.old }
-    ensures count { B.count blocks.new ≡ B.count blocks.old }
-    ensures loans { B.loans_of blocks.new ≡ B.loans_of blocks.old }
-    ensures stops { Stops result }
+    ensures source { IsSameSource B.told B.count B.loans_of blocks.old blocks.new }
     ensures later { StopsLater result }
     ensures tells { (stored : List Stored) (site : Site) → B.told blocks.old ≡ Some stored → IsSiteOf stored at.now (C.rows cells.now) site
         → Tells (naming_rules site tx.now) result }
@@ -149,13 +128,16 @@ fn named_rows<C: Cells, B: Blocks>(
     ensures headers { IfOk result (λ named. AllZip (λ hash place. place_of_hash at.now.entries hash ≡ Some place) tx.now.raw.header_deps named.1.items) }
     ensures cause { CountsFault (B.faults blocks.old) (B.faults blocks.new) (result ≡ Err (Read DiskFault)) }
 {
-    let Some(rows) = resolved_deps(alloc, tx, at, cells, blocks)? else {
-        return Err(TxStop::Broken(21));
+    let rows = match resolved_deps(alloc, tx, at, cells, blocks) {
+        Ok(Some(rows)) => rows,
+        Ok(None) => return Err(TxStop::Broken(21)),
+        Err(stop) => return Err(TxStop::Read(stop)),
     };
-    let Some(places) = header_places(alloc, tx, at)? else {
-        return Err(TxStop::Broken(22));
-    };
-    Ok((rows, places))
+    match header_places(alloc, tx, at) {
+        Ok(Some(places)) => Ok((rows, places)),
+        Ok(None) => Err(TxStop::Broken(22)),
+        Err(NoMemory) => Err(TxStop::Read(ReadStop::NoMemory)),
+    }
 }
 
 /// J23 to J25, over the rows of its inputs and its resolved deps. The transaction comes with its hash.
@@ -170,21 +152,26 @@ fn try_cells<C: Cells>(
     requires placed { IsPlaced at.now }
     requires each { length spent.now ≡ length tx.now.raw.inputs }
     requires hash { hash ≡ transaction_hash tx.now }
-    ensures stops { Stops result }
     ensures later { StopsLater result }
     ensures unread { result ≡ Err (Read DiskFault) → ⊥ }
     ensures tells { (stored : List Stored) (site : Site) → IsSiteOf stored at.now (C.rows cells.now) site
         → spent.now ≡ map (found_row (blocks_of stored) at.now.parent) (inputs site tx.now)
         → named.now ≡ map (found_row (blocks_of stored) at.now.parent) (deps site tx.now) → Tells (using_rules site tx.now) result }
 {
-    if !are_mature(at, spent)? {
-        return Err(TxStop::Broken(23));
+    match are_mature(at, spent) {
+        Ok(true) => {}
+        Ok(false) => return Err(TxStop::Broken(23)),
+        Err(damage) => return Err(TxStop::Read(ReadStop::Damaged(damage))),
     }
-    if !are_mature(at, named)? {
-        return Err(TxStop::Broken(23));
+    match are_mature(at, named) {
+        Ok(true) => {}
+        Ok(false) => return Err(TxStop::Broken(23)),
+        Err(damage) => return Err(TxStop::Read(ReadStop::Damaged(damage))),
     }
-    if !meets_each_since(tx, at, spent)? {
-        return Err(TxStop::Broken(24));
+    match meets_each_since(tx, at, spent) {
+        Ok(true) => {}
+        Ok(false) => return Err(TxStop::Broken(24)),
+        Err(damage) => return Err(TxStop::Read(ReadStop::Damaged(damage))),
     }
     if !makes_good_cells(tx, hash, cells) {
         return Err(TxStop::Broken(25));
@@ -201,7 +188,6 @@ fn paid_by(
     places: &[u32],
 ) -> Result<Balance, TxStop>
     requires placed { IsPlaced at.now }
-    ensures stops { Stops result }
     ensures later { StopsLater result }
     ensures unread { result ≡ Err (Read DiskFault) → ⊥ }
     ensures tells { (stored : List Stored) (rows : OutPoint → Option Row) (site : Site) → IsSiteOf stored at.now rows site
@@ -211,12 +197,15 @@ fn paid_by(
         → AllZip (Copies (blocks_of stored) at.now.parent) (inputs site tx.now) copies.now
         → places.now ≡ map (slice_index (branch_places (blocks_of stored) at.now.parent)) (heights site tx.now) → IfOk result (Pays site tx.now) }
 {
-    if !names_deposits(alloc, tx, at, copies, places)? {
-        return Err(TxStop::Broken(26));
+    match names_deposits(alloc, tx, at, copies, places) {
+        Ok(true) => {}
+        Ok(false) => return Err(TxStop::Broken(26)),
+        Err(stop) => return Err(TxStop::Read(stop)),
     }
-    match balance_of(tx, at, copies, places)? {
-        Some(balance) => Ok(balance),
-        None => Err(TxStop::Broken(27)),
+    match balance_of(tx, at, copies, places) {
+        Ok(Some(balance)) => Ok(balance),
+        Ok(None) => Err(TxStop::Broken(27)),
+        Err(damage) => Err(TxStop::Read(ReadStop::Damaged(damage))),
     }
 }
 
@@ -230,9 +219,7 @@ fn find<C: Cells, B: Blocks>(
 ) -> Result<Finding, TxStop>
     requires placed { IsPlaced at.now }
     requires counts { B.count blocks.old ≡ length at.now.entries }
-    ensures told { B.told blocks.new ≡ B.told blocks.old }
-    ensures count { B.count blocks.new ≡ B.count blocks.old }
-    ensures loans { B.loans_of blocks.new ≡ B.loans_of blocks.old }
+    ensures source { IsSameSource B.told B.count B.loans_of blocks.old blocks.new }
     ensures stops { Stops result }
     ensures by_rows { FollowsRows (C.rows cells.now) tx.now result }
     ensures tells { (stored : List Stored) (site : Site) → B.told blocks.old ≡ Some stored → IsSiteOf stored at.now (C.rows cells.now) site
@@ -245,16 +232,24 @@ fn find<C: Cells, B: Blocks>(
     ensures headers { IfOk result (λ it. AllZip (λ hash place. place_of_hash at.now.entries hash ≡ Some place) tx.now.raw.header_deps it.places.items) }
     ensures cause { CountsFault (B.faults blocks.old) (B.faults blocks.new) (result ≡ Err (Read DiskFault)) }
 {
-    let spent = spent_rows(alloc, tx, cells)?;
-    let (named, places) = named_rows(alloc, tx, at, cells, blocks)?;
+    let spent = match spent_rows(alloc, tx, cells) {
+        Ok(spent) => spent,
+        Err(stop) => return Err(stop),
+    };
+    let (named, places) = match named_rows(alloc, tx, at, cells, blocks) {
+        Ok(named) => named,
+        Err(stop) => return Err(stop),
+    };
     let hash = tx_hash(tx);
-    try_cells(tx, hash, at, cells, &spent, &named)?;
-    Ok(Finding {
-        hash,
-        spent,
-        named,
-        places,
-    })
+    match try_cells(tx, hash, at, cells, &spent, &named) {
+        Ok(()) => Ok(Finding {
+            hash,
+            spent,
+            named,
+            places,
+        }),
+        Err(stop) => Err(stop),
+    }
 }
 
 /// J26 and J27, over copies of the cells of its inputs; then copies of those of its resolved deps.
@@ -267,10 +262,7 @@ fn copy_cells<B: Blocks>(
 ) -> Result<Copying, TxStop>
     requires placed { IsPlaced at.now }
     requires counts { B.count blocks.old ≡ length at.now.entries }
-    ensures told { B.told blocks.new ≡ B.told blocks.old }
-    ensures count { B.count blocks.new ≡ B.count blocks.old }
-    ensures loans { B.loans_of blocks.new ≡ B.loans_of blocks.old }
-    ensures stops { Stops result }
+    ensures source { IsSameSource B.told B.count B.loans_of blocks.old blocks.new }
     ensures later { StopsLater result }
     ensures tells { (stored : List Stored) (rows : OutPoint → Option Row) (site : Site) → B.told blocks.old ≡ Some stored → IsSiteOf stored at.now rows site
         → AreFound (blocks_of stored) at.now.parent site tx.now finding.now.spent.items finding.now.named.items finding.now.places.items
@@ -288,14 +280,22 @@ fn copy_cells<B: Blocks>(
     ensures outputs { IfOk result (λ it. All HoldsOutput (it.inputs.items ++ it.deps.items)) }
     ensures cause { CountsFault (B.faults blocks.old) (B.faults blocks.new) (result ≡ Err (Read DiskFault)) }
 {
-    let inputs = fetch_all(alloc, at, blocks, &finding.spent)?;
-    let balance = paid_by(alloc, tx, at, &inputs, &finding.places)?;
-    let deps = fetch_all(alloc, at, blocks, &finding.named)?;
-    Ok(Copying {
-        inputs,
-        deps,
-        balance,
-    })
+    let inputs = match fetch_all(alloc, at, blocks, &finding.spent) {
+        Ok(inputs) => inputs,
+        Err(stop) => return Err(TxStop::Read(stop)),
+    };
+    let balance = match paid_by(alloc, tx, at, &inputs, &finding.places) {
+        Ok(balance) => balance,
+        Err(stop) => return Err(stop),
+    };
+    match fetch_all(alloc, at, blocks, &finding.named) {
+        Ok(deps) => Ok(Copying {
+            inputs,
+            deps,
+            balance,
+        }),
+        Err(stop) => Err(TxStop::Read(stop)),
+    }
 }
 
 /// Tries the rules on one transaction, in their order.
@@ -331,8 +331,14 @@ pub fn resolve<'a, C: Cells, B: Blocks>(
     ensures damage { (damage : Damage) → result ≡ Err (TxStop.Read (Damaged damage)) → damage.area ≡ Log }
     ensures cause { CountsFault (B.faults blocks.old) (B.faults blocks.new) (result ≡ Err (TxStop.Read DiskFault)) }
 {
-    let found = find(alloc, tx, at, cells, blocks)?;
-    let copied = copy_cells(alloc, tx, at, blocks, &found)?;
+    let found = match find(alloc, tx, at, cells, blocks) {
+        Ok(found) => found,
+        Err(stop) => return Err(stop),
+    };
+    let copied = match copy_cells(alloc, tx, at, blocks, &found) {
+        Ok(copied) => copied,
+        Err(stop) => return Err(stop),
+    };
     let resolved = ResolvedTx {
         tx: TxView::from_encoding(tx.bytes()),
         hash: found.hash,

@@ -79,8 +79,10 @@ pub(crate) fn withdrawing_made(
     if !is_dao_script(spec, &output.type_script()) || !has_withdrawing_data(&copy.content) {
         return Ok(None);
     }
-    let made = made_at(at, height, &copy.meta)?;
-    Ok(Some(made))
+    match made_at(at, height, &copy.meta) {
+        Ok(made) => Ok(Some(made)),
+        Err(damage) => Err(damage),
+    }
 }
 
 /// The index that 8 bytes are.
@@ -101,8 +103,13 @@ fn deposit_index(tx: &TxView<'_>, i: usize) -> Option<u64>
     if i >= tx.witnesses_count() {
         return None;
     }
-    let args = WitnessArgsView::read(tx.witnesses_item(i))?;
-    index_in(args.input_type()?)
+    let Some(args) = WitnessArgsView::read(tx.witnesses_item(i)) else {
+        return None;
+    };
+    match args.input_type() {
+        None => None,
+        Some(bytes) => index_in(bytes),
+    }
 }
 
 /// The place of the header dep that the witness of the input at a place names.
@@ -128,7 +135,9 @@ pub(crate) fn deposit_place(
         → headers.now ≡ map (slice_index (branch_places (blocks_of stored) at.now.parent)) (heights site tx.now) → made ≡ cell.height
         → result ≡ option_map (slice_index (branch_places (blocks_of stored) at.now.parent)) (rules.deposit_height (heights site tx.now) tx.now i cell) }
 {
-    let place = named_place(tx, headers, i)?;
+    let Some(place) = named_place(tx, headers, i) else {
+        return None;
+    };
     if place < at.tree.len() && at.tree.entry(place).number < made {
         Some(place)
     } else {
@@ -178,8 +187,10 @@ fn withdraws_well(
         → (damage : Damage) → result ≡ Err damage → ⊥ }
     ensures damage { (damage : Damage) → result ≡ Err damage → damage.area ≡ Log }
 {
-    let Some(made) = withdrawing_made(at, height, copy)? else {
-        return Ok(true);
+    let made = match withdrawing_made(at, height, copy) {
+        Ok(Some(made)) => made,
+        Ok(None) => return Ok(true),
+        Err(damage) => return Err(damage),
     };
     let meta = &copy.meta;
     Ok(is_named(ordered, meta.block) && deposit_place(tx, at, headers, i, made).is_some())
@@ -207,8 +218,10 @@ fn all_withdraw_well(
     let height = at.height();
     'inputs: for i in 0..copies.len() {
         let copy = &copies[i];
-        if !withdraws_well(tx, at, height, headers, ordered, i, copy)? {
-            return Ok(false);
+        match withdraws_well(tx, at, height, headers, ordered, i, copy) {
+            Ok(true) => {}
+            Ok(false) => return Ok(false),
+            Err(damage) => return Err(damage),
         }
     }
     Ok(true)

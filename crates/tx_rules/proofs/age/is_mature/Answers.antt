@@ -4,24 +4,29 @@ use Rattle.time_defs.specs.Epochs.{is_span_over}
 use Rattle.cell_defs.specs.Row.{Row}
 use Rattle.tx_defs.specs.Site.{height_at}
 use Rattle.tx_rules.specs.At.{AtValue}
+use Rattle.tx_rules.proofs.Endings.{handed}
 use Rattle.tx_rules.proofs.AgeLemmas.{mature-genesis, mature-later}
 use Rattle.tx_rules.proofs.age.is_mature.Goals as goal
 
-pub returns-in_err-made-clause-undamaged : goal.returns-in_err-made-clause-undamaged
-returns-in_err-made-clause-undamaged c stored rows site found is height its damage broken =
-    c.in_err-made.ensures.undamaged stored rows site found is height its _ refl
+pub returns-in-Err : goal.returns-in-Err
+returns-in-Err c = record {
+  mature = λ stored rows site found is height its. tt;
+  undamaged = λ stored rows site found is height its damage same.
+      c.in-Err.ensures.undamaged stored rows site found is height its c.in-Err.damage refl;
+  damage = λ damage same. c.in-Err.ensures.damage damage (handed c.in-Err.damage _ same);
+}
 
 pub returns-then-made-eq0-clause-mature : goal.returns-then-made-eq0-clause-mature
 returns-then-made-eq0-clause-mature c stored rows site found is height its =
     ap (λ (n : ℕ). eqb n 0) c.if-made-eq0.true
     ∙ mature-genesis found.cell.transaction found.cell.height (is_span_over site.spec.maturity site.spec.epoch_length found.cell.height (height_at site))
-    (sym (c.in_ok-made.ensures.made stored rows site found is height its) ∙ c.if-made-eq0.true)
+    (sym (c.in-Ok.ensures.made stored rows site found is height its) ∙ c.if-made-eq0.true)
 
 pub returns-else-made-eq0-clause-mature : goal.returns-else-made-eq0-clause-mature
 returns-else-made-eq0-clause-mature c stored rows site found is height its =
-    let made = c.in_ok-made.ensures.made stored rows site found is height its in
+    let made = c.in-Ok.ensures.made stored rows site found is height its in
     c.span_over.ensures
-    ∙ ap (λ (spec : Specification). is_span_over spec.maturity spec.epoch_length c.in_ok-made.made c.args.height)
+    ∙ ap (λ (spec : Specification). is_span_over spec.maturity spec.epoch_length c.in-Ok.made c.args.height)
     (c.spec.view_is ∙ ap (λ (at : AtValue). at.spec) c.at.view_is ∙ sym is.spec)
     ∙ ap (λ (n : ℕ). is_span_over site.spec.maturity site.spec.epoch_length n c.args.height) made
     ∙ ap (is_span_over site.spec.maturity site.spec.epoch_length found.cell.height) height

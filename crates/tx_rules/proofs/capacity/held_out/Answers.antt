@@ -11,23 +11,22 @@ pub outputs-init : goal.outputs-init
 unfolding held_out
 outputs-init c = (omega arith, omega arith)
 
-pub returns-in_err-sum : goal.returns-in_err-sum
-returns-in_err-sum c =
+pub returns-in-None : goal.returns-in-None
+returns-in-None c =
     let there = drop-there c.args.tx.now.raw.outputs c.outputs.i c.outputs_item.result
     (ap (λ (raw : RawTransaction). slice_get raw.outputs c.outputs.i) (sym c.raw-raw.ensures) ∙ c.outputs_item.ensures) in
-    c.from_residual.ensures
-    ∙ past-u64 (held_out c.args.tx.now) (2 ^ 64) (sum-past (λ (output : CellOutput). output.capacity) (drop c.outputs.i c.args.tx.now.raw.outputs)
+    past-u64 (held_out c.args.tx.now) (2 ^ 64) (sum-past (λ (output : CellOutput). output.capacity) (drop c.outputs.i c.args.tx.now.raw.outputs)
     (drop (c.outputs.i + 1) c.args.tx.now.raw.outputs) c.outputs_item.result c.outputs.sum (2 ^ 64) (held_out c.args.tx.now) there c.outputs.invariant.0
-    (not-below (c.outputs.sum + c.outputs_item.result.capacity) (2 ^ 64) (λ below. c.in_err-sum.ensures (omega (arith, below, c.capacity.ensures)))))
+    (not-below (c.outputs.sum + c.outputs_item.result.capacity) (2 ^ 64) (λ below. c.in-None.ensures (omega (arith, below, c.capacity.ensures)))))
 
 pub outputs-preserved : goal.outputs-preserved
 outputs-preserved c =
     let there = drop-there c.args.tx.now.raw.outputs c.outputs.i c.outputs_item.result
     (ap (λ (raw : RawTransaction). slice_get raw.outputs c.outputs.i) (sym c.raw-raw.ensures) ∙ c.outputs_item.ensures) in (
       sum-more (λ (output : CellOutput). output.capacity) (drop c.outputs.i c.args.tx.now.raw.outputs)
-          (drop (c.outputs.i + 1) c.args.tx.now.raw.outputs) c.outputs_item.result c.outputs.sum c.in_ok-sum.sum (held_out c.args.tx.now) there c.outputs.invariant.0
-          (let next = c.in_ok-sum.ensures in omega (arith, next, c.capacity.ensures)),
-      let next = c.in_ok-sum.ensures in omega (arith, next),
+          (drop (c.outputs.i + 1) c.args.tx.now.raw.outputs) c.outputs_item.result c.outputs.sum c.in-Some.total (held_out c.args.tx.now) there c.outputs.invariant.0
+          (let next = c.in-Some.ensures in omega (arith, next, c.capacity.ensures)),
+      let next = c.in-Some.ensures in omega (arith, next),
     )
 
 pub returns : goal.returns

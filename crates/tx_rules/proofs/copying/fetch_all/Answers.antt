@@ -1,4 +1,4 @@
-use Rattle.std.proofs.Common.{◌≡◌, List, length, drop, map, Option, None, sym, ap, ◌∙◌, subst, arith, rules}
+use Rattle.std.proofs.Common.{◌≡◌, List, length, drop, map, Option, None, refl, sym, ap, ◌∙◌, subst, arith}
 use Rattle.std.specs.List.{All, AllZip}
 use Rattle.std.proofs.lemmas.List.{take_at, length-replicate}
 use Rattle.std.proofs.lemmas.Result.{IfOk-weaker}
@@ -6,12 +6,44 @@ use Rattle.chain_tree.specs.Told.{Stored, blocks_of}
 use Rattle.cell_model.specs.Copies.{ResolvedValue}
 use Rattle.tx_rules.specs.Copying.{AreTaken, HoldsOutput, IsCopyOfRow, row_in}
 use Rattle.tx_rules.specs.Outcome.{Copies}
+use Rattle.tx_rules.proofs.Endings.{no_fault, no_answer, no_memory, memory_undamaged, behind, handed, counts-handed}
+use Rattle.tx_rules.proofs.SourceLemmas.{unchanged-source, then-source}
 use Rattle.tx_rules.proofs.TakenLemmas.{taken-none, copies-rows, copies-outputs, copies-cells}
 use Rattle.tx_rules.proofs.copying.fetch_all.Goals as goal
 
-pub returns-in_err-take_several-clause-undamaged : goal.returns-in_err-take_several-clause-undamaged
-returns-in_err-take_several-clause-undamaged g c stored seen site founds tells is are_seen rows damage same =
-    c.take_several.ensures.undamaged stored seen site founds tells is are_seen rows damage (search rules)
+pub returns-in_default : goal.returns-in_default
+returns-in_default g c = record {
+  source = unchanged-source _ _ _ _;
+  rows = tt;
+  outputs = tt;
+  copied = λ stored seen site founds tells is are_seen rows. tt;
+  undamaged = λ stored seen site founds tells is are_seen rows damage same. memory_undamaged damage same;
+  damage = λ damage same. absurd (memory_undamaged damage same);
+  cause = no_fault _ _ refl no_memory;
+}
+
+pub returns-in_default-none_taken : goal.returns-in_default-none_taken
+returns-in_default-none_taken g c = record {
+  source = unchanged-source _ _ _ _;
+  rows = tt;
+  outputs = tt;
+  copied = λ stored seen site founds tells is are_seen rows. tt;
+  undamaged = λ stored seen site founds tells is are_seen rows damage same. memory_undamaged damage same;
+  damage = λ damage same. absurd (memory_undamaged damage same);
+  cause = no_fault _ _ refl no_memory;
+}
+
+pub returns-in-Err : goal.returns-in-Err
+returns-in-Err g c = record {
+  source = c.in-Err.ensures.source;
+  rows = tt;
+  outputs = tt;
+  copied = λ stored seen site founds tells is are_seen rows. tt;
+  undamaged = λ stored seen site founds tells is are_seen rows damage same.
+      c.in-Err.ensures.undamaged stored seen site founds tells is are_seen rows damage (handed c.in-Err.stop _ same);
+  damage = λ damage same. c.in-Err.ensures.damage damage (handed c.in-Err.stop _ same);
+  cause = counts-handed c.in-Err.stop _ c.in-Err.ensures.cause;
+}
 
 pub copy_each-requires-clause-taken : goal.copy_each-requires-clause-taken
 copy_each-requires-clause-taken g c =
@@ -26,30 +58,29 @@ copy_each-requires-clause-taken g c =
     subst (λ (slots : List (Option ResolvedValue)). AreTaken (g.B.Blocks.told c.args.blocks.now) c.args.at.now c.args.rows.now slots)
     (sym (c.deref_mut.ensures.value ∙ none)) (taken-none (g.B.Blocks.told c.args.blocks.now) c.args.at.now c.args.rows.now (length c.args.rows.now)) in
     subst (λ (slots : List (Option ResolvedValue)). AreTaken (g.B.Blocks.told c.take_several.new.blocks) c.args.at.now c.args.rows.now slots) (sym items)
-    (subst (λ (told : Option (List Stored)). AreTaken told c.args.at.now c.args.rows.now c.take_several.new.taken) (sym c.take_several.ensures.told)
-    (c.in_ok-take_several.ensures.taken before))
+    (subst (λ (told : Option (List Stored)). AreTaken told c.args.at.now c.args.rows.now c.take_several.new.taken) (sym c.in-Ok-take_several.ensures.source.told)
+    (c.in-Ok-take_several.ensures.taken before))
 
-pub returns-clause-rows : goal.returns-clause-rows
-returns-clause-rows g c =
-    let told = g.B.Blocks.told c.take_several.new.blocks in
-    IfOk-weaker c.copy_each.result (λ copies. AllZip (IsCopyOfRow told c.args.at.now) c.args.rows.now copies.items) (λ copies. map row_in copies.items ≡ c.args.rows.now)
-    (λ copies each. copies-rows told c.args.at.now c.args.rows.now copies.items each) c.copy_each.ensures.copies
-
-pub returns-clause-outputs : goal.returns-clause-outputs
-returns-clause-outputs g c =
-    let told = g.B.Blocks.told c.take_several.new.blocks in
-    IfOk-weaker c.copy_each.result (λ copies. AllZip (IsCopyOfRow told c.args.at.now) c.args.rows.now copies.items) (λ copies. All HoldsOutput copies.items)
-    (λ copies each. copies-outputs told c.args.at.now c.args.rows.now copies.items each) c.copy_each.ensures.copies
-
-pub returns-clause-copied : goal.returns-clause-copied
-returns-clause-copied g c stored seen site founds tells is are_seen rows =
-    let told = g.B.Blocks.told c.take_several.new.blocks in
-    IfOk-weaker c.copy_each.result (λ copies. AllZip (IsCopyOfRow told c.args.at.now) c.args.rows.now copies.items)
-    (λ copies. AllZip (Copies (blocks_of stored) c.args.at.now.parent) founds copies.items)
-    (λ copies each. copies-cells stored c.args.at.now seen site founds c.args.rows.now copies.items is are_seen rows
-    (subst (λ (t : Option (List Stored)). AllZip (IsCopyOfRow t c.args.at.now) c.args.rows.now copies.items) (c.take_several.ensures.told ∙ tells) each))
-    c.copy_each.ensures.copies
-
-pub returns-clause-undamaged : goal.returns-clause-undamaged
-returns-clause-undamaged g c stored seen site founds tells is are_seen rows damage same =
-    c.copy_each.ensures.undamaged stored seen site founds (c.take_several.ensures.told ∙ tells) is are_seen rows damage same
+pub returns : goal.returns
+returns g c = record {
+  source = then-source c.in-Ok-take_several.ensures.source c.copy_each.ensures.source;
+  rows =
+      let told = g.B.Blocks.told c.take_several.new.blocks in
+      IfOk-weaker c.copy_each.result (λ copies. AllZip (IsCopyOfRow told c.args.at.now) c.args.rows.now copies.items) (λ copies. map row_in copies.items ≡ c.args.rows.now)
+      (λ copies each. copies-rows told c.args.at.now c.args.rows.now copies.items each) c.copy_each.ensures.copies;
+  outputs =
+      let told = g.B.Blocks.told c.take_several.new.blocks in
+      IfOk-weaker c.copy_each.result (λ copies. AllZip (IsCopyOfRow told c.args.at.now) c.args.rows.now copies.items) (λ copies. All HoldsOutput copies.items)
+      (λ copies each. copies-outputs told c.args.at.now c.args.rows.now copies.items each) c.copy_each.ensures.copies;
+  copied = λ stored seen site founds tells is are_seen rows.
+      let told = g.B.Blocks.told c.take_several.new.blocks in
+      IfOk-weaker c.copy_each.result (λ copies. AllZip (IsCopyOfRow told c.args.at.now) c.args.rows.now copies.items)
+      (λ copies. AllZip (Copies (blocks_of stored) c.args.at.now.parent) founds copies.items)
+      (λ copies each. copies-cells stored c.args.at.now seen site founds c.args.rows.now copies.items is are_seen rows
+      (subst (λ (t : Option (List Stored)). AllZip (IsCopyOfRow t c.args.at.now) c.args.rows.now copies.items) (c.in-Ok-take_several.ensures.source.told ∙ tells) each))
+      c.copy_each.ensures.copies;
+  undamaged = λ stored seen site founds tells is are_seen rows damage same.
+      c.copy_each.ensures.undamaged stored seen site founds (c.in-Ok-take_several.ensures.source.told ∙ tells) is are_seen rows damage same;
+  damage = c.copy_each.ensures.damage;
+  cause = behind (c.in-Ok-take_several.ensures.cause.unchanged (no_answer _ _)) c.copy_each.ensures.cause;
+}

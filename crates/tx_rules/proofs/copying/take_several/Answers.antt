@@ -1,39 +1,66 @@
-use Rattle.std.proofs.Common.{◌≡◌, List, length, Option, ap, sym, subst, ◌∙◌, rules}
+use Rattle.std.proofs.Common.{List, length, Option, refl, ap, sym, subst, ◌∙◌}
 use Rattle.chain_tree.specs.Told.{Stored}
 use Rattle.cell_model.specs.Copies.{ResolvedValue}
 use Rattle.tx_rules.specs.Copying.{AreTaken}
+use Rattle.tx_rules.proofs.Endings.{no_fault, no_answer, behind, handed, counts-handed}
+use Rattle.tx_rules.proofs.SourceLemmas.{unchanged-source, then-source}
 use Rattle.tx_rules.proofs.copying.take_several.Goals as goal
-use Rattle.tx_rules.proofs.copying.take_several.Goals.{then-row-kept+then-starts_several+in_ok-take_kept, else-row-kept}
+use Rattle.tx_rules.proofs.copying.take_several.Goals.{then-row-kept+then-starts_several+in-Ok, else-row-kept}
 
-pub returns-in_err-take_kept-clause-undamaged : goal.returns-in_err-take_kept-clause-undamaged
-returns-in_err-take_kept-clause-undamaged g c stored seen site founds tells is are_seen rows damage same =
-    c.take_kept.ensures.undamaged stored seen site founds (c.order.invariant.told ∙ tells) is are_seen rows damage (search rules)
+pub order-init : goal.order-init
+order-init g c = record {
+  source = unchanged-source _ _ _ _;
+  faults = refl;
+  long = c.requires.long;
+  taken = λ before. before;
+}
+
+pub returns-in-Err : goal.returns-in-Err
+returns-in-Err g c = record {
+  source = then-source c.order.invariant.source c.in-Err.ensures.source;
+  long = c.in-Err.ensures.long;
+  taken = λ before. tt;
+  undamaged = λ stored seen site founds tells is are_seen rows damage same.
+      c.in-Err.ensures.undamaged stored seen site founds (c.order.invariant.source.told ∙ tells) is are_seen rows damage (handed c.in-Err.stop _ same);
+  damage = λ damage same. c.in-Err.ensures.damage damage (handed c.in-Err.stop _ same);
+  cause = behind c.order.invariant.faults (counts-handed c.in-Err.stop _ c.in-Err.ensures.cause);
+}
 
 pub order-preserved : goal.order-preserved
 order-preserved g c = elim c.if-row-kept.branch [
-  | then-row-kept+then-starts_several+in_ok-take_kept w ↦
-      let unchanged : g.B.Blocks.faults w.take_kept.new.blocks ≡ g.B.Blocks.faults c.order.blocks =
-      w.take_kept.ensures.cause.unchanged (λ fault. let was = w.in_ok-take_kept.was in cc) in
-      record {
-        told = ap (λ b. g.B.Blocks.told b) w.blocks-is ∙ w.take_kept.ensures.told ∙ c.order.invariant.told;
-        count = ap (λ b. g.B.Blocks.count b) w.blocks-is ∙ w.take_kept.ensures.count ∙ c.order.invariant.count;
-        loans = ap (λ b. g.B.Blocks.loans_of b) w.blocks-is ∙ w.take_kept.ensures.loans ∙ c.order.invariant.loans;
-        faults = ap (λ b. g.B.Blocks.faults b) w.blocks-is ∙ unchanged ∙ c.order.invariant.faults;
-        long = ap length w.taken-is ∙ w.take_kept.ensures.long;
-        taken = λ before. subst (λ (slots : List (Option ResolvedValue)). AreTaken (g.B.Blocks.told c.args.blocks.now) c.args.at.now c.args.rows.now slots) (sym w.taken-is)
-            (subst (λ (told : Option (List Stored)). AreTaken told c.args.at.now c.args.rows.now w.take_kept.new.taken) c.order.invariant.told
-            (w.in_ok-take_kept.ensures.taken
-            (subst (λ (told : Option (List Stored)). AreTaken told c.args.at.now c.args.rows.now c.order.taken) (sym c.order.invariant.told)
-            (c.order.invariant.taken before))));
-      }
-  | else-row-kept w ↦
-      record {
-        told = ap (λ b. g.B.Blocks.told b) w.blocks-is ∙ c.order.invariant.told;
-        count = ap (λ b. g.B.Blocks.count b) w.blocks-is ∙ c.order.invariant.count;
-        loans = ap (λ b. g.B.Blocks.loans_of b) w.blocks-is ∙ c.order.invariant.loans;
-        faults = ap (λ b. g.B.Blocks.faults b) w.blocks-is ∙ c.order.invariant.faults;
-        long = ap length w.taken-is ∙ c.order.invariant.long;
-        taken = λ before. subst (λ (slots : List (Option ResolvedValue)). AreTaken (g.B.Blocks.told c.args.blocks.now) c.args.at.now c.args.rows.now slots) (sym w.taken-is)
-            (c.order.invariant.taken before);
-      }
+  | then-row-kept+then-starts_several+in-Ok w ↦ record {
+    source = record {
+      told = ap (λ b. g.B.Blocks.told b) w.blocks-is ∙ w.in-Ok.ensures.source.told ∙ c.order.invariant.source.told;
+      count = ap (λ b. g.B.Blocks.count b) w.blocks-is ∙ w.in-Ok.ensures.source.count ∙ c.order.invariant.source.count;
+      loans = ap (λ b. g.B.Blocks.loans_of b) w.blocks-is ∙ w.in-Ok.ensures.source.loans ∙ c.order.invariant.source.loans;
+    };
+    faults = ap (λ b. g.B.Blocks.faults b) w.blocks-is ∙ w.in-Ok.ensures.cause.unchanged (no_answer _ _) ∙ c.order.invariant.faults;
+    long = ap length w.taken-is ∙ w.in-Ok.ensures.long;
+    taken = λ before. subst (λ (slots : List (Option ResolvedValue)). AreTaken (g.B.Blocks.told c.args.blocks.now) c.args.at.now c.args.rows.now slots) (sym w.taken-is)
+        (subst (λ (told : Option (List Stored)). AreTaken told c.args.at.now c.args.rows.now w.take_kept.new.taken) c.order.invariant.source.told
+        (w.in-Ok.ensures.taken
+        (subst (λ (told : Option (List Stored)). AreTaken told c.args.at.now c.args.rows.now c.order.taken) (sym c.order.invariant.source.told)
+        (c.order.invariant.taken before))));
+  }
+  | else-row-kept w ↦ record {
+    source = record {
+      told = ap (λ b. g.B.Blocks.told b) w.blocks-is ∙ c.order.invariant.source.told;
+      count = ap (λ b. g.B.Blocks.count b) w.blocks-is ∙ c.order.invariant.source.count;
+      loans = ap (λ b. g.B.Blocks.loans_of b) w.blocks-is ∙ c.order.invariant.source.loans;
+    };
+    faults = ap (λ b. g.B.Blocks.faults b) w.blocks-is ∙ c.order.invariant.faults;
+    long = ap length w.taken-is ∙ c.order.invariant.long;
+    taken = λ before. subst (λ (slots : List (Option ResolvedValue)). AreTaken (g.B.Blocks.told c.args.blocks.now) c.args.at.now c.args.rows.now slots) (sym w.taken-is)
+        (c.order.invariant.taken before);
+  }
 ]
+
+pub returns : goal.returns
+returns g c = record {
+  source = c.order.invariant.source;
+  long = c.order.invariant.long;
+  taken = c.order.invariant.taken;
+  undamaged = λ stored seen site founds tells is are_seen rows damage same. no_answer _ _ same;
+  damage = λ damage same. absurd (no_answer _ _ same);
+  cause = no_fault _ _ c.order.invariant.faults (no_answer _ _);
+}

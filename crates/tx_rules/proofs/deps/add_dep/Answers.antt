@@ -1,4 +1,4 @@
-use Rattle.std.proofs.Common.{◌≡◌, Bool, List, [], ◌∷◌, ◌++◌, Option, Some, None, map, sym, ap, ◌∙◌, arith}
+use Rattle.std.proofs.Common.{◌≡◌, Bool, List, [], ◌∷◌, ◌++◌, Option, Some, None, map, refl, sym, ap, ◌∙◌, arith}
 use Rattle.std.specs.Prelude.{if◌then◌else◌}
 use Rattle.std.specs.Option.{option_map}
 use Rattle.std.proofs.lemmas.Bool.{ne_eqb}
@@ -9,6 +9,8 @@ use Rattle.tx_defs.specs.Site.{Found}
 use Rattle.tx_defs.specs.Resolving.{cells_of_dep}
 use Rattle.tx_rules.specs.At.{found_row, find_row}
 use Rattle.tx_rules.proofs.DepLemmas.{SeenRow, seen-row, unseen, dep-none, dep-other, dep-code, dep-group, ok-same}
+use Rattle.tx_rules.proofs.Endings.{no_fault, no_answer}
+use Rattle.tx_rules.proofs.SourceLemmas.{unchanged-source}
 use Rattle.tx_rules.proofs.deps.add_dep.Goals as goal
 
 pub returns-in_default-clause-resolved : goal.returns-in_default-clause-resolved
@@ -19,35 +21,44 @@ returns-in_default-clause-resolved g c = λ stored site tells is.
     (option_map (map (found_row (blocks_of stored) c.args.at.now.parent)) cells))
     (dep-none site c.args.dep.now (unseen stored c.args.at.now rows site c.args.dep.now.out_point is none)))
 
-pub returns-in-Ok-clause-resolved : goal.returns-in-Ok-clause-resolved
-returns-in-Ok-clause-resolved g c = λ stored site tells is.
-    let rows : OutPoint → Option Row = g.C.Cells.rows c.args.cells.now in
-    let found : find_row rows c.args.dep.now.out_point ≡ Some c.in-Some.row = ap (find_row rows) (sym c.out_point.ensures) ∙ sym c.find_row.ensures ∙ c.in-Some.is in
-    let seen : SeenRow stored c.args.at.now rows site c.args.dep.now.out_point c.in-Some.row.0 c.in-Some.row.1 =
-    seen-row stored c.args.at.now rows site c.args.dep.now.out_point c.in-Some.row.0 c.in-Some.row.1 is found in
-    ap (λ (list : List (OutPoint × Row)). Some list) c.in-Ok.ensures.items
-    ∙ ap (option_map (λ (list : List (OutPoint × Row)). c.args.found.now.items ++ list)) {x = Some (c.in-Some.row ∷ [])}
-    {y = option_map (map (found_row (blocks_of stored) c.args.at.now.parent)) (cells_of_dep site c.args.dep.now)}
-    (dep-code stored c.args.at.now rows site c.args.dep.now c.in-Some.row.0 c.in-Some.row.1 seen (sym c.dep_type.ensures ∙ c.in-0.is))
+pub returns-in-Ok : goal.returns-in-Ok
+returns-in-Ok g c = record {
+  source = unchanged-source _ _ _ _;
+  resolved = λ stored site tells is.
+      let rows : OutPoint → Option Row = g.C.Cells.rows c.args.cells.now in
+      let found : find_row rows c.args.dep.now.out_point ≡ Some c.in-Some.row = ap (find_row rows) (sym c.out_point.ensures) ∙ sym c.find_row.ensures ∙ c.in-Some.is in
+      let seen : SeenRow stored c.args.at.now rows site c.args.dep.now.out_point c.in-Some.row.0 c.in-Some.row.1 =
+      seen-row stored c.args.at.now rows site c.args.dep.now.out_point c.in-Some.row.0 c.in-Some.row.1 is found in
+      ap (λ (list : List (OutPoint × Row)). Some list) c.in-Ok.ensures.items
+      ∙ ap (option_map (λ (list : List (OutPoint × Row)). c.args.found.now.items ++ list)) {x = Some (c.in-Some.row ∷ [])}
+      {y = option_map (map (found_row (blocks_of stored) c.args.at.now.parent)) (cells_of_dep site c.args.dep.now)}
+      (dep-code stored c.args.at.now rows site c.args.dep.now c.in-Some.row.0 c.in-Some.row.1 seen (sym c.dep_type.ensures ∙ c.in-0.is));
+  undamaged = λ stored site tells is damage same. no_answer _ _ same;
+  damage = λ damage same. absurd (no_answer _ _ same);
+  cause = no_fault _ _ refl (no_answer _ _);
+}
 
-pub returns-in-1-clause-resolved : goal.returns-in-1-clause-resolved
-returns-in-1-clause-resolved g c = λ stored site tells is.
-    let rows : OutPoint → Option Row = g.C.Cells.rows c.args.cells.now in
-    let found : find_row rows c.args.dep.now.out_point ≡ Some c.in-Some.row = ap (find_row rows) (sym c.out_point.ensures) ∙ sym c.find_row.ensures ∙ c.in-Some.is in
-    let seen : SeenRow stored c.args.at.now rows site c.args.dep.now.out_point c.in-Some.row.0 c.in-Some.row.1 =
-    seen-row stored c.args.at.now rows site c.args.dep.now.out_point c.in-Some.row.0 c.in-Some.row.1 is found in
-    ok-same _ (λ (all : Bool). if all then Some c.add_group_of.new.found.items else None) _ _
-    (ap (option_map (λ (list : List (OutPoint × Row)). c.args.found.now.items ++ list))
-    (dep-group stored c.args.at.now rows site c.args.dep.now c.in-Some.row.0 c.in-Some.row.1 is seen (sym c.dep_type.ensures ∙ c.in-1.is)))
-    (c.add_group_of.ensures.rows stored site seen.cell tells is (ap site.cell seen.same ∙ seen.seen) seen.its_row)
-
-pub returns-in-1-clause-undamaged : goal.returns-in-1-clause-undamaged
-returns-in-1-clause-undamaged g c = λ stored site tells is.
-    let rows : OutPoint → Option Row = g.C.Cells.rows c.args.cells.now in
-    let found : find_row rows c.args.dep.now.out_point ≡ Some c.in-Some.row = ap (find_row rows) (sym c.out_point.ensures) ∙ sym c.find_row.ensures ∙ c.in-Some.is in
-    let seen : SeenRow stored c.args.at.now rows site c.args.dep.now.out_point c.in-Some.row.0 c.in-Some.row.1 =
-    seen-row stored c.args.at.now rows site c.args.dep.now.out_point c.in-Some.row.0 c.in-Some.row.1 is found in
-    c.add_group_of.ensures.undamaged stored site seen.cell tells is (ap site.cell seen.same ∙ seen.seen) seen.its_row
+pub returns-in-1 : goal.returns-in-1
+returns-in-1 g c = record {
+  source = c.add_group_of.ensures.source;
+  resolved = λ stored site tells is.
+      let rows : OutPoint → Option Row = g.C.Cells.rows c.args.cells.now in
+      let found : find_row rows c.args.dep.now.out_point ≡ Some c.in-Some.row = ap (find_row rows) (sym c.out_point.ensures) ∙ sym c.find_row.ensures ∙ c.in-Some.is in
+      let seen : SeenRow stored c.args.at.now rows site c.args.dep.now.out_point c.in-Some.row.0 c.in-Some.row.1 =
+      seen-row stored c.args.at.now rows site c.args.dep.now.out_point c.in-Some.row.0 c.in-Some.row.1 is found in
+      ok-same _ (λ (all : Bool). if all then Some c.add_group_of.new.found.items else None) _ _
+      (ap (option_map (λ (list : List (OutPoint × Row)). c.args.found.now.items ++ list))
+      (dep-group stored c.args.at.now rows site c.args.dep.now c.in-Some.row.0 c.in-Some.row.1 is seen (sym c.dep_type.ensures ∙ c.in-1.is)))
+      (c.add_group_of.ensures.rows stored site seen.cell tells is (ap site.cell seen.same ∙ seen.seen) seen.its_row);
+  undamaged = λ stored site tells is.
+      let rows : OutPoint → Option Row = g.C.Cells.rows c.args.cells.now in
+      let found : find_row rows c.args.dep.now.out_point ≡ Some c.in-Some.row = ap (find_row rows) (sym c.out_point.ensures) ∙ sym c.find_row.ensures ∙ c.in-Some.is in
+      let seen : SeenRow stored c.args.at.now rows site c.args.dep.now.out_point c.in-Some.row.0 c.in-Some.row.1 =
+      seen-row stored c.args.at.now rows site c.args.dep.now.out_point c.in-Some.row.0 c.in-Some.row.1 is found in
+      c.add_group_of.ensures.undamaged stored site seen.cell tells is (ap site.cell seen.same ∙ seen.seen) seen.its_row;
+  damage = c.add_group_of.ensures.damage;
+  cause = c.add_group_of.ensures.cause;
+}
 
 pub returns-in_default-dep_type-clause-resolved : goal.returns-in_default-dep_type-clause-resolved
 returns-in_default-dep_type-clause-resolved g c = λ stored site tells is.

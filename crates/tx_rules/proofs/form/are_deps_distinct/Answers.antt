@@ -6,8 +6,8 @@ use Rattle.chain_defs.proofs.DistinctLemmas.{has_more, distinct_more, distinct_t
 use Rattle.tx_rules.proofs.form.are_deps_distinct.Invariants.{all_bytes}
 use Rattle.tx_rules.proofs.form.are_deps_distinct.Goals as goal
 
-pub returns-then-not-branch : goal.returns-then-not-branch
-returns-then-not-branch c =
+pub returns-in-Ok-false : goal.returns-in-Ok-false
+returns-in-Ok-false c =
     let values : List (List ℕ) = all_bytes c.args.tx.now.raw.cell_deps in
     let value : List ℕ = c.dep_at.result in
     let next : c.later.i - 1 + 1 ≡ c.later.i = omega (arith, c.later-test.true) in
@@ -21,7 +21,7 @@ later-preserved c =
     let keeps = c.later.invariant in
     let next : c.later.i - 1 + 1 ≡ c.later.i = omega (arith, c.later-test.true) in
     let new : contains bytes_eq c.later.seen value ≡ false = not-true (contains bytes_eq c.later.seen value) (search rules) in
-    let updates = c.in_ok-insert.ensures.updates in (
+    let updates = c.in-Ok-true.ensures.updates in (
       omega (arith, keeps.0),
       distinct_more values (c.later.i - 1) c.later.i value next c.dep_at.ensures (sym (keeps.2 value) ∙ new) keeps.1,
       λ q. updates.0 q ∙ has_more values (c.later.i - 1) c.later.i value q _ next c.dep_at.ensures (keeps.2 q),

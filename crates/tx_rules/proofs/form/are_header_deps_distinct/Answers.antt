@@ -5,8 +5,8 @@ use Rattle.std.proofs.lemmas.Bool.{not-true, not-false}
 use Rattle.chain_defs.proofs.DistinctLemmas.{has_more, distinct_more, distinct_twice}
 use Rattle.tx_rules.proofs.form.are_header_deps_distinct.Goals as goal
 
-pub returns-then-not-branch : goal.returns-then-not-branch
-returns-then-not-branch c =
+pub returns-in-Ok-false : goal.returns-in-Ok-false
+returns-in-Ok-false c =
     let values : List (List ℕ) = c.args.tx.now.raw.header_deps in
     let value : List ℕ = c.header_dep_at.result in
     let next : c.later.i - 1 + 1 ≡ c.later.i = omega (arith, c.later-test.true) in
@@ -20,7 +20,7 @@ later-preserved c =
     let keeps = c.later.invariant in
     let next : c.later.i - 1 + 1 ≡ c.later.i = omega (arith, c.later-test.true) in
     let new : contains bytes_eq c.later.seen value ≡ false = not-true (contains bytes_eq c.later.seen value) (search rules) in
-    let updates = c.in_ok-insert.ensures.updates in (
+    let updates = c.in-Ok-true.ensures.updates in (
       omega (arith, keeps.0),
       distinct_more values (c.later.i - 1) c.later.i value next c.header_dep_at.ensures (sym (keeps.2 value) ∙ new) keeps.1,
       λ q. updates.0 q ∙ has_more values (c.later.i - 1) c.later.i value q _ next c.header_dep_at.ensures (keeps.2 q),

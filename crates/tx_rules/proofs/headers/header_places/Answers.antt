@@ -1,7 +1,8 @@
-use Rattle.std.proofs.Common.{◌≡◌, ◌++◌, Option, Some, None, List, [], ◌∷◌, ℕ, take, length, ap, subst, sym, ◌∙◌, refl, arith}
+use Rattle.std.proofs.Common.{◌≡◌, ◌++◌, Option, Some, None, List, [], ◌∷◌, ℕ, take, length, ◌≤◌, ap, subst, sym, ◌∙◌, refl, arith, rules}
 use Rattle.std.specs.Prelude.{slice_index}
 use Rattle.std.specs.Option.{option_map}
 use Rattle.std.specs.List.{AllZip}
+use Rattle.std.proofs.lemmas.List.{take_all}
 use Rattle.codec_defs.specs.Schema.{RawTransaction}
 use Rattle.chain_defs.specs.Branch.{branch_places}
 use Rattle.chain_tree.specs.Entries.{place_of_hash}
@@ -19,20 +20,29 @@ deps-init c = record {
   heights = λ stored rows site is. ap (λ (places : List ℕ). Some places) c.new-places.ensures.items;
 }
 
-pub returns-in-None-clause-heights : goal.returns-in-None-clause-heights
+pub returns-in-None : goal.returns-in-None
 unfolding header_heights
-returns-in-None-clause-heights c stored rows site is =
-    let place : ℕ → ℕ = slice_index (branch_places (blocks_of stored) c.args.at.now.parent) in
-    let at : List ℕ → Option ℕ = λ hash. option_map place (mature_ancestor site hash) in
-    let none : at c.header_dep_at.result ≡ None = sym (c.mature_place.ensures.height stored rows site is) ∙ c.in-None.is in
-    sym (there-none at c.args.tx.now.raw.header_deps c.deps.i c.header_dep_at.result c.header_dep_at.ensures none)
-    ∙ all_there-map at (mature_ancestor site) place c.args.tx.now.raw.header_deps (λ hash. refl)
+returns-in-None c = record {
+  found = tt;
+  heights = λ stored rows site is.
+      let place : ℕ → ℕ = slice_index (branch_places (blocks_of stored) c.args.at.now.parent) in
+      let at : List ℕ → Option ℕ = λ hash. option_map place (mature_ancestor site hash) in
+      let none : at c.header_dep_at.result ≡ None = sym (c.mature_place.ensures.height stored rows site is) ∙ c.in-None.is in
+      sym (there-none at c.args.tx.now.raw.header_deps c.deps.i c.header_dep_at.result c.header_dep_at.ensures none)
+      ∙ all_there-map at (mature_ancestor site) place c.args.tx.now.raw.header_deps (λ hash. refl);
+}
+
+pub returns-then-is_err : goal.returns-then-is_err
+returns-then-is_err c = record {
+  found = tt;
+  heights = λ stored rows site is. tt;
+}
 
 pub deps-preserved : goal.deps-preserved
 deps-preserved c =
     let hashes : List (List ℕ) = c.args.tx.now.raw.header_deps in
     let hash : List ℕ = c.header_dep_at.result in
-    let items : c.push.new.self.items ≡ c.deps.places.items ++ c.in-Some.place ∷ [] = c.in_ok-push-in-Some.ensures.items in
+    let items : c.push.new.self.items ≡ c.deps.places.items ++ c.in-Some.place ∷ [] = search rules in
     record {
       found =
           subst (λ (these : List (List ℕ)). AllZip (λ h place. place_of_hash c.args.at.now.entries h ≡ Some place) these c.push.new.self.items)
@@ -47,12 +57,18 @@ deps-preserved c =
           (sym (c.mature_place.ensures.height stored rows site is) ∙ c.in-Some.is);
     }
 
-pub returns-clause-heights : goal.returns-clause-heights
+pub returns : goal.returns
 unfolding header_heights
-returns-clause-heights c stored rows site is =
-    let place : ℕ → ℕ = slice_index (branch_places (blocks_of stored) c.args.at.now.parent) in
-    let at : List ℕ → Option ℕ = λ hash. option_map place (mature_ancestor site hash) in
+returns c =
     let long = ap (λ (raw : RawTransaction). length raw.header_deps) c.raw.ensures in
-    there-all at c.args.tx.now.raw.header_deps c.deps.i c.deps.places.items (omega (arith, long, c.deps-test.false, c.header_deps_count-i-end.ensures.value))
-    (c.deps.invariant.heights stored rows site is)
-    ∙ all_there-map at (mature_ancestor site) place c.args.tx.now.raw.header_deps (λ hash. refl)
+    let all : length c.args.tx.now.raw.header_deps ≤ c.deps.i = omega (arith, long, c.deps-test.false, c.header_deps_count-i-end.ensures.value) in
+    record {
+      found =
+          subst (λ (these : List (List ℕ)). AllZip (λ hash place. place_of_hash c.args.at.now.entries hash ≡ Some place) these c.deps.places.items)
+          (take_all c.deps.i c.args.tx.now.raw.header_deps all) c.deps.invariant.found;
+      heights = λ stored rows site is.
+          let place : ℕ → ℕ = slice_index (branch_places (blocks_of stored) c.args.at.now.parent) in
+          let at : List ℕ → Option ℕ = λ hash. option_map place (mature_ancestor site hash) in
+          there-all at c.args.tx.now.raw.header_deps c.deps.i c.deps.places.items all (c.deps.invariant.heights stored rows site is)
+          ∙ all_there-map at (mature_ancestor site) place c.args.tx.now.raw.header_deps (λ hash. refl);
+    }

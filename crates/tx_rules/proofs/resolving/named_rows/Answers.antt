@@ -1,47 +1,90 @@
-use Rattle.std.proofs.Common.{◌≡◌, Some, None, Err, map, ap, ◌∙◌}
+use Rattle.std.proofs.Common.{◌≡◌, Some, None, Err, map, ap}
 use Rattle.std.specs.Prelude.{slice_index}
 use Rattle.std.specs.Option.{option_map}
+use Rattle.outside.specs.declared.disk.ReadStop.TheVariants.{DiskFault}
 use Rattle.chain_defs.specs.Branch.{branch_places}
 use Rattle.chain_tree.specs.Told.{blocks_of}
 use Rattle.tx_defs.specs.Resolving.{dep_cells, header_heights}
 use Rattle.tx_rules.specs.At.{found_row}
 use Rattle.tx_rules.specs.Steps.{naming_rules}
-use Rattle.tx_rules.proofs.RuleLemmas.{no-cell-deps, no-header-deps, names-well, found-none, found-some, found-list, tells-read}
+use Rattle.tx_rules.proofs.Endings.{no_fault, no_answer, broken_unread, memory_unread, counts-read}
+use Rattle.tx_rules.proofs.RuleLemmas.{no-cell-deps, no-header-deps, names-well, found-none, found-some, found-list, read-stops}
+use Rattle.tx_rules.proofs.RowRuleLemmas.{later-21, later-22, later-read}
 use Rattle.tx_rules.proofs.resolving.named_rows.Goals as goal
 
-pub returns-in_err-rows-clause-tells : goal.returns-in_err-rows-clause-tells
-returns-in_err-rows-clause-tells g c stored site tells is =
-    tells-read (naming_rules site c.args.tx.now) c.in_err-rows.field-0.0 c.from_residual.result c.from_residual.ensures.1
-    (λ damage same. c.resolved_deps.ensures.undamaged stored site tells is damage (c.in_err-rows.was ∙ ap Err same))
+pub returns-in-Ok-None : goal.returns-in-Ok-None
+returns-in-Ok-None g c = record {
+  source = c.in-Ok-None.ensures.source;
+  later = later-21;
+  tells = λ stored site tells is.
+      let none : None ≡ option_map (map (found_row (blocks_of stored) c.args.at.now.parent)) (dep_cells site c.args.tx.now) =
+      rw c.in-Ok-None.field-0-is at (c.in-Ok-None.ensures.resolved stored site tells is) in
+      no-cell-deps site c.args.tx.now (found-none (found_row (blocks_of stored) c.args.at.now.parent) (dep_cells site c.args.tx.now) none);
+  cells = λ stored site tells is. tt;
+  places = λ stored site tells is. tt;
+  headers = tt;
+  cause = no_fault _ _ (c.in-Ok-None.ensures.cause.unchanged (no_answer _ _)) (broken_unread 21 DiskFault);
+}
 
-pub returns-in_default-clause-tells : goal.returns-in_default-clause-tells
-returns-in_default-clause-tells g c stored site tells is =
-    let none : None ≡ option_map (map (found_row (blocks_of stored) c.args.at.now.parent)) (dep_cells site c.args.tx.now) = rw c.in_default.is at (c.in_ok-rows.ensures.resolved stored site tells is) in
-    no-cell-deps site c.args.tx.now (found-none (found_row (blocks_of stored) c.args.at.now.parent) (dep_cells site c.args.tx.now) none)
+pub returns-in-Err : goal.returns-in-Err
+returns-in-Err g c = record {
+  source = c.in-Err.ensures.source;
+  later = later-read c.in-Err.stop (λ damage same. c.in-Err.ensures.damage damage (ap Err same));
+  tells = λ stored site tells is.
+      read-stops (naming_rules site c.args.tx.now) c.in-Err.stop (λ damage same. c.in-Err.ensures.undamaged stored site tells is damage (ap Err same));
+  cells = λ stored site tells is. tt;
+  places = λ stored site tells is. tt;
+  headers = tt;
+  cause = counts-read c.in-Err.stop c.in-Err.ensures.cause;
+}
 
-pub returns-in_default-2-clause-tells : goal.returns-in_default-2-clause-tells
-returns-in_default-2-clause-tells g c stored site tells is =
-    let some : Some c.in-Some.rows.items ≡ option_map (map (found_row (blocks_of stored) c.args.at.now.parent)) (dep_cells site c.args.tx.now) = rw c.in-Some.is at (c.in_ok-rows.ensures.resolved stored site tells is) in
-    let none : None ≡ option_map (map (slice_index (branch_places (blocks_of stored) c.args.at.now.parent))) (header_heights site c.args.tx.now) =
-    rw c.in_default-2.is at (c.in_ok-places.ensures.heights stored (g.C.Cells.rows c.args.cells.now) site is) in
-    no-header-deps site c.args.tx.now (found-some (found_row (blocks_of stored) c.args.at.now.parent) (dep_cells site c.args.tx.now) c.in-Some.rows.items some)
-    (found-none (slice_index (branch_places (blocks_of stored) c.args.at.now.parent)) (header_heights site c.args.tx.now) none)
+pub returns-in-Ok-Some-header_places : goal.returns-in-Ok-Some-header_places
+returns-in-Ok-Some-header_places g c = record {
+  source = c.in-Ok-Some.ensures.source;
+  later = tt;
+  tells = λ stored site tells is.
+      let some : Some c.in-Ok-Some.rows.items ≡ option_map (map (found_row (blocks_of stored) c.args.at.now.parent)) (dep_cells site c.args.tx.now) =
+      rw c.in-Ok-Some.field-0-is at (c.in-Ok-Some.ensures.resolved stored site tells is) in
+      let all : Some c.in-Ok-Some-header_places.places.items ≡ option_map (map (slice_index (branch_places (blocks_of stored) c.args.at.now.parent))) (header_heights site c.args.tx.now) =
+      rw c.in-Ok-Some-header_places.field-0-is at (c.in-Ok-Some-header_places.ensures.heights stored (g.C.Cells.rows c.args.cells.now) site is) in
+      names-well site c.args.tx.now (found-some (found_row (blocks_of stored) c.args.at.now.parent) (dep_cells site c.args.tx.now) c.in-Ok-Some.rows.items some)
+      (found-some (slice_index (branch_places (blocks_of stored) c.args.at.now.parent)) (header_heights site c.args.tx.now) c.in-Ok-Some-header_places.places.items all);
+  cells = λ stored site tells is.
+      let some : Some c.in-Ok-Some.rows.items ≡ option_map (map (found_row (blocks_of stored) c.args.at.now.parent)) (dep_cells site c.args.tx.now) =
+      rw c.in-Ok-Some.field-0-is at (c.in-Ok-Some.ensures.resolved stored site tells is) in
+      found-list (found_row (blocks_of stored) c.args.at.now.parent) (dep_cells site c.args.tx.now) c.in-Ok-Some.rows.items some;
+  places = λ stored site tells is.
+      let all : Some c.in-Ok-Some-header_places.places.items ≡ option_map (map (slice_index (branch_places (blocks_of stored) c.args.at.now.parent))) (header_heights site c.args.tx.now) =
+      rw c.in-Ok-Some-header_places.field-0-is at (c.in-Ok-Some-header_places.ensures.heights stored (g.C.Cells.rows c.args.cells.now) site is) in
+      found-list (slice_index (branch_places (blocks_of stored) c.args.at.now.parent)) (header_heights site c.args.tx.now) c.in-Ok-Some-header_places.places.items all;
+  headers = rw c.in-Ok-Some-header_places.field-0-is at c.in-Ok-Some-header_places.ensures.found;
+  cause = no_fault _ _ (c.in-Ok-Some.ensures.cause.unchanged (no_answer _ _)) (no_answer _ _);
+}
 
-pub returns-clause-tells : goal.returns-clause-tells
-returns-clause-tells g c stored site tells is =
-    let some : Some c.in-Some.rows.items ≡ option_map (map (found_row (blocks_of stored) c.args.at.now.parent)) (dep_cells site c.args.tx.now) = rw c.in-Some.is at (c.in_ok-rows.ensures.resolved stored site tells is) in
-    let all : Some c.in-Some-2.places.items ≡ option_map (map (slice_index (branch_places (blocks_of stored) c.args.at.now.parent))) (header_heights site c.args.tx.now) =
-    rw c.in-Some-2.is at (c.in_ok-places.ensures.heights stored (g.C.Cells.rows c.args.cells.now) site is) in
-    names-well site c.args.tx.now (found-some (found_row (blocks_of stored) c.args.at.now.parent) (dep_cells site c.args.tx.now) c.in-Some.rows.items some)
-    (found-some (slice_index (branch_places (blocks_of stored) c.args.at.now.parent)) (header_heights site c.args.tx.now) c.in-Some-2.places.items all)
+pub returns-in-Ok-None-header_places : goal.returns-in-Ok-None-header_places
+returns-in-Ok-None-header_places g c = record {
+  source = c.in-Ok-Some.ensures.source;
+  later = later-22;
+  tells = λ stored site tells is.
+      let some : Some c.in-Ok-Some.rows.items ≡ option_map (map (found_row (blocks_of stored) c.args.at.now.parent)) (dep_cells site c.args.tx.now) =
+      rw c.in-Ok-Some.field-0-is at (c.in-Ok-Some.ensures.resolved stored site tells is) in
+      let none : None ≡ option_map (map (slice_index (branch_places (blocks_of stored) c.args.at.now.parent))) (header_heights site c.args.tx.now) =
+      rw c.in-Ok-None-header_places.field-0-is at (c.in-Ok-None-header_places.ensures.heights stored (g.C.Cells.rows c.args.cells.now) site is) in
+      no-header-deps site c.args.tx.now (found-some (found_row (blocks_of stored) c.args.at.now.parent) (dep_cells site c.args.tx.now) c.in-Ok-Some.rows.items some)
+      (found-none (slice_index (branch_places (blocks_of stored) c.args.at.now.parent)) (header_heights site c.args.tx.now) none);
+  cells = λ stored site tells is. tt;
+  places = λ stored site tells is. tt;
+  headers = tt;
+  cause = no_fault _ _ (c.in-Ok-Some.ensures.cause.unchanged (no_answer _ _)) (broken_unread 22 DiskFault);
+}
 
-pub returns-clause-cells : goal.returns-clause-cells
-returns-clause-cells g c stored site tells is =
-    let some : Some c.in-Some.rows.items ≡ option_map (map (found_row (blocks_of stored) c.args.at.now.parent)) (dep_cells site c.args.tx.now) = rw c.in-Some.is at (c.in_ok-rows.ensures.resolved stored site tells is) in
-    found-list (found_row (blocks_of stored) c.args.at.now.parent) (dep_cells site c.args.tx.now) c.in-Some.rows.items some
-
-pub returns-clause-places : goal.returns-clause-places
-returns-clause-places g c stored site tells is =
-    let all : Some c.in-Some-2.places.items ≡ option_map (map (slice_index (branch_places (blocks_of stored) c.args.at.now.parent))) (header_heights site c.args.tx.now) =
-    rw c.in-Some-2.is at (c.in_ok-places.ensures.heights stored (g.C.Cells.rows c.args.cells.now) site is) in
-    found-list (slice_index (branch_places (blocks_of stored) c.args.at.now.parent)) (header_heights site c.args.tx.now) c.in-Some-2.places.items all
+pub returns-in-Err-header_places : goal.returns-in-Err-header_places
+returns-in-Err-header_places g c = record {
+  source = c.in-Ok-Some.ensures.source;
+  later = tt;
+  tells = λ stored site tells is. tt;
+  cells = λ stored site tells is. tt;
+  places = λ stored site tells is. tt;
+  headers = tt;
+  cause = no_fault _ _ (c.in-Ok-Some.ensures.cause.unchanged (no_answer _ _)) memory_unread;
+}

@@ -1,44 +1,60 @@
-use Rattle.std.proofs.Common.{◌≡◌, true, false, Err, ap, sym, ◌∙◌, rules}
+use Rattle.std.proofs.Common.{◌≡◌, true, Err, refl, ap, sym, ◌∙◌}
+use Rattle.outside.specs.declared.disk.ReadStop.TheVariants.{DiskFault}
 use Rattle.tx_defs.specs.Withdrawals.{names_deposits}
 use Rattle.tx_rules.specs.Steps.{paying_rules}
-use Rattle.tx_rules.proofs.RuleLemmas.{tells-read, tells-damage, names-badly, pays-badly, pays-well}
+use Rattle.tx_rules.proofs.Endings.{no_answer, broken_unread, damage_unread, fault_read}
+use Rattle.tx_rules.proofs.RuleLemmas.{read-stops, names-badly, pays-badly, pays-well}
+use Rattle.tx_rules.proofs.RowRuleLemmas.{later-26, later-27, later-read}
 use Rattle.tx_rules.proofs.resolving.paid_by.Goals as goal
 
-pub returns-in_err-names_deposits-clause-tells : goal.returns-in_err-names_deposits-clause-tells
-returns-in_err-names_deposits-clause-tells c stored rows site is copies places =
-    tells-read (paying_rules site c.args.tx.now) c.in_err-names_deposits.field-0.0 c.from_residual.result c.from_residual.ensures.1
-    (λ damage same. c.names_deposits.ensures.undamaged stored rows site is copies places damage (c.in_err-names_deposits.was ∙ ap Err same))
+pub returns-in-Ok-false : goal.returns-in-Ok-false
+returns-in-Ok-false c = record {
+  later = later-26;
+  unread = broken_unread 26 DiskFault;
+  tells = λ stored rows site is copies places.
+      names-badly site c.args.tx.now (sym (c.in-Ok-false.ensures.named stored rows site is copies places) ∙ c.in-Ok-false.field-0-test);
+  paid = λ stored rows site is copies places. tt;
+}
 
-pub returns-then-not-branch-clause-tells : goal.returns-then-not-branch-clause-tells
-returns-then-not-branch-clause-tells c stored rows site is copies places =
-    let here : c.in_ok-names_deposits.field-0 ≡ false = search rules in
-    let named : names_deposits site c.args.tx.now ≡ false = sym (c.in_ok-names_deposits.ensures.named stored rows site is copies places) ∙ here in
-    names-badly site c.args.tx.now named
+pub returns-in-Err : goal.returns-in-Err
+returns-in-Err c = record {
+  later = later-read c.in-Err.stop (λ damage same. c.in-Err.ensures.damage damage (ap Err same));
+  unread = λ same. c.in-Err.ensures.no_fault (fault_read c.in-Err.stop same);
+  tells = λ stored rows site is copies places.
+      read-stops (paying_rules site c.args.tx.now) c.in-Err.stop (λ damage same. c.in-Err.ensures.undamaged stored rows site is copies places damage (ap Err same));
+  paid = λ stored rows site is copies places. tt;
+}
 
-pub returns-in_err-balance-clause-tells : goal.returns-in_err-balance-clause-tells
-returns-in_err-balance-clause-tells c stored rows site is copies places =
-    let here : c.in_ok-names_deposits.field-0 ≡ true = search rules in
-    let named : names_deposits site c.args.tx.now ≡ true = sym (c.in_ok-names_deposits.ensures.named stored rows site is copies places) ∙ here in
-    tells-damage (paying_rules site c.args.tx.now) c.in_err-balance.field-0.0 c.from_residual-in_err-balance.result c.from_residual-in_err-balance.ensures.1
-    (c.balance_of.ensures.undamaged stored rows site is copies places named c.in_err-balance.field-0.0 c.in_err-balance.was)
+pub returns-in-Ok-Some : goal.returns-in-Ok-Some
+returns-in-Ok-Some c = record {
+  later = tt;
+  unread = no_answer _ _;
+  tells = λ stored rows site is copies places.
+      let named : names_deposits site c.args.tx.now ≡ true = sym (c.in-Ok-true.ensures.named stored rows site is copies places) ∙ c.in-Ok-true.field-0-test in
+      let balance = rw c.in-Ok-Some.field-0-is at (c.in-Ok-Some.ensures.balance stored rows site is copies places named) in
+      pays-well site c.args.tx.now named balance.0;
+  paid = λ stored rows site is copies places.
+      let named : names_deposits site c.args.tx.now ≡ true = sym (c.in-Ok-true.ensures.named stored rows site is copies places) ∙ c.in-Ok-true.field-0-test in
+      let balance = rw c.in-Ok-Some.field-0-is at (c.in-Ok-Some.ensures.balance stored rows site is copies places named) in
+      record { fee_is = balance.1; interest_is = balance.2 };
+}
 
-pub returns-in-Some-clause-tells : goal.returns-in-Some-clause-tells
-returns-in-Some-clause-tells c stored rows site is copies places =
-    let here : c.in_ok-names_deposits.field-0 ≡ true = search rules in
-    let named : names_deposits site c.args.tx.now ≡ true = sym (c.in_ok-names_deposits.ensures.named stored rows site is copies places) ∙ here in
-    let balance = rw c.in-Some.is at (c.in_ok-balance.ensures.balance stored rows site is copies places named) in
-    pays-well site c.args.tx.now named balance.0
+pub returns-in-Ok-None : goal.returns-in-Ok-None
+returns-in-Ok-None c = record {
+  later = later-27;
+  unread = broken_unread 27 DiskFault;
+  tells = λ stored rows site is copies places.
+      let named : names_deposits site c.args.tx.now ≡ true = sym (c.in-Ok-true.ensures.named stored rows site is copies places) ∙ c.in-Ok-true.field-0-test in
+      pays-badly site c.args.tx.now named (rw c.in-Ok-None.field-0-is at (c.in-Ok-None.ensures.balance stored rows site is copies places named));
+  paid = λ stored rows site is copies places. tt;
+}
 
-pub returns-in-Some-clause-paid : goal.returns-in-Some-clause-paid
-returns-in-Some-clause-paid c stored rows site is copies places =
-    let here : c.in_ok-names_deposits.field-0 ≡ true = search rules in
-    let named : names_deposits site c.args.tx.now ≡ true = sym (c.in_ok-names_deposits.ensures.named stored rows site is copies places) ∙ here in
-    let balance = rw c.in-Some.is at (c.in_ok-balance.ensures.balance stored rows site is copies places named) in
-    record { fee_is = balance.1; interest_is = balance.2 }
-
-pub returns-in-None-clause-tells : goal.returns-in-None-clause-tells
-returns-in-None-clause-tells c stored rows site is copies places =
-    let here : c.in_ok-names_deposits.field-0 ≡ true = search rules in
-    let named : names_deposits site c.args.tx.now ≡ true = sym (c.in_ok-names_deposits.ensures.named stored rows site is copies places) ∙ here in
-    let bad = rw c.in-None.is at (c.in_ok-balance.ensures.balance stored rows site is copies places named) in
-    pays-badly site c.args.tx.now named bad
+pub returns-in-Err-balance_of : goal.returns-in-Err-balance_of
+returns-in-Err-balance_of c = record {
+  later = c.in-Err-balance_of.ensures.damage c.in-Err-balance_of.damage refl;
+  unread = damage_unread c.in-Err-balance_of.damage;
+  tells = λ stored rows site is copies places.
+      let named : names_deposits site c.args.tx.now ≡ true = sym (c.in-Ok-true.ensures.named stored rows site is copies places) ∙ c.in-Ok-true.field-0-test in
+      c.in-Err-balance_of.ensures.undamaged stored rows site is copies places named c.in-Err-balance_of.damage refl;
+  paid = λ stored rows site is copies places. tt;
+}

@@ -1,71 +1,95 @@
-use Rattle.std.proofs.Common.{◌≡◌, true, false, Some, None, ◌∙◌, rules}
-use Rattle.tx_defs.specs.Resolving.{spends_each_once}
+use Rattle.std.proofs.Common.{◌≡◌, true, false, Some, None, sym, ◌∙◌}
+use Rattle.outside.specs.declared.disk.ReadStop.TheVariants.{DiskFault}
 use Rattle.tx_defs.specs.Rules.{has_form}
-use Rattle.tx_rules.specs.At.{input_rows}
-use Rattle.tx_rules.proofs.RuleLemmas.{no-form, spends-badly, spends-well, not-live, spends-as-distinct}
-use Rattle.tx_rules.proofs.RowRuleLemmas.{none-lost, some-once, follows-memory, follows-form, follows-lost, follows-kept}
+use Rattle.tx_defs.specs.Resolving.{spends_each_once}
+use Rattle.tx_rules.specs.At.{spends_rows, input_rows}
+use Rattle.tx_rules.proofs.Endings.{no_answer, broken_unread, memory_unread}
+use Rattle.tx_rules.proofs.RuleLemmas.{no-form, spends-badly, spends-well, spends-by-rows}
+use Rattle.tx_rules.proofs.RowRuleLemmas.{tried-18, tried-20, none-lost, twice-lost, some-once, follows-memory, follows-form, follows-lost, follows-kept}
 use Rattle.tx_rules.proofs.resolving.spent_rows.Goals as goal
 
-pub returns-then-not-branch-clause-tells : goal.returns-then-not-branch-clause-tells
-returns-then-not-branch-clause-tells g c stored at site is =
-    let form : has_form c.args.tx.now ≡ false = search rules in
-    no-form site c.args.tx.now form
+pub returns-in-Ok-false : goal.returns-in-Ok-false
+returns-in-Ok-false g c =
+    let form : has_form c.args.tx.now ≡ false = sym c.in-Ok-false.ensures ∙ c.in-Ok-false.field-0-test in
+    record {
+      stops = tried-18;
+      by_rows = follows-form (g.C.Cells.rows c.args.cells.now) c.args.tx.now form;
+      unread = broken_unread 18 DiskFault;
+      tells = λ stored at site is. no-form site c.args.tx.now form;
+      form = tt;
+      rows = tt;
+    }
 
-pub returns-in_default-clause-tells : goal.returns-in_default-clause-tells
-returns-in_default-clause-tells g c stored at site is =
-    let form : has_form c.args.tx.now ≡ true = search rules in
-    let none : input_rows (g.C.Cells.rows c.args.cells.now) c.args.tx.now ≡ None = search rules in
-    spends-badly site c.args.tx.now form (not-live stored at (g.C.Cells.rows c.args.cells.now) site c.args.tx.now is none)
+pub returns-in-Err : goal.returns-in-Err
+returns-in-Err g c = record {
+  stops = tt;
+  by_rows = follows-memory (g.C.Cells.rows c.args.cells.now) c.args.tx.now;
+  unread = memory_unread;
+  tells = λ stored at site is. tt;
+  form = tt;
+  rows = tt;
+}
 
-pub returns-then-not-branch-2-clause-tells : goal.returns-then-not-branch-2-clause-tells
-returns-then-not-branch-2-clause-tells g c stored at site is =
-    let form : has_form c.args.tx.now ≡ true = search rules in
-    let some : input_rows (g.C.Cells.rows c.args.cells.now) c.args.tx.now ≡ Some c.in-Some.rows.items = search rules in
-    let once : spends_each_once c.args.tx.now ≡ false = search rules in
-    spends-badly site c.args.tx.now form
-    (spends-as-distinct stored at (g.C.Cells.rows c.args.cells.now) site c.args.tx.now c.in-Some.rows.items is some ∙ once)
+pub returns-in-Ok-false-are_inputs_distinct : goal.returns-in-Ok-false-are_inputs_distinct
+returns-in-Ok-false-are_inputs_distinct g c =
+    let form : has_form c.args.tx.now ≡ true = sym c.in-Ok-true.ensures ∙ c.in-Ok-true.field-0-test in
+    let twice : spends_each_once c.args.tx.now ≡ false = sym c.in-Ok-false-are_inputs_distinct.ensures ∙ c.in-Ok-false-are_inputs_distinct.field-0-test in
+    let lost : spends_rows (g.C.Cells.rows c.args.cells.now) c.args.tx.now ≡ false = twice-lost (g.C.Cells.rows c.args.cells.now) c.args.tx.now twice in
+    record {
+      stops = tried-20;
+      by_rows = follows-lost (g.C.Cells.rows c.args.cells.now) c.args.tx.now form lost;
+      unread = broken_unread 20 DiskFault;
+      tells = λ stored at site is. spends-badly site c.args.tx.now form (spends-by-rows stored at (g.C.Cells.rows c.args.cells.now) site c.args.tx.now is ∙ lost);
+      form = tt;
+      rows = tt;
+    }
 
-pub returns-clause-tells : goal.returns-clause-tells
-returns-clause-tells g c stored at site is =
-    let form : has_form c.args.tx.now ≡ true = search rules in
-    let some : input_rows (g.C.Cells.rows c.args.cells.now) c.args.tx.now ≡ Some c.in-Some.rows.items = search rules in
-    let once : spends_each_once c.args.tx.now ≡ true = search rules in
-    spends-well site c.args.tx.now form
-    (spends-as-distinct stored at (g.C.Cells.rows c.args.cells.now) site c.args.tx.now c.in-Some.rows.items is some ∙ once)
+pub returns-in-Err-are_inputs_distinct : goal.returns-in-Err-are_inputs_distinct
+returns-in-Err-are_inputs_distinct g c = record {
+  stops = tt;
+  by_rows = follows-memory (g.C.Cells.rows c.args.cells.now) c.args.tx.now;
+  unread = memory_unread;
+  tells = λ stored at site is. tt;
+  form = tt;
+  rows = tt;
+}
 
-pub returns-in_err-has_form-clause-by_rows : goal.returns-in_err-has_form-clause-by_rows
-returns-in_err-has_form-clause-by_rows g c = follows-memory (g.C.Cells.rows c.args.cells.now) c.args.tx.now c.from_residual.result c.from_residual.ensures.1
+pub returns-in-Ok-Some : goal.returns-in-Ok-Some
+returns-in-Ok-Some g c =
+    let form : has_form c.args.tx.now ≡ true = sym c.in-Ok-true.ensures ∙ c.in-Ok-true.field-0-test in
+    let once : spends_each_once c.args.tx.now ≡ true = sym c.in-Ok-true-are_inputs_distinct.ensures ∙ c.in-Ok-true-are_inputs_distinct.field-0-test in
+    let some : input_rows (g.C.Cells.rows c.args.cells.now) c.args.tx.now ≡ Some c.in-Ok-Some.rows.items = sym (rw c.in-Ok-Some.field-0-is at c.in-Ok-Some.ensures) in
+    let kept : spends_rows (g.C.Cells.rows c.args.cells.now) c.args.tx.now ≡ true =
+    some-once (g.C.Cells.rows c.args.cells.now) c.args.tx.now c.in-Ok-Some.rows.items some ∙ once in
+    record {
+      stops = tt;
+      by_rows = follows-kept (g.C.Cells.rows c.args.cells.now) c.args.tx.now _ form kept tt;
+      unread = no_answer _ _;
+      tells = λ stored at site is. spends-well site c.args.tx.now form (spends-by-rows stored at (g.C.Cells.rows c.args.cells.now) site c.args.tx.now is ∙ kept);
+      form = form;
+      rows = some;
+    }
 
-pub returns-then-not-branch-clause-by_rows : goal.returns-then-not-branch-clause-by_rows
-returns-then-not-branch-clause-by_rows g c =
-    let form : has_form c.args.tx.now ≡ false = search rules in
-    follows-form (g.C.Cells.rows c.args.cells.now) c.args.tx.now form
+pub returns-in-Ok-None : goal.returns-in-Ok-None
+returns-in-Ok-None g c =
+    let form : has_form c.args.tx.now ≡ true = sym c.in-Ok-true.ensures ∙ c.in-Ok-true.field-0-test in
+    let none : input_rows (g.C.Cells.rows c.args.cells.now) c.args.tx.now ≡ None = sym (rw c.in-Ok-None.field-0-is at c.in-Ok-None.ensures) in
+    let lost : spends_rows (g.C.Cells.rows c.args.cells.now) c.args.tx.now ≡ false = none-lost (g.C.Cells.rows c.args.cells.now) c.args.tx.now none in
+    record {
+      stops = tried-20;
+      by_rows = follows-lost (g.C.Cells.rows c.args.cells.now) c.args.tx.now form lost;
+      unread = broken_unread 20 DiskFault;
+      tells = λ stored at site is. spends-badly site c.args.tx.now form (spends-by-rows stored at (g.C.Cells.rows c.args.cells.now) site c.args.tx.now is ∙ lost);
+      form = tt;
+      rows = tt;
+    }
 
-pub returns-in_err-rows-clause-by_rows : goal.returns-in_err-rows-clause-by_rows
-returns-in_err-rows-clause-by_rows g c = follows-memory (g.C.Cells.rows c.args.cells.now) c.args.tx.now c.from_residual-in_err-rows.result c.from_residual-in_err-rows.ensures.1
-
-pub returns-in_default-clause-by_rows : goal.returns-in_default-clause-by_rows
-returns-in_default-clause-by_rows g c =
-    let form : has_form c.args.tx.now ≡ true = search rules in
-    let none : input_rows (g.C.Cells.rows c.args.cells.now) c.args.tx.now ≡ None = search rules in
-    follows-lost (g.C.Cells.rows c.args.cells.now) c.args.tx.now form (none-lost (g.C.Cells.rows c.args.cells.now) c.args.tx.now none)
-
-pub returns-in_err-are_inputs_distinct-clause-by_rows : goal.returns-in_err-are_inputs_distinct-clause-by_rows
-returns-in_err-are_inputs_distinct-clause-by_rows g c =
-    follows-memory (g.C.Cells.rows c.args.cells.now) c.args.tx.now c.from_residual-in_err-are_inputs_distinct.result c.from_residual-in_err-are_inputs_distinct.ensures.1
-
-pub returns-then-not-branch-2-clause-by_rows : goal.returns-then-not-branch-2-clause-by_rows
-returns-then-not-branch-2-clause-by_rows g c =
-    let form : has_form c.args.tx.now ≡ true = search rules in
-    let some : input_rows (g.C.Cells.rows c.args.cells.now) c.args.tx.now ≡ Some c.in-Some.rows.items = search rules in
-    let once : spends_each_once c.args.tx.now ≡ false = search rules in
-    follows-lost (g.C.Cells.rows c.args.cells.now) c.args.tx.now form
-    (some-once (g.C.Cells.rows c.args.cells.now) c.args.tx.now c.in-Some.rows.items some ∙ once)
-
-pub returns-clause-by_rows : goal.returns-clause-by_rows
-returns-clause-by_rows g c =
-    let form : has_form c.args.tx.now ≡ true = search rules in
-    let some : input_rows (g.C.Cells.rows c.args.cells.now) c.args.tx.now ≡ Some c.in-Some.rows.items = search rules in
-    let once : spends_each_once c.args.tx.now ≡ true = search rules in
-    follows-kept (g.C.Cells.rows c.args.cells.now) c.args.tx.now _ form
-    (some-once (g.C.Cells.rows c.args.cells.now) c.args.tx.now c.in-Some.rows.items some ∙ once) tt
+pub returns-in-Err-live_inputs : goal.returns-in-Err-live_inputs
+returns-in-Err-live_inputs g c = record {
+  stops = tt;
+  by_rows = follows-memory (g.C.Cells.rows c.args.cells.now) c.args.tx.now;
+  unread = memory_unread;
+  tells = λ stored at site is. tt;
+  form = tt;
+  rows = tt;
+}

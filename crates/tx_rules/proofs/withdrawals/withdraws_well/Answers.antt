@@ -8,21 +8,26 @@ use Rattle.chain_defs.specs.Branch.{branch_places}
 use Rattle.chain_tree.specs.Told.{blocks_of}
 use Rattle.tx_defs.specs.Resolving.{heights}
 use Rattle.tx_defs.specs.Withdrawals.{is_withdrawing, deposit_height}
+use Rattle.tx_rules.proofs.Endings.{handed}
 use Rattle.tx_rules.proofs.DepositLemmas.{heights-below, named-same, made-some, made-none, named-well, unnamed-well, is_some-mapped}
 use Rattle.tx_rules.proofs.withdrawals.withdraws_well.Goals as goal
 
-pub returns-in_err-made-clause-undamaged : goal.returns-in_err-made-clause-undamaged
-returns-in_err-made-clause-undamaged c stored rows site found is height its copied damage broken =
-    c.in_err-made.ensures.undamaged stored rows site found is height its copied _ refl
+pub returns-in-Err : goal.returns-in-Err
+returns-in-Err c = record {
+  well = λ stored rows site found is height are its copied. tt;
+  undamaged = λ stored rows site found is height its copied damage same.
+      c.in-Err.ensures.undamaged stored rows site found is height its copied c.in-Err.damage refl;
+  damage = λ damage same. c.in-Err.ensures.damage damage (handed c.in-Err.damage _ same);
+}
 
-pub returns-in_default-clause-well : goal.returns-in_default-clause-well
-returns-in_default-clause-well c stored rows site found is height are its copied =
-    made-none (is_withdrawing site.spec found.cell) _ found.cell.height (sym c.in_default.is ∙ c.in_ok-made.ensures.made stored rows site found is height its copied)
+pub returns-in-Ok-None-clause-well : goal.returns-in-Ok-None-clause-well
+returns-in-Ok-None-clause-well c stored rows site found is height are its copied =
+    made-none (is_withdrawing site.spec found.cell) _ found.cell.height (sym c.in-Ok-None.field-0-is ∙ c.in-Ok-None.ensures.made stored rows site found is height its copied)
 
 pub returns-then-is_named-clause-well : goal.returns-then-is_named-clause-well
 returns-then-is_named-clause-well c stored rows site found is height are its copied =
-    let made = made-some (is_withdrawing site.spec found.cell) c.in-Some.made found.cell.height
-    (sym c.in-Some.is ∙ c.in_ok-made.ensures.made stored rows site found is height its copied) in
+    let made = made-some (is_withdrawing site.spec found.cell) c.in-Ok-Some.made found.cell.height
+    (sym c.in-Ok-Some.field-0-is ∙ c.in-Ok-Some.ensures.made stored rows site found is height its copied) in
     let block = ap (λ (row : Row). row.block) c.meta.view_is ∙ ap (λ (it : ResolvedValue). it.row.block) c.copy.view_is in
     let listed = c.is_named.ensures ∙ ap (λ (b : ℕ). list_any (λ place. place == b) c.args.ordered.now) block
     ∙ sym (list_any-IsPermutation (λ place. place == c.args.copy.now.row.block) c.args.headers.now c.args.ordered.now c.requires.same)
@@ -36,8 +41,8 @@ returns-then-is_named-clause-well c stored rows site found is height are its cop
 
 pub returns-else-is_named-clause-well : goal.returns-else-is_named-clause-well
 returns-else-is_named-clause-well c stored rows site found is height are its copied =
-    let made = made-some (is_withdrawing site.spec found.cell) c.in-Some.made found.cell.height
-    (sym c.in-Some.is ∙ c.in_ok-made.ensures.made stored rows site found is height its copied) in
+    let made = made-some (is_withdrawing site.spec found.cell) c.in-Ok-Some.made found.cell.height
+    (sym c.in-Ok-Some.field-0-is ∙ c.in-Ok-Some.ensures.made stored rows site found is height its copied) in
     let block = ap (λ (row : Row). row.block) c.meta.view_is ∙ ap (λ (it : ResolvedValue). it.row.block) c.copy.view_is in
     let listed = c.is_named.ensures ∙ ap (λ (b : ℕ). list_any (λ place. place == b) c.args.ordered.now) block
     ∙ sym (list_any-IsPermutation (λ place. place == c.args.copy.now.row.block) c.args.headers.now c.args.ordered.now c.requires.same)
