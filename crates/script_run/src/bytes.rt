@@ -25,7 +25,7 @@ impl<'a> Bytes<'a> {
 }
 
 /// What is shown of an output with its data.
-#[derive(Clone, Copy, PartialEq, Eq)]
+#[derive(Clone, Copy)]
 pub(crate) enum CellPart {
     Output,
     Data,
@@ -39,7 +39,7 @@ pub(crate) enum CellPart {
 }
 
 /// What is shown of a header.
-#[derive(Clone, Copy, PartialEq, Eq)]
+#[derive(Clone, Copy)]
 pub(crate) enum HeaderPart {
     Whole,
     EpochNumber,
@@ -49,7 +49,7 @@ pub(crate) enum HeaderPart {
 }
 
 /// What is shown of an input.
-#[derive(Clone, Copy, PartialEq, Eq)]
+#[derive(Clone, Copy)]
 pub(crate) enum InputPart {
     Whole,
     OutPoint,

@@ -9,7 +9,7 @@ ghost use Rattle.script_run.specs.Shown.{Shows};
 use crate::groups::Group;
 use cell_model::ResolvedTx;
 
-#[derive(Clone, Copy, PartialEq, Eq)]
+#[derive(Clone, Copy)]
 enum Source {
     Inputs,
     Outputs,
@@ -22,7 +22,7 @@ enum Source {
 }
 
 /// Where an item stands in the transaction.
-#[derive(Clone, Copy, PartialEq, Eq)]
+#[derive(Clone, Copy)]
 pub(crate) enum Place {
     Input(usize),
     Output(usize),
@@ -31,7 +31,7 @@ pub(crate) enum Place {
 }
 
 /// What a source and an index name.
-#[derive(Clone, Copy, PartialEq, Eq)]
+#[derive(Clone, Copy)]
 pub(crate) enum Target {
     NoSource,
     NoIndex,

@@ -7,7 +7,7 @@ use outside::{Damage, NoMemory, ReadStop};
 use script_defs::Failure;
 
 /// Why the scripts of a transaction were not run to a good end.
-#[derive(Clone, Copy, PartialEq, Eq)]
+#[derive(Clone, Copy)]
 pub enum ScriptStop {
     /// A group fails the transaction.
     Failed(Failure),

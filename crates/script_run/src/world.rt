@@ -14,7 +14,7 @@ ghost use Rattle.time_defs.specs.Epochs.{epoch_number};
 ghost use Rattle.script_run.specs.Looks.{bytes_of, header_part};
 ghost use Rattle.script_defs.specs.Scene.{Scene};
 ghost use Rattle.script_defs.specs.Items.{items};
-ghost use Rattle.script_run.specs.Running.{ExitsWithin};
+ghost use Rattle.script_run.specs.Running.{ExitsWithin, HasRead, stop_of};
 ghost use Rattle.script_run.specs.Showing.{scene_shown};
 ghost use Rattle.script_run.specs.Shown.{HasItsHash};
 
@@ -89,10 +89,7 @@ impl<'a, 't, 'g, 'r, 'b, B: Blocks> World for GroupWorld<'a, 't, 'g, 'r, 'b, B> 
                 Ok(Found::Here)
             }
             Look::InBlock(place, part) => {
-                if place >= self.tree.len() {
-                    return Err(damaged());
-                }
-                match read_header(self.blocks, place, part, tx.epoch_length) {
+                match read_header(self.tree, self.blocks, place, part, tx.epoch_length) {
                     Ok(bytes) => {
                         self.hand = Some(bytes);
                         Ok(Found::Here)
@@ -120,25 +117,28 @@ const HEADER_AT: usize = 20;
 
 const HEADER_END: usize = 228;
 
-/// Reads a part of the header of the block at a place.
+/// Reads a part of the header of the block at a place. Damaged where no block is kept there.
 fn read_header<'a, B: Blocks>(
+    tree: &Tree,
     blocks: &mut B,
     place: u32,
     part: HeaderPart,
     epoch_length: u32,
 ) -> Result<Bytes<'a>, ReadStop>
-    requires within { place < B.count blocks.old }
-    ensures told { B.told blocks.new ≡ B.told blocks.old }
-    ensures count { B.count blocks.new ≡ B.count blocks.old }
-    ensures loans { B.loans_of blocks.new ≡ B.loans_of blocks.old }
+    requires counts { B.count blocks.old ≡ length tree.now.entries }
+    ensures reads { HasRead B.told B.count B.loans_of B.faults blocks.old blocks.new (stop_of result) }
     ensures part { (stored : List Stored) (made : Stored) → B.told blocks.old ≡ Some stored → slice_get stored place ≡ Some made
         → IfOk result (λ bytes. bytes_of bytes ≡ header_part epoch_length part made.block.header) }
     ensures undamaged { (stored : List Stored) (made : Stored) → B.told blocks.old ≡ Some stored → slice_get stored place ≡ Some made
-        → (damage : Damage) → result ≡ Err (Damaged damage) → ⊥ }
-    ensures damage { (damage : Damage) → result ≡ Err (Damaged damage) → damage.area ≡ Log }
-    ensures cause { CountsFault (B.faults blocks.old) (B.faults blocks.new) (result ≡ Err DiskFault) }
+        → (damage : Damage) → stop_of result ≡ Some (Damaged damage) → ⊥ }
 {
-    blocks.bring(place)?;
+    if place >= tree.len() {
+        return Err(damaged());
+    }
+    match blocks.bring(place) {
+        Ok(()) => {}
+        Err(stop) => return Err(stop),
+    }
     match header_of(blocks.block()) {
         None => Err(damaged()),
         Some(header) => Ok(part_of(header, part, epoch_length)),
@@ -205,55 +205,27 @@ pub(crate) fn run_code<'a, B: Blocks>(
 ) -> Result<Execution, ReadStop>
     requires budget { budget ≤ 2 ^ 40 }
     requires counts { B.count blocks.old ≡ length tree.now.entries }
-    ensures told { B.told blocks.new ≡ B.told blocks.old }
-    ensures count { B.count blocks.new ≡ B.count blocks.old }
-    ensures loans { B.loans_of blocks.new ≡ B.loans_of blocks.old }
+    ensures reads { HasRead B.told B.count B.loans_of B.faults blocks.old blocks.new (stop_of result) }
     ensures came { (stored : List Stored) (scene : Scene) → B.told blocks.old ≡ Some stored → scene_shown tx.now.epoch_length stored tx.now.it ≡ Some scene
         → HasItsHash group.now → IfOk result (λ came. execution_of came ≡ execution (syscall (items scene group.now.group)) budget code.now) }
     ensures within { IfOk result (ExitsWithin budget) }
     ensures undamaged { (stored : List Stored) (scene : Scene) → B.told blocks.old ≡ Some stored → scene_shown tx.now.epoch_length stored tx.now.it ≡ Some scene
-        → (damage : Damage) → result ≡ Err (Damaged damage) → ⊥ }
-    ensures damage { (damage : Damage) → result ≡ Err (Damaged damage) → damage.area ≡ Log }
-    ensures cause { CountsFault (B.faults blocks.old) (B.faults blocks.new) (result ≡ Err DiskFault) }
+        → (damage : Damage) → stop_of result ≡ Some (Damaged damage) → ⊥ }
 {
     let mut world = GroupWorld::new(tx, group, tree, blocks);
-    let came = run_in(alloc, &mut world, code, budget);
+    let came = execute_in(alloc, code, budget, &mut world);
     give_back(world);
-    came
+    match came {
+        Ok(came) => Ok(came),
+        Err(Stopped::Loading) => Err(ReadStop::NoMemory),
+        Err(Stopped::Running(stop)) => Err(stop),
+    }
 }
 
 /// Ends the loan of the blocks: they are as the world leaves them.
 fn give_back<'a, 't, 'g, 'r, 'b, B: Blocks>(world: GroupWorld<'a, 't, 'g, 'r, 'b, B>)
     ensures { world.exit.0.now ≡ world.entry.blocks.now }
 {}
-
-/// Runs code within a budget in cycles, over what surrounds it.
-fn run_in<'a, 't, 'g, 'r, 'b, B: Blocks>(
-    alloc: Global,
-    world: &mut GroupWorld<'a, 't, 'g, 'r, 'b, B>,
-    code: &[u8],
-    budget: u64,
-) -> Result<Execution, ReadStop>
-    requires budget { budget ≤ 2 ^ 40 }
-    ensures same_reference { world.new.blocks.ghost_name ≡ world.old.blocks.ghost_name }
-    ensures told { B.told world.new.blocks.now ≡ B.told world.old.blocks.now }
-    ensures count { B.count world.new.blocks.now ≡ B.count world.old.blocks.now }
-    ensures loans { B.loans_of world.new.blocks.now ≡ B.loans_of world.old.blocks.now }
-    ensures came { (stored : List Stored) (scene : Scene) → B.told world.old.blocks.now ≡ Some stored
-        → scene_shown world.old.tx.now.epoch_length stored world.old.tx.now.it ≡ Some scene → HasItsHash world.old.group.now
-        → IfOk result (λ came. execution_of came ≡ execution (syscall (items scene world.old.group.now.group)) budget code.now) }
-    ensures within { IfOk result (ExitsWithin budget) }
-    ensures undamaged { (stored : List Stored) (scene : Scene) → B.told world.old.blocks.now ≡ Some stored
-        → scene_shown world.old.tx.now.epoch_length stored world.old.tx.now.it ≡ Some scene → (damage : Damage) → result ≡ Err (Damaged damage) → ⊥ }
-    ensures damage { (damage : Damage) → result ≡ Err (Damaged damage) → damage.area ≡ Log }
-    ensures cause { CountsFault (B.faults world.old.blocks.now) (B.faults world.new.blocks.now) (result ≡ Err DiskFault) }
-{
-    match execute_in(alloc, code, budget, world) {
-        Ok(came) => Ok(came),
-        Err(Stopped::Loading) => Err(ReadStop::NoMemory),
-        Err(Stopped::Running(stop)) => Err(stop),
-    }
-}
 
 /// A block of LOG, or a copy out of it, that is not what was kept.
 fn damaged() -> ReadStop
