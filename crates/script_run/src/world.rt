@@ -31,39 +31,16 @@ use vm_sys::{Call, Found, World};
 
 /// What surrounds the script of a group.
 #[derive(Drop)]
-pub(crate) struct GroupWorld<'a, 't, 'g, 'r, 'b, B: Blocks> {
+pub(crate) struct GroupWorld<'a, 'w, 'b, B: Blocks> {
     blocks: &'b mut B,
-    tx: &'t ShownTx<'a>,
-    group: &'g Group<'a>,
-    tree: &'r Tree,
+    tx: &'w ShownTx<'a>,
+    group: &'w Group<'a>,
+    tree: &'w Tree,
     hand: Option<Bytes<'a>>,
     ghost counts: { B.count blocks.now ≡ length tree.now.entries },
 }
 
-impl<'a, 't, 'g, 'r, 'b, B: Blocks> GroupWorld<'a, 't, 'g, 'r, 'b, B> {
-    fn new(
-        tx: &'t ShownTx<'a>,
-        group: &'g Group<'a>,
-        tree: &'r Tree,
-        blocks: &'b mut B,
-    ) -> GroupWorld<'a, 't, 'g, 'r, 'b, B>
-        requires counts { B.count blocks.old ≡ length tree.now.entries }
-        ensures same_reference { result.blocks.ghost_name ≡ blocks.entry.ghost_name }
-        ensures blocks { result.blocks.now ≡ blocks.old }
-        ensures tx { result.tx.now ≡ tx.now }
-        ensures group { result.group.now ≡ group.now }
-    {
-        GroupWorld {
-            tx,
-            group,
-            tree,
-            blocks,
-            hand: None,
-        }
-    }
-}
-
-impl<'a, 't, 'g, 'r, 'b, B: Blocks> World for GroupWorld<'a, 't, 'g, 'r, 'b, B> {
+impl<'a, 'w, 'b, B: Blocks> World for GroupWorld<'a, 'w, 'b, B> {
     ghost use Rattle.std.specs.Prelude.{ℕ, List, Option};
     ghost use Rattle.std.specs.Option.{option_map};
     ghost use Rattle.chain_tree.specs.Told.{Stored};
@@ -194,11 +171,11 @@ fn epoch_of(number: u64, epoch_length: u32) -> u64
 
 /// Runs the code of a group within a budget in cycles, over what the group is shown. Damaged where a copy is no output,
 /// or a header dep's block is none.
-pub(crate) fn run_code<'a, B: Blocks>(
+pub(crate) fn run_code<'a, 'w, B: Blocks>(
     alloc: Global,
-    tx: &ShownTx<'a>,
-    group: &Group<'a>,
-    tree: &Tree,
+    tx: &'w ShownTx<'a>,
+    group: &'w Group<'a>,
+    tree: &'w Tree,
     blocks: &mut B,
     code: &[u8],
     budget: u64,
@@ -212,7 +189,13 @@ pub(crate) fn run_code<'a, B: Blocks>(
     ensures undamaged { (stored : List Stored) (scene : Scene) → B.told blocks.old ≡ Some stored → scene_shown tx.now.epoch_length stored tx.now.it ≡ Some scene
         → (damage : Damage) → stop_of result ≡ Some (Damaged damage) → ⊥ }
 {
-    let mut world = GroupWorld::new(tx, group, tree, blocks);
+    let mut world = GroupWorld {
+        blocks,
+        tx,
+        group,
+        tree,
+        hand: None,
+    };
     let came = execute_in(alloc, code, budget, &mut world);
     give_back(world);
     match came {
@@ -223,7 +206,7 @@ pub(crate) fn run_code<'a, B: Blocks>(
 }
 
 /// Ends the loan of the blocks: they are as the world leaves them.
-fn give_back<'a, 't, 'g, 'r, 'b, B: Blocks>(world: GroupWorld<'a, 't, 'g, 'r, 'b, B>)
+fn give_back<'a, 'w, 'b, B: Blocks>(world: GroupWorld<'a, 'w, 'b, B>)
     ensures { world.exit.0.now ≡ world.entry.blocks.now }
 {}
 
