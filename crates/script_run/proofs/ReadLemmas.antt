@@ -8,6 +8,7 @@ use Rattle.outside.specs.declared.disk.ReadStop.TheVariants.{Damaged, DiskFault,
 use Rattle.chain_tree.specs.Told.{Stored}
 use Rattle.script_run.specs.declared.stop.ScriptStop.{ScriptStop}
 use Rattle.script_run.specs.declared.stop.ScriptStop.TheVariants.{Failed, Read}
+use Rattle.script_run.specs.Grouping.{IsWantOrDamage}
 use Rattle.script_run.specs.Running.{HasRead, read_stop_of, stop_of}
 
 -- ---- Answers that are none
@@ -30,6 +31,20 @@ damage-no-fault stop damage damaged is = absurd (cc)
 
 pub damage-no-want : {T : Type 0} (stop : ReadStop) (damage : Damage) → stop ≡ Damaged damage → ◌≡◌ {A = Result T ReadStop} (Err stop) (Err NoMemory) → ⊥
 damage-no-want stop damage damaged is = absurd (cc)
+
+-- want of memory, or damage of the log
+pub want-or-log : {T : Type 0} (stop : ReadStop) (damage : Damage) → IsWantOrDamage stop → ◌≡◌ {A = Result T ReadStop} (Err stop) (Err (Damaged damage)) → damage.area ≡ Log
+want-or-log DiskFault damage why is = absurd why
+want-or-log NoMemory damage why is = absurd (cc)
+want-or-log (Damaged other) damage why is = let same : other ≡ damage = cc in subst (λ (d : Damage). d.area ≡ Log) same why
+
+pub want-no-fault : {T : Type 0} (stop : ReadStop) → IsWantOrDamage stop → ◌≡◌ {A = Result T ReadStop} (Err stop) (Err DiskFault) → ⊥
+want-no-fault DiskFault why is = absurd why
+want-no-fault NoMemory why is = absurd (cc)
+want-no-fault (Damaged other) why is = absurd (cc)
+
+pub want-no-damage : {T : Type 0} (stop : ReadStop) (damage : Damage) → stop ≡ NoMemory → ◌≡◌ {A = Result T ReadStop} (Err stop) (Err (Damaged damage)) → ⊥
+want-no-damage stop damage wanted is = absurd (cc)
 
 -- ---- Faults that are counted
 

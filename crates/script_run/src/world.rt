@@ -22,9 +22,10 @@ use crate::bytes::{Bytes, HeaderPart, Look};
 use crate::groups::Group;
 use crate::items::sought;
 use crate::shown::ShownTx;
+use crate::stop::damaged;
 use chain_tree::{Blocks, Tree};
 use mol_schema::HeaderView;
-use outside::{Area, Damage, ReadStop};
+use outside::ReadStop;
 use program_run::{Execution, Stopped, execute_in};
 use std::alloc::Global;
 use vm_sys::{Call, Found, World};
@@ -209,13 +210,3 @@ pub(crate) fn run_code<'a, 'w, B: Blocks>(
 fn give_back<'a, 'w, 'b, B: Blocks>(world: GroupWorld<'a, 'w, 'b, B>)
     ensures { world.exit.0.now ≡ world.entry.blocks.now }
 {}
-
-/// A block of LOG, or a copy out of it, that is not what was kept.
-fn damaged() -> ReadStop
-    ensures { result ≡ Damaged (record { area = Log; at = 0 }) }
-{
-    ReadStop::Damaged(Damage {
-        area: Area::Log,
-        at: 0,
-    })
-}
