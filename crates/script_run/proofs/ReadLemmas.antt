@@ -32,6 +32,19 @@ damage-no-fault stop damage damaged is = absurd (cc)
 pub damage-no-want : {T : Type 0} (stop : ReadStop) (damage : Damage) → stop ≡ Damaged damage → ◌≡◌ {A = Result T ReadStop} (Err stop) (Err NoMemory) → ⊥
 damage-no-want stop damage damaged is = absurd (cc)
 
+pub logged : (stop : ReadStop) (damage : Damage) → stop ≡ Damaged (record { area = Log; at = 0 }) → Some stop ≡ Some (Damaged damage) → damage.area ≡ Log
+logged stop damage damaged is = let same : Damaged (record { area = Log; at = 0 }) ≡ Damaged damage = cc in cc
+
+pub damaged-unlike-fault : (stop : ReadStop) (damage : Damage) → stop ≡ Damaged damage → Some stop ≡ Some DiskFault → ⊥
+damaged-unlike-fault stop damage damaged is = absurd (cc)
+
+-- want of memory, where scripts are run
+pub wanted-no-damage : (damage : Damage) → ◌≡◌ {A = Result ℕ ScriptStop} (Err (Read NoMemory)) (Err (Read (Damaged damage))) → ⊥
+wanted-no-damage damage is = absurd (cc)
+
+pub wanted-no-fault : ◌≡◌ {A = Result ℕ ScriptStop} (Err (Read NoMemory)) (Err (Read DiskFault)) → ⊥
+wanted-no-fault is = absurd (cc)
+
 -- want of memory, or damage of the log
 pub want-or-log : {T : Type 0} (stop : ReadStop) (damage : Damage) → IsWantOrDamage stop → ◌≡◌ {A = Result T ReadStop} (Err stop) (Err (Damaged damage)) → damage.area ≡ Log
 want-or-log DiskFault damage why is = absurd why

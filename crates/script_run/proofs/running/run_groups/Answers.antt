@@ -1,11 +1,11 @@
-use Rattle.std.proofs.Common.{◌≡◌, ℕ, List, Some, ap, ◌∙◌}
+use Rattle.std.proofs.Common.{◌≡◌, ℕ, List, Some, refl, ap, ◌∙◌}
 use Rattle.cell_model.specs.Copies.{ResolvedTxValue}
 use Rattle.chain_tree.specs.Told.{Stored}
 use Rattle.time_defs.specs.Specification.{Specification}
 use Rattle.script_defs.specs.Scene.{Scene}
 use Rattle.script_run.specs.Running.{read_stop_of}
 use Rattle.script_run.specs.Showing.{scene_shown}
-use Rattle.script_run.proofs.ReadLemmas.{counted-read}
+use Rattle.script_run.proofs.ReadLemmas.{counted-read, none-counted, wanted-no-damage, wanted-no-fault}
 use Rattle.script_run.proofs.running.run_groups.Goals as goal
 
 pub returns : goal.returns
@@ -25,3 +25,27 @@ returns g c =
       damage = λ damage is. reads.damage damage (ap read_stop_of is);
       cause = counted-read _ _ c.run_shown.result reads.cause;
     }
+
+pub returns-in-Err : goal.returns-in-Err
+returns-in-Err g c = record {
+  told = refl;
+  count = refl;
+  loans = refl;
+  within = tt;
+  exact = λ stored scene tells there. tt;
+  undamaged = λ stored scene tells there. wanted-no-damage;
+  damage = λ damage is. absurd (wanted-no-damage damage is);
+  cause = none-counted _ _ wanted-no-fault;
+}
+
+pub returns-in-Err-of : goal.returns-in-Err-of
+returns-in-Err-of g c = record {
+  told = refl;
+  count = refl;
+  loans = refl;
+  within = tt;
+  exact = λ stored scene tells there. tt;
+  undamaged = λ stored scene tells there. wanted-no-damage;
+  damage = λ damage is. absurd (wanted-no-damage damage is);
+  cause = none-counted _ _ wanted-no-fault;
+}
