@@ -18,7 +18,7 @@ use crate::groups::Group;
 use crate::shown::ShownTx;
 use crate::sources::{Place, Target, target_of};
 use cell_model::{CellMeta, Resolved, ResolvedTx, data_at};
-use mol_schema::{OutputView, TxView};
+use mol_schema::{InputView, OutputView, TxView};
 use vm_sys::Call;
 
 const SHANNONS_PER_BYTE: u64 = 100_000_000;
@@ -301,14 +301,24 @@ fn input<'a>(
     }
 }
 
+/// The input at a place of a transaction.
+pub(crate) fn input_at<'a>(tx: &TxView<'a>, i: usize) -> Option<InputView<'a>>
+    ensures { result ≡ slice_get tx.now.raw.inputs i }
+{
+    let raw = tx.raw();
+    if i < raw.inputs_count() {
+        Some(raw.inputs_item(i))
+    } else {
+        None
+    }
+}
+
 fn part_of_input<'a>(tx: &TxView<'a>, i: usize, part: InputPart) -> Look<'a>
     ensures { (headers : ℕ → Option Header) (length : ℕ) → IsFound headers length (answer (option_map (input_part part) (slice_get tx.now.raw.inputs i))) result }
 {
-    let raw = tx.raw();
-    if i >= raw.inputs_count() {
+    let Some(input) = input_at(tx, i) else {
         return Look::NoIndex;
-    }
-    let input = raw.inputs_item(i);
+    };
     match part {
         InputPart::Whole => slice(input.bytes()),
         InputPart::OutPoint => slice(input.previous_output().bytes()),
