@@ -12,7 +12,7 @@ ghost use Rattle.script_defs.specs.Scene.{Scene, ShownCell};
 ghost use Rattle.script_run.specs.Grouping.{FindsEach, IsWantOrDamage, grouped, with_group, with_input, with_output, changed, place_with};
 ghost use Rattle.script_run.specs.Shown.{HasItsHash, IsShownAs, Shows, output_rows};
 
-use crate::shown::ShownTx;
+use crate::shown::{ShownTx, output_at};
 use crate::stop::damaged;
 use cell_model::{CellMeta, Resolved};
 use mol_schema::{OutputView, ScriptView, TxView};
@@ -224,9 +224,8 @@ impl<'a> Grouping<'a> {
             → OnOk result (self.new.groups.items ≡ grouped inputs (map (λ output. output.type_script) tx.now.raw.outputs)) }
         ensures undamaged { IfErr result (λ stop. stop ≡ no_memory) }
     {
-        let raw = tx.raw();
-        'outputs: for i in 0..raw.outputs_count() {
-            self.join_output(alloc, &raw.outputs_item(i), &rows[i], i as u32)?;
+        'outputs: for i in 0..tx.raw().outputs_count() {
+            self.join_output(alloc, &output_at(tx, i), &rows[i], i as u32)?;
         }
         Ok(())
     }

@@ -15,7 +15,7 @@ ghost use Rattle.script_run.specs.Shown.{IsShownAs, Shows, output_rows};
 
 use crate::bytes::{Bytes, CellPart, HeaderPart, InputPart, Look};
 use crate::groups::Group;
-use crate::shown::ShownTx;
+use crate::shown::{ShownTx, output_at};
 use crate::sources::{Place, Target, target_of};
 use cell_model::{CellMeta, Resolved, ResolvedTx, data_at};
 use mol_schema::{InputView, OutputView, TxView};
@@ -143,7 +143,7 @@ fn part_of_output<'a>(tx: &TxView<'a>, rows: &[CellMeta], i: usize, part: CellPa
     if i >= rows.len() {
         return Look::NoIndex;
     }
-    let output = tx.raw().outputs_item(i);
+    let output = output_at(tx, i);
     part_of(&output, data_at(tx, i), &rows[i], part)
 }
 
