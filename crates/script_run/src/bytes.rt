@@ -56,6 +56,21 @@ pub(crate) enum InputPart {
     Since,
 }
 
+/// What a call loads. Of a cell, a header or an input a part, where there is the field that is asked for.
+#[derive(Clone, Copy)]
+pub(crate) enum Load {
+    Transaction,
+    Script,
+    TxHash,
+    ScriptHash,
+    Cell(Option<CellPart>),
+    Header(Option<HeaderPart>),
+    Input(Option<InputPart>),
+    Witness,
+    /// It loads nothing.
+    Nothing,
+}
+
 /// What comes of a call, as far as no kept block is read.
 #[derive(Clone, Copy)]
 pub(crate) enum Look<'a> {

@@ -13,7 +13,7 @@ returns g c =
     let reads = c.run_shown.ensures.reads in
     let epoch_length : c.in-Ok.shown.epoch_length ≡ c.args.spec.now.epoch_length = c.in-Ok.ensures.epoch_length ∙ ap (λ (s : Specification). s.epoch_length) c.spec.view_is in
     let there_too : (stored : List Stored) (scene : Scene) → scene_shown c.args.spec.now.epoch_length stored c.args.tx.now ≡ Some scene
-        → scene_shown c.in-Ok.shown.epoch_length stored c.in-Ok.shown.it ≡ Some scene =
+    → scene_shown c.in-Ok.shown.epoch_length stored c.in-Ok.shown.it ≡ Some scene =
     λ stored scene there. ap (λ (n : ℕ). scene_shown n stored c.in-Ok.shown.it) epoch_length ∙ ap (scene_shown c.args.spec.now.epoch_length stored) c.in-Ok.ensures.it ∙ there in
     record {
       told = reads.told;
