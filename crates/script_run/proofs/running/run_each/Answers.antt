@@ -1,5 +1,5 @@
 use Rattle.std.proofs.Common.{refl, ◌∙◌, arith}
-use Rattle.script_run.proofs.ReadLemmas.{not-there, read-on, unread}
+use Rattle.script_run.proofs.ReadLemmas.{not-there, read-on}
 use Rattle.script_run.proofs.RunningLemmas.{its-hash, ran-one, ran-each, ran-to-stop}
 use Rattle.script_run.proofs.running.run_each.Goals as goal
 

@@ -1,5 +1,4 @@
 use Rattle.std.proofs.Common.{◌≡◌, ℕ, List, Some, refl, ap, ◌∙◌}
-use Rattle.cell_model.specs.Copies.{ResolvedTxValue}
 use Rattle.chain_tree.specs.Told.{Stored}
 use Rattle.time_defs.specs.Specification.{Specification}
 use Rattle.script_defs.specs.Scene.{Scene}

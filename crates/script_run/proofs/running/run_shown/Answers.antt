@@ -1,4 +1,4 @@
-use Rattle.std.proofs.Common.{◌≡◌, List, Err, refl, sym, ap, subst, ◌∙◌}
+use Rattle.std.proofs.Common.{List, Err, refl, sym, ap, subst, ◌∙◌}
 use Rattle.std.specs.List.{All}
 use Rattle.script_defs.specs.Outcome.{first_without_code, run_from}
 use Rattle.script_run.specs.Running.{IsOutcome}

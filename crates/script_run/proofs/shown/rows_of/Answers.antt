@@ -1,5 +1,4 @@
-use Rattle.std.proofs.Common.{◌≡◌, ℕ, List, length, ap, sym, ◌∙◌, arith}
-use Rattle.std.specs.Prelude.{slice_get}
+use Rattle.std.proofs.Common.{◌≡◌, ℕ, List, length, ap, ◌∙◌, arith}
 use Rattle.codec_defs.specs.Schema.{RawTransaction}
 use Rattle.cell_defs.specs.Row.{row_of}
 use Rattle.script_run.proofs.WalkLemmas.{row-more, rows-all}

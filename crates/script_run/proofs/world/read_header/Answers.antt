@@ -1,4 +1,4 @@
-use Rattle.std.proofs.Common.{◌≡◌, Some, refl, ap, sym, subst}
+use Rattle.std.proofs.Common.{refl, ap, sym, subst}
 use Rattle.std.specs.Prelude.{Option, Err, IsSome, List}
 use Rattle.chain_tree.specs.Told.{Stored}
 use Rattle.script_run.specs.Running.{stop_of}

@@ -1,6 +1,6 @@
 use Rattle.std.proofs.Common.{◌≡◌, refl, sym, ap, ◌∙◌}
 use Rattle.std.specs.Prelude.{Err}
-use Rattle.outside.specs.declared.disk.ReadStop.TheVariants.{Damaged, NoMemory}
+use Rattle.outside.specs.declared.disk.ReadStop.TheVariants.{NoMemory}
 use Rattle.sys_defs.specs.World.{Here, NoIndex, Missing, Unknown}
 use Rattle.script_run.specs.declared.bytes.Look.TheVariants as look
 use Rattle.script_run.specs.Looks.{bytes_of, header_part, items_told}
