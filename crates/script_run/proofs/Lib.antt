@@ -8,4 +8,5 @@ pub mod SyscallLemmas
 pub mod ShowingLemmas
 pub mod HeaderLemmas
 pub mod WorldLemmas
+pub mod ReadLemmas
 pub mod RunningLemmas

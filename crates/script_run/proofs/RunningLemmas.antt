@@ -1,6 +1,6 @@
 -- Groups that are gone through one after the other, and what comes of each.
 use Rattle.std.proofs.Common.{◌≡◌, ℕ, suc, ◌+◌, ◌-◌, ◌<◌, ◌≤◌, Bool, true, false, cond, List, [], ◌∷◌, length, map, drop, get_or, Option, Some, None, Result, Ok, Err, refl, sym, ap, subst, ◌∙◌, arith, add-one, drop-cons}
-use Rattle.std.specs.Prelude.{slice_get}
+use Rattle.std.specs.Prelude.{slice_get, IfOk}
 use Rattle.std.specs.List.{All, AllZip}
 use Rattle.std.specs.Option.{option_map}
 use Rattle.std.proofs.lemmas.List.{drop_all, length-map}
@@ -17,7 +17,7 @@ use Rattle.script_defs.specs.Items.{items}
 use Rattle.script_defs.specs.Outcome.{has_no_code, or_later, first_without_code, executed, run_code, run_type_id, run_group, with_cycles, followed_by, run_from, unless, outcome_of}
 use Rattle.script_run.specs.declared.stop.ScriptStop.{ScriptStop}
 use Rattle.script_run.specs.declared.stop.ScriptStop.TheVariants.{Failed, Read}
-use Rattle.script_run.specs.Running.{IsOutcome}
+use Rattle.script_run.specs.Running.{IsOutcome, answer_of, read_stop_of}
 use Rattle.script_run.specs.Shown.{GroupValue, HasItsHash, IsShownAs}
 
 -- ---- Groups by their places
@@ -101,9 +101,27 @@ deps-shown scene codes deps same shown = subst (λ (these : List ResolvedValue).
 
 -- ---- Answers
 
--- why a run stops
-pub stops-so : (expected : Result ℕ Failure) (stop : ScriptStop) (result : Result ℕ ScriptStop) → IsOutcome expected (Err stop) → result ≡ Err stop → IsOutcome expected result
-stops-so expected stop result is stopped = subst (λ (r : Result ℕ ScriptStop). IsOutcome expected r) (sym stopped) is
+pub as-expected : (expected came : Result ℕ Failure) (result : Result ℕ ScriptStop) → expected ≡ came → result ≡ answer_of came → IsOutcome expected result
+as-expected expected came result is answered = subst (λ (r : Result ℕ ScriptStop). IsOutcome expected r) (sym answered) (of_answer came is)
+  where
+    of_answer : (came : Result ℕ Failure) → expected ≡ came → IsOutcome expected (answer_of came)
+    of_answer (Ok cycles) same = same
+    of_answer (Err why) same = same
+
+-- an answer tells nothing of what was read
+pub no-read-stop : (came : Result ℕ Failure) (result : Result ℕ ScriptStop) → result ≡ answer_of came → None ≡ read_stop_of result
+no-read-stop came result answered = sym (ap read_stop_of answered ∙ of_answer came)
+  where
+    of_answer : (came : Result ℕ Failure) → read_stop_of (answer_of came) ≡ None
+    of_answer (Ok cycles) = refl
+    of_answer (Err why) = refl
+
+pub answer-within : (came : Result ℕ Failure) (result : Result ℕ ScriptStop) (limit : ℕ) → result ≡ answer_of came → IfOk came (λ cycles. cycles ≤ limit) → IfOk result (λ cycles. cycles ≤ limit)
+answer-within came result limit answered within = subst (λ (r : Result ℕ ScriptStop). IfOk r (λ cycles. cycles ≤ limit)) (sym answered) (of_answer came within)
+  where
+    of_answer : (came : Result ℕ Failure) → IfOk came (λ cycles. cycles ≤ limit) → IfOk (answer_of came) (λ cycles. cycles ≤ limit)
+    of_answer (Ok cycles) within = within
+    of_answer (Err why) within = tt
 
 -- ---- One after the other
 

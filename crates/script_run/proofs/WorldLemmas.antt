@@ -1,8 +1,7 @@
 -- What a script is answered, by what was found for it.
-use Rattle.std.proofs.Common.{◌≡◌, ℕ, ◌<◌, List, length, Option, Some, None, refl, subst, arith}
+use Rattle.std.proofs.Common.{◌≡◌, ℕ, List, Option, Some, None, refl, subst}
 use Rattle.std.specs.Prelude.{IfSome, IsSome, IsSomeAnd, slice_get}
 use Rattle.std.specs.Option.{option_map}
-use Rattle.std.proofs.lemmas.Option.{slice_get_within}
 use Rattle.codec_defs.specs.Schema.{Header}
 use Rattle.cell_model.specs.Copies.{ResolvedTxValue}
 use Rattle.chain_tree.specs.Told.{Stored}
@@ -67,12 +66,10 @@ not-broken epoch_length it group told call look sought is some =
     let t = is-told epoch_length it group told some in
     found-over epoch_length it group call look Broken sought is t.stored t.scene t.shown
 
--- its place is before the end of what is told
-pub within-told : (epoch_length : ℕ) (it : ResolvedTxValue) (told : Option (List Stored)) (place count : ℕ) → BlockTold epoch_length it told place
-    → IfSome told (λ stored. length stored ≡ count) → place < count
-within-told epoch_length it told place count t all =
-    let as_many : length t.stored ≡ count = subst (λ (o : Option (List Stored)). IfSome o (λ stored. length stored ≡ count)) t.told_are all in
-    omega (arith, slice_get_within t.stored place t.made t.there)
-
 pub here-or-unknown : (item : Item) (bytes : List ℕ) → item ≡ Here bytes → item ≡ Unknown → ⊥
 here-or-unknown item bytes here unknown = cc
+
+-- what is no want of memory may be so of any call
+pub not-wanted : (told : Option Items) (call : Call) (Wanted : Type 0) → (Wanted → ⊥) → IfSome told (λ items. items call ≡ Unknown → Wanted → ⊥)
+not-wanted None call Wanted none = tt
+not-wanted (Some items) call Wanted none = λ unknown. none

@@ -3,7 +3,8 @@ use Rattle.std.specs.Prelude.{◌≡◌, ℕ, ◌*◌, ◌==◌, List, Option, S
 use Rattle.std.specs.Option.{option_map, option_and_then}
 use Rattle.std.specs.List.{AllZip, list_any}
 use Rattle.codec_defs.specs.Shape.{encoded}
-use Rattle.codec_defs.specs.Schema.{Header, header, CellInput, cell_input, cell_output, out_point, script}
+use Rattle.codec_defs.specs.Schema.{Header, header, CellInput, cell_input, cell_output, out_point, script, transaction}
+use Rattle.chain_defs.specs.Hashes.{transaction_hash}
 use Rattle.time_defs.specs.Epochs.{epoch_number}
 use Rattle.cell_defs.specs.Row.{Row}
 use Rattle.cell_defs.specs.Cell.{script_hash, data_hash, occupied_by}
@@ -12,7 +13,7 @@ use Rattle.chain_tree.specs.Told.{Stored}
 use Rattle.sys_defs.specs.World as world
 use Rattle.sys_defs.specs.World.{Call, Item, Items}
 use Rattle.script_defs.specs.Scene.{Scene}
-use Rattle.script_defs.specs.Items.{OutputWithData, items, u64_bytes}
+use Rattle.script_defs.specs.Items.{OutputWithData, cell_at, header_at, input_at, items, listed, u64_bytes, whole, witness_at}
 use Rattle.script_run.specs.Showing.{scene_shown}
 use Rattle.script_run.specs.Shown.{GroupValue}
 use Rattle.script_run.specs.declared.bytes.Bytes.{Bytes}
@@ -23,6 +24,8 @@ use Rattle.script_run.specs.declared.bytes.HeaderPart.{HeaderPart}
 use Rattle.script_run.specs.declared.bytes.HeaderPart.TheVariants as head
 use Rattle.script_run.specs.declared.bytes.InputPart.{InputPart}
 use Rattle.script_run.specs.declared.bytes.InputPart.TheVariants as input
+use Rattle.script_run.specs.declared.bytes.Load.{Load}
+use Rattle.script_run.specs.declared.bytes.Load.TheVariants as load
 use Rattle.script_run.specs.declared.bytes.Look.{Look}
 use Rattle.script_run.specs.declared.bytes.Look.TheVariants.{Here, InBlock, NoIndex, Missing, Unknown, Broken}
 
@@ -92,6 +95,18 @@ load_script_hash = 2062
 -- What the script of a group is answered, with the hash of the script as the group has it.
 abbrev pub items_of : Scene → GroupValue → Items
 items_of scene it call = if call.number == load_script_hash then world.Here it.hash else items scene it.group call
+
+-- what a call loads is answered
+abbrev pub load_meaning : Scene → GroupValue → Call → Load → Item
+load_meaning scene it call load.Transaction = world.Here (encoded transaction scene.transaction)
+load_meaning scene it call load.Script = world.Here (encoded script it.group.script)
+load_meaning scene it call load.TxHash = world.Here (transaction_hash scene.transaction)
+load_meaning scene it call load.ScriptHash = world.Here it.hash
+load_meaning scene it call (load.Cell part) = listed scene it.group call (cell_at scene) (option_map cell_part part)
+load_meaning scene it call (load.Header part) = listed scene it.group call (header_at scene) (option_map (λ part h. Some (header_part scene.epoch_length part h)) part)
+load_meaning scene it call (load.Input part) = listed scene it.group call (input_at scene) (option_map input_part part)
+load_meaning scene it call load.Witness = listed scene it.group call (witness_at scene) (whole (λ witness. witness))
+load_meaning scene it call load.Nothing = world.Unknown
 
 -- ---- Kept blocks
 

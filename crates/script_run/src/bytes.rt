@@ -25,7 +25,7 @@ impl<'a> Bytes<'a> {
 }
 
 /// What is shown of an output with its data.
-#[derive(Clone, Copy, PartialEq, Eq)]
+#[derive(Clone, Copy)]
 pub(crate) enum CellPart {
     Output,
     Data,
@@ -39,7 +39,7 @@ pub(crate) enum CellPart {
 }
 
 /// What is shown of a header.
-#[derive(Clone, Copy, PartialEq, Eq)]
+#[derive(Clone, Copy)]
 pub(crate) enum HeaderPart {
     Whole,
     EpochNumber,
@@ -49,11 +49,26 @@ pub(crate) enum HeaderPart {
 }
 
 /// What is shown of an input.
-#[derive(Clone, Copy, PartialEq, Eq)]
+#[derive(Clone, Copy)]
 pub(crate) enum InputPart {
     Whole,
     OutPoint,
     Since,
+}
+
+/// What a call loads. Of a cell, a header or an input a part, where there is the field that is asked for.
+#[derive(Clone, Copy)]
+pub(crate) enum Load {
+    Transaction,
+    Script,
+    TxHash,
+    ScriptHash,
+    Cell(Option<CellPart>),
+    Header(Option<HeaderPart>),
+    Input(Option<InputPart>),
+    Witness,
+    /// It loads nothing.
+    Nothing,
 }
 
 /// What comes of a call, as far as no kept block is read.

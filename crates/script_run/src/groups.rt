@@ -12,10 +12,11 @@ ghost use Rattle.script_defs.specs.Scene.{Scene, ShownCell};
 ghost use Rattle.script_run.specs.Grouping.{FindsEach, IsWantOrDamage, grouped, with_group, with_input, with_output, changed, place_with};
 ghost use Rattle.script_run.specs.Shown.{HasItsHash, IsShownAs, Shows, output_rows};
 
-use crate::shown::ShownTx;
+use crate::shown::{ShownTx, output_at};
+use crate::stop::damaged;
 use cell_model::{CellMeta, Resolved};
 use mol_schema::{OutputView, ScriptView, TxView};
-use outside::{Area, Damage, NoMemory, ReadStop};
+use outside::{NoMemory, ReadStop};
 use std::alloc::Global;
 use std::collections::HashMap;
 use std::marker::Model;
@@ -36,16 +37,6 @@ impl<'a> Model for Group<'a> {
     ghost Value = { GroupValue };
 
     ghost view = { λ it. record { group = record { script = it.script; inputs = it.inputs.items; outputs = it.outputs.items }; hash = it.hash } };
-}
-
-/// A copy of a cell that is not what its row says.
-fn damaged() -> ReadStop
-    ensures { result ≡ Damaged (record { area = Log; at = 0 }) }
-{
-    ReadStop::Damaged(Damage {
-        area: Area::Log,
-        at: 0,
-    })
 }
 
 /// The output that a copy has.
@@ -233,9 +224,8 @@ impl<'a> Grouping<'a> {
             → OnOk result (self.new.groups.items ≡ grouped inputs (map (λ output. output.type_script) tx.now.raw.outputs)) }
         ensures undamaged { IfErr result (λ stop. stop ≡ no_memory) }
     {
-        let raw = tx.raw();
-        'outputs: for i in 0..raw.outputs_count() {
-            self.join_output(alloc, &raw.outputs_item(i), &rows[i], i as u32)?;
+        'outputs: for i in 0..tx.raw().outputs_count() {
+            self.join_output(alloc, &output_at(tx, i), &rows[i], i as u32)?;
         }
         Ok(())
     }
@@ -281,9 +271,14 @@ fn type_groups<'a>(alloc: Global, tx: &'a ShownTx<'a>) -> Result<Vec<Group<'a>>,
     ensures stops { IfErr result IsWantOrDamage }
 {
     let it = tx.it;
-    let mut grouping = types_of_inputs(alloc, &it.inputs)?;
-    grouping.join_outputs(alloc, &it.tx, &tx.outputs)?;
-    Ok(grouping.groups)
+    let mut grouping = match types_of_inputs(alloc, &it.inputs) {
+        Ok(grouping) => grouping,
+        Err(stop) => return Err(stop),
+    };
+    match grouping.join_outputs(alloc, &it.tx, &tx.outputs) {
+        Ok(()) => Ok(grouping.groups),
+        Err(stop) => Err(stop),
+    }
 }
 
 /// Two lists of groups, one behind the other. More than a `u32` counts are taken for want of memory.
@@ -315,8 +310,14 @@ pub(crate) fn groups_of<'a>(alloc: Global, tx: &'a ShownTx<'a>) -> Result<Vec<Gr
     if it.inputs.len() != it.tx.raw().inputs_count() {
         return Err(damaged());
     }
-    let locks = lock_groups(alloc, &it.inputs)?;
-    let types = type_groups(alloc, tx)?;
+    let locks = match lock_groups(alloc, &it.inputs) {
+        Ok(locks) => locks,
+        Err(stop) => return Err(stop),
+    };
+    let types = match type_groups(alloc, tx) {
+        Ok(types) => types,
+        Err(stop) => return Err(stop),
+    };
     match both(locks, types) {
         Ok(list) => Ok(list),
         Err(NoMemory) => Err(ReadStop::NoMemory),

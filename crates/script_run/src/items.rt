@@ -9,16 +9,16 @@ ghost use Rattle.cell_defs.specs.Cell.{data_of, occupied_by};
 ghost use Rattle.script_defs.specs.Scene.{Scene, ShownCell};
 ghost use Rattle.script_defs.specs.Items as defs;
 ghost use Rattle.script_defs.specs.Items.{OutputWithData, answer, field, cell_fields, header_fields, input_fields, item_at, listed, output_of, whole};
-ghost use Rattle.script_run.specs.Looks.{HasHashes, IsFound, ShowsHeaders, cell_part, header_among, header_part, input_part, items_of};
+ghost use Rattle.script_run.specs.Looks.{HasHashes, IsFound, ShowsHeaders, cell_part, header_among, header_part, input_part, items_of, load_meaning};
 ghost use Rattle.script_run.specs.Places.{place_meaning};
-ghost use Rattle.script_run.specs.Shown.{IsShownAs, Shows, output_rows};
+ghost use Rattle.script_run.specs.Shown.{GroupValue, IsShownAs, Shows, output_rows};
 
-use crate::bytes::{Bytes, CellPart, HeaderPart, InputPart, Look};
+use crate::bytes::{Bytes, CellPart, HeaderPart, InputPart, Load, Look};
 use crate::groups::Group;
-use crate::shown::ShownTx;
+use crate::shown::{ShownTx, output_at};
 use crate::sources::{Place, Target, target_of};
 use cell_model::{CellMeta, Resolved, ResolvedTx, data_at};
-use mol_schema::{OutputView, TxView};
+use mol_schema::{InputView, OutputView, TxView};
 use vm_sys::Call;
 
 const SHANNONS_PER_BYTE: u64 = 100_000_000;
@@ -29,21 +29,38 @@ pub(crate) fn sought<'a>(tx: &ShownTx<'a>, group: &Group<'a>, call: &Call) -> Lo
         → IsFound headers tx.now.epoch_length (items_of scene group.now call.now) result }
 {
     let it = tx.it;
+    match load_of(call) {
+        Load::Transaction => Look::Here(Bytes::Slice(it.tx.bytes())),
+        Load::Script => Look::Here(Bytes::Slice(group.script.bytes())),
+        Load::TxHash => Look::Here(Bytes::Hash(it.hash)),
+        Load::ScriptHash => Look::Here(Bytes::Hash(group.hash)),
+        Load::Cell(part) => cell(tx, group, call, part),
+        Load::Header(part) => header(it, group, call, part),
+        Load::Input(part) => input(it, group, call, part),
+        Load::Witness => witness(it, group, call),
+        Load::Nothing => Look::Unknown,
+    }
+}
+
+/// What a call loads, by its number.
+fn load_of(call: &Call) -> Load
+    ensures { (scene : Scene) (it : GroupValue) → items_of scene it call.now ≡ load_meaning scene it call.now result }
+{
     match call.number {
-        2051 => Look::Here(Bytes::Slice(it.tx.bytes())),
-        2052 => Look::Here(Bytes::Slice(group.script.bytes())),
-        2061 => Look::Here(Bytes::Hash(it.hash)),
-        2062 => Look::Here(Bytes::Hash(group.hash)),
-        2071 => cell(tx, group, call, Some(CellPart::Output)),
-        2072 => header(it, group, call, Some(HeaderPart::Whole)),
-        2073 => input(it, group, call, Some(InputPart::Whole)),
-        2074 => witness(it, group, call),
-        2081 => cell(tx, group, call, cell_field(call.field)),
-        2082 => header(it, group, call, header_field(call.field)),
-        2083 => input(it, group, call, input_field(call.field)),
-        2091 => cell(tx, group, call, Some(CellPart::Data)),
-        2092 => cell(tx, group, call, Some(CellPart::Data)),
-        _ => Look::Unknown,
+        2051 => Load::Transaction,
+        2052 => Load::Script,
+        2061 => Load::TxHash,
+        2062 => Load::ScriptHash,
+        2071 => Load::Cell(Some(CellPart::Output)),
+        2072 => Load::Header(Some(HeaderPart::Whole)),
+        2073 => Load::Input(Some(InputPart::Whole)),
+        2074 => Load::Witness,
+        2081 => Load::Cell(cell_field(call.field)),
+        2082 => Load::Header(header_field(call.field)),
+        2083 => Load::Input(input_field(call.field)),
+        2091 => Load::Cell(Some(CellPart::Data)),
+        2092 => Load::Cell(Some(CellPart::Data)),
+        _ => Load::Nothing,
     }
 }
 
@@ -143,7 +160,7 @@ fn part_of_output<'a>(tx: &TxView<'a>, rows: &[CellMeta], i: usize, part: CellPa
     if i >= rows.len() {
         return Look::NoIndex;
     }
-    let output = tx.raw().outputs_item(i);
+    let output = output_at(tx, i);
     part_of(&output, data_at(tx, i), &rows[i], part)
 }
 
@@ -301,14 +318,24 @@ fn input<'a>(
     }
 }
 
+/// The input at a place of a transaction.
+pub(crate) fn input_at<'a>(tx: &TxView<'a>, i: usize) -> Option<InputView<'a>>
+    ensures { result ≡ slice_get tx.now.raw.inputs i }
+{
+    let raw = tx.raw();
+    if i < raw.inputs_count() {
+        Some(raw.inputs_item(i))
+    } else {
+        None
+    }
+}
+
 fn part_of_input<'a>(tx: &TxView<'a>, i: usize, part: InputPart) -> Look<'a>
     ensures { (headers : ℕ → Option Header) (length : ℕ) → IsFound headers length (answer (option_map (input_part part) (slice_get tx.now.raw.inputs i))) result }
 {
-    let raw = tx.raw();
-    if i >= raw.inputs_count() {
+    let Some(input) = input_at(tx, i) else {
         return Look::NoIndex;
-    }
-    let input = raw.inputs_item(i);
+    };
     match part {
         InputPart::Whole => slice(input.bytes()),
         InputPart::OutPoint => slice(input.previous_output().bytes()),

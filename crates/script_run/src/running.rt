@@ -9,7 +9,7 @@ ghost use Rattle.program_run.specs.Program.{execution_of};
 ghost use Rattle.chain_tree.specs.Told.{Stored};
 ghost use Rattle.script_defs.specs.Scene.{Scene};
 ghost use Rattle.script_defs.specs.Outcome as defs;
-ghost use Rattle.script_run.specs.Running.{ExitsWithin, IsOutcome};
+ghost use Rattle.script_run.specs.Running.{ExitsWithin, HasRead, IsOutcome, answer_of, read_stop_of};
 ghost use Rattle.script_run.specs.Showing.{scene_shown};
 ghost use Rattle.script_run.specs.Shown.{HasItsHash, IsShownAs};
 ghost use Rattle.script_run.specs.declared.stop.ScriptStop.TheVariants.{Read};
@@ -24,6 +24,7 @@ use cell_model::ResolvedTx;
 use chain_tree::{Blocks, Tree};
 use epochs::Spec;
 use mol_schema::TxView;
+use outside::{NoMemory, ReadStop};
 use program_run::Execution;
 use script_defs::Failure;
 use std::alloc::Global;
@@ -96,6 +97,16 @@ fn run_type_id(tx: &TxView<'_>, group: &Group<'_>, place: u32, left: u64) -> Res
     exited(place, type_id_exit(tx, group), TYPE_ID_CYCLES)
 }
 
+/// The answer of a group whose script is a rule, or was run.
+fn answered(came: Result<u64, Failure>) -> Result<u64, ScriptStop>
+    ensures { result ≡ answer_of came }
+{
+    match came {
+        Ok(cycles) => Ok(cycles),
+        Err(failure) => Err(ScriptStop::Failed(failure)),
+    }
+}
+
 /// Runs a group within the cycles that are left: `Ok` has those that it takes.
 fn run_group<B: Blocks>(
     alloc: Global,
@@ -110,30 +121,24 @@ fn run_group<B: Blocks>(
     requires left { left ≤ 2 ^ 40 }
     requires counts { B.count blocks.old ≡ length tree.now.entries }
     requires codes { codes.now ≡ tx.now.it.deps }
-    ensures told { B.told blocks.new ≡ B.told blocks.old }
-    ensures count { B.count blocks.new ≡ B.count blocks.old }
-    ensures loans { B.loans_of blocks.new ≡ B.loans_of blocks.old }
+    ensures reads { HasRead B.told B.count B.loans_of B.faults blocks.old blocks.new (read_stop_of result) }
     ensures within { IfOk result (λ cycles. cycles ≤ left) }
     ensures exact { (stored : List Stored) (scene : Scene) → B.told blocks.old ≡ Some stored → scene_shown tx.now.epoch_length stored tx.now.it ≡ Some scene
         → HasItsHash group.now → IsOutcome (defs.run_group scene left place group.now.group) result }
     ensures undamaged { (stored : List Stored) (scene : Scene) → B.told blocks.old ≡ Some stored → scene_shown tx.now.epoch_length stored tx.now.it ≡ Some scene
-        → (damage : Damage) → result ≡ Err (Read (Damaged damage)) → ⊥ }
-    ensures damage { (damage : Damage) → result ≡ Err (Read (Damaged damage)) → damage.area ≡ Log }
-    ensures cause { CountsFault (B.faults blocks.old) (B.faults blocks.new) (result ≡ Err (Read DiskFault)) }
+        → (damage : Damage) → read_stop_of result ≡ Some (Damaged damage) → ⊥ }
 {
     if is_type_id(&group.script) {
         let it = tx.it;
-        let cycles = run_type_id(&it.tx, group, place, left)?;
-        return Ok(cycles);
+        return answered(run_type_id(&it.tx, group, place, left));
     }
     match codes.find(&group.script) {
         Located::NoCode => Err(ScriptStop::Failed(Failure::NoCode(place))),
         Located::ManyCodes => Err(ScriptStop::Failed(Failure::ManyCodes(place))),
-        Located::At(code) => {
-            let came = run_code(alloc, tx, group, tree, blocks, code, left)?;
-            let cycles = executed(place, came, left)?;
-            Ok(cycles)
-        }
+        Located::At(code) => match run_code(alloc, tx, group, tree, blocks, code, left) {
+            Ok(came) => answered(executed(place, came, left)),
+            Err(stop) => Err(ScriptStop::Read(stop)),
+        },
     }
 }
 
@@ -151,24 +156,52 @@ fn run_each<B: Blocks>(
     requires budget { budget ≤ 2 ^ 40 }
     requires counts { B.count blocks.old ≡ length tree.now.entries }
     requires codes { codes.now ≡ tx.now.it.deps }
-    ensures told { B.told blocks.new ≡ B.told blocks.old }
-    ensures count { B.count blocks.new ≡ B.count blocks.old }
-    ensures loans { B.loans_of blocks.new ≡ B.loans_of blocks.old }
+    ensures reads { HasRead B.told B.count B.loans_of B.faults blocks.old blocks.new (read_stop_of result) }
     ensures within { IfOk result (λ cycles. cycles ≤ budget) }
     ensures exact { (stored : List Stored) (scene : Scene) → B.told blocks.old ≡ Some stored → scene_shown tx.now.epoch_length stored tx.now.it ≡ Some scene
         → All HasItsHash groups.now → IsOutcome (defs.run_from scene budget 0 (map (λ it. it.group) groups.now)) result }
     ensures undamaged { (stored : List Stored) (scene : Scene) → B.told blocks.old ≡ Some stored → scene_shown tx.now.epoch_length stored tx.now.it ≡ Some scene
-        → (damage : Damage) → result ≡ Err (Read (Damaged damage)) → ⊥ }
-    ensures damage { (damage : Damage) → result ≡ Err (Read (Damaged damage)) → damage.area ≡ Log }
-    ensures cause { CountsFault (B.faults blocks.old) (B.faults blocks.new) (result ≡ Err (Read DiskFault)) }
+        → (damage : Damage) → read_stop_of result ≡ Some (Damaged damage) → ⊥ }
 {
     let mut used = 0;
     'groups: for i in 0..groups.len() {
         let left = budget - used;
-        let cycles = run_group(alloc, tx, codes, tree, blocks, &groups[i], i as u32, left)?;
-        used += cycles;
+        match run_group(alloc, tx, codes, tree, blocks, &groups[i], i as u32, left) {
+            Ok(cycles) => used += cycles,
+            Err(stop) => return Err(stop),
+        }
     }
     Ok(used)
+}
+
+/// Runs the script groups of a transaction as its scripts are shown it. No group runs where the code of one is not
+/// found.
+fn run_shown<'a, B: Blocks>(
+    alloc: Global,
+    tx: &'a ShownTx<'a>,
+    codes: &Codes<'_>,
+    tree: &Tree,
+    blocks: &mut B,
+    budget: u64,
+) -> Result<u64, ScriptStop>
+    requires budget { budget ≤ 2 ^ 40 }
+    requires counts { B.count blocks.old ≡ length tree.now.entries }
+    requires codes { codes.now ≡ tx.now.it.deps }
+    ensures reads { HasRead B.told B.count B.loans_of B.faults blocks.old blocks.new (read_stop_of result) }
+    ensures within { IfOk result (λ cycles. cycles ≤ budget) }
+    ensures exact { (stored : List Stored) (scene : Scene) → B.told blocks.old ≡ Some stored → scene_shown tx.now.epoch_length stored tx.now.it ≡ Some scene
+        → IsOutcome (defs.outcome_of scene budget) result }
+    ensures undamaged { (stored : List Stored) (scene : Scene) → B.told blocks.old ≡ Some stored → scene_shown tx.now.epoch_length stored tx.now.it ≡ Some scene
+        → (damage : Damage) → read_stop_of result ≡ Some (Damaged damage) → ⊥ }
+{
+    let groups = match groups_of(alloc, tx) {
+        Ok(groups) => groups,
+        Err(stop) => return Err(ScriptStop::Read(stop)),
+    };
+    if let Some(failure) = first_without_code(codes, &groups) {
+        return Err(ScriptStop::Failed(failure));
+    }
+    run_each(alloc, tx, codes, tree, blocks, &groups, budget)
 }
 
 /// Runs the script groups of a transaction within a budget in cycles: `Ok` has the cycles that they take. No group runs
@@ -196,11 +229,13 @@ pub fn run_groups<B: Blocks>(
     ensures damage { (damage : Damage) → result ≡ Err (Read (Damaged damage)) → damage.area ≡ Log }
     ensures cause { CountsFault (B.faults blocks.old) (B.faults blocks.new) (result ≡ Err (Read DiskFault)) }
 {
-    let shown = ShownTx::of(alloc, tx, spec.epoch_length)?;
-    let groups = groups_of(alloc, &shown)?;
-    let codes = Codes::of(alloc, &tx.deps)?;
-    if let Some(failure) = first_without_code(&codes, &groups) {
-        return Err(ScriptStop::Failed(failure));
-    }
-    run_each(alloc, &shown, &codes, tree, blocks, &groups, budget)
+    let shown = match ShownTx::of(alloc, tx, spec.epoch_length) {
+        Ok(shown) => shown,
+        Err(NoMemory) => return Err(ScriptStop::Read(ReadStop::NoMemory)),
+    };
+    let codes = match Codes::of(alloc, &tx.deps) {
+        Ok(codes) => codes,
+        Err(NoMemory) => return Err(ScriptStop::Read(ReadStop::NoMemory)),
+    };
+    run_shown(alloc, &shown, &codes, tree, blocks, budget)
 }

@@ -1,9 +1,9 @@
 // A transaction as its scripts are shown it.
-ghost use Rattle.std.specs.Prelude.{◌≡◌, IfOk};
+ghost use Rattle.std.specs.Prelude.{◌≡◌, ◌<◌, Some, IfOk, length, slice_get};
 ghost use Rattle.script_run.specs.Shown.{output_rows};
 
 use cell_model::{CellMeta, ResolvedTx, data_at, meta_of};
-use mol_schema::TxView;
+use mol_schema::{OutputView, TxView};
 use outside::NoMemory;
 use std::alloc::Global;
 use std::marker::Model;
@@ -50,10 +50,17 @@ impl<'a> ShownTx<'a> {
 fn rows_of(alloc: Global, tx: &TxView<'_>) -> Result<Vec<CellMeta>, NoMemory>
     ensures { IfOk result (λ rows. rows.items ≡ output_rows tx.now) }
 {
-    let raw = tx.raw();
     let mut rows = Vec::new(alloc);
-    'outputs: for i in 0..raw.outputs_count() {
-        rows.push(meta_of(0, 0, &raw.outputs_item(i), data_at(tx, i)))?;
+    'outputs: for i in 0..tx.raw().outputs_count() {
+        rows.push(meta_of(0, 0, &output_at(tx, i), data_at(tx, i)))?;
     }
     Ok(rows)
+}
+
+/// The output at a place of a transaction.
+pub(crate) fn output_at<'a>(tx: &TxView<'a>, i: usize) -> OutputView<'a>
+    requires { i < length tx.now.raw.outputs }
+    ensures { slice_get tx.now.raw.outputs i ≡ Some result }
+{
+    tx.raw().outputs_item(i)
 }

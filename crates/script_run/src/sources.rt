@@ -9,7 +9,7 @@ ghost use Rattle.script_run.specs.Shown.{Shows};
 use crate::groups::Group;
 use cell_model::ResolvedTx;
 
-#[derive(Clone, Copy, PartialEq, Eq)]
+#[derive(Clone, Copy)]
 enum Source {
     Inputs,
     Outputs,
@@ -22,7 +22,7 @@ enum Source {
 }
 
 /// Where an item stands in the transaction.
-#[derive(Clone, Copy, PartialEq, Eq)]
+#[derive(Clone, Copy)]
 pub(crate) enum Place {
     Input(usize),
     Output(usize),
@@ -31,7 +31,7 @@ pub(crate) enum Place {
 }
 
 /// What a source and an index name.
-#[derive(Clone, Copy, PartialEq, Eq)]
+#[derive(Clone, Copy)]
 pub(crate) enum Target {
     NoSource,
     NoIndex,
@@ -80,12 +80,12 @@ fn place_of(tx: &ResolvedTx<'_>, group: &Group<'_>, source: Source, index: u64) 
     ensures { (scene : Scene) → Shows tx.now scene → option_map place_meaning result ≡ defs.place_of scene group.now.group (source_meaning source) index }
 {
     match source {
-        Source::Inputs => Some(Place::Input(before(tx.tx.raw().inputs_count(), index)?)),
-        Source::Outputs => Some(Place::Output(before(tx.tx.raw().outputs_count(), index)?)),
-        Source::CellDeps => Some(Place::CellDep(before(tx.deps.len(), index)?)),
-        Source::HeaderDeps => Some(Place::HeaderDep(before(tx.headers.len(), index)?)),
-        Source::GroupInputs => Some(Place::Input(member(&group.inputs, index)?)),
-        Source::GroupOutputs => Some(Place::Output(member(&group.outputs, index)?)),
+        Source::Inputs => before(tx.tx.raw().inputs_count(), index).map(Place::Input),
+        Source::Outputs => before(tx.tx.raw().outputs_count(), index).map(Place::Output),
+        Source::CellDeps => before(tx.deps.len(), index).map(Place::CellDep),
+        Source::HeaderDeps => before(tx.headers.len(), index).map(Place::HeaderDep),
+        Source::GroupInputs => member(&group.inputs, index).map(Place::Input),
+        Source::GroupOutputs => member(&group.outputs, index).map(Place::Output),
         Source::GroupCellDeps => None,
         Source::GroupHeaderDeps => None,
     }

@@ -7,6 +7,7 @@ ghost use Rattle.script_defs.specs.Scene.{Scene};
 ghost use Rattle.script_defs.specs.TypeId as defs;
 
 use crate::groups::Group;
+use crate::items::input_at;
 use blake2b_ckb::Hasher;
 use mol_schema::{ScriptView, TxView};
 
@@ -39,11 +40,9 @@ pub(crate) fn is_type_id(script: &ScriptView<'_>) -> bool
 fn first_input<'a>(tx: &TxView<'a>) -> &'a [u8]
     ensures { result.now ≡ defs.input_bytes (slice_get tx.now.raw.inputs 0) }
 {
-    let raw = tx.raw();
-    if raw.inputs_count() > 0 {
-        raw.inputs_item(0).bytes()
-    } else {
-        &[]
+    match input_at(tx, 0) {
+        Some(input) => input.bytes(),
+        None => &[],
     }
 }
 

@@ -14,7 +14,7 @@ ghost use Rattle.time_defs.specs.Epochs.{epoch_number};
 ghost use Rattle.script_run.specs.Looks.{bytes_of, header_part};
 ghost use Rattle.script_defs.specs.Scene.{Scene};
 ghost use Rattle.script_defs.specs.Items.{items};
-ghost use Rattle.script_run.specs.Running.{ExitsWithin};
+ghost use Rattle.script_run.specs.Running.{ExitsWithin, HasRead, stop_of};
 ghost use Rattle.script_run.specs.Showing.{scene_shown};
 ghost use Rattle.script_run.specs.Shown.{HasItsHash};
 
@@ -22,48 +22,26 @@ use crate::bytes::{Bytes, HeaderPart, Look};
 use crate::groups::Group;
 use crate::items::sought;
 use crate::shown::ShownTx;
+use crate::stop::damaged;
 use chain_tree::{Blocks, Tree};
 use mol_schema::HeaderView;
-use outside::{Area, Damage, ReadStop};
+use outside::ReadStop;
 use program_run::{Execution, Stopped, execute_in};
 use std::alloc::Global;
 use vm_sys::{Call, Found, World};
 
 /// What surrounds the script of a group.
 #[derive(Drop)]
-pub(crate) struct GroupWorld<'a, 't, 'g, 'r, 'b, B: Blocks> {
+pub(crate) struct GroupWorld<'a, 'w, 'b, B: Blocks> {
     blocks: &'b mut B,
-    tx: &'t ShownTx<'a>,
-    group: &'g Group<'a>,
-    tree: &'r Tree,
+    tx: &'w ShownTx<'a>,
+    group: &'w Group<'a>,
+    tree: &'w Tree,
     hand: Option<Bytes<'a>>,
     ghost counts: { B.count blocks.now ≡ length tree.now.entries },
 }
 
-impl<'a, 't, 'g, 'r, 'b, B: Blocks> GroupWorld<'a, 't, 'g, 'r, 'b, B> {
-    fn new(
-        tx: &'t ShownTx<'a>,
-        group: &'g Group<'a>,
-        tree: &'r Tree,
-        blocks: &'b mut B,
-    ) -> GroupWorld<'a, 't, 'g, 'r, 'b, B>
-        requires counts { B.count blocks.old ≡ length tree.now.entries }
-        ensures same_reference { result.blocks.ghost_name ≡ blocks.entry.ghost_name }
-        ensures blocks { result.blocks.now ≡ blocks.old }
-        ensures tx { result.tx.now ≡ tx.now }
-        ensures group { result.group.now ≡ group.now }
-    {
-        GroupWorld {
-            tx,
-            group,
-            tree,
-            blocks,
-            hand: None,
-        }
-    }
-}
-
-impl<'a, 't, 'g, 'r, 'b, B: Blocks> World for GroupWorld<'a, 't, 'g, 'r, 'b, B> {
+impl<'a, 'w, 'b, B: Blocks> World for GroupWorld<'a, 'w, 'b, B> {
     ghost use Rattle.std.specs.Prelude.{ℕ, List, Option};
     ghost use Rattle.std.specs.Option.{option_map};
     ghost use Rattle.chain_tree.specs.Told.{Stored};
@@ -89,10 +67,7 @@ impl<'a, 't, 'g, 'r, 'b, B: Blocks> World for GroupWorld<'a, 't, 'g, 'r, 'b, B> 
                 Ok(Found::Here)
             }
             Look::InBlock(place, part) => {
-                if place >= self.tree.len() {
-                    return Err(damaged());
-                }
-                match read_header(self.blocks, place, part, tx.epoch_length) {
+                match read_header(self.tree, self.blocks, place, part, tx.epoch_length) {
                     Ok(bytes) => {
                         self.hand = Some(bytes);
                         Ok(Found::Here)
@@ -120,25 +95,28 @@ const HEADER_AT: usize = 20;
 
 const HEADER_END: usize = 228;
 
-/// Reads a part of the header of the block at a place.
+/// Reads a part of the header of the block at a place. Damaged where no block is kept there.
 fn read_header<'a, B: Blocks>(
+    tree: &Tree,
     blocks: &mut B,
     place: u32,
     part: HeaderPart,
     epoch_length: u32,
 ) -> Result<Bytes<'a>, ReadStop>
-    requires within { place < B.count blocks.old }
-    ensures told { B.told blocks.new ≡ B.told blocks.old }
-    ensures count { B.count blocks.new ≡ B.count blocks.old }
-    ensures loans { B.loans_of blocks.new ≡ B.loans_of blocks.old }
+    requires counts { B.count blocks.old ≡ length tree.now.entries }
+    ensures reads { HasRead B.told B.count B.loans_of B.faults blocks.old blocks.new (stop_of result) }
     ensures part { (stored : List Stored) (made : Stored) → B.told blocks.old ≡ Some stored → slice_get stored place ≡ Some made
         → IfOk result (λ bytes. bytes_of bytes ≡ header_part epoch_length part made.block.header) }
     ensures undamaged { (stored : List Stored) (made : Stored) → B.told blocks.old ≡ Some stored → slice_get stored place ≡ Some made
-        → (damage : Damage) → result ≡ Err (Damaged damage) → ⊥ }
-    ensures damage { (damage : Damage) → result ≡ Err (Damaged damage) → damage.area ≡ Log }
-    ensures cause { CountsFault (B.faults blocks.old) (B.faults blocks.new) (result ≡ Err DiskFault) }
+        → (damage : Damage) → stop_of result ≡ Some (Damaged damage) → ⊥ }
 {
-    blocks.bring(place)?;
+    if place >= tree.len() {
+        return Err(damaged());
+    }
+    match blocks.bring(place) {
+        Ok(()) => {}
+        Err(stop) => return Err(stop),
+    }
     match header_of(blocks.block()) {
         None => Err(damaged()),
         Some(header) => Ok(part_of(header, part, epoch_length)),
@@ -194,73 +172,41 @@ fn epoch_of(number: u64, epoch_length: u32) -> u64
 
 /// Runs the code of a group within a budget in cycles, over what the group is shown. Damaged where a copy is no output,
 /// or a header dep's block is none.
-pub(crate) fn run_code<'a, B: Blocks>(
+pub(crate) fn run_code<'a, 'w, B: Blocks>(
     alloc: Global,
-    tx: &ShownTx<'a>,
-    group: &Group<'a>,
-    tree: &Tree,
+    tx: &'w ShownTx<'a>,
+    group: &'w Group<'a>,
+    tree: &'w Tree,
     blocks: &mut B,
     code: &[u8],
     budget: u64,
 ) -> Result<Execution, ReadStop>
     requires budget { budget ≤ 2 ^ 40 }
     requires counts { B.count blocks.old ≡ length tree.now.entries }
-    ensures told { B.told blocks.new ≡ B.told blocks.old }
-    ensures count { B.count blocks.new ≡ B.count blocks.old }
-    ensures loans { B.loans_of blocks.new ≡ B.loans_of blocks.old }
+    ensures reads { HasRead B.told B.count B.loans_of B.faults blocks.old blocks.new (stop_of result) }
     ensures came { (stored : List Stored) (scene : Scene) → B.told blocks.old ≡ Some stored → scene_shown tx.now.epoch_length stored tx.now.it ≡ Some scene
         → HasItsHash group.now → IfOk result (λ came. execution_of came ≡ execution (syscall (items scene group.now.group)) budget code.now) }
     ensures within { IfOk result (ExitsWithin budget) }
     ensures undamaged { (stored : List Stored) (scene : Scene) → B.told blocks.old ≡ Some stored → scene_shown tx.now.epoch_length stored tx.now.it ≡ Some scene
-        → (damage : Damage) → result ≡ Err (Damaged damage) → ⊥ }
-    ensures damage { (damage : Damage) → result ≡ Err (Damaged damage) → damage.area ≡ Log }
-    ensures cause { CountsFault (B.faults blocks.old) (B.faults blocks.new) (result ≡ Err DiskFault) }
+        → (damage : Damage) → stop_of result ≡ Some (Damaged damage) → ⊥ }
 {
-    let mut world = GroupWorld::new(tx, group, tree, blocks);
-    let came = run_in(alloc, &mut world, code, budget);
+    let mut world = GroupWorld {
+        blocks,
+        tx,
+        group,
+        tree,
+        hand: None,
+    };
+    let came = execute_in(alloc, code, budget, &mut world);
     give_back(world);
-    came
-}
-
-/// Ends the loan of the blocks: they are as the world leaves them.
-fn give_back<'a, 't, 'g, 'r, 'b, B: Blocks>(world: GroupWorld<'a, 't, 'g, 'r, 'b, B>)
-    ensures { world.exit.0.now ≡ world.entry.blocks.now }
-{}
-
-/// Runs code within a budget in cycles, over what surrounds it.
-fn run_in<'a, 't, 'g, 'r, 'b, B: Blocks>(
-    alloc: Global,
-    world: &mut GroupWorld<'a, 't, 'g, 'r, 'b, B>,
-    code: &[u8],
-    budget: u64,
-) -> Result<Execution, ReadStop>
-    requires budget { budget ≤ 2 ^ 40 }
-    ensures same_reference { world.new.blocks.ghost_name ≡ world.old.blocks.ghost_name }
-    ensures told { B.told world.new.blocks.now ≡ B.told world.old.blocks.now }
-    ensures count { B.count world.new.blocks.now ≡ B.count world.old.blocks.now }
-    ensures loans { B.loans_of world.new.blocks.now ≡ B.loans_of world.old.blocks.now }
-    ensures came { (stored : List Stored) (scene : Scene) → B.told world.old.blocks.now ≡ Some stored
-        → scene_shown world.old.tx.now.epoch_length stored world.old.tx.now.it ≡ Some scene → HasItsHash world.old.group.now
-        → IfOk result (λ came. execution_of came ≡ execution (syscall (items scene world.old.group.now.group)) budget code.now) }
-    ensures within { IfOk result (ExitsWithin budget) }
-    ensures undamaged { (stored : List Stored) (scene : Scene) → B.told world.old.blocks.now ≡ Some stored
-        → scene_shown world.old.tx.now.epoch_length stored world.old.tx.now.it ≡ Some scene → (damage : Damage) → result ≡ Err (Damaged damage) → ⊥ }
-    ensures damage { (damage : Damage) → result ≡ Err (Damaged damage) → damage.area ≡ Log }
-    ensures cause { CountsFault (B.faults world.old.blocks.now) (B.faults world.new.blocks.now) (result ≡ Err DiskFault) }
-{
-    match execute_in(alloc, code, budget, world) {
+    match came {
         Ok(came) => Ok(came),
         Err(Stopped::Loading) => Err(ReadStop::NoMemory),
         Err(Stopped::Running(stop)) => Err(stop),
     }
 }
 
-/// A block of LOG, or a copy out of it, that is not what was kept.
-fn damaged() -> ReadStop
-    ensures { result ≡ Damaged (record { area = Log; at = 0 }) }
-{
-    ReadStop::Damaged(Damage {
-        area: Area::Log,
-        at: 0,
-    })
-}
+/// Ends the loan of the blocks: they are as the world leaves them.
+fn give_back<'a, 'w, 'b, B: Blocks>(world: GroupWorld<'a, 'w, 'b, B>)
+    ensures { world.exit.0.now ≡ world.entry.blocks.now }
+{}

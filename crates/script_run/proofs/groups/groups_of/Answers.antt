@@ -3,21 +3,48 @@ use Rattle.std.specs.List.{AllZip}
 use Rattle.cell_model.specs.Copies.{ResolvedValue, ResolvedTxValue}
 use Rattle.script_run.specs.Shown.{IsShownAs, ShownTxValue}
 use Rattle.script_run.proofs.GroupLemmas.{lock_given, type_given, type_made, groups-are, groups-hashed}
+use Rattle.script_run.proofs.ReadLemmas.{no-error, want-no-damage, want-no-fault, want-or-log}
 use Rattle.script_run.proofs.groups.groups_of.Goals as goal
 
-pub returns-in-Ok-clause-groups : goal.returns-in-Ok-clause-groups
-returns-in-Ok-clause-groups c scene shows =
-    let copies : c.deref.result.now ≡ c.args.tx.now.it.inputs =
-    c.deref.ensures.value ∙ ap (λ (it : ResolvedTxValue). it.inputs) c.it.view_is ∙ ap (λ (v : ShownTxValue). v.it.inputs) c.tx.view_is in
-    let zip : AllZip IsShownAs c.deref.result.now scene.inputs = subst (λ (l : List ResolvedValue). AllZip IsShownAs l scene.inputs) (sym copies) shows.inputs in
-    groups-are scene c.args.tx.now.it.tx c.in-Ok.list.items c.in_ok-locks.locks.items c.in_ok-types.types.items shows.transaction c.in-Ok.ensures.items
-    (c.in_ok-locks.ensures.groups scene.inputs zip) (c.in_ok-types.ensures.groups scene.inputs shows.inputs)
+pub returns-in-Err : goal.returns-in-Err
+returns-in-Err c = record {
+  groups = λ scene shows. tt;
+  hashes = λ scene shows. tt;
+  few = tt;
+  undamaged = λ scene shows damage is.
+      let copies : c.deref.result.now ≡ c.args.tx.now.it.inputs =
+      c.deref.ensures.value ∙ ap (λ (it : ResolvedTxValue). it.inputs) c.it.view_is ∙ ap (λ (v : ShownTxValue). v.it.inputs) c.tx.view_is in
+      want-no-damage c.in-Err.stop damage (c.in-Err.ensures.undamaged scene.inputs (subst (λ (l : List ResolvedValue). AllZip IsShownAs l scene.inputs) (sym copies) shows.inputs)) is;
+  damage = λ damage is. want-or-log c.in-Err.stop damage c.in-Err.ensures.stops is;
+  unread = want-no-fault c.in-Err.stop c.in-Err.ensures.stops;
+}
 
-pub returns-in-Ok-clause-hashes : goal.returns-in-Ok-clause-hashes
-returns-in-Ok-clause-hashes c scene shows =
+pub returns-in-Err-type_groups : goal.returns-in-Err-type_groups
+returns-in-Err-type_groups c = record {
+  groups = λ scene shows. tt;
+  hashes = λ scene shows. tt;
+  few = tt;
+  undamaged = λ scene shows damage is. want-no-damage c.in-Err-type_groups.stop damage (c.in-Err-type_groups.ensures.undamaged scene.inputs shows.inputs) is;
+  damage = λ damage is. want-or-log c.in-Err-type_groups.stop damage c.in-Err-type_groups.ensures.stops is;
+  unread = want-no-fault c.in-Err-type_groups.stop c.in-Err-type_groups.ensures.stops;
+}
+
+pub returns-in-Ok-both : goal.returns-in-Ok-both
+returns-in-Ok-both c =
     let copies : c.deref.result.now ≡ c.args.tx.now.it.inputs =
     c.deref.ensures.value ∙ ap (λ (it : ResolvedTxValue). it.inputs) c.it.view_is ∙ ap (λ (v : ShownTxValue). v.it.inputs) c.tx.view_is in
-    let zip : AllZip IsShownAs c.deref.result.now scene.inputs = subst (λ (l : List ResolvedValue). AllZip IsShownAs l scene.inputs) (sym copies) shows.inputs in
-    groups-hashed (map lock_given scene.inputs) [] (map type_given scene.inputs) (map type_made c.args.tx.now.it.tx.raw.outputs)
-    c.in-Ok.list.items c.in_ok-locks.locks.items c.in_ok-types.types.items c.in-Ok.ensures.items
-    (c.in_ok-locks.ensures.groups scene.inputs zip) (c.in_ok-types.ensures.groups scene.inputs shows.inputs)
+    record {
+      groups = λ scene shows.
+          groups-are scene c.args.tx.now.it.tx c.in-Ok-both.list.items c.in-Ok.locks.items c.in-Ok-type_groups.types.items shows.transaction c.in-Ok-both.ensures.items
+          (c.in-Ok.ensures.groups scene.inputs (subst (λ (l : List ResolvedValue). AllZip IsShownAs l scene.inputs) (sym copies) shows.inputs))
+          (c.in-Ok-type_groups.ensures.groups scene.inputs shows.inputs);
+      hashes = λ scene shows.
+          groups-hashed (map lock_given scene.inputs) [] (map type_given scene.inputs) (map type_made c.args.tx.now.it.tx.raw.outputs)
+          c.in-Ok-both.list.items c.in-Ok.locks.items c.in-Ok-type_groups.types.items c.in-Ok-both.ensures.items
+          (c.in-Ok.ensures.groups scene.inputs (subst (λ (l : List ResolvedValue). AllZip IsShownAs l scene.inputs) (sym copies) shows.inputs))
+          (c.in-Ok-type_groups.ensures.groups scene.inputs shows.inputs);
+      few = c.in-Ok-both.ensures.few;
+      undamaged = λ scene shows damage is. no-error _ _ is;
+      damage = λ damage is. absurd (no-error _ _ is);
+      unread = no-error _ _;
+    }

@@ -1,8 +1,6 @@
-use Rattle.std.proofs.Common.{◌≡◌, ◌≤◌, List, Some, length, get_or, refl, ap, sym, ◌∙◌, arith}
-use Rattle.std.specs.Prelude.{slice_get}
+use Rattle.std.proofs.Common.{◌≡◌, ◌≤◌, List, length, get_or, refl, ap, ◌∙◌, arith}
 use Rattle.std.specs.Option.{option_map}
 use Rattle.std.proofs.lemmas.Option.{slice_get_past}
-use Rattle.codec_defs.specs.Schema.{RawTransaction}
 use Rattle.cell_defs.specs.Cell.{data_of}
 use Rattle.cell_defs.specs.Row.{Row}
 use Rattle.script_defs.specs.Items.{answer}
@@ -16,18 +14,16 @@ returns-then-i-rows c headers length' =
     let many : length c.args.tx.now.raw.outputs ≤ c.args.i = omega (arith, as-many-rows c.args.tx.now, ap length c.requires) in
     ap (λ o. answer (option_map (λ output. cell_part c.args.part (record { output = output; content = data_of c.args.tx.now c.args.i })) o)) (slice_get_past c.args.tx.now.raw.outputs c.args.i many)
 
-pub outputs_item-output-requires : goal.outputs_item-output-requires
-outputs_item-output-requires c = omega (arith, as-many-rows c.args.tx.now, ap length c.requires, ap (λ (r : RawTransaction). length r.outputs) c.raw.ensures)
+pub output_at-output-requires : goal.output_at-output-requires
+output_at-output-requires c = omega (arith, as-many-rows c.args.tx.now, ap length c.requires)
 
 pub returns : goal.returns
 returns c headers length' =
     let tx = c.args.tx.now in
-    let output = c.outputs_item-output.result in
+    let output = c.output_at-output.result in
     let row = c.index-rows-i.result in
-    let here : slice_get c.args.tx.now.raw.outputs c.args.i ≡ Some c.outputs_item-output.result =
-    sym (ap (λ (r : RawTransaction). slice_get r.outputs c.args.i) c.raw.ensures) ∙ c.outputs_item-output.ensures in
     let its : c.index-rows-i.result ≡ get_or (output_rows c.args.tx.now) c.args.i c.index-rows-i.result =
     c.index-rows-i.is ∙ ap (λ (rows : List Row). get_or rows c.args.i c.index-rows-i.result) c.requires in
     found headers length' _ _ c.part_of.result
-    (one-there (λ it. cell_part c.args.part (record { output = it; content = data_of tx c.args.i })) tx.raw.outputs c.args.i output here)
-    (c.part_of.ensures headers length' (record { output = output; content = data_of tx c.args.i }) refl c.data_at.ensures.«data» (row-hashes tx c.args.i output row (its-row tx c.args.i output row here its)))
+    (one-there (λ it. cell_part c.args.part (record { output = it; content = data_of tx c.args.i })) tx.raw.outputs c.args.i output c.output_at-output.ensures)
+    (c.part_of.ensures headers length' (record { output = output; content = data_of tx c.args.i }) refl c.data_at.ensures.«data» (row-hashes tx c.args.i output row (its-row tx c.args.i output row c.output_at-output.ensures its)))

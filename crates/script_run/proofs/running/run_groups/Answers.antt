@@ -1,47 +1,50 @@
-use Rattle.std.proofs.Common.{◌≡◌, ℕ, List, Some, sym, ap, subst, ◌∙◌, rules}
-use Rattle.std.specs.List.{All}
-use Rattle.cell_model.specs.Copies.{ResolvedTxValue}
-use Rattle.script_defs.specs.Outcome.{first_without_code, run_from}
-use Rattle.script_run.specs.Running.{IsOutcome}
+use Rattle.std.proofs.Common.{◌≡◌, ℕ, List, Some, refl, ap, ◌∙◌}
+use Rattle.chain_tree.specs.Told.{Stored}
+use Rattle.time_defs.specs.Specification.{Specification}
+use Rattle.script_defs.specs.Scene.{Scene}
+use Rattle.script_run.specs.Running.{read_stop_of}
 use Rattle.script_run.specs.Showing.{scene_shown}
-use Rattle.script_run.specs.Shown.{GroupValue, HasItsHash, Shows}
-use Rattle.script_run.proofs.ShowingLemmas.{shown-over}
-use Rattle.script_run.proofs.RunningLemmas.{groups_in, deps-shown, first-fails, all-run}
+use Rattle.script_run.proofs.ReadLemmas.{counted-read, none-counted, wanted-no-damage, wanted-no-fault}
 use Rattle.script_run.proofs.running.run_groups.Goals as goal
 
-pub returns-in_err-groups-clause-undamaged : goal.returns-in_err-groups-clause-undamaged
-returns-in_err-groups-clause-undamaged g c stored scene tells there damage broken =
-    let shown : Shows c.in_ok-shown.shown.it scene = subst (λ (it : ResolvedTxValue). Shows it scene) (sym c.in_ok-shown.ensures.it) (shown-over _ stored _ scene there).shows in
-    c.groups_of.ensures.undamaged scene shown damage (search rules)
+pub returns : goal.returns
+returns g c =
+    let reads = c.run_shown.ensures.reads in
+    let epoch_length : c.in-Ok.shown.epoch_length ≡ c.args.spec.now.epoch_length = c.in-Ok.ensures.epoch_length ∙ ap (λ (s : Specification). s.epoch_length) c.spec.view_is in
+    let there_too : (stored : List Stored) (scene : Scene) → scene_shown c.args.spec.now.epoch_length stored c.args.tx.now ≡ Some scene
+    → scene_shown c.in-Ok.shown.epoch_length stored c.in-Ok.shown.it ≡ Some scene =
+    λ stored scene there. ap (λ (n : ℕ). scene_shown n stored c.in-Ok.shown.it) epoch_length ∙ ap (scene_shown c.args.spec.now.epoch_length stored) c.in-Ok.ensures.it ∙ there in
+    record {
+      told = reads.told;
+      count = reads.count;
+      loans = reads.loans;
+      within = c.run_shown.ensures.within;
+      exact = λ stored scene tells there. c.run_shown.ensures.exact stored scene tells (there_too stored scene there);
+      undamaged = λ stored scene tells there damage is. c.run_shown.ensures.undamaged stored scene tells (there_too stored scene there) damage (ap read_stop_of is);
+      damage = λ damage is. reads.damage damage (ap read_stop_of is);
+      cause = counted-read _ _ c.run_shown.result reads.cause;
+    }
 
-pub returns-in-Some-clause-exact : goal.returns-in-Some-clause-exact
-returns-in-Some-clause-exact g c stored scene tells there =
-    let shown : Shows c.in_ok-shown.shown.it scene = subst (λ (it : ResolvedTxValue). Shows it scene) (sym c.in_ok-shown.ensures.it) (shown-over _ stored _ scene there).shows in
-    let codes : c.in_ok-codes.codes ≡ c.args.tx.now.deps =
-    c.in_ok-codes.ensures ∙ c.deref.ensures.value ∙ ap (λ (it : ResolvedTxValue). it.deps) c.tx.view_is in
-    first-fails scene c.args.budget (groups_in c.in_ok-groups.groups.items) c.in-Some.failure (c.in_ok-groups.ensures.groups scene shown)
-    (c.in-Some.ensures scene (deps-shown scene _ _ codes (shown-over _ stored _ scene there).shows.deps)
-    ∙ ap (λ (values : List GroupValue). first_without_code scene 0 (groups_in values)) c.deref-2.ensures.value)
+pub returns-in-Err : goal.returns-in-Err
+returns-in-Err g c = record {
+  told = refl;
+  count = refl;
+  loans = refl;
+  within = tt;
+  exact = λ stored scene tells there. tt;
+  undamaged = λ stored scene tells there. wanted-no-damage;
+  damage = λ damage is. absurd (wanted-no-damage damage is);
+  cause = none-counted _ _ wanted-no-fault;
+}
 
-pub returns-clause-exact : goal.returns-clause-exact
-returns-clause-exact g c stored scene tells there =
-    let shown : Shows c.in_ok-shown.shown.it scene = subst (λ (it : ResolvedTxValue). Shows it scene) (sym c.in_ok-shown.ensures.it) (shown-over _ stored _ scene there).shows in
-    let codes : c.in_ok-codes.codes ≡ c.args.tx.now.deps =
-    c.in_ok-codes.ensures ∙ c.deref.ensures.value ∙ ap (λ (it : ResolvedTxValue). it.deps) c.tx.view_is in
-    let epoch_length : c.in_ok-shown.shown.epoch_length ≡ c.args.spec.now.epoch_length = search rules in
-    let there_too : scene_shown c.in_ok-shown.shown.epoch_length stored c.in_ok-shown.shown.it ≡ Some scene =
-    ap (λ (n : ℕ). scene_shown n stored c.in_ok-shown.shown.it) epoch_length ∙ ap (scene_shown c.args.spec.now.epoch_length stored) c.in_ok-shown.ensures.it ∙ there in
-    let hashes : All HasItsHash c.deref-3.result.now =
-    subst (λ (values : List GroupValue). All HasItsHash values) (sym c.deref-3.ensures.value) (c.in_ok-groups.ensures.hashes scene shown) in
-    all-run scene c.args.budget (groups_in c.in_ok-groups.groups.items) c.run_each.result (c.in_ok-groups.ensures.groups scene shown)
-    (sym c.in_default.is ∙ c.first_without_code.ensures scene (deps-shown scene _ _ codes (shown-over _ stored _ scene there).shows.deps)
-    ∙ ap (λ (values : List GroupValue). first_without_code scene 0 (groups_in values)) c.deref-2.ensures.value)
-    (subst (λ (values : List GroupValue). IsOutcome (run_from scene c.args.budget 0 (groups_in values)) c.run_each.result) c.deref-3.ensures.value
-    (c.run_each.ensures.exact stored scene tells there_too hashes))
-
-pub returns-clause-undamaged : goal.returns-clause-undamaged
-returns-clause-undamaged g c stored scene tells there =
-    let epoch_length : c.in_ok-shown.shown.epoch_length ≡ c.args.spec.now.epoch_length = search rules in
-    let there_too : scene_shown c.in_ok-shown.shown.epoch_length stored c.in_ok-shown.shown.it ≡ Some scene =
-    ap (λ (n : ℕ). scene_shown n stored c.in_ok-shown.shown.it) epoch_length ∙ ap (scene_shown c.args.spec.now.epoch_length stored) c.in_ok-shown.ensures.it ∙ there in
-    c.run_each.ensures.undamaged stored scene tells there_too
+pub returns-in-Err-of : goal.returns-in-Err-of
+returns-in-Err-of g c = record {
+  told = refl;
+  count = refl;
+  loans = refl;
+  within = tt;
+  exact = λ stored scene tells there. tt;
+  undamaged = λ stored scene tells there. wanted-no-damage;
+  damage = λ damage is. absurd (wanted-no-damage damage is);
+  cause = none-counted _ _ wanted-no-fault;
+}

@@ -2,12 +2,7 @@ use Rattle.std.proofs.Common.{◌≡◌, length, rules}
 use Rattle.script_run.proofs.PlaceLemmas.{as-many-deps}
 use Rattle.script_run.proofs.sources.place_of.Goals as goal
 
-pub returns-in_err-before-in-CellDeps : goal.returns-in_err-before-in-CellDeps
-returns-in_err-before-in-CellDeps c scene shows =
-    let many : length scene.deps ≡ length c.args.tx.now.deps = as-many-deps c.args.tx.now scene shows in
-    search rules
-
-pub returns-in_ok-before-in-CellDeps : goal.returns-in_ok-before-in-CellDeps
-returns-in_ok-before-in-CellDeps c scene shows =
+pub returns-in-CellDeps : goal.returns-in-CellDeps
+returns-in-CellDeps c scene shows =
     let many : length scene.deps ≡ length c.args.tx.now.deps = as-many-deps c.args.tx.now scene shows in
     search rules

@@ -1,17 +1,12 @@
-use Rattle.std.proofs.Common.{◌≡◌, ap, subst, ◌∙◌}
-use Rattle.std.specs.Prelude.{IfOk}
+use Rattle.std.proofs.Common.{ap, ◌∙◌}
 use Rattle.vm_defs.specs.Program.{execution}
 use Rattle.sys_defs.specs.Answer.{syscall}
-use Rattle.script_defs.specs.Items.{items}
-use Rattle.program_run.specs.Program.{execution_of}
-use Rattle.script_run.specs.Showing.{scene_shown}
-use Rattle.script_run.specs.Shown.{GroupValue, HasItsHash, ShownTxValue}
+use Rattle.sys_defs.specs.World.{Items}
+use Rattle.script_run.proofs.ShowingLemmas.{told-is}
+use Rattle.script_run.proofs.SyscallLemmas.{same-items}
 use Rattle.script_run.proofs.world.run_code.Goals as goal
 
-pub returns-clause-came : goal.returns-clause-came
-returns-clause-came g c = λ stored scene told shown hash.
-    subst (λ (it : GroupValue). HasItsHash it → IfOk c.run_in-came.result (λ came. execution_of came ≡ execution (syscall (items scene it.group)) c.args.budget c.args.code.now))
-    c.new-world.ensures.group
-    (λ its. c.run_in-came.ensures.came stored scene (ap g.B.Blocks.told c.new-world.ensures.blocks ∙ told)
-    (ap (λ (t : ShownTxValue). scene_shown t.epoch_length stored t.it) c.new-world.ensures.tx ∙ shown) its)
-    hash
+pub returns-in-Ok-clause-came : goal.returns-in-Ok-clause-came
+returns-in-Ok-clause-came g c = λ stored scene tells shown hash.
+    c.in-Ok.ensures.came _ (told-is c.args.tx.now.epoch_length c.args.tx.now.it c.args.group.now (g.B.Blocks.told c.args.blocks.now) stored scene tells shown)
+    ∙ ap (λ (items : Items). execution (syscall items) c.args.budget c.args.code.now) (same-items scene c.args.group.now hash)

@@ -1,5 +1,4 @@
-use Rattle.std.proofs.Common.{◌≡◌, List, Option, Some, length, map, take, ap, sym, ◌∙◌, arith}
-use Rattle.std.specs.Prelude.{slice_get}
+use Rattle.std.proofs.Common.{◌≡◌, List, Option, length, map, take, ap, ◌∙◌, arith}
 use Rattle.std.proofs.lemmas.List.{take_all}
 use Rattle.codec_defs.specs.Schema.{RawTransaction, CellOutput, Script}
 use Rattle.script_run.specs.Grouping.{grouped}
@@ -12,35 +11,33 @@ typed output = output.type_script
 pub bounds-rows-i : goal.bounds-rows-i
 bounds-rows-i c =
     let count : c.outputs_count-i-end.result ≡ length c.args.tx.now.raw.outputs =
-    c.outputs_count-i-end.ensures.value ∙ ap (λ (raw : RawTransaction). length raw.outputs) c.raw-raw.ensures in
+    c.outputs_count-i-end.ensures.value ∙ ap (λ (raw : RawTransaction). length raw.outputs) c.raw.ensures in
     let long : length c.args.rows.now ≡ length c.args.tx.now.raw.outputs = ap length c.requires.rows ∙ rows-long c.args.tx.now in
     omega (arith, count, long, c.outputs-test.true)
 
 pub join_output-requires-clause-hash : goal.join_output-requires-clause-hash
 join_output-requires-clause-hash c =
-    row-typed c.args.tx.now c.args.rows.now c.outputs.i c.index-rows-i.result c.outputs_item.result c.requires.rows
-    (ap (λ (raw : RawTransaction). slice_get raw.outputs c.outputs.i) (sym c.raw-raw.ensures) ∙ c.outputs_item.ensures) c.index-rows-i.is
+    row-typed c.args.tx.now c.args.rows.now c.outputs.i c.index-rows-i.result c.output_at.result c.requires.rows
+    c.output_at.ensures c.index-rows-i.is
 
 pub outputs-preserved : goal.outputs-preserved
 outputs-preserved c =
     let outputs = c.args.tx.now.raw.outputs in
     let count : c.outputs_count-i-end.result ≡ length outputs =
-    c.outputs_count-i-end.ensures.value ∙ ap (λ (raw : RawTransaction). length raw.outputs) c.raw-raw.ensures in
-    let there : slice_get outputs c.outputs.i ≡ Some c.outputs_item.result =
-    ap (λ (raw : RawTransaction). slice_get raw.outputs c.outputs.i) (sym c.raw-raw.ensures) ∙ c.outputs_item.ensures in
+    c.outputs_count-i-end.ensures.value ∙ ap (λ (raw : RawTransaction). length raw.outputs) c.raw.ensures in
     record {
       known = c.in_ok-join_output.ensures.known;
       groups = λ inputs start.
           c.in_ok-join_output.ensures.groups inputs (map typed (take c.outputs.i outputs)) (c.outputs.invariant.groups inputs start)
           (map-taken typed outputs c.outputs.i (omega (arith, count, c.outputs-test.true)))
-          ∙ ap (grouped inputs) (map-more typed outputs c.outputs.i c.outputs_item.result there);
+          ∙ ap (grouped inputs) (map-more typed outputs c.outputs.i c.output_at.result c.output_at.ensures);
     }
 
 pub returns : goal.returns
 returns c =
     let outputs = c.args.tx.now.raw.outputs in
     let count : c.outputs_count-i-end.result ≡ length outputs =
-    c.outputs_count-i-end.ensures.value ∙ ap (λ (raw : RawTransaction). length raw.outputs) c.raw-raw.ensures in
+    c.outputs_count-i-end.ensures.value ∙ ap (λ (raw : RawTransaction). length raw.outputs) c.raw.ensures in
     record {
       groups = λ inputs start.
           c.outputs.invariant.groups inputs start

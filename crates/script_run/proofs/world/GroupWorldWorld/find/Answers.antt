@@ -1,72 +1,128 @@
-use Rattle.std.proofs.Common.{◌≡◌, ◌<◌, sym, ap, ◌∙◌, arith}
+use Rattle.std.proofs.Common.{◌≡◌, refl, sym, ap, ◌∙◌}
 use Rattle.std.specs.Prelude.{Err}
-use Rattle.outside.specs.declared.disk.ReadStop.TheVariants.{Damaged, NoMemory}
+use Rattle.outside.specs.declared.disk.ReadStop.TheVariants.{NoMemory}
 use Rattle.sys_defs.specs.World.{Here, NoIndex, Missing, Unknown}
 use Rattle.script_run.specs.declared.bytes.Look.TheVariants as look
-use Rattle.script_run.specs.Looks.{bytes_of, header_part}
+use Rattle.script_run.specs.Looks.{bytes_of, header_part, items_told}
+use Rattle.script_run.specs.Running.{stop_of}
 use Rattle.script_run.specs.Shown.{ShownTxValue}
-use Rattle.script_run.proofs.WorldLemmas.{block-told, by-look, here-or-unknown, kept, not-broken, within-told}
+use Rattle.script_run.proofs.ReadLemmas.{counted-as, counted-stop, damage-no-fault, damage-no-want, damage-of-log, no-error, none-counted, not-there}
+use Rattle.script_run.proofs.WorldLemmas.{block-told, by-look, here-or-unknown, kept, not-broken, not-wanted}
 use Rattle.script_run.proofs.world.GroupWorldWorld.find.Goals as goal
 
-pub returns-in-Here-clause-found : goal.returns-in-Here-clause-found
-returns-in-Here-clause-found g c =
+pub returns-in-Here : goal.returns-in-Here
+returns-in-Here g c =
     let world = c.args.self.now in
-    by-look world.tx.now.epoch_length world.tx.now.it world.group.now (g.B.Blocks.told world.blocks.now) c.args.call c.sought.result (look.Here c.in-Here.bytes) c.sought.ensures c.in-Here.is
-    (λ items. items c.args.call ≡ Here (bytes_of c.in-Here.bytes)) (λ stored scene told is. is)
+    record {
+      told = refl;
+      loans = refl;
+      here = λ _. refl;
+      found = by-look world.tx.now.epoch_length world.tx.now.it world.group.now (g.B.Blocks.told world.blocks.now) c.args.call c.sought.result (look.Here c.in-Here.bytes) c.sought.ensures c.in-Here.is
+          (λ items. items c.args.call ≡ Here (bytes_of c.in-Here.bytes)) (λ stored scene told is. is);
+      known = not-wanted (items_told world.tx.now.epoch_length world.tx.now.it world.group.now (g.B.Blocks.told world.blocks.now)) c.args.call _ (no-error _ _);
+      cause = none-counted _ _ (no-error _ _);
+      undamaged = λ _ damage is. no-error _ _ is;
+      damage = λ damage is. absurd (no-error _ _ is);
+    }
 
-pub returns-in-NoIndex-clause-found : goal.returns-in-NoIndex-clause-found
-returns-in-NoIndex-clause-found g c =
+pub returns-in-NoIndex : goal.returns-in-NoIndex
+returns-in-NoIndex g c =
     let world = c.args.self.now in
-    by-look world.tx.now.epoch_length world.tx.now.it world.group.now (g.B.Blocks.told world.blocks.now) c.args.call c.sought.result look.NoIndex c.sought.ensures c.in-NoIndex.is
-    (λ items. items c.args.call ≡ NoIndex) (λ stored scene told is. is)
+    record {
+      told = refl;
+      loans = refl;
+      here = λ is. absurd (cc);
+      found = by-look world.tx.now.epoch_length world.tx.now.it world.group.now (g.B.Blocks.told world.blocks.now) c.args.call c.sought.result look.NoIndex c.sought.ensures c.in-NoIndex.is
+          (λ items. items c.args.call ≡ NoIndex) (λ stored scene told is. is);
+      known = not-wanted (items_told world.tx.now.epoch_length world.tx.now.it world.group.now (g.B.Blocks.told world.blocks.now)) c.args.call _ (no-error _ _);
+      cause = none-counted _ _ (no-error _ _);
+      undamaged = λ _ damage is. no-error _ _ is;
+      damage = λ damage is. absurd (no-error _ _ is);
+    }
 
-pub returns-in-Missing-clause-found : goal.returns-in-Missing-clause-found
-returns-in-Missing-clause-found g c =
+pub returns-in-Missing : goal.returns-in-Missing
+returns-in-Missing g c =
     let world = c.args.self.now in
-    by-look world.tx.now.epoch_length world.tx.now.it world.group.now (g.B.Blocks.told world.blocks.now) c.args.call c.sought.result look.Missing c.sought.ensures c.in-Missing.is
-    (λ items. items c.args.call ≡ Missing) (λ stored scene told is. is)
+    record {
+      told = refl;
+      loans = refl;
+      here = λ is. absurd (cc);
+      found = by-look world.tx.now.epoch_length world.tx.now.it world.group.now (g.B.Blocks.told world.blocks.now) c.args.call c.sought.result look.Missing c.sought.ensures c.in-Missing.is
+          (λ items. items c.args.call ≡ Missing) (λ stored scene told is. is);
+      known = not-wanted (items_told world.tx.now.epoch_length world.tx.now.it world.group.now (g.B.Blocks.told world.blocks.now)) c.args.call _ (no-error _ _);
+      cause = none-counted _ _ (no-error _ _);
+      undamaged = λ _ damage is. no-error _ _ is;
+      damage = λ damage is. absurd (no-error _ _ is);
+    }
 
-pub returns-in-Unknown-clause-found : goal.returns-in-Unknown-clause-found
-returns-in-Unknown-clause-found g c =
+pub returns-in-Unknown : goal.returns-in-Unknown
+returns-in-Unknown g c =
     let world = c.args.self.now in
-    by-look world.tx.now.epoch_length world.tx.now.it world.group.now (g.B.Blocks.told world.blocks.now) c.args.call c.sought.result look.Unknown c.sought.ensures c.in-Unknown.is
-    (λ items. items c.args.call ≡ Unknown) (λ stored scene told is. is)
+    record {
+      told = refl;
+      loans = refl;
+      here = λ is. absurd (cc);
+      found = by-look world.tx.now.epoch_length world.tx.now.it world.group.now (g.B.Blocks.told world.blocks.now) c.args.call c.sought.result look.Unknown c.sought.ensures c.in-Unknown.is
+          (λ items. items c.args.call ≡ Unknown) (λ stored scene told is. is);
+      known = not-wanted (items_told world.tx.now.epoch_length world.tx.now.it world.group.now (g.B.Blocks.told world.blocks.now)) c.args.call _ (no-error _ _);
+      cause = none-counted _ _ (no-error _ _);
+      undamaged = λ _ damage is. no-error _ _ is;
+      damage = λ damage is. absurd (no-error _ _ is);
+    }
 
-pub returns-in-Broken-clause-undamaged : goal.returns-in-Broken-clause-undamaged
-returns-in-Broken-clause-undamaged g c some damage stop =
+pub returns-in-Broken : goal.returns-in-Broken
+returns-in-Broken g c =
     let world = c.args.self.now in
-    not-broken world.tx.now.epoch_length world.tx.now.it world.group.now (g.B.Blocks.told world.blocks.now) c.args.call c.sought.result c.sought.ensures c.in-Broken.is some
+    record {
+      told = refl;
+      loans = refl;
+      here = tt;
+      found = tt;
+      known = not-wanted (items_told world.tx.now.epoch_length world.tx.now.it world.group.now (g.B.Blocks.told world.blocks.now)) c.args.call _ (damage-no-want c.damaged.result _ c.damaged.ensures);
+      cause = none-counted _ _ (damage-no-fault c.damaged.result _ c.damaged.ensures);
+      undamaged = λ some damage is.
+          not-broken world.tx.now.epoch_length world.tx.now.it world.group.now (g.B.Blocks.told world.blocks.now) c.args.call c.sought.result c.sought.ensures c.in-Broken.is some;
+      damage = λ damage is. damage-of-log c.damaged.result damage c.damaged.ensures is;
+    }
 
-pub returns-then-place-len-clause-undamaged : goal.returns-then-place-len-clause-undamaged
-returns-then-place-len-clause-undamaged g c some damage stop =
-    let world = c.args.self.now in
-    let t = block-told world.tx.now.epoch_length world.tx.now.it world.group.now (g.B.Blocks.told world.blocks.now) c.args.call c.sought.result c.in-InBlock.place c.in-InBlock.part c.sought.ensures c.in-InBlock.is some in
-    let within : c.in-InBlock.place < g.B.Blocks.count c.args.self.now.blocks.now = within-told world.tx.now.epoch_length world.tx.now.it (g.B.Blocks.told world.blocks.now) c.in-InBlock.place _ t (g.met.B.Blocks.told_all world.blocks.now) in
-    absurd (omega (arith, c.len.ensures.len, c.args.self.now.counts))
-
-pub returns-in-Ok-clause-found : goal.returns-in-Ok-clause-found
-returns-in-Ok-clause-found g c =
+pub returns-in-Ok : goal.returns-in-Ok
+returns-in-Ok g c =
     let world = c.args.self.now in
     let place = c.in-InBlock.place in
     let part = c.in-InBlock.part in
-    by-look world.tx.now.epoch_length world.tx.now.it world.group.now (g.B.Blocks.told world.blocks.now) c.args.call c.sought.result (look.InBlock place part) c.sought.ensures c.in-InBlock.is
-    (λ items. items c.args.call ≡ Here (bytes_of c.in-Ok.bytes))
-    (λ stored scene told is.
-    let k = kept stored place _ is in
-    k.holds ∙ ap Here (ap (λ (t : ShownTxValue). header_part t.epoch_length part k.made.block.header) (sym c.tx.view_is) ∙ sym (c.in-Ok.ensures.part stored k.made told k.there)))
+    let reads = c.in-Ok.ensures.reads in
+    record {
+      told = ap (items_told world.tx.now.epoch_length world.tx.now.it world.group.now) reads.told;
+      loans = λ t. (world.blocks.ghost_name, reads.loans t, reads.told t, reads.count t);
+      here = λ _. refl;
+      found = by-look world.tx.now.epoch_length world.tx.now.it world.group.now (g.B.Blocks.told world.blocks.now) c.args.call c.sought.result (look.InBlock place part) c.sought.ensures c.in-InBlock.is
+          (λ items. items c.args.call ≡ Here (bytes_of c.in-Ok.bytes))
+          (λ stored scene told is.
+          let k = kept stored place _ is in
+          k.holds ∙ ap Here (ap (λ (t : ShownTxValue). header_part t.epoch_length part k.made.block.header) (sym c.tx.view_is) ∙ sym (c.in-Ok.ensures.part stored k.made told k.there)));
+      known = not-wanted (items_told world.tx.now.epoch_length world.tx.now.it world.group.now (g.B.Blocks.told world.blocks.now)) c.args.call _ (no-error _ _);
+      cause = counted-as _ _ _ _ (λ is. absurd (no-error _ _ is)) (λ is. absurd (not-there _ _ refl is)) reads.cause;
+      undamaged = λ _ damage is. no-error _ _ is;
+      damage = λ damage is. absurd (no-error _ _ is);
+    }
 
-pub returns-in-Err-clause-known : goal.returns-in-Err-clause-known
-returns-in-Err-clause-known g c =
+pub returns-in-Err : goal.returns-in-Err
+returns-in-Err g c =
     let world = c.args.self.now in
     let place = c.in-InBlock.place in
     let part = c.in-InBlock.part in
-    by-look world.tx.now.epoch_length world.tx.now.it world.group.now (g.B.Blocks.told world.blocks.now) c.args.call c.sought.result (look.InBlock place part) c.sought.ensures c.in-InBlock.is
-    (λ items. items c.args.call ≡ Unknown → Err c.in-Err.stop ≡ Err NoMemory → ⊥)
-    (λ stored scene told is unknown no_memory. let k = kept stored place _ is in here-or-unknown _ _ k.holds unknown)
-
-pub returns-in-Err-clause-undamaged : goal.returns-in-Err-clause-undamaged
-returns-in-Err-clause-undamaged g c some damage stop =
-    let world = c.args.self.now in
-    let t = block-told world.tx.now.epoch_length world.tx.now.it world.group.now (g.B.Blocks.told world.blocks.now) c.args.call c.sought.result c.in-InBlock.place c.in-InBlock.part c.sought.ensures c.in-InBlock.is some in
-    let same : c.in-Err.stop ≡ Damaged damage = cc in
-    c.in-Err.ensures.undamaged t.stored t.made t.told_are t.there damage (ap Err same)
+    let reads = c.in-Err.ensures.reads in
+    record {
+      told = ap (items_told world.tx.now.epoch_length world.tx.now.it world.group.now) reads.told;
+      loans = λ t. (world.blocks.ghost_name, reads.loans t, reads.told t, reads.count t);
+      here = tt;
+      found = tt;
+      known = by-look world.tx.now.epoch_length world.tx.now.it world.group.now (g.B.Blocks.told world.blocks.now) c.args.call c.sought.result (look.InBlock place part) c.sought.ensures c.in-InBlock.is
+          (λ items. items c.args.call ≡ Unknown → Err c.in-Err.stop ≡ Err NoMemory → ⊥)
+          (λ stored scene told is unknown no_memory. let k = kept stored place _ is in here-or-unknown _ _ k.holds unknown);
+      cause = counted-stop _ _ c.in-Err.stop reads.cause;
+      undamaged = λ some damage is.
+          let t = block-told world.tx.now.epoch_length world.tx.now.it world.group.now (g.B.Blocks.told world.blocks.now) c.args.call c.sought.result place part c.sought.ensures c.in-InBlock.is some in
+          c.in-Err.ensures.undamaged t.stored t.made t.told_are t.there damage (ap stop_of is);
+      damage = λ damage is. reads.damage damage (ap stop_of is);
+    }
