@@ -1,10 +1,10 @@
-use Rattle.std.proofs.Common.{◌≡◌, None, Some, refl, ap, ◌∙◌, subst}
+use Rattle.std.proofs.Common.{◌≡◌, None, Some, refl, ap, ◌∙◌, subst, List, sym}
 use Rattle.std.specs.Prelude.{Err, length}
 use Rattle.fold_defs.specs.First.{first_failing}
 use Rattle.chain_defs.specs.Branch.{branch}
 use Rattle.chain_defs.proofs.KeptLaws.{place_of-below}
 use Rattle.rule_defs.specs.Header.{header_rules}
-use Rattle.chain_tree.specs.Told.{blocks_of}
+use Rattle.chain_tree.specs.Told.{blocks_of, Stored}
 use Rattle.cell_state.specs.State.{rows}
 use Rattle.block_defs.specs.Ext.{ext_of}
 use Rattle.block_defs.specs.Rules.{first_broken}
@@ -13,6 +13,8 @@ use Rattle.verdict_defs.specs.Verdict.{verdict_of_block}
 use Rattle.verdict_defs.specs.declared.verdict.Verdict.TheVariants.{Refused}
 use Rattle.node_core.proofs.DecidingLemmas.{as-many, few-entries, within-entries, stands-at-hand, room-for, is-ready, is-judged, verdict-refused, verdict-full}
 use Rattle.node_core.proofs.OpenLemmas.{ok_err, same_stop}
+use Rattle.node_core.specs.Node.{AreKept}
+use Rattle.std.proofs.lemmas.Option.{same_Some}
 use Rattle.node_core.proofs.kept.Kept.judge_on.Goals as goal
 
 pub replayed-requires : goal.replayed-requires
@@ -162,3 +164,23 @@ returns-then-has_room-clause-steps g c = c.replayed.ensures.steps
 
 pub returns-clause-steps : goal.returns-clause-steps
 returns-clause-steps g c = c.replayed.ensures.steps
+
+pub returns-in-Err-Broken-clause-same : goal.returns-in-Err-Broken-clause-same
+returns-in-Err-Broken-clause-same g c =
+    ap (λ (l : List Stored). record { spec = c.self.inside.spec; blocks = blocks_of l }) (same_Some _ _ c.judge.ensures.told) ∙ c.self.view_is ∙ c.replayed.ensures.same
+
+pub returns-in-Err-Read-clause-same : goal.returns-in-Err-Read-clause-same
+returns-in-Err-Read-clause-same g c =
+    ap (λ (l : List Stored). record { spec = c.self.inside.spec; blocks = blocks_of l }) (same_Some _ _ c.judge.ensures.told) ∙ c.self.view_is ∙ c.replayed.ensures.same
+
+pub returns-then-has_room-clause-same : goal.returns-then-has_room-clause-same
+returns-then-has_room-clause-same g c =
+    ap (λ (l : List Stored). record { spec = c.self.inside.spec; blocks = blocks_of l }) (same_Some _ _ c.judge.ensures.told) ∙ c.self.view_is ∙ c.replayed.ensures.same
+
+pub returns-clause-same : goal.returns-clause-same
+returns-clause-same g c =
+    ap (λ (l : List Stored). record { spec = c.self.inside.spec; blocks = blocks_of l }) (same_Some _ _ c.judge.ensures.told) ∙ c.self.view_is ∙ c.replayed.ensures.same
+
+pub invariant_of-self : goal.invariant_of-self
+invariant_of-self g c =
+    subst (λ (l : List Stored). AreKept l c.self.inside.tree.entries c.self.inside.uncles (rows c.self.inside.state)) (sym (same_Some _ _ c.judge.ensures.told)) c.self.invariant

@@ -1,4 +1,4 @@
-use Rattle.std.proofs.Common.{refl, sym, ap, subst, rules, Err}
+use Rattle.std.proofs.Common.{refl, sym, ap, subst, Err}
 use Rattle.chain_tree.specs.Told.{blocks_of}
 use Rattle.cell_state.specs.State.{rows}
 use Rattle.verdict_defs.specs.Chain.{Chain}

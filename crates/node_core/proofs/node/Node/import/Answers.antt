@@ -1,16 +1,16 @@
-use Rattle.std.proofs.Common.{rules, ◌≡◌, ◌⊎◌, Ok, arith, ap, sym, ◌∙◌, subst, Err, refl, ◌<◌, ℕ, length}
+use Rattle.std.proofs.Common.{◌≡◌, ◌⊎◌, arith, ap, sym, ◌∙◌, subst, Err, refl, ◌<◌, ℕ, length, ◌≤◌}
 use Rattle.outside.specs.Disk.{LeavesOnly}
 use Rattle.chain_defs.specs.Kept.{place_of}
 use Rattle.chain_defs.specs.Tip.{tip_place}
-use Rattle.verdict_defs.specs.Verdict.{joins}
+use Rattle.verdict_defs.specs.Verdict.{joins, kept_limit}
 use Rattle.verdict_defs.specs.Chain.{Chain, chain_after}
 use Rattle.store_defs.specs.Store.{IsJoined, StandsFor}
 use Rattle.store_defs.proofs.JoinedLemmas.{joined_of_image}
-use Rattle.node_core.specs.Node.{NodeValue, IsOn}
+use Rattle.node_core.specs.Node.{NodeValue, IsOn, IsWithin}
 use Rattle.node_core.specs.Judging.{IsReadyItem, IsDecided}
 use Rattle.node_core.specs.declared.deciding.Decision.TheVariants.{Joins, Stays}
 use Rattle.node_core.proofs.ImportLemmas.{decided_on, ready_on, verdict_is, stays_so}
-use Rattle.node_core.proofs.DiskLemmas.{counts_none, counts_also, before_calls}
+use Rattle.node_core.proofs.DiskLemmas.{counts_none, before_calls}
 use Rattle.log_file.proofs.Exits.{stop_counts}
 use Rattle.node_core.proofs.OpenLemmas.{ok_err, same_stop}
 use Rattle.std.specs.Prelude.{IfSome}
@@ -219,3 +219,17 @@ pub returns-in-Err-join-clause-steps : goal.returns-in-Err-join-clause-steps
 returns-in-Err-join-clause-steps g c = λ b is on_tip.
     let chain_is : c.node.inside.kept ≡ c.args.self.chain = ap (λ (v : NodeValue). v.chain) c.node.view_is in
     omega (arith, c.join.ensures.most, c.decide.ensures.steps b is (subst (λ (k : Chain). place_of k.blocks b.header.parent_hash ≡ tip_place k.blocks) (sym chain_is) on_tip))
+
+pub invariant_of-node : goal.invariant_of-node
+invariant_of-node g c =
+    subst (λ (k : Chain). (length k.blocks ≤ kept_limit) × IsWithin (length k.blocks) c.node.inside.log.place) (sym c.decide.ensures.same) c.node.invariant
+
+pub join-requires-clause-there : goal.join-requires-clause-there
+join-requires-clause-there g c =
+    subst (λ (place : ℕ). IfSome (g.D.Disk.reads_as c.args.disk.now) (λ image. place < length image.log))
+    (sym (ap (λ (v : NodeValue). v.place) c.node.view_is)) c.requires.there
+
+pub join-requires-clause-ready : goal.join-requires-clause-ready
+join-requires-clause-ready g c =
+    ready_on c.node.inside.kept c.decide.new.self c.args.item.now c.in-Ok.decision (Joins c.in-Joins.joining) (sym c.decide.ensures.same) c.in-Joins.is
+    c.in-Ok.ensures.ready

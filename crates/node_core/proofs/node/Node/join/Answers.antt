@@ -1,5 +1,5 @@
-use Rattle.std.proofs.Common.{rules, ◌≡◌, ℕ, ◌<◌, length, refl, ap, sym, ◌∙◌, subst, Err, arith}
-use Rattle.std.specs.Prelude.{IfSome, IsOk}
+use Rattle.std.proofs.Common.{◌≡◌, ℕ, ◌<◌, length, refl, ap, sym, ◌∙◌, subst, Err, arith}
+use Rattle.std.specs.Prelude.{IfSome}
 use Rattle.outside.proofs.Moments.{leaves_also, now_too}
 use Rattle.cell_defs.specs.Ext.{ext_bytes}
 use Rattle.verdict_defs.specs.Chain.{Chain, chain_after}
