@@ -2,7 +2,7 @@
 use Rattle.std.proofs.Common.{◌≡◌, ℕ, zero, suc, ◌+◌, ◌-◌, ◌<◌, ◌^◌, List, [], ◌∷◌, ◌++◌, length, drop, Option, Some, None, refl, sym, ap, ◌∙◌, subst, arith}
 use Rattle.std.specs.Prelude.{IfSome, IsSome, All}
 use Rattle.std.specs.Option.{option_map}
-use Rattle.std.proofs.lemmas.List.{append_assoc, length-append}
+use Rattle.std.proofs.lemmas.List.{append_assoc, append-nil, length-append}
 use Rattle.outside.specs.declared.disk.Area.{Area}
 use Rattle.outside.specs.declared.disk.Area.TheVariants.{Log}
 use Rattle.outside.specs.Image.{Image, content}
@@ -46,3 +46,14 @@ settles_new place specification genesis bytes (Some old) reads1 images1 some one
       rest = subst (λ (n : ℕ). IsAtRest n records now1.log) place_is (subst (IsAtRest (8 + size_of_all records) records) (sym reads_as) made);
       durable = subst (λ (o : Option Image). IfSome o (IsDurable Log images1)) wrote durable;
     }
+
+-- bytes that were put behind others, one after the other
+pub four_behind : (old a b c d one two three four : List ℕ) → a ≡ old ++ one → b ≡ a ++ two → c ≡ b ++ three → d ≡ c ++ four
+    → d ≡ old ++ (one ++ ((two ++ (three ++ [])) ++ four))
+four_behind old a b c d one two three four first second third fourth =
+    let written : d ≡ (((old ++ one) ++ two) ++ three) ++ four =
+    fourth ∙ ap (λ (l : List ℕ). l ++ four) (third ∙ ap (λ (l : List ℕ). l ++ three) (second ∙ ap (λ (l : List ℕ). l ++ two) first)) in
+    let inner : ((one ++ two) ++ three) ++ four ≡ one ++ ((two ++ (three ++ [])) ++ four) =
+    ap (λ (l : List ℕ). l ++ four) (append_assoc one two three) ∙ append_assoc one (two ++ three) four ∙ ap (λ (l : List ℕ). one ++ ((two ++ l) ++ four)) (sym (append-nil three)) in
+    written ∙ ap (λ (l : List ℕ). l ++ four) (ap (λ (l : List ℕ). l ++ three) (append_assoc old one two) ∙ append_assoc old (one ++ two) three)
+    ∙ append_assoc old ((one ++ two) ++ three) four ∙ ap (λ (l : List ℕ). old ++ l) inner

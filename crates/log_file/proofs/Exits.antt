@@ -1,7 +1,12 @@
 -- What a function's clauses say where it ends.
-use Rattle.std.proofs.Common.{◌≡◌, Bool, true, false, Result, Ok, Err, Option, Some, None}
+use Rattle.std.proofs.Common.{◌≡◌, ℕ, Bool, true, false, Result, Ok, Err, Option, Some, None, refl, ap, ◌∙◌, subst, arith}
 use Rattle.std.specs.Prelude.{IfSome}
+use Rattle.outside.specs.Causes.{Rose, HasCause, CountsFault}
 use Rattle.outside.specs.Image.{Image}
+use Rattle.outside.specs.Disk.{IsAsBefore}
+use Rattle.outside.proofs.Moments.{leaves_also, leaves_then}
+use Rattle.log_file.specs.declared.stop.LogStop.{LogStop}
+use Rattle.log_file.specs.declared.stop.LogStop.TheVariants.{DiskFault, NotAStore, NoMemory}
 
 -- what holds of each image holds of the one that is told
 pub on_each : (reads : Option Image) (P : Image → Type 0) → ((image : Image) → P image) → IfSome reads P
@@ -20,3 +25,93 @@ not_yes is = absurd (cc)
 
 pub same_stop : {T E : Type 0} (first second : E) → ◌≡◌ {A = Result T E} (Err first) (Err second) → first ≡ second
 same_stop first second is = cc
+
+-- the disk is as before one run, and then as before one more
+pub as_before_then : {D : Type 0} (reads_as : D → Option Image) (images : D → Image → Type 0) (moment : D → ℕ) (left_since : D → ℕ → Image → Type 0) (old mid new : D)
+    → IsAsBefore reads_as images moment left_since old mid → IsAsBefore reads_as images moment left_since mid new → IsAsBefore reads_as images moment left_since old new
+as_before_then reads_as images moment left_since old mid new first second = record {
+  reads = second.reads ∙ first.reads;
+  images = λ image. (λ left. (first.images image).0 ((second.images image).0 left), λ left. (second.images image).1 ((first.images image).1 left));
+  moments = leaves_then moment left_since old mid new (images old) first.moments
+      (leaves_also moment left_since mid new (images mid) (images old) second.moments (λ image left. (first.images image).0 left));
+}
+
+-- a stop that is handed on counts as it did
+pub stop_counts : {T U E : Type 0} (before now : ℕ) (stop fault : E) → CountsFault before now (◌≡◌ {A = Result T E} (Err stop) (Err fault))
+    → CountsFault before now (◌≡◌ {A = Result U E} (Err stop) (Err fault))
+stop_counts before now stop fault counts = record {
+  later = counts.later;
+  rose = λ e. counts.rose (ap Err (same_stop stop fault e));
+  unchanged = λ other. counts.unchanged (λ e. other (ap Err (same_stop stop fault e)));
+}
+
+-- with an answer the count stands still
+pub answer_counts : {T E : Type 0} (before now : ℕ) (value : T) (fault : E) → now ≡ before → CountsFault before now (◌≡◌ {A = Result T E} (Ok value) (Err fault))
+answer_counts before now value fault still = record {
+  later = omega (arith, still);
+  rose = λ e. absurd (no_error value fault e);
+  unchanged = λ other. still;
+}
+
+pub answer_still : {T E : Type 0} (before now : ℕ) (value : T) (fault : E) → CountsFault before now (◌≡◌ {A = Result T E} (Ok value) (Err fault)) → now ≡ before
+answer_still before now value fault counts = counts.unchanged (no_error value fault)
+
+-- the count behind calls that met no fault
+pub counts_on : {Fault : Type 0} (before mid now : ℕ) → mid ≡ before → CountsFault mid now Fault → CountsFault before now Fault
+counts_on before mid now still counts = record {
+  later = omega (arith, still, counts.later);
+  rose = λ fault. subst (λ (n : ℕ). Rose n now) still (counts.rose fault);
+  unchanged = λ other. counts.unchanged other ∙ still;
+}
+
+-- the stops are distinct
+pub not_wrong : {T : Type 0} → ◌≡◌ {A = Result T LogStop} (Err NoMemory) (Err NotAStore) → ⊥
+not_wrong is = absurd (cc)
+
+pub no_memory_is_no_fault : ◌≡◌ {A = LogStop} NoMemory DiskFault → ⊥
+no_memory_is_no_fault is = absurd (cc)
+
+pub wrong_is_no_fault : ◌≡◌ {A = LogStop} NotAStore DiskFault → ⊥
+wrong_is_no_fault is = absurd (cc)
+
+pub fault_not_wrong : {T : Type 0} → ◌≡◌ {A = Result T LogStop} (Err DiskFault) (Err NotAStore) → ⊥
+fault_not_wrong is = absurd (cc)
+
+-- a call that failed is a fault
+pub fault_counts : {T U E F : Type 0} (before now : ℕ) (failed : F) (fault : E) → HasCause {T = T} {E = F} before now (Err failed)
+    → CountsFault before now (◌≡◌ {A = Result U E} (Err fault) (Err fault))
+fault_counts before now failed fault cause = record {
+  later = cause.later;
+  rose = λ e. cause.failed refl;
+  unchanged = λ other. absurd (other refl);
+}
+
+-- where nothing was called
+pub no_call : {T E : Type 0} (count : ℕ) (value : T) → HasCause {T = T} {E = E} count count (Ok value)
+no_call count value = record { later = omega arith; failed = λ e. absurd (cc); unchanged = λ e. refl }
+
+pub no_fault_counts : {Fault : Type 0} (count : ℕ) → (Fault → ⊥) → CountsFault count count Fault
+no_fault_counts count never = record { later = omega arith; rose = λ fault. absurd (never fault); unchanged = λ other. refl }
+
+pub memory_not_fault : {T : Type 0} → ◌≡◌ {A = Result T LogStop} (Err NoMemory) (Err DiskFault) → ⊥
+memory_not_fault is = absurd (cc)
+
+pub fault_is_no_wrong : ◌≡◌ {A = LogStop} DiskFault NotAStore → ⊥
+fault_is_no_wrong is = absurd (cc)
+
+pub memory_is_no_wrong : ◌≡◌ {A = LogStop} NoMemory NotAStore → ⊥
+memory_is_no_wrong is = absurd (cc)
+
+-- a call failed after others that did not
+pub failed_on : {T U E : Type 0} (before mid now : ℕ) (failed : E) → mid ≡ before → HasCause {T = T} {E = E} mid now (Err failed) → HasCause {T = U} {E = E} before now (Err failed)
+failed_on before mid now failed still cause = record {
+  later = omega (arith, still, cause.later);
+  failed = λ e. subst (λ (n : ℕ). Rose n now) still (cause.failed refl);
+  unchanged = λ e. absurd (cc);
+}
+
+pub answered : {T E : Type 0} (before now : ℕ) (value : T) → now ≡ before → HasCause {T = T} {E = E} before now (Ok value)
+answered before now value still = record { later = omega (arith, still); failed = λ e. absurd (cc); unchanged = λ e. still }
+
+pub wrong_not_fault : {T : Type 0} → ◌≡◌ {A = Result T LogStop} (Err NotAStore) (Err DiskFault) → ⊥
+wrong_not_fault is = absurd (cc)

@@ -49,6 +49,18 @@ told_front (Some image) into given front part at n is long room fits read =
     let within : m ≤ length (given ++ rest) = omega (arith, length-append given rest, ap length is) in
     λ was. front_read image.log (given ++ rest) front part at n (take_at given rest m (ap length is) ∙ is) within was size fits read
 
+-- more bytes from the same place on, of which a reader had the front
+pub told_filled : (reads : Option Image) (old now : ReaderValue) (front bytes : List ℕ) (need size : ℕ) → old ≡ now → front ≡ old.ahead → need ≤ size → old.at + size ≤ old.len
+    → IfSome reads (λ image. front ≡ take (length front) (drop old.at image.log) → bytes ≡ take size (drop old.at image.log))
+    → IfSome reads (λ image. IsReading image.log now → IsReading image.log (record { len = old.len; at = old.at; ahead = bytes }) × (need ≤ length bytes))
+told_filled None old now front bytes need size same is fits within read = tt
+told_filled (Some image) old now front bytes need size same is fits within read = λ here.
+    let reading : IsReading image.log old = subst (IsReading image.log) (sym same) here in
+    let rest : List ℕ = drop old.at image.log in
+    let piece : bytes ≡ take size rest = read (is ∙ reading.ahead ∙ ap (λ (l : List ℕ). take (length l) rest) (sym is)) in
+    let long : length bytes ≡ size = omega (arith, ap length piece, length-take size rest, length-drop old.at image.log, reading.len, within) in
+    (record { len = reading.len; ahead = piece ∙ ap (λ (n : ℕ). take n rest) (sym long) }, omega (arith, long, fits))
+
 -- ---- The record that stands where a reader is
 
 -- bytes that are the front of others have the same record there, if they are long enough for it

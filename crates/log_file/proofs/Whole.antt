@@ -71,3 +71,9 @@ told_gate (Some now) spec reader blocks place bytes gate is same tells all =
     ap (λ (l : List ℕ). get_or l 0 0) all.all.so_far.reading.ahead ∙ get_or-take n (drop reader.at log) 0 0 some in
     tells (omega (arith, some, ap length same))
     ∙ ap (λ (m : ℕ). eqb m 1) (ap (λ (l : List ℕ). get_or l 0 0) same ∙ front ∙ gate_there reader.at log ∙ ap (λ (k : ℕ). get_or log k 0) (sym is))
+
+pub told_wrong_front : (reads : Option Image) (len : ℕ) (reader : ReaderValue) (E F : Type 0) → (E → F) → IfSome reads (λ image. len ≡ length image.log)
+    → ((log : List ℕ) → len ≡ length log → IsReading log reader) → IfSome reads (λ image. IsReading image.log reader → F → log_of image.log ≡ None)
+    → IfSome reads (λ image. E → log_of image.log ≡ None)
+told_wrong_front None len reader E F is size reading front = tt
+told_wrong_front (Some image) len reader E F is size reading front = λ e. front (reading image.log size) (is e)

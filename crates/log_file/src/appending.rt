@@ -48,8 +48,14 @@ pub fn append<D: Disk>(log: Log, disk: &mut D, body: &Body) -> Result<(Log, Rec)
 {
     let piece = body.piece();
     let size = piece.len();
-    write_durably(disk, Area::Log, log.place + 1, piece)?;
-    write_durably(disk, Area::Log, log.place, &[1])?;
+    match write_durably(disk, Area::Log, log.place + 1, piece) {
+        Ok(()) => {}
+        Err(failed) => return Err(failed),
+    }
+    match write_durably(disk, Area::Log, log.place, &[1]) {
+        Ok(()) => {}
+        Err(failed) => return Err(failed),
+    }
     let rec = rec_behind(&log, body);
     Ok((
         Log {

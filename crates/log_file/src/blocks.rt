@@ -1,6 +1,8 @@
 // The blocks that the records of a log hold.
 
-ghost use Rattle.std.specs.Prelude.{◌≡◌, ◌≢◌, ◌⊎◌, ◌+◌, ◌<◌, ◌≤◌, ◌^◌, List, None, Err, length, map, IfOk, OnOk, IfErr, IfSome, is_some, option_map, false};
+ghost use Rattle.std.specs.Prelude.{◌≡◌, ◌≢◌, ◌⊎◌, ◌+◌, ◌<◌, ◌≤◌, ◌^◌, List, [], ◌∷◌, Some, None, Err, length, map, IfOk, OnOk, IfErr, IfSome, is_some, option_map, false, true};
+ghost use Rattle.codec_defs.specs.Shape.{decoded};
+ghost use Rattle.codec_defs.specs.Schema as schema;
 ghost use Rattle.codec_defs.specs.Schema.{Block};
 ghost use Rattle.chain_defs.specs.Kept.{place_of};
 ghost use Rattle.chain_tree.specs.Entries.{place_of_hash, FollowsParent};
@@ -16,6 +18,7 @@ use crate::stop::LogStop;
 use blake2b_ckb::ckbhash;
 use chain_tree::{Entry, Tree};
 use mol_schema::BlockView;
+use outside::NoMemory;
 use std::alloc::Global;
 use std::marker::Model;
 
@@ -93,6 +96,57 @@ fn judged<'a>(
     Some(((item, ext), entry))
 }
 
+/// Copies of an item and of its ext.
+fn copies(alloc: Global, item: &[u8], ext: &[u8]) -> Result<(Vec<u8>, Vec<u8>), NoMemory>
+    ensures item { IfOk result (λ copied. copied.0.items ≡ item.now) }
+    ensures ext { IfOk result (λ copied. copied.1.items ≡ ext.now) }
+{
+    let item = item.to_vec(alloc)?;
+    let ext = ext.to_vec(alloc)?;
+    Ok((item, ext))
+}
+
+/// A list of one copy.
+fn one_copy(alloc: Global, bytes: &[u8]) -> Result<Vec<Vec<u8>>, NoMemory>
+    ensures { IfOk result (λ list. map (λ item. item.items) list.items ≡ bytes.now ∷ []) }
+{
+    let mut list = Vec::new(alloc);
+    list.push(bytes.to_vec(alloc)?)?;
+    Ok(list)
+}
+
+/// The lists of the items and of the exts of a genesis alone, which has no ext.
+fn first_lists(alloc: Global, item: &[u8]) -> Result<(Vec<Vec<u8>>, Vec<Vec<u8>>), NoMemory>
+    ensures items { IfOk result (λ lists. map (λ item. item.items) lists.0.items ≡ item.now ∷ []) }
+    ensures exts { IfOk result (λ lists. map (λ ext. ext.items) lists.1.items ≡ [] ∷ []) }
+{
+    let items = one_copy(alloc, item)?;
+    let exts = one_copy(alloc, &[])?;
+    Ok((items, exts))
+}
+
+/// The genesis in the body of a record.
+fn genesis<'a>(alloc: Global, kind: u8, body: &'a [u8]) -> Result<BlockView<'a>, LogStop>
+    ensures genesis { IfOk result (λ block. is_genesis (record_of kind body.now) ≡ true) }
+    ensures decoded { IfOk result (λ block. decoded schema.block body.now ≡ Some block) }
+    ensures first { IfOk result (λ block. block.header.number ≡ 0) }
+    ensures wrong { result ≡ Err LogStop.NotAStore → is_genesis (record_of kind body.now) ≡ false }
+    ensures reads { IfErr result (λ stop. stop ≢ LogStop.DiskFault) }
+{
+    if kind != 2 {
+        return Err(LogStop::NotAStore);
+    }
+    match genesis_ok(alloc, body) {
+        Ok(None) => {}
+        Ok(Some(_)) => return Err(LogStop::NotAStore),
+        Err(_) => return Err(LogStop::NoMemory),
+    }
+    match BlockView::read(body) {
+        Some(block) => Ok(block),
+        None => Err(LogStop::NotAStore),
+    }
+}
+
 /// The encodings of blocks with their exts, genesis first, and the tree of their entries. Clauses see a `BlocksValue`.
 #[derive(Drop)]
 pub(crate) struct Blocks {
@@ -127,21 +181,22 @@ impl Blocks {
         ensures wrong { result ≡ Err LogStop.NotAStore → is_genesis (record_of kind body.now) ≡ false }
         ensures reads { IfErr result (λ stop. stop ≢ LogStop.DiskFault) }
     {
-        if kind != 2 {
-            return Err(LogStop::NotAStore);
-        }
-        if genesis_ok(alloc, body)?.is_some() {
-            return Err(LogStop::NotAStore);
-        }
-        let Some(block) = BlockView::read(body) else {
-            return Err(LogStop::NotAStore);
+        let block = match genesis(alloc, kind, body) {
+            Ok(block) => block,
+            Err(stop) => return Err(stop),
         };
-        let tree = Tree::new(alloc, entry_of(&block, 0, at, body.len() as u32))?;
-        let mut items = Vec::new(alloc);
-        items.push(body.to_vec(alloc)?)?;
-        let mut exts = Vec::new(alloc);
-        exts.push(Vec::new(alloc))?;
-        Ok(Blocks { items, exts, tree })
+        let (items, exts) = match first_lists(alloc, body) {
+            Ok(lists) => lists,
+            Err(_) => return Err(LogStop::NoMemory),
+        };
+        match Tree::new(alloc, entry_of(&block, 0, at, body.len() as u32)) {
+            Ok(tree) => Ok(Blocks { items, exts, tree }),
+            Err(_) => {
+                drop(items);
+                drop(exts);
+                Err(LogStop::NoMemory)
+            }
+        }
     }
 
     /// The encodings, their exts, and the tree of the entries.
@@ -178,11 +233,23 @@ impl Blocks {
         let Some(((item, ext), entry)) = judged(&self.tree, kind, body, at) else {
             return Err(LogStop::NotAStore);
         };
-        let item = item.to_vec(alloc)?;
-        let ext = ext.to_vec(alloc)?;
-        self.tree.reserve()?;
-        self.exts.reserve(1)?;
-        self.items.push(item)?;
+        match self.tree.reserve() {
+            Ok(()) => {}
+            Err(_) => return Err(LogStop::NoMemory),
+        }
+        match self.items.reserve(1) {
+            Ok(()) => {}
+            Err(_) => return Err(LogStop::NoMemory),
+        }
+        match self.exts.reserve(1) {
+            Ok(()) => {}
+            Err(_) => return Err(LogStop::NoMemory),
+        }
+        let (item, ext) = match copies(alloc, item, ext) {
+            Ok(copied) => copied,
+            Err(_) => return Err(LogStop::NoMemory),
+        };
+        self.items.push_reserved(item);
         self.exts.push_reserved(ext);
         self.tree.add(entry);
         Ok(())

@@ -35,6 +35,19 @@ pub(crate) fn put_header(bytes: &mut Vec<u8>, kind: u8, len: u32) -> Result<(), 
     Ok(())
 }
 
+/// The record of a block with its ext, and a closed gate, behind what is there.
+fn put_block(piece: &mut Vec<u8>, block: &[u8], ext: &[u8]) -> Result<(), NoMemory>
+    requires { 4 + length block.now + length ext.now < 2 ^ 32 }
+    ensures { OnOk result (piece.new.items ≡ piece.old.items ++ behind_gate (block_record block.now ext.now)) }
+{
+    put_header(piece, 3, (4 + block.len() + ext.len()) as u32)?;
+    piece.extend_from_slice(&(block.len() as u32).to_le_bytes())?;
+    piece.extend_from_slice(block)?;
+    piece.extend_from_slice(ext)?;
+    piece.push(0)?;
+    Ok(())
+}
+
 /// What [`append`](crate::append) writes behind a gate. Clauses see these bytes; there are none before the first
 /// `fill`.
 #[derive(Drop)]
@@ -67,15 +80,17 @@ impl Body {
         ensures filled { OnOk result (self.new ≡ behind_gate (block_record block.now ext.now)) }
         ensures err { OnErr result (self.new ≡ self.old) }
     {
-        let size = 4 + block.len() + ext.len();
-        let mut piece = Vec::with_capacity(alloc, size + 6)?;
-        put_header(&mut piece, 3, size as u32)?;
-        piece.extend_from_slice(&(block.len() as u32).to_le_bytes())?;
-        piece.extend_from_slice(block)?;
-        piece.extend_from_slice(ext)?;
-        piece.push(0)?;
-        self.piece = piece;
-        Ok(())
+        let mut piece = match Vec::with_capacity(alloc, 10 + block.len() + ext.len()) {
+            Ok(piece) => piece,
+            Err(_) => return Err(NoMemory),
+        };
+        match put_block(&mut piece, block, ext) {
+            Ok(()) => {
+                self.piece = piece;
+                Ok(())
+            }
+            Err(stop) => Err(stop),
+        }
     }
 
     /// What is written behind the gate.

@@ -102,7 +102,10 @@ fn mend<D: Disk>(disk: &mut D, place: u64, open_gate: bool) -> Result<(), Failed
     ensures cause { HasCause (D.faults disk.old) (D.faults disk.new) result }
 {
     if open_gate {
-        write_durably(disk, Area::Log, place, &[0])?;
+        match write_durably(disk, Area::Log, place, &[0]) {
+            Ok(()) => {}
+            Err(failed) => return Err(failed),
+        }
     }
     Ok(())
 }

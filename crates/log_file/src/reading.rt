@@ -55,10 +55,17 @@ fn read_piece<D: Disk>(
     ensures reads { IfErr result (λ stop. stop ≢ LogStop.NotAStore) }
     ensures cause { CountsFault (D.faults disk.old) (D.faults disk.new) (result ≡ Err LogStop.DiskFault) }
 {
-    let mut bytes = vec![in alloc; 0u8; size]?;
-    let n = read_behind(disk, at, front, &mut bytes)?;
-    bytes.truncate(n);
-    Ok(bytes)
+    let mut bytes = match vec![in alloc; 0u8; size] {
+        Ok(bytes) => bytes,
+        Err(_) => return Err(LogStop::NoMemory),
+    };
+    match read_behind(disk, at, front, &mut bytes) {
+        Ok(n) => {
+            bytes.truncate(n);
+            Ok(bytes)
+        }
+        Err(_) => Err(LogStop::DiskFault),
+    }
 }
 
 /// The bytes that the record at the front says to have, or none where no open gate stands there.
@@ -160,16 +167,20 @@ impl Reader {
             return Ok(());
         }
         let size = self.left().min(need.max(PIECE));
-        let bytes = read_piece(
+        match read_piece(
             alloc,
             disk,
             self.at,
             &self.bytes[self.from..],
             size as usize,
-        )?;
-        self.bytes = bytes;
-        self.from = 0;
-        Ok(())
+        ) {
+            Ok(bytes) => {
+                self.bytes = bytes;
+                self.from = 0;
+                Ok(())
+            }
+            Err(stop) => Err(stop),
+        }
     }
 
     /// Reads on, so that the record that stands here is in memory, if one does, and a byte in any case.
@@ -189,10 +200,16 @@ impl Reader {
         ensures cause { CountsFault (D.faults disk.old) (D.faults disk.new) (result ≡ Err LogStop.DiskFault) }
     {
         let left = self.left();
-        self.fill(alloc, disk, left.min(7))?;
+        match self.fill(alloc, disk, left.min(7)) {
+            Ok(()) => {}
+            Err(stop) => return Err(stop),
+        }
         let size = record_size(self.ahead());
         if size < left {
-            self.fill(alloc, disk, size + 1)?;
+            match self.fill(alloc, disk, size + 1) {
+                Ok(()) => {}
+                Err(stop) => return Err(stop),
+            }
         }
         Ok(())
     }

@@ -32,7 +32,10 @@ fn read_start<D: Disk>(alloc: Global, disk: &mut D, reader: &mut Reader) -> Resu
     if reader.left() < 8 {
         return Err(LogStop::NotAStore);
     }
-    reader.fill(alloc, disk, 8)?;
+    match reader.fill(alloc, disk, 8) {
+        Ok(()) => {}
+        Err(stop) => return Err(stop),
+    }
     if !is_start(reader.ahead()) {
         return Err(LogStop::NotAStore);
     }

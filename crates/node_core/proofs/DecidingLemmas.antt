@@ -44,7 +44,7 @@ use Rattle.node_core.specs.declared.deciding.Decision.{Decision}
 use Rattle.node_core.specs.declared.deciding.Decision.TheVariants.{Joins, Stays}
 use Rattle.node_core.specs.Node.{AreKept}
 use Rattle.node_core.proofs.JoiningLemmas.{few-heights}
-use Rattle.node_core.specs.Judging.{AreCellsOn, IsEntryOn, IsJudged, IsDecidedBlock, IsDecided, IsReady}
+use Rattle.node_core.specs.Judging.{AreCellsOn, IsEntryOn, IsJudged, IsDecidedBlock, IsDecided, IsReady, IsReadyBlock, IsReadyItem}
 
 -- ---- What it is judged over
 
@@ -183,6 +183,15 @@ pub decided-else : {E : Type 0} (chain : Chain) (item : List ℕ) (b : Block) (r
     → IfOk result (IsDecidedBlock chain b) → IfOk result (IsDecided chain item)
 decided-else chain item b (Ok decision) is here = decided-item chain item b decision is here
 decided-else chain item b (Err stop) is here = tt
+
+ready-item : (kept : List Block) (item : List ℕ) (b : Block) (decision : Decision) → decoded block item ≡ Some b → IsReadyBlock kept b decision → IsReadyItem kept item decision
+ready-item kept item b (Joins joining) is here = (b, is, here)
+ready-item kept item b (Stays answer) is here = here
+
+pub ready-else : {E : Type 0} (kept : List Block) (item : List ℕ) (b : Block) (result : Result Decision E) → decoded block item ≡ Some b
+    → IfOk result (IsReadyBlock kept b) → IfOk result (IsReadyItem kept item)
+ready-else kept item b (Ok decision) is here = ready-item kept item b decision is here
+ready-else kept item b (Err stop) is here = tt
 
 -- ---- A transaction alone
 

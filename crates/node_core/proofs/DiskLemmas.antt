@@ -5,7 +5,8 @@ use Rattle.std.specs.Option.{option_map}
 use Rattle.outside.specs.declared.disk.Area.TheVariants.{Log}
 use Rattle.outside.specs.Causes.{CountsFault}
 use Rattle.outside.specs.Image.{Image, with_content}
-use Rattle.outside.specs.Disk.{OthersRead}
+use Rattle.outside.specs.Disk.{OthersRead, LeavesOnly}
+use Rattle.outside.proofs.Moments.{started}
 use Rattle.verdict_defs.specs.Chain.{chain_after}
 use Rattle.verdict_defs.specs.Laws.{CanJoin}
 use Rattle.store_defs.specs.Log.{record_bytes}
@@ -32,6 +33,14 @@ counts_also before now counts there back = record {
   rose = λ fault. counts.rose (there fault);
   unchanged = λ never. counts.unchanged (λ first. never (back first));
 }
+
+-- before the first call a crash leaves what stands for the chain
+pub before_calls : {D : Type 0} (moment : D → ℕ) (left_since : D → ℕ → Image → Type 0) (images : D → Image → Type 0)
+    → ((disk : D) (image : Image) → left_since disk (moment disk) image → images disk image)
+    → (node : NodeValue) (reads : Option Image) (disk : D) (item : List ℕ) → IsOn node reads (images disk)
+    → LeavesOnly moment left_since disk disk (λ image. StandsFor node.chain image ⊎ StandsFor (chain_after node.chain item) image)
+before_calls moment left_since images only_now node reads disk item on =
+    started moment left_since disk _ (λ image left. inl (subst (StandsFor node.chain) (sym (on.one image (only_now disk image left))) on.stands))
 
 pub same_image : (image now : Image) → image.log ≡ now.log → image.snap_a ≡ now.snap_a → image.snap_b ≡ now.snap_b → image ≡ now
 same_image image now log snap_a snap_b = λ i. record { log = log i; snap_a = snap_a i; snap_b = snap_b i }

@@ -5,6 +5,9 @@ use Rattle.std.proofs.lemmas.Bool.{ne_eqb}
 use Rattle.std.proofs.lemmas.List.{get_or-map}
 use Rattle.std.proofs.lemmas.Option.{slice_get-get_or}
 use Rattle.outside.specs.declared.disk.Area.TheVariants.{Log, SnapA, SnapB}
+use Rattle.outside.specs.declared.disk.Damage.{Damage}
+use Rattle.outside.specs.declared.disk.ReadStop.{ReadStop}
+use Rattle.outside.specs.declared.disk.ReadStop.TheVariants.{DiskFault, Damaged, NoMemory}
 use Rattle.outside.specs.Image.{Image, with_content}
 use Rattle.outside.specs.Causes.{CountsFault}
 use Rattle.outside.specs.Disk.{NoneNew, IsDurable, HasOneImage, OthersRead, LeavesOnly}
@@ -356,3 +359,17 @@ pub one_after : (reads1 reads2 : Option Image) (images1 images2 : Image → Type
 one_after None reads2 images1 images2 place durable_a durable_b (bytes, wrote) settled left = subst (λ (o : Option Image). HasOneImage o images2) (sym wrote) tt
 one_after (Some now) reads2 images1 images2 place durable_a durable_b (bytes, wrote) settled left =
     one_as_read images1 images2 reads2 now place (records_of (drop 8 now.log)) bytes durable_a durable_b wrote settled left
+
+-- ---- The stops of reading are distinct
+
+pub memory_no_damage : {T : Type 0} (damage : Damage) → ◌≡◌ {A = Result T ReadStop} (Err NoMemory) (Err (Damaged damage)) → ⊥
+memory_no_damage damage is = absurd (cc)
+
+pub memory_no_fault : {T : Type 0} → ◌≡◌ {A = Result T ReadStop} (Err NoMemory) (Err DiskFault) → ⊥
+memory_no_fault is = absurd (cc)
+
+pub fault_no_damage : {T : Type 0} (damage : Damage) → ◌≡◌ {A = Result T ReadStop} (Err DiskFault) (Err (Damaged damage)) → ⊥
+fault_no_damage damage is = absurd (cc)
+
+pub damage_no_fault : {T : Type 0} (damage : Damage) → ◌≡◌ {A = Result T ReadStop} (Err (Damaged damage)) (Err DiskFault) → ⊥
+damage_no_fault damage is = absurd (cc)

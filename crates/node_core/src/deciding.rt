@@ -86,7 +86,10 @@ impl Kept {
         if place == self.tree.tip() {
             return Ok(None);
         }
-        let cells = replay(alloc, &self.tree, &mut self.blocks, place, steps)?;
+        let cells = match replay(alloc, &self.tree, &mut self.blocks, place, steps) {
+            Ok(cells) => cells,
+            Err(stop) => return Err(stop),
+        };
         Ok(Some(cells))
     }
 
@@ -108,7 +111,10 @@ impl Kept {
         ensures steps { tip_place self.old.blocks ≡ Some entry.parent → steps.new ≡ steps.old }
     {
         let parent = entry.parent;
-        let cells = self.replayed(alloc, parent, steps)?;
+        let cells = match self.replayed(alloc, parent, steps) {
+            Ok(cells) => cells,
+            Err(stop) => return Err(stop),
+        };
         let state = cells_or(&cells, &self.state);
         match judge(
             alloc,

@@ -251,10 +251,22 @@ fn put(
     ensures uncles { (kept : List Block) → IndexesBlocks kept tree.old.entries
         → OnOk result (uncles.new.embedded ≡ uncles.old.embedded ++ embedded_in (length kept) block.now) }
 {
-    take_uncles(uncles, block, tree.len())?;
-    let copy = item.to_vec(alloc)?;
-    tree.reserve()?;
-    blocks.push(copy, ext)?;
+    match take_uncles(uncles, block, tree.len()) {
+        Ok(()) => {}
+        Err(_) => return Err(NoMemory),
+    }
+    match tree.reserve() {
+        Ok(()) => {}
+        Err(_) => return Err(NoMemory),
+    }
+    let copy = match item.to_vec(alloc) {
+        Ok(copy) => copy,
+        Err(_) => return Err(NoMemory),
+    };
+    match blocks.push(copy, ext) {
+        Ok(()) => {}
+        Err(_) => return Err(NoMemory),
+    }
     tree.add(entry);
     Ok(())
 }

@@ -137,11 +137,15 @@ impl Kept {
         ensures reads { result ≢ Err DiskFault }
     {
         if !are_rated(&tree) || !have_exts(&blocks, &exts) {
+            drop((blocks, exts, tree));
             return Err(LogStop::NotAStore);
         }
         let uncles = match uncles_of(alloc, &blocks) {
             Ok(uncles) => uncles,
-            Err(_) => return Err(LogStop::NoMemory),
+            Err(_) => {
+                drop((blocks, exts, tree));
+                return Err(LogStop::NoMemory);
+            }
         };
         let mut blocks = ListBlocks::new(blocks, exts);
         match replay(alloc, &tree, &mut blocks, tree.tip(), steps) {
@@ -152,7 +156,10 @@ impl Kept {
                 uncles,
                 state,
             }),
-            Err(stop) => Err(stop_of_replay(stop)),
+            Err(stop) => {
+                drop((blocks, tree, uncles));
+                Err(stop_of_replay(stop))
+            }
         }
     }
 }

@@ -1,9 +1,9 @@
-use Rattle.std.proofs.Common.{refl, ◌∙◌, arith, rules}
+use Rattle.std.proofs.Common.{refl, ◌∙◌, arith, inl, Err, ap}
 use Rattle.outside.proofs.Moments.{leaves_also, leaves_then}
-use Rattle.log_file.proofs.Exits.{on_each}
+use Rattle.log_file.proofs.Exits.{on_each, no_error, fault_not_wrong, fault_counts, stop_counts, answer_counts, answer_still, counts_on, same_stop}
 use Rattle.log_file.proofs.Front.{on_same}
 use Rattle.log_file.proofs.Judging.{kept_limit_is}
-use Rattle.log_file.proofs.Settling.{others_kept, durable_on, told_settled, told_moments}
+use Rattle.log_file.proofs.Settling.{others_kept, durable_on, told_settled, told_moments, read_only, wrong_on, told_log, told_at_rest, others_on}
 use Rattle.log_file.proofs.opening.open.Goals as goal
 
 pub returns-in-Err-clause-others : goal.returns-in-Err-clause-others
@@ -75,7 +75,7 @@ pub returns-in-Err-clause-there : goal.returns-in-Err-clause-there
 returns-in-Err-clause-there g c = tt
 
 pub returns-in-Err-clause-not_a_store : goal.returns-in-Err-clause-not_a_store
-returns-in-Err-clause-not_a_store g c = search rules
+returns-in-Err-clause-not_a_store g c = on_each (g.D.Disk.reads_as c.args.disk.now) _ (λ _ e. absurd (fault_not_wrong e))
 
 pub returns-in-Err-clause-at_rest : goal.returns-in-Err-clause-at_rest
 returns-in-Err-clause-at_rest g c = on_each (g.D.Disk.reads_as c.args.disk.now) _ (λ _ _. c.in-Err.ensures.same)
@@ -84,16 +84,18 @@ pub returns-in-Err-clause-unwritten : goal.returns-in-Err-clause-unwritten
 returns-in-Err-clause-unwritten g c = λ _. c.in-Err.ensures.same
 
 pub returns-in-Err-clause-only_read : goal.returns-in-Err-clause-only_read
-returns-in-Err-clause-only_read g c = search rules
+returns-in-Err-clause-only_read g c = λ e. absurd (fault_not_wrong e)
 
 pub returns-in-Err-clause-no_log : goal.returns-in-Err-clause-no_log
-returns-in-Err-clause-no_log g c = search rules
+returns-in-Err-clause-no_log g c =
+    on_each (g.D.Disk.reads_as c.args.disk.now) _ (λ _ _. record { reads = c.in-Err.ensures.same; images = c.in-Err.ensures.images; moments = c.in-Err.ensures.moments })
 
 pub returns-in-Err-clause-cause : goal.returns-in-Err-clause-cause
-returns-in-Err-clause-cause g c = search rules
+returns-in-Err-clause-cause g c = fault_counts _ _ _ _ c.in-Err.ensures.cause
 
 pub returns-in-Err-clause-moments : goal.returns-in-Err-clause-moments
-returns-in-Err-clause-moments g c = search rules
+returns-in-Err-clause-moments g c =
+    on_each (g.D.Disk.reads_as c.args.disk.now) _ (λ _. leaves_also g.D.Disk.moment g.D.Disk.left_since _ _ _ _ c.in-Err.ensures.moments (λ image left. inl left))
 
 pub returns-in-Err-read_log-clause-opened : goal.returns-in-Err-read_log-clause-opened
 returns-in-Err-read_log-clause-opened g c = on_each (g.D.Disk.reads_as c.args.disk.now) _ (λ _. tt)
@@ -120,7 +122,7 @@ pub returns-in-Err-read_log-clause-there : goal.returns-in-Err-read_log-clause-t
 returns-in-Err-read_log-clause-there g c = tt
 
 pub returns-in-Err-read_log-clause-not_a_store : goal.returns-in-Err-read_log-clause-not_a_store
-returns-in-Err-read_log-clause-not_a_store g c = search rules
+returns-in-Err-read_log-clause-not_a_store g c = wrong_on _ _ _ _ _ (λ e. ap Err (same_stop _ _ e)) c.in-Ok.ensures.same c.in-Err-read_log.ensures.not_a_store
 
 pub returns-in-Err-read_log-clause-at_rest : goal.returns-in-Err-read_log-clause-at_rest
 returns-in-Err-read_log-clause-at_rest g c = on_each (g.D.Disk.reads_as c.args.disk.now) _ (λ _ _. c.in-Err-read_log.ensures.as_before.reads ∙ c.in-Ok.ensures.same)
@@ -129,16 +131,21 @@ pub returns-in-Err-read_log-clause-unwritten : goal.returns-in-Err-read_log-clau
 returns-in-Err-read_log-clause-unwritten g c = λ _. c.in-Err-read_log.ensures.as_before.reads ∙ c.in-Ok.ensures.same
 
 pub returns-in-Err-read_log-clause-only_read : goal.returns-in-Err-read_log-clause-only_read
-returns-in-Err-read_log-clause-only_read g c = search rules
+returns-in-Err-read_log-clause-only_read g c =
+    λ _. read_only g.D.Disk.reads_as g.D.Disk.images g.D.Disk.moment g.D.Disk.left_since _ _ _ c.in-Ok.ensures.same c.in-Ok.ensures.images c.in-Ok.ensures.moments c.in-Err-read_log.ensures.as_before
 
 pub returns-in-Err-read_log-clause-no_log : goal.returns-in-Err-read_log-clause-no_log
-returns-in-Err-read_log-clause-no_log g c = search rules
+returns-in-Err-read_log-clause-no_log g c =
+    on_each (g.D.Disk.reads_as c.args.disk.now) _ (λ _ _.
+    read_only g.D.Disk.reads_as g.D.Disk.images g.D.Disk.moment g.D.Disk.left_since _ _ _ c.in-Ok.ensures.same c.in-Ok.ensures.images c.in-Ok.ensures.moments c.in-Err-read_log.ensures.as_before)
 
 pub returns-in-Err-read_log-clause-cause : goal.returns-in-Err-read_log-clause-cause
-returns-in-Err-read_log-clause-cause g c = search rules
+returns-in-Err-read_log-clause-cause g c = counts_on _ _ _ (c.in-Ok.ensures.cause.unchanged refl) (stop_counts _ _ _ _ c.in-Err-read_log.ensures.cause)
 
 pub returns-in-Err-read_log-clause-moments : goal.returns-in-Err-read_log-clause-moments
-returns-in-Err-read_log-clause-moments g c = search rules
+returns-in-Err-read_log-clause-moments g c =
+    let only = read_only g.D.Disk.reads_as g.D.Disk.images g.D.Disk.moment g.D.Disk.left_since _ _ _ c.in-Ok.ensures.same c.in-Ok.ensures.images c.in-Ok.ensures.moments c.in-Err-read_log.ensures.as_before in
+    on_each (g.D.Disk.reads_as c.args.disk.now) _ (λ _. leaves_also g.D.Disk.moment g.D.Disk.left_since _ _ _ _ only.moments (λ image left. inl left))
 
 pub returns-in-Err-mend-clause-opened : goal.returns-in-Err-mend-clause-opened
 returns-in-Err-mend-clause-opened g c = on_each (g.D.Disk.reads_as c.args.disk.now) _ (λ _. tt)
@@ -165,25 +172,26 @@ pub returns-in-Err-mend-clause-there : goal.returns-in-Err-mend-clause-there
 returns-in-Err-mend-clause-there g c = tt
 
 pub returns-in-Err-mend-clause-not_a_store : goal.returns-in-Err-mend-clause-not_a_store
-returns-in-Err-mend-clause-not_a_store g c = search rules
+returns-in-Err-mend-clause-not_a_store g c = on_each (g.D.Disk.reads_as c.args.disk.now) _ (λ _ e. absurd (fault_not_wrong e))
 
 pub returns-in-Err-mend-clause-at_rest : goal.returns-in-Err-mend-clause-at_rest
-returns-in-Err-mend-clause-at_rest g c = search rules
+returns-in-Err-mend-clause-at_rest g c = told_at_rest _ _ _ _ _ c.in-Ok.ensures.same (c.in-Ok-read_log.ensures.as_before.reads ∙ c.in-Ok.ensures.same) c.in-Ok-read_log.ensures.ends c.mend.ensures.at_rest
 
 pub returns-in-Err-mend-clause-unwritten : goal.returns-in-Err-mend-clause-unwritten
 returns-in-Err-mend-clause-unwritten g c = λ other. absurd (other refl)
 
 pub returns-in-Err-mend-clause-only_read : goal.returns-in-Err-mend-clause-only_read
-returns-in-Err-mend-clause-only_read g c = search rules
+returns-in-Err-mend-clause-only_read g c = λ e. absurd (fault_not_wrong e)
 
 pub returns-in-Err-mend-clause-no_log : goal.returns-in-Err-mend-clause-no_log
-returns-in-Err-mend-clause-no_log g c = search rules
+returns-in-Err-mend-clause-no_log g c = told_log _ _ _ _ _ _ _ c.in-Ok.ensures.same c.in-Ok-read_log.ensures.opened
 
 pub returns-in-Err-mend-clause-cause : goal.returns-in-Err-mend-clause-cause
-returns-in-Err-mend-clause-cause g c = search rules
+returns-in-Err-mend-clause-cause g c =
+    counts_on _ _ _ (c.in-Ok.ensures.cause.unchanged refl) (counts_on _ _ _ (answer_still _ _ _ _ c.in-Ok-read_log.ensures.cause) (fault_counts _ _ _ _ c.in-Err-mend.ensures.cause))
 
 pub returns-in-Err-mend-clause-others : goal.returns-in-Err-mend-clause-others
-returns-in-Err-mend-clause-others g c = search rules
+returns-in-Err-mend-clause-others g c = others_on _ _ _ (c.in-Ok-read_log.ensures.as_before.reads ∙ c.in-Ok.ensures.same) c.mend.ensures.others
 
 pub returns-in-Ok-mend-clause-opened : goal.returns-in-Ok-mend-clause-opened
 returns-in-Ok-mend-clause-opened g c = on_same _ _ _ c.in-Ok.ensures.same c.in-Ok-read_log.ensures.opened
@@ -210,16 +218,20 @@ pub returns-in-Ok-mend-clause-unwritten : goal.returns-in-Ok-mend-clause-unwritt
 returns-in-Ok-mend-clause-unwritten g c = tt
 
 pub returns-in-Ok-mend-clause-not_a_store : goal.returns-in-Ok-mend-clause-not_a_store
-returns-in-Ok-mend-clause-not_a_store g c = search rules
+returns-in-Ok-mend-clause-not_a_store g c = on_each (g.D.Disk.reads_as c.args.disk.now) _ (λ _ e. absurd (no_error _ _ e))
 
 pub returns-in-Ok-mend-clause-only_read : goal.returns-in-Ok-mend-clause-only_read
-returns-in-Ok-mend-clause-only_read g c = search rules
+returns-in-Ok-mend-clause-only_read g c = λ e. absurd (no_error _ _ e)
 
 pub returns-in-Ok-mend-clause-no_log : goal.returns-in-Ok-mend-clause-no_log
-returns-in-Ok-mend-clause-no_log g c = search rules
+returns-in-Ok-mend-clause-no_log g c = told_log _ _ _ _ _ _ _ c.in-Ok.ensures.same c.in-Ok-read_log.ensures.opened
 
 pub returns-in-Ok-mend-clause-others : goal.returns-in-Ok-mend-clause-others
-returns-in-Ok-mend-clause-others g c = search rules
+returns-in-Ok-mend-clause-others g c = others_on _ _ _ (c.in-Ok-read_log.ensures.as_before.reads ∙ c.in-Ok.ensures.same) c.mend.ensures.others
 
 pub returns-in-Ok-mend-clause-cause : goal.returns-in-Ok-mend-clause-cause
-returns-in-Ok-mend-clause-cause g c = search rules
+returns-in-Ok-mend-clause-cause g c =
+    counts_on _ _ _ (c.in-Ok.ensures.cause.unchanged refl) (counts_on _ _ _ (answer_still _ _ _ _ c.in-Ok-read_log.ensures.cause) (answer_counts _ _ _ _ (c.in-Ok-mend.ensures.cause.unchanged refl)))
+
+pub returns-in-Ok-mend-clause-at_rest : goal.returns-in-Ok-mend-clause-at_rest
+returns-in-Ok-mend-clause-at_rest g c = told_at_rest _ _ _ _ _ c.in-Ok.ensures.same (c.in-Ok-read_log.ensures.as_before.reads ∙ c.in-Ok.ensures.same) c.in-Ok-read_log.ensures.ends c.mend.ensures.at_rest

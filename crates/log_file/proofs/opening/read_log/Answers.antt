@@ -1,13 +1,13 @@
-use Rattle.std.proofs.Common.{rules}
+use Rattle.std.proofs.Common.{Err, ap}
 use Rattle.std.specs.Prelude.{IfSome}
-use Rattle.log_file.proofs.Exits.{on_each}
-use Rattle.log_file.proofs.Whole.{IsRead, told_read, told_wrong_blocks, told_opened, told_ends, told_gate}
+use Rattle.log_file.proofs.Exits.{on_each, no_error, stop_counts, answer_counts, answer_still, counts_on, as_before_then, same_stop}
+use Rattle.log_file.proofs.Whole.{IsRead, told_read, told_wrong_blocks, told_opened, told_ends, told_gate, told_wrong_front}
 use Rattle.log_file.proofs.opening.read_log.Goals as goal
 
 pub returns-in-Err-read_blocks-clause-not_a_store : goal.returns-in-Err-read_blocks-clause-not_a_store
 returns-in-Err-read_blocks-clause-not_a_store g c =
     let front = c.in-Ok.ensures in
-    told_wrong_blocks _ _ c.in-Ok.front.0 c.args.len c.new-reader.result c.read_front.new.reader c.in-Ok.front.1 _ _ (λ e. search rules) front.as_before.reads c.requires
+    told_wrong_blocks _ _ c.in-Ok.front.0 c.args.len c.new-reader.result c.read_front.new.reader c.in-Ok.front.1 _ _ (λ e. ap Err (same_stop _ _ e)) front.as_before.reads c.requires
     c.new-reader.ensures.reading front.found (c.in-Err-read_blocks.ensures.wrong c.in-Ok.front.0)
 
 all_read : (g : _) (c : goal.After-drop-reader-inside-2 g) → IfSome (g.D.Disk.reads_as c.args.disk.now) (λ image. IsRead image.log c.in-Ok.front.0 c.read_blocks.new.reader c.read_blocks.new.blocks)
@@ -51,13 +51,14 @@ pub returns-in-Err-clause-place : goal.returns-in-Err-clause-place
 returns-in-Err-clause-place g c = tt
 
 pub returns-in-Err-clause-not_a_store : goal.returns-in-Err-clause-not_a_store
-returns-in-Err-clause-not_a_store g c = search rules
+returns-in-Err-clause-not_a_store g c =
+    told_wrong_front _ _ _ _ _ (λ e. ap Err (same_stop _ _ e)) c.requires c.new-reader.ensures.reading c.in-Err.ensures.wrong
 
 pub returns-in-Err-clause-as_before : goal.returns-in-Err-clause-as_before
-returns-in-Err-clause-as_before g c = search rules
+returns-in-Err-clause-as_before g c = c.in-Err.ensures.as_before
 
 pub returns-in-Err-clause-cause : goal.returns-in-Err-clause-cause
-returns-in-Err-clause-cause g c = search rules
+returns-in-Err-clause-cause g c = stop_counts _ _ _ _ c.in-Err.ensures.cause
 
 pub returns-in-Err-read_blocks-clause-opened : goal.returns-in-Err-read_blocks-clause-opened
 returns-in-Err-read_blocks-clause-opened g c = on_each (g.D.Disk.reads_as c.args.disk.now) _ (λ _. tt)
@@ -81,7 +82,25 @@ pub returns-in-Err-read_blocks-clause-place : goal.returns-in-Err-read_blocks-cl
 returns-in-Err-read_blocks-clause-place g c = tt
 
 pub returns-in-Err-read_blocks-clause-as_before : goal.returns-in-Err-read_blocks-clause-as_before
-returns-in-Err-read_blocks-clause-as_before g c = search rules
+returns-in-Err-read_blocks-clause-as_before g c = as_before_then g.D.Disk.reads_as g.D.Disk.images g.D.Disk.moment g.D.Disk.left_since _ _ _ c.in-Ok.ensures.as_before c.in-Err-read_blocks.ensures.as_before
 
 pub returns-in-Err-read_blocks-clause-cause : goal.returns-in-Err-read_blocks-clause-cause
-returns-in-Err-read_blocks-clause-cause g c = search rules
+returns-in-Err-read_blocks-clause-cause g c = counts_on _ _ _ (answer_still _ _ _ _ c.in-Ok.ensures.cause) (stop_counts _ _ _ _ c.in-Err-read_blocks.ensures.cause)
+
+pub returns-clause-not_a_store : goal.returns-clause-not_a_store
+returns-clause-not_a_store g c = on_each (g.D.Disk.reads_as c.args.disk.now) _ (λ _ e. absurd (no_error _ _ e))
+
+pub returns-clause-as_before : goal.returns-clause-as_before
+returns-clause-as_before g c = as_before_then g.D.Disk.reads_as g.D.Disk.images g.D.Disk.moment g.D.Disk.left_since _ _ _ c.in-Ok.ensures.as_before c.in-Ok-read_blocks.ensures.as_before
+
+pub returns-clause-cause : goal.returns-clause-cause
+returns-clause-cause g c = counts_on _ _ _ (answer_still _ _ _ _ c.in-Ok.ensures.cause) (answer_counts _ _ _ _ (answer_still _ _ _ _ c.in-Ok-read_blocks.ensures.cause))
+
+pub returns-clause-blocks : goal.returns-clause-blocks
+returns-clause-blocks g c = c.into_parts-blocks.ensures.blocks
+
+pub returns-clause-beside : goal.returns-clause-beside
+returns-clause-beside g c = c.into_parts-blocks.ensures.beside
+
+pub returns-clause-few : goal.returns-clause-few
+returns-clause-few g c = c.into_parts-blocks.ensures.few

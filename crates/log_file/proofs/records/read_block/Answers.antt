@@ -1,5 +1,5 @@
 use Rattle.std.proofs.Common.{sym}
-use Rattle.log_file.proofs.Exits.{on_each, no_answer, no_error, not_yes, same_stop}
+use Rattle.log_file.proofs.Exits.{on_each, no_answer, no_error, not_yes, same_stop, stop_counts, answer_counts, answer_still}
 use Rattle.log_file.proofs.records.read_block.Goals as goal
 
 pub returns-in-Err-clause-at : goal.returns-in-Err-clause-at
@@ -94,3 +94,12 @@ returns-clause-wrong g c = on_each (g.D.Disk.reads_as c.args.disk.now) _ (λ _ _
 
 pub returns-clause-as_before : goal.returns-clause-as_before
 returns-clause-as_before g c = c.in-Ok.ensures.as_before
+
+pub returns-in-Err-clause-cause : goal.returns-in-Err-clause-cause
+returns-in-Err-clause-cause g c = stop_counts _ _ _ _ c.in-Err.ensures.cause
+
+pub returns-clause-cause : goal.returns-clause-cause
+returns-clause-cause g c = answer_counts _ _ _ _ (answer_still _ _ _ _ c.in-Ok.ensures.cause)
+
+pub returns-in_default-clause-cause : goal.returns-in_default-clause-cause
+returns-in_default-clause-cause g c = answer_counts _ _ _ _ (answer_still _ _ _ _ c.in-Ok.ensures.cause)

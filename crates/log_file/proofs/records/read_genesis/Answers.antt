@@ -1,4 +1,4 @@
-use Rattle.log_file.proofs.Exits.{on_each, no_error, same_stop}
+use Rattle.log_file.proofs.Exits.{on_each, no_error, same_stop, stop_counts, answer_counts, answer_still}
 use Rattle.log_file.proofs.records.read_genesis.Goals as goal
 
 pub returns-in-Err-clause-at : goal.returns-in-Err-clause-at
@@ -54,3 +54,9 @@ returns-clause-as_before g c = c.in-Ok.ensures.as_before
 
 pub returns-clause-wrong : goal.returns-clause-wrong
 returns-clause-wrong g c = on_each (g.D.Disk.reads_as c.args.disk.now) _ (λ _ _ e. absurd (no_error _ _ e))
+
+pub returns-in-Err-clause-cause : goal.returns-in-Err-clause-cause
+returns-in-Err-clause-cause g c = stop_counts _ _ _ _ c.in-Err.ensures.cause
+
+pub returns-clause-cause : goal.returns-clause-cause
+returns-clause-cause g c = answer_counts _ _ _ _ (answer_still _ _ _ _ c.in-Ok.ensures.cause)

@@ -1,6 +1,8 @@
+use Rattle.std.proofs.Common.{arith}
 use Rattle.cell_defs.specs.Events.{events_of_block}
 use Rattle.cell_state.specs.State.{rows}
 use Rattle.replay.proofs.FitLemmas.{all-same, none-odd}
+use Rattle.node_core.proofs.OpenLemmas.{ok_err, memory_no_damage, memory_no_fault, damage_no_fault}
 use Rattle.node_core.proofs.kept.grown.Goals as goal
 
 pub returns-in-Err-apply-clause-undamaged : goal.returns-in-Err-apply-clause-undamaged
@@ -8,3 +10,33 @@ returns-in-Err-apply-clause-undamaged g c height above fit damage was =
     none-odd c.args.place (events_of_block height c.args.block.now) (rows c.reserve.new.self) c.in-Err-apply.field-0
     (all-same c.args.place (events_of_block height c.args.block.now) (rows c.args.cells) (rows c.reserve.new.self) c.in-Ok.ensures.rows fit)
     (c.in-Err-apply.ensures.odd height above)
+
+pub returns-in-Err-clause-of_branch : goal.returns-in-Err-clause-of_branch
+returns-in-Err-clause-of_branch g c = tt
+
+pub returns-in-Err-clause-undamaged : goal.returns-in-Err-clause-undamaged
+returns-in-Err-clause-undamaged g c = λ _ _ _ damage e. memory_no_damage damage e
+
+pub returns-in-Err-clause-damage : goal.returns-in-Err-clause-damage
+returns-in-Err-clause-damage g c = λ damage e. absurd (memory_no_damage damage e)
+
+pub returns-in-Err-clause-reads : goal.returns-in-Err-clause-reads
+returns-in-Err-clause-reads g c = memory_no_fault
+
+pub returns-in-Err-clause-most : goal.returns-in-Err-clause-most
+returns-in-Err-clause-most g c = omega arith
+
+pub returns-in-Err-apply-clause-of_branch : goal.returns-in-Err-apply-clause-of_branch
+returns-in-Err-apply-clause-of_branch g c = tt
+
+pub returns-in-Err-apply-clause-reads : goal.returns-in-Err-apply-clause-reads
+returns-in-Err-apply-clause-reads g c = damage_no_fault _
+
+pub returns-in-Ok-apply-clause-undamaged : goal.returns-in-Ok-apply-clause-undamaged
+returns-in-Ok-apply-clause-undamaged g c = λ _ _ _ _ e. ok_err _ _ e
+
+pub returns-in-Ok-apply-clause-damage : goal.returns-in-Ok-apply-clause-damage
+returns-in-Ok-apply-clause-damage g c = λ _ e. absurd (ok_err _ _ e)
+
+pub returns-in-Ok-apply-clause-reads : goal.returns-in-Ok-apply-clause-reads
+returns-in-Ok-apply-clause-reads g c = λ e. ok_err _ _ e

@@ -4,4 +4,52 @@ use Rattle.node_core.proofs.kept.put.Goals as goal
 
 pub returns-clause-uncles : goal.returns-clause-uncles
 returns-clause-uncles c = λ kept indexed.
-    c.in_ok-take_uncles.ensures ∙ ap (λ (n : ℕ). c.args.uncles.now.embedded ++ embedded_in n c.args.block.now) (c.len.ensures.of_blocks kept indexed)
+    c.in-Ok.ensures ∙ ap (λ (n : ℕ). c.args.uncles.now.embedded ++ embedded_in n c.args.block.now) (c.len.ensures.of_blocks kept indexed)
+
+pub returns-in-Err-clause-blocks : goal.returns-in-Err-clause-blocks
+returns-in-Err-clause-blocks c = λ _ _. tt
+
+pub returns-in-Err-clause-entries : goal.returns-in-Err-clause-entries
+returns-in-Err-clause-entries c = tt
+
+pub returns-in-Err-clause-indexed : goal.returns-in-Err-clause-indexed
+returns-in-Err-clause-indexed c = λ _ _ _ _ _. tt
+
+pub returns-in-Err-clause-uncles : goal.returns-in-Err-clause-uncles
+returns-in-Err-clause-uncles c = λ _ _. tt
+
+pub returns-in-Err-reserve-clause-blocks : goal.returns-in-Err-reserve-clause-blocks
+returns-in-Err-reserve-clause-blocks c = λ _ _. tt
+
+pub returns-in-Err-reserve-clause-entries : goal.returns-in-Err-reserve-clause-entries
+returns-in-Err-reserve-clause-entries c = tt
+
+pub returns-in-Err-reserve-clause-indexed : goal.returns-in-Err-reserve-clause-indexed
+returns-in-Err-reserve-clause-indexed c = λ _ _ _ _ _. tt
+
+pub returns-in-Err-reserve-clause-uncles : goal.returns-in-Err-reserve-clause-uncles
+returns-in-Err-reserve-clause-uncles c = λ _ _. tt
+
+pub returns-in-Err-to_vec-clause-blocks : goal.returns-in-Err-to_vec-clause-blocks
+returns-in-Err-to_vec-clause-blocks c = λ _ _. tt
+
+pub returns-in-Err-to_vec-clause-entries : goal.returns-in-Err-to_vec-clause-entries
+returns-in-Err-to_vec-clause-entries c = tt
+
+pub returns-in-Err-to_vec-clause-indexed : goal.returns-in-Err-to_vec-clause-indexed
+returns-in-Err-to_vec-clause-indexed c = λ _ _ _ _ _. tt
+
+pub returns-in-Err-to_vec-clause-uncles : goal.returns-in-Err-to_vec-clause-uncles
+returns-in-Err-to_vec-clause-uncles c = λ _ _. tt
+
+pub returns-in-Err-push-clause-blocks : goal.returns-in-Err-push-clause-blocks
+returns-in-Err-push-clause-blocks c = λ _ _. tt
+
+pub returns-in-Err-push-clause-entries : goal.returns-in-Err-push-clause-entries
+returns-in-Err-push-clause-entries c = tt
+
+pub returns-in-Err-push-clause-indexed : goal.returns-in-Err-push-clause-indexed
+returns-in-Err-push-clause-indexed c = λ _ _ _ _ _. tt
+
+pub returns-in-Err-push-clause-uncles : goal.returns-in-Err-push-clause-uncles
+returns-in-Err-push-clause-uncles c = λ _ _. tt

@@ -1,6 +1,10 @@
-use Rattle.std.proofs.Common.{sym}
-use Rattle.node_core.proofs.DecidingLemmas.{verdict-no-block, decided-else}
+use Rattle.std.proofs.Common.{sym, refl, ◌≡◌, ◌∙◌, subst}
+use Rattle.node_core.proofs.DecidingLemmas.{verdict-no-block, decided-else, ready-else}
 use Rattle.node_core.proofs.OpenLemmas.{ok_err}
+use Rattle.std.proofs.lemmas.Option.{same_Some}
+use Rattle.codec_defs.specs.Schema.{Block}
+use Rattle.chain_defs.specs.Kept.{place_of}
+use Rattle.chain_defs.specs.Tip.{tip_place}
 use Rattle.node_core.proofs.kept.Kept.decide.Goals as goal
 
 pub returns-in-None-clause-decided : goal.returns-in-None-clause-decided
@@ -18,3 +22,33 @@ returns-in-None-clause-damage g c = λ _ e. absurd (ok_err _ _ e)
 
 pub returns-in-None-clause-reads : goal.returns-in-None-clause-reads
 returns-in-None-clause-reads g c = λ e. ok_err _ _ e
+
+pub returns-in-None-clause-same : goal.returns-in-None-clause-same
+returns-in-None-clause-same g c = refl
+
+pub returns-in-None-clause-ready : goal.returns-in-None-clause-ready
+returns-in-None-clause-ready g c = refl
+
+pub returns-in-None-clause-steps : goal.returns-in-None-clause-steps
+returns-in-None-clause-steps g c = λ _ _ _. refl
+
+pub returns-in-Some-clause-same : goal.returns-in-Some-clause-same
+returns-in-Some-clause-same g c = c.decide_block.ensures.same
+
+pub returns-in-Some-clause-undamaged : goal.returns-in-Some-clause-undamaged
+returns-in-Some-clause-undamaged g c = c.decide_block.ensures.undamaged
+
+pub returns-in-Some-clause-damage : goal.returns-in-Some-clause-damage
+returns-in-Some-clause-damage g c = c.decide_block.ensures.damage
+
+pub returns-in-Some-clause-reads : goal.returns-in-Some-clause-reads
+returns-in-Some-clause-reads g c = c.decide_block.ensures.reads
+
+pub returns-in-Some-clause-ready : goal.returns-in-Some-clause-ready
+returns-in-Some-clause-ready g c =
+    ready-else c.args.self.now.blocks c.args.item.now c.in-Some.block c.decide_block.result (sym c.in-Some.ensures.value) c.decide_block.ensures.ready
+
+pub returns-in-Some-clause-steps : goal.returns-in-Some-clause-steps
+returns-in-Some-clause-steps g c = λ b is on_tip.
+    let same : b ≡ c.in-Some.block = sym (same_Some c.in-Some.block b (c.in-Some.ensures.value ∙ is)) in
+    c.decide_block.ensures.steps (subst (λ (x : Block). place_of c.args.self.now.blocks x.header.parent_hash ≡ tip_place c.args.self.now.blocks) same on_tip)

@@ -25,3 +25,27 @@ returns-in_default-clause-reads g c = λ e. ok_err _ _ e
 
 pub returns-in_default-clause-steps : goal.returns-in_default-clause-steps
 returns-in_default-clause-steps g c = λ _. refl
+
+pub returns-then-is_some-clause-ready : goal.returns-then-is_some-clause-ready
+returns-then-is_some-clause-ready g c = refl
+
+pub returns-in_default-clause-ready : goal.returns-in_default-clause-ready
+returns-in_default-clause-ready g c = refl
+
+pub returns-clause-same : goal.returns-clause-same
+returns-clause-same g c = c.judge_on.ensures.same
+
+pub returns-clause-ready : goal.returns-clause-ready
+returns-clause-ready g c = c.judge_on.ensures.ready
+
+pub returns-clause-decided : goal.returns-clause-decided
+returns-clause-decided g c = c.judge_on.ensures.decided
+
+pub returns-clause-undamaged : goal.returns-clause-undamaged
+returns-clause-undamaged g c = c.judge_on.ensures.undamaged
+
+pub returns-clause-damage : goal.returns-clause-damage
+returns-clause-damage g c = c.judge_on.ensures.damage
+
+pub returns-clause-reads : goal.returns-clause-reads
+returns-clause-reads g c = c.judge_on.ensures.reads

@@ -1,4 +1,4 @@
-use Rattle.std.proofs.Common.{◌≡◌, List, length, refl, sym, ap, ◌∙◌, subst, arith, rules}
+use Rattle.std.proofs.Common.{◌≡◌, List, length, refl, sym, ap, ◌∙◌, subst, arith, Err}
 use Rattle.std.proofs.lemmas.Option.{same_Some}
 use Rattle.codec_defs.specs.Schema.{Block}
 use Rattle.chain_tree.specs.Told.{blocks_of}
@@ -7,7 +7,7 @@ use Rattle.verdict_defs.specs.Chain.{Chain}
 use Rattle.node_core.specs.Judging.{IsReady}
 use Rattle.node_core.proofs.DecidingLemmas.{few-entries}
 use Rattle.node_core.proofs.JoiningLemmas.{few-kept, follows-parent, hash-new, FitsOn, fits-on, ready-for, describes-named, chain-push, are-kept-push}
-use Rattle.node_core.proofs.OpenLemmas.{ok_err}
+use Rattle.node_core.proofs.OpenLemmas.{ok_err, same_stop, memory_no_damage, memory_no_fault}
 use Rattle.node_core.proofs.kept.Kept.join.Goals as goal
 
 pub returns-in-Err-clause-undamaged : goal.returns-in-Err-clause-undamaged
@@ -22,7 +22,7 @@ returns-in-Err-clause-undamaged g c b is joined may damage was =
     subst (λ (bs : List Block). FitsOn bs c.in-Some.block c.args.joining.entry.parent) (sym seen)
     (subst (λ (x : Block). FitsOn c.args.self.blocks x c.args.joining.entry.parent) (sym same) own) in
     let no = c.in-Err.ensures.undamaged kept fits.height c.self.invariant.indexed ready c.self.invariant.live fits.above fits.fits damage in
-    search (rules, no)
+    no (ap Err (same_stop _ _ was))
 
 pub put-requires-clause-few : goal.put-requires-clause-few
 put-requires-clause-few g c = few-kept (length c.self.inside.blocks.stored) c.self.invariant.few
@@ -107,3 +107,39 @@ pub state_with-requires : goal.state_with-requires
 state_with-requires g c = record {
   few = omega (arith, few-entries c.self.inside.blocks.stored c.self.inside.tree.entries c.self.inside.uncles (rows c.self.inside.state) c.self.invariant);
 }
+
+pub returns-in_default-clause-undamaged : goal.returns-in_default-clause-undamaged
+returns-in_default-clause-undamaged g c = λ _ _ _ _ damage e. memory_no_damage damage e
+
+pub returns-in_default-clause-damage : goal.returns-in_default-clause-damage
+returns-in_default-clause-damage g c = λ damage e. absurd (memory_no_damage damage e)
+
+pub returns-in_default-clause-reads : goal.returns-in_default-clause-reads
+returns-in_default-clause-reads g c = memory_no_fault
+
+pub returns-in-Err-put-clause-undamaged : goal.returns-in-Err-put-clause-undamaged
+returns-in-Err-put-clause-undamaged g c = λ _ _ _ _ damage e. memory_no_damage damage e
+
+pub returns-in-Err-put-clause-damage : goal.returns-in-Err-put-clause-damage
+returns-in-Err-put-clause-damage g c = λ damage e. absurd (memory_no_damage damage e)
+
+pub returns-in-Err-put-clause-reads : goal.returns-in-Err-put-clause-reads
+returns-in-Err-put-clause-reads g c = memory_no_fault
+
+pub returns-in_default-clause-most : goal.returns-in_default-clause-most
+returns-in_default-clause-most g c = omega arith
+
+pub returns-in-Err-put-clause-most : goal.returns-in-Err-put-clause-most
+returns-in-Err-put-clause-most g c = c.state_with.ensures.most
+
+pub returns-in-Ok-put-clause-most : goal.returns-in-Ok-put-clause-most
+returns-in-Ok-put-clause-most g c = c.state_with.ensures.most
+
+pub returns-in-Err-clause-most : goal.returns-in-Err-clause-most
+returns-in-Err-clause-most g c = c.state_with.ensures.most
+
+pub returns-in-Err-clause-damage : goal.returns-in-Err-clause-damage
+returns-in-Err-clause-damage g c = λ damage e. c.in-Err.ensures.damage damage (ap Err (same_stop _ _ e))
+
+pub returns-in-Err-clause-reads : goal.returns-in-Err-clause-reads
+returns-in-Err-clause-reads g c = λ e. c.in-Err.ensures.reads (ap Err (same_stop _ _ e))

@@ -1,10 +1,10 @@
-use Rattle.std.proofs.Common.{◌≡◌, None, Some, refl, ap, ◌∙◌, subst}
+use Rattle.std.proofs.Common.{◌≡◌, None, Some, refl, ap, ◌∙◌, subst, List, sym}
 use Rattle.std.specs.Prelude.{Err, length}
 use Rattle.fold_defs.specs.First.{first_failing}
 use Rattle.chain_defs.specs.Branch.{branch}
 use Rattle.chain_defs.proofs.KeptLaws.{place_of-below}
 use Rattle.rule_defs.specs.Header.{header_rules}
-use Rattle.chain_tree.specs.Told.{blocks_of}
+use Rattle.chain_tree.specs.Told.{blocks_of, Stored}
 use Rattle.cell_state.specs.State.{rows}
 use Rattle.block_defs.specs.Ext.{ext_of}
 use Rattle.block_defs.specs.Rules.{first_broken}
@@ -12,7 +12,9 @@ use Rattle.verdict_defs.specs.Chain.{Chain}
 use Rattle.verdict_defs.specs.Verdict.{verdict_of_block}
 use Rattle.verdict_defs.specs.declared.verdict.Verdict.TheVariants.{Refused}
 use Rattle.node_core.proofs.DecidingLemmas.{as-many, few-entries, within-entries, stands-at-hand, room-for, is-ready, is-judged, verdict-refused, verdict-full}
-use Rattle.node_core.proofs.OpenLemmas.{ok_err}
+use Rattle.node_core.proofs.OpenLemmas.{ok_err, same_stop}
+use Rattle.node_core.specs.Node.{AreKept}
+use Rattle.std.proofs.lemmas.Option.{same_Some}
 use Rattle.node_core.proofs.kept.Kept.judge_on.Goals as goal
 
 pub replayed-requires : goal.replayed-requires
@@ -36,8 +38,8 @@ pub returns-in-Err-Broken-clause-decided : goal.returns-in-Err-Broken-clause-dec
 returns-in-Err-Broken-clause-decided g c joined =
     let whole = c.self.view_is ∙ c.replayed.ensures.same in
     let stands = stands-at-hand c.self.inside.spec c.self.inside.blocks.stored c.self.inside.tree.entries c.self.inside.uncles c.self.inside.state
-    c.cells_or-state.result.now c.args.self.now c.args.block.now c.args.entry c.in_ok-cells.cells whole c.self.invariant c.requires joined
-    c.in_ok-cells.ensures.cells c.cells_or-state.ensures.given c.cells_or-state.ensures.tip in
+    c.cells_or-state.result.now c.args.self.now c.args.block.now c.args.entry c.in-Ok.cells whole c.self.invariant c.requires joined
+    c.in-Ok.ensures.cells c.cells_or-state.ensures.given c.cells_or-state.ensures.tip in
     let refused : Refused c.in-Err-Broken.rule ≡ verdict_of_block c.args.self.now.spec c.args.self.now.blocks c.args.block.now =
     verdict-refused c.args.self.now.spec c.args.self.now.blocks c.args.block.now c.args.entry c.requires c.in-Err-Broken.rule
     (subst (λ (v : Chain). first_broken v.spec (branch v.blocks c.args.entry.parent) c.args.block.now ≡ Some c.in-Err-Broken.rule) whole
@@ -49,8 +51,8 @@ pub returns-in-Err-Read-clause-undamaged : goal.returns-in-Err-Read-clause-undam
 returns-in-Err-Read-clause-undamaged g c joined damage was =
     let whole = c.self.view_is ∙ c.replayed.ensures.same in
     let stands = stands-at-hand c.self.inside.spec c.self.inside.blocks.stored c.self.inside.tree.entries c.self.inside.uncles c.self.inside.state
-    c.cells_or-state.result.now c.args.self.now c.args.block.now c.args.entry c.in_ok-cells.cells whole c.self.invariant c.requires joined
-    c.in_ok-cells.ensures.cells c.cells_or-state.ensures.given c.cells_or-state.ensures.tip in
+    c.cells_or-state.result.now c.args.self.now c.args.block.now c.args.entry c.in-Ok.cells whole c.self.invariant c.requires joined
+    c.in-Ok.ensures.cells c.cells_or-state.ensures.given c.cells_or-state.ensures.tip in
     let read = c.in-Err-Read.field-0-is in
     let is = c.in-Err-Read.stop-is in
     c.in-Err-Read.ensures.undamaged c.self.inside.blocks.stored refl stands c.self.invariant.uncles damage (cc)
@@ -58,36 +60,36 @@ returns-in-Err-Read-clause-undamaged g c joined damage was =
 pub returns-then-has_room-clause-ready : goal.returns-then-has_room-clause-ready
 returns-then-has_room-clause-ready g c =
     let whole = c.self.view_is ∙ c.replayed.ensures.same in
-    is-ready c.args.self.now.spec c.args.self.now.blocks c.args.block.now c.args.entry c.in-Ok.ext c.in_ok-cells.cells c.requires
+    is-ready c.args.self.now.spec c.args.self.now.blocks c.args.block.now c.args.entry c.in-Ok-judge.ext c.in-Ok.cells c.requires
     (subst (λ (v : Chain). first_failing (header_rules v.spec (branch v.blocks c.args.entry.parent) c.args.block.now) ≡ None) whole
-    (c.in-Ok.ensures.header (blocks_of c.self.inside.blocks.stored) c.self.invariant.indexed))
+    (c.in-Ok-judge.ensures.header (blocks_of c.self.inside.blocks.stored) c.self.invariant.indexed))
     (room-for c.len.result _ c.has_room.result c.has_room.ensures c.if-has_room.true
     (c.len.ensures.of_blocks (blocks_of c.self.inside.blocks.stored) c.self.invariant.indexed ∙ ap (λ (v : Chain). length v.blocks) whole))
-    c.in-Ok.ensures.rated c.in-Ok.ensures.fees c.in_ok-cells.ensures.cells
+    c.in-Ok-judge.ensures.rated c.in-Ok-judge.ensures.fees c.in-Ok.ensures.cells
 
 pub returns-then-has_room-clause-decided : goal.returns-then-has_room-clause-decided
 returns-then-has_room-clause-decided g c joined =
     let whole = c.self.view_is ∙ c.replayed.ensures.same in
     let stands = stands-at-hand c.self.inside.spec c.self.inside.blocks.stored c.self.inside.tree.entries c.self.inside.uncles c.self.inside.state
-    c.cells_or-state.result.now c.args.self.now c.args.block.now c.args.entry c.in_ok-cells.cells whole c.self.invariant c.requires joined
-    c.in_ok-cells.ensures.cells c.cells_or-state.ensures.given c.cells_or-state.ensures.tip in
-    is-judged c.args.self.now c.args.block.now (record { entry = c.args.entry; ext = c.in-Ok.ext; cells = c.in_ok-cells.cells }) c.requires
+    c.cells_or-state.result.now c.args.self.now c.args.block.now c.args.entry c.in-Ok.cells whole c.self.invariant c.requires joined
+    c.in-Ok.ensures.cells c.cells_or-state.ensures.given c.cells_or-state.ensures.tip in
+    is-judged c.args.self.now c.args.block.now (record { entry = c.args.entry; ext = c.in-Ok-judge.ext; cells = c.in-Ok.cells }) c.requires
     (subst (λ (v : Chain). first_broken v.spec (branch v.blocks c.args.entry.parent) c.args.block.now ≡ None) whole
-    (c.in-Ok.ensures.unbroken c.self.inside.blocks.stored refl stands c.self.invariant.uncles))
+    (c.in-Ok-judge.ensures.unbroken c.self.inside.blocks.stored refl stands c.self.invariant.uncles))
     (room-for c.len.result _ c.has_room.result c.has_room.ensures c.if-has_room.true
     (c.len.ensures.of_blocks (blocks_of c.self.inside.blocks.stored) c.self.invariant.indexed ∙ ap (λ (v : Chain). length v.blocks) whole))
-    (subst (λ (v : Chain). c.in-Ok.ext ≡ ext_of v.spec v.blocks c.args.entry.parent c.args.block.now) whole
-    (c.in-Ok.ensures.ext c.self.inside.blocks.stored refl stands c.self.invariant.uncles))
+    (subst (λ (v : Chain). c.in-Ok-judge.ext ≡ ext_of v.spec v.blocks c.args.entry.parent c.args.block.now) whole
+    (c.in-Ok-judge.ensures.ext c.self.inside.blocks.stored refl stands c.self.invariant.uncles))
 
 pub returns-clause-decided : goal.returns-clause-decided
 returns-clause-decided g c joined =
     let whole = c.self.view_is ∙ c.replayed.ensures.same in
     let stands = stands-at-hand c.self.inside.spec c.self.inside.blocks.stored c.self.inside.tree.entries c.self.inside.uncles c.self.inside.state
-    c.cells_or-state.result.now c.args.self.now c.args.block.now c.args.entry c.in_ok-cells.cells whole c.self.invariant c.requires joined
-    c.in_ok-cells.ensures.cells c.cells_or-state.ensures.given c.cells_or-state.ensures.tip in
+    c.cells_or-state.result.now c.args.self.now c.args.block.now c.args.entry c.in-Ok.cells whole c.self.invariant c.requires joined
+    c.in-Ok.ensures.cells c.cells_or-state.ensures.given c.cells_or-state.ensures.tip in
     verdict-full c.args.self.now.spec c.args.self.now.blocks c.args.block.now c.args.entry c.requires c.len.result c.has_room.result
     (subst (λ (v : Chain). first_broken v.spec (branch v.blocks c.args.entry.parent) c.args.block.now ≡ None) whole
-    (c.in-Ok.ensures.unbroken c.self.inside.blocks.stored refl stands c.self.invariant.uncles))
+    (c.in-Ok-judge.ensures.unbroken c.self.inside.blocks.stored refl stands c.self.invariant.uncles))
     c.has_room.ensures c.if-has_room.false
     (c.len.ensures.of_blocks (blocks_of c.self.inside.blocks.stored) c.self.invariant.indexed ∙ ap (λ (v : Chain). length v.blocks) whole)
 
@@ -123,3 +125,62 @@ returns-in-Err-Read-clause-ready g c = tt
 
 pub returns-in-Err-Read-clause-decided : goal.returns-in-Err-Read-clause-decided
 returns-in-Err-Read-clause-decided g c = λ _. tt
+
+pub returns-in-Err-clause-ready : goal.returns-in-Err-clause-ready
+returns-in-Err-clause-ready g c = tt
+
+pub returns-in-Err-clause-decided : goal.returns-in-Err-clause-decided
+returns-in-Err-clause-decided g c = λ _. tt
+
+pub returns-in-Err-clause-same : goal.returns-in-Err-clause-same
+returns-in-Err-clause-same g c = c.replayed.ensures.same
+
+pub returns-in-Err-clause-undamaged : goal.returns-in-Err-clause-undamaged
+returns-in-Err-clause-undamaged g c = λ joined damage e. c.in-Err.ensures.undamaged joined damage (ap Err (same_stop _ _ e))
+
+pub returns-in-Err-clause-damage : goal.returns-in-Err-clause-damage
+returns-in-Err-clause-damage g c = λ damage e. c.in-Err.ensures.damage damage (ap Err (same_stop _ _ e))
+
+pub returns-in-Err-clause-reads : goal.returns-in-Err-clause-reads
+returns-in-Err-clause-reads g c = λ e. c.in-Err.ensures.reads (ap Err (same_stop _ _ e))
+
+pub returns-in-Err-Broken-clause-ready : goal.returns-in-Err-Broken-clause-ready
+returns-in-Err-Broken-clause-ready g c = refl
+
+pub returns-clause-ready : goal.returns-clause-ready
+returns-clause-ready g c = refl
+
+pub returns-in-Err-clause-steps : goal.returns-in-Err-clause-steps
+returns-in-Err-clause-steps g c = c.replayed.ensures.steps
+
+pub returns-in-Err-Broken-clause-steps : goal.returns-in-Err-Broken-clause-steps
+returns-in-Err-Broken-clause-steps g c = c.replayed.ensures.steps
+
+pub returns-in-Err-Read-clause-steps : goal.returns-in-Err-Read-clause-steps
+returns-in-Err-Read-clause-steps g c = c.replayed.ensures.steps
+
+pub returns-then-has_room-clause-steps : goal.returns-then-has_room-clause-steps
+returns-then-has_room-clause-steps g c = c.replayed.ensures.steps
+
+pub returns-clause-steps : goal.returns-clause-steps
+returns-clause-steps g c = c.replayed.ensures.steps
+
+pub returns-in-Err-Broken-clause-same : goal.returns-in-Err-Broken-clause-same
+returns-in-Err-Broken-clause-same g c =
+    ap (λ (l : List Stored). record { spec = c.self.inside.spec; blocks = blocks_of l }) (same_Some _ _ c.judge.ensures.told) ∙ c.self.view_is ∙ c.replayed.ensures.same
+
+pub returns-in-Err-Read-clause-same : goal.returns-in-Err-Read-clause-same
+returns-in-Err-Read-clause-same g c =
+    ap (λ (l : List Stored). record { spec = c.self.inside.spec; blocks = blocks_of l }) (same_Some _ _ c.judge.ensures.told) ∙ c.self.view_is ∙ c.replayed.ensures.same
+
+pub returns-then-has_room-clause-same : goal.returns-then-has_room-clause-same
+returns-then-has_room-clause-same g c =
+    ap (λ (l : List Stored). record { spec = c.self.inside.spec; blocks = blocks_of l }) (same_Some _ _ c.judge.ensures.told) ∙ c.self.view_is ∙ c.replayed.ensures.same
+
+pub returns-clause-same : goal.returns-clause-same
+returns-clause-same g c =
+    ap (λ (l : List Stored). record { spec = c.self.inside.spec; blocks = blocks_of l }) (same_Some _ _ c.judge.ensures.told) ∙ c.self.view_is ∙ c.replayed.ensures.same
+
+pub invariant_of-self : goal.invariant_of-self
+invariant_of-self g c =
+    subst (λ (l : List Stored). AreKept l c.self.inside.tree.entries c.self.inside.uncles (rows c.self.inside.state)) (sym (same_Some _ _ c.judge.ensures.told)) c.self.invariant

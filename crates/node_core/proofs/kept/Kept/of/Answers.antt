@@ -5,8 +5,9 @@ use Rattle.chain_tree.specs.Told.{blocks_of}
 use Rattle.cell_state.specs.State.{rows}
 use Rattle.cell_model.specs.ListBlocks.{contents}
 use Rattle.node_core.proofs.OpeningLemmas.{as-many-contents, few-blocks, canonical-in, exts-in, can-be-listed, counts-entries, indexed-by, are-kept, rated-joined, fits-joined}
-use Rattle.node_core.proofs.OpenLemmas.{same_stop}
+use Rattle.node_core.proofs.OpenLemmas.{same_stop, ok_err}
 use Rattle.node_core.proofs.kept.Kept.of.Goals.{then-not-are_rated-via-then-not-are_rated, then-not-are_rated-via-else-not-are_rated+then-not-have_exts}
+use Rattle.log_file.proofs.Exits.{wrong_not_fault, not_wrong, memory_not_fault}
 use Rattle.node_core.proofs.kept.Kept.of.Goals as goal
 
 pub have_exts-requires-clause-canonical : goal.have_exts-requires-clause-canonical
@@ -75,3 +76,24 @@ returns-in-Err-replay-clause-spec g c = tt
 
 pub returns-in-Err-replay-clause-blocks : goal.returns-in-Err-replay-clause-blocks
 returns-in-Err-replay-clause-blocks g c = tt
+
+pub returns-then-not-are_rated-clause-reads : goal.returns-then-not-are_rated-clause-reads
+returns-then-not-are_rated-clause-reads g c = wrong_not_fault
+
+pub returns-in-Err-clause-joined : goal.returns-in-Err-clause-joined
+returns-in-Err-clause-joined g c = λ _ _ _ _ e. not_wrong e
+
+pub returns-in-Err-clause-reads : goal.returns-in-Err-clause-reads
+returns-in-Err-clause-reads g c = memory_not_fault
+
+pub returns-in-Err-replay-clause-reads : goal.returns-in-Err-replay-clause-reads
+returns-in-Err-replay-clause-reads g c = λ e. c.stop_of_replay.ensures.reads (same_stop _ _ e)
+
+pub returns-in-Ok-replay-clause-spec : goal.returns-in-Ok-replay-clause-spec
+returns-in-Ok-replay-clause-spec g c = refl
+
+pub returns-in-Ok-replay-clause-joined : goal.returns-in-Ok-replay-clause-joined
+returns-in-Ok-replay-clause-joined g c = λ _ _ _ _ e. ok_err _ _ e
+
+pub returns-in-Ok-replay-clause-reads : goal.returns-in-Ok-replay-clause-reads
+returns-in-Ok-replay-clause-reads g c = λ e. ok_err _ _ e

@@ -1,9 +1,10 @@
-use Rattle.std.proofs.Common.{refl, sym, ap, subst, rules}
+use Rattle.std.proofs.Common.{refl, sym, ap, subst, Err}
 use Rattle.chain_tree.specs.Told.{blocks_of}
 use Rattle.cell_state.specs.State.{rows}
 use Rattle.verdict_defs.specs.Chain.{Chain}
 use Rattle.store_defs.specs.Store.{IsJoined}
 use Rattle.node_core.proofs.DecidingLemmas.{as-many, within-entries, fits-below}
+use Rattle.node_core.proofs.OpenLemmas.{ok_err, same_stop}
 use Rattle.node_core.proofs.kept.Kept.replayed.Goals as goal
 
 pub replay-requires-clause-within : goal.replay-requires-clause-within
@@ -15,11 +16,38 @@ pub replay-requires-clause-counts : goal.replay-requires-clause-counts
 replay-requires-clause-counts g c =
     as-many c.self.inside.blocks.stored c.self.inside.tree.entries c.self.inside.uncles (rows c.self.inside.state) c.self.invariant
 
-pub returns-in_err-cells-clause-undamaged : goal.returns-in_err-cells-clause-undamaged
-returns-in_err-cells-clause-undamaged g c joined damage was =
+pub returns-in-Err-clause-undamaged : goal.returns-in-Err-clause-undamaged
+returns-in-Err-clause-undamaged g c joined damage was =
     let within = within-entries (blocks_of c.self.inside.blocks.stored) c.args.self.now.blocks c.self.inside.tree.entries c.args.place
     (ap (λ (v : Chain). v.blocks) c.self.view_is) c.self.invariant.indexed c.requires in
-    let no = c.in_err-cells.ensures.undamaged c.self.inside.blocks.stored refl c.self.invariant.indexed
+    let no = c.in-Err.ensures.undamaged c.self.inside.blocks.stored refl c.self.invariant.indexed
     (fits-below (record { spec = c.self.inside.spec; blocks = blocks_of c.self.inside.blocks.stored }) c.self.inside.tree.entries c.args.place
     (subst IsJoined (sym c.self.view_is) joined) c.self.invariant.indexed within) damage in
-    search (rules, no)
+    no (ap Err (same_stop _ _ was))
+
+pub returns-then-place-tip-clause-undamaged : goal.returns-then-place-tip-clause-undamaged
+returns-then-place-tip-clause-undamaged g c = λ _ _ e. ok_err _ _ e
+
+pub returns-then-place-tip-clause-damage : goal.returns-then-place-tip-clause-damage
+returns-then-place-tip-clause-damage g c = λ _ e. absurd (ok_err _ _ e)
+
+pub returns-then-place-tip-clause-reads : goal.returns-then-place-tip-clause-reads
+returns-then-place-tip-clause-reads g c = λ e. ok_err _ _ e
+
+pub returns-then-place-tip-clause-steps : goal.returns-then-place-tip-clause-steps
+returns-then-place-tip-clause-steps g c = λ _. refl
+
+pub returns-in-Err-clause-cells : goal.returns-in-Err-clause-cells
+returns-in-Err-clause-cells g c = tt
+
+pub returns-clause-undamaged : goal.returns-clause-undamaged
+returns-clause-undamaged g c = λ _ _ e. ok_err _ _ e
+
+pub returns-clause-damage : goal.returns-clause-damage
+returns-clause-damage g c = λ _ e. absurd (ok_err _ _ e)
+
+pub returns-clause-reads : goal.returns-clause-reads
+returns-clause-reads g c = λ e. ok_err _ _ e
+
+pub returns-in-Err-clause-damage : goal.returns-in-Err-clause-damage
+returns-in-Err-clause-damage g c = λ damage e. c.in-Err.ensures.damage damage (ap Err (same_stop _ _ e))

@@ -1,5 +1,6 @@
 use Rattle.std.proofs.Common.{arith}
 use Rattle.node_core.proofs.JoiningLemmas.{given-cells, tip-cells, fits-parent, rows-stay, move-else}
+use Rattle.node_core.proofs.OpenLemmas.{ok_err}
 use Rattle.node_core.proofs.kept.Kept.state_with.Goals as goal
 
 pub returns-then-entry-clause-live : goal.returns-then-entry-clause-live
@@ -32,3 +33,33 @@ returns-in-None-clause-undamaged g c kept height indexed ready live above fit da
     c.grown-in-None.ensures.undamaged height above
     (fits-parent kept c.len-place.result height c.args.block.now c.args.joining.entry.parent c.args.state (c.len-place.ensures.of_blocks kept indexed)
     (tip-cells kept c.args.block.now c.args.joining c.args.state ready c.in-None.is live) fit) damage
+
+pub returns-then-entry-clause-undamaged : goal.returns-then-entry-clause-undamaged
+returns-then-entry-clause-undamaged g c = λ _ _ _ _ _ _ _ _ e. ok_err _ _ e
+
+pub returns-then-entry-clause-damage : goal.returns-then-entry-clause-damage
+returns-then-entry-clause-damage g c = λ _ e. absurd (ok_err _ _ e)
+
+pub returns-then-entry-clause-reads : goal.returns-then-entry-clause-reads
+returns-then-entry-clause-reads g c = λ e. ok_err _ _ e
+
+pub returns-then-entry-clause-most : goal.returns-then-entry-clause-most
+returns-then-entry-clause-most g c = omega arith
+
+pub returns-in-Some-clause-damage : goal.returns-in-Some-clause-damage
+returns-in-Some-clause-damage g c = c.grown.ensures.damage
+
+pub returns-in-Some-clause-reads : goal.returns-in-Some-clause-reads
+returns-in-Some-clause-reads g c = c.grown.ensures.reads
+
+pub returns-in-Some-clause-most : goal.returns-in-Some-clause-most
+returns-in-Some-clause-most g c = c.grown.ensures.most
+
+pub returns-in-None-clause-damage : goal.returns-in-None-clause-damage
+returns-in-None-clause-damage g c = c.grown-in-None.ensures.damage
+
+pub returns-in-None-clause-reads : goal.returns-in-None-clause-reads
+returns-in-None-clause-reads g c = c.grown-in-None.ensures.reads
+
+pub returns-in-None-clause-most : goal.returns-in-None-clause-most
+returns-in-None-clause-most g c = c.grown-in-None.ensures.most

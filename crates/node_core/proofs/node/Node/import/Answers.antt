@@ -1,16 +1,19 @@
-use Rattle.std.proofs.Common.{rules, ◌≡◌, ◌⊎◌, Ok, arith, ap, sym, ◌∙◌, subst}
+use Rattle.std.proofs.Common.{◌≡◌, ◌⊎◌, arith, ap, sym, ◌∙◌, subst, Err, refl, ◌<◌, ℕ, length, ◌≤◌}
 use Rattle.outside.specs.Disk.{LeavesOnly}
 use Rattle.chain_defs.specs.Kept.{place_of}
 use Rattle.chain_defs.specs.Tip.{tip_place}
-use Rattle.verdict_defs.specs.Verdict.{joins}
+use Rattle.verdict_defs.specs.Verdict.{joins, kept_limit}
 use Rattle.verdict_defs.specs.Chain.{Chain, chain_after}
 use Rattle.store_defs.specs.Store.{IsJoined, StandsFor}
 use Rattle.store_defs.proofs.JoinedLemmas.{joined_of_image}
-use Rattle.node_core.specs.Node.{NodeValue, IsOn}
+use Rattle.node_core.specs.Node.{NodeValue, IsOn, IsWithin}
 use Rattle.node_core.specs.Judging.{IsReadyItem, IsDecided}
 use Rattle.node_core.specs.declared.deciding.Decision.TheVariants.{Joins, Stays}
 use Rattle.node_core.proofs.ImportLemmas.{decided_on, ready_on, verdict_is, stays_so}
-use Rattle.node_core.proofs.DiskLemmas.{counts_none, counts_also}
+use Rattle.node_core.proofs.DiskLemmas.{counts_none, before_calls}
+use Rattle.log_file.proofs.Exits.{stop_counts}
+use Rattle.node_core.proofs.OpenLemmas.{ok_err, same_stop}
+use Rattle.std.specs.Prelude.{IfSome}
 use Rattle.node_core.proofs.node.Node.import.Goals as goal
 
 pub returns-in-Err-join-clause-moments : goal.returns-in-Err-join-clause-moments
@@ -33,10 +36,10 @@ returns-in-Err-join-clause-undamaged g c joined damage told =
     let decided = decided_on c.node.inside.kept c.args.self.chain c.args.item.now c.in-Ok.decision (Joins c.in-Joins.joining) chain_is c.in-Joins.is
     c.in-Ok.ensures.decided joined in
     c.join.ensures.undamaged (subst (λ (k : Chain). IsDecided k c.args.item.now (Joins c.in-Joins.joining)) (sym same) decided)
-    (subst IsJoined (sym same) joined) damage (search rules)
+    (subst IsJoined (sym same) joined) damage (c.in-Err-join.is ∙ ap Err (same_stop _ _ told))
 
 pub returns-in-Err-join-clause-cause : goal.returns-in-Err-join-clause-cause
-returns-in-Err-join-clause-cause g c = counts_also _ _ c.join.ensures.cause (λ told. search rules) (λ told. search rules)
+returns-in-Err-join-clause-cause g c = stop_counts _ _ _ _ c.in-Err-join.ensures.cause
 
 pub returns-in-Stays-clause-kept : goal.returns-in-Stays-clause-kept
 returns-in-Stays-clause-kept g c joined =
@@ -83,9 +86,7 @@ returns-in-Ok-join-clause-moments g c = λ on.
     (subst (λ (v : NodeValue). IsOn v (g.D.Disk.reads_as c.args.disk.now) (g.D.Disk.images c.args.disk.now)) (sym before) on))
 
 pub returns-in-Ok-join-clause-cause : goal.returns-in-Ok-join-clause-cause
-returns-in-Ok-join-clause-cause g c =
-    let was : c.join.result ≡ Ok c.in-Ok-join.next = c.in-Ok-join.is in
-    counts_none _ _ (c.join.ensures.cause.unchanged (λ told. absurd (cc))) (λ told. absurd (cc))
+returns-in-Ok-join-clause-cause g c = counts_none _ _ (c.in-Ok-join.ensures.cause.unchanged (λ e. ok_err _ _ e)) (λ e. ok_err _ _ e)
 
 pub returns-in-Ok-join-clause-steps : goal.returns-in-Ok-join-clause-steps
 returns-in-Ok-join-clause-steps g c b is on_tip =
@@ -127,3 +128,108 @@ returns-in-Stays-clause-untouched g c = tt
 
 pub returns-in-Ok-join-clause-untouched : goal.returns-in-Ok-join-clause-untouched
 returns-in-Ok-join-clause-untouched g c = tt
+
+pub returns-in-Err-clause-moments : goal.returns-in-Err-clause-moments
+returns-in-Err-clause-moments g c = λ on. before_calls g.D.Disk.moment g.D.Disk.left_since g.D.Disk.images g.met.D.Disk.only_now _ _ _ _ on
+
+pub returns-in-Err-clause-untouched : goal.returns-in-Err-clause-untouched
+returns-in-Err-clause-untouched g c = λ _. refl
+
+pub returns-in-Err-clause-undamaged : goal.returns-in-Err-clause-undamaged
+returns-in-Err-clause-undamaged g c = λ joined damage e.
+    let chain_is : c.node.inside.kept ≡ c.args.self.chain = ap (λ (v : NodeValue). v.chain) c.node.view_is in
+    c.in-Err.ensures.undamaged (subst IsJoined (sym chain_is) joined) damage (ap Err (same_stop _ _ e))
+
+pub returns-in-Err-clause-damage : goal.returns-in-Err-clause-damage
+returns-in-Err-clause-damage g c = λ damage e. c.in-Err.ensures.damage damage (ap Err (same_stop _ _ e))
+
+pub returns-in-Err-clause-cause : goal.returns-in-Err-clause-cause
+returns-in-Err-clause-cause g c = counts_none _ _ refl (λ e. c.in-Err.ensures.reads (ap Err (same_stop _ _ e)))
+
+pub returns-in-Err-clause-steps : goal.returns-in-Err-clause-steps
+returns-in-Err-clause-steps g c = λ b is on_tip.
+    let chain_is : c.node.inside.kept ≡ c.args.self.chain = ap (λ (v : NodeValue). v.chain) c.node.view_is in
+    omega (arith, c.decide.ensures.steps b is (subst (λ (k : Chain). place_of k.blocks b.header.parent_hash ≡ tip_place k.blocks) (sym chain_is) on_tip))
+
+pub returns-in-Stays-clause-verdict : goal.returns-in-Stays-clause-verdict
+returns-in-Stays-clause-verdict g c = λ joined.
+    let chain_is : c.node.inside.kept ≡ c.args.self.chain = ap (λ (v : NodeValue). v.chain) c.node.view_is in
+    decided_on c.node.inside.kept c.args.self.chain c.args.item.now c.in-Ok.decision (Stays c.in-Stays.verdict) chain_is c.in-Stays.is
+    c.in-Ok.ensures.decided joined
+
+pub returns-in-Stays-clause-there : goal.returns-in-Stays-clause-there
+returns-in-Stays-clause-there g c =
+    subst (λ (place : ℕ). IfSome (g.D.Disk.reads_as c.args.disk.now) (λ image. place < length image.log))
+    (sym (ap (λ (v : NodeValue). v.place) c.node.view_is)) c.requires.there
+
+pub returns-in-Stays-clause-on : goal.returns-in-Stays-clause-on
+returns-in-Stays-clause-on g c = λ on.
+    let before : record { chain = c.decide.new.self; place = c.node.inside.log.place } ≡ c.args.self =
+    ap (λ (k : Chain). record { chain = k; place = c.node.inside.log.place }) c.decide.ensures.same ∙ c.node.view_is in
+    subst (λ (v : NodeValue). IsOn v (g.D.Disk.reads_as c.args.disk.now) (g.D.Disk.images c.args.disk.now)) (sym before) on
+
+pub returns-in-Stays-clause-moments : goal.returns-in-Stays-clause-moments
+returns-in-Stays-clause-moments g c = λ on. before_calls g.D.Disk.moment g.D.Disk.left_since g.D.Disk.images g.met.D.Disk.only_now _ _ _ _ on
+
+pub returns-in-Stays-clause-unwritten : goal.returns-in-Stays-clause-unwritten
+returns-in-Stays-clause-unwritten g c = λ _. refl
+
+pub returns-in-Stays-clause-undamaged : goal.returns-in-Stays-clause-undamaged
+returns-in-Stays-clause-undamaged g c = λ _ _ e. ok_err _ _ e
+
+pub returns-in-Stays-clause-damage : goal.returns-in-Stays-clause-damage
+returns-in-Stays-clause-damage g c = λ _ e. absurd (ok_err _ _ e)
+
+pub returns-in-Stays-clause-cause : goal.returns-in-Stays-clause-cause
+returns-in-Stays-clause-cause g c = counts_none _ _ refl (λ e. ok_err _ _ e)
+
+pub returns-in-Stays-clause-steps : goal.returns-in-Stays-clause-steps
+returns-in-Stays-clause-steps g c = λ b is on_tip.
+    let chain_is : c.node.inside.kept ≡ c.args.self.chain = ap (λ (v : NodeValue). v.chain) c.node.view_is in
+    omega (arith, c.decide.ensures.steps b is (subst (λ (k : Chain). place_of k.blocks b.header.parent_hash ≡ tip_place k.blocks) (sym chain_is) on_tip))
+
+pub returns-in-Ok-join-clause-kept : goal.returns-in-Ok-join-clause-kept
+returns-in-Ok-join-clause-kept g c = λ joined.
+    let chain_is : c.node.inside.kept ≡ c.args.self.chain = ap (λ (v : NodeValue). v.chain) c.node.view_is in
+    let same : c.decide.new.self ≡ c.args.self.chain = c.decide.ensures.same ∙ chain_is in
+    let decided = decided_on c.node.inside.kept c.args.self.chain c.args.item.now c.in-Ok.decision (Joins c.in-Joins.joining) chain_is c.in-Joins.is
+    c.in-Ok.ensures.decided joined in
+    c.in-Ok-join.ensures.kept (subst (λ (k : Chain). IsDecided k c.args.item.now (Joins c.in-Joins.joining)) (sym same) decided)
+    ∙ ap (λ (k : Chain). chain_after k c.args.item.now) same
+
+pub returns-in-Ok-join-clause-there : goal.returns-in-Ok-join-clause-there
+returns-in-Ok-join-clause-there g c = c.in-Ok-join.ensures.there
+
+pub returns-in-Ok-join-clause-unwritten : goal.returns-in-Ok-join-clause-unwritten
+returns-in-Ok-join-clause-unwritten g c = λ e. absurd (cc)
+
+pub returns-in-Ok-join-clause-undamaged : goal.returns-in-Ok-join-clause-undamaged
+returns-in-Ok-join-clause-undamaged g c = λ _ _ e. ok_err _ _ e
+
+pub returns-in-Ok-join-clause-damage : goal.returns-in-Ok-join-clause-damage
+returns-in-Ok-join-clause-damage g c = λ _ e. absurd (ok_err _ _ e)
+
+pub returns-in-Err-join-clause-untouched : goal.returns-in-Err-join-clause-untouched
+returns-in-Err-join-clause-untouched g c = c.in-Err-join.ensures.untouched
+
+pub returns-in-Err-join-clause-damage : goal.returns-in-Err-join-clause-damage
+returns-in-Err-join-clause-damage g c = λ damage e. c.in-Err-join.ensures.damage damage (ap Err (same_stop _ _ e))
+
+pub returns-in-Err-join-clause-steps : goal.returns-in-Err-join-clause-steps
+returns-in-Err-join-clause-steps g c = λ b is on_tip.
+    let chain_is : c.node.inside.kept ≡ c.args.self.chain = ap (λ (v : NodeValue). v.chain) c.node.view_is in
+    omega (arith, c.join.ensures.most, c.decide.ensures.steps b is (subst (λ (k : Chain). place_of k.blocks b.header.parent_hash ≡ tip_place k.blocks) (sym chain_is) on_tip))
+
+pub invariant_of-node : goal.invariant_of-node
+invariant_of-node g c =
+    subst (λ (k : Chain). (length k.blocks ≤ kept_limit) × IsWithin (length k.blocks) c.node.inside.log.place) (sym c.decide.ensures.same) c.node.invariant
+
+pub join-requires-clause-there : goal.join-requires-clause-there
+join-requires-clause-there g c =
+    subst (λ (place : ℕ). IfSome (g.D.Disk.reads_as c.args.disk.now) (λ image. place < length image.log))
+    (sym (ap (λ (v : NodeValue). v.place) c.node.view_is)) c.requires.there
+
+pub join-requires-clause-ready : goal.join-requires-clause-ready
+join-requires-clause-ready g c =
+    ready_on c.node.inside.kept c.decide.new.self c.args.item.now c.in-Ok.decision (Joins c.in-Joins.joining) (sym c.decide.ensures.same) c.in-Joins.is
+    c.in-Ok.ensures.ready

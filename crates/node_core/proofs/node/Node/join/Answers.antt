@@ -1,5 +1,5 @@
-use Rattle.std.proofs.Common.{rules, ◌≡◌, ℕ, ◌<◌, length, refl, ap, sym, ◌∙◌, subst}
-use Rattle.std.specs.Prelude.{IfSome, IsOk}
+use Rattle.std.proofs.Common.{◌≡◌, ℕ, ◌<◌, length, refl, ap, sym, ◌∙◌, subst, Err, arith}
+use Rattle.std.specs.Prelude.{IfSome}
 use Rattle.outside.proofs.Moments.{leaves_also, now_too}
 use Rattle.cell_defs.specs.Ext.{ext_bytes}
 use Rattle.verdict_defs.specs.Chain.{Chain, chain_after}
@@ -12,7 +12,9 @@ use Rattle.node_core.specs.Judging.{IsReadyItem}
 use Rattle.node_core.specs.declared.deciding.Decision.TheVariants.{Joins}
 use Rattle.node_core.proofs.WritingLemmas.{piece_long}
 use Rattle.node_core.proofs.ImportLemmas.{can_join, record_is, form_is, is_ext_for, place_limit, is_after, few_after, within_after}
-use Rattle.node_core.proofs.DiskLemmas.{counts_none, settled_on, stands_either, is_on_after}
+use Rattle.node_core.proofs.DiskLemmas.{counts_none, settled_on, stands_either, is_on_after, before_calls}
+use Rattle.log_file.proofs.Exits.{fault_counts}
+use Rattle.node_core.proofs.OpenLemmas.{ok_err, same_stop, memory_no_damage, memory_no_fault, fault_no_damage}
 use Rattle.node_core.proofs.node.Node.join.Goals as goal
 
 pub rec_behind-rec-requires-clause-limit : goal.rec_behind-rec-requires-clause-limit
@@ -56,11 +58,10 @@ pub returns-in-Err-join-clause-undamaged : goal.returns-in-Err-join-clause-undam
 returns-in-Err-join-clause-undamaged g c decided joined damage same =
     let seen : c.self.inside.kept ≡ c.args.self.chain = ap (λ (v : NodeValue). v.chain) c.self.view_is in
     c.join.ensures.undamaged decided.0 decided.1 (subst IsJoined (sym seen) joined)
-    (subst (λ (k : Chain). MayJoin k.spec k.blocks decided.0) (sym seen) decided.2.may) damage (search rules)
+    (subst (λ (k : Chain). MayJoin k.spec k.blocks decided.0) (sym seen) decided.2.may) damage (c.in-Err-join.is ∙ ap Err (same_stop _ _ same))
 
 pub returns-in-Ok-append-clause-cause : goal.returns-in-Ok-append-clause-cause
-returns-in-Ok-append-clause-cause g c =
-    counts_none _ _ (c.append.ensures.cause.unchanged (subst IsOk (sym c.in-Ok-append.is) refl)) (λ same. absurd (cc))
+returns-in-Ok-append-clause-cause g c = counts_none _ _ (c.in-Ok-append.ensures.cause.unchanged refl) (λ e. ok_err _ _ e)
 
 pub returns-in-Err-append-clause-moments : goal.returns-in-Err-append-clause-moments
 returns-in-Err-append-clause-moments g c = λ decided on.
@@ -142,3 +143,57 @@ returns-in-Err-join-clause-untouched g c = λ _. refl
 
 pub returns-in-Ok-append-clause-untouched : goal.returns-in-Ok-append-clause-untouched
 returns-in-Ok-append-clause-untouched g c = tt
+
+pub returns-in-Err-clause-moments : goal.returns-in-Err-clause-moments
+returns-in-Err-clause-moments g c = λ _ on. before_calls g.D.Disk.moment g.D.Disk.left_since g.D.Disk.images g.met.D.Disk.only_now _ _ _ _ on
+
+pub returns-in-Err-clause-undamaged : goal.returns-in-Err-clause-undamaged
+returns-in-Err-clause-undamaged g c = λ _ _ damage e. memory_no_damage damage e
+
+pub returns-in-Err-clause-damage : goal.returns-in-Err-clause-damage
+returns-in-Err-clause-damage g c = λ damage e. absurd (memory_no_damage damage e)
+
+pub returns-in-Err-clause-cause : goal.returns-in-Err-clause-cause
+returns-in-Err-clause-cause g c = counts_none _ _ refl memory_no_fault
+
+pub returns-in-Err-clause-most : goal.returns-in-Err-clause-most
+returns-in-Err-clause-most g c = omega arith
+
+pub returns-in-Err-join-clause-moments : goal.returns-in-Err-join-clause-moments
+returns-in-Err-join-clause-moments g c = λ _ on. before_calls g.D.Disk.moment g.D.Disk.left_since g.D.Disk.images g.met.D.Disk.only_now _ _ _ _ on
+
+pub returns-in-Err-join-clause-damage : goal.returns-in-Err-join-clause-damage
+returns-in-Err-join-clause-damage g c = λ damage e. c.in-Err-join.ensures.damage damage (ap Err (same_stop _ _ e))
+
+pub returns-in-Err-join-clause-cause : goal.returns-in-Err-join-clause-cause
+returns-in-Err-join-clause-cause g c = counts_none _ _ refl (λ e. c.in-Err-join.ensures.reads (ap Err (same_stop _ _ e)))
+
+pub returns-in-Err-join-clause-most : goal.returns-in-Err-join-clause-most
+returns-in-Err-join-clause-most g c = c.join.ensures.most
+
+pub returns-in-Err-append-clause-untouched : goal.returns-in-Err-append-clause-untouched
+returns-in-Err-append-clause-untouched g c = λ other. absurd (other refl)
+
+pub returns-in-Err-append-clause-undamaged : goal.returns-in-Err-append-clause-undamaged
+returns-in-Err-append-clause-undamaged g c = λ _ _ damage e. fault_no_damage damage e
+
+pub returns-in-Err-append-clause-damage : goal.returns-in-Err-append-clause-damage
+returns-in-Err-append-clause-damage g c = λ damage e. absurd (fault_no_damage damage e)
+
+pub returns-in-Err-append-clause-cause : goal.returns-in-Err-append-clause-cause
+returns-in-Err-append-clause-cause g c = fault_counts _ _ _ _ c.in-Err-append.ensures.cause
+
+pub returns-in-Err-append-clause-most : goal.returns-in-Err-append-clause-most
+returns-in-Err-append-clause-most g c = c.join.ensures.most
+
+pub returns-in-Ok-append-clause-there : goal.returns-in-Ok-append-clause-there
+returns-in-Ok-append-clause-there g c = c.in-Ok-append.ensures.there
+
+pub returns-in-Ok-append-clause-undamaged : goal.returns-in-Ok-append-clause-undamaged
+returns-in-Ok-append-clause-undamaged g c = λ _ _ _ e. ok_err _ _ e
+
+pub returns-in-Ok-append-clause-damage : goal.returns-in-Ok-append-clause-damage
+returns-in-Ok-append-clause-damage g c = λ _ e. absurd (ok_err _ _ e)
+
+pub returns-in-Ok-append-clause-most : goal.returns-in-Ok-append-clause-most
+returns-in-Ok-append-clause-most g c = c.join.ensures.most

@@ -3,8 +3,9 @@ use Rattle.outside.proofs.Moments.{leaves_also, leaves_then, now_too}
 use Rattle.cell_model.specs.ListBlocks.{contents}
 use Rattle.log_file.specs.declared.stop.LogStop.TheVariants.{NotAStore}
 use Rattle.node_core.proofs.OpeningLemmas.{as-many-contents}
-use Rattle.node_core.proofs.OpenLemmas.{opened_keeps, is_within, no_log_in, none_opened, not_sound, not_joined, only_read-then, stands_while_opened, opened_on, ok_err, was_ok, counts_none, at_some, if_some_also, one_after}
+use Rattle.node_core.proofs.OpenLemmas.{opened_keeps, is_within, no_log_in, none_opened, not_sound, not_joined, only_read-then, stands_while_opened, opened_on, ok_err, was_ok, counts_none, at_some, if_some_also, one_after, same_stop}
 use Rattle.node_core.proofs.NewLemmas.{when_ok}
+use Rattle.log_file.proofs.Exits.{fault_not_wrong, stop_counts, counts_on}
 use Rattle.node_core.proofs.node.Node.open.Goals as goal
 
 pub returns-in-Err-clause-not_a_store : goal.returns-in-Err-clause-not_a_store
@@ -111,3 +112,42 @@ returns-in-Err-of-clause-one_image g c = tt
 
 pub returns-in-Err-of-clause-on : goal.returns-in-Err-of-clause-on
 returns-in-Err-of-clause-on g c = λ _. tt
+
+pub returns-then-is_err-clause-kept : goal.returns-then-is_err-clause-kept
+returns-then-is_err-clause-kept g c = tt
+
+pub returns-then-is_err-clause-not_a_store : goal.returns-then-is_err-clause-not_a_store
+returns-then-is_err-clause-not_a_store g c = λ e. absurd (fault_not_wrong e)
+
+pub returns-then-is_err-clause-no_log : goal.returns-then-is_err-clause-no_log
+returns-then-is_err-clause-no_log g c =
+    λ _ _ _. record { reads = c.sync_snapshots.ensures.same; images = c.sync_snapshots.ensures.images; moments = c.sync_snapshots.ensures.moments }
+
+pub returns-then-is_err-clause-there : goal.returns-then-is_err-clause-there
+returns-then-is_err-clause-there g c = tt
+
+pub returns-then-is_err-clause-one_image : goal.returns-then-is_err-clause-one_image
+returns-then-is_err-clause-one_image g c = tt
+
+pub returns-then-is_err-clause-on : goal.returns-then-is_err-clause-on
+returns-then-is_err-clause-on g c = λ _. tt
+
+pub returns-then-is_err-clause-moments : goal.returns-then-is_err-clause-moments
+returns-then-is_err-clause-moments g c =
+    λ _ _ _ _ _. leaves_also g.D.Disk.moment g.D.Disk.left_since _ _ _ _ c.sync_snapshots.ensures.moments (λ image left. inl left)
+
+pub returns-in-Err-clause-cause : goal.returns-in-Err-clause-cause
+returns-in-Err-clause-cause g c =
+    counts_on _ _ _ (c.sync_snapshots.ensures.cause.unchanged (was_ok c.sync_snapshots.result c.is_err.result c.is_err.ensures.value c.if-is_err.false))
+    (stop_counts _ _ _ _ c.in-Err.ensures.cause)
+
+pub returns-in-Ok-of-clause-there : goal.returns-in-Ok-of-clause-there
+returns-in-Ok-of-clause-there g c = c.in-Ok.ensures.there
+
+pub returns-in-Ok-of-clause-not_a_store : goal.returns-in-Ok-of-clause-not_a_store
+returns-in-Ok-of-clause-not_a_store g c = λ e. absurd (ok_err _ _ e)
+
+pub returns-in-Err-of-clause-cause : goal.returns-in-Err-of-clause-cause
+returns-in-Err-of-clause-cause g c =
+    counts_none _ _ _ (c.sync_snapshots.ensures.cause.unchanged (was_ok c.sync_snapshots.result c.is_err.result c.is_err.ensures.value c.if-is_err.false))
+    c.open.ensures.cause (λ fault. ok_err _ _ (sym c.in-Ok.is ∙ fault)) (λ fault. c.in-Err-of.ensures.reads (ap Err (same_stop _ _ fault)))

@@ -1,0 +1,39 @@
+use Rattle.std.proofs.Common.{refl}
+use Rattle.log_file.proofs.Exits.{on_each, no_fault_counts, memory_not_fault, fault_is_no_wrong, memory_is_no_wrong, fault_counts, answer_counts}
+use Rattle.log_file.proofs.reading.read_piece.Goals as goal
+
+pub returns-in-Err-clause-fits : goal.returns-in-Err-clause-fits
+returns-in-Err-clause-fits g c = tt
+
+pub returns-in-Err-clause-bytes : goal.returns-in-Err-clause-bytes
+returns-in-Err-clause-bytes g c = on_each (g.D.Disk.reads_as c.args.disk.now) _ (λ _ _. tt)
+
+pub returns-in-Err-read_behind-clause-fits : goal.returns-in-Err-read_behind-clause-fits
+returns-in-Err-read_behind-clause-fits g c = tt
+
+pub returns-in-Err-read_behind-clause-bytes : goal.returns-in-Err-read_behind-clause-bytes
+returns-in-Err-read_behind-clause-bytes g c = on_each (g.D.Disk.reads_as c.args.disk.now) _ (λ _ _. tt)
+
+pub returns-in-Err-clause-reads : goal.returns-in-Err-clause-reads
+returns-in-Err-clause-reads g c = memory_is_no_wrong
+
+pub returns-in-Err-clause-cause : goal.returns-in-Err-clause-cause
+returns-in-Err-clause-cause g c = no_fault_counts _ memory_not_fault
+
+pub returns-in-Err-read_behind-clause-as_before : goal.returns-in-Err-read_behind-clause-as_before
+returns-in-Err-read_behind-clause-as_before g c = c.in-Err-read_behind.ensures.as_before
+
+pub returns-in-Err-read_behind-clause-reads : goal.returns-in-Err-read_behind-clause-reads
+returns-in-Err-read_behind-clause-reads g c = fault_is_no_wrong
+
+pub returns-in-Err-read_behind-clause-cause : goal.returns-in-Err-read_behind-clause-cause
+returns-in-Err-read_behind-clause-cause g c = fault_counts _ _ _ _ c.in-Err-read_behind.ensures.cause
+
+pub returns-in-Ok-read_behind-clause-as_before : goal.returns-in-Ok-read_behind-clause-as_before
+returns-in-Ok-read_behind-clause-as_before g c = c.in-Ok-read_behind.ensures.as_before
+
+pub returns-in-Ok-read_behind-clause-reads : goal.returns-in-Ok-read_behind-clause-reads
+returns-in-Ok-read_behind-clause-reads g c = tt
+
+pub returns-in-Ok-read_behind-clause-cause : goal.returns-in-Ok-read_behind-clause-cause
+returns-in-Ok-read_behind-clause-cause g c = answer_counts _ _ _ _ (c.in-Ok-read_behind.ensures.cause.unchanged refl)
