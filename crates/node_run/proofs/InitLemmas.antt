@@ -11,22 +11,22 @@ use Rattle.store_defs.specs.Log.{LogContent, log_of}
 use Rattle.store_defs.specs.Store.{Store, NoLog, NotALog, Keeps, store_of, store_of_log}
 use Rattle.report_defs.specs.declared.command.Command.TheVariants.{Init}
 use Rattle.report_defs.specs.declared.status.Status.{Status}
-use Rattle.report_defs.specs.declared.status.Status.TheVariants.{Done, SinkFault, DiskFault, NoMemory, StoreThere, BadGenesis, CutInput, BadSize, ExtraInput}
+use Rattle.report_defs.specs.declared.status.Status.TheVariants.{Done, InputFault, SinkFault, DiskFault, NoMemory, StoreThere, BadGenesis, CutInput, BadSize, ExtraInput}
 use Rattle.report_defs.specs.declared.end.End.{End}
 use Rattle.report_defs.specs.declared.end.End.TheVariants as ends
 use Rattle.report_defs.specs.Status.{IsOneOf}
 use Rattle.report_defs.specs.Items.{Split, AreItems, split_of, end_offset}
 use Rattle.report_defs.specs.Report.{Report, text_of, genesis_limit, init_limits, init_item_limit, end_of_needed, status_of_end, report_of_rules, report_of_items, report_of_init, report_of_end, report_of_new, report_of_command}
-use Rattle.report_defs.specs.Promise.{IsPrefix, MatchesReport, IsStoreOf, IsStoppedBeforeTheSink, ended_early}
+use Rattle.report_defs.specs.Promise.{IsPrefix, MatchesReport, IsStoreOf, IsStoppedBeforeTheSink, ended_early, init_statuses}
 use Rattle.report_defs.specs.Survival.{IsNewStore, as_before}
 use Rattle.report_defs.proofs.ItemLemmas.{split_of-is, end_at-nothing}
-use Rattle.item_reader.specs.Items.{EndsAt, IsNext}
+use Rattle.item_reader.specs.Items.{EndsAt, IsNext, IsReadingStop}
 use Rattle.item_reader.specs.declared.next.Next.{Next}
 use Rattle.item_reader.proofs.Reading.{left_nothing}
 use Rattle.node_run.specs.Store.{Delivers}
 use Rattle.node_run.specs.Import.{IsStop}
 use Rattle.node_run.specs.Init.{AreBoth, EndsEarly, StandsAlone, new_statuses}
-use Rattle.node_run.specs.Output.{IsSaid, IsWritingStop}
+use Rattle.node_run.specs.Output.{IsSaid, IsWritingStop, early_ends}
 use Rattle.node_run.proofs.StoreLemmas.{if_told, stop_says}
 use Rattle.node_run.proofs.Statuses.{each_of, is_early, IsEarly, stop_not_reported, writing_stops}
 
@@ -276,3 +276,37 @@ as_before_new status one told =
     let is : IsNewStatus status = each_of IsNewStatus new_statuses status (tt, (tt, (tt, (tt, (tt, tt))))) one in
     each_of (λ s. IsNewStatus s → s ≡ BadGenesis) (as_before (Some Init)) status
     (λ n. absurd n, (λ n. absurd n, (λ n. absurd n, (λ n. absurd n, (λ n. refl, (λ n. absurd n, tt)))))) told is
+
+-- ---- The statuses of `init`
+
+pub init_reading : (status : Status) → IsReadingStop status → IsOneOf init_statuses status
+init_reading InputFault stop = inr (inl refl)
+init_reading NoMemory stop = inr (inr (inr (inr (inl refl))))
+init_reading _ stop = absurd stop
+
+pub init_new : (status : Status) → IsOneOf new_statuses status → IsOneOf init_statuses status
+init_new status one =
+    each_of (λ s. IsOneOf init_statuses s) new_statuses status (
+      inl refl,
+      (
+        inr (inr (inl refl)),
+        (inr (inr (inr (inl refl))), (inr (inr (inr (inr (inl refl)))), (inr (inr (inr (inr (inr (inr (inr (inr (inl refl)))))))), tt))),
+      ),
+    ) one
+
+pub init_ended : (status : Status) → IsOneOf early_ends status → IsOneOf init_statuses status
+init_ended status one =
+    each_of (λ s. IsOneOf init_statuses s) early_ends status (
+      inr (inr (inl refl)),
+      (
+        inr (inr (inr (inr (inl refl)))),
+        (
+          inr (inr (inr (inr (inr (inl refl))))),
+          (inr (inr (inr (inr (inr (inr (inl refl)))))), (inr (inr (inr (inr (inr (inr (inr (inr (inr (inl refl))))))))), tt)),
+        ),
+      ),
+    ) one
+
+pub new_no_input_fault : (status : Status) → IsOneOf new_statuses status → status ≡ InputFault → ⊥
+new_no_input_fault status one =
+    each_of (λ s. s ≡ InputFault → ⊥) new_statuses status (λ e. cc, (λ e. cc, (λ e. cc, (λ e. cc, (λ e. cc, tt))))) one

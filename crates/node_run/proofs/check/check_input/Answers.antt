@@ -5,8 +5,9 @@ use Rattle.verdict_defs.specs.Trial.{trial}
 use Rattle.report_defs.specs.declared.status.Status.TheVariants.{NoMemory}
 use Rattle.item_reader.specs.Items.{IsReadingStop}
 use Rattle.node_run.proofs.CheckLemmas.{reading_statuses, judging_statuses, told_statuses, early_statuses, early_no_disk_fault, early_no_input_fault, check_stopped, check_early, check_told, memory_stop, told_one, not_input, not_sink, not_disk, told_not_input, told_not_disk}
-use Rattle.node_run.proofs.Faults.{no_fault, counts_also}
+use Rattle.node_run.proofs.Faults.{no_fault, counts_also, IsMemory}
 use Rattle.node_run.proofs.Statuses.{reading_stops}
+use Rattle.node_run.proofs.Exits.{no_error, same_stop}
 use Rattle.node_run.proofs.check.check_input.Goals as goal
 
 pub returns-in-Ok-Early-clause-checked : goal.returns-in-Ok-Early-clause-checked
@@ -34,7 +35,7 @@ returns-in-Err-clause-checked g c =
 
 pub returns-in-Err-clause-input_faults : goal.returns-in-Err-clause-input_faults
 returns-in-Err-clause-input_faults g c =
-    counts_also (g.S.Source.faults c.args.input.now) (g.S.Source.faults c.read_input.new.input) c.in-Err.ensures.faults (λ e. ap Err e) (λ e. cc)
+    counts_also (g.S.Source.faults c.args.input.now) (g.S.Source.faults c.read_input.new.input) c.in-Err.ensures.faults (λ e. ap Err e) (same_stop _ _)
 
 pub returns-in-Err-judge_item-clause-checked : goal.returns-in-Err-judge_item-clause-checked
 returns-in-Err-judge_item-clause-checked g c =
@@ -79,7 +80,7 @@ returns-clause-checked g c =
 
 pub returns-in-Err-judge_item-clause-input_faults : goal.returns-in-Err-judge_item-clause-input_faults
 returns-in-Err-judge_item-clause-input_faults g c =
-    no_fault _ _ (c.in-Ok-One.ensures.faults.unchanged (λ e. cc)) (not_input c.in-Err-judge_item.status (c.in-Err-judge_item.ensures.stop c.in-Err-judge_item.status refl))
+    no_fault _ _ (c.in-Ok-One.ensures.faults.unchanged (no_error _ _)) (not_input c.in-Err-judge_item.status (c.in-Err-judge_item.ensures.stop c.in-Err-judge_item.status refl))
 
 pub returns-in-Err-judge_item-clause-out_faults : goal.returns-in-Err-judge_item-clause-out_faults
 returns-in-Err-judge_item-clause-out_faults g c =
@@ -91,7 +92,7 @@ returns-in-Err-judge_item-clause-disk g c =
 
 pub returns-in-Ok-answer_to-clause-input_faults : goal.returns-in-Ok-answer_to-clause-input_faults
 returns-in-Ok-answer_to-clause-input_faults g c =
-    no_fault _ _ (c.in-Ok-One.ensures.faults.unchanged (λ e. cc))
+    no_fault _ _ (c.in-Ok-One.ensures.faults.unchanged (no_error _ _))
     (told_not_input c.tell.result (told_one (string_bytes c.in-Ok-answer_to.answer.text) c.in-Ok-answer_to.answer.status c.tell.result c.tell.ensures.told.0
     c.in-Ok-answer_to.ensures.one_of c.tell.ensures.told.2))
 
@@ -108,7 +109,7 @@ returns-in-Ok-Early-clause-disk g c = early_no_disk_fault c.tell_early.result c.
 
 pub returns-in-Ok-Early-clause-input_faults : goal.returns-in-Ok-Early-clause-input_faults
 returns-in-Ok-Early-clause-input_faults g c =
-    no_fault _ _ (c.in-Ok-Early.ensures.faults.unchanged (λ e. cc)) (early_no_input_fault c.tell_early.result c.tell_early.ensures.one_of)
+    no_fault _ _ (c.in-Ok-Early.ensures.faults.unchanged (no_error _ _)) (early_no_input_fault c.tell_early.result c.tell_early.ensures.one_of)
 
 pub returns-in-Ok-Early-clause-out_faults : goal.returns-in-Ok-Early-clause-out_faults
 returns-in-Ok-Early-clause-out_faults g c = c.tell_early.ensures.faults
@@ -137,10 +138,10 @@ pub returns-clause-status : goal.returns-clause-status
 returns-clause-status g c = inr (inr (inr (inr (inr (inl refl)))))
 
 pub returns-clause-disk : goal.returns-clause-disk
-returns-clause-disk g c = λ e. cc
+returns-clause-disk g c = λ e. subst IsMemory e tt
 
 pub returns-clause-input_faults : goal.returns-clause-input_faults
-returns-clause-input_faults g c = no_fault _ _ (c.in-Ok-One.ensures.faults.unchanged (λ e. cc)) (λ e. cc)
+returns-clause-input_faults g c = no_fault _ _ (c.in-Ok-One.ensures.faults.unchanged (no_error _ _)) (λ e. subst IsMemory e tt)
 
 pub returns-clause-out_faults : goal.returns-clause-out_faults
-returns-clause-out_faults g c = no_fault _ _ refl (λ e. cc)
+returns-clause-out_faults g c = no_fault _ _ refl (λ e. subst IsMemory e tt)

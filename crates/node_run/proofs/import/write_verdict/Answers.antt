@@ -3,7 +3,7 @@ use Rattle.outside.proofs.Streams.{takes_none}
 use Rattle.report_defs.specs.declared.status.Status.TheVariants.{NoMemory}
 use Rattle.report_defs.specs.Text.{line}
 use Rattle.node_run.specs.Output.{IsWritten}
-use Rattle.node_run.proofs.Faults.{no_fault}
+use Rattle.node_run.proofs.Faults.{no_fault, IsMemory}
 use Rattle.node_run.proofs.ImportLemmas.{cut_before_line, line_written}
 use Rattle.node_run.proofs.import.write_verdict.Goals as goal
 
@@ -30,4 +30,4 @@ pub returns-in-Err-clause-status : goal.returns-in-Err-clause-status
 returns-in-Err-clause-status g c = λ status e. let same : NoMemory ≡ status = cc in inr (inl (sym same))
 
 pub returns-in-Err-clause-faults : goal.returns-in-Err-clause-faults
-returns-in-Err-clause-faults g c = no_fault _ _ refl (λ e. cc)
+returns-in-Err-clause-faults g c = no_fault _ _ refl (λ e. subst IsMemory e tt)
