@@ -26,9 +26,9 @@ use Rattle.item_reader.proofs.Reading.{left_nothing}
 use Rattle.node_run.specs.Store.{Delivers}
 use Rattle.node_run.specs.Import.{IsStop}
 use Rattle.node_run.specs.Init.{AreBoth, EndsEarly, StandsAlone, new_statuses}
-use Rattle.node_run.specs.Output.{IsSaid, IsWritingStop, early_ends}
+use Rattle.node_run.specs.Output.{IsSaid, IsToldAnswer, IsWritingStop, early_ends}
 use Rattle.node_run.proofs.StoreLemmas.{if_told, stop_says}
-use Rattle.node_run.proofs.Statuses.{each_of, is_early, IsEarly, stop_not_reported, writing_stops}
+use Rattle.node_run.proofs.Statuses.{each_of, is_early, not_early, IsEarly, stop_not_reported, writing_stops}
 
 pub genesis_limit-is : genesis_limit ≡ 4194304
 unfolding genesis_limit
@@ -310,3 +310,48 @@ init_ended status one =
 pub new_no_input_fault : (status : Status) → IsOneOf new_statuses status → status ≡ InputFault → ⊥
 new_no_input_fault status one =
     each_of (λ s. s ≡ InputFault → ⊥) new_statuses status (λ e. cc, (λ e. cc, (λ e. cc, (λ e. cc, (λ e. cc, tt))))) one
+
+-- ---- What was told of a store that was made, or of a rule that is broken
+
+pub told_said : (report : Report) (text : List ℕ) (status result : Status) (taken : List ℕ) → text ≡ text_of report → status ≡ report.status
+    → IsToldAnswer text status result taken → IsSaid report result taken
+told_said report text status result taken text_is status_is (inl told) = inl (told.0 ∙ text_is, told.1 ∙ status_is)
+told_said report text status result taken text_is status_is (inr failed) =
+    inr (record {
+      stop = subst IsWritingStop (sym failed.1) tt;
+      front = subst (IsPrefix taken) text_is failed.0.front;
+      silent = λ early. absurd (not_early result failed.1 early);
+    })
+
+pub told_new : (text : List ℕ) (status result : Status) (taken : List ℕ) → IsOneOf (Done ∷ BadGenesis ∷ []) status → IsToldAnswer text status result taken
+    → IsOneOf new_statuses result
+told_new text status result taken one (inl told) =
+    subst (λ (s : Status). IsOneOf new_statuses s) (sym told.1)
+    (each_of (λ s. IsOneOf new_statuses s) (Done ∷ BadGenesis ∷ []) status (inl refl, (inr (inr (inr (inr (inl refl)))), tt)) one)
+told_new text status result taken one (inr failed) = inr (inl failed.1)
+
+-- what was answered and is no fault of the sink was told
+pub told_as : (wanted : Status) (text : List ℕ) (status result : Status) (taken : List ℕ) → (SinkFault ≡ wanted → ⊥) → IsToldAnswer text status result taken
+    → result ≡ wanted → status ≡ wanted
+told_as wanted text status result taken other (inl told) same = sym told.1 ∙ same
+told_as wanted text status result taken other (inr failed) same = absurd (other (sym failed.1 ∙ same))
+
+pub told_no_disk_fault : (text : List ℕ) (status result : Status) (taken : List ℕ) → IsOneOf (Done ∷ BadGenesis ∷ []) status → IsToldAnswer text status result taken
+    → result ≡ DiskFault → ⊥
+told_no_disk_fault text status result taken one told same =
+    each_of (λ s. s ≡ DiskFault → ⊥) (Done ∷ BadGenesis ∷ []) status (λ e. cc, (λ e. cc, tt)) one
+    (told_as DiskFault text status result taken (λ e. cc) told same)
+
+-- ---- What stops the making of a store
+
+abbrev pub IsMakingStop : Status → Type 0
+IsMakingStop DiskFault = Unit {0}
+IsMakingStop NoMemory = Unit {0}
+IsMakingStop _ = ⊥
+
+pub making_stop : (status : Status) → IsOneOf (DiskFault ∷ NoMemory ∷ []) status → IsMakingStop status
+making_stop status one = each_of IsMakingStop (DiskFault ∷ NoMemory ∷ []) status (tt, (tt, tt)) one
+
+pub making_stopped : (status : Status) → IsOneOf (DiskFault ∷ NoMemory ∷ []) status → IsOneOf new_statuses status
+making_stopped status one =
+    each_of (λ s. IsOneOf new_statuses s) (DiskFault ∷ NoMemory ∷ []) status (inr (inr (inl refl)), (inr (inr (inr (inl refl))), tt)) one

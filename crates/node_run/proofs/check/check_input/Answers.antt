@@ -39,7 +39,7 @@ returns-in-Err-clause-input_faults g c =
 
 pub returns-in-Err-judge_item-clause-checked : goal.returns-in-Err-judge_item-clause-checked
 returns-in-Err-judge_item-clause-checked g c =
-    let read = rw c.in-Ok-One.field-0-is at c.in-Ok-One.ensures.read in
+    let read = c.in-Ok-One.ensures.read in
     let left = g.S.Source.left c.read_input.new.input in
     let status = c.in-Err-judge_item.status in (
       read.0,
@@ -69,7 +69,7 @@ returns-in-Ok-answer_to-clause-checked g c =
 
 pub returns-clause-checked : goal.returns-clause-checked
 returns-clause-checked g c =
-    let read = rw c.in-Ok-One.field-0-is at c.in-Ok-One.ensures.read in
+    let read = c.in-Ok-One.ensures.read in
     let left = g.S.Source.left c.read_input.new.input in (
       read.0,
       [],
