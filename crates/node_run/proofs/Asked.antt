@@ -1,5 +1,5 @@
 -- What the command that the words ask for decides.
-use Rattle.std.proofs.Common.{◌≡◌, Option, Some, None, sym, ◌∙◌, subst}
+use Rattle.std.proofs.Common.{◌≡◌, Option, Some, None, ◌∙◌, subst}
 use Rattle.std.specs.Prelude.{◌↔◌}
 use Rattle.report_defs.specs.declared.command.Command.{Command}
 use Rattle.report_defs.specs.declared.command.Command.TheVariants.{Init, Import, Tip, Check, Exec}

@@ -1,9 +1,11 @@
 use Rattle.std.proofs.Common.{inl, inr, [], refl, ap, ◌∙◌, subst}
-use Rattle.std.specs.Prelude.{Err, string_bytes}
+use Rattle.std.specs.Prelude.{Ok, Err, string_bytes}
 use Rattle.outside.proofs.Streams.{takes_none}
 use Rattle.verdict_defs.specs.Trial.{trial}
 use Rattle.report_defs.specs.declared.status.Status.TheVariants.{NoMemory}
 use Rattle.item_reader.specs.Items.{IsReadingStop}
+use Rattle.node_run.specs.Check.{IsOne, EndsBeforeOne, IsReadOfCheck}
+use Rattle.node_run.specs.declared.check.Input.{Input}
 use Rattle.node_run.proofs.CheckLemmas.{reading_statuses, judging_statuses, told_statuses, early_statuses, early_no_disk_fault, early_no_input_fault, check_stopped, check_early, check_told, memory_stop, told_one, not_input, not_sink, not_disk, told_not_input, told_not_disk}
 use Rattle.node_run.proofs.Faults.{no_fault, counts_also, IsMemory}
 use Rattle.node_run.proofs.Statuses.{reading_stops}
@@ -12,14 +14,16 @@ use Rattle.node_run.proofs.check.check_input.Goals as goal
 
 pub returns-in-Ok-Early-clause-checked : goal.returns-in-Ok-Early-clause-checked
 returns-in-Ok-Early-clause-checked g c =
-    let read = rw c.in-Ok-Early.field-0-is at c.in-Ok-Early.ensures.read in
+    let read = c.in-Ok-Early.ensures.read in
     let said = c.tell_early.ensures.said in
-    let left = g.S.Source.left c.read_input.new.input in (
+    let left = g.S.Source.left c.read_input.new.input in
+    let early : EndsBeforeOne left c.in-Ok-Early.end c.in-Ok-Early.offset read.0 =
+    subst (λ (i : Input). IsReadOfCheck left (Ok i) read.0) c.in-Ok-Early.field-0-is read.2 in (
       read.0,
       said.0,
       read.1,
       said.1,
-      λ joined. check_early c.args.node.now.chain left read.0 said.0 c.in-Ok-Early.end c.in-Ok-Early.offset c.tell_early.result read.2 said.2,
+      λ joined. check_early c.args.node.now.chain left read.0 said.0 c.in-Ok-Early.end c.in-Ok-Early.offset c.tell_early.result early said.2,
     )
 
 pub returns-in-Err-clause-checked : goal.returns-in-Err-clause-checked
@@ -52,9 +56,10 @@ returns-in-Err-judge_item-clause-checked g c =
 
 pub returns-in-Ok-answer_to-clause-checked : goal.returns-in-Ok-answer_to-clause-checked
 returns-in-Ok-answer_to-clause-checked g c =
-    let read = rw c.in-Ok-One.field-0-is at c.in-Ok-One.ensures.read in
+    let read = c.in-Ok-One.ensures.read in
     let told = c.tell.ensures.told in
     let left = g.S.Source.left c.read_input.new.input in
+    let one : IsOne left c.in-Ok-One.item.items read.0 = subst (λ (i : Input). IsReadOfCheck left (Ok i) read.0) c.in-Ok-One.field-0-is read.2 in
     let chain = c.args.node.now.chain in
     let answer = c.in-Ok-answer_to.answer in
     let tried = c.in-Ok.tried in (
@@ -62,7 +67,7 @@ returns-in-Ok-answer_to-clause-checked g c =
       told.0,
       read.1,
       told.1,
-      λ joined. check_told chain left c.in-Ok-One.item.items read.0 told.0 (string_bytes answer.text) tried answer.status c.tell.result read.2
+      λ joined. check_told chain left c.in-Ok-One.item.items read.0 told.0 (string_bytes answer.text) tried answer.status c.tell.result one
           (c.in-Ok.ensures.trial joined ∙ ap (trial chain) c.deref.ensures.value)
           c.in-Ok-answer_to.ensures.text c.in-Ok-answer_to.ensures.status told.2,
     )

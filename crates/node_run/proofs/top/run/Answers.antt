@@ -1,5 +1,5 @@
-use Rattle.std.proofs.Common.{◌∙◌, [], inl, refl, subst, sym}
-use Rattle.std.specs.Prelude.{Option}
+use Rattle.std.proofs.Common.{◌∙◌, [], inl, refl, ap, subst, sym}
+use Rattle.std.specs.Prelude.{Option, Some}
 use Rattle.outside.proofs.Streams.{gives_none, takes_none}
 use Rattle.report_defs.specs.declared.command.Command.{Command}
 use Rattle.report_defs.specs.declared.command.Command.TheVariants.{Init, Import, Tip, Check, Exec}
@@ -14,7 +14,7 @@ use Rattle.node_run.proofs.top.run.Goals as goal
 
 pub returns-in-Some-Init-clause-run : goal.returns-in-Some-Init-clause-run
 returns-in-Some-Init-clause-run g c =
-    let is = rw c.in-Some-Init.field-0-is at c.in-Some-Init.ensures.command in
+    let is = ap Some (sym c.in-Some-Init.field-0-is) ∙ c.in-Some-Init.ensures.command in
     let kept = c.init.ensures.init in (
       kept.0,
       kept.1,
@@ -28,7 +28,7 @@ returns-in-Some-Init-clause-run g c =
 
 pub returns-in-Some-Init-clause-words : goal.returns-in-Some-Init-clause-words
 returns-in-Some-Init-clause-words g c =
-    let is = rw c.in-Some-Init.field-0-is at c.in-Some-Init.ensures.command in
+    let is = ap Some (sym c.in-Some-Init.field-0-is) ∙ c.in-Some-Init.ensures.command in
     words_are_good _ Init c.init.result is c.init.ensures.status
 
 pub returns-in-Some-Init-clause-silent : goal.returns-in-Some-Init-clause-silent
@@ -36,7 +36,7 @@ returns-in-Some-Init-clause-silent g c = λ bad. absurd (never_bad_words Init c.
 
 pub returns-in-Some-Init-clause-status : goal.returns-in-Some-Init-clause-status
 returns-in-Some-Init-clause-status g c =
-    let is = rw c.in-Some-Init.field-0-is at c.in-Some-Init.ensures.command in
+    let is = ap Some (sym c.in-Some-Init.field-0-is) ∙ c.in-Some-Init.ensures.command in
     subst (λ (o : Option Command). IsOneOf (statuses_of o) c.init.result) is c.init.ensures.status
 
 pub returns-in-Some-Init-clause-input_faults : goal.returns-in-Some-Init-clause-input_faults
@@ -50,12 +50,12 @@ returns-in-Some-Init-clause-disk_faults g c = c.init.ensures.disk_faults
 
 pub returns-in-Some-Init-clause-uncalled : goal.returns-in-Some-Init-clause-uncalled
 returns-in-Some-Init-clause-uncalled g c =
-    let is = rw c.in-Some-Init.field-0-is at c.in-Some-Init.ensures.command in
+    let is = ap Some (sym c.in-Some-Init.field-0-is) ∙ c.in-Some-Init.ensures.command in
     λ uncalled. absurd (subst CallsNoDisk (sym is) uncalled)
 
 pub returns-in-Some-Init-clause-as_before : goal.returns-in-Some-Init-clause-as_before
 returns-in-Some-Init-clause-as_before g c =
-    let is = rw c.in-Some-Init.field-0-is at c.in-Some-Init.ensures.command in
+    let is = ap Some (sym c.in-Some-Init.field-0-is) ∙ c.in-Some-Init.ensures.command in
     λ told. c.init.ensures.as_before (subst (λ (o : Option Command). IsOneOf (as_before o) c.init.result) (sym is) told)
 
 pub returns-in-Some-Init-clause-log_there : goal.returns-in-Some-Init-clause-log_there
@@ -63,7 +63,7 @@ returns-in-Some-Init-clause-log_there g c = λ now told other _. c.init.ensures.
 
 pub returns-in-Some-Init-clause-loses_nothing : goal.returns-in-Some-Init-clause-loses_nothing
 returns-in-Some-Init-clause-loses_nothing g c =
-    let is = rw c.in-Some-Init.field-0-is at c.in-Some-Init.ensures.command in
+    let is = ap Some (sym c.in-Some-Init.field-0-is) ∙ c.in-Some-Init.ensures.command in
     λ now told none opens. absurd (subst OpensStore (sym is) opens)
 
 pub returns-in-Some-Init-clause-steps : goal.returns-in-Some-Init-clause-steps
@@ -71,7 +71,7 @@ returns-in-Some-Init-clause-steps g c = λ _. refl
 
 pub returns-in-Some-Import-clause-run : goal.returns-in-Some-Import-clause-run
 returns-in-Some-Import-clause-run g c =
-    let is = rw c.in-Some-Import.field-0-is at c.in-Some-Import.ensures.command in
+    let is = ap Some (sym c.in-Some-Import.field-0-is) ∙ c.in-Some-Import.ensures.command in
     let kept = c.import.ensures.import in (
       kept.0,
       kept.1,
@@ -86,7 +86,7 @@ returns-in-Some-Import-clause-run g c =
 
 pub returns-in-Some-Import-clause-words : goal.returns-in-Some-Import-clause-words
 returns-in-Some-Import-clause-words g c =
-    let is = rw c.in-Some-Import.field-0-is at c.in-Some-Import.ensures.command in
+    let is = ap Some (sym c.in-Some-Import.field-0-is) ∙ c.in-Some-Import.ensures.command in
     words_are_good _ Import c.import.result is c.import.ensures.status
 
 pub returns-in-Some-Import-clause-silent : goal.returns-in-Some-Import-clause-silent
@@ -94,7 +94,7 @@ returns-in-Some-Import-clause-silent g c = λ bad. absurd (never_bad_words Impor
 
 pub returns-in-Some-Import-clause-status : goal.returns-in-Some-Import-clause-status
 returns-in-Some-Import-clause-status g c =
-    let is = rw c.in-Some-Import.field-0-is at c.in-Some-Import.ensures.command in
+    let is = ap Some (sym c.in-Some-Import.field-0-is) ∙ c.in-Some-Import.ensures.command in
     subst (λ (o : Option Command). IsOneOf (statuses_of o) c.import.result) is c.import.ensures.status
 
 pub returns-in-Some-Import-clause-input_faults : goal.returns-in-Some-Import-clause-input_faults
@@ -108,17 +108,17 @@ returns-in-Some-Import-clause-disk_faults g c = c.import.ensures.disk_faults
 
 pub returns-in-Some-Import-clause-uncalled : goal.returns-in-Some-Import-clause-uncalled
 returns-in-Some-Import-clause-uncalled g c =
-    let is = rw c.in-Some-Import.field-0-is at c.in-Some-Import.ensures.command in
+    let is = ap Some (sym c.in-Some-Import.field-0-is) ∙ c.in-Some-Import.ensures.command in
     λ uncalled. absurd (subst CallsNoDisk (sym is) uncalled)
 
 pub returns-in-Some-Import-clause-as_before : goal.returns-in-Some-Import-clause-as_before
 returns-in-Some-Import-clause-as_before g c =
-    let is = rw c.in-Some-Import.field-0-is at c.in-Some-Import.ensures.command in
+    let is = ap Some (sym c.in-Some-Import.field-0-is) ∙ c.in-Some-Import.ensures.command in
     λ told. absurd (subst (λ (o : Option Command). IsOneOf (as_before o) c.import.result) (sym is) told)
 
 pub returns-in-Some-Import-clause-log_there : goal.returns-in-Some-Import-clause-log_there
 returns-in-Some-Import-clause-log_there g c =
-    let is = rw c.in-Some-Import.field-0-is at c.in-Some-Import.ensures.command in
+    let is = ap Some (sym c.in-Some-Import.field-0-is) ∙ c.in-Some-Import.ensures.command in
     λ now told other init. absurd (subst IsNotInit (is ∙ init) tt)
 
 pub returns-in-Some-Import-clause-loses_nothing : goal.returns-in-Some-Import-clause-loses_nothing
@@ -126,12 +126,12 @@ returns-in-Some-Import-clause-loses_nothing g c = λ now told none opens. c.impo
 
 pub returns-in-Some-Import-clause-steps : goal.returns-in-Some-Import-clause-steps
 returns-in-Some-Import-clause-steps g c =
-    let is = rw c.in-Some-Import.field-0-is at c.in-Some-Import.ensures.command in
+    let is = ap Some (sym c.in-Some-Import.field-0-is) ∙ c.in-Some-Import.ensures.command in
     λ never. absurd (never (subst OpensStore is tt))
 
 pub returns-in-Some-Tip-clause-run : goal.returns-in-Some-Tip-clause-run
 returns-in-Some-Tip-clause-run g c =
-    let is = rw c.in-Some-Tip.field-0-is at c.in-Some-Tip.ensures.command in
+    let is = ap Some (sym c.in-Some-Tip.field-0-is) ∙ c.in-Some-Tip.ensures.command in
     let told = c.tip.ensures.tip in (
       [],
       told.0,
@@ -146,7 +146,7 @@ returns-in-Some-Tip-clause-run g c =
 
 pub returns-in-Some-Tip-clause-words : goal.returns-in-Some-Tip-clause-words
 returns-in-Some-Tip-clause-words g c =
-    let is = rw c.in-Some-Tip.field-0-is at c.in-Some-Tip.ensures.command in
+    let is = ap Some (sym c.in-Some-Tip.field-0-is) ∙ c.in-Some-Tip.ensures.command in
     words_are_good _ Tip c.tip.result is c.tip.ensures.status
 
 pub returns-in-Some-Tip-clause-silent : goal.returns-in-Some-Tip-clause-silent
@@ -154,7 +154,7 @@ returns-in-Some-Tip-clause-silent g c = λ bad. absurd (never_bad_words Tip c.ti
 
 pub returns-in-Some-Tip-clause-status : goal.returns-in-Some-Tip-clause-status
 returns-in-Some-Tip-clause-status g c =
-    let is = rw c.in-Some-Tip.field-0-is at c.in-Some-Tip.ensures.command in
+    let is = ap Some (sym c.in-Some-Tip.field-0-is) ∙ c.in-Some-Tip.ensures.command in
     subst (λ (o : Option Command). IsOneOf (statuses_of o) c.tip.result) is c.tip.ensures.status
 
 pub returns-in-Some-Tip-clause-input_faults : goal.returns-in-Some-Tip-clause-input_faults
@@ -168,17 +168,17 @@ returns-in-Some-Tip-clause-disk_faults g c = c.tip.ensures.disk_faults
 
 pub returns-in-Some-Tip-clause-uncalled : goal.returns-in-Some-Tip-clause-uncalled
 returns-in-Some-Tip-clause-uncalled g c =
-    let is = rw c.in-Some-Tip.field-0-is at c.in-Some-Tip.ensures.command in
+    let is = ap Some (sym c.in-Some-Tip.field-0-is) ∙ c.in-Some-Tip.ensures.command in
     λ uncalled. absurd (subst CallsNoDisk (sym is) uncalled)
 
 pub returns-in-Some-Tip-clause-as_before : goal.returns-in-Some-Tip-clause-as_before
 returns-in-Some-Tip-clause-as_before g c =
-    let is = rw c.in-Some-Tip.field-0-is at c.in-Some-Tip.ensures.command in
+    let is = ap Some (sym c.in-Some-Tip.field-0-is) ∙ c.in-Some-Tip.ensures.command in
     λ told. absurd (subst (λ (o : Option Command). IsOneOf (as_before o) c.tip.result) (sym is) told)
 
 pub returns-in-Some-Tip-clause-log_there : goal.returns-in-Some-Tip-clause-log_there
 returns-in-Some-Tip-clause-log_there g c =
-    let is = rw c.in-Some-Tip.field-0-is at c.in-Some-Tip.ensures.command in
+    let is = ap Some (sym c.in-Some-Tip.field-0-is) ∙ c.in-Some-Tip.ensures.command in
     λ now told other init. absurd (subst IsNotInit (is ∙ init) tt)
 
 pub returns-in-Some-Tip-clause-loses_nothing : goal.returns-in-Some-Tip-clause-loses_nothing
@@ -186,12 +186,12 @@ returns-in-Some-Tip-clause-loses_nothing g c = λ now told none opens. c.tip.ens
 
 pub returns-in-Some-Tip-clause-steps : goal.returns-in-Some-Tip-clause-steps
 returns-in-Some-Tip-clause-steps g c =
-    let is = rw c.in-Some-Tip.field-0-is at c.in-Some-Tip.ensures.command in
+    let is = ap Some (sym c.in-Some-Tip.field-0-is) ∙ c.in-Some-Tip.ensures.command in
     λ never. absurd (never (subst OpensStore is tt))
 
 pub returns-in-Some-Check-clause-run : goal.returns-in-Some-Check-clause-run
 returns-in-Some-Check-clause-run g c =
-    let is = rw c.in-Some-Check.field-0-is at c.in-Some-Check.ensures.command in
+    let is = ap Some (sym c.in-Some-Check.field-0-is) ∙ c.in-Some-Check.ensures.command in
     let kept = c.check.ensures.check in (
       kept.0,
       kept.1,
@@ -206,7 +206,7 @@ returns-in-Some-Check-clause-run g c =
 
 pub returns-in-Some-Check-clause-words : goal.returns-in-Some-Check-clause-words
 returns-in-Some-Check-clause-words g c =
-    let is = rw c.in-Some-Check.field-0-is at c.in-Some-Check.ensures.command in
+    let is = ap Some (sym c.in-Some-Check.field-0-is) ∙ c.in-Some-Check.ensures.command in
     words_are_good _ Check c.check.result is c.check.ensures.status
 
 pub returns-in-Some-Check-clause-silent : goal.returns-in-Some-Check-clause-silent
@@ -214,7 +214,7 @@ returns-in-Some-Check-clause-silent g c = λ bad. absurd (never_bad_words Check 
 
 pub returns-in-Some-Check-clause-status : goal.returns-in-Some-Check-clause-status
 returns-in-Some-Check-clause-status g c =
-    let is = rw c.in-Some-Check.field-0-is at c.in-Some-Check.ensures.command in
+    let is = ap Some (sym c.in-Some-Check.field-0-is) ∙ c.in-Some-Check.ensures.command in
     subst (λ (o : Option Command). IsOneOf (statuses_of o) c.check.result) is c.check.ensures.status
 
 pub returns-in-Some-Check-clause-input_faults : goal.returns-in-Some-Check-clause-input_faults
@@ -228,17 +228,17 @@ returns-in-Some-Check-clause-disk_faults g c = c.check.ensures.disk_faults
 
 pub returns-in-Some-Check-clause-uncalled : goal.returns-in-Some-Check-clause-uncalled
 returns-in-Some-Check-clause-uncalled g c =
-    let is = rw c.in-Some-Check.field-0-is at c.in-Some-Check.ensures.command in
+    let is = ap Some (sym c.in-Some-Check.field-0-is) ∙ c.in-Some-Check.ensures.command in
     λ uncalled. absurd (subst CallsNoDisk (sym is) uncalled)
 
 pub returns-in-Some-Check-clause-as_before : goal.returns-in-Some-Check-clause-as_before
 returns-in-Some-Check-clause-as_before g c =
-    let is = rw c.in-Some-Check.field-0-is at c.in-Some-Check.ensures.command in
+    let is = ap Some (sym c.in-Some-Check.field-0-is) ∙ c.in-Some-Check.ensures.command in
     λ told. absurd (subst (λ (o : Option Command). IsOneOf (as_before o) c.check.result) (sym is) told)
 
 pub returns-in-Some-Check-clause-log_there : goal.returns-in-Some-Check-clause-log_there
 returns-in-Some-Check-clause-log_there g c =
-    let is = rw c.in-Some-Check.field-0-is at c.in-Some-Check.ensures.command in
+    let is = ap Some (sym c.in-Some-Check.field-0-is) ∙ c.in-Some-Check.ensures.command in
     λ now told other init. absurd (subst IsNotInit (is ∙ init) tt)
 
 pub returns-in-Some-Check-clause-loses_nothing : goal.returns-in-Some-Check-clause-loses_nothing
@@ -246,12 +246,12 @@ returns-in-Some-Check-clause-loses_nothing g c = λ now told none opens. c.check
 
 pub returns-in-Some-Check-clause-steps : goal.returns-in-Some-Check-clause-steps
 returns-in-Some-Check-clause-steps g c =
-    let is = rw c.in-Some-Check.field-0-is at c.in-Some-Check.ensures.command in
+    let is = ap Some (sym c.in-Some-Check.field-0-is) ∙ c.in-Some-Check.ensures.command in
     λ never. absurd (never (subst OpensStore is tt))
 
 pub returns-in-Some-Exec-clause-run : goal.returns-in-Some-Exec-clause-run
 returns-in-Some-Exec-clause-run g c =
-    let is = rw c.in-Some-Exec.field-0-is at c.in-Some-Exec.ensures.command in
+    let is = ap Some (sym c.in-Some-Exec.field-0-is) ∙ c.in-Some-Exec.ensures.command in
     let text = c.exec.ensures.text in (
       text.0,
       text.1,
@@ -265,7 +265,7 @@ returns-in-Some-Exec-clause-run g c =
 
 pub returns-in-Some-Exec-clause-words : goal.returns-in-Some-Exec-clause-words
 returns-in-Some-Exec-clause-words g c =
-    let is = rw c.in-Some-Exec.field-0-is at c.in-Some-Exec.ensures.command in
+    let is = ap Some (sym c.in-Some-Exec.field-0-is) ∙ c.in-Some-Exec.ensures.command in
     words_are_good _ (Exec c.in-Some-Exec.budget) c.exec.result is c.exec.ensures.status
 
 pub returns-in-Some-Exec-clause-silent : goal.returns-in-Some-Exec-clause-silent
@@ -273,7 +273,7 @@ returns-in-Some-Exec-clause-silent g c = λ bad. absurd (never_bad_words (Exec c
 
 pub returns-in-Some-Exec-clause-status : goal.returns-in-Some-Exec-clause-status
 returns-in-Some-Exec-clause-status g c =
-    let is = rw c.in-Some-Exec.field-0-is at c.in-Some-Exec.ensures.command in
+    let is = ap Some (sym c.in-Some-Exec.field-0-is) ∙ c.in-Some-Exec.ensures.command in
     subst (λ (o : Option Command). IsOneOf (statuses_of o) c.exec.result) is c.exec.ensures.status
 
 pub returns-in-Some-Exec-clause-input_faults : goal.returns-in-Some-Exec-clause-input_faults
@@ -290,17 +290,17 @@ returns-in-Some-Exec-clause-uncalled g c = λ _. refl
 
 pub returns-in-Some-Exec-clause-as_before : goal.returns-in-Some-Exec-clause-as_before
 returns-in-Some-Exec-clause-as_before g c =
-    let is = rw c.in-Some-Exec.field-0-is at c.in-Some-Exec.ensures.command in
+    let is = ap Some (sym c.in-Some-Exec.field-0-is) ∙ c.in-Some-Exec.ensures.command in
     λ told. absurd (subst (λ (o : Option Command). IsOneOf (as_before o) c.exec.result) (sym is) told)
 
 pub returns-in-Some-Exec-clause-log_there : goal.returns-in-Some-Exec-clause-log_there
 returns-in-Some-Exec-clause-log_there g c =
-    let is = rw c.in-Some-Exec.field-0-is at c.in-Some-Exec.ensures.command in
+    let is = ap Some (sym c.in-Some-Exec.field-0-is) ∙ c.in-Some-Exec.ensures.command in
     λ now told other init. absurd (subst IsNotInit (is ∙ init) tt)
 
 pub returns-in-Some-Exec-clause-loses_nothing : goal.returns-in-Some-Exec-clause-loses_nothing
 returns-in-Some-Exec-clause-loses_nothing g c =
-    let is = rw c.in-Some-Exec.field-0-is at c.in-Some-Exec.ensures.command in
+    let is = ap Some (sym c.in-Some-Exec.field-0-is) ∙ c.in-Some-Exec.ensures.command in
     λ now told none opens. absurd (subst OpensStore (sym is) opens)
 
 pub returns-in-Some-Exec-clause-steps : goal.returns-in-Some-Exec-clause-steps
