@@ -1,10 +1,11 @@
 use Rattle.std.proofs.Common.{◌≡◌, inl, inr, [], length, refl, ap, sym, ◌∙◌, subst, arith}
-use Rattle.std.specs.Prelude.{IsSome, Err}
+use Rattle.std.specs.Prelude.{IsSome, Ok, Err}
 use Rattle.outside.proofs.Streams.{gives_none, takes_none}
 use Rattle.outside.specs.Disk.{IsAsBefore}
 use Rattle.store_defs.specs.Store.{store_of}
 use Rattle.item_reader.specs.Items.{IsReadingStop}
-use Rattle.node_run.specs.Init.{AreBoth}
+use Rattle.node_run.specs.Init.{AreBoth, EndsEarly, IsReadOfInit}
+use Rattle.node_run.specs.declared.init.Input.{Input}
 use Rattle.node_run.proofs.CheckLemmas.{early_no_input_fault}
 use Rattle.node_run.proofs.Exits.{no_error, same_stop}
 use Rattle.node_run.proofs.Faults.{no_fault, then_counts, counts_also, failed_counts}
@@ -37,22 +38,30 @@ returns-then-length-ne0-clause-init g c =
 
 pub make_and_tell-requires-clause-specification : goal.make_and_tell-requires-clause-specification
 make_and_tell-requires-clause-specification g c =
-    let read = rw c.in-Ok-Both.field-0-is at c.in-Ok-Both.ensures.read in
-    omega (arith, item_limit-is, read.2.specification_is.most, ap length c.deref.ensures.value)
+    let read = c.in-Ok-Both.ensures.read in
+    let left = g.S.Source.left c.read_input.new.input in
+    let parts : AreBoth left c.in-Ok-Both.specification.items c.in-Ok-Both.genesis.items read.0 =
+    subst (λ (i : Input). IsReadOfInit left (Ok i) read.0) c.in-Ok-Both.field-0-is read.2 in
+    omega (arith, item_limit-is, parts.specification_is.most, ap length c.deref.ensures.value)
 
 pub make_and_tell-requires-clause-genesis : goal.make_and_tell-requires-clause-genesis
 make_and_tell-requires-clause-genesis g c =
-    let read = rw c.in-Ok-Both.field-0-is at c.in-Ok-Both.ensures.read in
-    omega (arith, genesis_limit-is, read.2.genesis_is.most, ap length c.deref-in-Ok-Both.ensures.value)
+    let read = c.in-Ok-Both.ensures.read in
+    let left = g.S.Source.left c.read_input.new.input in
+    let parts : AreBoth left c.in-Ok-Both.specification.items c.in-Ok-Both.genesis.items read.0 =
+    subst (λ (i : Input). IsReadOfInit left (Ok i) read.0) c.in-Ok-Both.field-0-is read.2 in
+    omega (arith, genesis_limit-is, parts.genesis_is.most, ap length c.deref-in-Ok-Both.ensures.value)
 
 pub returns-in-Ok-Both-clause-init : goal.returns-in-Ok-Both-clause-init
 returns-in-Ok-Both-clause-init g c =
-    let read = rw c.in-Ok-Both.field-0-is at c.in-Ok-Both.ensures.read in
-    let said = c.make_and_tell.ensures.said in
+    let read = c.in-Ok-Both.ensures.read in
     let left = g.S.Source.left c.read_input.new.input in
+    let parts : AreBoth left c.in-Ok-Both.specification.items c.in-Ok-Both.genesis.items read.0 =
+    subst (λ (i : Input). IsReadOfInit left (Ok i) read.0) c.in-Ok-Both.field-0-is read.2 in
+    let said = c.make_and_tell.ensures.said in
     let both : AreBoth left c.deref.result.now c.deref-in-Ok-Both.result.now read.0 =
     subst (λ bytes. AreBoth left bytes c.deref-in-Ok-Both.result.now read.0) (sym c.deref.ensures.value)
-    (subst (λ bytes. AreBoth left c.in-Ok-Both.specification.items bytes read.0) (sym c.deref-in-Ok-Both.ensures.value) read.2) in (
+    (subst (λ bytes. AreBoth left c.in-Ok-Both.specification.items bytes read.0) (sym c.deref-in-Ok-Both.ensures.value) parts) in (
       read.0,
       said.0,
       read.1,
@@ -76,16 +85,19 @@ returns-in-Ok-Both-clause-as_before g c = λ told.
 
 pub returns-in-Ok-Early-clause-init : goal.returns-in-Ok-Early-clause-init
 returns-in-Ok-Early-clause-init g c =
-    let read = rw c.in-Ok-Early.field-0-is at c.in-Ok-Early.ensures.read in
+    let read = c.in-Ok-Early.ensures.read in
+    let left = g.S.Source.left c.read_input.new.input in
+    let early : EndsEarly left c.in-Ok-Early.end c.in-Ok-Early.offset read.0 =
+    subst (λ (i : Input). IsReadOfInit left (Ok i) read.0) c.in-Ok-Early.field-0-is read.2 in
     let said = c.tell_early.ensures.said in (
       read.0,
       said.0,
       read.1,
       said.1,
       init_early (g.D.Disk.reads_as c.args.disk.now) (g.D.Disk.images c.args.disk.now) (g.D.Disk.images c.len.new.self)
-          (g.D.Disk.left_since c.len.new.self (g.D.Disk.moment c.args.disk.now)) (g.S.Source.left c.read_input.new.input) read.0 said.0 c.in-Ok-Early.end c.in-Ok-Early.offset c.tell_early.result
+          (g.D.Disk.left_since c.len.new.self (g.D.Disk.moment c.args.disk.now)) left read.0 said.0 c.in-Ok-Early.end c.in-Ok-Early.offset c.tell_early.result
           (λ store found. finds_no_log (g.D.Disk.reads_as c.args.disk.now) c.in-Ok.length store c.in-Ok.ensures.length (omega (arith, c.if-length-ne0.false)) found)
-          read.2 said.2,
+          early said.2,
     )
 
 pub returns-in-Err-read_input-clause-init : goal.returns-in-Err-read_input-clause-init
