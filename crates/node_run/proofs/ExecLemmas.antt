@@ -6,10 +6,12 @@ use Rattle.std.proofs.lemmas.Bool.Decides.{nat_tests, leb_tells}
 use Rattle.vm_defs.specs.Alone.{answer_ecall}
 use Rattle.vm_defs.specs.Program.{execution}
 use Rattle.report_defs.specs.declared.status.Status.{Status}
-use Rattle.report_defs.specs.declared.status.Status.TheVariants.{Done, SinkFault, ExtraInput}
+use Rattle.report_defs.specs.declared.status.Status.TheVariants.{Done, InputFault, SinkFault, NoMemory, ExtraInput}
 use Rattle.report_defs.specs.Text.{execution_line, extra_line}
 use Rattle.report_defs.specs.Report.{Report, text_of, report_without_lines, file_limit, exec_report}
-use Rattle.report_defs.specs.Promise.{IsPrefix, MatchesReport, ExecutesInOrder, IsStoppedBeforeTheSink}
+use Rattle.report_defs.specs.Status.{IsOneOf}
+use Rattle.report_defs.specs.Promise.{IsPrefix, MatchesReport, ExecutesInOrder, IsStoppedBeforeTheSink, exec_statuses}
+use Rattle.item_reader.specs.Items.{IsReadingStop}
 use Rattle.node_run.specs.Import.{IsStop}
 use Rattle.node_run.specs.Exec.{IsFile}
 use Rattle.item_reader.proofs.Reading.{left_nothing}
@@ -143,3 +145,8 @@ extra_report budget file line status long line_is status_is = rw (too_long budge
 pub done_report : (budget : ℕ) (file line : List ℕ) (status : Status) → length file ≤ file_limit → line ≡ execution_line (execution answer_ecall budget file) → status ≡ Done
     → (line ≡ (text_of (exec_report budget file))) × (status ≡ (exec_report budget file).status)
 done_report budget file line status short line_is status_is = rw (fits budget file short) (line_is, status_is)
+
+pub exec_reading : (status : Status) → IsReadingStop status → IsOneOf exec_statuses status
+exec_reading InputFault stop = inr (inl refl)
+exec_reading NoMemory stop = inr (inr (inr (inl refl)))
+exec_reading _ stop = absurd stop

@@ -5,7 +5,7 @@ use Rattle.outside.specs.Causes.{HasCause, CountsFault}
 use Rattle.report_defs.specs.declared.end.End.{End}
 use Rattle.report_defs.specs.declared.end.End.TheVariants.{AtEnd, Cut, BadSize, Extra}
 use Rattle.report_defs.specs.declared.status.Status.{Status}
-use Rattle.report_defs.specs.declared.status.Status.TheVariants.{Done, SomeRefused, InputFault, DiskFault}
+use Rattle.report_defs.specs.declared.status.Status.TheVariants.{Done, SomeRefused, InputFault, DiskFault, NoMemory}
 use Rattle.report_defs.specs.Report.{status_of_end}
 use Rattle.node_run.specs.Output.{IsToldAnswer}
 
@@ -64,3 +64,9 @@ no_input_there status none same = subst IsNoFault same none
 
 pub no_disk_there : (status : Status) → IsNoFault status → status ≡ DiskFault → ⊥
 no_disk_there status none same = subst IsNoFault same none
+
+-- ---- Want of memory is no fault
+
+abbrev pub IsMemory : Status → Type 0
+IsMemory NoMemory = Unit {0}
+IsMemory _ = ⊥

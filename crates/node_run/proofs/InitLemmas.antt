@@ -11,24 +11,24 @@ use Rattle.store_defs.specs.Log.{LogContent, log_of}
 use Rattle.store_defs.specs.Store.{Store, NoLog, NotALog, Keeps, store_of, store_of_log}
 use Rattle.report_defs.specs.declared.command.Command.TheVariants.{Init}
 use Rattle.report_defs.specs.declared.status.Status.{Status}
-use Rattle.report_defs.specs.declared.status.Status.TheVariants.{Done, SinkFault, DiskFault, NoMemory, StoreThere, BadGenesis, CutInput, BadSize, ExtraInput}
+use Rattle.report_defs.specs.declared.status.Status.TheVariants.{Done, InputFault, SinkFault, DiskFault, NoMemory, StoreThere, BadGenesis, CutInput, BadSize, ExtraInput}
 use Rattle.report_defs.specs.declared.end.End.{End}
 use Rattle.report_defs.specs.declared.end.End.TheVariants as ends
 use Rattle.report_defs.specs.Status.{IsOneOf}
 use Rattle.report_defs.specs.Items.{Split, AreItems, split_of, end_offset}
 use Rattle.report_defs.specs.Report.{Report, text_of, genesis_limit, init_limits, init_item_limit, end_of_needed, status_of_end, report_of_rules, report_of_items, report_of_init, report_of_end, report_of_new, report_of_command}
-use Rattle.report_defs.specs.Promise.{IsPrefix, MatchesReport, IsStoreOf, IsStoppedBeforeTheSink, ended_early}
+use Rattle.report_defs.specs.Promise.{IsPrefix, MatchesReport, IsStoreOf, IsStoppedBeforeTheSink, ended_early, init_statuses}
 use Rattle.report_defs.specs.Survival.{IsNewStore, as_before}
 use Rattle.report_defs.proofs.ItemLemmas.{split_of-is, end_at-nothing}
-use Rattle.item_reader.specs.Items.{EndsAt, IsNext}
+use Rattle.item_reader.specs.Items.{EndsAt, IsNext, IsReadingStop}
 use Rattle.item_reader.specs.declared.next.Next.{Next}
 use Rattle.item_reader.proofs.Reading.{left_nothing}
 use Rattle.node_run.specs.Store.{Delivers}
 use Rattle.node_run.specs.Import.{IsStop}
 use Rattle.node_run.specs.Init.{AreBoth, EndsEarly, StandsAlone, new_statuses}
-use Rattle.node_run.specs.Output.{IsSaid, IsWritingStop}
+use Rattle.node_run.specs.Output.{IsSaid, IsToldAnswer, IsWritingStop, early_ends}
 use Rattle.node_run.proofs.StoreLemmas.{if_told, stop_says}
-use Rattle.node_run.proofs.Statuses.{each_of, is_early, IsEarly, stop_not_reported, writing_stops}
+use Rattle.node_run.proofs.Statuses.{each_of, is_early, not_early, IsEarly, stop_not_reported, writing_stops}
 
 pub genesis_limit-is : genesis_limit ≡ 4194304
 unfolding genesis_limit
@@ -276,3 +276,82 @@ as_before_new status one told =
     let is : IsNewStatus status = each_of IsNewStatus new_statuses status (tt, (tt, (tt, (tt, (tt, tt))))) one in
     each_of (λ s. IsNewStatus s → s ≡ BadGenesis) (as_before (Some Init)) status
     (λ n. absurd n, (λ n. absurd n, (λ n. absurd n, (λ n. absurd n, (λ n. refl, (λ n. absurd n, tt)))))) told is
+
+-- ---- The statuses of `init`
+
+pub init_reading : (status : Status) → IsReadingStop status → IsOneOf init_statuses status
+init_reading InputFault stop = inr (inl refl)
+init_reading NoMemory stop = inr (inr (inr (inr (inl refl))))
+init_reading _ stop = absurd stop
+
+pub init_new : (status : Status) → IsOneOf new_statuses status → IsOneOf init_statuses status
+init_new status one =
+    each_of (λ s. IsOneOf init_statuses s) new_statuses status (
+      inl refl,
+      (
+        inr (inr (inl refl)),
+        (inr (inr (inr (inl refl))), (inr (inr (inr (inr (inl refl)))), (inr (inr (inr (inr (inr (inr (inr (inr (inl refl)))))))), tt))),
+      ),
+    ) one
+
+pub init_ended : (status : Status) → IsOneOf early_ends status → IsOneOf init_statuses status
+init_ended status one =
+    each_of (λ s. IsOneOf init_statuses s) early_ends status (
+      inr (inr (inl refl)),
+      (
+        inr (inr (inr (inr (inl refl)))),
+        (
+          inr (inr (inr (inr (inr (inl refl))))),
+          (inr (inr (inr (inr (inr (inr (inl refl)))))), (inr (inr (inr (inr (inr (inr (inr (inr (inr (inl refl))))))))), tt)),
+        ),
+      ),
+    ) one
+
+pub new_no_input_fault : (status : Status) → IsOneOf new_statuses status → status ≡ InputFault → ⊥
+new_no_input_fault status one =
+    each_of (λ s. s ≡ InputFault → ⊥) new_statuses status (λ e. cc, (λ e. cc, (λ e. cc, (λ e. cc, (λ e. cc, tt))))) one
+
+-- ---- What was told of a store that was made, or of a rule that is broken
+
+pub told_said : (report : Report) (text : List ℕ) (status result : Status) (taken : List ℕ) → text ≡ text_of report → status ≡ report.status
+    → IsToldAnswer text status result taken → IsSaid report result taken
+told_said report text status result taken text_is status_is (inl told) = inl (told.0 ∙ text_is, told.1 ∙ status_is)
+told_said report text status result taken text_is status_is (inr failed) =
+    inr (record {
+      stop = subst IsWritingStop (sym failed.1) tt;
+      front = subst (IsPrefix taken) text_is failed.0.front;
+      silent = λ early. absurd (not_early result failed.1 early);
+    })
+
+pub told_new : (text : List ℕ) (status result : Status) (taken : List ℕ) → IsOneOf (Done ∷ BadGenesis ∷ []) status → IsToldAnswer text status result taken
+    → IsOneOf new_statuses result
+told_new text status result taken one (inl told) =
+    subst (λ (s : Status). IsOneOf new_statuses s) (sym told.1)
+    (each_of (λ s. IsOneOf new_statuses s) (Done ∷ BadGenesis ∷ []) status (inl refl, (inr (inr (inr (inr (inl refl)))), tt)) one)
+told_new text status result taken one (inr failed) = inr (inl failed.1)
+
+-- what was answered and is no fault of the sink was told
+pub told_as : (wanted : Status) (text : List ℕ) (status result : Status) (taken : List ℕ) → (SinkFault ≡ wanted → ⊥) → IsToldAnswer text status result taken
+    → result ≡ wanted → status ≡ wanted
+told_as wanted text status result taken other (inl told) same = sym told.1 ∙ same
+told_as wanted text status result taken other (inr failed) same = absurd (other (sym failed.1 ∙ same))
+
+pub told_no_disk_fault : (text : List ℕ) (status result : Status) (taken : List ℕ) → IsOneOf (Done ∷ BadGenesis ∷ []) status → IsToldAnswer text status result taken
+    → result ≡ DiskFault → ⊥
+told_no_disk_fault text status result taken one told same =
+    each_of (λ s. s ≡ DiskFault → ⊥) (Done ∷ BadGenesis ∷ []) status (λ e. cc, (λ e. cc, tt)) one
+    (told_as DiskFault text status result taken (λ e. cc) told same)
+
+-- ---- What stops the making of a store
+
+abbrev pub IsMakingStop : Status → Type 0
+IsMakingStop DiskFault = Unit {0}
+IsMakingStop NoMemory = Unit {0}
+IsMakingStop _ = ⊥
+
+pub making_stop : (status : Status) → IsOneOf (DiskFault ∷ NoMemory ∷ []) status → IsMakingStop status
+making_stop status one = each_of IsMakingStop (DiskFault ∷ NoMemory ∷ []) status (tt, (tt, tt)) one
+
+pub making_stopped : (status : Status) → IsOneOf (DiskFault ∷ NoMemory ∷ []) status → IsOneOf new_statuses status
+making_stopped status one =
+    each_of (λ s. IsOneOf new_statuses s) (DiskFault ∷ NoMemory ∷ []) status (inr (inr (inl refl)), (inr (inr (inr (inl refl))), tt)) one

@@ -1,3 +1,4 @@
+pub mod Exits
 pub mod Faults
 pub mod Statuses
 pub mod LineLemmas
@@ -8,4 +9,5 @@ pub mod ExecLemmas
 pub mod WordLemmas
 pub mod InitLemmas
 pub mod CheckLemmas
+pub mod Asked
 pub mod RunLemmas

@@ -144,5 +144,7 @@ pub fn check<S: Source, K: Sink, D: Disk, L: Ledger>(
         Ok(node) => node,
         Err(status) => return status,
     };
-    check_input(alloc, input, out, &mut node)
+    let status = check_input(alloc, input, out, &mut node);
+    drop(node);
+    status
 }

@@ -90,7 +90,10 @@ fn import_item<K: Sink, D: Disk, L: Ledger>(
     };
     match write_verdict(alloc, out, &verdict) {
         Ok(()) => Ok((next, verdict)),
-        Err(status) => Err(status),
+        Err(status) => {
+            drop(next);
+            Err(status)
+        }
     }
 }
 
@@ -119,13 +122,17 @@ fn import_items<S: Source, K: Sink, D: Disk, L: Ledger>(
         let item = match next_block(alloc, input, offset) {
             Ok(Next::Item(item)) => item,
             Ok(Next::End(end)) => {
+                drop(node);
                 return Ok(Ended {
                     end,
                     offset,
                     refused,
                 });
             }
-            Err(status) => return Err(status),
+            Err(status) => {
+                drop(node);
+                return Err(status);
+            }
         };
         let (next, verdict) = match import_item(alloc, out, disk, node, &item, steps) {
             Ok(answer) => answer,

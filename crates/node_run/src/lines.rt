@@ -20,6 +20,14 @@ fn push_hash(alloc: Global, line: &mut String, hash: &[u8; 32]) -> Result<(), Al
     line.push_str(&digits)
 }
 
+/// Adds a number in decimal digits.
+fn push_number(alloc: Global, line: &mut String, number: u64) -> Result<(), AllocError>
+    ensures { OnOk result (string_bytes line.new ≡ string_bytes line.old ++ decimal number) }
+{
+    let digits = number.to_string(alloc)?;
+    line.push_str(&digits)
+}
+
 /// A word, a number and a hash.
 fn numbered_line(
     alloc: Global,
@@ -30,10 +38,9 @@ fn numbered_line(
     ensures { IfOk result (λ line. string_bytes line
         ≡ word.now ++ codes " " ++ decimal number ++ codes " " ++ text.hash_text hash.now ++ text.line_feed) }
 {
-    let number = number.to_string(alloc)?;
     let mut line = String::from_str(alloc, word)?;
     line.push_str(" ")?;
-    line.push_str(&number)?;
+    push_number(alloc, &mut line, number)?;
     line.push_str(" ")?;
     push_hash(alloc, &mut line, hash)?;
     line.push_str("\n")?;
@@ -54,9 +61,8 @@ fn hash_line(alloc: Global, front: &str, hash: &[u8; 32]) -> Result<String, Allo
 fn number_line(alloc: Global, front: &str, number: u64) -> Result<String, AllocError>
     ensures { IfOk result (λ line. string_bytes line ≡ front.now ++ decimal number ++ text.line_feed) }
 {
-    let number = number.to_string(alloc)?;
     let mut line = String::from_str(alloc, front)?;
-    line.push_str(&number)?;
+    push_number(alloc, &mut line, number)?;
     line.push_str("\n")?;
     Ok(line)
 }
@@ -66,12 +72,10 @@ fn numbers_line(alloc: Global, front: &str, first: u64, second: u64) -> Result<S
     ensures { IfOk result (λ line. string_bytes line
         ≡ front.now ++ decimal first ++ codes " " ++ decimal second ++ text.line_feed) }
 {
-    let first = first.to_string(alloc)?;
-    let second = second.to_string(alloc)?;
     let mut line = String::from_str(alloc, front)?;
-    line.push_str(&first)?;
+    push_number(alloc, &mut line, first)?;
     line.push_str(" ")?;
-    line.push_str(&second)?;
+    push_number(alloc, &mut line, second)?;
     line.push_str("\n")?;
     Ok(line)
 }
@@ -138,17 +142,23 @@ pub fn closing_of_end(alloc: Global, offset: u64, end: End) -> Result<String, Al
     }
 }
 
+/// Adds an exit code in decimal digits, behind a sign where it is negative.
+fn push_code(alloc: Global, line: &mut String, code: i8) -> Result<(), AllocError>
+    ensures { OnOk result (string_bytes line.new ≡ string_bytes line.old ++ signed_decimal code) }
+{
+    let digits = code.to_string(alloc)?;
+    line.push_str(&digits)
+}
+
 /// The line of a program that exited.
 fn exit_line(alloc: Global, code: i8, cycles: u64) -> Result<String, AllocError>
     ensures { IfOk result (λ line. string_bytes line
         ≡ codes "exit " ++ signed_decimal code ++ codes " " ++ decimal cycles ++ text.line_feed) }
 {
-    let code = code.to_string(alloc)?;
-    let cycles = cycles.to_string(alloc)?;
     let mut line = String::from_str(alloc, "exit ")?;
-    line.push_str(&code)?;
+    push_code(alloc, &mut line, code)?;
     line.push_str(" ")?;
-    line.push_str(&cycles)?;
+    push_number(alloc, &mut line, cycles)?;
     line.push_str("\n")?;
     Ok(line)
 }

@@ -55,5 +55,7 @@ pub fn tip<K: Sink, D: Disk, L: Ledger>(
         Ok(node) => node,
         Err(status) => return status,
     };
-    write_tip(alloc, out, &node)
+    let status = write_tip(alloc, out, &node);
+    drop(node);
+    status
 }

@@ -4,6 +4,7 @@ use Rattle.outside.proofs.Streams.{gives_none, takes_none}
 use Rattle.node_run.proofs.CheckLemmas.{check_opened, check_unopened}
 use Rattle.node_run.proofs.Faults.{no_fault}
 use Rattle.node_run.proofs.StoreLemmas.{opened_there}
+use Rattle.node_run.proofs.Exits.{no_error}
 use Rattle.node_run.proofs.check.check.Goals as goal
 
 pub returns-in-Err-clause-check : goal.returns-in-Err-clause-check
@@ -19,18 +20,18 @@ returns-in-Err-clause-check g c = (
 
 pub returns-clause-check : goal.returns-clause-check
 returns-clause-check g c =
-    let said = c.check_input.ensures.checked in
-    let left = g.S.Source.left c.check_input.new.input in (
+    let said = c.check_input-status.ensures.checked in
+    let left = g.S.Source.left c.check_input-status.new.input in (
       said.0,
       said.1,
       said.2,
       said.3,
       check_opened g.D.Disk.reads_as g.D.Disk.images g.D.Disk.moment g.D.Disk.left_since g.met.D.Disk.counts_now c.args.disk.now c.open.new.disk
-          c.in-Ok.node left said.0 said.1 c.check_input.result c.in-Ok.ensures.kept c.in-Ok.ensures.on c.in-Ok.ensures.moments said.4,
+          c.in-Ok.node left said.0 said.1 c.check_input-status.result c.in-Ok.ensures.kept c.in-Ok.ensures.on c.in-Ok.ensures.moments said.4,
     )
 
 pub returns-clause-disk_faults : goal.returns-clause-disk_faults
-returns-clause-disk_faults g c = no_fault _ _ (c.in-Ok.ensures.cause.unchanged (λ e. cc)) c.check_input.ensures.disk
+returns-clause-disk_faults g c = no_fault _ _ (c.in-Ok.ensures.cause.unchanged (no_error _ _)) c.check_input-status.ensures.disk
 
 pub returns-clause-no_log : goal.returns-clause-no_log
 returns-clause-no_log g c = λ now told none. absurd (opened_there (g.D.Disk.reads_as c.args.disk.now) c.in-Ok.node.chain now c.in-Ok.ensures.kept told none)

@@ -1,5 +1,5 @@
 use Rattle.std.proofs.Common.{◌≡◌, [], ◌∷◌, ◌++◌, length, refl, sym, ap, ◌∙◌, subst, arith, append-nil, length-append}
-use Rattle.std.specs.Prelude.{Some, None, Ok}
+use Rattle.std.specs.Prelude.{Some, None, Ok, Err}
 use Rattle.std.specs.List.{concat}
 use Rattle.outside.proofs.Streams.{gives_more}
 use Rattle.report_defs.specs.declared.end.End.{End}
@@ -11,6 +11,8 @@ use Rattle.node_run.specs.Check.{EndsBeforeOne}
 use Rattle.node_run.proofs.ImportLemmas.{item_limit-is}
 use Rattle.node_run.proofs.InitLemmas.{known_limit, needed_early}
 use Rattle.node_run.proofs.CheckLemmas.{ends_before_one}
+use Rattle.node_run.proofs.Exits.{no_error, same_stop}
+use Rattle.node_run.proofs.Faults.{no_fault, then_counts, counts_also}
 use Rattle.node_run.proofs.check.read_input.Goals as goal
 
 pub returns-in-Ok-End-clause-read : goal.returns-in-Ok-End-clause-read
@@ -63,3 +65,26 @@ returns-clause-read g c =
         to_end = more.2.1;
       },
     )
+
+pub returns-in-Ok-End-clause-faults : goal.returns-in-Ok-End-clause-faults
+returns-in-Ok-End-clause-faults g c = no_fault _ _ (c.in-Ok-End.ensures.faults.unchanged (no_error _ _)) (no_error _ _)
+
+pub returns-in-Err-clause-read : goal.returns-in-Err-clause-read
+returns-in-Err-clause-read g c = let next = c.in-Err.ensures.next in (next.0, next.1, next.2.0)
+
+pub returns-in-Err-clause-faults : goal.returns-in-Err-clause-faults
+returns-in-Err-clause-faults g c =
+    counts_also _ _ c.in-Err.ensures.faults (λ e. ap Err (same_stop _ _ e)) (λ e. ap Err (same_stop _ _ e))
+
+pub returns-in-Err-has_more-clause-faults : goal.returns-in-Err-has_more-clause-faults
+returns-in-Err-has_more-clause-faults g c =
+    then_counts _ _ _ (c.in-Ok-Item.ensures.faults.unchanged (no_error _ _)) c.in-Err-has_more.ensures.faults
+    (λ e. ap Err (same_stop _ _ e)) (λ e. ap Err (same_stop _ _ e))
+
+pub returns-then-more-clause-faults : goal.returns-then-more-clause-faults
+returns-then-more-clause-faults g c =
+    no_fault _ _ (c.in-Ok.ensures.faults.unchanged (no_error _ _) ∙ c.in-Ok-Item.ensures.faults.unchanged (no_error _ _)) (no_error _ _)
+
+pub returns-clause-faults : goal.returns-clause-faults
+returns-clause-faults g c =
+    no_fault _ _ (c.in-Ok.ensures.faults.unchanged (no_error _ _) ∙ c.in-Ok-Item.ensures.faults.unchanged (no_error _ _)) (no_error _ _)

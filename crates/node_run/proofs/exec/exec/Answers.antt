@@ -1,9 +1,13 @@
-use Rattle.std.proofs.Common.{◌≡◌, [], refl, ap, ◌∙◌, arith}
+use Rattle.std.proofs.Common.{◌≡◌, [], refl, ap, ◌∙◌, arith, inl, inr, subst}
 use Rattle.outside.proofs.Streams.{takes_none}
 use Rattle.report_defs.specs.declared.status.Status.TheVariants.{NoMemory}
 use Rattle.report_defs.specs.Report.{Report, text_of, exec_report}
 use Rattle.node_run.proofs.Statuses.{reading_stops}
-use Rattle.node_run.proofs.ExecLemmas.{given_most, stopped_at_once, stopped_in_line, answered}
+use Rattle.node_run.proofs.ExecLemmas.{given_most, stopped_at_once, stopped_in_line, answered, exec_reading}
+use Rattle.std.specs.Prelude.{Err}
+use Rattle.item_reader.specs.Items.{IsReadingStop}
+use Rattle.node_run.proofs.Exits.{no_error, same_stop}
+use Rattle.node_run.proofs.Faults.{no_fault, counts_also, IsMemory}
 use Rattle.node_run.proofs.exec.exec.Goals as goal
 
 pub returns-in-Err-clause-text : goal.returns-in-Err-clause-text
@@ -52,3 +56,28 @@ returns-clause-text g c =
       stopped_in_line c.args.budget read.0 (g.S.Source.left c.read_file.new.input) c.in-Ok.file.items c.as_bytes.result.now written.0 c.in-Err-write_text.status read.2
           (c.as_bytes.ensures.value ∙ c.in-Ok-answer_to.ensures.line ∙ ap (λ (r : Report). text_of r) file) (c.in-Err-write_text.ensures.stop c.in-Err-write_text.status refl) written.2.front,
     )
+
+pub returns-in-Err-clause-status : goal.returns-in-Err-clause-status
+returns-in-Err-clause-status g c = exec_reading c.in-Err.status c.in-Err.ensures.file.2.stop
+
+pub returns-in-Err-clause-input_faults : goal.returns-in-Err-clause-input_faults
+returns-in-Err-clause-input_faults g c = counts_also _ _ c.in-Err.ensures.faults (λ e. ap Err e) (same_stop _ _)
+
+pub returns-in-Err-clause-out_faults : goal.returns-in-Err-clause-out_faults
+returns-in-Err-clause-out_faults g c = no_fault _ _ refl (λ e. subst IsReadingStop e c.in-Err.ensures.file.2.stop)
+
+pub returns-in-Err-answer_to-clause-status : goal.returns-in-Err-answer_to-clause-status
+returns-in-Err-answer_to-clause-status g c = inr (inr (inr (inl refl)))
+
+pub returns-in-Err-answer_to-clause-input_faults : goal.returns-in-Err-answer_to-clause-input_faults
+returns-in-Err-answer_to-clause-input_faults g c =
+    no_fault _ _ (c.in-Ok.ensures.faults.unchanged (no_error _ _)) (λ e. subst IsMemory e tt)
+
+pub returns-in-Err-answer_to-clause-out_faults : goal.returns-in-Err-answer_to-clause-out_faults
+returns-in-Err-answer_to-clause-out_faults g c = no_fault _ _ refl (λ e. subst IsMemory e tt)
+
+pub returns-clause-status : goal.returns-clause-status
+returns-clause-status g c = inr (inr (inl (c.in-Err-write_text.ensures.stop c.in-Err-write_text.status refl)))
+
+pub returns-clause-out_faults : goal.returns-clause-out_faults
+returns-clause-out_faults g c = counts_also _ _ c.in-Err-write_text.ensures.faults (λ e. ap Err e) (same_stop _ _)

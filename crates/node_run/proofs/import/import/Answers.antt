@@ -10,11 +10,12 @@ use Rattle.report_defs.specs.Report.{import_limits, closing_of_end, status_of_en
 use Rattle.node_core.specs.Node.{IsOn}
 use Rattle.node_run.specs.Output.{IsToldAnswer}
 use Rattle.node_run.specs.Import.{text_over}
-use Rattle.node_run.proofs.Faults.{then_counts, counts_also, no_fault, IsNoFault, end_no_fault, told_no_fault, no_input_there, no_disk_there}
+use Rattle.node_run.proofs.Faults.{then_counts, counts_also, no_fault, IsNoFault, end_no_fault, told_no_fault, no_input_there, no_disk_there, IsMemory}
 use Rattle.node_run.proofs.ImportLemmas.{joined_on, items_stop_import}
 use Rattle.node_run.proofs.StoreLemmas.{delivers, keeps_opened, keeps_unopened, opened_there, unopened, sound_opening, sound_here, by_disk_or_memory, if_told}
 use Rattle.node_run.proofs.ImportReport.{stopped_import, stopped_at_once, stopped_behind, stopped_acknowledges, stopped_take, ended_import, keeps_given, keeps_all_given}
 use Rattle.node_run.proofs.Statuses.{import_opening, import_told, opening_no_input, opening_no_sink}
+use Rattle.node_run.proofs.Exits.{no_error, same_stop}
 use Rattle.node_run.proofs.import.import.Goals as goal
 
 pub returns-in-Err-clause-import : goal.returns-in-Err-clause-import
@@ -114,15 +115,15 @@ returns-clause-import g c =
     )
 
 pub returns-in-Err-import_items-clause-input_faults : goal.returns-in-Err-import_items-clause-input_faults
-returns-in-Err-import_items-clause-input_faults g c = counts_also _ _ c.in-Err-import_items.ensures.input_faults (λ e. ap Err e) (λ e. cc)
+returns-in-Err-import_items-clause-input_faults g c = counts_also _ _ c.in-Err-import_items.ensures.input_faults (λ e. ap Err e) (same_stop _ _)
 
 pub returns-in-Err-import_items-clause-out_faults : goal.returns-in-Err-import_items-clause-out_faults
-returns-in-Err-import_items-clause-out_faults g c = counts_also _ _ c.in-Err-import_items.ensures.out_faults (λ e. ap Err e) (λ e. cc)
+returns-in-Err-import_items-clause-out_faults g c = counts_also _ _ c.in-Err-import_items.ensures.out_faults (λ e. ap Err e) (same_stop _ _)
 
 pub returns-in-Err-import_items-clause-disk_faults : goal.returns-in-Err-import_items-clause-disk_faults
 returns-in-Err-import_items-clause-disk_faults g c =
     then_counts (g.D.Disk.faults c.args.disk.now) (g.D.Disk.faults c.open.new.disk) (g.D.Disk.faults c.import_items.new.disk)
-    (c.in-Ok.ensures.cause.unchanged (λ e. cc)) c.in-Err-import_items.ensures.disk_faults (λ e. ap Err e) (λ e. cc)
+    (c.in-Ok.ensures.cause.unchanged (no_error _ _)) c.in-Err-import_items.ensures.disk_faults (λ e. ap Err e) (same_stop _ _)
 
 pub returns-in-Err-import_items-clause-status : goal.returns-in-Err-import_items-clause-status
 returns-in-Err-import_items-clause-status g c = items_stop_import c.in-Err-import_items.status (c.in-Err-import_items.ensures.status c.in-Err-import_items.status refl)
@@ -140,7 +141,7 @@ pub returns-clause-input_faults : goal.returns-clause-input_faults
 returns-clause-input_faults g c =
     let own : IsNoFault c.in-Ok-answer_to_end.answer.status =
     subst IsNoFault (sym c.in-Ok-answer_to_end.ensures.status) (end_no_fault c.in-Ok-import_items.ended.refused c.in-Ok-import_items.ended.end) in
-    no_fault _ _ (c.in-Ok-import_items.ensures.input_faults.unchanged (λ e. cc))
+    no_fault _ _ (c.in-Ok-import_items.ensures.input_faults.unchanged (no_error _ _))
     (no_input_there c.tell.result
     (told_no_fault (string_bytes c.in-Ok-answer_to_end.answer.text) c.in-Ok-answer_to_end.answer.status c.tell.result c.tell.ensures.told.0 own c.tell.ensures.told.2))
 
@@ -148,7 +149,7 @@ pub returns-clause-disk_faults : goal.returns-clause-disk_faults
 returns-clause-disk_faults g c =
     let own : IsNoFault c.in-Ok-answer_to_end.answer.status =
     subst IsNoFault (sym c.in-Ok-answer_to_end.ensures.status) (end_no_fault c.in-Ok-import_items.ended.refused c.in-Ok-import_items.ended.end) in
-    no_fault _ _ (c.in-Ok-import_items.ensures.disk_faults.unchanged (λ e. cc) ∙ c.in-Ok.ensures.cause.unchanged (λ e. cc))
+    no_fault _ _ (c.in-Ok-import_items.ensures.disk_faults.unchanged (no_error _ _) ∙ c.in-Ok.ensures.cause.unchanged (no_error _ _))
     (no_disk_there c.tell.result
     (told_no_fault (string_bytes c.in-Ok-answer_to_end.answer.text) c.in-Ok-answer_to_end.answer.status c.tell.result c.tell.ensures.told.0 own c.tell.ensures.told.2))
 
@@ -165,20 +166,20 @@ pub returns-in-Err-clause-out_faults : goal.returns-in-Err-clause-out_faults
 returns-in-Err-clause-out_faults g c = no_fault _ _ refl (opening_no_sink c.in-Err.status (c.in-Err.ensures.one_of c.in-Err.status refl))
 
 pub returns-in-Err-clause-disk_faults : goal.returns-in-Err-clause-disk_faults
-returns-in-Err-clause-disk_faults g c = counts_also _ _ c.in-Err.ensures.cause (λ e. ap Err e) (λ e. cc)
+returns-in-Err-clause-disk_faults g c = counts_also _ _ c.in-Err.ensures.cause (λ e. ap Err e) (same_stop _ _)
 
 pub returns-in-Err-answer_to_end-clause-status : goal.returns-in-Err-answer_to_end-clause-status
 returns-in-Err-answer_to_end-clause-status g c = inr (inr (inr (inr (inr (inl refl)))))
 
 pub returns-in-Err-answer_to_end-clause-input_faults : goal.returns-in-Err-answer_to_end-clause-input_faults
-returns-in-Err-answer_to_end-clause-input_faults g c = no_fault _ _ (c.in-Ok-import_items.ensures.input_faults.unchanged (λ e. cc)) (λ e. cc)
+returns-in-Err-answer_to_end-clause-input_faults g c = no_fault _ _ (c.in-Ok-import_items.ensures.input_faults.unchanged (no_error _ _)) (λ e. subst IsMemory e tt)
 
 pub returns-in-Err-answer_to_end-clause-out_faults : goal.returns-in-Err-answer_to_end-clause-out_faults
-returns-in-Err-answer_to_end-clause-out_faults g c = no_fault _ _ (c.in-Ok-import_items.ensures.out_faults.unchanged (λ e. cc)) (λ e. cc)
+returns-in-Err-answer_to_end-clause-out_faults g c = no_fault _ _ (c.in-Ok-import_items.ensures.out_faults.unchanged (no_error _ _)) (λ e. subst IsMemory e tt)
 
 pub returns-in-Err-answer_to_end-clause-disk_faults : goal.returns-in-Err-answer_to_end-clause-disk_faults
 returns-in-Err-answer_to_end-clause-disk_faults g c =
-    no_fault _ _ (c.in-Ok-import_items.ensures.disk_faults.unchanged (λ e. (cc)) ∙ c.in-Ok.ensures.cause.unchanged (λ e. (cc))) (λ e. cc)
+    no_fault _ _ (c.in-Ok-import_items.ensures.disk_faults.unchanged (no_error _ _) ∙ c.in-Ok.ensures.cause.unchanged (no_error _ _)) (λ e. subst IsMemory e tt)
 
 pub returns-clause-status : goal.returns-clause-status
 returns-clause-status g c =
@@ -188,4 +189,4 @@ returns-clause-status g c =
 pub returns-clause-out_faults : goal.returns-clause-out_faults
 returns-clause-out_faults g c =
     then_counts (g.K.Sink.faults c.args.out.now) (g.K.Sink.faults c.import_items.new.out) (g.K.Sink.faults c.tell.new.out)
-    (c.in-Ok-import_items.ensures.out_faults.unchanged (λ e. cc)) c.tell.ensures.faults (λ e. e) (λ e. e)
+    (c.in-Ok-import_items.ensures.out_faults.unchanged (no_error _ _)) c.tell.ensures.faults (λ e. e) (λ e. e)

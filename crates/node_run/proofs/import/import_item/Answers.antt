@@ -1,16 +1,15 @@
-use Rattle.std.proofs.Common.{◌≡◌, [], refl, ap, ◌∙◌, subst}
+use Rattle.std.proofs.Common.{[], refl, ap, ◌∙◌, subst}
 use Rattle.std.specs.Prelude.{Err}
 use Rattle.outside.proofs.Streams.{takes_none}
-use Rattle.outside.specs.declared.disk.ReadStop.TheVariants as stops
 use Rattle.verdict_defs.specs.Chain.{verdict_over}
 use Rattle.verdict_defs.specs.declared.verdict.Verdict.{Verdict}
 use Rattle.report_defs.specs.Text.{line}
-use Rattle.report_defs.specs.declared.status.Status.TheVariants.{SinkFault, DiskFault}
 use Rattle.report_defs.specs.Status.{IsOneOf}
 use Rattle.node_run.specs.Import.{IsCutShort, item_stops}
 use Rattle.node_run.proofs.ImportLemmas.{cut_before_line, item_stopped, line_stopped, line_no_disk_fault}
 use Rattle.node_run.proofs.StoreLemmas.{by_disk_or_memory}
 use Rattle.node_run.proofs.Statuses.{opening_no_sink}
+use Rattle.node_run.proofs.Exits.{no_error, same_stop}
 use Rattle.node_run.proofs.Faults.{no_fault, counts_also}
 use Rattle.node_run.proofs.import.import_item.Goals as goal
 
@@ -35,8 +34,7 @@ returns-in-Err-clause-written g c = (
 
 pub returns-in-Err-clause-status : goal.returns-in-Err-clause-status
 returns-in-Err-clause-status g c = λ status e.
-    let same : c.status_of_reading.result ≡ status = cc in
-    subst (λ s. IsOneOf item_stops s) same (item_stopped c.status_of_reading.result c.status_of_reading.ensures.one_of)
+    subst (λ s. IsOneOf item_stops s) (same_stop _ _ e) (item_stopped c.status_of_reading.result c.status_of_reading.ensures.one_of)
 
 pub returns-in-Err-clause-there : goal.returns-in-Err-clause-there
 returns-in-Err-clause-there g c = tt
@@ -49,13 +47,13 @@ returns-in-Err-clause-moments g c = c.in-Err.ensures.moments
 
 pub returns-in-Err-clause-out_faults : goal.returns-in-Err-clause-out_faults
 returns-in-Err-clause-out_faults g c =
-    no_fault _ _ refl (λ e. let same : c.status_of_reading.result ≡ SinkFault = (cc) in opening_no_sink c.status_of_reading.result c.status_of_reading.ensures.one_of same)
+    no_fault _ _ refl (λ e. opening_no_sink c.status_of_reading.result c.status_of_reading.ensures.one_of (same_stop _ _ e))
 
 pub returns-in-Err-clause-disk_faults : goal.returns-in-Err-clause-disk_faults
 returns-in-Err-clause-disk_faults g c =
     counts_also _ _ c.in-Err.ensures.cause
-    (λ e. let same : c.status_of_reading.result ≡ DiskFault = (cc) in ap Err (c.status_of_reading.ensures.fault.0 same))
-    (λ e. let same : c.in-Err.stop ≡ stops.DiskFault = (cc) in ap Err (c.status_of_reading.ensures.fault.1 same))
+    (λ e. ap Err (c.status_of_reading.ensures.fault.0 (same_stop _ _ e)))
+    (λ e. ap Err (c.status_of_reading.ensures.fault.1 (same_stop _ _ e)))
 
 -- ---- The line was written
 
@@ -74,7 +72,7 @@ returns-in-Ok-write_verdict-clause-written g c =
     )
 
 pub returns-in-Ok-write_verdict-clause-status : goal.returns-in-Ok-write_verdict-clause-status
-returns-in-Ok-write_verdict-clause-status g c = λ status e. cc
+returns-in-Ok-write_verdict-clause-status g c = λ status e. absurd (no_error _ _ e)
 
 pub returns-in-Ok-write_verdict-clause-there : goal.returns-in-Ok-write_verdict-clause-there
 returns-in-Ok-write_verdict-clause-there g c = c.in-Ok.ensures.there
@@ -86,10 +84,10 @@ pub returns-in-Ok-write_verdict-clause-moments : goal.returns-in-Ok-write_verdic
 returns-in-Ok-write_verdict-clause-moments g c = c.in-Ok.ensures.moments
 
 pub returns-in-Ok-write_verdict-clause-out_faults : goal.returns-in-Ok-write_verdict-clause-out_faults
-returns-in-Ok-write_verdict-clause-out_faults g c = no_fault _ _ (c.in-Ok-write_verdict.ensures.faults.unchanged (λ e. cc)) (λ e. cc)
+returns-in-Ok-write_verdict-clause-out_faults g c = no_fault _ _ (c.in-Ok-write_verdict.ensures.faults.unchanged (no_error _ _)) (no_error _ _)
 
 pub returns-in-Ok-write_verdict-clause-disk_faults : goal.returns-in-Ok-write_verdict-clause-disk_faults
-returns-in-Ok-write_verdict-clause-disk_faults g c = no_fault _ _ (c.in-Ok.ensures.cause.unchanged (λ e. cc)) (λ e. cc)
+returns-in-Ok-write_verdict-clause-disk_faults g c = no_fault _ _ (c.in-Ok.ensures.cause.unchanged (no_error _ _)) (no_error _ _)
 
 -- ---- The line was stopped
 
@@ -109,8 +107,7 @@ returns-in-Err-write_verdict-clause-written g c =
 
 pub returns-in-Err-write_verdict-clause-status : goal.returns-in-Err-write_verdict-clause-status
 returns-in-Err-write_verdict-clause-status g c = λ status e.
-    let same : c.in-Err-write_verdict.status ≡ status = cc in
-    subst (λ s. IsOneOf item_stops s) same (line_stopped c.in-Err-write_verdict.status (c.in-Err-write_verdict.ensures.status c.in-Err-write_verdict.status refl))
+    subst (λ s. IsOneOf item_stops s) (same_stop _ _ e) (line_stopped c.in-Err-write_verdict.status (c.in-Err-write_verdict.ensures.status c.in-Err-write_verdict.status refl))
 
 pub returns-in-Err-write_verdict-clause-there : goal.returns-in-Err-write_verdict-clause-there
 returns-in-Err-write_verdict-clause-there g c = tt
@@ -123,11 +120,9 @@ returns-in-Err-write_verdict-clause-moments g c = c.in-Ok.ensures.moments
 
 pub returns-in-Err-write_verdict-clause-out_faults : goal.returns-in-Err-write_verdict-clause-out_faults
 returns-in-Err-write_verdict-clause-out_faults g c =
-    counts_also _ _ c.in-Err-write_verdict.ensures.faults
-    (λ e. let same : c.in-Err-write_verdict.status ≡ SinkFault = (cc) in ap Err same)
-    (λ e. let same : c.in-Err-write_verdict.status ≡ SinkFault = (cc) in ap Err same)
+    counts_also _ _ c.in-Err-write_verdict.ensures.faults (λ e. ap Err (same_stop _ _ e)) (λ e. ap Err (same_stop _ _ e))
 
 pub returns-in-Err-write_verdict-clause-disk_faults : goal.returns-in-Err-write_verdict-clause-disk_faults
 returns-in-Err-write_verdict-clause-disk_faults g c =
     let never = line_no_disk_fault c.in-Err-write_verdict.status (c.in-Err-write_verdict.ensures.status c.in-Err-write_verdict.status refl) in
-    no_fault _ _ (c.in-Ok.ensures.cause.unchanged (λ e. cc)) (λ e. let same : c.in-Err-write_verdict.status ≡ DiskFault = (cc) in never same)
+    no_fault _ _ (c.in-Ok.ensures.cause.unchanged (no_error _ _)) (λ e. never (same_stop _ _ e))

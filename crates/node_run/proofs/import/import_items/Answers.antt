@@ -1,15 +1,17 @@
 use Rattle.std.proofs.Common.{◌≡◌, ◌∷◌, inr, length, ap, sym, ◌∙◌, arith, refl, subst, []}
-use Rattle.std.specs.Prelude.{Err, Some, ◌||◌}
+use Rattle.std.specs.Prelude.{Ok, Err, Some, ◌||◌}
 use Rattle.outside.proofs.Streams.{gives_none, takes_none}
 use Rattle.outside.specs.Disk.{LeavesOnly}
 use Rattle.outside.proofs.Moments.{leaves_also}
 use Rattle.node_core.specs.Node.{IsOn}
-use Rattle.report_defs.specs.declared.status.Status.TheVariants.{InputFault, SinkFault, DiskFault}
+use Rattle.report_defs.specs.declared.status.Status.TheVariants.{InputFault}
 use Rattle.report_defs.specs.Report.{item_limit, input_limit}
 use Rattle.verdict_defs.specs.Verdict as rules
-use Rattle.item_reader.specs.Items.{IsReadingStop, IsItemAt}
+use Rattle.item_reader.specs.Items.{IsReadingStop, IsItemAt, IsPartial, EndsAt, IsNext}
+use Rattle.item_reader.specs.declared.next.Next.{Next}
 use Rattle.report_defs.specs.Status.{IsOneOf}
 use Rattle.node_run.specs.Import.{item_stops}
+use Rattle.node_run.proofs.Exits.{no_error, same_stop}
 use Rattle.node_run.proofs.Faults.{no_fault, then_counts}
 use Rattle.node_run.proofs.ImportLemmas.{whole_more, imported_to_end, imported_to_fault, imported_to_line, leaves_none, leaves_item, exit_of_item, on_stands, joined_on, no_input_fault, reading_stopped, keeps_more, or_then, or_else, item_limit-is, input_limit-is}
 use Rattle.node_run.proofs.import.import_items.Goals as goal
@@ -44,26 +46,29 @@ next_block-requires g c = c.items.invariant.whole.within
 
 pub returns-in-Ok-End-clause-imported : goal.returns-in-Ok-End-clause-imported
 returns-in-Ok-End-clause-imported g c =
-    let next = rw c.in-Ok-End.field-0-is at c.in-Ok-End.ensures.next in
+    let next = c.in-Ok-End.ensures.next in
+    let left = g.S.Source.left c.next_block.new.input in
+    let ends : EndsAt (Some item_limit) (Some input_limit) c.items.offset left c.in-Ok-End.end next.0 × IsPartial item_limit (Some input_limit) c.items.offset next.0 =
+    subst (λ (n : Next). IsNext item_limit (Some input_limit) c.items.offset left (Ok n) next.0) c.in-Ok-End.field-0-is next.2 in
     imported_to_end c.args.opened.chain c.items.offset (g.S.Source.left c.args.input.now) (g.S.Source.left c.items.input) (g.S.Source.left c.next_block.new.input)
     (g.K.Sink.taken c.args.out.now) (g.K.Sink.taken c.items.out) c.items.node.chain (record { end = c.in-Ok-End.end; offset = c.items.offset; refused = c.items.refused })
     (IsOn c.args.opened (g.D.Disk.reads_as c.args.disk.now) (g.D.Disk.images c.args.disk.now)) (IsOn c.items.node (g.D.Disk.reads_as c.items.disk) (g.D.Disk.images c.items.disk))
-    (g.D.Disk.images c.items.disk) (LeavesOnly g.D.Disk.moment g.D.Disk.left_since c.args.disk.now c.items.disk) next.0 c.items.invariant.whole next.1 next.2.0 next.2.1 refl
+    (g.D.Disk.images c.items.disk) (LeavesOnly g.D.Disk.moment g.D.Disk.left_since c.args.disk.now c.items.disk) next.0 c.items.invariant.whole next.1 ends.0 ends.1 refl
     (on_stands c.items.node c.items.node.chain (g.D.Disk.reads_as c.items.disk) (g.D.Disk.images c.items.disk) refl)
 
 pub returns-in-Ok-End-clause-status : goal.returns-in-Ok-End-clause-status
-returns-in-Ok-End-clause-status g c = λ status e. cc
+returns-in-Ok-End-clause-status g c = λ status e. absurd (no_error _ _ e)
 
 pub returns-in-Ok-End-clause-input_faults : goal.returns-in-Ok-End-clause-input_faults
 returns-in-Ok-End-clause-input_faults g c =
     no_fault (g.S.Source.faults c.args.input.now) (g.S.Source.faults c.next_block.new.input)
-    (c.in-Ok-End.ensures.faults.unchanged (λ e. (cc)) ∙ c.items.invariant.input_unchanged) (λ e. cc)
+    (c.in-Ok-End.ensures.faults.unchanged (no_error _ _) ∙ c.items.invariant.input_unchanged) (no_error _ _)
 
 pub returns-in-Ok-End-clause-out_faults : goal.returns-in-Ok-End-clause-out_faults
-returns-in-Ok-End-clause-out_faults g c = no_fault (g.K.Sink.faults c.args.out.now) (g.K.Sink.faults c.items.out) c.items.invariant.out_unchanged (λ e. cc)
+returns-in-Ok-End-clause-out_faults g c = no_fault (g.K.Sink.faults c.args.out.now) (g.K.Sink.faults c.items.out) c.items.invariant.out_unchanged (no_error _ _)
 
 pub returns-in-Ok-End-clause-disk_faults : goal.returns-in-Ok-End-clause-disk_faults
-returns-in-Ok-End-clause-disk_faults g c = no_fault (g.D.Disk.faults c.args.disk.now) (g.D.Disk.faults c.items.disk) c.items.invariant.disk_unchanged (λ e. cc)
+returns-in-Ok-End-clause-disk_faults g c = no_fault (g.D.Disk.faults c.args.disk.now) (g.D.Disk.faults c.items.disk) c.items.invariant.disk_unchanged (no_error _ _)
 
 pub import_item-requires-clause-there : goal.import_item-requires-clause-there
 import_item-requires-clause-there g c = c.items.invariant.there
@@ -82,11 +87,13 @@ returns-in-Err-clause-imported g c =
 
 pub returns-in-Err-import_item-clause-imported : goal.returns-in-Err-import_item-clause-imported
 returns-in-Err-import_item-clause-imported g c =
-    let next = rw c.in-Ok-Item.field-0-is at c.in-Ok-Item.ensures.next in
+    let next = c.in-Ok-Item.ensures.next in
+    let found : IsItemAt item_limit (Some input_limit) c.items.offset c.in-Ok-Item.item.items next.0 =
+    subst (λ (n : Next). IsNext item_limit (Some input_limit) c.items.offset (g.S.Source.left c.next_block.new.input) (Ok n) next.0) c.in-Ok-Item.field-0-is next.2 in
     let whole = c.items.invariant.whole in
     let written = c.in-Err-import_item.ensures.written in
     let at : IsItemAt item_limit (Some input_limit) c.items.offset c.deref.result.now next.0 =
-    subst (λ bytes. IsItemAt item_limit (Some input_limit) c.items.offset bytes next.0) (sym c.deref.ensures.value) next.2 in
+    subst (λ bytes. IsItemAt item_limit (Some input_limit) c.items.offset bytes next.0) (sym c.deref.ensures.value) found in
     imported_to_line c.args.opened.chain c.items.offset (g.S.Source.left c.args.input.now) (g.S.Source.left c.items.input) (g.S.Source.left c.next_block.new.input)
     (g.K.Sink.taken c.args.out.now) (g.K.Sink.taken c.items.out) (g.K.Sink.taken c.import_item.new.out) c.items.node.chain c.items.refused
     (IsOn c.args.opened (g.D.Disk.reads_as c.args.disk.now) (g.D.Disk.images c.args.disk.now)) (IsOn c.items.node (g.D.Disk.reads_as c.items.disk) (g.D.Disk.images c.items.disk))
@@ -103,72 +110,77 @@ pub returns-in-Err-clause-input_faults : goal.returns-in-Err-clause-input_faults
 returns-in-Err-clause-input_faults g c =
     then_counts (g.S.Source.faults c.args.input.now) (g.S.Source.faults c.items.input) (g.S.Source.faults c.next_block.new.input)
     c.items.invariant.input_unchanged c.in-Err.ensures.faults
-    (λ e. let is : c.in-Err.status ≡ InputFault = cc in ap Err is) (λ e. let is : c.in-Err.status ≡ InputFault = cc in ap Err is)
+    (λ e. ap Err (same_stop _ _ e)) (λ e. ap Err (same_stop _ _ e))
 
 pub returns-in-Err-clause-out_faults : goal.returns-in-Err-clause-out_faults
 returns-in-Err-clause-out_faults g c =
     no_fault (g.K.Sink.faults c.args.out.now) (g.K.Sink.faults c.items.out) c.items.invariant.out_unchanged
-    (λ e. let is : c.in-Err.status ≡ SinkFault = cc in subst IsReadingStop is c.in-Err.ensures.next.2.0)
+    (λ e. subst IsReadingStop (same_stop _ _ e) c.in-Err.ensures.next.2.0)
 
 pub returns-in-Err-clause-disk_faults : goal.returns-in-Err-clause-disk_faults
 returns-in-Err-clause-disk_faults g c =
     no_fault (g.D.Disk.faults c.args.disk.now) (g.D.Disk.faults c.items.disk) c.items.invariant.disk_unchanged
-    (λ e. let is : c.in-Err.status ≡ DiskFault = cc in subst IsReadingStop is c.in-Err.ensures.next.2.0)
+    (λ e. subst IsReadingStop (same_stop _ _ e) c.in-Err.ensures.next.2.0)
 
 pub returns-in-Err-import_item-clause-input_faults : goal.returns-in-Err-import_item-clause-input_faults
 returns-in-Err-import_item-clause-input_faults g c =
     no_fault (g.S.Source.faults c.args.input.now) (g.S.Source.faults c.next_block.new.input)
-    (c.in-Ok-Item.ensures.faults.unchanged (λ e. (cc)) ∙ c.items.invariant.input_unchanged)
-    (λ e. let is : c.in-Err-import_item.status ≡ InputFault = cc in
-    no_input_fault c.in-Err-import_item.status (c.in-Err-import_item.ensures.status c.in-Err-import_item.status refl) is)
+    (c.in-Ok-Item.ensures.faults.unchanged (no_error _ _) ∙ c.items.invariant.input_unchanged)
+    (λ e. no_input_fault c.in-Err-import_item.status (c.in-Err-import_item.ensures.status c.in-Err-import_item.status refl) (same_stop _ _ e))
 
 pub returns-in-Err-import_item-clause-out_faults : goal.returns-in-Err-import_item-clause-out_faults
 returns-in-Err-import_item-clause-out_faults g c =
     then_counts (g.K.Sink.faults c.args.out.now) (g.K.Sink.faults c.items.out) (g.K.Sink.faults c.import_item.new.out)
     c.items.invariant.out_unchanged c.in-Err-import_item.ensures.out_faults
-    (λ e. let is : c.in-Err-import_item.status ≡ SinkFault = cc in ap Err is) (λ e. let is : c.in-Err-import_item.status ≡ SinkFault = cc in ap Err is)
+    (λ e. ap Err (same_stop _ _ e)) (λ e. ap Err (same_stop _ _ e))
 
 pub returns-in-Err-import_item-clause-disk_faults : goal.returns-in-Err-import_item-clause-disk_faults
 returns-in-Err-import_item-clause-disk_faults g c =
     then_counts (g.D.Disk.faults c.args.disk.now) (g.D.Disk.faults c.items.disk) (g.D.Disk.faults c.import_item.new.disk)
     c.items.invariant.disk_unchanged c.in-Err-import_item.ensures.disk_faults
-    (λ e. let is : c.in-Err-import_item.status ≡ DiskFault = cc in ap Err is) (λ e. let is : c.in-Err-import_item.status ≡ DiskFault = cc in ap Err is)
+    (λ e. ap Err (same_stop _ _ e)) (λ e. ap Err (same_stop _ _ e))
 
 pub returns-in-Err-clause-status : goal.returns-in-Err-clause-status
 returns-in-Err-clause-status g c = λ status e.
-    let same : c.in-Err.status ≡ status = cc in
-    subst (λ s. IsOneOf (InputFault ∷ item_stops) s) same (reading_stopped c.in-Err.status c.in-Err.ensures.next.2.0)
+    subst (λ s. IsOneOf (InputFault ∷ item_stops) s) (same_stop _ _ e) (reading_stopped c.in-Err.status c.in-Err.ensures.next.2.0)
 
 pub returns-in-Err-import_item-clause-status : goal.returns-in-Err-import_item-clause-status
 returns-in-Err-import_item-clause-status g c = λ status e.
-    let same : c.in-Err-import_item.status ≡ status = cc in
-    subst (λ s. IsOneOf (InputFault ∷ item_stops) s) same (inr (c.in-Err-import_item.ensures.status c.in-Err-import_item.status refl))
+    subst (λ s. IsOneOf (InputFault ∷ item_stops) s) (same_stop _ _ e) (inr (c.in-Err-import_item.ensures.status c.in-Err-import_item.status refl))
 
 pub import_item-requires-clause-size : goal.import_item-requires-clause-size
 import_item-requires-clause-size g c =
-    let next = rw c.in-Ok-Item.field-0-is at c.in-Ok-Item.ensures.next in
-    omega (arith, item_limit-is, next.2.is_item.most, ap length c.deref.ensures.value)
+    let next = c.in-Ok-Item.ensures.next in
+    let found : IsItemAt item_limit (Some input_limit) c.items.offset c.in-Ok-Item.item.items next.0 =
+    subst (λ (n : Next). IsNext item_limit (Some input_limit) c.items.offset (g.S.Source.left c.next_block.new.input) (Ok n) next.0) c.in-Ok-Item.field-0-is next.2 in
+    omega (arith, item_limit-is, found.is_item.most, ap length c.deref.ensures.value)
 
 pub overflow_add-offset : goal.overflow_add-offset
 overflow_add-offset g c =
-    let next = rw c.in-Ok-Item.field-0-is at c.in-Ok-Item.ensures.next in
-    omega (arith, input_limit-is, next.2.within, c.len.ensures, c.in-Ok-Item.item.ok)
+    let next = c.in-Ok-Item.ensures.next in
+    let found : IsItemAt item_limit (Some input_limit) c.items.offset c.in-Ok-Item.item.items next.0 =
+    subst (λ (n : Next). IsNext item_limit (Some input_limit) c.items.offset (g.S.Source.left c.next_block.new.input) (Ok n) next.0) c.in-Ok-Item.field-0-is next.2 in
+    omega (arith, input_limit-is, found.within, c.len.ensures, c.in-Ok-Item.item.ok)
 
 pub items-smaller : goal.items-smaller
 items-smaller g c =
-    let next = rw c.in-Ok-Item.field-0-is at c.in-Ok-Item.ensures.next in
+    let next = c.in-Ok-Item.ensures.next in
+    let found : IsItemAt item_limit (Some input_limit) c.items.offset c.in-Ok-Item.item.items next.0 =
+    subst (λ (n : Next). IsNext item_limit (Some input_limit) c.items.offset (g.S.Source.left c.next_block.new.input) (Ok n) next.0) c.in-Ok-Item.field-0-is next.2 in
     let size : c.len.result ≡ length c.in-Ok-Item.item.items = omega (arith, c.len.ensures, c.in-Ok-Item.item.ok) in
-    omega (arith, size, next.2.within, next.2.is_item.least)
+    omega (arith, size, found.within, found.is_item.least)
 
 pub items-preserved : goal.items-preserved
 items-preserved g c =
-    let next = rw c.in-Ok-Item.field-0-is at c.in-Ok-Item.ensures.next in
+    let next = c.in-Ok-Item.ensures.next in
+    let found : IsItemAt item_limit (Some input_limit) c.items.offset c.in-Ok-Item.item.items next.0 =
+    subst (λ (n : Next). IsNext item_limit (Some input_limit) c.items.offset (g.S.Source.left c.next_block.new.input) (Ok n) next.0) c.in-Ok-Item.field-0-is next.2 in
     let whole = c.items.invariant.whole in
     let written = c.in-Ok.ensures.written in
     let item = c.deref.result.now in
     let size : c.len.result ≡ length item = omega (arith, c.len.ensures, c.in-Ok-Item.item.ok, ap length c.deref.ensures.value) in
     let at : IsItemAt item_limit (Some input_limit) c.items.offset item next.0 =
-    subst (λ bytes. IsItemAt item_limit (Some input_limit) c.items.offset bytes next.0) (sym c.deref.ensures.value) next.2 in
+    subst (λ bytes. IsItemAt item_limit (Some input_limit) c.items.offset bytes next.0) (sym c.deref.ensures.value) found in
     let any : c.if-refused.refused ≡ (c.items.refused || rules.refuses c.in-Ok.answer.1) = elim c.if-refused.branch [
       | then-refused w ↦
           let yes = w.if-refused.true in
@@ -190,7 +202,7 @@ items-preserved g c =
           c.items.node.chain whole.items item (whole.kept_now (joined_on c.args.opened (g.D.Disk.reads_as c.args.disk.now) (g.D.Disk.images c.args.disk.now) was))
           (whole.moments was) (c.in-Ok.ensures.moments (whole.on was)));
       there = c.in-Ok.ensures.there;
-      input_unchanged = c.in-Ok-Item.ensures.faults.unchanged (λ e. (cc)) ∙ c.items.invariant.input_unchanged;
-      out_unchanged = c.in-Ok.ensures.out_faults.unchanged (λ e. (cc)) ∙ c.items.invariant.out_unchanged;
-      disk_unchanged = c.in-Ok.ensures.disk_faults.unchanged (λ e. (cc)) ∙ c.items.invariant.disk_unchanged;
+      input_unchanged = c.in-Ok-Item.ensures.faults.unchanged (no_error _ _) ∙ c.items.invariant.input_unchanged;
+      out_unchanged = c.in-Ok.ensures.out_faults.unchanged (no_error _ _) ∙ c.items.invariant.out_unchanged;
+      disk_unchanged = c.in-Ok.ensures.disk_faults.unchanged (no_error _ _) ∙ c.items.invariant.disk_unchanged;
     }

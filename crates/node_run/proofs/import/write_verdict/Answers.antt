@@ -1,9 +1,10 @@
-use Rattle.std.proofs.Common.{◌≡◌, inl, inr, [], refl, sym, ◌∙◌, subst}
+use Rattle.std.proofs.Common.{inl, inr, [], refl, sym, ◌∙◌, subst}
 use Rattle.outside.proofs.Streams.{takes_none}
 use Rattle.report_defs.specs.declared.status.Status.TheVariants.{NoMemory}
 use Rattle.report_defs.specs.Text.{line}
 use Rattle.node_run.specs.Output.{IsWritten}
-use Rattle.node_run.proofs.Faults.{no_fault}
+use Rattle.node_run.proofs.Exits.{same_stop}
+use Rattle.node_run.proofs.Faults.{no_fault, IsMemory}
 use Rattle.node_run.proofs.ImportLemmas.{cut_before_line, line_written}
 use Rattle.node_run.proofs.import.write_verdict.Goals as goal
 
@@ -27,7 +28,7 @@ pub returns-in-Ok-clause-faults : goal.returns-in-Ok-clause-faults
 returns-in-Ok-clause-faults g c = c.write_text.ensures.faults
 
 pub returns-in-Err-clause-status : goal.returns-in-Err-clause-status
-returns-in-Err-clause-status g c = λ status e. let same : NoMemory ≡ status = cc in inr (inl (sym same))
+returns-in-Err-clause-status g c = λ status e. inr (inl (sym (same_stop _ _ e)))
 
 pub returns-in-Err-clause-faults : goal.returns-in-Err-clause-faults
-returns-in-Err-clause-faults g c = no_fault _ _ refl (λ e. cc)
+returns-in-Err-clause-faults g c = no_fault _ _ refl (λ e. subst IsMemory (same_stop _ _ e) tt)

@@ -7,6 +7,7 @@ use Rattle.node_run.proofs.ImportLemmas.{on_stands}
 use Rattle.node_run.proofs.StoreLemmas.{delivers, keeps_opened, keeps_read, keeps_unopened, opened_there, unopened, sound_opening, sound_here, by_disk_or_memory, if_told}
 use Rattle.node_run.proofs.Statuses.{tip_opening, tip_telling, tip_no_disk_fault, opening_no_sink}
 use Rattle.node_run.proofs.Faults.{no_fault, counts_also}
+use Rattle.node_run.proofs.Exits.{no_error, same_stop}
 use Rattle.node_run.proofs.tip.tip.Goals as goal
 
 pub returns-in-Err-clause-tip : goal.returns-in-Err-clause-tip
@@ -25,17 +26,17 @@ returns-in-Err-clause-tip g c = (
 )
 
 pub returns-clause-tip : goal.returns-clause-tip
-returns-clause-tip g c = let told = c.write_tip.ensures.told in (
+returns-clause-tip g c = let told = c.write_tip-status.ensures.told in (
   told.0,
   told.1,
   λ left.
       let chain = c.in-Ok.node.chain in
       delivers Tip (g.D.Disk.reads_as c.args.disk.now) chain (g.D.Disk.images c.args.disk.now) (g.D.Disk.images c.open.new.disk)
-      (g.D.Disk.left_since c.open.new.disk (g.D.Disk.moment c.args.disk.now)) left [] told.0 c.write_tip.result (λ store found. found) c.in-Ok.ensures.kept
+      (g.D.Disk.left_since c.open.new.disk (g.D.Disk.moment c.args.disk.now)) left [] told.0 c.write_tip-status.result (λ store found. found) c.in-Ok.ensures.kept
       (λ joined. told.2 left)
       (keeps_opened (g.D.Disk.reads_as c.args.disk.now) chain [] (g.D.Disk.images c.args.disk.now) (g.D.Disk.images c.open.new.disk)
-      (g.D.Disk.left_since c.open.new.disk (g.D.Disk.moment c.args.disk.now)) told.0 c.write_tip.result c.in-Ok.ensures.kept
-      (λ now known keeps sound. keeps_read g.D.Disk.images g.D.Disk.moment g.D.Disk.left_since g.met.D.Disk.counts_now c.args.disk.now c.open.new.disk chain told.0 c.write_tip.result
+      (g.D.Disk.left_since c.open.new.disk (g.D.Disk.moment c.args.disk.now)) told.0 c.write_tip-status.result c.in-Ok.ensures.kept
+      (λ now known keeps sound. keeps_read g.D.Disk.images g.D.Disk.moment g.D.Disk.left_since g.met.D.Disk.counts_now c.args.disk.now c.open.new.disk chain told.0 c.write_tip-status.result
       (c.in-Ok.ensures.moments now chain known keeps sound)
       (on_stands c.in-Ok.node chain (g.D.Disk.reads_as c.open.new.disk) (g.D.Disk.images c.open.new.disk) refl
       (if_told (g.D.Disk.reads_as c.args.disk.now) (λ _. IsOn c.in-Ok.node (g.D.Disk.reads_as c.open.new.disk) (g.D.Disk.images c.open.new.disk)) now (c.in-Ok.ensures.on sound) known)))),
@@ -51,16 +52,16 @@ pub returns-in-Err-clause-out_faults : goal.returns-in-Err-clause-out_faults
 returns-in-Err-clause-out_faults g c = no_fault _ _ refl (opening_no_sink c.in-Err.status (c.in-Err.ensures.one_of c.in-Err.status refl))
 
 pub returns-in-Err-clause-disk_faults : goal.returns-in-Err-clause-disk_faults
-returns-in-Err-clause-disk_faults g c = counts_also _ _ c.in-Err.ensures.cause (λ e. ap Err e) (λ e. cc)
+returns-in-Err-clause-disk_faults g c = counts_also _ _ c.in-Err.ensures.cause (λ e. ap Err e) (same_stop _ _)
 
 pub returns-clause-status : goal.returns-clause-status
-returns-clause-status g c = tip_telling c.write_tip.result c.write_tip.ensures.status
+returns-clause-status g c = tip_telling c.write_tip-status.result c.write_tip-status.ensures.status
 
 pub returns-clause-no_log : goal.returns-clause-no_log
 returns-clause-no_log g c = λ now told none. absurd (opened_there (g.D.Disk.reads_as c.args.disk.now) c.in-Ok.node.chain now c.in-Ok.ensures.kept told none)
 
 pub returns-clause-out_faults : goal.returns-clause-out_faults
-returns-clause-out_faults g c = c.write_tip.ensures.faults
+returns-clause-out_faults g c = c.write_tip-status.ensures.faults
 
 pub returns-clause-disk_faults : goal.returns-clause-disk_faults
-returns-clause-disk_faults g c = no_fault _ _ (c.in-Ok.ensures.cause.unchanged (λ e. cc)) (tip_no_disk_fault c.write_tip.result c.write_tip.ensures.status)
+returns-clause-disk_faults g c = no_fault _ _ (c.in-Ok.ensures.cause.unchanged (no_error _ _)) (tip_no_disk_fault c.write_tip-status.result c.write_tip-status.ensures.status)

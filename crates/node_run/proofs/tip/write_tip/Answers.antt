@@ -7,7 +7,8 @@ use Rattle.report_defs.specs.Text.{tip_line}
 use Rattle.node_run.specs.Import.{IsStop}
 use Rattle.node_run.proofs.StoreLemmas.{tip_stopped, tip_told, tip_line_is}
 use Rattle.node_run.proofs.Statuses.{not_early, is_early}
-use Rattle.node_run.proofs.Faults.{no_fault, counts_also}
+use Rattle.node_run.proofs.Faults.{no_fault, counts_also, IsMemory}
+use Rattle.node_run.proofs.Exits.{no_error, same_stop}
 use Rattle.node_run.proofs.tip.write_tip.Goals as goal
 
 pub returns-in-Err-clause-told : goal.returns-in-Err-clause-told
@@ -23,7 +24,7 @@ pub returns-in-Err-clause-status : goal.returns-in-Err-clause-status
 returns-in-Err-clause-status g c = inr (inr (inl refl))
 
 pub returns-in-Err-clause-faults : goal.returns-in-Err-clause-faults
-returns-in-Err-clause-faults g c = no_fault _ _ refl (λ e. cc)
+returns-in-Err-clause-faults g c = no_fault _ _ refl (λ e. subst IsMemory e tt)
 
 pub returns-in-Ok-write_text-clause-told : goal.returns-in-Ok-write_text-clause-told
 returns-in-Ok-write_text-clause-told g c = let written = c.in-Ok-write_text.ensures.written in (
@@ -41,7 +42,7 @@ pub returns-in-Ok-write_text-clause-status : goal.returns-in-Ok-write_text-claus
 returns-in-Ok-write_text-clause-status g c = inl refl
 
 pub returns-in-Ok-write_text-clause-faults : goal.returns-in-Ok-write_text-clause-faults
-returns-in-Ok-write_text-clause-faults g c = no_fault _ _ (c.in-Ok-write_text.ensures.faults.unchanged (λ e. cc)) (λ e. cc)
+returns-in-Ok-write_text-clause-faults g c = no_fault _ _ (c.in-Ok-write_text.ensures.faults.unchanged (no_error _ _)) (λ e. cc)
 
 pub returns-clause-told : goal.returns-clause-told
 returns-clause-told g c = let written = c.in-Err-write_text.ensures.written in (
@@ -61,4 +62,4 @@ pub returns-clause-status : goal.returns-clause-status
 returns-clause-status g c = inr (inl (c.in-Err-write_text.ensures.stop c.in-Err-write_text.status refl))
 
 pub returns-clause-faults : goal.returns-clause-faults
-returns-clause-faults g c = counts_also _ _ c.in-Err-write_text.ensures.faults (λ e. ap Err e) (λ e. cc)
+returns-clause-faults g c = counts_also _ _ c.in-Err-write_text.ensures.faults (λ e. ap Err e) (same_stop _ _)
