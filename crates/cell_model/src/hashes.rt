@@ -54,6 +54,21 @@ pub fn meta_of(e: u32, tx: u32, output: &OutputView<'_>, content: &[u8]) -> Cell
     requires { length content.now < 2 ^ 32 }
     ensures { (height : ℕ) → result ≡ row_of e (record { output = output.now; content = content.now; height = height; transaction = tx }) }
 {
+    meta_with(e, tx, output, content, script_hash(&output.lock()))
+}
+
+/// The same, where the hash of the output's lock is known.
+pub fn meta_with(
+    e: u32,
+    tx: u32,
+    output: &OutputView<'_>,
+    content: &[u8],
+    lock_hash: [u8; 32],
+) -> CellMeta
+    requires fits { length content.now < 2 ^ 32 }
+    requires lock { lock_hash ≡ cells.script_hash output.now.lock }
+    ensures { (height : ℕ) → result ≡ row_of e (record { output = output.now; content = content.now; height = height; transaction = tx }) }
+{
     let lock = output.lock();
     let type_script = output.type_script();
     let type_args = match &type_script {
@@ -69,7 +84,7 @@ pub fn meta_of(e: u32, tx: u32, output: &OutputView<'_>, content: &[u8]) -> Cell
         tx,
         capacity: output.capacity(),
         occupied: occupied(lock.args().len() as u32, type_args, content.len() as u32),
-        lock_hash: script_hash(&lock),
+        lock_hash,
         type_hash,
         data_hash: data_hash(content),
         data_len: content.len() as u32,

@@ -11,11 +11,13 @@ mod cells;
 mod copies;
 mod ext;
 mod hashes;
+mod last_script;
 mod list_blocks;
 mod row;
 
 pub use cells::{CellMeta, Cells, OutPoint, Resolved, ResolvedTx};
 pub use copies::{copy_of, data_at, fetch, output_at};
 pub use ext::Ext;
-pub use hashes::{data_hash, meta_of, occupied, script_hash, tx_hash};
+pub use hashes::{data_hash, meta_of, meta_with, occupied, script_hash, tx_hash};
+pub use last_script::LastScript;
 pub use list_blocks::ListBlocks;

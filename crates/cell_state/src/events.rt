@@ -7,16 +7,17 @@ ghost use Rattle.cell_defs.specs.Row.{row_of};
 ghost use Rattle.cell_state.specs.Walk.{height_of, spends_at, made_cell, value_of, IsNext};
 
 use crate::made::Made;
-use cell_model::{CellMeta, OutPoint, data_at, meta_of, tx_hash};
+use cell_model::{CellMeta, LastScript, OutPoint, data_at, meta_with, tx_hash};
 use mol_schema::{BlockView, OutPointView, TxView};
 use std::marker::Model;
 
 impl<'a> Made<'a> {
     /// The row of the cell, which the block at this place makes.
-    pub(crate) fn row(&self, block: u32) -> CellMeta
+    pub(crate) fn row(&self, block: u32, last: &mut LastScript) -> CellMeta
         ensures { (height : ℕ) → result ≡ row_of block (made_cell height self.now) }
     {
-        meta_of(block, self.place, &self.output, self.content)
+        let lock_hash = last.hash_of(&self.output.lock());
+        meta_with(block, self.place, &self.output, self.content, lock_hash)
     }
 }
 
@@ -122,7 +123,7 @@ impl<'b, 'a> Model for Events<'b, 'a> {
 }
 
 /// The hash of the transaction at a place; zero bytes where there is none.
-fn hash_at(block: &BlockView<'_>, place: usize) -> [u8; 32]
+pub(crate) fn hash_at(block: &BlockView<'_>, place: usize) -> [u8; 32]
     ensures { IfSome (slice_get block.now.transactions place) (λ t. result ≡ transaction_hash t) }
 {
     if place < block.transactions_count() {
@@ -133,15 +134,17 @@ fn hash_at(block: &BlockView<'_>, place: usize) -> [u8; 32]
 }
 
 impl<'b, 'a> Events<'b, 'a> {
-    /// All events of a block, which is the genesis or stands at a height above 0.
-    pub(crate) fn of(block: &'b BlockView<'a>, genesis: bool) -> Events<'b, 'a>
+    /// All events of a block, which is the genesis or stands at a height above 0. The hash of its first transaction is
+    /// given, so that it is made once where the events are walked twice.
+    pub(crate) fn of(block: &'b BlockView<'a>, genesis: bool, first: [u8; 32]) -> Events<'b, 'a>
+        requires { IfSome (slice_get block.now.transactions 0) (λ t. first ≡ transaction_hash t) }
         ensures { result ≡ events_of_block (height_of genesis) block.now }
     {
         Events {
             block,
             genesis,
             place: 0,
-            tx_hash: hash_at(block, 0),
+            tx_hash: first,
             index: 0,
         }
     }

@@ -15,7 +15,7 @@ use crate::events::{Event, Events};
 use crate::made::Made;
 use crate::odd::Odd;
 use crate::slots::{Slot, Slots};
-use cell_model::OutPoint;
+use cell_model::{LastScript, OutPoint};
 use outside::NoMemory;
 
 impl Slots {
@@ -110,7 +110,7 @@ impl Slots {
     }
 
     /// Writes the row of a made cell that is live in the end, and takes the slot of any other away.
-    fn settle_made(&mut self, o: OutPoint, made: &Made<'_>, block: u32)
+    fn settle_made(&mut self, o: OutPoint, made: &Made<'_>, block: u32, last: &mut LastScript)
         ensures at { (height : ℕ) (other : schema.OutPoint) → at self.new other
             ≡ (if same_out_point o other then settled_made (row_of block (made_cell height made.now)) (at self.old o) else at self.old other) }
         ensures spare { self.new.spare ≡ self.old.spare }
@@ -119,8 +119,8 @@ impl Slots {
             return;
         };
         match slot {
-            Slot::Live(_) => self.set(&o, Slot::Live(made.row(block))),
-            Slot::Added => self.set(&o, Slot::Live(made.row(block))),
+            Slot::Live(_) => self.set(&o, Slot::Live(made.row(block, last))),
+            Slot::Added => self.set(&o, Slot::Live(made.row(block, last))),
             Slot::Spent(_) => self.remove(&o),
             Slot::Gone => self.remove(&o),
         }
@@ -144,13 +144,13 @@ impl Slots {
 
     /// Writes the rows of the cells that the marks call live, which the block at a place makes, and takes those away
     /// that it spends.
-    pub(crate) fn settle(&mut self, mut events: Events<'_, '_>, block: u32)
+    pub(crate) fn settle(&mut self, mut events: Events<'_, '_>, block: u32, last: &mut LastScript)
         ensures at { (o : schema.OutPoint) → Settles block (last_naming o events.entry) (at self.old o) (at self.new o) }
         ensures spare { self.new.spare ≡ self.old.spare }
     {
         while let Some(event) = events.next() {
             match event {
-                Event::Makes(o, made) => self.settle_made(o, &made, block),
+                Event::Makes(o, made) => self.settle_made(o, &made, block, last),
                 Event::Spends(o) => self.settle_spent(o),
             }
         }
@@ -170,13 +170,18 @@ impl Slots {
     }
 
     /// Writes what the events of the block at a place leave, whatever is live before them.
-    pub(crate) fn replay(&mut self, mut events: Events<'_, '_>, block: u32) -> Result<(), NoMemory>
+    pub(crate) fn replay(
+        &mut self,
+        mut events: Events<'_, '_>,
+        block: u32,
+        last: &mut LastScript,
+    ) -> Result<(), NoMemory>
         ensures at { OnOk result (HaveRowsAfter block events.entry self.old self.new) }
     {
         while let Some(event) = events.next() {
             match event {
                 Event::Makes(o, made) => {
-                    self.write(o, Slot::Live(made.row(block)))?;
+                    self.write(o, Slot::Live(made.row(block, last)))?;
                 }
                 Event::Spends(o) => self.remove(&o),
             }

@@ -7,6 +7,7 @@ ghost use Rattle.cell_defs.specs.Events.{same_out_point};
 ghost use Rattle.cell_state.specs.Slots.{at, count, same_key};
 
 use cell_model::{CellMeta, OutPoint};
+use chain_tree::ByDigest;
 use outside::NoMemory;
 use std::alloc::Global;
 use std::collections::HashMap;
@@ -32,7 +33,7 @@ pub(crate) enum Slot {
 /// more fit without an allocation.
 #[derive(Drop)]
 pub(crate) struct Slots {
-    pub(crate) map: HashMap<([u8; 32], u32), Slot>,
+    pub(crate) map: HashMap<([u8; 32], u32), Slot, ByDigest>,
     spare: u64,
 }
 
@@ -54,7 +55,7 @@ impl Slots {
         ensures spare { result.spare ≡ 0 }
     {
         Slots {
-            map: HashMap::new(alloc),
+            map: HashMap::with_hasher(alloc, ByDigest),
             spare: 0,
         }
     }

@@ -6,10 +6,10 @@ ghost use Rattle.cell_defs.specs.Row.{Row, row_after, ListsRows};
 ghost use Rattle.cell_state.specs.Fit.{AllFit, IsFirstOdd};
 ghost use Rattle.cell_state.specs.State.{Grows, rows, count, outputs_of};
 
-use crate::events::Events;
+use crate::events::{Events, hash_at};
 use crate::odd::Odd;
 use crate::slots::{Slot, Slots};
-use cell_model::{CellMeta, Cells, OutPoint};
+use cell_model::{CellMeta, Cells, LastScript, OutPoint};
 use mol_schema::BlockView;
 use outside::{NoMemory, Steps};
 use std::alloc::Global;
@@ -21,6 +21,7 @@ use std::sync::ledger::Ledger;
 #[derive(Drop)]
 pub struct State {
     slots: Slots,
+    last: LastScript,
 }
 
 impl Model for State {
@@ -50,8 +51,9 @@ impl State {
         ensures { IfOk result (λ state. (o : schema.OutPoint) → rows state o ≡ row_after 0 (events_of_block 0 block.now) (λ _. None) o) }
     {
         let mut slots = Slots::new(alloc);
-        slots.replay(Events::of(block, true), 0)?;
-        Ok(State { slots })
+        let mut last = LastScript::new();
+        slots.replay(Events::of(block, true, hash_at(block, 0)), 0, &mut last)?;
+        Ok(State { slots, last })
     }
 
     /// How many rows there are.
@@ -94,13 +96,15 @@ impl State {
         ensures of_branch { OnOk result (Grows block.now e self.old self.new) }
     {
         steps.tick();
-        match self.slots.mark(Events::of(block, false)) {
+        let first = hash_at(block, 0);
+        match self.slots.mark(Events::of(block, false, first)) {
             Ok(()) => {
-                self.slots.settle(Events::of(block, false), e);
+                self.slots
+                    .settle(Events::of(block, false, first), e, &mut self.last);
                 Ok(())
             }
             Err(odd) => {
-                self.slots.unmark_all(Events::of(block, false));
+                self.slots.unmark_all(Events::of(block, false, first));
                 Err(odd)
             }
         }

@@ -1,3 +1,4 @@
+pub mod Digest
 pub mod Entries
 pub mod Blocks
 pub mod Indexed

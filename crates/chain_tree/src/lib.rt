@@ -5,15 +5,18 @@
 //! branch, `tip` that of the tip; for every kept list of `chain_defs` that the entries index (`IndexesBlocks`), these
 //! are `place_of`, `branch_places` and `tip_place`. `add` needs a place that `reserve` made, and takes no memory.
 //! [`Blocks`] is the trait by which the rules read the bytes of kept blocks and their exts; a source that tells them
-//! gives just these. Where they lie, and whether a block may join, is left to the layers above.
+//! gives just these. Where they lie, and whether a block may join, is left to the layers above. [`ByDigest`] is how maps
+//! hash keys that are digests, here and above.
 #![tactic(auto)]
 
 mod ancestors;
 mod blocks;
+mod digest;
 mod entry;
 mod median;
 mod tree;
 
 pub use blocks::Blocks;
+pub use digest::{ByDigest, DigestHasher};
 pub use entry::Entry;
 pub use tree::Tree;

@@ -9,6 +9,7 @@ ghost use Rattle.chain_tree.specs.Entries.{entry_at, place_of_hash, FollowsParen
 ghost use Rattle.chain_tree.specs.Blocks.{Describes, IndexesBlocks};
 
 use crate::ancestors::{ancestor_of, jump_over};
+use crate::digest::ByDigest;
 use crate::entry::Entry;
 use crate::median::median_at;
 use outside::NoMemory;
@@ -24,7 +25,7 @@ pub struct Tree {
     /// Of each entry, at its place: an earlier place on its path.
     jumps: Vec<u32>,
     /// The place of each hash.
-    places: HashMap<[u8; 32], u32>,
+    places: HashMap<[u8; 32], u32, ByDigest>,
     tip: u32,
     /// For how many more entries all three have space.
     spare: u32,
@@ -72,7 +73,7 @@ impl Tree {
         entries.push(genesis)?;
         let mut jumps = Vec::new(alloc);
         jumps.push(0)?;
-        let mut places = HashMap::new(alloc);
+        let mut places = HashMap::with_hasher(alloc, ByDigest);
         places.insert(genesis.hash, 0)?;
         Ok(Tree {
             entries,

@@ -1,4 +1,4 @@
-ghost use Rattle.std.specs.Prelude.{◌≡◌, ℕ, ◌+◌, ◌*◌, ◌<◌, ◌≤◌, ◌^◌, ◌↔◌, length, IsTrue};
+ghost use Rattle.std.specs.Prelude.{◌≡◌, ℕ, ◌+◌, ◌*◌, ◌<◌, ◌≤◌, ◌^◌, ◌↔◌, length, IsTrue, true, false};
 ghost use Rattle.codec_defs.specs.Molecule.{header_number, part_count, part_start, part_of, item_of_fixvec};
 ghost use Rattle.mol_core.specs.Layout.{IsLaidOut, IsCounted};
 
@@ -49,8 +49,22 @@ fn rises(bytes: &[u8], count: usize) -> bool
     true
 }
 
-/// Whether the header is that of a dynvec or a table: one pass over the offsets.
-pub(crate) fn is_laid_out(bytes: &[u8]) -> bool
+/// Whether bytes have a length at which a count of parts can be read: no offset, or room for the first one.
+pub(crate) fn has_count(bytes: &[u8]) -> bool
+    ensures some { result ≡ true → length bytes.now < 8 → length bytes.now ≡ 4 }
+    ensures none { result ≡ false → IsLaidOut bytes.now → ⊥ }
+{
+    if bytes.len() >= 8 {
+        return true;
+    }
+    bytes.len() == 4
+}
+
+/// Whether the header is that of a dynvec or a table of so many parts: one pass over the offsets. Where the count is a
+/// constant, no loop is left of it.
+pub(crate) fn is_laid_out_by(bytes: &[u8], count: usize) -> bool
+    requires counted { count ≡ part_count bytes.now }
+    requires fits { 4 * count < 2 ^ 32 }
     ensures { IsTrue result ↔ IsLaidOut bytes.now }
 {
     let len = bytes.len();
@@ -61,12 +75,18 @@ pub(crate) fn is_laid_out(bytes: &[u8]) -> bool
     if len < 8 {
         return len == 4;
     }
-    let count = count_parts(bytes);
     let header = 4 + 4 * count;
     if header > len || start(bytes, count, 0) != header {
         return false;
     }
     rises(bytes, count)
+}
+
+/// Whether the header is that of a dynvec or a table.
+pub(crate) fn is_laid_out(bytes: &[u8]) -> bool
+    ensures { IsTrue result ↔ IsLaidOut bytes.now }
+{
+    has_count(bytes) && is_laid_out_by(bytes, count_parts(bytes))
 }
 
 /// Part `i` of `count`.

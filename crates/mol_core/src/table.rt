@@ -1,7 +1,7 @@
 ghost use Rattle.std.specs.Prelude.{◌≡◌, ℕ, ◌<◌, List, length, Some, IfSome, slice_get};
 ghost use Rattle.codec_defs.specs.Molecule.{IsTable};
 
-use crate::layout::{count_parts, is_laid_out, part};
+use crate::layout::{count_parts, has_count, is_laid_out_by, part};
 use std::marker::Model;
 
 /// A table of `N` fields in the caller's bytes. Contracts see the list of its fields.
@@ -27,11 +27,16 @@ pub fn check_table<const N: usize>(b: &[u8]) -> Option<TableView<'_, N>>
     ensures found { IfSome result (IsTable N b.now) }
     ensures only { (fields : List (List ℕ)) → IsTable N b.now fields → result ≡ Some fields }
 {
-    if is_laid_out(b) && count_parts(b) == N {
-        Some(TableView { bytes: b })
-    } else {
-        None
+    if !has_count(b) {
+        return None;
     }
+    if count_parts(b) != N {
+        return None;
+    }
+    if !is_laid_out_by(b, N) {
+        return None;
+    }
+    Some(TableView { bytes: b })
 }
 
 impl<'a, const N: usize> TableView<'a, N> {

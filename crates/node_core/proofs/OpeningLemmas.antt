@@ -8,7 +8,8 @@ use Rattle.std.proofs.lemmas.Bool.Decides.{Decides-eqb}
 use Rattle.std.proofs.lemmas.List.{append-nil, length-map, get_or-map, take_all}
 use Rattle.std.proofs.lemmas.List.Elements.{All-nil, All-cons}
 use Rattle.std.proofs.lemmas.Option.{same_Some}
-use Rattle.codec_defs.specs.Shape.{decoded}
+use Rattle.codec_defs.specs.Shape.{IsA, decoded}
+use Rattle.codec_defs.proofs.ShapeLaws.{IsA-decoded}
 use Rattle.codec_defs.specs.Schema.{OutPoint, Block, block}
 use Rattle.time_defs.specs.Dao.{field_of_bytes}
 use Rattle.time_defs.specs.Specification.{Specification}
@@ -81,6 +82,21 @@ same-blocks (b ∷ kept) (o ∷ other) same =
     let first : b ≡ o = (cc) in
     let later : map Some kept ≡ map Some other = (cc) in
     λ i. first i ∷ same-blocks kept other later i
+
+-- Canonical bytes are the encoding of a block, and of that one alone.
+pub is-encoding : (bytes : List ℕ) → IsCanonical bytes → (b : Block) × IsA block bytes b
+is-encoding bytes canonical = by_block (decoded block bytes) refl canonical
+  where
+    by_block : (found : Option Block) → decoded block bytes ≡ found → IsSome found → (b : Block) × IsA block bytes b
+    by_block None is some = absurd (cc)
+    by_block (Some b) is some = (b, IsA-decoded block bytes b is)
+
+pub is-decoded : (bytes : List ℕ) (view : Block) → IsCanonical bytes → ((b : Block) → IsA block bytes b → view ≡ b) → decoded block bytes ≡ Some view
+is-decoded bytes view canonical only = by_block (decoded block bytes) refl canonical
+  where
+    by_block : (found : Option Block) → decoded block bytes ≡ found → IsSome found → decoded block bytes ≡ Some view
+    by_block None is some = absurd (cc)
+    by_block (Some b) is some = is ∙ sym (ap Some (only b (IsA-decoded block bytes b is)))
 
 -- Where they encode blocks, each is canonical.
 pub canonical-all : (items : List (List ℕ)) (kept : List Block) → map (decoded block) items ≡ map Some kept → All IsCanonical items
@@ -195,16 +211,6 @@ uncles-more items kept place b bytes decode within at is =
     let same : Some found.0 ≡ Some b = sym (decoded-at items kept place found.0 decode found.1) ∙ ap (decoded block) (sym at) ∙ is in
     let its : 0 + place ≡ place = omega arith in
     embedded-push 0 kept place b (found.1 ∙ same) ∙ ap (λ (n : ℕ). embedded_from 0 (take place kept) ++ embedded_in n b) its
-
-some-none : (b : Block) → Some b ≡ None → ⊥
-some-none b is = absurd (cc)
-
--- the bytes at a place encode a block
-pub never-none : (items : List (List ℕ)) (kept : List Block) (place : ℕ) (bytes : List ℕ) → map (decoded block) items ≡ map Some kept → place < length items
-    → bytes ≡ slice_index_or items place [] → decoded block bytes ≡ None → ⊥
-never-none items kept place bytes decode within at none =
-    let found = slice_get-below kept place (omega (arith, within, as-many items kept decode)) in
-    some-none found.0 (sym (decoded-at items kept place found.0 decode found.1) ∙ ap (decoded block) (sym at) ∙ none)
 
 pub uncles-all : (items : List (List ℕ)) (kept : List Block) (place : ℕ) → map (decoded block) items ≡ map Some kept → length items ≤ place
     → embedded_from 0 (take place kept) ≡ embedded_from 0 kept

@@ -62,15 +62,21 @@ fn fees_in(ext: &[u8]) -> u32
     u32::from_le_bytes(count)
 }
 
+/// The view of the encoding of a block. It was checked when it was read, and is not checked again.
+fn view_of(bytes: &[u8]) -> BlockView<'_>
+    requires { IsCanonical bytes.now }
+    ensures { decoded schema.block bytes.now ≡ Some result }
+{
+    BlockView::from_encoding(bytes)
+}
+
 /// Whether the bytes beside a block have the form of an ext, with a fee for each of its transactions after the first.
 fn is_ext_for(block: &[u8], ext: &[u8]) -> bool
     requires { IsCanonical block.now }
     ensures is { result ≡ true → IsExtFor block.now ext.now }
     ensures is_not { result ≡ false → IsExtFor block.now ext.now → ⊥ }
 {
-    let Some(view) = BlockView::read(block) else {
-        return false;
-    };
+    let view = view_of(block);
     ext_form(ext) && fees_in(ext) as usize == view.transactions_count().saturating_sub(1)
 }
 
@@ -92,14 +98,14 @@ fn have_exts(blocks: &[Vec<u8>], exts: &[Vec<u8>]) -> bool
 /// The uncles that blocks embed.
 fn uncles_of(alloc: Global, blocks: &[Vec<u8>]) -> Result<Uncles, NoMemory>
     requires few { length blocks.now < 2 ^ 32 }
+    requires canonical { HaveBlocks (contents blocks.now) }
     ensures { (kept : List Block) → map (decoded schema.block) (contents blocks.now) ≡ map Some kept
         → IfOk result (λ uncles. uncles.embedded ≡ embedded_from 0 kept) }
 {
     let mut uncles = Uncles::new(alloc);
     'blocks: for place in 0..blocks.len() {
-        if let Some(block) = BlockView::read(&blocks[place]) {
-            take_uncles(&mut uncles, &block, place as u32)?;
-        }
+        let block = view_of(&blocks[place]);
+        take_uncles(&mut uncles, &block, place as u32)?;
     }
     Ok(uncles)
 }

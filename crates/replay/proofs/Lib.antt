@@ -1,3 +1,4 @@
+pub mod DownLemmas
 pub mod PlaceLemmas
 pub mod RowLemmas
 pub mod FitLemmas

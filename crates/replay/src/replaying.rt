@@ -1,5 +1,5 @@
 // The live cells of a branch, from the genesis up.
-ghost use Rattle.std.specs.Prelude.{◌≡◌, ◌≤◌, ◌<◌, ◌+◌, List, length, Some, Err, IfOk, OnOk, IfSome};
+ghost use Rattle.std.specs.Prelude.{◌≡◌, ◌≤◌, ◌<◌, ◌+◌, List, length, Some, Err, IfOk, OnOk, IfSome, IsSomeAnd};
 ghost use Rattle.codec_defs.specs.Schema.{OutPoint};
 ghost use Rattle.outside.specs.Causes.{CountsFault};
 ghost use Rattle.outside.specs.declared.disk.Area.TheVariants.{Log};
@@ -10,14 +10,31 @@ ghost use Rattle.chain_tree.specs.Blocks.{IndexesBlocks};
 ghost use Rattle.chain_tree.specs.Told.{Stored, blocks_of};
 ghost use Rattle.cell_defs.specs.Row.{live_row};
 ghost use Rattle.cell_state.specs.State.{rows};
+ghost use Rattle.replay.specs.Down.{AreDown};
 ghost use Rattle.replay.specs.Fit.{BranchFits};
 
 use crate::applying::{apply_at, genesis_cells};
 use cell_state::State;
 use chain_tree::{Blocks, Tree};
-use outside::{ReadStop, Steps};
+use outside::{NoMemory, ReadStop, Steps};
 use std::alloc::Global;
 use std::sync::ledger::Ledger;
+
+/// The places behind the genesis of the branch that ends with a place of this number, the last first. Each is found from
+/// the one before it, so that a whole branch takes a step a place.
+fn places_down(alloc: Global, tree: &Tree, e: u32, last: u64) -> Result<Vec<u32>, NoMemory>
+    requires { IsSomeAnd (entry_at tree.now.entries e) (λ entry. entry.number ≡ last) }
+    ensures long { IfOk result (λ places. length places.items ≡ last) }
+    ensures places { IfOk result (λ places. AreDown tree.now.entries e last places.items) }
+{
+    let mut places = Vec::with_capacity(alloc, last as usize)?;
+    let mut place = e;
+    'down: for height in 0..last {
+        places.push(place)?;
+        place = tree.ancestor(place, last - height - 1);
+    }
+    Ok(places)
+}
 
 /// The live cells of the branch that ends with a place, replayed from the genesis: a step for each block behind it.
 /// Damaged where the bytes of one of the branch's blocks are no block, or its events do not fit the cells before it.
@@ -44,10 +61,14 @@ pub fn replay<B: Blocks, L: Ledger>(
     ensures steps { IfSome (entry_at tree.now.entries e) (λ entry. OnOk result (steps.new ≡ steps.old + entry.number)) }
     ensures most { IfSome (entry_at tree.now.entries e) (λ entry. steps.new ≤ steps.old + entry.number) }
 {
-    let mut state = genesis_cells(alloc, tree, blocks)?;
     let last = tree.entry(e).number;
+    let Ok(places) = places_down(alloc, tree, e, last) else {
+        return Err(ReadStop::NoMemory);
+    };
+    let mut state = genesis_cells(alloc, tree, blocks)?;
     'heights: for height in 0..last {
-        let place = tree.ancestor(e, height + 1);
+        let back = (last - height - 1) as usize;
+        let place = places[back];
         apply_at(&mut state, tree, blocks, place, steps)?;
     }
     Ok(state)

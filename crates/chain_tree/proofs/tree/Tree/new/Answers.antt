@@ -14,7 +14,7 @@ invariant_of-result c =
     (rw c.in_ok-push-2.was at c.push-2.ensures.items) ∙ ap (λ (js : List ℕ). js ++ 0 ∷ []) c.new-jumps.ensures.items in (
       rw (entries, jumps) (IsIndexed-one c.args.genesis (get bytes_eq c.insert.new.self) c.requires
           (λ hash. c.in_ok-insert.ensures.updates.0 hash
-          ∙ ap (λ (es : List (List ℕ × ℕ)). cond (bytes_eq c.args.genesis.hash hash) (Some 0) (lookup (bytes_eq hash) es)) c.new-places.ensures.empty)),
+          ∙ ap (λ (es : List (List ℕ × ℕ)). cond (bytes_eq c.args.genesis.hash hash) (Some 0) (lookup (bytes_eq hash) es)) c.with_hasher-places.ensures.empty)),
       omega (arith, c.push.new.self.ok),
       omega (arith, c.push-2.new.self.ok),
       omega arith,

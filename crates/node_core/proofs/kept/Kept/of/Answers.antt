@@ -25,7 +25,10 @@ returns-then-not-are_rated-clause-joined g c = λ kept decode joined exts _. eli
 ]
 
 pub uncles_of-requires : goal.uncles_of-requires
-uncles_of-requires g c = record { few = omega (arith, few-blocks (length c.args.blocks.items) c.requires.few, ap length c.deref-2.ensures.value) }
+uncles_of-requires g c = record {
+  few = omega (arith, few-blocks (length c.args.blocks.items) c.requires.few, ap length c.deref-2.ensures.value);
+  canonical = canonical-in c.args.blocks.items c.deref-2.result.now c.args.tree.entries c.requires.blocks c.deref-2.ensures.value;
+}
 
 pub new-blocks-requires : goal.new-blocks-requires
 new-blocks-requires g c =

@@ -2,8 +2,8 @@ use Rattle.std.proofs.Common.{◌≡◌, arith, sym, ◌∙◌, length}
 use Rattle.codec_defs.specs.Molecule.{header_number}
 use Rattle.mol_core.specs.Layout.{IsLaidOut}
 use Rattle.mol_core.proofs.Reading.{layout-short, layout-empty, header-within}
-use Rattle.mol_core.proofs.layout.is_laid_out.Goals as goal
-use Rattle.mol_core.proofs.layout.is_laid_out.Goals.{then-header-len-via-then-header-len, then-header-len-via-else-header-len+then-start-header}
+use Rattle.mol_core.proofs.layout.is_laid_out_by.Goals as goal
+use Rattle.mol_core.proofs.layout.is_laid_out_by.Goals.{then-header-len-via-then-header-len, then-header-len-via-else-header-len+then-start-header}
 
 pub returns-then-len-lt8 : goal.returns-then-len-lt8
 returns-then-len-lt8 c =
@@ -18,8 +18,8 @@ returns-then-header-len c = (
   λ no. absurd cc,
   λ laid.
       elim c.then-header-len.branch [
-        | then-header-len-via-then-header-len w ↦ absurd (omega (arith, header-within c.args.bytes.now laid, c.count_parts-count.ensures.value))
-        | then-header-len-via-else-header-len+then-start-header w ↦ absurd (grind (arith, laid.header, c.count_parts-count.ensures.value, w.start.ensures))
+        | then-header-len-via-then-header-len w ↦ absurd (omega (arith, header-within c.args.bytes.now laid, c.requires.counted))
+        | then-header-len-via-else-header-len+then-start-header w ↦ absurd (grind (arith, laid.header, c.requires.counted, w.start.ensures))
       ],
 )
 
@@ -29,8 +29,8 @@ returns c =
       λ yes. record {
         whole = omega arith;
         size = sym c.read_u32.ensures.value ∙ c.if-read_u32-len.false;
-        header = grind (arith, c.count_parts-count.ensures.value, c.start.ensures);
-        rises = λ i lt. c.rises.ensures.0 yes i (omega (arith, c.count_parts-count.ensures.value));
+        header = grind (arith, c.requires.counted, c.start.ensures);
+        rises = λ i lt. c.rises.ensures.0 yes i (omega (arith, c.requires.counted));
       },
-      λ laid. c.rises.ensures.1 (λ i lt. laid.rises i (omega (arith, c.count_parts-count.ensures.value))),
+      λ laid. c.rises.ensures.1 (λ i lt. laid.rises i (omega (arith, c.requires.counted))),
     )
