@@ -43,8 +43,8 @@ IsNext limit input offset left (Ok (next.Item item)) given = IsItemAt limit inpu
 IsNext limit input offset left (Ok (next.End end)) given = EndsAt (Some limit) input offset left end given × IsPartial limit input offset given
 IsNext limit input offset left (Err status) given = IsReadingStop status × (IsPartial limit input offset given ⊎ IsItemAt limit input offset given given)
 
--- where no item is taken, no byte more than one is read
+-- where no item is taken, no byte more than one is read, and none where the reading fails
 abbrev pub IsMore : Option (List ℕ) → Result Bool Status → List ℕ → Type 0
 IsMore left (Ok true) given = length given ≡ 1
 IsMore left (Ok false) given = (given ≡ []) × IsAtEnd left
-IsMore left (Err status) given = status ≡ InputFault
+IsMore left (Err status) given = (status ≡ InputFault) × (given ≡ [])

@@ -81,3 +81,12 @@ told_at_rest None later mid final place same still ends mend = tt
 told_at_rest (Some now) later mid final place same still ends mend = λ closed.
     let end = on_same later (Some now) (λ now. EndsAt place (records_of (drop 8 now.log)) now.log) same ends in
     on_same mid (Some now) (λ now. (slice_index now.log place ≡ 1 → ⊥) → final ≡ mid) still mend (λ open_gate. closed (ap (slice_index now.log) end.ends ∙ open_gate)) ∙ still
+
+-- a log at rest was only read
+pub told_rests : (reads later mid : Option Image) (place : ℕ) (Uncalled P : Type 0) → later ≡ reads → mid ≡ reads
+    → IfSome later (λ now. EndsAt place (records_of (drop 8 now.log)) now.log) → IfSome mid (λ now. (slice_index now.log place ≡ 1 → ⊥) → Uncalled) → (Uncalled → P)
+    → IfSome reads (λ now. (slice_index now.log (end_of_log now.log) ≡ 1 → ⊥) → P)
+told_rests None later mid place Uncalled P same still ends mend only = tt
+told_rests (Some now) later mid place Uncalled P same still ends mend only = λ closed.
+    let end = on_same later (Some now) (λ now. EndsAt place (records_of (drop 8 now.log)) now.log) same ends in
+    only (on_same mid (Some now) (λ now. (slice_index now.log place ≡ 1 → ⊥) → Uncalled) still mend (λ open_gate. closed (ap (slice_index now.log) end.ends ∙ open_gate)))

@@ -95,6 +95,7 @@ fn mend<D: Disk>(disk: &mut D, place: u64, open_gate: bool) -> Result<(), Failed
     ensures durable { IfSome (D.reads_as disk.old) (IsDurable log_area (D.images disk.old))
         → OnOk result (IfSome (D.reads_as disk.new) (IsDurable log_area (D.images disk.new))) }
     ensures at_rest { IfSome (D.reads_as disk.old) (λ now. slice_index now.log place ≢ 1 → D.reads_as disk.new ≡ D.reads_as disk.old) }
+    ensures uncalled { IfSome (D.reads_as disk.old) (λ now. slice_index now.log place ≢ 1 → disk.new ≡ disk.old) }
     ensures there { OnOk result (IfSome (D.reads_as disk.new) (λ image. place < length image.log)) }
     ensures others { OthersRead log_area (D.reads_as disk.old) (D.reads_as disk.new) }
     ensures moments { IfSome (D.reads_as disk.old) (λ now. (records : List Record) → EndsAt place records now.log → IsDurable log_area (D.images disk.old) now
@@ -137,6 +138,8 @@ pub fn open<D: Disk>(alloc: Global, disk: &mut D) -> Result<Opened, LogStop>
     ensures mended { IfSome (D.reads_as disk.old) (λ now. IfOk result (λ o. D.reads_as disk.new ≡ Some (mended o.log.place now))) }
     ensures at_rest { IfSome (D.reads_as disk.old) (λ now. slice_index now.log (end_of_log now.log) ≢ 1 → D.reads_as disk.new ≡ D.reads_as disk.old) }
     ensures unwritten { IfErr result (λ stop. stop ≢ LogStop.DiskFault → D.reads_as disk.new ≡ D.reads_as disk.old) }
+    ensures rests { IfSome (D.reads_as disk.old) (λ now. slice_index now.log (end_of_log now.log) ≢ 1
+        → IsOnlyRead D.reads_as D.images D.moment D.left_since disk.old disk.new) }
     ensures only_read { result ≡ Err LogStop.NotAStore → IsOnlyRead D.reads_as D.images D.moment D.left_since disk.old disk.new }
     ensures no_log { IfSome (D.reads_as disk.old) (λ now. log_of now.log ≡ None → IsOnlyRead D.reads_as D.images D.moment D.left_since disk.old disk.new) }
     ensures others { OthersRead log_area (D.reads_as disk.old) (D.reads_as disk.new) }

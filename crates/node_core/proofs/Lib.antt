@@ -6,3 +6,4 @@ pub mod DiskLemmas
 pub mod NewLemmas
 pub mod OpenLemmas
 pub mod OpeningLemmas
+pub mod ReplayLemmas

@@ -1,5 +1,5 @@
 // What is to become of an item, over the kept blocks.
-ghost use Rattle.std.specs.Prelude.{◌≡◌, ◌≢◌, ◌≤◌, ◌<◌, ◌^◌, nat_lt, ℕ, List, length, None, Some, Err, IfOk, IfSome};
+ghost use Rattle.std.specs.Prelude.{◌≡◌, ◌≢◌, ◌≤◌, ◌+◌, ◌<◌, ◌^◌, nat_lt, ℕ, List, length, None, Some, Err, IfOk, IfSome};
 ghost use Rattle.codec_defs.specs.Shape.{decoded};
 ghost use Rattle.codec_defs.specs.Schema as schema;
 ghost use Rattle.codec_defs.specs.Schema.{Block};
@@ -13,6 +13,7 @@ ghost use Rattle.verdict_defs.specs.Verdict.{kept_limit};
 ghost use Rattle.verdict_defs.specs.Trial.{trial_on};
 ghost use Rattle.verdict_defs.specs.declared.trial.Trial.TheVariants.{Passes, Refused};
 ghost use Rattle.store_defs.specs.Store.{IsJoined};
+ghost use Rattle.node_core.specs.Steps.{replays_at, replays_of_block, replays_for};
 ghost use Rattle.node_core.specs.Judging.{AreCellsOn, IsEntryOn, IsDecidedBlock, IsDecided, IsReadyBlock, IsReadyItem};
 
 use crate::entry::{entry_on, hash_of, parent_hash};
@@ -82,6 +83,7 @@ impl Kept {
         ensures damage { (damage : Damage) → result ≡ Err (Damaged damage) → damage.area ≡ Log }
         ensures reads { result ≢ Err DiskFault }
         ensures steps { tip_place self.old.blocks ≡ Some place → steps.new ≡ steps.old }
+        ensures most { steps.new ≤ steps.old + replays_at self.old.blocks place }
     {
         if place == self.tree.tip() {
             return Ok(None);
@@ -109,6 +111,7 @@ impl Kept {
         ensures damage { (damage : Damage) → result ≡ Err (Damaged damage) → damage.area ≡ Log }
         ensures reads { result ≢ Err DiskFault }
         ensures steps { tip_place self.old.blocks ≡ Some entry.parent → steps.new ≡ steps.old }
+        ensures most { steps.new ≤ steps.old + replays_at self.old.blocks entry.parent }
     {
         let parent = entry.parent;
         let cells = match self.replayed(alloc, parent, steps) {
@@ -152,6 +155,7 @@ impl Kept {
         ensures damage { (damage : Damage) → result ≡ Err (Damaged damage) → damage.area ≡ Log }
         ensures reads { result ≢ Err DiskFault }
         ensures steps { place_of self.old.blocks block.now.header.parent_hash ≡ tip_place self.old.blocks → steps.new ≡ steps.old }
+        ensures most { steps.new ≤ steps.old + replays_of_block self.old.blocks block.now }
     {
         let hash = hash_of(block);
         if self.tree.find(&hash).is_some() {
@@ -179,6 +183,7 @@ impl Kept {
         ensures reads { result ≢ Err DiskFault }
         ensures steps { (b : Block) → decoded schema.block item.now ≡ Some b
             → place_of self.old.blocks b.header.parent_hash ≡ tip_place self.old.blocks → steps.new ≡ steps.old }
+        ensures most { steps.new ≤ steps.old + replays_for self.old.blocks item.now }
     {
         match BlockView::read(item) {
             None => Ok(Decision::Stays(Verdict::Refused(1))),

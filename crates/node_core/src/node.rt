@@ -1,5 +1,5 @@
 // A node: the kept blocks of a store, in memory and on their disk.
-ghost use Rattle.std.specs.Prelude.{◌≡◌, ◌≢◌, ◌⊎◌, ◌<◌, ◌≤◌, ◌+◌, ◌^◌, ℕ, false, Err, List, Some, length, IfOk, IfErr, OnOk, OnErr, IfSome, IsTrue};
+ghost use Rattle.std.specs.Prelude.{◌≡◌, ◌≢◌, ◌⊎◌, ◌<◌, ◌≤◌, ◌+◌, ◌^◌, ℕ, false, Err, List, Some, length, slice_index, IfOk, IfErr, OnOk, OnErr, IfSome, IsTrue};
 ghost use Rattle.outside.specs.Causes.{CountsFault};
 ghost use Rattle.outside.specs.Disk.{HasOneImage, LeavesOnly};
 ghost use Rattle.outside.specs.Image.{Image};
@@ -21,9 +21,11 @@ ghost use Rattle.verdict_defs.specs.Chain.{Chain, verdict_over, chain_after};
 ghost use Rattle.verdict_defs.specs.Verdict.{joins};
 ghost use Rattle.verdict_defs.specs.Trial.{trial_on};
 ghost use Rattle.verdict_defs.specs.declared.trial.Trial.TheVariants.{Passes, Refused};
+ghost use Rattle.store_defs.specs.Log.{end_of_log};
 ghost use Rattle.store_defs.specs.Store.{Keeps, store_of, StandsFor, IsSound, IsJoined, IsOnlyRead};
 ghost use Rattle.log_file.specs.Pieces.{behind_gate, block_record};
 ghost use Rattle.node_core.specs.Node.{IsOn};
+ghost use Rattle.node_core.specs.Steps.{replays_for, replays_to_open};
 ghost use Rattle.node_core.specs.Judging.{IsReadyItem, IsDecided};
 ghost use Rattle.node_core.specs.declared.deciding.Decision.TheVariants.{Joins};
 
@@ -110,6 +112,8 @@ impl Node {
         ensures not_a_store { result ≡ Err LogStop.NotAStore → IfSome (D.reads_as disk.old) (λ now. IsSound now → ⊥) }
         ensures no_log { (now : Image) → D.reads_as disk.old ≡ Some now → ((chain : Chain) → store_of now ≡ Keeps chain → ⊥)
             → IsOnlyRead D.reads_as D.images D.moment D.left_since disk.old disk.new }
+        ensures rests { (now : Image) → D.reads_as disk.old ≡ Some now → slice_index now.log (end_of_log now.log) ≢ 1
+            → IsOnlyRead D.reads_as D.images D.moment D.left_since disk.old disk.new }
         ensures there { IfOk result (λ node. IfSome (D.reads_as disk.new) (λ image. node.place < length image.log)) }
         ensures one_image { OnOk result (HasOneImage (D.reads_as disk.new) (D.images disk.new)) }
         ensures on { ((image : Image) → D.images disk.old image → IsSound image)
@@ -117,6 +121,7 @@ impl Node {
         ensures moments { (now : Image) (chain : Chain) → D.reads_as disk.old ≡ Some now → store_of now ≡ Keeps chain → ((image : Image) → D.images disk.old image → IsSound image)
             → LeavesOnly D.moment D.left_since disk.old disk.new (λ image. D.images disk.old image ⊎ StandsFor chain image) }
         ensures cause { CountsFault (D.faults disk.old) (D.faults disk.new) (result ≡ Err LogStop.DiskFault) }
+        ensures most { (now : Image) → D.reads_as disk.old ≡ Some now → steps.new ≤ steps.old + replays_to_open (store_of now) }
     {
         if sync_snapshots(disk).is_err() {
             return Err(LogStop::DiskFault);
@@ -194,7 +199,8 @@ impl Node {
 
     /// Judges an item over the kept blocks (docs/COMMANDS.md, "The text"), and where it joins keeps it and puts its record on
     /// the disk. After an `Err` the disk has the record or not. Damaged where a kept block is not what those behind it say,
-    /// which never comes over a chain that has joined. A block on the tip takes one step.
+    /// which never comes over a chain that has joined. A block on the tip takes one step, and one on another branch those of
+    /// that branch before; an item that is answered at sight, as one that is known, takes none.
     pub fn import<D: Disk, L: Ledger>(
         self,
         alloc: Global,
@@ -217,6 +223,8 @@ impl Node {
         ensures cause { CountsFault (D.faults disk.old) (D.faults disk.new) (result ≡ Err DiskFault) }
         ensures steps { (b : Block) → decoded schema.block item.now ≡ Some b
             → place_of self.chain.blocks b.header.parent_hash ≡ tip_place self.chain.blocks → steps.new ≤ steps.old + 1 }
+        ensures most { steps.new ≤ steps.old + replays_for self.chain.blocks item.now + 1 }
+        ensures stays { IfOk result (λ answer. joins answer.1 ≡ false → steps.new ≤ steps.old + replays_for self.chain.blocks item.now) }
     {
         let mut node = self;
         let decision = match node.kept.decide(alloc, item, steps) {

@@ -1,8 +1,9 @@
 // The kept blocks of a log that was read, and the live cells of their tip.
-ghost use Rattle.std.specs.Prelude.{◌≡◌, ◌≢◌, ◌≤◌, ◌<◌, ◌^◌, List, length, map, true, false, Some, Err, IfOk};
+ghost use Rattle.std.specs.Prelude.{◌≡◌, ◌≢◌, ◌≤◌, ◌+◌, ◌<◌, ◌^◌, List, length, map, true, false, Some, Err, IfOk};
 ghost use Rattle.codec_defs.specs.Shape.{decoded};
 ghost use Rattle.codec_defs.specs.Schema as schema;
 ghost use Rattle.codec_defs.specs.Schema.{Block};
+ghost use Rattle.chain_defs.specs.Tip.{greatest_number};
 ghost use Rattle.time_defs.specs.Dao.{field_of_bytes};
 ghost use Rattle.cell_defs.specs.Ext.{count_at};
 ghost use Rattle.cell_model.specs.ListBlocks.{contents, IsCanonical, IsExtFor};
@@ -141,6 +142,7 @@ impl Kept {
         ensures joined { (kept : List Block) → map (decoded schema.block) (contents blocks.items) ≡ map Some kept
             → IsJoined (record { spec = spec; blocks = kept }) → HaveExts (contents blocks.items) (contents exts.items) → result ≢ Err NotAStore }
         ensures reads { result ≢ Err DiskFault }
+        ensures most { (kept : List Block) → map (decoded schema.block) (contents blocks.items) ≡ map Some kept → steps.new ≤ steps.old + greatest_number kept }
     {
         if !are_rated(&tree) || !have_exts(&blocks, &exts) {
             drop((blocks, exts, tree));

@@ -40,6 +40,11 @@ abbrev pub IsNotInit : Option Command → Type 0
 IsNotInit (Some Init) = ⊥
 IsNotInit _ = Unit {0}
 
+-- or than `import`
+abbrev pub IsNotImport : Option Command → Type 0
+IsNotImport (Some Import) = ⊥
+IsNotImport _ = Unit {0}
+
 pub tip_no_input_fault : (status : Status) → IsOneOf tip_statuses status → status ≡ InputFault → ⊥
 tip_no_input_fault status one = each_of (λ s. s ≡ InputFault → ⊥) tip_statuses status (λ e. cc, (λ e. cc, (λ e. cc, (λ e. cc, (λ e. cc, tt))))) one
 

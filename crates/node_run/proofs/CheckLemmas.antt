@@ -21,7 +21,7 @@ use Rattle.report_defs.specs.Status.{IsOneOf}
 use Rattle.report_defs.specs.Items.{AreItems, split_of}
 use Rattle.report_defs.specs.Text.{trial_line}
 use Rattle.report_defs.specs.Report.{Report, text_of, check_limits, check_item_limit, status_of_trial, report_of_trial, report_of_first, report_of_check, report_of_end}
-use Rattle.report_defs.specs.Promise.{IsPrefix, check_statuses}
+use Rattle.report_defs.specs.Promise.{IsPrefix, ReadsNoFurther, check_statuses}
 use Rattle.report_defs.proofs.ItemLemmas.{split_of-is, end_at-nothing}
 use Rattle.item_reader.specs.Items.{EndsAt, IsReadingStop}
 use Rattle.node_core.specs.Node.{NodeValue, IsOn}
@@ -30,6 +30,7 @@ use Rattle.node_run.specs.Import.{IsStop}
 use Rattle.node_run.specs.Output.{early_ends, IsSaid, IsToldAnswer, IsWritingStop}
 use Rattle.node_run.specs.Store.{opening_stops}
 use Rattle.node_run.proofs.ImportLemmas.{on_stands}
+use Rattle.node_run.proofs.FurtherLemmas.{items_no_further}
 use Rattle.node_run.proofs.InitLemmas.{said_text, said_silent, no_stop, all_given}
 use Rattle.node_run.proofs.StoreLemmas.{if_told, same_chain, store_of_stands, delivers, keeps_opened, keeps_read, keeps_unopened, unopened, sound_opening, sound_here, by_disk_or_memory}
 use Rattle.node_run.proofs.Statuses.{each_of, IsEarly, not_early, stop_not_reported, stop_not_done, stop_not_ended, writing_stops, opening_not_done, only_at_end}
@@ -40,11 +41,12 @@ use Rattle.node_run.proofs.Statuses.{each_of, IsEarly, not_early, stop_not_repor
 pub ends_before_one : (items : List (List ℕ)) (limit : Option ℕ) (left : Option (List ℕ)) (end last : End) (offset : ℕ) (given whole : List ℕ)
     → whole ≡ concat items ++ given → AreItems check_limits 0 items → check_item_limit (length items) ≡ limit → offset ≡ length (concat items)
     → EndsAt limit None offset left end given → ((chain : Chain) (at : ℕ) → report_of_first chain items at end ≡ report_of_end at last) → (last ≡ ends.AtEnd → ⊥)
-    → EndsBeforeOne left last offset whole
-ends_before_one items limit left end last offset given whole whole_is all limit_is offset_is ends_here says early = record {
+    → ReadsNoFurther check_limits whole → EndsBeforeOne left last offset whole
+ends_before_one items limit left end last offset given whole whole_is all limit_is offset_is ends_here says early no_further = record {
   early = early;
   report = λ chain more is. ap (report_of_check chain) (split more is) ∙ says chain (length (concat items)) ∙ ap (λ n. report_of_end n last) (sym offset_is);
   enough = λ more is. rw (split more is) (omega (arith, ap length whole_is, length-append (concat items) given));
+  no_further = no_further;
 }
   where
     here : EndsAt (check_item_limit (length items)) None (length (concat items)) left end given
@@ -67,6 +69,9 @@ one_split left item given one = split_of-is check_limits given (record { items =
   ends = end_at-nothing None None (length (concat (item ∷ [])));
 })
 
+pub one_no_further : (left : Option (List ℕ)) (item given : List ℕ) → IsOne left item given → ReadsNoFurther check_limits given
+one_no_further left item given one = items_no_further check_limits (item ∷ []) (one.item_is, tt) tt given (one.same ∙ sym (append-nil item))
+
 -- what comes of the bytes of an item is what comes of what they decode to
 pub trial_of_bytes : (chain : Chain) (item : List ℕ) (found : Option Transaction) → found ≡ decoded transaction item → trial_of chain found ≡ trial chain item
 unfolding trial
@@ -75,8 +80,9 @@ trial_of_bytes chain item found is = ap (trial_of chain) is
 -- ---- What is said over a chain
 
 -- the run was stopped before the sink
-pub check_stopped : (chain : Chain) (left : Option (List ℕ)) (given : List ℕ) (status : Status) → IsStop status → IsChecked chain given left [] status
-check_stopped chain left given status stop = record {
+pub check_stopped : (chain : Chain) (left : Option (List ℕ)) (given : List ℕ) (status : Status) → IsStop status → ReadsNoFurther check_limits given
+    → IsChecked chain given left [] status
+check_stopped chain left given status stop no_further = record {
   text = record {
     front = λ more is. (text_of (full chain (given ++ more)), refl);
     whole_text = λ more is told. absurd (stop_not_reported status stop told);
@@ -85,6 +91,7 @@ check_stopped chain left given status stop = record {
   order = record {
     to_end = λ told. absurd (stop_not_done status stop told);
     to_early_end = λ told. absurd (stop_not_ended status stop told);
+    no_further = no_further;
     silent = λ early. refl;
   };
   answers = λ told. absurd (stop_not_done status stop told);
@@ -103,6 +110,7 @@ check_early chain left given taken end offset status here said = record {
   order = record {
     to_end = λ told. absurd (said_early end offset status taken here.early said told);
     to_early_end = λ told. here.enough;
+    no_further = here.no_further;
     silent = said_silent (report_of_end offset end) status taken said (no_stop end);
   };
   answers = λ told. absurd (said_early end offset status taken here.early said told);
@@ -136,6 +144,7 @@ check_told chain left item given taken text tried status result one tried_is tex
     to_end = λ done. one.to_end;
     to_early_end = λ ended more is. rw (all_given left given more one.to_end is, one_split left item given one)
         (omega (arith, ap length one.same, length-append item []));
+    no_further = one_no_further left item given one;
     silent = said_silent report result taken said (trial_no_stop (trial chain item));
   };
   answers = λ done. all_said report result taken said done ∙ sym (ap (λ (r : Report). text_of r) whole);
@@ -189,7 +198,7 @@ module _ {D : Type 0} (reads_as : D → Option Image) (images : D → Image → 
       → DeliversCheck (reads_as old) (images old) (images new) (left_since new (moment old)) left [] [] status
   check_unopened old new left status one none here moments = record {
     delivers = unopened Check (reads_as old) (images old) (images new) (left_since new (moment old)) left status (λ store found. found) one none
-        (λ input. refl) (λ input. refl) (λ never. never) (λ never. never) (λ chain stop. (check_stopped chain left [] status stop).order)
+        (λ input. refl) (λ input. refl) (λ never. never) (λ never. never) (λ chain stop. (check_stopped chain left [] status stop (items_no_further check_limits [] tt tt [] refl)).order)
         (λ now told chain keeps sound. keeps_unopened images moment left_since counts_now old new chain [] status
         (by_disk_or_memory status one (sound_opening (reads_as old) status now none told (sound_here (reads_as old) (images old) now here told sound)))
         (moments now chain told keeps sound));

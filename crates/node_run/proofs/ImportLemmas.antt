@@ -28,6 +28,7 @@ use Rattle.item_reader.specs.Items.{IsPartial, IsItemAt, EndsAt, IsReadingStop, 
 use Rattle.item_reader.specs.declared.next.Next.{Next}
 use Rattle.item_reader.proofs.Reading.{few_partial}
 use Rattle.node_core.specs.Node.{NodeValue, IsOn}
+use Rattle.node_core.specs.Steps.{replays_for, steps_over}
 use Rattle.node_run.specs.Output.{Transfers, IsPartOf, IsWritten, IsWritingStop}
 use Rattle.node_run.specs.Import.{AreImported, IsAnswered, IsCutShort, KeepsSome, line_over, text_over, item_stops}
 use Rattle.node_run.specs.Store.{opening_stops}
@@ -46,7 +47,7 @@ input_limit-is = refl
 -- Whole items were imported, and nothing of a next one was read. Over a chain that has joined they are answered by their lines. Where the
 -- node was on its disk it is so now, and at each moment a crash left what joined of some of them.
 pub record Whole (chain : Chain) (offset : ℕ) (left_old left_new taken_old taken_new : Option (List ℕ)) (now : Chain) (refused : Bool)
-    (was_on is_on : Type 0) (leaves : (Image → Type 0) → Type 0) : Type 0 where
+    (was_on is_on : Type 0) (leaves : (Image → Type 0) → Type 0) (steps_old steps_now : ℕ) : Type 0 where
   pub items : List (List ℕ)
   pub taken : List ℕ
   pub gives : Gives left_old left_new (concat items)
@@ -60,6 +61,7 @@ pub record Whole (chain : Chain) (offset : ℕ) (left_old left_new taken_old tak
   pub any_refused : IsJoined chain → refused ≡ list_any rules.refuses (verdicts_over chain items)
   pub on : was_on → is_on
   pub moments : was_on → leaves (KeepsSome chain items)
+  pub steps : IsJoined chain → steps_now ≤ steps_old + steps_over chain items
 
 -- ---- What a crash leaves
 
@@ -186,21 +188,28 @@ or_false false = refl
 any-push : (vs : List Verdict) (v : Verdict) → list_any rules.refuses (vs ++ v ∷ []) ≡ (list_any rules.refuses vs || rules.refuses v)
 any-push vs v = list_any-append rules.refuses vs (v ∷ []) ∙ ap (λ b. list_any rules.refuses vs || b) (or_false (rules.refuses v))
 
-all-push : (items : List (List ℕ)) (item : List ℕ) → AreItems import_limits 0 items → IsItem item_limit item → AreItems import_limits 0 (items ++ item ∷ [])
+pub all-push : (items : List (List ℕ)) (item : List ℕ) → AreItems import_limits 0 items → IsItem item_limit item → AreItems import_limits 0 (items ++ item ∷ [])
 all-push items item all is = all_items-append import_limits 0 items (item ∷ []) all (is, tt)
+
+pub steps-push : (chain : Chain) (items : List (List ℕ)) (item : List ℕ)
+    → steps_over chain (items ++ item ∷ []) ≡ steps_over chain items + (replays_for (chain_over chain items).blocks item + 1)
+steps-push chain [] item = omega arith
+steps-push chain (x ∷ items) item =
+    let later = steps-push (chain_after chain x) items item in
+    omega (arith, later)
 
 -- one item more was imported
 pub whole_more : (chain : Chain) (offset : ℕ) (left_old left left_new taken_old taken taken_new : Option (List ℕ)) (now new : Chain) (refused : Bool)
-    (was_on is_on on_new : Type 0) (leaves leaves_new : (Image → Type 0) → Type 0)
+    (was_on is_on on_new : Type 0) (leaves leaves_new : (Image → Type 0) → Type 0) (steps_old steps_now steps_new : ℕ)
     (item given text : List ℕ) (verdict : Verdict) (size : ℕ) (any : Bool)
     → size ≡ length item → any ≡ (refused || rules.refuses verdict)
-    → (whole : Whole chain offset left_old left taken_old taken now refused was_on is_on leaves) → IsItemAt item_limit (Some input_limit) offset item given
+    → (whole : Whole chain offset left_old left taken_old taken now refused was_on is_on leaves steps_old steps_now) → IsItemAt item_limit (Some input_limit) offset item given
     → Gives left left_new given → Takes taken taken_new text
     → (IsJoined now → verdict ≡ verdict_over now item) → (IsJoined now → new ≡ chain_after now item) → (IsJoined now → text ≡ line_over now item)
-    → (is_on → on_new) → (was_on → leaves_new (KeepsSome chain (whole.items ++ item ∷ [])))
-    → Whole chain (offset + size) left_old left_new taken_old taken_new new any was_on on_new leaves_new
-whole_more chain offset left_old left left_new taken_old taken taken_new now new refused was_on is_on on_new leaves leaves_new item given text verdict size any
-    long either whole at gives takes judged kept_is text_is goes_on moments = record {
+    → (is_on → on_new) → (was_on → leaves_new (KeepsSome chain (whole.items ++ item ∷ []))) → steps_new ≤ steps_now + replays_for now.blocks item + 1
+    → Whole chain (offset + size) left_old left_new taken_old taken_new new any was_on on_new leaves_new steps_old steps_new
+whole_more chain offset left_old left left_new taken_old taken taken_new now new refused was_on is_on on_new leaves leaves_new steps_old steps_now steps_new item given text verdict size any
+    long either whole at gives takes judged kept_is text_is goes_on moments most = record {
       items = whole.items ++ item ∷ [];
       taken = whole.taken ++ text;
       gives = rw concat-push (gives_more left_old left left_new (concat whole.items) item whole.gives (subst (Gives left left_new) at.same gives));
@@ -222,18 +231,25 @@ whole_more chain offset left_old left left_new taken_old taken taken_new now new
           ∙ sym (ap (list_any rules.refuses) (verdicts-push chain_after verdict_over chain whole.items item));
       on = λ was. goes_on (whole.on was);
       moments = moments;
+      steps = λ joined.
+          omega (
+            arith,
+            whole.steps joined,
+            steps-push chain whole.items item,
+            subst (λ (k : Chain). steps_new ≤ steps_now + replays_for k.blocks item + 1) (whole.kept_now joined) most,
+          );
     }
 
 -- ---- The exits
 
 -- the reading ended behind whole items
 pub imported_to_end : (chain : Chain) (offset : ℕ) (left_old left left_new taken_old taken : Option (List ℕ)) (now : Chain) (ended : Ended)
-    (was_on is_on : Type 0) (images : Image → Type 0) (leaves : (Image → Type 0) → Type 0) (given : List ℕ)
-    → Whole chain offset left_old left taken_old taken now ended.refused was_on is_on leaves → Gives left left_new given
+    (was_on is_on : Type 0) (images : Image → Type 0) (leaves : (Image → Type 0) → Type 0) (steps_old steps_now : ℕ) (given : List ℕ)
+    → Whole chain offset left_old left taken_old taken now ended.refused was_on is_on leaves steps_old steps_now → Gives left left_new given
     → EndsAt (Some item_limit) (Some input_limit) offset left_new ended.end given → IsPartial item_limit (Some input_limit) offset given → ended.offset ≡ offset
     → (is_on → Each images (StandsFor now))
     → Transfers left_old left_new taken_old taken (λ given taken. IsJoined chain → AreImported chain left_new (Ok ended) was_on images leaves given taken)
-imported_to_end chain offset left_old left left_new taken_old taken now ended was_on is_on images leaves given whole gives ends partial there stand = (
+imported_to_end chain offset left_old left left_new taken_old taken now ended was_on is_on images leaves steps_old steps_now given whole gives ends partial there stand = (
   concat whole.items ++ given,
   whole.taken,
   gives_more left_old left left_new (concat whole.items) given whole.gives gives,
@@ -264,13 +280,13 @@ imported_to_end chain offset left_old left left_new taken_old taken now ended wa
 
 -- the reading was stopped behind whole items
 pub imported_to_fault : (chain : Chain) (offset : ℕ) (left_old left left_new taken_old taken : Option (List ℕ)) (now : Chain) (refused : Bool)
-    (was_on is_on : Type 0) (images : Image → Type 0) (leaves : (Image → Type 0) → Type 0) (status : Status) (given : List ℕ)
-    → (whole : Whole chain offset left_old left taken_old taken now refused was_on is_on leaves) → Gives left left_new given → IsReadingStop status
+    (was_on is_on : Type 0) (images : Image → Type 0) (leaves : (Image → Type 0) → Type 0) (steps_old steps_now : ℕ) (status : Status) (given : List ℕ)
+    → (whole : Whole chain offset left_old left taken_old taken now refused was_on is_on leaves steps_old steps_now) → Gives left left_new given → IsReadingStop status
     → IsPartial item_limit (Some input_limit) offset given ⊎ IsItemAt item_limit (Some input_limit) offset given given
     → (is_on → Each images (StandsFor now))
     → (leaves (KeepsSome chain whole.items) → leaves (KeepsSome chain (whole.items ++ given ∷ [])))
     → Transfers left_old left_new taken_old taken (λ given taken. IsJoined chain → AreImported chain left_new (Err status) was_on images leaves given taken)
-imported_to_fault chain offset left_old left left_new taken_old taken now refused was_on is_on images leaves status given whole gives stop (inl partial) stand weaker = (
+imported_to_fault chain offset left_old left left_new taken_old taken now refused was_on is_on images leaves steps_old steps_now status given whole gives stop (inl partial) stand weaker = (
   concat whole.items ++ given,
   whole.taken,
   gives_more left_old left left_new (concat whole.items) given whole.gives gives,
@@ -296,7 +312,7 @@ imported_to_fault chain offset left_old left left_new taken_old taken now refuse
     moments = whole.moments;
   },
 )
-imported_to_fault chain offset left_old left left_new taken_old taken now refused was_on is_on images leaves status given whole gives stop (inr at) stand weaker = (
+imported_to_fault chain offset left_old left left_new taken_old taken now refused was_on is_on images leaves steps_old steps_now status given whole gives stop (inr at) stand weaker = (
   concat whole.items ++ given,
   whole.taken,
   gives_more left_old left left_new (concat whole.items) given whole.gives gives,
@@ -333,13 +349,13 @@ imported_to_fault chain offset left_old left left_new taken_old taken now refuse
 
 -- an item was read, and its import was stopped
 pub imported_to_line : (chain : Chain) (offset : ℕ) (left_old left left_new taken_old taken taken_new : Option (List ℕ)) (now : Chain) (refused : Bool)
-    (was_on is_on : Type 0) (images : Image → Type 0) (leaves leaves_new : (Image → Type 0) → Type 0) (status : Status) (item given part : List ℕ)
-    → (whole : Whole chain offset left_old left taken_old taken now refused was_on is_on leaves) → IsItemAt item_limit (Some input_limit) offset item given
+    (was_on is_on : Type 0) (images : Image → Type 0) (leaves leaves_new : (Image → Type 0) → Type 0) (steps_old steps_now : ℕ) (status : Status) (item given part : List ℕ)
+    → (whole : Whole chain offset left_old left taken_old taken now refused was_on is_on leaves steps_old steps_now) → IsItemAt item_limit (Some input_limit) offset item given
     → Gives left left_new given → Takes taken taken_new part → (IsJoined now → IsCutShort (line_over now item) status part)
     → (IsJoined chain → is_on → Each images (λ image. StandsFor (chain_over chain whole.items) image ⊎ StandsFor (chain_over chain (whole.items ++ item ∷ [])) image))
     → (was_on → leaves_new (KeepsSome chain (whole.items ++ item ∷ [])))
     → Transfers left_old left_new taken_old taken_new (λ given taken. IsJoined chain → AreImported chain left_new (Err status) was_on images leaves_new given taken)
-imported_to_line chain offset left_old left left_new taken_old taken taken_new now refused was_on is_on images leaves leaves_new status item given part
+imported_to_line chain offset left_old left left_new taken_old taken taken_new now refused was_on is_on images leaves leaves_new steps_old steps_now status item given part
     whole at gives takes short exit moments = (
       concat whole.items ++ item,
       whole.taken ++ part,

@@ -17,7 +17,7 @@ use Rattle.report_defs.specs.declared.end.End.TheVariants as ends
 use Rattle.report_defs.specs.Status.{IsOneOf}
 use Rattle.report_defs.specs.Items.{Split, AreItems, split_of, end_offset}
 use Rattle.report_defs.specs.Report.{Report, text_of, genesis_limit, init_limits, init_item_limit, end_of_needed, status_of_end, report_of_rules, report_of_items, report_of_init, report_of_end, report_of_new, report_of_command}
-use Rattle.report_defs.specs.Promise.{IsPrefix, MatchesReport, IsStoreOf, IsStoppedBeforeTheSink, ended_early, init_statuses}
+use Rattle.report_defs.specs.Promise.{IsPrefix, MatchesReport, IsStoreOf, IsStoppedBeforeTheSink, EndsTheReading, ReadsNoFurther, ended_early, init_statuses}
 use Rattle.report_defs.specs.Survival.{IsNewStore, as_before}
 use Rattle.report_defs.proofs.ItemLemmas.{split_of-is, end_at-nothing}
 use Rattle.item_reader.specs.Items.{EndsAt, IsNext, IsReadingStop}
@@ -27,6 +27,7 @@ use Rattle.node_run.specs.Store.{Delivers}
 use Rattle.node_run.specs.Import.{IsStop}
 use Rattle.node_run.specs.Init.{AreBoth, EndsEarly, StandsAlone, new_statuses}
 use Rattle.node_run.specs.Output.{IsSaid, IsToldAnswer, IsWritingStop, early_ends}
+use Rattle.node_run.proofs.FurtherLemmas.{items_no_further}
 use Rattle.node_run.proofs.StoreLemmas.{if_told, stop_says}
 use Rattle.node_run.proofs.Statuses.{each_of, is_early, not_early, IsEarly, stop_not_reported, writing_stops}
 
@@ -50,11 +51,12 @@ needed_early ends.Extra e = cc
 pub ends_early : (items : List (List ℕ)) (limit : Option ℕ) (left : Option (List ℕ)) (end last : End) (offset : ℕ) (given whole : List ℕ)
     → whole ≡ concat items ++ given → AreItems init_limits 0 items → init_item_limit (length items) ≡ limit → offset ≡ length (concat items)
     → EndsAt limit None offset left end given → ((at : ℕ) → report_of_items items at end ≡ report_of_end at last) → (last ≡ ends.AtEnd → ⊥)
-    → EndsEarly left last offset whole
-ends_early items limit left end last offset given whole whole_is all limit_is offset_is ends_here says early = record {
+    → ReadsNoFurther init_limits whole → EndsEarly left last offset whole
+ends_early items limit left end last offset given whole whole_is all limit_is offset_is ends_here says early no_further = record {
   early = early;
   report = λ more is. ap report_of_init (split more is) ∙ says (length (concat items)) ∙ ap (λ n. report_of_end n last) (sym offset_is);
   enough = λ more is. rw (split more is) (omega (arith, ap length whole_is, length-append (concat items) given));
+  no_further = no_further;
 }
   where
     here : EndsAt (init_item_limit (length items)) None (length (concat items)) left end given
@@ -121,6 +123,7 @@ fault_at_once reads at_start at_exit meanwhile left = record {
     there = λ other. record { unread = refl; unwritten = refl };
     to_end = λ told. absurd (each_of (λ s. s ≡ DiskFault → ⊥) (Done ∷ BadGenesis ∷ []) DiskFault (λ e. cc, (λ e. cc, tt)) told refl);
     to_early_end = λ told. absurd (each_of (λ s. s ≡ DiskFault → ⊥) ended_early DiskFault (λ e. cc, (λ e. cc, (λ e. cc, tt))) told refl);
+    no_further = items_no_further init_limits [] tt tt [] refl;
     silent = λ early. refl;
   };
   disk = λ now told done. absurd (cc);
@@ -139,6 +142,7 @@ there_at_once reads at_start at_exit meanwhile left other = record {
     there = λ _. record { unread = refl; unwritten = refl };
     to_end = λ told. absurd (each_of (λ s. s ≡ StoreThere → ⊥) (Done ∷ BadGenesis ∷ []) StoreThere (λ e. cc, (λ e. cc, tt)) told refl);
     to_early_end = λ told. absurd (each_of (λ s. s ≡ StoreThere → ⊥) ended_early StoreThere (λ e. cc, (λ e. cc, (λ e. cc, tt))) told refl);
+    no_further = items_no_further init_limits [] tt tt [] refl;
     silent = λ early. refl;
   };
   disk = λ now told done. absurd (cc);
@@ -171,15 +175,16 @@ delivers_new : (reads : Option Image) (at_start at_exit meanwhile : Image → Ty
     → ((store : Store) → IsStoreOf reads store → store ≡ NoLog) → MatchesReport full given left taken status
     → (IsOneOf (Done ∷ BadGenesis ∷ []) status → IsAtEnd left)
     → (IsOneOf ended_early status → (more : List ℕ) → left ≡ Some more → end_offset (split_of init_limits (given ++ more)) ≤ length given)
-    → (IsStoppedBeforeTheSink status → taken ≡ [])
+    → ReadsNoFurther init_limits given → (IsStoppedBeforeTheSink status → taken ≡ [])
     → ((now : Image) → reads ≡ Some now → status ≡ Done → IsNewStore given at_exit)
     → Delivers Init reads at_start at_exit meanwhile left given taken status
-delivers_new reads at_start at_exit meanwhile left given taken status none text to_end enough silent disk = record {
+delivers_new reads at_start at_exit meanwhile left given taken status none text to_end enough no_further silent disk = record {
   text = λ store found. subst (λ (s : Store). MatchesReport (λ whole. report_of_command (Some Init) whole s) given left taken status) (sym (none store found)) text;
   order = λ store found. record {
     there = λ other. absurd (other (none store found));
     to_end = to_end;
     to_early_end = enough;
+    no_further = no_further;
     silent = silent;
   };
   disk = disk;
@@ -187,8 +192,9 @@ delivers_new reads at_start at_exit meanwhile left given taken status none text 
 
 -- the reading was stopped
 pub init_unread : (reads : Option Image) (at_start at_exit meanwhile : Image → Type 0) (left : Option (List ℕ)) (given : List ℕ) (status : Status)
-    → ((store : Store) → IsStoreOf reads store → store ≡ NoLog) → IsStop status → Delivers Init reads at_start at_exit meanwhile left given [] status
-init_unread reads at_start at_exit meanwhile left given status none stop =
+    → ((store : Store) → IsStoreOf reads store → store ≡ NoLog) → IsStop status → ReadsNoFurther init_limits given
+    → Delivers Init reads at_start at_exit meanwhile left given [] status
+init_unread reads at_start at_exit meanwhile left given status none stop no_further =
     delivers_new reads at_start at_exit meanwhile left given [] status none
     (record {
       front = λ more is. (text_of (full (given ++ more)), refl);
@@ -197,6 +203,7 @@ init_unread reads at_start at_exit meanwhile left given status none stop =
     })
     (λ told. absurd (each_of (λ s. IsStop s → ⊥) (Done ∷ BadGenesis ∷ []) status (λ n. n, (λ n. n, tt)) told stop))
     (λ told. absurd (each_of (λ s. IsStop s → ⊥) ended_early status (λ n. n, (λ n. n, (λ n. n, tt))) told stop))
+    no_further
     (λ early. refl)
     (λ now told done. absurd (subst IsStop done stop))
 
@@ -227,6 +234,7 @@ init_early reads at_start at_exit meanwhile left given taken end offset status n
     (said_text full (report_of_end offset end) left given taken status said here.report)
     (λ told. absurd (said_early end offset status taken here.early said told))
     (λ told. here.enough)
+    here.no_further
     (said_silent (report_of_end offset end) status taken said (no_stop end))
     (λ now told done. absurd (said_early end offset status taken here.early said (inl done)))
 
@@ -246,6 +254,7 @@ init_both reads at_start at_exit meanwhile left given taken specification genesi
     (λ told. both.to_end)
     (λ told more is. rw (all_given left given more both.to_end is, split)
     (omega (arith, ap length both.whole, length-append specification genesis, length-append specification (genesis ++ []), length-append genesis [])))
+    (subst (λ (s : Split). EndsTheReading init_limits s) (sym split) (λ at. absurd at))
     (said_silent (report_of_new specification genesis) status taken said (rules_no_stop genesis _ _))
     (λ now told done.
     let alone = made now told done in

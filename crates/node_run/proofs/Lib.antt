@@ -5,8 +5,10 @@ pub mod LineLemmas
 pub mod ImportLemmas
 pub mod StoreLemmas
 pub mod ImportReport
+pub mod CountLemmas
 pub mod ExecLemmas
 pub mod WordLemmas
+pub mod FurtherLemmas
 pub mod InitLemmas
 pub mod CheckLemmas
 pub mod Asked

@@ -12,7 +12,7 @@ use Rattle.report_defs.specs.declared.status.Status.TheVariants.{Done, SomeRefus
 use Rattle.report_defs.specs.Status.{IsOneOf}
 use Rattle.report_defs.specs.Items.{IsItem, split_of, end_offset}
 use Rattle.report_defs.specs.Report.{Report, text_of, item_limit, check_limits, report_of_check, report_of_end}
-use Rattle.report_defs.specs.Promise.{MatchesReport, ChecksInOrder}
+use Rattle.report_defs.specs.Promise.{MatchesReport, ChecksInOrder, ReadsNoFurther}
 use Rattle.item_reader.specs.Items.{IsReadingStop}
 use Rattle.node_run.specs.Store.{Delivers}
 use Rattle.node_run.specs.declared.check.Input.{Input}
@@ -29,11 +29,12 @@ pub record EndsBeforeOne (left : Option (List ℕ)) (end : End) (offset : ℕ) (
   pub early : end ≡ AtEnd → ⊥
   pub report : (chain : Chain) (more : List ℕ) → left ≡ Some more → report_of_check chain (split_of check_limits (given ++ more)) ≡ report_of_end offset end
   pub enough : (more : List ℕ) → left ≡ Some more → end_offset (split_of check_limits (given ++ more)) ≤ length given
+  pub no_further : ReadsNoFurther check_limits given
 
 abbrev pub IsReadOfCheck : Option (List ℕ) → Result Input Status → List ℕ → Type 0
 IsReadOfCheck left (Ok (inputs.One item)) given = IsOne left item.items given
 IsReadOfCheck left (Ok (inputs.Early end offset)) given = EndsBeforeOne left end offset given
-IsReadOfCheck left (Err status) given = IsReadingStop status
+IsReadOfCheck left (Err status) given = IsReadingStop status × ReadsNoFurther check_limits given
 
 -- the report on a whole input
 abbrev pub full : Chain → List ℕ → Report

@@ -11,6 +11,7 @@ use Rattle.report_defs.specs.declared.status.Status.TheVariants.{Done, SinkFault
 use Rattle.report_defs.specs.Items.{IsItem, split_of, end_offset}
 use Rattle.report_defs.specs.Text.{bad_spec_line, bad_genesis_line}
 use Rattle.report_defs.specs.Report.{item_limit, genesis_limit, init_limits, report_of_init, report_of_end}
+use Rattle.report_defs.specs.Promise.{ReadsNoFurther}
 use Rattle.item_reader.specs.Items.{IsReadingStop}
 use Rattle.node_core.specs.declared.new_store.NewStop.{NewStop}
 use Rattle.node_core.specs.declared.new_store.NewStop.TheVariants as stops
@@ -29,11 +30,12 @@ pub record EndsEarly (left : Option (List ℕ)) (end : End) (offset : ℕ) (give
   pub early : end ≡ AtEnd → ⊥
   pub report : (more : List ℕ) → left ≡ Some more → report_of_init (split_of init_limits (given ++ more)) ≡ report_of_end offset end
   pub enough : (more : List ℕ) → left ≡ Some more → end_offset (split_of init_limits (given ++ more)) ≤ length given
+  pub no_further : ReadsNoFurther init_limits given
 
 abbrev pub IsReadOfInit : Option (List ℕ) → Result Input Status → List ℕ → Type 0
 IsReadOfInit left (Ok (inputs.Both specification genesis)) given = AreBoth left specification.items genesis.items given
 IsReadOfInit left (Ok (inputs.Early end offset)) given = EndsEarly left end offset given
-IsReadOfInit left (Err status) given = IsReadingStop status
+IsReadOfInit left (Err status) given = IsReadingStop status × ReadsNoFurther init_limits given
 
 -- what is said of a rule that is broken
 abbrev pub text_of_stop : NewStop → List ℕ

@@ -1,15 +1,17 @@
 // The command `check`: a transaction, judged alone.
-ghost use Rattle.std.specs.Prelude.{◌≡◌, ◌∷◌, [], Err, Some, IfOk, string_bytes};
+ghost use Rattle.std.specs.Prelude.{◌≡◌, ◌≢◌, ◌+◌, ◌≤◌, slice_index, ◌∷◌, [], Err, Some, IfOk, string_bytes};
 ghost use Rattle.outside.specs.Causes.{CountsFault};
 ghost use Rattle.outside.specs.Image.{Image};
 ghost use Rattle.verdict_defs.specs.Chain.{Chain};
 ghost use Rattle.verdict_defs.specs.Trial as trials;
+ghost use Rattle.store_defs.specs.Log.{end_of_log};
 ghost use Rattle.store_defs.specs.Store.{Keeps, store_of, IsJoined, IsOnlyRead};
 ghost use Rattle.report_defs.specs.Report as reports;
 ghost use Rattle.report_defs.specs.Text as text;
 ghost use Rattle.report_defs.specs.Status.{IsOneOf};
 ghost use Rattle.report_defs.specs.Promise.{check_statuses};
 ghost use Rattle.item_reader.specs.Items.{Gave};
+ghost use Rattle.node_core.specs.Steps.{replays_to_open};
 ghost use Rattle.node_run.specs.Output.{Transfers};
 ghost use Rattle.node_run.specs.Check.{IsReadOfCheck, IsChecked, DeliversCheck};
 
@@ -139,6 +141,9 @@ pub fn check<S: Source, K: Sink, D: Disk, L: Ledger>(
     ensures input_faults { CountsFault (S.faults input.old) (S.faults input.new) (result ≡ Status.InputFault) }
     ensures out_faults { CountsFault (K.faults out.old) (K.faults out.new) (result ≡ Status.SinkFault) }
     ensures disk_faults { CountsFault (D.faults disk.old) (D.faults disk.new) (result ≡ Status.DiskFault) }
+    ensures rests { (now : Image) → D.reads_as disk.old ≡ Some now → slice_index now.log (end_of_log now.log) ≢ 1
+        → IsOnlyRead D.reads_as D.images D.moment D.left_since disk.old disk.new }
+    ensures most { (now : Image) → D.reads_as disk.old ≡ Some now → steps.new ≤ steps.old + replays_to_open (store_of now) }
 {
     let mut node = match open(alloc, disk, steps) {
         Ok(node) => node,

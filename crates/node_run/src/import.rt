@@ -1,10 +1,12 @@
 // The command `import`: blocks, each answered by a line.
-ghost use Rattle.std.specs.Prelude.{◌≡◌, ◌⊎◌, [], ◌∷◌, ◌<◌, ◌≤◌, ◌^◌, Err, Some, length, string_bytes, IfOk, IfSome, if◌then◌else◌};
+ghost use Rattle.std.specs.Prelude.{◌≡◌, ◌⊎◌, ◌+◌, [], ◌∷◌, ◌<◌, ◌≤◌, ◌^◌, Err, Some, length, string_bytes, IfOk, IfSome, if◌then◌else◌};
 ghost use Rattle.outside.specs.Causes.{CountsFault};
 ghost use Rattle.outside.specs.Disk.{LeavesOnly};
 ghost use Rattle.outside.specs.Image.{Image};
+ghost use Rattle.chain_defs.specs.Tip.{greatest_number};
 ghost use Rattle.verdict_defs.specs.Chain.{Chain, verdict_over, chain_after};
 ghost use Rattle.store_defs.specs.Store.{Keeps, store_of, StandsFor, IsJoined, IsOnlyRead};
+ghost use Rattle.report_defs.specs.Items.{split_of};
 ghost use Rattle.report_defs.specs.Report as reports;
 ghost use Rattle.report_defs.specs.Status.{IsOneOf};
 ghost use Rattle.report_defs.specs.Text.{line};
@@ -12,6 +14,7 @@ ghost use Rattle.report_defs.specs.Promise.{import_statuses};
 ghost use Rattle.report_defs.specs.declared.command.Command.TheVariants.{Import};
 ghost use Rattle.item_reader.specs.Items.{Gave, IsNext};
 ghost use Rattle.node_core.specs.Node.{IsOn};
+ghost use Rattle.node_core.specs.Steps.{replays_for, steps_over};
 ghost use Rattle.node_run.specs.Output.{Took, Transfers};
 ghost use Rattle.node_run.specs.Store.{Delivers};
 ghost use Rattle.node_run.specs.Import.{IsAnswered, AreImported, line_over, item_stops};
@@ -83,6 +86,7 @@ fn import_item<K: Sink, D: Disk, L: Ledger>(
         → LeavesOnly D.moment D.left_since disk.old disk.new (λ image. StandsFor node.chain image ⊎ StandsFor (chain_after node.chain item.now) image) }
     ensures out_faults { CountsFault (K.faults out.old) (K.faults out.new) (result ≡ Err Status.SinkFault) }
     ensures disk_faults { CountsFault (D.faults disk.old) (D.faults disk.new) (result ≡ Err Status.DiskFault) }
+    ensures most { steps.new ≤ steps.old + replays_for node.chain.blocks item.now + 1 }
 {
     let (next, verdict) = match node.import(alloc, disk, item, steps) {
         Ok(answer) => answer,
@@ -114,6 +118,8 @@ fn import_items<S: Source, K: Sink, D: Disk, L: Ledger>(
     ensures input_faults { CountsFault (S.faults input.old) (S.faults input.new) (result ≡ Err Status.InputFault) }
     ensures out_faults { CountsFault (K.faults out.old) (K.faults out.new) (result ≡ Err Status.SinkFault) }
     ensures disk_faults { CountsFault (D.faults disk.old) (D.faults disk.new) (result ≡ Err Status.DiskFault) }
+    ensures steps { Gave (S.left input.old) (S.left input.new) (λ given. IsJoined opened.chain
+        → steps.new ≤ steps.old + steps_over opened.chain (split_of reports.import_limits given).items) }
 {
     let mut node = opened;
     let mut offset = 0u64;
@@ -179,6 +185,8 @@ pub fn import<S: Source, K: Sink, D: Disk, L: Ledger>(
     ensures input_faults { CountsFault (S.faults input.old) (S.faults input.new) (result ≡ Status.InputFault) }
     ensures out_faults { CountsFault (K.faults out.old) (K.faults out.new) (result ≡ Status.SinkFault) }
     ensures disk_faults { CountsFault (D.faults disk.old) (D.faults disk.new) (result ≡ Status.DiskFault) }
+    ensures steps { Gave (S.left input.old) (S.left input.new) (λ given. (now : Image) (chain : Chain) → D.reads_as disk.old ≡ Some now → StandsFor chain now
+        → steps.new ≤ steps.old + greatest_number chain.blocks + steps_over chain (split_of reports.import_limits given).items) }
 {
     let node = match open(alloc, disk, steps) {
         Ok(node) => node,

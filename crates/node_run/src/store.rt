@@ -1,13 +1,15 @@
 // The store that a command works on.
-ghost use Rattle.std.specs.Prelude.{◌≡◌, ◌⊎◌, ◌↔◌, ◌<◌, ◌∷◌, [], Err, Some, length, IfOk, IfSome};
+ghost use Rattle.std.specs.Prelude.{◌≡◌, ◌≢◌, ◌⊎◌, ◌↔◌, ◌+◌, ◌<◌, ◌≤◌, ◌∷◌, [], Err, Some, length, slice_index, IfOk, IfSome};
 ghost use Rattle.outside.specs.Causes.{CountsFault};
 ghost use Rattle.outside.specs.Disk.{LeavesOnly};
 ghost use Rattle.outside.specs.declared.disk.Damage.{Damage};
 ghost use Rattle.outside.specs.Image.{Image};
 ghost use Rattle.verdict_defs.specs.Chain.{Chain};
+ghost use Rattle.store_defs.specs.Log.{end_of_log};
 ghost use Rattle.store_defs.specs.Store.{Keeps, store_of, StandsFor, IsSound, IsOnlyRead};
 ghost use Rattle.report_defs.specs.Status.{IsOneOf};
 ghost use Rattle.node_core.specs.Node.{IsOn};
+ghost use Rattle.node_core.specs.Steps.{replays_to_open};
 ghost use Rattle.node_run.specs.Store.{opening_stops};
 
 use node_core::{LogStop, Node};
@@ -64,12 +66,15 @@ pub fn open<D: Disk, L: Ledger>(
     ensures not_a_store { result ≡ Err Status.NotAStore → IfSome (D.reads_as disk.old) (λ now. IsSound now → ⊥) }
     ensures no_log { (now : Image) → D.reads_as disk.old ≡ Some now → ((chain : Chain) → store_of now ≡ Keeps chain → ⊥)
         → IsOnlyRead D.reads_as D.images D.moment D.left_since disk.old disk.new }
+    ensures rests { (now : Image) → D.reads_as disk.old ≡ Some now → slice_index now.log (end_of_log now.log) ≢ 1
+        → IsOnlyRead D.reads_as D.images D.moment D.left_since disk.old disk.new }
     ensures there { IfOk result (λ node. IfSome (D.reads_as disk.new) (λ image. node.place < length image.log)) }
     ensures on { ((image : Image) → D.images disk.old image → IsSound image)
         → IfOk result (λ node. IfSome (D.reads_as disk.old) (λ _. IsOn node (D.reads_as disk.new) (D.images disk.new))) }
     ensures moments { (now : Image) (chain : Chain) → D.reads_as disk.old ≡ Some now → store_of now ≡ Keeps chain → ((image : Image) → D.images disk.old image → IsSound image)
         → LeavesOnly D.moment D.left_since disk.old disk.new (λ image. D.images disk.old image ⊎ StandsFor chain image) }
     ensures cause { CountsFault (D.faults disk.old) (D.faults disk.new) (result ≡ Err Status.DiskFault) }
+    ensures most { (now : Image) → D.reads_as disk.old ≡ Some now → steps.new ≤ steps.old + replays_to_open (store_of now) }
 {
     match Node::open(alloc, disk, steps) {
         Ok(node) => Ok(node),

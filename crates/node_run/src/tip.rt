@@ -1,12 +1,14 @@
 // The command `tip`: the tip of the kept blocks.
-ghost use Rattle.std.specs.Prelude.{◌≡◌, ◌∷◌, List, ℕ, Option, Some, []};
+ghost use Rattle.std.specs.Prelude.{◌≡◌, ◌≢◌, ◌+◌, ◌≤◌, slice_index, ◌∷◌, List, ℕ, Option, Some, []};
 ghost use Rattle.outside.specs.Causes.{CountsFault};
+ghost use Rattle.store_defs.specs.Log.{end_of_log};
 ghost use Rattle.store_defs.specs.Store.{Keeps, store_of, IsOnlyRead};
 ghost use Rattle.verdict_defs.specs.Chain.{Chain};
 ghost use Rattle.outside.specs.Image.{Image};
 ghost use Rattle.report_defs.specs.Status.{IsOneOf};
 ghost use Rattle.report_defs.specs.Promise.{tip_statuses};
 ghost use Rattle.report_defs.specs.declared.command.Command.TheVariants.{Tip};
+ghost use Rattle.node_core.specs.Steps.{replays_to_open};
 ghost use Rattle.node_run.specs.Output.{Took};
 ghost use Rattle.node_run.specs.Store.{Delivers, IsTipTold};
 
@@ -50,6 +52,9 @@ pub fn tip<K: Sink, D: Disk, L: Ledger>(
         → IsOnlyRead D.reads_as D.images D.moment D.left_since disk.old disk.new }
     ensures out_faults { CountsFault (K.faults out.old) (K.faults out.new) (result ≡ Status.SinkFault) }
     ensures disk_faults { CountsFault (D.faults disk.old) (D.faults disk.new) (result ≡ Status.DiskFault) }
+    ensures rests { (now : Image) → D.reads_as disk.old ≡ Some now → slice_index now.log (end_of_log now.log) ≢ 1
+        → IsOnlyRead D.reads_as D.images D.moment D.left_since disk.old disk.new }
+    ensures most { (now : Image) → D.reads_as disk.old ≡ Some now → steps.new ≤ steps.old + replays_to_open (store_of now) }
 {
     let node = match open(alloc, disk, steps) {
         Ok(node) => node,

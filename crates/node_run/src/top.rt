@@ -1,14 +1,20 @@
 // The one call.
-ghost use Rattle.std.specs.Prelude.{◌≡◌, ◌↔◌, None, Some, map, string_bytes};
+ghost use Rattle.std.specs.Prelude.{◌≡◌, ◌≢◌, ◌↔◌, ◌+◌, ◌≤◌, None, Some, map, slice_index, string_bytes};
 ghost use Rattle.outside.specs.Causes.{CountsFault};
 ghost use Rattle.outside.specs.Disk.{IsAsBefore};
 ghost use Rattle.outside.specs.Image.{Image};
-ghost use Rattle.store_defs.specs.Store.{NoLog, Keeps, store_of, IsOnlyRead};
+ghost use Rattle.store_defs.specs.Log.{end_of_log};
+ghost use Rattle.store_defs.specs.Store.{NoLog, Keeps, store_of, StandsFor, IsOnlyRead};
+ghost use Rattle.chain_defs.specs.Tip.{greatest_number};
 ghost use Rattle.verdict_defs.specs.Chain.{Chain};
+ghost use Rattle.report_defs.specs.Items.{split_of};
+ghost use Rattle.report_defs.specs.Report.{import_limits};
 ghost use Rattle.report_defs.specs.Words as grammar;
 ghost use Rattle.report_defs.specs.Status.{IsOneOf};
 ghost use Rattle.report_defs.specs.Promise.{statuses_of};
-ghost use Rattle.report_defs.specs.Survival.{IsPromised, CallsNoDisk, OpensStore, as_before};
+ghost use Rattle.report_defs.specs.Survival.{IsPromised, CallsNoDisk, OpensStore, IsQuery, as_before};
+ghost use Rattle.item_reader.specs.Items.{Gave};
+ghost use Rattle.node_core.specs.Steps.{replays_to_open, steps_over};
 ghost use Rattle.node_run.specs.Output.{Transfers};
 
 use crate::check::check;
@@ -51,7 +57,7 @@ pub fn run<S: Source, K: Sink, D: Disk, L: Ledger>(
     ensures out_faults { CountsFault (K.faults out.old) (K.faults out.new) (result ≡ Status.SinkFault) }
     ensures disk_faults { CountsFault (D.faults disk.old) (D.faults disk.new) (result ≡ Status.DiskFault) }
 
-    // Where the disk is not called, is as it was, also for an `init` that finds a log, and where it has no log and is only read.
+    // Where the disk is not called, is as it was, also for an `init` that finds a log, and where it is only read: it has no log, or a query finds its log at rest.
     ensures uncalled { CallsNoDisk (grammar.command_of (map string_bytes words.now)) → disk.new ≡ disk.old }
     ensures as_before { IsOneOf (as_before (grammar.command_of (map string_bytes words.now))) result
         → IsAsBefore D.reads_as D.images D.moment D.left_since disk.old disk.new }
@@ -59,9 +65,17 @@ pub fn run<S: Source, K: Sink, D: Disk, L: Ledger>(
         → grammar.command_of (map string_bytes words.now) ≡ Some Command.Init → IsAsBefore D.reads_as D.images D.moment D.left_since disk.old disk.new }
     ensures loses_nothing { (now : Image) → D.reads_as disk.old ≡ Some now → ((chain : Chain) → store_of now ≡ Keeps chain → ⊥)
         → OpensStore (grammar.command_of (map string_bytes words.now)) → IsOnlyRead D.reads_as D.images D.moment D.left_since disk.old disk.new }
+    ensures rests { (now : Image) → D.reads_as disk.old ≡ Some now → slice_index now.log (end_of_log now.log) ≢ 1
+        → IsQuery (grammar.command_of (map string_bytes words.now)) → IsOnlyRead D.reads_as D.images D.moment D.left_since disk.old disk.new }
 
-    // Only a command that opens the store counts steps.
+    // Only a command that opens the store counts steps: a query at most one for each block behind the genesis on the branch of the tip, and an import
+    // over a store that is sound at most these, and for each item one and those of the branch that is replayed for it.
     ensures steps { (OpensStore (grammar.command_of (map string_bytes words.now)) → ⊥) → steps.new ≡ steps.old }
+    ensures query_steps { (now : Image) → D.reads_as disk.old ≡ Some now → IsQuery (grammar.command_of (map string_bytes words.now))
+        → steps.new ≤ steps.old + replays_to_open (store_of now) }
+    ensures import_steps { grammar.command_of (map string_bytes words.now) ≡ Some Command.Import → Gave (S.left input.old) (S.left input.new)
+        (λ given. (now : Image) (chain : Chain) → D.reads_as disk.old ≡ Some now → StandsFor chain now
+        → steps.new ≤ steps.old + greatest_number chain.blocks + steps_over chain (split_of import_limits given).items) }
 {
     match command_of(words) {
         Some(Command::Init) => init(alloc, input, out, disk),

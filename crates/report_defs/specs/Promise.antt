@@ -11,7 +11,7 @@ use Rattle.report_defs.specs.declared.command.Command.TheVariants.{Init, Import,
 use Rattle.report_defs.specs.declared.status.Status.{Status}
 use Rattle.report_defs.specs.declared.status.Status.TheVariants.{Done, SomeRefused, BadWords, InputFault, SinkFault, DiskFault, NoMemory, NotAStore, CutInput, BadSize, StoreThere, BadGenesis, ExtraInput}
 use Rattle.report_defs.specs.Status.{IsOneOf}
-use Rattle.report_defs.specs.Items.{IsAtWord, Limits, split_of, end_offset}
+use Rattle.report_defs.specs.Items.{IsAtWord, Limits, Split, split_of, end_offset}
 use Rattle.report_defs.specs.Report.{Report, text_of, init_limits, import_limits, check_limits, lines_over, file_limit}
 
 -- ---- Statuses
@@ -94,6 +94,18 @@ abbrev pub ReadsToTheEnd : Limits → List ℕ → Option (List ℕ) → Status 
 ReadsToTheEnd limits given left status =
     IsOneOf ended_early status → (more : List ℕ) → left ≡ Some more → end_offset (split_of limits (given ++ more)) ≤ length given
 
+-- how many bytes tell that the reading ends at an item's place: those of its size word, or one where no item is taken
+abbrev pub bytes_to_tell : Option ℕ → ℕ
+bytes_to_tell None = 1
+bytes_to_tell (Some limit) = 4
+
+abbrev pub EndsTheReading : Limits → Split → Type 0
+EndsTheReading limits split = IsAtWord split.end → length split.rest ≡ bytes_to_tell (limits.item (length split.items))
+
+-- nothing is read behind the size word, or the first byte too many, at which the reading ends
+abbrev pub ReadsNoFurther : Limits → List ℕ → Type 0
+ReadsNoFurther limits given = EndsTheReading limits (split_of limits given)
+
 -- `init`
 pub record InitsInOrder (store : Store) (given : List ℕ) (left : Option (List ℕ)) (taken : List ℕ) (status : Status) : Type 0 where
   -- where there is a log nothing is read and nothing written
@@ -101,6 +113,7 @@ pub record InitsInOrder (store : Store) (given : List ℕ) (left : Option (List 
   -- the input was read to its end before it is judged
   pub to_end : IsOneOf (Done ∷ BadGenesis ∷ []) status → IsAtEnd left
   pub to_early_end : ReadsToTheEnd init_limits given left status
+  pub no_further : ReadsNoFurther init_limits given
   -- nothing is written but what follows the whole input
   pub silent : IsStoppedBeforeTheSink status → taken ≡ []
 
@@ -139,6 +152,7 @@ pub record ChecksInOrder (given : List ℕ) (left : Option (List ℕ)) (taken : 
   -- the input was read to its end before the item is judged
   pub to_end : IsOneOf (Done ∷ SomeRefused ∷ []) status → IsAtEnd left
   pub to_early_end : ReadsToTheEnd check_limits given left status
+  pub no_further : ReadsNoFurther check_limits given
   -- nothing is written but what follows the whole input
   pub silent : IsStoppedBeforeTheSink status → taken ≡ []
 

@@ -149,6 +149,15 @@ CallsNoDisk (Some Tip) = ⊥
 CallsNoDisk (Some Check) = ⊥
 CallsNoDisk (Some (Exec budget)) = Unit {0}
 
+-- those that open the store and keep nothing
+abbrev pub IsQuery : Option Command → Type 0
+IsQuery None = ⊥
+IsQuery (Some Init) = ⊥
+IsQuery (Some Import) = ⊥
+IsQuery (Some Tip) = Unit {0}
+IsQuery (Some Check) = Unit {0}
+IsQuery (Some (Exec budget)) = ⊥
+
 -- those that open the store
 abbrev pub OpensStore : Option Command → Type 0
 OpensStore None = ⊥

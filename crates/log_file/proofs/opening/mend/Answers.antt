@@ -63,3 +63,12 @@ returns-else-open_gate-clause-there g c = c.requires.within
 
 pub returns-else-open_gate-clause-cause : goal.returns-else-open_gate-clause-cause
 returns-else-open_gate-clause-cause g c = no_call _ _
+
+pub returns-in-Err-clause-uncalled : goal.returns-in-Err-clause-uncalled
+returns-in-Err-clause-uncalled g c = told_open _ _ _ _ c.if-open_gate.true c.requires.gate
+
+pub returns-in-Ok-clause-uncalled : goal.returns-in-Ok-clause-uncalled
+returns-in-Ok-clause-uncalled g c = told_open _ _ _ _ c.if-open_gate.true c.requires.gate
+
+pub returns-else-open_gate-clause-uncalled : goal.returns-else-open_gate-clause-uncalled
+returns-else-open_gate-clause-uncalled g c = on_each (g.D.Disk.reads_as c.args.disk.now) _ (λ _ _. refl)

@@ -1,9 +1,10 @@
-use Rattle.std.proofs.Common.{refl, ◌∙◌, arith, inl, Err, ap}
+use Rattle.std.proofs.Common.{refl, sym, subst, ◌∙◌, arith, inl, Err, ap}
 use Rattle.outside.proofs.Moments.{leaves_also, leaves_then}
 use Rattle.log_file.proofs.Exits.{on_each, no_error, fault_not_wrong, fault_counts, stop_counts, answer_counts, answer_still, counts_on, same_stop}
 use Rattle.log_file.proofs.Front.{on_same}
 use Rattle.log_file.proofs.Judging.{kept_limit_is}
-use Rattle.log_file.proofs.Settling.{others_kept, durable_on, told_settled, told_moments, read_only, wrong_on, told_log, told_at_rest, others_on}
+use Rattle.log_file.proofs.Settling.{others_kept, durable_on, told_settled, told_moments, read_only, wrong_on, told_log, told_at_rest, told_rests, others_on}
+use Rattle.store_defs.specs.Store.{IsOnlyRead}
 use Rattle.log_file.proofs.opening.open.Goals as goal
 
 pub returns-in-Err-clause-others : goal.returns-in-Err-clause-others
@@ -235,3 +236,24 @@ returns-in-Ok-mend-clause-cause g c =
 
 pub returns-in-Ok-mend-clause-at_rest : goal.returns-in-Ok-mend-clause-at_rest
 returns-in-Ok-mend-clause-at_rest g c = told_at_rest _ _ _ _ _ c.in-Ok.ensures.same (c.in-Ok-read_log.ensures.as_before.reads ∙ c.in-Ok.ensures.same) c.in-Ok-read_log.ensures.ends c.mend.ensures.at_rest
+
+pub returns-in-Err-clause-rests : goal.returns-in-Err-clause-rests
+returns-in-Err-clause-rests g c =
+    on_each (g.D.Disk.reads_as c.args.disk.now) _ (λ _ _. record { reads = c.in-Err.ensures.same; images = c.in-Err.ensures.images; moments = c.in-Err.ensures.moments })
+
+pub returns-in-Err-read_log-clause-rests : goal.returns-in-Err-read_log-clause-rests
+returns-in-Err-read_log-clause-rests g c =
+    on_each (g.D.Disk.reads_as c.args.disk.now) _ (λ _ _.
+    read_only g.D.Disk.reads_as g.D.Disk.images g.D.Disk.moment g.D.Disk.left_since _ _ _ c.in-Ok.ensures.same c.in-Ok.ensures.images c.in-Ok.ensures.moments c.in-Err-read_log.ensures.as_before)
+
+pub returns-in-Err-mend-clause-rests : goal.returns-in-Err-mend-clause-rests
+returns-in-Err-mend-clause-rests g c =
+    told_rests _ _ _ _ _ _ c.in-Ok.ensures.same (c.in-Ok-read_log.ensures.as_before.reads ∙ c.in-Ok.ensures.same) c.in-Ok-read_log.ensures.ends c.mend.ensures.uncalled
+    (λ uncalled. subst (λ d. IsOnlyRead g.D.Disk.reads_as g.D.Disk.images g.D.Disk.moment g.D.Disk.left_since c.args.disk.now d) (sym uncalled)
+    (read_only g.D.Disk.reads_as g.D.Disk.images g.D.Disk.moment g.D.Disk.left_since _ _ _ c.in-Ok.ensures.same c.in-Ok.ensures.images c.in-Ok.ensures.moments c.in-Ok-read_log.ensures.as_before))
+
+pub returns-in-Ok-mend-clause-rests : goal.returns-in-Ok-mend-clause-rests
+returns-in-Ok-mend-clause-rests g c =
+    told_rests _ _ _ _ _ _ c.in-Ok.ensures.same (c.in-Ok-read_log.ensures.as_before.reads ∙ c.in-Ok.ensures.same) c.in-Ok-read_log.ensures.ends c.mend.ensures.uncalled
+    (λ uncalled. subst (λ d. IsOnlyRead g.D.Disk.reads_as g.D.Disk.images g.D.Disk.moment g.D.Disk.left_since c.args.disk.now d) (sym uncalled)
+    (read_only g.D.Disk.reads_as g.D.Disk.images g.D.Disk.moment g.D.Disk.left_since _ _ _ c.in-Ok.ensures.same c.in-Ok.ensures.images c.in-Ok.ensures.moments c.in-Ok-read_log.ensures.as_before))

@@ -35,3 +35,15 @@ returns-clause-disk_faults g c = no_fault _ _ (c.in-Ok.ensures.cause.unchanged (
 
 pub returns-clause-no_log : goal.returns-clause-no_log
 returns-clause-no_log g c = λ now told none. absurd (opened_there (g.D.Disk.reads_as c.args.disk.now) c.in-Ok.node.chain now c.in-Ok.ensures.kept told none)
+
+pub returns-in-Err-clause-rests : goal.returns-in-Err-clause-rests
+returns-in-Err-clause-rests g c = c.in-Err.ensures.rests
+
+pub returns-clause-rests : goal.returns-clause-rests
+returns-clause-rests g c = c.in-Ok.ensures.rests
+
+pub returns-in-Err-clause-most : goal.returns-in-Err-clause-most
+returns-in-Err-clause-most g c = c.in-Err.ensures.most
+
+pub returns-clause-most : goal.returns-clause-most
+returns-clause-most g c = c.in-Ok.ensures.most

@@ -6,7 +6,7 @@ use Rattle.report_defs.specs.declared.status.Status.TheVariants.{NoMemory}
 use Rattle.item_reader.specs.Items.{IsReadingStop}
 use Rattle.node_run.specs.Check.{IsOne, EndsBeforeOne, IsReadOfCheck}
 use Rattle.node_run.specs.declared.check.Input.{Input}
-use Rattle.node_run.proofs.CheckLemmas.{reading_statuses, judging_statuses, told_statuses, early_statuses, early_no_disk_fault, early_no_input_fault, check_stopped, check_early, check_told, memory_stop, told_one, not_input, not_sink, not_disk, told_not_input, told_not_disk}
+use Rattle.node_run.proofs.CheckLemmas.{reading_statuses, judging_statuses, told_statuses, early_statuses, early_no_disk_fault, early_no_input_fault, check_stopped, check_early, check_told, one_no_further, memory_stop, told_one, not_input, not_sink, not_disk, told_not_input, told_not_disk}
 use Rattle.node_run.proofs.Faults.{no_fault, counts_also, IsMemory}
 use Rattle.node_run.proofs.Statuses.{reading_stops}
 use Rattle.node_run.proofs.Exits.{no_error, same_stop}
@@ -34,7 +34,7 @@ returns-in-Err-clause-checked g c =
       [],
       read.1,
       takes_none (g.K.Sink.taken c.args.out.now),
-      λ joined. check_stopped c.args.node.now.chain left read.0 c.in-Err.status (reading_stops c.in-Err.status read.2),
+      λ joined. check_stopped c.args.node.now.chain left read.0 c.in-Err.status (reading_stops c.in-Err.status read.2.0) read.2.1,
     )
 
 pub returns-in-Err-clause-input_faults : goal.returns-in-Err-clause-input_faults
@@ -45,13 +45,15 @@ pub returns-in-Err-judge_item-clause-checked : goal.returns-in-Err-judge_item-cl
 returns-in-Err-judge_item-clause-checked g c =
     let read = c.in-Ok-One.ensures.read in
     let left = g.S.Source.left c.read_input.new.input in
+    let one : IsOne left c.in-Ok-One.item.items read.0 = subst (λ (i : Input). IsReadOfCheck left (Ok i) read.0) c.in-Ok-One.field-0-is read.2 in
     let status = c.in-Err-judge_item.status in (
       read.0,
       [],
       read.1,
       takes_none (g.K.Sink.taken c.args.out.now),
       λ joined. check_stopped c.args.node.now.chain left read.0 status
-          (memory_stop status (c.in-Err-judge_item.ensures.stop status refl) (λ e. c.in-Err-judge_item.ensures.sound joined (ap Err e))),
+          (memory_stop status (c.in-Err-judge_item.ensures.stop status refl) (λ e. c.in-Err-judge_item.ensures.sound joined (ap Err e)))
+          (one_no_further left c.in-Ok-One.item.items read.0 one),
     )
 
 pub returns-in-Ok-answer_to-clause-checked : goal.returns-in-Ok-answer_to-clause-checked
@@ -75,12 +77,13 @@ returns-in-Ok-answer_to-clause-checked g c =
 pub returns-clause-checked : goal.returns-clause-checked
 returns-clause-checked g c =
     let read = c.in-Ok-One.ensures.read in
-    let left = g.S.Source.left c.read_input.new.input in (
+    let left = g.S.Source.left c.read_input.new.input in
+    let one : IsOne left c.in-Ok-One.item.items read.0 = subst (λ (i : Input). IsReadOfCheck left (Ok i) read.0) c.in-Ok-One.field-0-is read.2 in (
       read.0,
       [],
       read.1,
       takes_none (g.K.Sink.taken c.args.out.now),
-      λ joined. check_stopped c.args.node.now.chain left read.0 NoMemory tt,
+      λ joined. check_stopped c.args.node.now.chain left read.0 NoMemory tt (one_no_further left c.in-Ok-One.item.items read.0 one),
     )
 
 pub returns-in-Err-judge_item-clause-input_faults : goal.returns-in-Err-judge_item-clause-input_faults
@@ -120,13 +123,13 @@ pub returns-in-Ok-Early-clause-out_faults : goal.returns-in-Ok-Early-clause-out_
 returns-in-Ok-Early-clause-out_faults g c = c.tell_early.ensures.faults
 
 pub returns-in-Err-clause-status : goal.returns-in-Err-clause-status
-returns-in-Err-clause-status g c = reading_statuses c.in-Err.status c.in-Err.ensures.read.2
+returns-in-Err-clause-status g c = reading_statuses c.in-Err.status c.in-Err.ensures.read.2.0
 
 pub returns-in-Err-clause-disk : goal.returns-in-Err-clause-disk
-returns-in-Err-clause-disk g c = λ e. subst IsReadingStop e c.in-Err.ensures.read.2
+returns-in-Err-clause-disk g c = λ e. subst IsReadingStop e c.in-Err.ensures.read.2.0
 
 pub returns-in-Err-clause-out_faults : goal.returns-in-Err-clause-out_faults
-returns-in-Err-clause-out_faults g c = no_fault _ _ refl (λ e. subst IsReadingStop e c.in-Err.ensures.read.2)
+returns-in-Err-clause-out_faults g c = no_fault _ _ refl (λ e. subst IsReadingStop e c.in-Err.ensures.read.2.0)
 
 pub returns-in-Err-judge_item-clause-status : goal.returns-in-Err-judge_item-clause-status
 returns-in-Err-judge_item-clause-status g c = judging_statuses c.in-Err-judge_item.status (c.in-Err-judge_item.ensures.stop c.in-Err-judge_item.status refl)

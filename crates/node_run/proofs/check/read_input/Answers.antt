@@ -4,11 +4,12 @@ use Rattle.std.specs.List.{concat}
 use Rattle.outside.proofs.Streams.{gives_more}
 use Rattle.report_defs.specs.declared.end.End.{End}
 use Rattle.report_defs.specs.declared.end.End.TheVariants.{Extra}
-use Rattle.report_defs.specs.Report.{item_limit, end_of_needed}
+use Rattle.report_defs.specs.Report.{item_limit, check_limits, end_of_needed}
 use Rattle.item_reader.specs.Items.{IsReadingStop}
 use Rattle.item_reader.proofs.Reading.{ends_at_byte}
 use Rattle.node_run.specs.Check.{EndsBeforeOne}
 use Rattle.node_run.proofs.ImportLemmas.{item_limit-is}
+use Rattle.node_run.proofs.FurtherLemmas.{items_no_further, partial_no_further, stopped_no_further, byte_no_further}
 use Rattle.node_run.proofs.InitLemmas.{known_limit, needed_early}
 use Rattle.node_run.proofs.CheckLemmas.{ends_before_one}
 use Rattle.node_run.proofs.Exits.{no_error, same_stop}
@@ -22,16 +23,24 @@ returns-in-Ok-End-clause-read g c =
     let limited = known_limit 1048576 item_limit (sym item_limit-is) 0 left (Ok c.in-Ok-End.field-0) found.0 found.2 in
     let next = rw c.in-Ok-End.field-0-is at limited in
     let early : EndsBeforeOne left (end_of_needed c.in-Ok-End.end) 0 found.0 =
-    ends_before_one [] (Some item_limit) left c.in-Ok-End.end (end_of_needed c.in-Ok-End.end) 0 found.0 found.0 refl tt refl refl next.0 (λ chain at. refl) (needed_early c.in-Ok-End.end) in
+    ends_before_one [] (Some item_limit) left c.in-Ok-End.end (end_of_needed c.in-Ok-End.end) 0 found.0 found.0 refl tt refl refl next.0 (λ chain at. refl) (needed_early c.in-Ok-End.end)
+    (partial_no_further check_limits [] tt tt item_limit 0 found.0 found.0 refl refl refl next.1) in
     (found.0, found.1, subst (λ (e : End). EndsBeforeOne left e 0 found.0) (sym c.end_of_needed.ensures) early)
 
 pub returns-in-Err-has_more-clause-read : goal.returns-in-Err-has_more-clause-read
 returns-in-Err-has_more-clause-read g c =
+    let item = c.in-Ok-Item.item.items in
     let found = c.in-Ok-Item.ensures.next in
+    let limited = known_limit 1048576 item_limit (sym item_limit-is) 0 (g.S.Source.left c.next_item.new.input) (Ok c.in-Ok-Item.field-0) found.0 found.2 in
+    let next = rw c.in-Ok-Item.field-0-is at limited in
     let more = c.in-Err-has_more.ensures.more in (
       found.0 ++ more.0,
       gives_more (g.S.Source.left c.args.input.now) (g.S.Source.left c.next_item.new.input) (g.S.Source.left c.has_more.new.input) found.0 more.0 found.1 more.1,
-      subst IsReadingStop (sym more.2) tt,
+      (
+        subst IsReadingStop (sym more.2.0) tt,
+        items_no_further check_limits (item ∷ []) (next.is_item, tt) tt (found.0 ++ more.0)
+            (ap (λ bs. found.0 ++ bs) more.2.1 ∙ append-nil found.0 ∙ next.same ∙ sym (append-nil item)),
+      ),
     )
 
 pub returns-then-more-clause-read : goal.returns-then-more-clause-read
@@ -47,7 +56,8 @@ returns-then-more-clause-read g c =
       found.0 ++ more.0,
       gives_more (g.S.Source.left c.args.input.now) (g.S.Source.left c.next_item.new.input) left found.0 more.0 found.1 more.1,
       ends_before_one (item ∷ []) None left Extra Extra c.len.result more.0 (found.0 ++ more.0) bytes
-          (next.is_item, tt) refl place (ends_at_byte c.len.result more.0 left more.2) (λ chain at. refl) (λ e. cc),
+          (next.is_item, tt) refl place (ends_at_byte c.len.result more.0 left more.2) (λ chain at. refl) (λ e. cc)
+          (byte_no_further check_limits (item ∷ []) (next.is_item, tt) tt more.0 (found.0 ++ more.0) bytes refl more.2),
     )
 
 pub returns-clause-read : goal.returns-clause-read
@@ -70,7 +80,17 @@ pub returns-in-Ok-End-clause-faults : goal.returns-in-Ok-End-clause-faults
 returns-in-Ok-End-clause-faults g c = no_fault _ _ (c.in-Ok-End.ensures.faults.unchanged (no_error _ _)) (no_error _ _)
 
 pub returns-in-Err-clause-read : goal.returns-in-Err-clause-read
-returns-in-Err-clause-read g c = let next = c.in-Err.ensures.next in (next.0, next.1, next.2.0)
+returns-in-Err-clause-read g c =
+    let next = c.in-Err.ensures.next in
+    let limited = known_limit 1048576 item_limit (sym item_limit-is) 0 (g.S.Source.left c.next_item.new.input) (Err c.in-Err.status) next.0 next.2 in (
+      next.0,
+      next.1,
+      (
+        limited.0,
+        stopped_no_further check_limits [] tt tt item_limit 0 next.0 next.0 refl refl refl
+            (λ is. items_no_further check_limits (next.0 ∷ []) (is, tt) tt next.0 (sym (append-nil next.0))) limited.1,
+      ),
+    )
 
 pub returns-in-Err-clause-faults : goal.returns-in-Err-clause-faults
 returns-in-Err-clause-faults g c =

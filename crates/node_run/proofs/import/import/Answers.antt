@@ -1,4 +1,4 @@
-use Rattle.std.proofs.Common.{inl, inr, ◌++◌, [], refl, ap, sym, subst, ◌∙◌}
+use Rattle.std.proofs.Common.{inl, inr, ◌++◌, [], refl, ap, sym, subst, ◌∙◌, arith}
 use Rattle.std.proofs.lemmas.List.{append-nil}
 use Rattle.std.specs.Prelude.{Err, string_bytes, if◌then◌else◌}
 use Rattle.outside.proofs.Streams.{gives_none, takes_none, takes_more}
@@ -16,6 +16,7 @@ use Rattle.node_run.proofs.StoreLemmas.{delivers, keeps_opened, keeps_unopened, 
 use Rattle.node_run.proofs.ImportReport.{stopped_import, stopped_at_once, stopped_behind, stopped_acknowledges, stopped_take, ended_import, keeps_given, keeps_all_given}
 use Rattle.node_run.proofs.Statuses.{import_opening, import_told, opening_no_input, opening_no_sink}
 use Rattle.node_run.proofs.Exits.{no_error, same_stop}
+use Rattle.node_run.proofs.CountLemmas.{opened_in, counted_over}
 use Rattle.node_run.proofs.import.import.Goals as goal
 
 pub returns-in-Err-clause-import : goal.returns-in-Err-clause-import
@@ -190,3 +191,37 @@ pub returns-clause-out_faults : goal.returns-clause-out_faults
 returns-clause-out_faults g c =
     then_counts (g.K.Sink.faults c.args.out.now) (g.K.Sink.faults c.import_items.new.out) (g.K.Sink.faults c.tell.new.out)
     (c.in-Ok-import_items.ensures.out_faults.unchanged (no_error _ _)) c.tell.ensures.faults (λ e. e) (λ e. e)
+
+pub returns-in-Err-clause-steps : goal.returns-in-Err-clause-steps
+returns-in-Err-clause-steps g c = (
+  [],
+  gives_none (g.S.Source.left c.args.input.now),
+  λ now chain told stands. omega (arith, opened_in chain now _ _ stands (c.in-Err.ensures.most now told)),
+)
+
+pub returns-in-Err-import_items-clause-steps : goal.returns-in-Err-import_items-clause-steps
+returns-in-Err-import_items-clause-steps g c =
+    let came = c.import_items.ensures.steps in (
+      came.0,
+      came.1,
+      λ now chain told stands. counted_over (g.D.Disk.reads_as c.args.disk.now) c.in-Ok.node.chain chain now (split_of import_limits came.0).items _ _ _
+          c.in-Ok.ensures.kept told stands (c.open.ensures.most now told) came.2,
+    )
+
+pub returns-in-Err-answer_to_end-clause-steps : goal.returns-in-Err-answer_to_end-clause-steps
+returns-in-Err-answer_to_end-clause-steps g c =
+    let came = c.import_items.ensures.steps in (
+      came.0,
+      came.1,
+      λ now chain told stands. counted_over (g.D.Disk.reads_as c.args.disk.now) c.in-Ok.node.chain chain now (split_of import_limits came.0).items _ _ _
+          c.in-Ok.ensures.kept told stands (c.open.ensures.most now told) came.2,
+    )
+
+pub returns-clause-steps : goal.returns-clause-steps
+returns-clause-steps g c =
+    let came = c.import_items.ensures.steps in (
+      came.0,
+      came.1,
+      λ now chain told stands. counted_over (g.D.Disk.reads_as c.args.disk.now) c.in-Ok.node.chain chain now (split_of import_limits came.0).items _ _ _
+          c.in-Ok.ensures.kept told stands (c.open.ensures.most now told) came.2,
+    )

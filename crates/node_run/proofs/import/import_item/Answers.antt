@@ -126,3 +126,12 @@ pub returns-in-Err-write_verdict-clause-disk_faults : goal.returns-in-Err-write_
 returns-in-Err-write_verdict-clause-disk_faults g c =
     let never = line_no_disk_fault c.in-Err-write_verdict.status (c.in-Err-write_verdict.ensures.status c.in-Err-write_verdict.status refl) in
     no_fault _ _ (c.in-Ok.ensures.cause.unchanged (no_error _ _)) (λ e. never (same_stop _ _ e))
+
+pub returns-in-Err-clause-most : goal.returns-in-Err-clause-most
+returns-in-Err-clause-most g c = c.in-Err.ensures.most
+
+pub returns-in-Ok-write_verdict-clause-most : goal.returns-in-Ok-write_verdict-clause-most
+returns-in-Ok-write_verdict-clause-most g c = c.in-Ok.ensures.most
+
+pub returns-in-Err-write_verdict-clause-most : goal.returns-in-Err-write_verdict-clause-most
+returns-in-Err-write_verdict-clause-most g c = c.in-Ok.ensures.most

@@ -14,6 +14,7 @@ use Rattle.node_run.specs.Import.{item_stops}
 use Rattle.node_run.proofs.Exits.{no_error, same_stop}
 use Rattle.node_run.proofs.Faults.{no_fault, then_counts}
 use Rattle.node_run.proofs.ImportLemmas.{whole_more, imported_to_end, imported_to_fault, imported_to_line, leaves_none, leaves_item, exit_of_item, on_stands, joined_on, no_input_fault, reading_stopped, keeps_more, or_then, or_else, item_limit-is, input_limit-is}
+use Rattle.node_run.proofs.CountLemmas.{counted_to_part, counted_to_stop, counted_to_item}
 use Rattle.node_run.proofs.import.import_items.Goals as goal
 use Rattle.node_run.proofs.import.import_items.Goals.{then-refused, else-refused}
 
@@ -34,6 +35,7 @@ items-init g c = record {
     on = λ on. on;
     moments = λ on. leaves_none g.D.Disk.images g.D.Disk.moment g.D.Disk.left_since g.met.D.Disk.counts_now g.met.D.Disk.only_now c.args.disk.now c.args.opened
         (g.D.Disk.reads_as c.args.disk.now) on;
+    steps = λ joined. omega arith;
   };
   there = c.requires.there;
   input_unchanged = refl;
@@ -53,7 +55,7 @@ returns-in-Ok-End-clause-imported g c =
     imported_to_end c.args.opened.chain c.items.offset (g.S.Source.left c.args.input.now) (g.S.Source.left c.items.input) (g.S.Source.left c.next_block.new.input)
     (g.K.Sink.taken c.args.out.now) (g.K.Sink.taken c.items.out) c.items.node.chain (record { end = c.in-Ok-End.end; offset = c.items.offset; refused = c.items.refused })
     (IsOn c.args.opened (g.D.Disk.reads_as c.args.disk.now) (g.D.Disk.images c.args.disk.now)) (IsOn c.items.node (g.D.Disk.reads_as c.items.disk) (g.D.Disk.images c.items.disk))
-    (g.D.Disk.images c.items.disk) (LeavesOnly g.D.Disk.moment g.D.Disk.left_since c.args.disk.now c.items.disk) next.0 c.items.invariant.whole next.1 ends.0 ends.1 refl
+    (g.D.Disk.images c.items.disk) (LeavesOnly g.D.Disk.moment g.D.Disk.left_since c.args.disk.now c.items.disk) c.args.steps.now c.items.steps next.0 c.items.invariant.whole next.1 ends.0 ends.1 refl
     (on_stands c.items.node c.items.node.chain (g.D.Disk.reads_as c.items.disk) (g.D.Disk.images c.items.disk) refl)
 
 pub returns-in-Ok-End-clause-status : goal.returns-in-Ok-End-clause-status
@@ -80,7 +82,7 @@ returns-in-Err-clause-imported g c =
     imported_to_fault c.args.opened.chain c.items.offset (g.S.Source.left c.args.input.now) (g.S.Source.left c.items.input) (g.S.Source.left c.next_block.new.input)
     (g.K.Sink.taken c.args.out.now) (g.K.Sink.taken c.items.out) c.items.node.chain c.items.refused
     (IsOn c.args.opened (g.D.Disk.reads_as c.args.disk.now) (g.D.Disk.images c.args.disk.now)) (IsOn c.items.node (g.D.Disk.reads_as c.items.disk) (g.D.Disk.images c.items.disk))
-    (g.D.Disk.images c.items.disk) (LeavesOnly g.D.Disk.moment g.D.Disk.left_since c.args.disk.now c.items.disk) c.in-Err.status
+    (g.D.Disk.images c.items.disk) (LeavesOnly g.D.Disk.moment g.D.Disk.left_since c.args.disk.now c.items.disk) c.args.steps.now c.items.steps c.in-Err.status
     next.0 whole next.1 next.2.0 next.2.1
     (on_stands c.items.node c.items.node.chain (g.D.Disk.reads_as c.items.disk) (g.D.Disk.images c.items.disk) refl)
     (λ so_far. leaves_also g.D.Disk.moment g.D.Disk.left_since _ _ _ _ so_far (keeps_more c.args.opened.chain whole.items next.0))
@@ -98,7 +100,7 @@ returns-in-Err-import_item-clause-imported g c =
     (g.K.Sink.taken c.args.out.now) (g.K.Sink.taken c.items.out) (g.K.Sink.taken c.import_item.new.out) c.items.node.chain c.items.refused
     (IsOn c.args.opened (g.D.Disk.reads_as c.args.disk.now) (g.D.Disk.images c.args.disk.now)) (IsOn c.items.node (g.D.Disk.reads_as c.items.disk) (g.D.Disk.images c.items.disk))
     (g.D.Disk.images c.import_item.new.disk) (LeavesOnly g.D.Disk.moment g.D.Disk.left_since c.args.disk.now c.items.disk) (LeavesOnly g.D.Disk.moment g.D.Disk.left_since c.args.disk.now c.import_item.new.disk)
-    c.in-Err-import_item.status c.deref.result.now next.0 written.0 whole at next.1 written.1 written.2
+    c.args.steps.now c.items.steps c.in-Err-import_item.status c.deref.result.now next.0 written.0 whole at next.1 written.1 written.2
     (λ joined on. exit_of_item g.D.Disk.images g.D.Disk.moment g.D.Disk.left_since g.met.D.Disk.counts_now c.items.disk c.import_item.new.disk c.args.opened.chain c.items.node.chain
     whole.items c.deref.result.now (whole.kept_now joined) (c.in-Err-import_item.ensures.moments on))
     (λ was. leaves_item g.D.Disk.images g.D.Disk.moment g.D.Disk.left_since g.met.D.Disk.counts_now c.args.disk.now c.items.disk c.import_item.new.disk c.args.opened.chain
@@ -196,13 +198,44 @@ items-preserved g c =
           (g.K.Sink.taken c.args.out.now) (g.K.Sink.taken c.items.out) (g.K.Sink.taken c.import_item.new.out) c.items.node.chain c.in-Ok.answer.0.chain c.items.refused
           (IsOn c.args.opened (g.D.Disk.reads_as c.args.disk.now) (g.D.Disk.images c.args.disk.now)) (IsOn c.items.node (g.D.Disk.reads_as c.items.disk) (g.D.Disk.images c.items.disk))
           (IsOn c.in-Ok.answer.0 (g.D.Disk.reads_as c.import_item.new.disk) (g.D.Disk.images c.import_item.new.disk)) (LeavesOnly g.D.Disk.moment g.D.Disk.left_since c.args.disk.now c.items.disk)
-          (LeavesOnly g.D.Disk.moment g.D.Disk.left_since c.args.disk.now c.import_item.new.disk) item next.0 written.0 c.in-Ok.answer.1 c.len.result c.if-refused.refused size any
+          (LeavesOnly g.D.Disk.moment g.D.Disk.left_since c.args.disk.now c.import_item.new.disk) c.args.steps.now c.items.steps c.import_item.new.steps item next.0 written.0 c.in-Ok.answer.1 c.len.result c.if-refused.refused size any
           whole at next.1 written.1 c.in-Ok.ensures.verdict c.in-Ok.ensures.kept written.2 c.in-Ok.ensures.on
           (λ was. leaves_item g.D.Disk.images g.D.Disk.moment g.D.Disk.left_since g.met.D.Disk.counts_now c.args.disk.now c.items.disk c.import_item.new.disk c.args.opened.chain
           c.items.node.chain whole.items item (whole.kept_now (joined_on c.args.opened (g.D.Disk.reads_as c.args.disk.now) (g.D.Disk.images c.args.disk.now) was))
-          (whole.moments was) (c.in-Ok.ensures.moments (whole.on was)));
+          (whole.moments was) (c.in-Ok.ensures.moments (whole.on was))) c.import_item.ensures.most;
       there = c.in-Ok.ensures.there;
       input_unchanged = c.in-Ok-Item.ensures.faults.unchanged (no_error _ _) ∙ c.items.invariant.input_unchanged;
       out_unchanged = c.in-Ok.ensures.out_faults.unchanged (no_error _ _) ∙ c.items.invariant.out_unchanged;
       disk_unchanged = c.in-Ok.ensures.disk_faults.unchanged (no_error _ _) ∙ c.items.invariant.disk_unchanged;
     }
+
+pub returns-in-Ok-End-clause-steps : goal.returns-in-Ok-End-clause-steps
+returns-in-Ok-End-clause-steps g c =
+    let next = c.in-Ok-End.ensures.next in
+    let left = g.S.Source.left c.next_block.new.input in
+    let ends : EndsAt (Some item_limit) (Some input_limit) c.items.offset left c.in-Ok-End.end next.0 × IsPartial item_limit (Some input_limit) c.items.offset next.0 =
+    subst (λ (n : Next). IsNext item_limit (Some input_limit) c.items.offset left (Ok n) next.0) c.in-Ok-End.field-0-is next.2 in
+    counted_to_part c.args.opened.chain c.items.offset (g.S.Source.left c.args.input.now) (g.S.Source.left c.items.input) (g.S.Source.left c.next_block.new.input)
+    (g.K.Sink.taken c.args.out.now) (g.K.Sink.taken c.items.out) c.items.node.chain c.items.refused
+    (IsOn c.args.opened (g.D.Disk.reads_as c.args.disk.now) (g.D.Disk.images c.args.disk.now)) (IsOn c.items.node (g.D.Disk.reads_as c.items.disk) (g.D.Disk.images c.items.disk))
+    (LeavesOnly g.D.Disk.moment g.D.Disk.left_since c.args.disk.now c.items.disk) c.args.steps.now c.items.steps c.items.invariant.whole next.0 next.1 ends.1
+
+pub returns-in-Err-clause-steps : goal.returns-in-Err-clause-steps
+returns-in-Err-clause-steps g c =
+    let next = c.in-Err.ensures.next in
+    counted_to_stop c.args.opened.chain c.items.offset (g.S.Source.left c.args.input.now) (g.S.Source.left c.items.input) (g.S.Source.left c.next_block.new.input)
+    (g.K.Sink.taken c.args.out.now) (g.K.Sink.taken c.items.out) c.items.node.chain c.items.refused
+    (IsOn c.args.opened (g.D.Disk.reads_as c.args.disk.now) (g.D.Disk.images c.args.disk.now)) (IsOn c.items.node (g.D.Disk.reads_as c.items.disk) (g.D.Disk.images c.items.disk))
+    (LeavesOnly g.D.Disk.moment g.D.Disk.left_since c.args.disk.now c.items.disk) c.args.steps.now c.items.steps c.items.invariant.whole next.0 next.1 next.2.1
+
+pub returns-in-Err-import_item-clause-steps : goal.returns-in-Err-import_item-clause-steps
+returns-in-Err-import_item-clause-steps g c =
+    let next = c.in-Ok-Item.ensures.next in
+    let found : IsItemAt item_limit (Some input_limit) c.items.offset c.in-Ok-Item.item.items next.0 =
+    subst (λ (n : Next). IsNext item_limit (Some input_limit) c.items.offset (g.S.Source.left c.next_block.new.input) (Ok n) next.0) c.in-Ok-Item.field-0-is next.2 in
+    let at : IsItemAt item_limit (Some input_limit) c.items.offset c.deref.result.now next.0 =
+    subst (λ bytes. IsItemAt item_limit (Some input_limit) c.items.offset bytes next.0) (sym c.deref.ensures.value) found in
+    counted_to_item c.args.opened.chain c.items.offset (g.S.Source.left c.args.input.now) (g.S.Source.left c.items.input) (g.S.Source.left c.next_block.new.input)
+    (g.K.Sink.taken c.args.out.now) (g.K.Sink.taken c.items.out) c.items.node.chain c.items.refused
+    (IsOn c.args.opened (g.D.Disk.reads_as c.args.disk.now) (g.D.Disk.images c.args.disk.now)) (IsOn c.items.node (g.D.Disk.reads_as c.items.disk) (g.D.Disk.images c.items.disk))
+    (LeavesOnly g.D.Disk.moment g.D.Disk.left_since c.args.disk.now c.items.disk) c.args.steps.now c.items.steps c.items.invariant.whole c.import_item.new.steps c.deref.result.now next.0 at next.1 c.import_item.ensures.most

@@ -10,7 +10,7 @@ abbrev pub invariant-items : goal.invariant-items
 invariant-items g l = record {
   whole : Whole l.fn.opened.chain l.offset (g.S.Source.left l.fn.input) (g.S.Source.left l.input) (g.K.Sink.taken l.fn.out) (g.K.Sink.taken l.out) l.node.chain l.refused
       (IsOn l.fn.opened (g.D.Disk.reads_as l.fn.disk) (g.D.Disk.images l.fn.disk)) (IsOn l.node (g.D.Disk.reads_as l.disk) (g.D.Disk.images l.disk))
-      (LeavesOnly g.D.Disk.moment g.D.Disk.left_since l.fn.disk l.disk);
+      (LeavesOnly g.D.Disk.moment g.D.Disk.left_since l.fn.disk l.disk) l.fn.steps l.steps;
   there : IfSome (g.D.Disk.reads_as l.disk) (λ image. l.node.place < length image.log);
   input_unchanged : g.S.Source.faults l.input ≡ g.S.Source.faults l.fn.input;
   out_unchanged : g.K.Sink.faults l.out ≡ g.K.Sink.faults l.fn.out;

@@ -110,7 +110,7 @@ returns-in-Err-read_input-clause-init g c =
       init_unread (g.D.Disk.reads_as c.args.disk.now) (g.D.Disk.images c.args.disk.now) (g.D.Disk.images c.len.new.self)
           (g.D.Disk.left_since c.len.new.self (g.D.Disk.moment c.args.disk.now)) (g.S.Source.left c.read_input.new.input) read.0 c.in-Err-read_input.status
           (λ store found. finds_no_log (g.D.Disk.reads_as c.args.disk.now) c.in-Ok.length store c.in-Ok.ensures.length (omega (arith, c.if-length-ne0.false)) found)
-          (reading_stops c.in-Err-read_input.status read.2),
+          (reading_stops c.in-Err-read_input.status read.2.0) read.2.1,
     )
 
 pub returns-in-Err-clause-status : goal.returns-in-Err-clause-status
@@ -192,7 +192,7 @@ pub returns-in-Ok-Early-clause-disk_faults : goal.returns-in-Ok-Early-clause-dis
 returns-in-Ok-Early-clause-disk_faults g c = no_fault _ _ (c.in-Ok.ensures.cause.unchanged refl) c.tell_early.ensures.disk
 
 pub returns-in-Err-read_input-clause-status : goal.returns-in-Err-read_input-clause-status
-returns-in-Err-read_input-clause-status g c = init_reading c.in-Err-read_input.status c.in-Err-read_input.ensures.read.2
+returns-in-Err-read_input-clause-status g c = init_reading c.in-Err-read_input.status c.in-Err-read_input.ensures.read.2.0
 
 pub returns-in-Err-read_input-clause-there : goal.returns-in-Err-read_input-clause-there
 returns-in-Err-read_input-clause-there g c = λ now told other.
@@ -208,7 +208,7 @@ pub returns-in-Err-read_input-clause-input_faults : goal.returns-in-Err-read_inp
 returns-in-Err-read_input-clause-input_faults g c = counts_also _ _ c.in-Err-read_input.ensures.faults (λ e. ap Err e) (same_stop _ _)
 
 pub returns-in-Err-read_input-clause-out_faults : goal.returns-in-Err-read_input-clause-out_faults
-returns-in-Err-read_input-clause-out_faults g c = no_fault _ _ refl (λ e. subst IsReadingStop e c.in-Err-read_input.ensures.read.2)
+returns-in-Err-read_input-clause-out_faults g c = no_fault _ _ refl (λ e. subst IsReadingStop e c.in-Err-read_input.ensures.read.2.0)
 
 pub returns-in-Err-read_input-clause-disk_faults : goal.returns-in-Err-read_input-clause-disk_faults
-returns-in-Err-read_input-clause-disk_faults g c = no_fault _ _ (c.in-Ok.ensures.cause.unchanged refl) (λ e. subst IsReadingStop e c.in-Err-read_input.ensures.read.2)
+returns-in-Err-read_input-clause-disk_faults g c = no_fault _ _ (c.in-Ok.ensures.cause.unchanged refl) (λ e. subst IsReadingStop e c.in-Err-read_input.ensures.read.2.0)

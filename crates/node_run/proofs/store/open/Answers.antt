@@ -31,3 +31,15 @@ pub returns-in-Err-clause-cause : goal.returns-in-Err-clause-cause
 returns-in-Err-clause-cause g c =
     counts_also _ _ c.in-Err.ensures.cause
     (λ e. ap Err (c.status_of_opening.ensures.fault.0 (same_stop _ _ e))) (λ e. ap Err (c.status_of_opening.ensures.fault.1 (same_stop _ _ e)))
+
+pub returns-in-Ok-clause-rests : goal.returns-in-Ok-clause-rests
+returns-in-Ok-clause-rests g c = c.in-Ok.ensures.rests
+
+pub returns-in-Err-clause-rests : goal.returns-in-Err-clause-rests
+returns-in-Err-clause-rests g c = c.in-Err.ensures.rests
+
+pub returns-in-Ok-clause-most : goal.returns-in-Ok-clause-most
+returns-in-Ok-clause-most g c = c.in-Ok.ensures.most
+
+pub returns-in-Err-clause-most : goal.returns-in-Err-clause-most
+returns-in-Err-clause-most g c = c.in-Err.ensures.most

@@ -65,3 +65,15 @@ returns-clause-out_faults g c = c.write_tip-status.ensures.faults
 
 pub returns-clause-disk_faults : goal.returns-clause-disk_faults
 returns-clause-disk_faults g c = no_fault _ _ (c.in-Ok.ensures.cause.unchanged (no_error _ _)) (tip_no_disk_fault c.write_tip-status.result c.write_tip-status.ensures.status)
+
+pub returns-in-Err-clause-rests : goal.returns-in-Err-clause-rests
+returns-in-Err-clause-rests g c = c.in-Err.ensures.rests
+
+pub returns-clause-rests : goal.returns-clause-rests
+returns-clause-rests g c = c.in-Ok.ensures.rests
+
+pub returns-in-Err-clause-most : goal.returns-in-Err-clause-most
+returns-in-Err-clause-most g c = c.in-Err.ensures.most
+
+pub returns-clause-most : goal.returns-clause-most
+returns-clause-most g c = c.in-Ok.ensures.most

@@ -6,8 +6,8 @@ use Rattle.report_defs.specs.declared.command.Command.TheVariants.{Init, Import,
 use Rattle.report_defs.specs.declared.status.Status.TheVariants.{BadWords}
 use Rattle.report_defs.specs.Status.{IsOneOf}
 use Rattle.report_defs.specs.Promise.{statuses_of}
-use Rattle.report_defs.specs.Survival.{IsPromised, CallsNoDisk, OpensStore, as_before}
-use Rattle.node_run.proofs.Asked.{IsNotInit, never_bad_words, words_are_good, tip_no_input_fault, exec_no_disk_fault}
+use Rattle.report_defs.specs.Survival.{IsPromised, CallsNoDisk, OpensStore, IsQuery, as_before}
+use Rattle.node_run.proofs.Asked.{IsNotInit, IsNotImport, never_bad_words, words_are_good, tip_no_input_fault, exec_no_disk_fault}
 use Rattle.node_run.proofs.Faults.{no_fault}
 use Rattle.node_run.proofs.RunLemmas.{import_promised, tip_promised, check_promised, init_promised, exec_promised, words_promised}
 use Rattle.node_run.proofs.top.run.Goals as goal
@@ -350,3 +350,77 @@ returns-in-None-clause-loses_nothing g c = λ now told none opens. absurd (subst
 
 pub returns-in-None-clause-steps : goal.returns-in-None-clause-steps
 returns-in-None-clause-steps g c = λ _. refl
+
+pub returns-in-Some-Init-clause-rests : goal.returns-in-Some-Init-clause-rests
+returns-in-Some-Init-clause-rests g c =
+    let is = ap Some (sym c.in-Some-Init.field-0-is) ∙ c.in-Some-Init.ensures.command in
+    λ now told closed query. absurd (subst IsQuery (sym is) query)
+
+pub returns-in-Some-Init-clause-query_steps : goal.returns-in-Some-Init-clause-query_steps
+returns-in-Some-Init-clause-query_steps g c =
+    let is = ap Some (sym c.in-Some-Init.field-0-is) ∙ c.in-Some-Init.ensures.command in
+    λ now told query. absurd (subst IsQuery (sym is) query)
+
+pub returns-in-Some-Import-clause-rests : goal.returns-in-Some-Import-clause-rests
+returns-in-Some-Import-clause-rests g c =
+    let is = ap Some (sym c.in-Some-Import.field-0-is) ∙ c.in-Some-Import.ensures.command in
+    λ now told closed query. absurd (subst IsQuery (sym is) query)
+
+pub returns-in-Some-Import-clause-query_steps : goal.returns-in-Some-Import-clause-query_steps
+returns-in-Some-Import-clause-query_steps g c =
+    let is = ap Some (sym c.in-Some-Import.field-0-is) ∙ c.in-Some-Import.ensures.command in
+    λ now told query. absurd (subst IsQuery (sym is) query)
+
+pub returns-in-Some-Exec-clause-rests : goal.returns-in-Some-Exec-clause-rests
+returns-in-Some-Exec-clause-rests g c =
+    let is = ap Some (sym c.in-Some-Exec.field-0-is) ∙ c.in-Some-Exec.ensures.command in
+    λ now told closed query. absurd (subst IsQuery (sym is) query)
+
+pub returns-in-Some-Exec-clause-query_steps : goal.returns-in-Some-Exec-clause-query_steps
+returns-in-Some-Exec-clause-query_steps g c =
+    let is = ap Some (sym c.in-Some-Exec.field-0-is) ∙ c.in-Some-Exec.ensures.command in
+    λ now told query. absurd (subst IsQuery (sym is) query)
+
+pub returns-in-Some-Tip-clause-rests : goal.returns-in-Some-Tip-clause-rests
+returns-in-Some-Tip-clause-rests g c = λ now told closed _. c.tip.ensures.rests now told closed
+
+pub returns-in-Some-Tip-clause-query_steps : goal.returns-in-Some-Tip-clause-query_steps
+returns-in-Some-Tip-clause-query_steps g c = λ now told _. c.tip.ensures.most now told
+
+pub returns-in-Some-Check-clause-rests : goal.returns-in-Some-Check-clause-rests
+returns-in-Some-Check-clause-rests g c = λ now told closed _. c.check.ensures.rests now told closed
+
+pub returns-in-Some-Check-clause-query_steps : goal.returns-in-Some-Check-clause-query_steps
+returns-in-Some-Check-clause-query_steps g c = λ now told _. c.check.ensures.most now told
+
+pub returns-in-None-clause-rests : goal.returns-in-None-clause-rests
+returns-in-None-clause-rests g c = λ now told closed query. absurd (subst IsQuery (sym c.in-None.ensures.command) query)
+
+pub returns-in-None-clause-query_steps : goal.returns-in-None-clause-query_steps
+returns-in-None-clause-query_steps g c = λ now told query. absurd (subst IsQuery (sym c.in-None.ensures.command) query)
+
+pub returns-in-Some-Init-clause-import_steps : goal.returns-in-Some-Init-clause-import_steps
+returns-in-Some-Init-clause-import_steps g c =
+    let is = ap Some (sym c.in-Some-Init.field-0-is) ∙ c.in-Some-Init.ensures.command in
+    λ asks. absurd (subst IsNotImport (is ∙ asks) tt)
+
+pub returns-in-Some-Tip-clause-import_steps : goal.returns-in-Some-Tip-clause-import_steps
+returns-in-Some-Tip-clause-import_steps g c =
+    let is = ap Some (sym c.in-Some-Tip.field-0-is) ∙ c.in-Some-Tip.ensures.command in
+    λ asks. absurd (subst IsNotImport (is ∙ asks) tt)
+
+pub returns-in-Some-Check-clause-import_steps : goal.returns-in-Some-Check-clause-import_steps
+returns-in-Some-Check-clause-import_steps g c =
+    let is = ap Some (sym c.in-Some-Check.field-0-is) ∙ c.in-Some-Check.ensures.command in
+    λ asks. absurd (subst IsNotImport (is ∙ asks) tt)
+
+pub returns-in-Some-Exec-clause-import_steps : goal.returns-in-Some-Exec-clause-import_steps
+returns-in-Some-Exec-clause-import_steps g c =
+    let is = ap Some (sym c.in-Some-Exec.field-0-is) ∙ c.in-Some-Exec.ensures.command in
+    λ asks. absurd (subst IsNotImport (is ∙ asks) tt)
+
+pub returns-in-Some-Import-clause-import_steps : goal.returns-in-Some-Import-clause-import_steps
+returns-in-Some-Import-clause-import_steps g c = λ _. c.import.ensures.steps
+
+pub returns-in-None-clause-import_steps : goal.returns-in-None-clause-import_steps
+returns-in-None-clause-import_steps g c = λ asks. absurd (subst IsNotImport (c.in-None.ensures.command ∙ asks) tt)

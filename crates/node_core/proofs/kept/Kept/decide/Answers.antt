@@ -1,6 +1,7 @@
 use Rattle.std.proofs.Common.{sym, refl, ◌≡◌, ◌∙◌, subst}
 use Rattle.node_core.proofs.DecidingLemmas.{verdict-no-block, decided-else, ready-else}
 use Rattle.node_core.proofs.OpenLemmas.{ok_err}
+use Rattle.node_core.proofs.ReplayLemmas.{none-replayed, replays-of-item}
 use Rattle.std.proofs.lemmas.Option.{same_Some}
 use Rattle.codec_defs.specs.Schema.{Block}
 use Rattle.chain_defs.specs.Kept.{place_of}
@@ -52,3 +53,10 @@ pub returns-in-Some-clause-steps : goal.returns-in-Some-clause-steps
 returns-in-Some-clause-steps g c = λ b is on_tip.
     let same : b ≡ c.in-Some.block = sym (same_Some c.in-Some.block b (c.in-Some.ensures.value ∙ is)) in
     c.decide_block.ensures.steps (subst (λ (x : Block). place_of c.args.self.now.blocks x.header.parent_hash ≡ tip_place c.args.self.now.blocks) same on_tip)
+
+pub returns-in-None-clause-most : goal.returns-in-None-clause-most
+returns-in-None-clause-most g c = none-replayed _ _
+
+pub returns-in-Some-clause-most : goal.returns-in-Some-clause-most
+returns-in-Some-clause-most g c =
+    replays-of-item c.args.self.now.blocks c.args.item.now c.in-Some.block _ _ (sym c.in-Some.ensures.value) c.decide_block.ensures.most

@@ -1,5 +1,6 @@
 use Rattle.std.proofs.Common.{refl}
 use Rattle.node_core.proofs.OpenLemmas.{ok_err}
+use Rattle.node_core.proofs.ReplayLemmas.{none-replayed}
 use Rattle.node_core.proofs.kept.Kept.decide_block.Goals as goal
 
 pub returns-then-is_some-clause-undamaged : goal.returns-then-is_some-clause-undamaged
@@ -49,3 +50,9 @@ returns-clause-damage g c = c.judge_on.ensures.damage
 
 pub returns-clause-reads : goal.returns-clause-reads
 returns-clause-reads g c = c.judge_on.ensures.reads
+
+pub returns-then-is_some-clause-most : goal.returns-then-is_some-clause-most
+returns-then-is_some-clause-most g c = none-replayed _ _
+
+pub returns-in_default-clause-most : goal.returns-in_default-clause-most
+returns-in_default-clause-most g c = none-replayed _ _

@@ -184,3 +184,18 @@ returns-clause-same g c =
 pub invariant_of-self : goal.invariant_of-self
 invariant_of-self g c =
     subst (λ (l : List Stored). AreKept l c.self.inside.tree.entries c.self.inside.uncles (rows c.self.inside.state)) (sym (same_Some _ _ c.judge.ensures.told)) c.self.invariant
+
+pub returns-in-Err-clause-most : goal.returns-in-Err-clause-most
+returns-in-Err-clause-most g c = c.replayed.ensures.most
+
+pub returns-in-Err-Broken-clause-most : goal.returns-in-Err-Broken-clause-most
+returns-in-Err-Broken-clause-most g c = c.replayed.ensures.most
+
+pub returns-in-Err-Read-clause-most : goal.returns-in-Err-Read-clause-most
+returns-in-Err-Read-clause-most g c = c.replayed.ensures.most
+
+pub returns-then-has_room-clause-most : goal.returns-then-has_room-clause-most
+returns-then-has_room-clause-most g c = c.replayed.ensures.most
+
+pub returns-clause-most : goal.returns-clause-most
+returns-clause-most g c = c.replayed.ensures.most

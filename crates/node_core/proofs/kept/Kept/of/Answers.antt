@@ -6,6 +6,7 @@ use Rattle.cell_state.specs.State.{rows}
 use Rattle.cell_model.specs.ListBlocks.{contents}
 use Rattle.node_core.proofs.OpeningLemmas.{as-many-contents, few-blocks, canonical-in, exts-in, can-be-listed, counts-entries, indexed-by, are-kept, rated-joined, fits-joined}
 use Rattle.node_core.proofs.OpenLemmas.{same_stop, ok_err}
+use Rattle.node_core.proofs.ReplayLemmas.{none-replayed, replayed-to-tip}
 use Rattle.node_core.proofs.kept.Kept.of.Goals.{then-not-are_rated-via-then-not-are_rated, then-not-are_rated-via-else-not-are_rated+then-not-have_exts}
 use Rattle.log_file.proofs.Exits.{wrong_not_fault, not_wrong, memory_not_fault}
 use Rattle.node_core.proofs.kept.Kept.of.Goals as goal
@@ -100,3 +101,19 @@ returns-in-Ok-replay-clause-joined g c = λ _ _ _ _ e. ok_err _ _ e
 
 pub returns-in-Ok-replay-clause-reads : goal.returns-in-Ok-replay-clause-reads
 returns-in-Ok-replay-clause-reads g c = λ e. ok_err _ _ e
+
+pub returns-then-not-are_rated-clause-most : goal.returns-then-not-are_rated-clause-most
+returns-then-not-are_rated-clause-most g c = λ _ _. none-replayed _ _
+
+pub returns-in-Err-clause-most : goal.returns-in-Err-clause-most
+returns-in-Err-clause-most g c = λ _ _. none-replayed _ _
+
+pub returns-in-Err-replay-clause-most : goal.returns-in-Err-replay-clause-most
+returns-in-Err-replay-clause-most g c = λ kept decode.
+    replayed-to-tip kept c.args.tree.entries c.tip.result _ _ (indexed-by (contents c.args.blocks.items) c.args.tree.entries kept c.requires.blocks decode)
+    c.tip.ensures.within c.replay.ensures.most
+
+pub returns-in-Ok-replay-clause-most : goal.returns-in-Ok-replay-clause-most
+returns-in-Ok-replay-clause-most g c = λ kept decode.
+    replayed-to-tip kept c.args.tree.entries c.tip.result _ _ (indexed-by (contents c.args.blocks.items) c.args.tree.entries kept c.requires.blocks decode)
+    c.tip.ensures.within c.replay.ensures.most

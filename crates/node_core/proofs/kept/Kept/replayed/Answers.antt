@@ -1,10 +1,11 @@
-use Rattle.std.proofs.Common.{refl, sym, ap, subst, Err}
+use Rattle.std.proofs.Common.{refl, sym, ap, subst, arith, Err}
 use Rattle.chain_tree.specs.Told.{blocks_of}
 use Rattle.cell_state.specs.State.{rows}
 use Rattle.verdict_defs.specs.Chain.{Chain}
 use Rattle.store_defs.specs.Store.{IsJoined}
 use Rattle.node_core.proofs.DecidingLemmas.{as-many, within-entries, fits-below}
 use Rattle.node_core.proofs.OpenLemmas.{ok_err, same_stop}
+use Rattle.node_core.proofs.ReplayLemmas.{none-replayed, replayed-off-tip}
 use Rattle.node_core.proofs.kept.Kept.replayed.Goals as goal
 
 pub replay-requires-clause-within : goal.replay-requires-clause-within
@@ -51,3 +52,24 @@ returns-clause-reads g c = λ e. ok_err _ _ e
 
 pub returns-in-Err-clause-damage : goal.returns-in-Err-clause-damage
 returns-in-Err-clause-damage g c = λ damage e. c.in-Err.ensures.damage damage (ap Err (same_stop _ _ e))
+
+pub returns-then-place-tip-clause-most : goal.returns-then-place-tip-clause-most
+returns-then-place-tip-clause-most g c = none-replayed _ _
+
+pub returns-in-Err-clause-most : goal.returns-in-Err-clause-most
+returns-in-Err-clause-most g c =
+    let within = within-entries (blocks_of c.self.inside.blocks.stored) c.args.self.now.blocks c.self.inside.tree.entries c.args.place
+    (ap (λ (v : Chain). v.blocks) c.self.view_is) c.self.invariant.indexed c.requires in
+    replayed-off-tip (blocks_of c.self.inside.blocks.stored) c.args.self.now.blocks c.self.inside.tree.entries c.tip.result c.args.place _ _
+    (ap (λ (v : Chain). v.blocks) c.self.view_is) c.self.invariant.indexed
+    (c.tip.ensures.of_blocks (blocks_of c.self.inside.blocks.stored) c.self.invariant.indexed) (λ same. omega (arith, same, c.if-place-tip.false)) within
+    c.replay.ensures.most
+
+pub returns-clause-most : goal.returns-clause-most
+returns-clause-most g c =
+    let within = within-entries (blocks_of c.self.inside.blocks.stored) c.args.self.now.blocks c.self.inside.tree.entries c.args.place
+    (ap (λ (v : Chain). v.blocks) c.self.view_is) c.self.invariant.indexed c.requires in
+    replayed-off-tip (blocks_of c.self.inside.blocks.stored) c.args.self.now.blocks c.self.inside.tree.entries c.tip.result c.args.place _ _
+    (ap (λ (v : Chain). v.blocks) c.self.view_is) c.self.invariant.indexed
+    (c.tip.ensures.of_blocks (blocks_of c.self.inside.blocks.stored) c.self.invariant.indexed) (λ same. omega (arith, same, c.if-place-tip.false)) within
+    c.replay.ensures.most

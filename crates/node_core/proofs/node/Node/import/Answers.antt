@@ -13,6 +13,7 @@ use Rattle.node_core.proofs.ImportLemmas.{decided_on, ready_on, verdict_is, stay
 use Rattle.node_core.proofs.DiskLemmas.{counts_none, before_calls}
 use Rattle.log_file.proofs.Exits.{stop_counts}
 use Rattle.node_core.proofs.OpenLemmas.{ok_err, same_stop}
+use Rattle.node_core.proofs.ReplayLemmas.{replays-of-chain}
 use Rattle.std.specs.Prelude.{IfSome}
 use Rattle.node_core.proofs.node.Node.import.Goals as goal
 
@@ -233,3 +234,42 @@ pub join-requires-clause-ready : goal.join-requires-clause-ready
 join-requires-clause-ready g c =
     ready_on c.node.inside.kept c.decide.new.self c.args.item.now c.in-Ok.decision (Joins c.in-Joins.joining) (sym c.decide.ensures.same) c.in-Joins.is
     c.in-Ok.ensures.ready
+
+pub returns-in-Err-clause-most : goal.returns-in-Err-clause-most
+returns-in-Err-clause-most g c =
+    let chain_is : c.node.inside.kept ≡ c.args.self.chain = ap (λ (v : NodeValue). v.chain) c.node.view_is in
+    let most = replays-of-chain c.node.inside.kept c.args.self.chain c.args.item.now _ _ chain_is c.decide.ensures.most in
+    omega (arith, most)
+
+pub returns-in-Stays-clause-most : goal.returns-in-Stays-clause-most
+returns-in-Stays-clause-most g c =
+    let chain_is : c.node.inside.kept ≡ c.args.self.chain = ap (λ (v : NodeValue). v.chain) c.node.view_is in
+    let most = replays-of-chain c.node.inside.kept c.args.self.chain c.args.item.now _ _ chain_is c.decide.ensures.most in
+    omega (arith, most)
+
+pub returns-in-Err-join-clause-most : goal.returns-in-Err-join-clause-most
+returns-in-Err-join-clause-most g c =
+    let chain_is : c.node.inside.kept ≡ c.args.self.chain = ap (λ (v : NodeValue). v.chain) c.node.view_is in
+    let most = replays-of-chain c.node.inside.kept c.args.self.chain c.args.item.now _ _ chain_is c.decide.ensures.most in
+    omega (arith, most, c.join.ensures.most)
+
+pub returns-in-Ok-join-clause-most : goal.returns-in-Ok-join-clause-most
+returns-in-Ok-join-clause-most g c =
+    let chain_is : c.node.inside.kept ≡ c.args.self.chain = ap (λ (v : NodeValue). v.chain) c.node.view_is in
+    let most = replays-of-chain c.node.inside.kept c.args.self.chain c.args.item.now _ _ chain_is c.decide.ensures.most in
+    omega (arith, most, c.join.ensures.most)
+
+pub returns-in-Stays-clause-stays : goal.returns-in-Stays-clause-stays
+returns-in-Stays-clause-stays g c = λ _.
+    let chain_is : c.node.inside.kept ≡ c.args.self.chain = ap (λ (v : NodeValue). v.chain) c.node.view_is in
+    let most = replays-of-chain c.node.inside.kept c.args.self.chain c.args.item.now _ _ chain_is c.decide.ensures.most in
+    most
+
+pub returns-in-Err-clause-stays : goal.returns-in-Err-clause-stays
+returns-in-Err-clause-stays g c = tt
+
+pub returns-in-Err-join-clause-stays : goal.returns-in-Err-join-clause-stays
+returns-in-Err-join-clause-stays g c = tt
+
+pub returns-in-Ok-join-clause-stays : goal.returns-in-Ok-join-clause-stays
+returns-in-Ok-join-clause-stays g c = λ e. absurd (cc)

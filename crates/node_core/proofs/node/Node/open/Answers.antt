@@ -5,6 +5,7 @@ use Rattle.log_file.specs.declared.stop.LogStop.TheVariants.{NotAStore}
 use Rattle.node_core.proofs.OpeningLemmas.{as-many-contents}
 use Rattle.node_core.proofs.OpenLemmas.{opened_keeps, is_within, no_log_in, none_opened, not_sound, not_joined, only_read-then, stands_while_opened, opened_on, ok_err, was_ok, counts_none, at_some, if_some_also, one_after, same_stop}
 use Rattle.node_core.proofs.NewLemmas.{when_ok}
+use Rattle.node_core.proofs.ReplayLemmas.{none-replayed, replayed-to-open}
 use Rattle.log_file.proofs.Exits.{fault_not_wrong, stop_counts, counts_on}
 use Rattle.node_core.proofs.node.Node.open.Goals as goal
 
@@ -151,3 +152,38 @@ pub returns-in-Err-of-clause-cause : goal.returns-in-Err-of-clause-cause
 returns-in-Err-of-clause-cause g c =
     counts_none _ _ _ (c.sync_snapshots.ensures.cause.unchanged (was_ok c.sync_snapshots.result c.is_err.result c.is_err.ensures.value c.if-is_err.false))
     c.open.ensures.cause (λ fault. ok_err _ _ (sym c.in-Ok.is ∙ fault)) (λ fault. c.in-Err-of.ensures.reads (ap Err (same_stop _ _ fault)))
+
+pub returns-then-is_err-clause-most : goal.returns-then-is_err-clause-most
+returns-then-is_err-clause-most g c = λ _ _. none-replayed _ _
+
+pub returns-in-Err-clause-most : goal.returns-in-Err-clause-most
+returns-in-Err-clause-most g c = λ _ _. none-replayed _ _
+
+pub returns-in-Err-of-clause-most : goal.returns-in-Err-of-clause-most
+returns-in-Err-of-clause-most g c = λ now told.
+    replayed-to-open _ _ c.in-Ok.opened.spec (contents c.in-Ok.opened.blocks.items) (contents c.in-Ok.opened.exts.items) c.in-Ok.opened.tree.entries _ _ now
+    c.sync_snapshots.ensures.same told c.in-Ok.ensures.opened c.of.ensures.most
+
+pub returns-in-Ok-of-clause-most : goal.returns-in-Ok-of-clause-most
+returns-in-Ok-of-clause-most g c = λ now told.
+    replayed-to-open _ _ c.in-Ok.opened.spec (contents c.in-Ok.opened.blocks.items) (contents c.in-Ok.opened.exts.items) c.in-Ok.opened.tree.entries _ _ now
+    c.sync_snapshots.ensures.same told c.in-Ok.ensures.opened c.of.ensures.most
+
+pub returns-then-is_err-clause-rests : goal.returns-then-is_err-clause-rests
+returns-then-is_err-clause-rests g c =
+    λ _ _ _. record { reads = c.sync_snapshots.ensures.same; images = c.sync_snapshots.ensures.images; moments = c.sync_snapshots.ensures.moments }
+
+pub returns-in-Err-clause-rests : goal.returns-in-Err-clause-rests
+returns-in-Err-clause-rests g c now told closed =
+    only_read-then g.D.Disk.reads_as g.D.Disk.images g.D.Disk.moment g.D.Disk.left_since _ _ _ c.sync_snapshots.ensures.same c.sync_snapshots.ensures.images c.sync_snapshots.ensures.moments
+    (at_some _ _ now (c.sync_snapshots.ensures.same ∙ told) c.open.ensures.rests closed)
+
+pub returns-in-Err-of-clause-rests : goal.returns-in-Err-of-clause-rests
+returns-in-Err-of-clause-rests g c now told closed =
+    only_read-then g.D.Disk.reads_as g.D.Disk.images g.D.Disk.moment g.D.Disk.left_since _ _ _ c.sync_snapshots.ensures.same c.sync_snapshots.ensures.images c.sync_snapshots.ensures.moments
+    (at_some _ _ now (c.sync_snapshots.ensures.same ∙ told) c.open.ensures.rests closed)
+
+pub returns-in-Ok-of-clause-rests : goal.returns-in-Ok-of-clause-rests
+returns-in-Ok-of-clause-rests g c now told closed =
+    only_read-then g.D.Disk.reads_as g.D.Disk.images g.D.Disk.moment g.D.Disk.left_since _ _ _ c.sync_snapshots.ensures.same c.sync_snapshots.ensures.images c.sync_snapshots.ensures.moments
+    (at_some _ _ now (c.sync_snapshots.ensures.same ∙ told) c.open.ensures.rests closed)
