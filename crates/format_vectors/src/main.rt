@@ -21,6 +21,7 @@ mod hash;
 mod parts;
 mod views;
 
+use row_table::{Row, Subject, all_agree};
 use std::alloc::{AllocError, Global};
 use std::io;
 use std::process::ExitCode;
@@ -50,14 +51,18 @@ fn bytes_of(alloc: Global, digits: &str) -> Option<Vec<u8>> {
     hex::decode(alloc, digits).ok()
 }
 
-/// Whether the row holds; None where it is none.
-fn agrees(alloc: Global, row: &str) -> Option<bool> {
-    let (view, columns) = row.split_once('\t')?;
-    match view {
-        "hash" => hash::agrees_on_message(alloc, columns),
-        "root" => hash::agrees_on_root(alloc, columns),
-        "Builder" => builder::agrees(alloc, columns),
-        view => agrees_on_view(alloc, view, columns),
+/// The calls, which keep nothing from row to row.
+#[derive(Drop)]
+struct Calls;
+
+impl Subject for Calls {
+    fn agrees(&mut self, alloc: Global, row: &mut Row<'_>) -> Option<bool> {
+        match row.word() {
+            "hash" => hash::agrees_on_message(alloc, row.rest()),
+            "root" => hash::agrees_on_root(alloc, row.rest()),
+            "Builder" => builder::agrees(alloc, row.rest()),
+            view => agrees_on_view(alloc, view, row.rest()),
+        }
     }
 }
 
@@ -80,28 +85,8 @@ fn agrees_on_field(alloc: Global, view: &str, accessor: &str, rest: &str) -> Opt
     Some(text(alloc, answer).ok()?.as_str() == wanted)
 }
 
-/// How many rows there are, and how many of them agree. Those that differ are printed.
-fn compare(rt: HostRuntime, text: &str) -> io::Result<(u64, u64)> {
-    let mut rows = 0u64;
-    let mut agreed = 0u64;
-    for row in text.lines() {
-        rows = rows.saturating_add(1);
-        if agrees(rt.alloc(), row) == Some(true) {
-            agreed = agreed.saturating_add(1);
-        } else {
-            println!(rt; "differs: {row}")?;
-        }
-    }
-    Ok((rows, agreed))
-}
-
 fn main(rt: HostRuntime) -> io::Result<ExitCode> {
     let text = io::read_to_string(rt.alloc(), rt.stdin())?;
-    let (rows, agreed) = compare(rt, &text)?;
-    println!(rt; "{agreed} of {rows} rows agree")?;
-    Ok(if agreed == rows {
-        ExitCode::SUCCESS
-    } else {
-        ExitCode::FAILURE
-    })
+    let all = all_agree(&rt, rt.alloc(), &mut Calls, &text)?;
+    Ok(ExitCode::from(u8::from(!all)))
 }

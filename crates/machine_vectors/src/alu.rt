@@ -1,6 +1,6 @@
 // Rows of operations.
 
-use crate::row::Row;
+use row_table::Row;
 use rv_alu::{Alu, op};
 
 const OPERATIONS: [(&str, Alu); 28] = [
@@ -37,9 +37,9 @@ const OPERATIONS: [(&str, Alu); 28] = [
 /// Two registers, and what the operation gives of them.
 pub(crate) fn agrees(row: &mut Row) -> Option<bool> {
     let operation = operation_of(row.word())?;
-    let a = row.number()?;
-    let b = row.number()?;
-    Some(op(operation, a, b) == row.number()?)
+    let a = row.digits()?;
+    let b = row.digits()?;
+    Some(op(operation, a, b) == row.digits()?)
 }
 
 fn operation_of(name: &str) -> Option<Alu> {

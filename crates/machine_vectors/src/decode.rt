@@ -1,7 +1,7 @@
 // Rows of words that are decoded.
 
-use crate::row::Row;
 use crate::text::text;
+use row_table::Row;
 use rv_decode::decode;
 use std::alloc::{AllocError, Global};
 
@@ -15,9 +15,9 @@ fn decoded(alloc: Global, word: u32) -> Result<(String, u8), AllocError> {
 
 /// A word, and what it is decoded to.
 pub(crate) fn agrees(alloc: Global, row: &mut Row) -> Option<bool> {
-    let word = u32::try_from(row.number()?).ok()?;
+    let word = u32::try_from(row.digits()?).ok()?;
     let (text, length) = decoded(alloc, word).ok()?;
-    Some(text.as_str() == row.word() && u64::from(length) == row.number()?)
+    Some(text.as_str() == row.word() && u64::from(length) == row.digits()?)
 }
 
 fn is_instruction(word: u32) -> bool {

@@ -1,7 +1,7 @@
 // Rows of files.
 
-use crate::row::Row;
 use elf_load::{ElfStop, judge, load};
+use row_table::Row;
 use std::alloc::{AllocError, Global};
 use vm_mem::Memory;
 

@@ -1,8 +1,8 @@
 // Rows of a machine.
 ghost use Rattle.std.specs.Prelude.{◌≡◌, ◌<◌, ◌≤◌, ◌^◌, IfSome, true};
 
-use crate::row::Row;
 use crate::{elf, memory};
+use row_table::Row;
 use std::alloc::Global;
 use std::marker::Model;
 use std::mem;
@@ -38,7 +38,7 @@ pub(crate) enum Held {
 fn register_of(row: &mut Row) -> Option<u8>
     ensures { IfSome result (λ register. register < 32) }
 {
-    let number = row.number()?;
+    let number = row.digits()?;
     if number < 32 {
         Some(number as u8)
     } else {
@@ -53,14 +53,14 @@ fn looked_at(alloc: Global, machine: &mut Machine, call: &str, row: &mut Row) ->
     match call {
         "reg" => {
             let register = register_of(row)?;
-            Some(machine.reg(register) == row.number()?)
+            Some(machine.reg(register) == row.digits()?)
         }
         "set" => {
             let register = register_of(row)?;
-            machine.set_reg(register, row.number()?);
+            machine.set_reg(register, row.digits()?);
             Some(true)
         }
-        "cycles" => Some(machine.cycles() == row.number()?),
+        "cycles" => Some(machine.cycles() == row.digits()?),
         call => memory::agrees(alloc, machine.memory_mut(), call, row),
     }
 }
@@ -83,9 +83,9 @@ fn name_of(answer: Step) -> &'static str {
 fn start_of(row: &mut Row) -> Option<(u64, u64, u64)>
     ensures { IfSome result (λ start. (start.1 ≤ start.2) × (start.2 ≤ 2 ^ 40)) }
 {
-    let pc = row.number()?;
-    let cycles = row.number()?;
-    let budget = row.number()?;
+    let pc = row.digits()?;
+    let cycles = row.digits()?;
+    let budget = row.digits()?;
     if budget <= CYCLES_LIMIT && cycles <= budget {
         Some((pc, cycles, budget))
     } else {
@@ -96,7 +96,7 @@ fn start_of(row: &mut Row) -> Option<(u64, u64, u64)>
 fn cycles_of(row: &mut Row) -> Option<u64>
     ensures { IfSome result (λ cycles. cycles ≤ 2 ^ 40) }
 {
-    let cycles = row.number()?;
+    let cycles = row.digits()?;
     if cycles <= CYCLES_LIMIT {
         Some(cycles)
     } else {
@@ -129,7 +129,7 @@ impl Held {
             machine.run()
         };
         let is_named = name_of(answer) == row.word();
-        let is_paid = row.number() == Some(machine.cycles());
+        let is_paid = row.digits() == Some(machine.cycles());
         *self = match answer {
             Step::Went => Held::Going(Going(machine)),
             Step::Ecall => Held::Going(Going(machine)),
@@ -164,7 +164,7 @@ impl Held {
     }
 
     /// Whether what is held answers what the row says; None where it is no row.
-    pub(crate) fn agrees(&mut self, alloc: Global, call: &str, row: &mut Row) -> Option<bool> {
+    pub(crate) fn answers(&mut self, alloc: Global, call: &str, row: &mut Row) -> Option<bool> {
         match call {
             "memory" => {
                 *self = Held::Memory(Memory::new(alloc).ok()?);

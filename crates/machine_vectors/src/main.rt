@@ -30,62 +30,39 @@ mod elf;
 mod machine;
 mod memory;
 mod program;
-mod row;
 mod shown;
 mod syscall;
 mod text;
 
 use machine::Held;
-use row::Row;
+use row_table::{Row, Subject, all_agree};
 use std::alloc::Global;
 use std::io;
 use std::process::ExitCode;
 
-/// Whether the call answers what the row says; None where it is no row.
-fn agrees(alloc: Global, held: &mut Held, row: &mut Row) -> Option<bool> {
-    match row.word() {
-        "decode" => decode::agrees(alloc, row),
-        "alu" => alu::agrees(row),
-        "syscall" => syscall::agrees(alloc, row),
-        "program" => program::agrees(alloc, row),
-        call => held.agrees(alloc, call, row),
+impl Subject for Held {
+    fn agrees(&mut self, alloc: Global, row: &mut Row<'_>) -> Option<bool> {
+        match row.word() {
+            "decode" => decode::agrees(alloc, row),
+            "alu" => alu::agrees(row),
+            "syscall" => syscall::agrees(alloc, row),
+            "program" => program::agrees(alloc, row),
+            call => self.answers(alloc, call, row),
+        }
     }
 }
 
-/// How many rows there are, and how many of them agree.
-fn compare(rt: HostRuntime, held: &mut Held, text: &str) -> io::Result<(u64, u64)> {
-    let mut rows = 0u64;
-    let mut agreed = 0u64;
-    for line in text.lines() {
-        if line.starts_with('#') {
-            continue;
-        }
-        rows = rows.saturating_add(1);
-        if agrees(rt.alloc(), held, &mut Row::new(line)) == Some(true) {
-            agreed = agreed.saturating_add(1);
-        } else {
-            println!(rt; "differs: {line}")?;
-        }
-    }
-    Ok((rows, agreed))
-}
-
-fn compare_from_new(rt: HostRuntime, text: &str) -> io::Result<(u64, u64)> {
+fn try_rows(rt: HostRuntime) -> io::Result<bool> {
     let mut held = Held::Nothing;
-    compare(rt, &mut held, text)
+    let text = io::read_to_string(rt.alloc(), rt.stdin())?;
+    all_agree(&rt, rt.alloc(), &mut held, &text)
 }
 
 fn main(rt: HostRuntime) -> io::Result<ExitCode> {
-    let text = io::read_to_string(rt.alloc(), rt.stdin())?;
-    let (rows, agreed) = compare_from_new(rt, &text)?;
-    println!(rt; "{agreed} of {rows} rows agree")?;
+    let all = try_rows(rt)?;
     let found = decode::compressed_count();
     println!(rt; "{found} of 49152 compressed patterns are instructions")?;
     let found = decode::full_count();
     println!(rt; "{found} of 32768 full patterns are instructions")?;
-    Ok(if agreed == rows {
-        ExitCode::SUCCESS
-    } else {
-        ExitCode::FAILURE
-    })
+    Ok(ExitCode::from(u8::from(!all)))
 }

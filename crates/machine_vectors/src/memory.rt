@@ -1,7 +1,7 @@
 // Rows of memory.
 
-use crate::row::Row;
 use crate::text::text;
+use row_table::Row;
 use std::alloc::Global;
 use vm_mem::{Ins, MemFault, MemStop, Memory, Width};
 
@@ -51,13 +51,13 @@ fn is_done(done: Result<(), MemFault>, wanted: &str) -> bool {
 }
 
 fn agrees_on_load(memory: &Memory, row: &mut Row) -> Option<bool> {
-    let at = row.number()?;
+    let at = row.digits()?;
     let width = width_of(row.word())?;
     Some(is_number(memory.load(at, width), row.word()))
 }
 
 fn agrees_on_fetch(memory: &Memory, row: &mut Row) -> Option<bool> {
-    let at = row.number()?;
+    let at = row.digits()?;
     let found = memory.fetch(at).map(u64::from);
     Some(is_number(found, row.word()))
 }
@@ -71,7 +71,7 @@ fn is_instruction(alloc: Global, ins: Ins, length: u8, wanted: &str) -> Option<b
 
 /// The instruction and its length, `none`, or the fault.
 fn agrees_on_instruction(alloc: Global, memory: &mut Memory, row: &mut Row) -> Option<bool> {
-    let at = row.number()?;
+    let at = row.digits()?;
     let wanted = row.word();
     match memory.instruction(at) {
         Ok(Some((ins, length))) => is_instruction(alloc, ins, length, wanted),
@@ -81,27 +81,27 @@ fn agrees_on_instruction(alloc: Global, memory: &mut Memory, row: &mut Row) -> O
 }
 
 fn agrees_on_store(memory: &mut Memory, row: &mut Row) -> Option<bool> {
-    let at = row.number()?;
+    let at = row.digits()?;
     let width = width_of(row.word())?;
-    let value = row.number()?;
+    let value = row.digits()?;
     Some(is_stored(memory.store(at, width, value), row.word()))
 }
 
 fn agrees_on_copy(alloc: Global, memory: &mut Memory, row: &mut Row) -> Option<bool> {
-    let at = row.number()?;
+    let at = row.digits()?;
     let bytes = row.bytes(alloc)?;
     Some(is_stored(memory.copy_in(at, &bytes), row.word()))
 }
 
 fn agrees_on_clear(memory: &mut Memory, row: &mut Row) -> Option<bool> {
-    let at = row.number()?;
-    let count = row.number()?;
+    let at = row.digits()?;
+    let count = row.digits()?;
     Some(is_done(memory.clear(at, count), row.word()))
 }
 
 fn agrees_on_code(memory: &mut Memory, row: &mut Row) -> Option<bool> {
-    let at = row.number()?;
-    let pages = row.number()?;
+    let at = row.digits()?;
+    let pages = row.digits()?;
     if at % PAGE_SIZE != 0 || pages > 0xffff_ffff {
         return None;
     }

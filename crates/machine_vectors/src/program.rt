@@ -1,7 +1,7 @@
 // Rows of whole programs.
 
-use crate::row::Row;
 use program_run::{Execution, execute};
+use row_table::Row;
 use std::alloc::Global;
 use vm_defs::Outcome;
 
@@ -33,6 +33,6 @@ fn agree(alloc: Global, file: &[u8], rounds: u64, cycles: u64) -> bool {
 /// A file, how many times it is run, each time from a new machine, and the cycles of each run, which exits with 0.
 pub(crate) fn agrees(alloc: Global, row: &mut Row) -> Option<bool> {
     let file = row.bytes(alloc)?;
-    let rounds = row.count()?;
-    Some(agree(alloc, &file, rounds, row.count()?))
+    let rounds = row.number()?;
+    Some(agree(alloc, &file, rounds, row.number()?))
 }

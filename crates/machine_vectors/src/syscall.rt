@@ -1,8 +1,8 @@
 // Rows of syscalls: the call, what surrounds it, and the answer.
 ghost use Rattle.std.specs.Prelude.{◌≡◌, true};
 
-use crate::row::Row;
 use crate::shown::Shown;
+use row_table::Row;
 use std::alloc::Global;
 use vm_defs::{PAGE_COUNT, PAGE_SIZE};
 use vm_mem::{MemFault, Memory, Width};
@@ -125,7 +125,7 @@ fn agrees_on_done(
     row: &mut Row,
 ) -> Option<bool> {
     let result = u64::from_str_radix(row.word(), 16).ok()?;
-    let cycles = row.count()?;
+    let cycles = row.number()?;
     let changes = row.word();
     let wanted = memory_of(alloc, before, changes, row.word())?;
     let is_paid = machine.reg(10) == result && machine.cycles() == cycles;
@@ -174,7 +174,7 @@ fn agrees_on(
 /// Whether the call of a row is answered as the row says; None where it is no row.
 pub(crate) fn agrees(alloc: Global, row: &mut Row) -> Option<bool> {
     let registers = row.word();
-    let budget = row.count()?;
+    let budget = row.number()?;
     if budget > BUDGET_LIMIT {
         return None;
     }

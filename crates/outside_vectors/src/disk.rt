@@ -1,8 +1,9 @@
 // Rows of a folder's files.
 
-use crate::row::{Row, area_of};
+use crate::area::{area_of, is_ok};
 use outside::{Area, Disk, Failed};
 use outside_os::{Claim, FolderDisk};
+use row_table::Row;
 use std::alloc::Global;
 use std::rt::Files;
 
@@ -47,7 +48,7 @@ where
     if at > LIMIT || piece.len() as u64 > LIMIT {
         return None;
     }
-    Some(disk.write(area, at, &piece).is_ok() == row.is_ok()?)
+    Some(disk.write(area, at, &piece).is_ok() == is_ok(row)?)
 }
 
 /// A call, an area, and what else the call takes.
@@ -65,8 +66,8 @@ where
         "len" => is_count(disk.len(area), row),
         "read" => agrees_on_read(alloc, disk, area, row),
         "write" => agrees_on_write(alloc, disk, area, row),
-        "cut" => Some(disk.cut(area, row.number()?).is_ok() == row.is_ok()?),
-        "sync" => Some(disk.sync(area).is_ok() == row.is_ok()?),
+        "cut" => Some(disk.cut(area, row.number()?).is_ok() == is_ok(row)?),
+        "sync" => Some(disk.sync(area).is_ok() == is_ok(row)?),
         _ => None,
     }
 }

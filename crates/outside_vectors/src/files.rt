@@ -1,8 +1,8 @@
 // Rows of real files.
 
 use crate::disk;
-use crate::row::Row;
 use outside_os::FolderDisk;
+use row_table::Row;
 use std::fs;
 
 /// A folder: a disk on it fails at each call.

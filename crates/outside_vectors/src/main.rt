@@ -15,18 +15,18 @@
 //! goes to a disk on real files; `open` makes a new one on a folder.
 #![tactic(auto)]
 
+mod area;
 mod disk;
 mod files;
 mod memory;
 mod memory_disk;
 mod memory_streams;
-mod row;
 mod streams;
 mod system;
 
 use memory::Memory;
 use outside_os::{FolderDisk, StdinSource, StdoutSink};
-use row::Row;
+use row_table::{Row, Subject, all_agree};
 use std::alloc::{AllocError, Global};
 use std::io;
 use std::io::ErrorKind;
@@ -36,6 +36,7 @@ use system::{Runtime, System, Turn};
 /// What the rows act on.
 #[derive(Drop)]
 struct Adapters<'a> {
+    rt: HostRuntime,
     system: &'a System,
     source: StdinSource<Runtime<'a>>,
     sink: StdoutSink<Runtime<'a>>,
@@ -71,6 +72,7 @@ fn new_disk<'a>(alloc: Global, system: &'a System) -> Result<FolderDisk<Runtime<
 impl<'a> Adapters<'a> {
     fn new(rt: HostRuntime, system: &'a System) -> Result<Adapters<'a>, AllocError> {
         Ok(Adapters {
+            rt,
             system,
             source: StdinSource::new(Runtime(system)),
             sink: StdoutSink::new(Runtime(system)),
@@ -100,10 +102,10 @@ impl<'a> Adapters<'a> {
             call => disk::agrees(rt.alloc(), &mut self.real, call, row),
         }
     }
+}
 
-    /// Whether the call answers what the row says; None where it is no row.
-    fn agrees(&mut self, rt: HostRuntime, row: &mut Row) -> Option<bool> {
-        let alloc = rt.alloc();
+impl<'a> Subject for Adapters<'a> {
+    fn agrees(&mut self, alloc: Global, row: &mut Row<'_>) -> Option<bool> {
         match row.word() {
             "memory" => self.memory.agrees(alloc, row),
             "system" => self.begin(alloc, row),
@@ -112,44 +114,21 @@ impl<'a> Adapters<'a> {
             "taken" => Some(self.system.has_taken(&row.bytes(alloc)?)),
             "source" => streams::agrees_on_read(alloc, &mut self.source, row),
             "sink" => streams::agrees_on_write(alloc, &mut self.sink, row),
-            "real" => self.agrees_on_real(rt, row),
-            "files" => files::agrees(rt, row.word(), row),
+            "real" => self.agrees_on_real(self.rt, row),
+            "files" => files::agrees(self.rt, row.word(), row),
             call => disk::agrees(alloc, &mut self.disk, call, row),
         }
     }
 }
 
-/// How many rows there are, and how many of them agree.
-fn compare(rt: HostRuntime, adapters: &mut Adapters, text: &str) -> io::Result<(u64, u64)> {
-    let mut rows = 0u64;
-    let mut agreed = 0u64;
-    for line in text.lines() {
-        if line.starts_with('#') {
-            continue;
-        }
-        rows = rows.saturating_add(1);
-        if adapters.agrees(rt, &mut Row::new(line)) == Some(true) {
-            agreed = agreed.saturating_add(1);
-        } else {
-            println!(rt; "differs: {line}")?;
-        }
-    }
-    Ok((rows, agreed))
-}
-
-fn compare_from_new(rt: HostRuntime, system: &System, text: &str) -> io::Result<(u64, u64)> {
+fn all_rows_agree(rt: HostRuntime, system: &System, text: &str) -> io::Result<bool> {
     let mut adapters = Adapters::new(rt, system)?;
-    compare(rt, &mut adapters, text)
+    all_agree(&rt, rt.alloc(), &mut adapters, text)
 }
 
 fn main(rt: HostRuntime) -> io::Result<ExitCode> {
     let text = io::read_to_string(rt.alloc(), rt.stdin())?;
     let system = System::new(rt.alloc());
-    let (rows, agreed) = compare_from_new(rt, &system, &text)?;
-    println!(rt; "{agreed} of {rows} rows agree")?;
-    Ok(if agreed == rows {
-        ExitCode::SUCCESS
-    } else {
-        ExitCode::FAILURE
-    })
+    let all = all_rows_agree(rt, &system, &text)?;
+    Ok(ExitCode::from(u8::from(!all)))
 }

@@ -1,9 +1,9 @@
 // Rows of the streams and the disk in memory.
 
 use crate::memory_streams::Trickle;
-use crate::row::Row;
 use crate::{memory_disk, memory_streams};
 use outside_mem::{MemDisk, MemSink, MemSource};
+use row_table::Row;
 use std::alloc::Global;
 
 /// What the rows `memory` act on.

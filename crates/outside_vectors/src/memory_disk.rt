@@ -1,8 +1,9 @@
 // Rows of disks in memory.
 
-use crate::row::{Row, area_of};
+use crate::area::{area_of, is_ok};
 use outside::{Area, Disk, write_durably};
 use outside_mem::NoDisk;
+use row_table::Row;
 use std::alloc::Global;
 
 /// An area, and what else the call takes.
@@ -18,7 +19,7 @@ pub(crate) fn agrees<D: Disk>(
         "read" => agrees_on_read(alloc, disk, area, row),
         "write" => agrees_on_write(alloc, disk, area, row),
         "cut" => agrees_on_cut(disk, area, row),
-        "sync" => Some(disk.sync(area).is_ok() == row.is_ok()?),
+        "sync" => Some(disk.sync(area).is_ok() == is_ok(row)?),
         "write_durably" => agrees_on_durable(alloc, disk, area, row),
         _ => None,
     }
@@ -44,7 +45,7 @@ fn agrees_on_write<D: Disk>(
     if at > len || len >= 1_000 || piece.len() >= 1_000 {
         return None;
     }
-    Some(disk.write(area, at, &piece).is_ok() == row.is_ok()?)
+    Some(disk.write(area, at, &piece).is_ok() == is_ok(row)?)
 }
 
 /// A cut within an area, which is two calls: the new length.
@@ -53,7 +54,7 @@ fn agrees_on_cut<D: Disk>(disk: &mut D, area: Area, row: &mut Row) -> Option<boo
     if len > disk.len(area).ok()? {
         return None;
     }
-    Some(disk.cut(area, len).is_ok() == row.is_ok()?)
+    Some(disk.cut(area, len).is_ok() == is_ok(row)?)
 }
 
 /// A write at the front, and its sync: the bytes.
@@ -67,7 +68,7 @@ fn agrees_on_durable<D: Disk>(
     if piece.len() >= 1_000 {
         return None;
     }
-    Some(write_durably(disk, area, 0, &piece).is_ok() == row.is_ok()?)
+    Some(write_durably(disk, area, 0, &piece).is_ok() == is_ok(row)?)
 }
 
 /// Each call where no disk is: an area.
@@ -80,5 +81,5 @@ pub(crate) fn agrees_on_none(row: &mut Row) -> Option<bool> {
         || disk.write(area, 0, b"x").is_ok()
         || disk.cut(area, 0).is_ok()
         || disk.sync(area).is_ok();
-    Some(some == row.is_ok()?)
+    Some(some == is_ok(row)?)
 }

@@ -1,8 +1,9 @@
 // Rows of streams that move few bytes a call.
 ghost use Rattle.std.specs.Prelude.{◌≡◌, ◌+◌, ◌<◌};
 
-use crate::row::Row;
+use crate::area::is_ok;
 use outside::{Failed, Sink, Source, read_full, write_all};
+use row_table::Row;
 use std::alloc::Global;
 
 const MOST: usize = 3;
@@ -55,5 +56,5 @@ pub(crate) fn agrees_on_read<S: Source>(
 
 pub(crate) fn agrees_on_write<K: Sink>(alloc: Global, sink: &mut K, row: &mut Row) -> Option<bool> {
     let bytes = row.bytes(alloc)?;
-    Some(write_all(sink, &bytes).is_ok() == row.is_ok()?)
+    Some(write_all(sink, &bytes).is_ok() == is_ok(row)?)
 }

@@ -1,8 +1,8 @@
 // Rows of the streams.
 
 use crate::disk::is_count;
-use crate::row::Row;
 use outside::{Sink, Source};
+use row_table::Row;
 use std::alloc::Global;
 
 /// How many bytes are read, and which four are in the buffer then, which dashes fill before.

@@ -1,7 +1,7 @@
 // Rows of the DAO field and of withdrawals.
 
-use crate::row::Row;
 use dao_math::{Dao, DaoMove, max_withdraw, miner_share, next_field};
+use row_table::Row;
 use std::alloc::Global;
 
 /// C, AR, S and U.
@@ -29,7 +29,7 @@ pub(crate) fn agrees_on_next_field(row: &mut Row) -> Option<bool> {
     }
     Some(match next_field(&old, &moved) {
         Some(field) => field == field_of(row)?,
-        None => row.is_none(),
+        None => row.rest() == "none",
     })
 }
 
@@ -55,7 +55,7 @@ pub(crate) fn agrees_on_withdrawal(row: &mut Row) -> Option<bool> {
     Some(
         match max_withdraw(capacity, occupied, rate_then, rate_before) {
             Some(counted) => counted == row.number()?,
-            None => row.is_none(),
+            None => row.rest() == "none",
         },
     )
 }

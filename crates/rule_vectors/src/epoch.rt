@@ -2,8 +2,8 @@
 ghost use Rattle.std.specs.Prelude.{IsTrue, IfSome};
 ghost use Rattle.time_defs.specs.Specification.{keeps_s2};
 
-use crate::row::Row;
 use epochs::{Spec, epoch_of, field, parts, primary, share, span_over, well_formed};
+use row_table::Row;
 use std::alloc::Global;
 
 fn spec_of(alloc: Global, row: &mut Row) -> Option<Spec> {
@@ -73,7 +73,7 @@ pub(crate) fn agrees_on_parts(row: &mut Row) -> Option<bool> {
 }
 
 pub(crate) fn agrees_on_form(row: &mut Row) -> Option<bool> {
-    Some(well_formed(row.number()?) == row.yes()?)
+    Some(well_formed(row.number()?) == row.is("yes", "no")?)
 }
 
 /// A span, blocks in an epoch, the heights of its first block and of now.
@@ -85,7 +85,7 @@ pub(crate) fn agrees_on_span(row: &mut Row) -> Option<bool> {
     if !well_formed(value) || made > now || now >= 1 << 24 {
         return None;
     }
-    Some(span_over(value, length, made, now) == row.yes()?)
+    Some(span_over(value, length, made, now) == row.is("yes", "no")?)
 }
 
 /// Blocks in an epoch, the height of a block, the epoch's reward.

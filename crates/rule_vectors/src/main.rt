@@ -17,7 +17,6 @@ mod chain;
 mod dao;
 mod epoch;
 mod items;
-mod row;
 mod since;
 mod time;
 mod uncles;
@@ -26,6 +25,7 @@ mod window;
 use chain::{Chain, chain_of, join};
 use epochs::Spec;
 use mol_schema::BlockView;
+use row_table::{Row, Subject, all_agree};
 use std::alloc::Global;
 use std::io;
 use std::process::ExitCode;
@@ -38,93 +38,75 @@ struct Table {
 }
 
 /// Joins a block, and says that it did.
-fn joins(alloc: Global, chain: &mut Chain, digits: &str) -> Option<bool> {
-    let bytes = hex::decode(alloc, digits).ok()?;
+fn joins(alloc: Global, chain: &mut Chain, row: &mut Row) -> Option<bool> {
+    let bytes = row.bytes(alloc)?;
     join(alloc, chain, &BlockView::read(&bytes)?)?;
     Some(true)
 }
 
 /// Whether an item is answered as its row wants.
-fn is_answered(alloc: Global, chain: &mut Chain, wanted: &str, digits: &str) -> Option<bool> {
-    let item = hex::decode(alloc, digits).ok()?;
+fn is_answered(alloc: Global, chain: &mut Chain, wanted: &str, row: &mut Row) -> Option<bool> {
+    let item = row.bytes(alloc)?;
     Some(items::answer(alloc, chain, &item)?.as_str() == wanted)
 }
 
 /// Whether the rule on uncles holds as a row has it.
-fn has_uncles(alloc: Global, chain: &Chain, columns: &str) -> Option<bool> {
-    let (columns, wanted) = columns.rsplit_once('\t')?;
-    let (parent, block) = columns.split_once('\t')?;
-    Some(uncles::keeps(alloc, chain, parent, block)? == (wanted == "yes"))
+fn has_uncles(alloc: Global, chain: &Chain, row: &mut Row) -> Option<bool> {
+    let parent = row.short()?;
+    let block = row.bytes(alloc)?;
+    Some(uncles::keeps(alloc, chain, parent, &block)? == row.is("yes", "no")?)
 }
 
 /// Whether the earliest proposer is the one of a row.
-fn is_proposed(alloc: Global, chain: &mut Chain, columns: &str) -> Option<bool> {
-    let (columns, wanted) = columns.rsplit_once('\t')?;
-    let (parent, columns) = columns.split_once('\t')?;
-    let (id, height) = columns.split_once('\t')?;
-    let bytes = hex::decode(alloc, id).ok()?;
+fn is_proposed(alloc: Global, chain: &mut Chain, row: &mut Row) -> Option<bool> {
+    let parent = row.short()?;
+    let bytes = row.bytes(alloc)?;
     let id = <[u8; 10]>::try_from(&bytes[..]).ok()?;
-    match window::found(chain, parent.parse().ok()?, &id, height.parse().ok()?)? {
-        Some(proposer) => Some(proposer == wanted.parse().ok()?),
-        None => Some(wanted == "none"),
+    match window::found(chain, parent, &id, row.number()?)? {
+        Some(proposer) => Some(proposer == row.number()?),
+        None => Some(row.rest() == "none"),
     }
 }
 
-/// Whether the row holds; None where it is none.
-fn agrees(alloc: Global, table: &mut Table, row: &str) -> Option<bool> {
-    let (word, columns) = row.split_once('\t')?;
-    if word == "time" {
-        return time::agrees(alloc, columns);
-    }
-    if word == "spec" {
-        table.spec = Spec::read(&hex::decode(alloc, columns).ok()?).ok();
-        return Some(table.spec.is_some());
-    }
-    if word == "genesis" {
-        table.chain = chain_of(alloc, table.spec?, &hex::decode(alloc, columns).ok()?);
-        return Some(table.chain.is_some());
-    }
-    let Some(chain) = &mut table.chain else {
-        return None;
-    };
+fn agrees_on_chain(alloc: Global, chain: &mut Chain, word: &str, row: &mut Row) -> Option<bool> {
     match word {
-        "block" => joins(alloc, chain, columns),
-        "earliest" => is_proposed(alloc, chain, columns),
-        "uncles" => has_uncles(alloc, chain, columns),
-        wanted => is_answered(alloc, chain, wanted, columns),
+        "block" => joins(alloc, chain, row),
+        "earliest" => is_proposed(alloc, chain, row),
+        "uncles" => has_uncles(alloc, chain, row),
+        wanted => is_answered(alloc, chain, wanted, row),
     }
 }
 
-/// How many rows there are, and how many of them agree. Those that differ are printed.
-fn compare(rt: HostRuntime, table: &mut Table, text: &str) -> io::Result<(u64, u64)> {
-    let mut rows = 0u64;
-    let mut agreed = 0u64;
-    for row in text.lines() {
-        rows = rows.saturating_add(1);
-        if agrees(rt.alloc(), table, row) == Some(true) {
-            agreed = agreed.saturating_add(1);
-        } else {
-            println!(rt; "row {rows} differs")?;
+impl Subject for Table {
+    fn agrees(&mut self, alloc: Global, row: &mut Row<'_>) -> Option<bool> {
+        match row.word() {
+            "time" => time::agrees(alloc, row),
+            "spec" => {
+                self.spec = Spec::read(&row.bytes(alloc)?).ok();
+                Some(self.spec.is_some())
+            }
+            "genesis" => {
+                self.chain = chain_of(alloc, self.spec?, &row.bytes(alloc)?);
+                Some(self.chain.is_some())
+            }
+            word => match &mut self.chain {
+                Some(chain) => agrees_on_chain(alloc, chain, word, row),
+                None => None,
+            },
         }
     }
-    Ok((rows, agreed))
 }
 
-fn compare_from_new(rt: HostRuntime, text: &str) -> io::Result<(u64, u64)> {
+fn all_rows_agree(rt: HostRuntime, text: &str) -> io::Result<bool> {
     let mut table = Table {
         spec: None,
         chain: None,
     };
-    compare(rt, &mut table, text)
+    all_agree(&rt, rt.alloc(), &mut table, text)
 }
 
 fn main(rt: HostRuntime) -> io::Result<ExitCode> {
     let text = io::read_to_string(rt.alloc(), rt.stdin())?;
-    let (rows, agreed) = compare_from_new(rt, &text)?;
-    println!(rt; "{agreed} of {rows} rows agree")?;
-    Ok(if agreed == rows {
-        ExitCode::SUCCESS
-    } else {
-        ExitCode::FAILURE
-    })
+    let all = all_rows_agree(rt, &text)?;
+    Ok(ExitCode::from(u8::from(!all)))
 }

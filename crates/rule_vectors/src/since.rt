@@ -1,6 +1,6 @@
 // Rows of sinces.
 
-use crate::row::Row;
+use row_table::Row;
 use since_rules::{SinceAt, SinceFault, meets};
 
 /// A since; the height that spends, its median time, the height of the cell, its start, blocks in an epoch.

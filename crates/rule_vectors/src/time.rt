@@ -1,26 +1,25 @@
 // Rows of epochs, sinces and the DAO's numbers.
 
-use crate::row::Row;
 use crate::{dao, epoch, since};
+use row_table::Row;
 use std::alloc::Global;
 
 /// Whether the call gives what the row says; None where it is no row.
-pub(crate) fn agrees(alloc: Global, columns: &str) -> Option<bool> {
-    let mut row = Row::new(columns);
+pub(crate) fn agrees(alloc: Global, row: &mut Row) -> Option<bool> {
     match row.word() {
-        "Spec::read" => epoch::agrees_on_rule(alloc, &mut row),
-        "Spec" => epoch::agrees_on_field(alloc, &mut row),
-        "epoch_of" => epoch::agrees_on_epoch(&mut row),
-        "parts" => epoch::agrees_on_parts(&mut row),
-        "well_formed" => epoch::agrees_on_form(&mut row),
-        "span_over" => epoch::agrees_on_span(&mut row),
-        "share" => epoch::agrees_on_share(&mut row),
-        "primary" => epoch::agrees_on_primary(alloc, &mut row),
-        "meets" => since::agrees_on_since(&mut row),
-        "next_field" => dao::agrees_on_next_field(&mut row),
-        "miner_share" => dao::agrees_on_miner_share(&mut row),
-        "max_withdraw" => dao::agrees_on_withdrawal(&mut row),
-        "Dao" => dao::agrees_on_bytes(alloc, &mut row),
+        "Spec::read" => epoch::agrees_on_rule(alloc, row),
+        "Spec" => epoch::agrees_on_field(alloc, row),
+        "epoch_of" => epoch::agrees_on_epoch(row),
+        "parts" => epoch::agrees_on_parts(row),
+        "well_formed" => epoch::agrees_on_form(row),
+        "span_over" => epoch::agrees_on_span(row),
+        "share" => epoch::agrees_on_share(row),
+        "primary" => epoch::agrees_on_primary(alloc, row),
+        "meets" => since::agrees_on_since(row),
+        "next_field" => dao::agrees_on_next_field(row),
+        "miner_share" => dao::agrees_on_miner_share(row),
+        "max_withdraw" => dao::agrees_on_withdrawal(row),
+        "Dao" => dao::agrees_on_bytes(alloc, row),
         _ => None,
     }
 }

@@ -6,13 +6,11 @@ use std::alloc::Global;
 use uncle_rules::uncles_ok;
 
 /// Whether the uncles of a block on the parent at a place keep the rule; None where this may not be asked.
-pub(crate) fn keeps(alloc: Global, chain: &Chain, parent: &str, block: &str) -> Option<bool> {
-    let parent: u32 = parent.parse().ok()?;
+pub(crate) fn keeps(alloc: Global, chain: &Chain, parent: u32, block: &[u8]) -> Option<bool> {
     if parent >= chain.tree.len() {
         return None;
     }
-    let bytes = hex::decode(alloc, block).ok()?;
-    let block = BlockView::read(&bytes)?;
+    let block = BlockView::read(block)?;
     uncles_ok(
         alloc,
         &chain.spec,

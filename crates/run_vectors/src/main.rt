@@ -23,6 +23,7 @@ ghost use Rattle.std.specs.Prelude.{◌≡◌, ◌<◌};
 
 use outside::Steps;
 use row::{Call, row_of};
+use row_table::Row as Columns;
 use std::alloc::{AllocError, Global};
 use std::io;
 use std::io::{BufRead, BufReader};
@@ -77,8 +78,9 @@ fn agrees<L: Ledger>(
     line: &str,
 ) -> io::Result<Option<bool>> {
     let alloc = rt.alloc();
-    let (name, columns) = line.split_once('\t').unwrap_or((line, ""));
-    let Some(row) = row_of(alloc, name, columns, &trial.input) else {
+    let mut columns = Columns::new(line);
+    let name = columns.word();
+    let Some(row) = row_of(alloc, name, &mut columns, &trial.input) else {
         println!(rt; "no row: {name}")?;
         return Ok(Some(false));
     };

@@ -2,6 +2,7 @@
 
 use crate::streams::Behaviour;
 use outside::Area;
+use row_table::Row as Columns;
 use std::alloc::{AllocError, Global};
 
 /// What LOG must be up to an offset: the SHA-256 of its bytes there.
@@ -47,17 +48,6 @@ fn bytes_of(alloc: Global, column: &str) -> Option<Vec<u8>> {
     Some(bytes)
 }
 
-fn numbers_of(alloc: Global, column: &str) -> Option<Vec<u64>> {
-    let mut numbers = Vec::new(alloc);
-    if column == "-" {
-        return Some(numbers);
-    }
-    for digits in column.split(',') {
-        numbers.push(digits.parse().ok()?).ok()?;
-    }
-    Some(numbers)
-}
-
 /// Behind a colon all words, with a comma before each; else a folder, and the words behind it.
 fn words_of(alloc: Global, words: &str) -> Result<Vec<String>, AllocError> {
     let mut owned = Vec::new(alloc);
@@ -82,14 +72,6 @@ fn log_front_of(alloc: Global, column: &str) -> Option<LogFront> {
     })
 }
 
-/// The text in hex, and behind a tab what LOG must be.
-fn text_of(alloc: Global, columns: &str) -> Option<(Vec<u8>, Option<LogFront>)> {
-    match columns.split_once('\t') {
-        None => Some((bytes_of(alloc, columns)?, None)),
-        Some((text, log)) => Some((bytes_of(alloc, text)?, Some(log_front_of(alloc, log)?))),
-    }
-}
-
 fn area_of(name: &str) -> Option<Area> {
     match name {
         "log" => Some(Area::Log),
@@ -99,48 +81,44 @@ fn area_of(name: &str) -> Option<Area> {
     }
 }
 
-fn call_of(alloc: Global, columns: &str, last_input: &[u8]) -> Option<Call> {
-    let (words, rest) = columns.split_once('\t')?;
-    let (status, rest) = rest.split_once('\t')?;
-    let (input, rest) = rest.split_once('\t')?;
-    let (text, log) = text_of(alloc, rest)?;
+fn call_of(alloc: Global, columns: &mut Columns, last_input: &[u8]) -> Option<Call> {
     Some(Call {
-        words: words_of(alloc, words).ok()?,
-        status: status.parse().ok()?,
-        input: if input == "=" {
-            last_input.to_vec(alloc).ok()?
-        } else {
-            bytes_of(alloc, input)?
+        words: words_of(alloc, columns.word()).ok()?,
+        status: columns.word().parse().ok()?,
+        input: match columns.word() {
+            "=" => last_input.to_vec(alloc).ok()?,
+            input => bytes_of(alloc, input)?,
         },
-        text,
-        log,
+        text: bytes_of(alloc, columns.word())?,
+        log: match columns.word() {
+            "" => None,
+            log => Some(log_front_of(alloc, log)?),
+        },
     })
 }
 
 /// The most bytes a call, the reads and the writes that fail.
-fn behaviour_of(alloc: Global, columns: &str) -> Option<Behaviour> {
-    let (most, rest) = columns.split_once('\t')?;
-    let (reads, writes) = rest.split_once('\t')?;
+fn behaviour_of(alloc: Global, columns: &mut Columns) -> Option<Behaviour> {
     Some(Behaviour {
-        most: most.parse().ok()?,
-        reads: numbers_of(alloc, reads)?,
-        writes: numbers_of(alloc, writes)?,
+        most: columns.word().parse().ok()?,
+        reads: columns.numbers(alloc)?,
+        writes: columns.numbers(alloc)?,
     })
 }
 
-fn put_of(alloc: Global, columns: &str) -> Option<Row> {
-    let (area, bytes) = columns.split_once('\t')?;
-    Some(Row::Put(area_of(area)?, bytes_of(alloc, bytes)?))
+fn put_of(alloc: Global, columns: &mut Columns) -> Option<Row> {
+    let area = area_of(columns.word())?;
+    Some(Row::Put(area, bytes_of(alloc, columns.word())?))
 }
 
 /// The row of this name that the columns spell.
-pub fn row_of(alloc: Global, name: &str, columns: &str, last_input: &[u8]) -> Option<Row> {
+pub fn row_of(alloc: Global, name: &str, columns: &mut Columns, last_input: &[u8]) -> Option<Row> {
     match name {
         "folder" => Some(Row::Folder(Vec::new(alloc))),
-        "failing" => Some(Row::Folder(numbers_of(alloc, columns)?)),
+        "failing" => Some(Row::Folder(columns.numbers(alloc)?)),
         "put" => put_of(alloc, columns),
         "streams" => Some(Row::Streams(behaviour_of(alloc, columns)?)),
-        "left" => Some(Row::Left(columns.parse().ok()?)),
+        "left" => Some(Row::Left(columns.word().parse().ok()?)),
         _ => Some(Row::Call(call_of(alloc, columns, last_input)?)),
     }
 }

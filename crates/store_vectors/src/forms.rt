@@ -1,7 +1,7 @@
 // Rows of what the records of a log may hold.
 
-use crate::row::Row;
 use log_file::{ext_form, genesis_ok, parts};
+use row_table::Row;
 use std::alloc::Global;
 
 /// A body: the block and the ext in it, or `none`.

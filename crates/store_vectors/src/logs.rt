@@ -1,9 +1,9 @@
 // Rows of logs.
 
-use crate::row::Row;
 use log_file::{Body, LogStop, append, create, open};
 use outside::{Area, Disk, WriteStop};
 use outside_mem::MemDisk;
+use row_table::Row;
 use std::alloc::Global;
 
 const LIMIT: usize = 10_000_000;

@@ -9,15 +9,13 @@
 
 mod forms;
 mod logs;
-mod row;
 mod trees;
 
 use chain_tree::Tree;
 use outside_mem::MemDisk;
-use row::Row;
+use row_table::{Row, Subject, all_agree};
 use std::alloc::Global;
 use std::io;
-use std::io::{BufRead, BufReader};
 use std::process::ExitCode;
 
 /// What the rows act on.
@@ -35,25 +33,6 @@ impl Store {
             bytes: Vec::new(alloc),
             tree: trees::new_tree(alloc)?,
         })
-    }
-
-    /// Whether the call answers what the row says; None where it is no row.
-    fn agrees(&mut self, alloc: Global, row: &mut Row) -> Option<bool> {
-        match row.word() {
-            "disk" => {
-                self.disk = MemDisk::new(alloc, row.numbers(alloc)?);
-                Some(true)
-            }
-            "bytes" => {
-                self.bytes = row.bytes(alloc)?;
-                Some(true)
-            }
-            "tree" => {
-                self.tree = trees::new_tree(alloc)?;
-                Some(true)
-            }
-            call => self.agrees_on_log(alloc, call, row),
-        }
     }
 
     fn agrees_on_log(&mut self, alloc: Global, call: &str, row: &mut Row) -> Option<bool> {
@@ -84,42 +63,36 @@ impl Store {
     }
 }
 
-/// How many rows there are, and how many of them agree.
-fn compare(rt: HostRuntime, store: &mut Store) -> io::Result<(u64, u64)> {
-    let alloc = rt.alloc();
-    let mut rows = 0u64;
-    let mut agreed = 0u64;
-    for line in BufReader::new(alloc, rt.reader())?.lines(alloc) {
-        let line = line?;
-        if line.starts_with('#') {
-            continue;
-        }
-        rows = rows.saturating_add(1);
-        if store.agrees(alloc, &mut Row::new(&line)) == Some(true) {
-            agreed = agreed.saturating_add(1);
-        } else {
-            println!(rt; "differs: {line}")?;
+impl Subject for Store {
+    fn agrees(&mut self, alloc: Global, row: &mut Row<'_>) -> Option<bool> {
+        match row.word() {
+            "disk" => {
+                self.disk = MemDisk::new(alloc, row.numbers(alloc)?);
+                Some(true)
+            }
+            "bytes" => {
+                self.bytes = row.bytes(alloc)?;
+                Some(true)
+            }
+            "tree" => {
+                self.tree = trees::new_tree(alloc)?;
+                Some(true)
+            }
+            call => self.agrees_on_log(alloc, call, row),
         }
     }
-    Ok((rows, agreed))
 }
 
-fn compare_from_new(rt: HostRuntime) -> io::Result<(u64, u64)> {
-    match Store::new(rt.alloc()) {
-        Some(store) => {
-            let mut store = store;
-            compare(rt, &mut store)
-        }
-        None => Ok((1, 0)),
-    }
+fn try_rows(rt: HostRuntime, store: &mut Store) -> io::Result<bool> {
+    let text = io::read_to_string(rt.alloc(), rt.stdin())?;
+    all_agree(&rt, rt.alloc(), store, &text)
 }
 
 fn main(rt: HostRuntime) -> io::Result<ExitCode> {
-    let (rows, agreed) = compare_from_new(rt)?;
-    println!(rt; "{agreed} of {rows} rows agree")?;
-    Ok(if agreed == rows {
-        ExitCode::SUCCESS
-    } else {
-        ExitCode::FAILURE
-    })
+    let Some(store) = Store::new(rt.alloc()) else {
+        return Ok(ExitCode::FAILURE);
+    };
+    let mut store = store;
+    let all = try_rows(rt, &mut store)?;
+    Ok(ExitCode::from(u8::from(!all)))
 }

@@ -1,8 +1,8 @@
 // Rows of trees of real size.
 ghost use Rattle.std.specs.Prelude.{◌≡◌};
 
-use crate::row::Row;
 use chain_tree::{Entry, Tree};
+use row_table::Row;
 use std::alloc::Global;
 
 /// A block on a parent. The hashes of all blocks begin alike.

@@ -2,7 +2,7 @@
 
 use crate::cells::bytes_of;
 use crate::kept::out_point_in;
-use crate::row::{hash_on, made_up};
+use crate::rows::{hash_on, made_up};
 use blake2b_ckb::Hasher;
 use cell_model::Cells;
 use cell_state::{Odd, State, outputs_in};

@@ -18,7 +18,7 @@ mod copies;
 mod groups;
 mod kept;
 mod live;
-mod row;
+mod rows;
 mod values;
 mod wanted;
 
@@ -29,6 +29,7 @@ use cell_state::State;
 use epochs::Spec;
 use kept::{Chain, of_genesis};
 use outside::Steps;
+use row_table::{Row, Subject, all_agree};
 use std::alloc::Global;
 use std::io;
 use std::marker::Brand;
@@ -37,7 +38,8 @@ use std::sync::ledger::{Blank, Ledger};
 
 /// What the rows act on: blocks that are copied from, live cells; the specification, the chain and the blobs so far.
 #[derive(Drop)]
-struct Table {
+struct Table<'s, L: Ledger> {
+    steps: &'s mut Steps<L>,
     blocks: ListBlocks,
     state: Option<State>,
     spec: Option<Spec>,
@@ -121,72 +123,46 @@ fn agrees_on_chain<L: Ledger>(
     }
 }
 
-impl Table {
-    /// Whether the row holds; None where it is none.
-    fn agrees<L: Ledger>(
-        &mut self,
-        alloc: Global,
-        steps: &mut Steps<L>,
-        row: &str,
-    ) -> Option<bool> {
-        let (word, columns) = row.split_once('\t')?;
-        match word {
-            "cell" => cells::agrees(alloc, &mut self.blocks, columns),
-            "state" => live::agrees(alloc, &mut self.state, steps, columns),
+impl<'s, L: Ledger> Subject for Table<'s, L> {
+    fn agrees(&mut self, alloc: Global, row: &mut Row<'_>) -> Option<bool> {
+        match row.word() {
+            "cell" => cells::agrees(alloc, &mut self.blocks, row.rest()),
+            "state" => live::agrees(alloc, &mut self.state, self.steps, row.rest()),
             "spec" => {
-                self.spec = Spec::read(&hex::decode(alloc, columns).ok()?).ok();
+                self.spec = Spec::read(&row.bytes(alloc)?).ok();
                 Some(self.spec.is_some())
             }
             "genesis" => {
-                let genesis = hex::decode(alloc, columns).ok()?;
+                let genesis = row.bytes(alloc)?;
                 self.chain = of_genesis(alloc, self.spec?, &genesis);
                 Some(self.chain.is_some())
             }
             "blob" => {
-                self.blobs.push(hex::decode(alloc, columns).ok()?).ok()?;
+                self.blobs.push(row.bytes(alloc)?).ok()?;
                 Some(true)
             }
             word => match &mut self.chain {
-                Some(chain) => agrees_on_chain(alloc, chain, &self.blobs, steps, word, columns),
+                Some(chain) => {
+                    agrees_on_chain(alloc, chain, &self.blobs, self.steps, word, row.rest())
+                }
                 None => None,
             },
         }
     }
 }
 
-/// How many rows there are, and how many of them agree. Those that differ are printed.
-fn compare<L: Ledger>(
-    rt: HostRuntime,
-    table: &mut Table,
-    steps: &mut Steps<L>,
-    text: &str,
-) -> io::Result<(u64, u64)> {
-    let mut rows = 0u64;
-    let mut agreed = 0u64;
-    for row in text.lines() {
-        rows = rows.saturating_add(1);
-        if table.agrees(rt.alloc(), steps, row) == Some(true) {
-            agreed = agreed.saturating_add(1);
-        } else {
-            println!(rt; "row {rows} differs")?;
-        }
-    }
-    Ok((rows, agreed))
-}
-
-fn try_rows<L: Ledger>(
-    rt: HostRuntime,
-    table: &mut Table,
-    steps: &mut Steps<L>,
-) -> io::Result<ExitCode> {
-    let text = io::read_to_string(rt.alloc(), rt.stdin())?;
-    let (rows, agreed) = compare(rt, table, steps, &text)?;
-    println!(rt; "{agreed} of {rows} rows agree")?;
-    Ok(if agreed == rows {
-        ExitCode::SUCCESS
-    } else {
-        ExitCode::FAILURE
-    })
+fn all_rows_agree<L: Ledger>(rt: HostRuntime, steps: &mut Steps<L>) -> io::Result<bool> {
+    let alloc = rt.alloc();
+    let mut table = Table {
+        steps,
+        blocks: ListBlocks::new(Vec::new(alloc), Vec::new(alloc)),
+        state: None,
+        spec: None,
+        chain: None,
+        blobs: Vec::new(alloc),
+    };
+    let text = io::read_to_string(alloc, rt.stdin())?;
+    all_agree(&rt, alloc, &mut table, &text)
 }
 
 fn begin<L: Ledger>(rt: HostRuntime, blank: Blank) -> io::Result<ExitCode>
@@ -195,15 +171,8 @@ fn begin<L: Ledger>(rt: HostRuntime, blank: Blank) -> io::Result<ExitCode>
     requires some { 0 < L.parts }
 {
     let mut steps = Steps::<L>::new(blank);
-    let alloc = rt.alloc();
-    let mut table = Table {
-        blocks: ListBlocks::new(Vec::new(alloc), Vec::new(alloc)),
-        state: None,
-        spec: None,
-        chain: None,
-        blobs: Vec::new(alloc),
-    };
-    try_rows(rt, &mut table, &mut steps)
+    let all = all_rows_agree(rt, &mut steps)?;
+    Ok(ExitCode::from(u8::from(!all)))
 }
 
 fn main(rt: HostRuntime) -> io::Result<ExitCode> {
