@@ -1,7 +1,7 @@
 -- A transaction with what it resolves to, beside the scene that its scripts are shown.
-use Rattle.std.specs.Prelude.{◌≡◌, ℕ, List, map, length, Some}
+use Rattle.std.specs.Prelude.{◌≡◌, ℕ, List, map, length, Some, is_some, IsSomeAnd}
 use Rattle.std.specs.Option.{option_map}
-use Rattle.std.specs.List.{AllZip, enumerate_from}
+use Rattle.std.specs.List.{All, AllZip, enumerate_from}
 use Rattle.codec_defs.specs.Shape.{decoded}
 use Rattle.codec_defs.specs.Schema.{CellOutput, cell_output, Transaction}
 use Rattle.chain_defs.specs.Hashes.{transaction_hash}
@@ -30,6 +30,17 @@ pub record Shows (it : ResolvedTxValue) (scene : Scene) : Type 0 where
   pub inputs : AllZip IsShownAs it.inputs scene.inputs
   pub deps : AllZip IsShownAs it.deps scene.deps
   pub headers : length scene.headers ≡ length it.headers
+
+-- ---- What is tried of it, whatever is told of kept blocks
+
+-- a copy is an output, and its row has the hash of a type script just where that has one
+abbrev pub IsTyped : ResolvedValue → Type 0
+IsTyped copy = IsSomeAnd (decoded cell_output copy.output) (λ output. is_some output.type_script ≡ is_some copy.row.type_hash)
+
+-- each input has its copy, which is so
+pub record HasItsInputs (it : ResolvedTxValue) : Type 0 where
+  pub whole : length it.inputs ≡ length it.tx.raw.inputs
+  pub typed : All IsTyped it.inputs
 
 -- ---- Rows of outputs
 

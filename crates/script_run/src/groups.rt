@@ -1,8 +1,9 @@
 // Script groups (RFC 0022, "Script Group").
-ghost use Rattle.std.specs.Prelude.{◌≡◌, ◌^◌, ◌<◌, ◌++◌, ◌∷◌, [], List, Option, Some, length, map, Ok, Err, IfOk, IfErr, OnOk};
+ghost use Rattle.std.specs.Prelude.{◌≡◌, ◌^◌, ◌<◌, ◌++◌, ◌∷◌, [], List, Option, Some, is_some, length, map, Ok, Err, IfOk, IfErr, OnOk};
 ghost use Rattle.std.specs.List.{All, AllZip};
 ghost use Rattle.std.specs.Option.{option_map};
-ghost use Rattle.codec_defs.specs.Schema.{Script, CellOutput};
+ghost use Rattle.codec_defs.specs.Shape.{decoded};
+ghost use Rattle.codec_defs.specs.Schema.{Script, CellOutput, cell_output};
 ghost use Rattle.cell_defs.specs.Cell.{script_hash};
 ghost use Rattle.outside.specs.declared.disk.Area.TheVariants.{Log};
 ghost use Rattle.outside.specs.declared.disk.Damage.{Damage};
@@ -10,7 +11,7 @@ ghost use Rattle.outside.specs.declared.disk.ReadStop.TheVariants.{DiskFault, Da
 ghost use Rattle.script_defs.specs.Groups as defs;
 ghost use Rattle.script_defs.specs.Scene.{Scene, ShownCell};
 ghost use Rattle.script_run.specs.Grouping.{FindsEach, IsWantOrDamage, grouped, with_group, with_input, with_output, changed, place_with};
-ghost use Rattle.script_run.specs.Shown.{HasItsHash, IsShownAs, Shows, output_rows};
+ghost use Rattle.script_run.specs.Shown.{HasItsHash, HasItsInputs, IsShownAs, IsTyped, Shows, output_rows};
 
 use crate::shown::{ShownTx, output_at};
 use crate::stop::damaged;
@@ -42,6 +43,7 @@ impl<'a> Model for Group<'a> {
 /// The output that a copy has.
 fn output_of<'a>(copy: &'a Resolved) -> Result<OutputView<'a>, ReadStop>
     ensures shown { (cell : ShownCell) → IsShownAs copy.now cell → result ≡ Ok cell.output }
+    ensures output { IfOk result (λ output. decoded cell_output copy.now.output ≡ Some output) }
     ensures stops { IfErr result IsWantOrDamage }
 {
     match OutputView::read(&copy.output) {
@@ -56,6 +58,7 @@ fn typed<'a>(
     hash: Option<[u8; 32]>,
 ) -> Result<Option<(ScriptView<'a>, [u8; 32])>, ReadStop>
     ensures shown { hash ≡ option_map script_hash output.now.type_script → result ≡ Ok (option_map (λ s. (s, script_hash s)) output.now.type_script) }
+    ensures agree { OnOk result (is_some output.now.type_script ≡ is_some hash) }
     ensures stops { IfErr result IsWantOrDamage }
 {
     match (output.type_script(), hash) {
@@ -167,6 +170,7 @@ impl<'a> Grouping<'a> {
         ensures known { OnOk result (FindsEach self.new.places.entries self.new.groups.items) }
         ensures groups { (cell : ShownCell) (before : List (Option Script)) → IsShownAs copy.now cell → self.old.groups.items ≡ grouped before []
             → input ≡ length before → OnOk result (self.new.groups.items ≡ grouped (before ++ cell.output.type_script ∷ []) []) }
+        ensures typed { OnOk result (IsTyped copy.now) }
         ensures undamaged { (cell : ShownCell) → IsShownAs copy.now cell → IfErr result (λ stop. stop ≡ no_memory) }
         ensures stops { IfErr result IsWantOrDamage }
     {
@@ -252,6 +256,7 @@ fn types_of_inputs<'a>(alloc: Global, copies: &'a [Resolved]) -> Result<Grouping
     ensures known { IfOk result (λ it. FindsEach it.places.entries it.groups.items) }
     ensures groups { (cells : List ShownCell) → AllZip IsShownAs copies.now cells
         → IfOk result (λ it. it.groups.items ≡ grouped (map (λ cell. cell.output.type_script) cells) []) }
+    ensures typed { OnOk result (All IsTyped copies.now) }
     ensures undamaged { (cells : List ShownCell) → AllZip IsShownAs copies.now cells → IfErr result (λ stop. stop ≡ no_memory) }
     ensures stops { IfErr result IsWantOrDamage }
 {
@@ -267,6 +272,7 @@ fn type_groups<'a>(alloc: Global, tx: &'a ShownTx<'a>) -> Result<Vec<Group<'a>>,
     requires fits { length tx.now.it.inputs < 2 ^ 32 }
     ensures groups { (cells : List ShownCell) → AllZip IsShownAs tx.now.it.inputs cells
         → IfOk result (λ list. list.items ≡ grouped (map (λ cell. cell.output.type_script) cells) (map (λ output. output.type_script) tx.now.it.tx.raw.outputs)) }
+    ensures typed { OnOk result (All IsTyped tx.now.it.inputs) }
     ensures undamaged { (cells : List ShownCell) → AllZip IsShownAs tx.now.it.inputs cells → IfErr result (λ stop. stop ≡ no_memory) }
     ensures stops { IfErr result IsWantOrDamage }
 {
@@ -302,6 +308,7 @@ pub(crate) fn groups_of<'a>(alloc: Global, tx: &'a ShownTx<'a>) -> Result<Vec<Gr
     ensures groups { (scene : Scene) → Shows tx.now.it scene → IfOk result (λ list. map (λ it. it.group) list.items ≡ defs.groups_of scene) }
     ensures hashes { (scene : Scene) → Shows tx.now.it scene → IfOk result (λ list. All HasItsHash list.items) }
     ensures few { IfOk result (λ list. length list.items < 2 ^ 32) }
+    ensures inputs { OnOk result (HasItsInputs tx.now.it) }
     ensures undamaged { (scene : Scene) → Shows tx.now.it scene → (damage : Damage) → result ≡ Err (Damaged damage) → ⊥ }
     ensures damage { (damage : Damage) → result ≡ Err (Damaged damage) → damage.area ≡ Log }
     ensures unread { result ≡ Err DiskFault → ⊥ }

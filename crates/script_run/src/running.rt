@@ -1,5 +1,5 @@
 // All script groups of a transaction, one after the other.
-ghost use Rattle.std.specs.Prelude.{◌≡◌, ◌^◌, ◌<◌, ◌≤◌, List, map, Some, Err, IfOk, length};
+ghost use Rattle.std.specs.Prelude.{◌≡◌, ◌^◌, ◌<◌, ◌≤◌, List, map, Some, None, Err, IfOk, length};
 ghost use Rattle.std.specs.List.{All, AllZip};
 ghost use Rattle.outside.specs.Causes.{CountsFault};
 ghost use Rattle.outside.specs.declared.disk.Area.TheVariants.{Log};
@@ -11,7 +11,7 @@ ghost use Rattle.script_defs.specs.Scene.{Scene};
 ghost use Rattle.script_defs.specs.Outcome as defs;
 ghost use Rattle.script_run.specs.Running.{ExitsWithin, HasRead, IsOutcome, answer_of, read_stop_of};
 ghost use Rattle.script_run.specs.Showing.{scene_shown};
-ghost use Rattle.script_run.specs.Shown.{HasItsHash, IsShownAs};
+ghost use Rattle.script_run.specs.Shown.{HasItsHash, HasItsInputs, IsShownAs};
 ghost use Rattle.script_run.specs.declared.stop.ScriptStop.TheVariants.{Read};
 
 use crate::codes::{Codes, Located};
@@ -191,6 +191,7 @@ fn run_shown<'a, B: Blocks>(
     ensures within { IfOk result (λ cycles. cycles ≤ budget) }
     ensures exact { (stored : List Stored) (scene : Scene) → B.told blocks.old ≡ Some stored → scene_shown tx.now.epoch_length stored tx.now.it ≡ Some scene
         → IsOutcome (defs.outcome_of scene budget) result }
+    ensures inputs { read_stop_of result ≡ None → HasItsInputs tx.now.it }
     ensures undamaged { (stored : List Stored) (scene : Scene) → B.told blocks.old ≡ Some stored → scene_shown tx.now.epoch_length stored tx.now.it ≡ Some scene
         → (damage : Damage) → read_stop_of result ≡ Some (Damaged damage) → ⊥ }
 {
@@ -220,6 +221,9 @@ pub fn run_groups<B: Blocks>(
     ensures count { B.count blocks.new ≡ B.count blocks.old }
     ensures loans { B.loans_of blocks.new ≡ B.loans_of blocks.old }
     ensures within { IfOk result (λ cycles. cycles ≤ budget) }
+
+    // Over any source of blocks: each input has its copy, or nothing is answered of the scripts.
+    ensures inputs { read_stop_of result ≡ None → HasItsInputs tx.now }
 
     // Over kept blocks that are told, where it shows a scene.
     ensures exact { (stored : List Stored) (scene : Scene) → B.told blocks.old ≡ Some stored → scene_shown spec.now.epoch_length stored tx.now ≡ Some scene

@@ -1,19 +1,19 @@
 -- Copies that are taken to the places of their rows.
 use Rattle.std.proofs.Common.{◌≡◌, ℕ, ◌<◌, List, [], ◌∷◌, length, map, Option, Some, None, refl, sym, ap, ◌∙◌, subst, inl, inr, ◌⊎◌, arith}
 use Rattle.std.proofs.lemmas.List.Elements.{All-nil, All-cons, All-head, All-tail}
-use Rattle.std.specs.Prelude.{Result, Ok, Err, IfOk, IfSome, slice_get, slice_set, replicate, zero, suc}
+use Rattle.std.specs.Prelude.{Result, Ok, Err, IfOk, IfSome, IsSomeAnd, slice_get, slice_set, replicate, zero, suc}
 use Rattle.std.specs.List.{All, AllZip}
-use Rattle.std.proofs.lemmas.Option.{same_Some}
+use Rattle.std.proofs.lemmas.Option.{same_Some, slice_get_within}
 use Rattle.codec_defs.specs.Shape.{decoded}
 use Rattle.codec_defs.specs.Schema.{OutPoint, Block, block}
 use Rattle.chain_tree.specs.Told.{Stored, Encodes, blocks_of}
 use Rattle.cell_defs.specs.Cell.{Cell}
 use Rattle.cell_defs.specs.Row.{Row}
-use Rattle.cell_model.specs.Copies.{ResolvedValue, IsCopyOf, NamesOutput, output_in}
+use Rattle.cell_model.specs.Copies.{ResolvedValue, IsCopyOf, CopiesOutput, NamesOutput, output_in}
 use Rattle.cell_model.proofs.CopyLemmas.{named_output, encodes}
 use Rattle.tx_defs.specs.Site.{Site, Found}
 use Rattle.tx_rules.specs.At.{AtValue, IsSiteOf, AreSeen, found_row}
-use Rattle.tx_rules.specs.Copying.{IsFoundAt, IsBlockAt, IsCopyOfRow, AreTaken, HoldsOutput, row_in}
+use Rattle.tx_rules.specs.Copying.{IsFoundAt, IsBlockAt, IsCopyOfRow, CopiesItsRow, AreTaken, HoldsOutput, row_in}
 use Rattle.tx_rules.specs.Outcome.{Copies}
 use Rattle.chain_defs.proofs.KeptLaws.{slice_get-below}
 use Rattle.tx_rules.proofs.Endings.{nothing_read}
@@ -31,14 +31,54 @@ kept-output stored at rows site found o row b placed below at_place is found_at 
     let same : names.made.block ≡ b = subst (λ (it : Option Stored). IfSome it (λ made. made.block ≡ b)) names.there at_place in
     ap (λ (block : Block). output_in block row.transaction o.index) (sym same) ∙ named_output stored o row found.cell names
 
+its-block : (told : Option (List Stored)) (place : ℕ) (b : Block) (stored : List Stored) (made : Stored) → IsBlockAt told place b → told ≡ Some stored
+    → slice_get stored place ≡ Some made → made.block ≡ b
+its-block told place b stored made at_place tells there =
+    subst (λ (it : Option Stored). IfSome it (λ found. found.block ≡ b)) there
+    (subst (λ (it : Option (List Stored)). IfSome it (λ all. IfSome (slice_get all place) (λ found. found.block ≡ b))) tells at_place)
+
+-- the copy of a kept block's output
+kept-one : (told : Option (List Stored)) (at : AtValue) (o : OutPoint) (row : Row) (copy : ResolvedValue) → copy.out_point ≡ o → copy.row ≡ row
+    → row.block < length at.entries
+    → ((stored : List Stored) (made : Stored) → told ≡ Some stored → slice_get stored row.block ≡ Some made → CopiesOutput (output_in made.block row.transaction o.index) copy)
+    → CopiesItsRow told at copy
+kept-one told at o row copy its_point its_row below exact =
+    let place : copy.row.block ≡ row.block = ap (λ (r : Row). r.block) its_row in
+    record {
+      block = omega (arith, place, below);
+      kept = λ stored made tells there.
+          subst (λ (out : OutPoint). CopiesOutput (output_in made.block copy.row.transaction out.index) copy) (sym its_point)
+          (subst (λ (r : Row). CopiesOutput (output_in made.block r.transaction o.index) copy) (sym its_row) (exact stored made tells (ap (slice_get stored) (sym place) ∙ there)));
+      judged = λ past. absurd (omega (arith, place, below, past));
+    }
+
+-- and of one of the block that is judged
+judged-one : (told : Option (List Stored)) (at : AtValue) (o : OutPoint) (row : Row) (copy : ResolvedValue) → copy.out_point ≡ o → copy.row ≡ row
+    → ((stored : List Stored) → told ≡ Some stored → length stored ≡ length at.entries) → row.block ≡ length at.entries
+    → IsSomeAnd at.block (λ b. CopiesOutput (output_in b row.transaction o.index) copy) → CopiesItsRow told at copy
+judged-one told at o row copy its_point its_row all past exact =
+    let place : copy.row.block ≡ row.block = ap (λ (r : Row). r.block) its_row in
+    record {
+      block = omega (arith, place, past);
+      kept = λ stored made tells there.
+          let within = slice_get_within stored copy.row.block made there in
+          let long = all stored tells in
+          absurd (omega (arith, place, past, within, long));
+      judged = λ _.
+          subst (λ (out : OutPoint). IsSomeAnd at.block (λ b. CopiesOutput (output_in b copy.row.transaction out.index) copy)) (sym its_point)
+          (subst (λ (r : Row). IsSomeAnd at.block (λ b. CopiesOutput (output_in b r.transaction o.index) copy)) (sym its_row) exact);
+    }
+
 pub read-copy : (told : Option (List Stored)) (at : AtValue) (o : OutPoint) (row : Row) (b : Block) (copy : ResolvedValue)
     → at.parent < length at.entries → row.block < length at.entries → IsBlockAt told row.block b
-    → copy.out_point ≡ o → copy.row ≡ row → HoldsOutput copy
+    → copy.out_point ≡ o → copy.row ≡ row → HoldsOutput copy → CopiesOutput (output_in b row.transaction o.index) copy
     → ((cell : Cell) → output_in b row.transaction o.index ≡ Some (cell.output, cell.content) → IsCopyOf cell copy)
     → IsCopyOfRow told at (o, row) copy
-read-copy told at o row b copy placed below at_place its_point its_row output copied = record {
+read-copy told at o row b copy placed below at_place its_point its_row output exact copied = record {
   row = ap (λ (out : OutPoint). (out, copy.row)) its_point ∙ ap (λ (r : Row). (o, r)) its_row;
   output = output;
+  of_row = kept-one told at o row copy its_point its_row below (λ stored made tells there.
+      subst (λ (block : Block). CopiesOutput (output_in block row.transaction o.index) copy) (sym (its-block told row.block b stored made at_place tells there)) exact);
   copied = λ stored seen site found tells is found_at.
       copied found.cell (kept-output stored at seen site found o row b placed below
       (subst (λ (it : Option (List Stored)). IsBlockAt it row.block b) tells at_place) is found_at);
@@ -89,15 +129,30 @@ taken-none told at rows n i row copy here there = absurd (none n i there)
 
 -- ---- A copy that is made at its turn
 
+pub kept-row : {E : Type 0} (told : Option (List Stored)) (at : AtValue) (o : OutPoint) (row : Row) (result : Result ResolvedValue E)
+    → IfOk result (λ copy. copy.out_point ≡ o) → IfOk result (λ copy. copy.row ≡ row) → row.block < length at.entries
+    → ((stored : List Stored) (made : Stored) → told ≡ Some stored → slice_get stored row.block ≡ Some made → IfOk result (CopiesOutput (output_in made.block row.transaction o.index)))
+    → IfOk result (CopiesItsRow told at)
+kept-row told at o row (Err e) its_point its_row below exact = tt
+kept-row told at o row (Ok copy) its_point its_row below exact = kept-one told at o row copy its_point its_row below exact
+
+pub judged-row : {E : Type 0} (told : Option (List Stored)) (at : AtValue) (o : OutPoint) (row : Row) (result : Result ResolvedValue E)
+    → IfOk result (λ copy. copy.out_point ≡ o) → IfOk result (λ copy. copy.row ≡ row)
+    → ((stored : List Stored) → told ≡ Some stored → length stored ≡ length at.entries) → row.block ≡ length at.entries
+    → IfOk result (λ copy. IsSomeAnd at.block (λ b. CopiesOutput (output_in b row.transaction o.index) copy)) → IfOk result (CopiesItsRow told at)
+judged-row told at o row (Err e) its_point its_row all past exact = tt
+judged-row told at o row (Ok copy) its_point its_row all past exact = judged-one told at o row copy its_point its_row all past exact
+
 pub row-copy : {E : Type 0} (told : Option (List Stored)) (at : AtValue) (o : OutPoint) (row : Row) (result : Result ResolvedValue E)
-    → IfOk result (λ copy. copy.out_point ≡ o) → IfOk result (λ copy. copy.row ≡ row) → IfOk result HoldsOutput
+    → IfOk result (λ copy. copy.out_point ≡ o) → IfOk result (λ copy. copy.row ≡ row) → IfOk result HoldsOutput → IfOk result (CopiesItsRow told at)
     → ((stored : List Stored) (seen : OutPoint → Option Row) (site : Site) (found : Found) → told ≡ Some stored → IsSiteOf stored at seen site
     → IsFoundAt stored at.parent site found (o, row) → IfOk result (IsCopyOf found.cell))
     → IfOk result (IsCopyOfRow told at (o, row))
-row-copy told at o row (Err e) its_point its_row output copied = tt
-row-copy told at o row (Ok copy) its_point its_row output copied = record {
+row-copy told at o row (Err e) its_point its_row output of_row copied = tt
+row-copy told at o row (Ok copy) its_point its_row output of_row copied = record {
   row = ap (λ (out : OutPoint). (out, copy.row)) its_point ∙ ap (λ (r : Row). (o, r)) its_row;
   output = output;
+  of_row = of_row;
   copied = copied;
 }
 
@@ -117,6 +172,13 @@ copies-outputs told at [] [] each = All-nil HoldsOutput
 copies-outputs told at [] (c ∷ cs) each = absurd each
 copies-outputs told at (r ∷ rs) [] each = absurd each
 copies-outputs told at (r ∷ rs) (c ∷ cs) each = All-cons HoldsOutput c cs each.0.output (copies-outputs told at rs cs each.1)
+
+pub copies-of-rows : (told : Option (List Stored)) (at : AtValue) (rows : List (OutPoint × Row)) (copies : List ResolvedValue)
+    → AllZip (IsCopyOfRow told at) rows copies → All (CopiesItsRow told at) copies
+copies-of-rows told at [] [] each = All-nil (CopiesItsRow told at)
+copies-of-rows told at [] (c ∷ cs) each = absurd each
+copies-of-rows told at (r ∷ rs) [] each = absurd each
+copies-of-rows told at (r ∷ rs) (c ∷ cs) each = All-cons (CopiesItsRow told at) c cs each.0.of_row (copies-of-rows told at rs cs each.1)
 
 pub copies-cells : (stored : List Stored) (at : AtValue) (seen : OutPoint → Option Row) (site : Site) (founds : List Found) (rows : List (OutPoint × Row))
     (copies : List ResolvedValue) → IsSiteOf stored at seen site → AreSeen site founds → rows ≡ map (found_row (blocks_of stored) at.parent) founds

@@ -1,10 +1,10 @@
 -- Rows of cells that a transaction sees, and what copies of them are.
-use Rattle.std.specs.Prelude.{◌≡◌, ℕ, List, Option, Some, IsSome, IfSome, slice_get}
+use Rattle.std.specs.Prelude.{◌≡◌, ℕ, ◌≤◌, List, length, Option, Some, IsSome, IsSomeAnd, IfSome, slice_get}
 use Rattle.codec_defs.specs.Shape.{decoded}
 use Rattle.codec_defs.specs.Schema.{OutPoint, Block, cell_output}
 use Rattle.chain_tree.specs.Told.{Stored, blocks_of}
 use Rattle.cell_defs.specs.Row.{Row}
-use Rattle.cell_model.specs.Copies.{ResolvedValue, IsCopyOf}
+use Rattle.cell_model.specs.Copies.{ResolvedValue, IsCopyOf, CopiesOutput, output_in}
 use Rattle.tx_defs.specs.Site.{Site, Found}
 use Rattle.tx_rules.specs.At.{AtValue, IsSiteOf, found_row}
 
@@ -25,10 +25,19 @@ HoldsOutput copy = IsSome (decoded cell_output copy.output)
 abbrev pub IsBlockAt : Option (List Stored) → ℕ → Block → Type 0
 IsBlockAt told place block = IfSome told (λ stored. IfSome (slice_get stored place) (λ it. it.block ≡ block))
 
+-- A copy is that of the output which its row names, whatever row that is: of the block at the row's place among those that are told, or of the
+-- block that is judged. No block stands behind these.
+pub record CopiesItsRow (told : Option (List Stored)) (at : AtValue) (copy : ResolvedValue) : Type 0 where
+  pub block : copy.row.block ≤ length at.entries
+  pub kept : (stored : List Stored) (made : Stored) → told ≡ Some stored → slice_get stored copy.row.block ≡ Some made
+      → CopiesOutput (output_in made.block copy.row.transaction copy.out_point.index) copy
+  pub judged : copy.row.block ≡ length at.entries → IsSomeAnd at.block (λ b. CopiesOutput (output_in b copy.row.transaction copy.out_point.index) copy)
+
 -- A copy of an output is that of a row: it has the row, and over what is told the bytes of the cell that a transaction sees by it.
 pub record IsCopyOfRow (told : Option (List Stored)) (at : AtValue) (named : OutPoint × Row) (copy : ResolvedValue) : Type 0 where
   pub row : row_in copy ≡ named
   pub output : HoldsOutput copy
+  pub of_row : CopiesItsRow told at copy
   pub copied : (stored : List Stored) (seen : OutPoint → Option Row) (site : Site) (found : Found) → told ≡ Some stored → IsSiteOf stored at seen site
       → IsFoundAt stored at.parent site found named → IsCopyOf found.cell copy
 

@@ -1,9 +1,9 @@
 // Copies of the cells that rows name, each kept block read once.
-ghost use Rattle.std.specs.Prelude.{◌≡◌, ◌<◌, ◌+◌, List, length, map, Some, None, Err, IfOk, IfSome, IsTrue, Option, replicate};
+ghost use Rattle.std.specs.Prelude.{◌≡◌, ◌<◌, ◌+◌, List, length, map, Some, None, Err, IfOk, IfSome, IsSomeAnd, IsTrue, Option, replicate, slice_get};
 ghost use Rattle.std.specs.List.{All, AllZip};
 ghost use Rattle.codec_defs.specs.Schema.{OutPoint, Block};
 ghost use Rattle.cell_defs.specs.Cell.{Cell};
-ghost use Rattle.cell_model.specs.Copies.{IsCopyOf, NamesOutput, output_in};
+ghost use Rattle.cell_model.specs.Copies.{IsCopyOf, CopiesOutput, NamesOutput, output_in};
 ghost use Rattle.cell_defs.specs.Row.{Row};
 ghost use Rattle.outside.specs.Causes.{CountsFault};
 ghost use Rattle.outside.specs.declared.disk.Area.TheVariants.{Log};
@@ -12,7 +12,7 @@ ghost use Rattle.outside.specs.declared.disk.ReadStop.TheVariants.{DiskFault, Da
 ghost use Rattle.chain_tree.specs.Told.{Stored, blocks_of};
 ghost use Rattle.tx_defs.specs.Site.{Site, Found};
 ghost use Rattle.tx_rules.specs.At.{IsPlaced, IsSiteOf, AreSeen, found_row};
-ghost use Rattle.tx_rules.specs.Copying.{IsFoundAt, IsBlockAt, IsCopyOfRow, AreTaken, row_in, HoldsOutput};
+ghost use Rattle.tx_rules.specs.Copying.{IsFoundAt, IsBlockAt, IsCopyOfRow, CopiesItsRow, AreTaken, row_in, HoldsOutput};
 ghost use Rattle.tx_rules.specs.Outcome.{Copies};
 ghost use Rattle.tx_rules.specs.Source.{IsSameSource};
 
@@ -38,6 +38,8 @@ fn copy_kept<B: Blocks>(
     ensures row { IfOk result (λ copy. copy.row ≡ meta) }
     ensures output { IfOk result HoldsOutput }
     ensures copied { (stored : List Stored) (cell : Cell) → B.told blocks.old ≡ Some stored → NamesOutput stored o meta cell → IfOk result (IsCopyOf cell) }
+    ensures exact { (stored : List Stored) (made : Stored) → B.told blocks.old ≡ Some stored → slice_get stored meta.block ≡ Some made
+        → IfOk result (CopiesOutput (output_in made.block meta.transaction o.index)) }
     ensures undamaged { (stored : List Stored) (cell : Cell) → B.told blocks.old ≡ Some stored → NamesOutput stored o meta cell
         → (damage : Damage) → result ≡ Err (Damaged damage) → ⊥ }
     ensures damage { (damage : Damage) → result ≡ Err (Damaged damage) → damage.area ≡ Log }
@@ -63,6 +65,7 @@ fn copy_read(
     ensures row { IfOk result (λ copy. copy.row ≡ meta) }
     ensures output { IfOk result HoldsOutput }
     ensures copied { (cell : Cell) → output_in block.now meta.transaction o.index ≡ Some (cell.output, cell.content) → IfOk result (IsCopyOf cell) }
+    ensures exact { IfOk result (CopiesOutput (output_in block.now meta.transaction o.index)) }
     ensures undamaged { (cell : Cell) → output_in block.now meta.transaction o.index ≡ Some (cell.output, cell.content)
         → (damage : Damage) → result ≡ Err (Damaged damage) → ⊥ }
     ensures damage { (damage : Damage) → result ≡ Err (Damaged damage) → damage.area ≡ Log }
@@ -84,6 +87,7 @@ fn copy_own(alloc: Global, at: &TxAt<'_>, o: OutPoint, meta: CellMeta) -> Result
     ensures output { IfOk result HoldsOutput }
     ensures copied { (block : Block) (cell : Cell) → at.now.block ≡ Some block → output_in block meta.transaction o.index ≡ Some (cell.output, cell.content)
         → IfOk result (IsCopyOf cell) }
+    ensures judged { IfOk result (λ copy. IsSomeAnd at.now.block (λ b. CopiesOutput (output_in b meta.transaction o.index) copy)) }
     ensures undamaged { (block : Block) (cell : Cell) → at.now.block ≡ Some block → output_in block meta.transaction o.index ≡ Some (cell.output, cell.content)
         → (damage : Damage) → result ≡ Err (Damaged damage) → ⊥ }
     ensures damage { (damage : Damage) → result ≡ Err (Damaged damage) → damage.area ≡ Log }
@@ -111,6 +115,7 @@ fn copy_row<B: Blocks>(
     ensures output { IfOk result HoldsOutput }
     ensures copied { (stored : List Stored) (rows : OutPoint → Option Row) (site : Site) (found : Found) → B.told blocks.old ≡ Some stored
         → IsSiteOf stored at.now rows site → IsFoundAt stored at.now.parent site found (o, meta) → IfOk result (IsCopyOf found.cell) }
+    ensures of_row { IfOk result (CopiesItsRow (B.told blocks.old) at.now) }
     ensures undamaged { (stored : List Stored) (rows : OutPoint → Option Row) (site : Site) (found : Found) → B.told blocks.old ≡ Some stored
         → IsSiteOf stored at.now rows site → IsFoundAt stored at.now.parent site found (o, meta) → (damage : Damage) → result ≡ Err (Damaged damage) → ⊥ }
     ensures damage { (damage : Damage) → result ≡ Err (Damaged damage) → damage.area ≡ Log }
@@ -342,6 +347,7 @@ pub(crate) fn fetch_all<B: Blocks>(
     ensures source { IsSameSource B.told B.count B.loans_of blocks.old blocks.new }
     ensures rows { IfOk result (λ copies. map row_in copies.items ≡ rows.now) }
     ensures outputs { IfOk result (λ copies. All HoldsOutput copies.items) }
+    ensures of_rows { IfOk result (λ copies. All (CopiesItsRow (B.told blocks.old) at.now) copies.items) }
     ensures copied { (stored : List Stored) (seen : OutPoint → Option Row) (site : Site) (founds : List Found) → B.told blocks.old ≡ Some stored
         → IsSiteOf stored at.now seen site → AreSeen site founds → rows.now ≡ map (found_row (blocks_of stored) at.now.parent) founds
         → IfOk result (λ copies. AllZip (Copies (blocks_of stored) at.now.parent) founds copies.items) }

@@ -20,7 +20,7 @@ ghost use Rattle.tx_rules.specs.At.{AtValue, IsPlaced, IsSiteOf, found_row, inpu
 ghost use Rattle.tx_rules.specs.Steps.{spending_rules, naming_rules, using_rules, finding_rules, paying_rules, Tells, Stops, StopsLater, AreFound, Pays};
 ghost use Rattle.tx_rules.specs.declared.resolving.TxStop.TheVariants.{Read};
 ghost use Rattle.tx_rules.specs.Source.{IsSameSource};
-ghost use Rattle.tx_rules.specs.Copying.{row_in, HoldsOutput};
+ghost use Rattle.tx_rules.specs.Copying.{row_in, CopiesItsRow, HoldsOutput};
 ghost use Rattle.tx_rules.specs.Outcome.{Copies, FollowsRows, IsFormed, IsResolved, IsTried};
 
 use crate::age::{are_mature, meets_each_since};
@@ -278,6 +278,7 @@ fn copy_cells<B: Blocks>(
         → IfOk result (λ it. Pays site tx.now it.balance) }
     ensures rows { IfOk result (λ it. map row_in it.inputs.items ≡ finding.now.spent.items) }
     ensures outputs { IfOk result (λ it. All HoldsOutput (it.inputs.items ++ it.deps.items)) }
+    ensures of_rows { IfOk result (λ it. All (CopiesItsRow (B.told blocks.old) at.now) (it.inputs.items ++ it.deps.items)) }
     ensures cause { CountsFault (B.faults blocks.old) (B.faults blocks.new) (result ≡ Err (Read DiskFault)) }
 {
     let inputs = match fetch_all(alloc, at, blocks, &finding.spent) {
@@ -312,6 +313,7 @@ pub fn resolve<'a, C: Cells, B: Blocks>(
     ensures count { B.count blocks.new ≡ B.count blocks.old }
     ensures loans { B.loans_of blocks.new ≡ B.loans_of blocks.old }
     ensures formed { IfOk result (λ ok. IsFormed at.now.entries tx.now ok.resolved) }
+    ensures of_rows { IfOk result (λ ok. All (CopiesItsRow (B.told blocks.old) at.now) (ok.resolved.inputs ++ ok.resolved.deps)) }
     ensures tried { (rule : ℕ) → result ≡ Err (TxStop.Broken rule) → IsTried rule }
     ensures by_rows { FollowsRows (C.rows cells.now) tx.now result }
 

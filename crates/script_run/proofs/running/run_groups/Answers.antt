@@ -1,10 +1,12 @@
-use Rattle.std.proofs.Common.{◌≡◌, ℕ, List, Some, refl, ap, ◌∙◌}
+use Rattle.std.proofs.Common.{◌≡◌, ℕ, List, Some, refl, ap, sym, subst, ◌∙◌}
+use Rattle.outside.specs.declared.disk.ReadStop.TheVariants.{NoMemory}
 use Rattle.chain_tree.specs.Told.{Stored}
 use Rattle.time_defs.specs.Specification.{Specification}
 use Rattle.script_defs.specs.Scene.{Scene}
 use Rattle.script_run.specs.Running.{read_stop_of}
 use Rattle.script_run.specs.Showing.{scene_shown}
-use Rattle.script_run.proofs.ReadLemmas.{counted-read, none-counted, wanted-no-damage, wanted-no-fault}
+use Rattle.script_run.specs.Shown.{HasItsInputs}
+use Rattle.script_run.proofs.ReadLemmas.{counted-read, none-counted, not-there, wanted-no-damage, wanted-no-fault}
 use Rattle.script_run.proofs.running.run_groups.Goals as goal
 
 pub returns : goal.returns
@@ -19,6 +21,7 @@ returns g c =
       count = reads.count;
       loans = reads.loans;
       within = c.run_shown.ensures.within;
+      inputs = λ none. subst HasItsInputs c.in-Ok.ensures.it (c.run_shown.ensures.inputs none);
       exact = λ stored scene tells there. c.run_shown.ensures.exact stored scene tells (there_too stored scene there);
       undamaged = λ stored scene tells there damage is. c.run_shown.ensures.undamaged stored scene tells (there_too stored scene there) damage (ap read_stop_of is);
       damage = λ damage is. reads.damage damage (ap read_stop_of is);
@@ -31,6 +34,7 @@ returns-in-Err g c = record {
   count = refl;
   loans = refl;
   within = tt;
+  inputs = λ none. absurd (not-there _ NoMemory (sym none) refl);
   exact = λ stored scene tells there. tt;
   undamaged = λ stored scene tells there. wanted-no-damage;
   damage = λ damage is. absurd (wanted-no-damage damage is);
@@ -43,6 +47,7 @@ returns-in-Err-of g c = record {
   count = refl;
   loans = refl;
   within = tt;
+  inputs = λ none. absurd (not-there _ NoMemory (sym none) refl);
   exact = λ stored scene tells there. tt;
   undamaged = λ stored scene tells there. wanted-no-damage;
   damage = λ damage is. absurd (wanted-no-damage damage is);

@@ -13,6 +13,7 @@ returns-in-Err g c = record {
   reads = unread-stop _ _ _ _ _ c.in-Err.stop (λ damage is. c.in-Err.ensures.damage damage (ap Err is)) (λ is. c.in-Err.ensures.unread (ap Err is));
   within = tt;
   exact = λ stored scene tells there. tt;
+  inputs = λ none. absurd (not-there _ c.in-Err.stop (sym none) refl);
   undamaged = λ stored scene tells there damage is.
       c.in-Err.ensures.undamaged scene (shown-over _ stored _ scene there).shows damage (ap Err (some-stop _ _ is));
 }
@@ -26,6 +27,7 @@ returns-in-Some g c = record {
       first-fails scene c.args.budget (groups_in c.in-Ok.groups.items) c.in-Some.failure (c.in-Ok.ensures.groups scene shows)
       (c.in-Some.ensures scene (deps-shown scene _ _ c.requires.codes shows.deps)
       ∙ ap (λ (values : List GroupValue). first_without_code scene 0 (groups_in values)) c.deref.ensures.value);
+  inputs = λ _. c.in-Ok.ensures.inputs;
   undamaged = λ stored scene tells there damage is. not-there _ _ refl is;
 }
 
@@ -42,5 +44,6 @@ returns g c = record {
       ∙ ap (λ (values : List GroupValue). first_without_code scene 0 (groups_in values)) c.deref.ensures.value)
       (subst (λ (values : List GroupValue). IsOutcome (run_from scene c.args.budget 0 (groups_in values)) c.run_each.result) c.deref-2.ensures.value
       (c.run_each.ensures.exact stored scene tells there hashes));
+  inputs = λ _. c.in-Ok.ensures.inputs;
   undamaged = c.run_each.ensures.undamaged;
 }

@@ -1,9 +1,12 @@
-use Rattle.std.proofs.Common.{◌≡◌, length, refl, ap, ◌∙◌, arith}
+use Rattle.std.proofs.Common.{◌≡◌, List, Option, length, refl, ap, subst, ◌∙◌, arith}
+use Rattle.std.specs.Prelude.{IfSome}
+use Rattle.chain_tree.specs.Told.{Stored}
 use Rattle.cell_defs.specs.Row.{Row}
 use Rattle.tx_rules.specs.At.{AtValue}
 use Rattle.tx_rules.proofs.Endings.{no_fault, no_damage, in_log}
 use Rattle.tx_rules.proofs.SiteLemmas.{copied-of-kept, copied-of-own, none-past}
 use Rattle.tx_rules.proofs.SourceLemmas.{unchanged-source}
+use Rattle.tx_rules.proofs.TakenLemmas.{kept-row, judged-row}
 use Rattle.tx_rules.proofs.copying.copy_row.Goals as goal
 
 pub returns-then-meta-kept : goal.returns-then-meta-kept
@@ -18,6 +21,9 @@ returns-then-meta-kept g c =
       copied = λ stored rows site found tells is found_at.
           c.copy_kept.ensures.copied stored found.cell tells
           (copied-of-kept stored c.args.at.now rows site found c.args.o c.args.meta c.requires.placed.parent is found_at (omega (arith, place, long)));
+      of_row =
+          kept-row (g.B.Blocks.told c.args.blocks.now) c.args.at.now c.args.o c.args.meta c.copy_kept.result c.copy_kept.ensures.out_point c.copy_kept.ensures.row
+          (omega (arith, place, long)) c.copy_kept.ensures.exact;
       undamaged = λ stored rows site found tells is found_at.
           c.copy_kept.ensures.undamaged stored found.cell tells
           (copied-of-kept stored c.args.at.now rows site found c.args.o c.args.meta c.requires.placed.parent is found_at (omega (arith, place, long)));
@@ -37,6 +43,10 @@ returns-then-meta-kept-2 g c =
       copied = λ stored rows site found tells is found_at.
           let own = copied-of-own stored c.args.at.now rows site found c.args.o c.args.meta c.requires.placed.parent is found_at (omega (arith, place, long)) in
           c.copy_own.ensures.copied own.0 found.cell own.1 own.2;
+      of_row =
+          judged-row (g.B.Blocks.told c.args.blocks.now) c.args.at.now c.args.o c.args.meta c.copy_own.result c.copy_own.ensures.out_point c.copy_own.ensures.row
+          (λ stored tells. subst (λ (t : Option (List Stored)). IfSome t (λ all. length all ≡ g.B.Blocks.count c.args.blocks.now)) tells (g.met.B.Blocks.told_all c.args.blocks.now)
+          ∙ c.requires.counts) (omega (arith, place, long)) c.copy_own.ensures.judged;
       undamaged = λ stored rows site found tells is found_at.
           let own = copied-of-own stored c.args.at.now rows site found c.args.o c.args.meta c.requires.placed.parent is found_at (omega (arith, place, long)) in
           c.copy_own.ensures.undamaged own.0 found.cell own.1 own.2;
@@ -54,6 +64,7 @@ returns-else-meta-kept-2 g c =
       row = tt;
       output = tt;
       copied = λ stored rows site found tells is found_at. tt;
+      of_row = tt;
       undamaged = λ stored rows site found tells is found_at damage same.
           none-past stored c.args.at.now rows site found c.args.o c.args.meta c.requires.placed.parent is found_at (omega (arith, place, long));
       damage = λ damage same. in_log c.damage_of.result damage c.damage_of.ensures.area same;

@@ -1,14 +1,15 @@
 use Rattle.std.proofs.Common.{◌≡◌, List, length, drop, map, Option, None, refl, sym, ap, ◌∙◌, subst, arith}
+use Rattle.std.specs.Prelude.{IfOk}
 use Rattle.std.specs.List.{All, AllZip}
 use Rattle.std.proofs.lemmas.List.{take_at, length-replicate}
 use Rattle.std.proofs.lemmas.Result.{IfOk-weaker}
 use Rattle.chain_tree.specs.Told.{Stored, blocks_of}
 use Rattle.cell_model.specs.Copies.{ResolvedValue}
-use Rattle.tx_rules.specs.Copying.{AreTaken, HoldsOutput, IsCopyOfRow, row_in}
+use Rattle.tx_rules.specs.Copying.{AreTaken, CopiesItsRow, HoldsOutput, IsCopyOfRow, row_in}
 use Rattle.tx_rules.specs.Outcome.{Copies}
 use Rattle.tx_rules.proofs.Endings.{no_fault, no_answer, no_memory, memory_undamaged, behind, handed, counts-handed}
 use Rattle.tx_rules.proofs.SourceLemmas.{unchanged-source, then-source}
-use Rattle.tx_rules.proofs.TakenLemmas.{taken-none, copies-rows, copies-outputs, copies-cells}
+use Rattle.tx_rules.proofs.TakenLemmas.{taken-none, copies-rows, copies-outputs, copies-of-rows, copies-cells}
 use Rattle.tx_rules.proofs.copying.fetch_all.Goals as goal
 
 pub returns-in_default : goal.returns-in_default
@@ -16,6 +17,7 @@ returns-in_default g c = record {
   source = unchanged-source _ _ _ _;
   rows = tt;
   outputs = tt;
+  of_rows = tt;
   copied = λ stored seen site founds tells is are_seen rows. tt;
   undamaged = λ stored seen site founds tells is are_seen rows damage same. memory_undamaged damage same;
   damage = λ damage same. absurd (memory_undamaged damage same);
@@ -27,6 +29,7 @@ returns-in_default-none_taken g c = record {
   source = unchanged-source _ _ _ _;
   rows = tt;
   outputs = tt;
+  of_rows = tt;
   copied = λ stored seen site founds tells is are_seen rows. tt;
   undamaged = λ stored seen site founds tells is are_seen rows damage same. memory_undamaged damage same;
   damage = λ damage same. absurd (memory_undamaged damage same);
@@ -38,6 +41,7 @@ returns-in-Err g c = record {
   source = c.in-Err.ensures.source;
   rows = tt;
   outputs = tt;
+  of_rows = tt;
   copied = λ stored seen site founds tells is are_seen rows. tt;
   undamaged = λ stored seen site founds tells is are_seen rows damage same.
       c.in-Err.ensures.undamaged stored seen site founds tells is are_seen rows damage (handed c.in-Err.stop _ same);
@@ -72,6 +76,11 @@ returns g c = record {
       let told = g.B.Blocks.told c.take_several.new.blocks in
       IfOk-weaker c.copy_each.result (λ copies. AllZip (IsCopyOfRow told c.args.at.now) c.args.rows.now copies.items) (λ copies. All HoldsOutput copies.items)
       (λ copies each. copies-outputs told c.args.at.now c.args.rows.now copies.items each) c.copy_each.ensures.copies;
+  of_rows =
+      let told = g.B.Blocks.told c.take_several.new.blocks in
+      subst (λ (t : Option (List Stored)). IfOk c.copy_each.result (λ copies. All (CopiesItsRow t c.args.at.now) copies.items)) c.in-Ok-take_several.ensures.source.told
+      (IfOk-weaker c.copy_each.result (λ copies. AllZip (IsCopyOfRow told c.args.at.now) c.args.rows.now copies.items) (λ copies. All (CopiesItsRow told c.args.at.now) copies.items)
+      (λ copies each. copies-of-rows told c.args.at.now c.args.rows.now copies.items each) c.copy_each.ensures.copies);
   copied = λ stored seen site founds tells is are_seen rows.
       let told = g.B.Blocks.told c.take_several.new.blocks in
       IfOk-weaker c.copy_each.result (λ copies. AllZip (IsCopyOfRow told c.args.at.now) c.args.rows.now copies.items)

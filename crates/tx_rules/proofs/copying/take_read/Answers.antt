@@ -57,7 +57,7 @@ order-preserved c =
           (subst (λ (it : OutPoint × Row). IsCopyOfRow told c.args.at.now it c.in-Ok.copy) same_row
           (read-copy told c.args.at.now c.row.inside.0.0 row.1 c.args.read.now c.in-Ok.copy c.requires.placed.parent (omega (arith, its_block, kept))
           (subst (λ (n : ℕ). IsBlockAt told n c.args.read.now) (sym its_block) at_place)
-          c.in-Ok.ensures.out_point c.in-Ok.ensures.row c.in-Ok.ensures.output c.in-Ok.ensures.copied))
+          c.in-Ok.ensures.out_point c.in-Ok.ensures.row c.in-Ok.ensures.output c.in-Ok.ensures.exact c.in-Ok.ensures.copied))
           (c.order.invariant.taken told at_place taken);
     }
 

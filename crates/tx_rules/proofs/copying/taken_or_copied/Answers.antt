@@ -6,7 +6,7 @@ returns-in-None g c = record {
   source = c.copy_row.ensures.source;
   copy =
       row-copy (g.B.Blocks.told c.args.blocks.now) c.args.at.now c.args.o c.args.meta c.copy_row.result c.copy_row.ensures.out_point c.copy_row.ensures.row
-      c.copy_row.ensures.output c.copy_row.ensures.copied;
+      c.copy_row.ensures.output c.copy_row.ensures.of_row c.copy_row.ensures.copied;
   undamaged = c.copy_row.ensures.undamaged;
   damage = c.copy_row.ensures.damage;
   cause = c.copy_row.ensures.cause;

@@ -1,13 +1,13 @@
-use Rattle.std.proofs.Common.{◌≡◌, List, Err, map, ap, subst, sym, ◌∙◌}
+use Rattle.std.proofs.Common.{◌≡◌, List, Option, Err, map, ap, subst, sym, ◌∙◌}
 use Rattle.std.specs.Prelude.{slice_index}
-use Rattle.std.specs.List.{AllZip}
+use Rattle.std.specs.List.{All, AllZip}
 use Rattle.std.proofs.lemmas.List.Elements.{All-append}
 use Rattle.cell_model.specs.Copies.{ResolvedValue}
 use Rattle.chain_defs.specs.Branch.{branch_places}
-use Rattle.chain_tree.specs.Told.{blocks_of}
+use Rattle.chain_tree.specs.Told.{Stored, blocks_of}
 use Rattle.tx_defs.specs.Resolving.{inputs, deps, heights}
 use Rattle.tx_rules.specs.At.{found_row}
-use Rattle.tx_rules.specs.Copying.{HoldsOutput}
+use Rattle.tx_rules.specs.Copying.{CopiesItsRow, HoldsOutput}
 use Rattle.tx_rules.specs.Outcome.{Copies}
 use Rattle.tx_rules.specs.Steps.{paying_rules}
 use Rattle.tx_rules.proofs.Endings.{no_fault, no_answer, handed, behind, counts-read}
@@ -30,6 +30,7 @@ returns-in-Err g c = record {
   paid = λ stored rows site told is found. tt;
   rows = tt;
   outputs = tt;
+  of_rows = tt;
   cause = counts-read c.in-Err.stop c.in-Err.ensures.cause;
 }
 
@@ -50,6 +51,7 @@ returns-in-Err-paid_by g c = record {
   paid = λ stored rows site told is found. tt;
   rows = tt;
   outputs = tt;
+  of_rows = tt;
   cause = no_fault _ _ (c.in-Ok.ensures.cause.unchanged (no_answer _ _)) (λ same. c.in-Err-paid_by.ensures.unread (handed c.in-Err-paid_by.stop _ same));
 }
 
@@ -67,6 +69,7 @@ returns-in-Err-fetch_all g c = record {
   paid = λ stored rows site told is found. tt;
   rows = tt;
   outputs = tt;
+  of_rows = tt;
   cause = behind (c.in-Ok.ensures.cause.unchanged (no_answer _ _)) (counts-read c.in-Err-fetch_all.stop c.in-Err-fetch_all.ensures.cause);
 }
 
@@ -98,5 +101,8 @@ returns-in-Ok-fetch_all g c = record {
       c.in-Ok-paid_by.ensures.paid stored rows site is copies places;
   rows = c.in-Ok.ensures.rows ∙ c.deref.ensures.value;
   outputs = All-append HoldsOutput c.in-Ok.inputs.items c.in-Ok-fetch_all.deps.items c.in-Ok.ensures.outputs c.in-Ok-fetch_all.ensures.outputs;
+  of_rows =
+      All-append (CopiesItsRow (g.B.Blocks.told c.args.blocks.now) c.args.at.now) c.in-Ok.inputs.items c.in-Ok-fetch_all.deps.items c.in-Ok.ensures.of_rows
+      (subst (λ (told : Option (List Stored)). All (CopiesItsRow told c.args.at.now) c.in-Ok-fetch_all.deps.items) c.in-Ok.ensures.source.told c.in-Ok-fetch_all.ensures.of_rows);
   cause = no_fault _ _ (c.in-Ok-fetch_all.ensures.cause.unchanged (no_answer _ _) ∙ c.in-Ok.ensures.cause.unchanged (no_answer _ _)) (no_answer _ _);
 }

@@ -1,7 +1,10 @@
-use Rattle.std.proofs.Common.{◌≡◌, ◌++◌, ◌∙◌, rules}
+use Rattle.std.proofs.Common.{◌≡◌, ◌++◌, List, Option, subst, ◌∙◌, rules}
 use Rattle.std.specs.Int.{w128}
+use Rattle.std.specs.List.{All}
 use Rattle.std.proofs.lemmas.Int.{to_z-of_z}
 use Rattle.tx_defs.specs.Capacity.{interest}
+use Rattle.chain_tree.specs.Told.{Stored}
+use Rattle.tx_rules.specs.Copying.{CopiesItsRow}
 use Rattle.tx_rules.specs.Steps.{finding_rules, paying_rules}
 use Rattle.tx_rules.proofs.Endings.{no_fault, no_answer, behind, counts-handed}
 use Rattle.tx_rules.proofs.RuleLemmas.{stops-front, stops-back, tried-of, damage-of, broken-of, undamaged-of, all-rules, keeps-all, copied-inputs}
@@ -17,6 +20,7 @@ returns-in-Err g c = record {
   count = c.in-Err.ensures.source.count;
   loans = c.in-Err.ensures.source.loans;
   formed = tt;
+  of_rows = tt;
   tried = λ rule same. tried-of _ rule c.in-Err.ensures.stops same;
   by_rows = follows-on (g.C.Cells.rows c.args.cells.now) c.args.tx.now c.in-Err.stop c.in-Err.ensures.by_rows;
   broken = λ stored site told is rule same.
@@ -39,6 +43,7 @@ returns-in-Err-copy_cells g c = record {
   count = c.in-Err-copy_cells.ensures.source.count ∙ c.in-Ok.ensures.source.count;
   loans = c.in-Err-copy_cells.ensures.source.loans ∙ c.in-Ok.ensures.source.loans;
   formed = tt;
+  of_rows = tt;
   tried = λ rule same. tried-of _ rule (later-stops c.in-Err-copy_cells.stop c.in-Err-copy_cells.ensures.later) same;
   by_rows = follows-behind (g.C.Cells.rows c.args.cells.now) c.args.tx.now c.in-Ok.found _ c.in-Ok.ensures.by_rows c.in-Err-copy_cells.ensures.later;
   broken = λ stored site told is rule same.
@@ -70,6 +75,9 @@ returns g c = record {
     headers = c.in-Ok.ensures.headers;
     outputs = c.in-Ok-copy_cells.ensures.outputs;
   };
+  of_rows =
+      subst (λ (told : Option (List Stored)). All (CopiesItsRow told c.args.at.now) (c.in-Ok-copy_cells.copied.inputs.items ++ c.in-Ok-copy_cells.copied.deps.items))
+      c.in-Ok.ensures.source.told c.in-Ok-copy_cells.ensures.of_rows;
   tried = λ rule same. absurd (no_answer _ _ same);
   by_rows = follows-behind (g.C.Cells.rows c.args.cells.now) c.args.tx.now c.in-Ok.found _ c.in-Ok.ensures.by_rows tt;
   broken = λ stored site told is rule same. absurd (no_answer _ _ same);
