@@ -1,5 +1,5 @@
 use Rattle.std.proofs.Common.{◌≡◌, ap, refl, ◌∙◌}
-use Rattle.vm_sys.proofs.Exits.{code-outside, code-placed, code-stopped, code-unaligned, content_of, has_part_pages, is_outside}
+use Rattle.vm_sys.proofs.Exits.{code-outside, code-placed, code-stopped, code-unaligned, content-held, content_of, ended-held, has_part_pages, is_outside, stopped-held}
 use Rattle.vm_sys.proofs.loading.load_code.Goals as goal
 
 pub returns-then-lies_outside-clause-answer : goal.returns-then-lies_outside-clause-answer
@@ -38,3 +38,12 @@ returns-clause-answer c =
     rw (c.first-content.ensures, c.from.ensures, c.reg-offset.ensures, c.reg-count.ensures) refl in
     code-placed m c.args.item.now c.place_code.new.memory.memory c.reg-size.result _ _ _ (out ∙ c.if-lies_outside.false) (parts ∙ c.if-is_unaligned.false)
     (rw (content, c.memory_mut.ensures.memory, c.reg-to.ensures, c.reg-size.ensures) at c.in-Ok.ensures.placed) refl c.reg-size.ensures c.pay.ensures.answer
+
+pub returns-in-Err-clause-in_part : goal.returns-in-Err-clause-in_part
+returns-in-Err-clause-in_part c =
+    stopped-held _ _ _ c.stopped.ensures
+    (content-held c.args.machine.now.machine _ c.place_code.new.memory.memory
+    (rw (c.memory_mut.ensures.memory, c.reg-to.ensures, c.reg-size.ensures) at c.in-Err.ensures.in_part) refl)
+
+pub returns-clause-in_part : goal.returns-clause-in_part
+returns-clause-in_part c = ended-held _ _ c.pay.ensures.ends
