@@ -17,7 +17,8 @@ use Rattle.vm_mem.specs.declared.stop.MemStop.TheVariants as mem_stop
 use Rattle.sys_defs.specs.Answer.{argument, paid_for, stored, with_part, with_length, loads_part, code_bytes, with_content, loads_code}
 use Rattle.vm_sys.specs.declared.syscall.Sys.{Sys}
 use Rattle.vm_sys.specs.declared.syscall.Sys.TheVariants.{Done, Fault, Spent}
-use Rattle.vm_sys.specs.Answering.{HasBytes, HoldsPart, IsAnswer, WhereCutOff, IsPlaced, IsStopped}
+use Rattle.vm_mem.specs.Pages.{IsUnder}
+use Rattle.vm_sys.specs.Answering.{AddsPages, ContentTouches, HasBytes, HoldsPart, IsAnswer, WhereCutOff, IsPlaced, IsStopped}
 
 -- ---- what a store left
 
@@ -282,6 +283,18 @@ stopped-held mem_stop.NoMemory result P is part = rw is part
 pub ended-held : (result : Sys) (P : Type 0) → (result ≡ Done) ⊎ (result ≡ Spent) → WhereCutOff result P
 ended-held result P (inl is) = rw is tt
 ended-held result P (inr is) = rw is tt
+
+-- ---- the pages of content
+
+pub front-fits : (bytes front : List ℕ) (count most : ℕ) → front ≡ take count bytes → count ≡ most → length front ≤ most
+front-fits bytes front count most is same = let size = length-take count bytes in rw is (omega (arith, size, same))
+
+pub content-touches : (m : Machine) (old new : List Bool) (at count : ℕ) → AddsPages old new (λ page. IsUnder page at count) → at ≡ argument m 0 → count ≤ argument m 3
+    → AddsPages old new (ContentTouches m)
+content-touches m old new at count adds place few = λ page allocated. elim (adds page allocated) [
+  | inl was ↦ inl was
+  | inr under ↦ inr (under.0, (let below = under.1 in omega (arith, below, few)), subst (λ (n : ℕ). (n + under.0) / page_size ≡ page) place under.2)
+]
 
 -- ---- over what is told
 
