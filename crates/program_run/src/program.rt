@@ -87,6 +87,7 @@ pub fn execute_in<W: World>(
     ensures elf { IfOk result (IsJudged (load_elf file.now)) }
     ensures within { IfOk result (KeepsBudget budget) }
     ensures paid { OnErr result (PaysForLoading budget (load_elf file.now)) }
+    ensures loading { result ≡ Err Stopped.Loading → world.new ≡ world.old }
     ensures running { (items : Items) → W.told world.old ≡ Some items → result ≡ Err (Stopped.Running read_stop.NoMemory) → ProgramWants items budget (segments file.now) (load_elf file.now) }
     ensures cause { CountsFault (W.faults world.old) (W.faults world.new) (result ≡ Err (Stopped.Running read_stop.DiskFault)) }
     ensures undamaged { IsSome (W.told world.old) → (damage : Damage) → result ≡ Err (Stopped.Running (read_stop.Damaged damage)) → ⊥ }
@@ -122,6 +123,7 @@ fn run_judged<W: World>(
     ensures came { (items : Items) → W.told world.old ≡ Some items → IfOk result (λ came. execution_of came ≡ Ok (run_loaded (syscall items) budget judged.now.program)) }
     ensures elf { IfOk result (IsJudged (Ok judged.now.program)) }
     ensures within { IfOk result (KeepsBudget budget) }
+    ensures loading { result ≡ Err Stopped.Loading → world.new ≡ world.old }
     ensures running { (items : Items) → W.told world.old ≡ Some items → result ≡ Err (Stopped.Running read_stop.NoMemory) → ProgramWants items budget judged.now.segments (Ok judged.now.program) }
     ensures cause { CountsFault (W.faults world.old) (W.faults world.new) (result ≡ Err (Stopped.Running read_stop.DiskFault)) }
     ensures undamaged { IsSome (W.told world.old) → (damage : Damage) → result ≡ Err (Stopped.Running (read_stop.Damaged damage)) → ⊥ }

@@ -1,5 +1,5 @@
 -- A load of an item, exit by exit.
-use Rattle.std.proofs.Common.{◌≡◌, ℕ, ◌+◌, ◌-◌, ◌/◌, ◌%◌, ◌==◌, ◌||◌, nat_lt, Bool, true, false, List, ◌++◌, length, take, drop, replicate, Result, Ok, Err, ◌≤◌, ◌<◌, refl, sym, ◌∙◌, ap, subst, arith, Option, Some}
+use Rattle.std.proofs.Common.{◌≡◌, ℕ, ◌+◌, ◌-◌, ◌/◌, ◌%◌, ◌==◌, ◌||◌, nat_lt, Bool, true, false, List, ◌++◌, length, take, drop, replicate, Result, Ok, Err, ◌≤◌, ◌<◌, ◌⊎◌, inl, inr, refl, sym, ◌∙◌, ap, subst, arith, Option, Some}
 use Rattle.std.specs.Prelude.{not, IfSome, OnOk}
 use Rattle.std.proofs.lemmas.Bool.Decides.{nat_tests}
 use Rattle.std.proofs.lemmas.List.{length-append, length-drop, length-replicate, length-take}
@@ -17,7 +17,8 @@ use Rattle.vm_mem.specs.declared.stop.MemStop.TheVariants as mem_stop
 use Rattle.sys_defs.specs.Answer.{argument, paid_for, stored, with_part, with_length, loads_part, code_bytes, with_content, loads_code}
 use Rattle.vm_sys.specs.declared.syscall.Sys.{Sys}
 use Rattle.vm_sys.specs.declared.syscall.Sys.TheVariants.{Done, Fault, Spent}
-use Rattle.vm_sys.specs.Answering.{IsAnswer, IsPlaced, IsStopped}
+use Rattle.vm_mem.specs.Pages.{IsUnder}
+use Rattle.vm_sys.specs.Answering.{AddsPages, ContentTouches, HasBytes, HoldsPart, IsAnswer, WhereCutOff, IsPlaced, IsStopped}
 
 -- ---- what a store left
 
@@ -227,6 +228,73 @@ pub placed-written : (m one two : Memory) (at size : ℕ) (ys : List ℕ) → le
     → memory.store m at (ys ++ replicate (size - length ys) 0) ≡ Ok two
 placed-written m one two at size ys fits small low stores cleared =
     stored-both m one two at ys (replicate (size - length ys) 0) (inside-all at size ys fits small low) (stores-ok (memory.store m at ys) m one stores) (sym cleared)
+
+-- ---- what is left of a call that was cut off
+
+pub stores-none : (expected : Result Memory MemFault) (old left : Memory) (stop : MemStop) → Stores expected old left (Err stop) → left ≡ old
+stores-none (Ok stored) old left (mem_stop.Fault fault) stores = absurd stores
+stores-none (Ok stored) old left mem_stop.NoMemory stores = stores
+stores-none (Err expected) old left (mem_stop.Fault fault) stores = stores.1
+stores-none (Err expected) old left mem_stop.NoMemory stores = absurd stores
+
+pub none-held : (old new : Machine) → new ≡ old → HoldsPart old new
+none-held old new same = rw same (record { rest = refl; part = inl refl })
+
+-- the length word was not stored, and it alone was
+pub no-word-held : (m new : Machine) (expected : Result Memory MemFault) (old left : Memory) (stop : MemStop) → Stores expected old left (Err stop)
+    → old ≡ m.memory → new ≡ record m { memory = left } → HoldsPart m new
+no-word-held m new expected old left stop stores before is =
+    rw is (record { rest = refl; part = inl (stores-none expected old left stop stores ∙ before) })
+
+pub word-held : (m new : Machine) (word : ℕ) (expected expected' : Result Memory MemFault) (old one old' left : Memory) (stop : MemStop)
+    → expected ≡ memory.store m.memory (argument m 1) (bytes_of 8 word) → Stores expected old one (Ok tt) → Stores expected' old' left (Err stop) → old' ≡ one
+    → new ≡ record m { memory = left } → HoldsPart m new
+word-held m new word expected expected' old one old' left stop first stores stores' before is =
+    rw is (record {
+      rest = refl;
+      part = inr (inl (word, sym first ∙ stores-ok expected old one stores ∙ ap Ok (sym (stores-none expected' old' left stop stores' ∙ before))));
+    })
+
+-- content that was stored in part
+pub content-held : (m new : Machine) (left : Memory) → (left ≡ m.memory) ⊎ HasBytes m.memory (argument m 0) (argument m 1) left → new ≡ record m { memory = left } → HoldsPart m new
+content-held m new left (inl same) is = rw is (record { rest = refl; part = inl same })
+content-held m new left (inr has) is = rw is (record { rest = refl; part = inr (inr has) })
+
+-- code that was not placed: at the content, at the zeros, and at the pages
+pub first-held : (m left : Memory) (at size : ℕ) (ys : List ℕ) (stop : MemStop) → Stores (memory.store m at ys) m left (Err stop) → (left ≡ m) ⊎ HasBytes m at size left
+first-held m left at size ys stop stores = inl (stores-none (memory.store m at ys) m left stop stores)
+
+pub rest-held : (m one left : Memory) (at size : ℕ) (ys : List ℕ) → length ys ≤ size → Stores (memory.store m at ys) m one (Ok tt) → left ≡ one
+    → (left ≡ m) ⊎ HasBytes m at size left
+rest-held m one left at size ys fits stores same = inr (ys, fits, stores-ok (memory.store m at ys) m one stores ∙ ap Ok (sym same))
+
+pub all-held : (m one two left : Memory) (at size : ℕ) (ys : List ℕ) → length ys ≤ size → size ≤ 4194304 → at ≤ 4194304 - size
+    → Stores (memory.store m at ys) m one (Ok tt) → Ok two ≡ memory.store one (at + length ys) (replicate (size - length ys) 0) → left ≡ two
+    → (left ≡ m) ⊎ HasBytes m at size left
+all-held m one two left at size ys fits small low stores cleared same =
+    let all = length-append ys (replicate (size - length ys) 0) in
+    let rest = length-replicate {A = ℕ} (size - length ys) 0 in
+    inr (ys ++ replicate (size - length ys) 0, omega (arith, all, rest, fits), placed-written m one two at size ys fits small low stores cleared ∙ ap Ok (sym same))
+
+pub stopped-held : (stop : MemStop) (result : Sys) (P : Type 0) → IsStopped stop result → P → WhereCutOff result P
+stopped-held (mem_stop.Fault fault) result P is part = rw is part
+stopped-held mem_stop.NoMemory result P is part = rw is part
+
+pub ended-held : (result : Sys) (P : Type 0) → (result ≡ Done) ⊎ (result ≡ Spent) → WhereCutOff result P
+ended-held result P (inl is) = rw is tt
+ended-held result P (inr is) = rw is tt
+
+-- ---- the pages of content
+
+pub front-fits : (bytes front : List ℕ) (count most : ℕ) → front ≡ take count bytes → count ≡ most → length front ≤ most
+front-fits bytes front count most is same = let size = length-take count bytes in rw is (omega (arith, size, same))
+
+pub content-touches : (m : Machine) (old new : List Bool) (at count : ℕ) → AddsPages old new (λ page. IsUnder page at count) → at ≡ argument m 0 → count ≤ argument m 3
+    → AddsPages old new (ContentTouches m)
+content-touches m old new at count adds place few = λ page allocated. elim (adds page allocated) [
+  | inl was ↦ inl was
+  | inr under ↦ inr (under.0, (let below = under.1 in omega (arith, below, few)), subst (λ (n : ℕ). (n + under.0) / page_size ≡ page) place under.2)
+]
 
 -- ---- over what is told
 

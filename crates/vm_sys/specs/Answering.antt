@@ -1,16 +1,20 @@
 -- How the machine answers a syscall.
-use Rattle.std.specs.Prelude.{◌≡◌, ⊤, ℕ, Bool, true, false, List, Option, Some, None, Result, Ok, Err}
+use Rattle.std.specs.Prelude.{◌≡◌, ◌⊎◌, ◌≤◌, ⊤, ℕ, Bool, true, false, List, drop, length, take, Option, Some, None, Result, Ok, Err}
 use Rattle.outside.specs.declared.disk.ReadStop.TheVariants as read_stop
 use Rattle.vm_defs.specs.declared.outcome.Outcome.{Outcome}
 use Rattle.vm_defs.specs.declared.outcome.Outcome.TheVariants as outcome
-use Rattle.vm_defs.specs.Memory.{Memory, set_code}
+use Rattle.vm_defs.specs.Memory.{Memory, bytes_of, load, set_code, store}
 use Rattle.vm_defs.specs.declared.memory.MemFault.{MemFault}
 use Rattle.vm_defs.specs.Step.{Machine, fault_number}
 use Rattle.vm_mem.specs.declared.stop.MemStop.{MemStop}
 use Rattle.vm_mem.specs.declared.stop.MemStop.TheVariants as mem_stop
+use Rattle.vm_mem.specs.Pages.{IsAllocated, IsUnder}
 use Rattle.vm_step.specs.Running.{RunningMachine}
-use Rattle.sys_defs.specs.World.{Item}
-use Rattle.sys_defs.specs.Answer.{Answered}
+use Rattle.sys_defs.specs.Table as table
+use Rattle.sys_defs.specs.Table.{deed_of}
+use Rattle.sys_defs.specs.World.{Item, Items, Here, NoIndex, Missing, Unknown}
+use Rattle.sys_defs.specs.Answer.{Answered, argument, asks}
+use Rattle.vm_defs.specs.Alone.{syscall_number}
 use Rattle.vm_sys.specs.declared.syscall.Sys.{Sys}
 use Rattle.vm_sys.specs.declared.syscall.Sys.TheVariants.{Done, Exit, Fault, Spent, Stop}
 
@@ -35,6 +39,66 @@ Answers (Stop stop) expected next new = ⊤
 
 abbrev pub IsAnswer : Answered → Machine → Sys → Type 0
 IsAnswer expected new result = Answers result expected.0 expected.1 new
+
+-- ---- a call that does not come to its end
+
+-- memory with a word stored at a1, as the length word is
+abbrev pub HasWord : Machine → Memory → Type 0
+HasWord machine memory = (word : ℕ) × (store machine.memory (argument machine 1) (bytes_of 8 word) ≡ Ok memory)
+
+-- memory with bytes stored at an address, no more than so many
+abbrev pub HasBytes : Memory → ℕ → ℕ → Memory → Type 0
+HasBytes before at most memory = (bytes : List ℕ) × (length bytes ≤ most) × (store before at bytes ≡ Ok memory)
+
+-- All but memory is as it was. So is memory, or it holds a part of what the call stores: the length word, or bytes at a0, no more than a1 says.
+pub record HoldsPart (old new : Machine) : Type 0 where
+  pub rest : new ≡ record old { memory = new.memory }
+  pub part : (new.memory ≡ old.memory) ⊎ (HasWord old new.memory ⊎ HasBytes old.memory (argument old 0) (argument old 1) new.memory)
+
+-- P holds where the call faulted, or was stopped.
+abbrev pub WhereCutOff : Sys → Type 0 → Type 0
+WhereCutOff (Fault number) P = P
+WhereCutOff (Stop stop) P = P
+WhereCutOff Done P = ⊤
+WhereCutOff (Exit code) P = ⊤
+WhereCutOff Spent P = ⊤
+
+-- ---- pages
+
+-- A byte that a load in part stores lies in the page: one of the length word, or of the part.
+abbrev pub PartTouches : Machine → List ℕ → ℕ → Type 0
+PartTouches machine item page = IsUnder page (argument machine 1) 8
+    ⊎ ((word : ℕ) × (load machine.memory (argument machine 1) 8 ≡ Ok word)
+    × IsUnder page (argument machine 0) (length (take word (drop (argument machine 2) item))))
+
+-- One of the content that is loaded as code does. The zeros behind it take no memory.
+abbrev pub ContentTouches : Machine → ℕ → Type 0
+ContentTouches machine page = IsUnder page (argument machine 0) (argument machine 3)
+
+abbrev pub BytesTouch : table.Deed → Machine → List ℕ → ℕ → Type 0
+BytesTouch table.Loads machine item page = PartTouches machine item page
+BytesTouch table.LoadsField machine item page = PartTouches machine item page
+BytesTouch table.LoadsCode machine item page = ContentTouches machine page
+BytesTouch table.Exits machine item page = ⊥
+BytesTouch table.Debugs machine item page = ⊥
+
+abbrev pub ItemTouches : table.Deed → Machine → Item → ℕ → Type 0
+ItemTouches deed machine (Here item) page = BytesTouch deed machine item page
+ItemTouches deed machine NoIndex page = ⊥
+ItemTouches deed machine Missing page = ⊥
+ItemTouches deed machine Unknown page = ⊥
+
+abbrev pub DeedTouches : Items → Machine → Option table.Deed → ℕ → Type 0
+DeedTouches items machine (Some deed) page = ItemTouches deed machine (items (asks machine deed)) page
+DeedTouches items machine None page = ⊥
+
+-- a byte that the syscall stores lies in the page
+abbrev pub CallTouches : Items → Machine → ℕ → Type 0
+CallTouches items machine page = DeedTouches items machine (deed_of (syscall_number machine)) page
+
+-- no page is allocated but those that were and those that are touched
+abbrev pub AddsPages : List Bool → List Bool → (ℕ → Type 0) → Type 0
+AddsPages old new Touches = (page : ℕ) → IsAllocated new page → IsAllocated old page ⊎ Touches page
 
 -- the answers after which the machine goes on
 abbrev pub goes_on_of : Sys → Bool

@@ -1,12 +1,12 @@
 // How an item that is there is loaded into the machine's memory.
-ghost use Rattle.std.specs.Prelude.{◌≡◌, ◌+◌, ◌-◌, ◌^◌, ◌%◌, ◌/◌, ◌==◌, ◌||◌, ◌≤◌, ◌++◌, ℕ, true, not, nat_lt, length, take, drop, replicate, OnOk};
+ghost use Rattle.std.specs.Prelude.{◌≡◌, ◌+◌, ◌-◌, ◌^◌, ◌%◌, ◌/◌, ◌==◌, ◌||◌, ◌≤◌, ◌++◌, ◌⊎◌, ℕ, true, not, nat_lt, length, take, drop, replicate, OnErr, OnOk};
 ghost use Rattle.outside.specs.declared.disk.ReadStop.{ReadStop};
 ghost use Rattle.outside.specs.declared.disk.ReadStop.TheVariants as read_stop;
 ghost use Rattle.vm_defs.specs.Memory.{page_size, bytes_of, load, store};
 ghost use Rattle.vm_mem.specs.Paged.{Stores};
-ghost use Rattle.vm_mem.specs.Pages.{IsAllocated};
+ghost use Rattle.vm_mem.specs.Pages.{IsAllocated, IsUnder};
 ghost use Rattle.sys_defs.specs.Answer.{loads_code, loads_part, paid_for, stored};
-ghost use Rattle.vm_sys.specs.Answering.{IsAnswer, IsStopped, IsPlaced, goes_on_of, with_memory};
+ghost use Rattle.vm_sys.specs.Answering.{AddsPages, ContentTouches, HasBytes, HoldsPart, IsAnswer, WhereCutOff, IsStopped, IsPlaced, PartTouches, goes_on_of, with_memory};
 
 use super::call::{A0, A1, A2, A3};
 use super::syscall::Sys;
@@ -29,7 +29,9 @@ pub(crate) fn load_part(machine: &mut Machine, item: &[u8]) -> Sys
     ensures goes_on { machine.new.goes_on ≡ goes_on_of result }
     ensures stops { (stop : ReadStop) → result ≡ Sys.Stop stop → stop ≡ read_stop.NoMemory }
     ensures unpaid { (stop : ReadStop) → result ≡ Sys.Stop stop → machine.new.machine.cycles ≡ machine.old.machine.cycles }
+    ensures in_part { WhereCutOff result (HoldsPart machine.old.machine machine.new.machine) }
     ensures pages_kept { (page : ℕ) → IsAllocated machine.old.allocated page → IsAllocated machine.new.allocated page }
+    ensures pages_added { AddsPages machine.old.allocated machine.new.allocated (PartTouches machine.old.machine item.now) }
 {
     let to = machine.reg(A0);
     let length_at = machine.reg(A1);
@@ -81,6 +83,7 @@ fn store_word(machine: &mut Machine, at: u64, word: u64) -> Result<(), MemStop>
     ensures stores { Stores (store machine.old.machine.memory at (bytes_of 8 word)) machine.old.machine.memory machine.new.machine.memory result }
     ensures rest { machine.new ≡ with_memory machine.old machine.new.machine.memory machine.new.allocated }
     ensures pages_kept { (page : ℕ) → IsAllocated machine.old.allocated page → IsAllocated machine.new.allocated page }
+    ensures pages_added { AddsPages machine.old.allocated machine.new.allocated (λ page. IsUnder page at 8) }
 {
     machine.memory_mut().store(at, Width::B8, word)
 }
@@ -90,6 +93,7 @@ fn store_bytes(machine: &mut Machine, at: u64, bytes: &[u8]) -> Result<(), MemSt
     ensures stores { Stores (stored machine.old.machine.memory at bytes.now) machine.old.machine.memory machine.new.machine.memory result }
     ensures rest { machine.new ≡ with_memory machine.old machine.new.machine.memory machine.new.allocated }
     ensures pages_kept { (page : ℕ) → IsAllocated machine.old.allocated page → IsAllocated machine.new.allocated page }
+    ensures pages_added { AddsPages machine.old.allocated machine.new.allocated (λ page. IsUnder page at (length bytes.now)) }
     ensures bound { OnOk result (length bytes.now ≤ 2 ^ 38) }
 {
     if bytes.is_empty() {
@@ -105,6 +109,7 @@ fn pay(machine: &mut Machine, count: u64) -> Sys
     ensures answer { IsAnswer (paid_for count machine.old.machine) machine.new.machine result }
     ensures goes_on { machine.new.goes_on ≡ goes_on_of result }
     ensures stops { (stop : ReadStop) → result ≡ Sys.Stop stop → ⊥ }
+    ensures ends { (result ≡ Sys.Done) ⊎ (result ≡ Sys.Spent) }
     ensures allocated { machine.new.allocated ≡ machine.old.allocated }
 {
     if !machine.charge((count + 3) / 4) {
@@ -134,7 +139,9 @@ pub(crate) fn load_code(machine: &mut Machine, item: &[u8]) -> Sys
     ensures goes_on { machine.new.goes_on ≡ goes_on_of result }
     ensures stops { (stop : ReadStop) → result ≡ Sys.Stop stop → stop ≡ read_stop.NoMemory }
     ensures unpaid { (stop : ReadStop) → result ≡ Sys.Stop stop → machine.new.machine.cycles ≡ machine.old.machine.cycles }
+    ensures in_part { WhereCutOff result (HoldsPart machine.old.machine machine.new.machine) }
     ensures pages_kept { (page : ℕ) → IsAllocated machine.old.allocated page → IsAllocated machine.new.allocated page }
+    ensures pages_added { AddsPages machine.old.allocated machine.new.allocated (ContentTouches machine.old.machine) }
 {
     let to = machine.reg(A0);
     let size = machine.reg(A1);
@@ -176,7 +183,9 @@ fn place_code(memory: &mut Memory, at: u64, content: &[u8], size: u64) -> Result
     requires fits { length content.now ≤ size }
     ensures placed { IsPlaced result (store memory.old.memory at (content.now ++ replicate (size - length content.now) 0)) at (size / page_size) memory.new.memory }
     ensures bound { OnOk result (size ≤ 2 ^ 38) }
+    ensures in_part { OnErr result ((memory.new.memory ≡ memory.old.memory) ⊎ HasBytes memory.old.memory at size memory.new.memory) }
     ensures pages_kept { (page : ℕ) → IsAllocated memory.old.allocated page → IsAllocated memory.new.allocated page }
+    ensures pages_added { AddsPages memory.old.allocated memory.new.allocated (λ page. IsUnder page at (length content.now)) }
 {
     if size > MEMORY_SIZE || at > MEMORY_SIZE - size {
         return Err(MemStop::Fault(MemFault::Range));

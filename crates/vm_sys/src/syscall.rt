@@ -11,7 +11,7 @@ ghost use Rattle.sys_defs.specs.Answer.{asks, results, syscall, with_item, with_
 ghost use Rattle.vm_defs.specs.Alone as alone;
 ghost use Rattle.vm_mem.specs.Pages.{IsAllocated};
 ghost use Rattle.vm_sys.specs.Deeds.{form_meaning};
-ghost use Rattle.vm_sys.specs.Answering.{IsAnswer, IsAnswerOfSome, goes_on_of};
+ghost use Rattle.vm_sys.specs.Answering.{AddsPages, BytesTouch, CallTouches, HoldsPart, IsAnswer, IsAnswerOfSome, WhereCutOff, ItemTouches, goes_on_of};
 ghost use Rattle.vm_sys.specs.Running.{LoadsItem};
 
 use super::call::{A0, A7, Deed, Form, asked, deed_of};
@@ -46,7 +46,8 @@ pub enum Sys {
 /// Answers an ECALL: the syscall whose number is in a7, over what surrounds the script.
 ///
 /// Where the world tells what it shows, memory is wanted only by a call that loads from a source, and a field, that
-/// there is. A call that is stopped costs nothing.
+/// there is. A call that is stopped costs nothing. It changes at most what memory holds, as one that faults does: a
+/// part of what the call stores may be there.
 #[tactic(auto, unfolding(sys_defs::specs::Answer::syscall))]
 pub fn handle<W: World>(machine: &mut Machine, world: &mut W) -> Sys
     requires { machine.old.goes_on ≡ true }
@@ -60,7 +61,9 @@ pub fn handle<W: World>(machine: &mut Machine, world: &mut W) -> Sys
     ensures cause { CountsFault (W.faults world.old) (W.faults world.new) (result ≡ Sys.Stop DiskFault) }
     ensures undamaged { IsSome (W.told world.old) → (damage : Damage) → result ≡ Sys.Stop (Damaged damage) → ⊥ }
     ensures damage { (damage : Damage) → result ≡ Sys.Stop (Damaged damage) → damage.area ≡ Log }
+    ensures in_part { WhereCutOff result (HoldsPart machine.old.machine machine.new.machine) }
     ensures pages_kept { (page : ℕ) → IsAllocated machine.old.allocated page → IsAllocated machine.new.allocated page }
+    ensures pages_added { (items : Items) → W.told world.old ≡ Some items → AddsPages machine.old.allocated machine.new.allocated (CallTouches items machine.old.machine) }
 {
     let deed = match deed_of(machine.reg(A7)) {
         Some(deed) => deed,
@@ -86,7 +89,9 @@ fn load<W: World>(machine: &mut Machine, world: &mut W, form: Form) -> Sys
     ensures cause { CountsFault (W.faults world.old) (W.faults world.new) (result ≡ Sys.Stop DiskFault) }
     ensures undamaged { IsSome (W.told world.old) → (damage : Damage) → result ≡ Sys.Stop (Damaged damage) → ⊥ }
     ensures damage { (damage : Damage) → result ≡ Sys.Stop (Damaged damage) → damage.area ≡ Log }
+    ensures in_part { WhereCutOff result (HoldsPart machine.old.machine machine.new.machine) }
     ensures pages_kept { (page : ℕ) → IsAllocated machine.old.allocated page → IsAllocated machine.new.allocated page }
+    ensures pages_added { (items : Items) → W.told world.old ≡ Some items → AddsPages machine.old.allocated machine.new.allocated (ItemTouches (form_meaning form) machine.old.machine (items (asks machine.old.machine (form_meaning form)))) }
 {
     let found = match world.find(asked(machine, form)) {
         Ok(found) => found,
@@ -107,7 +112,9 @@ fn load_bytes(machine: &mut Machine, form: Form, item: &[u8]) -> Sys
     ensures goes_on { machine.new.goes_on ≡ goes_on_of result }
     ensures stops { (stop : ReadStop) → result ≡ Sys.Stop stop → stop ≡ NoMemory }
     ensures unpaid { (stop : ReadStop) → result ≡ Sys.Stop stop → machine.new.machine.cycles ≡ machine.old.machine.cycles }
+    ensures in_part { WhereCutOff result (HoldsPart machine.old.machine machine.new.machine) }
     ensures pages_kept { (page : ℕ) → IsAllocated machine.old.allocated page → IsAllocated machine.new.allocated page }
+    ensures pages_added { AddsPages machine.old.allocated machine.new.allocated (BytesTouch (form_meaning form) machine.old.machine item.now) }
 {
     match form {
         Form::Code => load_code(machine, item),

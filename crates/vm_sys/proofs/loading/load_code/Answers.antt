@@ -1,5 +1,6 @@
-use Rattle.std.proofs.Common.{◌≡◌, ap, refl, ◌∙◌}
-use Rattle.vm_sys.proofs.Exits.{code-outside, code-placed, code-stopped, code-unaligned, content_of, has_part_pages, is_outside}
+use Rattle.std.proofs.Common.{◌≡◌, ap, length, refl, subst, sym, ◌∙◌}
+use Rattle.vm_sys.specs.Answering.{AddsPages, ContentTouches}
+use Rattle.vm_sys.proofs.Exits.{code-outside, code-placed, code-stopped, code-unaligned, content-held, content-touches, content_of, ended-held, front-fits, has_part_pages, is_outside, stopped-held}
 use Rattle.vm_sys.proofs.loading.load_code.Goals as goal
 
 pub returns-then-lies_outside-clause-answer : goal.returns-then-lies_outside-clause-answer
@@ -38,3 +39,25 @@ returns-clause-answer c =
     rw (c.first-content.ensures, c.from.ensures, c.reg-offset.ensures, c.reg-count.ensures) refl in
     code-placed m c.args.item.now c.place_code.new.memory.memory c.reg-size.result _ _ _ (out ∙ c.if-lies_outside.false) (parts ∙ c.if-is_unaligned.false)
     (rw (content, c.memory_mut.ensures.memory, c.reg-to.ensures, c.reg-size.ensures) at c.in-Ok.ensures.placed) refl c.reg-size.ensures c.pay.ensures.answer
+
+pub returns-in-Err-clause-in_part : goal.returns-in-Err-clause-in_part
+returns-in-Err-clause-in_part c =
+    stopped-held _ _ _ c.stopped.ensures
+    (content-held c.args.machine.now.machine _ c.place_code.new.memory.memory
+    (rw (c.memory_mut.ensures.memory, c.reg-to.ensures, c.reg-size.ensures) at c.in-Err.ensures.in_part) refl)
+
+pub returns-clause-in_part : goal.returns-clause-in_part
+returns-clause-in_part c = ended-held _ _ c.pay.ensures.ends
+
+pub returns-in-Err-clause-pages_added : goal.returns-in-Err-clause-pages_added
+returns-in-Err-clause-pages_added c =
+    content-touches c.args.machine.now.machine c.args.machine.now.allocated c.place_code.new.memory.allocated c.reg-to.result (length c.first-content.result.now)
+    (rw c.memory_mut.ensures.memory at c.in-Err.ensures.pages_added) c.reg-to.ensures
+    (front-fits c.from.result.now c.first-content.result.now c.reg-count.result _ c.first-content.ensures c.reg-count.ensures)
+
+pub returns-clause-pages_added : goal.returns-clause-pages_added
+returns-clause-pages_added c =
+    subst (λ allocated. AddsPages c.args.machine.now.allocated allocated (ContentTouches c.args.machine.now.machine)) (sym c.pay.ensures.allocated)
+    (content-touches c.args.machine.now.machine c.args.machine.now.allocated c.place_code.new.memory.allocated c.reg-to.result (length c.first-content.result.now)
+    (rw c.memory_mut.ensures.memory at c.in-Ok.ensures.pages_added) c.reg-to.ensures
+    (front-fits c.from.result.now c.first-content.result.now c.reg-count.result _ c.first-content.ensures c.reg-count.ensures))

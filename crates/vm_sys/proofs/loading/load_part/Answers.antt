@@ -1,6 +1,7 @@
 use Rattle.std.proofs.Common.{ℕ, ap, length, refl, sym, ◌∙◌}
 use Rattle.vm_defs.specs.Memory.{load}
-use Rattle.vm_sys.proofs.Exits.{length-refused, part-paid, part-refused, word-refused}
+use Rattle.vm_mem.specs.declared.stop.MemStop.TheVariants.{Fault}
+use Rattle.vm_sys.proofs.Exits.{ended-held, length-refused, no-word-held, none-held, part-paid, part-refused, stopped-held, word-held, word-refused}
 use Rattle.vm_sys.proofs.loading.load_part.Goals as goal
 
 pub returns-in-Err-clause-answer : goal.returns-in-Err-clause-answer
@@ -48,3 +49,28 @@ returns-clause-answer c =
     (ap (λ running. running.machine) c.store_bytes.ensures.rest ∙ ap (λ running. record running.machine { memory = two }) c.store_word.ensures.rest
     ∙ ap (λ running. record running.machine { memory = two }) c.load_word.ensures.unchanged)
     c.pay.ensures.answer
+
+pub returns-in-Err-clause-in_part : goal.returns-in-Err-clause-in_part
+returns-in-Err-clause-in_part c =
+    stopped-held (Fault c.in-Err.fault) _ _ c.stopped.ensures (none-held _ _ (ap (λ running. running.machine) c.load_word.ensures.unchanged))
+
+pub returns-in-Err-store_word-clause-in_part : goal.returns-in-Err-store_word-clause-in_part
+returns-in-Err-store_word-clause-in_part c =
+    stopped-held _ _ _ c.stopped-in-Err-store_word.ensures
+    (no-word-held c.args.machine.now.machine _ _ _ _ c.in-Err-store_word.stop c.in-Err-store_word.ensures.stores
+    (ap (λ running. running.machine.memory) c.load_word.ensures.unchanged)
+    (ap (λ running. running.machine) c.store_word.ensures.rest
+    ∙ ap (λ running. record running.machine { memory = c.store_word.new.machine.machine.memory }) c.load_word.ensures.unchanged))
+
+pub returns-in-Err-store_bytes-clause-in_part : goal.returns-in-Err-store_bytes-clause-in_part
+returns-in-Err-store_bytes-clause-in_part c =
+    let two = c.store_bytes.new.machine.machine.memory in
+    stopped-held _ _ _ c.stopped-in-Err-store_bytes.ensures
+    (word-held c.args.machine.now.machine _ (length c.from-rest.result.now) _ _ _ c.store_word.new.machine.machine.memory _ two c.in-Err-store_bytes.stop
+    (rw (c.load_word.ensures.unchanged, c.reg-length_at.ensures) refl)
+    c.in-Ok-store_word.ensures.stores c.in-Err-store_bytes.ensures.stores refl
+    (ap (λ running. running.machine) c.store_bytes.ensures.rest ∙ ap (λ running. record running.machine { memory = two }) c.store_word.ensures.rest
+    ∙ ap (λ running. record running.machine { memory = two }) c.load_word.ensures.unchanged))
+
+pub returns-clause-in_part : goal.returns-clause-in_part
+returns-clause-in_part c = ended-held _ _ c.pay.ensures.ends
