@@ -2,7 +2,6 @@
 use Rattle.std.proofs.Common.{◌≡◌, ℕ, zero, suc, ◌+◌, ◌-◌, ◌<◌, ◌≤◌, ℤ, ◌⊎◌, inl, inr, refl, sym, ◌∙◌, ap, subst, arith}
 use Rattle.std.proofs.lemmas.Bool.{cases_lt}
 use Rattle.std.specs.Prelude.{Option, Some, None, Ok, Err}
-use Rattle.outside.specs.Causes.{CountsFault}
 use Rattle.outside.specs.declared.disk.ReadStop.{ReadStop}
 use Rattle.vm_defs.specs.declared.outcome.Outcome.{Outcome}
 use Rattle.vm_defs.specs.declared.outcome.Outcome.TheVariants.{Exit, Fault, Spent}
@@ -117,9 +116,6 @@ spent-advances answer old new stops = ended-advances answer old new Spent (ap (�
 -- the world is not asked
 pub no-error : {A B : Type 0} (value : A) (stop : B) → Ok value ≡ Err stop → ⊥
 no-error value stop is = absurd cc
-
-pub counts-none : (faults : ℕ) (Failed : Type 0) → (Failed → ⊥) → CountsFault faults faults Failed
-counts-none faults Failed never = record { later = omega arith; rose = λ fault. absurd (never fault); unchanged = λ none. refl }
 
 -- the answer to a step, of a machine before the steps
 record Account (machine : Machine) (next : Option Outcome × Machine) : Type 0 where

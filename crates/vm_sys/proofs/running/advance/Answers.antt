@@ -2,7 +2,8 @@ use Rattle.std.proofs.Common.{inl, refl, arith}
 use Rattle.vm_defs.specs.declared.step.Step.TheVariants.{Ecall, Fault, NoMemory, Spent}
 use Rattle.sys_defs.specs.World.{Unknown}
 use Rattle.sys_defs.specs.Answer.{syscall}
-use Rattle.vm_sys.proofs.RunLemmas.{counts-none, fault-advances, handled-later, no-error, spent-advances, stops-later}
+use Rattle.vm_sys.proofs.Exits.{counts-none}
+use Rattle.vm_sys.proofs.RunLemmas.{fault-advances, handled-later, no-error, spent-advances, stops-later}
 use Rattle.vm_sys.proofs.running.advance.Goals as goal
 
 pub returns-in-Ecall-clause-later : goal.returns-in-Ecall-clause-later
