@@ -240,7 +240,10 @@ pub(crate) fn judge_transactions<C: Cells, B: Blocks>(
         let tx = block.transactions_item(place);
         match progress.judge_next(alloc, &tx, &at, &proposed, blocks, place as u32) {
             Ok(()) => {}
-            Err(stop) => return Err(stop),
+            Err(stop) => {
+                drop(progress);
+                return Err(stop);
+            }
         }
     }
     Ok(progress.ext)

@@ -1,5 +1,5 @@
 -- The cost of loading, and a program that runs alone.
-use Rattle.std.proofs.Common.{◌≡◌, ℕ, ◌+◌, ◌<◌, true, List, inl, inr, refl, subst, arith}
+use Rattle.std.proofs.Common.{◌≡◌, ℕ, ◌+◌, ◌<◌, ◌≤◌, true, false, List, inl, inr, refl, ap, ◌∙◌, subst, arith}
 use Rattle.std.proofs.Math.Path.{fun_ext}
 use Rattle.std.specs.Prelude.{Option, Some, None, Result, Ok, Err, nat_lt}
 use Rattle.std.proofs.lemmas.Bool.Decides.{nat_tests}
@@ -12,7 +12,7 @@ use Rattle.vm_defs.specs.Alone.{answer_ecall, syscall_number}
 use Rattle.vm_defs.specs.Elf.{Program, Segment, load_elf}
 use Rattle.vm_defs.specs.Memory.{Memory}
 use Rattle.vm_defs.specs.Step.{Machine, charged, step_of}
-use Rattle.vm_defs.specs.Program.{Answer, execution, loading_cycles, new_machine}
+use Rattle.vm_defs.specs.Program.{Answer, Ended, execution, loading_cycles, new_machine, run, run_loaded}
 use Rattle.sys_defs.specs.Table as table
 use Rattle.sys_defs.specs.Table.{deed_of}
 use Rattle.sys_defs.specs.World.{nothing}
@@ -22,7 +22,7 @@ use Rattle.elf_load.specs.Placing.{HoldsBytes}
 use Rattle.vm_sys.specs.Running.{LoadsBy, RunWants, RunWantsPage}
 use Rattle.program_run.specs.declared.program.Execution.{Execution}
 use Rattle.program_run.specs.declared.program.Stopped.{Stopped}
-use Rattle.program_run.specs.declared.program.Stopped.TheVariants.{Running}
+use Rattle.program_run.specs.declared.program.Stopped.TheVariants.{Loading, Running}
 use Rattle.program_run.specs.Program.{ProgramWants, ProgramWantsPage}
 
 -- ---- the cost of loading
@@ -39,6 +39,49 @@ spent-loading answer budget file program cost held is more =
 pub start-budget : (memory : Memory) (pc budget cost : ℕ) → (charged (new_machine memory pc budget) cost).budget ≡ budget
 unfolding new_machine
 start-budget memory pc budget cost = refl
+
+-- the loading is within the budget, and the run follows
+pub ran-loaded : (answer : Answer) (budget : ℕ) (program : Program) (cost : ℕ) (ended : Ended) → cost ≡ loading_cycles program.file_bytes → cost ≤ budget
+    → ended ≡ run answer (charged (new_machine program.memory program.pc budget) cost) → ended ≡ run_loaded answer budget program
+unfolding new_machine
+ran-loaded answer budget program cost ended is within ran =
+    let start = new_machine program.memory program.pc budget in
+    let paid : nat_lt budget (0 + loading_cycles program.file_bytes) ≡ false = grind (arith, nat_tests, is, within) in
+    rw paid (ran ∙ ap (λ (n : ℕ). run answer (charged start n)) is)
+
+-- ---- what a program did not end with
+
+abbrev ended : Stopped → Result Execution Stopped
+ended stop = Err stop
+
+abbrev stopped : (T : Type 0) → ReadStop → Result T ReadStop
+stopped T stop = Err stop
+
+pub no-error : {A B : Type 0} (value : A) (stop : B) → Ok value ≡ Err stop → ⊥
+no-error value stop is = absurd cc
+
+pub not-running : (stop : ReadStop) → ended Loading ≡ ended (Running stop) → ⊥
+not-running stop is = absurd cc
+
+pub not-loading : (stop : ReadStop) → ended (Running stop) ≡ ended Loading → ⊥
+not-loading stop is = absurd cc
+
+pub same-stop : {T : Type 0} (stop other : ReadStop) → ended (Running stop) ≡ ended (Running other) → stopped T stop ≡ stopped T other
+same-stop {T} stop other is = let same : stop ≡ other = cc in ap (stopped T) same
+
+pub same-running : {T : Type 0} (stop other : ReadStop) → stopped T stop ≡ stopped T other → ended (Running stop) ≡ ended (Running other)
+same-running stop other is = let same : stop ≡ other = cc in ap (λ (it : ReadStop). ended (Running it)) same
+
+-- a count of faults that stood still, and one that goes by the run's
+pub counts-none : (faults : ℕ) (Fault : Type 0) → (Fault → ⊥) → CountsFault faults faults Fault
+counts-none faults Fault never = record { later = omega arith; rose = λ fault. absurd (never fault); unchanged = λ none. refl }
+
+pub counts-as : {before now : ℕ} {Fault Other : Type 0} → (Fault → Other) → (Other → Fault) → CountsFault before now Fault → CountsFault before now Other
+counts-as to from counts = record {
+  later = counts.later;
+  rose = λ other. counts.rose (from other);
+  unchanged = λ none. counts.unchanged (λ fault. none (to fault));
+}
 
 -- ---- a program that runs alone
 

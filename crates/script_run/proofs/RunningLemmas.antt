@@ -6,6 +6,7 @@ use Rattle.std.specs.Option.{option_map}
 use Rattle.std.proofs.lemmas.List.{drop_all, length-map}
 use Rattle.std.proofs.lemmas.List.Elements.{All-get_or}
 use Rattle.std.proofs.lemmas.Option.{slice_get_within, get_or_from_slice_get, slice_get-get_or, slice_get-map}
+use Rattle.codec_defs.specs.Schema.{Script}
 use Rattle.cell_model.specs.Copies.{ResolvedValue}
 use Rattle.vm_defs.specs.Program.{Execution, execution}
 use Rattle.sys_defs.specs.Answer.{syscall}
@@ -14,11 +15,18 @@ use Rattle.script_defs.specs.Scene.{Scene}
 use Rattle.script_defs.specs.Groups.{Group, groups_of}
 use Rattle.script_defs.specs.Codes.{Code, Is, code_of, is_type_id}
 use Rattle.script_defs.specs.Items.{items}
-use Rattle.script_defs.specs.Outcome.{has_no_code, or_later, first_without_code, executed, run_code, run_type_id, run_group, with_cycles, followed_by, run_from, unless, outcome_of}
+use Rattle.script_defs.specs.Outcome.{has_no_code, lacks_code, or_later, first_without_code, executed, run_code, run_type_id, run_group, with_cycles, followed_by, run_from, unless, outcome_of}
 use Rattle.script_run.specs.declared.stop.ScriptStop.{ScriptStop}
 use Rattle.script_run.specs.declared.stop.ScriptStop.TheVariants.{Failed, Read}
 use Rattle.script_run.specs.Running.{IsOutcome, answer_of, read_stop_of}
 use Rattle.script_run.specs.Shown.{GroupValue, HasItsHash, IsShownAs}
+
+-- ---- The code of one group
+
+-- what is found for its script, where that is not TYPE_ID
+pub lacks-code : (scene : Scene) (place : ℕ) (group : Group) (script : Script) (code : Code) → script ≡ group.script → is_type_id script ≡ false
+    → code ≡ code_of scene.deps script → lacks_code place code ≡ has_no_code scene place group
+lacks-code scene place group script code same other is = rw (← same, other) (ap (lacks_code place) is)
 
 -- ---- Groups by their places
 

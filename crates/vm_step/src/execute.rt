@@ -187,7 +187,6 @@ impl Machine {
 
     /// An instruction of `length` bytes: its cost is added, the budget is looked at, and then it has its effect.
     #[inline(always)]
-    #[tactic(auto, unfolding(vm_defs::specs::Step::effect, vm_defs::specs::Step::register))]
     pub(crate) fn execute(&mut self, pc: &mut u64, ins: Ins, length: u64) -> Step
         requires goes_on { self.old.goes_on ≡ true }
         requires registers { HasRegisters ins }

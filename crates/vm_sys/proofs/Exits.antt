@@ -1,11 +1,14 @@
 -- A load of an item, exit by exit.
 use Rattle.std.proofs.Common.{◌≡◌, ℕ, ◌+◌, ◌-◌, ◌/◌, ◌%◌, ◌==◌, ◌||◌, nat_lt, Bool, true, false, List, ◌++◌, length, take, drop, replicate, Result, Ok, Err, ◌≤◌, ◌<◌, ◌⊎◌, inl, inr, refl, sym, ◌∙◌, ap, subst, arith, Option, Some}
-use Rattle.std.specs.Prelude.{not, IfSome, OnOk}
+use Rattle.std.specs.Prelude.{not, IfSome, OnOk, ◌≢◌}
+use Rattle.outside.specs.Causes.{CountsFault}
+use Rattle.outside.specs.declared.disk.ReadStop.{ReadStop}
+use Rattle.outside.specs.declared.disk.ReadStop.TheVariants as read_stop
 use Rattle.std.proofs.lemmas.Bool.Decides.{nat_tests}
 use Rattle.std.proofs.lemmas.List.{length-append, length-drop, length-replicate, length-take}
 use Rattle.vm_defs.specs.declared.memory.MemFault.TheVariants.{Range}
 use Rattle.vm_defs.specs.Program.{loading_cycles}
-use Rattle.sys_defs.specs.World.{Items}
+use Rattle.sys_defs.specs.World.{Call, Item, Items, Unknown}
 use Rattle.vm_sys.proofs.Ranges.{in-memory, in-memory_from, out-from, refused-first, refused-rest, store-out, stored-both, stored-parts}
 use Rattle.vm_defs.specs.declared.memory.MemFault.{MemFault}
 use Rattle.vm_defs.specs.Memory.{Memory, bytes_of, is_out_of_range, page_size, set_code}
@@ -16,9 +19,46 @@ use Rattle.vm_mem.specs.declared.stop.MemStop.{MemStop}
 use Rattle.vm_mem.specs.declared.stop.MemStop.TheVariants as mem_stop
 use Rattle.sys_defs.specs.Answer.{argument, paid_for, stored, with_part, with_length, loads_part, code_bytes, with_content, loads_code}
 use Rattle.vm_sys.specs.declared.syscall.Sys.{Sys}
-use Rattle.vm_sys.specs.declared.syscall.Sys.TheVariants.{Done, Fault, Spent}
+use Rattle.vm_sys.specs.declared.syscall.Sys.TheVariants.{Done, Fault, Spent, Stop}
 use Rattle.vm_mem.specs.Pages.{IsUnder}
 use Rattle.vm_sys.specs.Answering.{AddsPages, ContentTouches, HasBytes, HoldsPart, IsAnswer, WhereCutOff, IsPlaced, IsStopped}
+
+-- ---- what the world answered
+
+abbrev unread : (T : Type 0) → ReadStop → Result T ReadStop
+unread T stop = Err stop
+
+pub same-stop : {T : Type 0} (stop other : ReadStop) → Stop stop ≡ Stop other → unread T stop ≡ unread T other
+same-stop {T} stop other is = let same : stop ≡ other = cc in ap (unread T) same
+
+pub same-answer : {T : Type 0} (stop other : ReadStop) → unread T stop ≡ unread T other → Stop stop ≡ Stop other
+same-answer stop other is = let same : stop ≡ other = cc in ap Stop same
+
+pub no-stop : (number : ℕ) (stop : ReadStop) → Fault number ≡ Stop stop → ⊥
+no-stop number stop is = absurd cc
+
+-- that there is no such item is known without memory
+pub known-before : (T : Type 0) (told : Option Items) (items : Items) (call asked : Call) (stop : ReadStop)
+    → IfSome told (λ its. its call ≡ Unknown → unread T stop ≡ unread T read_stop.NoMemory → ⊥) → told ≡ Some items → call ≡ asked
+    → Stop stop ≡ Stop read_stop.NoMemory → items asked ≢ Unknown
+known-before T told items call asked stop known tells same wants = λ unknown.
+    subst (λ (o : Option Items). IfSome o (λ its. its call ≡ Unknown → unread T stop ≡ unread T read_stop.NoMemory → ⊥)) tells known (ap items same ∙ unknown)
+    (same-stop stop read_stop.NoMemory wants)
+
+pub item-found : (told : Option Items) (items : Items) (call asked : Call) (item : Item) → IfSome told (λ its. its call ≡ item) → told ≡ Some items → call ≡ asked
+    → items asked ≡ item
+item-found told items call asked item found tells same =
+    ap items (sym same) ∙ subst (λ (o : Option Items). IfSome o (λ its. its call ≡ item)) tells found
+
+pub counts-none : (faults : ℕ) (Failed : Type 0) → (Failed → ⊥) → CountsFault faults faults Failed
+counts-none faults Failed never = record { later = omega arith; rose = λ fault. absurd (never fault); unchanged = λ none. refl }
+
+pub counts-as : {before now : ℕ} {Failed Other : Type 0} → (Failed → Other) → (Other → Failed) → CountsFault before now Failed → CountsFault before now Other
+counts-as to from counts = record {
+  later = counts.later;
+  rose = λ other. counts.rose (from other);
+  unchanged = λ none. counts.unchanged (λ fault. none (to fault));
+}
 
 -- ---- what a store left
 

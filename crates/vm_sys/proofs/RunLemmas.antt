@@ -1,7 +1,7 @@
 -- A run, stop by stop: how it ends, that what is left of it ends as the whole does, and that it ends.
 use Rattle.std.proofs.Common.{◌≡◌, ℕ, zero, suc, ◌+◌, ◌-◌, ◌<◌, ◌≤◌, ℤ, ◌⊎◌, inl, inr, refl, sym, ◌∙◌, ap, subst, arith}
 use Rattle.std.proofs.lemmas.Bool.{cases_lt}
-use Rattle.std.specs.Prelude.{Option, Some, None}
+use Rattle.std.specs.Prelude.{Option, Some, None, Ok, Err}
 use Rattle.outside.specs.declared.disk.ReadStop.{ReadStop}
 use Rattle.vm_defs.specs.declared.outcome.Outcome.{Outcome}
 use Rattle.vm_defs.specs.declared.outcome.Outcome.TheVariants.{Exit, Fault, Spent}
@@ -93,6 +93,29 @@ stops-later old new step.NoMemory wants =
     let pays = step-pays wants.reached in
     let cycles : new.cycles ≡ (step_of wants.reached).1.cycles = ap (λ (machine : Machine). machine.cycles) wants.stores.1 in
     omega (arith, before.0, pays.cycles, cycles)
+
+-- ---- a stop that no syscall answers
+
+ended-advances : (answer : Answer) (old new : RunningMachine) (end : Outcome) → (Some end, new.machine) ≡ stopped answer old.machine
+    → Advances answer old new (Some end)
+ended-advances answer old new end is = record {
+  ended = ap (λ (next : Option Outcome × Machine). next.0) is;
+  cycles = ap (λ (next : Option Outcome × Machine). next.1.cycles) is;
+  machine = λ goes_on. absurd cc;
+  goes_on = λ goes_on. absurd cc;
+}
+
+pub fault-advances : (answer : Answer) (old new : RunningMachine) (number : ℕ) → Stops old new.machine (step.Fault number)
+    → Advances answer old new (Some (Fault number))
+fault-advances answer old new number stops =
+    ended-advances answer old new (Fault number) (ap (λ (next : Step × Machine). answered answer next.0 next.1) stops)
+
+pub spent-advances : (answer : Answer) (old new : RunningMachine) → Stops old new.machine step.Spent → Advances answer old new (Some Spent)
+spent-advances answer old new stops = ended-advances answer old new Spent (ap (λ (next : Step × Machine). answered answer next.0 next.1) stops)
+
+-- the world is not asked
+pub no-error : {A B : Type 0} (value : A) (stop : B) → Ok value ≡ Err stop → ⊥
+no-error value stop is = absurd cc
 
 -- the answer to a step, of a machine before the steps
 record Account (machine : Machine) (next : Option Outcome × Machine) : Type 0 where

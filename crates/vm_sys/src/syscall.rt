@@ -48,7 +48,6 @@ pub enum Sys {
 /// Where the world tells what it shows, memory is wanted only by a call that loads from a source, and a field, that
 /// there is. A call that is stopped costs nothing. It changes at most what memory holds, as one that faults does: a
 /// part of what the call stores may be there.
-#[tactic(auto, unfolding(sys_defs::specs::Answer::syscall))]
 pub fn handle<W: World>(machine: &mut Machine, world: &mut W) -> Sys
     requires { machine.old.goes_on ≡ true }
     ensures told { W.told world.new ≡ W.told world.old }

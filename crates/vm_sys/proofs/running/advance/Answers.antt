@@ -1,6 +1,9 @@
-use Rattle.std.proofs.Common.{arith}
+use Rattle.std.proofs.Common.{inl, refl, arith}
 use Rattle.vm_defs.specs.declared.step.Step.TheVariants.{Ecall, Fault, NoMemory, Spent}
-use Rattle.vm_sys.proofs.RunLemmas.{handled-later, stops-later}
+use Rattle.sys_defs.specs.World.{Unknown}
+use Rattle.sys_defs.specs.Answer.{syscall}
+use Rattle.vm_sys.proofs.Exits.{counts-none}
+use Rattle.vm_sys.proofs.RunLemmas.{fault-advances, handled-later, no-error, spent-advances, stops-later}
 use Rattle.vm_sys.proofs.running.advance.Goals as goal
 
 pub returns-in-Ecall-clause-later : goal.returns-in-Ecall-clause-later
@@ -9,11 +12,53 @@ returns-in-Ecall-clause-later g c =
     let answered = handled-later c.run.new.self.machine c.handle.new.machine.machine c.handle.result c.handle.ensures.some c.handle.ensures.unpaid in
     omega (arith, stops, answered)
 
-pub returns-in-Fault-clause-later : goal.returns-in-Fault-clause-later
-returns-in-Fault-clause-later g c = stops-later c.args.machine.now c.run.new.self.machine (Fault c.in-Fault.number) c.in-Fault.ensures.stops
+pub returns-in-Fault : goal.returns-in-Fault
+returns-in-Fault g c =
+    let old = c.args.machine.now in
+    let new = c.run.new.self in
+    record {
+      told = refl;
+      loans = refl;
+      some = (Unknown, fault-advances (syscall (λ call. Unknown)) old new c.in-Fault.number c.in-Fault.ensures.stops);
+      exact = λ items told. fault-advances (syscall items) old new c.in-Fault.number c.in-Fault.ensures.stops;
+      later = stops-later old new.machine (Fault c.in-Fault.number) c.in-Fault.ensures.stops;
+      wants = λ items told is. absurd (no-error _ _ is);
+      cause = counts-none _ _ (no-error _ _);
+      undamaged = λ told damage. no-error _ _;
+      damage = λ damage is. absurd (no-error _ _ is);
+      room = c.in-Fault.ensures.room (λ is. absurd cc);
+      pages_kept = c.run.ensures.pages_kept;
+    }
 
-pub returns-in-Spent-clause-later : goal.returns-in-Spent-clause-later
-returns-in-Spent-clause-later g c = stops-later c.args.machine.now c.run.new.self.machine Spent c.in-Spent.ensures.stops
+pub returns-in-Spent : goal.returns-in-Spent
+returns-in-Spent g c =
+    let old = c.args.machine.now in
+    let new = c.run.new.self in
+    record {
+      told = refl;
+      loans = refl;
+      some = (Unknown, spent-advances (syscall (λ call. Unknown)) old new c.in-Spent.ensures.stops);
+      exact = λ items told. spent-advances (syscall items) old new c.in-Spent.ensures.stops;
+      later = stops-later old new.machine Spent c.in-Spent.ensures.stops;
+      wants = λ items told is. absurd (no-error _ _ is);
+      cause = counts-none _ _ (no-error _ _);
+      undamaged = λ told damage. no-error _ _;
+      damage = λ damage is. absurd (no-error _ _ is);
+      room = c.in-Spent.ensures.room (λ is. absurd cc);
+      pages_kept = c.run.ensures.pages_kept;
+    }
 
-pub returns-in-NoMemory-clause-later : goal.returns-in-NoMemory-clause-later
-returns-in-NoMemory-clause-later g c = stops-later c.args.machine.now c.run.new.self.machine NoMemory c.in-NoMemory.ensures.stops
+pub returns-in-NoMemory : goal.returns-in-NoMemory
+returns-in-NoMemory g c = record {
+  told = refl;
+  loans = refl;
+  some = tt;
+  exact = λ items told. tt;
+  later = stops-later c.args.machine.now c.run.new.self.machine NoMemory c.in-NoMemory.ensures.stops;
+  wants = λ items told is. inl c.in-NoMemory.ensures.stops;
+  cause = counts-none _ _ (λ is. absurd cc);
+  undamaged = λ told damage is. absurd cc;
+  damage = λ damage is. absurd cc;
+  room = tt;
+  pages_kept = c.run.ensures.pages_kept;
+}

@@ -1,7 +1,7 @@
 -- Each arm leaves what the kind of its instruction ensures. An immediate is a number of 64 bits, and reads as itself.
 use Rattle.std.proofs.Common.{◌≡◌, rules, sym, w64}
 use mir.Val.{of_z, to_z}
-use Rattle.vm_defs.specs.Step.{effect}
+use Rattle.vm_defs.specs.Step.{effect, register}
 use Rattle.vm_step.proofs.machine.Machine.execute.Goals as goal
 
 pub returns-in-Lui : goal.returns-in-Lui
@@ -293,3 +293,31 @@ returns-in-Ecall c = rw c.in-Ecall.is c.paid_ecall.ensures
 pub returns-in-Ebreak : goal.returns-in-Ebreak
 unfolding effect
 returns-in-Ebreak c = rw c.in-Ebreak.is c.paid_advance-in-Ebreak.ensures
+
+pub returns-in-Jalr : goal.returns-in-Jalr
+unfolding effect register
+returns-in-Jalr c = search rules
+
+pub returns-in-Beq : goal.returns-in-Beq
+unfolding effect register
+returns-in-Beq c = search rules
+
+pub returns-in-Bne : goal.returns-in-Bne
+unfolding effect register
+returns-in-Bne c = search rules
+
+pub returns-in-Blt : goal.returns-in-Blt
+unfolding effect register
+returns-in-Blt c = search rules
+
+pub returns-in-Bge : goal.returns-in-Bge
+unfolding effect register
+returns-in-Bge c = search rules
+
+pub returns-in-Bltu : goal.returns-in-Bltu
+unfolding effect register
+returns-in-Bltu c = search rules
+
+pub returns-in-Bgeu : goal.returns-in-Bgeu
+unfolding effect register
+returns-in-Bgeu c = search rules
