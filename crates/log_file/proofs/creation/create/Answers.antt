@@ -1,6 +1,7 @@
 use Rattle.std.proofs.Common.{◌-◌, length, refl, ap, ◌∙◌, arith}
 use Rattle.outside.specs.declared.disk.Area.TheVariants.{Log}
-use Rattle.log_file.proofs.Creating.{others_same, settles_new}
+use Rattle.outside.proofs.Moments.{started, leaves_also}
+use Rattle.log_file.proofs.Creating.{others_same, others_written, others_there, others_left, settles_new}
 use Rattle.log_file.proofs.Exits.{no_error, fault_counts, no_fault_counts, answer_counts}
 use Rattle.log_file.proofs.creation.create.Goals as goal
 
@@ -45,3 +46,16 @@ returns-in-Ok-write_durably-clause-unchanged g c = λ e. absurd (no_error _ _ e)
 
 pub returns-in-Ok-write_durably-clause-cause : goal.returns-in-Ok-write_durably-clause-cause
 returns-in-Ok-write_durably-clause-cause g c = answer_counts _ _ _ _ (c.in-Ok-write_durably.ensures.cause.unchanged refl)
+
+pub returns-clause-moments : goal.returns-clause-moments
+returns-clause-moments g c = leaves_also g.D.Disk.moment g.D.Disk.left_since _ _ _ _ c.write_durably.ensures.moments (others_left 0 (length c.deref.result.now) _)
+
+pub returns-in-Ok-write_durably-clause-moments : goal.returns-in-Ok-write_durably-clause-moments
+returns-in-Ok-write_durably-clause-moments g c = leaves_also g.D.Disk.moment g.D.Disk.left_since _ _ _ _ c.write_durably.ensures.moments (others_left 0 (length c.deref.result.now) _)
+
+pub returns-in-Ok-write_durably-clause-others : goal.returns-in-Ok-write_durably-clause-others
+returns-in-Ok-write_durably-clause-others g c = others_written 0 c.deref.result.now _ _ c.in-Ok-write_durably.ensures.written
+
+pub returns-in-Err-clause-moments : goal.returns-in-Err-clause-moments
+returns-in-Err-clause-moments g c = 
+    started g.D.Disk.moment g.D.Disk.left_since _ _ (λ image left. others_there (g.D.Disk.images c.args.disk.now) image (g.met.D.Disk.only_now c.args.disk.now image left))
