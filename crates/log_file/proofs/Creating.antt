@@ -1,10 +1,12 @@
 -- A new log is at rest.
-use Rattle.std.proofs.Common.{◌≡◌, ℕ, zero, suc, ◌+◌, ◌-◌, ◌<◌, ◌^◌, List, [], ◌∷◌, ◌++◌, length, drop, Option, Some, None, refl, sym, ap, ◌∙◌, subst, arith}
+use Rattle.std.proofs.Common.{◌≡◌, ℕ, zero, suc, ◌+◌, ◌-◌, ◌<◌, ◌^◌, List, [], ◌∷◌, ◌++◌, length, drop, Result, Err, Option, Some, None, refl, sym, ap, ◌∙◌, subst, arith}
 use Rattle.std.specs.Prelude.{IfSome, IsSome, All}
 use Rattle.std.specs.Option.{option_map}
 use Rattle.std.proofs.lemmas.List.{append_assoc, append-nil, length-append}
 use Rattle.outside.specs.declared.disk.Area.{Area}
 use Rattle.outside.specs.declared.disk.Area.TheVariants.{Log}
+use Rattle.outside.specs.declared.disk.WriteStop.{WriteStop}
+use Rattle.outside.specs.declared.disk.WriteStop.TheVariants.{DiskFault, NoMemory}
 use Rattle.outside.specs.Image.{Image, InArea, content, with_content}
 use Rattle.outside.specs.Disk.{written, write_area, Torn, ComesBy, IsDurable, OthersRead}
 use Rattle.outside.proofs.Images.{own_content}
@@ -14,6 +16,13 @@ use Rattle.store_defs.specs.Rest.{IsAtRest, IsSettled, HasOthers}
 use Rattle.store_defs.proofs.Records.{size_of_all}
 use Rattle.store_defs.proofs.Resting.{rest_made}
 use Rattle.log_file.specs.Pieces.{first_records, new_log}
+
+-- the stops of a write are distinct
+pub memory_is_no_fault : {T : Type 0} → ◌≡◌ {A = Result T WriteStop} (Err NoMemory) (Err DiskFault) → ⊥
+memory_is_no_fault is = absurd (cc)
+
+pub fault_is_no_memory : {T : Type 0} → ◌≡◌ {A = Result T WriteStop} (Err DiskFault) (Err NoMemory) → ⊥
+fault_is_no_memory is = absurd (cc)
 
 -- where nothing was called, the other areas read as they did
 pub others_same : (area : Area) (reads : Option Image) → OthersRead area reads reads

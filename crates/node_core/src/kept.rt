@@ -75,14 +75,20 @@ fn grown<L: Ledger>(
     let mut state = cells;
     match state.reserve(outputs_in(block)) {
         Ok(()) => {}
-        Err(_) => return Err(ReadStop::NoMemory),
+        Err(_) => {
+            drop(state);
+            return Err(ReadStop::NoMemory);
+        }
     }
     match state.apply(block, place, steps) {
         Ok(()) => Ok(state),
-        Err(_) => Err(ReadStop::Damaged(Damage {
-            area: Area::Log,
-            at: 0,
-        })),
+        Err(_) => {
+            drop(state);
+            Err(ReadStop::Damaged(Damage {
+                area: Area::Log,
+                at: 0,
+            }))
+        }
     }
 }
 
@@ -108,17 +114,18 @@ impl Kept {
         ensures reads { result ≢ Err DiskFault }
         ensures most { steps.new ≤ steps.old + 1 }
     {
-        let Joining {
-            entry,
-            ext: _ext,
-            cells,
-        } = joining;
+        let Joining { entry, ext, cells } = joining;
+        drop(ext);
         let place = tree.len();
         if entry.number <= tree.entry(tree.tip()).number {
+            drop(cells);
             return Ok(state);
         }
         match cells {
-            Some(cells) => grown(cells, block, place, steps),
+            Some(cells) => {
+                drop(state);
+                grown(cells, block, place, steps)
+            }
             None => grown(state, block, place, steps),
         }
     }
@@ -145,7 +152,7 @@ impl Kept {
         ensures most { steps.new ≤ steps.old + 1 }
     {
         let Some(block) = BlockView::read(item) else {
-            drop(self);
+            drop((self, joining));
             return Err(ReadStop::NoMemory);
         };
         let Kept {

@@ -1,7 +1,7 @@
 use Rattle.std.proofs.Common.{◌-◌, length, refl, ap, ◌∙◌, arith}
 use Rattle.outside.specs.declared.disk.Area.TheVariants.{Log}
 use Rattle.outside.proofs.Moments.{started, leaves_also}
-use Rattle.log_file.proofs.Creating.{others_same, others_written, others_there, others_left, settles_new}
+use Rattle.log_file.proofs.Creating.{memory_is_no_fault, fault_is_no_memory, others_same, others_written, others_there, others_left, settles_new}
 use Rattle.log_file.proofs.Exits.{no_error, fault_counts, no_fault_counts, answer_counts}
 use Rattle.log_file.proofs.creation.create.Goals as goal
 
@@ -24,7 +24,7 @@ pub returns-in-Err-clause-unchanged : goal.returns-in-Err-clause-unchanged
 returns-in-Err-clause-unchanged g c = λ _. refl
 
 pub returns-in-Err-clause-cause : goal.returns-in-Err-clause-cause
-returns-in-Err-clause-cause g c = no_fault_counts _ (λ e. absurd (cc))
+returns-in-Err-clause-cause g c = no_fault_counts _ memory_is_no_fault
 
 pub returns-clause-settled : goal.returns-clause-settled
 returns-clause-settled g c = λ _. tt
@@ -36,7 +36,7 @@ pub returns-clause-others : goal.returns-clause-others
 returns-clause-others g c = c.in-Err-write_durably.ensures.others
 
 pub returns-clause-unchanged : goal.returns-clause-unchanged
-returns-clause-unchanged g c = λ e. absurd (cc)
+returns-clause-unchanged g c = λ e. absurd (fault_is_no_memory e)
 
 pub returns-clause-cause : goal.returns-clause-cause
 returns-clause-cause g c = fault_counts _ _ _ _ c.in-Err-write_durably.ensures.cause
