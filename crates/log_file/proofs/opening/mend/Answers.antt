@@ -73,8 +73,5 @@ returns-in-Ok-clause-uncalled g c = told_open _ _ _ _ c.if-open_gate.true c.requ
 pub returns-else-open_gate-clause-uncalled : goal.returns-else-open_gate-clause-uncalled
 returns-else-open_gate-clause-uncalled g c = on_each (g.D.Disk.reads_as c.args.disk.now) _ (λ _ _. refl)
 
-pub returns-in-Ok-clause-durable : goal.returns-in-Ok-clause-durable
-returns-in-Ok-clause-durable g c = λ _. c.in-Ok.ensures.durable
-
 pub returns-in-Ok-clause-others : goal.returns-in-Ok-clause-others
 returns-in-Ok-clause-others g c = others_written c.args.place (0 ∷ []) _ _ c.in-Ok.ensures.written

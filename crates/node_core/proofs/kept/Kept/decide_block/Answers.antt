@@ -56,3 +56,21 @@ returns-then-is_some-clause-most g c = none-replayed _ _
 
 pub returns-in_default-clause-most : goal.returns-in_default-clause-most
 returns-in_default-clause-most g c = none-replayed _ _
+
+pub same-self : goal.same-self
+same-self g c = refl
+
+pub same-self-in_default : goal.same-self-in_default
+same-self-in_default g c = refl
+
+pub same-self-2 : goal.same-self-2
+same-self-2 g c = refl
+
+pub returns-then-is_some-clause-same : goal.returns-then-is_some-clause-same
+returns-then-is_some-clause-same g c = refl
+
+pub returns-in_default-clause-same : goal.returns-in_default-clause-same
+returns-in_default-clause-same g c = refl
+
+pub entry_on-entry-requires : goal.entry_on-entry-requires
+entry_on-entry-requires g c = c.hash_of-hash.ensures
