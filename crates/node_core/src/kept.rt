@@ -114,18 +114,17 @@ impl Kept {
         ensures reads { result ≢ Err DiskFault }
         ensures most { steps.new ≤ steps.old + 1 }
     {
-        let Joining { entry, ext, cells } = joining;
-        drop(ext);
+        let Joining {
+            entry,
+            ext: _ext,
+            cells,
+        } = joining;
         let place = tree.len();
         if entry.number <= tree.entry(tree.tip()).number {
-            drop(cells);
             return Ok(state);
         }
         match cells {
-            Some(cells) => {
-                drop(state);
-                grown(cells, block, place, steps)
-            }
+            Some(cells) => grown(cells, block, place, steps),
             None => grown(state, block, place, steps),
         }
     }
@@ -152,7 +151,7 @@ impl Kept {
         ensures most { steps.new ≤ steps.old + 1 }
     {
         let Some(block) = BlockView::read(item) else {
-            drop((self, joining));
+            drop(self);
             return Err(ReadStop::NoMemory);
         };
         let Kept {

@@ -179,7 +179,7 @@ impl Node {
         let ext = match fill(alloc, &mut body, item, &joining.ext) {
             Ok(ext) => ext,
             Err(_) => {
-                drop((kept, joining));
+                drop(kept);
                 return Err(ReadStop::NoMemory);
             }
         };
