@@ -1,24 +1,53 @@
 -- A new log is at rest.
-use Rattle.std.proofs.Common.{◌≡◌, ℕ, zero, suc, ◌+◌, ◌-◌, ◌<◌, ◌^◌, List, [], ◌∷◌, ◌++◌, length, drop, Option, Some, None, refl, sym, ap, ◌∙◌, subst, arith}
+use Rattle.std.proofs.Common.{◌≡◌, ℕ, zero, suc, ◌+◌, ◌-◌, ◌<◌, ◌^◌, List, [], ◌∷◌, ◌++◌, length, drop, Result, Err, Option, Some, None, refl, sym, ap, ◌∙◌, subst, arith}
 use Rattle.std.specs.Prelude.{IfSome, IsSome, All}
 use Rattle.std.specs.Option.{option_map}
 use Rattle.std.proofs.lemmas.List.{append_assoc, append-nil, length-append}
 use Rattle.outside.specs.declared.disk.Area.{Area}
 use Rattle.outside.specs.declared.disk.Area.TheVariants.{Log}
-use Rattle.outside.specs.Image.{Image, content}
-use Rattle.outside.specs.Disk.{write_area, IsDurable, OthersRead}
+use Rattle.outside.specs.declared.disk.WriteStop.{WriteStop}
+use Rattle.outside.specs.declared.disk.WriteStop.TheVariants.{DiskFault, NoMemory}
+use Rattle.outside.specs.Image.{Image, InArea, content, with_content}
+use Rattle.outside.specs.Disk.{written, write_area, Torn, ComesBy, IsDurable, OthersRead}
 use Rattle.outside.proofs.Images.{own_content}
 use Rattle.store_defs.specs.Log.{Record, all_record_bytes, magic}
 use Rattle.store_defs.specs.LogLaws.{HasFittingBody}
-use Rattle.store_defs.specs.Rest.{IsAtRest, IsSettled}
+use Rattle.store_defs.specs.Rest.{IsAtRest, IsSettled, HasOthers}
 use Rattle.store_defs.proofs.Records.{size_of_all}
 use Rattle.store_defs.proofs.Resting.{rest_made}
 use Rattle.log_file.specs.Pieces.{first_records, new_log}
+
+-- the stops of a write are distinct
+pub memory_is_no_fault : {T : Type 0} → ◌≡◌ {A = Result T WriteStop} (Err NoMemory) (Err DiskFault) → ⊥
+memory_is_no_fault is = absurd (cc)
+
+pub fault_is_no_memory : {T : Type 0} → ◌≡◌ {A = Result T WriteStop} (Err DiskFault) (Err NoMemory) → ⊥
+fault_is_no_memory is = absurd (cc)
 
 -- where nothing was called, the other areas read as they did
 pub others_same : (area : Area) (reads : Option Image) → OthersRead area reads reads
 others_same area None = ([], refl)
 others_same area (Some image) = (content area image, ap Some (own_content area image))
+
+pub others_then : (old mid new : Option Image) → OthersRead Log old mid → OthersRead Log mid new → OthersRead Log old new
+others_then old mid new first second = (second.0, second.1 ∙ ap (option_map (with_content Log second.0)) first.1 ∙ over old)
+  where
+    over : (reads : Option Image) → option_map (with_content Log second.0) (option_map (with_content Log first.0) reads) ≡ option_map (with_content Log second.0) reads
+    over None = refl
+    over (Some image) = refl
+
+-- a write into the log, as it reads after it
+pub others_written : (place : ℕ) (piece : List ℕ) (old new : Option Image) → new ≡ option_map (write_area Log place piece) old → OthersRead Log old new
+others_written place piece None new wrote = ([], wrote)
+others_written place piece (Some image) new wrote = (written place piece image.log, wrote)
+
+-- and as a crash leaves it
+pub others_left : (place size : ℕ) (images : Image → Type 0) (image : Image) → ComesBy (InArea Log (Torn place size)) images image → HasOthers images image
+others_left place size images image (before, left, (bytes, torn, is)) = (before, left, (bytes, tt, is))
+
+-- as it was before the first call
+pub others_there : (images : Image → Type 0) (image : Image) → images image → HasOthers images image
+others_there images image left = (image, left, (content Log image, tt, own_content Log image))
 
 both_fit : (specification genesis : List ℕ) → length specification < 2 ^ 32 → length genesis < 2 ^ 32 → All HasFittingBody (first_records specification genesis)
 both_fit specification genesis one two zero d below = one

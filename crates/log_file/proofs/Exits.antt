@@ -4,7 +4,7 @@ use Rattle.std.specs.Prelude.{IfSome}
 use Rattle.outside.specs.Causes.{Rose, HasCause, CountsFault}
 use Rattle.outside.specs.Image.{Image}
 use Rattle.outside.specs.Disk.{IsAsBefore}
-use Rattle.outside.proofs.Moments.{leaves_also, leaves_then}
+use Rattle.outside.proofs.Moments.{started, leaves_also, leaves_then}
 use Rattle.log_file.specs.declared.stop.LogStop.{LogStop}
 use Rattle.log_file.specs.declared.stop.LogStop.TheVariants.{DiskFault, NotAStore, NoMemory}
 
@@ -12,6 +12,16 @@ use Rattle.log_file.specs.declared.stop.LogStop.TheVariants.{DiskFault, NotAStor
 pub on_each : (reads : Option Image) (P : Image → Type 0) → ((image : Image) → P image) → IfSome reads P
 on_each None P holds = tt
 on_each (Some image) P holds = holds image
+
+-- a further premise
+pub told_also : (E : Type 0) (reads : Option Image) (P Q : Image → Type 0) → IfSome reads (λ image. P image → Q image) → IfSome reads (λ image. P image → E → Q image)
+told_also E None P Q holds = tt
+told_also E (Some image) P Q holds = λ p _. holds p
+
+-- the first of two conclusions
+pub told_first : (reads : Option Image) (P Q R : Image → Type 0) → IfSome reads (λ image. P image → Q image × R image) → IfSome reads (λ image. P image → Q image)
+told_first None P Q R holds = tt
+told_first (Some image) P Q R holds = λ p. (holds p).0
 
 -- an error is no answer
 pub no_answer : {T E : Type 0} (stop : E) (value : T) → Err stop ≡ Ok value → ⊥
@@ -34,6 +44,15 @@ as_before_then reads_as images moment left_since old mid new first second = reco
   images = λ image. (λ left. (first.images image).0 ((second.images image).0 left), λ left. (second.images image).1 ((first.images image).1 left));
   moments = leaves_then moment left_since old mid new (images old) first.moments
       (leaves_also moment left_since mid new (images mid) (images old) second.moments (λ image left. (first.images image).0 left));
+}
+
+-- the disk is as before where it was not called
+pub not_called : {D : Type 0} (reads_as : D → Option Image) (images : D → Image → Type 0) (moment : D → ℕ) (left_since : D → ℕ → Image → Type 0)
+    → ((disk : D) (image : Image) → left_since disk (moment disk) image → images disk image) → (disk : D) → IsAsBefore reads_as images moment left_since disk disk
+not_called reads_as images moment left_since only_now disk = record {
+  reads = refl;
+  images = λ image. (λ left. left, λ left. left);
+  moments = started moment left_since disk (images disk) (only_now disk);
 }
 
 -- a stop that is handed on counts as it did
@@ -115,3 +134,7 @@ answered before now value still = record { later = omega (arith, still); failed 
 
 pub wrong_not_fault : {T : Type 0} → ◌≡◌ {A = Result T LogStop} (Err NotAStore) (Err DiskFault) → ⊥
 wrong_not_fault is = absurd (cc)
+
+-- the count behind calls that met no fault, and then a stop that is none
+pub no_fault_behind : {Fault : Type 0} (before now : ℕ) → now ≡ before → (Fault → ⊥) → CountsFault before now Fault
+no_fault_behind before now still never = counts_on before now now still (no_fault_counts now never)

@@ -1,5 +1,5 @@
 -- Blocks that are put behind others, from their records.
-use Rattle.std.proofs.Common.{◌≡◌, ℕ, ◌≤◌, Bool, true, false, cond, drop, List, [], ◌∷◌, ◌++◌, map, length, Option, Some, None, refl, sym, ap, ◌∙◌, arith}
+use Rattle.std.proofs.Common.{◌≡◌, ℕ, ◌≤◌, Bool, true, false, cond, drop, List, [], ◌∷◌, ◌++◌, map, length, Option, Some, None, refl, sym, ap, ◌∙◌, subst, arith}
 use Rattle.std.specs.Prelude.{◌==◌, is_none}
 use Rattle.std.proofs.lemmas.Bool.{and_right, eqb-true}
 use Rattle.std.proofs.lemmas.List.{map-append, length-map, length_push}
@@ -55,6 +55,16 @@ pub one_more : (old : BlocksValue) (kept : List Block) (items : List (List ℕ))
     → items ≡ old.items ++ item ∷ [] → length items ≤ kept_limit
 one_more old kept items item len stand is few more =
     omega (arith, ap length more, length_push old.items item, as_many old.items kept stand.decode, is, few, kept_limit_is)
+
+-- what holds of blocks in memory
+abbrev pub AreInMemory : {I X : Type 0} → (I → List ℕ) → List I → List X → List Entry → Type 0
+AreInMemory bytes items exts entries = AreBlocks (map bytes items) entries × (length exts ≡ length items) × (length items ≤ kept_limit)
+
+pub still_in_memory : {I X : Type 0} (bytes : I → List ℕ) (items items1 : List I) (exts exts1 : List X) (entries entries1 : List Entry) → items1 ≡ items → exts1 ≡ exts → entries1 ≡ entries
+    → AreInMemory bytes items exts entries → AreInMemory bytes items1 exts1 entries1
+still_in_memory bytes items items1 exts exts1 entries entries1 same_items same_exts same_entries are =
+    subst (λ (list : List _). AreInMemory bytes list exts1 entries1) (sym same_items)
+    (subst (λ (list : List _). AreInMemory bytes items list entries1) (sym same_exts) (subst (λ (list : List Entry). AreInMemory bytes items exts list) (sym same_entries) are))
 
 -- ---- The genesis
 

@@ -1,7 +1,7 @@
 -- A whole log, once it was read.
-use Rattle.std.proofs.Common.{◌≡◌, ℕ, ◌<◌, Bool, eqb, List, length, take, drop, get_or, Option, Some, None, sym, ap, ◌∙◌, subst, arith}
+use Rattle.std.proofs.Common.{◌≡◌, ℕ, ◌+◌, ◌*◌, ◌^◌, ◌<◌, ◌≤◌, Bool, eqb, List, map, length, take, drop, get_or, Option, Some, None, sym, ap, ◌∙◌, subst, arith}
 use Rattle.std.specs.Prelude.{slice_index, IfSome, ◌==◌}
-use Rattle.std.proofs.lemmas.List.{get_or-take}
+use Rattle.std.proofs.lemmas.List.{get_or-take, length-map}
 use Rattle.time_defs.specs.Specification.{Specification}
 use Rattle.chain_tree.specs.declared.entry.Entry.{Entry}
 use Rattle.outside.specs.Image.{Image}
@@ -77,3 +77,8 @@ pub told_wrong_front : (reads : Option Image) (len : ℕ) (reader : ReaderValue)
     → IfSome reads (λ image. E → log_of image.log ≡ None)
 told_wrong_front None len reader E F is size reading front = tt
 told_wrong_front (Some image) len reader E F is size reading front = λ e. front (reading image.log size) (is e)
+
+pub place_within : {I : Type 0} (bytes : I → List ℕ) (place at : ℕ) (blocks : List I) (items : List (List ℕ)) → place ≡ at → map bytes blocks ≡ items
+    → at ≤ 2 ^ 33 * (length items + 1) → place ≤ 2 ^ 33 * (length blocks + 1)
+place_within bytes place at blocks items is read within =
+    subst (λ (n : ℕ). n ≤ 2 ^ 33 * (length blocks + 1)) (sym is) (subst (λ (n : ℕ). at ≤ 2 ^ 33 * (n + 1)) (sym (ap length read) ∙ length-map blocks bytes) within)

@@ -46,6 +46,10 @@ use Rattle.node_core.specs.Node.{AreKept}
 use Rattle.node_core.proofs.JoiningLemmas.{few-heights}
 use Rattle.node_core.specs.Judging.{AreCellsOn, IsEntryOn, IsJudged, IsDecidedBlock, IsDecided, IsReady, IsReadyBlock, IsReadyItem}
 
+pub none-there : {T : Type 0} (o : Option T) → is_some o ≡ false → o ≡ None
+none-there None is = refl
+none-there (Some x) is = absurd (cc)
+
 -- ---- What it is judged over
 
 -- the rows of its parent's branch over a chain that has joined

@@ -1,6 +1,6 @@
 -- An item that joins: it can, its record is its own, and what is kept with it.
 use Rattle.std.proofs.Common.{◌≡◌, ℕ, ◌+◌, ◌-◌, ◌<◌, ◌≤◌, ◌^◌, List, [], ◌∷◌, ◌++◌, length, Option, Some, sym, ap, ◌∙◌, subst, arith}
-use Rattle.std.specs.Prelude.{false, IsTrue, IfSome}
+use Rattle.std.specs.Prelude.{Bool, true, false, IsTrue, IfSome}
 use Rattle.std.proofs.lemmas.List.{length_push}
 use Rattle.codec_defs.specs.Shape.{decoded}
 use Rattle.codec_defs.specs.Schema.{Block, block}
@@ -21,6 +21,9 @@ use Rattle.node_core.specs.declared.deciding.Decision.{Decision}
 use Rattle.node_core.specs.declared.deciding.Decision.TheVariants.{Joins}
 use Rattle.node_core.specs.Judging.{IsReadyItem, IsDecided}
 use Rattle.node_core.specs.Node.{IsWithin}
+
+pub joined_stays_not : ◌≡◌ {A = Bool} true false → ⊥
+joined_stays_not is = absurd (cc)
 
 -- ---- What was decided
 

@@ -75,14 +75,20 @@ fn grown<L: Ledger>(
     let mut state = cells;
     match state.reserve(outputs_in(block)) {
         Ok(()) => {}
-        Err(_) => return Err(ReadStop::NoMemory),
+        Err(_) => {
+            drop(state);
+            return Err(ReadStop::NoMemory);
+        }
     }
     match state.apply(block, place, steps) {
         Ok(()) => Ok(state),
-        Err(_) => Err(ReadStop::Damaged(Damage {
-            area: Area::Log,
-            at: 0,
-        })),
+        Err(_) => {
+            drop(state);
+            Err(ReadStop::Damaged(Damage {
+                area: Area::Log,
+                at: 0,
+            }))
+        }
     }
 }
 

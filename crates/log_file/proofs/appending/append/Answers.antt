@@ -1,6 +1,7 @@
-use Rattle.std.proofs.Common.{length, ◌∙◌, refl}
+use Rattle.std.proofs.Common.{length, ◌+◌, ◌∷◌, [], ◌∙◌, refl}
 use Rattle.outside.proofs.Moments.{leaves_also, leaves_then}
 use Rattle.log_file.proofs.Gates.{leaves_while_written, leaves_while_opened, settles_after, ends_there}
+use Rattle.log_file.proofs.Creating.{others_then, others_written}
 use Rattle.log_file.proofs.Exits.{failed_on, answered}
 use Rattle.log_file.proofs.appending.append.Goals as goal
 
@@ -72,3 +73,15 @@ returns-in-Err-write_durably-clause-cause g c = failed_on _ _ _ _ (c.in-Ok.ensur
 
 pub returns-clause-cause : goal.returns-clause-cause
 returns-clause-cause g c = answered _ _ _ (c.in-Ok-write_durably.ensures.cause.unchanged refl ∙ c.in-Ok.ensures.cause.unchanged refl)
+
+pub returns-in-Err-write_durably-clause-others : goal.returns-in-Err-write_durably-clause-others
+returns-in-Err-write_durably-clause-others g c =
+    others_then _ _ _ (others_written (c.args.log.place + 1) c.piece-piece.result.now _ _ c.in-Ok.ensures.written) c.in-Err-write_durably.ensures.others
+
+pub returns-clause-others : goal.returns-clause-others
+returns-clause-others g c =
+    others_then _ _ _ (others_written (c.args.log.place + 1) c.piece-piece.result.now _ _ c.in-Ok.ensures.written)
+    (others_written c.args.log.place (1 ∷ []) _ _ c.in-Ok-write_durably.ensures.written)
+
+pub returns-clause-named : goal.returns-clause-named
+returns-clause-named g c = c.rec_behind-rec.ensures

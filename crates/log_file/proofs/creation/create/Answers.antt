@@ -1,6 +1,7 @@
 use Rattle.std.proofs.Common.{◌-◌, length, refl, ap, ◌∙◌, arith}
 use Rattle.outside.specs.declared.disk.Area.TheVariants.{Log}
-use Rattle.log_file.proofs.Creating.{others_same, settles_new}
+use Rattle.outside.proofs.Moments.{started, leaves_also}
+use Rattle.log_file.proofs.Creating.{memory_is_no_fault, fault_is_no_memory, others_same, others_written, others_there, others_left, settles_new}
 use Rattle.log_file.proofs.Exits.{no_error, fault_counts, no_fault_counts, answer_counts}
 use Rattle.log_file.proofs.creation.create.Goals as goal
 
@@ -23,7 +24,7 @@ pub returns-in-Err-clause-unchanged : goal.returns-in-Err-clause-unchanged
 returns-in-Err-clause-unchanged g c = λ _. refl
 
 pub returns-in-Err-clause-cause : goal.returns-in-Err-clause-cause
-returns-in-Err-clause-cause g c = no_fault_counts _ (λ e. absurd (cc))
+returns-in-Err-clause-cause g c = no_fault_counts _ memory_is_no_fault
 
 pub returns-clause-settled : goal.returns-clause-settled
 returns-clause-settled g c = λ _. tt
@@ -35,7 +36,7 @@ pub returns-clause-others : goal.returns-clause-others
 returns-clause-others g c = c.in-Err-write_durably.ensures.others
 
 pub returns-clause-unchanged : goal.returns-clause-unchanged
-returns-clause-unchanged g c = λ e. absurd (cc)
+returns-clause-unchanged g c = λ e. absurd (fault_is_no_memory e)
 
 pub returns-clause-cause : goal.returns-clause-cause
 returns-clause-cause g c = fault_counts _ _ _ _ c.in-Err-write_durably.ensures.cause
@@ -45,3 +46,16 @@ returns-in-Ok-write_durably-clause-unchanged g c = λ e. absurd (no_error _ _ e)
 
 pub returns-in-Ok-write_durably-clause-cause : goal.returns-in-Ok-write_durably-clause-cause
 returns-in-Ok-write_durably-clause-cause g c = answer_counts _ _ _ _ (c.in-Ok-write_durably.ensures.cause.unchanged refl)
+
+pub returns-clause-moments : goal.returns-clause-moments
+returns-clause-moments g c = leaves_also g.D.Disk.moment g.D.Disk.left_since _ _ _ _ c.write_durably.ensures.moments (others_left 0 (length c.deref.result.now) _)
+
+pub returns-in-Ok-write_durably-clause-moments : goal.returns-in-Ok-write_durably-clause-moments
+returns-in-Ok-write_durably-clause-moments g c = leaves_also g.D.Disk.moment g.D.Disk.left_since _ _ _ _ c.write_durably.ensures.moments (others_left 0 (length c.deref.result.now) _)
+
+pub returns-in-Ok-write_durably-clause-others : goal.returns-in-Ok-write_durably-clause-others
+returns-in-Ok-write_durably-clause-others g c = others_written 0 c.deref.result.now _ _ c.in-Ok-write_durably.ensures.written
+
+pub returns-in-Err-clause-moments : goal.returns-in-Err-clause-moments
+returns-in-Err-clause-moments g c = 
+    started g.D.Disk.moment g.D.Disk.left_since _ _ (λ image left. others_there (g.D.Disk.images c.args.disk.now) image (g.met.D.Disk.only_now c.args.disk.now image left))

@@ -1,7 +1,7 @@
-use Rattle.std.proofs.Common.{refl}
+use Rattle.std.proofs.Common.{◌∷◌, [], refl}
 use Rattle.outside.specs.declared.disk.Area.TheVariants.{Log}
 use Rattle.outside.proofs.Moments.{leaves_also}
-use Rattle.log_file.proofs.Creating.{others_same}
+use Rattle.log_file.proofs.Creating.{others_same, others_written}
 use Rattle.log_file.proofs.Mending.{told_leaves, told_mended_open, told_mended_closed, told_open, told_there_open}
 use Rattle.log_file.proofs.Exits.{on_each, no_call}
 use Rattle.log_file.proofs.opening.mend.Goals as goal
@@ -72,3 +72,6 @@ returns-in-Ok-clause-uncalled g c = told_open _ _ _ _ c.if-open_gate.true c.requ
 
 pub returns-else-open_gate-clause-uncalled : goal.returns-else-open_gate-clause-uncalled
 returns-else-open_gate-clause-uncalled g c = on_each (g.D.Disk.reads_as c.args.disk.now) _ (λ _ _. refl)
+
+pub returns-in-Ok-clause-others : goal.returns-in-Ok-clause-others
+returns-in-Ok-clause-others g c = others_written c.args.place (0 ∷ []) _ _ c.in-Ok.ensures.written

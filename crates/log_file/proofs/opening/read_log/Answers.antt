@@ -1,7 +1,7 @@
 use Rattle.std.proofs.Common.{Err, ap}
 use Rattle.std.specs.Prelude.{IfSome}
 use Rattle.log_file.proofs.Exits.{on_each, no_error, stop_counts, answer_counts, answer_still, counts_on, as_before_then, same_stop}
-use Rattle.log_file.proofs.Whole.{IsRead, told_read, told_wrong_blocks, told_opened, told_ends, told_gate, told_wrong_front}
+use Rattle.log_file.proofs.Whole.{IsRead, told_read, told_wrong_blocks, told_opened, told_ends, told_gate, place_within, told_wrong_front}
 use Rattle.log_file.proofs.opening.read_log.Goals as goal
 
 pub returns-in-Err-read_blocks-clause-not_a_store : goal.returns-in-Err-read_blocks-clause-not_a_store
@@ -104,3 +104,10 @@ returns-clause-beside g c = c.into_parts-blocks.ensures.beside
 
 pub returns-clause-few : goal.returns-clause-few
 returns-clause-few g c = c.into_parts-blocks.ensures.few
+
+pub read_front-requires : goal.read_front-requires
+read_front-requires g c = c.new-reader.ensures.at.at
+
+pub returns-clause-place : goal.returns-clause-place
+returns-clause-place g c = 
+    place_within _ c.at-place.result _ _ _ c.at-place.ensures.value c.into_parts-blocks.ensures.items (c.in-Ok-read_blocks.ensures.place c.in-Ok.ensures.place)

@@ -1,5 +1,5 @@
 use Rattle.std.proofs.Common.{refl}
-use Rattle.log_file.proofs.Exits.{on_each, no_fault_counts, memory_not_fault, fault_is_no_wrong, memory_is_no_wrong, fault_counts, answer_counts}
+use Rattle.log_file.proofs.Exits.{on_each, not_called, no_fault_counts, memory_not_fault, fault_is_no_wrong, memory_is_no_wrong, fault_counts, answer_counts}
 use Rattle.log_file.proofs.reading.read_piece.Goals as goal
 
 pub returns-in-Err-clause-fits : goal.returns-in-Err-clause-fits
@@ -37,3 +37,6 @@ returns-in-Ok-read_behind-clause-reads g c = tt
 
 pub returns-in-Ok-read_behind-clause-cause : goal.returns-in-Ok-read_behind-clause-cause
 returns-in-Ok-read_behind-clause-cause g c = answer_counts _ _ _ _ (c.in-Ok-read_behind.ensures.cause.unchanged refl)
+
+pub returns-in-Err-clause-as_before : goal.returns-in-Err-clause-as_before
+returns-in-Err-clause-as_before g c = not_called g.D.Disk.reads_as g.D.Disk.images g.D.Disk.moment g.D.Disk.left_since g.met.D.Disk.only_now c.args.disk.now

@@ -1,5 +1,7 @@
-use Rattle.std.proofs.Common.{sym}
-use Rattle.log_file.proofs.Exits.{on_each, no_answer, no_error, not_yes, same_stop, stop_counts, answer_counts, answer_still}
+use Rattle.std.proofs.Common.{ℕ, ◌+◌, length, Err, refl, sym, ap, ◌∙◌, subst, arith}
+use Rattle.log_file.specs.Grammar.{record_of, IsGrownBy}
+use Rattle.log_file.proofs.Pieces.{told_passed_block, told_wrong_block, still_reading}
+use Rattle.log_file.proofs.Exits.{on_each, told_also, no_answer, no_error, not_yes, same_stop, stop_counts, answer_counts, answer_still, no_fault_behind}
 use Rattle.log_file.proofs.records.read_block.Goals as goal
 
 pub returns-in-Err-clause-at : goal.returns-in-Err-clause-at
@@ -103,3 +105,43 @@ returns-clause-cause g c = answer_counts _ _ _ _ (answer_still _ _ _ _ c.in-Ok.e
 
 pub returns-in_default-clause-cause : goal.returns-in_default-clause-cause
 returns-in_default-clause-cause g c = answer_counts _ _ _ _ (answer_still _ _ _ _ c.in-Ok.ensures.cause)
+
+pub returns-in-Err-put-clause-cause : goal.returns-in-Err-put-clause-cause
+returns-in-Err-put-clause-cause g c = no_fault_behind _ _ (answer_still _ _ _ _ c.in-Ok.ensures.cause) (λ e. c.in-Err-put.ensures.reads (same_stop _ _ e))
+
+pub skip-requires : goal.skip-requires
+skip-requires g c = omega (arith, c.in-Some.ensures.within, ap length c.ahead.ensures)
+
+pub returns-clause-reading : goal.returns-clause-reading
+returns-clause-reading g c = still_reading (g.D.Disk.reads_as c.args.disk.now) _ c.fill_record.new.self _ c.in-Ok.ensures.reading c.skip.ensures.reading
+
+pub returns-clause-at : goal.returns-clause-at
+returns-clause-at g c = λ _. (c.skip.ensures.at.len ∙ c.fill_record.ensures.at.len, omega (arith, c.skip.ensures.at.at, c.fill_record.ensures.at.at, c.in-Some.ensures.fits))
+
+pub put-requires : goal.put-requires
+put-requires g c = c.in-Some.ensures.fits
+
+pub returns-clause-longer : goal.returns-clause-longer
+returns-clause-longer g c = λ _. c.in-Ok-put.ensures.longer
+
+pub returns-clause-few : goal.returns-clause-few
+returns-clause-few g c = λ _. c.in-Ok-put.ensures.few
+
+pub returns-in_default-clause-stays : goal.returns-in_default-clause-stays
+returns-in_default-clause-stays g c = λ _. (c.fill_record.ensures.at, refl)
+
+pub returns-in_default-clause-byte : goal.returns-in_default-clause-byte
+returns-in_default-clause-byte g c = told_also _ (g.D.Disk.reads_as c.args.disk.now) _ _ c.in-Ok.ensures.byte
+
+pub returns-in-Err-put-clause-wrong : goal.returns-in-Err-put-clause-wrong
+returns-in-Err-put-clause-wrong g c =
+    told_wrong_block _ _ c.args.blocks.now c.args.reader.now c.fill_record.new.self (record_of c.in-Some.kind c.in-Some.body.now) c.ahead.result.now c.ahead.ensures c.in-Some.ensures.found
+    (λ e kept stand. c.in-Err-put.ensures.wrong kept stand (ap Err (same_stop _ _ e))) c.in-Ok.ensures.found
+
+pub returns-clause-found : goal.returns-clause-found
+returns-clause-found g c =
+    let r = record_of c.in-Some.kind c.in-Some.body.now in
+    told_passed_block _ _ (λ kept r. IsGrownBy (c.args.reader.now.at + 6) r kept c.args.blocks.now c.put.new.self) c.args.blocks.now
+    c.args.reader.now c.fill_record.new.self c.skip.new.self r c.ahead.result.now c.fill_record.ensures.at c.skip.ensures.at c.ahead.ensures c.in-Some.ensures.found
+    (λ kept stand. subst (λ (place : ℕ). IsGrownBy (place + 6) r kept c.args.blocks.now c.put.new.self) (c.at-place.ensures.value ∙ c.fill_record.ensures.at.at) (c.in-Ok-put.ensures.grown kept stand))
+    c.in-Ok.ensures.found

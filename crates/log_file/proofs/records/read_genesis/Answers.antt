@@ -1,4 +1,7 @@
-use Rattle.log_file.proofs.Exits.{on_each, no_error, same_stop, stop_counts, answer_counts, answer_still}
+use Rattle.std.proofs.Common.{ℕ, ◌+◌, length, ap, ◌∙◌, subst, arith}
+use Rattle.log_file.specs.Grammar.{record_of, IsGenesisOf}
+use Rattle.log_file.proofs.Pieces.{told_passed, told_here, still_reading}
+use Rattle.log_file.proofs.Exits.{on_each, no_error, same_stop, stop_counts, answer_counts, answer_still, no_fault_behind, wrong_not_fault}
 use Rattle.log_file.proofs.records.read_genesis.Goals as goal
 
 pub returns-in-Err-clause-at : goal.returns-in-Err-clause-at
@@ -60,3 +63,36 @@ returns-in-Err-clause-cause g c = stop_counts _ _ _ _ c.in-Err.ensures.cause
 
 pub returns-clause-cause : goal.returns-clause-cause
 returns-clause-cause g c = answer_counts _ _ _ _ (answer_still _ _ _ _ c.in-Ok.ensures.cause)
+
+pub returns-clause-found : goal.returns-clause-found
+returns-clause-found g c =
+    let r = record_of c.in-Some.kind c.in-Some.body.now in
+    told_passed _ _ c.args.reader.now c.fill_record.new.self c.skip.new.self r c.ahead.result.now c.fill_record.ensures.at c.skip.ensures.at c.ahead.ensures c.in-Some.ensures.found
+    (subst (λ (place : ℕ). IsGenesisOf (place + 6) r c.in-Ok-of_genesis.blocks) (c.at-place.ensures.value ∙ c.fill_record.ensures.at.at) c.in-Ok-of_genesis.ensures.genesis)
+    c.in-Ok.ensures.found
+
+pub returns-in_default-clause-cause : goal.returns-in_default-clause-cause
+returns-in_default-clause-cause g c = no_fault_behind _ _ (answer_still _ _ _ _ c.in-Ok.ensures.cause) wrong_not_fault
+
+pub returns-in-Err-of_genesis-clause-cause : goal.returns-in-Err-of_genesis-clause-cause
+returns-in-Err-of_genesis-clause-cause g c = no_fault_behind _ _ (answer_still _ _ _ _ c.in-Ok.ensures.cause) (λ e. c.in-Err-of_genesis.ensures.reads (same_stop _ _ e))
+
+pub skip-requires : goal.skip-requires
+skip-requires g c = omega (arith, c.in-Some.ensures.within, ap length c.ahead.ensures)
+
+pub returns-clause-reading : goal.returns-clause-reading
+returns-clause-reading g c = still_reading (g.D.Disk.reads_as c.args.disk.now) _ c.fill_record.new.self _ c.in-Ok.ensures.reading c.skip.ensures.reading
+
+pub returns-clause-at : goal.returns-clause-at
+returns-clause-at g c = (c.skip.ensures.at.len ∙ c.fill_record.ensures.at.len, omega (arith, c.skip.ensures.at.at, c.fill_record.ensures.at.at, c.in-Some.ensures.fits))
+
+pub of_genesis-requires : goal.of_genesis-requires
+of_genesis-requires g c = c.in-Some.ensures.fits
+
+pub returns-clause-one : goal.returns-clause-one
+returns-clause-one g c = c.in-Ok-of_genesis.ensures.one
+
+pub returns-in-Err-of_genesis-clause-wrong : goal.returns-in-Err-of_genesis-clause-wrong
+returns-in-Err-of_genesis-clause-wrong g c =
+    told_here _ _ _ c.args.reader.now c.fill_record.new.self (record_of c.in-Some.kind c.in-Some.body.now) c.ahead.result.now c.ahead.ensures c.in-Some.ensures.found
+    c.in-Err-of_genesis.ensures.wrong c.in-Ok.ensures.found

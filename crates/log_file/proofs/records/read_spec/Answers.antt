@@ -1,21 +1,18 @@
-use Rattle.std.proofs.Common.{◌≡◌, Some, rules}
-use Rattle.store_defs.specs.Log.{record_at}
+use Rattle.std.proofs.Common.{length, ap, ◌∙◌, arith, rules}
 use Rattle.log_file.specs.Grammar.{record_of}
-use Rattle.log_file.proofs.Exits.{on_each, no_error, same_stop, stop_counts, answer_counts, answer_still}
-use Rattle.log_file.proofs.Pieces.{told_passed, told_here}
+use Rattle.log_file.proofs.Exits.{on_each, no_error, same_stop, stop_counts, answer_counts, answer_still, no_fault_behind, wrong_not_fault}
+use Rattle.log_file.proofs.Pieces.{told_passed, told_here, still_reading}
 use Rattle.log_file.proofs.records.read_spec.Goals as goal
 
 pub returns-in_default-spec_of-clause-wrong : goal.returns-in_default-spec_of-clause-wrong
 returns-in_default-spec_of-clause-wrong g c =
-    let found : Some (record_of c.in-Some.kind c.in-Some.body.now) ≡ record_at c.ahead.result.now = search rules in
-    told_here _ _ _ c.args.reader.now c.fill_record.new.self (record_of c.in-Some.kind c.in-Some.body.now) c.ahead.result.now c.ahead.ensures found
+    told_here _ _ _ c.args.reader.now c.fill_record.new.self (record_of c.in-Some.kind c.in-Some.body.now) c.ahead.result.now c.ahead.ensures c.in-Some.ensures.found
     (λ e. search rules) c.in-Ok.ensures.found
 
 pub returns-clause-found : goal.returns-clause-found
 returns-clause-found g c =
-    let found : Some (record_of c.in-Some.kind c.in-Some.body.now) ≡ record_at c.ahead.result.now = search rules in
     told_passed _ _ c.args.reader.now c.fill_record.new.self c.skip.new.self (record_of c.in-Some.kind c.in-Some.body.now) c.ahead.result.now c.fill_record.ensures.at c.skip.ensures.at
-    c.ahead.ensures found (search rules) c.in-Ok.ensures.found
+    c.ahead.ensures c.in-Some.ensures.found (c.in-Some-spec_of.ensures.found, c.in-Some-spec_of.ensures.fields) c.in-Ok.ensures.found
 
 pub returns-in-Err-clause-at : goal.returns-in-Err-clause-at
 returns-in-Err-clause-at g c = tt
@@ -67,3 +64,18 @@ returns-in-Err-clause-cause g c = stop_counts _ _ _ _ c.in-Err.ensures.cause
 
 pub returns-clause-cause : goal.returns-clause-cause
 returns-clause-cause g c = answer_counts _ _ _ _ (answer_still _ _ _ _ c.in-Ok.ensures.cause)
+
+pub returns-in_default-clause-cause : goal.returns-in_default-clause-cause
+returns-in_default-clause-cause g c = no_fault_behind _ _ (answer_still _ _ _ _ c.in-Ok.ensures.cause) wrong_not_fault
+
+pub returns-in_default-spec_of-clause-cause : goal.returns-in_default-spec_of-clause-cause
+returns-in_default-spec_of-clause-cause g c = no_fault_behind _ _ (answer_still _ _ _ _ c.in-Ok.ensures.cause) wrong_not_fault
+
+pub skip-requires : goal.skip-requires
+skip-requires g c = omega (arith, c.in-Some.ensures.within, ap length c.ahead.ensures)
+
+pub returns-clause-reading : goal.returns-clause-reading
+returns-clause-reading g c = still_reading (g.D.Disk.reads_as c.args.disk.now) _ c.fill_record.new.self _ c.in-Ok.ensures.reading c.skip.ensures.reading
+
+pub returns-clause-at : goal.returns-clause-at
+returns-clause-at g c = (c.skip.ensures.at.len ∙ c.fill_record.ensures.at.len, omega (arith, c.skip.ensures.at.at, c.fill_record.ensures.at.at, c.in-Some.ensures.fits))

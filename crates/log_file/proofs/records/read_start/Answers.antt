@@ -1,6 +1,6 @@
-use Rattle.std.proofs.Common.{sym, ◌∙◌, rules}
+use Rattle.std.proofs.Common.{ap, length, sym, ◌∙◌, arith, rules}
 use Rattle.log_file.proofs.Pieces.{told_start, told_no_start}
-use Rattle.log_file.proofs.Exits.{on_each, no_error, same_stop, no_fault_counts, stop_counts, answer_counts, answer_still, wrong_not_fault, counts_on}
+use Rattle.log_file.proofs.Exits.{on_each, told_first, not_called, no_error, same_stop, no_fault_counts, stop_counts, answer_counts, answer_still, wrong_not_fault, counts_on}
 use Rattle.log_file.proofs.records.read_start.Goals as goal
 
 pub returns-then-not-is_start-clause-wrong : goal.returns-then-not-is_start-clause-wrong
@@ -55,3 +55,15 @@ returns-clause-as_before g c = c.in-Ok.ensures.as_before
 
 pub returns-clause-cause : goal.returns-clause-cause
 returns-clause-cause g c = answer_counts _ _ _ _ (answer_still _ _ _ _ c.in-Ok.ensures.cause)
+
+pub returns-then-left-lt8-clause-as_before : goal.returns-then-left-lt8-clause-as_before
+returns-then-left-lt8-clause-as_before g c = not_called g.D.Disk.reads_as g.D.Disk.images g.D.Disk.moment g.D.Disk.left_since g.met.D.Disk.only_now c.args.disk.now
+
+pub returns-then-left-lt8-clause-reading : goal.returns-then-left-lt8-clause-reading
+returns-then-left-lt8-clause-reading g c = on_each (g.D.Disk.reads_as c.args.disk.now) _ (λ _ reading. reading)
+
+pub returns-in-Err-clause-reading : goal.returns-in-Err-clause-reading
+returns-in-Err-clause-reading g c = told_first (g.D.Disk.reads_as c.args.disk.now) _ _ _ c.in-Err.ensures.reading
+
+pub returns-then-not-is_start-clause-reading : goal.returns-then-not-is_start-clause-reading
+returns-then-not-is_start-clause-reading g c = told_first (g.D.Disk.reads_as c.args.disk.now) _ _ _ c.in-Ok.ensures.reading

@@ -1,4 +1,4 @@
-use Rattle.std.proofs.Common.{arith}
+use Rattle.std.proofs.Common.{◌∙◌, arith}
 use Rattle.cell_defs.specs.Events.{events_of_block}
 use Rattle.cell_state.specs.State.{rows}
 use Rattle.replay.proofs.FitLemmas.{all-same, none-odd}
@@ -40,3 +40,6 @@ returns-in-Ok-apply-clause-damage g c = λ _ e. absurd (ok_err _ _ e)
 
 pub returns-in-Ok-apply-clause-reads : goal.returns-in-Ok-apply-clause-reads
 returns-in-Ok-apply-clause-reads g c = λ e. ok_err _ _ e
+
+pub returns-in-Ok-apply-clause-of_branch : goal.returns-in-Ok-apply-clause-of_branch
+returns-in-Ok-apply-clause-of_branch g c = λ kept parent is there at are. c.in-Ok-apply.ensures.of_branch kept parent is there at (λ o. c.in-Ok.ensures.rows o ∙ are o)

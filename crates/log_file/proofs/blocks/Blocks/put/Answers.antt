@@ -1,11 +1,12 @@
-use Rattle.std.proofs.Common.{◌≡◌, ◌++◌, ◌∷◌, [], List, ℕ, Vec, Global, map, length, ◌≤◌, sym, ap, ◌∙◌, subst, inr, arith}
+use Rattle.std.proofs.Common.{◌≡◌, ◌++◌, ◌∷◌, [], List, ℕ, Vec, Global, map, length, None, ◌+◌, ◌≤◌, refl, sym, ap, ◌∙◌, subst, inr, arith}
 use Rattle.std.proofs.lemmas.List.{map_push, length-map, length_push}
 use Rattle.codec_defs.specs.Schema.{Block}
 use Rattle.verdict_defs.specs.Verdict.{kept_limit}
 use Rattle.chain_tree.specs.declared.entry.Entry.{Entry}
+use Rattle.chain_tree.specs.Entries.{place_of_hash, FollowsParent}
 use Rattle.chain_tree.specs.Blocks.{IndexesBlocks}
 use Rattle.log_file.specs.Grammar.{record_of, ext_in, BlocksValue, StandFor, IsGrownBy}
-use Rattle.log_file.proofs.Judging.{limit_is, grown, still_blocks, one_more}
+use Rattle.log_file.proofs.Judging.{limit_is, grown, still_blocks, still_in_memory, one_more}
 use Rattle.log_file.proofs.Exits.{no_error, not_wrong, no_memory_is_no_fault, wrong_is_no_fault}
 use Rattle.log_file.proofs.blocks.Blocks.put.Goals as goal
 
@@ -172,3 +173,40 @@ returns-clause-wrong c = λ kept stand e. absurd (no_error _ _ e)
 
 pub returns-clause-reads : goal.returns-clause-reads
 returns-clause-reads c = tt
+
+pub same-self : goal.same-self
+same-self c = refl
+
+pub same-self-in_default : goal.same-self-in_default
+same-self-in_default c = refl
+
+pub judged-requires-clause-few : goal.judged-requires-clause-few
+judged-requires-clause-few c = omega (arith, c.len.ensures.len, c.if-len-gt-RECORD_LIMIT.false)
+
+pub judged-requires-clause-fits : goal.judged-requires-clause-fits
+judged-requires-clause-fits c = c.requires
+
+pub invariant_of-self : goal.invariant_of-self
+invariant_of-self c = still_in_memory bytes_of _ _ _ _ _ _ refl refl c.reserve.ensures.entries c.self.invariant
+
+pub invariant_of-self-in-Err-reserve : goal.invariant_of-self-in-Err-reserve
+invariant_of-self-in-Err-reserve c = still_in_memory bytes_of _ _ _ _ _ _ c.reserve-2.ensures.items refl c.reserve.ensures.entries c.self.invariant
+
+pub invariant_of-self-in-Err-reserve-2 : goal.invariant_of-self-in-Err-reserve-2
+invariant_of-self-in-Err-reserve-2 c = still_in_memory bytes_of _ _ _ _ _ _ c.reserve-2.ensures.items c.reserve-3.ensures.items c.reserve.ensures.entries c.self.invariant
+
+pub invariant_of-self-in-Err-copies : goal.invariant_of-self-in-Err-copies
+invariant_of-self-in-Err-copies c = still_in_memory bytes_of _ _ _ _ _ _ c.reserve-2.ensures.items c.reserve-3.ensures.items c.reserve.ensures.entries c.self.invariant
+
+pub add-requires-clause-few : goal.add-requires-clause-few
+add-requires-clause-few c = omega (arith, ap length c.reserve.ensures.entries, c.len.ensures.len, c.if-len-gt-RECORD_LIMIT.false)
+
+pub add-requires-clause-parent : goal.add-requires-clause-parent
+add-requires-clause-parent c = subst (λ (entries : List Entry). FollowsParent entries c.in-Some.entry) (sym c.reserve.ensures.entries) c.in-Some.ensures.follows
+
+pub add-requires-clause-new : goal.add-requires-clause-new
+add-requires-clause-new c = subst (λ (entries : List Entry). place_of_hash entries c.in-Some.entry.hash ≡ None) (sym c.reserve.ensures.entries) c.in-Some.ensures.new
+
+pub returns-clause-longer : goal.returns-clause-longer
+returns-clause-longer c =
+    ap length (one_longer c) ∙ length_push (before c).items c.in-Some.item.now ∙ ap (λ (value : BlocksValue). length value.items + 1) c.self.view_is

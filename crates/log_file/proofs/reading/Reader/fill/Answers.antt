@@ -2,7 +2,7 @@ use Rattle.std.proofs.Common.{◌≡◌, List, ℕ, length, drop, refl, ap, ◌�
 use Rattle.std.proofs.lemmas.List.{take_rest}
 use Rattle.log_file.specs.Reading.{ReaderValue}
 use Rattle.log_file.proofs.Pieces.{told_filled}
-use Rattle.log_file.proofs.Exits.{on_each, no_error, no_fault_counts, stop_counts, answer_counts, answer_still}
+use Rattle.log_file.proofs.Exits.{on_each, not_called, no_error, no_fault_counts, stop_counts, answer_counts, answer_still}
 use Rattle.log_file.proofs.reading.Reader.fill.Goals as goal
 
 pub returns-then-need-ahead-clause-reads : goal.returns-then-need-ahead-clause-reads
@@ -84,3 +84,6 @@ returns-in-Ok-clause-reading g c =
     (take_rest c.deref.result.now c.self.inside.from ∙ ap (drop c.self.inside.from) c.deref.ensures.value)
     (omega (arith, c.requires, c.left.ensures, c.min-size.ensures, c.max.ensures))
     (omega (arith, c.min-size.ensures, c.left.ensures, ap (λ (v : ReaderValue). v.len) c.self.view_is, ap (λ (v : ReaderValue). v.at) c.self.view_is)) c.in-Ok.ensures.bytes
+
+pub returns-then-need-ahead-clause-as_before : goal.returns-then-need-ahead-clause-as_before
+returns-then-need-ahead-clause-as_before g c = not_called g.D.Disk.reads_as g.D.Disk.images g.D.Disk.moment g.D.Disk.left_since g.met.D.Disk.only_now c.args.disk.now

@@ -2,7 +2,7 @@ use Rattle.std.proofs.Common.{◌≡◌, ℕ, ◌+◌, ◌≤◌, List, length, 
 use Rattle.std.specs.Prelude.{slice_index}
 use Rattle.cell_defs.specs.Ext.{count_at}
 use Rattle.log_file.proofs.Pieces.{told_none, told_whole}
-use Rattle.log_file.proofs.Exits.{on_each, as_before_then, stop_counts, answer_counts, answer_still, counts_on}
+use Rattle.log_file.proofs.Exits.{on_each, told_first, as_before_then, stop_counts, answer_counts, answer_still, counts_on}
 use Rattle.log_file.proofs.reading.Reader.fill_record.Goals as goal
 
 pub returns-else-size-left-clause-found : goal.returns-else-size-left-clause-found
@@ -72,3 +72,9 @@ returns-in-Ok-fill-clause-reads g c = tt
 pub returns-in-Ok-fill-clause-cause : goal.returns-in-Ok-fill-clause-cause
 returns-in-Ok-fill-clause-cause g c =
     counts_on _ _ _ (answer_still _ _ _ _ c.in-Ok.ensures.cause) (answer_counts _ _ _ _ (answer_still _ _ _ _ c.in-Ok-fill.ensures.cause))
+
+pub returns-in-Err-clause-reading : goal.returns-in-Err-clause-reading
+returns-in-Err-clause-reading g c = told_first (g.D.Disk.reads_as c.args.disk.now) _ _ _ c.in-Err.ensures.reading
+
+pub returns-else-size-left-clause-reading : goal.returns-else-size-left-clause-reading
+returns-else-size-left-clause-reading g c = told_first (g.D.Disk.reads_as c.args.disk.now) _ _ _ c.in-Ok.ensures.reading

@@ -1,4 +1,9 @@
-use Rattle.std.proofs.Common.{refl}
+use Rattle.std.proofs.Common.{Some, refl, sym, ap, ◌∙◌, subst}
+use Rattle.chain_defs.specs.Kept.{place_of}
+use Rattle.chain_tree.specs.Told.{blocks_of}
+use Rattle.verdict_defs.specs.Chain.{Chain}
+use Rattle.node_core.specs.Judging.{IsEntryOn}
+use Rattle.node_core.proofs.DecidingLemmas.{none-there}
 use Rattle.node_core.proofs.OpenLemmas.{ok_err}
 use Rattle.node_core.proofs.ReplayLemmas.{none-replayed}
 use Rattle.node_core.proofs.kept.Kept.decide_block.Goals as goal
@@ -56,3 +61,30 @@ returns-then-is_some-clause-most g c = none-replayed _ _
 
 pub returns-in_default-clause-most : goal.returns-in_default-clause-most
 returns-in_default-clause-most g c = none-replayed _ _
+
+pub same-self : goal.same-self
+same-self g c = refl
+
+pub same-self-in_default : goal.same-self-in_default
+same-self-in_default g c = refl
+
+pub same-self-2 : goal.same-self-2
+same-self-2 g c = refl
+
+pub returns-then-is_some-clause-same : goal.returns-then-is_some-clause-same
+returns-then-is_some-clause-same g c = refl
+
+pub returns-in_default-clause-same : goal.returns-in_default-clause-same
+returns-in_default-clause-same g c = refl
+
+pub entry_on-entry-requires : goal.entry_on-entry-requires
+entry_on-entry-requires g c = c.hash_of-hash.ensures
+
+pub judge_on-requires : goal.judge_on-requires
+judge_on-requires g c =
+    let kept = blocks_of c.self.inside.blocks.stored in
+    subst (λ (v : Chain). IsEntryOn v.blocks c.args.block.now c.entry_on-entry.result) c.self.view_is (record {
+      new = sym (c.find.ensures.of_blocks kept c.self.invariant.indexed ∙ ap (place_of kept) c.hash_of-hash.ensures) ∙ none-there c.find.result (sym c.is_some.ensures ∙ c.if-is_some.false);
+      on_kept = sym (c.in-Some.ensures.of_blocks kept c.self.invariant.indexed ∙ ap (place_of kept) c.parent_hash.ensures) ∙ ap Some (sym c.entry_on-entry.ensures.parent);
+      describes = c.entry_on-entry.ensures.describes;
+    })

@@ -4,6 +4,7 @@ use Rattle.fold_defs.specs.First.{first_failing}
 use Rattle.chain_defs.specs.Branch.{branch}
 use Rattle.chain_defs.proofs.KeptLaws.{place_of-below}
 use Rattle.rule_defs.specs.Header.{header_rules}
+use Rattle.block_judge.specs.declared.stop.Judged.TheVariants.{Read}
 use Rattle.chain_tree.specs.Told.{blocks_of, Stored}
 use Rattle.cell_state.specs.State.{rows}
 use Rattle.block_defs.specs.Ext.{ext_of}
@@ -40,12 +41,10 @@ returns-in-Err-Broken-clause-decided g c joined =
     let stands = stands-at-hand c.self.inside.spec c.self.inside.blocks.stored c.self.inside.tree.entries c.self.inside.uncles c.self.inside.state
     c.cells_or-state.result.now c.args.self.now c.args.block.now c.args.entry c.in-Ok.cells whole c.self.invariant c.requires joined
     c.in-Ok.ensures.cells c.cells_or-state.ensures.given c.cells_or-state.ensures.tip in
-    let refused : Refused c.in-Err-Broken.rule ≡ verdict_of_block c.args.self.now.spec c.args.self.now.blocks c.args.block.now =
-    verdict-refused c.args.self.now.spec c.args.self.now.blocks c.args.block.now c.args.entry c.requires c.in-Err-Broken.rule
+    ap Refused c.in-Err-Broken.rule-is
+    ∙ verdict-refused c.args.self.now.spec c.args.self.now.blocks c.args.block.now c.args.entry c.requires c.in-Err-Broken.rule
     (subst (λ (v : Chain). first_broken v.spec (branch v.blocks c.args.entry.parent) c.args.block.now ≡ Some c.in-Err-Broken.rule) whole
-    (c.in-Err-Broken.ensures.broken c.self.inside.blocks.stored refl stands c.self.invariant.uncles c.in-Err-Broken.rule (ap Err c.in-Err-Broken.field-0-is))) in
-    let is = c.in-Err-Broken.rule-is in
-    (cc)
+    (c.in-Err-Broken.ensures.broken c.self.inside.blocks.stored refl stands c.self.invariant.uncles c.in-Err-Broken.rule (ap Err c.in-Err-Broken.field-0-is)))
 
 pub returns-in-Err-Read-clause-undamaged : goal.returns-in-Err-Read-clause-undamaged
 returns-in-Err-Read-clause-undamaged g c joined damage was =
@@ -53,9 +52,8 @@ returns-in-Err-Read-clause-undamaged g c joined damage was =
     let stands = stands-at-hand c.self.inside.spec c.self.inside.blocks.stored c.self.inside.tree.entries c.self.inside.uncles c.self.inside.state
     c.cells_or-state.result.now c.args.self.now c.args.block.now c.args.entry c.in-Ok.cells whole c.self.invariant c.requires joined
     c.in-Ok.ensures.cells c.cells_or-state.ensures.given c.cells_or-state.ensures.tip in
-    let read = c.in-Err-Read.field-0-is in
-    let is = c.in-Err-Read.stop-is in
-    c.in-Err-Read.ensures.undamaged c.self.inside.blocks.stored refl stands c.self.invariant.uncles damage (cc)
+    c.in-Err-Read.ensures.undamaged c.self.inside.blocks.stored refl stands c.self.invariant.uncles damage
+    (ap Err (c.in-Err-Read.field-0-is ∙ ap Read (sym c.in-Err-Read.stop-is ∙ same_stop _ _ was)))
 
 pub returns-then-has_room-clause-ready : goal.returns-then-has_room-clause-ready
 returns-then-has_room-clause-ready g c =
@@ -199,3 +197,22 @@ returns-then-has_room-clause-most g c = c.replayed.ensures.most
 
 pub returns-clause-most : goal.returns-clause-most
 returns-clause-most g c = c.replayed.ensures.most
+
+pub judge-requires-clause-rated : goal.judge-requires-clause-rated
+judge-requires-clause-rated g c = c.self.invariant.rated
+
+pub returns-in-Err-Read-clause-damage : goal.returns-in-Err-Read-clause-damage
+returns-in-Err-Read-clause-damage g c damage was =
+    c.in-Err-Read.ensures.damage damage (ap Err (c.in-Err-Read.field-0-is ∙ ap Read (sym c.in-Err-Read.stop-is ∙ same_stop _ _ was)))
+
+pub invariant_of-self-in-Err-Read : goal.invariant_of-self-in-Err-Read
+invariant_of-self-in-Err-Read g c =
+    subst (λ (stored : List Stored). AreKept stored c.self.inside.tree.entries c.self.inside.uncles (rows c.self.inside.state)) (sym (same_Some _ _ c.judge.ensures.told)) c.self.invariant
+
+pub invariant_of-self-then-has_room : goal.invariant_of-self-then-has_room
+invariant_of-self-then-has_room g c =
+    subst (λ (stored : List Stored). AreKept stored c.self.inside.tree.entries c.self.inside.uncles (rows c.self.inside.state)) (sym (same_Some _ _ c.judge.ensures.told)) c.self.invariant
+
+pub invariant_of-self-2 : goal.invariant_of-self-2
+invariant_of-self-2 g c =
+    subst (λ (stored : List Stored). AreKept stored c.self.inside.tree.entries c.self.inside.uncles (rows c.self.inside.state)) (sym (same_Some _ _ c.judge.ensures.told)) c.self.invariant

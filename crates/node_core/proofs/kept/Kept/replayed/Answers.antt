@@ -1,8 +1,13 @@
-use Rattle.std.proofs.Common.{refl, sym, ap, subst, arith, Err}
-use Rattle.chain_tree.specs.Told.{blocks_of}
+use Rattle.std.proofs.Common.{◌≡◌, List, Some, refl, sym, ap, ◌∙◌, subst, arith, Err}
+use Rattle.std.proofs.lemmas.Option.{same_Some}
+use Rattle.codec_defs.specs.Schema.{OutPoint}
+use Rattle.chain_defs.specs.Tip.{tip_place}
+use Rattle.cell_defs.specs.Row.{live_row}
+use Rattle.chain_tree.specs.Told.{blocks_of, Stored}
 use Rattle.cell_state.specs.State.{rows}
 use Rattle.verdict_defs.specs.Chain.{Chain}
 use Rattle.store_defs.specs.Store.{IsJoined}
+use Rattle.node_core.specs.Node.{AreKept}
 use Rattle.node_core.proofs.DecidingLemmas.{as-many, within-entries, fits-below}
 use Rattle.node_core.proofs.OpenLemmas.{ok_err, same_stop}
 use Rattle.node_core.proofs.ReplayLemmas.{none-replayed, replayed-off-tip}
@@ -73,3 +78,36 @@ returns-clause-most g c =
     (ap (λ (v : Chain). v.blocks) c.self.view_is) c.self.invariant.indexed
     (c.tip.ensures.of_blocks (blocks_of c.self.inside.blocks.stored) c.self.invariant.indexed) (λ same. omega (arith, same, c.if-place-tip.false)) within
     c.replay.ensures.most
+
+pub same-self : goal.same-self
+same-self g c = refl
+
+pub returns-then-place-tip-clause-same : goal.returns-then-place-tip-clause-same
+returns-then-place-tip-clause-same g c = refl
+
+pub returns-then-place-tip-clause-cells : goal.returns-then-place-tip-clause-cells
+returns-then-place-tip-clause-cells g c =
+    let here : c.tip.result ≡ c.args.place = omega (arith, c.if-place-tip.true) in
+    subst (λ (v : Chain). tip_place v.blocks ≡ Some c.args.place) c.self.view_is
+    (c.tip.ensures.of_blocks (blocks_of c.self.inside.blocks.stored) c.self.invariant.indexed ∙ ap Some here)
+
+pub returns-clause-cells : goal.returns-clause-cells
+returns-clause-cells g c =
+    subst (λ (v : Chain). (o : OutPoint) → rows c.in-Ok.cells o ≡ live_row v.blocks c.args.place o) c.self.view_is
+    (c.in-Ok.ensures.rows c.self.inside.blocks.stored refl c.self.invariant.indexed)
+
+pub invariant_of-self : goal.invariant_of-self
+invariant_of-self g c =
+    subst (λ (l : List Stored). AreKept l c.self.inside.tree.entries c.self.inside.uncles (rows c.self.inside.state)) (sym (same_Some _ _ c.replay.ensures.told)) c.self.invariant
+
+pub invariant_of-self-2 : goal.invariant_of-self-2
+invariant_of-self-2 g c =
+    subst (λ (l : List Stored). AreKept l c.self.inside.tree.entries c.self.inside.uncles (rows c.self.inside.state)) (sym (same_Some _ _ c.replay.ensures.told)) c.self.invariant
+
+pub returns-in-Err-clause-same : goal.returns-in-Err-clause-same
+returns-in-Err-clause-same g c =
+    ap (λ (l : List Stored). record { spec = c.self.inside.spec; blocks = blocks_of l }) (same_Some _ _ c.replay.ensures.told) ∙ c.self.view_is
+
+pub returns-clause-same : goal.returns-clause-same
+returns-clause-same g c =
+    ap (λ (l : List Stored). record { spec = c.self.inside.spec; blocks = blocks_of l }) (same_Some _ _ c.replay.ensures.told) ∙ c.self.view_is

@@ -9,7 +9,7 @@ use Rattle.store_defs.proofs.JoinedLemmas.{joined_of_image}
 use Rattle.node_core.specs.Node.{NodeValue, IsOn, IsWithin}
 use Rattle.node_core.specs.Judging.{IsReadyItem, IsDecided}
 use Rattle.node_core.specs.declared.deciding.Decision.TheVariants.{Joins, Stays}
-use Rattle.node_core.proofs.ImportLemmas.{decided_on, ready_on, verdict_is, stays_so}
+use Rattle.node_core.proofs.ImportLemmas.{joined_stays_not, decided_on, ready_on, verdict_is, stays_so}
 use Rattle.node_core.proofs.DiskLemmas.{counts_none, before_calls}
 use Rattle.log_file.proofs.Exits.{stop_counts}
 use Rattle.node_core.proofs.OpenLemmas.{ok_err, same_stop}
@@ -202,7 +202,7 @@ pub returns-in-Ok-join-clause-there : goal.returns-in-Ok-join-clause-there
 returns-in-Ok-join-clause-there g c = c.in-Ok-join.ensures.there
 
 pub returns-in-Ok-join-clause-unwritten : goal.returns-in-Ok-join-clause-unwritten
-returns-in-Ok-join-clause-unwritten g c = λ e. absurd (cc)
+returns-in-Ok-join-clause-unwritten g c = λ e. absurd (joined_stays_not e)
 
 pub returns-in-Ok-join-clause-undamaged : goal.returns-in-Ok-join-clause-undamaged
 returns-in-Ok-join-clause-undamaged g c = λ _ _ e. ok_err _ _ e
@@ -272,4 +272,4 @@ pub returns-in-Err-join-clause-stays : goal.returns-in-Err-join-clause-stays
 returns-in-Err-join-clause-stays g c = tt
 
 pub returns-in-Ok-join-clause-stays : goal.returns-in-Ok-join-clause-stays
-returns-in-Ok-join-clause-stays g c = λ e. absurd (cc)
+returns-in-Ok-join-clause-stays g c = λ e. absurd (joined_stays_not e)

@@ -11,7 +11,7 @@ use Rattle.node_core.proofs.node.Node.open.Goals as goal
 
 pub returns-in-Err-clause-not_a_store : goal.returns-in-Err-clause-not_a_store
 returns-in-Err-clause-not_a_store g c same =
-    let stop : c.in-Err.stop ≡ NotAStore = (cc) in
+    let stop : c.in-Err.stop ≡ NotAStore = same_stop _ _ same in
     not_sound _ _ c.sync_snapshots.ensures.same c.in-Err.ensures.not_a_store (ap Err stop)
 
 pub returns-in-Err-clause-no_log : goal.returns-in-Err-clause-no_log
@@ -35,7 +35,7 @@ invariant_of-result g c =
 
 pub returns-in-Err-of-clause-not_a_store : goal.returns-in-Err-of-clause-not_a_store
 returns-in-Err-of-clause-not_a_store g c same =
-    let stop : c.in-Err-of.stop ≡ NotAStore = (cc) in
+    let stop : c.in-Err-of.stop ≡ NotAStore = same_stop _ _ same in
     not_joined _ _ c.in-Ok.opened.spec (contents c.in-Ok.opened.blocks.items) (contents c.in-Ok.opened.exts.items) c.in-Ok.opened.tree.entries
     c.sync_snapshots.ensures.same c.in-Ok.ensures.opened
     (λ kept decode joined exts. c.of.ensures.joined kept decode joined exts (c.in-Err-of.is ∙ ap Err stop))
