@@ -23,6 +23,10 @@ next xs front field j k order field_is front_is =
 pub whole : (xs fields : List ℕ) (k : ℕ) → length xs ≡ k → fields ≡ slice_range xs 0 k → fields ≡ xs
 whole xs fields k long is = is ∙ ap (λ (n : ℕ). take n xs) (omega arith) ∙ take_all k xs (omega (arith, long))
 
+-- one field more behind those that were put behind others
+pub put_more : (old between new fields piece field : List ℕ) → between ≡ old ++ fields → new ≡ between ++ piece → piece ≡ field → new ≡ old ++ (fields ++ field)
+put_more old between new fields piece field before is same = is ∙ (λ t. before t ++ same t) ∙ append_assoc old fields field
+
 -- ---- Zero bytes in place of a type hash
 
 zeros : (xs : List ℕ) → list_all (λ b. b == 0) xs ≡ true → xs ≡ replicate (length xs) 0

@@ -105,7 +105,10 @@ pub fn fetch<B: Blocks>(
     ensures damage { (damage : Damage) → result ≡ Err (Damaged damage) → damage.area ≡ Log }
     ensures cause { CountsFault (B.faults blocks.old) (B.faults blocks.new) (result ≡ Err DiskFault) }
 {
-    blocks.bring(meta.block)?;
+    match blocks.bring(meta.block) {
+        Ok(()) => {}
+        Err(stop) => return Err(stop),
+    }
     let Some(block) = BlockView::read(blocks.block()) else {
         return Err(damaged());
     };

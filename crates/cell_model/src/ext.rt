@@ -47,13 +47,15 @@ impl Ext {
         if b.len() != rows_at + 4 + ROW_SIZE * rows {
             return Ok(None);
         }
-        let Some(spent) = read_rows(alloc, &b[rows_at + 4..], rows)? else {
-            return Ok(None);
+        let spent = match read_rows(alloc, &b[rows_at + 4..], rows) {
+            Ok(Some(spent)) => spent,
+            Ok(None) => return Ok(None),
+            Err(NoMemory) => return Err(NoMemory),
         };
-        Ok(Some(Ext {
-            fees: read_fees(alloc, &b[4..rows_at], fees)?,
-            spent,
-        }))
+        match read_fees(alloc, &b[4..rows_at], fees) {
+            Ok(fees) => Ok(Some(Ext { fees, spent })),
+            Err(NoMemory) => Err(NoMemory),
+        }
     }
 
     /// The bytes of the ext.

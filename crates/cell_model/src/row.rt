@@ -108,11 +108,11 @@ fn put_type_hash(bytes: &mut Vec<u8>, hash: &Option<[u8; 32]>) -> Result<(), NoM
     Ok(())
 }
 
-/// Puts a row with its out-point behind what is there.
-pub(crate) fn put_row(bytes: &mut Vec<u8>, o: &OutPoint, meta: &CellMeta) -> Result<(), NoMemory>
-    ensures written { OnOk result (bytes.new.items ≡ bytes.old.items ++ exts.row_bytes (o.now, meta.now)) }
-    ensures size { OnOk result (length (exts.row_bytes (o.now, meta.now)) ≡ 161) }
-    ensures form { OnOk result (IsTrue (exts.is_row (exts.row_bytes (o.now, meta.now)))) }
+/// Puts what a row with its out-point begins with, up to its lock hash, behind what is there.
+fn put_front(bytes: &mut Vec<u8>, o: &OutPoint, meta: &CellMeta) -> Result<(), NoMemory>
+    ensures written { OnOk result (bytes.new.items ≡ bytes.old.items ++ (o.now.tx_hash ++ to_le_bytes w32 o.now.index ++ to_le_bytes w32 meta.now.block
+        ++ to_le_bytes w32 meta.now.transaction ++ to_le_bytes w64 meta.now.capacity ++ to_le_bytes w64 meta.now.occupied)) }
+    ensures hash { OnOk result (length o.now.tx_hash ≡ 32) }
 {
     bytes.extend_from_slice(&o.tx_hash)?;
     bytes.extend_from_slice(&o.index.to_le_bytes())?;
@@ -120,6 +120,16 @@ pub(crate) fn put_row(bytes: &mut Vec<u8>, o: &OutPoint, meta: &CellMeta) -> Res
     bytes.extend_from_slice(&meta.tx.to_le_bytes())?;
     bytes.extend_from_slice(&meta.capacity.to_le_bytes())?;
     bytes.extend_from_slice(&meta.occupied.to_le_bytes())?;
+    Ok(())
+}
+
+/// Puts a row with its out-point behind what is there.
+pub(crate) fn put_row(bytes: &mut Vec<u8>, o: &OutPoint, meta: &CellMeta) -> Result<(), NoMemory>
+    ensures written { OnOk result (bytes.new.items ≡ bytes.old.items ++ exts.row_bytes (o.now, meta.now)) }
+    ensures size { OnOk result (length (exts.row_bytes (o.now, meta.now)) ≡ 161) }
+    ensures form { OnOk result (IsTrue (exts.is_row (exts.row_bytes (o.now, meta.now)))) }
+{
+    put_front(bytes, o, meta)?;
     bytes.extend_from_slice(&meta.lock_hash)?;
     put_type_hash(bytes, &meta.type_hash)?;
     bytes.extend_from_slice(&meta.data_hash)?;

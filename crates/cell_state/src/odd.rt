@@ -2,7 +2,7 @@
 use cell_model::OutPoint;
 
 /// Why a block does not fit the live cells: the first of its events that does not.
-#[derive(Clone, Copy, PartialEq, Eq)]
+#[derive(Clone, Copy)]
 pub enum Odd {
     /// It spends a cell that is not live.
     NotLive(OutPoint),

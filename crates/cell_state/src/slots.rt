@@ -17,7 +17,7 @@ use std::marker::Model;
 const MOST: u64 = 1 << 50;
 
 /// What stands at an out-point. Where no block is being applied each slot is `Live`.
-#[derive(Clone, Copy, PartialEq, Eq)]
+#[derive(Clone, Copy)]
 pub(crate) enum Slot {
     /// Live, with its row from before the block.
     Live(CellMeta),

@@ -1,3 +1,5 @@
+pub mod Endings
+pub mod KeptLemmas
 pub mod ProposingLemmas
 pub mod BranchLemmas
 pub mod ProposedLemmas

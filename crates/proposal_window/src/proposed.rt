@@ -117,7 +117,10 @@ fn add_at<B: Blocks>(
     ensures damage { (damage : Damage) → result ≡ Err (Damaged damage) → damage.area ≡ Log }
     ensures cause { CountsFault (B.faults blocks.old) (B.faults blocks.new) (result ≡ Err DiskFault) }
 {
-    blocks.bring(place)?;
+    match blocks.bring(place) {
+        Ok(()) => {}
+        Err(stop) => return Err(stop),
+    }
     let Some(block) = BlockView::read(blocks.block()) else {
         return Err(ReadStop::Damaged(Damage {
             area: Area::Log,
@@ -158,7 +161,10 @@ impl Proposed {
         let mut ids: HashSet<[u8; 10]> = HashSet::new(alloc);
         'window: for proposer in low..end {
             let place = tree.ancestor(parent, proposer);
-            add_at(&mut ids, tree, blocks, place)?;
+            match add_at(&mut ids, tree, blocks, place) {
+                Ok(()) => {}
+                Err(stop) => return Err(stop),
+            }
         }
         Ok(Proposed { ids })
     }

@@ -53,8 +53,10 @@ pub fn earliest<B: Blocks>(
     let (low, end) = window_of(spec, height);
     'window: for proposer in low..end {
         let place = tree.ancestor(parent, proposer);
-        if is_proposed_at(tree, blocks, place, id)? {
-            return Ok(Some(proposer));
+        match is_proposed_at(tree, blocks, place, id) {
+            Ok(true) => return Ok(Some(proposer)),
+            Ok(false) => {}
+            Err(stop) => return Err(stop),
         }
     }
     Ok(None)

@@ -75,7 +75,10 @@ pub(crate) fn is_proposed_at<B: Blocks>(
     ensures damage { (damage : Damage) → result ≡ Err (Damaged damage) → damage.area ≡ Log }
     ensures cause { CountsFault (B.faults blocks.old) (B.faults blocks.new) (result ≡ Err DiskFault) }
 {
-    blocks.bring(place)?;
+    match blocks.bring(place) {
+        Ok(()) => {}
+        Err(stop) => return Err(stop),
+    }
     let Some(block) = BlockView::read(blocks.block()) else {
         return Err(ReadStop::Damaged(Damage {
             area: Area::Log,

@@ -1,3 +1,4 @@
+pub mod Endings
 pub mod DownLemmas
 pub mod PlaceLemmas
 pub mod RowLemmas

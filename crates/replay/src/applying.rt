@@ -47,7 +47,10 @@ pub(crate) fn genesis_cells<B: Blocks>(
     ensures damage { (damage : disk.Damage) → result ≡ Err (Damaged damage) → damage.area ≡ Log }
     ensures cause { CountsFault (B.faults blocks.old) (B.faults blocks.new) (result ≡ Err DiskFault) }
 {
-    blocks.bring(0)?;
+    match blocks.bring(0) {
+        Ok(()) => {}
+        Err(stop) => return Err(stop),
+    }
     let Some(block) = BlockView::read(blocks.block()) else {
         return Err(ReadStop::Damaged(damage_at(tree, 0)));
     };
@@ -82,7 +85,10 @@ pub(crate) fn apply_at<B: Blocks, L: Ledger>(
     ensures steps { OnOk result (steps.new ≡ steps.old + 1) }
     ensures most { steps.new ≤ steps.old + 1 }
 {
-    blocks.bring(place)?;
+    match blocks.bring(place) {
+        Ok(()) => {}
+        Err(stop) => return Err(stop),
+    }
     let Some(block) = BlockView::read(blocks.block()) else {
         return Err(ReadStop::Damaged(damage_at(tree, place)));
     };

@@ -65,11 +65,17 @@ pub fn replay<B: Blocks, L: Ledger>(
     let Ok(places) = places_down(alloc, tree, e, last) else {
         return Err(ReadStop::NoMemory);
     };
-    let mut state = genesis_cells(alloc, tree, blocks)?;
+    let mut state = match genesis_cells(alloc, tree, blocks) {
+        Ok(state) => state,
+        Err(stop) => return Err(stop),
+    };
     'heights: for height in 0..last {
         let back = (last - height - 1) as usize;
         let place = places[back];
-        apply_at(&mut state, tree, blocks, place, steps)?;
+        match apply_at(&mut state, tree, blocks, place, steps) {
+            Ok(()) => {}
+            Err(stop) => return Err(stop),
+        }
     }
     Ok(state)
 }

@@ -1,6 +1,6 @@
 use Rattle.std.proofs.Common.{◌≡◌, Option, Some, refl, sym, ap, subst, ◌∙◌, rules}
 use Rattle.std.specs.Prelude.{IsSome}
-use Rattle.codec_defs.specs.Shape.{IsA, decoded}
+use Rattle.codec_defs.specs.Shape.{decoded}
 use Rattle.codec_defs.specs.Schema.{CellOutput, cell_output}
 use Rattle.codec_defs.proofs.ShapeLaws.{decoded-is}
 use Rattle.codec_defs.proofs.RowLaws.{cell_output-check}

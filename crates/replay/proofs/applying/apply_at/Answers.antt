@@ -1,35 +1,99 @@
-use Rattle.std.proofs.Common.{◌≡◌, sym, ap, ◌∙◌, subst}
+use Rattle.std.proofs.Common.{◌≡◌, sym, ap, ◌∙◌, subst, arith}
 use Rattle.std.proofs.lemmas.Option.{same_Some}
 use Rattle.codec_defs.specs.Schema.{Block}
 use Rattle.cell_defs.specs.Events.{events_of_block}
 use Rattle.cell_defs.specs.Row.{row_after}
 use Rattle.cell_state.specs.Fit.{AllFit}
 use Rattle.cell_state.specs.State.{rows}
+use Rattle.replay.proofs.Endings.{no_fault, handed, counts-handed, no_answer, no_memory, no_damage, memory_undamaged, in_log, is_told, nothing_read}
 use Rattle.replay.proofs.RowLemmas.{row_after-same}
 use Rattle.replay.proofs.FitLemmas.{told-block, all-same, none-odd}
 use Rattle.replay.proofs.applying.apply_at.Goals as goal
 
-pub returns-in-Ok-apply-clause-rows : goal.returns-in-Ok-apply-clause-rows
-returns-in-Ok-apply-clause-rows g c stored b tells there height o above =
-    let is : c.in-Some.block ≡ b = same_Some c.in-Some.block b (c.in-Some.ensures.value
-    ∙ told-block stored c.block.result.now c.args.place b _ _ (c.in_ok-bring.ensures.told ∙ tells) c.in_ok-bring.ensures.taken c.block.ensures there) in
-    c.in-Ok-apply.ensures.rows height o above
-    ∙ row_after-same c.args.place (events_of_block height c.in-Some.block) (rows c.reserve.new.self) (rows c.args.state.now) o (c.in-Ok.ensures.rows o)
-    ∙ ap (λ (x : Block). row_after c.args.place (events_of_block height x) (rows c.args.state.now) o) is
+pub returns-in-Err : goal.returns-in-Err
+returns-in-Err g c = record {
+  told = c.in-Err.ensures.told;
+  count = c.in-Err.ensures.count;
+  loans = c.in-Err.ensures.loans;
+  rows = λ stored b tells there. tt;
+  fit = λ stored b tells there. tt;
+  undamaged = λ stored b height tells there above fit damage same. c.in-Err.ensures.cause.undamaged (is_told _ stored tells) damage (handed c.in-Err.stop _ same);
+  damage = λ damage same. c.in-Err.ensures.damage damage (handed c.in-Err.stop _ same);
+  cause = counts-handed c.in-Err.stop _ c.in-Err.ensures.cause.counts;
+  steps = tt;
+  most = omega arith;
+}
 
-pub returns-in-Err-apply-clause-undamaged : goal.returns-in-Err-apply-clause-undamaged
-returns-in-Err-apply-clause-undamaged g c stored b height tells there above fit damage was =
-    let is : c.in-Some.block ≡ b = same_Some c.in-Some.block b (c.in-Some.ensures.value
-    ∙ told-block stored c.block.result.now c.args.place b _ _ (c.in_ok-bring.ensures.told ∙ tells) c.in_ok-bring.ensures.taken c.block.ensures there) in
-    none-odd c.args.place (events_of_block height c.in-Some.block) (rows c.reserve.new.self) c.in-Err-apply.field-0
-    (all-same c.args.place (events_of_block height c.in-Some.block) (rows c.args.state.now) (rows c.reserve.new.self) c.in-Ok.ensures.rows
-    (subst (λ (x : Block). AllFit c.args.place (events_of_block height x) (rows c.args.state.now)) (sym is) fit))
-    (c.in-Err-apply.ensures.odd height above)
+pub returns-in_default : goal.returns-in_default
+returns-in_default g c = record {
+  told = c.in-Ok.ensures.told;
+  count = c.in-Ok.ensures.count;
+  loans = c.in-Ok.ensures.loans;
+  rows = λ stored b tells there. tt;
+  fit = λ stored b tells there. tt;
+  undamaged = λ stored b height tells there above fit damage same.
+      nothing_read b (sym c.in_default.is ∙ c.read.ensures.value
+      ∙ told-block stored c.block.result.now c.args.place b _ _ (c.in-Ok.ensures.told ∙ tells) c.in-Ok.ensures.taken c.block.ensures there);
+  damage = λ damage same. in_log c.damage_at.result damage c.damage_at.ensures same;
+  cause = no_fault _ _ (c.in-Ok.ensures.cause.counts.unchanged (no_answer _ _)) (no_damage _);
+  steps = tt;
+  most = omega arith;
+}
 
-pub returns-in-Ok-apply-clause-fit : goal.returns-in-Ok-apply-clause-fit
-returns-in-Ok-apply-clause-fit g c stored b tells there height above =
-    let is : c.in-Some.block ≡ b = same_Some c.in-Some.block b (c.in-Some.ensures.value
-    ∙ told-block stored c.block.result.now c.args.place b _ _ (c.in_ok-bring.ensures.told ∙ tells) c.in_ok-bring.ensures.taken c.block.ensures there) in
-    subst (λ (x : Block). AllFit c.args.place (events_of_block height x) (rows c.args.state.now)) is
-    (all-same c.args.place (events_of_block height c.in-Some.block) (rows c.reserve.new.self) (rows c.args.state.now) (λ o. sym (c.in-Ok.ensures.rows o))
-    (c.in-Ok-apply.ensures.fit height above))
+pub returns-in-Err-reserve : goal.returns-in-Err-reserve
+returns-in-Err-reserve g c = record {
+  told = c.in-Ok.ensures.told;
+  count = c.in-Ok.ensures.count;
+  loans = c.in-Ok.ensures.loans;
+  rows = λ stored b tells there. tt;
+  fit = λ stored b tells there. tt;
+  undamaged = λ stored b height tells there above fit damage same. memory_undamaged damage same;
+  damage = λ damage same. absurd (memory_undamaged damage same);
+  cause = no_fault _ _ (c.in-Ok.ensures.cause.counts.unchanged (no_answer _ _)) no_memory;
+  steps = tt;
+  most = omega arith;
+}
+
+pub returns-in-Ok-apply : goal.returns-in-Ok-apply
+returns-in-Ok-apply g c = record {
+  told = c.in-Ok.ensures.told;
+  count = c.in-Ok.ensures.count;
+  loans = c.in-Ok.ensures.loans;
+  rows = λ stored b tells there height o above.
+      let is : c.in-Some.block ≡ b = same_Some c.in-Some.block b (c.in-Some.ensures.value
+      ∙ told-block stored c.block.result.now c.args.place b _ _ (c.in-Ok.ensures.told ∙ tells) c.in-Ok.ensures.taken c.block.ensures there) in
+      c.in-Ok-apply.ensures.rows height o above
+      ∙ row_after-same c.args.place (events_of_block height c.in-Some.block) (rows c.reserve.new.self) (rows c.args.state.now) o (c.in-Ok-reserve.ensures.rows o)
+      ∙ ap (λ (x : Block). row_after c.args.place (events_of_block height x) (rows c.args.state.now) o) is;
+  fit = λ stored b tells there height above.
+      let is : c.in-Some.block ≡ b = same_Some c.in-Some.block b (c.in-Some.ensures.value
+      ∙ told-block stored c.block.result.now c.args.place b _ _ (c.in-Ok.ensures.told ∙ tells) c.in-Ok.ensures.taken c.block.ensures there) in
+      subst (λ (x : Block). AllFit c.args.place (events_of_block height x) (rows c.args.state.now)) is
+      (all-same c.args.place (events_of_block height c.in-Some.block) (rows c.reserve.new.self) (rows c.args.state.now) (λ o. sym (c.in-Ok-reserve.ensures.rows o))
+      (c.in-Ok-apply.ensures.fit height above));
+  undamaged = λ stored b height tells there above fit damage same. no_answer _ _ same;
+  damage = λ damage same. absurd (no_answer _ _ same);
+  cause = no_fault _ _ (c.in-Ok.ensures.cause.counts.unchanged (no_answer _ _)) (no_answer _ _);
+  steps = c.in-Ok-apply.ensures.steps;
+  most = let one = c.in-Ok-apply.ensures.steps in omega (arith, one);
+}
+
+pub returns-in-Err-apply : goal.returns-in-Err-apply
+returns-in-Err-apply g c = record {
+  told = c.in-Ok.ensures.told;
+  count = c.in-Ok.ensures.count;
+  loans = c.in-Ok.ensures.loans;
+  rows = λ stored b tells there. tt;
+  fit = λ stored b tells there. tt;
+  undamaged = λ stored b height tells there above fit damage same.
+      let is : c.in-Some.block ≡ b = same_Some c.in-Some.block b (c.in-Some.ensures.value
+      ∙ told-block stored c.block.result.now c.args.place b _ _ (c.in-Ok.ensures.told ∙ tells) c.in-Ok.ensures.taken c.block.ensures there) in
+      none-odd c.args.place (events_of_block height c.in-Some.block) (rows c.reserve.new.self) c.in-Err-apply.field-0
+      (all-same c.args.place (events_of_block height c.in-Some.block) (rows c.args.state.now) (rows c.reserve.new.self) c.in-Ok-reserve.ensures.rows
+      (subst (λ (x : Block). AllFit c.args.place (events_of_block height x) (rows c.args.state.now)) (sym is) fit))
+      (c.in-Err-apply.ensures.odd height above);
+  damage = λ damage same. in_log c.damage_at-in-Err-apply.result damage c.damage_at-in-Err-apply.ensures same;
+  cause = no_fault _ _ (c.in-Ok.ensures.cause.counts.unchanged (no_answer _ _)) (no_damage _);
+  steps = tt;
+  most = let one = c.in-Err-apply.ensures.steps in omega (arith, one);
+}

@@ -1,7 +1,8 @@
-use Rattle.std.proofs.Common.{◌≡◌, List, length, drop, map, Option, None, refl, sym, ap, ◌∙◌, subst, arith}
+use Rattle.std.proofs.Common.{◌≡◌, ◌<◌, ℕ, List, length, drop, map, Option, None, refl, sym, ap, ◌∙◌, subst, arith}
 use Rattle.std.specs.Prelude.{IfOk}
 use Rattle.std.specs.List.{All, AllZip}
 use Rattle.std.proofs.lemmas.List.{take_at, length-replicate}
+use Rattle.std.proofs.lemmas.List.Elements.{All-same}
 use Rattle.std.proofs.lemmas.Result.{IfOk-weaker}
 use Rattle.chain_tree.specs.Told.{Stored, blocks_of}
 use Rattle.cell_model.specs.Copies.{ResolvedValue}
@@ -36,6 +37,14 @@ returns-in_default-none_taken g c = record {
   cause = no_fault _ _ refl no_memory;
 }
 
+pub take_several-requires : goal.take_several-requires
+take_several-requires g c = record {
+  placed = c.requires.placed;
+  counts = c.requires.counts;
+  places = All-same (λ (it : ℕ × ℕ). it.1 < length c.args.rows.now) c.deref.result.now c.in-Ok.order.items c.deref.ensures.value c.in-Ok.ensures.places;
+  long = ap length (c.deref_mut.ensures.value ∙ c.in-Ok-none_taken.ensures) ∙ length-replicate (length c.args.rows.now) None;
+}
+
 pub returns-in-Err : goal.returns-in-Err
 returns-in-Err g c = record {
   source = c.in-Err.ensures.source;
@@ -49,8 +58,8 @@ returns-in-Err g c = record {
   cause = counts-handed c.in-Err.stop _ c.in-Err.ensures.cause;
 }
 
-pub copy_each-requires-clause-taken : goal.copy_each-requires-clause-taken
-copy_each-requires-clause-taken g c =
+pub copy_each-requires : goal.copy_each-requires
+copy_each-requires g c =
     let none = c.in-Ok-none_taken.ensures in
     let long : length c.in-Ok-none_taken.taken.items ≡ length c.args.rows.now = ap length none ∙ length-replicate (length c.args.rows.now) None in
     let filled = c.in-Ok-none_taken.taken.ok in
@@ -61,9 +70,14 @@ copy_each-requires-clause-taken g c =
     let before : AreTaken (g.B.Blocks.told c.args.blocks.now) c.args.at.now c.args.rows.now c.deref_mut.result.now =
     subst (λ (slots : List (Option ResolvedValue)). AreTaken (g.B.Blocks.told c.args.blocks.now) c.args.at.now c.args.rows.now slots)
     (sym (c.deref_mut.ensures.value ∙ none)) (taken-none (g.B.Blocks.told c.args.blocks.now) c.args.at.now c.args.rows.now (length c.args.rows.now)) in
-    subst (λ (slots : List (Option ResolvedValue)). AreTaken (g.B.Blocks.told c.take_several.new.blocks) c.args.at.now c.args.rows.now slots) (sym items)
-    (subst (λ (told : Option (List Stored)). AreTaken told c.args.at.now c.args.rows.now c.take_several.new.taken) (sym c.in-Ok-take_several.ensures.source.told)
-    (c.in-Ok-take_several.ensures.taken before))
+    record {
+      placed = c.requires.placed;
+      counts = c.in-Ok-take_several.ensures.source.count ∙ c.requires.counts;
+      long = ap length items ∙ still;
+      taken = subst (λ (slots : List (Option ResolvedValue)). AreTaken (g.B.Blocks.told c.take_several.new.blocks) c.args.at.now c.args.rows.now slots) (sym items)
+          (subst (λ (told : Option (List Stored)). AreTaken told c.args.at.now c.args.rows.now c.take_several.new.taken) (sym c.in-Ok-take_several.ensures.source.told)
+          (c.in-Ok-take_several.ensures.taken before));
+    }
 
 pub returns : goal.returns
 returns g c = record {

@@ -1,6 +1,10 @@
-use Rattle.std.proofs.Common.{List, length, Option, refl, ap, sym, subst, ◌∙◌}
+use Rattle.std.proofs.Common.{◌<◌, ◌-◌, ℕ, List, length, drop, Option, refl, ap, sym, subst, ◌∙◌, arith}
+use Rattle.std.proofs.lemmas.List.Elements.{All-drop, All-take}
+use Rattle.codec_defs.specs.Schema.{OutPoint}
+use Rattle.cell_defs.specs.Row.{Row}
 use Rattle.chain_tree.specs.Told.{Stored}
 use Rattle.cell_model.specs.Copies.{ResolvedValue}
+use Rattle.tx_rules.specs.At.{AtValue}
 use Rattle.tx_rules.specs.Copying.{AreTaken}
 use Rattle.tx_rules.proofs.Endings.{no_fault, no_answer, behind, handed, counts-handed}
 use Rattle.tx_rules.proofs.SourceLemmas.{unchanged-source, then-source}
@@ -13,6 +17,24 @@ order-init g c = record {
   faults = refl;
   long = c.requires.long;
   taken = λ before. before;
+}
+
+pub starts_several-requires : goal.starts_several-requires
+starts_several-requires g c = c.order-test.true
+
+pub take_kept-requires : goal.take_kept-requires
+take_kept-requires g c = record {
+  placed = c.requires.placed;
+  counts = c.order.invariant.source.count ∙ c.requires.counts;
+  within =
+      let place = ap (λ (it : OutPoint × Row). it.1.block) c.row.view_is in
+      let long = c.len-kept.ensures.len ∙ ap (λ (at : AtValue). length at.entries) c.at.view_is in
+      let below = c.if-row-kept.true in
+      omega (arith, place, long, below);
+  places =
+      All-take (λ (it : ℕ × ℕ). it.1 < length c.args.rows.now) (length c.args.order.now - c.order.j) (drop c.order.j c.args.order.now)
+      (All-drop (λ (it : ℕ × ℕ). it.1 < length c.args.rows.now) c.order.j c.args.order.now c.requires.places);
+  long = c.order.invariant.long;
 }
 
 pub returns-in-Err : goal.returns-in-Err

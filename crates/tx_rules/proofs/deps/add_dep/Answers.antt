@@ -9,17 +9,23 @@ use Rattle.tx_defs.specs.Site.{Found}
 use Rattle.tx_defs.specs.Resolving.{cells_of_dep}
 use Rattle.tx_rules.specs.At.{found_row, find_row}
 use Rattle.tx_rules.proofs.DepLemmas.{SeenRow, seen-row, unseen, dep-none, dep-other, dep-code, dep-group, ok-same}
-use Rattle.tx_rules.proofs.Endings.{no_fault, no_answer}
+use Rattle.tx_rules.proofs.Endings.{no_fault, no_answer, no_memory, memory_undamaged}
 use Rattle.tx_rules.proofs.SourceLemmas.{unchanged-source}
 use Rattle.tx_rules.proofs.deps.add_dep.Goals as goal
 
-pub returns-in_default-clause-resolved : goal.returns-in_default-clause-resolved
-returns-in_default-clause-resolved g c = λ stored site tells is.
-    let rows : OutPoint → Option Row = g.C.Cells.rows c.args.cells.now in
-    let none : find_row rows c.args.dep.now.out_point ≡ None = ap (find_row rows) (sym c.out_point.ensures) ∙ sym c.find_row.ensures ∙ c.in_default.is in
-    sym (ap (λ (cells : Option (List Found)). option_map (λ (rows : List (OutPoint × Row)). c.args.found.now.items ++ rows)
-    (option_map (map (found_row (blocks_of stored) c.args.at.now.parent)) cells))
-    (dep-none site c.args.dep.now (unseen stored c.args.at.now rows site c.args.dep.now.out_point is none)))
+pub returns-in_default : goal.returns-in_default
+returns-in_default g c = record {
+  source = unchanged-source _ _ _ _;
+  resolved = λ stored site tells is.
+      let rows : OutPoint → Option Row = g.C.Cells.rows c.args.cells.now in
+      let none : find_row rows c.args.dep.now.out_point ≡ None = ap (find_row rows) (sym c.out_point.ensures) ∙ sym c.find_row.ensures ∙ c.in_default.is in
+      sym (ap (λ (cells : Option (List Found)). option_map (λ (rows : List (OutPoint × Row)). c.args.found.now.items ++ rows)
+      (option_map (map (found_row (blocks_of stored) c.args.at.now.parent)) cells))
+      (dep-none site c.args.dep.now (unseen stored c.args.at.now rows site c.args.dep.now.out_point is none)));
+  undamaged = λ stored site tells is damage same. no_answer _ _ same;
+  damage = λ damage same. absurd (no_answer _ _ same);
+  cause = no_fault _ _ refl (no_answer _ _);
+}
 
 pub returns-in-Ok : goal.returns-in-Ok
 returns-in-Ok g c = record {
@@ -36,6 +42,21 @@ returns-in-Ok g c = record {
   undamaged = λ stored site tells is damage same. no_answer _ _ same;
   damage = λ damage same. absurd (no_answer _ _ same);
   cause = no_fault _ _ refl (no_answer _ _);
+}
+
+pub returns-in-Err : goal.returns-in-Err
+returns-in-Err g c = record {
+  source = unchanged-source _ _ _ _;
+  resolved = λ stored site tells is. tt;
+  undamaged = λ stored site tells is damage same. memory_undamaged damage same;
+  damage = λ damage same. absurd (memory_undamaged damage same);
+  cause = no_fault _ _ refl no_memory;
+}
+
+pub add_group_of-requires : goal.add_group_of-requires
+add_group_of-requires g c = record {
+  placed = c.requires.placed;
+  counts = c.requires.counts;
 }
 
 pub returns-in-1 : goal.returns-in-1
@@ -60,9 +81,15 @@ returns-in-1 g c = record {
   cause = c.add_group_of.ensures.cause;
 }
 
-pub returns-in_default-dep_type-clause-resolved : goal.returns-in_default-dep_type-clause-resolved
-returns-in_default-dep_type-clause-resolved g c = λ stored site tells is.
-    sym (ap (λ (cells : Option (List Found)). option_map (λ (rows : List (OutPoint × Row)). c.args.found.now.items ++ rows)
-    (option_map (map (found_row (blocks_of stored) c.args.at.now.parent)) cells))
-    (dep-other site c.args.dep.now (ne_eqb c.args.dep.now.dep_type 0 (λ same. let type = c.dep_type.ensures in omega (arith, same, type)))
-    (ne_eqb c.args.dep.now.dep_type 1 (λ same. let type = c.dep_type.ensures in omega (arith, same, type)))))
+pub returns-in_default-dep_type : goal.returns-in_default-dep_type
+returns-in_default-dep_type g c = record {
+  source = unchanged-source _ _ _ _;
+  resolved = λ stored site tells is.
+      sym (ap (λ (cells : Option (List Found)). option_map (λ (rows : List (OutPoint × Row)). c.args.found.now.items ++ rows)
+      (option_map (map (found_row (blocks_of stored) c.args.at.now.parent)) cells))
+      (dep-other site c.args.dep.now (ne_eqb c.args.dep.now.dep_type 0 (λ same. let type = c.dep_type.ensures in omega (arith, same, type)))
+      (ne_eqb c.args.dep.now.dep_type 1 (λ same. let type = c.dep_type.ensures in omega (arith, same, type)))));
+  undamaged = λ stored site tells is damage same. no_answer _ _ same;
+  damage = λ damage same. absurd (no_answer _ _ same);
+  cause = no_fault _ _ refl (no_answer _ _);
+}

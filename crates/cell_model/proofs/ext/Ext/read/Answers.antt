@@ -19,32 +19,32 @@ returns-then-b-rows_at-2-clause-found c =
     let rows : c.u32_at-rows.result ≡ count_at b (4 + 8 * count_at b 0) = c.u32_at-rows.ensures.value ∙ ap (λ (n : ℕ). count_at b (4 + 8 * n)) c.u32_at-fees.ensures.value in
     sym (no_ext b (λ is. wrong (omega (arith, is, rows, c.u32_at-fees.ensures.value))))
 
-pub returns-in_default-clause-found : goal.returns-in_default-clause-found
-returns-in_default-clause-found c =
-    sym (ap is_some c.in_default.is) ∙ c.in_ok-spent.ensures.found
+pub returns-in-Ok-None-clause-found : goal.returns-in-Ok-None-clause-found
+returns-in-Ok-None-clause-found c =
+    sym (ap is_some c.in-Ok-None.field-0-is) ∙ c.in-Ok-None.ensures.found
     ∙ by_rows c.args.b.now _ c.u32_at-fees.result c.u32_at-rows.result c.u32_at-fees.ensures.value c.u32_at-rows.ensures.value c.if-b-rows_at-2.false (take_rest c.args.b.now (4 + 8 * c.u32_at-fees.result + 4))
 
-pub returns-clause-found : goal.returns-clause-found
-returns-clause-found c =
-    sym (ap is_some c.in-Some.is) ∙ c.in_ok-spent.ensures.found
+pub returns-in-Ok-clause-found : goal.returns-in-Ok-clause-found
+returns-in-Ok-clause-found c =
+    sym (ap is_some c.in-Ok-Some.field-0-is) ∙ c.in-Ok-Some.ensures.found
     ∙ by_rows c.args.b.now _ c.u32_at-fees.result c.u32_at-rows.result c.u32_at-fees.ensures.value c.u32_at-rows.ensures.value c.if-b-rows_at-2.false (take_rest c.args.b.now (4 + 8 * c.u32_at-fees.result + 4))
 
-pub returns-clause-bytes : goal.returns-clause-bytes
-returns-clause-bytes c =
+pub returns-in-Ok-clause-bytes : goal.returns-in-Ok-clause-bytes
+returns-in-Ok-clause-bytes c =
     let b : List ℕ = c.args.b.now in
     let fees : ℕ = c.u32_at-fees.result in
-    let many : length c.in-Some.spent.items ≡ c.u32_at-rows.result = search rules in
-    let rows : concat (map row_bytes c.in-Some.spent.items) ≡ slice_range b (4 + 8 * fees + 4) (length b) = search rules in
+    let many : length c.in-Ok-Some.spent.items ≡ c.u32_at-rows.result = search rules in
+    let rows : concat (map row_bytes c.in-Ok-Some.spent.items) ≡ slice_range b (4 + 8 * fees + 4) (length b) = search rules in
     bytes_of_read
     b
     _
     fees
     c.u32_at-rows.result
     (length b)
-    c.in_ok-read_fees.ensures.count
+    c.in-Ok.ensures.count
     many
     c.u32_at-fees.ensures.bytes
-    c.in_ok-read_fees.ensures.bytes
+    c.in-Ok.ensures.bytes
     c.u32_at-rows.ensures.bytes
     rows
     refl

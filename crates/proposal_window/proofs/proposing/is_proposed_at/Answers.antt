@@ -1,0 +1,48 @@
+use Rattle.std.proofs.Common.{refl, sym, ap, ◌∙◌, arith}
+use Rattle.window_defs.specs.Window.{proposes}
+use Rattle.proposal_window.proofs.Endings.{no_fault, handed, counts-handed, no_answer, no_damage, in_log, is_told, nothing_read}
+use Rattle.proposal_window.proofs.KeptLemmas.{kept-block}
+use Rattle.proposal_window.proofs.proposing.is_proposed_at.Goals as goal
+
+pub returns-in-Err : goal.returns-in-Err
+returns-in-Err g c = record {
+  told = c.in-Err.ensures.told;
+  count = c.in-Err.ensures.count;
+  loans = c.in-Err.ensures.loans;
+  proposes = λ stored tells. tt;
+  undamaged = λ stored tells damage same. c.in-Err.ensures.cause.undamaged (is_told _ stored tells) damage (handed c.in-Err.stop _ same);
+  damage = λ damage same. c.in-Err.ensures.damage damage (handed c.in-Err.stop _ same);
+  cause = counts-handed c.in-Err.stop _ c.in-Err.ensures.cause.counts;
+}
+
+pub returns-in_default : goal.returns-in_default
+returns-in_default g c = record {
+  told = c.in-Ok.ensures.told;
+  count = c.in-Ok.ensures.count;
+  loans = c.in-Ok.ensures.loans;
+  proposes = λ stored tells. tt;
+  undamaged = λ stored tells damage same.
+      let within = c.requires.within in
+      let counts = c.requires.counts in
+      let kept = kept-block stored c.block.result.now c.args.place (g.B.Blocks.count c.args.blocks.now) (g.B.Blocks.told c.args.blocks.now) _ _ tells c.in-Ok.ensures.told
+      c.in-Ok.ensures.taken (g.met.B.Blocks.told_all c.args.blocks.now) (omega (arith, within, counts)) c.block.ensures in
+      nothing_read kept.0 (sym c.in_default.is ∙ c.read.ensures.value ∙ kept.2);
+  damage = λ damage same. in_log _ damage refl same;
+  cause = no_fault _ _ (c.in-Ok.ensures.cause.counts.unchanged (no_answer _ _)) (no_damage _);
+}
+
+pub returns : goal.returns
+returns g c = record {
+  told = c.in-Ok.ensures.told;
+  count = c.in-Ok.ensures.count;
+  loans = c.in-Ok.ensures.loans;
+  proposes = λ stored tells.
+      let within = c.requires.within in
+      let counts = c.requires.counts in
+      let kept = kept-block stored c.block.result.now c.args.place (g.B.Blocks.count c.args.blocks.now) (g.B.Blocks.told c.args.blocks.now) _ _ tells c.in-Ok.ensures.told
+      c.in-Ok.ensures.taken (g.met.B.Blocks.told_all c.args.blocks.now) (omega (arith, within, counts)) c.block.ensures in
+      c.proposes.ensures ∙ ap (proposes c.args.id.now) (c.in-Some.ensures.value ∙ kept.2 ∙ sym kept.1);
+  undamaged = λ stored tells damage same. no_answer _ _ same;
+  damage = λ damage same. absurd (no_answer _ _ same);
+  cause = no_fault _ _ (c.in-Ok.ensures.cause.counts.unchanged (no_answer _ _)) (no_answer _ _);
+}
