@@ -1,16 +1,31 @@
-//! Little-endian numbers, and a hash, that fill a slice.
+//! Little-endian numbers at a place, and a hash that fills a slice.
 
-ghost use Rattle.std.specs.Prelude.{◌≡◌, length};
+ghost use Rattle.std.specs.Prelude.{◌≡◌, ◌≤◌, ◌+◌, length};
 ghost use Rattle.std.specs.Int.{w32, w64, from_le_bytes};
+ghost use Rattle.time_defs.specs.Specification.{u32_field, u64_field};
 
-pub(crate) fn u32_of(bytes: &[u8]) -> u32
+pub(crate) fn u32_at(b: &[u8], place: usize) -> u32
+    requires { place + 4 ≤ length b.now }
+    ensures { result ≡ u32_field b.now place }
+{
+    u32_of(&b[place..place + 4])
+}
+
+pub(crate) fn u64_at(b: &[u8], place: usize) -> u64
+    requires { place + 8 ≤ length b.now }
+    ensures { result ≡ u64_field b.now place }
+{
+    u64_of(&b[place..place + 8])
+}
+
+fn u32_of(bytes: &[u8]) -> u32
     requires { length bytes.now ≡ 4 }
     ensures { result ≡ from_le_bytes w32 bytes.now }
 {
     u32::from_le_bytes([bytes[0], bytes[1], bytes[2], bytes[3]])
 }
 
-pub(crate) fn u64_of(bytes: &[u8]) -> u64
+fn u64_of(bytes: &[u8]) -> u64
     requires { length bytes.now ≡ 8 }
     ensures { result ≡ from_le_bytes w64 bytes.now }
 {

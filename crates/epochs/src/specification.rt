@@ -4,7 +4,7 @@ ghost use Rattle.std.specs.Prelude.{◌≡◌, IsTrue, length};
 ghost use Rattle.time_defs.specs.Specification as rules;
 
 use crate::epoch_values::well_formed;
-use crate::number::{hash_of, u32_of, u64_of};
+use crate::number::{hash_of, u32_at, u64_at};
 use std::marker::Model;
 
 /// What a chain is set up with. Wherever there is one, it keeps S2 to S7.
@@ -73,7 +73,6 @@ impl Model for Spec {
     } };
 }
 
-#[tactic(auto, unfolding(time_defs::specs::Specification::specification_of))]
 impl Spec {
     ghost use Rattle.std.specs.Prelude.{Some, None, IfOk, IfErr};
     ghost use Rattle.time_defs.specs.Specification.{broken_specification_rule, specification_of};
@@ -87,45 +86,25 @@ impl Spec {
         if !keeps_s1(b) {
             return Err(1);
         }
-        let epoch_length = u32_of(&b[8..12]);
-        if !keeps_s2(epoch_length) {
+        if !keeps_s2(b) {
             return Err(2);
         }
-        let w_close = u32_of(&b[12..16]);
-        let w_far = u32_of(&b[16..20]);
-        if !keeps_s3(w_close, w_far) {
+        if !keeps_s3(b) {
             return Err(3);
         }
-        let max_block_bytes = u32_of(&b[20..24]);
-        if !keeps_s4(max_block_bytes) {
+        if !keeps_s4(b) {
             return Err(4);
         }
-        let max_cycles = u64_of(&b[28..36]);
-        if !keeps_s5(max_cycles) {
+        if !keeps_s5(b) {
             return Err(5);
         }
-        let maturity = u64_of(&b[36..44]);
-        if !keeps_s6(maturity) {
+        if !keeps_s6(b) {
             return Err(6);
         }
-        let halving_interval = u64_of(&b[60..68]);
-        if halving_interval == 0 {
+        if !keeps_s7(b) {
             return Err(7);
         }
-        Ok(Spec {
-            compact_target: u32_of(&b[4..8]),
-            epoch_length,
-            w_close,
-            w_far,
-            max_block_bytes,
-            max_proposals: u32_of(&b[24..28]),
-            max_cycles,
-            maturity,
-            primary_reward: u64_of(&b[44..52]),
-            secondary_reward: u64_of(&b[52..60]),
-            halving_interval,
-            dao_code_hash: hash_of(&b[68..100]),
-        })
+        Ok(spec_in(b))
     }
 }
 
@@ -133,35 +112,87 @@ fn keeps_s1(b: &[u8]) -> bool
     ensures value { result ≡ rules.keeps_s1 b.now }
     ensures length { IsTrue result → length b.now ≡ 100 }
 {
-    b.len() == 100 && u32_of(&b[0..4]) == 100
+    b.len() == 100 && u32_at(b, 0) == 100
 }
 
-fn keeps_s2(epoch_length: u32) -> bool
-    ensures { result ≡ rules.keeps_s2 epoch_length }
+#[tactic(auto, unfolding(time_defs::specs::Specification::specification_of))]
+fn keeps_s2(b: &[u8]) -> bool
+    requires { length b.now ≡ 100 }
+    ensures { result ≡ rules.keeps_s2 (rules.specification_of b.now).epoch_length }
 {
+    let epoch_length = u32_at(b, 8);
     epoch_length >= 1 && epoch_length < 1 << 16
 }
 
-fn keeps_s3(w_close: u32, w_far: u32) -> bool
-    ensures { result ≡ rules.keeps_s3 w_close w_far }
+#[tactic(auto, unfolding(time_defs::specs::Specification::specification_of))]
+fn keeps_s3(b: &[u8]) -> bool
+    requires { length b.now ≡ 100 }
+    ensures { result ≡ rules.keeps_s3 (rules.specification_of b.now).w_close (rules.specification_of b.now).w_far }
 {
+    let w_close = u32_at(b, 12);
+    let w_far = u32_at(b, 16);
     w_close >= 1 && w_close <= w_far && w_far <= 100
 }
 
-fn keeps_s4(max_block_bytes: u32) -> bool
-    ensures { result ≡ rules.keeps_s4 max_block_bytes }
+#[tactic(auto, unfolding(time_defs::specs::Specification::specification_of))]
+fn keeps_s4(b: &[u8]) -> bool
+    requires { length b.now ≡ 100 }
+    ensures { result ≡ rules.keeps_s4 (rules.specification_of b.now).max_block_bytes }
 {
+    let max_block_bytes = u32_at(b, 20);
     max_block_bytes >= 1 && max_block_bytes <= 1 << 20
 }
 
-fn keeps_s5(max_cycles: u64) -> bool
-    ensures { result ≡ rules.keeps_s5 max_cycles }
+#[tactic(auto, unfolding(time_defs::specs::Specification::specification_of))]
+fn keeps_s5(b: &[u8]) -> bool
+    requires { length b.now ≡ 100 }
+    ensures { result ≡ rules.keeps_s5 (rules.specification_of b.now).max_cycles }
 {
+    let max_cycles = u64_at(b, 28);
     max_cycles >= 1 && max_cycles <= 1 << 40
 }
 
-fn keeps_s6(maturity: u64) -> bool
-    ensures { result ≡ rules.keeps_s6 maturity }
+#[tactic(auto, unfolding(time_defs::specs::Specification::specification_of))]
+fn keeps_s6(b: &[u8]) -> bool
+    requires { length b.now ≡ 100 }
+    ensures { result ≡ rules.keeps_s6 (rules.specification_of b.now).maturity }
 {
+    let maturity = u64_at(b, 36);
     maturity < 1 << 56 && well_formed(maturity)
+}
+
+#[tactic(auto, unfolding(time_defs::specs::Specification::specification_of))]
+fn keeps_s7(b: &[u8]) -> bool
+    requires { length b.now ≡ 100 }
+    ensures { result ≡ rules.keeps_s7 (rules.specification_of b.now).halving_interval }
+{
+    u64_at(b, 60) >= 1
+}
+
+/// The specification of bytes that keep the rules.
+#[tactic(auto, unfolding(time_defs::specs::Specification::specification_of))]
+fn spec_in(b: &[u8]) -> Spec
+    requires length { length b.now ≡ 100 }
+    requires s2 { IsTrue (rules.keeps_s2 (rules.specification_of b.now).epoch_length) }
+    requires s3 { IsTrue (rules.keeps_s3 (rules.specification_of b.now).w_close (rules.specification_of b.now).w_far) }
+    requires s4 { IsTrue (rules.keeps_s4 (rules.specification_of b.now).max_block_bytes) }
+    requires s5 { IsTrue (rules.keeps_s5 (rules.specification_of b.now).max_cycles) }
+    requires s6 { IsTrue (rules.keeps_s6 (rules.specification_of b.now).maturity) }
+    requires s7 { IsTrue (rules.keeps_s7 (rules.specification_of b.now).halving_interval) }
+    ensures { result ≡ rules.specification_of b.now }
+{
+    Spec {
+        compact_target: u32_at(b, 4),
+        epoch_length: u32_at(b, 8),
+        w_close: u32_at(b, 12),
+        w_far: u32_at(b, 16),
+        max_block_bytes: u32_at(b, 20),
+        max_proposals: u32_at(b, 24),
+        max_cycles: u64_at(b, 28),
+        maturity: u64_at(b, 36),
+        primary_reward: u64_at(b, 44),
+        secondary_reward: u64_at(b, 52),
+        halving_interval: u64_at(b, 60),
+        dao_code_hash: hash_of(&b[68..100]),
+    }
 }

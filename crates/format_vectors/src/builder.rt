@@ -8,13 +8,17 @@ use std::alloc::Global;
 pub(crate) fn agrees(alloc: Global, columns: &str) -> Option<bool> {
     let (made, rest) = columns.split_once('\t')?;
     let (fields, wanted) = rest.split_once('\t')?;
-    let bytes = match made {
-        "table" => built(alloc, fields)?.table().ok()?,
-        "dynvec" => built(alloc, fields)?.dynvec().ok()?,
-        "fixvec" => fixvec(alloc, fields)?,
-        _ => return None,
-    };
+    let bytes = bytes_made(alloc, made, fields)?;
     Some(bytes.as_slice() == bytes_of(alloc, wanted)?.as_slice())
+}
+
+fn bytes_made(alloc: Global, made: &str, fields: &str) -> Option<Vec<u8>> {
+    match made {
+        "table" => built(alloc, fields)?.table().ok(),
+        "dynvec" => built(alloc, fields)?.dynvec().ok(),
+        "fixvec" => fixvec(alloc, fields),
+        _ => None,
+    }
 }
 
 /// A builder of a few fields, each short.

@@ -27,10 +27,14 @@ pub(crate) fn agrees_on_root(alloc: Global, columns: &str) -> Option<bool> {
     let (items, wanted) = columns.split_once('\t')?;
     let wanted = hash_in(wanted)?;
     let items = items_of(alloc, items)?;
+    Some(root_of(alloc, &items)? == wanted)
+}
+
+fn root_of(alloc: Global, items: &[[u8; 32]]) -> Option<[u8; 32]> {
     if items.len() >= 1 << 31 {
         return None;
     }
-    Some(root(alloc, &items).ok()? == wanted)
+    root(alloc, items).ok()
 }
 
 fn items_of(alloc: Global, column: &str) -> Option<Vec<[u8; 32]>> {

@@ -86,7 +86,6 @@ fn agrees_on_field(alloc: Global, view: &str, accessor: &str, rest: &str) -> Opt
 }
 
 fn main(rt: HostRuntime) -> io::Result<ExitCode> {
-    let text = io::read_to_string(rt.alloc(), rt.stdin())?;
-    let all = all_agree(&rt, rt.alloc(), &mut Calls, &text)?;
+    let all = all_agree(rt, &mut Calls)?;
     Ok(ExitCode::from(u8::from(!all)))
 }

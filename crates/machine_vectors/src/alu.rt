@@ -43,9 +43,9 @@ pub(crate) fn agrees(row: &mut Row) -> Option<bool> {
 }
 
 fn operation_of(name: &str) -> Option<Alu> {
-    for (known, operation) in OPERATIONS {
-        if known == name {
-            return Some(operation);
+    for (known, operation) in &OPERATIONS {
+        if *known == name {
+            return Some(*operation);
         }
     }
     None

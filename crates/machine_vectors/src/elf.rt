@@ -1,4 +1,6 @@
 // Rows of files.
+ghost use Rattle.std.specs.Prelude.{◌≡◌};
+ghost use Rattle.vm_defs.specs.Memory.{new_memory};
 
 use elf_load::{ElfStop, judge, load};
 use row_table::Row;
@@ -9,32 +11,34 @@ fn text_of(alloc: Global, pc: u64, file_bytes: u64) -> Result<String, AllocError
     format!(in alloc; "{pc:x} {file_bytes:x}")
 }
 
-/// The address of the first instruction and how many bytes are copied, or the condition.
-fn loaded(alloc: Global, file: &[u8]) -> Option<(Memory, String)> {
-    let mut memory = Memory::new(alloc).ok()?;
-    let text = match load(file, &mut memory) {
+/// Whether the file is loaded into new memory as wanted: the address of the first instruction and how many bytes are copied, or
+/// the condition.
+fn is_loaded(alloc: Global, file: &[u8], memory: &mut Memory, wanted: &str) -> Option<bool>
+    requires { memory.old.memory ≡ new_memory }
+{
+    let text = match load(file, memory) {
         Ok(entry) => text_of(alloc, entry.pc, entry.file_bytes),
         Err(ElfStop::Bad(condition)) => format!(in alloc; "bad {condition}"),
         Err(ElfStop::NoMemory) => return None,
     };
-    Some((memory, text.ok()?))
+    Some(text.ok()?.as_str() == wanted)
 }
 
-fn judged(alloc: Global, file: &[u8]) -> Option<String> {
+/// Whether it is judged so.
+fn is_judged(alloc: Global, file: &[u8], wanted: &str) -> Option<bool> {
     let text = match judge(file) {
         Ok(judged) => text_of(alloc, judged.pc(), judged.file_bytes()),
         Err(condition) => format!(in alloc; "bad {condition}"),
     };
-    text.ok()
+    Some(text.ok()?.as_str() == wanted)
 }
 
-/// The memory that a file is loaded into, and whether it is judged and loaded as the row says.
-pub(crate) fn agrees(alloc: Global, row: &mut Row) -> Option<(Memory, bool)> {
+/// Whether a file is judged and loaded as the row says; the memory that it is loaded into is held then.
+pub(crate) fn agrees(alloc: Global, held: &mut Option<Memory>, row: &mut Row) -> Option<bool> {
     let file = row.bytes(alloc)?;
     let wanted = row.word();
-    let (memory, text) = loaded(alloc, &file)?;
-    Some((
-        memory,
-        text.as_str() == wanted && judged(alloc, &file)?.as_str() == wanted,
-    ))
+    let mut memory = Memory::new(alloc).ok()?;
+    let loaded = is_loaded(alloc, &file, &mut memory, wanted);
+    *held = Some(memory);
+    Some(loaded? && is_judged(alloc, &file, wanted)?)
 }

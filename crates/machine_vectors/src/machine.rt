@@ -5,34 +5,34 @@ use crate::{elf, memory};
 use row_table::Row;
 use std::alloc::Global;
 use std::marker::Model;
-use std::mem;
 use vm_mem::Memory;
 use vm_step::{Machine, Step};
 
 const CYCLES_LIMIT: u64 = 1 << 40;
 
-/// A machine that can make a step.
+/// A machine, and whether it can make a step.
 #[derive(Drop)]
-pub(crate) struct Going(Machine);
+struct Running {
+    machine: Machine,
+    goes_on: bool,
+}
 
-impl Model for Going {
-    ghost use Rattle.std.specs.Prelude.{◌≡◌, true};
+impl Model for Running {
+    ghost use Rattle.std.specs.Prelude.{◌≡◌};
     ghost use Rattle.vm_step.specs.Running.{RunningMachine};
 
     ghost Value = { RunningMachine };
 
-    ghost view = { λ going. going.0 };
+    ghost view = { λ running. running.machine };
 
-    ghost invariant = { λ going. going.0.goes_on ≡ true };
+    ghost invariant = { λ running. running.goes_on ≡ running.machine.goes_on };
 }
 
-/// What the rows act on.
+/// What the rows act on: a machine, or memory alone.
 #[derive(Drop)]
-pub(crate) enum Held {
-    Nothing,
-    Memory(Memory),
-    Going(Going),
-    Ended(Machine),
+pub(crate) struct Held {
+    memory: Option<Memory>,
+    running: Option<Running>,
 }
 
 fn register_of(row: &mut Row) -> Option<u8>
@@ -104,81 +104,85 @@ fn cycles_of(row: &mut Row) -> Option<u64>
     }
 }
 
-impl Held {
-    /// A machine of the memory.
-    fn started(&mut self, row: &mut Row) -> Option<bool> {
-        let (pc, cycles, budget) = start_of(row)?;
-        match mem::replace(self, Held::Nothing) {
-            Held::Memory(memory) => {
-                *self = Held::Going(Going(Machine::new(memory, pc, cycles, budget)));
-                Some(true)
-            }
-            _ => None,
-        }
-    }
-
+impl Running {
     /// One step, or a run: the answer, and the cycles then.
     fn stepped(&mut self, call: &str, row: &mut Row) -> Option<bool> {
-        let Held::Going(going) = mem::replace(self, Held::Nothing) else {
+        if !self.goes_on {
             return None;
-        };
-        let mut machine = going.0;
+        }
         let answer = if call == "step" {
-            machine.step()
+            self.machine.step()
         } else {
-            machine.run()
+            self.machine.run()
+        };
+        self.goes_on = match answer {
+            Step::Went => true,
+            Step::Ecall => true,
+            _ => false,
         };
         let is_named = name_of(answer) == row.word();
-        let is_paid = row.digits() == Some(machine.cycles());
-        *self = match answer {
-            Step::Went => Held::Going(Going(machine)),
-            Step::Ecall => Held::Going(Going(machine)),
-            _ => Held::Ended(machine),
-        };
-        Some(is_named && is_paid)
+        Some(is_named && row.digits() == Some(self.machine.cycles()))
     }
 
     /// Cycles that are charged: `within` or `spent`.
     fn charged(&mut self, row: &mut Row) -> Option<bool> {
         let cycles = cycles_of(row)?;
-        let Held::Going(going) = mem::replace(self, Held::Nothing) else {
+        if !self.goes_on {
             return None;
-        };
-        let mut machine = going.0;
-        if machine.charge(cycles) {
-            *self = Held::Going(Going(machine));
-            Some(row.word() == "within")
-        } else {
-            *self = Held::Ended(machine);
-            Some(row.word() == "spent")
+        }
+        self.goes_on = self.machine.charge(cycles);
+        let wanted = if self.goes_on { "within" } else { "spent" };
+        Some(row.word() == wanted)
+    }
+}
+
+impl Held {
+    pub(crate) fn new() -> Held {
+        Held {
+            memory: None,
+            running: None,
         }
     }
 
+    /// New memory.
+    fn begun(&mut self, alloc: Global) -> Option<bool> {
+        self.running = None;
+        self.memory = Some(Memory::new(alloc).ok()?);
+        Some(true)
+    }
+
+    fn loaded(&mut self, alloc: Global, row: &mut Row) -> Option<bool> {
+        self.running = None;
+        elf::agrees(alloc, &mut self.memory, row)
+    }
+
+    /// A machine of the memory.
+    fn started(&mut self, row: &mut Row) -> Option<bool> {
+        let (pc, cycles, budget) = start_of(row)?;
+        let memory = self.memory.take()?;
+        self.running = Some(Running {
+            machine: Machine::new(memory, pc, cycles, budget),
+            goes_on: true,
+        });
+        Some(true)
+    }
+
     fn looked_at(&mut self, alloc: Global, call: &str, row: &mut Row) -> Option<bool> {
-        match self {
-            Held::Nothing => None,
-            Held::Memory(memory) => memory::agrees(alloc, memory, call, row),
-            Held::Going(going) => looked_at(alloc, &mut going.0, call, row),
-            Held::Ended(machine) => looked_at(alloc, machine, call, row),
+        match &mut self.running {
+            Some(running) => looked_at(alloc, &mut running.machine, call, row),
+            None => memory::agrees(alloc, self.memory.as_mut()?, call, row),
         }
     }
 
     /// Whether what is held answers what the row says; None where it is no row.
     pub(crate) fn answers(&mut self, alloc: Global, call: &str, row: &mut Row) -> Option<bool> {
         match call {
-            "memory" => {
-                *self = Held::Memory(Memory::new(alloc).ok()?);
-                Some(true)
-            }
-            "elf" => {
-                let (memory, agrees) = elf::agrees(alloc, row)?;
-                *self = Held::Memory(memory);
-                Some(agrees)
-            }
+            "memory" => self.begun(alloc),
+            "elf" => self.loaded(alloc, row),
             "machine" => self.started(row),
-            "step" => self.stepped(call, row),
-            "run" => self.stepped(call, row),
-            "charge" => self.charged(row),
+            "step" => self.running.as_mut()?.stepped(call, row),
+            "run" => self.running.as_mut()?.stepped(call, row),
+            "charge" => self.running.as_mut()?.charged(row),
             call => self.looked_at(alloc, call, row),
         }
     }

@@ -38,6 +38,10 @@ fn upper(imm: i64) -> i64 {
 /// The instruction's name, and its operands.
 fn parts_of(ins: Ins) -> (&'static str, Operands) {
     match ins {
+        Ins::Fence => ("fence", Operands::None),
+        Ins::FenceI => ("fence.i", Operands::None),
+        Ins::Ecall => ("ecall", Operands::None),
+        Ins::Ebreak => ("ebreak", Operands::None),
         Ins::Lui { rd, imm } => ("lui", Operands::Number(rd, upper(imm))),
         Ins::Auipc { rd, imm } => ("auipc", Operands::Number(rd, upper(imm))),
         Ins::Jal { rd, imm } => ("jal", Operands::Number(rd, imm)),
@@ -48,6 +52,13 @@ fn parts_of(ins: Ins) -> (&'static str, Operands) {
         Ins::Bge { rs1, rs2, imm } => ("bge", Operands::Immediate(rs1, rs2, imm)),
         Ins::Bltu { rs1, rs2, imm } => ("bltu", Operands::Immediate(rs1, rs2, imm)),
         Ins::Bgeu { rs1, rs2, imm } => ("bgeu", Operands::Immediate(rs1, rs2, imm)),
+        _ => access_parts(ins),
+    }
+}
+
+/// Those of a load or a store, or of what follows.
+fn access_parts(ins: Ins) -> (&'static str, Operands) {
+    match ins {
         Ins::Lb { rd, rs1, imm } => ("lb", Operands::Address(rd, rs1, imm)),
         Ins::Lh { rd, rs1, imm } => ("lh", Operands::Address(rd, rs1, imm)),
         Ins::Lw { rd, rs1, imm } => ("lw", Operands::Address(rd, rs1, imm)),
@@ -59,6 +70,13 @@ fn parts_of(ins: Ins) -> (&'static str, Operands) {
         Ins::Sh { rs1, rs2, imm } => ("sh", Operands::Address(rs2, rs1, imm)),
         Ins::Sw { rs1, rs2, imm } => ("sw", Operands::Address(rs2, rs1, imm)),
         Ins::Sd { rs1, rs2, imm } => ("sd", Operands::Address(rs2, rs1, imm)),
+        _ => immediate_parts(ins),
+    }
+}
+
+/// Those of an operation on a register and a number, or of what follows.
+fn immediate_parts(ins: Ins) -> (&'static str, Operands) {
+    match ins {
         Ins::Addi { rd, rs1, imm } => ("addi", Operands::Immediate(rd, rs1, imm)),
         Ins::Slti { rd, rs1, imm } => ("slti", Operands::Immediate(rd, rs1, imm)),
         Ins::Sltiu { rd, rs1, imm } => ("sltiu", Operands::Immediate(rd, rs1, imm)),
@@ -72,6 +90,13 @@ fn parts_of(ins: Ins) -> (&'static str, Operands) {
         Ins::Slliw { rd, rs1, imm } => ("slliw", Operands::Immediate(rd, rs1, imm)),
         Ins::Srliw { rd, rs1, imm } => ("srliw", Operands::Immediate(rd, rs1, imm)),
         Ins::Sraiw { rd, rs1, imm } => ("sraiw", Operands::Immediate(rd, rs1, imm)),
+        _ => register_parts(ins),
+    }
+}
+
+/// Those of an operation on two registers, or of what follows.
+fn register_parts(ins: Ins) -> (&'static str, Operands) {
+    match ins {
         Ins::Add { rd, rs1, rs2 } => ("add", Operands::Registers(rd, rs1, rs2)),
         Ins::Sub { rd, rs1, rs2 } => ("sub", Operands::Registers(rd, rs1, rs2)),
         Ins::Sll { rd, rs1, rs2 } => ("sll", Operands::Registers(rd, rs1, rs2)),
@@ -90,6 +115,13 @@ fn parts_of(ins: Ins) -> (&'static str, Operands) {
         Ins::Divu { rd, rs1, rs2 } => ("divu", Operands::Registers(rd, rs1, rs2)),
         Ins::Rem { rd, rs1, rs2 } => ("rem", Operands::Registers(rd, rs1, rs2)),
         Ins::Remu { rd, rs1, rs2 } => ("remu", Operands::Registers(rd, rs1, rs2)),
+        _ => word_parts(ins),
+    }
+}
+
+/// Those of an operation on the lower half of two registers.
+fn word_parts(ins: Ins) -> (&'static str, Operands) {
+    match ins {
         Ins::Addw { rd, rs1, rs2 } => ("addw", Operands::Registers(rd, rs1, rs2)),
         Ins::Subw { rd, rs1, rs2 } => ("subw", Operands::Registers(rd, rs1, rs2)),
         Ins::Sllw { rd, rs1, rs2 } => ("sllw", Operands::Registers(rd, rs1, rs2)),
@@ -100,9 +132,6 @@ fn parts_of(ins: Ins) -> (&'static str, Operands) {
         Ins::Divuw { rd, rs1, rs2 } => ("divuw", Operands::Registers(rd, rs1, rs2)),
         Ins::Remw { rd, rs1, rs2 } => ("remw", Operands::Registers(rd, rs1, rs2)),
         Ins::Remuw { rd, rs1, rs2 } => ("remuw", Operands::Registers(rd, rs1, rs2)),
-        Ins::Fence => ("fence", Operands::None),
-        Ins::FenceI => ("fence.i", Operands::None),
-        Ins::Ecall => ("ecall", Operands::None),
-        Ins::Ebreak => ("ebreak", Operands::None),
+        _ => ("", Operands::None),
     }
 }

@@ -1,22 +1,13 @@
 // Rows of a folder's files.
 
-use crate::area::{area_of, is_ok};
-use outside::{Area, Disk, Failed};
+use crate::area::{area_of, is_count, is_done, is_read};
+use outside::{Area, Disk};
 use outside_os::{Claim, FolderDisk};
 use row_table::Row;
 use std::alloc::Global;
 use std::rt::Files;
 
 const LIMIT: u64 = 1_000_000;
-
-/// The number, or `failed`.
-pub(crate) fn is_count(counted: Result<u64, Failed>, row: &mut Row) -> Option<bool> {
-    let word = row.word();
-    match counted {
-        Ok(n) => Some(word.parse() == Ok(n)),
-        Err(Failed) => Some(word == "failed"),
-    }
-}
 
 /// From where on, how many bytes are there and which six are in the buffer then, which dashes fill before.
 fn agrees_on_read<R: Files + Drop>(
@@ -28,10 +19,10 @@ fn agrees_on_read<R: Files + Drop>(
 where
     R::File: Claim,
 {
+    let at = row.number()?;
     let mut into = [b'-'; 6];
-    let read = disk.read(area, row.number()?, &mut into);
-    let counted = is_count(read.map(|n| n as u64), row)?;
-    Some(counted && into.as_slice() == row.bytes(alloc)?.as_slice())
+    let read = disk.read(area, at, &mut into);
+    is_read(alloc, read, &into, row)
 }
 
 fn agrees_on_write<R: Files + Drop>(
@@ -48,7 +39,30 @@ where
     if at > LIMIT || piece.len() as u64 > LIMIT {
         return None;
     }
-    Some(disk.write(area, at, &piece).is_ok() == is_ok(row)?)
+    is_done(disk.write(area, at, &piece).is_ok(), row)
+}
+
+fn agrees_on_cut<R: Files + Drop>(
+    disk: &mut FolderDisk<R>,
+    area: Area,
+    row: &mut Row,
+) -> Option<bool>
+where
+    R::File: Claim,
+{
+    let at = row.number()?;
+    is_done(disk.cut(area, at).is_ok(), row)
+}
+
+fn agrees_on_sync<R: Files + Drop>(
+    disk: &mut FolderDisk<R>,
+    area: Area,
+    row: &mut Row,
+) -> Option<bool>
+where
+    R::File: Claim,
+{
+    is_done(disk.sync(area).is_ok(), row)
 }
 
 /// A call, an area, and what else the call takes.
@@ -66,8 +80,8 @@ where
         "len" => is_count(disk.len(area), row),
         "read" => agrees_on_read(alloc, disk, area, row),
         "write" => agrees_on_write(alloc, disk, area, row),
-        "cut" => Some(disk.cut(area, row.number()?).is_ok() == is_ok(row)?),
-        "sync" => Some(disk.sync(area).is_ok() == is_ok(row)?),
+        "cut" => agrees_on_cut(disk, area, row),
+        "sync" => agrees_on_sync(disk, area, row),
         _ => None,
     }
 }

@@ -65,18 +65,33 @@ fn turns_of(alloc: Global, column: &str) -> Option<Vec<Turn>> {
     Some(turns)
 }
 
+fn begin_system(alloc: Global, system: &System, row: &mut Row) -> Option<()> {
+    let turns = turns_of(alloc, row.word())?;
+    let bytes = row.bytes(alloc)?;
+    system.begin(&turns, &bytes).ok()
+}
+
+fn holds(alloc: Global, system: &System, row: &mut Row) -> Option<bool> {
+    Some(system.holds(&row.bytes(alloc)?))
+}
+
+fn has_taken(alloc: Global, system: &System, row: &mut Row) -> Option<bool> {
+    Some(system.has_taken(&row.bytes(alloc)?))
+}
+
 fn new_disk<'a>(alloc: Global, system: &'a System) -> Result<FolderDisk<Runtime<'a>>, AllocError> {
     Ok(FolderDisk::new(Runtime(system), String::from_str(alloc, "d")?))
 }
 
 impl<'a> Adapters<'a> {
     fn new(rt: HostRuntime, system: &'a System) -> Result<Adapters<'a>, AllocError> {
+        let disk = new_disk(rt.alloc(), system)?;
         Ok(Adapters {
             rt,
             system,
             source: StdinSource::new(Runtime(system)),
             sink: StdoutSink::new(Runtime(system)),
-            disk: new_disk(rt.alloc(), system)?,
+            disk,
             real: FolderDisk::new(rt, String::new(rt.alloc())),
             memory: Memory::new(rt.alloc()),
         })
@@ -84,21 +99,33 @@ impl<'a> Adapters<'a> {
 
     /// A new fake, and new adapters over it.
     fn begin(&mut self, alloc: Global, row: &mut Row) -> Option<bool> {
-        let turns = turns_of(alloc, row.word())?;
-        self.system.begin(&turns, &row.bytes(alloc)?).ok()?;
+        begin_system(alloc, self.system, row)?;
         self.source = StdinSource::new(Runtime(self.system));
         self.sink = StdoutSink::new(Runtime(self.system));
         self.disk = new_disk(alloc, self.system).ok()?;
         Some(true)
     }
 
+    fn agrees_on_fake(&mut self, alloc: Global, call: &str, row: &mut Row) -> Option<bool> {
+        match call {
+            "system" => self.begin(alloc, row),
+            "noted" => Some(self.system.has_noted(row.word())),
+            "holds" => holds(alloc, self.system, row),
+            "taken" => has_taken(alloc, self.system, row),
+            "source" => streams::agrees_on_read(alloc, &mut self.source, row),
+            "sink" => streams::agrees_on_write(alloc, &mut self.sink, row),
+            call => disk::agrees(alloc, &mut self.disk, call, row),
+        }
+    }
+
+    fn open(&mut self, rt: HostRuntime, folder: &str) -> Option<bool> {
+        self.real = FolderDisk::new(rt, String::from_str(rt.alloc(), folder).ok()?);
+        Some(true)
+    }
+
     fn agrees_on_real(&mut self, rt: HostRuntime, row: &mut Row) -> Option<bool> {
         match row.word() {
-            "open" => {
-                let folder = String::from_str(rt.alloc(), row.word()).ok()?;
-                self.real = FolderDisk::new(rt, folder);
-                Some(true)
-            }
+            "open" => self.open(rt, row.word()),
             call => disk::agrees(rt.alloc(), &mut self.real, call, row),
         }
     }
@@ -108,27 +135,22 @@ impl<'a> Subject for Adapters<'a> {
     fn agrees(&mut self, alloc: Global, row: &mut Row<'_>) -> Option<bool> {
         match row.word() {
             "memory" => self.memory.agrees(alloc, row),
-            "system" => self.begin(alloc, row),
-            "noted" => Some(self.system.has_noted(row.word())),
-            "holds" => Some(self.system.holds(&row.bytes(alloc)?)),
-            "taken" => Some(self.system.has_taken(&row.bytes(alloc)?)),
-            "source" => streams::agrees_on_read(alloc, &mut self.source, row),
-            "sink" => streams::agrees_on_write(alloc, &mut self.sink, row),
             "real" => self.agrees_on_real(self.rt, row),
             "files" => files::agrees(self.rt, row.word(), row),
-            call => disk::agrees(alloc, &mut self.disk, call, row),
+            call => self.agrees_on_fake(alloc, call, row),
         }
     }
 }
 
-fn all_rows_agree(rt: HostRuntime, system: &System, text: &str) -> io::Result<bool> {
+fn all_rows_agree(rt: HostRuntime, system: &System) -> io::Result<bool> {
     let mut adapters = Adapters::new(rt, system)?;
-    all_agree(&rt, rt.alloc(), &mut adapters, text)
+    let all = all_agree(rt, &mut adapters);
+    drop(adapters);
+    all
 }
 
 fn main(rt: HostRuntime) -> io::Result<ExitCode> {
-    let text = io::read_to_string(rt.alloc(), rt.stdin())?;
     let system = System::new(rt.alloc());
-    let all = all_rows_agree(rt, &system, &text)?;
+    let all = all_rows_agree(rt, &system)?;
     Ok(ExitCode::from(u8::from(!all)))
 }

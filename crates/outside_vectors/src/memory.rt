@@ -1,5 +1,6 @@
 // Rows of the streams and the disk in memory.
 
+use crate::area::{are_bytes, is_number};
 use crate::memory_streams::Trickle;
 use crate::{memory_disk, memory_streams};
 use outside_mem::{MemDisk, MemSink, MemSource};
@@ -25,22 +26,28 @@ impl Memory {
         }
     }
 
+    fn begin_source(&mut self, alloc: Global, row: &mut Row) -> Option<bool> {
+        let bytes = row.bytes(alloc)?;
+        self.source = Trickle(MemSource::new(bytes, row.numbers(alloc)?));
+        Some(true)
+    }
+
+    fn begin_sink(&mut self, alloc: Global, row: &mut Row) -> Option<bool> {
+        self.sink = Trickle(MemSink::new(alloc, row.numbers(alloc)?));
+        Some(true)
+    }
+
+    fn begin_disk(&mut self, alloc: Global, row: &mut Row) -> Option<bool> {
+        self.disk = MemDisk::new(alloc, row.numbers(alloc)?);
+        Some(true)
+    }
+
     /// Whether the call answers what the row says; None where it is no row.
     pub(crate) fn agrees(&mut self, alloc: Global, row: &mut Row) -> Option<bool> {
         match row.word() {
-            "source" => {
-                let bytes = row.bytes(alloc)?;
-                self.source = Trickle(MemSource::new(bytes, row.numbers(alloc)?));
-                Some(true)
-            }
-            "sink" => {
-                self.sink = Trickle(MemSink::new(alloc, row.numbers(alloc)?));
-                Some(true)
-            }
-            "disk" => {
-                self.disk = MemDisk::new(alloc, row.numbers(alloc)?);
-                Some(true)
-            }
+            "source" => self.begin_source(alloc, row),
+            "sink" => self.begin_sink(alloc, row),
+            "disk" => self.begin_disk(alloc, row),
             "read_full" => memory_streams::agrees_on_read(
                 alloc,
                 &mut self.source,
@@ -48,9 +55,9 @@ impl Memory {
                 row,
             ),
             "write_all" => memory_streams::agrees_on_write(alloc, &mut self.sink, row),
-            "taken" => Some(self.sink.0.taken() == row.bytes(alloc)?.as_slice()),
-            "sink_starved" => Some(self.sink.0.starved() == row.number()?),
-            "disk_starved" => Some(self.disk.starved() == row.number()?),
+            "taken" => are_bytes(alloc, self.sink.0.taken(), row),
+            "sink_starved" => is_number(self.sink.0.starved(), row),
+            "disk_starved" => is_number(self.disk.starved(), row),
             "no_disk" => memory_disk::agrees_on_none(row),
             call => memory_disk::agrees(alloc, &mut self.disk, call, row),
         }

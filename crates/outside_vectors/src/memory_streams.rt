@@ -1,7 +1,7 @@
 // Rows of streams that move few bytes a call.
 ghost use Rattle.std.specs.Prelude.{◌≡◌, ◌+◌, ◌<◌};
 
-use crate::area::is_ok;
+use crate::area::{are_bytes, is_done};
 use outside::{Failed, Sink, Source, read_full, write_all};
 use row_table::Row;
 use std::alloc::Global;
@@ -51,10 +51,10 @@ pub(crate) fn agrees_on_read<S: Source>(
         Ok(n) => word.parse() == Ok(n),
         Err(Failed) => word == "failed",
     };
-    Some(counted && &*into == row.bytes(alloc)?.as_slice())
+    Some(counted && are_bytes(alloc, into, row)?)
 }
 
 pub(crate) fn agrees_on_write<K: Sink>(alloc: Global, sink: &mut K, row: &mut Row) -> Option<bool> {
     let bytes = row.bytes(alloc)?;
-    Some(write_all(sink, &bytes).is_ok() == is_ok(row)?)
+    is_done(write_all(sink, &bytes).is_ok(), row)
 }

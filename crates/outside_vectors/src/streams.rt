@@ -1,6 +1,6 @@
 // Rows of the streams.
 
-use crate::disk::is_count;
+use crate::area::{is_count, is_read};
 use outside::{Sink, Source};
 use row_table::Row;
 use std::alloc::Global;
@@ -13,8 +13,7 @@ pub(crate) fn agrees_on_read<S: Source>(
 ) -> Option<bool> {
     let mut into = [b'-'; 4];
     let read = source.read(&mut into);
-    let counted = is_count(read.map(|n| n as u64), row)?;
-    Some(counted && into.as_slice() == row.bytes(alloc)?.as_slice())
+    is_read(alloc, read, &into, row)
 }
 
 /// The bytes, and how many are taken.

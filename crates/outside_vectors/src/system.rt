@@ -53,19 +53,31 @@ impl System {
     pub(crate) fn begin(&self, turns: &[Turn], bytes: &[u8]) -> io::Result<()> {
         self.calls.set(0);
         self.at.set(0);
+        self.set_turns(turns)?;
+        self.forget()?;
+        fill(&self.bytes, bytes)?;
+        fill(&self.taken, &[])
+    }
+
+    fn set_turns(&self, turns: &[Turn]) -> io::Result<()> {
         match self.turns.try_borrow_mut() {
             Ok(mut held) => {
                 held.clear();
                 held.extend_from_slice(turns)?;
+                Ok(())
             }
-            Err(_) => return Err(taken_twice()),
+            Err(_) => Err(taken_twice()),
         }
+    }
+
+    fn forget(&self) -> io::Result<()> {
         match self.noted.try_borrow_mut() {
-            Ok(mut noted) => noted.clear(),
-            Err(_) => return Err(taken_twice()),
+            Ok(mut noted) => {
+                noted.clear();
+                Ok(())
+            }
+            Err(_) => Err(taken_twice()),
         }
-        fill(&self.bytes, bytes)?;
-        fill(&self.taken, &[])
     }
 
     fn note(&self, call: &str) -> io::Result<()> {

@@ -16,13 +16,13 @@ pub trait Subject {
     fn agrees(&mut self, alloc: Global, row: &mut Row<'_>) -> Option<bool>;
 }
 
-/// Tries each row, prints those that differ and how many agree, and answers whether all do.
-pub fn all_agree<S: Subject>(
-    rt: &impl Print,
-    alloc: Global,
-    subject: &mut S,
-    text: &str,
-) -> io::Result<bool> {
+/// Tries each row of the standard input, prints those that differ and how many agree, and answers whether all do.
+pub fn all_agree<S: Subject>(rt: HostRuntime, subject: &mut S) -> io::Result<bool> {
+    let text = io::read_to_string(rt.alloc(), rt.stdin())?;
+    all_lines_agree(rt, subject, &text)
+}
+
+fn all_lines_agree<S: Subject>(rt: HostRuntime, subject: &mut S, text: &str) -> io::Result<bool> {
     let mut rows = 0u64;
     let mut agreed = 0u64;
     for line in text.lines() {
@@ -30,7 +30,7 @@ pub fn all_agree<S: Subject>(
             continue;
         }
         rows = rows.saturating_add(1);
-        if subject.agrees(alloc, &mut Row::new(line)) == Some(true) {
+        if subject.agrees(rt.alloc(), &mut Row::new(line)) == Some(true) {
             agreed = agreed.saturating_add(1);
         } else {
             println!(rt; "row {rows} differs: {line}")?;

@@ -77,30 +77,29 @@ fn keep(alloc: Global, blocks: &mut ListBlocks, block: &BlockView<'_>) -> Option
     blocks.push(block, ext).ok()
 }
 
-/// Takes the uncles of a block at a place.
-fn take_uncles(uncles: &mut Uncles, block: &BlockView<'_>, place: u32) -> Option<()> {
-    uncles.reserve(block.uncles_count()).ok()?;
-    uncles.add(block, place);
-    Some(())
+/// Takes a block whose entry stands at a place: its bytes and its uncles.
+pub(crate) fn take(
+    alloc: Global,
+    chain: &mut Chain,
+    block: &BlockView<'_>,
+    place: u32,
+) -> Option<()> {
+    chain.uncles.reserve(block.uncles_count()).ok()?;
+    chain.uncles.add(block, place);
+    keep(alloc, &mut chain.blocks, block)
 }
 
-/// The chain of a specification and a genesis.
-pub(crate) fn chain_of(alloc: Global, spec: Spec, genesis: &[u8]) -> Option<Chain> {
-    let block = BlockView::read(genesis)?;
-    let entry = entry_of(&block.header(), 0);
+/// The chain of a specification and the entry of a genesis, which is still to be taken.
+pub(crate) fn chain_of(alloc: Global, spec: Spec, genesis: &BlockView<'_>) -> Option<Chain> {
+    let entry = entry_of(&genesis.header(), 0);
     if entry.number != 0 {
         return None;
     }
-    let tree = Tree::new(alloc, entry).ok()?;
-    let mut blocks = ListBlocks::new(Vec::new(alloc), Vec::new(alloc));
-    keep(alloc, &mut blocks, &block)?;
-    let mut uncles = Uncles::new(alloc);
-    take_uncles(&mut uncles, &block, 0)?;
     Some(Chain {
         spec,
-        tree,
-        blocks,
-        uncles,
+        tree: Tree::new(alloc, entry).ok()?,
+        blocks: ListBlocks::new(Vec::new(alloc), Vec::new(alloc)),
+        uncles: Uncles::new(alloc),
     })
 }
 
@@ -130,6 +129,5 @@ pub(crate) fn join(alloc: Global, chain: &mut Chain, block: &BlockView<'_>) -> O
     let parent = parent_of(&chain.tree, &header)?;
     let place = chain.tree.len();
     add(&mut chain.tree, entry_of(&header, parent))?;
-    take_uncles(&mut chain.uncles, block, place)?;
-    keep(alloc, &mut chain.blocks, block)
+    take(alloc, chain, block, place)
 }

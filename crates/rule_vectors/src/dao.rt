@@ -14,16 +14,21 @@ fn field_of(row: &mut Row) -> Option<Dao> {
     })
 }
 
-/// The field before a block, what the block moves, and the field after it or `none`.
-pub(crate) fn agrees_on_next_field(row: &mut Row) -> Option<bool> {
-    let old = field_of(row)?;
-    let moved = DaoMove {
+/// What a block moves.
+fn move_of(row: &mut Row) -> Option<DaoMove> {
+    Some(DaoMove {
         primary: row.number()?,
         secondary: row.number()?,
         interest: row.signed()?,
         made: row.wide()?,
         freed: row.wide()?,
-    };
+    })
+}
+
+/// The field before a block, what the block moves, and the field after it or `none`.
+fn agrees_on_next_field(row: &mut Row) -> Option<bool> {
+    let old = field_of(row)?;
+    let moved = move_of(row)?;
     if old.c == 0 {
         return None;
     }
@@ -34,7 +39,7 @@ pub(crate) fn agrees_on_next_field(row: &mut Row) -> Option<bool> {
 }
 
 /// The field before a block, and its secondary share.
-pub(crate) fn agrees_on_miner_share(row: &mut Row) -> Option<bool> {
+fn agrees_on_miner_share(row: &mut Row) -> Option<bool> {
     let old = field_of(row)?;
     let secondary = row.number()?;
     if old.c == 0 {
@@ -44,7 +49,7 @@ pub(crate) fn agrees_on_miner_share(row: &mut Row) -> Option<bool> {
 }
 
 /// A cell's capacity and what it occupies, the rate then and the rate before; what it counts, or `none`.
-pub(crate) fn agrees_on_withdrawal(row: &mut Row) -> Option<bool> {
+fn agrees_on_withdrawal(row: &mut Row) -> Option<bool> {
     let capacity = row.number()?;
     let occupied = row.number()?;
     let rate_then = row.number()?;
@@ -61,11 +66,19 @@ pub(crate) fn agrees_on_withdrawal(row: &mut Row) -> Option<bool> {
 }
 
 /// A field, and its bytes.
-pub(crate) fn agrees_on_bytes(alloc: Global, row: &mut Row) -> Option<bool> {
+fn agrees_on_bytes(alloc: Global, row: &mut Row) -> Option<bool> {
     let field = field_of(row)?;
-    let bytes = row.bytes(alloc)?;
-    let Ok(bytes) = <[u8; 32]>::try_from(bytes.as_slice()) else {
-        return None;
-    };
+    let bytes = <[u8; 32]>::try_from(&row.bytes(alloc)?[..]).ok()?;
     Some(Dao::read(&bytes) == field && field.write() == bytes)
+}
+
+/// Whether the call gives what the row says; None where it is no row.
+pub(crate) fn agrees(alloc: Global, call: &str, row: &mut Row) -> Option<bool> {
+    match call {
+        "next_field" => agrees_on_next_field(row),
+        "miner_share" => agrees_on_miner_share(row),
+        "max_withdraw" => agrees_on_withdrawal(row),
+        "Dao" => agrees_on_bytes(alloc, row),
+        _ => None,
+    }
 }

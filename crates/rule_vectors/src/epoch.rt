@@ -16,27 +16,32 @@ pub(crate) fn agrees_on_rule(alloc: Global, row: &mut Row) -> Option<bool> {
     Some(u32::from(broken) == row.short()?)
 }
 
+/// A field of a specification that is a number.
+fn number_of(spec: &Spec, name: &str) -> Option<u64> {
+    match name {
+        "compact_target" => Some(u64::from(spec.compact_target)),
+        "epoch_length" => Some(u64::from(spec.epoch_length)),
+        "w_close" => Some(u64::from(spec.w_close)),
+        "w_far" => Some(u64::from(spec.w_far)),
+        "max_block_bytes" => Some(u64::from(spec.max_block_bytes)),
+        "max_proposals" => Some(u64::from(spec.max_proposals)),
+        "max_cycles" => Some(spec.max_cycles),
+        "maturity" => Some(spec.maturity),
+        "primary_reward" => Some(spec.primary_reward),
+        "secondary_reward" => Some(spec.secondary_reward),
+        "halving_interval" => Some(spec.halving_interval),
+        _ => None,
+    }
+}
+
 /// The bytes of a specification, a field's name and its value.
 pub(crate) fn agrees_on_field(alloc: Global, row: &mut Row) -> Option<bool> {
     let spec = spec_of(alloc, row)?;
-    let value = match row.word() {
-        "compact_target" => u64::from(spec.compact_target),
-        "epoch_length" => u64::from(spec.epoch_length),
-        "w_close" => u64::from(spec.w_close),
-        "w_far" => u64::from(spec.w_far),
-        "max_block_bytes" => u64::from(spec.max_block_bytes),
-        "max_proposals" => u64::from(spec.max_proposals),
-        "max_cycles" => spec.max_cycles,
-        "maturity" => spec.maturity,
-        "primary_reward" => spec.primary_reward,
-        "secondary_reward" => spec.secondary_reward,
-        "halving_interval" => spec.halving_interval,
-        "dao_code_hash" => return Some(
-            row.bytes(alloc)?.as_slice() == spec.dao_code_hash.as_slice(),
-        ),
-        _ => return None,
-    };
-    Some(value == row.number()?)
+    let name = row.word();
+    if name == "dao_code_hash" {
+        return Some(row.bytes(alloc)?.as_slice() == spec.dao_code_hash.as_slice());
+    }
+    Some(number_of(&spec, name)? == row.number()?)
 }
 
 /// Blocks in an epoch.

@@ -4,7 +4,6 @@ use crate::chain::{Chain, join, parent_of};
 use blake2b_ckb::ckbhash;
 use mol_schema::BlockView;
 use std::alloc::Global;
-use std::string::String;
 
 /// The first rule that a block breaks which is not kept: its parent is kept, J4 to J8, or J9 to J14.
 fn broken(alloc: Global, chain: &Chain, block: &BlockView<'_>) -> Option<Option<u8>> {
@@ -18,17 +17,26 @@ fn broken(alloc: Global, chain: &Chain, block: &BlockView<'_>) -> Option<Option<
     block_rules::check(alloc, &chain.spec, block).ok()
 }
 
-/// The answer to an item. None where a block that breaks none of the rules does not join its parent.
-pub(crate) fn answer(alloc: Global, chain: &mut Chain, item: &[u8]) -> Option<String> {
+/// Whether an item is answered so. None where a block that breaks none of the rules does not join its parent.
+pub(crate) fn is_answered(
+    alloc: Global,
+    chain: &mut Chain,
+    item: &[u8],
+    wanted: &str,
+) -> Option<bool> {
     let Some(block) = BlockView::read(item) else {
-        return format!(in alloc; "refused J1").ok();
+        return Some(wanted == "refused J1");
     };
     if chain.tree.find(&ckbhash(block.header().bytes())).is_some() {
-        return format!(in alloc; "known").ok();
+        return Some(wanted == "known");
     }
     if let Some(rule) = broken(alloc, chain, &block)? {
-        return format!(in alloc; "refused J{rule}").ok();
+        return is_rule(rule, wanted);
     }
     join(alloc, chain, &block)?;
-    format!(in alloc; "joined").ok()
+    Some(wanted == "joined")
+}
+
+fn is_rule(rule: u8, wanted: &str) -> Option<bool> {
+    Some(wanted.strip_prefix("refused J")?.parse() == Ok(rule))
 }

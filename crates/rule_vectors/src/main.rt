@@ -22,7 +22,7 @@ mod time;
 mod uncles;
 mod window;
 
-use chain::{Chain, chain_of, join};
+use chain::{Chain, chain_of, join, take};
 use epochs::Spec;
 use mol_schema::BlockView;
 use row_table::{Row, Subject, all_agree};
@@ -37,6 +37,23 @@ struct Table {
     chain: Option<Chain>,
 }
 
+impl Table {
+    fn begin_spec(&mut self, alloc: Global, row: &mut Row) -> Option<bool> {
+        self.spec = Spec::read(&row.bytes(alloc)?).ok();
+        Some(self.spec.is_some())
+    }
+
+    fn begin_chain(&mut self, alloc: Global, row: &mut Row) -> Option<bool> {
+        let bytes = row.bytes(alloc)?;
+        self.begins(alloc, &BlockView::read(&bytes)?)
+    }
+
+    fn begins(&mut self, alloc: Global, genesis: &BlockView<'_>) -> Option<bool> {
+        self.chain = chain_of(alloc, self.spec?, genesis);
+        Some(take(alloc, self.chain.as_mut()?, genesis, 0).is_some())
+    }
+}
+
 /// Joins a block, and says that it did.
 fn joins(alloc: Global, chain: &mut Chain, row: &mut Row) -> Option<bool> {
     let bytes = row.bytes(alloc)?;
@@ -47,7 +64,7 @@ fn joins(alloc: Global, chain: &mut Chain, row: &mut Row) -> Option<bool> {
 /// Whether an item is answered as its row wants.
 fn is_answered(alloc: Global, chain: &mut Chain, wanted: &str, row: &mut Row) -> Option<bool> {
     let item = row.bytes(alloc)?;
-    Some(items::answer(alloc, chain, &item)?.as_str() == wanted)
+    items::is_answered(alloc, chain, &item, wanted)
 }
 
 /// Whether the rule on uncles holds as a row has it.
@@ -57,11 +74,15 @@ fn has_uncles(alloc: Global, chain: &Chain, row: &mut Row) -> Option<bool> {
     Some(uncles::keeps(alloc, chain, parent, &block)? == row.is("yes", "no")?)
 }
 
+/// The id of a transaction.
+fn id_of(alloc: Global, row: &mut Row) -> Option<[u8; 10]> {
+    <[u8; 10]>::try_from(&row.bytes(alloc)?[..]).ok()
+}
+
 /// Whether the earliest proposer is the one of a row.
 fn is_proposed(alloc: Global, chain: &mut Chain, row: &mut Row) -> Option<bool> {
     let parent = row.short()?;
-    let bytes = row.bytes(alloc)?;
-    let id = <[u8; 10]>::try_from(&bytes[..]).ok()?;
+    let id = id_of(alloc, row)?;
     match window::found(chain, parent, &id, row.number()?)? {
         Some(proposer) => Some(proposer == row.number()?),
         None => Some(row.rest() == "none"),
@@ -81,32 +102,24 @@ impl Subject for Table {
     fn agrees(&mut self, alloc: Global, row: &mut Row<'_>) -> Option<bool> {
         match row.word() {
             "time" => time::agrees(alloc, row),
-            "spec" => {
-                self.spec = Spec::read(&row.bytes(alloc)?).ok();
-                Some(self.spec.is_some())
-            }
-            "genesis" => {
-                self.chain = chain_of(alloc, self.spec?, &row.bytes(alloc)?);
-                Some(self.chain.is_some())
-            }
-            word => match &mut self.chain {
-                Some(chain) => agrees_on_chain(alloc, chain, word, row),
-                None => None,
-            },
+            "spec" => self.begin_spec(alloc, row),
+            "genesis" => self.begin_chain(alloc, row),
+            word => agrees_on_chain(alloc, self.chain.as_mut()?, word, row),
         }
     }
 }
 
-fn all_rows_agree(rt: HostRuntime, text: &str) -> io::Result<bool> {
+fn all_rows_agree(rt: HostRuntime) -> io::Result<bool> {
     let mut table = Table {
         spec: None,
         chain: None,
     };
-    all_agree(&rt, rt.alloc(), &mut table, text)
+    let all = all_agree(rt, &mut table);
+    drop(table);
+    all
 }
 
 fn main(rt: HostRuntime) -> io::Result<ExitCode> {
-    let text = io::read_to_string(rt.alloc(), rt.stdin())?;
-    let all = all_rows_agree(rt, &text)?;
+    let all = all_rows_agree(rt)?;
     Ok(ExitCode::from(u8::from(!all)))
 }

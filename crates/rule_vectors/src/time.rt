@@ -16,10 +16,6 @@ pub(crate) fn agrees(alloc: Global, row: &mut Row) -> Option<bool> {
         "share" => epoch::agrees_on_share(row),
         "primary" => epoch::agrees_on_primary(alloc, row),
         "meets" => since::agrees_on_since(row),
-        "next_field" => dao::agrees_on_next_field(row),
-        "miner_share" => dao::agrees_on_miner_share(row),
-        "max_withdraw" => dao::agrees_on_withdrawal(row),
-        "Dao" => dao::agrees_on_bytes(alloc, row),
-        _ => None,
+        call => dao::agrees(alloc, call, row),
     }
 }

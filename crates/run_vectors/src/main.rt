@@ -22,92 +22,83 @@ mod trial;
 ghost use Rattle.std.specs.Prelude.{◌≡◌, ◌<◌};
 
 use outside::Steps;
-use row::{Call, row_of};
-use row_table::Row as Columns;
+use row::{Call, words_of};
+use row_table::{Row, Subject, all_agree};
 use std::alloc::{AllocError, Global};
 use std::io;
-use std::io::{BufRead, BufReader};
 use std::marker::Brand;
 use std::process::ExitCode;
 use std::sync::ledger::{Blank, Ledger};
 use trial::Trial;
 
-/// Whether a run of `exec` within a budget has this text.
+/// Whether a run over this input has this text.
 fn agrees_hostile<L: Ledger>(
     alloc: Global,
     steps: &mut Steps<L>,
-    budget: &str,
+    words: &str,
     input: Vec<u8>,
     text: &[u8],
 ) -> Result<bool, AllocError> {
-    let mut words = Vec::new(alloc);
-    for word in ["any", "exec", budget] {
-        words.push(String::from_str(alloc, word)?)?;
-    }
     let call = Call {
-        words,
+        words: words_of(alloc, words)?,
         status: 0,
-        input,
         text: text.to_vec(alloc)?,
         log: None,
     };
-    Trial::new(alloc).runs_as(alloc, steps, &call)
+    let mut trial = Trial::new(alloc, input);
+    let agrees = trial.runs_as(alloc, steps, &call);
+    drop(trial);
+    agrees
+}
+
+fn agrees_on_copies<L: Ledger>(
+    alloc: Global,
+    steps: &mut Steps<L>,
+    words: &str,
+    text: &[u8],
+) -> Result<bool, AllocError> {
+    agrees_hostile(alloc, steps, words, hostile::copies(alloc)?, text)
+}
+
+fn agrees_on_zeros<L: Ledger>(
+    alloc: Global,
+    steps: &mut Steps<L>,
+    words: &str,
+    text: &[u8],
+) -> Result<bool, AllocError> {
+    agrees_hostile(alloc, steps, words, hostile::zeros(alloc)?, text)
 }
 
 /// How many of the four rows that are made here agree.
 fn agreed_hostile<L: Ledger>(alloc: Global, steps: &mut Steps<L>) -> Result<u64, AllocError> {
-    let mut agreed = 0u64;
-    for (budget, text) in [("0", b"spent\n"), ("4908122111", b"spent\n")] {
-        if agrees_hostile(alloc, steps, budget, hostile::copies(alloc)?, text)? {
-            agreed = agreed.saturating_add(1);
-        }
-    }
-    for (budget, text) in [("256", b"fault 3 256\n".as_slice()), ("255", b"spent\n")] {
-        if agrees_hostile(alloc, steps, budget, hostile::zeros(alloc)?, text)? {
-            agreed = agreed.saturating_add(1);
-        }
-    }
-    Ok(agreed)
+    let none = agrees_on_copies(alloc, steps, "exec 0", b"spent\n")?;
+    let most = agrees_on_copies(alloc, steps, "exec 4908122111", b"spent\n")?;
+    let enough = agrees_on_zeros(alloc, steps, "exec 256", b"fault 3 256\n")?;
+    let less = agrees_on_zeros(alloc, steps, "exec 255", b"spent\n")?;
+    Ok(u64::from(none) + u64::from(most) + u64::from(enough) + u64::from(less))
 }
 
-/// Whether the row agrees, where it says what a run must answer.
-fn agrees<L: Ledger>(
-    rt: HostRuntime,
-    trial: &mut Trial,
-    steps: &mut Steps<L>,
-    line: &str,
-) -> io::Result<Option<bool>> {
-    let alloc = rt.alloc();
-    let mut columns = Columns::new(line);
-    let name = columns.word();
-    let Some(row) = row_of(alloc, name, &mut columns, &trial.input) else {
-        println!(rt; "no row: {name}")?;
-        return Ok(Some(false));
+/// A folder with the runs over it, and their ledger.
+#[derive(Drop)]
+struct Runs<'s, L: Ledger> {
+    steps: &'s mut Steps<L>,
+    trial: Trial,
+}
+
+impl<'s, L: Ledger> Subject for Runs<'s, L> {
+    fn agrees(&mut self, alloc: Global, row: &mut Row<'_>) -> Option<bool> {
+        self.trial.agrees(alloc, self.steps, row)
+    }
+}
+
+fn all_rows_agree<L: Ledger>(rt: HostRuntime, steps: &mut Steps<L>) -> io::Result<bool> {
+    let mut runs = Runs {
+        steps,
+        trial: Trial::new(rt.alloc(), Vec::new(rt.alloc())),
     };
-    let agrees = trial.agrees(alloc, steps, row)?;
-    if agrees == Some(false) {
-        println!(rt; "differs: {name}")?;
-    }
-    Ok(agrees)
-}
-
-/// How many rows say what a run must answer, and how many of them agree.
-fn agreed_rows<L: Ledger>(rt: HostRuntime, steps: &mut Steps<L>) -> io::Result<(u64, u64)> {
-    let alloc = rt.alloc();
-    let mut trial = Trial::new(alloc);
-    let mut rows = 0u64;
-    let mut agreed = 0u64;
-    for line in BufReader::new(alloc, rt.reader())?.lines(alloc) {
-        match agrees(rt, &mut trial, steps, &line?)? {
-            None => {}
-            Some(false) => rows = rows.saturating_add(1),
-            Some(true) => {
-                rows = rows.saturating_add(1);
-                agreed = agreed.saturating_add(1);
-            }
-        }
-    }
-    Ok((rows, agreed))
+    let all = all_agree(rt, &mut runs);
+    drop(runs);
+    all
 }
 
 fn run_rows<L: Ledger>(rt: HostRuntime, blank: Blank) -> io::Result<ExitCode>
@@ -116,15 +107,10 @@ fn run_rows<L: Ledger>(rt: HostRuntime, blank: Blank) -> io::Result<ExitCode>
     requires some { 0 < L.parts }
 {
     let mut steps = Steps::<L>::new(blank);
-    let (rows, agreed) = agreed_rows(rt, &mut steps)?;
     let of_hostile = agreed_hostile(rt.alloc(), &mut steps)?;
     println!(rt; "{of_hostile} of 4 rows made here agree")?;
-    println!(rt; "{agreed} of {rows} rows agree")?;
-    Ok(if agreed == rows && of_hostile == 4 {
-        ExitCode::SUCCESS
-    } else {
-        ExitCode::FAILURE
-    })
+    let all = all_rows_agree(rt, &mut steps)?;
+    Ok(ExitCode::from(u8::from(!all || of_hostile != 4)))
 }
 
 fn main(rt: HostRuntime) -> io::Result<ExitCode> {

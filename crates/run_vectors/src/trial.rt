@@ -1,11 +1,12 @@
 // What the rows act on, and what a run over it answers.
 
 use crate::folder::{FILE_LIMIT, is_log, put};
-use crate::row::{Call, Row};
+use crate::row::{Call, area_of, behaviour_of, bytes_of, call_of};
 use crate::streams::{Behaviour, left_of};
 use node_run::run;
 use outside::{Disk, Sink, Source, Steps};
 use outside_mem::MemDisk;
+use row_table::Row;
 use std::alloc::{AllocError, Global};
 use std::sync::ledger::Ledger;
 
@@ -14,7 +15,7 @@ use std::sync::ledger::Ledger;
 pub struct Trial {
     disk: MemDisk,
     behaviour: Behaviour,
-    pub input: Vec<u8>,
+    input: Vec<u8>,
     left: Option<usize>,
 }
 
@@ -40,25 +41,24 @@ fn has_log(alloc: Global, disk: &mut MemDisk, call: &Call) -> Result<bool, Alloc
 }
 
 impl Trial {
-    pub fn new(alloc: Global) -> Trial {
+    pub fn new(alloc: Global, input: Vec<u8>) -> Trial {
         Trial {
             disk: MemDisk::new(alloc, Vec::new(alloc)),
             behaviour: Behaviour::plain(alloc),
-            input: Vec::new(alloc),
+            input,
             left: None,
         }
     }
 
-    /// Whether status, text and LOG are the row's. The streams of the next run are plain again.
-    pub fn runs_as<L: Ledger>(
+    /// Whether status and text are the call's.
+    fn answers_as<L: Ledger>(
         &mut self,
         alloc: Global,
         steps: &mut Steps<L>,
         call: &Call,
     ) -> Result<bool, AllocError> {
-        let mut input = self.behaviour.source_of(&call.input, alloc)?;
+        let mut input = self.behaviour.source_of(&self.input, alloc)?;
         let mut out = self.behaviour.sink(alloc)?;
-        self.behaviour = Behaviour::plain(alloc);
         let status = status_of(
             alloc,
             &call.words,
@@ -68,36 +68,84 @@ impl Trial {
             steps,
         );
         self.left = left_of(&mut input);
-        let agrees = status == call.status && out.inner.taken() == call.text.as_slice();
-        Ok(agrees && has_log(alloc, &mut self.disk, call)?)
+        drop(input);
+        Ok(status == call.status && out.inner.taken() == call.text.as_slice())
     }
 
-    /// Whether a row agrees, where it says what a run must answer.
+    /// Whether status, text and LOG are the call's. The streams of the next run are plain again.
+    pub fn runs_as<L: Ledger>(
+        &mut self,
+        alloc: Global,
+        steps: &mut Steps<L>,
+        call: &Call,
+    ) -> Result<bool, AllocError> {
+        let answers = self.answers_as(alloc, steps, call)?;
+        self.behaviour = Behaviour::plain(alloc);
+        Ok(answers && has_log(alloc, &mut self.disk, call)?)
+    }
+
+    /// A new folder, which is empty, for the rows behind it. The calls of its disk with these numbers fail.
+    fn begin_folder(&mut self, alloc: Global, failing: Vec<u64>) -> Option<bool> {
+        self.disk = MemDisk::new(alloc, failing);
+        Some(true)
+    }
+
+    /// How the streams of the next run behave.
+    fn begin_streams(&mut self, alloc: Global, row: &mut Row) -> Option<bool> {
+        self.behaviour = behaviour_of(alloc, row)?;
+        Some(true)
+    }
+
+    /// A file of the folder with these bytes, in place of what stands there.
+    fn puts(&mut self, alloc: Global, row: &mut Row) -> Option<bool> {
+        let area = area_of(row.word())?;
+        let bytes = bytes_of(alloc, row.word())?;
+        Some(put(&mut self.disk, area, &bytes).is_ok())
+    }
+
+    /// How many bytes of its input the last run left.
+    fn has_left(&self, row: &mut Row) -> Option<bool> {
+        Some(self.left? == row.word().parse().ok()?)
+    }
+
+    /// Takes an input; `=` for that of the run before.
+    fn take_input(&mut self, alloc: Global, column: &str) -> Option<()> {
+        if column != "=" {
+            self.input = bytes_of(alloc, column)?;
+        }
+        Some(())
+    }
+
+    /// A run, and what it must answer.
+    fn runs<L: Ledger>(
+        &mut self,
+        alloc: Global,
+        steps: &mut Steps<L>,
+        row: &mut Row,
+    ) -> Option<bool> {
+        let words = row.word();
+        let status = row.word();
+        self.take_input(alloc, row.word())?;
+        let call = call_of(alloc, words, status, row.word(), row.word())?;
+        let agrees = self.runs_as(alloc, steps, &call);
+        drop(call);
+        agrees.ok()
+    }
+
+    /// Whether what the row calls answers as it says; None where it is no row.
     pub fn agrees<L: Ledger>(
         &mut self,
         alloc: Global,
         steps: &mut Steps<L>,
-        row: Row,
-    ) -> Result<Option<bool>, AllocError> {
-        match row {
-            Row::Folder(failing) => {
-                self.disk = MemDisk::new(alloc, failing);
-                Ok(None)
-            }
-            Row::Put(area, bytes) => Ok(match put(&mut self.disk, area, &bytes) {
-                Ok(()) => None,
-                Err(_) => Some(false),
-            }),
-            Row::Streams(behaviour) => {
-                self.behaviour = behaviour;
-                Ok(None)
-            }
-            Row::Left(count) => Ok(Some(self.left == Some(count))),
-            Row::Call(call) => {
-                let agrees = self.runs_as(alloc, steps, &call)?;
-                self.input = call.input;
-                Ok(Some(agrees))
-            }
+        row: &mut Row,
+    ) -> Option<bool> {
+        match row.word() {
+            "folder" => self.begin_folder(alloc, Vec::new(alloc)),
+            "failing" => self.begin_folder(alloc, row.numbers(alloc)?),
+            "put" => self.puts(alloc, row),
+            "streams" => self.begin_streams(alloc, row),
+            "left" => self.has_left(row),
+            _ => self.runs(alloc, steps, row),
         }
     }
 }

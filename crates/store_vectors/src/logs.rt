@@ -1,5 +1,7 @@
 // Rows of logs.
+ghost use Rattle.std.specs.Prelude.{◌≤◌, length};
 
+use crate::forms::are_bytes;
 use log_file::{Body, LogStop, append, create, open};
 use outside::{Area, Disk, WriteStop};
 use outside_mem::MemDisk;
@@ -39,8 +41,14 @@ pub(crate) fn agrees_on_append(alloc: Global, disk: &mut MemDisk, row: &mut Row)
     }
     let mut body = Body::new(alloc);
     body.fill(alloc, &block, &ext).ok()?;
+    is_appended(alloc, disk, &body, row)
+}
+
+fn is_appended(alloc: Global, disk: &mut MemDisk, body: &Body, row: &mut Row) -> Option<bool>
+    requires { 6 ≤ length body.now }
+{
     let log = create(alloc, disk, b"spec", b"genesis").ok()?;
-    match append(log, disk, &body) {
+    match append(log, disk, body) {
         Ok((log, rec)) => Some(
             row.number()? == log.place
                 && row.number()? == u64::from(rec.kind)
@@ -55,7 +63,7 @@ pub(crate) fn agrees_on_append(alloc: Global, disk: &mut MemDisk, row: &mut Row)
 pub(crate) fn agrees_on_log(alloc: Global, disk: &mut MemDisk, row: &mut Row) -> Option<bool> {
     let mut into = [0; 100];
     let n = disk.read(Area::Log, 0, &mut into).ok()?;
-    Some(into.get(..n)? == row.bytes(alloc)?.as_slice())
+    are_bytes(alloc, into.get(..n)?, row)
 }
 
 /// A byte of the log: where it stands, and what it is.
@@ -103,15 +111,22 @@ pub(crate) fn agrees_on_open(alloc: Global, disk: &mut MemDisk, row: &mut Row) -
 
 fn agrees_on_bytes(alloc: Global, bytes: &[u8], row: &mut Row) -> Option<bool> {
     let mut disk = MemDisk::new(alloc, Vec::new(alloc));
-    put(&mut disk, bytes)?;
-    agrees_on_open(alloc, &mut disk, row)
+    let agrees = agrees_behind(alloc, &mut disk, bytes, row);
+    drop(disk);
+    agrees
+}
+
+fn agrees_behind(alloc: Global, disk: &mut MemDisk, bytes: &[u8], row: &mut Row) -> Option<bool> {
+    put(disk, bytes)?;
+    agrees_on_open(alloc, disk, row)
 }
 
 /// The bytes with another at a place.
 pub(crate) fn agrees_on_changed(alloc: Global, bytes: &[u8], row: &mut Row) -> Option<bool> {
-    let mut changed = bytes.to_vec(alloc).ok()?;
     let at: usize = row.word().parse().ok()?;
-    *changed.get_mut(at)? = row.word().parse().ok()?;
+    let byte: u8 = row.word().parse().ok()?;
+    let mut changed = bytes.to_vec(alloc).ok()?;
+    *changed.get_mut(at)? = byte;
     agrees_on_bytes(alloc, &changed, row)
 }
 
@@ -132,13 +147,18 @@ pub(crate) fn agrees_on_fronts(alloc: Global, bytes: &[u8], row: &mut Row) -> Op
 /// The count of the blocks and where the records end, with a comma between, or `not_a_store`.
 fn agrees_on_front(alloc: Global, bytes: &[u8], wanted: &str) -> Option<bool> {
     let mut disk = MemDisk::new(alloc, Vec::new(alloc));
-    put(&mut disk, bytes)?;
-    match opened(alloc, &mut disk) {
-        Ok((count, place)) => {
-            let text = format!(in alloc; "{count},{place}").ok()?;
-            Some(text.as_str() == wanted)
-        }
+    let placed = put(&mut disk, bytes);
+    let found = opened(alloc, &mut disk);
+    drop(disk);
+    placed?;
+    match found {
+        Ok(found) => Some(pair_of(wanted) == Some(found)),
         Err(LogStop::NotAStore) => Some(wanted == "not_a_store"),
         Err(_) => None,
     }
+}
+
+fn pair_of(column: &str) -> Option<(u64, u64)> {
+    let (first, second) = column.split_once(',')?;
+    Some((first.parse().ok()?, second.parse().ok()?))
 }

@@ -28,11 +28,27 @@ struct Store {
 
 impl Store {
     fn new(alloc: Global) -> Option<Store> {
+        let tree = trees::new_tree(alloc)?;
         Some(Store {
             disk: MemDisk::new(alloc, Vec::new(alloc)),
             bytes: Vec::new(alloc),
-            tree: trees::new_tree(alloc)?,
+            tree,
         })
+    }
+
+    fn begin_disk(&mut self, alloc: Global, row: &mut Row) -> Option<bool> {
+        self.disk = MemDisk::new(alloc, row.numbers(alloc)?);
+        Some(true)
+    }
+
+    fn begin_tree(&mut self, alloc: Global) -> Option<bool> {
+        self.tree = trees::new_tree(alloc)?;
+        Some(true)
+    }
+
+    fn take_bytes(&mut self, alloc: Global, row: &mut Row) -> Option<bool> {
+        self.bytes = row.bytes(alloc)?;
+        Some(true)
     }
 
     fn agrees_on_log(&mut self, alloc: Global, call: &str, row: &mut Row) -> Option<bool> {
@@ -66,33 +82,24 @@ impl Store {
 impl Subject for Store {
     fn agrees(&mut self, alloc: Global, row: &mut Row<'_>) -> Option<bool> {
         match row.word() {
-            "disk" => {
-                self.disk = MemDisk::new(alloc, row.numbers(alloc)?);
-                Some(true)
-            }
-            "bytes" => {
-                self.bytes = row.bytes(alloc)?;
-                Some(true)
-            }
-            "tree" => {
-                self.tree = trees::new_tree(alloc)?;
-                Some(true)
-            }
+            "disk" => self.begin_disk(alloc, row),
+            "bytes" => self.take_bytes(alloc, row),
+            "tree" => self.begin_tree(alloc),
             call => self.agrees_on_log(alloc, call, row),
         }
     }
 }
 
-fn try_rows(rt: HostRuntime, store: &mut Store) -> io::Result<bool> {
-    let text = io::read_to_string(rt.alloc(), rt.stdin())?;
-    all_agree(&rt, rt.alloc(), store, &text)
+fn try_rows(rt: HostRuntime) -> io::Result<bool> {
+    let Some(mut store) = Store::new(rt.alloc()) else {
+        return Ok(false);
+    };
+    let all = all_agree(rt, &mut store);
+    drop(store);
+    all
 }
 
 fn main(rt: HostRuntime) -> io::Result<ExitCode> {
-    let Some(store) = Store::new(rt.alloc()) else {
-        return Ok(ExitCode::FAILURE);
-    };
-    let mut store = store;
-    let all = try_rows(rt, &mut store)?;
+    let all = try_rows(rt)?;
     Ok(ExitCode::from(u8::from(!all)))
 }

@@ -101,22 +101,30 @@ fn timestamp_of(number: u64) -> u64 {
     square.wrapping_mul(7919).wrapping_add(5) % 100_003
 }
 
-/// So many blocks, each beside a sibling, which is on no branch of a later one: the median time of the last.
+/// Adds blocks up to a number, each beside a sibling, which is on no branch of a later one; the median time of the last.
+fn median_behind(tree: &mut Tree, numbers: u64) -> Option<u64> {
+    let mut last = 0;
+    for number in 1..numbers {
+        join(tree, 2, last, 0)?;
+        last = join(tree, 1, last, timestamp_of(number))?;
+    }
+    if last >= tree.len() {
+        return None;
+    }
+    Some(tree.median(last))
+}
+
+/// How many blocks there are, and the median time of the last.
 pub(crate) fn agrees_on_median(alloc: Global, row: &mut Row) -> Option<bool> {
+    let numbers = row.number()?;
     let genesis = Entry {
         timestamp: u64::MAX,
         ..entry_on(1, 0, 0)
     };
     let mut tree = Tree::new(alloc, genesis).ok()?;
-    let mut last = 0;
-    for number in 1..row.number()? {
-        join(&mut tree, 2, last, 0)?;
-        last = join(&mut tree, 1, last, timestamp_of(number))?;
-    }
-    if last >= tree.len() {
-        return None;
-    }
-    Some(tree.median(last) == row.number()?)
+    let median = median_behind(&mut tree, numbers);
+    drop(tree);
+    Some(median? == row.number()?)
 }
 
 /// The tree of a genesis alone.

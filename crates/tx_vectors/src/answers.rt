@@ -85,16 +85,14 @@ pub(crate) fn alone(alloc: Global, chain: &mut Chain, bytes: &[u8]) -> Option<St
     answer(alloc, &tx, &at, &chain.state, &mut chain.blocks)
 }
 
-/// What the transaction of the next block behind those of its front is answered.
-pub(crate) fn within<L: Ledger>(
+/// What the transaction at a place of the next block is answered, over the live cells in front of it.
+fn answer_at(
     alloc: Global,
-    steps: &mut Steps<L>,
     chain: &mut Chain,
-    front: &[u8],
+    state: &State,
+    place: usize,
     bytes: &[u8],
 ) -> Option<String> {
-    let state = chain.state_behind(alloc, steps, front)?;
-    let place = BlockView::read(front)?.transactions_count();
     let block = BlockView::read(bytes)?;
     if place >= block.transactions_count() {
         return None;
@@ -106,5 +104,23 @@ pub(crate) fn within<L: Ledger>(
         parent: chain.tree.len() - 1,
         block: Some(block),
     };
-    answer(alloc, &tx, &at, &state, &mut chain.blocks)
+    answer(alloc, &tx, &at, state, &mut chain.blocks)
+}
+
+/// What the transaction of the next block behind those of its front is answered.
+pub(crate) fn within<L: Ledger>(
+    alloc: Global,
+    steps: &mut Steps<L>,
+    chain: &mut Chain,
+    front: &[u8],
+    bytes: &[u8],
+) -> Option<String> {
+    let place = BlockView::read(front)?.transactions_count();
+    let mut state = chain.first_state(alloc)?;
+    let answer = match chain.apply_all(&mut state, steps, front) {
+        Some(()) => answer_at(alloc, chain, &state, place, bytes),
+        None => None,
+    };
+    drop(state);
+    answer
 }

@@ -1,7 +1,8 @@
 //! Cells, their rows and the exts of blocks.
 
 use crate::{copies, values};
-use cell_model::ListBlocks;
+use cell_model::{CellMeta, ListBlocks, meta_of};
+use mol_schema::OutputView;
 use std::alloc::{AllocError, Global};
 use std::string::String;
 
@@ -21,6 +22,19 @@ pub(crate) fn text_of(alloc: Global, bytes: &[u8]) -> Result<String, AllocError>
     hex::encode(alloc, bytes)
 }
 
+/// Whether the answer is the one that is wanted; None where there is none.
+pub(crate) fn is_text(answer: Option<String>, wanted: &str) -> Option<bool> {
+    Some(answer?.as_str() == wanted)
+}
+
+/// What is kept of an output with its data, as that of a transaction of a block.
+pub(crate) fn meta_in(block: u32, tx: u32, output: &[u8], content: &[u8]) -> Option<CellMeta> {
+    if content.len() > u32::MAX as usize {
+        return None;
+    }
+    Some(meta_of(block, tx, &OutputView::read(output)?, content))
+}
+
 /// Whether a row on cells holds; None where it is none.
 pub(crate) fn agrees(alloc: Global, blocks: &mut ListBlocks, columns: &str) -> Option<bool> {
     let (word, columns) = columns.split_once('\t')?;
@@ -28,10 +42,9 @@ pub(crate) fn agrees(alloc: Global, blocks: &mut ListBlocks, columns: &str) -> O
         return copies::keep(alloc, blocks, columns);
     }
     let (columns, wanted) = columns.rsplit_once('\t')?;
-    let answer = match word {
-        "fetch" => copies::fetched(alloc, blocks, columns)?,
-        "spent" => copies::spent(alloc, blocks, columns)?,
-        _ => values::answer(alloc, word, columns)?,
-    };
-    Some(answer.as_str() == wanted)
+    match word {
+        "fetch" => is_text(copies::fetched(alloc, blocks, columns), wanted),
+        "spent" => is_text(copies::spent(alloc, blocks, columns), wanted),
+        _ => is_text(values::answer(alloc, word, columns), wanted),
+    }
 }

@@ -1,26 +1,19 @@
 //! Kept blocks, and what is copied out of them.
 
 use crate::cells::{bytes_of, text_of};
-use crate::kept::may_be_kept;
+use crate::kept::put;
 use cell_model::{CellMeta, ListBlocks, OutPoint, Resolved, fetch};
 use chain_tree::Blocks;
 use outside::{Area, Damage, ReadStop};
 use std::alloc::Global;
 use std::string::String;
 
-const BLOCK_LIMIT: u32 = 1_000_000;
-
-/// Keeps a block with its ext; None where these may not be kept.
+/// Keeps a block with its ext.
 pub(crate) fn keep(alloc: Global, blocks: &mut ListBlocks, columns: &str) -> Option<bool> {
     let (block, ext) = columns.split_once('\t')?;
     let block = bytes_of(alloc, block)?;
     let ext = bytes_of(alloc, ext)?;
-    let kept = blocks.len();
-    if kept >= BLOCK_LIMIT || !may_be_kept(alloc, kept == 0, &block, &ext) {
-        return None;
-    }
-    blocks.push(block, ext).ok()?;
-    Some(true)
+    Some(put(alloc, blocks, &block, &ext).is_some())
 }
 
 /// An out-point with a row that names an output by the place of a block, that of a transaction in it, and an index.

@@ -1,9 +1,10 @@
 //! A transaction with what it resolves to, as a row has it, and what comes of its script groups.
 
+use crate::cells::meta_in;
 use crate::kept::Chain;
 use crate::wanted::wanted;
-use cell_model::{OutPoint, Resolved, ResolvedTx, meta_of, tx_hash};
-use mol_schema::{OutputView, TxView};
+use cell_model::{OutPoint, Resolved, ResolvedTx, tx_hash};
+use mol_schema::TxView;
 use script_defs::Failure;
 use script_run::{ScriptStop, run_groups};
 use std::alloc::Global;
@@ -11,20 +12,19 @@ use std::alloc::Global;
 /// The greatest budget of a call.
 const MOST_CYCLES: u64 = 1 << 40;
 
+fn blob_of<'a>(blobs: &'a [Vec<u8>], place: &str) -> Option<&'a [u8]> {
+    let place: usize = place.parse().ok()?;
+    Some(blobs.get(place)?.as_slice())
+}
+
 /// A cell of a row. What is kept of it is computed here; its out-point is any.
 fn cell_of(alloc: Global, blobs: &[Vec<u8>], text: &str) -> Option<Resolved> {
     let (block, text) = text.split_once(',')?;
     let (tx, text) = text.split_once(',')?;
     let (output, content) = text.split_once(',')?;
-    let output: usize = output.parse().ok()?;
-    let content: usize = content.parse().ok()?;
-    let output = blobs.get(output)?.to_vec(alloc).ok()?;
-    let content = blobs.get(content)?.to_vec(alloc).ok()?;
-    if content.len() > u32::MAX as usize {
-        return None;
-    }
-    let view = OutputView::read(&output)?;
-    let meta = meta_of(block.parse().ok()?, tx.parse().ok()?, &view, &content);
+    let output = blob_of(blobs, output)?;
+    let content = blob_of(blobs, content)?;
+    let meta = meta_in(block.parse().ok()?, tx.parse().ok()?, output, content)?;
     let out_point = OutPoint {
         tx_hash: [7; 32],
         index: 7,
@@ -32,8 +32,8 @@ fn cell_of(alloc: Global, blobs: &[Vec<u8>], text: &str) -> Option<Resolved> {
     Some(Resolved {
         out_point,
         meta,
-        output,
-        content,
+        output: output.to_vec(alloc).ok()?,
+        content: content.to_vec(alloc).ok()?,
     })
 }
 
@@ -105,21 +105,37 @@ fn is_wanted(got: Result<u64, ScriptStop>, wanted: &Result<u64, Failure>) -> boo
     }
 }
 
-/// Whether so many runs are each answered as is wanted.
-fn agree(
-    alloc: Global,
-    chain: &mut Chain,
-    tx: &ResolvedTx<'_>,
+/// How a transaction's groups are run, so many times, and what each run is to be answered.
+#[derive(Drop)]
+struct Asked {
     budget: u64,
     rounds: u32,
-    wanted: &Result<u64, Failure>,
-) -> Option<bool> {
-    for _ in 0..rounds {
-        if !is_wanted(outcome(alloc, chain, tx, budget)?, wanted) {
+    wanted: Result<u64, Failure>,
+}
+
+/// Whether each run is answered as is wanted.
+fn agree(alloc: Global, chain: &mut Chain, tx: &ResolvedTx<'_>, asked: &Asked) -> Option<bool> {
+    for _ in 0..asked.rounds {
+        if !is_wanted(outcome(alloc, chain, tx, asked.budget)?, &asked.wanted) {
             return Some(false);
         }
     }
     Some(true)
+}
+
+fn agrees_on(
+    alloc: Global,
+    blobs: &[Vec<u8>],
+    chain: &mut Chain,
+    asked: &Asked,
+    columns: &str,
+) -> Option<bool> {
+    let (tx, columns) = columns.split_once('\t')?;
+    let bytes = hex::decode(alloc, tx).ok()?;
+    let tx = resolved_of(alloc, blobs, TxView::read(&bytes)?, columns)?;
+    let answer = agree(alloc, chain, &tx, asked);
+    drop(tx);
+    answer
 }
 
 /// Whether a transaction is answered as its row wants, so many times; None where that is none.
@@ -132,15 +148,10 @@ pub(crate) fn agrees(
 ) -> Option<bool> {
     let (answer, columns) = columns.split_once('\t')?;
     let (budget, columns) = columns.split_once('\t')?;
-    let (tx, columns) = columns.split_once('\t')?;
-    let bytes = hex::decode(alloc, tx).ok()?;
-    let tx = resolved_of(alloc, blobs, TxView::read(&bytes)?, columns)?;
-    agree(
-        alloc,
-        chain,
-        &tx,
-        budget.parse().ok()?,
+    let asked = Asked {
+        budget: budget.parse().ok()?,
         rounds,
-        &wanted(answer)?,
-    )
+        wanted: wanted(answer)?,
+    };
+    agrees_on(alloc, blobs, chain, &asked, columns)
 }

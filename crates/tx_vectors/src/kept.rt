@@ -6,7 +6,7 @@ ghost use Rattle.cell_model.specs.ListBlocks.{IsCanonical, IsExtFor};
 ghost use Rattle.tx_rules.specs.At.{AreRated, IsPlaced};
 
 use blake2b_ckb::ckbhash;
-use cell_model::{Cells, Ext, ListBlocks, OutPoint};
+use cell_model::{CellMeta, Cells, Ext, ListBlocks, OutPoint};
 use cell_state::{State, outputs_in};
 use chain_tree::{Entry, Tree};
 use dao_math::Dao;
@@ -74,7 +74,7 @@ pub(crate) fn is_placed(at: &TxAt<'_>) -> bool
 
 /// Whether the bytes are a block, and what stands beside a later one is an ext with a fee for each of its transactions
 /// after the first.
-pub(crate) fn may_be_kept(alloc: Global, is_first: bool, block: &[u8], ext: &[u8]) -> bool
+fn may_be_kept(alloc: Global, is_first: bool, block: &[u8], ext: &[u8]) -> bool
     ensures { result ≡ true → IsCanonical block.now × (is_first ≡ false → IsExtFor block.now ext.now) }
 {
     let Some(view) = BlockView::read(block) else {
@@ -90,7 +90,7 @@ pub(crate) fn may_be_kept(alloc: Global, is_first: bool, block: &[u8], ext: &[u8
 }
 
 /// Puts a block with its ext behind the others; None where they may not stand there.
-fn put(alloc: Global, blocks: &mut ListBlocks, block: &[u8], ext: &[u8]) -> Option<()> {
+pub(crate) fn put(alloc: Global, blocks: &mut ListBlocks, block: &[u8], ext: &[u8]) -> Option<()> {
     let block = block.to_vec(alloc).ok()?;
     let ext = ext.to_vec(alloc).ok()?;
     let kept = blocks.len();
@@ -147,23 +147,23 @@ fn tree_of(alloc: Global, genesis: &BlockView<'_>) -> Option<Tree> {
     Tree::new(alloc, entry).ok()
 }
 
-/// The chain of a genesis alone. None where it is none.
+/// The chain of a genesis, whose bytes are still to be kept. None where it is none.
 pub(crate) fn of_genesis(alloc: Global, spec: Spec, bytes: &[u8]) -> Option<Chain> {
     let genesis = BlockView::read(bytes)?;
-    let mut chain = Chain {
+    let tree = tree_of(alloc, &genesis)?;
+    let state = State::genesis(alloc, &genesis).ok()?;
+    Some(Chain {
         spec,
-        tree: tree_of(alloc, &genesis)?,
+        tree,
         blocks: ListBlocks::new(Vec::new(alloc), Vec::new(alloc)),
-        state: State::genesis(alloc, &genesis).ok()?,
+        state,
         items: Vec::new(alloc),
-    };
-    chain.keep(alloc, bytes, &[])?;
-    Some(chain)
+    })
 }
 
 impl Chain {
     /// Keeps the bytes of a block, and its ext.
-    fn keep(&mut self, alloc: Global, block: &[u8], ext: &[u8]) -> Option<()> {
+    pub(crate) fn keep(&mut self, alloc: Global, block: &[u8], ext: &[u8]) -> Option<()> {
         put(alloc, &mut self.blocks, block, ext)?;
         self.items.push(block.to_vec(alloc).ok()?).ok()
     }
@@ -195,26 +195,39 @@ impl Chain {
     ) -> Option<()> {
         let new = out_point_in(new)?;
         let row = self.state.get(&out_point_in(old)?)?;
-        if self.state.get(&new).is_some() {
-            return None;
-        }
-        self.state.reserve(1).ok()?;
-        self.state.load_row(new, row, steps);
-        Some(())
+        load_row(&mut self.state, steps, new, row)
     }
 
-    /// The live cells behind the blocks, which stand in a row, and one more.
-    pub(crate) fn state_behind<L: Ledger>(
+    /// The live cells behind the genesis.
+    pub(crate) fn first_state(&self, alloc: Global) -> Option<State> {
+        let genesis = BlockView::read(self.items.first()?)?;
+        State::genesis(alloc, &genesis).ok()
+    }
+
+    /// Applies the blocks behind the genesis, which stand in a row, and one more.
+    pub(crate) fn apply_all<L: Ledger>(
         &self,
-        alloc: Global,
+        state: &mut State,
         steps: &mut Steps<L>,
         front: &[u8],
-    ) -> Option<State> {
-        let genesis = BlockView::read(self.items.first()?)?;
-        let mut state = State::genesis(alloc, &genesis).ok()?;
-        apply_all(&mut state, steps, self.items.get(1..)?, front)?;
-        Some(state)
+    ) -> Option<()> {
+        apply_all(state, steps, self.items.get(1..)?, front)
     }
+}
+
+/// Gives an out-point that has no row this one.
+fn load_row<L: Ledger>(
+    state: &mut State,
+    steps: &mut Steps<L>,
+    o: OutPoint,
+    row: CellMeta,
+) -> Option<()> {
+    if state.get(&o).is_some() {
+        return None;
+    }
+    state.reserve(1).ok()?;
+    state.load_row(o, row, steps);
+    Some(())
 }
 
 /// Applies blocks from the first place on, and one more.

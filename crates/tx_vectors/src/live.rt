@@ -1,6 +1,6 @@
 //! The live cells behind blocks, one after the other.
 
-use crate::cells::bytes_of;
+use crate::cells::{bytes_of, is_text};
 use crate::kept::out_point_in;
 use crate::rows::{hash_on, made_up};
 use blake2b_ckb::Hasher;
@@ -22,13 +22,15 @@ pub(crate) fn agrees<L: Ledger>(
     let (wanted, digits) = columns.split_once('\t')?;
     let bytes = bytes_of(alloc, digits)?;
     if wanted == "genesis" {
-        *state = State::genesis(alloc, &BlockView::read(&bytes)?).ok();
-        return Some(state.is_some());
+        return begins(alloc, state, &bytes);
     }
-    match state {
-        Some(state) => is_answered(alloc, state, steps, wanted, &bytes),
-        None => None,
-    }
+    is_answered(alloc, state.as_mut()?, steps, wanted, &bytes)
+}
+
+/// The live cells behind a genesis alone.
+fn begins(alloc: Global, state: &mut Option<State>, bytes: &[u8]) -> Option<bool> {
+    *state = State::genesis(alloc, &BlockView::read(bytes)?).ok();
+    Some(state.is_some())
 }
 
 fn is_answered<L: Ledger>(
@@ -39,14 +41,13 @@ fn is_answered<L: Ledger>(
     bytes: &[u8],
 ) -> Option<bool> {
     let (word, rest) = wanted.split_once(' ').unwrap_or((wanted, ""));
-    let answer = match word {
-        "load" => loaded(alloc, state, steps, rest.parse().ok()?)?,
-        "rows" => digest(alloc, state)?,
-        "row" => found(alloc, state, bytes)?,
-        "none" => found(alloc, state, bytes)?,
-        _ => applied(alloc, state, steps, place_of(rest)?, bytes)?,
-    };
-    Some(answer.as_str() == wanted)
+    match word {
+        "load" => Some(load(state, steps, rest.parse().ok()?).is_ok()),
+        "rows" => is_text(digest(alloc, state), wanted),
+        "row" => is_text(found(alloc, state, bytes), wanted),
+        "none" => is_text(found(alloc, state, bytes), wanted),
+        _ => is_text(applied(alloc, state, steps, place_of(rest)?, bytes), wanted),
+    }
 }
 
 /// The number in front of a word.
@@ -65,16 +66,6 @@ fn load<L: Ledger>(state: &mut State, steps: &mut Steps<L>, count: u32) -> Resul
         }
     }
     Ok(())
-}
-
-fn loaded<L: Ledger>(
-    alloc: Global,
-    state: &mut State,
-    steps: &mut Steps<L>,
-    count: u32,
-) -> Option<String> {
-    load(state, steps, count).ok()?;
-    format!(in alloc; "load {count}").ok()
 }
 
 /// How many rows there are and the hash of all in order.

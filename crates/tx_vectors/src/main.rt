@@ -26,15 +26,16 @@ ghost use Rattle.std.specs.Prelude.{◌≡◌, ◌<◌};
 
 use cell_model::ListBlocks;
 use cell_state::State;
+use cells::is_text;
 use epochs::Spec;
 use kept::{Chain, of_genesis};
 use outside::Steps;
 use row_table::{Row, Subject, all_agree};
 use std::alloc::Global;
-use std::io;
 use std::marker::Brand;
 use std::process::ExitCode;
 use std::sync::ledger::{Blank, Ledger};
+use std::{io, mem};
 
 /// What the rows act on: blocks that are copied from, live cells; the specification, the chain and the blobs so far.
 #[derive(Drop)]
@@ -61,8 +62,7 @@ fn adds<L: Ledger>(
     columns: &str,
 ) -> Option<bool> {
     let (block, ext) = pair(alloc, columns)?;
-    chain.add(alloc, steps, &block, &ext)?;
-    Some(true)
+    Some(chain.add(alloc, steps, &block, &ext).is_some())
 }
 
 fn shadows<L: Ledger>(
@@ -72,14 +72,13 @@ fn shadows<L: Ledger>(
     columns: &str,
 ) -> Option<bool> {
     let (new, old) = pair(alloc, columns)?;
-    chain.shadow(steps, &new, &old)?;
-    Some(true)
+    Some(chain.shadow(steps, &new, &old).is_some())
 }
 
 fn agrees_alone(alloc: Global, chain: &mut Chain, columns: &str) -> Option<bool> {
     let (wanted, tx) = columns.split_once('\t')?;
     let tx = hex::decode(alloc, tx).ok()?;
-    Some(answers::alone(alloc, chain, &tx)?.as_str() == wanted)
+    is_text(answers::alone(alloc, chain, &tx), wanted)
 }
 
 fn agrees_within<L: Ledger>(
@@ -90,7 +89,7 @@ fn agrees_within<L: Ledger>(
 ) -> Option<bool> {
     let (wanted, columns) = columns.split_once('\t')?;
     let (front, block) = pair(alloc, columns)?;
-    Some(answers::within(alloc, steps, chain, &front, &block)?.as_str() == wanted)
+    is_text(answers::within(alloc, steps, chain, &front, &block), wanted)
 }
 
 fn agrees_in_rounds(
@@ -123,30 +122,44 @@ fn agrees_on_chain<L: Ledger>(
     }
 }
 
+impl<'s, L: Ledger> Table<'s, L> {
+    fn begin_spec(&mut self, alloc: Global, row: &mut Row) -> Option<bool> {
+        self.spec = Spec::read(&row.bytes(alloc)?).ok();
+        Some(self.spec.is_some())
+    }
+
+    fn begin_chain(&mut self, alloc: Global, row: &mut Row) -> Option<bool> {
+        let genesis = row.bytes(alloc)?;
+        let chain = of_genesis(alloc, self.spec?, &genesis);
+        drop(mem::replace(&mut self.chain, chain));
+        Some(self.chain.as_mut()?.keep(alloc, &genesis, &[]).is_some())
+    }
+
+    fn take_blob(&mut self, alloc: Global, row: &mut Row) -> Option<bool> {
+        Some(self.blobs.push(row.bytes(alloc)?).is_ok())
+    }
+
+    fn agrees_on_chain(&mut self, alloc: Global, word: &str, columns: &str) -> Option<bool> {
+        agrees_on_chain(
+            alloc,
+            self.chain.as_mut()?,
+            &self.blobs,
+            self.steps,
+            word,
+            columns,
+        )
+    }
+}
+
 impl<'s, L: Ledger> Subject for Table<'s, L> {
     fn agrees(&mut self, alloc: Global, row: &mut Row<'_>) -> Option<bool> {
         match row.word() {
             "cell" => cells::agrees(alloc, &mut self.blocks, row.rest()),
             "state" => live::agrees(alloc, &mut self.state, self.steps, row.rest()),
-            "spec" => {
-                self.spec = Spec::read(&row.bytes(alloc)?).ok();
-                Some(self.spec.is_some())
-            }
-            "genesis" => {
-                let genesis = row.bytes(alloc)?;
-                self.chain = of_genesis(alloc, self.spec?, &genesis);
-                Some(self.chain.is_some())
-            }
-            "blob" => {
-                self.blobs.push(row.bytes(alloc)?).ok()?;
-                Some(true)
-            }
-            word => match &mut self.chain {
-                Some(chain) => {
-                    agrees_on_chain(alloc, chain, &self.blobs, self.steps, word, row.rest())
-                }
-                None => None,
-            },
+            "spec" => self.begin_spec(alloc, row),
+            "genesis" => self.begin_chain(alloc, row),
+            "blob" => self.take_blob(alloc, row),
+            word => self.agrees_on_chain(alloc, word, row.rest()),
         }
     }
 }
@@ -161,8 +174,9 @@ fn all_rows_agree<L: Ledger>(rt: HostRuntime, steps: &mut Steps<L>) -> io::Resul
         chain: None,
         blobs: Vec::new(alloc),
     };
-    let text = io::read_to_string(alloc, rt.stdin())?;
-    all_agree(&rt, alloc, &mut table, &text)
+    let all = all_agree(rt, &mut table);
+    drop(table);
+    all
 }
 
 fn begin<L: Ledger>(rt: HostRuntime, blank: Blank) -> io::Result<ExitCode>

@@ -1,8 +1,8 @@
 //! What occupies, hashes, rows and exts are.
 
-use crate::cells::{bytes_of, text_of};
-use cell_model::{CellMeta, Ext, OutPoint, data_hash, meta_of, occupied, script_hash, tx_hash};
-use mol_schema::{OutputView, ScriptView, TxView};
+use crate::cells::{bytes_of, meta_in, text_of};
+use cell_model::{CellMeta, Ext, OutPoint, data_hash, occupied, script_hash, tx_hash};
+use mol_schema::{ScriptView, TxView};
 use std::alloc::{AllocError, Global};
 use std::string::String;
 
@@ -69,22 +69,19 @@ fn row_text(alloc: Global, meta: &CellMeta) -> Result<String, AllocError> {
     Ok(text)
 }
 
+/// What is kept of an output with its data.
+fn meta_of_output(alloc: Global, block: u32, tx: u32, columns: &str) -> Option<CellMeta> {
+    let (output, content) = columns.split_once('\t')?;
+    let output = bytes_of(alloc, output)?;
+    let content = bytes_of(alloc, content)?;
+    meta_in(block, tx, &output, &content)
+}
+
 /// The row of an output with its data.
 fn row_of(alloc: Global, columns: &str) -> Option<String> {
     let (block, columns) = columns.split_once('\t')?;
     let (tx, columns) = columns.split_once('\t')?;
-    let (output, content) = columns.split_once('\t')?;
-    let output = bytes_of(alloc, output)?;
-    let content = bytes_of(alloc, content)?;
-    if content.len() > u32::MAX as usize {
-        return None;
-    }
-    let meta = meta_of(
-        block.parse().ok()?,
-        tx.parse().ok()?,
-        &OutputView::read(&output)?,
-        &content,
-    );
+    let meta = meta_of_output(alloc, block.parse().ok()?, tx.parse().ok()?, columns)?;
     row_text(alloc, &meta).ok()
 }
 
@@ -109,14 +106,23 @@ fn fees(alloc: Global, bytes: &[u8]) -> Option<String> {
     Some(text)
 }
 
+/// The row at a place of an ext, with its out-point.
+fn spent_at(alloc: Global, bytes: &[u8], place: usize) -> Option<(OutPoint, CellMeta)> {
+    let ext = Ext::read(alloc, bytes).ok()??;
+    ext.spent.get(place).copied()
+}
+
+fn spent_text(alloc: Global, o: &OutPoint, meta: &CellMeta) -> Result<String, AllocError> {
+    let hash = text_of(alloc, &o.tx_hash)?;
+    let row = row_text(alloc, meta)?;
+    let index = o.index;
+    format!(in alloc; "{hash},{index},{row}")
+}
+
 /// A row of an ext, with its out-point.
 fn row_in(alloc: Global, columns: &str) -> Option<String> {
     let (place, bytes) = columns.split_once('\t')?;
     let place: usize = place.parse().ok()?;
-    let ext = Ext::read(alloc, &bytes_of(alloc, bytes)?).ok()??;
-    let (o, meta) = *ext.spent.get(place)?;
-    let OutPoint { tx_hash, index } = o;
-    let hash = text_of(alloc, &tx_hash).ok()?;
-    let row = row_text(alloc, &meta).ok()?;
-    format!(in alloc; "{hash},{index},{row}").ok()
+    let (o, meta) = spent_at(alloc, &bytes_of(alloc, bytes)?, place)?;
+    spent_text(alloc, &o, &meta).ok()
 }

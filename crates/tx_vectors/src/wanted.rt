@@ -16,12 +16,15 @@ pub(crate) fn wanted(text: &str) -> Option<Result<u64, Failure>> {
 
 /// A failure with the place of its group.
 fn failure(word: &str, numbers: &str) -> Option<Failure> {
-    if word == "no_code" {
-        return Some(Failure::NoCode(numbers.parse().ok()?));
+    match word {
+        "no_code" => Some(Failure::NoCode(numbers.parse().ok()?)),
+        "many_codes" => Some(Failure::ManyCodes(numbers.parse().ok()?)),
+        _ => failure_with(word, numbers),
     }
-    if word == "many_codes" {
-        return Some(Failure::ManyCodes(numbers.parse().ok()?));
-    }
+}
+
+/// One with a number behind that place.
+fn failure_with(word: &str, numbers: &str) -> Option<Failure> {
     let (group, number) = numbers.split_once(' ')?;
     let group = group.parse().ok()?;
     match word {

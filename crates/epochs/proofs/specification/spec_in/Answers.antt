@@ -1,0 +1,7 @@
+use Rattle.std.proofs.Common.{rules}
+use Rattle.time_defs.specs.Specification.{specification_of}
+use Rattle.epochs.proofs.specification.spec_in.Goals as goal
+
+pub returns : goal.returns
+unfolding specification_of
+returns c = search rules
