@@ -1,7 +1,7 @@
 // What a tree keeps of a block.
 
 /// What a tree keeps of a block.
-#[derive(Clone, Copy)]
+#[derive(Clone, Copy, Debug, PartialEq, Eq)]
 pub struct Entry {
     /// The hash of its header.
     pub hash: [u8; 32],

@@ -7,7 +7,7 @@ ghost use Rattle.time_defs.specs.Dao.{field_bytes, field_of_bytes};
 use std::marker::Model;
 
 /// The four numbers of a header's DAO field (RFC 0023), in shannons but for the rate.
-#[derive(Clone, Copy, PartialEq, Eq)]
+#[derive(Clone, Copy, Debug, PartialEq, Eq)]
 pub struct Dao {
     /// C: all that was issued.
     pub c: u64,

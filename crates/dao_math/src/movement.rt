@@ -8,7 +8,7 @@ use crate::dao_field::Dao;
 use std::marker::Model;
 
 /// What a block moves, in shannons.
-#[derive(Clone, Copy)]
+#[derive(Clone, Copy, Debug, PartialEq, Eq)]
 pub struct DaoMove {
     /// The block's shares of the primary and of the secondary reward.
     pub primary: u64,

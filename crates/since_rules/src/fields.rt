@@ -5,7 +5,7 @@ ghost use Rattle.time_defs.specs.Since as rules;
 ghost use Rattle.since_rules.specs.Fields.{meaning_of_any};
 
 /// What the value of a since counts.
-#[derive(Clone, Copy, PartialEq, Eq)]
+#[derive(Clone, Copy, Debug, PartialEq, Eq)]
 pub(crate) enum Metric {
     BlockNumber,
     Epoch,

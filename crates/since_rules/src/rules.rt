@@ -12,7 +12,7 @@ use epochs::{span_over, well_formed};
 use std::marker::Model;
 
 /// Where an input is spent, and since when its cell is there. Times are in milliseconds.
-#[derive(Clone, Copy)]
+#[derive(Clone, Copy, Debug, PartialEq, Eq)]
 pub struct SinceAt {
     /// The height of the block that spends the input.
     pub number: u64,
@@ -37,7 +37,7 @@ impl Model for SinceAt {
 }
 
 /// Why an input may not be spent.
-#[derive(Clone, Copy)]
+#[derive(Clone, Copy, Debug, PartialEq, Eq)]
 pub enum SinceFault {
     /// The since has no such metric, a bit that is to be zero, or an epoch value that is not well formed.
     Invalid,
