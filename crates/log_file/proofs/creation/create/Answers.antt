@@ -57,5 +57,5 @@ pub returns-in-Ok-write_durably-clause-others : goal.returns-in-Ok-write_durably
 returns-in-Ok-write_durably-clause-others g c = others_written 0 c.deref.result.now _ _ c.in-Ok-write_durably.ensures.written
 
 pub returns-in-Err-clause-moments : goal.returns-in-Err-clause-moments
-returns-in-Err-clause-moments g c = 
+returns-in-Err-clause-moments g c =
     started g.D.Disk.moment g.D.Disk.left_since _ _ (λ image left. others_there (g.D.Disk.images c.args.disk.now) image (g.met.D.Disk.only_now c.args.disk.now image left))

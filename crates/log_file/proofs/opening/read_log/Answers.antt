@@ -109,5 +109,5 @@ pub read_front-requires : goal.read_front-requires
 read_front-requires g c = c.new-reader.ensures.at.at
 
 pub returns-clause-place : goal.returns-clause-place
-returns-clause-place g c = 
+returns-clause-place g c =
     place_within _ c.at-place.result _ _ _ c.at-place.ensures.value c.into_parts-blocks.ensures.items (c.in-Ok-read_blocks.ensures.place c.in-Ok.ensures.place)

@@ -1,4 +1,4 @@
-use Rattle.std.proofs.Common.{ap, length, sym, ◌∙◌, arith, rules}
+use Rattle.std.proofs.Common.{sym, ◌∙◌, rules}
 use Rattle.log_file.proofs.Pieces.{told_start, told_no_start}
 use Rattle.log_file.proofs.Exits.{on_each, told_first, not_called, no_error, same_stop, no_fault_counts, stop_counts, answer_counts, answer_still, wrong_not_fault, counts_on}
 use Rattle.log_file.proofs.records.read_start.Goals as goal

@@ -10,7 +10,6 @@ use Rattle.cell_state.specs.State.{rows}
 use Rattle.block_defs.specs.Ext.{ext_of}
 use Rattle.block_defs.specs.Rules.{first_broken}
 use Rattle.verdict_defs.specs.Chain.{Chain}
-use Rattle.verdict_defs.specs.Verdict.{verdict_of_block}
 use Rattle.verdict_defs.specs.declared.verdict.Verdict.TheVariants.{Refused}
 use Rattle.node_core.proofs.DecidingLemmas.{as-many, few-entries, within-entries, stands-at-hand, room-for, is-ready, is-judged, verdict-refused, verdict-full}
 use Rattle.node_core.proofs.OpenLemmas.{ok_err, same_stop}
