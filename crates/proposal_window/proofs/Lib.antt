@@ -1,4 +1,3 @@
-pub mod Endings
 pub mod KeptLemmas
 pub mod ProposingLemmas
 pub mod BranchLemmas

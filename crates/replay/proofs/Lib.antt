@@ -1,4 +1,3 @@
-pub mod Endings
 pub mod DownLemmas
 pub mod PlaceLemmas
 pub mod RowLemmas

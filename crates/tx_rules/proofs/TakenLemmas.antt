@@ -16,7 +16,7 @@ use Rattle.tx_rules.specs.At.{AtValue, IsSiteOf, AreSeen, found_row}
 use Rattle.tx_rules.specs.Copying.{IsFoundAt, IsBlockAt, IsCopyOfRow, CopiesItsRow, AreTaken, HoldsOutput, row_in}
 use Rattle.tx_rules.specs.Outcome.{Copies}
 use Rattle.chain_defs.proofs.KeptLaws.{slice_get-below}
-use Rattle.tx_rules.proofs.Endings.{nothing_read}
+use Rattle.outside.proofs.Endings.{nothing_read}
 use Rattle.tx_rules.proofs.SiteLemmas.{copied-of-kept}
 
 -- ---- A copy out of a kept block that is read

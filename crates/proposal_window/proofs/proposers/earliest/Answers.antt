@@ -3,7 +3,7 @@ use Rattle.chain_defs.specs.Branch.{branch}
 use Rattle.chain_tree.specs.Told.{blocks_of}
 use Rattle.window_defs.specs.Window.{proposes_at}
 use Rattle.window_defs.proofs.WindowLaws.{first-found, none-found, earliest-range}
-use Rattle.proposal_window.proofs.Endings.{no_fault, behind, handed, counts-handed, no_answer}
+use Rattle.outside.proofs.Endings.{no_fault, behind, handed, counts-handed, no_answer}
 use Rattle.proposal_window.proofs.ProposingLemmas.{one-more}
 use Rattle.proposal_window.proofs.BranchLemmas.{proposes-at-place}
 use Rattle.proposal_window.proofs.proposers.earliest.Goals as goal

@@ -5,7 +5,7 @@ use Rattle.cell_defs.specs.Events.{events_of_block}
 use Rattle.cell_defs.specs.Row.{row_after}
 use Rattle.cell_state.specs.Fit.{AllFit}
 use Rattle.cell_state.specs.State.{rows}
-use Rattle.replay.proofs.Endings.{no_fault, handed, counts-handed, no_answer, no_memory, no_damage, memory_undamaged, in_log, is_told, nothing_read}
+use Rattle.outside.proofs.Endings.{no_fault, handed, counts-handed, no_answer, no_memory, no_damage, memory_undamaged, in_log, is_told, nothing_read}
 use Rattle.replay.proofs.RowLemmas.{row_after-same}
 use Rattle.replay.proofs.FitLemmas.{told-block, all-same, none-odd}
 use Rattle.replay.proofs.applying.apply_at.Goals as goal

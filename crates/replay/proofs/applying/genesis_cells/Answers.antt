@@ -7,7 +7,7 @@ use Rattle.chain_tree.specs.Told.{Stored}
 use Rattle.cell_defs.specs.Events.{events_of_block}
 use Rattle.cell_defs.specs.Row.{row_after}
 use Rattle.cell_model.proofs.CopyLemmas.{encodes}
-use Rattle.replay.proofs.Endings.{no_fault, handed, counts-handed, no_answer, no_memory, no_damage, memory_undamaged, in_log, is_told, nothing_read}
+use Rattle.outside.proofs.Endings.{no_fault, handed, counts-handed, no_answer, no_memory, no_damage, memory_undamaged, in_log, is_told, nothing_read}
 use Rattle.replay.proofs.FitLemmas.{told-block}
 use Rattle.replay.proofs.applying.genesis_cells.Goals as goal
 

@@ -4,7 +4,7 @@ use Rattle.chain_defs.specs.Branch.{branch_places}
 use Rattle.chain_tree.specs.declared.entry.Entry.{Entry}
 use Rattle.chain_tree.specs.Told.{blocks_of}
 use Rattle.cell_state.specs.State.{rows}
-use Rattle.replay.proofs.Endings.{no_fault, behind, handed, counts-handed, no_answer, no_memory, memory_undamaged}
+use Rattle.outside.proofs.Endings.{no_fault, behind, handed, counts-handed, no_answer, no_memory, memory_undamaged}
 use Rattle.replay.proofs.DownLemmas.{down-there, at-within, at-on-branch}
 use Rattle.replay.proofs.StepLemmas.{block-there, rows-first, rows-next, fits-here, FitsBelow, below-first, below-next, below-all, branch-end}
 use Rattle.replay.proofs.replaying.replay.Goals as goal

@@ -4,7 +4,7 @@ use Rattle.time_defs.specs.Epochs.{is_span_over}
 use Rattle.cell_defs.specs.Row.{Row}
 use Rattle.tx_defs.specs.Site.{height_at}
 use Rattle.tx_rules.specs.At.{AtValue}
-use Rattle.tx_rules.proofs.Endings.{handed}
+use Rattle.outside.proofs.Endings.{handed}
 use Rattle.tx_rules.proofs.AgeLemmas.{mature-genesis, mature-later}
 use Rattle.tx_rules.proofs.age.is_mature.Goals as goal
 

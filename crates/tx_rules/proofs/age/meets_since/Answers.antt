@@ -3,7 +3,7 @@ use Rattle.time_defs.specs.Specification.{Specification}
 use Rattle.time_defs.specs.Since.{Spending, is_valid, is_met}
 use Rattle.std.specs.Prelude.{◌&&◌}
 use Rattle.tx_rules.specs.At.{AtValue}
-use Rattle.tx_rules.proofs.Endings.{handed}
+use Rattle.outside.proofs.Endings.{handed}
 use Rattle.tx_rules.proofs.AgeLemmas.{spending-same, met-same}
 use Rattle.tx_rules.proofs.age.meets_since.Goals as goal
 

@@ -6,7 +6,7 @@ use Rattle.tx_defs.specs.Capacity.{counted_in, held_out}
 use mir.Syntax.{w128}
 use mir.Val.{SFits}
 use Rattle.std.proofs.lemmas.Int.{to_z-of_z}
-use Rattle.tx_rules.proofs.Endings.{handed}
+use Rattle.outside.proofs.Endings.{handed}
 use Rattle.tx_rules.proofs.MoneyLemmas.{some-u64, none-u64, none-balances, more-balances, all-balances, capacities-same}
 use Rattle.tx_rules.proofs.capacity.balance_of.Goals as goal
 

@@ -10,7 +10,7 @@ use Rattle.tx_defs.specs.Resolving.{heights}
 use Rattle.tx_defs.specs.Withdrawals.{is_dao_script, has_withdrawing_data, is_withdrawing, deposit_height}
 use Rattle.tx_defs.specs.Capacity.{counted}
 use Rattle.tx_rules.specs.Seen.{IsRowOf}
-use Rattle.tx_rules.proofs.Endings.{handed}
+use Rattle.outside.proofs.Endings.{handed}
 use Rattle.tx_rules.proofs.DepositLemmas.{made-some}
 use Rattle.tx_rules.proofs.MoneyLemmas.{counted-plain, counted-withdrawn, none-plain, made-listed, typed-some, mapped-none, mapped-some, deposit-below}
 use Rattle.tx_rules.proofs.capacity.counted.Goals as goal

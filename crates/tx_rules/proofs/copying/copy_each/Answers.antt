@@ -8,7 +8,7 @@ use Rattle.cell_defs.specs.Row.{Row}
 use Rattle.cell_model.specs.Copies.{ResolvedValue}
 use Rattle.chain_tree.specs.Told.{Stored}
 use Rattle.tx_rules.specs.Copying.{AreTaken, IsCopyOfRow}
-use Rattle.tx_rules.proofs.Endings.{no_fault, no_answer, no_memory, memory_undamaged, behind, handed, counts-handed}
+use Rattle.outside.proofs.Endings.{no_fault, no_answer, no_memory, memory_undamaged, behind, handed, counts-handed}
 use Rattle.tx_rules.proofs.SourceLemmas.{then-source}
 use Rattle.tx_rules.proofs.SiteLemmas.{IsNext, next-found, zip-more}
 use Rattle.tx_rules.proofs.TakenLemmas.{taken-here, taken-less}

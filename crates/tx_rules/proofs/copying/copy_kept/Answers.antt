@@ -1,5 +1,5 @@
 use Rattle.std.proofs.Common.{Err, refl, sym, ap, ◌∙◌}
-use Rattle.tx_rules.proofs.Endings.{no_fault, counts-as, no_answer, no_damage, no_memory, memory_undamaged, fault_undamaged, in_log}
+use Rattle.outside.proofs.Endings.{no_fault, counts-as, no_answer, no_damage, no_memory, memory_undamaged, fault_undamaged, in_log}
 use Rattle.tx_rules.proofs.copying.copy_kept.Goals as goal
 
 pub returns-in-Ok : goal.returns-in-Ok

@@ -1,7 +1,7 @@
 use Rattle.std.proofs.Common.{◌≡◌, Some, refl, ◌∙◌}
 use Rattle.cell_defs.specs.Cell.{Cell}
 use Rattle.cell_model.proofs.CopyLemmas.{copies, same_output}
-use Rattle.tx_rules.proofs.Endings.{no_answer, no_memory, memory_undamaged}
+use Rattle.outside.proofs.Endings.{no_answer, no_memory, memory_undamaged}
 use Rattle.tx_rules.proofs.copying.copy_read.Goals as goal
 
 pub returns-in-Ok : goal.returns-in-Ok

@@ -3,7 +3,7 @@ use Rattle.std.specs.Prelude.{IfSome}
 use Rattle.chain_tree.specs.Told.{Stored}
 use Rattle.cell_defs.specs.Row.{Row}
 use Rattle.tx_rules.specs.At.{AtValue}
-use Rattle.tx_rules.proofs.Endings.{no_fault, no_damage, in_log}
+use Rattle.outside.proofs.Endings.{no_fault, no_damage, in_log}
 use Rattle.tx_rules.proofs.SiteLemmas.{copied-of-kept, copied-of-own, none-past}
 use Rattle.tx_rules.proofs.SourceLemmas.{unchanged-source}
 use Rattle.tx_rules.proofs.TakenLemmas.{kept-row, judged-row}

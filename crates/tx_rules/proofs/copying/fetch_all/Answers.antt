@@ -8,7 +8,7 @@ use Rattle.chain_tree.specs.Told.{Stored, blocks_of}
 use Rattle.cell_model.specs.Copies.{ResolvedValue}
 use Rattle.tx_rules.specs.Copying.{AreTaken, CopiesItsRow, HoldsOutput, IsCopyOfRow, row_in}
 use Rattle.tx_rules.specs.Outcome.{Copies}
-use Rattle.tx_rules.proofs.Endings.{no_fault, no_answer, no_memory, memory_undamaged, behind, handed, counts-handed}
+use Rattle.outside.proofs.Endings.{no_fault, no_answer, no_memory, memory_undamaged, behind, handed, counts-handed}
 use Rattle.tx_rules.proofs.SourceLemmas.{unchanged-source, then-source}
 use Rattle.tx_rules.proofs.TakenLemmas.{taken-none, copies-rows, copies-outputs, copies-of-rows, copies-cells}
 use Rattle.tx_rules.proofs.copying.fetch_all.Goals as goal

@@ -2,7 +2,7 @@ use Rattle.std.proofs.Common.{◌≡◌, List, Option, Some, Err, refl, sym, ap,
 use Rattle.chain_tree.specs.Told.{Stored}
 use Rattle.cell_defs.specs.Row.{Row}
 use Rattle.tx_rules.specs.Copying.{IsBlockAt}
-use Rattle.tx_rules.proofs.Endings.{no_fault, counts-as, no_answer, no_damage, no_memory, memory_undamaged, fault_undamaged, in_log, is_told}
+use Rattle.outside.proofs.Endings.{no_fault, counts-as, no_answer, no_damage, no_memory, memory_undamaged, fault_undamaged, in_log, is_told}
 use Rattle.tx_rules.proofs.TakenLemmas.{hand-block, hand-reads}
 use Rattle.tx_rules.proofs.copying.take_kept.Goals as goal
 

@@ -5,7 +5,7 @@ use Rattle.std.proofs.lemmas.Option.{slice_get_read}
 use Rattle.codec_defs.specs.Schema.{OutPoint}
 use Rattle.cell_defs.specs.Row.{Row}
 use Rattle.tx_rules.specs.Copying.{IsFoundAt, IsBlockAt, IsCopyOfRow}
-use Rattle.tx_rules.proofs.Endings.{no_answer, handed}
+use Rattle.outside.proofs.Endings.{no_answer, handed}
 use Rattle.tx_rules.proofs.SiteLemmas.{IsNext, next-found}
 use Rattle.tx_rules.proofs.TakenLemmas.{kept-output, read-copy, taken-one}
 use Rattle.tx_rules.proofs.copying.take_read.Goals as goal

@@ -6,7 +6,7 @@ use Rattle.chain_tree.specs.Told.{Stored}
 use Rattle.cell_model.specs.Copies.{ResolvedValue}
 use Rattle.tx_rules.specs.At.{AtValue}
 use Rattle.tx_rules.specs.Copying.{AreTaken}
-use Rattle.tx_rules.proofs.Endings.{no_fault, no_answer, behind, handed, counts-handed}
+use Rattle.outside.proofs.Endings.{no_fault, no_answer, behind, handed, counts-handed}
 use Rattle.tx_rules.proofs.SourceLemmas.{unchanged-source, then-source}
 use Rattle.tx_rules.proofs.copying.take_several.Goals as goal
 use Rattle.tx_rules.proofs.copying.take_several.Goals.{then-row-kept+then-starts_several+in-Ok, else-row-kept}

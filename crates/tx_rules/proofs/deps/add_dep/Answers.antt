@@ -9,7 +9,7 @@ use Rattle.tx_defs.specs.Site.{Found}
 use Rattle.tx_defs.specs.Resolving.{cells_of_dep}
 use Rattle.tx_rules.specs.At.{found_row, find_row}
 use Rattle.tx_rules.proofs.DepLemmas.{SeenRow, seen-row, unseen, dep-none, dep-other, dep-code, dep-group, ok-same}
-use Rattle.tx_rules.proofs.Endings.{no_fault, no_answer, no_memory, memory_undamaged}
+use Rattle.outside.proofs.Endings.{no_fault, no_answer, no_memory, memory_undamaged}
 use Rattle.tx_rules.proofs.SourceLemmas.{unchanged-source}
 use Rattle.tx_rules.proofs.deps.add_dep.Goals as goal
 

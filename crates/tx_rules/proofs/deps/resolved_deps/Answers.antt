@@ -8,7 +8,7 @@ use Rattle.tx_defs.specs.Site.{all_there}
 use Rattle.tx_defs.specs.Resolving.{cells_of_dep, dep_cells}
 use Rattle.tx_rules.specs.At.{found_row}
 use Rattle.tx_rules.proofs.DepLemmas.{cells_of_deps, deps-added, deps-none, all-added, none-added}
-use Rattle.tx_rules.proofs.Endings.{no_fault, no_answer, behind, handed, counts-handed}
+use Rattle.outside.proofs.Endings.{no_fault, no_answer, behind, handed, counts-handed}
 use Rattle.tx_rules.proofs.SourceLemmas.{unchanged-source, then-source}
 use Rattle.tx_rules.proofs.deps.resolved_deps.Goals as goal
 

@@ -10,7 +10,8 @@ use Rattle.tx_rules.specs.At.{found_row}
 use Rattle.tx_rules.specs.Copying.{CopiesItsRow, HoldsOutput}
 use Rattle.tx_rules.specs.Outcome.{Copies}
 use Rattle.tx_rules.specs.Steps.{paying_rules}
-use Rattle.tx_rules.proofs.Endings.{no_fault, no_answer, handed, behind, counts-read}
+use Rattle.outside.proofs.Endings.{no_fault, no_answer, handed, behind}
+use Rattle.tx_rules.proofs.Endings.{counts-read}
 use Rattle.tx_rules.proofs.SiteLemmas.{inputs-seen, deps-seen}
 use Rattle.tx_rules.proofs.SourceLemmas.{then-source}
 use Rattle.tx_rules.proofs.RuleLemmas.{read-stops}

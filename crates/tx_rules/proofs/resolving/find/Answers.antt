@@ -5,7 +5,7 @@ use Rattle.tx_defs.specs.Resolving.{inputs, deps}
 use Rattle.tx_rules.specs.At.{find_row, found_row}
 use Rattle.tx_rules.specs.Steps.{spending_rules, naming_rules, using_rules}
 use Rattle.tx_rules.proofs.AllThere.{all_there-long}
-use Rattle.tx_rules.proofs.Endings.{no_fault, no_answer, handed, counts-handed}
+use Rattle.outside.proofs.Endings.{no_fault, no_answer, handed, counts-handed}
 use Rattle.tx_rules.proofs.RuleLemmas.{spent-inputs, stops-front, stops-back, keeps-all}
 use Rattle.tx_rules.proofs.RowRuleLemmas.{later-stops, follows-on, follows-behind}
 use Rattle.tx_rules.proofs.SourceLemmas.{unchanged-source}

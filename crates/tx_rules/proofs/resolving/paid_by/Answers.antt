@@ -2,7 +2,8 @@ use Rattle.std.proofs.Common.{◌≡◌, true, Err, refl, ap, sym, ◌∙◌}
 use Rattle.outside.specs.declared.disk.ReadStop.TheVariants.{DiskFault}
 use Rattle.tx_defs.specs.Withdrawals.{names_deposits}
 use Rattle.tx_rules.specs.Steps.{paying_rules}
-use Rattle.tx_rules.proofs.Endings.{no_answer, broken_unread, damage_unread, fault_read}
+use Rattle.outside.proofs.Endings.{no_answer}
+use Rattle.tx_rules.proofs.Endings.{broken_unread, damage_unread, fault_read}
 use Rattle.tx_rules.proofs.RuleLemmas.{read-stops, names-badly, pays-badly, pays-well}
 use Rattle.tx_rules.proofs.RowRuleLemmas.{later-26, later-27, later-read}
 use Rattle.tx_rules.proofs.resolving.paid_by.Goals as goal

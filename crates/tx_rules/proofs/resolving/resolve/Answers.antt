@@ -6,7 +6,7 @@ use Rattle.tx_defs.specs.Capacity.{interest}
 use Rattle.chain_tree.specs.Told.{Stored}
 use Rattle.tx_rules.specs.Copying.{CopiesItsRow}
 use Rattle.tx_rules.specs.Steps.{finding_rules, paying_rules}
-use Rattle.tx_rules.proofs.Endings.{no_fault, no_answer, behind, counts-handed}
+use Rattle.outside.proofs.Endings.{no_fault, no_answer, behind, counts-handed}
 use Rattle.tx_rules.proofs.RuleLemmas.{stops-front, stops-back, tried-of, damage-of, broken-of, undamaged-of, all-rules, keeps-all, copied-inputs}
 use Rattle.tx_rules.proofs.RowRuleLemmas.{later-stops, follows-on, follows-behind}
 use Rattle.tx_rules.proofs.resolving.resolve.Goals as goal

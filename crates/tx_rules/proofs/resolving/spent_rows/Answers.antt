@@ -3,7 +3,8 @@ use Rattle.outside.specs.declared.disk.ReadStop.TheVariants.{DiskFault}
 use Rattle.tx_defs.specs.Rules.{has_form}
 use Rattle.tx_defs.specs.Resolving.{spends_each_once}
 use Rattle.tx_rules.specs.At.{spends_rows, input_rows}
-use Rattle.tx_rules.proofs.Endings.{no_answer, broken_unread, memory_unread}
+use Rattle.outside.proofs.Endings.{no_answer}
+use Rattle.tx_rules.proofs.Endings.{broken_unread, memory_unread}
 use Rattle.tx_rules.proofs.RuleLemmas.{no-form, spends-badly, spends-well, spends-by-rows}
 use Rattle.tx_rules.proofs.RowRuleLemmas.{tried-18, tried-20, none-lost, twice-lost, some-once, follows-memory, follows-form, follows-lost, follows-kept}
 use Rattle.tx_rules.proofs.resolving.spent_rows.Goals as goal

@@ -3,7 +3,8 @@ use Rattle.std.specs.List.{list_all}
 use Rattle.outside.specs.declared.disk.ReadStop.TheVariants.{DiskFault}
 use Rattle.tx_defs.specs.Resolving.{inputs, deps}
 use Rattle.tx_defs.specs.Age.{is_mature, meets_each_since}
-use Rattle.tx_rules.proofs.Endings.{no_answer, broken_unread, damage_unread}
+use Rattle.outside.proofs.Endings.{no_answer}
+use Rattle.tx_rules.proofs.Endings.{broken_unread, damage_unread}
 use Rattle.tx_rules.proofs.SiteLemmas.{inputs-seen, deps-seen}
 use Rattle.tx_rules.proofs.RuleLemmas.{uses-young, young-inputs, young-deps, all-mature, spends-early, makes-badly, uses-well, row-where-cell}
 use Rattle.tx_rules.proofs.RowRuleLemmas.{later-23, later-24, later-25}

@@ -8,7 +8,7 @@ use Rattle.tx_defs.specs.Withdrawals.{is_dao_script, has_withdrawing_data}
 use Rattle.tx_rules.specs.At.{AtValue}
 use Rattle.time_defs.specs.Specification.{Specification}
 use Rattle.tx_rules.specs.Seen.{IsRowOf}
-use Rattle.tx_rules.proofs.Endings.{handed}
+use Rattle.outside.proofs.Endings.{handed}
 use Rattle.tx_rules.proofs.DepositLemmas.{withdrawing-some}
 use Rattle.tx_rules.proofs.withdrawals.withdrawing_made.Goals as goal
 

@@ -8,7 +8,7 @@ use Rattle.chain_defs.specs.Branch.{branch_places}
 use Rattle.chain_tree.specs.Told.{blocks_of}
 use Rattle.tx_defs.specs.Resolving.{heights}
 use Rattle.tx_defs.specs.Withdrawals.{is_withdrawing, deposit_height}
-use Rattle.tx_rules.proofs.Endings.{handed}
+use Rattle.outside.proofs.Endings.{handed}
 use Rattle.tx_rules.proofs.DepositLemmas.{heights-below, named-same, made-some, made-none, named-well, unnamed-well, is_some-mapped}
 use Rattle.tx_rules.proofs.withdrawals.withdraws_well.Goals as goal
 

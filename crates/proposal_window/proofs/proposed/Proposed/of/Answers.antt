@@ -5,7 +5,7 @@ use Rattle.std.specs.HashSet.{contains}
 use Rattle.chain_defs.specs.Branch.{branch}
 use Rattle.chain_tree.specs.Told.{blocks_of}
 use Rattle.window_defs.specs.Window.{proposes_at}
-use Rattle.proposal_window.proofs.Endings.{no_fault, behind, handed, counts-handed, no_answer}
+use Rattle.outside.proofs.Endings.{no_fault, behind, handed, counts-handed, no_answer}
 use Rattle.proposal_window.proofs.ProposedLemmas.{window-more, window-proposes}
 use Rattle.proposal_window.proofs.BranchLemmas.{proposes-at-place}
 use Rattle.proposal_window.proofs.proposed.Proposed.of.Goals as goal

@@ -1,4 +1,4 @@
--- Where a function ends: what it counts of faults over calls that follow one another, and what its answer is not.
+-- Where a function ends that reads: what it counts of faults over calls that follow one another, and what its answer is not.
 use Rattle.std.proofs.Common.{◌≡◌, ℕ, Option, Some, None, Result, Ok, Err, subst, arith, rules}
 use Rattle.std.specs.Prelude.{IsSome}
 use Rattle.outside.specs.Causes.{CountsFault}
@@ -17,6 +17,14 @@ no_fault before now same none = record {
   unchanged = λ _. same;
 }
 
+-- for an answer that is given just where another is
+pub counts-as : {First Fault : Type 0} {before now : ℕ} → CountsFault before now First → (Fault → First) → (First → Fault) → CountsFault before now Fault
+counts-as counts from to = record {
+  later = counts.later;
+  rose = λ fault. counts.rose (from fault);
+  unchanged = λ none. counts.unchanged (λ first. none (to first));
+}
+
 -- behind a call that counted nothing
 pub behind : {Fault : Type 0} {before still now : ℕ} → still ≡ before → CountsFault still now Fault → CountsFault before now Fault
 behind {Fault = Fault} {now = now} same counts = subst (λ (n : ℕ). CountsFault n now Fault) same counts
@@ -27,11 +35,7 @@ handed one other same = cc
 
 pub counts-handed : {T U E : Type 0} {before now : ℕ} (one other : E) → CountsFault before now (◌≡◌ {A = Result T E} (Err one) (Err other))
     → CountsFault before now (◌≡◌ {A = Result U E} (Err one) (Err other))
-counts-handed one other counts = record {
-  later = counts.later;
-  rose = λ fault. counts.rose (handed one other fault);
-  unchanged = λ none. counts.unchanged (λ first. none (handed one other first));
-}
+counts-handed one other counts = counts-as counts (handed one other) (handed one other)
 
 -- ---- What an answer is not
 
@@ -46,6 +50,9 @@ no_damage damage same = absurd (cc)
 
 pub memory_undamaged : {T : Type 0} (damage : Damage) → ◌≡◌ {A = Result T ReadStop} (Err NoMemory) (Err (Damaged damage)) → ⊥
 memory_undamaged damage same = absurd (cc)
+
+pub fault_undamaged : {T : Type 0} (damage : Damage) → ◌≡◌ {A = Result T ReadStop} (Err DiskFault) (Err (Damaged damage)) → ⊥
+fault_undamaged damage same = absurd (cc)
 
 -- a damage in LOG is one there, as it is handed on
 pub in_log : {T : Type 0} (one other : Damage) → one.area ≡ Log → ◌≡◌ {A = Result T ReadStop} (Err (Damaged one)) (Err (Damaged other)) → other.area ≡ Log
