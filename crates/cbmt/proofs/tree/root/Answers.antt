@@ -1,4 +1,4 @@
-use Rattle.std.proofs.Common.{◌≡◌, ◌≢◌, ℕ, ◌+◌, ◌-◌, ◌*◌, ◌<◌, ◌≤◌, List, [], ◌++◌, length, slice_set, slice_index_or, inl, inr, sym, ap, ◌∙◌, arith, length-set, get_or-set_other}
+use Rattle.std.proofs.Common.{◌≡◌, ◌≢◌, ℕ, ◌+◌, ◌-◌, ◌*◌, ◌<◌, ◌≤◌, List, [], ◌++◌, length, slice_set, slice_index_or, inl, inr, sym, ap, ◌∙◌, arith, length-set, get_or-set_other, rules}
 use Rattle.std.proofs.lemmas.Bool.{cases_eq}
 use Rattle.std.proofs.lemmas.Grind.{get_or-set_at}
 use Rattle.hash_defs.specs.CkbHash.{ckbhash}
@@ -32,3 +32,9 @@ inner_nodes-preserved c =
       omega (arith, keeps.1),
       λ k from to. known_more items inner (j - 1) c.hash_pair.result within is (λ i low high. keeps.2 i (omega arith) high) k from (omega arith),
     )
+
+pub node_at-requires-2-clause-known : goal.node_at-requires-2-clause-known
+node_at-requires-2-clause-known c = search rules
+
+pub returns-then-is_empty : goal.returns-then-is_empty
+returns-then-is_empty c = search rules
