@@ -1,4 +1,4 @@
-use Rattle.std.proofs.Common.{sym, ◌∙◌}
+use Rattle.std.proofs.Common.{sym, ◌∙◌, rules}
 use Rattle.vm_mem.proofs.Slotted.{all-registers, instruction-registers, slot-holds}
 use Rattle.vm_mem.proofs.memory.Memory.instruction.Goals as goal
 
@@ -9,3 +9,6 @@ returns-then-from-at-clause-registers c =
 
 pub returns-clause-registers : goal.returns-clause-registers
 returns-clause-registers c = all-registers _ c.args.at _ c.decode_at.ensures.exact
+
+pub returns-then-from-at-clause-exact : goal.returns-then-from-at-clause-exact
+returns-then-from-at-clause-exact c = search rules
