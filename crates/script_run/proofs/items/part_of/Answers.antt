@@ -1,4 +1,4 @@
-use Rattle.std.proofs.Common.{◌≡◌, Some, ap, sym, ◌∙◌}
+use Rattle.std.proofs.Common.{◌≡◌, Some, ap, sym, ◌∙◌, rules}
 use Rattle.std.specs.Option.{option_map}
 use Rattle.codec_defs.specs.Shape.{encoded}
 use Rattle.codec_defs.specs.Schema.{CellOutput, cell_output, script}
@@ -42,3 +42,6 @@ returns-in-Occupied c headers length cell output content row =
     found headers length _ _ c.occupied.result
     (part-here cell c.args.part Occupied (u64_bytes (occupied_by c.args.output.now c.args.content.now)) c.in-Occupied.is (ap Some (sym bytes)))
     (c.occupied.ensures headers length)
+
+pub returns-in-None-type_hash : goal.returns-in-None-type_hash
+returns-in-None-type_hash c = search rules

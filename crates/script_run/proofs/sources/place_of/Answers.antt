@@ -6,3 +6,6 @@ pub returns-in-CellDeps : goal.returns-in-CellDeps
 returns-in-CellDeps c scene shows =
     let many : length scene.deps ≡ length c.args.tx.now.deps = as-many-deps c.args.tx.now scene shows in
     search rules
+
+pub returns-in-GroupInputs : goal.returns-in-GroupInputs
+returns-in-GroupInputs c = search rules
