@@ -1,4 +1,4 @@
-use Rattle.std.proofs.Common.{◌≡◌, ◌++◌, ◌+◌, ℕ, List, length, map, take, arith, ap, ◌∙◌}
+use Rattle.std.proofs.Common.{◌≡◌, ◌++◌, ◌+◌, ℕ, List, length, map, take, arith, ap, ◌∙◌, rules}
 use Rattle.std.specs.List.{concat}
 use Rattle.std.specs.Int.{w32, to_le_bytes}
 use Rattle.std.proofs.lemmas.List.{length-append}
@@ -32,3 +32,6 @@ rows-preserved c =
       size = ap length grown ∙ length-append before (row_bytes row) ∙ omega (arith, c.rows.invariant.size, c.in_ok-put_row.ensures.size);
       form = are_one_more i before _ (row_bytes row) grown c.rows.invariant.size c.in_ok-put_row.ensures.size c.rows.invariant.form c.in_ok-put_row.ensures.form;
     }
+
+pub rows-init : goal.rows-init
+rows-init c = search rules

@@ -1,4 +1,4 @@
-use Rattle.std.proofs.Common.{ℕ, ◌++◌, ap, ◌∙◌}
+use Rattle.std.proofs.Common.{ℕ, ◌++◌, ap, ◌∙◌, rules}
 use Rattle.uncle_rules.specs.Embedded.{embedded_in}
 use Rattle.node_core.proofs.kept.put.Goals as goal
 
@@ -53,3 +53,12 @@ returns-in-Err-push-clause-indexed c = λ _ _ _ _ _. tt
 
 pub returns-in-Err-push-clause-uncles : goal.returns-in-Err-push-clause-uncles
 returns-in-Err-push-clause-uncles c = λ _ _. tt
+
+pub push-requires-clause-canonical : goal.push-requires-clause-canonical
+push-requires-clause-canonical c = search rules
+
+pub push-requires-clause-later : goal.push-requires-clause-later
+push-requires-clause-later c = search rules
+
+pub returns-clause-blocks : goal.returns-clause-blocks
+returns-clause-blocks c = search rules

@@ -1,4 +1,4 @@
-use Rattle.std.proofs.Common.{refl, ap, ◌∙◌}
+use Rattle.std.proofs.Common.{refl, ap, ◌∙◌, rules}
 use Rattle.std.specs.Prelude.{Err}
 use Rattle.vm_defs.specs.Elf.{load_elf, segments}
 use Rattle.vm_defs.specs.Program.{Answer, execution}
@@ -15,3 +15,6 @@ returns-in-Err-Running-clause-running c = λ running.
     program-wants-alone c.args.budget (segments c.args.file.now) (load_elf c.args.file.now)
     (stopped-alone c.execute_in.result c.in-Err-Running.field-0-0 _ (c.in-Err-Running.is ∙ ap Err c.in-Err-Running.field-0-is)
     (c.execute_in.ensures.running nothing refl) c.execute_in.ensures.cause (c.execute_in.ensures.undamaged refl))
+
+pub returns-in-Err-Loading-clause-running : goal.returns-in-Err-Loading-clause-running
+returns-in-Err-Loading-clause-running c = search rules

@@ -1,4 +1,4 @@
-use Rattle.std.proofs.Common.{inl, refl, arith}
+use Rattle.std.proofs.Common.{inl, refl, arith, rules}
 use Rattle.vm_defs.specs.declared.step.Step.TheVariants.{Ecall, Fault, NoMemory, Spent}
 use Rattle.sys_defs.specs.World.{Unknown}
 use Rattle.sys_defs.specs.Answer.{syscall}
@@ -62,3 +62,12 @@ returns-in-NoMemory g c = record {
   room = tt;
   pages_kept = c.run.ensures.pages_kept;
 }
+
+pub returns-in-Ecall-clause-some : goal.returns-in-Ecall-clause-some
+returns-in-Ecall-clause-some g c = search rules
+
+pub returns-in-Ecall-clause-exact : goal.returns-in-Ecall-clause-exact
+returns-in-Ecall-clause-exact g c = search rules
+
+pub returns-in-Ecall-clause-cause : goal.returns-in-Ecall-clause-cause
+returns-in-Ecall-clause-cause g c = search rules

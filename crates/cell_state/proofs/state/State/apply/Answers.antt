@@ -1,4 +1,4 @@
-use Rattle.std.proofs.Common.{List, ap, sym, ◌∙◌, subst, arith}
+use Rattle.std.proofs.Common.{List, ap, sym, ◌∙◌, subst, arith, rules}
 use Rattle.cell_defs.specs.Events.{Event, events_of_block, last_naming}
 use Rattle.cell_defs.specs.Row.{row_after}
 use Rattle.cell_state.specs.Fit.{AllFit, IsFirstOdd}
@@ -51,3 +51,6 @@ returns-in-Err-clause-spare g c =
 
 pub returns-in-Ok-clause-of_branch : goal.returns-in-Ok-clause-of_branch
 returns-in-Ok-clause-of_branch g c = grown c.args.block.now c.args.e c.args.self.now c.settle.new.self (returns-in-Ok-clause-rows g c)
+
+pub returns-in-Err-clause-steps : goal.returns-in-Err-clause-steps
+returns-in-Err-clause-steps g c = search rules
