@@ -6,15 +6,9 @@ use Rattle.time_defs.specs.Specification.{Specification}
 use Rattle.chain_defs.specs.Branch.{branch}
 use Rattle.cell_defs.specs.Row.{Row, row_on}
 use Rattle.cell_defs.specs.Ext.{Ext}
-use Rattle.tx_defs.specs.Site.{Site, Found, height_at}
+use Rattle.tx_defs.specs.Site.{Site, Found, height_at, site_at}
 use Rattle.tx_defs.specs.Resolving.{inputs}
-use Rattle.tx_defs.specs.Capacity.{fee}
-use Rattle.block_defs.specs.Transactions.{site_at}
-
--- the fees of a block's transactions from a place on, in shannons
-unfoldable pub fees_from : Specification → List Block → Block → ℕ → List Transaction → List ℕ
-fees_from spec on b place [] = []
-fees_from spec on b place (t ∷ later) = fee (site_at spec on b place) t ∷ fees_from spec on b (suc place) later
+use Rattle.tx_defs.specs.Capacity.{fees_from}
 
 -- the row of a cell that is spent, where a block before made it
 abbrev pub row_before : List Block → ℕ → Site → Found → Option (OutPoint × Row)

@@ -3,16 +3,11 @@ use Rattle.std.specs.Prelude.{ℕ, suc, ◌-◌, Bool, List, [], ◌∷◌, ◌+
 use Rattle.codec_defs.specs.Schema.{Transaction, Block}
 use Rattle.time_defs.specs.Specification.{Specification}
 use Rattle.chain_defs.specs.Hashes.{proposal_id}
-use Rattle.cell_defs.specs.Events.{cell_seen}
 use Rattle.window_defs.specs.Window.{earliest}
-use Rattle.tx_defs.specs.Site.{Site}
+use Rattle.tx_defs.specs.Site.{Site, site_at}
 use Rattle.tx_defs.specs.Rules.{form_rules, cell_rules}
 use Rattle.script_defs.specs.Scene.{scene_of}
 use Rattle.script_defs.specs.Rules.{script_rules, cycles_of}
-
--- where the transaction at a place of a block stands: it sees the cells after those before it
-abbrev pub site_at : Specification → List Block → Block → ℕ → Site
-site_at spec branch b place = record { spec = spec; branch = branch; cell = cell_seen branch b place }
 
 -- J19: its id is proposed in the window of its height, by a block of the branch or an uncle of one (RFC 0020, "Two-Step Transaction
 -- Confirmation").

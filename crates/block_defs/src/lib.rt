@@ -2,5 +2,5 @@
 //! of one transaction. What a record keeps beside a block that joins, its ext. Definitions.
 //!
 //! The rules on the header and on what it commits to stand in `rule_defs`, those on a transaction's cells in `tx_defs`, on
-//! its proposal in `window_defs`, on its scripts in `script_defs`; those on uncles and on the cellbase stand here.
+//! its proposal in `window_defs`, on its scripts in `script_defs`, those on uncles and on the cellbase in `family_defs`.
 #![tactic(auto)]

@@ -15,10 +15,12 @@ use Rattle.cell_defs.specs.Events.{live_cell}
 use Rattle.cell_defs.specs.Row.{Row, row_on, live_row}
 use Rattle.rule_defs.specs.Header.{header_rules}
 use Rattle.rule_defs.specs.Body.{fits_length, has_proposals, commits_to_proposals, commits_to_transactions, has_few_uncles, commits_to_uncles, body_rules}
-use Rattle.block_defs.specs.Uncles.{has_uncles}
-use Rattle.block_defs.specs.Cellbase.{has_cellbase, begins_with_cellbase, forms_cellbase}
+use Rattle.family_defs.specs.Uncles.{has_uncles}
+use Rattle.family_defs.specs.Cellbase.{has_cellbase, begins_with_cellbase, forms_cellbase}
 use Rattle.block_defs.specs.Transactions.{rules_of_transactions}
-use Rattle.block_defs.specs.Rules.{family_rules, is_rated, end_rules, all_rules, first_broken}
+use Rattle.block_defs.specs.Rules.{end_rules, all_rules, first_broken}
+use Rattle.family_defs.specs.Rules.{family_rules}
+use Rattle.time_defs.specs.Dao.{is_rated}
 use Rattle.outside.specs.declared.disk.ReadStop.{ReadStop}
 use Rattle.outside.specs.declared.disk.ReadStop.TheVariants.{DiskFault, NoMemory, Damaged}
 use Rattle.block_judge.specs.declared.stop.Judged.{Judged}
@@ -140,12 +142,12 @@ at-end spec on b kept judged =
     behind-ahead spec on b kept ∙ first_failing-append-holds (rules_of_transactions spec on b) (end_rules b) ((finds_none (rules_of_transactions spec on b)).0 judged)
 
 pub first-end : (spec : Specification) (on : List Block) (b : Block) → first_failing (ahead spec on b) ≡ None → first_failing (rules_of_transactions spec on b) ≡ None
-    → is_rated b ≡ false → first_broken spec on b ≡ Some 32
-first-end spec on b kept judged rated = at-end spec on b kept judged ∙ first_failing-fails 32 (is_rated b) [] rated
+    → is_rated b.header.dao ≡ false → first_broken spec on b ≡ Some 32
+first-end spec on b kept judged rated = at-end spec on b kept judged ∙ first_failing-fails 32 (is_rated b.header.dao) [] rated
 
 pub keeps-all : (spec : Specification) (on : List Block) (b : Block) → first_failing (ahead spec on b) ≡ None → first_failing (rules_of_transactions spec on b) ≡ None
-    → is_rated b ≡ true → first_broken spec on b ≡ None
-keeps-all spec on b kept judged rated = at-end spec on b kept judged ∙ first_failing-holds 32 (is_rated b) [] rated ∙ first_failing-none
+    → is_rated b.header.dao ≡ true → first_broken spec on b ≡ None
+keeps-all spec on b kept judged rated = at-end spec on b kept judged ∙ first_failing-holds 32 (is_rated b.header.dao) [] rated ∙ first_failing-none
 
 -- ---- Answers over any source of blocks
 

@@ -7,8 +7,8 @@ use Rattle.std.proofs.lemmas.Option.{same_Some}
 use Rattle.codec_defs.specs.Schema.{OutPoint, CellInput, CellOutput, Transaction, Block}
 use Rattle.chain_defs.specs.Hashes.{transaction_hash, are_distinct}
 use Rattle.cell_defs.specs.Cell.{Cell}
-use Rattle.tx_rules.proofs.WalkLemmas.{drop-there}
-use Rattle.block_defs.specs.Cellbase.{is_null, is_null_input, is_cellbase, begins_with_cellbase, has_cellbase, is_well_formed_cellbase, is_first_well_formed, forms_cellbase}
+use Rattle.fold_defs.proofs.WalkLemmas.{drop-there}
+use Rattle.family_defs.specs.Cellbase.{is_null, is_null_input, is_cellbase, begins_with_cellbase, has_cellbase, is_well_formed_cellbase, is_first_well_formed, forms_cellbase}
 
 -- what is asked of each output and of each data
 abbrev pub is_untyped : CellOutput → Bool

@@ -16,15 +16,15 @@ use Rattle.tx_defs.specs.Resolving.{inputs}
 use Rattle.cell_model.specs.Copies.{ResolvedValue}
 use Rattle.cell_defs.specs.Row.{Row}
 use Rattle.cell_defs.specs.Ext.{Ext}
-use Rattle.tx_defs.specs.Site.{Site}
+use Rattle.tx_defs.specs.Site.{Site, site_at, site_after}
 use Rattle.window_defs.specs.Window.{earliest}
-use Rattle.tx_defs.specs.Capacity.{fee}
+use Rattle.tx_defs.specs.Capacity.{fee, fees_from}
 use Rattle.tx_defs.specs.Rules.{has_form, form_rules, cell_rules}
 use Rattle.script_defs.specs.Scene.{scene_of}
 use Rattle.script_defs.specs.Rules.{script_rules}
-use Rattle.block_defs.specs.Transactions.{site_at, transaction_rules, left_after, rules_from, rules_of_transactions}
-use Rattle.block_defs.specs.Ext.{fees_from, rows_spent, spent_from, ext_of}
-use Rattle.block_defs.specs.Rules.{site_after, broken_in_dry_run}
+use Rattle.block_defs.specs.Transactions.{transaction_rules, left_after, rules_from, rules_of_transactions}
+use Rattle.block_defs.specs.Ext.{rows_spent, spent_from, ext_of}
+use Rattle.block_defs.specs.Rules.{broken_in_dry_run}
 use Rattle.block_judge.specs.Progress.{AreProposed}
 use Rattle.block_judge.proofs.ExtLemmas.{rows-spent}
 use Rattle.block_judge.proofs.RestLemmas.{fees-more, fees-all, spent-more, spent-all, rules-more, rules-broken, rules-end}

@@ -10,9 +10,10 @@ use Rattle.chain_defs.specs.Branch.{branch}
 use Rattle.fold_defs.specs.First.{first_failing}
 use Rattle.fold_defs.proofs.FirstLemmas.{first_failing-none, first_failing-append-holds, first_failing-append-fails, finds_none}
 use Rattle.cell_defs.specs.Row.{Row}
-use Rattle.tx_defs.specs.Capacity.{fee}
-use Rattle.block_defs.specs.Transactions.{site_at, transaction_rules, left_after, rules_from}
-use Rattle.block_defs.specs.Ext.{fees_from, rows_spent, spent_from}
+use Rattle.tx_defs.specs.Capacity.{fee, fees_from}
+use Rattle.block_defs.specs.Transactions.{transaction_rules, left_after, rules_from}
+use Rattle.tx_defs.specs.Site.{site_at}
+use Rattle.block_defs.specs.Ext.{rows_spent, spent_from}
 
 -- the transaction at a place, and those behind it
 rest-next : (transactions : List Transaction) (place : ℕ) (t : Transaction) → slice_get transactions place ≡ Some t

@@ -30,7 +30,7 @@ use Rattle.tx_rules.specs.At.{AtValue, IsSiteOf, place_of_height}
 use Rattle.tx_rules.specs.Outcome.{Copies, IsFormed, IsResolved}
 use Rattle.tx_rules.proofs.BranchLemmas.{PlaceOfHeight, place-of-height}
 use Rattle.tx_rules.proofs.DepositLemmas.{heights-below, listed-below, EntryOfHeight, entry-of-height}
-use Rattle.script_defs.specs.Scene.{ShownCell, header_at, made_in, shown, scene_of}
+use Rattle.script_defs.specs.Scene.{ShownCell, header_on, made_in, shown, scene_of}
 use Rattle.script_run.specs.Showing.{header_of, same_hash, has_hashes, cell_shown, cells_shown, headers_shown, is_whole, scene_with, scene_shown}
 
 bytes-same : (xs ys : List ℕ) → xs ≡ ys → bytes_eq xs ys ≡ true
@@ -66,7 +66,7 @@ stored-header stored place =
 
 header-there : (stored : List Stored) (parent height : ℕ) → height < length (branch (blocks_of stored) parent)
     → option_map (λ (it : Stored). it.block.header) (slice_get stored (slice_index (branch_places (blocks_of stored) parent) height))
-    ≡ header_at (branch (blocks_of stored) parent) height
+    ≡ header_on (branch (blocks_of stored) parent) height
 header-there stored parent height low =
     let block = slice_get-below (branch (blocks_of stored) parent) height low in
     let place : PlaceOfHeight (blocks_of stored) parent height block.0 =
@@ -75,7 +75,7 @@ header-there stored parent height low =
     ∙ ap (option_map (λ (b : Block). b.header)) (place.there ∙ sym block.1)
 
 headers-there : (stored : List Stored) (parent : ℕ) (hs : List ℕ) → All (λ h. h < length (branch (blocks_of stored) parent)) hs
-    → headers_shown stored (map (slice_index (branch_places (blocks_of stored) parent)) hs) ≡ Some (filter_map (header_at (branch (blocks_of stored) parent)) hs)
+    → headers_shown stored (map (slice_index (branch_places (blocks_of stored) parent)) hs) ≡ Some (filter_map (header_on (branch (blocks_of stored) parent)) hs)
 unfolding all_there
 headers-there stored parent [] low = refl
 headers-there stored parent (h ∷ hs) low =
@@ -83,7 +83,7 @@ headers-there stored parent (h ∷ hs) low =
     (header-there stored parent h below ∙ some)
     ∙ ap (option_map (λ (vs : List Header). block.0.header ∷ vs))
     (headers-there stored parent hs (All-tail (λ n. n < length (branch (blocks_of stored) parent)) h hs low))
-    ∙ sym (ap (λ (found : Option Header). Some (cons_option found (filter_map (header_at (branch (blocks_of stored) parent)) hs))) some)
+    ∙ sym (ap (λ (found : Option Header). Some (cons_option found (filter_map (header_on (branch (blocks_of stored) parent)) hs))) some)
   where
     below : h < length (branch (blocks_of stored) parent)
     below = All-head (λ n. n < length (branch (blocks_of stored) parent)) h hs low
@@ -91,7 +91,7 @@ headers-there stored parent (h ∷ hs) low =
     block : (b : Block) × (block_at (branch (blocks_of stored) parent) h ≡ Some b)
     block = slice_get-below (branch (blocks_of stored) parent) h below
 
-    some : header_at (branch (blocks_of stored) parent) h ≡ Some block.0.header
+    some : header_on (branch (blocks_of stored) parent) h ≡ Some block.0.header
     some = ap (option_map (λ (b : Block). b.header)) block.1
 
 -- ---- The place of the block that made a cell, among those of heights on the branch
@@ -162,7 +162,7 @@ named-same kept entries parent made (h ∷ hs) indexes low =
 made-header : (stored : List Stored) (entries : List Entry) (parent made : ℕ) (hs : List ℕ) → IndexesBlocks (blocks_of stored) entries
     → All (λ h. h < length (branch (blocks_of stored) parent)) hs
     → header_of stored (map (slice_index (branch_places (blocks_of stored) parent)) hs) (place_of_height (blocks_of stored) parent made)
-    ≡ (if list_any (λ h. h == made) hs then header_at (branch (blocks_of stored) parent) made else None)
+    ≡ (if list_any (λ h. h == made) hs then header_on (branch (blocks_of stored) parent) made else None)
 made-header stored entries parent made hs indexes low =
     ap (λ (b : Bool). if b then option_map (λ (it : Stored). it.block.header) (slice_get stored (place_of_height (blocks_of stored) parent made)) else None)
     (named-same (blocks_of stored) entries parent made hs indexes low)
@@ -170,7 +170,7 @@ made-header stored entries parent made hs indexes low =
   where
     by_named : (b : Bool) → list_any (λ h. h == made) hs ≡ b
         → (if b then option_map (λ (it : Stored). it.block.header) (slice_get stored (place_of_height (blocks_of stored) parent made)) else None)
-        ≡ (if b then header_at (branch (blocks_of stored) parent) made else None)
+        ≡ (if b then header_on (branch (blocks_of stored) parent) made else None)
     by_named false other = refl
     by_named true named =
         let below : made < length (branch (blocks_of stored) parent) = listed-below hs made (length (branch (blocks_of stored) parent)) low named in
@@ -226,7 +226,7 @@ cell-there stored at rows site t found copy is low copies =
     header : header_of stored headers copy.row.block ≡ made_in site t found.cell
     header = ap (λ (row : Row). header_of stored headers row.block) its_row
         ∙ made-header stored at.entries at.parent found.cell.height (heights site t) is.indexed low
-        ∙ ap (λ (blocks : List Block). if list_any (λ h. h == found.cell.height) (heights site t) then header_at blocks found.cell.height else None) (sym is.on_branch)
+        ∙ ap (λ (blocks : List Block). if list_any (λ h. h == found.cell.height) (heights site t) then header_on blocks found.cell.height else None) (sym is.on_branch)
 
 cells-there : (stored : List Stored) (at : AtValue) (rows : OutPoint → Option Row) (site : Site) (t : Transaction) (founds : List Found) (copies : List ResolvedValue)
     → IsSiteOf stored at rows site → All (λ h. h < length (branch (blocks_of stored) at.parent)) (heights site t)
@@ -270,7 +270,7 @@ scene-same stored at rows site entries t resolved is formed resolves =
     (cells-there stored at rows site t (deps site t) resolved.deps is low resolves.deps_are)
     ∙ ap (scene_with length_of t (Some (map (shown site t) (inputs site t))) (Some (map (shown site t) (deps site t))))
     (headers-there stored at.parent (heights site t) low
-    ∙ ap (λ (blocks : List Block). Some (filter_map (header_at blocks) (heights site t))) (sym is.on_branch))
+    ∙ ap (λ (blocks : List Block). Some (filter_map (header_on blocks) (heights site t))) (sym is.on_branch))
   where
     length_of : ℕ
     length_of = site.spec.epoch_length

@@ -19,8 +19,7 @@ use Rattle.cell_laws.proofs.EventLemmas.{last_naming-append, made-last}
 use Rattle.cell_laws.proofs.OutputLaws.{IsMadeIn, made-in-block, cells-are-outputs, seen-cells-are-outputs}
 use Rattle.tx_rules.specs.At.{AtValue, IsSiteOf, IsMade, place_of_height}
 use Rattle.tx_rules.proofs.AllThere.{take-push}
-use Rattle.block_defs.specs.Transactions.{site_at}
-use Rattle.block_defs.specs.Rules.{site_after}
+use Rattle.tx_defs.specs.Site.{site_at, site_after}
 use Rattle.block_judge.specs.Standing.{Stands}
 use Rattle.block_judge.proofs.ChangeLemmas.{row_after-nil, row_after-append, row_after-same}
 

@@ -5,7 +5,7 @@ use Rattle.codec_defs.specs.Schema.{Block}
 use Rattle.time_defs.specs.Specification.{Specification}
 use Rattle.rule_defs.specs.Header.{header_rules}
 use Rattle.rule_defs.specs.Body.{body_rules}
-use Rattle.block_defs.specs.Rules.{family_rules}
+use Rattle.family_defs.specs.Rules.{family_rules}
 use Rattle.block_judge.specs.declared.stop.Judged.{Judged}
 use Rattle.block_judge.specs.declared.stop.Judged.TheVariants.{Broken, Read}
 

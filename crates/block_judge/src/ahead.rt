@@ -10,7 +10,8 @@ ghost use Rattle.chain_tree.specs.Told.{Stored, blocks_of};
 ghost use Rattle.rule_defs.specs.Header.{header_rules as rules_on_header};
 ghost use Rattle.rule_defs.specs.Body.{body_rules};
 ghost use Rattle.uncle_rules.specs.Embedded.{IndexesUncles};
-ghost use Rattle.block_defs.specs.Rules as rules;
+ghost use Rattle.family_defs.specs.Rules.{family_rules};
+ghost use Rattle.time_defs.specs.Dao as dao;
 ghost use Rattle.block_judge.specs.declared.stop.Judged.TheVariants.{Broken, Read};
 ghost use Rattle.block_judge.specs.Standing.{Stands};
 
@@ -18,7 +19,6 @@ use crate::cellbase::{forms_cellbase, has_cellbase};
 use crate::stop::Judged;
 use cell_model::Cells;
 use chain_tree::Tree;
-use dao_math::Dao;
 use epochs::Spec;
 use mol_schema::BlockView;
 use outside::ReadStop;
@@ -41,9 +41,9 @@ fn judge_family<C: Cells>(
     ensures some { IfOk result (λ _. 0 < length block.now.transactions) }
     ensures broken { (stored : List Stored) → Stands stored tree.now.entries parent (C.rows cells.now) → IndexesUncles (blocks_of stored) uncles.now
         → (rule : ℕ) → result ≡ Err (Broken rule)
-        → first_failing (rules.family_rules spec.now (branch (blocks_of stored) parent) block.now) ≡ Some rule }
+        → first_failing (family_rules spec.now (branch (blocks_of stored) parent) block.now) ≡ Some rule }
     ensures unbroken { (stored : List Stored) → Stands stored tree.now.entries parent (C.rows cells.now) → IndexesUncles (blocks_of stored) uncles.now
-        → IfOk result (λ _. first_failing (rules.family_rules spec.now (branch (blocks_of stored) parent) block.now) ≡ None) }
+        → IfOk result (λ _. first_failing (family_rules spec.now (branch (blocks_of stored) parent) block.now) ≡ None) }
 {
     let has_uncles = match uncles_ok(alloc, spec, tree, uncles, parent, block) {
         Ok(has) => has,
@@ -84,10 +84,10 @@ pub(crate) fn judge_ahead<C: Cells>(
     ensures broken { (stored : List Stored) → Stands stored tree.now.entries parent (C.rows cells.now) → IndexesUncles (blocks_of stored) uncles.now
         → (rule : ℕ) → result ≡ Err (Broken rule)
         → first_failing (rules_on_header spec.now (branch (blocks_of stored) parent) block.now ++ (body_rules spec.now block.now
-        ++ rules.family_rules spec.now (branch (blocks_of stored) parent) block.now)) ≡ Some rule }
+        ++ family_rules spec.now (branch (blocks_of stored) parent) block.now)) ≡ Some rule }
     ensures unbroken { (stored : List Stored) → Stands stored tree.now.entries parent (C.rows cells.now) → IndexesUncles (blocks_of stored) uncles.now
         → IfOk result (λ _. first_failing (rules_on_header spec.now (branch (blocks_of stored) parent) block.now ++ (body_rules spec.now block.now
-        ++ rules.family_rules spec.now (branch (blocks_of stored) parent) block.now)) ≡ None) }
+        ++ family_rules spec.now (branch (blocks_of stored) parent) block.now)) ≡ None) }
 {
     if let Some(rule) = header_rules::check(spec, tree, parent, &block.header()) {
         return Err(Judged::Broken(rule));
@@ -104,10 +104,9 @@ pub(crate) fn judge_ahead<C: Cells>(
 
 /// Of J32, what is looked at so far: C and AR of its DAO field are above 0.
 pub(crate) fn is_rated(block: &BlockView<'_>) -> bool
-    ensures { result ≡ rules.is_rated block.now }
+    ensures { result ≡ dao.is_rated block.now.header.dao }
 {
     let mut bytes = [0; 32];
     bytes.copy_from_slice(block.header().dao());
-    let field = Dao::read(&bytes);
-    field.c > 0 && field.ar > 0
+    dao_math::is_rated(&bytes)
 }

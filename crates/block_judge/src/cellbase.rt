@@ -4,7 +4,7 @@ ghost use Rattle.std.specs.List.{list_all, list_any, range_with_len};
 ghost use Rattle.codec_defs.specs.Schema.{OutPoint as an_out_point};
 ghost use Rattle.cell_defs.specs.Cell.{Cell};
 ghost use Rattle.chain_defs.specs.Hashes.{transaction_hash, are_distinct};
-ghost use Rattle.block_defs.specs.Cellbase as rules;
+ghost use Rattle.family_defs.specs.Cellbase as rules;
 
 use cell_model::{Cells, OutPoint, tx_hash};
 use mol_schema::{BlockView, CellbaseWitnessView, OutPointView, RawTxView, TxView};
@@ -16,7 +16,7 @@ use std::collections::HashSet;
 const NULL_INDEX: u32 = 0xffff_ffff;
 
 /// Whether an out-point names no output.
-#[tactic(auto, unfolding(block_defs::specs::Cellbase::null_index))]
+#[tactic(auto, unfolding(family_defs::specs::Cellbase::null_index))]
 fn is_null(o: &OutPointView<'_>) -> bool
     ensures { result ≡ rules.is_null o.now }
 {

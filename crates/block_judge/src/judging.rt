@@ -14,11 +14,13 @@ ghost use Rattle.tx_defs.specs.Capacity as capacity;
 ghost use Rattle.script_defs.specs.Rules.{cycles_of};
 ghost use Rattle.script_defs.specs.Scene.{scene_of};
 ghost use Rattle.tx_defs.specs.Rules.{has_form};
-ghost use Rattle.tx_rules.specs.At.{AreRated, spends_rows};
+ghost use Rattle.tx_rules.specs.At.{spends_rows};
+ghost use Rattle.chain_tree.specs.Blocks.{AreRated};
 ghost use Rattle.uncle_rules.specs.Embedded.{IndexesUncles};
 ghost use Rattle.block_defs.specs.Ext.{ext_of};
-ghost use Rattle.block_defs.specs.Rules as defs;
-ghost use Rattle.block_defs.specs.Rules.{first_broken, broken_in_dry_run, site_after};
+ghost use Rattle.time_defs.specs.Dao as dao;
+ghost use Rattle.block_defs.specs.Rules.{first_broken, broken_in_dry_run};
+ghost use Rattle.tx_defs.specs.Site.{site_after};
 ghost use Rattle.block_judge.specs.declared.stop.Judged.TheVariants.{Broken, Read};
 ghost use Rattle.block_judge.specs.Ahead.{SaysAhead, SaysRated, ahead as rules_ahead};
 ghost use Rattle.block_judge.specs.ByRows.{SaysByRows};
@@ -65,7 +67,7 @@ pub fn judge<C: Cells, B: Blocks>(
     ensures fees { IfOk result (λ ext. length ext.fees ≡ length block.now.transactions - 1) }
     ensures ahead { (stored : List Stored) → Stands stored tree.now.entries parent (C.rows cells.now) → IndexesUncles (blocks_of stored) uncles.now
         → SaysAhead (first_failing (rules_ahead spec.now (branch (blocks_of stored) parent) block.now)) result }
-    ensures rated { SaysRated (defs.is_rated block.now) result }
+    ensures rated { SaysRated (dao.is_rated block.now.header.dao) result }
 
     // Over kept blocks that are told, with the cells of the parent's branch.
     ensures broken { (stored : List Stored) → B.told blocks.old ≡ Some stored → Stands stored tree.now.entries parent (C.rows cells.now)

@@ -1,6 +1,7 @@
 -- What the blocks of a branch make and spend, as a list, and the cells that are live after it (docs/RULES.md, "Cells"). A branch begins
 -- with the genesis and has one block a height.
 use Rattle.std.specs.Prelude.{ℕ, ◌+◌, Bool, ◌&&◌, ◌||◌, ◌==◌, List, [], ◌∷◌, ◌++◌, map, length, take, Option, Some, None, if◌then◌else◌}
+use Rattle.std.specs.List.{range_with_len}
 use Rattle.std.specs.Str.{bytes_eq}
 use Rattle.codec_defs.specs.Schema.{OutPoint, CellOutput, Transaction, Block}
 use Rattle.chain_defs.specs.Hashes.{transaction_hash}
@@ -10,6 +11,10 @@ use Rattle.cell_defs.specs.Cell.{Cell, data_of}
 pub data Event : Type 0 where
   Makes : OutPoint → Cell → Event
   Spends : OutPoint → Event
+
+-- the out-points of a transaction's outputs
+abbrev pub made_out_points : Transaction → List OutPoint
+made_out_points t = map (λ index. record { tx_hash = transaction_hash t; index = index }) (range_with_len 0 (length t.raw.outputs))
 
 -- ---- The events of a branch
 

@@ -1,4 +1,5 @@
 pub mod Cell
 pub mod Events
+pub mod Fit
 pub mod Row
 pub mod Ext

@@ -8,7 +8,9 @@ use Rattle.std.proofs.lemmas.List.Sums.{sum_by_push}
 use Rattle.codec_defs.specs.Schema.{OutPoint}
 use Rattle.cell_defs.specs.Cell.{Cell}
 use Rattle.cell_defs.specs.Events.{Event, Makes, Spends, names, last_naming, cell_after}
-use Rattle.cell_laws.specs.Laws.{fits, AllFit, makes, spends, LivesByCounting}
+use Rattle.cell_laws.specs.Laws.{makes, spends, LivesByCounting}
+use Rattle.cell_defs.specs.Fit.{are_live, none_live, live_after, fits, AllFit}
+use Rattle.cell_laws.proofs.FitLemmas.{fits-same, fits-between, live-from-nothing}
 use Rattle.cell_laws.proofs.EventLemmas.{names-same, cell_after-push}
 
 abbrev live_count : Option Cell → ℕ
@@ -38,7 +40,7 @@ after-push : (earlier : List Event) (event : Event) (o : OutPoint) (b : Bool) �
 after-push earlier event o b is left after = ap live_count (after ∙ ap (λ (c : Bool). cond c left (cell_after earlier o)) is)
 
 -- one event more that fits
-Balances-push : (o : OutPoint) (events : List Event) (event : Event) → IsTrue (fits (cell_after events) event) → Balances o events
+Balances-push : (o : OutPoint) (events : List Event) (event : Event) → IsTrue (fits (are_live (cell_after events)) event) → Balances o events
     → Balances o (events ++ event ∷ [])
 Balances-push o events (Makes other cell) fit was = record { is = by_name (names o (Makes other cell)) refl }
   where
@@ -85,12 +87,18 @@ Balances-push o events (Spends other) fit was = record { is = by_name (names o (
         after-push events (Spends other) o false named None (cell_after-push events (Spends other) o) in
         omega (arith, made, spent, after, was.is)
 
-balances-on : (o : OutPoint) (earlier later : List Event) → AllFit (earlier ++ later) → Balances o earlier → Balances o (earlier ++ later)
+balances-on : (o : OutPoint) (earlier later : List Event) → AllFit (earlier ++ later) none_live → Balances o earlier → Balances o (earlier ++ later)
 balances-on o earlier [] fit was = subst (Balances o) (sym (append-nil earlier)) was
 balances-on o earlier (event ∷ later) fit was =
     let same : (earlier ++ event ∷ []) ++ later ≡ earlier ++ event ∷ later = append_assoc earlier (event ∷ []) later in
     subst (Balances o) same
-    (balances-on o (earlier ++ event ∷ []) later (subst AllFit (sym same) fit) (Balances-push o earlier event (fit earlier later event refl) was))
+    (balances-on o (earlier ++ event ∷ []) later (subst (λ (all : List Event). AllFit all none_live) (sym same) fit)
+    (Balances-push o earlier event (here fit) was))
+  where
+    here : AllFit (earlier ++ event ∷ later) none_live → IsTrue (fits (are_live (cell_after earlier)) event)
+    here all =
+        sym (fits-same (are_live (cell_after earlier)) (live_after earlier none_live) event (λ o. live-from-nothing earlier o))
+        ∙ fits-between (earlier ++ event ∷ later) earlier event later none_live all refl
 
 -- none before the first
 Balances-nil : (o : OutPoint) → Balances o []

@@ -1,4 +1,5 @@
 pub mod EventLemmas
+pub mod FitLemmas
 pub mod CountingLaws
 pub mod OutputLaws
 pub mod EventLaws

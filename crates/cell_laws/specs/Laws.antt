@@ -6,6 +6,7 @@ use Rattle.chain_defs.specs.Kept.{IsKept, place_of, block_at}
 use Rattle.chain_defs.specs.Branch.{branch}
 use Rattle.cell_defs.specs.Cell.{Cell}
 use Rattle.cell_defs.specs.Events.{Event, Makes, Spends, events_of_block, events, names, cell_after, live_cell, cell_seen}
+use Rattle.cell_defs.specs.Fit.{AllFit, none_live}
 use Rattle.cell_defs.specs.Row.{Row, live_row, row_after, row_left, IsOutputOf}
 
 -- ---- What blocks make and spend
@@ -33,15 +34,6 @@ SpendsAreInputs = (blocks : List Block) (o : OutPoint)
 
 -- ---- Live by counting
 
--- an event that fits what is live: a spend of a cell that is, a make of one that is not
-abbrev pub fits : (OutPoint → Option Cell) → Event → Bool
-fits live (Makes o cell) = not (is_some (live o))
-fits live (Spends o) = is_some (live o)
-
--- each event fits what the events before it left, as it is on a branch whose blocks joined
-abbrev pub AllFit : List Event → Type 0
-AllFit events = (earlier later : List Event) (event : Event) → events ≡ earlier ++ event ∷ later → IsTrue (fits (cell_after earlier) event)
-
 abbrev pub makes : OutPoint → Event → Bool
 makes o (Makes other cell) = names o (Makes other cell)
 makes o (Spends other) = false
@@ -50,9 +42,9 @@ abbrev pub spends : OutPoint → Event → Bool
 spends o (Makes other cell) = false
 spends o (Spends other) = names o (Spends other)
 
--- Law: a cell is live exactly where more makes than spends name it.
+-- Law: where each event fits what is live before it, a cell is live exactly where more makes than spends name it.
 abbrev pub LivesByCounting : Type 0
-LivesByCounting = (events : List Event) (o : OutPoint) → AllFit events
+LivesByCounting = (events : List Event) (o : OutPoint) → AllFit events none_live
     → IsTrue (is_some (cell_after events o)) ↔ (count_by (spends o) events < count_by (makes o) events)
 
 -- ---- A block's events

@@ -4,7 +4,8 @@ use Rattle.codec_defs.specs.Schema.{OutPoint}
 use Rattle.cell_defs.specs.Events.{Event, Makes, Spends, last_naming}
 use Rattle.cell_defs.specs.Row.{Row, row_or, row_after}
 use Rattle.cell_state.specs.Slots.{StateValue, at, rows, row_before, is_live, settled, AreSettled}
-use Rattle.cell_state.specs.Passes.{is_live_by, AreMarked, unmarked_by, Settles}
+use Rattle.cell_defs.specs.Fit.{live_by}
+use Rattle.cell_state.specs.Passes.{AreMarked, unmarked_by, Settles}
 use Rattle.cell_state.specs.declared.slots.Slot.{Slot}
 use Rattle.cell_state.proofs.NamingLemmas.{row-after}
 
@@ -22,7 +23,7 @@ are-settled state wanted is o = is o ∙ ap settled (sym (settled-rows state wan
 -- ---- A block that fits
 
 slot-applied : (place : ℕ) (last : Option Event) (old marked new : Option Slot) → old ≡ settled (row_before old)
-    → is_live marked ≡ is_live_by last (is_live old) → (last ≡ None → marked ≡ old) → Settles place last marked new
+    → is_live marked ≡ live_by last (is_live old) → (last ≡ None → marked ≡ old) → Settles place last marked new
     → new ≡ settled (row_or place (row_before old) last)
 slot-applied place None old marked new is live unnamed so = so.unnamed refl ∙ unnamed refl ∙ is
 slot-applied place (Some (Makes o cell)) old marked new is live unnamed so = so.made o cell refl live

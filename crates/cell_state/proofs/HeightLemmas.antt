@@ -8,7 +8,9 @@ use Rattle.std.proofs.lemmas.Option.{slice_get-map, same_Some, none-some}
 use Rattle.codec_defs.specs.Schema.{OutPoint, CellInput, CellOutput, Transaction, Block}
 use Rattle.cell_defs.specs.Events.{Event, Makes, Spends, names, last_naming, makes_from, spends_of, events_of, events_from, events_of_block}
 use Rattle.cell_defs.specs.Row.{Row, row_or, row_after}
-use Rattle.cell_state.specs.Fit.{Fits, AllFit, IsFirstOdd, odd_of}
+use Rattle.cell_state.specs.Fit.{IsFirstOdd, odd_of}
+use Rattle.std.specs.Prelude.{not, IsTrue}
+use Rattle.cell_defs.specs.Fit.{live_by, live_after, fits, AllFit}
 use Rattle.cell_state.specs.declared.odd.Odd.{Odd}
 use Rattle.cell_state.specs.State.{outputs_of}
 use Rattle.cell_state.specs.Passes.{makes_in}
@@ -105,44 +107,48 @@ pub rows-above : (place height : ℕ) (b : Block) (rows : OutPoint → Option Ro
 rows-above place height b rows o h =
     sym (rows-raised place height (events_of_block 1 b) rows o) ∙ ap (λ (es : List Event). row_after place es rows o) (sym (block-raised height b h))
 
-fits-raised : (place height : ℕ) (events : List Event) (rows : OutPoint → Option Row) (event : Event)
-    → Fits (row_after place events rows) event → Fits (row_after place (map (raised height) events) rows) (raised height event)
-fits-raised place height events rows (Makes o cell) fits = rows-raised place height events rows o ∙ fits
-fits-raised place height events rows (Spends o) fits = subst (λ (r : Option Row). IsSome r) (sym (rows-raised place height events rows o)) fits
+live-raised : (height : ℕ) (events : List Event) (live : OutPoint → Bool) (o : OutPoint) → live_after (map (raised height) events) live o ≡ live_after events live o
+unfolding live_after
+live-raised height events live o = ap (λ (last : Option Event). live_by last (live o)) (last-raised height o events) ∙ by_last (last_naming o events)
+  where
+    by_last : (last : Option Event) → live_by (option_map (raised height) last) (live o) ≡ live_by last (live o)
+    by_last None = refl
+    by_last (Some (Makes p cell)) = refl
+    by_last (Some (Spends p)) = refl
 
-unfit-raised : (place height : ℕ) (events : List Event) (rows : OutPoint → Option Row) (event : Event)
-    → Fits (row_after place (map (raised height) events) rows) (raised height event) → Fits (row_after place events rows) event
-unfit-raised place height events rows (Makes o cell) fits = sym (rows-raised place height events rows o) ∙ fits
-unfit-raised place height events rows (Spends o) fits = subst (λ (r : Option Row). IsSome r) (rows-raised place height events rows o) fits
+fits-raised : (height : ℕ) (events : List Event) (live : OutPoint → Bool) (event : Event)
+    → fits (live_after (map (raised height) events) live) (raised height event) ≡ fits (live_after events live) event
+fits-raised height events live (Makes o cell) = ap not (live-raised height events live o)
+fits-raised height events live (Spends o) = live-raised height events live o
 
 pub map-some : {A B : Type 0} (f : A → B) (found : Option A) (y : B) → option_map f found ≡ Some y → (x : A) × (found ≡ Some x) × (f x ≡ y)
 map-some f None y is = absurd (none-some y is)
 map-some f (Some x) y is = (x, refl, same_Some (f x) y is)
 
-all-raised : (place height : ℕ) (events : List Event) (rows : OutPoint → Option Row) → AllFit place events rows → AllFit place (map (raised height) events) rows
-all-raised place height events rows fit count event there =
+all-raised : (height : ℕ) (events : List Event) (live : OutPoint → Bool) → AllFit events live → AllFit (map (raised height) events) live
+all-raised height events live fit count event there =
     let found = map-some (raised height) (slice_get events count) event (sym (slice_get-map (raised height) events count) ∙ there) in
-    subst (λ (e : Event). Fits (row_after place (take count (map (raised height) events)) rows) e) found.2
-    (subst (λ (es : List Event). Fits (row_after place es rows) (raised height found.0)) (sym (take-map (raised height) count events))
-    (fits-raised place height (take count events) rows found.0 (fit count found.0 found.1)))
+    subst (λ (e : Event). IsTrue (fits (live_after (take count (map (raised height) events)) live) e)) found.2
+    (subst (λ (es : List Event). IsTrue (fits (live_after es live) (raised height found.0))) (sym (take-map (raised height) count events))
+    (fits-raised height (take count events) live found.0 ∙ fit count found.0 found.1))
 
-pub all-above : (place height : ℕ) (b : Block) (rows : OutPoint → Option Row) → 0 < height → AllFit place (events_of_block 1 b) rows → AllFit place (events_of_block height b) rows
-all-above place height b rows h fit =
-    subst (λ (es : List Event). AllFit place es rows) (sym (block-raised height b h)) (all-raised place height (events_of_block 1 b) rows fit)
+pub all-above : (height : ℕ) (b : Block) (live : OutPoint → Bool) → 0 < height → AllFit (events_of_block 1 b) live → AllFit (events_of_block height b) live
+all-above height b live h fit =
+    subst (λ (es : List Event). AllFit es live) (sym (block-raised height b h)) (all-raised height (events_of_block 1 b) live fit)
 
 odd-raised : (height : ℕ) (event : Event) → odd_of (raised height event) ≡ odd_of event
 odd-raised height (Makes o cell) = refl
 odd-raised height (Spends o) = refl
 
-pub odd-above : (place height : ℕ) (b : Block) (rows : OutPoint → Option Row) (cause : Odd) → 0 < height
-    → IsFirstOdd place (events_of_block 1 b) rows cause → IsFirstOdd place (events_of_block height b) rows cause
-odd-above place height b rows cause h so = record {
+pub odd-above : (height : ℕ) (b : Block) (live : OutPoint → Bool) (cause : Odd) → 0 < height
+    → IsFirstOdd (events_of_block 1 b) live cause → IsFirstOdd (events_of_block height b) live cause
+odd-above height b live cause h so = record {
   earlier = map (raised height) so.earlier;
   event = raised height so.event;
   later = map (raised height) so.later;
   parts = block-raised height b h ∙ ap (map (raised height)) so.parts ∙ map-append (raised height) so.earlier (so.event ∷ so.later);
-  fit = all-raised place height so.earlier rows so.fit;
-  unfit = λ fits. so.unfit (unfit-raised place height so.earlier rows so.event fits);
+  fit = all-raised height so.earlier live so.fit;
+  unfit = fits-raised height so.earlier live so.event ∙ so.unfit;
   cause = so.cause ∙ sym (odd-raised height so.event);
 }
 

@@ -7,9 +7,9 @@ use Rattle.std.proofs.Math.Seq.{take-append_seam}
 use Rattle.codec_defs.specs.Schema.{OutPoint}
 use Rattle.cell_defs.specs.Events.{Event, Makes, Spends, names, last_naming}
 use Rattle.cell_defs.specs.Row.{Row, row_or, row_after}
-use Rattle.cell_state.specs.Fit.{Fits, AllFit}
+use Rattle.cell_defs.specs.Fit.{are_live, live_by, live_after}
 use Rattle.cell_state.specs.Slots.{StateValue, at, rows, row_before, is_live, settled, AreSettled}
-use Rattle.cell_state.specs.Passes.{is_live_by, AreMarked}
+use Rattle.cell_state.specs.Passes.{AreMarked}
 use Rattle.cell_state.specs.declared.slots.Slot.{Slot}
 use Rattle.cell_state.specs.declared.slots.Slot.TheVariants.{Live, Spent, Added, Gone}
 use Rattle.cell_state.proofs.EventLemmas.{slice_get-append}
@@ -66,64 +66,21 @@ pub row-after : (place : ℕ) (events : List Event) (rows : OutPoint → Option 
 unfolding row_after
 row-after place events rows o = refl
 
--- ---- Events that fit
+-- ---- What is live
 
-fit-there : (place : ℕ) (done : List Event) (event : Event) (rows : OutPoint → Option Row) (count : ℕ) (other : Event) → length done ≤ count
-    → slice_get (done ++ event ∷ []) count ≡ Some other → (count ≡ length done) × (event ≡ other)
-fit-there place done event rows count other behind there =
-    let at-end = sym (slice_get-append done (event ∷ []) count behind) ∙ there in
-    let within = slice_get_within (event ∷ []) (count - length done) other at-end in
-    let same : count ≡ length done = omega (arith, within, behind) in
-    let first : count - length done ≡ 0 = omega (arith, same) in
-    (same, same_Some event other (ap (slice_get (event ∷ [])) (sym first) ∙ at-end))
+-- whether a slot is live by its marks
+live-by_row : (last : Option Event) (slot : Option Slot) → slot ≡ settled (row_before slot)
+    → live_by last (is_live slot) ≡ live_by last (is_some (row_before slot))
+live-by_row None None is = refl
+live-by_row None (Some (Live row)) is = refl
+live-by_row None (Some (Spent row)) is = cc
+live-by_row None (Some Added) is = cc
+live-by_row None (Some Gone) is = cc
+live-by_row (Some (Makes o cell)) slot is = refl
+live-by_row (Some (Spends o)) slot is = refl
 
-slice_get-left : {A : Type 0} (xs ys : List A) (i : ℕ) → i < length xs → slice_get (xs ++ ys) i ≡ slice_get xs i
-slice_get-left [] ys i lt = absurd (omega (arith, lt))
-slice_get-left (x ∷ xs) ys zero lt = refl
-slice_get-left (x ∷ xs) ys (suc i) lt = slice_get-left xs ys i (omega (arith, lt))
-
-fit-front : (place : ℕ) (done : List Event) (event : Event) (rows : OutPoint → Option Row) → AllFit place done rows → (count : ℕ) (other : Event)
-    → slice_get (done ++ event ∷ []) count ≡ Some other → count < length done → Fits (row_after place (take count (done ++ event ∷ [])) rows) other
-fit-front place done event rows fit count other there lt =
-    subst (λ (es : List Event). Fits (row_after place es rows) other) (sym (take-append-le count done (event ∷ []) (omega (arith, lt))))
-    (fit count other (sym (slice_get-left done (event ∷ []) count lt) ∙ there))
-
-fit-back : (place : ℕ) (done : List Event) (event : Event) (rows : OutPoint → Option Row) → Fits (row_after place done rows) event → (count : ℕ) (other : Event)
-    → slice_get (done ++ event ∷ []) count ≡ Some other → length done ≤ count → Fits (row_after place (take count (done ++ event ∷ [])) rows) other
-fit-back place done event rows fits count other there behind =
-    let found = fit-there place done event rows count other behind there in
-    let all : take count (done ++ event ∷ []) ≡ done = ap (λ (n : ℕ). take n (done ++ event ∷ [])) found.0 ∙ take-append_seam done (event ∷ []) in
-    subst (λ (es : List Event). Fits (row_after place es rows) other) (sym all) (subst (λ (e : Event). Fits (row_after place done rows) e) found.1 fits)
-
-pub fit-push : (place : ℕ) (done : List Event) (event : Event) (rows : OutPoint → Option Row) → AllFit place done rows
-    → Fits (row_after place done rows) event → AllFit place (done ++ event ∷ []) rows
-fit-push place done event rows fit fits count other there =
-    ⊎_elim (fit-front place done event rows fit count other there) (fit-back place done event rows fits count other there) (cases_lt count (length done))
-
-pub fit-none : (place : ℕ) (rows : OutPoint → Option Row) → AllFit place [] rows
-fit-none place rows count event there = cc
-
--- whether a slot is live tells whether an event fits
-pub live-by_row : (place : ℕ) (last : Option Event) (slot : Option Slot) → slot ≡ settled (row_before slot)
-    → is_live_by last (is_live slot) ≡ is_some (row_or place (row_before slot) last)
-live-by_row place None None is = refl
-live-by_row place None (Some (Live row)) is = refl
-live-by_row place None (Some (Spent row)) is = cc
-live-by_row place None (Some Added) is = cc
-live-by_row place None (Some Gone) is = cc
-live-by_row place (Some (Makes o cell)) slot is = refl
-live-by_row place (Some (Spends o)) slot is = refl
-
--- what is live after events has a row then
-pub live-after : (place : ℕ) (done : List Event) (old new : StateValue) → AreSettled old → AreMarked done old new
-    → (o : OutPoint) → is_live (at new o) ≡ is_some (row_after place done (rows old) o)
-live-after place done old new settled-before marked o =
-    marked o ∙ live-by_row place (last_naming o done) (at old o) (settled-before o) ∙ ap is_some (sym (row-after place done (rows old) o))
-
-pub none-from : {A : Type 0} (found : Option A) → is_some found ≡ false → found ≡ None
-none-from None is = refl
-none-from (Some x) is = cc
-
-pub is_some-none : {A : Type 0} (found : Option A) → found ≡ None → is_some found ≡ false
-is_some-none None is = refl
-is_some-none (Some x) is = cc
+-- what the marks call live is live after the events
+pub live-marked : (done : List Event) (old new : StateValue) → AreSettled old → AreMarked done old new
+    → (o : OutPoint) → is_live (at new o) ≡ live_after done (are_live (rows old)) o
+unfolding live_after
+live-marked done old new settled-before marked o = marked o ∙ live-by_row (last_naming o done) (at old o) (settled-before o)

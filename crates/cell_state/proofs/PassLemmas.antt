@@ -1,18 +1,22 @@
 -- On the passes over events.
 use Rattle.std.proofs.Common.{◌≡◌, ℕ, ◌+◌, ◌≤◌, Bool, true, false, List, [], ◌∷◌, ◌++◌, Option, Some, None, if◌then◌else◌, refl, sym, ap, ◌∙◌, subst, arith}
+use Rattle.std.specs.Prelude.{not, IsTrue}
+use Rattle.std.proofs.lemmas.Bool.{not_from_false}
 use Rattle.std.proofs.lemmas.List.{append_assoc}
 use Rattle.codec_defs.specs.Schema.{OutPoint}
 use Rattle.cell_defs.specs.Cell.{Cell}
 use Rattle.cell_defs.specs.Events.{Event, Makes, Spends, same_out_point, out_point_of, names, last_naming}
 use Rattle.cell_defs.specs.Row.{Row, row_of, row_or, row_left, row_after}
-use Rattle.cell_state.specs.Fit.{Fits, AllFit, IsFirstOdd}
+use Rattle.cell_state.specs.Fit.{IsFirstOdd}
+use Rattle.cell_defs.specs.Fit.{are_live, live_by, live_after, fits, AllFit}
 use Rattle.cell_state.specs.declared.odd.Odd.TheVariants as odd
 use Rattle.cell_state.specs.Slots.{StateValue, at, rows, row_before, is_live, settled, AreSettled}
-use Rattle.cell_state.specs.Passes.{makes_in, spent_mark, made_mark, is_live_by, AreMarked, unmarked, unmarked_by, settled_made, settled_spent, Settles, HaveRowsAfter}
+use Rattle.cell_state.specs.Passes.{makes_in, spent_mark, made_mark, AreMarked, unmarked, unmarked_by, settled_made, settled_spent, Settles, HaveRowsAfter}
 use Rattle.cell_state.specs.declared.slots.Slot.{Slot}
 use Rattle.cell_state.specs.declared.slots.Slot.TheVariants.{Live, Spent, Added, Gone}
 use Rattle.cell_state.proofs.SlotLemmas.{at-each}
-use Rattle.cell_state.proofs.NamingLemmas.{last-push, naming-nil, unnamed-front, row-after, fit-none, fit-push, live-after, none-from, is_some-none}
+use Rattle.cell_state.proofs.NamingLemmas.{last-push, naming-nil, unnamed-front, row-after, live-marked}
+use Rattle.cell_laws.proofs.FitLemmas.{fit-none, fit-push}
 
 -- one more event is done
 parts-push : (all done : List Event) (event : Event) (left : List Event) → done ++ event ∷ left ≡ all → (done ++ event ∷ []) ++ left ≡ all
@@ -180,17 +184,17 @@ pub record Marking (all left : List Event) (old new : StateValue) : Type 0 where
   pub marked : AreMarked done old new
   pub before : (o : OutPoint) → rows new o ≡ rows old o
   pub unnamed : (o : OutPoint) → last_naming o done ≡ None → at new o ≡ at old o
-  pub fit : (place : ℕ) → AllFit place done (rows old)
+  pub fit : AllFit done (are_live (rows old))
   pub spare : old.spare + makes_in left ≤ new.spare + makes_in all
 
 pub marking-none : (all : List Event) (old : StateValue) → Marking all all old old
 marking-none all old = record {
   done = [];
   parts = refl;
-  marked = λ o. ap (λ (last : Option Event). is_live_by last (is_live (at old o))) (sym (naming-nil o));
+  marked = λ o. ap (λ (last : Option Event). live_by last (is_live (at old o))) (sym (naming-nil o));
   before = λ o. refl;
   unnamed = λ o is. refl;
-  fit = λ place. fit-none place (rows old);
+  fit = fit-none (are_live (rows old));
   spare = omega arith;
 }
 
@@ -227,17 +231,17 @@ some-none event is = cc
 
 pub marking-push : (all : List Event) (event : Event) (left : List Event) (old now new : StateValue) (f : Option Slot → Option Slot)
     → ((slot : Option Slot) → row_before (f slot) ≡ row_before slot)
-    → ((slot : Option Slot) (was : Bool) → is_live (f slot) ≡ is_live_by (Some event) was)
-    → (so : Marking all (event ∷ left) old now) → Changes f event now new → ((place : ℕ) → Fits (row_after place so.done (rows old)) event)
+    → ((slot : Option Slot) (was : Bool) → is_live (f slot) ≡ live_by (Some event) was)
+    → (so : Marking all (event ∷ left) old now) → Changes f event now new → IsTrue (fits (live_after so.done (are_live (rows old))) event)
     → old.spare + makes_in left ≤ new.spare + makes_in all → Marking all left old new
-marking-push all event left old now new f before live so changes fits spare = record {
+marking-push all event left old now new f before live so changes fits_next spare = record {
   done = so.done ++ event ∷ [];
   parts = parts-push all so.done event left so.parts;
-  marked = λ o. push-at (λ last slot. is_live slot ≡ is_live_by last (is_live (at old o))) f so.done event now new o changes (so.marked o)
+  marked = λ o. push-at (λ last slot. is_live slot ≡ live_by last (is_live (at old o))) f so.done event now new o changes (so.marked o)
       (λ is. live (at now o) (is_live (at old o)));
   before = λ o. push-at (λ last slot. row_before slot ≡ rows old o) f so.done event now new o changes (so.before o) (λ is. before (at now o) ∙ is);
   unnamed = λ o. push-at (λ last slot. last ≡ None → slot ≡ at old o) f so.done event now new o changes (so.unnamed o) (λ is none. absurd (some-none event none));
-  fit = λ place. fit-push place so.done event (rows old) (so.fit place) (fits place);
+  fit = fit-push so.done event (are_live (rows old)) so.fit fits_next;
   spare = spare;
 }
 
@@ -246,7 +250,7 @@ pub marking-made : (all : List Event) (o : OutPoint) (cell : Cell) (left : List 
     → Marking all left old new
 marking-made all o cell left old now new settled-before so free changes spare =
     marking-push all (Makes o cell) left old now new made_mark made_mark-before (λ slot was. made_mark-live slot) so changes
-    (λ place. none-from (row_after place so.done (rows old) o) (sym (live-after place so.done old now settled-before so.marked o) ∙ free))
+    (not_from_false (live_after so.done (are_live (rows old)) o) (sym (live-marked so.done old now settled-before so.marked o) ∙ free))
     (omega (arith, so.spare, spare))
 
 pub marking-spent : (all : List Event) (o : OutPoint) (left : List Event) (old now new : StateValue) → AreSettled old
@@ -254,34 +258,33 @@ pub marking-spent : (all : List Event) (o : OutPoint) (left : List Event) (old n
     → Marking all left old new
 marking-spent all o left old now new settled-before so there changes spare =
     marking-push all (Spends o) left old now new spent_mark spent_mark-before (λ slot was. spent_mark-live slot) so changes
-    (λ place. sym (live-after place so.done old now settled-before so.marked o) ∙ there)
+    (sym (live-marked so.done old now settled-before so.marked o) ∙ there)
     (omega (arith, so.spare, spare))
 
 pub true-false : (b : Bool) → b ≡ true → b ≡ false → ⊥
 true-false b is not = cc
 
 pub odd-made : (all : List Event) (o : OutPoint) (cell : Cell) (left : List Event) (old now : StateValue) → AreSettled old
-    → Marking all (Makes o cell ∷ left) old now → is_live (at now o) ≡ true → (place : ℕ) → IsFirstOdd place all (rows old) (odd.Live o)
-odd-made all o cell left old now settled-before so live place = record {
+    → Marking all (Makes o cell ∷ left) old now → is_live (at now o) ≡ true → IsFirstOdd all (are_live (rows old)) (odd.Live o)
+odd-made all o cell left old now settled-before so live = record {
   earlier = so.done;
   event = Makes o cell;
   later = left;
   parts = sym so.parts;
-  fit = so.fit place;
-  unfit = λ none. true-false (is_live (at now o)) live
-      (live-after place so.done old now settled-before so.marked o ∙ is_some-none (row_after place so.done (rows old) o) none);
+  fit = so.fit;
+  unfit = ap not (sym (live-marked so.done old now settled-before so.marked o) ∙ live);
   cause = refl;
 }
 
 pub odd-spent : (all : List Event) (o : OutPoint) (left : List Event) (old now : StateValue) → AreSettled old
-    → Marking all (Spends o ∷ left) old now → is_live (at now o) ≡ false → (place : ℕ) → IsFirstOdd place all (rows old) (odd.NotLive o)
-odd-spent all o left old now settled-before so gone place = record {
+    → Marking all (Spends o ∷ left) old now → is_live (at now o) ≡ false → IsFirstOdd all (are_live (rows old)) (odd.NotLive o)
+odd-spent all o left old now settled-before so gone = record {
   earlier = so.done;
   event = Spends o;
   later = left;
   parts = sym so.parts;
-  fit = so.fit place;
-  unfit = λ some. true-false (is_live (at now o)) (live-after place so.done old now settled-before so.marked o ∙ some) gone;
+  fit = so.fit;
+  unfit = sym (live-marked so.done old now settled-before so.marked o) ∙ gone;
   cause = refl;
 }
 

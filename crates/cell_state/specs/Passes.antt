@@ -3,6 +3,7 @@ use Rattle.std.specs.Prelude.{◌≡◌, ℕ, suc, Bool, true, false, List, [], 
 use Rattle.codec_defs.specs.Schema.{OutPoint}
 use Rattle.cell_defs.specs.Cell.{Cell}
 use Rattle.cell_defs.specs.Events.{Event, Makes, Spends, last_naming}
+use Rattle.cell_defs.specs.Fit.{live_by}
 use Rattle.cell_defs.specs.Row.{Row, row_of, row_after}
 use Rattle.cell_state.specs.declared.slots.Slot.{Slot}
 use Rattle.cell_state.specs.declared.slots.Slot.TheVariants.{Live, Spent, Added, Gone}
@@ -30,15 +31,9 @@ made_mark (Some (Spent row)) = Some (Live row)
 made_mark (Some Added) = Some Added
 made_mark (Some Gone) = Some Added
 
--- whether a cell is live, by the last event that names its out-point
-abbrev pub is_live_by : Option Event → Bool → Bool
-is_live_by None before = before
-is_live_by (Some (Makes o cell)) before = true
-is_live_by (Some (Spends o)) before = false
-
 -- After events the slots say what is live, and keep the rows from before.
 abbrev pub AreMarked : List Event → StateValue → StateValue → Type 0
-AreMarked events old new = (o : OutPoint) → is_live (at new o) ≡ is_live_by (last_naming o events) (is_live (at old o))
+AreMarked events old new = (o : OutPoint) → is_live (at new o) ≡ live_by (last_naming o events) (is_live (at old o))
 
 abbrev pub unmarked : Option Slot → Option Slot
 unmarked slot = settled (row_before slot)

@@ -5,7 +5,8 @@ ghost use Rattle.std.specs.Prelude.{◌≡◌, ◌≤◌, ◌+◌, ◌<◌, ℕ,
 ghost use Rattle.codec_defs.specs.Schema as schema;
 ghost use Rattle.cell_defs.specs.Events.{same_out_point, last_naming};
 ghost use Rattle.cell_defs.specs.Row.{Row, row_of};
-ghost use Rattle.cell_state.specs.Fit.{AllFit, IsFirstOdd};
+ghost use Rattle.cell_state.specs.Fit.{IsFirstOdd};
+ghost use Rattle.cell_defs.specs.Fit.{are_live, AllFit};
 ghost use Rattle.cell_state.specs.declared.odd.Odd.TheVariants.{NotLive, Live};
 ghost use Rattle.cell_state.specs.Slots.{at, rows, is_live, AreSettled};
 ghost use Rattle.cell_state.specs.Walk.{made_cell};
@@ -67,9 +68,9 @@ impl Slots {
     pub(crate) fn mark(&mut self, mut events: Events<'_, '_>) -> Result<(), Odd>
         requires settled { AreSettled self.old }
         requires spare { makes_in events ≤ self.old.spare }
-        ensures fit { OnOk result ((place : ℕ) → AllFit place events.entry (rows self.old)) }
+        ensures fit { OnOk result (AllFit events.entry (are_live (rows self.old))) }
         ensures marked { OnOk result (AreMarked events.entry self.old self.new) }
-        ensures odd { (place : ℕ) → IfErr result (IsFirstOdd place events.entry (rows self.old)) }
+        ensures odd { IfErr result (IsFirstOdd events.entry (are_live (rows self.old))) }
         ensures before { (o : schema.OutPoint) → rows self.new o ≡ rows self.old o }
         ensures unnamed { (o : schema.OutPoint) → last_naming o events.entry ≡ None → at self.new o ≡ at self.old o }
         ensures spare { self.old.spare ≤ self.new.spare + makes_in events.entry }

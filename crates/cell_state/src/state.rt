@@ -3,7 +3,8 @@ ghost use Rattle.std.specs.Prelude.{◌≡◌, ◌≤◌, ◌<◌, ◌+◌, ◌^
 ghost use Rattle.codec_defs.specs.Schema as schema;
 ghost use Rattle.cell_defs.specs.Events.{events_of_block, same_out_point};
 ghost use Rattle.cell_defs.specs.Row.{Row, row_after, ListsRows};
-ghost use Rattle.cell_state.specs.Fit.{AllFit, IsFirstOdd};
+ghost use Rattle.cell_state.specs.Fit.{IsFirstOdd};
+ghost use Rattle.cell_defs.specs.Fit.{are_live, AllFit};
 ghost use Rattle.cell_state.specs.State.{Grows, rows, count, outputs_of};
 
 use crate::events::{Events, hash_at};
@@ -88,8 +89,8 @@ impl State {
         requires { outputs_of block.now ≤ self.old.spare }
         ensures rows { OnOk result ((height : ℕ) (o : schema.OutPoint) → 0 < height
             → rows self.new o ≡ row_after e (events_of_block height block.now) (rows self.old) o) }
-        ensures fit { OnOk result ((height : ℕ) → 0 < height → AllFit e (events_of_block height block.now) (rows self.old)) }
-        ensures odd { (height : ℕ) → 0 < height → IfErr result (IsFirstOdd e (events_of_block height block.now) (rows self.old)) }
+        ensures fit { OnOk result ((height : ℕ) → 0 < height → AllFit (events_of_block height block.now) (are_live (rows self.old))) }
+        ensures odd { (height : ℕ) → 0 < height → IfErr result (IsFirstOdd (events_of_block height block.now) (are_live (rows self.old))) }
         ensures unchanged { OnErr result ((o : schema.OutPoint) → rows self.new o ≡ rows self.old o) }
         ensures spare { self.old.spare ≤ self.new.spare + outputs_of block.now }
         ensures steps { steps.new ≡ steps.old + 1 }

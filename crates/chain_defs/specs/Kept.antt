@@ -1,10 +1,10 @@
 -- The kept blocks of a chain, genesis first, in the order in which they joined. A block is named by its place in this list.
-use Rattle.std.specs.Prelude.{◌≡◌, ℕ, suc, ◌+◌, ◌<◌, List, [], ◌∷◌, take, Option, Some, None, if◌then◌else◌, slice_get}
+use Rattle.std.specs.Prelude.{◌≡◌, ◌==◌, Bool, false, ℕ, suc, ◌+◌, ◌<◌, List, [], ◌∷◌, take, Option, Some, None, if◌then◌else◌, slice_get}
 use Rattle.std.specs.Option.{option_map, option_and_then}
 use Rattle.std.specs.Str.{bytes_eq}
 use Rattle.hash_defs.specs.CkbHash.{ckbhash}
-use Rattle.codec_defs.specs.Shape.{encoded}
-use Rattle.codec_defs.specs.Schema.{Header, header, Block}
+use Rattle.codec_defs.specs.Shape.{encoded, decoded}
+use Rattle.codec_defs.specs.Schema.{Header, header, Block, block}
 
 -- The hash of a header is that of its 208 bytes (RFC 0027).
 unfoldable pub header_hash : Header → List ℕ
@@ -26,6 +26,23 @@ block_at kept place = slice_get kept place
 -- the place of the parent of the block at a place: of the earlier block that it names. A genesis has none.
 abbrev pub parent_place : List Block → ℕ → Option ℕ
 parent_place kept place = option_and_then (λ block. place_of (take place kept) block.header.parent_hash) (block_at kept place)
+
+-- the most kept blocks, genesis included (docs/COMMANDS.md, "The text")
+unfoldable pub kept_limit : ℕ
+kept_limit = 1000000
+
+abbrev pub block_list : Option Block → List Block
+block_list None = []
+block_list (Some b) = b ∷ []
+
+-- the block of an item, alone, if it is one
+abbrev pub blocks_of_item : List ℕ → List Block
+blocks_of_item item = block_list (decoded block item)
+
+-- The number of a block is its parent's plus 1 (RFC 0027, "number").
+abbrev pub follows : Block → Option Block → Bool
+follows b None = false
+follows b (Some parent) = b.header.number == parent.header.number + 1
 
 -- A block stands on an earlier one: it names its hash, and its number is that one's plus 1.
 pub record StandsOn (earlier : List Block) (block : Block) : Type 0 where

@@ -1,7 +1,8 @@
 -- Entries that stand for kept blocks, each at its block's place.
-use Rattle.std.specs.Prelude.{◌≡◌, ℕ, ◌<◌, List, Some, IfSome}
+use Rattle.std.specs.Prelude.{◌≡◌, ℕ, ◌<◌, List, Some, IfSome, IsTrue}
 use Rattle.std.specs.List.{AllZip}
 use Rattle.codec_defs.specs.Schema.{Block}
+use Rattle.time_defs.specs.Dao.{is_rated}
 use Rattle.chain_defs.specs.Kept.{block_hash, block_at, parent_place, IsKept}
 use Rattle.chain_tree.specs.declared.entry.Entry.{Entry}
 use Rattle.chain_tree.specs.Entries.{entry_at}
@@ -19,3 +20,7 @@ pub record IndexesBlocks (kept : List Block) (entries : List Entry) : Type 0 whe
   pub genesis : IfSome (block_at kept 0) (λ block. block.header.number ≡ 0)
   pub each : AllZip Describes kept entries
   pub parents : (place : ℕ) (entry : Entry) → 0 < place → entry_at entries place ≡ Some entry → parent_place kept place ≡ Some entry.parent
+
+-- The DAO field of each entry is rated.
+abbrev pub AreRated : List Entry → Type 0
+AreRated entries = (place : ℕ) (entry : Entry) → entry_at entries place ≡ Some entry → IsTrue (is_rated entry.dao)

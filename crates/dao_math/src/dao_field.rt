@@ -2,6 +2,7 @@
 
 ghost use Rattle.std.specs.Prelude.{◌≡◌, length};
 ghost use Rattle.std.specs.Int.{w64, to_le_bytes, from_le_bytes};
+ghost use Rattle.time_defs.specs.Dao as dao;
 ghost use Rattle.time_defs.specs.Dao.{field_bytes, field_of_bytes};
 
 use std::marker::Model;
@@ -57,6 +58,14 @@ impl Dao {
         bytes[24..32].copy_from_slice(&u.to_le_bytes());
         bytes
     }
+}
+
+/// Whether the C and the AR of the field that the bytes hold are above 0.
+pub fn is_rated(b: &[u8; 32]) -> bool
+    ensures { result ≡ dao.is_rated b.now }
+{
+    let field = Dao::read(b);
+    0 < field.c && 0 < field.ar
 }
 
 fn u64_of(bytes: &[u8]) -> u64

@@ -7,12 +7,12 @@ use Rattle.std.proofs.lemmas.Option.{slice_get_within}
 use Rattle.codec_defs.specs.Schema.{Block}
 use Rattle.fold_defs.specs.First.{first_failing}
 use Rattle.fold_defs.proofs.FirstLemmas.{first_failing-fails, first_failing-holds, first_failing-none}
-use Rattle.chain_defs.specs.Kept.{block_at}
+use Rattle.chain_defs.specs.Kept.{block_at, follows}
 use Rattle.chain_defs.specs.Branch.{branch}
 use Rattle.chain_defs.proofs.BranchLaws.{branch-last}
 use Rattle.chain_tree.specs.declared.entry.Entry.{Entry}
 use Rattle.chain_tree.specs.Blocks.{Describes}
-use Rattle.rule_defs.specs.Header.{follows, parent_of}
+use Rattle.rule_defs.specs.Header.{parent_of}
 
 -- a number is the one after another, where that one has one after it
 next-is : (sum : Option ℕ) (parent own most : ℕ) → own < most → SomeIff sum (parent + 1 < most) (parent + 1)

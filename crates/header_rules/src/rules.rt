@@ -4,6 +4,7 @@ ghost use Rattle.codec_defs.specs.Schema.{Block};
 ghost use Rattle.fold_defs.specs.First.{first_failing};
 ghost use Rattle.chain_defs.specs.Branch.{branch};
 ghost use Rattle.chain_tree.specs.Blocks.{IndexesBlocks};
+ghost use Rattle.chain_defs.specs.Kept as chain;
 ghost use Rattle.rule_defs.specs.Header as rules;
 
 use chain_tree::Tree;
@@ -21,7 +22,7 @@ fn has_version(header: &HeaderView<'_>) -> bool
 fn follows(tree: &Tree, parent: u32, header: &HeaderView<'_>) -> bool
     requires { parent < length tree.now.entries }
     ensures of_blocks { (kept : List Block) (b : Block) → IndexesBlocks kept tree.now.entries → header.now ≡ b.header
-        → result ≡ rules.follows b (rules.parent_of (branch kept parent)) }
+        → result ≡ chain.follows b (rules.parent_of (branch kept parent)) }
 {
     tree.entry(parent).number.checked_add(1) == Some(header.number())
 }

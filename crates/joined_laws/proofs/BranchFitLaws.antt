@@ -5,21 +5,17 @@ use Rattle.std.specs.Prelude.{slice_get}
 use Rattle.std.specs.Option.{option_and_then}
 use Rattle.std.proofs.lemmas.List.{length_push, length-take-le, take-append-drop}
 use Rattle.std.proofs.lemmas.Option.{slice_get_within, same_Some}
-use Rattle.codec_defs.specs.Schema.{OutPoint, Block}
+use Rattle.codec_defs.specs.Schema.{Block}
 use Rattle.chain_defs.specs.Kept.{place_of, parent_place}
 use Rattle.chain_defs.specs.Branch.{places_within, branch_places, branch}
 use Rattle.chain_defs.proofs.KeptLaws.{slice_get-before, slice_get-push, slice_get-pushed}
 use Rattle.chain_defs.proofs.BranchLaws.{places_on, places_within-enough, parent_place-below}
-use Rattle.cell_defs.specs.Events.{events_of_block}
-use Rattle.cell_defs.specs.Row.{live_row}
+use Rattle.cell_defs.specs.Events.{events_of_block, live_cell}
 use Rattle.cell_laws.proofs.JoinLemmas.{length-branch}
-use Rattle.cell_state.specs.Fit.{AllFit}
-use Rattle.replay.proofs.RowLemmas.{live_row-front}
-use Rattle.replay.proofs.FitLemmas.{all-same}
+use Rattle.cell_defs.specs.Fit.{are_live, AllFit}
 use Rattle.verdict_defs.specs.Laws.{MayJoin}
 use Rattle.verdict_defs.proofs.VerdictLaws.{branch-more}
 use Rattle.joined_laws.specs.Laws.{WhatJoinsFits, BranchesFit}
-use Rattle.joined_laws.proofs.KeptLemmas.{joined-before}
 
 -- ---- Along a branch
 
@@ -93,11 +89,10 @@ link-of kept end height parent place here next = links-within (suc end) kept end
 
 pub branches-fit : WhatJoinsFits → BranchesFit
 branches-fit fits chain end joined below height parent place b here next there =
-    all-same place (events_of_block (height + 1) b) (live_row before parent) (live_row chain.blocks parent) live_same
-    (subst (λ (p : ℕ). AllFit place (events_of_block (height + 1) b) (live_row before p)) same
-    (subst (λ (h : ℕ). AllFit place (events_of_block h b) (live_row before may.parent)) height_is
-    (subst (λ (n : ℕ). AllFit n (events_of_block (length (branch before may.parent)) b) (live_row before may.parent)) long
-    (fits (record { spec = chain.spec; blocks = before }) b (joined-before chain place joined above (omega (arith, within))) may))))
+    subst (λ (on : List Block). AllFit (events_of_block (height + 1) b) (are_live (live_cell on))) (sym branch_same)
+    (subst (λ (p : ℕ). AllFit (events_of_block (height + 1) b) (are_live (live_cell (branch before p)))) same
+    (subst (λ (h : ℕ). AllFit (events_of_block h b) (are_live (live_cell (branch before may.parent)))) height_is
+    (fits (record { spec = chain.spec; blocks = before }) b may)))
   where
     before : List Block
     before = take place chain.blocks
@@ -138,6 +133,3 @@ branches-fit fits chain end joined below height parent place b here next there =
     height_is =
         ap (λ (p : ℕ). length (branch before p)) same ∙ ap length (sym branch_same)
         ∙ length-branch chain.blocks parent (omega (arith, low, within)) ∙ link.long
-
-    live_same : (o : OutPoint) → live_row chain.blocks parent o ≡ live_row before parent o
-    live_same o = ap (λ (blocks : List Block). live_row blocks parent o) (sym parts) ∙ live_row-front before (drop place chain.blocks) parent o under

@@ -1,47 +1,31 @@
 -- The events of a block that may join fit the cells that are live on its parent's branch.
-use Rattle.std.proofs.Common.{◌≡◌, ℕ, suc, ◌+◌, Bool, true, List, [], ◌∷◌, ◌++◌, map, length, take, drop, Option, None, refl, sym, ap, ◌∙◌, subst, arith}
+use Rattle.std.proofs.Common.{◌≡◌, ℕ, suc, ◌+◌, Bool, true, false, cond, List, [], ◌∷◌, ◌++◌, map, length, take, drop, Option, None, refl, sym, ap, ◌∙◌, subst, arith}
 use Rattle.std.specs.Prelude.{◌&&◌, not, IsTrue, is_some}
 use Rattle.std.specs.List.{list_any}
 use Rattle.std.proofs.lemmas.Bool.{and_parts, not-true}
 use Rattle.std.proofs.lemmas.List.{append-nil, append_assoc, length_push, take_at}
-use Rattle.std.proofs.lemmas.List.Elements.{All-nil, All-cons, All-head, All-tail}
+use Rattle.std.proofs.lemmas.List.Elements.{All-head}
 use Rattle.codec_defs.specs.Shape.{encoded}
 use Rattle.codec_defs.specs.Schema.{OutPoint, out_point, CellInput, Transaction, Block}
 use Rattle.fold_defs.specs.First.{AllHold}
-use Rattle.fold_defs.proofs.FirstLemmas.{finds_none}
 use Rattle.chain_defs.specs.Hashes.{are_distinct}
 use Rattle.chain_defs.specs.Branch.{branch}
 use Rattle.time_defs.specs.Specification.{Specification}
-use Rattle.cell_defs.specs.Cell.{Cell}
-use Rattle.cell_defs.specs.Events.{Event, events_of, events_from, events_of_block, events, cell_after, live_cell}
-use Rattle.tx_defs.specs.Site.{Site}
+use Rattle.cell_defs.specs.Cell.{Cell, outputs_hold_their_own}
+use Rattle.cell_defs.specs.Events.{Event, made_out_points, events_of, events_from, events_of_block, events, cell_after, live_cell}
+use Rattle.tx_defs.specs.Site.{Site, site_at, find_cell, all_there}
 use Rattle.tx_defs.specs.Rules.{form_rules, cell_rules}
 use Rattle.tx_defs.specs.Resolving.{spends_live_cells, spends_each_once, input_cells}
-use Rattle.tx_defs.specs.Capacity.{makes_good_cells, outputs_hold_their_own, made_out_points}
+use Rattle.tx_defs.specs.Capacity.{makes_good_cells}
 use Rattle.script_defs.specs.Scene.{scene_of}
 use Rattle.script_defs.specs.Rules.{script_rules}
-use Rattle.rule_defs.specs.Header.{header_rules}
-use Rattle.rule_defs.specs.Body.{body_rules}
-use Rattle.block_defs.specs.Cellbase.{forms_cellbase, is_first_well_formed, is_well_formed_cellbase, names_lock}
-use Rattle.block_defs.specs.Transactions.{site_at, is_proposed, transaction_rules, left_after, rules_from, rules_of_transactions}
-use Rattle.block_defs.specs.Rules.{all_rules, first_broken, family_rules, end_rules}
+use Rattle.family_defs.specs.Cellbase.{forms_cellbase, is_first_well_formed, is_well_formed_cellbase, names_lock}
+use Rattle.block_defs.specs.Transactions.{is_proposed, transaction_rules, left_after, rules_from}
+use Rattle.block_defs.specs.Rules.{first_broken}
 use Rattle.joined_laws.specs.Laws.{WhatJoinsFits}
+use Rattle.joined_laws.proofs.RuleLemmas.{holds-front, holds-behind, forms-unbroken, transactions-unbroken}
 use Rattle.joined_laws.proofs.EventFit.{FitAfter, FitAfter-append, all-fit}
 use Rattle.joined_laws.proofs.TransactionFit.{AllLive, all-live, NoneMade, transaction-fits, cellbase-fits}
-
--- ---- Rules that hold
-
--- rules that all hold, in front
-hold-left : (earlier later : List (ℕ × Bool)) → AllHold (earlier ++ later) → AllHold earlier
-hold-left [] later hold = All-nil (λ rule. IsTrue rule.1)
-hold-left (rule ∷ earlier) later hold =
-    All-cons (λ rule. IsTrue rule.1) rule earlier (All-head (λ rule. IsTrue rule.1) rule (earlier ++ later) hold)
-    (hold-left earlier later (All-tail (λ rule. IsTrue rule.1) rule (earlier ++ later) hold))
-
--- and behind
-hold-right : (earlier later : List (ℕ × Bool)) → AllHold (earlier ++ later) → AllHold later
-hold-right [] later hold = hold
-hold-right (rule ∷ earlier) later hold = hold-right earlier later (All-tail (λ rule. IsTrue rule.1) rule (earlier ++ later) hold)
 
 -- ---- What two of the rules on a transaction say
 
@@ -54,25 +38,27 @@ record Fitting (cell : OutPoint → Option Cell) (t : Transaction) : Type 0 wher
 -- J20 and J25 say so.
 fitting : (site : Site) (t : Transaction) → IsTrue (spends_live_cells site t) → IsTrue (makes_good_cells site t) → Fitting site.cell t
 unfolding input_cells
-fitting site t spends makes =
-    let parts = and_parts (is_some (input_cells site t)) (spends_each_once t) spends in
-    let made = and_parts (outputs_hold_their_own t) (not (list_any (λ o. is_some (site.cell o)) (made_out_points t))) makes in
-    record {
-      live = all-live site t.raw.inputs parts.0;
-      distinct = parts.1;
-      none = not-true (list_any (λ o. is_some (site.cell o)) (made_out_points t)) made.1;
-    }
+fitting site t spends makes = by_once (spends_each_once t) refl spends
+  where
+    none : NoneMade site.cell t
+    none = not-true (list_any (λ o. is_some (site.cell o)) (made_out_points t))
+        (and_parts (outputs_hold_their_own t) (not (list_any (λ o. is_some (site.cell o)) (made_out_points t))) makes).1
+
+    by_once : (once : Bool) → spends_each_once t ≡ once
+        → IsTrue (is_some (cond once (all_there (map (λ (input : CellInput). find_cell site input.previous_output) t.raw.inputs)) None)) → Fitting site.cell t
+    by_once true is some = record { live = all-live site t.raw.inputs some; distinct = is; none = none }
+    by_once false is some = absurd (cc)
 
 -- the rows of J20 and of J25 among those on a transaction
 fitting-rules : (site : Site) (left : ℕ) (t : Transaction) → AllHold (transaction_rules site left t) → Fitting site.cell t
 fitting-rules site left t hold = fitting site t
     (All-head (λ rule. IsTrue rule.1) (20, spends_live_cells site t) (drop 1 (cell_rules site t)) cells)
     (All-head (λ rule. IsTrue rule.1) (25, makes_good_cells site t) (drop 6 (cell_rules site t))
-    (hold-right (take 5 (cell_rules site t)) (drop 5 (cell_rules site t)) cells))
+    (holds-behind (take 5 (cell_rules site t)) (drop 5 (cell_rules site t)) cells))
   where
     cells : AllHold (cell_rules site t)
-    cells = hold-left (cell_rules site t) (script_rules (scene_of site t) left)
-        (hold-right (form_rules t ++ (19, is_proposed site.spec site.branch t) ∷ []) (cell_rules site t ++ script_rules (scene_of site t) left) hold)
+    cells = holds-front (cell_rules site t) (script_rules (scene_of site t) left)
+        (holds-behind (form_rules t ++ (19, is_proposed site.spec site.branch t) ∷ []) (cell_rules site t ++ script_rules (scene_of site t) left) hold)
 
 -- ---- One transaction after the other
 
@@ -100,7 +86,7 @@ transactions-fit spec on b place left earlier (t ∷ later) parts long hold =
     (transactions-fit spec on b (place + 1) (left_after site left t) (earlier ++ t ∷ []) later (parts ∙ sym (append_assoc earlier (t ∷ []) later))
     (length_push earlier t ∙ ap (λ (n : ℕ). n + 1) long)
     (subst (λ (n : ℕ). AllHold (rules_from spec on b n (left_after site left t) later)) next
-    (hold-right (transaction_rules site left t) (rules_from spec on b (suc place) (left_after site left t) later) hold))))
+    (holds-behind (transaction_rules site left t) (rules_from spec on b (suc place) (left_after site left t) later) hold))))
   where
     height : ℕ
     height = length on
@@ -116,7 +102,7 @@ transactions-fit spec on b place left earlier (t ∷ later) parts long hold =
 
     fit : Fitting (cell_after (events on ++ events_from 0 earlier (length on))) t
     fit = subst (λ (front : List Transaction). Fitting (cell_after (events on ++ events_from 0 front (length on))) t) before
-        (fitting-rules site left t (hold-left (transaction_rules site left t) (rules_from spec on b (suc place) (left_after site left t) later) hold))
+        (fitting-rules site left t (holds-front (transaction_rules site left t) (rules_from spec on b (suc place) (left_after site left t) later) hold))
 
     more : events on ++ events_from 0 (earlier ++ t ∷ []) (length on) ≡ (events on ++ events_from 0 earlier (length on)) ++ events_of t (length on) place
     more = ap (λ (behind : List Event). events on ++ behind) (events_from-push 0 earlier t (length on)
@@ -136,34 +122,23 @@ cellbase-makes live number first formed =
     not-true (list_any (λ o. is_some (live o)) (made_out_points first)) (and_parts _ none parts.0).1
 
 -- The events of a block that breaks no rule fit the cells that are live on its branch.
-block-fits : (spec : Specification) (on : List Block) (b : Block) → first_broken spec on b ≡ None → FitAfter (events on) (events_of_block (length on) b)
-unfolding first_broken all_rules events_of_block forms_cellbase
+pub block-fits : (spec : Specification) (on : List Block) (b : Block) → first_broken spec on b ≡ None → FitAfter (events on) (events_of_block (length on) b)
+unfolding events_of_block forms_cellbase
 block-fits spec on b unbroken = by_list b.transactions refl
   where
-    behind : AllHold (family_rules spec on b ++ (rules_of_transactions spec on b ++ end_rules b))
-    behind = hold-right (body_rules spec b) (family_rules spec on b ++ (rules_of_transactions spec on b ++ end_rules b))
-        (hold-right (header_rules spec on b) (body_rules spec b ++ (family_rules spec on b ++ (rules_of_transactions spec on b ++ end_rules b)))
-        ((finds_none (all_rules spec on b)).0 unbroken))
-
-    formed : IsTrue (forms_cellbase (live_cell on) b)
-    formed = All-head (λ rule. IsTrue rule.1) (17, forms_cellbase (live_cell on) b) (rules_of_transactions spec on b ++ end_rules b)
-        (hold-right (take 2 (family_rules spec on b)) (drop 2 (family_rules spec on b) ++ (rules_of_transactions spec on b ++ end_rules b)) behind)
-
-    kept : AllHold (rules_of_transactions spec on b)
-    kept = hold-left (rules_of_transactions spec on b) (end_rules b) (hold-right (family_rules spec on b) (rules_of_transactions spec on b ++ end_rules b) behind)
-
     by_list : (transactions : List Transaction) → b.transactions ≡ transactions → FitAfter (events on) (events_from 0 transactions (length on))
     by_list [] is = tt
     by_list (first ∷ later) is =
         FitAfter-append (events on) (events_of first (length on) 0) (events_from 1 later (length on))
         (cellbase-fits (events on) first (length on) (cellbase-makes (live_cell on) b.header.number first
-        (sym (ap (is_first_well_formed (live_cell on) b.header.number) is) ∙ formed)))
+        (sym (ap (is_first_well_formed (live_cell on) b.header.number) is) ∙ forms-unbroken spec on b unbroken)))
         (subst (λ (front : List Event). FitAfter (events on ++ front) (events_from 1 later (length on))) (append-nil (events_of first (length on) 0))
         (transactions-fit spec on b 1 spec.max_cycles (first ∷ []) later is refl
-        (subst (λ (transactions : List Transaction). AllHold (rules_from spec on b 1 spec.max_cycles (drop 1 transactions))) is kept)))
+        (subst (λ (transactions : List Transaction). AllHold (rules_from spec on b 1 spec.max_cycles (drop 1 transactions))) is
+        (transactions-unbroken spec on b unbroken))))
 
 -- Each rule looks at the cells that are live just before: so no more of the chain is needed than that the block breaks none.
 pub what-joins-fits : WhatJoinsFits
-what-joins-fits chain b joined may =
-    all-fit chain.blocks may.parent (length chain.blocks) (events_of_block (length (branch chain.blocks may.parent)) b)
+what-joins-fits chain b may =
+    all-fit (events (branch chain.blocks may.parent)) (events_of_block (length (branch chain.blocks may.parent)) b)
     (block-fits chain.spec (branch chain.blocks may.parent) b may.unbroken)

@@ -1,8 +1,10 @@
 pub mod RuleLemmas
 pub mod KeptLemmas
-pub mod RatedLaws
-pub mod TypedLaws
 pub mod EventFit
 pub mod TransactionFit
 pub mod FitLaws
+pub mod EventsFitLaws
 pub mod BranchFitLaws
+pub mod HeaderLaws
+pub mod UncleLaws
+pub mod TypedLaws

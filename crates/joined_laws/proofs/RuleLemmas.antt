@@ -9,12 +9,15 @@ use Rattle.fold_defs.specs.First.{first_failing, AllHold}
 use Rattle.fold_defs.proofs.FirstLemmas.{finds_none}
 use Rattle.time_defs.specs.Specification.{Specification}
 use Rattle.cell_defs.specs.Events.{live_cell}
-use Rattle.tx_defs.specs.Site.{Site}
-use Rattle.tx_defs.specs.Capacity.{outputs_hold_their_own, makes_good_cells}
-use Rattle.block_defs.specs.Cellbase.{forms_cellbase}
-use Rattle.block_defs.specs.Transactions.{site_at, transaction_rules, left_after, rules_from, rules_of_transactions}
-use Rattle.block_defs.specs.Rules.{is_rated, end_rules, all_rules, first_broken}
-use Rattle.store_defs.specs.Genesis.{has_issued, all_hold_capacity, genesis_rules}
+use Rattle.tx_defs.specs.Site.{Site, site_at}
+use Rattle.tx_defs.specs.Capacity.{makes_good_cells}
+use Rattle.cell_defs.specs.Cell.{outputs_hold_their_own}
+use Rattle.family_defs.specs.Uncles.{has_uncles}
+use Rattle.family_defs.specs.Cellbase.{forms_cellbase}
+use Rattle.block_defs.specs.Transactions.{transaction_rules, left_after, rules_from, rules_of_transactions}
+use Rattle.block_defs.specs.Rules.{end_rules, all_rules, first_broken}
+use Rattle.time_defs.specs.Dao.{is_rated}
+use Rattle.genesis_defs.specs.Genesis.{is_first, has_no_uncles_or_proposals, has_transactions, all_hold_capacity, genesis_rules}
 
 -- ---- Rows in front and behind
 
@@ -34,6 +37,13 @@ all-hold : (spec : Specification) (branch : List Block) (b : Block) → first_br
 unfolding first_broken
 all-hold spec branch b unbroken = (finds_none (all_rules spec branch b)).0 unbroken
 
+-- J15
+pub uncles-unbroken : (spec : Specification) (branch : List Block) (b : Block) → first_broken spec branch b ≡ None → IsTrue (has_uncles spec branch b)
+unfolding all_rules
+uncles-unbroken spec branch b unbroken =
+    All-head (λ rule. IsTrue rule.1) (15, has_uncles spec branch b) (drop 12 (all_rules spec branch b))
+    (All-drop (λ rule. IsTrue rule.1) 11 (all_rules spec branch b) (all-hold spec branch b unbroken))
+
 -- J17
 pub forms-unbroken : (spec : Specification) (branch : List Block) (b : Block) → first_broken spec branch b ≡ None
     → IsTrue (forms_cellbase (live_cell branch) b)
@@ -48,9 +58,9 @@ unfolding all_rules
 behind-forms spec branch b unbroken = All-drop (λ rule. IsTrue rule.1) 14 (all_rules spec branch b) (all-hold spec branch b unbroken)
 
 -- J32
-pub rated-unbroken : (spec : Specification) (branch : List Block) (b : Block) → first_broken spec branch b ≡ None → IsTrue (is_rated b)
+pub rated-unbroken : (spec : Specification) (branch : List Block) (b : Block) → first_broken spec branch b ≡ None → IsTrue (is_rated b.header.dao)
 rated-unbroken spec branch b unbroken =
-    All-head (λ rule. IsTrue rule.1) (32, is_rated b) []
+    All-head (λ rule. IsTrue rule.1) (32, is_rated b.header.dao) []
     (holds-behind (rules_of_transactions spec branch b) (end_rules b) (behind-forms spec branch b unbroken))
 
 -- the rules on all its transactions behind the first
@@ -86,14 +96,33 @@ hold-from spec branch b place left (first ∷ later) (suc i) t hold there =
 
 -- ---- A genesis
 
+genesis-rule : (genesis : Block) → first_failing (genesis_rules genesis) ≡ None → AllHold (genesis_rules genesis)
+genesis-rule genesis good = (finds_none (genesis_rules genesis)).0 good
+
+-- G2
+pub first-good : (genesis : Block) → first_failing (genesis_rules genesis) ≡ None → IsTrue (is_first genesis)
+first-good genesis good = All-head (λ rule. IsTrue rule.1) (2, is_first genesis) (drop 1 (genesis_rules genesis)) (genesis-rule genesis good)
+
+-- G3
+pub alone-good : (genesis : Block) → first_failing (genesis_rules genesis) ≡ None → IsTrue (has_no_uncles_or_proposals genesis)
+alone-good genesis good =
+    All-head (λ rule. IsTrue rule.1) (3, has_no_uncles_or_proposals genesis) (drop 2 (genesis_rules genesis))
+    (All-drop (λ rule. IsTrue rule.1) 1 (genesis_rules genesis) (genesis-rule genesis good))
+
 -- G4
-pub issued-good : (genesis : Block) → first_failing (genesis_rules genesis) ≡ None → IsTrue (has_issued genesis)
-issued-good genesis good =
-    All-head (λ rule. IsTrue rule.1) (4, has_issued genesis) (drop 3 (genesis_rules genesis))
-    (All-drop (λ rule. IsTrue rule.1) 2 (genesis_rules genesis) ((finds_none (genesis_rules genesis)).0 good))
+pub rated-good : (genesis : Block) → first_failing (genesis_rules genesis) ≡ None → IsTrue (is_rated genesis.header.dao)
+rated-good genesis good =
+    All-head (λ rule. IsTrue rule.1) (4, is_rated genesis.header.dao) (drop 3 (genesis_rules genesis))
+    (All-drop (λ rule. IsTrue rule.1) 2 (genesis_rules genesis) (genesis-rule genesis good))
+
+-- G5
+pub distinct-good : (genesis : Block) → first_failing (genesis_rules genesis) ≡ None → IsTrue (has_transactions genesis)
+distinct-good genesis good =
+    All-head (λ rule. IsTrue rule.1) (5, has_transactions genesis) (drop 4 (genesis_rules genesis))
+    (All-drop (λ rule. IsTrue rule.1) 3 (genesis_rules genesis) (genesis-rule genesis good))
 
 -- G7
 pub capacity-good : (genesis : Block) → first_failing (genesis_rules genesis) ≡ None → IsTrue (all_hold_capacity genesis)
 capacity-good genesis good =
     All-head (λ rule. IsTrue rule.1) (7, all_hold_capacity genesis) []
-    (All-drop (λ rule. IsTrue rule.1) 5 (genesis_rules genesis) ((finds_none (genesis_rules genesis)).0 good))
+    (All-drop (λ rule. IsTrue rule.1) 5 (genesis_rules genesis) (genesis-rule genesis good))

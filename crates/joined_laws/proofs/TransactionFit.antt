@@ -13,7 +13,8 @@ use Rattle.cell_defs.specs.Cell.{Cell, data_of}
 use Rattle.cell_defs.specs.Events.{Event, Makes, Spends, makes_from, makes_of, spends_of, events_of, names, cell_after}
 use Rattle.cell_laws.proofs.EventLemmas.{out_points-same, cell_after-push}
 use Rattle.tx_defs.specs.Site.{Site, Found, find_cell, all_there}
-use Rattle.joined_laws.proofs.EventFit.{FitAfter, FitAfter-append, mapped-some}
+use Rattle.joined_laws.proofs.EventFit.{FitAfter, FitAfter-append}
+use Rattle.cell_laws.proofs.FitLemmas.{mapped-some}
 
 -- ---- Spends
 
@@ -95,7 +96,7 @@ abbrev pub made_point : Transaction → ℕ → OutPoint
 made_point t index = record { tx_hash = transaction_hash t; index = index }
 
 -- Makes of out-points of one transaction that are not live fit, since their indices differ.
-makes-fit : (index : ℕ) (outputs : List CellOutput) (t : Transaction) (height place : ℕ) (front : List Event)
+pub makes-fit : (index : ℕ) (outputs : List CellOutput) (t : Transaction) (height place : ℕ) (front : List Event)
     → ((i : ℕ) → index ≤ i → i < index + length outputs → is_some (cell_after front (made_point t i)) ≡ false)
     → FitAfter front (makes_from index outputs t height place)
 makes-fit index [] t height place front free = tt

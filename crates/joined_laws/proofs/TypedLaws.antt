@@ -9,45 +9,34 @@ use Rattle.time_defs.specs.Specification.{Specification}
 use Rattle.chain_defs.specs.Kept.{block_at}
 use Rattle.chain_defs.specs.Branch.{branch}
 use Rattle.chain_defs.proofs.BranchLaws.{IsBranch-branch}
-use Rattle.cell_defs.specs.Cell.{Cell, holds_its_own, data_of}
+use Rattle.cell_defs.specs.Cell.{Cell, holds_its_own, data_of, output_holds_its_own, outputs_hold_their_own}
 use Rattle.cell_defs.specs.Events.{live_cell}
 use Rattle.cell_defs.specs.Row.{IsOutputOf}
 use Rattle.cell_laws.proofs.OutputLaws.{cells-are-outputs}
-use Rattle.tx_defs.specs.Capacity.{outputs_hold_their_own}
-use Rattle.tx_rules.proofs.MoneyLemmas.{all-at}
-use Rattle.block_defs.specs.Cellbase.{has_plain_output, is_well_formed_cellbase, is_first_well_formed, forms_cellbase}
+use Rattle.fold_defs.proofs.WalkLemmas.{all-at, every-at}
+use Rattle.family_defs.specs.Cellbase.{has_plain_output, is_well_formed_cellbase, is_first_well_formed, forms_cellbase}
 use Rattle.block_defs.specs.Rules.{first_broken}
 use Rattle.verdict_defs.specs.Chain.{Chain}
-use Rattle.store_defs.specs.Genesis.{all_hold_their_own, holds_capacity, all_hold_capacity}
+use Rattle.genesis_defs.specs.Genesis.{all_hold_capacity}
 use Rattle.store_defs.specs.Store.{IsJoined}
 use Rattle.joined_laws.specs.Laws.{TypedCellsHoldTheirOwn}
 use Rattle.joined_laws.proofs.RuleLemmas.{forms-unbroken, transactions-unbroken, hold-from, capacity-good}
 use Rattle.store_defs.proofs.JoinedLemmas.{is_kept_of_joined}
 
--- what is so of all elements is so at each place
-each-at : {X : Type 0} (p : X → Bool) (xs : List X) (i : ℕ) (x : X) → list_all p xs ≡ true → slice_get xs i ≡ Some x → p x ≡ true
-each-at p [] i x all there = absurd (cc)
-each-at p (y ∷ ys) zero x all there = ap p (sym (same_Some y x there)) ∙ (and_parts (p y) (list_all p ys) all).0
-each-at p (y ∷ ys) (suc i) x all there = each-at p ys i x (and_parts (p y) (list_all p ys) all).1 there
-
 -- ---- In the genesis
 
-pair-holds : (outputs : List CellOutput) (contents : List (List ℕ)) (i : ℕ) (output : CellOutput) → IsTrue (all_hold_their_own outputs contents)
-    → slice_get outputs i ≡ Some output → IsTrue (holds_its_own output (unwrap_or (slice_get contents i) []))
-pair-holds [] contents i output all there = absurd (cc)
-pair-holds (first ∷ outputs) [] zero output all there =
-    subst (λ (x : CellOutput). IsTrue (holds_its_own x [])) (same_Some first output there) (and_parts _ _ all).0
-pair-holds (first ∷ outputs) [] (suc i) output all there = pair-holds outputs [] i output (and_parts _ _ all).1 there
-pair-holds (first ∷ outputs) (content ∷ contents) zero output all there =
-    subst (λ (x : CellOutput). IsTrue (holds_its_own x content)) (same_Some first output there) (and_parts _ _ all).0
-pair-holds (first ∷ outputs) (content ∷ contents) (suc i) output all there = pair-holds outputs contents i output (and_parts _ _ all).1 there
+outputs-hold : (t : Transaction) (i : ℕ) (output : CellOutput) → IsTrue (outputs_hold_their_own t) → slice_get t.raw.outputs i ≡ Some output
+    → IsTrue (holds_its_own output (data_of t i))
+outputs-hold t i output hold there =
+    let at : 0 + i ≡ i = omega arith in
+    subst (λ (k : ℕ). IsTrue (holds_its_own output (data_of t k))) at
+    (all-at (output_holds_its_own t) 0 t.raw.outputs i output hold there)
 
 genesis-holds : (b : Block) (o : OutPoint) (cell : Cell) → IsTrue (all_hold_capacity b) → IsOutputOf b o cell
     → IsTrue (holds_its_own cell.output cell.content)
 genesis-holds b o cell all is =
     subst (λ (content : List ℕ). IsTrue (holds_its_own cell.output content)) is.content
-    (pair-holds is.t.raw.outputs is.t.raw.outputs_data o.index cell.output
-    (each-at holds_capacity b.transactions cell.transaction is.t all is.there) is.output)
+    (outputs-hold is.t o.index cell.output (every-at outputs_hold_their_own b.transactions cell.transaction is.t all is.there) is.output)
 
 -- ---- In another block
 
@@ -55,7 +44,7 @@ plain-untyped : (t : Transaction) (i : ℕ) (output : CellOutput) → IsTrue (ha
     → IsSome output.type_script → ⊥
 plain-untyped t i output plain there typed =
     false≢true (sym (ap not typed)
-    ∙ each-at (λ (x : CellOutput). not (is_some x.type_script)) t.raw.outputs i output (and_parts _ _ (and_parts _ _ plain).0).1 there)
+    ∙ every-at (λ (x : CellOutput). not (is_some x.type_script)) t.raw.outputs i output (and_parts _ _ (and_parts _ _ plain).0).1 there)
 
 first-formed : (live : OutPoint → Option Cell) (number : ℕ) (txs : List Transaction) (t : Transaction) → IsTrue (is_first_well_formed live number txs)
     → slice_get txs 0 ≡ Some t → IsTrue (is_well_formed_cellbase live number t)
@@ -69,13 +58,6 @@ formed-plain live number t formed = (and_parts _ _ (and_parts _ _ (and_parts _ _
 rest-at : {X : Type 0} (xs : List X) (i : ℕ) (x : X) → slice_get xs (suc i) ≡ Some x → slice_get (drop 1 xs) i ≡ Some x
 rest-at [] i x there = absurd (cc)
 rest-at (y ∷ ys) i x there = there
-
-outputs-hold : (t : Transaction) (i : ℕ) (output : CellOutput) → IsTrue (outputs_hold_their_own t) → slice_get t.raw.outputs i ≡ Some output
-    → IsTrue (holds_its_own output (data_of t i))
-outputs-hold t i output hold there =
-    let at : 0 + i ≡ i = omega arith in
-    subst (λ (k : ℕ). IsTrue (holds_its_own output (data_of t k))) at
-    (all-at (λ it. holds_its_own it.1 (data_of t it.0)) 0 t.raw.outputs i output hold there)
 
 block-holds : (spec : Specification) (on : List Block) (b : Block) (o : OutPoint) (cell : Cell) → first_broken spec on b ≡ None → IsOutputOf b o cell
     → IsSome cell.output.type_script → IsTrue (holds_its_own cell.output cell.content)

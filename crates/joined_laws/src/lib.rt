@@ -1,15 +1,29 @@
-//! What is true of a chain whose blocks joined: the laws that its node relies on. They are apart from the definitions, so
-//! that only a crate that cites one waits for their proofs.
+//! What is true of a chain whose blocks joined: the laws that its node relies on, and what a reader of a branch may rely on.
+//! They stand on definitions alone, and apart from them, so that only a crate that cites one waits for their proofs.
 #![tactic(auto)]
 
-ghost use Rattle.joined_laws.specs.Laws.{TypedCellsHoldTheirOwn, WhatJoinsFits, BranchesFit, EntriesAreRated};
+ghost use Rattle.joined_laws.specs.Laws.{TypedCellsHoldTheirOwn, EventsFit, WhatJoinsFits, BranchesFit, BlocksAreRated, NumbersAreHeights, UnclesDiffer, UnclesAreNoAncestors};
 
 /// States of a chain that has joined: on each of its branches the live cells with a type script hold what they occupy; the
-/// events of a block that may join it fit the cells that are live on its parent's branch, and so do those of each kept
-/// block; and the C and the AR of each block's DAO field are above 0. It does nothing.
-pub fn joined_laws()
+/// events of a branch fit, from the genesis on; those of a block that may join it fit the cells that are live on its
+/// parent's branch, and so do those of each kept block. It does nothing.
+pub fn cells_of_joined()
     ensures typed_cells_hold_their_own { TypedCellsHoldTheirOwn }
+    ensures events_fit { EventsFit }
     ensures what_joins_fits { WhatJoinsFits }
     ensures branches_fit { BranchesFit }
-    ensures entries_are_rated { EntriesAreRated }
+{}
+
+/// States of a chain that has joined: the C and the AR of each block's DAO field are above 0, and the number of each block
+/// of a branch is its height. It does nothing.
+pub fn headers_of_joined()
+    ensures blocks_are_rated { BlocksAreRated }
+    ensures numbers_are_heights { NumbersAreHeights }
+{}
+
+/// States of a chain that has joined: along a branch no hash is embedded as an uncle twice, and no uncle has the hash of an
+/// ancestor of the block that embeds it. It does nothing.
+pub fn uncles_of_joined()
+    ensures uncles_differ { UnclesDiffer }
+    ensures uncles_are_no_ancestors { UnclesAreNoAncestors }
 {}

@@ -10,11 +10,11 @@ use Rattle.outside.specs.declared.disk.WriteStop.TheVariants.{DiskFault, NoMemor
 use Rattle.outside.specs.Image.{Image, InArea, content, with_content}
 use Rattle.outside.specs.Disk.{written, write_area, Torn, ComesBy, IsDurable, OthersRead}
 use Rattle.outside.proofs.Images.{own_content}
-use Rattle.store_defs.specs.Log.{Record, all_record_bytes, magic}
-use Rattle.store_defs.specs.LogLaws.{HasFittingBody}
-use Rattle.store_defs.specs.Rest.{IsAtRest, IsSettled, HasOthers}
-use Rattle.store_defs.proofs.Records.{size_of_all}
-use Rattle.store_defs.proofs.Resting.{rest_made}
+use Rattle.log_defs.specs.Log.{Record, all_record_bytes, magic}
+use Rattle.log_defs.specs.LogLaws.{HasFittingBody}
+use Rattle.log_defs.specs.Rest.{IsAtRest, IsSettled, HasOthers}
+use Rattle.log_defs.proofs.Records.{size_of_all}
+use Rattle.log_defs.proofs.Resting.{rest_made}
 use Rattle.log_file.specs.Pieces.{first_records, new_log}
 
 -- the stops of a write are distinct

@@ -3,7 +3,7 @@ use Rattle.std.proofs.Common.{◌≡◌, ◌+◌, true, false, take, Option, Som
 use Rattle.std.specs.Prelude.{IfSome}
 use Rattle.time_defs.specs.Specification.{Specification, specification_of}
 use Rattle.outside.specs.Image.{Image}
-use Rattle.store_defs.specs.Log.{Record, magic, log_of}
+use Rattle.log_defs.specs.Log.{Record, magic, log_of}
 use Rattle.log_file.specs.Grammar.{is_specification, is_genesis, BlocksValue, IsGenesisOf}
 use Rattle.log_file.specs.Reading.{ReaderValue, IsReading, HasPassed, OfRecordHere}
 use Rattle.log_file.specs.Opening.{HasRead}

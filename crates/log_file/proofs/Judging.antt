@@ -6,18 +6,17 @@ use Rattle.std.proofs.lemmas.List.{map-append, length-map, length_push}
 use Rattle.codec_defs.specs.Shape.{decoded}
 use Rattle.codec_defs.specs.Schema.{Block}
 use Rattle.codec_defs.specs.Schema as shapes
-use Rattle.chain_defs.specs.Kept.{place_of}
+use Rattle.chain_defs.specs.Kept.{place_of, kept_limit}
 use Rattle.fold_defs.specs.First.{first_failing}
-use Rattle.verdict_defs.specs.Verdict.{kept_limit}
 use Rattle.chain_tree.specs.declared.entry.Entry.{Entry}
 use Rattle.chain_tree.specs.Blocks.{Describes, IndexesBlocks}
-use Rattle.store_defs.specs.Genesis.{is_first, genesis_rules, broken_by, broken_genesis_rule}
-use Rattle.store_defs.specs.Log.{Record, record_limit}
-use Rattle.store_defs.specs.LogLaws.{HasFittingBody}
+use Rattle.genesis_defs.specs.Genesis.{is_first, genesis_rules, broken_by, broken_genesis_rule}
+use Rattle.log_defs.specs.Log.{Record, record_limit}
+use Rattle.log_defs.specs.LogLaws.{HasFittingBody}
 use Rattle.log_file.specs.Grammar.{record_of, is_genesis, ext_in, BlocksValue, AreBlocks, StandFor, IsBehind, IsGrownBy}
 
 pub limit_is : record_limit ≡ 999999
-unfolding record_limit
+unfolding record_limit kept_limit
 limit_is = refl
 
 pub kept_limit_is : kept_limit ≡ 1000000

@@ -8,10 +8,10 @@ use Rattle.outside.specs.Image.{Image, InArea}
 use Rattle.outside.specs.Disk.{written, write_area, Torn, ComesBy, IsDurable}
 use Rattle.outside.proofs.Images.{own_content}
 use Rattle.outside.proofs.Torn.{tears_to_the_written}
-use Rattle.store_defs.specs.Log.{Record, log_of}
-use Rattle.store_defs.specs.Rest.{EndsAt, IsAtRest, IsSettled, HasLog}
-use Rattle.store_defs.proofs.Contents.{ends_say}
-use Rattle.store_defs.proofs.Resting.{closed_rest, ends_torn, rest_mended}
+use Rattle.log_defs.specs.Log.{Record, log_of}
+use Rattle.log_defs.specs.Rest.{EndsAt, IsAtRest, IsSettled, HasLog}
+use Rattle.log_defs.proofs.Contents.{ends_say}
+use Rattle.log_defs.proofs.Resting.{closed_rest, ends_torn, rest_mended}
 use Rattle.log_file.specs.Opening.{mended}
 
 -- ---- What is written

@@ -12,8 +12,8 @@ use borrow.Rule.Slice.PartMut.{put_mid, post_of}
 use Rattle.outside.specs.Image.{Image}
 use Rattle.cell_defs.specs.Ext.{count_at}
 use Rattle.codec_defs.specs.Schema.{Block}
-use Rattle.store_defs.specs.Log.{Record, record_at, record_bytes, record_limit, block_of_record, magic}
-use Rattle.store_defs.proofs.Records.{record_length, IsRecordAt, parts_at, front_kept}
+use Rattle.log_defs.specs.Log.{Record, record_at, record_bytes, record_limit, block_of_record, magic}
+use Rattle.log_defs.proofs.Records.{record_length, IsRecordAt, parts_at, front_kept}
 use Rattle.log_file.specs.Grammar.{record_of, BlocksValue, StandFor}
 use Rattle.log_file.specs.Reading.{ReaderValue, IsReading, IsAt, HasPassed, OfRecordHere, IsWrongHere}
 

@@ -8,16 +8,16 @@ use Rattle.std.proofs.lemmas.Bool.{and_from, and_parts, and_right, le-leb, leb-t
 use Rattle.std.proofs.lemmas.List.{append_assoc, append-nil, length-append, length-drop, length_push, map_push, drop-drop}
 use Rattle.std.proofs.lemmas.List.Elements.{All-nil, All-push}
 use Rattle.codec_defs.specs.Schema.{Block}
-use Rattle.verdict_defs.specs.Verdict.{blocks_of_item, kept_limit}
+use Rattle.chain_defs.specs.Kept.{blocks_of_item, kept_limit}
 use Rattle.time_defs.specs.Specification.{Specification, broken_specification_rule, specification_of}
 use Rattle.chain_tree.specs.declared.entry.Entry.{Entry}
 use Rattle.outside.specs.Image.{Image}
-use Rattle.store_defs.specs.Genesis.{broken_genesis_rule}
-use Rattle.store_defs.specs.Log.{Record, record_at, record_bytes, all_record_bytes, records_of, end_of_log, magic, LogContent, record_limit, are_first, block_of_record, blocks_over, content_of_records, log_of}
-use Rattle.store_defs.specs.LogLaws.{HasFittingBody, grown}
-use Rattle.store_defs.specs.Rest.{EndsAt}
-use Rattle.store_defs.proofs.Records.{record_length, parts_at, records_of_none, records_of_some, size_of_all, size-push}
-use Rattle.store_defs.proofs.Contents.{grows_by_a_block}
+use Rattle.genesis_defs.specs.Genesis.{broken_genesis_rule}
+use Rattle.log_defs.specs.Log.{Record, record_at, record_bytes, all_record_bytes, records_of, end_of_log, magic, LogContent, record_limit, are_first, block_of_record, blocks_over, content_of_records, log_of}
+use Rattle.log_defs.specs.LogLaws.{HasFittingBody, grown}
+use Rattle.log_defs.specs.Rest.{EndsAt}
+use Rattle.log_defs.proofs.Records.{record_length, parts_at, records_of_none, records_of_some, size_of_all, size-push}
+use Rattle.log_defs.proofs.Contents.{adds_a_block}
 use Rattle.log_file.specs.Grammar.{record_of, is_specification, is_genesis, ext_in, NamesBody, BlocksValue, StandFor, IsGenesisOf, IsGrownBy}
 use Rattle.log_file.specs.Reading.{ReaderValue, IsReading, IsAt, HasPassed, OfRecordHere, IsWrongHere}
 use Rattle.log_file.specs.Opening.{NameBodies, IsOpened, HasRead, HasReadAll}
@@ -216,7 +216,7 @@ one_more_read log spec old new before after so_far passed reading few =
           ∙ ap (λ (n : ℕ). (so_far.records ++ r ∷ []) ++ records_of (drop n log)) (sym passed.at.at);
       place = omega (arith, passed.at.at, so_far.place, size-push so_far.records r);
       log = grown so_far.log r is.block;
-      says = grows_by_a_block so_far.records r so_far.log is.block so_far.says is.is room;
+      says = adds_a_block so_far.records r so_far.log is.block so_far.says is.is room;
       specified = so_far.specified;
       stand = is.stand;
       exts = is.exts ∙ ap (λ (l : List (List ℕ)). l ++ ext_in r ∷ []) so_far.exts ∙ ap (λ (l : List (List ℕ)). [] ∷ l) (sym (map_push ext_in so_far.log.records r));

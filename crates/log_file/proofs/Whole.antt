@@ -5,9 +5,9 @@ use Rattle.std.proofs.lemmas.List.{get_or-take, length-map}
 use Rattle.time_defs.specs.Specification.{Specification}
 use Rattle.chain_tree.specs.declared.entry.Entry.{Entry}
 use Rattle.outside.specs.Image.{Image}
-use Rattle.store_defs.specs.Log.{records_of, magic, LogContent, content_of_records, log_of}
-use Rattle.store_defs.specs.Rest.{EndsAt}
-use Rattle.store_defs.proofs.Resting.{gate_there}
+use Rattle.log_defs.specs.Log.{records_of, magic, LogContent, content_of_records, log_of}
+use Rattle.log_defs.specs.Rest.{EndsAt}
+use Rattle.log_defs.proofs.Resting.{gate_there}
 use Rattle.log_file.specs.Grammar.{BlocksValue}
 use Rattle.log_file.specs.Reading.{ReaderValue, IsReading}
 use Rattle.log_file.specs.Opening.{IsOpened, HasRead, HasReadAll}

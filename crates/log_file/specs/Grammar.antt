@@ -3,14 +3,13 @@ use Rattle.std.specs.Prelude.{◌≡◌, ℕ, ◌==◌, ◌&&◌, Bool, true, Li
 use Rattle.codec_defs.specs.Shape.{decoded}
 use Rattle.codec_defs.specs.Schema.{Block}
 use Rattle.codec_defs.specs.Schema as shapes
-use Rattle.chain_defs.specs.Kept.{place_of}
-use Rattle.verdict_defs.specs.Verdict.{blocks_of_item}
+use Rattle.chain_defs.specs.Kept.{place_of, blocks_of_item}
 use Rattle.time_defs.specs.Specification.{broken_specification_rule}
 use Rattle.chain_tree.specs.declared.entry.Entry.{Entry}
 use Rattle.chain_tree.specs.Blocks.{Describes, IndexesBlocks}
-use Rattle.store_defs.specs.Genesis.{broken_genesis_rule}
-use Rattle.store_defs.specs.Log.{Record, parts_of_body, block_of_record}
-use Rattle.store_defs.specs.LogLaws.{HasFittingBody}
+use Rattle.genesis_defs.specs.Genesis.{broken_genesis_rule}
+use Rattle.log_defs.specs.Log.{Record, parts_of_body, block_of_record}
+use Rattle.log_defs.specs.LogLaws.{HasFittingBody}
 
 abbrev pub record_of : ℕ → List ℕ → Record
 record_of kind body = record { kind = kind; body = body }

@@ -10,8 +10,8 @@ use Rattle.outside.specs.Image.{Image}
 use Rattle.outside.specs.Disk.{write_area}
 use Rattle.log_file.specs.Grammar.{record_of, ext_in, BlocksValue, StandFor}
 use Rattle.log_file.specs.Reading.{ReaderValue, IsReading}
-use Rattle.store_defs.specs.Log.{Record, record_bytes, all_record_bytes, record_at, records_of, LogContent, content_of_records, log_of}
-use Rattle.store_defs.specs.LogLaws.{HasFittingBody}
+use Rattle.log_defs.specs.Log.{Record, record_bytes, all_record_bytes, record_at, records_of, LogContent, content_of_records, log_of}
+use Rattle.log_defs.specs.LogLaws.{HasFittingBody}
 
 -- The entries name the bodies of these records, which stand one after the other from this place on.
 abbrev pub NameBodies : ℕ → List Record → List Entry → Type 0

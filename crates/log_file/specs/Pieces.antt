@@ -1,7 +1,7 @@
 -- The bytes that are written into a log.
 use Rattle.std.specs.Prelude.{◌≡◌, ℕ, ◌+◌, List, [], ◌∷◌, ◌++◌, length}
 use Rattle.std.specs.Int.{w32, to_le_bytes}
-use Rattle.store_defs.specs.Log.{Record, magic, all_record_bytes, body_of_parts}
+use Rattle.log_defs.specs.Log.{Record, magic, all_record_bytes, body_of_parts}
 use Rattle.log_file.specs.declared.log.Rec.{Rec}
 
 -- the record of a block with its ext

@@ -1,7 +1,7 @@
 -- A log that is read from front to back.
 use Rattle.std.specs.Prelude.{◌≡◌, ◌⊎◌, ℕ, ◌+◌, ◌<◌, List, length, take, drop, Some, None}
 use Rattle.codec_defs.specs.Schema.{Block}
-use Rattle.store_defs.specs.Log.{Record, record_bytes, record_at, record_limit, block_of_record}
+use Rattle.log_defs.specs.Log.{Record, record_bytes, record_at, record_limit, block_of_record}
 
 -- What contracts see of a `Reader`: the length of the log, the place that it has come to, and the bytes from there on that are
 -- in memory.

@@ -4,11 +4,10 @@ ghost use Rattle.std.specs.Prelude.{◌≡◌, ◌≢◌, ◌⊎◌, ◌+◌, �
 ghost use Rattle.codec_defs.specs.Shape.{decoded};
 ghost use Rattle.codec_defs.specs.Schema as schema;
 ghost use Rattle.codec_defs.specs.Schema.{Block};
-ghost use Rattle.chain_defs.specs.Kept.{place_of};
+ghost use Rattle.chain_defs.specs.Kept.{place_of, kept_limit};
 ghost use Rattle.chain_tree.specs.Entries.{place_of_hash, FollowsParent};
 ghost use Rattle.chain_tree.specs.Blocks.{Describes, IndexesBlocks};
-ghost use Rattle.verdict_defs.specs.Verdict.{kept_limit};
-ghost use Rattle.store_defs.specs.Log.{may_stand_on, block_of_record, record_limit};
+ghost use Rattle.log_defs.specs.Log.{may_stand_on, block_of_record, record_limit};
 ghost use Rattle.log_file.specs.Grammar.{record_of, is_genesis, AreBlocks, NamesBody, StandFor, IsGenesisOf, IsGrownBy, IsJudged};
 
 use crate::body::parts;
@@ -157,7 +156,7 @@ pub(crate) struct Blocks {
 
 impl Model for Blocks {
     ghost use Rattle.std.specs.Prelude.{◌≡◌, ◌≤◌, map, length};
-    ghost use Rattle.verdict_defs.specs.Verdict.{kept_limit};
+    ghost use Rattle.chain_defs.specs.Kept.{kept_limit};
     ghost use Rattle.log_file.specs.Grammar.{AreBlocks, BlocksValue};
 
     ghost Value = { BlocksValue };

@@ -3,7 +3,7 @@
 ghost use Rattle.std.specs.Prelude.{◌≡◌, ◌+◌, ◌<◌, ◌^◌, ◌++◌, ◌∷◌, [], length, OnOk, OnErr};
 ghost use Rattle.std.specs.Option.{option_map};
 ghost use Rattle.std.specs.Int.{w32, to_le_bytes};
-ghost use Rattle.store_defs.specs.Log.{parts_of_body};
+ghost use Rattle.log_defs.specs.Log.{parts_of_body};
 ghost use Rattle.log_file.specs.Pieces.{block_record, behind_gate};
 
 use crate::number::read_count;

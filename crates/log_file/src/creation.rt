@@ -5,8 +5,8 @@ ghost use Rattle.outside.specs.Causes.{CountsFault};
 ghost use Rattle.outside.specs.Disk.{OthersRead, LeavesOnly};
 ghost use Rattle.outside.specs.declared.disk.Area.TheVariants.{Log as log_area};
 ghost use Rattle.outside.specs.declared.disk.WriteStop.TheVariants.{DiskFault, NoMemory as no_memory};
-ghost use Rattle.store_defs.specs.Log.{record_bytes};
-ghost use Rattle.store_defs.specs.Rest.{IsSettled, HasOthers};
+ghost use Rattle.log_defs.specs.Log.{record_bytes};
+ghost use Rattle.log_defs.specs.Rest.{IsSettled, HasOthers};
 ghost use Rattle.log_file.specs.Grammar.{record_of};
 ghost use Rattle.log_file.specs.Pieces.{first_records, new_log};
 

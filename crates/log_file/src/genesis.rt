@@ -2,8 +2,8 @@
 
 ghost use Rattle.std.specs.Prelude.{◌≡◌, ◌+◌, ◌<◌, ◌^◌, [], Some, length, slice_get, unwrap_or, IfOk};
 ghost use Rattle.std.specs.Option.{option_map};
-ghost use Rattle.store_defs.specs.Genesis as rules;
-ghost use Rattle.time_defs.specs.Dao.{occupied_by_type};
+ghost use Rattle.genesis_defs.specs.Genesis as rules;
+ghost use Rattle.time_defs.specs.Dao.{occupied_by_type, is_rated as dao_is_rated};
 ghost use Rattle.chain_defs.specs.Hashes.{transaction_hash};
 ghost use Rattle.cell_defs.specs.Cell as cells;
 
@@ -31,9 +31,10 @@ fn has_no_uncles_or_proposals(block: &BlockView<'_>) -> bool
     block.uncles_count() == 0 && block.proposals_count() == 0
 }
 
-/// G4: the C and the AR of its dao field are above 0.
-fn has_issued(block: &BlockView<'_>) -> bool
-    ensures { result ≡ rules.has_issued block.now }
+/// G4: the C and the AR of its DAO field are above 0.
+#[tactic(auto, unfolding(time_defs::specs::Dao::field_of_bytes))]
+fn is_rated(block: &BlockView<'_>) -> bool
+    ensures { result ≡ dao_is_rated block.now.header.dao }
 {
     let dao = block.header().dao();
     0 < read_u64(dao, 0) && 0 < read_u64(dao, 8)
@@ -62,7 +63,7 @@ fn has_transactions(alloc: Global, block: &BlockView<'_>) -> Result<bool, NoMemo
 }
 
 fn pairs_data(transaction: &TxView<'_>) -> bool
-    ensures { result ≡ rules.pairs_data transaction.now }
+    ensures { result ≡ cells.pairs_data transaction.now }
 {
     let raw = transaction.raw();
     raw.outputs_data_count() == raw.outputs_count()
@@ -111,8 +112,8 @@ fn content<'a>(raw: &RawTxView<'a>, i: usize) -> &'a [u8]
     }
 }
 
-fn holds_capacity(transaction: &TxView<'_>) -> bool
-    ensures { result ≡ rules.holds_capacity transaction.now }
+fn outputs_hold_their_own(transaction: &TxView<'_>) -> bool
+    ensures { result ≡ cells.outputs_hold_their_own transaction.now }
 {
     let raw = transaction.raw();
     'outputs: for i in 0..raw.outputs_count() {
@@ -123,12 +124,12 @@ fn holds_capacity(transaction: &TxView<'_>) -> bool
     true
 }
 
-/// G7: each output holds its occupied capacity.
+/// G7: each output holds what it occupies with its data.
 fn all_hold_capacity(block: &BlockView<'_>) -> bool
     ensures { result ≡ rules.all_hold_capacity block.now }
 {
     'transactions: for i in 0..block.transactions_count() {
-        if !holds_capacity(&block.transactions_item(i)) {
+        if !outputs_hold_their_own(&block.transactions_item(i)) {
             return false;
         }
     }
@@ -146,7 +147,7 @@ fn broken_by(alloc: Global, block: &BlockView<'_>) -> Result<Option<u8>, NoMemor
     if !has_no_uncles_or_proposals(block) {
         return Ok(Some(3));
     }
-    if !has_issued(block) {
+    if !is_rated(block) {
         return Ok(Some(4));
     }
     if !has_transactions(alloc, block)? {
@@ -162,7 +163,7 @@ fn broken_by(alloc: Global, block: &BlockView<'_>) -> Result<Option<u8>, NoMemor
 }
 
 /// The first of G1 to G7 that the bytes break as the genesis of a store (docs/RULES.md, "The genesis").
-#[tactic(auto, unfolding(store_defs::specs::Genesis::broken_genesis_rule))]
+#[tactic(auto, unfolding(genesis_defs::specs::Genesis::broken_genesis_rule))]
 pub fn genesis_ok(alloc: Global, b: &[u8]) -> Result<Option<u8>, NoMemory>
     ensures { IfOk result (λ broken. broken ≡ rules.broken_genesis_rule b.now) }
 {

@@ -2,12 +2,11 @@
 
 ghost use Rattle.std.specs.Prelude.{◌≡◌, ◌≢◌, ◌⊎◌, ◌+◌, ◌*◌, ◌<◌, ◌≤◌, ◌^◌, ◌==◌, List, Some, None, Err, length, map, drop, slice_index, IfSome, IfOk, OnOk, IfErr};
 ghost use Rattle.outside.specs.Causes.{HasCause, CountsFault};
-ghost use Rattle.outside.specs.Disk.{OthersRead, IsDurable, NoneNew, IsAsBefore, LeavesOnly};
+ghost use Rattle.outside.specs.Disk.{OthersRead, IsDurable, NoneNew, IsAsBefore, LeavesOnly, IsOnlyRead};
 ghost use Rattle.outside.specs.declared.disk.Area.TheVariants.{Log as log_area};
-ghost use Rattle.verdict_defs.specs.Verdict.{kept_limit};
-ghost use Rattle.store_defs.specs.Log.{Record, LogContent, log_of, records_of, end_of_log};
-ghost use Rattle.store_defs.specs.Rest.{EndsAt, IsSettled, HasLog};
-ghost use Rattle.store_defs.specs.Store.{IsOnlyRead};
+ghost use Rattle.chain_defs.specs.Kept.{kept_limit};
+ghost use Rattle.log_defs.specs.Log.{Record, LogContent, log_of, records_of, end_of_log};
+ghost use Rattle.log_defs.specs.Rest.{EndsAt, IsSettled, HasLog};
 ghost use Rattle.log_file.specs.Grammar.{AreBlocks};
 ghost use Rattle.log_file.specs.Opening.{IsOpened, mended};
 

@@ -4,9 +4,9 @@ ghost use Rattle.std.specs.Prelude.{◌≡◌, ◌≢◌, ◌⊎◌, ◌+◌, �
 ghost use Rattle.codec_defs.specs.Schema.{Block};
 ghost use Rattle.outside.specs.Causes.{CountsFault};
 ghost use Rattle.outside.specs.Disk.{IsAsBefore};
-ghost use Rattle.verdict_defs.specs.Verdict.{kept_limit};
+ghost use Rattle.chain_defs.specs.Kept.{kept_limit};
 ghost use Rattle.time_defs.specs.Specification.{Specification, specification_of};
-ghost use Rattle.store_defs.specs.Log.{magic, record_at, records_of, content_of_records, log_of};
+ghost use Rattle.log_defs.specs.Log.{magic, record_at, records_of, content_of_records, log_of};
 ghost use Rattle.log_file.specs.Grammar.{is_specification, is_genesis, StandFor, IsGenesisOf, IsGrownBy};
 ghost use Rattle.log_file.specs.Reading.{IsReading, IsAt, HasPassed, OfRecordHere, IsWrongHere};
 ghost use Rattle.log_file.specs.Opening.{HasRead, HasReadAll};

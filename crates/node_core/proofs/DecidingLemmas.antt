@@ -9,11 +9,11 @@ use Rattle.codec_defs.specs.Schema.{OutPoint, Transaction, Block, block}
 use Rattle.fold_defs.specs.First.{first_failing}
 use Rattle.fold_defs.proofs.FirstLemmas.{finds_none}
 use Rattle.time_defs.specs.Specification.{Specification}
-use Rattle.chain_defs.specs.Kept.{block_hash, place_of}
+use Rattle.chain_defs.specs.Kept.{block_hash, place_of, follows, kept_limit}
 use Rattle.chain_defs.specs.Branch.{branch}
 use Rattle.chain_defs.specs.Tip.{tip_place, best_branch}
 use Rattle.chain_defs.proofs.KeptLaws.{place_of-below}
-use Rattle.rule_defs.specs.Header.{has_version, follows, parent_of, header_rules}
+use Rattle.rule_defs.specs.Header.{has_version, parent_of, header_rules}
 use Rattle.cell_defs.specs.Ext.{Ext}
 use Rattle.cell_defs.specs.Row.{Row, live_row}
 use Rattle.cell_state.specs.State.{StateValue, rows}
@@ -26,10 +26,12 @@ use Rattle.tx_defs.specs.Capacity.{fee}
 use Rattle.script_defs.specs.Scene.{scene_of}
 use Rattle.script_defs.specs.Rules.{cycles_of}
 use Rattle.block_defs.specs.Ext.{ext_of}
-use Rattle.block_defs.specs.Rules.{first_broken, broken_in_dry_run, site_after, is_rated}
+use Rattle.block_defs.specs.Rules.{first_broken, broken_in_dry_run}
+use Rattle.tx_defs.specs.Site.{site_after}
+use Rattle.time_defs.specs.Dao.{is_rated}
 use Rattle.block_judge.specs.Standing.{Stands}
-use Rattle.replay.specs.Fit.{BranchFits}
-use Rattle.verdict_defs.specs.Verdict.{verdict, verdict_of, verdict_of_block, verdict_on, verdict_by_rules, kept_limit}
+use Rattle.cell_defs.specs.Fit.{BranchFits}
+use Rattle.verdict_defs.specs.Verdict.{verdict, verdict_of, verdict_of_block, verdict_on, verdict_by_rules}
 use Rattle.verdict_defs.specs.Chain.{Chain}
 use Rattle.verdict_defs.specs.Trial.{trial_on, trial_by}
 use Rattle.verdict_defs.specs.declared.verdict.Verdict.{Verdict}
@@ -124,7 +126,7 @@ pub room-for : (count number : ℕ) (room : Bool) → room ≡ nat_lt count kept
 room-for count number room is so same = omega (arith, (Decides-ltb count kept_limit).0 (sym is ∙ so), same)
 
 pub is-ready : (spec : Specification) (kept : List Block) (b : Block) (entry : Entry) (ext : Ext) (cells : Option StateValue) → IsEntryOn kept b entry
-    → first_failing (header_rules spec (branch kept entry.parent) b) ≡ None → length kept < kept_limit → is_rated b ≡ true
+    → first_failing (header_rules spec (branch kept entry.parent) b) ≡ None → length kept < kept_limit → is_rated b.header.dao ≡ true
     → length ext.fees ≡ length b.transactions - 1 → AreCellsOn kept entry.parent cells → IsReady kept b (record { entry = entry; ext = ext; cells = cells })
 is-ready spec kept b entry ext cells on unbroken room rated fees have = record {
   entry = on;

@@ -9,12 +9,12 @@ use Rattle.outside.specs.Disk.{OthersRead, LeavesOnly}
 use Rattle.outside.proofs.Moments.{started}
 use Rattle.verdict_defs.specs.Chain.{chain_after}
 use Rattle.verdict_defs.specs.Laws.{CanJoin}
-use Rattle.store_defs.specs.Log.{record_bytes}
-use Rattle.store_defs.specs.LogLaws.{record_over}
-use Rattle.store_defs.specs.Rest.{IsAtRest, IsBeforeOrAfter, IsSettled, HasLog}
+use Rattle.log_defs.specs.Log.{record_bytes}
+use Rattle.store_defs.specs.JoinLaws.{record_over}
+use Rattle.log_defs.specs.Rest.{IsAtRest, IsBeforeOrAfter, IsSettled, HasLog}
 use Rattle.cell_defs.specs.Ext.{is_ext}
 use Rattle.store_defs.specs.Store.{ext_over, StandsFor}
-use Rattle.store_defs.proofs.Contents.{says_its_records}
+use Rattle.log_defs.proofs.Contents.{says_its_records}
 use Rattle.store_defs.proofs.StoreLemmas.{stands_as_it_says, stands_after_an_item}
 use Rattle.node_core.specs.Node.{NodeValue, IsOn}
 

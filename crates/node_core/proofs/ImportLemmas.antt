@@ -4,16 +4,16 @@ use Rattle.std.specs.Prelude.{Bool, true, false, IsTrue, IfSome}
 use Rattle.std.proofs.lemmas.List.{length_push}
 use Rattle.codec_defs.specs.Shape.{decoded}
 use Rattle.codec_defs.specs.Schema.{Block, block}
-use Rattle.chain_defs.specs.Kept.{block_hash}
+use Rattle.chain_defs.specs.Kept.{block_hash, kept_limit}
 use Rattle.cell_defs.specs.Ext.{ext_bytes, is_ext, count_at}
 use Rattle.cell_model.specs.ListBlocks.{IsExtFor}
 use Rattle.block_defs.specs.Ext.{ext_of}
-use Rattle.verdict_defs.specs.Verdict.{kept_limit, joins}
+use Rattle.verdict_defs.specs.Verdict.{joins}
 use Rattle.verdict_defs.specs.Chain.{Chain, chain_after, verdict_over}
 use Rattle.verdict_defs.specs.Laws.{CanJoin}
 use Rattle.verdict_defs.specs.declared.verdict.Verdict.TheVariants.{Joined}
 use Rattle.verdict_defs.proofs.VerdictLaws.{verdict-joined, keeps-what-joins, kept_after-stays}
-use Rattle.store_defs.specs.LogLaws.{record_over}
+use Rattle.store_defs.specs.JoinLaws.{record_over}
 use Rattle.store_defs.specs.Store.{ext_on, ext_of_found, ext_over, IsJoined}
 use Rattle.log_file.specs.Pieces.{block_record}
 use Rattle.node_core.specs.declared.deciding.Joining.{Joining}

@@ -1,6 +1,6 @@
 -- What is kept with one more block: the index, the uncles, and the live cells of the tip.
 use Rattle.std.proofs.Common.{◌≡◌, ℕ, suc, ◌+◌, ◌-◌, ◌≤◌, ◌<◌, ◌^◌, Bool, true, false, cond, ltb, List, [], ◌∷◌, ◌++◌, length, Option, Some, None, refl, sym, ap, ◌∙◌, subst, inl, inr, ◌⊎◌, arith}
-use Rattle.std.specs.Prelude.{Result, Ok, Err, IfOk, IsTrue, IsSomeAnd, slice_get}
+use Rattle.std.specs.Prelude.{Result, Ok, Err, IfOk, IsTrue, IsSomeAnd, is_some, slice_get}
 use Rattle.std.proofs.lemmas.Bool.{and_parts}
 use Rattle.std.proofs.lemmas.Bool.Decides.{Decides-eqb, Decides-ltb, nat_tests}
 use Rattle.std.proofs.lemmas.List.{append-nil, append_assoc, length_push, length-map, map-append}
@@ -8,30 +8,28 @@ use Rattle.std.proofs.lemmas.Option.{slice_get_within, same_Some}
 use Rattle.codec_defs.specs.Shape.{decoded}
 use Rattle.codec_defs.specs.Schema.{OutPoint, Block, block}
 use Rattle.time_defs.specs.Specification.{Specification}
-use Rattle.chain_defs.specs.Kept.{block_hash, block_at, StandsOn, IsKept}
+use Rattle.chain_defs.specs.Kept.{block_hash, block_at, StandsOn, IsKept, follows, kept_limit}
 use Rattle.chain_defs.specs.Branch.{branch}
 use Rattle.chain_defs.specs.Tip.{tip_place}
 use Rattle.chain_defs.proofs.KeptLaws.{slice_get-below, slice_get-pushed, place_of-below, place_of-there, IsKept-push}
 use Rattle.chain_defs.proofs.BranchLaws.{branch-last}
 use Rattle.chain_defs.proofs.TipLaws.{tip_place-below, tip_place-push}
-use Rattle.time_defs.specs.Dao.{field_of_bytes}
-use Rattle.rule_defs.specs.Header.{follows, parent_of}
-use Rattle.cell_defs.specs.Events.{events_of_block}
+use Rattle.time_defs.specs.Dao.{is_rated}
+use Rattle.rule_defs.specs.Header.{parent_of}
+use Rattle.cell_defs.specs.Events.{events_of_block, live_cell}
 use Rattle.cell_defs.specs.Row.{Row, live_row}
-use Rattle.cell_state.specs.Fit.{AllFit}
+use Rattle.cell_defs.specs.Fit.{are_live, AllFit}
 use Rattle.cell_state.specs.State.{StateValue, rows, Grows}
 use Rattle.replay.proofs.RowLemmas.{live_row-front}
-use Rattle.replay.proofs.FitLemmas.{all-same}
+use Rattle.cell_laws.proofs.FitLemmas.{row-where-cell, all-same}
 use Rattle.chain_tree.specs.declared.entry.Entry.{Entry}
 use Rattle.chain_tree.specs.Entries.{entry_at, place_of_hash, FollowsParent}
 use Rattle.chain_tree.specs.Blocks.{Describes, IndexesBlocks}
 use Rattle.chain_tree.specs.Told.{Stored, blocks_of}
 use Rattle.chain_tree.proofs.BlockLemmas.{len-same, entry-same, find-same}
 use Rattle.chain_tree.proofs.EntryLemmas.{and_some}
-use Rattle.tx_rules.specs.At.{AreRated}
+use Rattle.chain_tree.specs.Blocks.{AreRated}
 use Rattle.uncle_rules.specs.Embedded.{Embedded, embedded_in, embedded_from, UnclesValue}
-use Rattle.block_defs.specs.Rules.{is_rated}
-use Rattle.verdict_defs.specs.Verdict.{kept_limit}
 use Rattle.verdict_defs.specs.Chain.{Chain}
 use Rattle.verdict_defs.specs.Laws.{MayJoin}
 use Rattle.verdict_defs.proofs.VerdictLaws.{parent_of-branch}
@@ -78,12 +76,12 @@ pub tip-cells : (kept : List Block) (b : Block) (joining : Joining) (state : Sta
 tip-cells kept b joining state ready is live = live joining.entry.parent (subst (AreCellsOn kept joining.entry.parent) is ready.cells)
 
 -- its events fit other rows that are the same
-pub fits-parent : (kept : List Block) (place height : ℕ) (b : Block) (parent : ℕ) (cells : StateValue) → place ≡ length kept
-    → ((o : OutPoint) → rows cells o ≡ live_row kept parent o) → AllFit (length kept) (events_of_block height b) (live_row kept parent)
-    → AllFit place (events_of_block height b) (rows cells)
-fits-parent kept place height b parent cells at same fit =
-    all-same place (events_of_block height b) (live_row kept parent) (rows cells) same
-    (subst (λ (p : ℕ). AllFit p (events_of_block height b) (live_row kept parent)) (sym at) fit)
+pub fits-parent : (kept : List Block) (height : ℕ) (b : Block) (parent : ℕ) (cells : StateValue)
+    → ((o : OutPoint) → rows cells o ≡ live_row kept parent o) → AllFit (events_of_block height b) (are_live (live_cell (branch kept parent)))
+    → AllFit (events_of_block height b) (are_live (rows cells))
+fits-parent kept height b parent cells same fit =
+    all-same (events_of_block height b) (are_live (live_cell (branch kept parent))) (are_live (rows cells))
+    (λ o. ap is_some (same o) ∙ row-where-cell kept parent o) fit
 
 -- ---- The tip with one more block
 
@@ -160,23 +158,16 @@ follows-parent kept entries b joining entry indexed ready parent number =
     and_some (entry_at entries entry.parent) (λ on. entry.number ≡ on.number + 1) found.0 (ap (entry_at entries) parent ∙ found.1)
     (number ∙ ready.entry.describes.number ∙ next-number kept b joining described.0 ready described.1 ∙ ap (λ (n : ℕ). n + 1) (sym described.2.number))
 
--- the C and the AR of its DAO field are above 0
-issued-above : (b : Block) (entry : Entry) → Describes b entry → IsTrue (is_rated b)
-    → (0 < (field_of_bytes entry.dao).issued) × (0 < (field_of_bytes entry.dao).rate)
-issued-above b entry describes rated =
-    let parts = and_parts _ _ rated in
-    subst (λ (dao : List ℕ). (0 < (field_of_bytes dao).issued) × (0 < (field_of_bytes dao).rate)) (sym describes.dao)
-    ((Decides-ltb 0 (field_of_bytes b.header.dao).issued).0 parts.0, (Decides-ltb 0 (field_of_bytes b.header.dao).rate).0 parts.1)
-
-pub rated-push : (entries : List Entry) (b : Block) (entry : Entry) → AreRated entries → Describes b entry → IsTrue (is_rated b)
+-- its DAO field is rated
+pub rated-push : (entries : List Entry) (b : Block) (entry : Entry) → AreRated entries → Describes b entry → IsTrue (is_rated b.header.dao)
     → AreRated (entries ++ entry ∷ [])
 rated-push entries b entry rated describes is place other there = by_place (slice_get-pushed entries entry place other there)
   where
     by_place : ((place < length entries) × (slice_get entries place ≡ Some other)) ⊎ ((place ≡ length entries) × (entry ≡ other))
-        → (0 < (field_of_bytes other.dao).issued) × (0 < (field_of_bytes other.dao).rate)
+        → IsTrue (is_rated other.dao)
     by_place (inl before) = rated place other before.1
     by_place (inr last) =
-        subst (λ (e : Entry). (0 < (field_of_bytes e.dao).issued) × (0 < (field_of_bytes e.dao).rate)) last.1 (issued-above b entry describes is)
+        subst (λ (e : Entry). IsTrue (is_rated e.dao)) last.1 (subst (λ (dao : List ℕ). IsTrue (is_rated dao)) (sym describes.dao) is)
 
 -- the uncles of blocks and one more
 embedded-from-push : (kept : List Block) (b : Block) (place : ℕ) → embedded_from place (kept ++ b ∷ []) ≡ embedded_from place kept ++ embedded_in (place + length kept) b
@@ -217,17 +208,17 @@ branch-some kept place below =
 pub record FitsOn (kept : List Block) (b : Block) (parent : ℕ) : Type 0 where
   pub height : ℕ
   pub above : 0 < height
-  pub fits : AllFit (length kept) (events_of_block height b) (live_row kept parent)
+  pub fits : AllFit (events_of_block height b) (are_live (live_cell (branch kept parent)))
 
-pub fits-on : (chain : Chain) (b : Block) (joining : Joining) → IsJoined chain → MayJoin chain.spec chain.blocks b → IsReady chain.blocks b joining
+pub fits-on : (chain : Chain) (b : Block) (joining : Joining) → MayJoin chain.spec chain.blocks b → IsReady chain.blocks b joining
     → FitsOn chain.blocks b joining.entry.parent
-fits-on chain b joining joined may ready =
+fits-on chain b joining may ready =
     let same : may.parent ≡ joining.entry.parent = same_Some may.parent joining.entry.parent (sym may.on_kept ∙ ready.entry.on_kept) in
     record {
       height = length (branch chain.blocks may.parent);
       above = branch-some chain.blocks may.parent (place_of-below chain.blocks b.header.parent_hash may.parent may.on_kept);
-      fits = subst (λ (p : ℕ). AllFit (length chain.blocks) (events_of_block (length (branch chain.blocks may.parent)) b) (live_row chain.blocks p)) same
-          (what-joins-fits chain b joined may);
+      fits = subst (λ (p : ℕ). AllFit (events_of_block (length (branch chain.blocks may.parent)) b) (are_live (live_cell (branch chain.blocks p)))) same
+          (what-joins-fits chain b may);
     }
 
 -- ---- All that is kept with one more block

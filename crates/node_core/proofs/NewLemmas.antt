@@ -8,8 +8,8 @@ use Rattle.outside.specs.Disk.{cut_area, Cut, Follows, IsDurable, OthersRead}
 use Rattle.codec_defs.specs.Shape.{decoded}
 use Rattle.codec_defs.specs.Schema.{block}
 use Rattle.verdict_defs.specs.Chain.{chain_of_genesis}
-use Rattle.store_defs.specs.Genesis.{broken_by, broken_genesis_rule}
-use Rattle.store_defs.specs.Rest.{IsSettled, HasOthers}
+use Rattle.genesis_defs.specs.Genesis.{broken_by, broken_genesis_rule}
+use Rattle.log_defs.specs.Rest.{IsSettled, HasOthers}
 use Rattle.store_defs.specs.Store.{StandsFor}
 use Rattle.store_defs.proofs.StoreLemmas.{stands_for_the_genesis}
 use Rattle.log_file.specs.Pieces.{first_records}

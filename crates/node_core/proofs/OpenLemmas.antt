@@ -10,22 +10,21 @@ use Rattle.outside.specs.declared.disk.ReadStop.{ReadStop}
 use Rattle.outside.specs.declared.disk.ReadStop.TheVariants.{DiskFault, Damaged, NoMemory}
 use Rattle.outside.specs.Image.{Image, with_content}
 use Rattle.outside.specs.Causes.{CountsFault}
-use Rattle.outside.specs.Disk.{NoneNew, IsDurable, HasOneImage, OthersRead, LeavesOnly}
+use Rattle.outside.specs.Disk.{NoneNew, IsDurable, HasOneImage, OthersRead, LeavesOnly, IsOnlyRead}
 use Rattle.outside.proofs.Moments.{leaves_also, leaves_then}
 use Rattle.codec_defs.specs.Shape.{decoded}
 use Rattle.codec_defs.specs.Schema.{Block, block}
-use Rattle.chain_defs.specs.Kept.{block_at}
+use Rattle.chain_defs.specs.Kept.{block_at, kept_limit}
 use Rattle.chain_defs.proofs.KeptLaws.{slice_get-below}
 use Rattle.cell_defs.specs.Ext.{count_at, is_ext}
 use Rattle.cell_model.specs.ListBlocks.{IsExtFor}
 use Rattle.time_defs.specs.Specification.{Specification, specification_of}
-use Rattle.verdict_defs.specs.Verdict.{kept_limit}
 use Rattle.verdict_defs.specs.Chain.{Chain}
-use Rattle.store_defs.specs.Log.{Record, LogContent, log_of, records_of, parts_of_body}
-use Rattle.store_defs.specs.Rest.{IsSettled, HasLog}
-use Rattle.store_defs.specs.Store.{NoLog, Keeps, store_of, store_of_log, chain_of, StandsFor, IsSound, IsJoined, IsOnlyRead, EachHasJoined}
-use Rattle.store_defs.proofs.Contents.{says_its_records}
-use Rattle.store_defs.proofs.StoreLemmas.{counts_its_records}
+use Rattle.log_defs.specs.Log.{Record, LogContent, log_of, records_of, parts_of_body}
+use Rattle.log_defs.specs.Rest.{IsSettled, HasLog}
+use Rattle.store_defs.specs.Store.{NoLog, Keeps, store_of, store_of_log, chain_of, StandsFor, IsSound, IsJoined, EachHasJoined}
+use Rattle.log_defs.proofs.Contents.{says_its_records}
+use Rattle.log_defs.proofs.Contents.{counts_its_records}
 use Rattle.store_defs.proofs.JoinedLemmas.{joined_of_image}
 use Rattle.store_defs.proofs.ExtLemmas.{HoldsItsExt, exts_of_log}
 use Rattle.chain_tree.specs.declared.entry.Entry.{Entry}

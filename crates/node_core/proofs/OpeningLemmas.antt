@@ -11,7 +11,7 @@ use Rattle.std.proofs.lemmas.Option.{same_Some}
 use Rattle.codec_defs.specs.Shape.{IsA, decoded}
 use Rattle.codec_defs.proofs.ShapeLaws.{IsA-decoded}
 use Rattle.codec_defs.specs.Schema.{OutPoint, Block, block}
-use Rattle.time_defs.specs.Dao.{field_of_bytes}
+use Rattle.time_defs.specs.Dao.{is_rated}
 use Rattle.time_defs.specs.Specification.{Specification}
 use Rattle.chain_defs.specs.Tip.{tip_place}
 use Rattle.chain_defs.proofs.KeptLaws.{slice_get-below}
@@ -21,16 +21,16 @@ use Rattle.chain_tree.specs.declared.entry.Entry.{Entry}
 use Rattle.chain_tree.specs.Entries.{entry_at}
 use Rattle.chain_tree.specs.Blocks.{IndexesBlocks}
 use Rattle.chain_tree.specs.Told.{Stored, blocks_of}
-use Rattle.chain_tree.proofs.BlockLemmas.{len-same}
+use Rattle.chain_tree.proofs.BlockLemmas.{described, len-same}
 use Rattle.cell_model.specs.ListBlocks.{contents, IsCanonical, IsExtFor}
 use Rattle.cell_model.specs.ListBlocks as listed
-use Rattle.replay.specs.Fit.{BranchFits}
-use Rattle.tx_rules.specs.At.{AreRated}
+use Rattle.cell_defs.specs.Fit.{BranchFits}
+use Rattle.chain_tree.specs.Blocks.{AreRated}
 use Rattle.uncle_rules.specs.Embedded.{Embedded, embedded_in, embedded_from, UnclesValue, IndexesUncles}
-use Rattle.verdict_defs.specs.Verdict.{kept_limit}
+use Rattle.chain_defs.specs.Kept.{kept_limit}
 use Rattle.verdict_defs.specs.Chain.{Chain}
 use Rattle.store_defs.specs.Store.{IsJoined}
-use Rattle.joined_laws.proofs.RatedLaws.{entries-are-rated}
+use Rattle.joined_laws.proofs.HeaderLaws.{blocks-are-rated}
 use Rattle.joined_laws.proofs.FitLaws.{what-joins-fits}
 use Rattle.joined_laws.proofs.BranchFitLaws.{branches-fit}
 use Rattle.log_file.specs.Grammar.{AreBlocks}
@@ -40,7 +40,7 @@ use Rattle.node_core.specs.Opening.{HaveExts}
 -- ---- Ratings
 
 abbrev pub IsRated : Entry → Type 0
-IsRated entry = (0 < (field_of_bytes entry.dao).issued) × (0 < (field_of_bytes entry.dao).rate)
+IsRated entry = IsTrue (is_rated entry.dao)
 
 -- the entries before a place are rated
 abbrev pub AreRatedBelow : List Entry → ℕ → Type 0
@@ -48,16 +48,16 @@ AreRatedBelow entries count = (place : ℕ) (entry : Entry) → place < count �
 
 rated-by : (entries : List Entry) (count : ℕ) (last : Entry) → AreRatedBelow entries count → entry_at entries count ≡ Some last → IsRated last
     → (place : ℕ) (entry : Entry) → place < count + 1 → entry_at entries place ≡ Some entry → (b : Bool) → nat_lt place count ≡ b → IsRated entry
-rated-by entries count last earlier at_last is_rated place entry below there true before = earlier place entry (ltb-true place count before) there
-rated-by entries count last earlier at_last is_rated place entry below there false past =
+rated-by entries count last earlier at_last last_is place entry below there true before = earlier place entry (ltb-true place count before) there
+rated-by entries count last earlier at_last last_is place entry below there false past =
     let same : place ≡ count = omega (arith, below, ltb-false place count past) in
-    subst IsRated (ap (λ o. unwrap_or o last) (sym at_last ∙ ap (entry_at entries) (sym same) ∙ there)) is_rated
+    subst IsRated (ap (λ o. unwrap_or o last) (sym at_last ∙ ap (entry_at entries) (sym same) ∙ there)) last_is
 
 -- one entry more
 pub rated-more : (entries : List Entry) (count : ℕ) (last : Entry) → AreRatedBelow entries count → entry_at entries count ≡ Some last → IsRated last
     → AreRatedBelow entries (count + 1)
-rated-more entries count last earlier at_last is_rated place entry below there =
-    rated-by entries count last earlier at_last is_rated place entry below there (nat_lt place count) refl
+rated-more entries count last earlier at_last last_is place entry below there =
+    rated-by entries count last earlier at_last last_is place entry below there (nat_lt place count) refl
 
 -- ---- Exts
 
@@ -171,7 +171,9 @@ chain_with spec kept = record { spec = spec; blocks = kept }
 
 pub rated-joined : (spec : Specification) (items : List (List ℕ)) (entries : List Entry) (kept : List Block) → AreBlocks items entries
     → map (decoded block) items ≡ map Some kept → IsJoined (record { spec = spec; blocks = kept }) → AreRated entries
-rated-joined spec items entries kept are decode joined = entries-are-rated (chain_with spec kept) entries joined (indexed-by items entries kept are decode)
+rated-joined spec items entries kept are decode joined place entry there =
+    let here = described kept entries place entry (indexed-by items entries kept are decode).each there in
+    subst (λ (dao : List ℕ). IsTrue (is_rated dao)) (sym here.is.dao) (blocks-are-rated (chain_with spec kept) place here.block joined here.there)
 
 pub fits-joined : (spec : Specification) (items : List (List ℕ)) (entries : List Entry) (kept : List Block) (stored : List Stored) (tip : ℕ) → AreBlocks items entries
     → map (decoded block) items ≡ map Some (blocks_of stored) → map (decoded block) items ≡ map Some kept → IsJoined (record { spec = spec; blocks = kept })

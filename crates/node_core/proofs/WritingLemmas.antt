@@ -2,8 +2,8 @@
 use Rattle.std.proofs.Common.{◌≡◌, ℕ, ◌<◌, ◌≤◌, ◌^◌, List, length, ap, ◌∙◌, arith}
 use Rattle.std.proofs.lemmas.Nat.{from_le_bytes-to_le_bytes_4}
 use Rattle.cell_defs.specs.Ext.{Ext, ext_bytes, count_at}
-use Rattle.store_defs.specs.Log.{Record}
-use Rattle.store_defs.proofs.Records.{record_length}
+use Rattle.log_defs.specs.Log.{Record}
+use Rattle.log_defs.proofs.Records.{record_length}
 use Rattle.log_file.specs.Pieces.{behind_gate}
 use Rattle.log_file.proofs.Gates.{piece_length}
 

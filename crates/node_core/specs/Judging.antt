@@ -2,17 +2,17 @@
 use Rattle.std.specs.Prelude.{◌≡◌, ℕ, ◌-◌, ◌<◌, false, List, length, Option, Some, None, IsTrue}
 use Rattle.codec_defs.specs.Shape.{decoded}
 use Rattle.codec_defs.specs.Schema.{OutPoint, Block, block}
-use Rattle.chain_defs.specs.Kept.{block_hash, place_of}
+use Rattle.chain_defs.specs.Kept.{block_hash, place_of, follows, kept_limit}
 use Rattle.chain_defs.specs.Branch.{branch}
 use Rattle.chain_defs.specs.Tip.{tip_place}
 use Rattle.chain_tree.specs.declared.entry.Entry.{Entry}
 use Rattle.chain_tree.specs.Blocks.{Describes}
 use Rattle.cell_defs.specs.Row.{live_row}
 use Rattle.cell_state.specs.State.{StateValue, rows}
-use Rattle.rule_defs.specs.Header.{follows, parent_of}
-use Rattle.block_defs.specs.Rules.{is_rated}
+use Rattle.rule_defs.specs.Header.{parent_of}
+use Rattle.time_defs.specs.Dao.{is_rated}
 use Rattle.block_defs.specs.Ext.{ext_of}
-use Rattle.verdict_defs.specs.Verdict.{kept_limit, joins, verdict_of_block}
+use Rattle.verdict_defs.specs.Verdict.{joins, verdict_of_block}
 use Rattle.verdict_defs.specs.Chain.{Chain, verdict_over}
 use Rattle.verdict_defs.specs.Laws.{MayJoin}
 use Rattle.node_core.specs.declared.deciding.Joining.{Joining}
@@ -35,7 +35,7 @@ pub record IsReady (kept : List Block) (b : Block) (joining : Joining) : Type 0 
   pub entry : IsEntryOn kept b joining.entry
   pub next : IsTrue (follows b (parent_of (branch kept joining.entry.parent)))
   pub room : length kept < kept_limit
-  pub rated : IsTrue (is_rated b)
+  pub rated : IsTrue (is_rated b.header.dao)
   pub fees : length joining.ext.fees ≡ length b.transactions - 1
   pub cells : AreCellsOn kept joining.entry.parent joining.cells
 

@@ -3,20 +3,19 @@ use Rattle.std.specs.Prelude.{◌≡◌, ℕ, ◌+◌, ◌*◌, ◌^◌, ◌<◌
 use Rattle.outside.specs.Image.{Image}
 use Rattle.codec_defs.specs.Shape.{decoded}
 use Rattle.codec_defs.specs.Schema.{OutPoint, Block, block}
-use Rattle.chain_defs.specs.Kept.{block_hash}
+use Rattle.chain_defs.specs.Kept.{block_hash, kept_limit}
 use Rattle.chain_defs.specs.Tip.{tip_place}
 use Rattle.chain_tree.specs.declared.entry.Entry.{Entry}
 use Rattle.chain_tree.specs.Blocks.{IndexesBlocks}
 use Rattle.chain_tree.specs.Told.{Stored, blocks_of}
 use Rattle.cell_defs.specs.Row.{Row, live_row}
-use Rattle.tx_rules.specs.At.{AreRated}
+use Rattle.chain_tree.specs.Blocks.{AreRated}
 use Rattle.uncle_rules.specs.Embedded.{UnclesValue, IndexesUncles}
 use Rattle.time_defs.specs.Specification.{broken_specification_rule}
-use Rattle.verdict_defs.specs.Verdict.{kept_limit}
 use Rattle.verdict_defs.specs.Chain.{Chain}
-use Rattle.store_defs.specs.Genesis.{broken_genesis_rule}
-use Rattle.store_defs.specs.Log.{Record}
-use Rattle.store_defs.specs.Rest.{IsAtRest}
+use Rattle.genesis_defs.specs.Genesis.{broken_genesis_rule}
+use Rattle.log_defs.specs.Log.{Record}
+use Rattle.log_defs.specs.Rest.{IsAtRest}
 use Rattle.store_defs.specs.Store.{StandsFor}
 
 -- a node: its chain, and the offset where the records of its log end

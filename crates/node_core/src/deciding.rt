@@ -3,13 +3,12 @@ ghost use Rattle.std.specs.Prelude.{◌≡◌, ◌≢◌, ◌≤◌, ◌+◌, �
 ghost use Rattle.codec_defs.specs.Shape.{decoded};
 ghost use Rattle.codec_defs.specs.Schema as schema;
 ghost use Rattle.codec_defs.specs.Schema.{Block};
-ghost use Rattle.chain_defs.specs.Kept.{place_of};
+ghost use Rattle.chain_defs.specs.Kept.{place_of, kept_limit};
 ghost use Rattle.chain_defs.specs.Tip.{tip_place, best_branch};
 ghost use Rattle.outside.specs.declared.disk.Area.TheVariants.{Log};
 ghost use Rattle.outside.specs.declared.disk.Damage.{Damage};
 ghost use Rattle.outside.specs.declared.disk.ReadStop.TheVariants.{DiskFault, Damaged};
 ghost use Rattle.block_judge.specs.declared.stop.Judged.TheVariants.{Broken, Read};
-ghost use Rattle.verdict_defs.specs.Verdict.{kept_limit};
 ghost use Rattle.verdict_defs.specs.Trial.{trial_on};
 ghost use Rattle.verdict_defs.specs.declared.trial.Trial.TheVariants.{Passes, Refused};
 ghost use Rattle.store_defs.specs.Store.{IsJoined};
@@ -33,7 +32,7 @@ use verdict_defs::Verdict;
 const KEPT_LIMIT: u32 = 1_000_000;
 
 /// Whether one more may be kept beside so many.
-#[tactic(auto, unfolding(verdict_defs::specs::Verdict::kept_limit))]
+#[tactic(auto, unfolding(chain_defs::specs::Kept::kept_limit))]
 fn has_room(count: u32) -> bool
     ensures { result ≡ nat_lt count kept_limit }
 {

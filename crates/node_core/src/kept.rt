@@ -8,9 +8,10 @@ ghost use Rattle.chain_tree.specs.Entries.{place_of_hash, FollowsParent};
 ghost use Rattle.uncle_rules.specs.Embedded.{embedded_in};
 ghost use Rattle.chain_defs.specs.Tip as tips;
 ghost use Rattle.chain_defs.specs.Tip.{tip_place};
-ghost use Rattle.cell_defs.specs.Events.{events_of_block};
+ghost use Rattle.cell_defs.specs.Events.{events_of_block, live_cell};
+ghost use Rattle.chain_defs.specs.Branch.{branch};
 ghost use Rattle.cell_defs.specs.Row.{live_row};
-ghost use Rattle.cell_state.specs.Fit.{AllFit};
+ghost use Rattle.cell_defs.specs.Fit.{are_live, AllFit};
 ghost use Rattle.cell_state.specs.State.{rows, Grows};
 ghost use Rattle.cell_model.specs.ListBlocks.{IsCanonical, IsExtFor};
 ghost use Rattle.chain_tree.specs.Blocks.{Describes, IndexesBlocks};
@@ -66,7 +67,7 @@ fn grown<L: Ledger>(
     steps: &mut Steps<L>,
 ) -> Result<State, ReadStop>
     ensures of_branch { IfOk result (λ state. Grows block.now place cells state) }
-    ensures undamaged { (height : ℕ) → 0 < height → AllFit place (events_of_block height block.now) (rows cells)
+    ensures undamaged { (height : ℕ) → 0 < height → AllFit (events_of_block height block.now) (are_live (rows cells))
         → (damage : a_damage) → result ≡ Err (Damaged damage) → ⊥ }
     ensures damage { (damage : a_damage) → result ≡ Err (Damaged damage) → damage.area ≡ Log }
     ensures reads { result ≢ Err DiskFault }
@@ -108,7 +109,7 @@ impl Kept {
             → rows next o ≡ live_row (kept ++ block.now ∷ []) tip o) }
         ensures undamaged { (kept : List Block) (height : ℕ) → IndexesBlocks kept tree.now.entries → IsReady kept block.now joining
             → ((tip : ℕ) → tip_place kept ≡ Some tip → (o : OutPoint) → rows state o ≡ live_row kept tip o)
-            → 0 < height → AllFit (length kept) (events_of_block height block.now) (live_row kept joining.entry.parent)
+            → 0 < height → AllFit (events_of_block height block.now) (are_live (live_cell (branch kept joining.entry.parent)))
             → (damage : a_damage) → result ≡ Err (Damaged damage) → ⊥ }
         ensures damage { (damage : a_damage) → result ≡ Err (Damaged damage) → damage.area ≡ Log }
         ensures reads { result ≢ Err DiskFault }

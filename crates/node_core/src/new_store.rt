@@ -5,7 +5,7 @@ ghost use Rattle.outside.specs.Image.{Image};
 ghost use Rattle.outside.specs.declared.disk.WriteStop.TheVariants.{DiskFault};
 ghost use Rattle.time_defs.specs.Specification.{broken_specification_rule};
 ghost use Rattle.verdict_defs.specs.Chain.{chain_of_genesis};
-ghost use Rattle.store_defs.specs.Genesis.{broken_genesis_rule};
+ghost use Rattle.genesis_defs.specs.Genesis.{broken_genesis_rule};
 ghost use Rattle.store_defs.specs.Store.{StandsFor};
 ghost use Rattle.node_core.specs.Node.{IsHashOf};
 

@@ -1,7 +1,7 @@
 // A node: the kept blocks of a store, in memory and on their disk.
 ghost use Rattle.std.specs.Prelude.{◌≡◌, ◌≢◌, ◌⊎◌, ◌<◌, ◌≤◌, ◌+◌, ◌^◌, ℕ, false, Err, List, Some, length, slice_index, IfOk, IfErr, OnOk, OnErr, IfSome, IsTrue};
 ghost use Rattle.outside.specs.Causes.{CountsFault};
-ghost use Rattle.outside.specs.Disk.{HasOneImage, LeavesOnly};
+ghost use Rattle.outside.specs.Disk.{HasOneImage, LeavesOnly, IsOnlyRead};
 ghost use Rattle.outside.specs.Image.{Image};
 ghost use Rattle.outside.specs.declared.disk.Area.TheVariants.{Log as log_area};
 ghost use Rattle.outside.specs.declared.disk.Damage.{Damage};
@@ -21,8 +21,8 @@ ghost use Rattle.verdict_defs.specs.Chain.{Chain, verdict_over, chain_after};
 ghost use Rattle.verdict_defs.specs.Verdict.{joins};
 ghost use Rattle.verdict_defs.specs.Trial.{trial_on};
 ghost use Rattle.verdict_defs.specs.declared.trial.Trial.TheVariants.{Passes, Refused};
-ghost use Rattle.store_defs.specs.Log.{end_of_log};
-ghost use Rattle.store_defs.specs.Store.{Keeps, store_of, StandsFor, IsSound, IsJoined, IsOnlyRead};
+ghost use Rattle.log_defs.specs.Log.{end_of_log};
+ghost use Rattle.store_defs.specs.Store.{Keeps, store_of, StandsFor, IsSound, IsJoined};
 ghost use Rattle.log_file.specs.Pieces.{behind_gate, block_record};
 ghost use Rattle.node_core.specs.Node.{IsOn};
 ghost use Rattle.node_core.specs.Steps.{replays_for, replays_to_open};
@@ -90,7 +90,7 @@ pub struct Node {
 
 impl Model for Node {
     ghost use Rattle.std.specs.Prelude.{◌≤◌, length};
-    ghost use Rattle.verdict_defs.specs.Verdict.{kept_limit};
+    ghost use Rattle.chain_defs.specs.Kept.{kept_limit};
     ghost use Rattle.node_core.specs.Node.{NodeValue, IsWithin};
 
     ghost Value = { NodeValue };

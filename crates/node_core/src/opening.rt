@@ -4,12 +4,11 @@ ghost use Rattle.codec_defs.specs.Shape.{decoded};
 ghost use Rattle.codec_defs.specs.Schema as schema;
 ghost use Rattle.codec_defs.specs.Schema.{Block};
 ghost use Rattle.chain_defs.specs.Tip.{greatest_number};
-ghost use Rattle.time_defs.specs.Dao.{field_of_bytes};
 ghost use Rattle.cell_defs.specs.Ext.{count_at};
 ghost use Rattle.cell_model.specs.ListBlocks.{contents, IsCanonical, IsExtFor};
-ghost use Rattle.tx_rules.specs.At.{AreRated};
+ghost use Rattle.chain_tree.specs.Blocks.{AreRated};
 ghost use Rattle.uncle_rules.specs.Embedded.{embedded_from};
-ghost use Rattle.verdict_defs.specs.Verdict.{kept_limit};
+ghost use Rattle.chain_defs.specs.Kept.{kept_limit};
 ghost use Rattle.store_defs.specs.Store.{IsJoined};
 ghost use Rattle.log_file.specs.Grammar.{AreBlocks};
 ghost use Rattle.log_file.specs.declared.stop.LogStop.TheVariants.{DiskFault, NotAStore};
@@ -20,7 +19,7 @@ ghost use Rattle.node_core.specs.Opening.{HaveBlocks, HaveExts};
 use crate::kept::{Kept, take_uncles};
 use cell_model::ListBlocks;
 use chain_tree::Tree;
-use dao_math::Dao;
+use dao_math::is_rated;
 use epochs::Spec;
 use log_file::{LogStop, ext_form};
 use mol_schema::BlockView;
@@ -30,17 +29,7 @@ use std::alloc::Global;
 use std::sync::ledger::Ledger;
 use uncle_rules::Uncles;
 
-/// Whether the C and the AR of a DAO field are above 0.
-fn is_rated(dao: &[u8; 32]) -> bool
-    ensures issued { result ≡ true → 0 < (field_of_bytes dao.now).issued }
-    ensures rate { result ≡ true → 0 < (field_of_bytes dao.now).rate }
-    ensures unrated { result ≡ false → (0 < (field_of_bytes dao.now).issued) × (0 < (field_of_bytes dao.now).rate) → ⊥ }
-{
-    let field = Dao::read(dao);
-    field.c > 0 && field.ar > 0
-}
-
-/// Whether they are in each entry of a tree.
+/// Whether the DAO field of each entry of a tree is rated.
 fn are_rated(tree: &Tree) -> bool
     ensures rated { result ≡ true → AreRated tree.now.entries }
     ensures unrated { result ≡ false → AreRated tree.now.entries → ⊥ }

@@ -7,7 +7,7 @@ use Rattle.std.proofs.lemmas.Bool.Decides.{nat_tests}
 use Rattle.outside.specs.Image.{Image}
 use Rattle.outside.specs.Disk.{Elapses, SameImages, IsAsBefore}
 use Rattle.outside.proofs.Images.{as_before_started, as_before_goes_on}
-use Rattle.store_defs.specs.Log.{LogContent, log_of}
+use Rattle.log_defs.specs.Log.{LogContent, log_of}
 use Rattle.store_defs.specs.Store.{Store, NoLog, NotALog, Keeps, store_of, store_of_log}
 use Rattle.report_defs.specs.declared.command.Command.TheVariants.{Init}
 use Rattle.report_defs.specs.declared.status.Status.{Status}

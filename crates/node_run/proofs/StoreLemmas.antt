@@ -8,7 +8,7 @@ use Rattle.outside.proofs.Moments.{leaves_also, leaves_then, now_too}
 use Rattle.codec_defs.specs.Schema.{Block}
 use Rattle.chain_defs.specs.Kept.{block_hash}
 use Rattle.verdict_defs.specs.Chain.{Chain, chain_over}
-use Rattle.store_defs.specs.Log.{LogContent, log_of}
+use Rattle.log_defs.specs.Log.{LogContent, log_of}
 use Rattle.store_defs.specs.Store.{Store, NoLog, NotALog, Keeps, store_of, store_of_log, StandsFor, IsSound, IsJoined}
 use Rattle.store_defs.proofs.JoinedLemmas.{joined_of_image}
 use Rattle.report_defs.specs.declared.command.Command.{Command}

@@ -1,12 +1,12 @@
 // The store that a command works on.
 ghost use Rattle.std.specs.Prelude.{◌≡◌, ◌≢◌, ◌⊎◌, ◌↔◌, ◌+◌, ◌<◌, ◌≤◌, ◌∷◌, [], Err, Some, length, slice_index, IfOk, IfSome};
 ghost use Rattle.outside.specs.Causes.{CountsFault};
-ghost use Rattle.outside.specs.Disk.{LeavesOnly};
+ghost use Rattle.outside.specs.Disk.{LeavesOnly, IsOnlyRead};
 ghost use Rattle.outside.specs.declared.disk.Damage.{Damage};
 ghost use Rattle.outside.specs.Image.{Image};
 ghost use Rattle.verdict_defs.specs.Chain.{Chain};
-ghost use Rattle.store_defs.specs.Log.{end_of_log};
-ghost use Rattle.store_defs.specs.Store.{Keeps, store_of, StandsFor, IsSound, IsOnlyRead};
+ghost use Rattle.log_defs.specs.Log.{end_of_log};
+ghost use Rattle.store_defs.specs.Store.{Keeps, store_of, StandsFor, IsSound};
 ghost use Rattle.report_defs.specs.Status.{IsOneOf};
 ghost use Rattle.node_core.specs.Node.{IsOn};
 ghost use Rattle.node_core.specs.Steps.{replays_to_open};

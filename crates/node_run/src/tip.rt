@@ -1,8 +1,9 @@
 // The command `tip`: the tip of the kept blocks.
 ghost use Rattle.std.specs.Prelude.{◌≡◌, ◌≢◌, ◌+◌, ◌≤◌, slice_index, ◌∷◌, List, ℕ, Option, Some, []};
 ghost use Rattle.outside.specs.Causes.{CountsFault};
-ghost use Rattle.store_defs.specs.Log.{end_of_log};
-ghost use Rattle.store_defs.specs.Store.{Keeps, store_of, IsOnlyRead};
+ghost use Rattle.log_defs.specs.Log.{end_of_log};
+ghost use Rattle.store_defs.specs.Store.{Keeps, store_of};
+ghost use Rattle.outside.specs.Disk.{IsOnlyRead};
 ghost use Rattle.verdict_defs.specs.Chain.{Chain};
 ghost use Rattle.outside.specs.Image.{Image};
 ghost use Rattle.report_defs.specs.Status.{IsOneOf};

@@ -89,3 +89,9 @@ pub record IsAsBefore {D : Type 0} (reads_as : D → Option Image) (may_leave : 
   pub reads : reads_as new ≡ reads_as old
   pub images : SameImages (may_leave old) (may_leave new)
   pub moments : LeavesOnly moment left_since old new (may_leave old)
+
+-- A disk was read and nothing else: it reads as it did, and no image is new, now or at any moment since.
+pub record IsOnlyRead {D : Type 0} (reads_as : D → Option Image) (may_leave : D → Image → Type 0) (moment : D → ℕ) (left_since : D → ℕ → Image → Type 0) (old new : D) : Type 0 where
+  pub reads : reads_as new ≡ reads_as old
+  pub images : NoneNew (may_leave old) (may_leave new)
+  pub moments : LeavesOnly moment left_since old new (may_leave old)

@@ -1,18 +1,18 @@
--- A kept block as it is told, and events that fit.
-use Rattle.std.proofs.Common.{◌≡◌, ℕ, List, [], ◌∷◌, ◌++◌, length, take, Option, Some, None, refl, sym, ap, ◌∙◌, subst}
-use Rattle.std.specs.Prelude.{slice_get, IfSome, IsSome}
+-- A kept block as it is told, and events of which none is odd.
+use Rattle.std.proofs.Common.{◌≡◌, ℕ, Bool, List, Option, Some, None, refl, sym, ap, ◌∙◌, subst}
+use Rattle.std.specs.Prelude.{slice_get, IfSome}
 use Rattle.std.specs.Option.{option_map}
-use Rattle.std.proofs.lemmas.List.{take_at}
+use Rattle.std.proofs.lemmas.Bool.{false≢true}
 use Rattle.std.proofs.lemmas.Option.{slice_get-map}
 use Rattle.codec_defs.specs.Shape.{decoded}
 use Rattle.codec_defs.specs.Schema.{OutPoint, Block, block}
 use Rattle.chain_defs.specs.Kept.{block_at}
 use Rattle.chain_tree.specs.Told.{Stored, blocks_of, Encodes}
-use Rattle.cell_defs.specs.Events.{Event, Makes, Spends}
-use Rattle.cell_defs.specs.Row.{Row, row_after}
-use Rattle.cell_state.specs.Fit.{Fits, AllFit, IsFirstOdd}
+use Rattle.cell_defs.specs.Events.{Event}
+use Rattle.cell_defs.specs.Fit.{AllFit}
+use Rattle.cell_laws.proofs.FitLemmas.{fits-between}
+use Rattle.cell_state.specs.Fit.{IsFirstOdd}
 use Rattle.cell_state.specs.declared.odd.Odd.{Odd}
-use Rattle.replay.proofs.RowLemmas.{row_after-same}
 
 -- what is in hand is the encoding of the block at its place
 pub told-block : (stored : List Stored) (bytes : List ℕ) (place : ℕ) (b : Block) (told : Option (List Stored)) (hand : Option ℕ) → told ≡ Some stored
@@ -28,24 +28,6 @@ told-block stored bytes place b told hand tells in_hand encodes there =
     by_it None is encoding = absurd (cc)
     by_it (Some it) is encoding = encoding ∙ is
 
-slice_get-middle : (xs ys : List Event) (x : Event) → slice_get (xs ++ x ∷ ys) (length xs) ≡ Some x
-slice_get-middle [] ys x = refl
-slice_get-middle (first ∷ xs) ys x = slice_get-middle xs ys x
-
-pub fits-same : (place : ℕ) (events : List Event) (one other : OutPoint → Option Row) (event : Event) → ((o : OutPoint) → other o ≡ one o)
-    → Fits (row_after place events one) event → Fits (row_after place events other) event
-fits-same place events one other (Makes o cell) same fits = row_after-same place events other one o (same o) ∙ fits
-fits-same place events one other (Spends o) same fits =
-    subst (λ (r : Option Row). IsSome r) (sym (row_after-same place events other one o (same o))) fits
-
-pub all-same : (place : ℕ) (events : List Event) (one other : OutPoint → Option Row) → ((o : OutPoint) → other o ≡ one o)
-    → AllFit place events one → AllFit place events other
-all-same place events one other same fit count event there = fits-same place (take count events) one other event same (fit count event there)
-
 -- Where all fit, none is odd.
-pub none-odd : (place : ℕ) (events : List Event) (rows : OutPoint → Option Row) (odd : Odd) → AllFit place events rows → IsFirstOdd place events rows odd → ⊥
-none-odd place events rows odd fit so =
-    so.unfit (subst (λ (front : List Event). Fits (row_after place front rows) so.event)
-    (ap (take (length so.earlier)) so.parts ∙ take_at so.earlier (so.event ∷ so.later) (length so.earlier) refl)
-    (fit (length so.earlier) so.event
-    (ap (λ (all : List Event). slice_get all (length so.earlier)) so.parts ∙ slice_get-middle so.earlier so.later so.event)))
+pub none-odd : (all : List Event) (live : OutPoint → Bool) (odd : Odd) → AllFit all live → IsFirstOdd all live odd → ⊥
+none-odd all live odd fit so = false≢true (sym so.unfit ∙ fits-between all so.earlier so.event so.later live fit so.parts)

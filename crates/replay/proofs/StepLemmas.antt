@@ -1,6 +1,6 @@
 -- From one height of a branch to the next.
 use Rattle.std.proofs.Common.{◌≡◌, ℕ, ◌+◌, ◌-◌, ◌<◌, ◌≤◌, List, length, Option, Some, None, refl, sym, ap, ◌∙◌, subst, ⊎_elim, arith}
-use Rattle.std.specs.Prelude.{slice_get, IsSomeAnd, IfSome}
+use Rattle.std.specs.Prelude.{slice_get, is_some, IsSomeAnd, IfSome}
 use Rattle.std.proofs.lemmas.Bool.{cases_lt}
 use Rattle.std.proofs.lemmas.Option.{slice_get_within, same_Some}
 use Rattle.codec_defs.specs.Schema.{OutPoint, Block}
@@ -12,14 +12,13 @@ use Rattle.chain_tree.specs.declared.entry.Entry.{Entry}
 use Rattle.chain_tree.specs.Entries.{entry_at}
 use Rattle.chain_tree.specs.Blocks.{IndexesBlocks}
 use Rattle.chain_tree.proofs.BlockLemmas.{DescribedAt, described, len-same, ancestor-same}
-use Rattle.cell_defs.specs.Events.{events_of_block}
+use Rattle.cell_defs.specs.Events.{events_of_block, live_cell}
 use Rattle.cell_defs.specs.Row.{Row, row_after, live_row}
 use Rattle.cell_laws.proofs.JoinLemmas.{length-branch}
-use Rattle.cell_state.specs.Fit.{AllFit}
-use Rattle.replay.specs.Fit.{BranchFits}
+use Rattle.cell_defs.specs.Fit.{are_live, AllFit, BranchFits}
 use Rattle.replay.proofs.PlaceLemmas.{branch-first, branch-linked}
 use Rattle.replay.proofs.RowLemmas.{row_after-same, live_row-step, live_row-genesis}
-use Rattle.replay.proofs.FitLemmas.{all-same}
+use Rattle.cell_laws.proofs.FitLemmas.{row-where-cell, all-same}
 
 -- The rows are those of the branch that ends with the place of a height.
 abbrev pub AreRowsAt : List Block → ℕ → ℕ → (OutPoint → Option Row) → Type 0
@@ -60,11 +59,11 @@ rows-next kept e height place b before after on_branch there so_far applied othe
 
 pub fits-here : (kept : List Block) (e height place : ℕ) (b : Block) (before : OutPoint → Option Row) → BranchFits kept e
     → slice_get (branch_places kept e) (height + 1) ≡ Some place → block_at kept place ≡ Some b → AreRowsAt kept e height before
-    → AllFit place (events_of_block (height + 1) b) before
+    → AllFit (events_of_block (height + 1) b) (are_live before)
 fits-here kept e height place b before fits on_branch there so_far =
     let parent = parent-at kept e height place on_branch in
-    all-same place (events_of_block (height + 1) b) (live_row kept parent.0) before (so_far parent.0 parent.1)
-    (fits height parent.0 place b parent.1 on_branch there)
+    all-same (events_of_block (height + 1) b) (are_live (live_cell (branch kept parent.0))) (are_live before)
+    (λ o. ap is_some (so_far parent.0 parent.1 o) ∙ row-where-cell kept parent.0 o) (fits height parent.0 place b parent.1 on_branch there)
 
 -- ---- Blocks that fit
 
@@ -72,25 +71,24 @@ fits-here kept e height place b before fits on_branch there so_far =
 abbrev pub FitsBelow : List Block → ℕ → ℕ → Type 0
 FitsBelow kept e end = (height parent place : ℕ) (b : Block) → height < end → slice_get (branch_places kept e) height ≡ Some parent
     → slice_get (branch_places kept e) (height + 1) ≡ Some place → block_at kept place ≡ Some b
-    → AllFit place (events_of_block (height + 1) b) (live_row kept parent)
+    → AllFit (events_of_block (height + 1) b) (are_live (live_cell (branch kept parent)))
 
 pub below-first : (kept : List Block) (e : ℕ) → FitsBelow kept e 0
 below-first kept e height parent place b below low high there = absurd (omega (arith, below))
 
 pub below-next : (kept : List Block) (e end place : ℕ) (before : OutPoint → Option Row) → FitsBelow kept e end
     → slice_get (branch_places kept e) (end + 1) ≡ Some place → AreRowsAt kept e end before
-    → ((b : Block) → block_at kept place ≡ Some b → (h : ℕ) → 0 < h → AllFit place (events_of_block h b) before) → FitsBelow kept e (end + 1)
+    → ((b : Block) → block_at kept place ≡ Some b → (h : ℕ) → 0 < h → AllFit (events_of_block h b) (are_live before)) → FitsBelow kept e (end + 1)
 below-next kept e end place before so_far on_branch rows fit height parent other b below low high there =
     ⊎_elim (λ less. so_far height parent other b less low high there) here (cases_lt height end)
   where
-    here : end ≤ height → AllFit other (events_of_block (height + 1) b) (live_row kept parent)
+    here : end ≤ height → AllFit (events_of_block (height + 1) b) (are_live (live_cell (branch kept parent)))
     here least =
         let is : end ≡ height = omega (arith, least, below) in
         let same : place ≡ other = same_Some place other (sym on_branch ∙ ap (λ (n : ℕ). slice_get (branch_places kept e) (n + 1)) is ∙ high) in
-        subst (λ (p : ℕ). AllFit p (events_of_block (height + 1) b) (live_row kept parent)) same
-        (all-same place (events_of_block (height + 1) b) before (live_row kept parent)
-        (λ o. sym (rows parent (ap (slice_get (branch_places kept e)) is ∙ low) o))
-        (fit b (ap (block_at kept) same ∙ there) (height + 1) (omega arith)))
+        all-same (events_of_block (height + 1) b) (are_live before) (are_live (live_cell (branch kept parent)))
+        (λ o. sym (row-where-cell kept parent o) ∙ ap is_some (sym (rows parent (ap (slice_get (branch_places kept e)) is ∙ low) o)))
+        (fit b (ap (block_at kept) same ∙ there) (height + 1) (omega arith))
 
 -- The branch has one place a number.
 branch-long : (kept : List Block) (entries : List Entry) (e : ℕ) (entry : Entry) → IndexesBlocks kept entries → entry_at entries e ≡ Some entry

@@ -1,2 +1,1 @@
 pub mod Down
-pub mod Fit

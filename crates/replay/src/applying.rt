@@ -9,7 +9,7 @@ ghost use Rattle.chain_defs.specs.Kept.{block_at};
 ghost use Rattle.chain_tree.specs.Told.{Stored, blocks_of};
 ghost use Rattle.cell_defs.specs.Events.{events_of_block};
 ghost use Rattle.cell_defs.specs.Row.{row_after};
-ghost use Rattle.cell_state.specs.Fit.{AllFit};
+ghost use Rattle.cell_defs.specs.Fit.{are_live, AllFit};
 ghost use Rattle.cell_state.specs.State.{rows};
 
 use cell_state::{State, outputs_in};
@@ -77,9 +77,9 @@ pub(crate) fn apply_at<B: Blocks, L: Ledger>(
     ensures rows { (stored : List Stored) (b : Block) → B.told blocks.old ≡ Some stored → block_at (blocks_of stored) place ≡ Some b
         → OnOk result ((height : ℕ) (o : OutPoint) → 0 < height → rows state.new o ≡ row_after place (events_of_block height b) (rows state.old) o) }
     ensures fit { (stored : List Stored) (b : Block) → B.told blocks.old ≡ Some stored → block_at (blocks_of stored) place ≡ Some b
-        → OnOk result ((height : ℕ) → 0 < height → AllFit place (events_of_block height b) (rows state.old)) }
+        → OnOk result ((height : ℕ) → 0 < height → AllFit (events_of_block height b) (are_live (rows state.old))) }
     ensures undamaged { (stored : List Stored) (b : Block) (height : ℕ) → B.told blocks.old ≡ Some stored → block_at (blocks_of stored) place ≡ Some b
-        → 0 < height → AllFit place (events_of_block height b) (rows state.old) → (damage : disk.Damage) → result ≡ Err (Damaged damage) → ⊥ }
+        → 0 < height → AllFit (events_of_block height b) (are_live (rows state.old)) → (damage : disk.Damage) → result ≡ Err (Damaged damage) → ⊥ }
     ensures damage { (damage : disk.Damage) → result ≡ Err (Damaged damage) → damage.area ≡ Log }
     ensures cause { CountsFault (B.faults blocks.old) (B.faults blocks.new) (result ≡ Err DiskFault) }
     ensures steps { OnOk result (steps.new ≡ steps.old + 1) }

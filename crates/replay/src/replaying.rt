@@ -11,7 +11,7 @@ ghost use Rattle.chain_tree.specs.Told.{Stored, blocks_of};
 ghost use Rattle.cell_defs.specs.Row.{live_row};
 ghost use Rattle.cell_state.specs.State.{rows};
 ghost use Rattle.replay.specs.Down.{AreDown};
-ghost use Rattle.replay.specs.Fit.{BranchFits};
+ghost use Rattle.cell_defs.specs.Fit.{BranchFits};
 
 use crate::applying::{apply_at, genesis_cells};
 use cell_state::State;

@@ -11,7 +11,7 @@ use Rattle.verdict_defs.specs.Chain.{Chain, verdicts_over}
 use Rattle.verdict_defs.specs.Trial.{trial}
 use Rattle.verdict_defs.specs.declared.trial.Trial.{Trial}
 use Rattle.verdict_defs.specs.declared.trial.Trial.TheVariants.{Passes, Refused}
-use Rattle.store_defs.specs.Genesis.{broken_genesis_rule}
+use Rattle.genesis_defs.specs.Genesis.{broken_genesis_rule}
 use Rattle.store_defs.specs.Store.{Store, NoLog, NotALog, Keeps}
 use Rattle.vm_defs.specs.Alone.{answer_ecall}
 use Rattle.vm_defs.specs.Program.{execution}

@@ -1,10 +1,10 @@
 -- The rules on a block's header, J4 to J8, as rows of a list (docs/RULES.md, "A block"). A row has the rule's number and whether the
 -- block keeps it.
-use Rattle.std.specs.Prelude.{ℕ, ◌+◌, ◌-◌, ◌==◌, nat_lt, Bool, false, List, [], ◌∷◌, length, Option, Some, None}
+use Rattle.std.specs.Prelude.{ℕ, ◌-◌, ◌==◌, nat_lt, Bool, List, [], ◌∷◌, length, Option}
 use Rattle.codec_defs.specs.Schema.{Header, Block}
 use Rattle.time_defs.specs.Epochs.{epoch_field}
 use Rattle.time_defs.specs.Specification.{Specification}
-use Rattle.chain_defs.specs.Kept.{block_at}
+use Rattle.chain_defs.specs.Kept.{block_at, follows}
 use Rattle.chain_defs.specs.Median.{median_time}
 
 -- the last block of a branch, on which the next one stands
@@ -15,16 +15,11 @@ parent_of branch = block_at branch (length branch - 1)
 abbrev pub has_version : Header → Bool
 has_version header = header.version == 0
 
--- J5: its number is its parent's plus 1 (RFC 0027, "number").
-abbrev pub follows : Block → Option Block → Bool
-follows b None = false
-follows b (Some parent) = b.header.number == parent.header.number + 1
-
--- J6: its epoch field is that of its height (RFC 0027, "epoch").
+-- J6: its epoch field is that of its height (RFC 0027, "epoch", for the form of the field).
 abbrev pub has_epoch : Specification → Header → Bool
 has_epoch spec header = header.epoch == epoch_field spec.epoch_length header.number
 
--- J7: its compact target is the specification's (RFC 0027, "compact_target").
+-- J7: its compact target is the specification's: one for all blocks, where RFC 0020 adjusts it (docs/RULES.md, "A block").
 abbrev pub has_target : Specification → Header → Bool
 has_target spec header = header.compact_target == spec.compact_target
 

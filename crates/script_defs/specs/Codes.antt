@@ -3,7 +3,7 @@ use Rattle.std.specs.Prelude.{ℕ, Bool, false, ◌&&◌, ◌==◌, List, [], �
 use Rattle.std.specs.List.{find, filter}
 use Rattle.std.specs.Str.{bytes_eq}
 use Rattle.codec_defs.specs.Schema.{Script}
-use Rattle.cell_defs.specs.Cell.{data_hash}
+use Rattle.cell_defs.specs.Cell.{by_data, by_type, data_hash}
 use Rattle.script_defs.specs.Scene.{ShownCell}
 use Rattle.script_defs.specs.Groups.{has_hash}
 
@@ -14,16 +14,6 @@ pub data Code : Type 0 where
   ManyCodes : Code
   -- these bytes
   Is : List ℕ → Code
-
--- ---- Hash types
-
--- the code hash is the hash of the code
-abbrev pub by_data : ℕ
-by_data = 0
-
--- the code hash is the hash of the type script of the cell that holds the code
-abbrev pub by_type : ℕ
-by_type = 1
 
 -- ---- The dep that is named
 

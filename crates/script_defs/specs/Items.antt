@@ -13,7 +13,7 @@ use Rattle.sys_defs.specs.Table as table
 use Rattle.sys_defs.specs.World.{Call, Item, Here, NoIndex, Missing, Unknown, Items}
 use Rattle.script_defs.specs.Scene.{Scene, ShownCell}
 use Rattle.script_defs.specs.Groups.{Group}
-use Rattle.script_defs.specs.Sources.{Place, AtInput, AtOutput, AtCellDep, AtHeaderDep, source_of, place_of}
+use Rattle.script_defs.specs.Sources.{Place, AtInput, AtOutput, AtCellDep, AtHeaderDep, source_of, place_in_source}
 
 -- ---- What stands at a place. `None`: the place has no such item. `Some None`: the item is missing.
 
@@ -114,7 +114,7 @@ abbrev pub listed : {I : Type 0} → Scene → Group → Call → (Place → Opt
 listed scene group call at None = Unknown
 listed scene group call at (Some bytes) = elim (source_of call.source) [
   | None ↦ Unknown
-  | Some source ↦ item_at at bytes (place_of scene group source call.index)
+  | Some source ↦ item_at at bytes (place_in_source scene group source call.index)
 ]
 
 -- What syscalls ask of cells, of headers, of inputs. The table has no row by which they would be asked for otherwise.

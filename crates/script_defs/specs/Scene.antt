@@ -26,12 +26,12 @@ pub record Scene : Type 0 where
 
 -- ---- Of a transaction at its site
 
-abbrev pub header_at : List Block → ℕ → Option Header
-header_at branch height = option_map (λ b. b.header) (block_at branch height)
+abbrev pub header_on : List Block → ℕ → Option Header
+header_on branch height = option_map (λ b. b.header) (block_at branch height)
 
 -- the header of the block that made a cell, where it is among the header deps
 abbrev pub made_in : Site → Transaction → Cell → Option Header
-made_in site t cell = if list_any (λ height. height == cell.height) (heights site t) then header_at site.branch cell.height else None
+made_in site t cell = if list_any (λ height. height == cell.height) (heights site t) then header_on site.branch cell.height else None
 
 abbrev pub shown : Site → Transaction → Found → ShownCell
 shown site t found = record { output = found.cell.output; content = found.cell.content; header = made_in site t found.cell }
@@ -41,6 +41,6 @@ scene_of site t = record {
   transaction = t;
   inputs = map (shown site t) (inputs site t);
   deps = map (shown site t) (deps site t);
-  headers = filter_map (header_at site.branch) (heights site t);
+  headers = filter_map (header_on site.branch) (heights site t);
   epoch_length = site.spec.epoch_length;
 }

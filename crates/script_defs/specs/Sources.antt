@@ -46,12 +46,12 @@ before end index = if nat_lt index end then Some index else None
 
 -- The place of an index of a source; none at its end and past it. An index into a group is mapped to the place in the transaction. A group has
 -- no cell deps and no header deps (docs/DECISIONS.md).
-abbrev pub place_of : Scene → Group → Source → ℕ → Option Place
-place_of scene group Inputs index = option_map AtInput (before (length scene.transaction.raw.inputs) index)
-place_of scene group Outputs index = option_map AtOutput (before (length scene.transaction.raw.outputs) index)
-place_of scene group CellDeps index = option_map AtCellDep (before (length scene.deps) index)
-place_of scene group HeaderDeps index = option_map AtHeaderDep (before (length scene.headers) index)
-place_of scene group GroupInputs index = option_map AtInput (slice_get group.inputs index)
-place_of scene group GroupOutputs index = option_map AtOutput (slice_get group.outputs index)
-place_of scene group GroupCellDeps index = None
-place_of scene group GroupHeaderDeps index = None
+abbrev pub place_in_source : Scene → Group → Source → ℕ → Option Place
+place_in_source scene group Inputs index = option_map AtInput (before (length scene.transaction.raw.inputs) index)
+place_in_source scene group Outputs index = option_map AtOutput (before (length scene.transaction.raw.outputs) index)
+place_in_source scene group CellDeps index = option_map AtCellDep (before (length scene.deps) index)
+place_in_source scene group HeaderDeps index = option_map AtHeaderDep (before (length scene.headers) index)
+place_in_source scene group GroupInputs index = option_map AtInput (slice_get group.inputs index)
+place_in_source scene group GroupOutputs index = option_map AtOutput (slice_get group.outputs index)
+place_in_source scene group GroupCellDeps index = None
+place_in_source scene group GroupHeaderDeps index = None

@@ -10,20 +10,19 @@ use Rattle.std.proofs.lemmas.List.{length-append, length-drop, length_push, take
 use Rattle.outside.specs.Image.{Image}
 use Rattle.codec_defs.specs.Shape.{decoded}
 use Rattle.codec_defs.specs.Schema.{Transaction, Block, block}
-use Rattle.chain_defs.specs.Kept.{block_at}
+use Rattle.chain_defs.specs.Kept.{block_at, blocks_of_item}
 use Rattle.chain_defs.specs.Branch.{branch}
 use Rattle.chain_defs.proofs.KeptLaws.{slice_get-before, slice_get-push}
 use Rattle.time_defs.specs.Specification.{Specification}
 use Rattle.cell_defs.specs.Ext.{Ext, row_bytes, ext_bytes, count_at, is_ext}
-use Rattle.block_defs.specs.Ext.{ext_of, fees_from}
-use Rattle.verdict_defs.specs.Verdict.{blocks_of_item}
+use Rattle.block_defs.specs.Ext.{ext_of}
+use Rattle.tx_defs.specs.Capacity.{fees_from}
 use Rattle.verdict_defs.specs.Chain.{Chain}
 use Rattle.verdict_defs.specs.Laws.{CanJoin}
-use Rattle.store_defs.specs.Log.{Record, LogContent, record_limit, records_of, log_of, content_of_records, are_first, blocks_over, block_of_record, block_of_parts, block_if, may_stand_on, parts_of_body}
-use Rattle.store_defs.specs.LogLaws.{HasFittingBody}
+use Rattle.log_defs.specs.Log.{Record, LogContent, record_limit, records_of, log_of, content_of_records, are_first, blocks_over, block_of_record, block_of_parts, block_if, may_stand_on, parts_of_body}
+use Rattle.log_defs.specs.LogLaws.{HasFittingBody}
 use Rattle.store_defs.specs.Store.{StandsFor, HasJoined, EachHasJoined, ext_over, ext_on, ext_of_found, chain_before}
-use Rattle.store_defs.proofs.Contents.{said}
-use Rattle.store_defs.proofs.StoreLemmas.{one_genesis, good_genesis}
+use Rattle.log_defs.proofs.Contents.{one_genesis, good_genesis, said}
 use Rattle.store_defs.proofs.JoinedLemmas.{over-front, joined_item, content_of_log}
 
 -- ---- The bytes of an ext

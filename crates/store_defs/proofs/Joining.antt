@@ -4,34 +4,30 @@ use Rattle.std.specs.Prelude.{◌&&◌, not, is_some}
 use Rattle.std.specs.Option.{option_and_then}
 use Rattle.std.proofs.lemmas.Bool.{and_from}
 use Rattle.codec_defs.specs.Schema.{Block}
-use Rattle.chain_defs.specs.Kept.{block_hash, block_at, place_of}
+use Rattle.chain_defs.specs.Kept.{block_hash, block_at, place_of, follows}
 use Rattle.chain_defs.specs.Branch.{branch}
 use Rattle.chain_defs.proofs.KeptLaws.{place_of-below}
 use Rattle.chain_defs.proofs.BranchLaws.{branch-last}
 use Rattle.time_defs.specs.Specification.{Specification}
-use Rattle.rule_defs.specs.Header.{follows, parent_of}
+use Rattle.rule_defs.specs.Header.{parent_of}
 use Rattle.verdict_defs.specs.Laws.{MayJoin}
 use Rattle.verdict_defs.proofs.VerdictLaws.{follows-unbroken}
 use Rattle.cell_defs.specs.Ext.{is_ext}
 use Rattle.store_defs.specs.Store.{ext_over}
-use Rattle.store_defs.specs.Log.{body_of_parts, parts_of_body, is_next_of, may_stand_on, block_if, block_of_parts}
-use Rattle.store_defs.specs.LogLaws.{TakesWhatJoins}
-use Rattle.store_defs.proofs.Contents.{gives_the_parts}
-
-next_follows : (b : Block) (parent : Option Block) → is_next_of b.header.number parent ≡ follows b parent
-next_follows b None = refl
-next_follows b (Some parent) = refl
+use Rattle.log_defs.specs.Log.{body_of_parts, parts_of_body, may_stand_on, block_if, block_of_parts}
+use Rattle.store_defs.specs.JoinLaws.{TakesWhatJoins}
+use Rattle.log_defs.proofs.Contents.{gives_the_parts}
 
 -- A block that may join may stand behind the kept ones.
 pub may_stand : (spec : Specification) (kept : List Block) (b : Block) → MayJoin spec kept b → may_stand_on kept b ≡ true
 may_stand spec kept b may =
     let last : parent_of (branch kept may.parent) ≡ block_at kept may.parent =
     branch-last kept may.parent (place_of-below kept b.header.parent_hash may.parent may.on_kept) in
-    let next : is_next_of b.header.number (option_and_then (block_at kept) (place_of kept b.header.parent_hash)) ≡ true =
-    ap (λ (place : Option ℕ). is_next_of b.header.number (option_and_then (block_at kept) place)) may.on_kept
-    ∙ next_follows b (block_at kept may.parent) ∙ ap (follows b) (sym last) ∙ follows-unbroken spec (branch kept may.parent) b may.unbroken in
+    let next : follows b (option_and_then (block_at kept) (place_of kept b.header.parent_hash)) ≡ true =
+    ap (λ (place : Option ℕ). follows b (option_and_then (block_at kept) place)) may.on_kept
+    ∙ ap (follows b) (sym last) ∙ follows-unbroken spec (branch kept may.parent) b may.unbroken in
     let new : not (is_some (place_of kept (block_hash b))) ≡ true = ap (λ (place : Option ℕ). not (is_some place)) may.new in
-    and_from (is_next_of b.header.number (option_and_then (block_at kept) (place_of kept b.header.parent_hash))) (not (is_some (place_of kept (block_hash b)))) next new
+    and_from (follows b (option_and_then (block_at kept) (place_of kept b.header.parent_hash))) (not (is_some (place_of kept (block_hash b)))) next new
 
 pub takes_what_joins : TakesWhatJoins
 takes_what_joins chain item can short form =

@@ -1,6 +1,3 @@
-pub mod Records
-pub mod Contents
-pub mod Resting
 pub mod Joining
 pub mod StoreLemmas
 pub mod JoinedLemmas

@@ -8,16 +8,18 @@ use Rattle.codec_defs.specs.Shape.{decoded}
 use Rattle.codec_defs.specs.Schema.{Block, block}
 use Rattle.chain_defs.proofs.KeptLaws.{slice_get-pushed}
 use Rattle.time_defs.specs.Specification.{specification_of, broken_specification_rule}
-use Rattle.verdict_defs.specs.Verdict.{kept_limit, block_list, blocks_of_item, kept_after}
+use Rattle.verdict_defs.specs.Verdict.{kept_after}
+use Rattle.chain_defs.specs.Kept.{kept_limit, block_list, blocks_of_item}
 use Rattle.verdict_defs.specs.Chain.{Chain, chain_after}
 use Rattle.verdict_defs.specs.Laws.{CanJoin}
 use Rattle.verdict_defs.proofs.VerdictLaws.{keeps-what-joins}
-use Rattle.store_defs.specs.Genesis.{broken_by, broken_genesis_rule}
-use Rattle.store_defs.specs.Log.{Record, LogContent, record_limit, content_of_records, are_first, blocks_over, block_of_record}
-use Rattle.store_defs.specs.LogLaws.{record_over, grown}
+use Rattle.genesis_defs.specs.Genesis.{broken_by, broken_genesis_rule}
+use Rattle.log_defs.specs.Log.{Record, LogContent, record_limit, content_of_records, are_first, blocks_over, block_of_record}
+use Rattle.log_defs.specs.LogLaws.{grown}
+use Rattle.store_defs.specs.JoinLaws.{record_over}
 use Rattle.store_defs.specs.Store.{HasJoined, EachHasJoined, chain_of, chain_before, ext_over}
 use Rattle.store_defs.specs.StoreLaws.{StandsAsItSays, StandsAfterAnItem, StandsForTheGenesis}
-use Rattle.store_defs.proofs.Contents.{gives_the_parts, says_its_records, grows_by_a_block, said}
+use Rattle.log_defs.proofs.Contents.{one_genesis, good_genesis, counts_its_records, gives_the_parts, says_its_records, adds_a_block, said}
 use Rattle.store_defs.proofs.Joining.{takes_what_joins}
 
 pub stands_as_it_says : StandsAsItSays
@@ -30,49 +32,7 @@ stands_as_it_says chain image bytes stands same = record {
   no_snap_b = stands.no_snap_b;
 }
 
--- ---- How many blocks a log has
-
-over-length : (kept : List Block) (records : List Record) (all : List Block) → blocks_over kept records ≡ Some all
-    → length all ≡ length kept + length records
-over-length kept [] all over = let same : kept ≡ all = (cc) in omega (arith, ap length same)
-over-length kept (r ∷ records) all over = by_found (λ x. over-length (kept ++ x ∷ []) records all) (block_of_record kept r) over
-  where
-    by_found : ((x : Block) → blocks_over (kept ++ x ∷ []) records ≡ Some all → length all ≡ length (kept ++ x ∷ []) + length records)
-        → (o : Option Block) → option_and_then (λ x. blocks_over (kept ++ x ∷ []) records) o ≡ Some all → length all ≡ length kept + suc (length records)
-    by_found again None over = absurd (cc)
-    by_found again (Some x) over = omega (arith, again x over, length_push kept x)
-
-pub one_genesis : (item : List ℕ) → is_none (broken_genesis_rule item) ≡ true → length (blocks_of_item item) ≡ 1
-unfolding broken_genesis_rule
-one_genesis item good = by_block (decoded block item) good
-  where
-    by_block : (o : Option Block) → is_none (broken_by o) ≡ true → length (block_list o) ≡ 1
-    by_block None good = absurd (cc)
-    by_block (Some b) good = refl
-
-pub good_genesis : (one two : Record) → are_first one two ≡ true → is_none (broken_genesis_rule two.body) ≡ true
-good_genesis one two first =
-    (and_parts ((one.kind == 1) && is_none (broken_specification_rule one.body) && (two.kind == 2)) (is_none (broken_genesis_rule two.body)) first).1
-
--- one more than records of blocks
-pub counts_its_records : (records : List Record) (log : LogContent) → content_of_records records ≡ Some log → length log.blocks ≡ length log.records + 1
-counts_its_records [] log says = absurd (cc)
-counts_its_records (one ∷ []) log says = absurd (cc)
-counts_its_records (one ∷ two ∷ records) log says = by_test (are_first one two && leb (length records) record_limit) refl says
-  where
-    by_blocks : are_first one two ≡ true → (o : Option (List Block)) → blocks_over (blocks_of_item two.body) records ≡ o → said one two records o ≡ Some log
-        → length log.blocks ≡ length log.records + 1
-    by_blocks first None is says = absurd (cc)
-    by_blocks first (Some blocks) is says =
-        let same : record { specification = one.body; genesis = two.body; records = records; blocks = blocks } ≡ log = (cc) in
-        let count : length blocks ≡ length records + 1 =
-        omega (arith, over-length (blocks_of_item two.body) records blocks is, one_genesis two.body (good_genesis one two first)) in
-        subst (λ (l : LogContent). length l.blocks ≡ length l.records + 1) same count
-
-    by_test : (t : Bool) → (are_first one two && leb (length records) record_limit) ≡ t
-        → cond t (said one two records (blocks_over (blocks_of_item two.body) records)) None ≡ Some log → length log.blocks ≡ length log.records + 1
-    by_test false is says = absurd (cc)
-    by_test true is says = by_blocks (and_parts (are_first one two) (leb (length records) record_limit) is).0 (blocks_over (blocks_of_item two.body) records) refl says
+-- ---- Room
 
 -- where one more block may be kept, one more record may stand
 below_limit : (count : ℕ) → count + 1 < kept_limit → count < record_limit
@@ -148,7 +108,7 @@ stands_after_an_item chain item image bytes place next records stands can short 
     let room : length log.records < record_limit = below_limit (length log.records) (omega (arith, count, ap length same, can.may.room)) in
     record {
       log = grown log r can.block;
-      is_log = says_its_records next (records ++ r ∷ []) bytes more ∙ grows_by_a_block records r log can.block says takes room;
+      is_log = says_its_records next (records ++ r ∷ []) bytes more ∙ adds_a_block records r log can.block says takes room;
       keeps = keeps_after chain item log stands.keeps can count short;
       joined = each_joined_after chain item log stands.keeps can count short stands.joined;
       no_snap_a = stands.no_snap_a;

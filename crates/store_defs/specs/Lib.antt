@@ -1,6 +1,3 @@
-pub mod Genesis
-pub mod Log
-pub mod Rest
-pub mod LogLaws
 pub mod Store
+pub mod JoinLaws
 pub mod StoreLaws

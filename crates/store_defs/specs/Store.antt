@@ -1,7 +1,6 @@
 -- What an image of the disk keeps, and when it is sound (docs/STORE.md).
 use Rattle.std.specs.Prelude.{◌≡◌, ℕ, ◌+◌, ◌<◌, ◌==◌, List, [], slice_get, length, take, Option, Some, None, if◌then◌else◌}
 use Rattle.outside.specs.Image.{Image}
-use Rattle.outside.specs.Disk.{NoneNew, LeavesOnly}
 use Rattle.codec_defs.specs.Shape.{decoded}
 use Rattle.codec_defs.specs.Schema.{Block, block}
 use Rattle.fold_defs.specs.First.{first_failing}
@@ -11,8 +10,8 @@ use Rattle.block_defs.specs.Ext.{ext_of}
 use Rattle.time_defs.specs.Specification.{specification_of}
 use Rattle.verdict_defs.specs.Chain.{Chain, chain_after}
 use Rattle.verdict_defs.specs.Laws.{MayJoin}
-use Rattle.store_defs.specs.Genesis.{genesis_rules}
-use Rattle.store_defs.specs.Log.{LogContent, Record, log_of, parts_of_body}
+use Rattle.genesis_defs.specs.Genesis.{genesis_rules}
+use Rattle.log_defs.specs.Log.{LogContent, Record, log_of, parts_of_body}
 
 -- What stands in the folder when a run begins.
 pub data Store : Type 0 where
@@ -84,9 +83,3 @@ pub record StandsFor (chain : Chain) (image : Image) : Type 0 where
 -- An image is sound: it stands for some chain.
 abbrev pub IsSound : Image → Type 0
 IsSound image = (chain : Chain) × StandsFor chain image
-
--- A disk was read and nothing else: it reads as it did, and no image is new, now or at any moment since.
-pub record IsOnlyRead {D : Type 0} (reads_as : D → Option Image) (may_leave : D → Image → Type 0) (moment : D → ℕ) (left_since : D → ℕ → Image → Type 0) (old new : D) : Type 0 where
-  pub reads : reads_as new ≡ reads_as old
-  pub images : NoneNew (may_leave old) (may_leave new)
-  pub moments : LeavesOnly moment left_since old new (may_leave old)

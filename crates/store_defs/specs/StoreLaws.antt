@@ -6,10 +6,10 @@ use Rattle.time_defs.specs.Specification.{broken_specification_rule}
 use Rattle.verdict_defs.specs.Chain.{Chain, chain_of_genesis, chain_after}
 use Rattle.verdict_defs.specs.Laws.{CanJoin}
 use Rattle.cell_defs.specs.Ext.{is_ext}
-use Rattle.store_defs.specs.Genesis.{broken_genesis_rule}
-use Rattle.store_defs.specs.Log.{Record, log_of}
-use Rattle.store_defs.specs.LogLaws.{record_over}
-use Rattle.store_defs.specs.Rest.{IsAtRest}
+use Rattle.genesis_defs.specs.Genesis.{broken_genesis_rule}
+use Rattle.log_defs.specs.Log.{Record, log_of}
+use Rattle.store_defs.specs.JoinLaws.{record_over}
+use Rattle.log_defs.specs.Rest.{IsAtRest}
 use Rattle.store_defs.specs.Store.{ext_over, IsJoined, StandsFor}
 
 -- Law: an image stands for a chain as long as its log says the same.

@@ -4,3 +4,4 @@ pub mod EpochLength
 pub mod Spans
 pub mod Withdrawals
 pub mod FieldBytes
+pub mod RatedLemmas

@@ -95,3 +95,7 @@ field_of_bytes bytes = record {
   savings = from_le_bytes w64 (slice_range bytes 16 24);
   occupied = from_le_bytes w64 (slice_range bytes 24 32);
 }
+
+-- A field is rated where its C and its AR are above 0: shares and withdrawals are divided by them (RFC 0023, "Calculation").
+abbrev pub is_rated : List ℕ → Bool
+is_rated bytes = nat_lt 0 (field_of_bytes bytes).issued && nat_lt 0 (field_of_bytes bytes).rate

@@ -1,7 +1,8 @@
--- Epochs, epoch values and issuance. Every epoch has `length` blocks.
+-- Epochs, epoch values and issuance. Every epoch has `length` blocks: that it is so, where RFC 0020 adjusts it, is a choice of this chain
+-- (docs/RULES.md, "Epochs and issuance").
 use Rattle.std.specs.Prelude.{ℕ, ◌+◌, ◌-◌, ◌*◌, ◌/◌, ◌%◌, ◌^◌, Bool, ◌==◌, ◌&&◌, ◌||◌, nat_lt, nat_le, if◌then◌else◌}
 
--- ---- Epochs (RFC 0020)
+-- ---- Epochs
 
 -- the epoch in which the block of this height stands, and its index there
 abbrev pub epoch_number : ℕ → ℕ → ℕ
@@ -29,7 +30,7 @@ value_length value = value / 2 ^ 40 % 2 ^ 16
 abbrev pub epoch_field : ℕ → ℕ → ℕ
 epoch_field length height = epoch_value (epoch_number length height) (epoch_index length height) length
 
--- the index is below the length, or both are zero
+-- the index is below the length (RFC 0017), or both are zero, which stands for whole epochs (docs/RULES.md, "Epochs and issuance")
 abbrev pub is_well_formed : ℕ → Bool
 is_well_formed value = nat_lt (value_index value) (value_length value) || ((value_index value == 0) && (value_length value == 0))
 

@@ -28,7 +28,7 @@ timestamp_of None = 0
 timestamp_of (Some b) = b.header.timestamp
 
 -- The time from which a cell of this height counts: the median time at the parent of its block; for the genesis its own timestamp
--- (docs/DECISIONS.md).
+-- (docs/RULES.md, "Since and time").
 unfoldable pub start_of : List Block → ℕ → ℕ
 start_of branch zero = timestamp_of (block_at branch 0)
 start_of branch (suc parent) = median_time (take (suc parent) branch)

@@ -1,25 +1,18 @@
 -- What a transaction's inputs count, and what its outputs hold (RFC 0022, "Cell"; RFC 0023, "Calculation"; docs/RULES.md, "Capacity and the
 -- DAO field"). Capacities are in shannons.
-use Rattle.std.specs.Prelude.{ℕ, ◌-◌, ◌^◌, ℤ, pos, ◌-ℤ◌, Bool, ◌&&◌, not, nat_lt, nat_le, List, map, length, Option, Some, None, is_some, if◌then◌else◌}
+use Rattle.std.specs.Prelude.{ℕ, suc, [], ◌∷◌, ◌-◌, ◌^◌, ℤ, pos, ◌-ℤ◌, Bool, ◌&&◌, not, nat_lt, nat_le, List, map, length, Option, Some, None, is_some, if◌then◌else◌}
 use Rattle.std.specs.List.{list_all, list_any, enumerate_from, range_with_len, sum_by}
 use Rattle.codec_defs.specs.Schema.{OutPoint, Transaction, Block}
+use Rattle.time_defs.specs.Specification.{Specification}
 use Rattle.time_defs.specs.Dao.{field_of_bytes, counted_capacity}
 use Rattle.chain_defs.specs.Kept.{block_at}
-use Rattle.chain_defs.specs.Hashes.{transaction_hash}
-use Rattle.cell_defs.specs.Cell.{Cell, occupied_by, holds_its_own, data_of}
-use Rattle.tx_defs.specs.Site.{Site, Found}
+use Rattle.cell_defs.specs.Cell.{Cell, occupied_by, outputs_hold_their_own}
+use Rattle.cell_defs.specs.Events.{made_out_points}
+use Rattle.tx_defs.specs.Site.{Site, Found, site_at}
 use Rattle.tx_defs.specs.Resolving.{inputs, heights}
 use Rattle.tx_defs.specs.Withdrawals.{is_withdrawing, deposit_height}
 
 -- ---- J25: outputs
-
--- each output holds what it occupies with its data
-abbrev pub outputs_hold_their_own : Transaction → Bool
-outputs_hold_their_own t = list_all (λ it. holds_its_own it.1 (data_of t it.0)) (enumerate_from 0 t.raw.outputs)
-
--- the out-points of its outputs
-abbrev pub made_out_points : Transaction → List OutPoint
-made_out_points t = map (λ index. record { tx_hash = transaction_hash t; index = index }) (range_with_len 0 (length t.raw.outputs))
 
 -- J25: each output holds what it occupies, and none of their out-points is live.
 abbrev pub makes_good_cells : Site → Transaction → Bool
@@ -63,6 +56,11 @@ balances site t = nat_lt (counted_in site t) (2 ^ 64) && nat_lt (held_out t) (2 
 -- The fee: what the inputs count beyond what the outputs hold.
 abbrev pub fee : Site → Transaction → ℕ
 fee site t = counted_in site t - held_out t
+
+-- the fees of a block's transactions from a place on
+unfoldable pub fees_from : Specification → List Block → Block → ℕ → List Transaction → List ℕ
+fees_from spec branch b place [] = []
+fees_from spec branch b place (t ∷ later) = fee (site_at spec branch b place) t ∷ fees_from spec branch b (suc place) later
 
 -- The interest: what the inputs count beyond their capacities. It is below 0 only where the rate fell.
 abbrev pub interest : Site → Transaction → ℤ

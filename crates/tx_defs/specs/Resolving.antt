@@ -12,17 +12,18 @@ use Rattle.tx_defs.specs.Site.{Site, Found, find_cell, height_at, all_there}
 
 -- ---- J20: inputs
 
--- the cells that its inputs spend, in their order
-unfoldable pub input_cells : Site → Transaction → Option (List Found)
-input_cells site t = all_there (map (λ input. find_cell site input.previous_output) t.raw.inputs)
-
 -- no two inputs spend one cell
 abbrev pub spends_each_once : Transaction → Bool
 spends_each_once t = are_distinct (map (λ input. encoded out_point input.previous_output) t.raw.inputs)
 
+-- The cells that its inputs spend, in their order: there are none where one is not live, or is named twice.
+unfoldable pub input_cells : Site → Transaction → Option (List Found)
+input_cells site t =
+    if spends_each_once t then all_there (map (λ input. find_cell site input.previous_output) t.raw.inputs) else None
+
 -- J20: its inputs are live and distinct.
 abbrev pub spends_live_cells : Site → Transaction → Bool
-spends_live_cells site t = is_some (input_cells site t) && spends_each_once t
+spends_live_cells site t = is_some (input_cells site t)
 
 -- ---- J21: cell deps
 
@@ -59,7 +60,7 @@ has_cell_deps site t = is_some (dep_cells site t)
 
 -- ---- J22: header deps
 
--- The height of the ancestor with a hash, where the span of maturity is over from it (docs/DECISIONS.md: from genesis too).
+-- The height of the ancestor with a hash, where the span of maturity is over from it (docs/RULES.md, "A block": from the genesis too).
 abbrev pub mature_ancestor : Site → List ℕ → Option ℕ
 mature_ancestor site hash = option_and_then
     (λ height. if is_span_over site.spec.maturity site.spec.epoch_length height (height_at site) then Some height else None)

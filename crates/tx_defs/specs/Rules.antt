@@ -5,6 +5,7 @@ use Rattle.codec_defs.specs.Shape.{encoded}
 use Rattle.codec_defs.specs.Schema.{Transaction, cell_dep}
 use Rattle.fold_defs.specs.First.{first_failing}
 use Rattle.chain_defs.specs.Hashes.{are_distinct}
+use Rattle.cell_defs.specs.Cell.{pairs_data}
 use Rattle.tx_defs.specs.Site.{Site}
 use Rattle.tx_defs.specs.Resolving.{spends_live_cells, has_cell_deps, has_header_deps}
 use Rattle.tx_defs.specs.Age.{uses_mature_cells, meets_each_since}
@@ -16,7 +17,7 @@ use Rattle.tx_defs.specs.Capacity.{makes_good_cells, balances}
 abbrev pub has_form : Transaction → Bool
 has_form t =
     (t.raw.version == 0) && nat_lt 0 (length t.raw.inputs) && nat_lt 0 (length t.raw.outputs)
-    && (length t.raw.outputs_data == length t.raw.outputs)
+    && pairs_data t
     && are_distinct (map (encoded cell_dep) t.raw.cell_deps) && are_distinct t.raw.header_deps
 
 -- The rule on what a transaction is by itself.

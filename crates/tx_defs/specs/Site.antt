@@ -5,12 +5,21 @@ use Rattle.std.specs.Option.{option_map, option_and_then}
 use Rattle.codec_defs.specs.Schema.{OutPoint, Block}
 use Rattle.time_defs.specs.Specification.{Specification}
 use Rattle.cell_defs.specs.Cell.{Cell}
+use Rattle.cell_defs.specs.Events.{live_cell, cell_seen}
 
 pub record Site : Type 0 where
   pub spec : Specification
   pub branch : List Block
   -- the live cell with an out-point, after all transactions before this one
   pub cell : OutPoint → Option Cell
+
+-- where the transaction at a place of a block stands: it sees the cells after those before it
+abbrev pub site_at : Specification → List Block → Block → ℕ → Site
+site_at spec branch b place = record { spec = spec; branch = branch; cell = cell_seen branch b place }
+
+-- where a transaction stands that is tried alone, after the last block of a branch
+abbrev pub site_after : Specification → List Block → Site
+site_after spec branch = record { spec = spec; branch = branch; cell = live_cell branch }
 
 -- the height of the block that it stands in, which is the next one of the branch
 abbrev pub height_at : Site → ℕ

@@ -7,15 +7,11 @@ use Rattle.std.specs.Int.{w64, from_le_bytes}
 use Rattle.codec_defs.specs.Shape.{decoded}
 use Rattle.codec_defs.specs.Schema.{Script, Transaction, witness_args}
 use Rattle.time_defs.specs.Specification.{Specification}
-use Rattle.cell_defs.specs.Cell.{Cell}
+use Rattle.cell_defs.specs.Cell.{Cell, by_type}
 use Rattle.tx_defs.specs.Site.{Site, Found}
 use Rattle.tx_defs.specs.Resolving.{inputs, heights}
 
--- the hash type by which the DAO script is named: that of its type script (RFC 0022, "Hash Type")
-abbrev pub by_type : ℕ
-by_type = 1
-
--- the type script of a DAO cell
+-- the type script of a DAO cell: its code is named by the type script of the cell that holds it
 abbrev pub is_dao_script : Specification → Option Script → Bool
 is_dao_script spec None = false
 is_dao_script spec (Some s) = bytes_eq s.code_hash spec.dao_code_hash && (s.hash_type == by_type)

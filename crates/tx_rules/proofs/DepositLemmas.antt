@@ -26,7 +26,7 @@ use Rattle.cell_model.specs.Copies.{ResolvedValue, IsCopyOf}
 use Rattle.tx_rules.specs.Outcome.{Copies}
 use Rattle.tx_rules.specs.Seen.{IsRowOf}
 use Rattle.tx_rules.proofs.BranchLemmas.{PlaceOfHeight, place-of-height, number-on-branch}
-use Rattle.tx_rules.proofs.SiteLemmas.{IsKeptRow, IsOwnRow, find_cell-seen}
+use Rattle.tx_rules.proofs.SiteLemmas.{IsKeptRow, IsOwnRow, inputs-seen}
 use Rattle.tx_rules.proofs.AllThere.{all_there-all}
 use Rattle.tx_rules.proofs.AgeLemmas.{row-of, made-kept}
 
@@ -245,17 +245,6 @@ zip-lengths R [] [] each = refl
 zip-lengths R [] (y ∷ ys) each = absurd each
 zip-lengths R (x ∷ xs) [] each = absurd each
 zip-lengths R (x ∷ xs) (y ∷ ys) each = ap suc (zip-lengths R xs ys each.1)
-
--- the cells of inputs are seen
-inputs-seen : (site : Site) (t : Transaction) → AreSeen site (inputs site t)
-unfolding input_cells
-inputs-seen site t = by_cells (input_cells site t) refl
-  where
-    by_cells : (found : Option (List Found)) → input_cells site t ≡ found → All (λ it. site.cell it.out_point ≡ Some it.cell) (unwrap_or found [])
-    by_cells None is = All-nil (λ it. site.cell it.out_point ≡ Some it.cell)
-    by_cells (Some founds) is =
-        all_there-all (λ it. site.cell it.out_point ≡ Some it.cell) (λ (input : CellInput). find_cell site input.previous_output) t.raw.inputs founds
-        (λ input found there. find_cell-seen site input.previous_output found there) is
 
 -- The copy at a place is that of the cell of the input there.
 pub record CopyAt (kept : List Block) (parent : ℕ) (site : Site) (t : Transaction) (i : ℕ) (copy : ResolvedValue) : Type 0 where

@@ -12,4 +12,3 @@ pub mod SearchLemmas
 pub mod SiteLemmas
 pub mod SourceLemmas
 pub mod TakenLemmas
-pub mod WalkLemmas

@@ -18,6 +18,7 @@ use Rattle.chain_tree.specs.Told.{Stored, blocks_of}
 use Rattle.chain_tree.proofs.BlockLemmas.{DescribedAt, described, len-same}
 use Rattle.cell_defs.specs.Cell.{Cell, occupied_by}
 use Rattle.cell_defs.specs.Row.{Row}
+use Rattle.fold_defs.proofs.WalkLemmas.{all-at}
 use Rattle.tx_defs.specs.Site.{Site, Found, height_at}
 use Rattle.tx_defs.specs.Resolving.{inputs, heights}
 use Rattle.tx_defs.specs.Withdrawals.{is_dao_script, is_withdrawing, deposit_height, deposit_index, withdraws_well, names_deposits}
@@ -75,18 +76,6 @@ sum-end f rest sum whole none so_far =
     let zero : sum_by f rest ≡ 0 = ap (sum_by f) none in omega (arith, zero, so_far)
 
 -- what is so of all elements with their places is so at each
-pub all-at : {X : Type 0} (p : ℕ × X → Bool) (n : ℕ) (xs : List X) (i : ℕ) (x : X) → list_all p (enumerate_from n xs) ≡ true → slice_get xs i ≡ Some x
-    → p (n + i, x) ≡ true
-all-at p n [] i x each there = absurd (cc)
-all-at p n (y ∷ ys) zero x each there =
-    let at : n + 0 ≡ n = omega arith in
-    ap (λ (k : ℕ). p (k, x)) at ∙ ap (λ z. p (n, z)) (sym (same_Some y x there))
-    ∙ (and_parts (p (n, y)) (list_all p (enumerate_from (n + 1) ys)) each).0
-all-at p n (y ∷ ys) (suc i) x each there =
-    let at : n + suc i ≡ n + 1 + i = omega arith in
-    ap (λ (k : ℕ). p (k, x)) at
-    ∙ all-at p (n + 1) ys i x (and_parts (p (n, y)) (list_all p (enumerate_from (n + 1) ys)) each).1 there
-
 -- ---- The rate of a block
 
 -- that of the block at a height, by its place

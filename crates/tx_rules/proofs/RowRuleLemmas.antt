@@ -1,5 +1,5 @@
 -- J18 and J20 by the rows alone, and what stops behind them.
-use Rattle.std.proofs.Common.{◌≡◌, ℕ, ◌<◌, Bool, true, false, ◌&&◌, Option, Some, None, List, Result, Ok, Err, refl, ap, subst, inl, inr, arith}
+use Rattle.std.proofs.Common.{◌≡◌, ℕ, ◌<◌, Bool, true, false, cond, Option, Some, None, List, Result, Ok, Err, refl, ap, ◌∙◌, subst, inl, inr, arith}
 use Rattle.std.specs.Prelude.{is_some, ◌≤◌}
 use Rattle.codec_defs.specs.Schema.{OutPoint, Transaction}
 use Rattle.outside.specs.declared.disk.Area.TheVariants.{Log}
@@ -9,7 +9,7 @@ use Rattle.outside.specs.declared.disk.ReadStop.TheVariants.{DiskFault, NoMemory
 use Rattle.cell_defs.specs.Row.{Row}
 use Rattle.tx_defs.specs.Resolving.{spends_each_once}
 use Rattle.tx_defs.specs.Rules.{has_form}
-use Rattle.tx_rules.specs.At.{input_rows, spends_rows}
+use Rattle.tx_rules.specs.At.{named_rows, input_rows, spends_rows}
 use Rattle.tx_rules.specs.Outcome.{FollowsRows, IsTried}
 use Rattle.tx_rules.specs.Steps.{IsStop, IsLater, StopsLater}
 use Rattle.tx_rules.specs.declared.resolving.TxStop.{TxStop}
@@ -17,19 +17,13 @@ use Rattle.tx_rules.specs.declared.resolving.TxStop.TheVariants.{Broken, Read}
 
 -- ---- J20 by its two parts
 
-pub none-lost : (rows : OutPoint → Option Row) (t : Transaction) → input_rows rows t ≡ None → spends_rows rows t ≡ false
-none-lost rows t none = ap (λ (found : Option (List (OutPoint × Row))). is_some found && spends_each_once t) none
-
 pub twice-lost : (rows : OutPoint → Option Row) (t : Transaction) → spends_each_once t ≡ false → spends_rows rows t ≡ false
-twice-lost rows t twice = both (is_some (input_rows rows t)) (spends_each_once t) twice
-  where
-    both : (some once : Bool) → once ≡ false → (some && once) ≡ false
-    both true once is = is
-    both false once is = refl
+twice-lost rows t twice = ap (λ (once : Bool). is_some (cond once (named_rows rows t) None)) twice
 
-pub some-once : (rows : OutPoint → Option Row) (t : Transaction) (found : List (OutPoint × Row)) → input_rows rows t ≡ Some found
-    → spends_rows rows t ≡ spends_each_once t
-some-once rows t found some = ap (λ (it : Option (List (OutPoint × Row))). is_some it && spends_each_once t) some
+-- where none is named twice, the rows are those that are named
+pub once-named : (rows : OutPoint → Option Row) (t : Transaction) (found : Option (List (OutPoint × Row))) → spends_each_once t ≡ true
+    → named_rows rows t ≡ found → input_rows rows t ≡ found
+once-named rows t found once named = ap (λ (b : Bool). cond b (named_rows rows t) None) once ∙ named
 
 -- ---- What stops later
 

@@ -1,5 +1,5 @@
 -- The rules in groups, rule by rule, and the groups one after another.
-use Rattle.std.proofs.Common.{◌≡◌, ℕ, Bool, true, false, List, [], ◌∷◌, ◌++◌, map, Option, Some, None, Result, Err, refl, sym, ap, ◌∙◌, subst}
+use Rattle.std.proofs.Common.{◌≡◌, ℕ, Bool, true, false, cond, List, [], ◌∷◌, ◌++◌, map, Option, Some, None, Result, Err, refl, sym, ap, ◌∙◌, subst}
 use Rattle.std.specs.Prelude.{◌&&◌, is_some, unwrap_or}
 use Rattle.std.specs.Option.{option_map}
 use Rattle.std.specs.List.{list_all}
@@ -22,7 +22,7 @@ use Rattle.tx_defs.specs.Age.{is_mature, uses_mature_cells, meets_each_since}
 use Rattle.tx_defs.specs.Withdrawals.{names_deposits}
 use Rattle.tx_defs.specs.Capacity.{makes_good_cells, balances}
 use Rattle.tx_defs.specs.Rules.{has_form, broken_transaction_rule}
-use Rattle.tx_rules.specs.At.{AtValue, IsSiteOf, place_of_height, found_row, find_row, input_rows, spends_rows}
+use Rattle.tx_rules.specs.At.{AtValue, IsSiteOf, place_of_height, found_row, find_row, named_rows, input_rows, spends_rows}
 use Rattle.tx_rules.specs.Copying.{row_in}
 use Rattle.tx_rules.specs.Outcome.{IsTried}
 use Rattle.tx_rules.specs.Steps.{spending_rules, naming_rules, using_rules, finding_rules, paying_rules, StopsAt, Tells, Stops}
@@ -54,8 +54,7 @@ map-some f (Some xs) ys is = ap is_some (sym is)
 pub spends-by-rows : (stored : List Stored) (at : AtValue) (rows : OutPoint → Option Row) (site : Site) (t : Transaction) → IsSiteOf stored at rows site
     → spends_live_cells site t ≡ spends_rows rows t
 spends-by-rows stored at rows site t is =
-    ap (λ (live : Bool). live && spends_each_once t)
-    (map-some (found_row (blocks_of stored) at.parent) (input_cells site t) (input_rows rows t) (input_rows-cells stored at rows site t is))
+    map-some (found_row (blocks_of stored) at.parent) (input_cells site t) (input_rows rows t) (input_rows-cells stored at rows site t is)
 
 -- ---- Deps
 
@@ -202,6 +201,15 @@ pub undamaged-of : {T : Type 0} (rules : List (ℕ × Bool)) (result : Result T 
     → result ≡ Err (Read (Damaged damage)) → ⊥
 undamaged-of {T = T} rules result damage tells same = subst (λ (r : Result T TxStop). Tells rules r) same tells
 
+-- the rows that are spent are those that are named
+pub rows-named : (rows : OutPoint → Option Row) (t : Transaction) (spent : List (OutPoint × Row)) → input_rows rows t ≡ Some spent
+    → named_rows rows t ≡ Some spent
+rows-named rows t spent some = by_once (spends_each_once t) some
+  where
+    by_once : (once : Bool) → cond once (named_rows rows t) None ≡ Some spent → named_rows rows t ≡ Some spent
+    by_once true is = is
+    by_once false is = absurd (cc)
+
 -- the copies of the cells of its inputs have their out-points
 pub copied-inputs : (rows : OutPoint → Option Row) (t : Transaction) (spent : List (OutPoint × Row)) (copies : List ResolvedValue)
     → input_rows rows t ≡ Some spent → map row_in copies ≡ spent
@@ -209,7 +217,8 @@ pub copied-inputs : (rows : OutPoint → Option Row) (t : Transaction) (spent : 
 copied-inputs rows t spent copies some are =
     out-points copies ∙ ap (map (λ (row : OutPoint × Row). row.0)) are
     ∙ all_there-back (λ (input : CellInput). find_row rows input.previous_output) (λ (input : CellInput). input.previous_output)
-    (λ (row : OutPoint × Row). row.0) t.raw.inputs spent (λ input row. its_own input.previous_output (rows input.previous_output) row) some
+    (λ (row : OutPoint × Row). row.0) t.raw.inputs spent (λ input row. its_own input.previous_output (rows input.previous_output) row)
+    (rows-named rows t spent some)
   where
     out-points : (cs : List ResolvedValue) → map (λ (copy : ResolvedValue). copy.out_point) cs ≡ map (λ (row : OutPoint × Row). row.0) (map row_in cs)
     out-points [] = refl

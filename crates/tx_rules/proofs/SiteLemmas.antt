@@ -17,8 +17,8 @@ use Rattle.cell_defs.specs.Cell.{Cell, data_of}
 use Rattle.cell_defs.specs.Row.{Row, row_of, IsOutputOf}
 use Rattle.cell_model.specs.Copies.{NamesOutput, output_in}
 use Rattle.tx_defs.specs.Site.{Site, Found, find_cell, all_there}
-use Rattle.tx_defs.specs.Resolving.{inputs, deps, input_cells, dep_cells, cells_of_dep, members_of}
-use Rattle.tx_rules.specs.At.{AtValue, IsSiteOf, IsMade, AreSeen, place_of_height, found_row, find_row, input_rows}
+use Rattle.tx_defs.specs.Resolving.{spends_each_once, inputs, deps, input_cells, dep_cells, cells_of_dep, members_of}
+use Rattle.tx_rules.specs.At.{AtValue, IsSiteOf, IsMade, AreSeen, place_of_height, found_row, find_row, named_rows, input_rows}
 use Rattle.tx_rules.specs.Copying.{IsFoundAt}
 use Rattle.tx_rules.proofs.AllThere.{all_there-map, all_there-all}
 use Rattle.tx_rules.proofs.BranchLemmas.{PlaceOfHeight, place-of-height}
@@ -142,9 +142,14 @@ find_row-found stored at rows site o is = ap (option_map (λ (row : Row). (o, ro
 pub input_rows-cells : (stored : List Stored) (at : AtValue) (rows : OutPoint → Option Row) (site : Site) (t : Transaction) → IsSiteOf stored at rows site
     → input_rows rows t ≡ option_map (map (found_row (blocks_of stored) at.parent)) (input_cells site t)
 unfolding input_cells
-input_rows-cells stored at rows site t is =
-    all_there-map (λ (input : CellInput). find_row rows input.previous_output) (λ (input : CellInput). find_cell site input.previous_output)
-    (found_row (blocks_of stored) at.parent) t.raw.inputs (λ input. find_row-found stored at rows site input.previous_output is)
+input_rows-cells stored at rows site t is = by_once (spends_each_once t)
+  where
+    by_once : (once : Bool) → cond once (named_rows rows t) None
+        ≡ option_map (map (found_row (blocks_of stored) at.parent)) (cond once (all_there (map (λ (input : CellInput). find_cell site input.previous_output) t.raw.inputs)) None)
+    by_once true =
+        all_there-map (λ (input : CellInput). find_row rows input.previous_output) (λ (input : CellInput). find_cell site input.previous_output)
+        (found_row (blocks_of stored) at.parent) t.raw.inputs (λ input. find_row-found stored at rows site input.previous_output is)
+    by_once false = refl
 
 -- ---- What is found is seen
 
@@ -168,9 +173,16 @@ all-or P (Some xs) each = each xs refl
 
 pub inputs-seen : (site : Site) (t : Transaction) → AreSeen site (inputs site t)
 unfolding input_cells
-inputs-seen site t = all-or (IsSeen site) (input_cells site t)
-    (λ founds. all_there-all (IsSeen site) (λ (input : CellInput). find_cell site input.previous_output) t.raw.inputs founds
-    (λ input. find_cell-seen site input.previous_output))
+inputs-seen site t = by_once (spends_each_once t)
+  where
+    named : Option (List Found)
+    named = all_there (map (λ (input : CellInput). find_cell site input.previous_output) t.raw.inputs)
+
+    by_once : (once : Bool) → All (IsSeen site) (unwrap_or (cond once named None) [])
+    by_once true = all-or (IsSeen site) named
+        (λ founds. all_there-all (IsSeen site) (λ (input : CellInput). find_cell site input.previous_output) t.raw.inputs founds
+        (λ input. find_cell-seen site input.previous_output))
+    by_once false = All-nil (IsSeen site)
 
 members-seen : (site : Site) (members : List OutPoint) (founds : List Found) → all_there (map (find_cell site) members) ≡ Some founds → AreSeen site founds
 members-seen site members founds = all_there-all (IsSeen site) (find_cell site) members founds (find_cell-seen site)

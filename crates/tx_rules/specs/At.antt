@@ -1,5 +1,5 @@
 -- Where a transaction is judged, as the code is handed it, and what that stands for.
-use Rattle.std.specs.Prelude.{◌≡◌, ◌⊎◌, ℕ, ◌^◌, ◌<◌, nat_lt, Bool, ◌&&◌, is_some, List, map, length, Option, Some, if◌then◌else◌, slice_index, IsTrue, IsSome}
+use Rattle.std.specs.Prelude.{◌≡◌, ◌⊎◌, ℕ, ◌^◌, ◌<◌, nat_lt, Bool, ◌&&◌, is_some, List, map, length, Option, Some, None, if◌then◌else◌, slice_index, IsTrue, IsSome}
 use Rattle.std.specs.Option.{option_map}
 use Rattle.std.specs.List.{All}
 use Rattle.codec_defs.specs.Schema.{OutPoint, Transaction, Block}
@@ -9,7 +9,7 @@ use Rattle.chain_defs.specs.Kept.{block_at}
 use Rattle.chain_defs.specs.Branch.{branch, branch_places}
 use Rattle.chain_tree.specs.declared.entry.Entry.{Entry}
 use Rattle.chain_tree.specs.Entries.{entry_at}
-use Rattle.chain_tree.specs.Blocks.{IndexesBlocks}
+use Rattle.chain_tree.specs.Blocks.{IndexesBlocks, AreRated}
 use Rattle.chain_tree.specs.Told.{Stored, blocks_of}
 use Rattle.cell_defs.specs.Cell.{Cell, holds_its_own}
 use Rattle.cell_defs.specs.Row.{Row, row_of, IsOutputOf}
@@ -22,11 +22,6 @@ pub record AtValue : Type 0 where
   pub entries : List Entry
   pub parent : ℕ
   pub block : Option Block
-
--- The C and the AR of each entry's DAO field are above 0 (RFC 0023).
-abbrev pub AreRated : List Entry → Type 0
-AreRated entries = (place : ℕ) (entry : Entry) → entry_at entries place ≡ Some entry
-    → (0 < (field_of_bytes entry.dao).issued) × (0 < (field_of_bytes entry.dao).rate)
 
 -- What a caller sees to: the parent is an entry, the heights are numbers of 24 bits, and the entries are rated.
 pub record IsPlaced (at : AtValue) : Type 0 where
@@ -64,16 +59,20 @@ pub record IsSiteOf (stored : List Stored) (at : AtValue) (rows : OutPoint → O
   pub typed : (o : OutPoint) (cell : Cell) → site.cell o ≡ Some cell → cell.height < height_at site → IsSome cell.output.type_script
       → IsTrue (holds_its_own cell.output cell.content)
 
--- the rows of out-points, where each has one
 abbrev pub find_row : (OutPoint → Option Row) → OutPoint → Option (OutPoint × Row)
 find_row rows o = option_map (λ row. (o, row)) (rows o)
 
-abbrev pub input_rows : (OutPoint → Option Row) → Transaction → Option (List (OutPoint × Row))
-input_rows rows t = all_there (map (λ input. find_row rows input.previous_output) t.raw.inputs)
+-- the rows of the out-points that its inputs name, where each has one
+abbrev pub named_rows : (OutPoint → Option Row) → Transaction → Option (List (OutPoint × Row))
+named_rows rows t = all_there (map (λ input. find_row rows input.previous_output) t.raw.inputs)
 
--- J20 by rows alone: each input has one, and no two inputs spend one cell
+-- The rows that its inputs spend: there are none where one has no row, or is named twice.
+abbrev pub input_rows : (OutPoint → Option Row) → Transaction → Option (List (OutPoint × Row))
+input_rows rows t = if spends_each_once t then named_rows rows t else None
+
+-- J20 by rows alone
 abbrev pub spends_rows : (OutPoint → Option Row) → Transaction → Bool
-spends_rows rows t = is_some (input_rows rows t) && spends_each_once t
+spends_rows rows t = is_some (input_rows rows t)
 
 -- each of the cells is one that the transaction sees
 abbrev pub AreSeen : Site → List Found → Type 0

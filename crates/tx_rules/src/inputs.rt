@@ -40,7 +40,7 @@ pub(crate) fn live_inputs<C: Cells>(
     tx: &TxView<'_>,
     cells: &C,
 ) -> Result<Option<Vec<(OutPoint, CellMeta)>>, NoMemory>
-    ensures { IfOk result (λ found. option_map (λ rows. rows.items) found ≡ sites.input_rows (C.rows cells.now) tx.now) }
+    ensures { IfOk result (λ found. option_map (λ rows. rows.items) found ≡ sites.named_rows (C.rows cells.now) tx.now) }
 {
     let raw = tx.raw();
     let mut found = Vec::new(alloc);

@@ -25,7 +25,7 @@ fn holds_its_own(output: &OutputView<'_>, content: &[u8]) -> bool
 
 /// Whether each output of a transaction holds what it occupies.
 fn outputs_hold_their_own(tx: &TxView<'_>) -> bool
-    ensures { result ≡ rules.outputs_hold_their_own tx.now }
+    ensures { result ≡ cell_rules.outputs_hold_their_own tx.now }
 {
     let raw = tx.raw();
     'outputs: for i in 0..raw.outputs_count() {

@@ -1,15 +1,15 @@
 //! A chain in memory: its tree, its blocks with their exts, and the live cells behind the last.
 
 ghost use Rattle.std.specs.Prelude.{◌≡◌, ◌<◌, true, false};
-ghost use Rattle.time_defs.specs.Dao.{field_of_bytes};
 ghost use Rattle.cell_model.specs.ListBlocks.{IsCanonical, IsExtFor};
-ghost use Rattle.tx_rules.specs.At.{AreRated, IsPlaced};
+ghost use Rattle.tx_rules.specs.At.{IsPlaced};
+ghost use Rattle.chain_tree.specs.Blocks.{AreRated};
 
 use blake2b_ckb::ckbhash;
 use cell_model::{CellMeta, Cells, Ext, ListBlocks, OutPoint};
 use cell_state::{State, outputs_in};
 use chain_tree::{Entry, Tree};
-use dao_math::Dao;
+use dao_math::is_rated;
 use epochs::Spec;
 use mol_schema::{BlockView, HeaderView, OutPointView};
 use outside::Steps;
@@ -44,16 +44,7 @@ fn entry_of(header: &HeaderView<'_>, parent: u32) -> Entry {
     }
 }
 
-/// Whether the C and the AR of a DAO field are above 0.
-fn is_rated(dao: &[u8; 32]) -> bool
-    ensures issued { result ≡ true → 0 < (field_of_bytes dao.now).issued }
-    ensures rate { result ≡ true → 0 < (field_of_bytes dao.now).rate }
-{
-    let field = Dao::read(dao);
-    field.c > 0 && field.ar > 0
-}
-
-/// Whether they are in each entry.
+/// Whether the DAO field of each entry is rated.
 fn are_rated(tree: &Tree) -> bool
     ensures { result ≡ true → AreRated tree.now.entries }
 {

@@ -11,7 +11,7 @@ use Rattle.chain_defs.specs.Branch.{branch_places, branch}
 use Rattle.chain_defs.proofs.KeptLaws.{place_of-there}
 use Rattle.chain_tree.specs.declared.entry.Entry.{Entry}
 use Rattle.chain_tree.specs.Blocks.{Describes, IndexesBlocks}
-use Rattle.block_defs.specs.Uncles.{embedded_uncles, known_headers}
+use Rattle.family_defs.specs.Uncles.{embedded_uncles, known_headers}
 use Rattle.uncle_rules.specs.Embedded.{embedded_at, embedded_in, embedded_from, UnclesValue, IndexesUncles}
 use Rattle.uncle_rules.specs.Known.{has_number, is_named, is_on, is_named_on}
 use Rattle.uncle_rules.proofs.PlaceLemmas.{any_at, any-branch, named-none, named-some}

@@ -11,7 +11,7 @@ use Rattle.std.proofs.lemmas.Option.{slice_get_within, get_or_from_slice_get}
 use Rattle.codec_defs.specs.Schema.{Header, UncleBlock, Block}
 use Rattle.time_defs.specs.Specification.{Specification}
 use Rattle.chain_defs.specs.Kept.{header_hash}
-use Rattle.block_defs.specs.Uncles.{stands_on, is_new, is_beside, proposes_well, known_headers, is_uncle, has_uncles}
+use Rattle.family_defs.specs.Uncles.{stands_on, is_new, is_beside, proposes_well, known_headers, is_uncle, has_uncles}
 use Rattle.uncle_rules.specs.Known.{is_named}
 
 -- ---- The parent

@@ -4,7 +4,8 @@ use Rattle.std.specs.Prelude.{ℕ, List}
 use Rattle.codec_defs.specs.Schema.{Block}
 use Rattle.fold_defs.specs.Fold.{keep, verdicts}
 use Rattle.time_defs.specs.Specification.{Specification, specification_of}
-use Rattle.verdict_defs.specs.Verdict.{verdict, kept_after, blocks_of_item}
+use Rattle.verdict_defs.specs.Verdict.{verdict, kept_after}
+use Rattle.chain_defs.specs.Kept.{blocks_of_item}
 use Rattle.verdict_defs.specs.declared.verdict.Verdict.{Verdict}
 
 pub record Chain : Type 0 where

@@ -7,7 +7,8 @@ use Rattle.chain_defs.specs.Tip.{best_branch}
 use Rattle.tx_defs.specs.Capacity.{fee}
 use Rattle.script_defs.specs.Scene.{scene_of}
 use Rattle.script_defs.specs.Rules.{cycles_of}
-use Rattle.block_defs.specs.Rules.{site_after, broken_in_dry_run}
+use Rattle.block_defs.specs.Rules.{broken_in_dry_run}
+use Rattle.tx_defs.specs.Site.{site_after}
 use Rattle.verdict_defs.specs.Chain.{Chain}
 use Rattle.verdict_defs.specs.declared.trial.Trial.{Trial}
 use Rattle.verdict_defs.specs.declared.trial.Trial.TheVariants.{Passes, Refused}

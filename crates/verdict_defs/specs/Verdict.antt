@@ -3,16 +3,12 @@
 use Rattle.std.specs.Prelude.{ℕ, nat_lt, Bool, true, false, List, [], ◌∷◌, ◌++◌, length, Option, Some, None, is_some, if◌then◌else◌}
 use Rattle.codec_defs.specs.Shape.{decoded}
 use Rattle.codec_defs.specs.Schema.{Block, block}
-use Rattle.chain_defs.specs.Kept.{block_hash, place_of}
+use Rattle.chain_defs.specs.Kept.{block_hash, place_of, kept_limit, blocks_of_item}
 use Rattle.chain_defs.specs.Branch.{branch}
 use Rattle.time_defs.specs.Specification.{Specification}
 use Rattle.block_defs.specs.Rules.{first_broken}
 use Rattle.verdict_defs.specs.declared.verdict.Verdict.{Verdict}
 use Rattle.verdict_defs.specs.declared.verdict.Verdict.TheVariants.{Joined, Known, Refused, Full}
-
--- the most kept blocks, genesis included (docs/COMMANDS.md, "The text")
-unfoldable pub kept_limit : ℕ
-kept_limit = 1000000
 
 -- there is room for one more
 abbrev pub has_room : List Block → Bool
@@ -53,14 +49,6 @@ refuses (Joined number hash) = false
 refuses (Known hash) = false
 refuses (Refused rule) = true
 refuses Full = true
-
-abbrev pub block_list : Option Block → List Block
-block_list None = []
-block_list (Some b) = b ∷ []
-
--- the block of an item, alone, if it is one
-abbrev pub blocks_of_item : List ℕ → List Block
-blocks_of_item item = block_list (decoded block item)
 
 -- What is kept after an item: a block that joins is put at the end, any other item leaves it.
 unfoldable pub kept_after : Specification → List Block → List ℕ → List Block

@@ -4,7 +4,7 @@ use Rattle.fold_defs.specs.First.{first_failing}
 use Rattle.chain_defs.specs.Branch.{branch}
 use Rattle.chain_tree.specs.Told.{blocks_of}
 use Rattle.rule_defs.specs.Header.{header_rules}
-use Rattle.block_defs.specs.Rules.{family_rules}
+use Rattle.family_defs.specs.Rules.{family_rules}
 use Rattle.block_judge.specs.Ahead.{ahead}
 use Rattle.block_judge.proofs.Exits.{same_rule, same_read, no_rule, no_read}
 use Rattle.block_judge.proofs.AheadLemmas.{breaks-header, breaks-body, leaves-family, body-rule}

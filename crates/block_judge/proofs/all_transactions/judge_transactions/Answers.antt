@@ -1,9 +1,8 @@
 use Rattle.std.proofs.Common.{◌≡◌, ℕ, ◌-◌, ◌≤◌, Some, refl, ap, ◌∙◌, [], length, arith}
 use Rattle.chain_defs.specs.Branch.{branch}
 use Rattle.chain_tree.specs.Told.{blocks_of}
-use Rattle.tx_defs.specs.Site.{Site}
+use Rattle.tx_defs.specs.Site.{Site, site_at}
 use Rattle.tx_rules.specs.At.{AtValue}
-use Rattle.block_defs.specs.Transactions.{site_at}
 use Rattle.block_judge.specs.Changes.{with_changes}
 use Rattle.block_judge.proofs.Exits.{as_step, as_read, as_judged, no_error, no_rule, no_damage, no_fault, counts-on, counts-none, counts-still, counts-behind}
 use Rattle.block_judge.proofs.SiteLemmas.{rows-after_none, rows-after_more, site-in_block}

@@ -5,7 +5,7 @@ use Rattle.chain_tree.specs.Told.{blocks_of}
 use Rattle.tx_rules.specs.At.{AtValue}
 use Rattle.script_defs.specs.Rules.{cycles_of}
 use Rattle.script_defs.specs.Scene.{scene_of}
-use Rattle.block_defs.specs.Rules.{site_after}
+use Rattle.tx_defs.specs.Site.{site_after}
 use Rattle.block_judge.proofs.Exits.{as_step, no_error, counts-on, counts-none}
 use Rattle.block_judge.proofs.SiteLemmas.{site-alone}
 use Rattle.block_judge.proofs.NextLemmas.{alone-judged}

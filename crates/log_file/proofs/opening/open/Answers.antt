@@ -4,7 +4,7 @@ use Rattle.log_file.proofs.Exits.{on_each, no_error, fault_not_wrong, fault_coun
 use Rattle.log_file.proofs.Front.{on_same}
 use Rattle.log_file.proofs.Judging.{kept_limit_is}
 use Rattle.log_file.proofs.Settling.{others_kept, durable_on, told_settled, told_moments, read_only, wrong_on, told_log, told_at_rest, told_rests, others_on}
-use Rattle.store_defs.specs.Store.{IsOnlyRead}
+use Rattle.outside.specs.Disk.{IsOnlyRead}
 use Rattle.log_file.proofs.opening.open.Goals as goal
 
 pub returns-in-Err-clause-others : goal.returns-in-Err-clause-others

@@ -1,7 +1,7 @@
 use Rattle.std.proofs.Common.{◌≡◌, ◌+◌, ◌-◌, ◌*◌, ◌≤◌, ◌^◌, length}
 use Rattle.std.specs.Prelude.{IfSome}
 use Rattle.outside.specs.Disk.{IsAsBefore}
-use Rattle.verdict_defs.specs.Verdict.{kept_limit}
+use Rattle.chain_defs.specs.Kept.{kept_limit}
 use Rattle.time_defs.specs.Specification.{Specification}
 use Rattle.log_file.specs.Opening.{HasRead}
 use Rattle.log_file.proofs.records.read_blocks.Given as goal

@@ -1,4 +1,5 @@
-use Rattle.std.proofs.Common.{arith}
+use Rattle.std.proofs.Common.{sym, ◌∙◌, arith}
+use Rattle.std.proofs.lemmas.Bool.{false≢true}
 use Rattle.std.proofs.lemmas.Option.{slice_get_within}
 use Rattle.node_core.proofs.OpeningLemmas.{rated-more}
 use Rattle.node_core.proofs.opening.are_rated.Goals as goal
@@ -8,10 +9,10 @@ entries-init c = λ place entry below there. absurd (omega (arith, below))
 
 pub entries-preserved : goal.entries-preserved
 entries-preserved c = rated-more _ _ _ c.entries.invariant c.entry.ensures.entry
-    (c.is_rated.ensures.issued c.if-not-is_rated.false, c.is_rated.ensures.rate c.if-not-is_rated.false)
+    (sym c.is_rated.ensures ∙ c.if-not-is_rated.false)
 
 pub returns-then-not-is_rated-clause-unrated : goal.returns-then-not-is_rated-clause-unrated
-returns-then-not-is_rated-clause-unrated c = λ _ rated. c.is_rated.ensures.unrated c.if-not-is_rated.true (rated _ _ c.entry.ensures.entry)
+returns-then-not-is_rated-clause-unrated c = λ _ rated. false≢true (sym c.if-not-is_rated.true ∙ c.is_rated.ensures ∙ rated _ _ c.entry.ensures.entry)
 
 pub returns-clause-rated : goal.returns-clause-rated
 returns-clause-rated c = λ _ place entry there.

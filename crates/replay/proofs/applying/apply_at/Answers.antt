@@ -3,11 +3,12 @@ use Rattle.std.proofs.lemmas.Option.{same_Some}
 use Rattle.codec_defs.specs.Schema.{Block}
 use Rattle.cell_defs.specs.Events.{events_of_block}
 use Rattle.cell_defs.specs.Row.{row_after}
-use Rattle.cell_state.specs.Fit.{AllFit}
+use Rattle.cell_defs.specs.Fit.{are_live, AllFit}
+use Rattle.cell_laws.proofs.FitLemmas.{found-same}
 use Rattle.cell_state.specs.State.{rows}
 use Rattle.outside.proofs.Endings.{no_fault, handed, counts-handed, no_answer, no_memory, no_damage, memory_undamaged, in_log, is_told, nothing_read}
 use Rattle.replay.proofs.RowLemmas.{row_after-same}
-use Rattle.replay.proofs.FitLemmas.{told-block, all-same, none-odd}
+use Rattle.replay.proofs.FitLemmas.{told-block, none-odd}
 use Rattle.replay.proofs.applying.apply_at.Goals as goal
 
 pub returns-in-Err : goal.returns-in-Err
@@ -68,8 +69,8 @@ returns-in-Ok-apply g c = record {
   fit = λ stored b tells there height above.
       let is : c.in-Some.block ≡ b = same_Some c.in-Some.block b (c.in-Some.ensures.value
       ∙ told-block stored c.block.result.now c.args.place b _ _ (c.in-Ok.ensures.told ∙ tells) c.in-Ok.ensures.taken c.block.ensures there) in
-      subst (λ (x : Block). AllFit c.args.place (events_of_block height x) (rows c.args.state.now)) is
-      (all-same c.args.place (events_of_block height c.in-Some.block) (rows c.reserve.new.self) (rows c.args.state.now) (λ o. sym (c.in-Ok-reserve.ensures.rows o))
+      subst (λ (x : Block). AllFit (events_of_block height x) (are_live (rows c.args.state.now))) is
+      (found-same (events_of_block height c.in-Some.block) (rows c.reserve.new.self) (rows c.args.state.now) (λ o. sym (c.in-Ok-reserve.ensures.rows o))
       (c.in-Ok-apply.ensures.fit height above));
   undamaged = λ stored b height tells there above fit damage same. no_answer _ _ same;
   damage = λ damage same. absurd (no_answer _ _ same);
@@ -88,9 +89,9 @@ returns-in-Err-apply g c = record {
   undamaged = λ stored b height tells there above fit damage same.
       let is : c.in-Some.block ≡ b = same_Some c.in-Some.block b (c.in-Some.ensures.value
       ∙ told-block stored c.block.result.now c.args.place b _ _ (c.in-Ok.ensures.told ∙ tells) c.in-Ok.ensures.taken c.block.ensures there) in
-      none-odd c.args.place (events_of_block height c.in-Some.block) (rows c.reserve.new.self) c.in-Err-apply.field-0
-      (all-same c.args.place (events_of_block height c.in-Some.block) (rows c.args.state.now) (rows c.reserve.new.self) c.in-Ok-reserve.ensures.rows
-      (subst (λ (x : Block). AllFit c.args.place (events_of_block height x) (rows c.args.state.now)) (sym is) fit))
+      none-odd (events_of_block height c.in-Some.block) (are_live (rows c.reserve.new.self)) c.in-Err-apply.field-0
+      (found-same (events_of_block height c.in-Some.block) (rows c.args.state.now) (rows c.reserve.new.self) c.in-Ok-reserve.ensures.rows
+      (subst (λ (x : Block). AllFit (events_of_block height x) (are_live (rows c.args.state.now))) (sym is) fit))
       (c.in-Err-apply.ensures.odd height above);
   damage = λ damage same. in_log c.damage_at-in-Err-apply.result damage c.damage_at-in-Err-apply.ensures same;
   cause = no_fault _ _ (c.in-Ok.ensures.cause.counts.unchanged (no_answer _ _)) (no_damage _);

@@ -10,7 +10,7 @@ use Rattle.chain_tree.specs.Told.{blocks_of}
 use Rattle.tx_defs.specs.Age.{meets_since, spending}
 use Rattle.tx_rules.specs.At.{AtValue}
 use Rattle.outside.proofs.Endings.{handed}
-use Rattle.tx_rules.proofs.WalkLemmas.{every-fails, every-goes-on, every-passed, zip-there, zip-long}
+use Rattle.fold_defs.proofs.WalkLemmas.{every-fails, every-goes-on, every-passed, zip-there, zip-long}
 use Rattle.tx_rules.proofs.AgeLemmas.{row-there, rows-long}
 use Rattle.tx_rules.proofs.age.meets_each_since.Goals as goal
 

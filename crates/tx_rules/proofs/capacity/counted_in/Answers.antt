@@ -6,7 +6,7 @@ use Rattle.tx_defs.specs.Resolving.{inputs}
 use Rattle.tx_defs.specs.Capacity.{counted, counted_in}
 use Rattle.tx_rules.specs.Outcome.{Copies}
 use Rattle.outside.proofs.Endings.{handed}
-use Rattle.tx_rules.proofs.WalkLemmas.{enumerated-there}
+use Rattle.fold_defs.proofs.WalkLemmas.{enumerated-there}
 use Rattle.tx_rules.proofs.DepositLemmas.{copy-at, zip-lengths}
 use Rattle.tx_rules.proofs.MoneyLemmas.{fits-u64, past-u64, some-u64, none-u64, not-below, sum-more, sum-past, sum-end, counted-init, well-at}
 use Rattle.tx_rules.proofs.capacity.counted_in.Goals as goal

@@ -1,18 +1,18 @@
 use Rattle.std.proofs.Common.{ℕ, sym, ap, ◌∙◌}
 use Rattle.std.specs.Prelude.{slice_get}
 use Rattle.codec_defs.specs.Schema.{RawTransaction, CellOutput}
-use Rattle.cell_defs.specs.Cell.{holds_its_own, data_of}
-use Rattle.tx_rules.proofs.WalkLemmas.{all-fails, all-goes-on}
+use Rattle.cell_defs.specs.Cell.{holds_its_own, output_holds_its_own}
+use Rattle.fold_defs.proofs.WalkLemmas.{all-fails, all-goes-on}
 use Rattle.tx_rules.proofs.outputs.outputs_hold_their_own.Goals as goal
 
 pub returns-then-not-holds_its_own : goal.returns-then-not-holds_its_own
-returns-then-not-holds_its_own c = all-fails (λ (it : ℕ × CellOutput). holds_its_own it.1 (data_of c.args.tx.now it.0)) c.args.tx.now.raw.outputs c.outputs.i c.outputs_item.result _
+returns-then-not-holds_its_own c = all-fails (output_holds_its_own c.args.tx.now) c.args.tx.now.raw.outputs c.outputs.i c.outputs_item.result _
     c.outputs.invariant
     (ap (λ (raw : RawTransaction). slice_get raw.outputs c.outputs.i) (sym c.raw-raw.ensures) ∙ c.outputs_item.ensures)
     (ap (holds_its_own c.outputs_item.result) (sym c.data_at.ensures.data) ∙ sym c.holds_its_own.ensures ∙ c.if-not-holds_its_own.true)
 
 pub outputs-preserved : goal.outputs-preserved
-outputs-preserved c = all-goes-on (λ (it : ℕ × CellOutput). holds_its_own it.1 (data_of c.args.tx.now it.0)) c.args.tx.now.raw.outputs c.outputs.i c.outputs_item.result _
+outputs-preserved c = all-goes-on (output_holds_its_own c.args.tx.now) c.args.tx.now.raw.outputs c.outputs.i c.outputs_item.result _
     c.outputs.invariant
     (ap (λ (raw : RawTransaction). slice_get raw.outputs c.outputs.i) (sym c.raw-raw.ensures) ∙ c.outputs_item.ensures)
     (ap (holds_its_own c.outputs_item.result) (sym c.data_at.ensures.data) ∙ sym c.holds_its_own.ensures ∙ c.if-not-holds_its_own.false)

@@ -6,7 +6,7 @@ use Rattle.tx_rules.specs.At.{find_row, found_row}
 use Rattle.tx_rules.specs.Steps.{spending_rules, naming_rules, using_rules}
 use Rattle.tx_rules.proofs.AllThere.{all_there-long}
 use Rattle.outside.proofs.Endings.{no_fault, no_answer, handed, counts-handed}
-use Rattle.tx_rules.proofs.RuleLemmas.{spent-inputs, stops-front, stops-back, keeps-all}
+use Rattle.tx_rules.proofs.RuleLemmas.{rows-named, spent-inputs, stops-front, stops-back, keeps-all}
 use Rattle.tx_rules.proofs.RowRuleLemmas.{later-stops, follows-on, follows-behind}
 use Rattle.tx_rules.proofs.SourceLemmas.{unchanged-source}
 use Rattle.tx_rules.proofs.resolving.find.Goals as goal
@@ -15,7 +15,7 @@ pub try_cells-requires-clause-each : goal.try_cells-requires-clause-each
 try_cells-requires-clause-each g c =
     ap length c.deref.ensures.value
     ∙ all_there-long (λ (input : CellInput). find_row (g.C.Cells.rows c.args.cells.now) input.previous_output) c.args.tx.now.raw.inputs c.in-Ok.spent.items
-    c.in-Ok.ensures.rows
+    (rows-named (g.C.Cells.rows c.args.cells.now) c.args.tx.now c.in-Ok.spent.items c.in-Ok.ensures.rows)
 
 pub returns-in-Err : goal.returns-in-Err
 returns-in-Err g c = record {

@@ -1,4 +1,5 @@
-use Rattle.std.proofs.Common.{◌≡◌, true, false, Some, None, sym, ◌∙◌}
+use Rattle.std.proofs.Common.{◌≡◌, true, false, Some, None, sym, ap, ◌∙◌}
+use Rattle.std.specs.Prelude.{is_some}
 use Rattle.outside.specs.declared.disk.ReadStop.TheVariants.{DiskFault}
 use Rattle.tx_defs.specs.Rules.{has_form}
 use Rattle.tx_defs.specs.Resolving.{spends_each_once}
@@ -6,7 +7,7 @@ use Rattle.tx_rules.specs.At.{spends_rows, input_rows}
 use Rattle.outside.proofs.Endings.{no_answer}
 use Rattle.tx_rules.proofs.Endings.{broken_unread, memory_unread}
 use Rattle.tx_rules.proofs.RuleLemmas.{no-form, spends-badly, spends-well, spends-by-rows}
-use Rattle.tx_rules.proofs.RowRuleLemmas.{tried-18, tried-20, none-lost, twice-lost, some-once, follows-memory, follows-form, follows-lost, follows-kept}
+use Rattle.tx_rules.proofs.RowRuleLemmas.{tried-18, tried-20, twice-lost, once-named, follows-memory, follows-form, follows-lost, follows-kept}
 use Rattle.tx_rules.proofs.resolving.spent_rows.Goals as goal
 
 pub returns-in-Ok-false : goal.returns-in-Ok-false
@@ -59,9 +60,9 @@ pub returns-in-Ok-Some : goal.returns-in-Ok-Some
 returns-in-Ok-Some g c =
     let form : has_form c.args.tx.now ≡ true = sym c.in-Ok-true.ensures ∙ c.in-Ok-true.field-0-test in
     let once : spends_each_once c.args.tx.now ≡ true = sym c.in-Ok-true-are_inputs_distinct.ensures ∙ c.in-Ok-true-are_inputs_distinct.field-0-test in
-    let some : input_rows (g.C.Cells.rows c.args.cells.now) c.args.tx.now ≡ Some c.in-Ok-Some.rows.items = sym (rw c.in-Ok-Some.field-0-is at c.in-Ok-Some.ensures) in
-    let kept : spends_rows (g.C.Cells.rows c.args.cells.now) c.args.tx.now ≡ true =
-    some-once (g.C.Cells.rows c.args.cells.now) c.args.tx.now c.in-Ok-Some.rows.items some ∙ once in
+    let some : input_rows (g.C.Cells.rows c.args.cells.now) c.args.tx.now ≡ Some c.in-Ok-Some.rows.items =
+    once-named (g.C.Cells.rows c.args.cells.now) c.args.tx.now (Some c.in-Ok-Some.rows.items) once (sym (rw c.in-Ok-Some.field-0-is at c.in-Ok-Some.ensures)) in
+    let kept : spends_rows (g.C.Cells.rows c.args.cells.now) c.args.tx.now ≡ true = ap is_some some in
     record {
       stops = tt;
       by_rows = follows-kept (g.C.Cells.rows c.args.cells.now) c.args.tx.now _ form kept tt;
@@ -74,8 +75,9 @@ returns-in-Ok-Some g c =
 pub returns-in-Ok-None : goal.returns-in-Ok-None
 returns-in-Ok-None g c =
     let form : has_form c.args.tx.now ≡ true = sym c.in-Ok-true.ensures ∙ c.in-Ok-true.field-0-test in
-    let none : input_rows (g.C.Cells.rows c.args.cells.now) c.args.tx.now ≡ None = sym (rw c.in-Ok-None.field-0-is at c.in-Ok-None.ensures) in
-    let lost : spends_rows (g.C.Cells.rows c.args.cells.now) c.args.tx.now ≡ false = none-lost (g.C.Cells.rows c.args.cells.now) c.args.tx.now none in
+    let once : spends_each_once c.args.tx.now ≡ true = sym c.in-Ok-true-are_inputs_distinct.ensures ∙ c.in-Ok-true-are_inputs_distinct.field-0-test in
+    let lost : spends_rows (g.C.Cells.rows c.args.cells.now) c.args.tx.now ≡ false =
+    ap is_some (once-named (g.C.Cells.rows c.args.cells.now) c.args.tx.now None once (sym (rw c.in-Ok-None.field-0-is at c.in-Ok-None.ensures))) in
     record {
       stops = tried-20;
       by_rows = follows-lost (g.C.Cells.rows c.args.cells.now) c.args.tx.now form lost;

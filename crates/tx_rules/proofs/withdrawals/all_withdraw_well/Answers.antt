@@ -4,7 +4,7 @@ use Rattle.tx_defs.specs.Resolving.{inputs}
 use Rattle.tx_defs.specs.Withdrawals.{withdraws_well}
 use Rattle.tx_rules.specs.Outcome.{Copies}
 use Rattle.outside.proofs.Endings.{handed}
-use Rattle.tx_rules.proofs.WalkLemmas.{all-fails, all-goes-on, all-passed}
+use Rattle.fold_defs.proofs.WalkLemmas.{all-fails, all-goes-on, all-passed}
 use Rattle.tx_rules.proofs.DepositLemmas.{copy-at, zip-lengths}
 use Rattle.tx_rules.proofs.withdrawals.all_withdraw_well.Goals as goal
 

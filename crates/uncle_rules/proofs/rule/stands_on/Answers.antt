@@ -2,7 +2,7 @@ use Rattle.std.proofs.Common.{◌-◌, List, ℕ, Some, take, ap, ◌∙◌, ari
 use Rattle.std.specs.List.{list_any}
 use Rattle.codec_defs.specs.Schema.{Header}
 use Rattle.chain_defs.specs.Branch.{branch}
-use Rattle.block_defs.specs.Uncles.{known_headers}
+use Rattle.family_defs.specs.Uncles.{known_headers}
 use Rattle.uncle_rules.specs.Known.{is_named}
 use Rattle.uncle_rules.proofs.RuleLemmas.{stands-nowhere, stands-same}
 use Rattle.uncle_rules.proofs.rule.stands_on.Goals as goal

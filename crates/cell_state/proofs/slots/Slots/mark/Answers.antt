@@ -22,7 +22,7 @@ loop-event-preserved-in-Continue-1 c =
     c.mark_made.ensures.spare
 
 pub returns-in_err-mark_made-in-Makes-clause-odd : goal.returns-in_err-mark_made-in-Makes-clause-odd
-returns-in_err-mark_made-in-Makes-clause-odd c place =
+returns-in_err-mark_made-in-Makes-clause-odd c =
     let cell = made_cell c.in-Some.ensures.0 c.in-Makes.field-1 in
     let first : c.loop-event.events ≡ Makes c.in-Makes.o cell ∷ c.next.new.self =
     c.in-Some.ensures.1 ∙ ap (λ (e : walked.Event). value_of c.in-Some.ensures.0 e ∷ c.next.new.self) c.in-Makes.is in
@@ -30,7 +30,7 @@ returns-in_err-mark_made-in-Makes-clause-odd c place =
     rw (p.1, p.2, c.in_err-mark_made-in-Makes.ensures.odd)
     (odd-made c.args.events c.in-Makes.o cell c.next.new.self c.args.self.now c.loop-event.self c.requires.settled
     (subst (λ (es : List Event). Marking c.args.events es c.args.self.now c.loop-event.self) first c.loop-event.invariant)
-    c.in_err-mark_made-in-Makes.ensures.err place)
+    c.in_err-mark_made-in-Makes.ensures.err)
 
 pub returns-in_err-mark_made-in-Makes-clause-unnamed : goal.returns-in_err-mark_made-in-Makes-clause-unnamed
 returns-in_err-mark_made-in-Makes-clause-unnamed c =
@@ -48,14 +48,14 @@ loop-event-preserved c =
     c.mark_spent.ensures.spare
 
 pub returns-in_err-mark_spent-in-Spends-clause-odd : goal.returns-in_err-mark_spent-in-Spends-clause-odd
-returns-in_err-mark_spent-in-Spends-clause-odd c place =
+returns-in_err-mark_spent-in-Spends-clause-odd c =
     let first : c.loop-event.events ≡ Spends c.in-Spends.o ∷ c.next.new.self =
     c.in-Some.ensures.1 ∙ ap (λ (e : walked.Event). value_of c.in-Some.ensures.0 e ∷ c.next.new.self) c.in-Spends.is in
     let p = err_from_is_err_and c.from_residual-in_err-mark_spent-in-Spends.result c.from_residual-in_err-mark_spent-in-Spends.ensures.1 in
     rw (p.1, p.2, c.in_err-mark_spent-in-Spends.ensures.odd)
     (odd-spent c.args.events c.in-Spends.o c.next.new.self c.args.self.now c.loop-event.self c.requires.settled
     (subst (λ (es : List Event). Marking c.args.events es c.args.self.now c.loop-event.self) first c.loop-event.invariant)
-    c.in_err-mark_spent-in-Spends.ensures.err place)
+    c.in_err-mark_spent-in-Spends.ensures.err)
 
 pub returns-in_err-mark_spent-in-Spends-clause-unnamed : goal.returns-in_err-mark_spent-in-Spends-clause-unnamed
 returns-in_err-mark_spent-in-Spends-clause-unnamed c =

@@ -1,7 +1,8 @@
 use Rattle.std.proofs.Common.{List, ap, sym, ◌∙◌, subst, arith, rules}
 use Rattle.cell_defs.specs.Events.{Event, events_of_block, last_naming}
 use Rattle.cell_defs.specs.Row.{row_after}
-use Rattle.cell_state.specs.Fit.{AllFit, IsFirstOdd}
+use Rattle.cell_state.specs.Fit.{IsFirstOdd}
+use Rattle.cell_defs.specs.Fit.{are_live, AllFit}
 use Rattle.cell_state.specs.Slots.{StateValue, at, rows}
 use Rattle.cell_state.specs.Passes.{makes_in, Settles}
 use Rattle.cell_state.proofs.HeightLemmas.{rows-above, all-above, odd-above, makes-block}
@@ -31,9 +32,9 @@ returns-in-Ok-clause-rows g c height o above =
 
 pub returns-in-Ok-clause-fit : goal.returns-in-Ok-clause-fit
 returns-in-Ok-clause-fit g c height above =
-    let fit = subst (λ (es : List Event). AllFit c.args.e es (rows c.self.inside.slots)) c.of.ensures (c.in-Ok.ensures.fit c.args.e) in
-    all-above c.args.e height c.args.block.now (rows c.args.self.now) above
-    (subst (λ (v : StateValue). AllFit c.args.e (events_of_block 1 c.args.block.now) (rows v)) c.self.view_is fit)
+    let fit = subst (λ (es : List Event). AllFit es (are_live (rows c.self.inside.slots))) c.of.ensures c.in-Ok.ensures.fit in
+    all-above height c.args.block.now (are_live (rows c.args.self.now)) above
+    (subst (λ (v : StateValue). AllFit (events_of_block 1 c.args.block.now) (are_live (rows v))) c.self.view_is fit)
 
 pub returns-in-Ok-clause-spare : goal.returns-in-Ok-clause-spare
 returns-in-Ok-clause-spare g c =
@@ -41,9 +42,9 @@ returns-in-Ok-clause-spare g c =
 
 pub returns-in-Err-clause-odd : goal.returns-in-Err-clause-odd
 returns-in-Err-clause-odd g c height above =
-    let first = subst (λ (es : List Event). IsFirstOdd c.args.e es (rows c.self.inside.slots) c.in-Err.odd) c.of.ensures (c.in-Err.ensures.odd c.args.e) in
-    odd-above c.args.e height c.args.block.now (rows c.args.self.now) c.in-Err.odd above
-    (subst (λ (v : StateValue). IsFirstOdd c.args.e (events_of_block 1 c.args.block.now) (rows v) c.in-Err.odd) c.self.view_is first)
+    let first = subst (λ (es : List Event). IsFirstOdd es (are_live (rows c.self.inside.slots)) c.in-Err.odd) c.of.ensures c.in-Err.ensures.odd in
+    odd-above height c.args.block.now (are_live (rows c.args.self.now)) c.in-Err.odd above
+    (subst (λ (v : StateValue). IsFirstOdd (events_of_block 1 c.args.block.now) (are_live (rows v)) c.in-Err.odd) c.self.view_is first)
 
 pub returns-in-Err-clause-spare : goal.returns-in-Err-clause-spare
 returns-in-Err-clause-spare g c =

@@ -1,7 +1,7 @@
 use Rattle.std.proofs.Common.{◌≡◌, ◌++◌, ◌∷◌, [], List, ℕ, Vec, Global, map, length, None, ◌+◌, ◌≤◌, refl, sym, ap, ◌∙◌, subst, inr, arith}
 use Rattle.std.proofs.lemmas.List.{map_push, length-map, length_push}
 use Rattle.codec_defs.specs.Schema.{Block}
-use Rattle.verdict_defs.specs.Verdict.{kept_limit}
+use Rattle.chain_defs.specs.Kept.{kept_limit}
 use Rattle.chain_tree.specs.declared.entry.Entry.{Entry}
 use Rattle.chain_tree.specs.Entries.{place_of_hash, FollowsParent}
 use Rattle.chain_tree.specs.Blocks.{IndexesBlocks}

@@ -17,7 +17,7 @@ returns-in-Err-clause-undamaged g c b is joined may damage was =
     let same : c.in-Some.block ≡ b = same_Some c.in-Some.block b (c.in-Some.ensures.value ∙ is) in
     let ready = subst (λ (bs : List Block). IsReady bs c.in-Some.block c.args.joining) (sym seen)
     (ready-for c.args.self.blocks c.args.item.now c.in-Some.block c.args.joining c.requires.canonical (sym c.in-Some.ensures.value)) in
-    let own = fits-on c.args.self b c.args.joining joined may (ready-for c.args.self.blocks c.args.item.now b c.args.joining c.requires.canonical is) in
+    let own = fits-on c.args.self b c.args.joining may (ready-for c.args.self.blocks c.args.item.now b c.args.joining c.requires.canonical is) in
     let fits : FitsOn kept c.in-Some.block c.args.joining.entry.parent =
     subst (λ (bs : List Block). FitsOn bs c.in-Some.block c.args.joining.entry.parent) (sym seen)
     (subst (λ (x : Block). FitsOn c.args.self.blocks x c.args.joining.entry.parent) (sym same) own) in

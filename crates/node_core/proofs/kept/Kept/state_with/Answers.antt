@@ -18,7 +18,7 @@ returns-in-Some-clause-live g c kept indexed ready live =
 pub returns-in-Some-clause-undamaged : goal.returns-in-Some-clause-undamaged
 returns-in-Some-clause-undamaged g c kept height indexed ready live above fit damage =
     c.grown.ensures.undamaged height above
-    (fits-parent kept c.len-place.result height c.args.block.now c.args.joining.entry.parent c.in-Some.cells (c.len-place.ensures.of_blocks kept indexed)
+    (fits-parent kept height c.args.block.now c.args.joining.entry.parent c.in-Some.cells
     (given-cells kept c.args.block.now c.args.joining c.in-Some.cells ready c.in-Some.is) fit) damage
 
 pub returns-in-None-clause-live : goal.returns-in-None-clause-live
@@ -31,7 +31,7 @@ returns-in-None-clause-live g c kept indexed ready live =
 pub returns-in-None-clause-undamaged : goal.returns-in-None-clause-undamaged
 returns-in-None-clause-undamaged g c kept height indexed ready live above fit damage =
     c.grown-in-None.ensures.undamaged height above
-    (fits-parent kept c.len-place.result height c.args.block.now c.args.joining.entry.parent c.args.state (c.len-place.ensures.of_blocks kept indexed)
+    (fits-parent kept height c.args.block.now c.args.joining.entry.parent c.args.state
     (tip-cells kept c.args.block.now c.args.joining c.args.state ready c.in-None.is live) fit) damage
 
 pub returns-then-entry-clause-undamaged : goal.returns-then-entry-clause-undamaged

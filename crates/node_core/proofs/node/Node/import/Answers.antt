@@ -1,8 +1,8 @@
 use Rattle.std.proofs.Common.{◌≡◌, ◌⊎◌, arith, ap, sym, ◌∙◌, subst, Err, refl, ◌<◌, ℕ, length, ◌≤◌}
 use Rattle.outside.specs.Disk.{LeavesOnly}
-use Rattle.chain_defs.specs.Kept.{place_of}
+use Rattle.chain_defs.specs.Kept.{place_of, kept_limit}
 use Rattle.chain_defs.specs.Tip.{tip_place}
-use Rattle.verdict_defs.specs.Verdict.{joins, kept_limit}
+use Rattle.verdict_defs.specs.Verdict.{joins}
 use Rattle.verdict_defs.specs.Chain.{Chain, chain_after}
 use Rattle.store_defs.specs.Store.{IsJoined, StandsFor}
 use Rattle.store_defs.proofs.JoinedLemmas.{joined_of_image}

@@ -4,7 +4,7 @@ use Rattle.outside.proofs.Moments.{leaves_also, now_too}
 use Rattle.cell_defs.specs.Ext.{ext_bytes}
 use Rattle.verdict_defs.specs.Chain.{Chain, chain_after}
 use Rattle.verdict_defs.specs.Laws.{MayJoin}
-use Rattle.store_defs.specs.LogLaws.{record_over}
+use Rattle.store_defs.specs.JoinLaws.{record_over}
 use Rattle.store_defs.specs.Store.{IsJoined}
 use Rattle.log_file.specs.Pieces.{behind_gate, block_record}
 use Rattle.node_core.specs.Node.{NodeValue, IsOn}

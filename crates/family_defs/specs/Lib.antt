@@ -1,0 +1,3 @@
+pub mod Uncles
+pub mod Cellbase
+pub mod Rules
