@@ -138,9 +138,11 @@ glyph d below = glyph-at 16 d refl below
   where
     same : ℕ → Bool
     same k = slice_index lower_digits k == digit_glyph false k
+
     all : ℕ → Bool
     all zero = true
     all (suc n) = same n && all n
+
     glyph-at : (n k : ℕ) → all n ≡ true → k < n → slice_index lower_digits k ≡ digit_glyph false k
     glyph-at zero k passed less = absurd (omega arith)
     glyph-at (suc n) k passed less =

@@ -116,12 +116,7 @@ fn put_text(out: &mut Vec<u8>, text: &str) -> Result<(), NoMemory>
 }
 
 /// Puts a row that is a number.
-pub(crate) fn number_row(
-    out: &mut Vec<u8>,
-    mark: u8,
-    key: &str,
-    n: u128,
-) -> Result<(), NoMemory>
+pub(crate) fn number_row(out: &mut Vec<u8>, mark: u8, key: &str, n: u128) -> Result<(), NoMemory>
     requires { IsPlain key.now }
     ensures { OnOk result (PutsRow out.old.items out.new.items mark key.now (hex_number.tree n)) }
 {

@@ -20,10 +20,7 @@ pub(crate) fn write_script(out: &mut Vec<u8>, script: &ScriptView<'_>) -> Result
 }
 
 /// An optional script: null where there is none.
-fn write_type_script(
-    out: &mut Vec<u8>,
-    script: &Option<ScriptView<'_>>,
-) -> Result<(), NoMemory>
+fn write_type_script(out: &mut Vec<u8>, script: &Option<ScriptView<'_>>) -> Result<(), NoMemory>
     ensures { OnOk result (PutsTree out.old.items out.new.items ((option form.script).tree script.now)) }
 {
     match script {
@@ -80,7 +77,12 @@ pub(crate) fn write_output(out: &mut Vec<u8>, output: &OutputView<'_>) -> Result
 pub(crate) fn write_header(out: &mut Vec<u8>, header: &HeaderView<'_>) -> Result<(), NoMemory>
     ensures { OnOk result (PutsTree out.old.items out.new.items (form.header.tree header.now)) }
 {
-    number_row(out, b'{', "compact_target", u128::from(header.compact_target()))?;
+    number_row(
+        out,
+        b'{',
+        "compact_target",
+        u128::from(header.compact_target()),
+    )?;
     bytes_row(out, b',', "dao", header.dao())?;
     number_row(out, b',', "epoch", u128::from(header.epoch()))?;
     number_row(out, b',', "nonce", header.nonce())?;

@@ -13,5 +13,7 @@ items-preserved c =
 
 pub returns : goal.returns
 returns c =
-    record { is = list_ends c.items.out.items c.push-2.new.self.items _ byte_string.tree c.args.raw.now.outputs_data (nat_lt 0 c.items.i) c.items.i
-    (omega (arith, c.items-test.false, c.outputs_data_count-i-end.ensures.value)) c.items.invariant c.in_ok-push-2.ensures.items }
+    record {
+      is = list_ends c.items.out.items c.push-2.new.self.items _ byte_string.tree c.args.raw.now.outputs_data (nat_lt 0 c.items.i) c.items.i
+          (omega (arith, c.items-test.false, c.outputs_data_count-i-end.ensures.value)) c.items.invariant c.in_ok-push-2.ensures.items;
+    }

@@ -13,5 +13,7 @@ items-preserved c =
 
 pub returns : goal.returns
 returns c =
-    record { is = list_ends c.items.out.items c.push-2.new.self.items _ form.uncle.tree c.args.block.now.uncles (nat_lt 0 c.items.i) c.items.i
-    (omega (arith, c.items-test.false, c.uncles_count-i-end.ensures.value)) c.items.invariant c.in_ok-push-2.ensures.items }
+    record {
+      is = list_ends c.items.out.items c.push-2.new.self.items _ form.uncle.tree c.args.block.now.uncles (nat_lt 0 c.items.i) c.items.i
+          (omega (arith, c.items-test.false, c.uncles_count-i-end.ensures.value)) c.items.invariant c.in_ok-push-2.ensures.items;
+    }
