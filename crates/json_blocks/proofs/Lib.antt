@@ -1,3 +1,5 @@
 pub mod Plain
 pub mod NumberText
 pub mod Rows
+pub mod ReadBack
+pub mod ReadOnce

@@ -2,7 +2,7 @@
 -- read. A key is one row.
 use Rattle.std.specs.Prelude.{ℕ, List, [], ◌∷◌, ◌++◌, codes, Bool, ◌||◌}
 use Rattle.codec_defs.specs.Schema as schema
-use Rattle.serde_json.specs.Data.{Data, object as tree_object, Members}
+use Rattle.serde_json.specs.Data.{object as tree_object, Members}
 use Rattle.serde_json.specs.Written.{compact_text}
 use Rattle.json_blocks.specs.Form.{Form, Row, hex_number, byte_string, named_byte, list, option, row, members, members_read, without, is_object}
 

@@ -138,7 +138,7 @@ members_read (r ∷ rows) (member k d ms) = bytes_eq k r.key && (r.reads d && me
 -- the members but for that of a key
 abbrev pub without : List ℕ → Members → Members
 without key no_members = no_members
-without key (member k d ms) = if bytes_eq k key then ms else member k d (without key ms)
+without key (member k d ms) = if bytes_eq k key then without key ms else member k d (without key ms)
 
 -- the tree is an object, with such members
 abbrev pub is_object : (Members → Bool) → Data → Bool

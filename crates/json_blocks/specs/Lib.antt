@@ -1,3 +1,4 @@
 pub mod Form
 pub mod Blocks
 pub mod Text
+pub mod Laws

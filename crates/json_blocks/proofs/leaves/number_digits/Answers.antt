@@ -1,4 +1,4 @@
-use Rattle.std.proofs.Common.{◌≡◌, ◌-◌, ◌/◌, ◌%◌, ◌∷◌, drop, false, sym, ap, ◌∙◌, arith, length-set}
+use Rattle.std.proofs.Common.{◌-◌, ◌/◌, ◌%◌, drop, false, sym, ap, ◌∙◌, arith, length-set}
 use Rattle.std.proofs.lemmas.List.{drop_all}
 use Rattle.std.specs.Fmt.{digits_onto}
 use Rattle.json_blocks.proofs.Plain.{glyph}

@@ -1,5 +1,4 @@
-use Rattle.std.proofs.Common.{◌≡◌, ◌/◌, ◌%◌, slice_index, refl, arith}
-use Rattle.hex.specs.Hex.{encode_lower, lower_digits}
+use Rattle.std.proofs.Common.{refl, arith}
 use Rattle.json_blocks.proofs.Plain.{digits_put, digits_end}
 use Rattle.json_blocks.proofs.leaves.put_digits.Goals as goal
 

@@ -1,4 +1,4 @@
-use Rattle.std.proofs.Common.{◌≡◌, ◌++◌, ◌∷◌, [], rules}
+use Rattle.std.proofs.Common.{◌≡◌, ◌++◌, rules}
 use Rattle.json_blocks.proofs.Plain.{key_put}
 use Rattle.json_blocks.proofs.leaves.put_key.Goals as goal
 
