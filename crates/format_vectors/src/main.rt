@@ -9,15 +9,17 @@
 //! - a view, an accessor, a place in a list or 0, bytes, and what the accessor gives;
 //! - `Builder`, what is made, its fields with a comma between two, and the bytes that are made;
 //! - `hash`, a message, and its hash, which it also has in pieces;
-//! - `root`, items with a comma between two, and their Merkle root.
+//! - `root`, items with a comma between two, and their Merkle root;
+//! - `json`, a block, and its text.
 //!
 //! The rows on encodings were made by programs that were written from RFC 0008 and the schema alone, or by hand from them.
-//! Those on hashes and roots come from outside.
+//! Those on hashes, roots and JSON come from outside.
 #![tactic(auto)]
 
 mod builder;
 mod fields;
 mod hash;
+mod json;
 mod parts;
 mod views;
 
@@ -60,6 +62,7 @@ impl Subject for Calls {
         match row.word() {
             "hash" => hash::agrees_on_message(alloc, row.rest()),
             "root" => hash::agrees_on_root(alloc, row.rest()),
+            "json" => json::agrees_on_text(alloc, row.rest()),
             "Builder" => builder::agrees(alloc, row.rest()),
             view => agrees_on_view(alloc, view, row.rest()),
         }

@@ -1,0 +1,6 @@
+pub mod Plain
+pub mod NumberText
+pub mod Rows
+pub mod ReadBack
+pub mod ReadOnce
+pub mod TextBack

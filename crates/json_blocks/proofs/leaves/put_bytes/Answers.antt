@@ -1,0 +1,12 @@
+use Rattle.std.proofs.Common.{◌<◌, ℕ, slice_index, arith}
+use Rattle.json_blocks.proofs.Plain.{hex_put, byte_string-text}
+use Rattle.hex.specs.Hex.{encode_lower}
+use Rattle.json_blocks.specs.Form.{byte_string}
+use Rattle.json_blocks.proofs.leaves.put_bytes.Goals as goal
+
+pub returns : goal.returns
+returns c =
+    let fits : (i : ℕ) → slice_index c.args.bytes.now i < 256 = λ i. omega (arith, c.type_inv.bytes i) in
+    hex_put c.args.out.now.items c.extend_from_slice.new.self.items c.put_digits.new.out.items c.push.new.self.items (byte_string.tree c.args.bytes.now)
+    (encode_lower c.args.bytes.now) (byte_string-text c.args.bytes.now fits)
+    c.in_ok-extend_from_slice.ensures.items c.in_ok-put_digits.ensures.is c.in_ok-push.ensures.items

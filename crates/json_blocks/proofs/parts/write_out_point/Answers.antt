@@ -1,0 +1,12 @@
+use Rattle.std.proofs.Common.{ap, ◌∙◌}
+use Rattle.json_blocks.specs.Form.{byte_string, hex_number}
+use Rattle.json_blocks.specs.Blocks.{out_point}
+use Rattle.json_blocks.proofs.Rows.{first_row, next_row, no_row, same_row}
+use Rattle.json_blocks.proofs.parts.write_out_point.Goals as goal
+
+pub returns : goal.returns
+unfolding out_point
+returns c =
+    first_row (same_row (ap hex_number.tree (c.from.ensures ∙ c.index.ensures)) c.in_ok-number_row.ensures)
+    (next_row (same_row (ap byte_string.tree c.tx_hash.ensures.value) c.in_ok-bytes_row.ensures)
+    (no_row c.bytes_row.new.out.items c.push.new.self.items c.in_ok-push.ensures.items))

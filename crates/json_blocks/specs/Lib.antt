@@ -1,0 +1,4 @@
+pub mod Form
+pub mod Blocks
+pub mod Text
+pub mod Laws

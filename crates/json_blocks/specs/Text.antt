@@ -1,0 +1,30 @@
+-- The text of an object, key by key.
+use Rattle.std.specs.Prelude.{◌≡◌, ℕ, List, [], ◌∷◌, ◌++◌, Bool, ◌&&◌, not, nat_le, ◌==◌, IsTrue}
+use Rattle.std.specs.List.{list_all}
+use Rattle.json.specs.Print.{quoted}
+use Rattle.serde_json.specs.Data.{Data}
+use Rattle.serde_json.specs.Written.{compact_text}
+
+-- a character that stands for itself in a string of JSON
+abbrev pub is_plain : ℕ → Bool
+is_plain c = nat_le 48 c && not (c == 92)
+
+abbrev pub IsPlain : List ℕ → Type 0
+IsPlain s = IsTrue (list_all is_plain s)
+
+-- a mark, a key and its colon
+abbrev pub key_text : ℕ → List ℕ → List ℕ
+key_text mark key = mark ∷ (quoted key ++ 58 ∷ [])
+
+-- ---- what a call puts behind what was there
+
+pub record Puts (old new text : List ℕ) : Type 0 where
+  pub is : new ≡ old ++ text
+
+-- the compact text of a tree
+pub record PutsTree (old new : List ℕ) (d : Data) : Type 0 where
+  pub is : new ≡ old ++ compact_text d
+
+-- a mark, a key with its colon, and the compact text of a tree
+pub record PutsRow (old new : List ℕ) (mark : ℕ) (key : List ℕ) (d : Data) : Type 0 where
+  pub is : new ≡ old ++ (key_text mark key ++ compact_text d)

@@ -1,0 +1,18 @@
+// A block's text.
+ghost use Rattle.std.specs.Prelude.{◌≡◌, IfOk};
+ghost use Rattle.json_blocks.specs.Blocks as form;
+ghost use Rattle.json_blocks.specs.Blocks.{text_of};
+
+use crate::objects::write_block;
+use mol_schema::BlockView;
+use outside::NoMemory;
+use std::alloc::Global;
+
+/// The compact text of a block, with no space and no line feed (docs/FORMATS.md, Blocks as JSON).
+pub fn to_json(alloc: Global, block: &BlockView<'_>) -> Result<Vec<u8>, NoMemory>
+    ensures { IfOk result (λ text. text.items ≡ text_of form.block block.now) }
+{
+    let mut text = Vec::with_capacity(alloc, 2 * block.bytes().len())?;
+    write_block(&mut text, block)?;
+    Ok(text)
+}
