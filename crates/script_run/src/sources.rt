@@ -77,7 +77,7 @@ fn member(places: &[u32], index: u64) -> Option<usize>
 
 /// The place of an index of a source.
 fn place_of(tx: &ResolvedTx<'_>, group: &Group<'_>, source: Source, index: u64) -> Option<Place>
-    ensures { (scene : Scene) → Shows tx.now scene → option_map place_meaning result ≡ defs.place_of scene group.now.group (source_meaning source) index }
+    ensures { (scene : Scene) → Shows tx.now scene → option_map place_meaning result ≡ defs.place_in_source scene group.now.group (source_meaning source) index }
 {
     match source {
         Source::Inputs => before(tx.tx.raw().inputs_count(), index).map(Place::Input),
@@ -93,7 +93,7 @@ fn place_of(tx: &ResolvedTx<'_>, group: &Group<'_>, source: Source, index: u64) 
 
 /// What a call's source and index name. A source that there is not comes before an index.
 pub(crate) fn target_of(tx: &ResolvedTx<'_>, group: &Group<'_>, source: u64, index: u64) -> Target
-    ensures { (scene : Scene) → Shows tx.now scene → target_meaning result ≡ option_map (λ it. defs.place_of scene group.now.group it index) (defs.source_of source) }
+    ensures { (scene : Scene) → Shows tx.now scene → target_meaning result ≡ option_map (λ it. defs.place_in_source scene group.now.group it index) (defs.source_of source) }
 {
     match source_of(source) {
         None => Target::NoSource,
