@@ -2,7 +2,7 @@
 use Rattle.std.proofs.Common.{◌≡◌, ℕ, List, Option, Some, ap, subst, ◌∙◌}
 use Rattle.std.specs.Prelude.{IfSome, slice_get}
 use Rattle.codec_defs.specs.Schema.{OutPoint, CellOutput, Transaction, Block}
-use Rattle.chain_tree.specs.Told.{Stored, Encodes}
+use Rattle.chain_tree.specs.Told.{Stored}
 use Rattle.cell_defs.specs.Cell.{Cell, data_of}
 use Rattle.cell_defs.specs.Row.{Row}
 use Rattle.cell_model.specs.Copies.{ResolvedValue, IsCopyOf, CopiesOutput, NamesOutput, output_in}
@@ -18,14 +18,14 @@ named_output stored o row cell named =
     ∙ in_transaction named.made.block named.output.t cell.transaction o.index cell.output named.output.there named.output.output
     ∙ ap (λ (content : List ℕ). Some (cell.output, content)) named.output.content
 
--- the bytes in hand encode the block of the entry that is there
-pub encodes : (bytes : List ℕ) (told : Option (List Stored)) (hand : Option ℕ) (stored : List Stored) (place : ℕ) (made : Stored) → told ≡ Some stored → hand ≡ Some place
+-- the block in hand is that of the entry that is there
+pub in-hand : (view : Block) (told : Option (List Stored)) (hand : Option ℕ) (stored : List Stored) (place : ℕ) (made : Stored) → told ≡ Some stored → hand ≡ Some place
     → slice_get stored place ≡ Some made
-    → IfSome told (λ all. IfSome hand (λ e. IfSome (slice_get all e) (λ it. Encodes bytes it.block))) → Encodes bytes made.block
-encodes bytes told hand stored place made tells taken there of_hand =
-    subst (λ (it : Option Stored). IfSome it (λ found. Encodes bytes found.block)) there
-    (subst (λ (h : Option ℕ). IfSome h (λ e. IfSome (slice_get stored e) (λ it. Encodes bytes it.block))) taken
-    (subst (λ (all : Option (List Stored)). IfSome all (λ l. IfSome hand (λ e. IfSome (slice_get l e) (λ it. Encodes bytes it.block)))) tells of_hand))
+    → IfSome told (λ all. IfSome hand (λ e. IfSome (slice_get all e) (λ it. view ≡ it.block))) → view ≡ made.block
+in-hand view told hand stored place made tells taken there of_hand =
+    subst (λ (it : Option Stored). IfSome it (λ found. view ≡ found.block)) there
+    (subst (λ (h : Option ℕ). IfSome h (λ e. IfSome (slice_get stored e) (λ it. view ≡ it.block))) taken
+    (subst (λ (all : Option (List Stored)). IfSome all (λ l. IfSome hand (λ e. IfSome (slice_get l e) (λ it. view ≡ it.block)))) tells of_hand))
 
 pub same_output : (one other : CellOutput × List ℕ) → Some one ≡ Some other → (one.0 ≡ other.0) × (one.1 ≡ other.1)
 same_output one other same =

@@ -10,7 +10,7 @@ use Rattle.codec_defs.specs.Shape.{decoded}
 use Rattle.codec_defs.specs.Schema.{Block, block}
 use Rattle.codec_defs.proofs.ShapeLaws.{IsA-decoded}
 use Rattle.codec_defs.proofs.RowLaws.{block-check}
-use Rattle.chain_tree.specs.Told.{Stored, blocks_of, Encodes}
+use Rattle.chain_tree.specs.Told.{Stored, blocks_of}
 use Rattle.cell_defs.specs.Ext.{count_at, row_size, is_ext, fee_of}
 use Rattle.cell_model.specs.ListBlocks.{ListBlocksValue, place_among, place_in_hand, contents, IsCanonical, IsExtFor, AreKept, stored_from}
 
@@ -137,7 +137,7 @@ entry_at blocks exts stored place kept is within =
     ∙ stored_at (contents blocks) (contents exts) place kept.lengths (omega (arith, within, length-map blocks (λ (v : Vec ℕ Global). v.items)))
 
 pub canonical_at : (blocks exts : List (Vec ℕ Global)) (place : ℕ) (bytes : List ℕ) → AreKept (contents blocks) (contents exts) → place < length blocks
-    → bytes ≡ get_or (contents blocks) place [] → Encodes bytes (block.decoding (get_or (contents blocks) place []))
+    → bytes ≡ get_or (contents blocks) place [] → decoded block bytes ≡ Some (block.decoding (get_or (contents blocks) place []))
 canonical_at blocks exts place bytes kept within is =
     ap (decoded block) is
     ∙ canonical-decoded (get_or (contents blocks) place []) (kept.canonical place [] (omega (arith, within, length-map blocks (λ (v : Vec ℕ Global). v.items))))
@@ -159,6 +159,12 @@ by_hand P it place entry taken within there holds =
     let place_is : place_in_hand it ≡ Some place =
     ap (place_among (length it.stored)) taken ∙ ap (λ (b : Bool). if b then Some place else None) (lt-ltb place (length it.stored) within) in
     subst (λ (o : Option ℕ). IfSome o (λ e. IfSome (slice_get it.stored e) P)) (sym place_is) (at_entry P it.stored place entry there holds)
+
+-- what is so of the place in hand
+pub of_hand : (P : ℕ → Type 0) (it : ListBlocksValue) (place : ℕ) → it.hand ≡ Some place → place < length it.stored → IfSome (place_in_hand it) P → P place
+of_hand P it place taken within holds =
+    subst (λ (o : Option ℕ). IfSome o P)
+    (ap (place_among (length it.stored)) taken ∙ ap (λ (b : Bool). if b then Some place else None) (lt-ltb place (length it.stored) within)) holds
 
 pub hand-more : (hand : Option ℕ) (len more : ℕ) → len ≤ more → IfSome hand (λ place. place < len) → IfSome hand (λ place. place < more)
 hand-more None len more le below = tt

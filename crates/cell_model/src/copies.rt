@@ -109,9 +109,7 @@ pub fn fetch<B: Blocks>(
         Ok(()) => {}
         Err(stop) => return Err(stop),
     }
-    let Some(block) = BlockView::read(blocks.block()) else {
-        return Err(damaged());
-    };
+    let block = blocks.block();
     let Some((output, content)) = output_at(&block, &o, &meta) else {
         return Err(damaged());
     };

@@ -8,6 +8,7 @@ ghost use Rattle.cell_model.specs.ListBlocks.{place_in_hand, contents, IsCanonic
 
 use crate::row::u64_at;
 use chain_tree::Blocks;
+use mol_schema::BlockView;
 use outside::{NoMemory, ReadStop};
 use std::marker::Model;
 
@@ -101,17 +102,17 @@ impl Blocks for ListBlocks {
         Ok(())
     }
 
-    fn block(&self) -> &[u8] {
+    fn block(&self) -> BlockView<'_> {
         match self.hand {
-            Some(e) => &self.blocks[e as usize],
-            None => &[],
+            Some(e) => BlockView::from_encoding(&self.blocks[e as usize]),
+            None => unreachable!(),
         }
     }
 
     fn spent(&self) -> &[u8] {
         match self.hand {
             Some(e) => &self.exts[e as usize],
-            None => &[],
+            None => unreachable!(),
         }
     }
 

@@ -1,7 +1,6 @@
 -- What a source of kept blocks tells, and when it answers that it could not read.
 use Rattle.std.specs.Prelude.{◌≡◌, ℕ, ◌≤◌, List, map, Option, Some, slice_get, Result, Err, IfSome, IsSome}
-use Rattle.codec_defs.specs.Shape.{decoded}
-use Rattle.codec_defs.specs.Schema.{Block, block}
+use Rattle.codec_defs.specs.Schema.{Block}
 use Rattle.cell_defs.specs.Ext.{count_at}
 use Rattle.outside.specs.Causes.{CountsFault}
 use Rattle.outside.specs.declared.disk.ReadStop.{ReadStop}
@@ -15,10 +14,6 @@ pub record Stored : Type 0 where
 
 abbrev pub blocks_of : List Stored → List Block
 blocks_of stored = map (λ it. it.block) stored
-
--- the bytes are the encoding of a block
-abbrev pub Encodes : List ℕ → Block → Type 0
-Encodes bytes b = decoded block bytes ≡ Some b
 
 -- What a call that reads kept blocks may answer: a fault of the disk only where the count of faults rose, which no other answer lets rise; and
 -- damage only where the content is not told.

@@ -1,15 +1,16 @@
 // Where the bytes of kept blocks come from: the trait that the rules on cells, proposals and uncles read them by.
-ghost use Rattle.std.specs.Prelude.{◌≡◌, ◌-◌, ◌^◌, ◌<◌, ◌≤◌, Option, Some, None, Err, List, ℕ, length, slice_get, IfOk, OnOk, OnErr, IfSome, IsSome};
-ghost use Rattle.cell_defs.specs.Ext.{fee_of};
+ghost use Rattle.std.specs.Prelude.{◌≡◌, ◌-◌, ◌^◌, ◌<◌, ◌≤◌, Option, Some, None, Err, List, ℕ, length, slice_get, IfOk, OnOk, OnErr, IfSome, IsSome, IsTrue};
+ghost use Rattle.cell_defs.specs.Ext.{fee_of, is_ext};
 ghost use Rattle.outside.specs.declared.disk.Area.TheVariants.{Log};
 ghost use Rattle.outside.specs.declared.disk.Damage.{Damage};
 ghost use Rattle.outside.specs.declared.disk.ReadStop.TheVariants.{Damaged};
-ghost use Rattle.chain_tree.specs.Told.{Stored, Encodes, HasReadCause, HasFee};
+ghost use Rattle.chain_tree.specs.Told.{Stored, HasReadCause, HasFee};
 
+use mol_schema::BlockView;
 use outside::ReadStop;
 
 /// The kept blocks with their exts, each by its place. One entry at a time is in hand: `bring` takes it, and `block`
-/// and `spent` give its bytes. What is damaged stands in LOG, where the kept blocks are.
+/// and `spent` give what it has. What is damaged stands in LOG, where the kept blocks are.
 pub trait Blocks {
     /// The kept blocks with their exts, where it tells them.
     ghost told: { Self → Option (List Stored) };
@@ -39,16 +40,18 @@ pub trait Blocks {
         ensures damage { (damage : Damage) → result ≡ Err (Damaged damage) → damage.area ≡ Log }
         ensures cause { HasReadCause (faults self.old) (faults self.new) (told self.old) result };
 
-    /// The block of the entry in hand, the genesis included.
-    fn block(&self) -> &[u8]
+    /// The block of the entry in hand, the genesis included, as a view: a source checks the bytes of a block once, when
+    /// it takes them from where they lie, and a reader borrows what was checked.
+    fn block(&self) -> BlockView<'_>
         requires { IsSome (in_hand self.now) }
-        ensures { IfSome (told self.now) (λ stored. IfSome (in_hand self.now) (λ e. IfSome (slice_get stored e) (λ it. Encodes result.now it.block))) };
+        ensures { IfSome (told self.now) (λ stored. IfSome (in_hand self.now) (λ e. IfSome (slice_get stored e) (λ it. result ≡ it.block))) };
 
-    /// The whole ext of the entry in hand, which is not the genesis.
+    /// The whole ext of the entry in hand, which is not the genesis. It has the form of one, whatever is told.
     fn spent(&self) -> &[u8]
         requires later { IfSome (in_hand self.now) (λ e. 0 < e) }
         requires in_hand { IsSome (in_hand self.now) }
-        ensures { IfSome (told self.now) (λ stored. IfSome (in_hand self.now) (λ e. IfSome (slice_get stored e) (λ it. result.now ≡ it.ext))) };
+        ensures form { IsTrue (is_ext result.now) }
+        ensures ext { IfSome (told self.now) (λ stored. IfSome (in_hand self.now) (λ e. IfSome (slice_get stored e) (λ it. result.now ≡ it.ext))) };
 
     /// Takes an entry in hand that is not the genesis, and answers the fee of its transaction at a place, in shannons.
     /// After an `Err` none is in hand.

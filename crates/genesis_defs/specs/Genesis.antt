@@ -1,5 +1,5 @@
 -- The rules on the genesis of a store, as rows of a list (docs/RULES.md, "The genesis"). A row has the rule's number and whether the genesis keeps it.
-use Rattle.std.specs.Prelude.{ℕ, ◌==◌, ◌&&◌, nat_lt, Bool, true, List, [], ◌∷◌, map, length, Option, Some, None}
+use Rattle.std.specs.Prelude.{ℕ, ◌==◌, ◌&&◌, nat_lt, Bool, List, [], ◌∷◌, map, length, Option, Some, None}
 use Rattle.std.specs.List.{list_all}
 use Rattle.codec_defs.specs.Shape.{decoded}
 use Rattle.codec_defs.specs.Schema.{Block, block}

@@ -3,7 +3,7 @@ ghost use Rattle.std.specs.Prelude.{◌≡◌, ◌-◌, ◌^◌, ◌≤◌, ◌�
 ghost use Rattle.std.specs.Option.{option_map};
 ghost use Rattle.outside.specs.Causes.{HasCause};
 ghost use Rattle.outside.specs.Image.{Image, content, InArea};
-ghost use Rattle.outside.specs.Disk.{write_area, cut_area, IsWithinLimit, BeginsWithin, Torn, Cut, Follows, SameImages, NoneNew, IsDurable, OthersRead, Elapses};
+ghost use Rattle.outside.specs.Disk.{write_area, cut_area, IsWithinLimit, BeginsWithin, Torn, Cut, Follows, SameImages, NoneNew, IsDurable, OthersRead, Elapses, IsAsBefore};
 
 use crate::Failed;
 
@@ -55,9 +55,16 @@ pub trait Disk {
     /// How often it has failed.
     ghost faults: { Self → ℕ };
 
+    /// What a call that only reads leaves as it is, whatever it answers: what the disk reads as, and all that a crash may
+    /// leave (`content_rests`). Who borrows a disk tells by it, in one fact, that it only read.
+    ghost Content: { Type 0 };
+
+    ghost content_of: { Self → Content };
+
     /// The length of an area, in bytes.
     fn len(&mut self, area: Area) -> Result<u64, Failed>
         ensures length { IfOk result (λ n. IfSome (reads_as self.old) (λ image. n ≡ length (content area image))) }
+        ensures content { content_of self.new ≡ content_of self.old }
         ensures same { reads_as self.new ≡ reads_as self.old }
         ensures images { SameImages (images self.old) (images self.new) }
         ensures time { Elapses (moment self.old) (moment self.new) (left_since self.old) (left_since self.new) (images self.new) }
@@ -68,6 +75,7 @@ pub trait Disk {
         ensures fits { IfOk result (λ n. n ≤ length into.new) }
         ensures bytes { IfOk result (λ n. IfSome (reads_as self.old)
             (λ image. take n into.new ≡ take (length into.new) (drop at (content area image)))) }
+        ensures content { content_of self.new ≡ content_of self.old }
         ensures same { reads_as self.new ≡ reads_as self.old }
         ensures images { SameImages (images self.old) (images self.new) }
         ensures time { Elapses (moment self.old) (moment self.new) (left_since self.old) (left_since self.new) (images self.new) }
@@ -102,6 +110,9 @@ pub trait Disk {
         ensures kept { OnErr result (SameImages (images self.old) (images self.new)) }
         ensures time { Elapses (moment self.old) (moment self.new) (left_since self.old) (left_since self.new) (images self.new) }
         ensures cause { HasCause (faults self.old) (faults self.new) result };
+
+    /// Where the content is the same, so is what the disk reads as and what a crash may leave, at each moment since.
+    ghost content_rests: { (old new : Self) → content_of new ≡ content_of old → IsAsBefore reads_as images moment left_since old new };
 
     /// What it reads as is one of its images.
     ghost reads_image: { (disk : Self) → IfSome (reads_as disk) (images disk) };

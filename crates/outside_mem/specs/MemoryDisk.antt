@@ -1,13 +1,13 @@
 -- What contracts see of a `MemDisk`: the calls that changed it, and what follows from them (docs/DECISIONS.md, "The outside").
-use Rattle.std.specs.Prelude.{◌≡◌, ◌⊎◌, ◌↔◌, ℕ, ◌+◌, ◌≤◌, nat_le, List, [], ◌∷◌, length, map, reverse, if◌then◌else◌}
-use Rattle.std.proofs.Common.{inl, inr}
-use Rattle.std.proofs.Math.Nat.{lt_irrefl}
+use Rattle.std.specs.Prelude.{◌≡◌, ◌⊎◌, ◌↔◌, ℕ, ◌+◌, ◌≤◌, nat_le, List, [], ◌∷◌, length, map, reverse, Some, if◌then◌else◌}
+use Rattle.std.proofs.Common.{inl, inr, sym, ap, subst}
+use Rattle.std.proofs.Math.Nat.{lt_irrefl, le_refl}
 use Rattle.outside.specs.declared.disk.Area.{Area}
 use Rattle.outside_mem.specs.declared.history.Recorded.{Recorded}
 use Rattle.outside_mem.specs.declared.history.Recorded.TheVariants.{Write, Cut as CutShort, Sync}
 use Rattle.outside.specs.Causes.{up_to_last}
 use Rattle.outside.specs.Image.{Image, content, InArea}
-use Rattle.outside.specs.Disk.{write_area, cut_area, Torn, Cut, ComesBy}
+use Rattle.outside.specs.Disk.{write_area, cut_area, Torn, Cut, ComesBy, IsAsBefore}
 use Rattle.outside_mem.specs.Memory.{Plan}
 
 -- A call that changed the disk, or what a crash may leave of it.
@@ -86,3 +86,16 @@ pub only_now : (steps : List Step) (image : Image) → LeftSince steps (length s
 only_now [] image left = left
 only_now (step ∷ earlier) image (inl now) = now
 only_now (step ∷ earlier) image (inr past) = absurd (lt_irrefl (length earlier) past.0)
+
+-- Where the steps are the same, the disk is as before: what it reads as, and what a crash may leave, at each moment.
+pub rests : (old new : Recording) → new.steps ≡ old.steps
+    → IsAsBefore (λ (disk : Recording). Some (reads disk.steps)) (λ disk. MayLeave disk.steps) (λ disk. length disk.steps) (λ disk. LeftSince disk.steps) old new
+rests old new same = record {
+  reads = ap (λ (steps : List Step). Some (reads steps)) same;
+  images = λ image. subst (λ (steps : List Step). MayLeave steps image ↔ MayLeave old.steps image) (sym same) (λ left. left, λ left. left);
+  moments = record {
+    later = subst (λ (steps : List Step). length old.steps ≤ length steps) (sym same) (le_refl (length old.steps));
+    each = λ image left. only_now old.steps image (subst (λ (steps : List Step). LeftSince steps (length old.steps) image) same left);
+    before = λ t image le left. inl (subst (λ (steps : List Step). LeftSince steps t image) same left);
+  };
+}

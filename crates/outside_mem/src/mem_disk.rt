@@ -1,12 +1,12 @@
 // A disk in memory, which fails at the calls that it is told to, and knows what a crash may leave.
-ghost use Rattle.std.specs.Prelude.{◌≡◌, ◌↔◌, ◌≤◌, ◌||◌, ◌+◌, [], ◌∷◌, ℕ, Some, length, take, drop, min, is_ok, IsTrue, IsErr, IfSome, IfOk, OnOk, OnErr, if◌then◌else◌, refl};
+ghost use Rattle.std.specs.Prelude.{◌≡◌, ◌↔◌, ◌≤◌, ◌||◌, ◌+◌, [], ◌∷◌, ℕ, List, Some, length, take, drop, min, is_ok, IsTrue, IsErr, IfSome, IfOk, OnOk, OnErr, if◌then◌else◌, refl};
 ghost use Rattle.std.specs.Option.{option_map};
 ghost use Rattle.std.proofs.Common.{inl};
 ghost use Rattle.outside.specs.Causes.{counted, within_last, HasCause};
 ghost use Rattle.outside.specs.Image.{content, InArea};
 ghost use Rattle.outside.specs.Disk.{write_area, cut_area, IsWithinLimit, BeginsWithin, Torn, Cut, Follows, SameImages, NoneNew, IsDurable, OthersRead, Elapses};
 ghost use Rattle.outside_mem.specs.Memory.{fresh_plan, fails_next, after_call};
-ghost use Rattle.outside_mem.specs.MemoryDisk.{Wrote, Shortened, Synced, reads, MayLeave, LeftSince, LeavesExactly, LeavesSynced, FailsInPart, disk_faults, counts_now, only_now};
+ghost use Rattle.outside_mem.specs.MemoryDisk.{Wrote, Shortened, Synced, reads, MayLeave, LeftSince, LeavesExactly, LeavesSynced, FailsInPart, disk_faults, counts_now, only_now, Step, rests};
 
 use crate::failure_plan::FailurePlan;
 use crate::history::History;
@@ -63,6 +63,12 @@ impl Disk for MemDisk {
     ghost left_since = { λ disk. LeftSince disk.steps };
 
     ghost faults = { disk_faults };
+
+    ghost Content = { List Step };
+
+    ghost content_of = { λ disk. disk.steps };
+
+    ghost content_rests = { rests };
 
     ghost reads_image = { λ _. inl refl };
 

@@ -1,6 +1,7 @@
 // A disk that is not there.
 ghost use Rattle.std.specs.Prelude.{◌≡◌, ◌≤◌, ◌⊎◌, ℕ, List, length, take, drop, IsErr, IfSome, IfOk, OnOk, OnErr, None};
 ghost use Rattle.std.specs.Option.{option_map};
+ghost use Rattle.std.proofs.Common.{lit≤, refl};
 ghost use Rattle.outside.specs.Causes.{counted, up_to_last, within_last, HasCause};
 ghost use Rattle.outside.specs.Image.{Image, content, InArea};
 ghost use Rattle.outside.specs.Disk.{IsWithinLimit, BeginsWithin, write_area, cut_area, Torn, Cut, Follows, SameImages, NoneNew, IsDurable, OthersRead, Elapses};
@@ -47,6 +48,16 @@ impl Disk for NoDisk {
     ghost left_since = { λ _ _ _. ⊥ };
 
     ghost faults = { up_to_last };
+
+    ghost Content = { Unit {0} };
+
+    ghost content_of = { λ _. tt };
+
+    ghost content_rests = { λ _ _ _. record {
+        reads = refl;
+        images = λ _. (λ left. left, λ left. left);
+        moments = record { later = lit≤ tt; each = λ _ left. absurd left; before = λ _ _ _ left. absurd left };
+    } };
 
     ghost reads_image = { λ _. tt };
 

@@ -1,5 +1,6 @@
 // The disk as files of a folder.
 ghost use Rattle.std.specs.Prelude.{◌≡◌, ◌≤◌, ℕ, None, length, IfOk, OnOk, OnErr};
+ghost use Rattle.std.proofs.Common.{lit≤, refl};
 ghost use Rattle.outside.specs.Causes.{counted, up_to_last, within_last};
 
 use crate::claim::Claim;
@@ -49,6 +50,16 @@ where
     ghost left_since = { λ _ _ _. ⊥ };
 
     ghost faults = { up_to_last };
+
+    ghost Content = { Unit {0} };
+
+    ghost content_of = { λ _. tt };
+
+    ghost content_rests = { λ _ _ _. record {
+        reads = refl;
+        images = λ _. (λ left. left, λ left. left);
+        moments = record { later = lit≤ tt; each = λ _ left. absurd left; before = λ _ _ _ left. absurd left };
+    } };
 
     ghost reads_image = { λ _. tt };
 

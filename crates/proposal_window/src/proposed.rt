@@ -99,7 +99,7 @@ fn add(ids: &mut HashSet<[u8; 10]>, block: &BlockView<'_>) -> Result<(), NoMemor
     add_of_uncles(ids, block)
 }
 
-/// The same for a kept block. Damaged where its bytes are no block.
+/// The same for a kept block. Damaged where the source finds it damaged.
 fn add_at<B: Blocks>(
     ids: &mut HashSet<[u8; 10]>,
     tree: &Tree,
@@ -121,12 +121,7 @@ fn add_at<B: Blocks>(
         Ok(()) => {}
         Err(stop) => return Err(stop),
     }
-    let Some(block) = BlockView::read(blocks.block()) else {
-        return Err(ReadStop::Damaged(Damage {
-            area: Area::Log,
-            at: tree.entry(place).at,
-        }));
-    };
+    let block = blocks.block();
     match add(ids, &block) {
         Ok(()) => Ok(()),
         Err(_) => Err(ReadStop::NoMemory),
@@ -135,7 +130,7 @@ fn add_at<B: Blocks>(
 
 impl Proposed {
     /// What the window of a height proposes, on the parent's branch: each of its blocks is read once. Damaged where the
-    /// bytes of one of them are no block.
+    /// source finds one of them damaged.
     pub fn of<B: Blocks>(
         alloc: Global,
         spec: &Spec,

@@ -28,7 +28,7 @@ pub(crate) fn window_of(spec: &Spec, height: u64) -> (u64, u64)
 }
 
 /// The lowest height, from w_far to w_close before this one, at which the block of the parent's branch or one of its
-/// uncles proposes the id. None where none of them does. Damaged where the bytes of one of these blocks are no block.
+/// uncles proposes the id. None where none of them does. Damaged where the source finds one of these blocks damaged.
 pub fn earliest<B: Blocks>(
     spec: &Spec,
     tree: &Tree,

@@ -57,7 +57,7 @@ fn proposes(block: &BlockView<'_>, id: &[u8]) -> bool
     is_own(block, id) || is_of_uncles(block, id)
 }
 
-/// The same for a kept block. Damaged where its bytes are no block.
+/// The same for a kept block. Damaged where the source finds it damaged.
 pub(crate) fn is_proposed_at<B: Blocks>(
     tree: &Tree,
     blocks: &mut B,
@@ -79,11 +79,6 @@ pub(crate) fn is_proposed_at<B: Blocks>(
         Ok(()) => {}
         Err(stop) => return Err(stop),
     }
-    let Some(block) = BlockView::read(blocks.block()) else {
-        return Err(ReadStop::Damaged(Damage {
-            area: Area::Log,
-            at: tree.entry(place).at,
-        }));
-    };
+    let block = blocks.block();
     Ok(proposes(&block, id))
 }

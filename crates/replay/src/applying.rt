@@ -30,7 +30,7 @@ fn damage_at(tree: &Tree, place: u32) -> Damage
     }
 }
 
-/// The cells that the genesis leaves. Damaged where its bytes are no block.
+/// The cells that the genesis leaves. Damaged where the source finds it damaged.
 pub(crate) fn genesis_cells<B: Blocks>(
     alloc: Global,
     tree: &Tree,
@@ -51,17 +51,15 @@ pub(crate) fn genesis_cells<B: Blocks>(
         Ok(()) => {}
         Err(stop) => return Err(stop),
     }
-    let Some(block) = BlockView::read(blocks.block()) else {
-        return Err(ReadStop::Damaged(damage_at(tree, 0)));
-    };
+    let block = blocks.block();
     match State::genesis(alloc, &block) {
         Ok(state) => Ok(state),
         Err(_) => Err(ReadStop::NoMemory),
     }
 }
 
-/// Takes the events of the kept block at a place, which is not the genesis. Damaged where its bytes are no block, or its
-/// events do not fit.
+/// Takes the events of the kept block at a place, which is not the genesis. Damaged where the source finds it damaged, or
+/// its events do not fit.
 pub(crate) fn apply_at<B: Blocks, L: Ledger>(
     state: &mut State,
     tree: &Tree,
@@ -89,9 +87,7 @@ pub(crate) fn apply_at<B: Blocks, L: Ledger>(
         Ok(()) => {}
         Err(stop) => return Err(stop),
     }
-    let Some(block) = BlockView::read(blocks.block()) else {
-        return Err(ReadStop::Damaged(damage_at(tree, place)));
-    };
+    let block = blocks.block();
     match state.reserve(outputs_in(&block)) {
         Ok(()) => {}
         Err(_) => return Err(ReadStop::NoMemory),

@@ -37,7 +37,7 @@ fn places_down(alloc: Global, tree: &Tree, e: u32, last: u64) -> Result<Vec<u32>
 }
 
 /// The live cells of the branch that ends with a place, replayed from the genesis: a step for each block behind it.
-/// Damaged where the bytes of one of the branch's blocks are no block, or its events do not fit the cells before it.
+/// Damaged where the source finds one of the branch's blocks damaged, or its events do not fit the cells before it.
 pub fn replay<B: Blocks, L: Ledger>(
     alloc: Global,
     tree: &Tree,

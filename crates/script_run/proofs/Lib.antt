@@ -6,7 +6,6 @@ pub mod PlaceLemmas
 pub mod LookLemmas
 pub mod SyscallLemmas
 pub mod ShowingLemmas
-pub mod HeaderLemmas
 pub mod WorldLemmas
 pub mod ReadLemmas
 pub mod RunningLemmas

@@ -7,7 +7,7 @@ ghost use Rattle.outside.specs.declared.disk.ReadStop.TheVariants.{DiskFault, Da
 ghost use Rattle.vm_defs.specs.Program.{execution};
 ghost use Rattle.sys_defs.specs.Answer.{syscall};
 ghost use Rattle.program_run.specs.Program.{execution_of};
-ghost use Rattle.chain_tree.specs.Told.{Encodes, Stored};
+ghost use Rattle.chain_tree.specs.Told.{Stored};
 ghost use Rattle.codec_defs.specs.Schema.{Block, Header, header};
 ghost use Rattle.codec_defs.specs.Shape.{IsA};
 ghost use Rattle.time_defs.specs.Epochs.{epoch_number};
@@ -24,7 +24,7 @@ use crate::items::sought;
 use crate::shown::ShownTx;
 use crate::stop::damaged;
 use chain_tree::{Blocks, Tree};
-use mol_schema::HeaderView;
+use mol_schema::{BlockView, HeaderView};
 use outside::ReadStop;
 use program_run::{Execution, Stopped, execute_in};
 use std::alloc::Global;
@@ -90,11 +90,6 @@ impl<'a, 'w, 'b, B: Blocks> World for GroupWorld<'a, 'w, 'b, B> {
     }
 }
 
-/// Where a block has its header: behind the size of the table and the offsets of its four fields.
-const HEADER_AT: usize = 20;
-
-const HEADER_END: usize = 228;
-
 /// Reads a part of the header of the block at a place. Damaged where no block is kept there.
 fn read_header<'a, B: Blocks>(
     tree: &Tree,
@@ -117,22 +112,16 @@ fn read_header<'a, B: Blocks>(
         Ok(()) => {}
         Err(stop) => return Err(stop),
     }
-    match header_of(blocks.block()) {
-        None => Err(damaged()),
-        Some(header) => Ok(part_of(header, part, epoch_length)),
-    }
+    Ok(part_of(header_of(&blocks.block()), part, epoch_length))
 }
 
-/// The header of an encoded block: the rest is not looked at.
-fn header_of(block: &[u8]) -> Option<[u8; 208]>
-    ensures { (b : Block) → Encodes block.now b → IsSomeAnd result (λ it. IsA header it b.header) }
+/// The bytes of a block's header.
+fn header_of(block: &BlockView<'_>) -> [u8; 208]
+    ensures { IsA header result block.now.header }
 {
-    if block.len() < HEADER_END {
-        return None;
-    }
     let mut bytes = [0u8; 208];
-    bytes.copy_from_slice(&block[HEADER_AT..HEADER_END]);
-    Some(bytes)
+    bytes.copy_from_slice(block.header().bytes());
+    bytes
 }
 
 /// A part of a header that is encoded.

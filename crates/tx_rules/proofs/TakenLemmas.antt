@@ -6,11 +6,11 @@ use Rattle.std.specs.List.{All, AllZip}
 use Rattle.std.proofs.lemmas.Option.{same_Some, slice_get_within}
 use Rattle.codec_defs.specs.Shape.{decoded}
 use Rattle.codec_defs.specs.Schema.{OutPoint, Block, block}
-use Rattle.chain_tree.specs.Told.{Stored, Encodes, blocks_of}
+use Rattle.chain_tree.specs.Told.{Stored, blocks_of}
 use Rattle.cell_defs.specs.Cell.{Cell}
 use Rattle.cell_defs.specs.Row.{Row}
 use Rattle.cell_model.specs.Copies.{ResolvedValue, IsCopyOf, CopiesOutput, NamesOutput, output_in}
-use Rattle.cell_model.proofs.CopyLemmas.{named_output, encodes}
+use Rattle.cell_model.proofs.CopyLemmas.{named_output}
 use Rattle.tx_defs.specs.Site.{Site, Found}
 use Rattle.tx_rules.specs.At.{AtValue, IsSiteOf, AreSeen, found_row}
 use Rattle.tx_rules.specs.Copying.{IsFoundAt, IsBlockAt, IsCopyOfRow, CopiesItsRow, AreTaken, HoldsOutput, row_in}
@@ -204,31 +204,20 @@ copies-cells stored at seen site founds rows copies is are_seen are each =
 
 -- ---- The block in hand
 
--- what is read of the bytes in hand is the block at its place
-pub hand-block : (told now : Option (List Stored)) (hand : Option ℕ) (place : ℕ) (bytes : List ℕ) (read : Block) → now ≡ told → hand ≡ Some place
-    → Some read ≡ decoded block bytes → IfSome now (λ stored. IfSome hand (λ e. IfSome (slice_get stored e) (λ it. Encodes bytes it.block)))
-    → IsBlockAt told place read
-hand-block told now hand place bytes read same in_hand is of_hand =
-    by_told told (subst (λ (t : Option (List Stored)). IfSome t (λ stored. IfSome (slice_get stored place) (λ it. Encodes bytes it.block))) same
-    (subst (λ (h : Option ℕ). IfSome now (λ stored. IfSome h (λ e. IfSome (slice_get stored e) (λ it. Encodes bytes it.block)))) in_hand of_hand))
+-- it is the one at its place, where something is told
+pub hand-block : (told now : Option (List Stored)) (hand : Option ℕ) (place : ℕ) (view : Block) → now ≡ told → hand ≡ Some place
+    → IfSome now (λ stored. IfSome hand (λ e. IfSome (slice_get stored e) (λ it. view ≡ it.block))) → IsBlockAt told place view
+hand-block told now hand place view same in_hand of_hand =
+    by_told told (subst (λ (t : Option (List Stored)). IfSome t (λ stored. IfSome (slice_get stored place) (λ it. view ≡ it.block))) same
+    (subst (λ (h : Option ℕ). IfSome now (λ stored. IfSome h (λ e. IfSome (slice_get stored e) (λ it. view ≡ it.block)))) in_hand of_hand))
   where
-    by_made : (made : Option Stored) → IfSome made (λ it. Encodes bytes it.block) → IfSome made (λ it. it.block ≡ read)
-    by_made None encodes = tt
-    by_made (Some made) encodes = let encoded : decoded block bytes ≡ Some made.block = encodes in same_Some made.block read (sym encoded ∙ sym is)
+    by_made : (made : Option Stored) → IfSome made (λ it. view ≡ it.block) → IfSome made (λ it. it.block ≡ view)
+    by_made None is = tt
+    by_made (Some made) is = sym is
 
-    by_told : (t : Option (List Stored)) → IfSome t (λ stored. IfSome (slice_get stored place) (λ it. Encodes bytes it.block)) → IsBlockAt t place read
-    by_told None encodes = tt
-    by_told (Some stored) encodes = by_made (slice_get stored place) encodes
-
--- which are those of a block, where something is told
-pub hand-reads : (stored : List Stored) (told now : Option (List Stored)) (hand : Option ℕ) (count place : ℕ) (bytes : List ℕ) → told ≡ Some stored → now ≡ told
-    → hand ≡ Some place → IfSome told (λ all. length all ≡ count) → place < count → None ≡ decoded block bytes
-    → IfSome now (λ all. IfSome hand (λ e. IfSome (slice_get all e) (λ it. Encodes bytes it.block))) → ⊥
-hand-reads stored told now hand count place bytes tells same in_hand all within nothing of_hand =
-    let long : length stored ≡ count = subst (λ (t : Option (List Stored)). IfSome t (λ all. length all ≡ count)) tells all in
-    let there = slice_get-below stored place (omega (arith, within, long)) in
-    let encoded : decoded block bytes ≡ Some there.0.block = encodes bytes now hand stored place there.0 (same ∙ tells) in_hand there.1 of_hand in
-    nothing_read there.0.block (nothing ∙ encoded)
+    by_told : (t : Option (List Stored)) → IfSome t (λ stored. IfSome (slice_get stored place) (λ it. view ≡ it.block)) → IsBlockAt t place view
+    by_told None is = tt
+    by_told (Some stored) is = by_made (slice_get stored place) is
 
 -- the copy that is taken at a place is its row's
 pub taken-here : (told : Option (List Stored)) (at : AtValue) (rows : List (OutPoint × Row)) (slots : List (Option ResolvedValue)) (i : ℕ) (named : OutPoint × Row)

@@ -233,10 +233,8 @@ fn take_kept<B: Blocks>(
         Err(ReadStop::DiskFault) => return Err(ReadStop::DiskFault),
         Err(ReadStop::NoMemory) => return Err(ReadStop::NoMemory),
     }
-    let Some(read) = BlockView::read(blocks.block()) else {
-        return Err(ReadStop::Damaged(damage_of(at, &meta)));
-    };
-    take_read(alloc, at, &read, meta.block, rows, order, taken)
+    let block = blocks.block();
+    take_read(alloc, at, &block, meta.block, rows, order, taken)
 }
 
 /// Takes copies of the cells of rows of kept blocks that made several of them, each to its row's place. The order has

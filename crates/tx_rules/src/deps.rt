@@ -110,9 +110,7 @@ fn add_kept_group<C: Cells, B: Blocks>(
         Ok(()) => {}
         Err(stop) => return Err(stop),
     }
-    let Some(block) = BlockView::read(blocks.block()) else {
-        return Err(ReadStop::Damaged(damage_of(at, meta)));
-    };
+    let block = blocks.block();
     add_group_in(at, cells, &block, o, meta, found)
 }
 

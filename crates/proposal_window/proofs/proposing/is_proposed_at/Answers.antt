@@ -15,22 +15,6 @@ returns-in-Err g c = record {
   cause = counts-handed c.in-Err.stop _ c.in-Err.ensures.cause.counts;
 }
 
-pub returns-in_default : goal.returns-in_default
-returns-in_default g c = record {
-  told = c.in-Ok.ensures.told;
-  count = c.in-Ok.ensures.count;
-  loans = c.in-Ok.ensures.loans;
-  proposes = λ stored tells. tt;
-  undamaged = λ stored tells damage same.
-      let within = c.requires.within in
-      let counts = c.requires.counts in
-      let kept = kept-block stored c.block.result.now c.args.place (g.B.Blocks.count c.args.blocks.now) (g.B.Blocks.told c.args.blocks.now) _ _ tells c.in-Ok.ensures.told
-      c.in-Ok.ensures.taken (g.met.B.Blocks.told_all c.args.blocks.now) (omega (arith, within, counts)) c.block.ensures in
-      nothing_read kept.0 (sym c.in_default.is ∙ c.read.ensures.value ∙ kept.2);
-  damage = λ damage same. in_log _ damage refl same;
-  cause = no_fault _ _ (c.in-Ok.ensures.cause.counts.unchanged (no_answer _ _)) (no_damage _);
-}
-
 pub returns : goal.returns
 returns g c = record {
   told = c.in-Ok.ensures.told;
@@ -39,9 +23,9 @@ returns g c = record {
   proposes = λ stored tells.
       let within = c.requires.within in
       let counts = c.requires.counts in
-      let kept = kept-block stored c.block.result.now c.args.place (g.B.Blocks.count c.args.blocks.now) (g.B.Blocks.told c.args.blocks.now) _ _ tells c.in-Ok.ensures.told
-      c.in-Ok.ensures.taken (g.met.B.Blocks.told_all c.args.blocks.now) (omega (arith, within, counts)) c.block.ensures in
-      c.proposes.ensures ∙ ap (proposes c.args.id.now) (c.in-Some.ensures.value ∙ kept.2 ∙ sym kept.1);
+      let kept = kept-block stored c.block-block.result c.args.place (g.B.Blocks.count c.args.blocks.now) (g.B.Blocks.told c.args.blocks.now) _ _ tells c.in-Ok.ensures.told
+      c.in-Ok.ensures.taken (g.met.B.Blocks.told_all c.args.blocks.now) (omega (arith, within, counts)) c.block-block.ensures in
+      c.proposes.ensures ∙ ap (proposes c.args.id.now) (sym kept);
   undamaged = λ stored tells damage same. no_answer _ _ same;
   damage = λ damage same. absurd (no_answer _ _ same);
   cause = no_fault _ _ (c.in-Ok.ensures.cause.counts.unchanged (no_answer _ _)) (no_answer _ _);

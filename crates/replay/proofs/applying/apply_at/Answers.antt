@@ -25,22 +25,6 @@ returns-in-Err g c = record {
   most = omega arith;
 }
 
-pub returns-in_default : goal.returns-in_default
-returns-in_default g c = record {
-  told = c.in-Ok.ensures.told;
-  count = c.in-Ok.ensures.count;
-  loans = c.in-Ok.ensures.loans;
-  rows = λ stored b tells there. tt;
-  fit = λ stored b tells there. tt;
-  undamaged = λ stored b height tells there above fit damage same.
-      nothing_read b (sym c.in_default.is ∙ c.read.ensures.value
-      ∙ told-block stored c.block.result.now c.args.place b _ _ (c.in-Ok.ensures.told ∙ tells) c.in-Ok.ensures.taken c.block.ensures there);
-  damage = λ damage same. in_log c.damage_at.result damage c.damage_at.ensures same;
-  cause = no_fault _ _ (c.in-Ok.ensures.cause.counts.unchanged (no_answer _ _)) (no_damage _);
-  steps = tt;
-  most = omega arith;
-}
-
 pub returns-in-Err-reserve : goal.returns-in-Err-reserve
 returns-in-Err-reserve g c = record {
   told = c.in-Ok.ensures.told;
@@ -61,16 +45,16 @@ returns-in-Ok-apply g c = record {
   count = c.in-Ok.ensures.count;
   loans = c.in-Ok.ensures.loans;
   rows = λ stored b tells there height o above.
-      let is : c.in-Some.block ≡ b = same_Some c.in-Some.block b (c.in-Some.ensures.value
-      ∙ told-block stored c.block.result.now c.args.place b _ _ (c.in-Ok.ensures.told ∙ tells) c.in-Ok.ensures.taken c.block.ensures there) in
+      let is : c.block-block.result ≡ b =
+      told-block stored c.block-block.result c.args.place b _ _ (c.in-Ok.ensures.told ∙ tells) c.in-Ok.ensures.taken c.block-block.ensures there in
       c.in-Ok-apply.ensures.rows height o above
-      ∙ row_after-same c.args.place (events_of_block height c.in-Some.block) (rows c.reserve.new.self) (rows c.args.state.now) o (c.in-Ok-reserve.ensures.rows o)
+      ∙ row_after-same c.args.place (events_of_block height c.block-block.result) (rows c.reserve.new.self) (rows c.args.state.now) o (c.in-Ok-reserve.ensures.rows o)
       ∙ ap (λ (x : Block). row_after c.args.place (events_of_block height x) (rows c.args.state.now) o) is;
   fit = λ stored b tells there height above.
-      let is : c.in-Some.block ≡ b = same_Some c.in-Some.block b (c.in-Some.ensures.value
-      ∙ told-block stored c.block.result.now c.args.place b _ _ (c.in-Ok.ensures.told ∙ tells) c.in-Ok.ensures.taken c.block.ensures there) in
+      let is : c.block-block.result ≡ b =
+      told-block stored c.block-block.result c.args.place b _ _ (c.in-Ok.ensures.told ∙ tells) c.in-Ok.ensures.taken c.block-block.ensures there in
       subst (λ (x : Block). AllFit (events_of_block height x) (are_live (rows c.args.state.now))) is
-      (found-same (events_of_block height c.in-Some.block) (rows c.reserve.new.self) (rows c.args.state.now) (λ o. sym (c.in-Ok-reserve.ensures.rows o))
+      (found-same (events_of_block height c.block-block.result) (rows c.reserve.new.self) (rows c.args.state.now) (λ o. sym (c.in-Ok-reserve.ensures.rows o))
       (c.in-Ok-apply.ensures.fit height above));
   undamaged = λ stored b height tells there above fit damage same. no_answer _ _ same;
   damage = λ damage same. absurd (no_answer _ _ same);
@@ -87,13 +71,13 @@ returns-in-Err-apply g c = record {
   rows = λ stored b tells there. tt;
   fit = λ stored b tells there. tt;
   undamaged = λ stored b height tells there above fit damage same.
-      let is : c.in-Some.block ≡ b = same_Some c.in-Some.block b (c.in-Some.ensures.value
-      ∙ told-block stored c.block.result.now c.args.place b _ _ (c.in-Ok.ensures.told ∙ tells) c.in-Ok.ensures.taken c.block.ensures there) in
-      none-odd (events_of_block height c.in-Some.block) (are_live (rows c.reserve.new.self)) c.in-Err-apply.field-0
-      (found-same (events_of_block height c.in-Some.block) (rows c.args.state.now) (rows c.reserve.new.self) c.in-Ok-reserve.ensures.rows
+      let is : c.block-block.result ≡ b =
+      told-block stored c.block-block.result c.args.place b _ _ (c.in-Ok.ensures.told ∙ tells) c.in-Ok.ensures.taken c.block-block.ensures there in
+      none-odd (events_of_block height c.block-block.result) (are_live (rows c.reserve.new.self)) c.in-Err-apply.field-0
+      (found-same (events_of_block height c.block-block.result) (rows c.args.state.now) (rows c.reserve.new.self) c.in-Ok-reserve.ensures.rows
       (subst (λ (x : Block). AllFit (events_of_block height x) (are_live (rows c.args.state.now))) (sym is) fit))
       (c.in-Err-apply.ensures.odd height above);
-  damage = λ damage same. in_log c.damage_at-in-Err-apply.result damage c.damage_at-in-Err-apply.ensures same;
+  damage = λ damage same. in_log c.damage_at.result damage c.damage_at.ensures same;
   cause = no_fault _ _ (c.in-Ok.ensures.cause.counts.unchanged (no_answer _ _)) (no_damage _);
   steps = tt;
   most = let one = c.in-Err-apply.ensures.steps in omega (arith, one);

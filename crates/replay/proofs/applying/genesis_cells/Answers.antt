@@ -6,7 +6,6 @@ use Rattle.chain_defs.proofs.KeptLaws.{slice_get-below}
 use Rattle.chain_tree.specs.Told.{Stored}
 use Rattle.cell_defs.specs.Events.{events_of_block}
 use Rattle.cell_defs.specs.Row.{row_after}
-use Rattle.cell_model.proofs.CopyLemmas.{encodes}
 use Rattle.outside.proofs.Endings.{no_fault, handed, counts-handed, no_answer, no_memory, no_damage, memory_undamaged, in_log, is_told, nothing_read}
 use Rattle.replay.proofs.FitLemmas.{told-block}
 use Rattle.replay.proofs.applying.genesis_cells.Goals as goal
@@ -22,32 +21,14 @@ returns-in-Err g c = record {
   cause = counts-handed c.in-Err.stop _ c.in-Err.ensures.cause.counts;
 }
 
-pub returns-in_default : goal.returns-in_default
-returns-in_default g c = record {
-  told = c.in-Ok.ensures.told;
-  count = c.in-Ok.ensures.count;
-  loans = c.in-Ok.ensures.loans;
-  rows = λ stored b tells there. tt;
-  undamaged = λ stored tells damage same.
-      let some = c.requires.some in
-      let counts = c.requires.counts in
-      let long : length stored ≡ g.B.Blocks.count c.args.blocks.now =
-      subst (λ (told : Option (List Stored)). IfSome told (λ all. length all ≡ g.B.Blocks.count c.args.blocks.now)) tells (g.met.B.Blocks.told_all c.args.blocks.now) in
-      let there = slice_get-below stored 0 (omega (arith, some, counts, long)) in
-      nothing_read there.0.block (sym c.in_default.is ∙ c.read.ensures.value
-      ∙ encodes c.block.result.now _ _ stored 0 there.0 (c.in-Ok.ensures.told ∙ tells) c.in-Ok.ensures.taken there.1 c.block.ensures);
-  damage = λ damage same. in_log c.damage_at.result damage c.damage_at.ensures same;
-  cause = no_fault _ _ (c.in-Ok.ensures.cause.counts.unchanged (no_answer _ _)) (no_damage _);
-}
-
 pub returns-in-Ok-genesis : goal.returns-in-Ok-genesis
 returns-in-Ok-genesis g c = record {
   told = c.in-Ok.ensures.told;
   count = c.in-Ok.ensures.count;
   loans = c.in-Ok.ensures.loans;
   rows = λ stored b tells there o.
-      let is : c.in-Some.block ≡ b = same_Some c.in-Some.block b (c.in-Some.ensures.value
-      ∙ told-block stored c.block.result.now 0 b _ _ (c.in-Ok.ensures.told ∙ tells) c.in-Ok.ensures.taken c.block.ensures there) in
+      let is : c.block-block.result ≡ b =
+      told-block stored c.block-block.result 0 b _ _ (c.in-Ok.ensures.told ∙ tells) c.in-Ok.ensures.taken c.block-block.ensures there in
       c.in-Ok-genesis.ensures o ∙ ap (λ (x : Block). row_after 0 (events_of_block 0 x) (λ _. None) o) is;
   undamaged = λ stored tells damage same. no_answer _ _ same;
   damage = λ damage same. absurd (no_answer _ _ same);

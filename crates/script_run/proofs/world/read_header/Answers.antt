@@ -1,8 +1,11 @@
-use Rattle.std.proofs.Common.{refl, ap, sym, subst}
+use Rattle.std.proofs.Common.{◌≡◌, refl, ap, sym, ◌∙◌, subst}
 use Rattle.std.specs.Prelude.{Option, Err, IsSome, List}
+use Rattle.codec_defs.specs.Schema.{Block}
 use Rattle.chain_tree.specs.Told.{Stored}
+use Rattle.cell_model.proofs.CopyLemmas.{in-hand}
+use Rattle.script_run.specs.Looks.{bytes_of, header_part}
 use Rattle.script_run.specs.Running.{stop_of}
-use Rattle.script_run.proofs.ReadLemmas.{counted-as, damaged-unlike-fault, logged, no-error, not-there, some-stop}
+use Rattle.script_run.proofs.ReadLemmas.{counted-as, no-error, not-there, some-stop}
 use Rattle.script_run.proofs.world.read_header.Goals as goal
 
 pub returns-in-Err : goal.returns-in-Err
@@ -19,20 +22,17 @@ returns-in-Err g c = record {
       c.in-Err.ensures.cause.undamaged (subst (λ (o : Option (List Stored)). IsSome o) (sym tells) refl) damage (ap Err (some-stop _ _ is));
 }
 
-pub returns-in-None-clause-reads : goal.returns-in-None-clause-reads
-returns-in-None-clause-reads g c = record {
-  told = c.bring.ensures.told;
-  count = c.bring.ensures.count;
-  loans = c.bring.ensures.loans;
-  damage = λ damage is. logged c.damaged-in-None.result damage c.damaged-in-None.ensures is;
-  cause = counted-as _ _ _ _ (λ is. absurd (damaged-unlike-fault c.damaged-in-None.result _ c.damaged-in-None.ensures is)) (λ is. absurd (no-error _ _ is)) c.in-Ok.ensures.cause.counts;
-}
-
-pub returns-in-Some-clause-reads : goal.returns-in-Some-clause-reads
-returns-in-Some-clause-reads g c = record {
+pub returns-clause-reads : goal.returns-clause-reads
+returns-clause-reads g c = record {
   told = c.bring.ensures.told;
   count = c.bring.ensures.count;
   loans = c.bring.ensures.loans;
   damage = λ damage is. absurd (not-there _ _ refl is);
   cause = counted-as _ _ _ _ (λ is. absurd (not-there _ _ refl is)) (λ is. absurd (no-error _ _ is)) c.in-Ok.ensures.cause.counts;
 }
+
+pub returns-clause-part : goal.returns-clause-part
+returns-clause-part g c = λ stored made tells there.
+    let is = in-hand c.block.result _ _ stored c.args.place made (c.in-Ok.ensures.told ∙ tells) c.in-Ok.ensures.taken there c.block.ensures in
+    subst (λ (b : Block). bytes_of c.part_of.result ≡ header_part c.args.epoch_length c.args.part b.header) is
+    (c.part_of.ensures c.block.result.header c.header_of.ensures)

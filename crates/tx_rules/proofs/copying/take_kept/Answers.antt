@@ -3,7 +3,7 @@ use Rattle.chain_tree.specs.Told.{Stored}
 use Rattle.cell_defs.specs.Row.{Row}
 use Rattle.tx_rules.specs.Copying.{IsBlockAt}
 use Rattle.outside.proofs.Endings.{no_fault, counts-as, no_answer, no_damage, no_memory, memory_undamaged, fault_undamaged, in_log, is_told}
-use Rattle.tx_rules.proofs.TakenLemmas.{hand-block, hand-reads}
+use Rattle.tx_rules.proofs.TakenLemmas.{hand-block}
 use Rattle.tx_rules.proofs.copying.take_kept.Goals as goal
 
 pub returns-in-Err-Damaged : goal.returns-in-Err-Damaged
@@ -39,22 +39,6 @@ returns-in-Err-NoMemory g c = record {
       (λ fault. no_memory (sym (c.in-Err-NoMemory.is ∙ ap Err c.in-Err-NoMemory.field-0-is) ∙ fault))) no_memory;
 }
 
-pub returns-in_default : goal.returns-in_default
-returns-in_default g c = record {
-  source = record { told = c.in-Ok.ensures.told; count = c.in-Ok.ensures.count; loans = c.in-Ok.ensures.loans };
-  long = c.requires.long;
-  taken = λ before. tt;
-  undamaged = λ stored seen site founds tells is are_seen rows damage same.
-      let taken : g.B.Blocks.in_hand c.bring.new.self ≡ Some c.meta.inside.block = c.in-Ok.ensures.taken in
-      let place : c.meta.inside.block ≡ c.args.meta.block = ap (λ (row : Row). row.block) c.meta.view_is in
-      let within = c.requires.within in
-      let counts = c.requires.counts in
-      hand-reads stored (g.B.Blocks.told c.args.blocks.now) _ _ (g.B.Blocks.count c.args.blocks.now) c.meta.inside.block c.block.result.now tells c.in-Ok.ensures.told taken
-      (g.met.B.Blocks.told_all c.args.blocks.now) (omega (arith, place, within, counts)) (sym c.in_default.is ∙ c.read.ensures.value) c.block.ensures;
-  damage = λ damage same. in_log c.damage_of-in_default.result damage c.damage_of-in_default.ensures.area same;
-  cause = no_fault _ _ (c.in-Ok.ensures.cause.counts.unchanged (no_answer _ _)) (no_damage _);
-}
-
 pub returns : goal.returns
 returns g c = record {
   source = record { told = c.in-Ok.ensures.told; count = c.in-Ok.ensures.count; loans = c.in-Ok.ensures.loans };
@@ -62,15 +46,13 @@ returns g c = record {
   taken =
       let taken : g.B.Blocks.in_hand c.bring.new.self ≡ Some c.meta.inside.block = c.in-Ok.ensures.taken in
       c.take_read.ensures.taken (g.B.Blocks.told c.args.blocks.now)
-      (hand-block (g.B.Blocks.told c.args.blocks.now) _ _ c.meta.inside.block c.block.result.now c.in-Some.read c.in-Ok.ensures.told taken c.in-Some.ensures.value
-      c.block.ensures);
+      (hand-block (g.B.Blocks.told c.args.blocks.now) _ _ c.meta.inside.block c.block-block.result c.in-Ok.ensures.told taken c.block-block.ensures);
   undamaged = λ stored seen site founds tells is are_seen rows damage same.
       let taken : g.B.Blocks.in_hand c.bring.new.self ≡ Some c.meta.inside.block = c.in-Ok.ensures.taken in
-      let at_place : IsBlockAt (g.B.Blocks.told c.args.blocks.now) c.meta.inside.block c.in-Some.read =
-      hand-block (g.B.Blocks.told c.args.blocks.now) _ _ c.meta.inside.block c.block.result.now c.in-Some.read c.in-Ok.ensures.told taken c.in-Some.ensures.value
-      c.block.ensures in
+      let at_place : IsBlockAt (g.B.Blocks.told c.args.blocks.now) c.meta.inside.block c.block-block.result =
+      hand-block (g.B.Blocks.told c.args.blocks.now) _ _ c.meta.inside.block c.block-block.result c.in-Ok.ensures.told taken c.block-block.ensures in
       c.take_read.ensures.undamaged stored seen site founds
-      (subst (λ (told : Option (List Stored)). IsBlockAt told c.meta.inside.block c.in-Some.read) tells at_place) is are_seen rows damage same;
+      (subst (λ (told : Option (List Stored)). IsBlockAt told c.meta.inside.block c.block-block.result) tells at_place) is are_seen rows damage same;
   damage = c.take_read.ensures.damage;
   cause = no_fault _ _ (c.in-Ok.ensures.cause.counts.unchanged (no_answer _ _)) c.take_read.ensures.unread;
 }
