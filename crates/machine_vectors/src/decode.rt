@@ -1,15 +1,15 @@
 // Rows of words that are decoded.
 
-use crate::text::text;
 use row_table::Row;
 use rv_decode::decode;
+use rv_text::show;
 use std::alloc::{AllocError, Global};
 
 /// The instruction's text and its length in bytes, or `none` and 0.
-fn decoded(alloc: Global, word: u32) -> Result<(String, u8), AllocError> {
+fn decoded(alloc: Global, word: u32) -> Result<(Vec<u8>, u8), AllocError> {
     match decode(word) {
-        Some((ins, length)) => Ok((text(alloc, ins)?, length)),
-        None => Ok((String::from_str(alloc, "none")?, 0)),
+        Some((ins, length)) => Ok((show(alloc, &ins)?, length)),
+        None => Ok((b"none".to_vec(alloc)?, 0)),
     }
 }
 
@@ -17,7 +17,7 @@ fn decoded(alloc: Global, word: u32) -> Result<(String, u8), AllocError> {
 pub(crate) fn agrees(alloc: Global, row: &mut Row) -> Option<bool> {
     let word = u32::try_from(row.digits()?).ok()?;
     let (text, length) = decoded(alloc, word).ok()?;
-    Some(text.as_str() == row.word() && u64::from(length) == row.digits()?)
+    Some(text.as_slice() == row.word().as_bytes() && u64::from(length) == row.digits()?)
 }
 
 fn is_instruction(word: u32) -> bool {

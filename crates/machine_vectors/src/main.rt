@@ -12,6 +12,10 @@
 //! the program tells how many of the 49,152 patterns of a compressed form are instructions, and of the 32,768 patterns of
 //! opcode, funct3 and funct7 with x0 for each register.
 //!
+//! `line` has a line of the assembler and the word of its instruction, or `none`; `line_bytes` has the line in hex, and `dis`
+//! code and its listing, both in hex. `asm` has a text in hex and the file that is made of it, or the number of its first bad
+//! line. The rows were made by a program that was written from docs/MACHINE.md alone.
+//!
 //! `alu` has an operation, two registers and what the operation gives of them. The rows were made by a program that was
 //! written from the RISC-V manual alone.
 //!
@@ -25,6 +29,7 @@
 #![tactic(auto)]
 
 mod alu;
+mod assembler;
 mod decode;
 mod elf;
 mod machine;
@@ -32,7 +37,6 @@ mod memory;
 mod program;
 mod shown;
 mod syscall;
-mod text;
 
 use machine::Held;
 use row_table::{Row, Subject, all_agree};
@@ -45,6 +49,10 @@ impl Subject for Held {
         match row.word() {
             "decode" => decode::agrees(alloc, row),
             "alu" => alu::agrees(row),
+            "line" => assembler::line(alloc, row),
+            "line_bytes" => assembler::line_bytes(alloc, row),
+            "dis" => assembler::listing(alloc, row),
+            "asm" => assembler::assembled(alloc, row),
             "syscall" => syscall::agrees(alloc, row),
             "program" => program::agrees(alloc, row),
             call => self.answers(alloc, call, row),

@@ -1,7 +1,7 @@
 // Rows of memory.
 
-use crate::text::text;
 use row_table::Row;
+use rv_text::show;
 use std::alloc::Global;
 use vm_mem::{Ins, MemFault, MemStop, Memory, Width};
 
@@ -64,9 +64,9 @@ fn agrees_on_fetch(memory: &Memory, row: &mut Row) -> Option<bool> {
 
 /// The instruction as an assembler's text, and behind a space its length.
 fn is_instruction(alloc: Global, ins: Ins, length: u8, wanted: &str) -> Option<bool> {
-    let text = text(alloc, ins).ok()?;
+    let text = show(alloc, &ins).ok()?;
     let (named, digits) = wanted.rsplit_once(' ')?;
-    Some(text.as_str() == named && digits.parse() == Ok(length))
+    Some(text.as_slice() == named.as_bytes() && digits.parse() == Ok(length))
 }
 
 /// The instruction and its length, `none`, or the fault.

@@ -1,0 +1,11 @@
+pub mod Steps
+pub mod Digits
+pub mod Widths
+pub mod Named
+pub mod Formats
+pub mod WordLaws
+pub mod Templates
+pub mod ReadBack
+pub mod Likely
+pub mod ListingLaws
+pub mod Lines

@@ -1,0 +1,6 @@
+pub mod Text
+pub mod Words
+pub mod Reading
+pub mod Listing
+pub mod Assembly
+pub mod File
