@@ -7,6 +7,7 @@ pub mod Making
 pub mod Overwriting
 pub mod Cleared
 pub mod WithinPage
+pub mod Short
 pub mod Slotted
 pub mod StoreLaws
 pub mod LowBytes

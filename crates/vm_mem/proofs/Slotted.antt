@@ -1,11 +1,15 @@
 -- Slots that are right for a memory, and stay right.
-use Rattle.std.proofs.Common.{◌≡◌, ◌≢◌, ◌⊎◌, inl, inr, ℕ, zero, suc, ◌+◌, ◌/◌, ◌%◌, ◌^◌, ◌<◌, ◌≤◌, List, length, set, replicate, get_or, Option, Some, None, Result, Ok, Err, refl, sym, ap, ◌∙◌, subst, arith, length-set, OnOk, OnErr, IfOk, IfSome}
+use Rattle.std.proofs.Common.{◌≡◌, ◌⊎◌, inl, inr, ℕ, ◌==◌, Bool, true, false, if◌then◌else◌, ◌%◌, ◌^◌, ◌<◌, List, length, set, replicate, get_or, Option, Some, None, Result, Ok, Err, refl, sym, ap, ◌∙◌, subst, arith, length-set, OnOk, OnErr, IfSome}
 use Rattle.std.proofs.lemmas.Bool.{cases_eq}
 use Rattle.std.proofs.lemmas.List.{get_or-replicate, get_or-set_other, get_or-set_same, length-replicate}
 use Rattle.isa_defs.specs.declared.ins.Ins.{Ins}
 use Rattle.vm_defs.specs.declared.memory.MemFault.{MemFault}
 use Rattle.isa_defs.specs.Instruction.{HasRegisters}
-use Rattle.isa_defs.specs.Decode.{decode}
+use Rattle.isa_defs.specs.Decode.{decode, with_length}
+use Rattle.isa_defs.specs.Table.{full_forms}
+use Rattle.isa_defs.specs.Compressed.{compressed_forms}
+use Rattle.isa_defs.specs.Row.{encoded_in}
+use Rattle.std.specs.Option.{option_map}
 use Rattle.isa_defs.proofs.DecodeLaws.{decode-registers}
 use Rattle.vm_defs.specs.Memory.{Memory, memory_size, new_memory, fetch, store, set_code}
 use Rattle.vm_defs.specs.Code.{IsWhole, decoded, instruction_at}
@@ -14,7 +18,8 @@ use Rattle.vm_mem.specs.declared.slot.Slot.{Slot}
 use Rattle.vm_mem.specs.declared.stop.MemStop.{MemStop}
 use Rattle.vm_mem.specs.declared.stop.MemStop.TheVariants.{Fault, NoMemory}
 use Rattle.vm_mem.specs.Paged.{PagedMemory, Stores}
-use Rattle.vm_mem.specs.Slots.{slot_count, slot_of, AreEmpty, Holds, Holding}
+use Rattle.vm_mem.specs.Kept.{instruction_of}
+use Rattle.vm_mem.specs.Slots.{slot_count, slot_of, AreEmpty, Holds, Holding, IsKept}
 
 -- ---- a new memory
 
@@ -54,7 +59,14 @@ kept old new slots whole keeps holding = record {
   whole = whole;
   held = record {
     count = holding.held.count;
-    each = λ i other below falls. instruction-kept old new _ _ (λ word. keeps _ word) (holding.held.each i other below falls);
+    each = λ i other below falls.
+        let before = holding.held.each i other below falls in
+        record {
+          even = before.even;
+          is = instruction-kept old new _ _ (λ word. keeps _ word) before.is;
+          registers = before.registers;
+          length = before.length;
+        };
   };
 }
 
@@ -109,9 +121,9 @@ unfolding memory_size
 cast-fits memory at word fetched is done = let inside = fetch-inside memory at word (sym is ∙ done) in omega (arith, inside)
 
 -- a slot that is filled with what is at its address
-pub filled : (memory : Memory) (slots : List Slot) (at i : ℕ) (slot : Slot) → Holding memory slots → slot.at ≡ at → i ≡ slot_of at
-    → instruction_at memory at ≡ Ok (Some (slot.ins, slot.length)) → Holding memory (set slots i slot)
-filled memory slots at i slot holding at-is i-is right = record {
+pub filled : (memory : Memory) (slots : List Slot) (i : ℕ) (slot : Slot) → Holding memory slots → IsKept memory slot
+    → Holding memory (set slots i slot)
+filled memory slots i slot holding is-kept = record {
   whole = holding.whole;
   held = record {
     count = length-set slots i slot ∙ holding.held.count;
@@ -120,7 +132,7 @@ filled memory slots at i slot holding at-is i-is right = record {
           let here : get_or (set slots i slot) k other ≡ slot =
           ap (λ n. get_or (set slots i slot) n other) same
           ∙ get_or-set_same slots i slot other (omega (arith, holding.held.count, below, same)) in
-          rw here (λ falls. rw at-is right)
+          rw here (λ falls. is-kept)
       | inr apart ↦ rw (get_or-set_other slots i k slot other apart) (holding.held.each k other below)
     ];
   };
@@ -129,10 +141,10 @@ filled memory slots at i slot holding at-is i-is right = record {
 -- ---- what a slot holds
 
 pub slot-holds : (memory : Memory) (slots : List Slot) (at i : ℕ) (slot : Slot) → Holding memory slots → i ≡ slot_of at → i < slot_count
-    → slot ≡ get_or slots i slot → slot.at ≡ at → instruction_at memory at ≡ Ok (Some (slot.ins, slot.length))
+    → slot ≡ get_or slots i slot → slot.at ≡ at → IsKept memory slot
 slot-holds memory slots at i slot holding i-is below is same =
     let there : Holds memory i slot = subst (Holds memory i) (sym is) (holding.held.each i slot below) in
-    rw (← same) (there (ap slot_of same ∙ sym i-is))
+    there (ap slot_of same ∙ sym i-is)
 
 decoded-registers : (word : Result ℕ MemFault) (found : Ins × ℕ) → decoded word ≡ Ok (Some found) → HasRegisters found.0
 decoded-registers (Ok word) found is =
@@ -140,12 +152,42 @@ decoded-registers (Ok word) found is =
     subst (λ (o : Option (Ins × ℕ)). IfSome o (λ d. HasRegisters d.0)) decodes (decode-registers word)
 decoded-registers (Err fault) found is = cc
 
-pub instruction-registers : (memory : Memory) (at : ℕ) (found : Ins × ℕ) → instruction_at memory at ≡ Ok (Some found) → HasRegisters found.0
+instruction-registers : (memory : Memory) (at : ℕ) (found : Ins × ℕ) → instruction_at memory at ≡ Ok (Some found) → HasRegisters found.0
 unfolding instruction_at
 instruction-registers memory at found is = decoded-registers (fetch memory at) found is
 
-pub all-registers : (memory : Memory) (at : ℕ) (result : Result (Option (Ins × ℕ)) MemFault) → result ≡ instruction_at memory at
-    → IfOk result (λ found. IfSome found (λ decoded. HasRegisters decoded.0))
-all-registers memory at (Ok (Some found)) is = instruction-registers memory at found (sym is)
-all-registers memory at (Ok None) is = tt
-all-registers memory at (Err fault) is = tt
+-- ---- what a slot is filled with
+
+chosen-length : (full : Bool) (one other : Option Ins) (found : Ins × ℕ)
+    → (if full then option_map (with_length 4) one else option_map (with_length 2) other) ≡ Some found → (found.1 ≡ 2) ⊎ (found.1 ≡ 4)
+chosen-length true (Some ins) other found is =
+    let same : (ins, 4) ≡ found = cc in inr (sym (ap (λ (d : Ins × ℕ). d.1) same))
+chosen-length true None other found is = cc
+chosen-length false one (Some ins) found is =
+    let same : (ins, 2) ≡ found = cc in inl (sym (ap (λ (d : Ins × ℕ). d.1) same))
+chosen-length false one None found is = cc
+
+decode-length : (word : ℕ) (found : Ins × ℕ) → decode word ≡ Some found → (found.1 ≡ 2) ⊎ (found.1 ≡ 4)
+unfolding decode
+decode-length word found is =
+    chosen-length (word % 4 == 3) (encoded_in full_forms word) (encoded_in compressed_forms (word % 2 ^ 16)) found is
+
+decoded-length : (word : Result ℕ MemFault) (found : Ins × ℕ) → decoded word ≡ Ok (Some found) → (found.1 ≡ 2) ⊎ (found.1 ≡ 4)
+decoded-length (Ok word) found is = let decodes : decode word ≡ Some found = cc in decode-length word found decodes
+decoded-length (Err fault) found is = cc
+
+instruction-length : (memory : Memory) (at : ℕ) (found : Ins × ℕ) → instruction_at memory at ≡ Ok (Some found) → (found.1 ≡ 2) ⊎ (found.1 ≡ 4)
+unfolding instruction_at
+instruction-length memory at found is = decoded-length (fetch memory at) found is
+
+-- the instruction that was decoded, in the form in which it is kept
+pub is-kept : (memory : Memory) (at : ℕ) (decoded : Ins × ℕ) (slot : Slot) → at % 2 ≡ 0 → slot.at ≡ at → slot.length ≡ decoded.1
+    → instruction_of slot.kept ≡ decoded.0 → Ok (Some decoded) ≡ instruction_at memory at → IsKept memory slot
+is-kept memory at decoded slot even at-is length-is form right =
+    let found : instruction_at memory slot.at ≡ Ok (Some (instruction_of slot.kept, slot.length)) = rw (at-is, length-is, form) (sym right) in
+    record {
+      even = rw at-is even;
+      is = found;
+      registers = instruction-registers memory slot.at _ found;
+      length = instruction-length memory slot.at _ found;
+    }

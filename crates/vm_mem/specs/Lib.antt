@@ -1,4 +1,5 @@
 pub mod Pages
 pub mod Paged
+pub mod Kept
 pub mod Slots
 pub mod Laws

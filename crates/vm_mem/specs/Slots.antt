@@ -1,7 +1,9 @@
 -- Instructions that were decoded. Code is never written again, so that one stays right for the life of the memory.
-use Rattle.std.specs.Prelude.{◌≡◌, ◌≢◌, ℕ, ◌/◌, ◌%◌, ◌<◌, List, length, slice_index_or, Some, Ok}
+use Rattle.std.specs.Prelude.{◌≡◌, ◌≢◌, ◌⊎◌, ℕ, ◌/◌, ◌%◌, ◌<◌, List, length, slice_index_or, Some, Ok}
+use Rattle.isa_defs.specs.Instruction.{HasRegisters}
 use Rattle.vm_defs.specs.Memory.{Memory}
 use Rattle.vm_defs.specs.Code.{IsWhole, instruction_at}
+use Rattle.vm_mem.specs.Kept.{instruction_of}
 use Rattle.vm_mem.specs.declared.slot.Slot.{Slot}
 
 abbrev pub slot_count : ℕ
@@ -20,9 +22,16 @@ pub record AreSlots (Is : ℕ → Slot → Type 0) (slots : List Slot) : Type 0 
 abbrev pub AreEmpty : List Slot → Type 0
 AreEmpty slots = AreSlots (λ i slot. slot_of slot.at ≢ i) slots
 
--- One that is not holds what is at its address.
+-- A slot has the instruction at its address, which is even, and the instruction's length.
+pub record IsKept (memory : Memory) (slot : Slot) : Type 0 where
+  pub even : slot.at % 2 ≡ 0
+  pub is : instruction_at memory slot.at ≡ Ok (Some (instruction_of slot.kept, slot.length))
+  pub registers : HasRegisters (instruction_of slot.kept)
+  pub length : (slot.length ≡ 2) ⊎ (slot.length ≡ 4)
+
+-- One that is not empty has what is at its address.
 abbrev pub Holds : Memory → ℕ → Slot → Type 0
-Holds memory i slot = slot_of slot.at ≡ i → instruction_at memory slot.at ≡ Ok (Some (slot.ins, slot.length))
+Holds memory i slot = slot_of slot.at ≡ i → IsKept memory slot
 
 -- A memory that is whole, and slots that are right for it.
 pub record Holding (memory : Memory) (slots : List Slot) : Type 0 where

@@ -9,6 +9,7 @@
 //! the start, is left to the layers above.
 #![tactic(auto)]
 
+mod kept;
 mod laws;
 mod memory;
 mod page;
@@ -17,8 +18,10 @@ mod pages;
 mod slot;
 mod stop;
 
+pub use kept::{Kept, kept_form};
 pub use laws::{code_laws, store_laws};
 pub use memory::Memory;
 pub use rv_decode::Ins;
+pub use slot::Slot;
 pub use stop::MemStop;
 pub use vm_defs::{MemFault, PageKind, Width};

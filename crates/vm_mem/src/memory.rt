@@ -1,11 +1,13 @@
 // The machine's memory, with the instructions of its code that were decoded.
 ghost use Rattle.std.specs.Prelude.{◌≡◌, ◌≢◌, ℕ, ◌%◌, length, false, replicate, Ok, Err, OnOk, OnErr, IfOk, IfSome, ◌↔◌, ◌⊎◌};
-ghost use Rattle.isa_defs.specs.Instruction.{HasRegisters};
+ghost use Rattle.isa_defs.specs.Instruction.{FitsFormat, HasRegisters};
 ghost use Rattle.vm_defs.specs.Memory.{byte_count, bytes_of, fetch, load, new_memory, page_size, page_count, set_code, store};
 ghost use Rattle.vm_defs.specs.Code.{instruction_at};
 ghost use Rattle.vm_mem.specs.Pages.{AreAllocated, IsAllocated, IsUnder};
 ghost use Rattle.vm_mem.specs.Paged.{Stores};
+ghost use Rattle.vm_mem.specs.Slots.{IsKept};
 
+use super::kept::kept_form;
 use super::paged::Paged;
 use super::slot::{Slot, empty_slots, slot_of};
 use super::stop::MemStop;
@@ -100,17 +102,38 @@ impl Memory {
     }
 
     /// The instruction at an address, with its length, or none where the word there encodes none.
-    #[inline(always)]
+    #[cold]
+    #[inline(never)]
     pub fn instruction(&mut self, at: u64) -> Result<Option<(Ins, u8)>, MemFault>
         ensures exact { result ≡ instruction_at self.old.memory at }
         ensures unchanged { self.new ≡ self.old }
         ensures registers { IfOk result (λ found. IfSome found (λ decoded. HasRegisters decoded.0)) }
+        ensures fits { IfOk result (λ found. IfSome found (λ decoded. FitsFormat decoded.0)) }
     {
-        let slot = self.slots[slot_of(at)];
-        if u64::from(slot.at) == at {
-            return Ok(Some((slot.ins, slot.length)));
+        let word = match self.paged.fetch(at) {
+            Ok(word) => word,
+            Err(fault) => return Err(fault),
+        };
+        let (ins, length) = match decode(word) {
+            Some(decoded) => decoded,
+            None => return Ok(None),
+        };
+        if at % 2 == 0 {
+            self.slots[slot_of(at)] = Slot {
+                at: at as u32,
+                length,
+                kept: kept_form(ins),
+            };
         }
-        self.decode_at(at)
+        Ok(Some((ins, length)))
+    }
+
+    /// The slot that an address falls to. Where its address is that one, it has the instruction there.
+    #[inline(always)]
+    pub fn slot(&self, at: u64) -> Slot
+        ensures { result.at ≡ at → IsKept self.now.memory result }
+    {
+        self.slots[slot_of(at)]
     }
 
     /// Makes whole pages code that are data.
@@ -123,28 +146,5 @@ impl Memory {
         ensures allocated { self.new.allocated ≡ self.old.allocated }
     {
         self.paged.set_code(at, pages)
-    }
-
-    // An instruction whose slot is empty or has another, and keeps it there.
-    #[cold]
-    #[inline(never)]
-    fn decode_at(&mut self, at: u64) -> Result<Option<(Ins, u8)>, MemFault>
-        ensures exact { result ≡ instruction_at self.old.memory at }
-        ensures unchanged { self.new ≡ self.old }
-    {
-        let word = match self.paged.fetch(at) {
-            Ok(word) => word,
-            Err(fault) => return Err(fault),
-        };
-        let (ins, length) = match decode(word) {
-            Some(decoded) => decoded,
-            None => return Ok(None),
-        };
-        self.slots[slot_of(at)] = Slot {
-            at: at as u32,
-            length,
-            ins,
-        };
-        Ok(Some((ins, length)))
     }
 }

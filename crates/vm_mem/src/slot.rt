@@ -2,18 +2,18 @@
 ghost use Rattle.std.specs.Prelude.{◌≡◌, ◌<◌, IfOk};
 ghost use Rattle.vm_mem.specs.Slots.{AreEmpty, slot_count, slot_of};
 
+use super::kept::Kept;
 use outside::NoMemory;
-use rv_decode::Ins;
 use std::alloc::Global;
 
 const SLOT_COUNT: usize = 4096;
 
 /// An instruction of so many bytes, and its address.
 #[derive(Clone, Copy)]
-pub(crate) struct Slot {
-    pub(crate) at: u32,
-    pub(crate) length: u8,
-    pub(crate) ins: Ins,
+pub struct Slot {
+    pub at: u32,
+    pub length: u8,
+    pub kept: Kept,
 }
 
 /// Slots that are all empty: each has an address that falls to another.
@@ -23,7 +23,7 @@ pub(crate) fn empty_slots(alloc: Global) -> Result<Vec<Slot>, NoMemory>
     let empty = Slot {
         at: 0,
         length: 2,
-        ins: Ins::Ecall,
+        kept: Kept::Ecall,
     };
     let mut slots = vec![in alloc; empty; SLOT_COUNT]?;
     slots[0].at = 2;

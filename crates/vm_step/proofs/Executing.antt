@@ -6,33 +6,38 @@ use Rattle.vm_defs.specs.Memory.{Memory}
 use Rattle.vm_defs.specs.Step.{Machine, after, past_instruction, stored, with_register}
 use Rattle.vm_mem.specs.Pages.{IsAllocated}
 use Rattle.vm_mem.specs.Paged.{PagedMemory, Stores}
-use Rattle.vm_step.specs.Running.{RunningMachine, ByteRange, Executes, HasRoom, Touches, machine_at, with_pc}
+use Rattle.vm_step.specs.declared.place.Place.{Place}
+use Rattle.vm_step.specs.Running.{RunningMachine, ByteRange, Executes, HasRoom, Touches, machine_at, with_place}
 
 abbrev pub machine_of : RunningMachine → Machine
 machine_of running = running.machine
 
-with_register-pc : (b : Bool) (machine changed : Machine) (pc : ℕ)
-    → (if b then (record machine { pc = pc }) else (record changed { pc = pc })) ≡ record (if b then machine else changed) { pc = pc }
-with_register-pc true machine changed pc = refl
-with_register-pc false machine changed pc = refl
+with_register-place : (b : Bool) (machine changed : Machine) (place : Place)
+    → (if b then (record machine { pc = place.pc; cycles = place.cycles }) else (record changed { pc = place.pc; cycles = place.cycles }))
+    ≡ record (if b then machine else changed) { pc = place.pc; cycles = place.cycles }
+with_register-place true machine changed place = refl
+with_register-place false machine changed place = refl
 
--- a register is written, whatever the program counter is
-register-apart : (machine : Machine) (pc rd value : ℕ)
-    → with_register (record machine { pc = pc }) rd value ≡ record (with_register machine rd value) { pc = pc }
+-- a register is written, whatever the program counter and the cycles are
+register-apart : (machine : Machine) (place : Place) (rd value : ℕ)
+    → with_register (record machine { pc = place.pc; cycles = place.cycles }) rd value
+    ≡ record (with_register machine rd value) { pc = place.pc; cycles = place.cycles }
 unfolding with_register
-register-apart machine pc rd value =
-    with_register-pc (rd == 0) machine (record machine { registers = slice_set machine.registers rd value }) pc
+register-apart machine place rd value =
+    with_register-place (rd == 0) machine (record machine { registers = slice_set machine.registers rd value }) place
 
 -- a register was written, and the program counter is the next
-pub written : (old new : RunningMachine) (pc next rd value : ℕ) → new ≡ record old { machine = with_register old.machine rd value }
-    → with_pc new next ≡ record (with_pc old pc) { machine = record (with_register (machine_at old pc) rd value) { pc = next } }
-written old new pc next rd value changed =
-    rw (register-apart old.machine pc rd value) (ap (λ (running : RunningMachine). with_pc running next) changed)
+pub written : (old new : RunningMachine) (place : Place) (next rd value : ℕ) → new ≡ record old { machine = with_register old.machine rd value }
+    → with_place new (record place { pc = next })
+    ≡ record (with_place old place) { machine = record (with_register (machine_at old place) rd value) { pc = next } }
+written old new place next rd value changed =
+    rw (register-apart old.machine place rd value) (ap (λ (running : RunningMachine). with_place running (record place { pc = next })) changed)
 
-pub written-past : (old new : RunningMachine) (pc length rd value : ℕ) → new ≡ record old { machine = with_register old.machine rd value }
-    → with_pc new (after pc length) ≡ record (with_pc old pc) { machine = past_instruction (with_register (machine_at old pc) rd value) length }
-written-past old new pc length rd value changed =
-    rw (register-apart old.machine pc rd value) (ap (λ (running : RunningMachine). with_pc running (after pc length)) changed)
+pub written-past : (old new : RunningMachine) (place : Place) (length rd value : ℕ) → new ≡ record old { machine = with_register old.machine rd value }
+    → with_place new (record place { pc = after place.pc length })
+    ≡ record (with_place old place) { machine = past_instruction (with_register (machine_at old place) rd value) length }
+written-past old new place length rd value changed =
+    rw (register-apart old.machine place rd value) (ap (λ (running : RunningMachine). with_place running (record place { pc = after place.pc length })) changed)
 
 -- The machine changed, and it goes on.
 pub executes-went : (old new : RunningMachine) (machine : Machine) → old.goes_on ≡ true

@@ -1,16 +1,21 @@
 -- A step in its order.
-use Rattle.std.proofs.Common.{◌≡◌, ◌≢◌, ℕ, ◌%◌, Option, Some, None, Result, Ok, Err, sym, ap, subst, ◌∙◌, eq-eqb, refl}
+use Rattle.std.proofs.Common.{◌≡◌, ◌≢◌, ◌⊎◌, inl, inr, arith, ℕ, Bool, true, ◌≤◌, ◌%◌, Option, Some, None, Result, Ok, Err, sym, ap, subst, ◌∙◌, eq-eqb, refl}
 use Rattle.isa_defs.specs.declared.ins.Ins.{Ins}
 use Rattle.vm_defs.specs.declared.memory.MemFault.{MemFault}
 use Rattle.vm_defs.specs.declared.step.Step.{Step}
-use Rattle.vm_defs.specs.declared.step.Step.TheVariants.{Fault}
+use Rattle.vm_defs.specs.declared.step.Step.TheVariants.{Went, Ecall, Fault, Spent, NoMemory}
+use Rattle.vm_defs.proofs.ProgramLaws.{Pays, step-pays}
 use Rattle.isa_defs.specs.Instruction.{cycles}
 use Rattle.vm_defs.specs.Code.{instruction_at}
 use Rattle.vm_defs.specs.Step.{Machine, charged, effect, execute, fault_number, step_of, with_instruction}
 use Rattle.isa_defs.proofs.RowLaws.{not_equal}
+use Rattle.vm_mem.specs.declared.slot.Slot.{Slot}
+use Rattle.vm_mem.specs.Kept.{instruction_of}
+use Rattle.vm_mem.specs.Pages.{IsAllocated}
+use Rattle.vm_mem.specs.Slots.{IsKept}
 use Rattle.vm_mem.specs.Paged.{PagedMemory}
 use Rattle.vm_step.specs.Lending.{with_memory}
-use Rattle.vm_step.specs.Running.{RunningMachine, Executes, IsStep, found_range, next_range, paying, stored_range}
+use Rattle.vm_step.specs.Running.{RunningMachine, Executes, HasRoom, IsStep, Touches, found_range, goes_on_after, next_range, paying, stored_range}
 
 -- what is at the program counter, which is even
 pub record Finds (machine : Machine) (found : Result (Option (Ins × ℕ)) MemFault) : Type 0 where
@@ -75,3 +80,50 @@ pub executed : (old seen new : RunningMachine) (ins : Ins) (length : ℕ) (resul
 executed old seen new ins length result same executes =
     subst (λ (running : RunningMachine). Executes (paying (cycles ins) running.machine (effect (charged running.machine (cycles ins)) length ins))
     (stored_range running.machine ins) running new result) same executes
+
+-- A step after which the machine goes on stays within the budget.
+pub within-budget : (old new : Machine) (answer : Step) (on : Bool) → IsStep (step_of old) old new answer → on ≡ goes_on_after answer
+    → on ≡ true → new.cycles ≤ new.budget
+within-budget old new Went on steps is goes =
+    let pays : Pays old Went new = subst (λ (next : Step × Machine). Pays old next.0 next.1) (sym steps) (step-pays old) in pays.within tt
+within-budget old new Ecall on steps is goes =
+    let pays : Pays old Ecall new = subst (λ (next : Step × Machine). Pays old next.0 next.1) (sym steps) (step-pays old) in pays.within tt
+within-budget old new (Fault number) on steps is goes = cc
+within-budget old new Spent on steps is goes = cc
+within-budget old new NoMemory on steps is goes = cc
+
+-- ---- an instruction that is kept
+
+-- what the clauses of one step say
+pub record IsOneStep (old new : RunningMachine) (result : Step) : Type 0 where
+  pub steps : IsStep (step_of old.machine) old.machine new.machine result
+  pub within : new.goes_on ≡ true → new.machine.cycles ≤ new.machine.budget
+  pub room : HasRoom old.allocated (next_range old.machine) → result ≢ NoMemory
+  pub allocated : result ≡ Went → HasRoom new.allocated (next_range old.machine)
+  pub pages_added : (page : ℕ) → IsAllocated new.allocated page → IsAllocated old.allocated page ⊎ Touches (next_range old.machine) page
+
+pub kept-executed : (old seen new : RunningMachine) (slot : Slot) (length : ℕ) (result : Step) → seen ≡ old → slot.at ≡ seen.machine.pc
+    → IsKept seen.machine.memory slot → slot.length ≡ length
+    → Executes (paying (cycles (instruction_of slot.kept)) old.machine (effect (charged old.machine (cycles (instruction_of slot.kept))) length (instruction_of slot.kept)))
+    (stored_range old.machine (instruction_of slot.kept)) old new result
+    → IsOneStep old new result
+kept-executed old seen new slot length result same at-is kept length-is executes =
+    let decoded : Ins × ℕ = (instruction_of slot.kept, slot.length) in
+    let from : Finds old.machine (Ok (Some decoded)) =
+    subst (λ (running : RunningMachine). Finds running.machine (Ok (Some decoded))) same (record {
+      even = λ odd. absurd (omega (arith, kept.even, at-is, odd));
+      found_is = rw at-is at kept.is;
+    }) in
+    let range = range-executed old.machine decoded from in
+    let steps = steps-executed old.machine new.machine decoded length result from (sym length-is) executes.machine in
+    record {
+      steps = steps;
+      within = λ goes. within-budget old.machine new.machine result new.goes_on steps executes.goes_on goes;
+      room = λ has-room. executes.room (rw (← range) has-room);
+      allocated = λ went. rw range (executes.allocated went);
+      pages_added = λ page allocated. rw range (executes.pages_added page allocated);
+    }
+
+-- a length that is not 2
+pub is-full : (length : ℕ) → (length ≡ 2) ⊎ (length ≡ 4) → length ≢ 2 → length ≡ 4
+is-full length is other = elim is [ inl short ↦ absurd (other short) | inr full ↦ full ]

@@ -8,6 +8,7 @@ use Rattle.vm_defs.specs.declared.step.Step.TheVariants.{Went, Ecall, Fault, Spe
 use Rattle.vm_defs.specs.Code.{instruction_at}
 use Rattle.vm_defs.specs.Program.{Leads, stop_of}
 use Rattle.vm_defs.specs.Step.{Machine, charged, is_spent, moved, register, step_of}
+use Rattle.vm_step.specs.declared.place.Place.{Place}
 use Rattle.vm_mem.specs.Pages.{IsAllocated, AreAllocated, IsUnder}
 
 -- the machine, which of its pages are allocated, and whether it may make another step
@@ -16,12 +17,12 @@ pub record RunningMachine : Type 0 where
   pub allocated : List Bool
   pub goes_on : Bool
 
--- a machine whose program counter is kept apart from it
-abbrev pub with_pc : RunningMachine → ℕ → RunningMachine
-with_pc running pc = record running { machine = record running.machine { pc = pc } }
+-- a machine whose program counter and cycles are kept apart from it
+abbrev pub with_place : RunningMachine → Place → RunningMachine
+with_place running place = record running { machine = record running.machine { pc = place.pc; cycles = place.cycles } }
 
-abbrev pub machine_at : RunningMachine → ℕ → Machine
-machine_at running pc = record running.machine { pc = pc }
+abbrev pub machine_at : RunningMachine → Place → Machine
+machine_at running place = record running.machine { pc = place.pc; cycles = place.cycles }
 
 -- the answers of a step after which the machine goes on
 abbrev pub goes_on_after : Step → Bool

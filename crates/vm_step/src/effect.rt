@@ -2,25 +2,34 @@
 ghost use Rattle.std.specs.Prelude.{◌≡◌, ◌<◌, true, None};
 ghost use Rattle.std.specs.Int.{w64};
 ghost use Rattle.std.specs.Int.RustNames.{int_lt};
-ghost use Rattle.isa_defs.specs.Alu.{signed};
+ghost use Rattle.isa_defs.specs.Alu.{bits_of, signed};
 ghost use Rattle.vm_defs.specs.Memory.{byte_count};
 ghost use Rattle.vm_defs.specs.Step.{branch, jump, load, moved, past_instruction, store, write};
 ghost use Rattle.vm_step.specs.Extension.{extended};
-ghost use Rattle.vm_step.specs.Running.{Executes, machine_at, range_at, with_pc};
+ghost use Rattle.vm_step.specs.Running.{Executes, machine_at, range_at, with_place};
 
 use super::extension::{Extension, extended};
 use super::fault::fault_number;
 use super::machine::Machine;
+use super::place::Place;
 use vm_defs::{Step, Width};
 use vm_mem::MemStop;
+
+/// An immediate, as a register holds it.
+#[inline(always)]
+pub(crate) fn wide(imm: i32) -> u64
+    ensures { result ≡ bits_of w64 imm }
+{
+    i64::from(imm).cast_unsigned()
+}
 
 /// An address and an offset from it.
 #[inline(always)]
 #[tactic(auto, unfolding(vm_defs::specs::Step::moved))]
-pub(crate) fn moved(address: u64, offset: i64) -> u64
+pub(crate) fn moved(address: u64, offset: i32) -> u64
     ensures { result ≡ moved address offset }
 {
-    address.wrapping_add(offset.cast_unsigned())
+    address.wrapping_add(wide(offset))
 }
 
 /// Whether a register is below another, as signed numbers.
@@ -34,60 +43,60 @@ pub(crate) fn is_below(a: u64, b: u64) -> bool
 impl Machine {
     /// The next instruction follows.
     #[inline(always)]
-    pub(crate) fn advance(&mut self, pc: &mut u64, length: u64) -> Step
+    pub(crate) fn advance(&mut self, place: &mut Place, length: u64) -> Step
         requires { self.old.goes_on ≡ true }
-        ensures { Executes (Step.Went, past_instruction (machine_at self.old pc.old) length) None (with_pc self.old pc.old) (with_pc self.new pc.new) result }
+        ensures { Executes (Step.Went, past_instruction (machine_at self.old place.old) length) None (with_place self.old place.old) (with_place self.new place.new) result }
     {
-        *pc = (*pc).wrapping_add(length);
+        place.pc = place.pc.wrapping_add(length);
         Step::Went
     }
 
     /// The next instruction follows, once the caller has answered.
     #[inline(always)]
-    pub(crate) fn ecall(&mut self, pc: &mut u64, length: u64) -> Step
+    pub(crate) fn ecall(&mut self, place: &mut Place, length: u64) -> Step
         requires { self.old.goes_on ≡ true }
-        ensures { Executes (Step.Ecall, past_instruction (machine_at self.old pc.old) length) None (with_pc self.old pc.old) (with_pc self.new pc.new) result }
+        ensures { Executes (Step.Ecall, past_instruction (machine_at self.old place.old) length) None (with_place self.old place.old) (with_place self.new place.new) result }
     {
-        *pc = (*pc).wrapping_add(length);
+        place.pc = place.pc.wrapping_add(length);
         Step::Ecall
     }
 
     /// A register is written, and the next instruction follows.
     #[inline(always)]
-    pub(crate) fn write(&mut self, pc: &mut u64, length: u64, rd: u8, value: u64) -> Step
+    pub(crate) fn write(&mut self, place: &mut Place, length: u64, rd: u8, value: u64) -> Step
         requires goes_on { self.old.goes_on ≡ true }
         requires register { rd < 32 }
-        ensures { Executes (write (machine_at self.old pc.old) length rd value) None (with_pc self.old pc.old) (with_pc self.new pc.new) result }
+        ensures { Executes (write (machine_at self.old place.old) length rd value) None (with_place self.old place.old) (with_place self.new place.new) result }
     {
         self.set_reg(rd, value);
-        *pc = (*pc).wrapping_add(length);
+        place.pc = place.pc.wrapping_add(length);
         Step::Went
     }
 
     /// The target is taken before the register is written, which may be the one that it came from.
     #[inline(always)]
-    pub(crate) fn jump(&mut self, pc: &mut u64, length: u64, rd: u8, target: u64) -> Step
+    pub(crate) fn jump(&mut self, place: &mut Place, length: u64, rd: u8, target: u64) -> Step
         requires goes_on { self.old.goes_on ≡ true }
         requires register { rd < 32 }
-        ensures { Executes (jump (machine_at self.old pc.old) length rd target) None (with_pc self.old pc.old) (with_pc self.new pc.new) result }
+        ensures { Executes (jump (machine_at self.old place.old) length rd target) None (with_place self.old place.old) (with_place self.new place.new) result }
     {
-        let next = (*pc).wrapping_add(length);
+        let next = place.pc.wrapping_add(length);
         self.set_reg(rd, next);
-        *pc = target;
+        place.pc = target;
         Step::Went
     }
 
     /// The instruction at the offset follows where the branch is taken, else the next one.
     #[inline(always)]
-    pub(crate) fn branch(&mut self, pc: &mut u64, length: u64, taken: bool, imm: i64) -> Step
+    pub(crate) fn branch(&mut self, place: &mut Place, length: u64, taken: bool, imm: i32) -> Step
         requires goes_on { self.old.goes_on ≡ true }
-        ensures { Executes (branch (machine_at self.old pc.old) length taken imm) None (with_pc self.old pc.old) (with_pc self.new pc.new) result }
+        ensures { Executes (branch (machine_at self.old place.old) length taken imm) None (with_place self.old place.old) (with_place self.new place.new) result }
     {
-        *pc = if taken {
-            moved(*pc, imm)
-        } else {
-            (*pc).wrapping_add(length)
-        };
+        if taken {
+            place.pc = moved(place.pc, imm);
+            return Step::Went;
+        }
+        place.pc = place.pc.wrapping_add(length);
         Step::Went
     }
 
@@ -96,24 +105,24 @@ impl Machine {
     #[inline(always)]
     pub(crate) fn load(
         &mut self,
-        pc: &mut u64,
+        place: &mut Place,
         length: u64,
         width: Width,
         extension: Extension,
         rd: u8,
         rs1: u8,
-        imm: i64,
+        imm: i32,
     ) -> Step
         requires goes_on { self.old.goes_on ≡ true }
         requires target { rd < 32 }
         requires source { rs1 < 32 }
-        ensures { Executes (load (machine_at self.old pc.old) length rd rs1 imm (byte_count width) (extended extension width)) None (with_pc self.old pc.old) (with_pc self.new pc.new) result }
+        ensures { Executes (load (machine_at self.old place.old) length rd rs1 imm (byte_count width) (extended extension width)) None (with_place self.old place.old) (with_place self.new place.new) result }
     {
         let at = moved(self.reg(rs1), imm);
         match self.memory.load(at, width) {
             Ok(n) => {
                 let value = extended(extension, width, n);
-                self.write(pc, length, rd, value)
+                self.write(place, length, rd, value)
             }
             Err(fault) => self.stop(Step::Fault(fault_number(fault))),
         }
@@ -124,23 +133,23 @@ impl Machine {
     #[inline(always)]
     pub(crate) fn store(
         &mut self,
-        pc: &mut u64,
+        place: &mut Place,
         length: u64,
         width: Width,
         rs1: u8,
         rs2: u8,
-        imm: i64,
+        imm: i32,
     ) -> Step
         requires goes_on { self.old.goes_on ≡ true }
         requires address { rs1 < 32 }
         requires source { rs2 < 32 }
-        ensures { Executes (store (machine_at self.old pc.old) length rs1 rs2 imm (byte_count width)) (range_at (machine_at self.old pc.old) rs1 imm (byte_count width)) (with_pc self.old pc.old) (with_pc self.new pc.new) result }
+        ensures { Executes (store (machine_at self.old place.old) length rs1 rs2 imm (byte_count width)) (range_at (machine_at self.old place.old) rs1 imm (byte_count width)) (with_place self.old place.old) (with_place self.new place.new) result }
     {
         let at = moved(self.reg(rs1), imm);
         let value = self.reg(rs2);
         match self.memory.store(at, width, value) {
             Ok(()) => {
-                *pc = (*pc).wrapping_add(length);
+                place.pc = place.pc.wrapping_add(length);
                 Step::Went
             }
             Err(MemStop::Fault(fault)) => self.stop(Step::Fault(fault_number(fault))),

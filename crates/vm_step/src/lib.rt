@@ -15,6 +15,7 @@ mod extension;
 mod fault;
 mod laws;
 mod machine;
+mod place;
 
 pub use laws::run_laws;
 pub use machine::Machine;

@@ -8,9 +8,10 @@ ghost use Rattle.vm_step.specs.Lending.{LendsMemory};
 ghost use Rattle.vm_step.specs.Running.{HasRoom, IsStep, IsStoredTo, LeavesRoom, Stops, Touches, goes_on_after, machine_at, next_range};
 
 use super::fault::{NO_INSTRUCTION, fault_number};
+use super::place::Place;
 use std::marker::Model;
 use vm_defs::Step;
-use vm_mem::Memory;
+use vm_mem::{Memory, kept_form};
 
 const STACK_POINTER: u64 = 0x3f_fff0;
 
@@ -23,8 +24,7 @@ pub struct Machine {
     pub(crate) memory: Memory,
     // x0 is never written, so that it reads as 0.
     pub(crate) registers: [u64; 32],
-    pub(crate) pc: u64,
-    pub(crate) cycles: u64,
+    pub(crate) place: Place,
     pub(crate) budget: u64,
     pub(crate) goes_on: bool,
 }
@@ -36,12 +36,12 @@ impl Model for Machine {
     ghost Value = { RunningMachine };
 
     ghost view = { λ m. record {
-      machine = record { pc = m.pc; registers = m.registers; memory = m.memory.memory; cycles = m.cycles; budget = m.budget };
+      machine = record { pc = m.place.pc; registers = m.registers; memory = m.memory.memory; cycles = m.place.cycles; budget = m.budget };
       allocated = m.memory.allocated;
       goes_on = m.goes_on;
     } };
 
-    ghost invariant = { λ m. (slice_index m.registers 0 ≡ 0) × (m.budget ≤ 2 ^ 40) × (m.goes_on ≡ true → m.cycles ≤ m.budget) };
+    ghost invariant = { λ m. (slice_index m.registers 0 ≡ 0) × (m.budget ≤ 2 ^ 40) × (m.goes_on ≡ true → m.place.cycles ≤ m.budget) };
 }
 
 impl Machine {
@@ -62,8 +62,7 @@ impl Machine {
         Machine {
             memory,
             registers,
-            pc,
-            cycles,
+            place: Place { pc, cycles },
             budget,
             goes_on: true,
         }
@@ -73,7 +72,8 @@ impl Machine {
     ///
     /// Its cycles are added first, and where they pass the budget the answer is `Spent` and the instruction has
     /// no effect. An odd program counter, or one where no instruction is, is a fault and costs nothing.
-    #[inline(always)]
+    #[cold]
+    #[inline(never)]
     pub fn step(&mut self) -> Step
         requires { self.old.goes_on ≡ true }
         ensures steps { IsStep (step_of self.old.machine) self.old.machine self.new.machine result }
@@ -86,9 +86,9 @@ impl Machine {
         ensures pages_kept { (page : ℕ) → IsAllocated self.old.allocated page → IsAllocated self.new.allocated page }
         ensures pages_added { (page : ℕ) → IsAllocated self.new.allocated page → IsAllocated self.old.allocated page ⊎ Touches (next_range self.old.machine) page }
     {
-        let mut pc = self.pc;
-        let answer = self.step_at(&mut pc);
-        self.pc = pc;
+        let mut place = self.place;
+        let answer = self.step_at(&mut place);
+        self.place = place;
         answer
     }
 
@@ -105,12 +105,12 @@ impl Machine {
         ensures pages_kept { (page : ℕ) → IsAllocated self.old.allocated page → IsAllocated self.new.allocated page }
         ensures pages_added { (page : ℕ) → IsAllocated self.new.allocated page → IsAllocated self.old.allocated page ⊎ IsStoredTo self.old.machine page }
     {
-        let mut pc = self.pc;
+        let mut place = self.place;
         'steps: loop {
-            match self.step_at(&mut pc) {
+            match self.go(&mut place) {
                 Step::Went => {}
                 answer => {
-                    self.pc = pc;
+                    self.place = place;
                     return answer;
                 }
             }
@@ -127,8 +127,8 @@ impl Machine {
         ensures goes_on { self.new.goes_on ≡ result }
         ensures within { result ≡ not (is_spent self.new.machine) }
     {
-        self.cycles += cycles;
-        if self.cycles > self.budget {
+        self.place.cycles += cycles;
+        if self.place.cycles > self.budget {
             self.goes_on = false;
             return false;
         }
@@ -161,7 +161,7 @@ impl Machine {
     pub fn cycles(&self) -> u64
         ensures { result ≡ self.now.machine.cycles }
     {
-        self.cycles
+        self.place.cycles
     }
 
     /// The machine's memory, to be read and written.
@@ -172,26 +172,92 @@ impl Machine {
         &mut self.memory
     }
 
-    // One step, with the program counter apart from the machine: a run keeps it in a register of the processor.
+    // One step of a run. An instruction that is kept has its effect at once, and any other step is made by `step`. The effect
+    // stands here twice, so that the next program counter waits for no length.
     #[inline(always)]
-    fn step_at(&mut self, pc: &mut u64) -> Step
-        requires { self.old.goes_on ≡ true }
-        ensures steps { IsStep (step_of (machine_at self.old pc.old)) (machine_at self.old pc.old) (machine_at self.new pc.new) result }
+    fn go(&mut self, place: &mut Place) -> Step
+        requires goes_on { self.old.goes_on ≡ true }
+        requires within { place.old.cycles ≤ self.old.machine.budget }
+        ensures steps { IsStep (step_of (machine_at self.old place.old)) (machine_at self.old place.old) (machine_at self.new place.new) result }
         ensures goes_on { self.new.goes_on ≡ goes_on_after result }
-        ensures room { HasRoom self.old.allocated (next_range (machine_at self.old pc.old)) → result ≢ Step.NoMemory }
-        ensures allocated { result ≡ Step.Went → HasRoom self.new.allocated (next_range (machine_at self.old pc.old)) }
+        ensures within { self.new.goes_on ≡ true → place.new.cycles ≤ self.new.machine.budget }
+        ensures room { HasRoom self.old.allocated (next_range (machine_at self.old place.old)) → result ≢ Step.NoMemory }
+        ensures allocated { result ≡ Step.Went → HasRoom self.new.allocated (next_range (machine_at self.old place.old)) }
         ensures pages_kept { (page : ℕ) → IsAllocated self.old.allocated page → IsAllocated self.new.allocated page }
-        ensures pages_added { (page : ℕ) → IsAllocated self.new.allocated page → IsAllocated self.old.allocated page ⊎ Touches (next_range (machine_at self.old pc.old)) page }
+        ensures pages_added { (page : ℕ) → IsAllocated self.new.allocated page → IsAllocated self.old.allocated page ⊎ Touches (next_range (machine_at self.old place.old)) page }
     {
-        if *pc % 2 == 1 {
+        let slot = self.memory.slot(place.pc);
+        if u64::from(slot.at) != place.pc {
+            return self.step_apart(place);
+        }
+        if slot.length == 2 {
+            self.execute::<2>(place, slot.kept, 2)
+        } else {
+            self.execute::<4>(place, slot.kept, 4)
+        }
+    }
+
+    // One step of a run that `step` makes: what it answers goes through no memory.
+    #[inline(always)]
+    fn step_apart(&mut self, place: &mut Place) -> Step
+        requires goes_on { self.old.goes_on ≡ true }
+        requires within { place.old.cycles ≤ self.old.machine.budget }
+        ensures steps { IsStep (step_of (machine_at self.old place.old)) (machine_at self.old place.old) (machine_at self.new place.new) result }
+        ensures goes_on { self.new.goes_on ≡ goes_on_after result }
+        ensures within { self.new.goes_on ≡ true → place.new.cycles ≤ self.new.machine.budget }
+        ensures room { HasRoom self.old.allocated (next_range (machine_at self.old place.old)) → result ≢ Step.NoMemory }
+        ensures allocated { result ≡ Step.Went → HasRoom self.new.allocated (next_range (machine_at self.old place.old)) }
+        ensures pages_kept { (page : ℕ) → IsAllocated self.old.allocated page → IsAllocated self.new.allocated page }
+        ensures pages_added { (page : ℕ) → IsAllocated self.new.allocated page → IsAllocated self.old.allocated page ⊎ Touches (next_range (machine_at self.old place.old)) page }
+    {
+        self.place = *place;
+        let answer = self.step();
+        *place = self.place;
+        answer
+    }
+
+    // One step, with the place apart from the machine.
+    #[inline(always)]
+    fn step_at(&mut self, place: &mut Place) -> Step
+        requires goes_on { self.old.goes_on ≡ true }
+        requires within { place.old.cycles ≤ self.old.machine.budget }
+        ensures steps { IsStep (step_of (machine_at self.old place.old)) (machine_at self.old place.old) (machine_at self.new place.new) result }
+        ensures goes_on { self.new.goes_on ≡ goes_on_after result }
+        ensures within { self.new.goes_on ≡ true → place.new.cycles ≤ self.new.machine.budget }
+        ensures room { HasRoom self.old.allocated (next_range (machine_at self.old place.old)) → result ≢ Step.NoMemory }
+        ensures allocated { result ≡ Step.Went → HasRoom self.new.allocated (next_range (machine_at self.old place.old)) }
+        ensures pages_kept { (page : ℕ) → IsAllocated self.old.allocated page → IsAllocated self.new.allocated page }
+        ensures pages_added { (page : ℕ) → IsAllocated self.new.allocated page → IsAllocated self.old.allocated page ⊎ Touches (next_range (machine_at self.old place.old)) page }
+    {
+        if place.pc % 2 == 1 {
             return self.stop(Step::Fault(NO_INSTRUCTION));
         }
-        let (ins, length) = match self.memory.instruction(*pc) {
+        let (ins, length) = match self.memory.instruction(place.pc) {
             Ok(Some(decoded)) => decoded,
             Ok(None) => return self.stop(Step::Fault(NO_INSTRUCTION)),
             Err(fault) => return self.stop(Step::Fault(fault_number(fault))),
         };
-        self.execute(pc, ins, u64::from(length))
+        self.execute::<0>(place, kept_form(ins), u64::from(length))
+    }
+
+    // Adds what an instruction costs, and says whether the cycles are still within the budget.
+    #[inline(always)]
+    pub(crate) fn pay(&mut self, place: &mut Place, cost: u64) -> bool
+        requires goes_on { self.old.goes_on ≡ true }
+        requires bound { cost ≤ 2 ^ 40 }
+        requires within { place.old.cycles ≤ self.old.machine.budget }
+        ensures machine { machine_at self.new place.new ≡ charged (machine_at self.old place.old) cost }
+        ensures allocated { self.new.allocated ≡ self.old.allocated }
+        ensures goes_on { self.new.goes_on ≡ result }
+        ensures within { result ≡ not (is_spent (machine_at self.new place.new)) }
+    {
+        let budget = self.budget;
+        place.cycles += cost;
+        if place.cycles > budget {
+            self.goes_on = false;
+            return false;
+        }
+        true
     }
 
     // The machine goes on no more.

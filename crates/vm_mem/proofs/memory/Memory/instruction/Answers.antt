@@ -1,14 +1,28 @@
-use Rattle.std.proofs.Common.{sym, ◌∙◌, rules}
-use Rattle.vm_mem.proofs.Slotted.{all-registers, instruction-registers, slot-holds}
+use Rattle.std.proofs.Common.{None, Some, refl, rules}
+use Rattle.vm_mem.proofs.Slotted.{cast-fits, fault-is, filled, instruction-is, is-kept}
 use Rattle.vm_mem.proofs.memory.Memory.instruction.Goals as goal
 
-pub returns-then-from-at-clause-registers : goal.returns-then-from-at-clause-registers
-returns-then-from-at-clause-registers c =
-    instruction-registers _ c.args.at _ (slot-holds _ _ c.args.at _ c.index-slot.result.now c.self.invariant c.slot_of.ensures.slot
-    c.slot_of.ensures.bound c.index-slot.ensures (sym c.from.ensures ∙ c.if-from-at.true))
+pub returns-in-Err-clause-exact : goal.returns-in-Err-clause-exact
+returns-in-Err-clause-exact c = rw (← c.self.view_is) (fault-is _ _ _ _ c.fetch.ensures c.in-Err.is)
 
-pub returns-clause-registers : goal.returns-clause-registers
-returns-clause-registers c = all-registers _ c.args.at _ c.decode_at.ensures.exact
+pub returns-in-None-clause-exact : goal.returns-in-None-clause-exact
+returns-in-None-clause-exact c =
+    rw (← c.self.view_is) (instruction-is _ _ _ None _ _ c.fetch.ensures c.in-Ok.is c.decode.ensures.exact c.in-None.is)
 
-pub returns-then-from-at-clause-exact : goal.returns-then-from-at-clause-exact
-returns-then-from-at-clause-exact c = search rules
+pub overflow_cast-at : goal.overflow_cast-at
+overflow_cast-at c =
+    let small = cast-fits _ c.args.at _ _ c.fetch.ensures c.in-Ok.is in search rules
+
+pub invariant_of-self : goal.invariant_of-self
+invariant_of-self c =
+    let right = instruction-is _ _ _ (Some c.in-Some.decoded) _ _ c.fetch.ensures c.in-Ok.is c.decode.ensures.exact c.in-Some.is in
+    filled _ _ c.slot_of.result _ c.self.invariant
+    (is-kept _ c.args.at c.in-Some.decoded _ c.if-at-eq0.true refl refl c.kept_form.ensures right)
+
+pub returns-then-at-eq0-clause-exact : goal.returns-then-at-eq0-clause-exact
+returns-then-at-eq0-clause-exact c =
+    rw (← c.self.view_is) (instruction-is _ _ _ (Some c.in-Some.decoded) _ _ c.fetch.ensures c.in-Ok.is c.decode.ensures.exact c.in-Some.is)
+
+pub returns-else-at-eq0-clause-exact : goal.returns-else-at-eq0-clause-exact
+returns-else-at-eq0-clause-exact c =
+    rw (← c.self.view_is) (instruction-is _ _ _ (Some c.in-Some.decoded) _ _ c.fetch.ensures c.in-Ok.is c.decode.ensures.exact c.in-Some.is)

@@ -1,9 +1,9 @@
 use Rattle.std.proofs.Common.{refl}
 use Rattle.vm_defs.specs.Step.{after}
-use Rattle.vm_step.specs.Running.{with_pc}
+use Rattle.vm_step.specs.Running.{with_place}
 use Rattle.vm_step.proofs.Executing.{executes-ecall}
 use Rattle.vm_step.proofs.machine.Machine.ecall.Goals as goal
 
 pub returns : goal.returns
 unfolding after
-returns c = executes-ecall (with_pc c.args.self.now c.args.pc.now) _ _ c.requires refl
+returns c = executes-ecall (with_place c.args.self.now c.args.place.now) _ _ c.requires refl
