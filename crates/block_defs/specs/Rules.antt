@@ -1,6 +1,6 @@
 -- All rules on a block, as rows of a list, in the order in which they are tried. A row has the rule's number and whether the block keeps it
 -- (docs/RULES.md, "A block").
-use Rattle.std.specs.Prelude.{ℕ, Bool, ◌&&◌, nat_lt, List, [], ◌∷◌, ◌++◌, Option}
+use Rattle.std.specs.Prelude.{ℕ, Bool, List, [], ◌∷◌, ◌++◌, Option}
 use Rattle.codec_defs.specs.Schema.{Transaction, Block}
 use Rattle.fold_defs.specs.First.{first_failing}
 use Rattle.time_defs.specs.Specification.{Specification}

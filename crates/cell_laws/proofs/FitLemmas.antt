@@ -9,8 +9,7 @@ use Rattle.std.proofs.Math.Seq.{take-append_seam}
 use Rattle.codec_defs.specs.Schema.{OutPoint, Block}
 use Rattle.chain_defs.specs.Branch.{branch}
 use Rattle.chain_defs.proofs.KeptLaws.{slice_get-before}
-use Rattle.cell_defs.specs.Cell.{Cell}
-use Rattle.cell_defs.specs.Events.{Event, Makes, Spends, last_naming, cell_left, cell_after, events, live_cell}
+use Rattle.cell_defs.specs.Events.{Event, Makes, Spends, last_naming, cell_left, cell_after, live_cell}
 use Rattle.cell_defs.specs.Row.{Row, row_or, row_on, row_after, live_row}
 use Rattle.cell_defs.specs.Fit.{are_live, none_live, live_by, live_after, fits, AllFit}
 use Rattle.cell_laws.proofs.EventLemmas.{last_naming-append}

@@ -1,5 +1,5 @@
 -- What events and cells are for, in words (docs/RULES.md, "Cells").
-use Rattle.std.specs.Prelude.{◌≡◌, ◌↔◌, ℕ, ◌<◌, ◌⊎◌, Bool, false, not, List, [], ◌∷◌, ◌++◌, length, Option, Some, is_some, if◌then◌else◌, IsTrue, slice_get}
+use Rattle.std.specs.Prelude.{◌≡◌, ◌↔◌, ℕ, ◌<◌, ◌⊎◌, Bool, false, List, [], ◌∷◌, ◌++◌, length, Option, Some, is_some, if◌then◌else◌, IsTrue, slice_get}
 use Rattle.std.specs.List.{Contains, count_by, list_any}
 use Rattle.codec_defs.specs.Schema.{OutPoint, CellInput, Transaction, Block}
 use Rattle.chain_defs.specs.Kept.{IsKept, place_of, block_at}

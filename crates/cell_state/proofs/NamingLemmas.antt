@@ -1,9 +1,5 @@
 -- On the last of some events that names an out-point, and what those leave that fit.
-use Rattle.std.proofs.Common.{◌≡◌, ℕ, zero, suc, ◌-◌, ◌<◌, ◌≤◌, Bool, true, false, List, [], ◌∷◌, ◌++◌, length, take, Option, Some, None, is_some, slice_get, if◌then◌else◌, ⊎_elim, refl, sym, ap, ◌∙◌, subst, arith}
-use Rattle.std.proofs.lemmas.Bool.{cases_lt}
-use Rattle.std.proofs.lemmas.List.{take-append-le}
-use Rattle.std.proofs.lemmas.Option.{same_Some, slice_get_within}
-use Rattle.std.proofs.Math.Seq.{take-append_seam}
+use Rattle.std.proofs.Common.{◌≡◌, ℕ, Bool, true, false, List, [], ◌∷◌, ◌++◌, Option, Some, None, is_some, if◌then◌else◌, refl, sym, ap, ◌∙◌}
 use Rattle.codec_defs.specs.Schema.{OutPoint}
 use Rattle.cell_defs.specs.Events.{Event, Makes, Spends, names, last_naming}
 use Rattle.cell_defs.specs.Row.{Row, row_or, row_after}
@@ -12,7 +8,6 @@ use Rattle.cell_state.specs.Slots.{StateValue, at, rows, row_before, is_live, se
 use Rattle.cell_state.specs.Passes.{AreMarked}
 use Rattle.cell_state.specs.declared.slots.Slot.{Slot}
 use Rattle.cell_state.specs.declared.slots.Slot.TheVariants.{Live, Spent, Added, Gone}
-use Rattle.cell_state.proofs.EventLemmas.{slice_get-append}
 
 -- ---- The last event that names an out-point
 

@@ -6,7 +6,7 @@ use Rattle.std.proofs.lemmas.List.{append_assoc}
 use Rattle.codec_defs.specs.Schema.{OutPoint}
 use Rattle.cell_defs.specs.Cell.{Cell}
 use Rattle.cell_defs.specs.Events.{Event, Makes, Spends, same_out_point, out_point_of, names, last_naming}
-use Rattle.cell_defs.specs.Row.{Row, row_of, row_or, row_left, row_after}
+use Rattle.cell_defs.specs.Row.{Row, row_of, row_or, row_left}
 use Rattle.cell_state.specs.Fit.{IsFirstOdd}
 use Rattle.cell_defs.specs.Fit.{are_live, live_by, live_after, fits, AllFit}
 use Rattle.cell_state.specs.declared.odd.Odd.TheVariants as odd

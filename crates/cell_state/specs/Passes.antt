@@ -1,5 +1,5 @@
 -- What the passes over a block's events do at an out-point.
-use Rattle.std.specs.Prelude.{◌≡◌, ℕ, suc, Bool, true, false, List, [], ◌∷◌, Option, Some, None, IsSome}
+use Rattle.std.specs.Prelude.{◌≡◌, ℕ, suc, true, false, List, [], ◌∷◌, Option, Some, None, IsSome}
 use Rattle.codec_defs.specs.Schema.{OutPoint}
 use Rattle.cell_defs.specs.Cell.{Cell}
 use Rattle.cell_defs.specs.Events.{Event, Makes, Spends, last_naming}

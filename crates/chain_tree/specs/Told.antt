@@ -1,5 +1,5 @@
 -- What a source of kept blocks tells, and when it answers that it could not read.
-use Rattle.std.specs.Prelude.{◌≡◌, ℕ, ◌≤◌, List, map, Option, Some, slice_get, Result, Err, IfSome, IsSome}
+use Rattle.std.specs.Prelude.{◌≡◌, ℕ, ◌≤◌, List, map, Option, slice_get, Result, Err, IfSome, IsSome}
 use Rattle.codec_defs.specs.Schema.{Block}
 use Rattle.cell_defs.specs.Ext.{count_at}
 use Rattle.outside.specs.Causes.{CountsFault}

@@ -1,10 +1,10 @@
 -- The rules on a block's cellbase, J16 and J17 (RFC 0022, "Cellbase Transaction"; docs/RULES.md, "The cellbase").
-use Rattle.std.specs.Prelude.{ℕ, Bool, true, false, ◌&&◌, ◌==◌, not, nat_le, List, [], ◌∷◌, map, length, replicate, Option, Some, None, is_some, slice_get}
+use Rattle.std.specs.Prelude.{ℕ, Bool, false, ◌&&◌, ◌==◌, not, nat_le, List, [], ◌∷◌, map, length, replicate, Option, is_some, slice_get}
 use Rattle.std.specs.Option.{option_and_then}
 use Rattle.std.specs.List.{list_all, list_any}
 use Rattle.std.specs.Str.{bytes_eq}
 use Rattle.codec_defs.specs.Shape.{decoded}
-use Rattle.codec_defs.specs.Schema.{OutPoint, CellInput, CellOutput, Transaction, Block, cellbase_witness}
+use Rattle.codec_defs.specs.Schema.{OutPoint, CellInput, Transaction, Block, cellbase_witness}
 use Rattle.chain_defs.specs.Hashes.{transaction_hash, are_distinct}
 use Rattle.cell_defs.specs.Cell.{Cell, pairs_data}
 use Rattle.cell_defs.specs.Events.{made_out_points}

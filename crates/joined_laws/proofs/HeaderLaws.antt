@@ -1,15 +1,12 @@
 -- What the headers of a chain that has joined hold: each DAO field is rated, and along a branch numbers are heights.
-use Rattle.std.proofs.Common.{◌≡◌, ℕ, zero, suc, ◌+◌, Some, sym, ap, ◌∙◌, subst, arith}
+use Rattle.std.proofs.Common.{◌≡◌, zero, suc, sym, ◌∙◌, subst, arith}
 use Rattle.std.specs.Prelude.{IsTrue}
 use Rattle.std.proofs.lemmas.Bool.{eqb-true}
 use Rattle.std.proofs.lemmas.Option.{same_Some}
 use Rattle.codec_defs.specs.Schema.{Block}
 use Rattle.time_defs.specs.Dao.{is_rated}
-use Rattle.chain_defs.specs.Kept.{block_at}
 use Rattle.chain_defs.specs.Branch.{branch}
 use Rattle.chain_defs.proofs.BranchLaws.{IsBranch-branch}
-use Rattle.verdict_defs.specs.Chain.{Chain}
-use Rattle.store_defs.specs.Store.{IsJoined}
 use Rattle.store_defs.proofs.JoinedLemmas.{is_kept_of_joined}
 use Rattle.joined_laws.specs.Laws.{BlocksAreRated, NumbersAreHeights}
 use Rattle.joined_laws.proofs.RuleLemmas.{rated-unbroken, rated-good, first-good}

@@ -1,10 +1,10 @@
 -- The uncles along a branch of a chain that has joined: J15 asks of each that no header that it knows has its hash.
 use Rattle.std.proofs.Common.{◌≡◌, ℕ, zero, suc, ◌+◌, ◌<◌, Bool, true, false, List, [], ◌∷◌, ◌++◌, map, length, take, Some, refl, sym, ap, ◌∙◌, subst, inl, inr, ◌⊎◌, arith}
 use Rattle.std.specs.Prelude.{◌&&◌, ◌||◌, not, slice_get, IsTrue}
-use Rattle.std.specs.List.{list_any, list_all, flat_map, enumerate_from}
+use Rattle.std.specs.List.{list_any}
 use Rattle.std.specs.Str.{bytes_eq}
-use Rattle.std.proofs.lemmas.Bool.{and_parts, and_from, or_parts, not-true, not_from_false, false_from_ne_true, eqb-true}
-use Rattle.std.proofs.lemmas.List.{append-nil, append_assoc, length_push, take_at, map-append}
+use Rattle.std.proofs.lemmas.Bool.{and_parts, and_from, or_parts, not-true, not_from_false, eqb-true}
+use Rattle.std.proofs.lemmas.List.{append-nil, append_assoc, take_at, map-append}
 use Rattle.std.proofs.lemmas.List.Folds.{list_any-append}
 use Rattle.std.proofs.lemmas.Option.{same_Some, slice_get_within}
 use Rattle.std.proofs.lemmas.Slice.Eq.{bytes_eq-Decides}
@@ -21,7 +21,7 @@ use Rattle.verdict_defs.specs.Chain.{Chain}
 use Rattle.store_defs.specs.Store.{IsJoined}
 use Rattle.joined_laws.specs.Laws.{UnclesDiffer, UnclesAreNoAncestors}
 use Rattle.joined_laws.proofs.RuleLemmas.{uncles-unbroken, alone-good}
-use Rattle.joined_laws.proofs.KeptLemmas.{Grows, grows}
+use Rattle.joined_laws.proofs.KeptLemmas.{grows}
 use Rattle.joined_laws.proofs.EventsFitLaws.{first-branch, apart-too}
 
 -- ---- Lists

@@ -1,5 +1,5 @@
 -- What is true of a chain whose blocks joined, in words.
-use Rattle.std.specs.Prelude.{◌≡◌, ℕ, ◌<◌, List, map, length, Some, IsTrue, IsSome, slice_get}
+use Rattle.std.specs.Prelude.{◌≡◌, ℕ, ◌<◌, map, length, Some, IsTrue, IsSome, slice_get}
 use Rattle.codec_defs.specs.Schema.{OutPoint, UncleBlock, Block}
 use Rattle.time_defs.specs.Dao.{is_rated}
 use Rattle.chain_defs.specs.Kept.{block_hash, block_at}

@@ -1,7 +1,6 @@
 -- What is kept with one more block: the index, the uncles, and the live cells of the tip.
 use Rattle.std.proofs.Common.{◌≡◌, ℕ, suc, ◌+◌, ◌-◌, ◌≤◌, ◌<◌, ◌^◌, Bool, true, false, cond, ltb, List, [], ◌∷◌, ◌++◌, length, Option, Some, None, refl, sym, ap, ◌∙◌, subst, inl, inr, ◌⊎◌, arith}
 use Rattle.std.specs.Prelude.{Result, Ok, Err, IfOk, IsTrue, IsSomeAnd, is_some, slice_get}
-use Rattle.std.proofs.lemmas.Bool.{and_parts}
 use Rattle.std.proofs.lemmas.Bool.Decides.{Decides-eqb, Decides-ltb, nat_tests}
 use Rattle.std.proofs.lemmas.List.{append-nil, append_assoc, length_push, length-map, map-append}
 use Rattle.std.proofs.lemmas.Option.{slice_get_within, same_Some}
@@ -33,7 +32,6 @@ use Rattle.uncle_rules.specs.Embedded.{Embedded, embedded_in, embedded_from, Unc
 use Rattle.verdict_defs.specs.Chain.{Chain}
 use Rattle.verdict_defs.specs.Laws.{MayJoin}
 use Rattle.verdict_defs.proofs.VerdictLaws.{parent_of-branch}
-use Rattle.store_defs.specs.Store.{IsJoined}
 use Rattle.joined_laws.proofs.FitLaws.{what-joins-fits}
 use Rattle.node_core.specs.declared.deciding.Joining.{Joining}
 use Rattle.node_core.specs.Node.{AreKept}

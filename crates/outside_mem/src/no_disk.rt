@@ -54,9 +54,9 @@ impl Disk for NoDisk {
     ghost content_of = { λ _. tt };
 
     ghost content_rests = { λ _ _ _. record {
-        reads = refl;
-        images = λ _. (λ left. left, λ left. left);
-        moments = record { later = lit≤ tt; each = λ _ left. absurd left; before = λ _ _ _ left. absurd left };
+      reads = refl;
+      images = λ _. (λ left. left, λ left. left);
+      moments = record { later = lit≤ tt; each = λ _ left. absurd left; before = λ _ _ _ left. absurd left };
     } };
 
     ghost reads_image = { λ _. tt };

@@ -10,10 +10,8 @@ use crate::text::Text;
 use isa_defs::Ins;
 use std::alloc::{AllocError, Global};
 
-/// The text of an instruction, without a line feed.
-///
-/// Of an instruction that does not fit its format it is the same form, with its registers and its number as they
-/// are (of LUI and AUIPC bits 31 to 12): no line that `read_line` reads, or that of another instruction.
+/// The text of an instruction. Of one that does not fit it is the same form with its numbers as they are, and of LUI and
+/// AUIPC bits 31 to 12: nothing is said of what such a text is good for.
 pub fn show(alloc: Global, i: &Ins) -> Result<Vec<u8>, AllocError>
     ensures { IfOk result (λ text. text.items ≡ texts.show i.now) }
 {

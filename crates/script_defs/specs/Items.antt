@@ -1,5 +1,5 @@
 -- What each syscall of a script asks for, and what it is answered (RFC 0009; docs/MACHINE.md, "What a script is shown").
-use Rattle.std.specs.Prelude.{ℕ, ◌*◌, ◌/◌, ◌==◌, List, [], ◌∷◌, Option, Some, None, slice_get}
+use Rattle.std.specs.Prelude.{ℕ, ◌*◌, ◌==◌, List, [], ◌∷◌, Option, Some, None, slice_get}
 use Rattle.std.specs.Option.{option_map, option_and_then}
 use Rattle.std.specs.List.{find}
 use Rattle.std.specs.Int.{w64, to_le_bytes}

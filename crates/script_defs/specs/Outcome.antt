@@ -2,7 +2,7 @@
 use Rattle.std.specs.Prelude.{ℕ, zero, suc, ◌+◌, ◌-◌, nat_lt, ℤ, pos, negsuc, List, [], ◌∷◌, Option, Some, None, Result, Ok, Err, if◌then◌else◌}
 use Rattle.vm_defs.specs.declared.outcome.Outcome.{Outcome}
 use Rattle.vm_defs.specs.declared.outcome.Outcome.TheVariants as outcome
-use Rattle.vm_defs.specs.Program.{Ended, Execution, execution}
+use Rattle.vm_defs.specs.Program.{Execution, execution}
 use Rattle.sys_defs.specs.Answer.{syscall}
 use Rattle.script_defs.specs.declared.failure.Failure.{Failure}
 use Rattle.script_defs.specs.declared.failure.Failure.TheVariants as failure

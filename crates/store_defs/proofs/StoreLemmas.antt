@@ -1,25 +1,23 @@
 -- What an image stands for, by what its log says.
-use Rattle.std.proofs.Common.{◌≡◌, ℕ, suc, ◌+◌, ◌<◌, ◌≤◌, ◌^◌, Bool, true, false, cond, leb, List, [], ◌∷◌, ◌++◌, length, Option, Some, None, refl, sym, ap, ◌∙◌, subst, inl, inr, ◌⊎◌, arith}
+use Rattle.std.proofs.Common.{◌≡◌, ℕ, ◌+◌, ◌<◌, ◌≤◌, ◌^◌, Bool, true, cond, leb, List, [], ◌∷◌, ◌++◌, length, Option, Some, None, refl, sym, ap, ◌∙◌, subst, inl, inr, ◌⊎◌, arith}
 use Rattle.std.specs.Prelude.{◌&&◌, ◌==◌, is_none, slice_get}
-use Rattle.std.specs.Option.{option_and_then}
-use Rattle.std.proofs.lemmas.Bool.{le-leb, and_from, and_parts}
+use Rattle.std.proofs.lemmas.Bool.{le-leb, and_from}
 use Rattle.std.proofs.lemmas.List.{length_push, take-append-le, take_all}
-use Rattle.codec_defs.specs.Shape.{decoded}
-use Rattle.codec_defs.specs.Schema.{Block, block}
+use Rattle.codec_defs.specs.Schema.{Block}
 use Rattle.chain_defs.proofs.KeptLaws.{slice_get-pushed}
-use Rattle.time_defs.specs.Specification.{specification_of, broken_specification_rule}
+use Rattle.time_defs.specs.Specification.{specification_of}
 use Rattle.verdict_defs.specs.Verdict.{kept_after}
-use Rattle.chain_defs.specs.Kept.{kept_limit, block_list, blocks_of_item}
+use Rattle.chain_defs.specs.Kept.{kept_limit, blocks_of_item}
 use Rattle.verdict_defs.specs.Chain.{Chain, chain_after}
 use Rattle.verdict_defs.specs.Laws.{CanJoin}
 use Rattle.verdict_defs.proofs.VerdictLaws.{keeps-what-joins}
-use Rattle.genesis_defs.specs.Genesis.{broken_by, broken_genesis_rule}
-use Rattle.log_defs.specs.Log.{Record, LogContent, record_limit, content_of_records, are_first, blocks_over, block_of_record}
+use Rattle.genesis_defs.specs.Genesis.{broken_genesis_rule}
+use Rattle.log_defs.specs.Log.{Record, LogContent, record_limit, content_of_records, are_first, block_of_record}
 use Rattle.log_defs.specs.LogLaws.{grown}
 use Rattle.store_defs.specs.JoinLaws.{record_over}
 use Rattle.store_defs.specs.Store.{HasJoined, EachHasJoined, chain_of, chain_before, ext_over}
 use Rattle.store_defs.specs.StoreLaws.{StandsAsItSays, StandsAfterAnItem, StandsForTheGenesis}
-use Rattle.log_defs.proofs.Contents.{one_genesis, good_genesis, counts_its_records, gives_the_parts, says_its_records, adds_a_block, said}
+use Rattle.log_defs.proofs.Contents.{counts_its_records, gives_the_parts, says_its_records, adds_a_block, said}
 use Rattle.store_defs.proofs.Joining.{takes_what_joins}
 
 pub stands_as_it_says : StandsAsItSays

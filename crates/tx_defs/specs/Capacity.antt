@@ -1,8 +1,8 @@
 -- What a transaction's inputs count, and what its outputs hold (RFC 0022, "Cell"; RFC 0023, "Calculation"; docs/RULES.md, "Capacity and the
 -- DAO field"). Capacities are in shannons.
-use Rattle.std.specs.Prelude.{ℕ, suc, [], ◌∷◌, ◌-◌, ◌^◌, ℤ, pos, ◌-ℤ◌, Bool, ◌&&◌, not, nat_lt, nat_le, List, map, length, Option, Some, None, is_some, if◌then◌else◌}
-use Rattle.std.specs.List.{list_all, list_any, enumerate_from, range_with_len, sum_by}
-use Rattle.codec_defs.specs.Schema.{OutPoint, Transaction, Block}
+use Rattle.std.specs.Prelude.{ℕ, suc, [], ◌∷◌, ◌-◌, ◌^◌, ℤ, pos, ◌-ℤ◌, Bool, ◌&&◌, not, nat_lt, nat_le, List, Option, Some, None, is_some, if◌then◌else◌}
+use Rattle.std.specs.List.{list_any, enumerate_from, sum_by}
+use Rattle.codec_defs.specs.Schema.{Transaction, Block}
 use Rattle.time_defs.specs.Specification.{Specification}
 use Rattle.time_defs.specs.Dao.{field_of_bytes, counted_capacity}
 use Rattle.chain_defs.specs.Kept.{block_at}

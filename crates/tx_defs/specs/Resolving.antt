@@ -1,6 +1,6 @@
 -- The cells and headers that a transaction names (RFC 0022, "Dep Group", "Cell Dep", "Header Dep"; docs/RULES.md, "Deps"). Each list is there
 -- where its rule is kept.
-use Rattle.std.specs.Prelude.{ℕ, Bool, ◌&&◌, ◌==◌, List, [], ◌∷◌, map, Option, Some, None, if◌then◌else◌, is_some, unwrap_or}
+use Rattle.std.specs.Prelude.{ℕ, Bool, ◌==◌, List, [], ◌∷◌, map, Option, Some, None, if◌then◌else◌, is_some, unwrap_or}
 use Rattle.std.specs.Option.{option_map, option_and_then}
 use Rattle.std.specs.List.{flat_map}
 use Rattle.codec_defs.specs.Shape.{encoded, decoded}

@@ -4,8 +4,7 @@ use Rattle.std.proofs.lemmas.List.Elements.{All-nil, All-cons, All-head, All-tai
 use Rattle.std.specs.Prelude.{Result, Ok, Err, IfOk, IfSome, IsSomeAnd, slice_get, slice_set, replicate, zero, suc}
 use Rattle.std.specs.List.{All, AllZip}
 use Rattle.std.proofs.lemmas.Option.{same_Some, slice_get_within}
-use Rattle.codec_defs.specs.Shape.{decoded}
-use Rattle.codec_defs.specs.Schema.{OutPoint, Block, block}
+use Rattle.codec_defs.specs.Schema.{OutPoint, Block}
 use Rattle.chain_tree.specs.Told.{Stored, blocks_of}
 use Rattle.cell_defs.specs.Cell.{Cell}
 use Rattle.cell_defs.specs.Row.{Row}
@@ -15,8 +14,6 @@ use Rattle.tx_defs.specs.Site.{Site, Found}
 use Rattle.tx_rules.specs.At.{AtValue, IsSiteOf, AreSeen, found_row}
 use Rattle.tx_rules.specs.Copying.{IsFoundAt, IsBlockAt, IsCopyOfRow, CopiesItsRow, AreTaken, HoldsOutput, row_in}
 use Rattle.tx_rules.specs.Outcome.{Copies}
-use Rattle.chain_defs.proofs.KeptLaws.{slice_get-below}
-use Rattle.outside.proofs.Endings.{nothing_read}
 use Rattle.tx_rules.proofs.SiteLemmas.{copied-of-kept}
 
 -- ---- A copy out of a kept block that is read

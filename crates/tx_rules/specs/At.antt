@@ -1,14 +1,12 @@
 -- Where a transaction is judged, as the code is handed it, and what that stands for.
-use Rattle.std.specs.Prelude.{◌≡◌, ◌⊎◌, ℕ, ◌^◌, ◌<◌, nat_lt, Bool, ◌&&◌, is_some, List, map, length, Option, Some, None, if◌then◌else◌, slice_index, IsTrue, IsSome}
+use Rattle.std.specs.Prelude.{◌≡◌, ◌⊎◌, ℕ, ◌^◌, ◌<◌, nat_lt, Bool, is_some, List, map, length, Option, Some, None, if◌then◌else◌, slice_index, IsTrue, IsSome}
 use Rattle.std.specs.Option.{option_map}
 use Rattle.std.specs.List.{All}
 use Rattle.codec_defs.specs.Schema.{OutPoint, Transaction, Block}
 use Rattle.time_defs.specs.Specification.{Specification}
-use Rattle.time_defs.specs.Dao.{field_of_bytes}
 use Rattle.chain_defs.specs.Kept.{block_at}
 use Rattle.chain_defs.specs.Branch.{branch, branch_places}
 use Rattle.chain_tree.specs.declared.entry.Entry.{Entry}
-use Rattle.chain_tree.specs.Entries.{entry_at}
 use Rattle.chain_tree.specs.Blocks.{IndexesBlocks, AreRated}
 use Rattle.chain_tree.specs.Told.{Stored, blocks_of}
 use Rattle.cell_defs.specs.Cell.{Cell, holds_its_own}

@@ -1,6 +1,6 @@
 -- The verdict on an item, over the kept blocks: the frame around the rules on a block. The first case that holds decides
 -- (docs/COMMANDS.md, "The text").
-use Rattle.std.specs.Prelude.{ℕ, nat_lt, Bool, true, false, List, [], ◌∷◌, ◌++◌, length, Option, Some, None, is_some, if◌then◌else◌}
+use Rattle.std.specs.Prelude.{ℕ, nat_lt, Bool, true, false, List, ◌++◌, length, Option, Some, None, is_some, if◌then◌else◌}
 use Rattle.codec_defs.specs.Shape.{decoded}
 use Rattle.codec_defs.specs.Schema.{Block, block}
 use Rattle.chain_defs.specs.Kept.{block_hash, place_of, kept_limit, blocks_of_item}

@@ -1,6 +1,5 @@
 use Rattle.std.proofs.Common.{◌≡◌, Some, refl, ap, ◌∙◌, rules}
-use Rattle.codec_defs.specs.Shape.{decoded}
-use Rattle.codec_defs.specs.Schema.{Block, block}
+use Rattle.codec_defs.specs.Schema.{Block}
 use Rattle.cell_defs.specs.Cell.{Cell}
 use Rattle.cell_model.specs.Copies.{output_in}
 use Rattle.cell_model.proofs.CopyLemmas.{named_output, in-hand, same_output, copies}

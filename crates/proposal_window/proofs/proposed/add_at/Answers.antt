@@ -1,9 +1,9 @@
-use Rattle.std.proofs.Common.{◌||◌, Option, refl, sym, ap, ◌∙◌, arith}
+use Rattle.std.proofs.Common.{◌||◌, Option, sym, ap, ◌∙◌, arith}
 use Rattle.std.specs.Str.{bytes_eq}
 use Rattle.std.specs.HashSet.{contains}
 use Rattle.codec_defs.specs.Schema.{Block}
 use Rattle.window_defs.specs.Window.{proposes}
-use Rattle.outside.proofs.Endings.{no_fault, handed, counts-handed, no_answer, no_memory, no_damage, memory_undamaged, in_log, is_told, nothing_read}
+use Rattle.outside.proofs.Endings.{no_fault, handed, counts-handed, no_answer, no_memory, memory_undamaged, is_told}
 use Rattle.proposal_window.proofs.KeptLemmas.{kept-block}
 use Rattle.proposal_window.proofs.proposed.add_at.Goals as goal
 

@@ -1,6 +1,6 @@
-use Rattle.std.proofs.Common.{refl, sym, ap, ◌∙◌, arith}
+use Rattle.std.proofs.Common.{sym, ap, ◌∙◌, arith}
 use Rattle.window_defs.specs.Window.{proposes}
-use Rattle.outside.proofs.Endings.{no_fault, handed, counts-handed, no_answer, no_damage, in_log, is_told, nothing_read}
+use Rattle.outside.proofs.Endings.{no_fault, handed, counts-handed, no_answer, is_told}
 use Rattle.proposal_window.proofs.KeptLemmas.{kept-block}
 use Rattle.proposal_window.proofs.proposing.is_proposed_at.Goals as goal
 

@@ -1,12 +1,11 @@
 use Rattle.std.proofs.Common.{◌≡◌, sym, ap, ◌∙◌, subst, arith}
-use Rattle.std.proofs.lemmas.Option.{same_Some}
 use Rattle.codec_defs.specs.Schema.{Block}
 use Rattle.cell_defs.specs.Events.{events_of_block}
 use Rattle.cell_defs.specs.Row.{row_after}
 use Rattle.cell_defs.specs.Fit.{are_live, AllFit}
 use Rattle.cell_laws.proofs.FitLemmas.{found-same}
 use Rattle.cell_state.specs.State.{rows}
-use Rattle.outside.proofs.Endings.{no_fault, handed, counts-handed, no_answer, no_memory, no_damage, memory_undamaged, in_log, is_told, nothing_read}
+use Rattle.outside.proofs.Endings.{no_fault, handed, counts-handed, no_answer, no_memory, no_damage, memory_undamaged, in_log, is_told}
 use Rattle.replay.proofs.RowLemmas.{row_after-same}
 use Rattle.replay.proofs.FitLemmas.{told-block, none-odd}
 use Rattle.replay.proofs.applying.apply_at.Goals as goal

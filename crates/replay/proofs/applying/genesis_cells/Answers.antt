@@ -1,12 +1,8 @@
-use Rattle.std.proofs.Common.{◌≡◌, List, Option, None, length, sym, ap, ◌∙◌, subst, arith}
-use Rattle.std.specs.Prelude.{IfSome}
-use Rattle.std.proofs.lemmas.Option.{same_Some}
+use Rattle.std.proofs.Common.{◌≡◌, None, ap, ◌∙◌}
 use Rattle.codec_defs.specs.Schema.{Block}
-use Rattle.chain_defs.proofs.KeptLaws.{slice_get-below}
-use Rattle.chain_tree.specs.Told.{Stored}
 use Rattle.cell_defs.specs.Events.{events_of_block}
 use Rattle.cell_defs.specs.Row.{row_after}
-use Rattle.outside.proofs.Endings.{no_fault, handed, counts-handed, no_answer, no_memory, no_damage, memory_undamaged, in_log, is_told, nothing_read}
+use Rattle.outside.proofs.Endings.{no_fault, handed, counts-handed, no_answer, no_memory, memory_undamaged, is_told}
 use Rattle.replay.proofs.FitLemmas.{told-block}
 use Rattle.replay.proofs.applying.genesis_cells.Goals as goal
 

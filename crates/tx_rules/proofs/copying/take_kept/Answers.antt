@@ -1,6 +1,5 @@
-use Rattle.std.proofs.Common.{◌≡◌, List, Option, Some, Err, refl, sym, ap, ◌∙◌, subst, arith}
+use Rattle.std.proofs.Common.{◌≡◌, List, Option, Some, Err, refl, sym, ap, ◌∙◌, subst}
 use Rattle.chain_tree.specs.Told.{Stored}
-use Rattle.cell_defs.specs.Row.{Row}
 use Rattle.tx_rules.specs.Copying.{IsBlockAt}
 use Rattle.outside.proofs.Endings.{no_fault, counts-as, no_answer, no_damage, no_memory, memory_undamaged, fault_undamaged, in_log, is_told}
 use Rattle.tx_rules.proofs.TakenLemmas.{hand-block}

@@ -1,10 +1,9 @@
-use Rattle.std.proofs.Common.{◌≡◌, Some, ap, sym, ◌∙◌}
-use Rattle.std.proofs.lemmas.Option.{same_Some}
+use Rattle.std.proofs.Common.{◌≡◌, Some, ap, ◌∙◌}
 use Rattle.codec_defs.specs.Schema.{Block}
 use Rattle.cell_defs.specs.Row.{Row}
 use Rattle.cell_model.specs.Copies.{output_in}
 use Rattle.cell_model.proofs.CopyLemmas.{named_output, in-hand}
-use Rattle.outside.proofs.Endings.{no_fault, no_answer, no_damage, handed, counts-handed, in_log, is_told, nothing_read}
+use Rattle.outside.proofs.Endings.{no_fault, no_answer, handed, counts-handed, is_told}
 use Rattle.tx_rules.proofs.deps.add_kept_group.Goals as goal
 
 pub returns-in-Err : goal.returns-in-Err
