@@ -10,7 +10,8 @@
 //! - `Builder`, what is made, its fields with a comma between two, and the bytes that are made;
 //! - `hash`, a message, and its hash, which it also has in pieces;
 //! - `root`, items with a comma between two, and their Merkle root;
-//! - `json`, a block, and its text.
+//! - `json`, a block, and its text;
+//! - `unjson`, a text in hex, and the block that it is read as, or `bad`.
 //!
 //! The rows on encodings were made by programs that were written from RFC 0008 and the schema alone, or by hand from them.
 //! Those on hashes, roots and JSON come from outside.
@@ -63,6 +64,7 @@ impl Subject for Calls {
             "hash" => hash::agrees_on_message(alloc, row.rest()),
             "root" => hash::agrees_on_root(alloc, row.rest()),
             "json" => json::agrees_on_text(alloc, row.rest()),
+            "unjson" => json::agrees_on_block(alloc, row.rest()),
             "Builder" => builder::agrees(alloc, row.rest()),
             view => agrees_on_view(alloc, view, row.rest()),
         }

@@ -10,7 +10,13 @@ mod laws;
 mod leaves;
 mod objects;
 mod parts;
+mod read;
+mod reading;
+mod rows;
+mod stop;
 mod write;
 
 pub use laws::form_laws;
+pub use read::from_json;
+pub use stop::JsonStop;
 pub use write::to_json;
