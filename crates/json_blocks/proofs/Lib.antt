@@ -3,3 +3,4 @@ pub mod NumberText
 pub mod Rows
 pub mod ReadBack
 pub mod ReadOnce
+pub mod TextBack
