@@ -4,3 +4,4 @@ pub mod Rows
 pub mod ReadBack
 pub mod ReadOnce
 pub mod TextBack
+pub mod DigitLemmas

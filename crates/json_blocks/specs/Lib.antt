@@ -2,3 +2,4 @@ pub mod Form
 pub mod Blocks
 pub mod Text
 pub mod Laws
+pub mod Digits

@@ -6,13 +6,14 @@
 //! the rules above.
 #![tactic(auto)]
 
+mod digits;
 mod laws;
 mod leaves;
 mod objects;
 mod parts;
 mod read;
 mod reading;
-mod rows;
+mod read_rows;
 mod stop;
 mod write;
 

@@ -1,5 +1,5 @@
 // A block, read from its text.
-use crate::rows::read_block;
+use crate::read_rows::read_block;
 use crate::stop::JsonStop;
 use serde_json::Value;
 use std::alloc::Global;

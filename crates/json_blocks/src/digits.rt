@@ -1,0 +1,107 @@
+// Hex digits, read in either case. What is read is written again and compared, so that it has one form.
+ghost use Rattle.std.specs.Prelude.{◌≡◌, ◌^◌, ◌<◌, ◌≤◌, ℕ, length, map, false, List, ◌%◌, IfSome, IfNone, IfOk, Err, OnOk};
+ghost use Rattle.std.specs.Fmt as fmt;
+ghost use Rattle.std.specs.Str.{bytes_eq};
+ghost use Rattle.hex.specs.Hex.{encode_lower, IsBytes};
+ghost use Rattle.json_blocks.specs.Form.{lower_digit};
+ghost use Rattle.json_blocks.specs.declared.stop.JsonStop.TheVariants as JsonStop;
+ghost use Rattle.json_blocks.specs.Digits.{value_of, value_after, pairs_of};
+
+use crate::leaves::{number_digits, put_digits};
+use crate::stop::JsonStop;
+use std::alloc::Global;
+
+/// The value of a digit. What is no digit has some value below 16.
+fn value(digit: u8) -> u8
+    ensures { result ≡ value_of digit }
+{
+    if digit < 64 {
+        digit % 16
+    } else {
+        (digit % 16 + 9) % 16
+    }
+}
+
+/// The digit in lower case.
+fn lower(digit: u8) -> u8
+    ensures { result ≡ lower_digit digit }
+{
+    if b'A' <= digit && digit <= b'F' {
+        digit + 32
+    } else {
+        digit
+    }
+}
+
+/// Whether the text is these digits, in either case.
+fn is_text_of(text: &[u8], digits: &[u8]) -> bool
+    ensures { result ≡ bytes_eq (map lower_digit text.now) digits.now }
+{
+    if text.len() != digits.len() {
+        return false;
+    }
+    'digits: for i in 0..text.len() {
+        if lower(text[i]) != digits[i] {
+            return false;
+        }
+    }
+    true
+}
+
+/// The number of at most 32 digits.
+fn sum(digits: &[u8]) -> u128
+    requires { length digits.now ≤ 32 }
+    ensures { result ≡ value_after 0 digits.now }
+{
+    let mut n: u128 = 0;
+    'digits: for digit in digits {
+        n = n * 16 + u128::from(value(*digit));
+    }
+    n
+}
+
+/// The number of digits without leading zeros. None where they are those of no number below 2^128.
+pub(crate) fn number_of(digits: &[u8]) -> Option<u128>
+    ensures found { IfSome result (λ n. map lower_digit digits.now ≡ fmt.digits 16 false n) }
+    ensures only { IfNone result ((n : ℕ) → n < 2 ^ 128 → map lower_digit digits.now ≡ fmt.digits 16 false n → ⊥) }
+{
+    if digits.len() > 32 {
+        return None;
+    }
+    let n = sum(digits);
+    let mut text = [0u8; 64];
+    let start = number_digits(n, &mut text);
+    if is_text_of(digits, &text[start..]) {
+        Some(n)
+    } else {
+        None
+    }
+}
+
+/// The bytes of pairs of digits, whatever the digits are.
+fn pairs(alloc: Global, digits: &[u8]) -> Result<Vec<u8>, JsonStop>
+    ensures ok { IfOk result (λ bytes. bytes.items ≡ pairs_of digits.now) }
+    ensures memory { result ≡ Err JsonStop.Bad → ⊥ }
+{
+    let mut bytes = Vec::with_capacity(alloc, digits.len() / 2)?;
+    'pairs: for i in 0..digits.len() / 2 {
+        let byte = value(digits[2 * i]) * 16 + value(digits[2 * i + 1]);
+        bytes.push(byte)?;
+    }
+    Ok(bytes)
+}
+
+/// The bytes of a text of two digits a byte.
+pub(crate) fn bytes_of(alloc: Global, digits: &[u8]) -> Result<Vec<u8>, JsonStop>
+    ensures ok { IfOk result (λ bytes. map lower_digit digits.now ≡ encode_lower bytes.items) }
+    ensures bad { result ≡ Err JsonStop.Bad → (bytes : List ℕ) → IsBytes bytes → map lower_digit digits.now ≡ encode_lower bytes → ⊥ }
+{
+    let bytes = pairs(alloc, digits)?;
+    let mut text = Vec::with_capacity(alloc, digits.len())?;
+    put_digits(&mut text, &bytes)?;
+    if is_text_of(digits, &text) {
+        Ok(bytes)
+    } else {
+        Err(JsonStop::Bad)
+    }
+}
