@@ -1,14 +1,16 @@
 -- Digits tell their number, in either case.
-use Rattle.std.proofs.Common.{◌≡◌, ℕ, zero, suc, ◌+◌, ◌-◌, ◌*◌, ◌/◌, ◌%◌, ◌^◌, ◌<◌, ◌≤◌, ◌==◌, Bool, true, false, ◌&&◌, List, [], ◌∷◌, map, length, drop, get_or, slice_index, refl, sym, ap, ◌∙◌, arith, add-one, drop-cons, eq-eqb, ne_eqb}
+use Rattle.std.proofs.Common.{◌≡◌, ℕ, zero, suc, ◌+◌, ◌-◌, ◌*◌, ◌/◌, ◌%◌, ◌^◌, ◌<◌, ◌≤◌, ◌==◌, Bool, true, false, ◌&&◌, List, [], ◌∷◌, ◌++◌, map, length, drop, get_or, slice_index, refl, sym, ap, ◌∙◌, arith, add-one, drop-cons, append_assoc, length-drop, eq-eqb, ne_eqb}
 use Rattle.std.specs.Prelude.{if◌then◌else◌, nat_lt, nat_le}
 use Rattle.std.specs.Fmt.{digits, digits_onto, digit_glyph}
 use Rattle.std.specs.Str.{bytes_eq}
 use Rattle.std.proofs.lemmas.Bool.{eqb-true}
-use Rattle.std.proofs.lemmas.List.{drop_all}
+use Rattle.std.proofs.lemmas.List.{drop_all, append-nil}
 use Rattle.std.proofs.lemmas.Slice.Eq.{bytes_eq-Decides}
 use Rattle.std.proofs.lemmas.Bool.Decides.{nat_tests}
 use Rattle.json_blocks.specs.Form.{lower_digit}
-use Rattle.json_blocks.specs.Digits.{value_of, value_after}
+use Rattle.json_blocks.specs.Digits.{value_of, value_after, pairs_of}
+use Rattle.json_blocks.proofs.Plain.{glyph}
+use Rattle.hex.specs.Hex.{encode_lower, encode_with, lower_digits, IsBytes}
 
 unfoldable pub limit : ℕ → ℕ
 limit zero = 1
@@ -36,8 +38,10 @@ onto-value (suc k) n s fits =
   where
     last : ℕ
     last = digit_glyph false (n % 16)
+
     step : (m : ℕ) → m ≡ n / 16 → value_after m (last ∷ s) ≡ value_after n s
     step m is = ap (λ (x : ℕ). value_after x s) (omega (arith, glyph-value (n % 16) (omega arith)))
+
     by : (b : Bool) → (n / 16 == 0) ≡ b → value_after 0 (digits_onto k 16 false (n / 16) (last ∷ s)) ≡ value_after (n / 16) (last ∷ s)
         → value_after 0 (if b then last ∷ s else digits_onto k 16 false (n / 16) (last ∷ s)) ≡ value_after n s
     by true is others = step 0 (sym (eqb-true (n / 16) 0 is))
@@ -145,3 +149,61 @@ pub found_again : (s text : List ℕ) (n m : ℕ) → m < 2 ^ 128 → n ≡ valu
 found_again s text n m fits is text_is is_digits =
     let same : n ≡ m = is ∙ sym (value_after-lower 0 s) ∙ ap (value_after 0) is_digits ∙ digits-value m (fits-limit m fits) in
     (bytes_eq-Decides (map lower_digit s) text).1 (is_digits ∙ ap (digits 16 false) (sym same) ∙ sym text_is)
+
+-- ---- pairs of digits
+
+pub pairs-lower : (s : List ℕ) → pairs_of (map lower_digit s) ≡ pairs_of s
+unfolding pairs_of
+pairs-lower [] = refl
+pairs-lower (c ∷ []) = refl
+pairs-lower (high ∷ low ∷ s) =
+    ap (λ (v : ℕ). (v * 16 + value_of (lower_digit low)) ∷ pairs_of (map lower_digit s)) (value_of-lower high)
+    ∙ ap (λ (v : ℕ). (value_of high * 16 + v) ∷ pairs_of (map lower_digit s)) (value_of-lower low)
+    ∙ ap (λ (l : List ℕ). (value_of high * 16 + value_of low) ∷ l) (pairs-lower s)
+
+digit-value : (d : ℕ) → d < 16 → value_of (slice_index lower_digits d) ≡ d
+digit-value d below = ap value_of (glyph d below) ∙ glyph-value d below
+
+pub pairs-encode_lower : (bytes : List ℕ) → IsBytes bytes → pairs_of (encode_lower bytes) ≡ bytes
+unfolding pairs_of encode_with
+pairs-encode_lower [] fits = refl
+pairs-encode_lower (b ∷ bytes) fits =
+    let small : b < 256 = fits 0 in
+    let high = digit-value (b / 16) (omega arith) in
+    let low = digit-value (b % 16) (omega arith) in
+    let head : value_of (slice_index lower_digits (b / 16)) * 16 + value_of (slice_index lower_digits (b % 16)) ≡ b = omega (arith, high, low) in
+    ap (λ (v : ℕ). v ∷ pairs_of (encode_lower bytes)) head ∙ ap (λ (l : List ℕ). b ∷ l) (pairs-encode_lower bytes (λ i. fits (suc i)))
+
+-- a pair more
+pub pairs_go_on : (out new s : List ℕ) (i : ℕ) → i < length s / 2
+    → new ≡ out ++ (value_of (slice_index s (2 * i)) * 16 + value_of (slice_index s (2 * i + 1))) ∷ []
+    → new ++ pairs_of (drop (2 * (i + 1)) s) ≡ out ++ pairs_of (drop (2 * i) s)
+unfolding pairs_of
+pairs_go_on out new s i within is =
+    let first = drop-cons s (2 * i) 0 (omega arith) in
+    let second = drop-cons s (suc (2 * i)) 0 (omega arith) in
+    let at : slice_index s (2 * i + 1) ≡ slice_index s (suc (2 * i)) = ap (slice_index s) (omega arith) in
+    let rest : drop (2 * (i + 1)) s ≡ drop (suc (suc (2 * i))) s = ap (λ (n : ℕ). drop n s) {x = 2 * (i + 1)} {y = suc (suc (2 * i))} (omega arith) in
+    let byte = value_of (slice_index s (2 * i)) * 16 + value_of (slice_index s (suc (2 * i))) in
+    let new_is : new ≡ out ++ byte ∷ [] = is ∙ ap (λ (c : ℕ). out ++ (value_of (slice_index s (2 * i)) * 16 + value_of c) ∷ []) at in
+    let left : drop (2 * i) s ≡ slice_index s (2 * i) ∷ slice_index s (suc (2 * i)) ∷ drop (suc (suc (2 * i))) s = first ∙ ap (λ (l : List ℕ). slice_index s (2 * i) ∷ l) second in
+    ap (λ (l : List ℕ). l ++ pairs_of (drop (2 * (i + 1)) s)) new_is
+    ∙ ap (λ (l : List ℕ). (out ++ byte ∷ []) ++ pairs_of l) rest
+    ∙ append_assoc out (byte ∷ []) (pairs_of (drop (suc (suc (2 * i))) s))
+    ∙ ap (λ (l : List ℕ). out ++ pairs_of l) (sym left)
+
+pub pairs_end : (out s : List ℕ) (i : ℕ) → length s / 2 ≤ i → out ++ pairs_of (drop (2 * i) s) ≡ out
+unfolding pairs_of
+pairs_end out s i end = by (drop (2 * i) s) (omega (arith, length-drop (2 * i) s))
+  where
+    by : (l : List ℕ) → length l ≤ 1 → out ++ pairs_of l ≡ out
+    by [] few = append-nil out
+    by (c ∷ []) few = append-nil out
+    by (c ∷ d ∷ l) few = absurd (omega arith)
+
+-- the bytes of a text are found again
+pub bytes_again : (s out text bytes : List ℕ) → IsBytes bytes → out ≡ pairs_of s → text ≡ encode_lower out → map lower_digit s ≡ encode_lower bytes
+    → bytes_eq (map lower_digit s) text ≡ true
+bytes_again s out text bytes fits is text_is is_text =
+    let same : out ≡ bytes = is ∙ sym (pairs-lower s) ∙ ap pairs_of is_text ∙ pairs-encode_lower bytes fits in
+    (bytes_eq-Decides (map lower_digit s) text).1 (is_text ∙ ap encode_lower (sym same) ∙ sym text_is)

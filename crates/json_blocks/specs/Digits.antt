@@ -15,4 +15,4 @@ value_after n (c ∷ s) = value_after (n * 16 + value_of c) s
 unfoldable pub pairs_of : List ℕ → List ℕ
 pairs_of [] = []
 pairs_of (c ∷ []) = []
-pairs_of (high ∷ low ∷ s) = value_of high * 16 + value_of low ∷ pairs_of s
+pairs_of (high ∷ low ∷ s) = (value_of high * 16 + value_of low) ∷ pairs_of s

@@ -9,6 +9,7 @@ ghost use Rattle.json_blocks.specs.Digits.{value_of, value_after, pairs_of};
 
 use crate::leaves::{number_digits, put_digits};
 use crate::stop::JsonStop;
+use outside::NoMemory;
 use std::alloc::Global;
 
 /// The value of a digit. What is no digit has some value below 16.
@@ -79,16 +80,23 @@ pub(crate) fn number_of(digits: &[u8]) -> Option<u128>
 }
 
 /// The bytes of pairs of digits, whatever the digits are.
-fn pairs(alloc: Global, digits: &[u8]) -> Result<Vec<u8>, JsonStop>
-    ensures ok { IfOk result (λ bytes. bytes.items ≡ pairs_of digits.now) }
-    ensures memory { result ≡ Err JsonStop.Bad → ⊥ }
+fn pairs(alloc: Global, digits: &[u8]) -> Result<Vec<u8>, NoMemory>
+    ensures { IfOk result (λ bytes. bytes.items ≡ pairs_of digits.now) }
 {
     let mut bytes = Vec::with_capacity(alloc, digits.len() / 2)?;
     'pairs: for i in 0..digits.len() / 2 {
-        let byte = value(digits[2 * i]) * 16 + value(digits[2 * i + 1]);
-        bytes.push(byte)?;
+        bytes.push(value(digits[2 * i]) * 16 + value(digits[2 * i + 1]))?;
     }
     Ok(bytes)
+}
+
+/// The digits of bytes.
+fn text(alloc: Global, bytes: &[u8]) -> Result<Vec<u8>, NoMemory>
+    ensures { IfOk result (λ text. text.items ≡ encode_lower bytes.now) }
+{
+    let mut text = Vec::new(alloc);
+    put_digits(&mut text, bytes)?;
+    Ok(text)
 }
 
 /// The bytes of a text of two digits a byte.
@@ -96,9 +104,14 @@ pub(crate) fn bytes_of(alloc: Global, digits: &[u8]) -> Result<Vec<u8>, JsonStop
     ensures ok { IfOk result (λ bytes. map lower_digit digits.now ≡ encode_lower bytes.items) }
     ensures bad { result ≡ Err JsonStop.Bad → (bytes : List ℕ) → IsBytes bytes → map lower_digit digits.now ≡ encode_lower bytes → ⊥ }
 {
-    let bytes = pairs(alloc, digits)?;
-    let mut text = Vec::with_capacity(alloc, digits.len())?;
-    put_digits(&mut text, &bytes)?;
+    let bytes = match pairs(alloc, digits) {
+        Ok(bytes) => bytes,
+        Err(NoMemory) => return Err(JsonStop::NoMemory),
+    };
+    let text = match text(alloc, &bytes) {
+        Ok(text) => text,
+        Err(NoMemory) => return Err(JsonStop::NoMemory),
+    };
     if is_text_of(digits, &text) {
         Ok(bytes)
     } else {

@@ -12,8 +12,8 @@ mod leaves;
 mod objects;
 mod parts;
 mod read;
-mod reading;
 mod read_rows;
+mod reading;
 mod stop;
 mod write;
 

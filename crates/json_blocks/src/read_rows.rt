@@ -8,7 +8,9 @@ use serde_json::Value;
 use std::alloc::Global;
 
 const U32: u128 = 0xffff_ffff;
+
 const U64: u128 = 0xffff_ffff_ffff_ffff;
+
 const U128: u128 = u128::MAX;
 
 /// Puts a field behind the others, where the whole stays below 2^32 bytes.

@@ -1,8 +1,6 @@
 // The parts of a tree that is read: members by their keys, and the bytes of texts.
-ghost use Rattle.std.specs.Prelude.{◌≡◌, IfOk};
-
+use crate::digits;
 use crate::stop::JsonStop;
-use hex::FromHexError;
 use serde_json::Value;
 use std::alloc::Global;
 use std::collections::btree_map::Iter;
@@ -65,7 +63,7 @@ pub(crate) fn items(value: &Value) -> Result<&[Value], JsonStop> {
 }
 
 /// What stands behind the `0x` of a text.
-fn digits(value: &Value) -> Result<&[u8], JsonStop> {
+fn digits_in(value: &Value) -> Result<&[u8], JsonStop> {
     match value {
         Value::String(text) => match text.as_str().as_bytes() {
             [b'0', b'x', digits @ ..] => Ok(digits),
@@ -77,11 +75,7 @@ fn digits(value: &Value) -> Result<&[u8], JsonStop> {
 
 /// A byte string.
 pub(crate) fn bytes(alloc: Global, value: &Value) -> Result<Vec<u8>, JsonStop> {
-    match hex::decode(alloc, digits(value)?) {
-        Ok(bytes) => Ok(bytes),
-        Err(FromHexError::OutOfMemory) => Err(JsonStop::NoMemory),
-        Err(_) => Err(JsonStop::Bad),
-    }
+    digits::bytes_of(alloc, digits_in(value)?)
 }
 
 /// A byte string of this length.
@@ -96,27 +90,8 @@ pub(crate) fn bytes_of(alloc: Global, value: &Value, length: usize) -> Result<Ve
 
 /// A number up to `most`.
 pub(crate) fn number(value: &Value, most: u128) -> Result<u128, JsonStop> {
-    let digits = digits(value)?;
-    let canonical = match digits {
-        [] => false,
-        [b'0', _, ..] => false,
-        _ => digits.len() <= 32,
-    };
-    if !canonical {
-        return Err(JsonStop::Bad);
-    }
-    let mut n: u128 = 0;
-    'digits: for digit in digits {
-        n = n * 16 + u128::from(digit_value(*digit)?);
-    }
-    if n <= most { Ok(n) } else { Err(JsonStop::Bad) }
-}
-
-fn digit_value(digit: u8) -> Result<u8, JsonStop> {
-    match digit {
-        b'0'..=b'9' => Ok(digit - b'0'),
-        b'a'..=b'f' => Ok(digit - b'a' + 10),
-        b'A'..=b'F' => Ok(digit - b'A' + 10),
+    match digits::number_of(digits_in(value)?) {
+        Some(n) if n <= most => Ok(n),
         _ => Err(JsonStop::Bad),
     }
 }

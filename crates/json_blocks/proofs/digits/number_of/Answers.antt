@@ -23,5 +23,5 @@ returns-else-is_text_of-clause-only c =
     let text = c.number_digits-start.new.text in
     let all = take_all (64 - start) (drop start text) (omega (arith, length-drop start text, c.number_digits-start.array_long)) in
     λ n fits is.
-      let again = found_again c.args.digits.now _ c.sum-n.result n fits c.sum-n.ensures (all ∙ c.number_digits-start.ensures.value) is in
-      absurd (false≢true (sym c.if-is_text_of.false ∙ c.is_text_of.ensures ∙ again))
+    let again = found_again c.args.digits.now _ c.sum-n.result n fits c.sum-n.ensures (all ∙ c.number_digits-start.ensures.value) is in
+    absurd (false≢true (sym c.if-is_text_of.false ∙ c.is_text_of.ensures ∙ again))
