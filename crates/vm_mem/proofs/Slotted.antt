@@ -1,5 +1,7 @@
 -- Slots that are right for a memory, and stay right.
 use Rattle.std.proofs.Common.{◌≡◌, ◌⊎◌, inl, inr, ℕ, ◌==◌, Bool, true, false, if◌then◌else◌, ◌%◌, ◌^◌, ◌<◌, List, length, set, replicate, get_or, Option, Some, None, Result, Ok, Err, refl, sym, ap, ◌∙◌, subst, arith, length-set, OnOk, OnErr, IfSome}
+use Rattle.std.specs.Int.Bits.{bit_and}
+use Rattle.std.proofs.lemmas.Nat.{and_mod}
 use Rattle.std.proofs.lemmas.Bool.{cases_eq}
 use Rattle.std.proofs.lemmas.List.{get_or-replicate, get_or-set_other, get_or-set_same, length-replicate}
 use Rattle.isa_defs.specs.declared.ins.Ins.{Ins}
@@ -19,44 +21,63 @@ use Rattle.vm_mem.specs.declared.stop.MemStop.{MemStop}
 use Rattle.vm_mem.specs.declared.stop.MemStop.TheVariants.{Fault, NoMemory}
 use Rattle.vm_mem.specs.Paged.{PagedMemory, Stores}
 use Rattle.vm_mem.specs.Kept.{instruction_of}
-use Rattle.vm_mem.specs.Slots.{slot_count, slot_of, AreEmpty, Holds, Holding, IsKept}
+use Rattle.vm_mem.specs.Slots.{last_mask, slot_of, AreEmpty, Holds, Holding, IsKept}
 
 -- ---- a new memory
 
-pub empty-holding : (memory : Memory) (slots : List Slot) → memory ≡ new_memory → AreEmpty slots → Holding memory slots
-empty-holding memory slots new empty = record {
-  whole = rw new new-whole;
+pub empty-whole : (memory : Memory) → memory ≡ new_memory → IsWhole memory
+empty-whole memory new = rw new new-whole
+
+pub empty-holding : (memory : Memory) (mask : ℕ) (slots : List Slot) → IsWhole memory → mask % 2 ≡ 1 → mask ≤ last_mask
+    → AreEmpty mask slots → Holding memory mask slots
+empty-holding memory mask slots whole odd bound empty = record {
+  whole = whole;
+  odd = odd;
+  bound = bound;
   held = record { count = empty.count; each = λ i other below same. absurd (empty.each i other below same) };
 }
 
+-- the first even address falls to the first slot, and the next one to another
+falls-first : (mask : ℕ) → slot_of mask 0 ≡ 0
+falls-first mask = refl
+
+falls-behind : (mask : ℕ) → mask % 2 ≡ 1 → slot_of mask 2 ≢ 0
+falls-behind mask odd falls =
+    let low : bit_and 1 mask % 2 ^ 1 ≡ bit_and (1 % 2 ^ 1) (mask % 2 ^ 1) = and_mod 1 mask 1 in
+    let one : mask % 2 ^ 1 ≡ 1 = odd in
+    let bit : bit_and 1 mask % 2 ^ 1 ≡ 1 = low ∙ ap (bit_and 1) one in
+    absurd (omega (arith, bit, falls))
+
 -- all the same, and the one that they all fall to is another
-pub are-empty : (slots : List Slot) (empty first : Slot) → slots ≡ set (replicate slot_count empty) 0 first → empty.at ≡ 0 → first.at ≡ 2
-    → AreEmpty slots
-are-empty slots empty first is at-0 at-2 =
-    let size : length (replicate slot_count empty) ≡ slot_count = length-replicate slot_count empty in
+pub are-empty : (slots : List Slot) (mask : ℕ) (empty first : Slot) → slots ≡ set (replicate (mask + 1) empty) 0 first → empty.at ≡ 0
+    → first.at ≡ 2 → mask % 2 ≡ 1 → AreEmpty mask slots
+are-empty slots mask empty first is at-0 at-2 odd =
+    let size : length (replicate (mask + 1) empty) ≡ mask + 1 = length-replicate (mask + 1) empty in
     record {
-      count = ap length is ∙ length-set (replicate slot_count empty) 0 first ∙ size;
+      count = ap length is ∙ length-set (replicate (mask + 1) empty) 0 first ∙ size;
       each = λ i other below. elim (cases_eq i 0) [
         | inl same ↦
             let at : get_or slots i other ≡ first =
-            ap (λ xs. get_or xs i other) is ∙ ap (λ n. get_or (set (replicate slot_count empty) 0 first) n other) same
-            ∙ get_or-set_same (replicate slot_count empty) 0 first other (rw size (omega arith)) in
-            λ falls. absurd (omega (arith, ap slot_of (ap (λ (s : Slot). s.at) at ∙ at-2), falls, same))
+            ap (λ xs. get_or xs i other) is ∙ ap (λ n. get_or (set (replicate (mask + 1) empty) 0 first) n other) same
+            ∙ get_or-set_same (replicate (mask + 1) empty) 0 first other (rw size (omega arith)) in
+            λ falls. falls-behind mask odd (sym (ap (slot_of mask) (ap (λ (s : Slot). s.at) at ∙ at-2)) ∙ falls ∙ same)
         | inr apart ↦
             let at : get_or slots i other ≡ empty =
             ap (λ xs. get_or xs i other) is
-            ∙ get_or-set_other (replicate slot_count empty) 0 i first other apart
-            ∙ get_or-replicate slot_count i empty other below in
-            λ falls. absurd (apart (sym falls ∙ ap slot_of (ap (λ (s : Slot). s.at) at ∙ at-0)))
+            ∙ get_or-set_other (replicate (mask + 1) empty) 0 i first other apart
+            ∙ get_or-replicate (mask + 1) i empty other (omega (arith, below)) in
+            λ falls. apart (sym falls ∙ ap (slot_of mask) (ap (λ (s : Slot). s.at) at ∙ at-0) ∙ falls-first mask)
       ];
     }
 
 -- ---- a memory that changed
 
-pub kept : (old new : Memory) (slots : List Slot) → IsWhole new → ((at word : ℕ) → fetch old at ≡ Ok word → fetch new at ≡ Ok word)
-    → Holding old slots → Holding new slots
-kept old new slots whole keeps holding = record {
+pub kept : (old new : Memory) (mask : ℕ) (slots : List Slot) → IsWhole new → ((at word : ℕ) → fetch old at ≡ Ok word → fetch new at ≡ Ok word)
+    → Holding old mask slots → Holding new mask slots
+kept old new mask slots whole keeps holding = record {
   whole = whole;
+  odd = holding.odd;
+  bound = holding.bound;
   held = record {
     count = holding.held.count;
     each = λ i other below falls.
@@ -70,36 +91,36 @@ kept old new slots whole keeps holding = record {
   };
 }
 
-stored : (old new : Memory) (at : ℕ) (bytes : List ℕ) (slots : List Slot) → store old at bytes ≡ Ok new → Holding old slots → Holding new slots
-stored old new at bytes slots is holding =
-    kept old new slots (store-whole old new at bytes holding.whole is)
+stored : (old new : Memory) (at : ℕ) (bytes : List ℕ) (mask : ℕ) (slots : List Slot) → store old at bytes ≡ Ok new → Holding old mask slots → Holding new mask slots
+stored old new at bytes mask slots is holding =
+    kept old new mask slots (store-whole old new at bytes holding.whole is)
     (λ place word fetched. store-keeps-code old new place word at bytes holding.whole fetched is) holding
 
-after-store : (expected : Result Memory MemFault) (old new : Memory) (at : ℕ) (bytes : List ℕ) (slots : List Slot) (result : Result (Unit {0}) MemStop)
-    → store old at bytes ≡ expected → Stores expected old new result → Holding old slots → Holding new slots
-after-store (Ok changed) old new at bytes slots (Ok done) is stores holding = stored old new at bytes slots (is ∙ ap Ok (sym stores)) holding
-after-store (Ok changed) old new at bytes slots (Err NoMemory) is stores holding = rw stores holding
-after-store (Ok changed) old new at bytes slots (Err (Fault fault)) is stores holding = absurd stores
-after-store (Err expected) old new at bytes slots (Ok done) is stores holding = absurd stores
-after-store (Err expected) old new at bytes slots (Err NoMemory) is stores holding = absurd stores
-after-store (Err expected) old new at bytes slots (Err (Fault fault)) is stores holding = rw stores.1 holding
+after-store : (expected : Result Memory MemFault) (old new : Memory) (at : ℕ) (bytes : List ℕ) (mask : ℕ) (slots : List Slot) (result : Result (Unit {0}) MemStop)
+    → store old at bytes ≡ expected → Stores expected old new result → Holding old mask slots → Holding new mask slots
+after-store (Ok changed) old new at bytes mask slots (Ok done) is stores holding = stored old new at bytes mask slots (is ∙ ap Ok (sym stores)) holding
+after-store (Ok changed) old new at bytes mask slots (Err NoMemory) is stores holding = rw stores holding
+after-store (Ok changed) old new at bytes mask slots (Err (Fault fault)) is stores holding = absurd stores
+after-store (Err expected) old new at bytes mask slots (Ok done) is stores holding = absurd stores
+after-store (Err expected) old new at bytes mask slots (Err NoMemory) is stores holding = absurd stores
+after-store (Err expected) old new at bytes mask slots (Err (Fault fault)) is stores holding = rw stores.1 holding
 
-pub stores-holding : (old new : Memory) (at : ℕ) (bytes : List ℕ) (slots : List Slot) (result : Result (Unit {0}) MemStop)
-    → Stores (store old at bytes) old new result → Holding old slots → Holding new slots
-stores-holding old new at bytes slots result stores holding = after-store (store old at bytes) old new at bytes slots result refl stores holding
+pub stores-holding : (old new : Memory) (at : ℕ) (bytes : List ℕ) (mask : ℕ) (slots : List Slot) (result : Result (Unit {0}) MemStop)
+    → Stores (store old at bytes) old new result → Holding old mask slots → Holding new mask slots
+stores-holding old new at bytes mask slots result stores holding = after-store (store old at bytes) old new at bytes mask slots result refl stores holding
 
-pub changed-holding : (expected : Result Memory MemFault) (old new : PagedMemory) (slots : List Slot) (result : Result (Unit {0}) MemFault)
+pub changed-holding : (expected : Result Memory MemFault) (old new : PagedMemory) (mask : ℕ) (slots : List Slot) (result : Result (Unit {0}) MemFault)
     → OnOk result (Ok new.memory ≡ expected) → OnErr result (new ≡ old)
-    → (expected ≡ Ok new.memory → Holding old.memory slots → Holding new.memory slots) → Holding old.memory slots → Holding new.memory slots
-changed-holding expected old new slots (Ok done) changed same keeps holding = keeps (sym changed) holding
-changed-holding expected old new slots (Err fault) changed same keeps holding = rw same holding
+    → (expected ≡ Ok new.memory → Holding old.memory mask slots → Holding new.memory mask slots) → Holding old.memory mask slots → Holding new.memory mask slots
+changed-holding expected old new mask slots (Ok done) changed same keeps holding = keeps (sym changed) holding
+changed-holding expected old new mask slots (Err fault) changed same keeps holding = rw same holding
 
-pub clear-holding : (old new : Memory) (at : ℕ) (bytes : List ℕ) (slots : List Slot) → store old at bytes ≡ Ok new → Holding old slots → Holding new slots
+pub clear-holding : (old new : Memory) (at : ℕ) (bytes : List ℕ) (mask : ℕ) (slots : List Slot) → store old at bytes ≡ Ok new → Holding old mask slots → Holding new mask slots
 clear-holding = stored
 
-pub set_code-holding : (old new : Memory) (at pages : ℕ) (slots : List Slot) → set_code old at pages ≡ Ok new → Holding old slots → Holding new slots
-set_code-holding old new at pages slots is holding =
-    kept old new slots (set_code-whole old new at pages holding.whole is)
+pub set_code-holding : (old new : Memory) (at pages : ℕ) (mask : ℕ) (slots : List Slot) → set_code old at pages ≡ Ok new → Holding old mask slots → Holding new mask slots
+set_code-holding old new at pages mask slots is holding =
+    kept old new mask slots (set_code-whole old new at pages holding.whole is)
     (λ place word fetched. set_code-keeps-code old new place word at pages holding.whole fetched is) holding
 
 -- ---- what is decoded
@@ -121,10 +142,12 @@ unfolding memory_size
 cast-fits memory at word fetched is done = let inside = fetch-inside memory at word (sym is ∙ done) in omega (arith, inside)
 
 -- a slot that is filled with what is at its address
-pub filled : (memory : Memory) (slots : List Slot) (i : ℕ) (slot : Slot) → Holding memory slots → IsKept memory slot
-    → Holding memory (set slots i slot)
-filled memory slots i slot holding is-kept = record {
+pub filled : (memory : Memory) (mask : ℕ) (slots : List Slot) (i : ℕ) (slot : Slot) → Holding memory mask slots → IsKept memory slot
+    → Holding memory mask (set slots i slot)
+filled memory mask slots i slot holding is-kept = record {
   whole = holding.whole;
+  odd = holding.odd;
+  bound = holding.bound;
   held = record {
     count = length-set slots i slot ∙ holding.held.count;
     each = λ k other below. elim (cases_eq k i) [
@@ -140,11 +163,11 @@ filled memory slots i slot holding is-kept = record {
 
 -- ---- what a slot holds
 
-pub slot-holds : (memory : Memory) (slots : List Slot) (at i : ℕ) (slot : Slot) → Holding memory slots → i ≡ slot_of at → i < slot_count
+pub slot-holds : (memory : Memory) (mask : ℕ) (slots : List Slot) (at i : ℕ) (slot : Slot) → Holding memory mask slots → i ≡ slot_of mask at → i ≤ mask
     → slot ≡ get_or slots i slot → slot.at ≡ at → IsKept memory slot
-slot-holds memory slots at i slot holding i-is below is same =
-    let there : Holds memory i slot = subst (Holds memory i) (sym is) (holding.held.each i slot below) in
-    there (ap slot_of same ∙ sym i-is)
+slot-holds memory mask slots at i slot holding i-is below is same =
+    let there : Holds memory mask i slot = subst (Holds memory mask i) (sym is) (holding.held.each i slot below) in
+    there (ap (slot_of mask) same ∙ sym i-is)
 
 decoded-registers : (word : Result ℕ MemFault) (found : Ins × ℕ) → decoded word ≡ Ok (Some found) → HasRegisters found.0
 decoded-registers (Ok word) found is =

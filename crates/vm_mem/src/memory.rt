@@ -9,7 +9,7 @@ ghost use Rattle.vm_mem.specs.Slots.{IsKept};
 
 use super::kept::kept_form;
 use super::paged::Paged;
-use super::slot::{Slot, empty_slots, slot_of};
+use super::slot::{FIRST_MASK, LAST_MASK, Slot, empty_slots, slot_of};
 use super::stop::MemStop;
 use outside::NoMemory;
 use rv_decode::{Ins, decode};
@@ -22,8 +22,12 @@ use vm_defs::{MemFault, Width};
 /// An instruction is decoded once for some time: code is never written again. What was decoded is not seen.
 #[derive(Drop)]
 pub struct Memory {
+    alloc: Global,
     paged: Paged,
     slots: Vec<Slot>,
+    mask: usize,
+    // How many instructions may still miss the table before it grows.
+    misses_left: usize,
 }
 
 impl Model for Memory {
@@ -34,7 +38,7 @@ impl Model for Memory {
 
     ghost view = { λ m. m.paged };
 
-    ghost invariant = { λ m. Holding m.paged.memory m.slots.items };
+    ghost invariant = { λ m. Holding m.paged.memory m.mask m.slots.items };
 }
 
 impl Memory {
@@ -44,8 +48,14 @@ impl Memory {
         ensures allocated { IfOk result (λ memory. memory.allocated ≡ replicate page_count false) }
     {
         let paged = Paged::new(alloc)?;
-        let slots = empty_slots(alloc)?;
-        Ok(Memory { paged, slots })
+        let slots = empty_slots(alloc, FIRST_MASK)?;
+        Ok(Memory {
+            alloc,
+            paged,
+            slots,
+            mask: FIRST_MASK,
+            misses_left: FIRST_MASK,
+        })
     }
 
     /// The number at an address, of the lowest byte first. A page of code may be read.
@@ -119,7 +129,9 @@ impl Memory {
             None => return Ok(None),
         };
         if at % 2 == 0 {
-            self.slots[slot_of(at)] = Slot {
+            self.count_miss();
+            let i = slot_of(self.mask, at);
+            self.slots[i] = Slot {
                 at: at as u32,
                 length,
                 kept: kept_form(ins),
@@ -133,7 +145,7 @@ impl Memory {
     pub fn slot(&self, at: u64) -> Slot
         ensures { result.at ≡ at → IsKept self.now.memory result }
     {
-        self.slots[slot_of(at)]
+        self.slots[slot_of(self.mask, at)]
     }
 
     /// Makes whole pages code that are data.
@@ -146,5 +158,28 @@ impl Memory {
         ensures allocated { self.new.allocated ≡ self.old.allocated }
     {
         self.paged.set_code(at, pages)
+    }
+
+    // A table that was missed as often as it has slots is too small for the program: one of eight times as many, which begins
+    // empty, takes its place. Where there is no memory for it, the smaller one stays.
+    fn count_miss(&mut self)
+        ensures { self.new ≡ self.old }
+    {
+        if self.misses_left > 0 {
+            self.misses_left -= 1;
+            return;
+        }
+        if self.mask > LAST_MASK / 8 {
+            return;
+        }
+        let mask = 8 * self.mask + 7;
+        self.misses_left = mask;
+        match empty_slots(self.alloc, mask) {
+            Ok(slots) => {
+                self.slots = slots;
+                self.mask = mask;
+            }
+            Err(NoMemory) => {}
+        }
     }
 }
