@@ -1,10 +1,10 @@
 -- The rules on a block's cellbase, J16 and J17 (RFC 0022, "Cellbase Transaction"; docs/RULES.md, "The cellbase").
 use Rattle.std.specs.Prelude.{ℕ, Bool, false, ◌&&◌, ◌==◌, not, nat_le, List, [], ◌∷◌, map, length, replicate, Option, is_some, slice_get}
-use Rattle.std.specs.Option.{option_and_then}
+use Rattle.std.specs.Option.{option_map, option_and_then}
 use Rattle.std.specs.List.{list_all, list_any}
 use Rattle.std.specs.Str.{bytes_eq}
 use Rattle.codec_defs.specs.Shape.{decoded}
-use Rattle.codec_defs.specs.Schema.{OutPoint, CellInput, Transaction, Block, cellbase_witness}
+use Rattle.codec_defs.specs.Schema.{OutPoint, Script, CellInput, Transaction, Block, cellbase_witness}
 use Rattle.chain_defs.specs.Hashes.{transaction_hash, are_distinct}
 use Rattle.cell_defs.specs.Cell.{Cell, pairs_data}
 use Rattle.cell_defs.specs.Events.{made_out_points}
@@ -44,9 +44,12 @@ has_plain_output t =
     nat_le (length t.raw.outputs) 1 && pairs_data t
     && list_all (λ output. not (is_some output.type_script)) t.raw.outputs && list_all (λ content. length content == 0) t.raw.outputs_data
 
--- its first witness is a canonical `CellbaseWitness`
+-- The lock in its first witness, which is a canonical `CellbaseWitness`: what a later cellbase pays for its block goes there.
+abbrev pub lock_named : Transaction → Option Script
+lock_named t = option_map (λ witness. witness.lock) (option_and_then (decoded cellbase_witness) (slice_get t.witnesses 0))
+
 abbrev pub names_lock : Transaction → Bool
-names_lock t = is_some (option_and_then (decoded cellbase_witness) (slice_get t.witnesses 0))
+names_lock t = is_some (lock_named t)
 
 -- Version 0, no deps; the since of its input is the block's number; at most one output, whose out-point is not live; a witness that names a lock.
 abbrev pub is_well_formed_cellbase : (OutPoint → Option Cell) → ℕ → Transaction → Bool

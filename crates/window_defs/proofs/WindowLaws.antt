@@ -1,6 +1,6 @@
 -- The first of some heights that passes a test, and the law of the proposal window.
 use Rattle.std.proofs.Common.{◌≡◌, ℕ, zero, suc, ◌+◌, ◌-◌, ◌<◌, ◌≤◌, Bool, true, false, cond, List, [], Some, None, refl, sym, ap, ◌∙◌, inl, inr, ◌⊎◌, arith}
-use Rattle.std.specs.Prelude.{◌∷◌, ◌++◌, ◌||◌, nat_lt, is_some, slice_get, if◌then◌else◌}
+use Rattle.std.specs.Prelude.{◌∷◌, ◌++◌, ◌||◌, length, nat_lt, is_some, slice_get, if◌then◌else◌}
 use Rattle.std.specs.List.{find, range_with_len, list_any, flat_map}
 use Rattle.std.specs.Str.{bytes_eq}
 use Rattle.std.proofs.lemmas.List.{append-nil, append_assoc}
@@ -9,7 +9,8 @@ use Rattle.std.proofs.lemmas.Bool.Decides.{nat_tests}
 use Rattle.std.proofs.lemmas.Option.{same_Some}
 use Rattle.codec_defs.specs.Schema.{UncleBlock, Block}
 use Rattle.time_defs.specs.Specification.{Specification}
-use Rattle.window_defs.specs.Window.{proposes_at, window, earliest, proposed_ids, proposes, with_uncle, IsEarliest, EarliestIsEarliest, UnclesOnlyAdd}
+use Rattle.chain_defs.proofs.KeptLaws.{slice_get-before}
+use Rattle.window_defs.specs.Window.{proposes_at, window, earliest, proposed_ids, proposes, with_uncle, IsEarliest, EarliestIsEarliest, UnclesOnlyAdd, EarliestStays}
 
 -- ---- The first of a range
 
@@ -187,3 +188,27 @@ pub uncles-only-add : UnclesOnlyAdd
 unfolding earliest
 uncles-only-add spec before later b uncle id height is =
     find-more (proposes_at (before ++ b ∷ later) id) (proposes_at (before ++ with_uncle b uncle ∷ later) id) (at-more before later b uncle id) (window spec height) is
+
+-- ---- A longer branch
+
+-- tests that agree on a range have the same first there
+pub find-agree : (one other : ℕ → Bool) (low count : ℕ) → ((n : ℕ) → low ≤ n → n < low + count → one n ≡ other n)
+    → find one (range_with_len low count) ≡ find other (range_with_len low count)
+find-agree one other low zero agree = refl
+find-agree one other low (suc count) agree =
+    (λ i. cond (agree low (omega arith) (omega arith) i) (Some low)
+    (find-agree one other (low + 1) count (λ n from below. agree n (omega (arith, from)) (omega (arith, below))) i))
+
+proposes-longer : (branch more : List Block) (id : List ℕ) (height : ℕ) → height < length branch
+    → proposes_at (branch ++ more) id height ≡ proposes_at branch id height
+unfolding proposes_at
+proposes-longer branch more id height within = ap (proposes id) (slice_get-before branch more height within)
+
+pub earliest-stays : EarliestStays
+earliest-stays spec branch more id height close stands =
+    let low : ℕ = height - spec.w_far in
+    let end : ℕ = height + 1 - spec.w_close in
+    earliest-range spec (branch ++ more) id height low end refl refl
+    ∙ find-agree (proposes_at (branch ++ more) id) (proposes_at branch id) low (end - low)
+    (λ n from below. proposes-longer branch more id n (omega (arith, below, from, close, stands)))
+    ∙ sym (earliest-range spec branch id height low end refl refl)

@@ -1,6 +1,6 @@
--- The proposal window (RFC 0020, "Two-Step Transaction Confirmation"; docs/RULES.md, "A block"): a transaction is committed in a block some
--- blocks behind one that proposes its id.
-use Rattle.std.specs.Prelude.{◌≡◌, ◌↔◌, ℕ, ◌+◌, ◌-◌, ◌<◌, ◌≤◌, nat_lt, Bool, false, IsTrue, List, [], ◌∷◌, ◌++◌, Option, Some, None, is_some, if◌then◌else◌}
+-- The proposal window (RFC 0020, "Two-Step Transaction Confirmation"; docs/RULES.md, "A block" and "The reward"): a transaction is committed in a
+-- block some blocks after one that proposes its id.
+use Rattle.std.specs.Prelude.{◌≡◌, ◌↔◌, ℕ, ◌+◌, ◌-◌, ◌<◌, ◌≤◌, nat_lt, Bool, false, IsTrue, List, [], ◌∷◌, ◌++◌, length, Option, Some, None, is_some, if◌then◌else◌}
 use Rattle.std.specs.List.{list_any, flat_map, find, range_with_len}
 use Rattle.std.specs.Str.{bytes_eq}
 use Rattle.codec_defs.specs.Schema.{UncleBlock, Block}
@@ -50,3 +50,8 @@ abbrev pub UnclesOnlyAdd : Type 0
 UnclesOnlyAdd = (spec : Specification) (before later : List Block) (b : Block) (uncle : UncleBlock) (id : List ℕ) (height : ℕ)
     → IsTrue (is_some (earliest spec (before ++ b ∷ later) id height))
     → IsTrue (is_some (earliest spec (before ++ with_uncle b uncle ∷ later) id height))
+
+-- Law: what is committed at a height has the same earliest proposer on every longer branch, once all blocks before that height stand.
+abbrev pub EarliestStays : Type 0
+EarliestStays = (spec : Specification) (branch more : List Block) (id : List ℕ) (height : ℕ) → 1 ≤ spec.w_close → height ≤ length branch
+    → earliest spec (branch ++ more) id height ≡ earliest spec branch id height

@@ -1,0 +1,3 @@
+pub mod FeeLaws
+pub mod PartLaws
+pub mod DaoLaws
