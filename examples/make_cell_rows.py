@@ -14,11 +14,13 @@ A row is `cell`, a word and its columns, with a tab between two, bytes in hex an
     row of            block, transaction, a CellOutput, its data: the fields of its row
     ext               bytes: the bytes again where they are an ext, else `none`
     fees              an ext: its fees, each with a comma behind it
+    fee in            a place, an ext: the fee of the transaction there, else `none`
     row in            a place, an ext: the out-point and the fields of the row there
     block             a Block, its ext: they are kept, one behind the other
     fetch             block, transaction, index: the CellOutput and its data, `damaged`
                       where there is none, `none` where no such block is kept
     spent             block: its ext
+    ids               block: the proposal ids of its transactions after the first
 
 The layouts are those of docs/FORMATS.md and docs/STORE.md, the hashes Python's
 own Blake2b; nothing is taken from the program.
@@ -120,6 +122,11 @@ def on_exts():
         assert all(len(row) == 161 for row in rows)
         emit('ext', it, it)
     emit('fees', full, '0,1000,18446744073709551615,')
+    # A fee for each transaction after the first, which stands at place 0.
+    for place, fee in enumerate(fees, 1):
+        emit('fee in', place, full, fee)
+    for place, it in [(4, full), (2 ** 32 - 1, full), (1, ext([], rows)), (2, ext([7], []))]:
+        emit('fee in', place, it, 'none')
     for place, fields in enumerate([typed, plain, zero]):
         emit('row in', place, full, f'{points[place][0].hex()},{points[place][1]},{row_text(*fields)}')
     # No ext: too short at each of its parts, too long, and counts that are not those of what follows.
@@ -148,7 +155,9 @@ def on_kept():
     # The genesis: two outputs of its one transaction, the second without data. Its ext is never looked at.
     genesis = block(0, [transaction([first, second], [b'some data', b''])[1]])
     # One block more: a cellbase without outputs, and a transaction with fewer data than outputs.
-    later = block(1, [transaction([], [])[1], transaction([second, first], [b'\x01\x02'])[1]])
+    cellbase = transaction([], [])[1]
+    raw, spending = transaction([second, first], [b'\x01\x02'])
+    later = block(1, [cellbase, spending])
     spent = ext([1234], [row_bytes((ckbhash(b'a'), 1), 0, 0, 5, 4, b'\x11' * 32, b'', b'\x22' * 32, 3)])
     emit('fetch', 0, 0, 0, 'none')
     emit('block', genesis, b'no ext')
@@ -163,6 +172,12 @@ def on_kept():
         emit('fetch', block_at, tx, index, 'damaged')
     emit('fetch', 2, 0, 0, 'none')
     emit('spent', 1, spent)
+    # The first ten bytes of the hashes without witnesses; the genesis has its one transaction alone.
+    proposed = [transaction([second], [b''], (b'witness',), version=1), transaction([first], [b'abc'])]
+    emit('block', block(2, [cellbase] + [whole for _, whole in proposed]), ext([5, 6], []))
+    emit('ids', 0, b'')
+    emit('ids', 1, ckbhash(raw)[:10])
+    emit('ids', 2, b''.join(ckbhash(it)[:10] for it, _ in proposed))
 
 
 if __name__ == '__main__':

@@ -1,13 +1,13 @@
 -- The fees and the rows of an ext, one behind the other.
-use Rattle.std.proofs.Common.{◌≡◌, ℕ, zero, suc, ◌+◌, ◌-◌, ◌*◌, ◌<◌, ◌≤◌, Bool, true, false, List, [], ◌∷◌, ◌++◌, length, map, take, drop, get_or, refl, sym, ap, ◌∙◌, append_assoc, ◌^◌, arith, add-one, eqb}
-use Rattle.std.specs.Prelude.{◌&&◌}
+use Rattle.std.proofs.Common.{◌≡◌, ℕ, zero, suc, ◌+◌, ◌-◌, ◌*◌, ◌<◌, ◌≤◌, Bool, true, false, List, [], ◌∷◌, ◌++◌, length, map, take, drop, get_or, Some, None, refl, sym, ap, ◌∙◌, append_assoc, ◌^◌, arith, add-one, eqb}
+use Rattle.std.specs.Prelude.{◌&&◌, nat_le, if◌then◌else◌}
 use Rattle.std.specs.List.{slice_range, concat}
 use Rattle.std.specs.Int.{w32, w64, to_le_bytes, from_le_bytes}
 use Rattle.std.proofs.Math.Seq.{take-add}
-use Rattle.std.proofs.lemmas.Bool.{and_parts, and_from, and_left, ne_eqb, eq-eqb}
+use Rattle.std.proofs.lemmas.Bool.{and_parts, and_from, and_left, eqb-true, ne_eqb, eq-eqb, le-leb}
 use Rattle.std.proofs.lemmas.Nat.{from_le_bytes-to_le_bytes_4}
 use Rattle.std.proofs.lemmas.List.{append-nil, map_push, take_more, drop-drop, take-append-le, drop-append-le, take_all, take_at, drop_at, nil_from_length, length-append, length-drop}
-use Rattle.cell_defs.specs.Ext.{Ext, row_bytes, ext_bytes, count_at, row_size, is_row, are_rows, is_ext}
+use Rattle.cell_defs.specs.Ext.{Ext, row_bytes, ext_bytes, count_at, row_size, is_row, are_rows, is_ext, fee_of}
 use Rattle.cell_model.proofs.RowLemmas.{next, whole}
 
 -- ---- Pieces
@@ -168,3 +168,27 @@ written_form ext few_fees few_rows size are =
     (length-fees ext.fees)
     size
     are
+
+-- ---- A fee stands within its ext
+
+pub fees-within : (ext : List ℕ) (transaction : ℕ) → is_ext ext ≡ true → transaction ≤ count_at ext 0 → 8 * transaction + 4 ≤ length ext
+unfolding is_ext row_size
+fees-within ext transaction form paying =
+    let rows : ℕ = count_at ext (4 + 8 * count_at ext 0) in
+    let both = and_parts _ _ form in
+    let long : length ext ≡ 4 + 8 * count_at ext 0 + 4 + 161 * rows = eqb-true _ _ both.0 in
+    omega (arith, long, paying)
+
+fee_here : (ext : List ℕ) (transaction value : ℕ) → 1 ≤ transaction
+    → value ≡ from_le_bytes w64 (slice_range ext (8 * transaction - 4) (8 * transaction - 4 + 8)) → value ≡ fee_of ext transaction
+unfolding fee_of
+fee_here ext transaction value paying is =
+    let end : 8 * transaction - 4 + 8 ≡ 8 * transaction + 4 = omega (arith, paying) in
+    is ∙ ap (λ (n : ℕ). from_le_bytes w64 (slice_range ext (8 * transaction - 4) n)) end
+
+pub fee-found : (ext : List ℕ) (transaction value : ℕ) → 1 ≤ transaction → transaction ≤ count_at ext 0
+    → value ≡ from_le_bytes w64 (slice_range ext (8 * transaction - 4) (8 * transaction - 4 + 8))
+    → Some value ≡ (if nat_le transaction (count_at ext 0) then Some (fee_of ext transaction) else None)
+fee-found ext transaction value paying within is =
+    ap (λ (fee : ℕ). Some fee) (fee_here ext transaction value paying is)
+    ∙ sym (ap (λ (b : Bool). if b then Some (fee_of ext transaction) else None) (le-leb transaction (count_at ext 0) within))

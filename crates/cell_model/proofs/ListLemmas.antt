@@ -1,18 +1,17 @@
 -- Kept blocks in two lists, as what they are seen as.
-use Rattle.std.proofs.Common.{◌≡◌, ℕ, zero, suc, ◌+◌, ◌-◌, ◌*◌, ◌^◌, ◌<◌, ◌≤◌, Bool, true, List, [], ◌∷◌, ◌++◌, length, map, get_or, Vec, Global, Option, Some, None, refl, sym, ap, subst, ⊎_elim, ◌∙◌, arith}
+use Rattle.std.proofs.Common.{◌≡◌, ℕ, zero, suc, ◌+◌, ◌^◌, ◌<◌, ◌≤◌, Bool, true, List, [], ◌∷◌, ◌++◌, length, map, drop, get_or, Vec, Global, Option, Some, None, refl, sym, ap, subst, ⊎_elim, ◌∙◌, append_assoc, append-nil, arith}
 use Rattle.std.specs.Prelude.{slice_get, if◌then◌else◌, IsSome, IfSome}
-use Rattle.std.specs.List.{All, slice_range}
-use Rattle.std.specs.Int.{w64, from_le_bytes}
-use Rattle.std.proofs.lemmas.Bool.{and_parts, eqb-true, lt-ltb, cases_lt}
-use Rattle.std.proofs.lemmas.List.{length-map, length_push, map_push, get_or-map, get_or_append_left, get_or_push}
+use Rattle.std.specs.List.{All}
+use Rattle.std.proofs.lemmas.Bool.{lt-ltb, cases_lt}
+use Rattle.std.proofs.lemmas.List.{length-map, length_push, map_push, get_or-map, get_or_append_left, get_or_push, drop_more, drop_all}
 use Rattle.std.proofs.lemmas.List.Elements.{All-push}
 use Rattle.codec_defs.specs.Shape.{decoded}
 use Rattle.codec_defs.specs.Schema.{Block, block}
 use Rattle.codec_defs.proofs.ShapeLaws.{IsA-decoded}
 use Rattle.codec_defs.proofs.RowLaws.{block-check}
 use Rattle.chain_tree.specs.Told.{Stored, blocks_of}
-use Rattle.cell_defs.specs.Ext.{count_at, row_size, is_ext, fee_of}
-use Rattle.cell_model.specs.ListBlocks.{ListBlocksValue, place_among, place_in_hand, contents, IsCanonical, IsExtFor, AreKept, stored_from}
+use Rattle.cell_defs.specs.Ext.{is_ext}
+use Rattle.cell_model.specs.ListBlocks.{ListBlocksValue, place_among, place_in_hand, contents, IsCanonical, IsExtFor, AreKept, stored_from, ids_of, all_ids, id_lists}
 
 -- ---- A canonical block is the one that is taken out of its bytes
 
@@ -90,22 +89,20 @@ kept-push blocks exts bytes ext kept few canonical later = record {
       (cases_lt place (length blocks));
 }
 
--- ---- A fee stands within its ext
+-- ---- A list that is gone through, with an image of each element
 
-pub fees-within : (ext : List ℕ) (transaction : ℕ) → is_ext ext ≡ true → transaction ≤ count_at ext 0 → 8 * transaction + 4 ≤ length ext
-unfolding is_ext row_size
-fees-within ext transaction form paying =
-    let rows : ℕ = count_at ext (4 + 8 * count_at ext 0) in
-    let both = and_parts _ _ form in
-    let long : length ext ≡ 4 + 8 * count_at ext 0 + 4 + 161 * rows = eqb-true _ _ both.0 in
-    omega (arith, long, paying)
+-- one image more
+pub one_image_more : {X Y : Type 0} (f : X → Y) (xs : List X) (i : ℕ) (x : X) (done more all : List Y) (y : Y) → i < length xs → get_or xs i x ≡ x
+    → y ≡ f x → done ++ map f (drop i xs) ≡ all → more ≡ done ++ y ∷ [] → more ++ map f (drop (i + 1) xs) ≡ all
+one_image_more f xs i x done more all y within here is so_far grown =
+    let rest = map f (drop (i + 1) xs) in
+    ap (λ l. l ++ rest) grown ∙ append_assoc done (y ∷ []) rest ∙ ap (λ z. done ++ z ∷ rest) is
+    ∙ ap (λ z. done ++ f z ∷ rest) (sym here) ∙ ap (λ l. done ++ map f l) (sym (drop_more xs i x within)) ∙ so_far
 
-pub fee_here : (bytes ext : List ℕ) (transaction value : ℕ) → bytes ≡ ext → 1 ≤ transaction
-    → value ≡ from_le_bytes w64 (slice_range bytes (8 * transaction - 4) (8 * transaction - 4 + 8)) → value ≡ fee_of ext transaction
-unfolding fee_of
-fee_here bytes ext transaction value same paying is =
-    let end : 8 * transaction - 4 + 8 ≡ 8 * transaction + 4 = omega (arith, paying) in
-    is ∙ (λ i. from_le_bytes w64 (slice_range (same i) (8 * transaction - 4) (end i)))
+-- all of them
+pub all_images : {X Y : Type 0} (f : X → Y) (xs : List X) (i : ℕ) (done all : List Y) → length xs ≤ i → done ++ map f (drop i xs) ≡ all → done ≡ all
+all_images f xs i done all past so_far =
+    sym (append-nil done) ∙ ap (λ l. done ++ map f l) (sym (drop_all i xs past)) ∙ so_far
 
 -- ---- By the vectors that hold the bytes
 
@@ -151,6 +148,37 @@ at_entry P stored place entry there holds = subst (λ (it : Option Stored). IfSo
 
 pub of_entry : (P : Stored → Type 0) (stored : List Stored) (place : ℕ) (entry : Stored) → slice_get stored place ≡ Some entry → IfSome (slice_get stored place) P → P entry
 of_entry P stored place entry there holds = subst (λ (it : Option Stored). IfSome it P) there holds
+
+as_many_ids : (blocks : List (Vec ℕ Global)) (ids : List (Vec (List ℕ) Global)) → id_lists ids ≡ all_ids blocks → length ids ≡ length blocks
+as_many_ids blocks ids are =
+    sym (length-map ids (λ (v : Vec (List ℕ) Global). v.items)) ∙ ap length are ∙ length-map blocks (λ (v : Vec ℕ Global). ids_of (block.decoding v.items))
+
+-- the ids beside the block at a place
+pub ids_at : (blocks : List (Vec ℕ Global)) (ids : List (Vec (List ℕ) Global)) (place : ℕ) (vector : Vec (List ℕ) Global) → id_lists ids ≡ all_ids blocks
+    → place < length blocks → vector ≡ get_or ids place vector → vector.items ≡ ids_of (block.decoding (get_or (contents blocks) place []))
+ids_at [] ids place vector are within is = absurd (omega (arith, within))
+ids_at (first ∷ later) ids place vector are within is =
+    let blocks : List (Vec ℕ Global) = first ∷ later in
+    let there : place < length ids = omega (arith, within, as_many_ids blocks ids are) in
+    ap (λ (v : Vec (List ℕ) Global). v.items) is ∙ sym (get_or-map (λ (v : Vec (List ℕ) Global). v.items) ids place vector [] there)
+    ∙ ap (λ (l : List (List (List ℕ))). get_or l place []) are ∙ get_or-map (λ (v : Vec ℕ Global). ids_of (block.decoding v.items)) blocks place first [] within
+    ∙ ap (λ (b : List ℕ). ids_of (block.decoding b)) (sym (get_or-map (λ (v : Vec ℕ Global). v.items) blocks place first [] within))
+
+-- the block that one of several vectors encodes
+pub decoded_in : (blocks : List (Vec ℕ Global)) (place : ℕ) (vector : Vec ℕ Global) (bytes : List ℕ) → All IsCanonical (contents blocks) → place < length blocks
+    → vector ≡ get_or blocks place vector → bytes ≡ vector.items → decoded block bytes ≡ Some (block.decoding vector.items)
+decoded_in blocks place vector bytes canonical within is same =
+    ap (decoded block) same
+    ∙ canonical-decoded vector.items (subst IsCanonical (sym (read_at blocks place vector within is))
+    (canonical place [] (omega (arith, within, length-map blocks (λ (v : Vec ℕ Global). v.items)))))
+
+-- the ids of one block more
+pub ids_more : (blocks more_blocks : List (Vec ℕ Global)) (ids more_ids : List (Vec (List ℕ) Global)) (bytes : Vec ℕ Global) (one : Vec (List ℕ) Global)
+    → id_lists ids ≡ all_ids blocks → more_blocks ≡ blocks ++ bytes ∷ [] → more_ids ≡ ids ++ one ∷ [] → one.items ≡ ids_of (block.decoding bytes.items)
+    → id_lists more_ids ≡ all_ids more_blocks
+ids_more blocks more_blocks ids more_ids bytes one are blocks_grow ids_grow is =
+    ap id_lists ids_grow ∙ map_push (λ (v : Vec (List ℕ) Global). v.items) ids one ∙ (λ i. are i ++ is i ∷ [])
+    ∙ sym (map_push (λ (v : Vec ℕ Global). ids_of (block.decoding v.items)) blocks bytes) ∙ ap all_ids (sym blocks_grow)
 
 -- the entry in hand
 pub by_hand : (P : Stored → Type 0) (it : ListBlocksValue) (place : ℕ) (entry : Stored) → it.hand ≡ Some place → place < length it.stored

@@ -1,8 +1,8 @@
 // The ext of a block: the fees of its transactions, and the rows of the cells that it spends.
-ghost use Rattle.std.specs.Prelude.{◌≡◌, ◌+◌, ◌*◌, ◌^◌, ◌<◌, ◌++◌, length, map, is_some, IfOk, IfSome, IsTrue, OnOk};
+ghost use Rattle.std.specs.Prelude.{◌≡◌, ◌+◌, ◌*◌, ◌^◌, ◌<◌, ◌≤◌, ◌++◌, Some, None, if◌then◌else◌, nat_le, length, map, is_some, IfOk, IfSome, IsTrue, OnOk};
 ghost use Rattle.std.specs.List.{concat};
 ghost use Rattle.std.specs.Int.{w32, w64, to_le_bytes};
-ghost use Rattle.cell_defs.specs.Ext.{count_at, row_bytes, are_rows, ext_bytes, is_ext};
+ghost use Rattle.cell_defs.specs.Ext.{count_at, row_bytes, are_rows, ext_bytes, is_ext, fee_of};
 
 use crate::cells::{CellMeta, OutPoint};
 use crate::row::{ROW_SIZE, put_row, read_row, u32_at, u64_at};
@@ -70,6 +70,18 @@ impl Ext {
         put_rows(&mut bytes, &self.spent)?;
         Ok(bytes)
     }
+}
+
+/// The fee of the transaction at a place in an ext's bytes, in shannons. None where the ext has no fee for it.
+pub fn fee_in(ext: &[u8], tx: u32) -> Option<u64>
+    requires form { IsTrue (is_ext ext.now) }
+    requires paying { 1 ≤ tx }
+    ensures { result ≡ (if nat_le tx (count_at ext.now 0) then Some (fee_of ext.now tx) else None) }
+{
+    if tx > u32_at(ext, 0) {
+        return None;
+    }
+    Some(u64_at(ext, 8 * tx as usize - 4))
 }
 
 /// The fees that the bytes hold, side by side.

@@ -1,5 +1,5 @@
 // The hashes of scripts, data and transactions, what an output occupies, and the row of an output.
-ghost use Rattle.std.specs.Prelude.{◌≡◌, ◌^◌, ◌<◌, length, ℕ};
+ghost use Rattle.std.specs.Prelude.{◌≡◌, ◌^◌, ◌<◌, length, take, ℕ};
 ghost use Rattle.time_defs.specs.Dao.{occupied_capacity};
 ghost use Rattle.chain_defs.specs.Hashes.{transaction_hash};
 ghost use Rattle.cell_defs.specs.Cell as cells;
@@ -15,6 +15,15 @@ pub fn tx_hash(tx: &TxView<'_>) -> [u8; 32]
     ensures { result ≡ transaction_hash tx.now }
 {
     ckbhash(tx.raw().bytes())
+}
+
+/// The id by which a transaction is proposed, of its hash: the first ten bytes (RFC 0020, "proposal_short_id").
+pub fn proposal_id(tx_hash: &[u8; 32]) -> [u8; 10]
+    ensures { result ≡ take 10 tx_hash.now }
+{
+    let mut id = [0; 10];
+    id.copy_from_slice(&tx_hash[..10]);
+    id
 }
 
 /// The hash of a script (RFC 0022).

@@ -3,8 +3,8 @@
 //!
 //! Contracts see a [`CellMeta`] as a `Row` of `cell_defs`, and [`Cells`] as a function from out-points to rows.
 //! [`fetch`] copies the output and the data that a row names, exactly, over a [`Blocks`](chain_tree::Blocks) that
-//! tells; [`Ext`] is read and written by its form, and [`ListBlocks`] is a `Blocks` in memory, which tells its blocks
-//! and never fails. Which cells are live is left to `cell_state`, what a transaction may do with them to `tx_rules`.
+//! tells; [`Ext`] is read and written by its form, [`fee_in`] takes a fee out of an ext's bytes, and [`ListBlocks`] is a
+//! `Blocks` in memory, which tells its blocks and never fails. Which cells are live is left to `cell_state`, what a transaction may do with them to `tx_rules`.
 #![tactic(auto)]
 
 mod cells;
@@ -17,7 +17,7 @@ mod row;
 
 pub use cells::{CellMeta, Cells, OutPoint, Resolved, ResolvedTx};
 pub use copies::{copy_of, data_at, fetch, output_at};
-pub use ext::Ext;
-pub use hashes::{data_hash, meta_of, meta_with, occupied, script_hash, tx_hash};
+pub use ext::{Ext, fee_in};
+pub use hashes::{data_hash, meta_of, meta_with, occupied, proposal_id, script_hash, tx_hash};
 pub use last_script::LastScript;
 pub use list_blocks::ListBlocks;

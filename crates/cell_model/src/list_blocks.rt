@@ -1,51 +1,84 @@
 // Kept blocks in memory, as a source of blocks that tells them.
-ghost use Rattle.std.specs.Prelude.{◌≡◌, ◌+◌, ◌≤◌, ◌<◌, ◌^◌, ◌++◌, [], ◌∷◌, ℕ, List, Some, None, length, map, slice_get, IfOk, IfSome, IsOk, IsSome, OnOk, OnErr};
+ghost use Rattle.std.specs.Prelude.{◌≡◌, ◌+◌, ◌<◌, ◌^◌, ◌++◌, [], ◌∷◌, Some, None, length, map, IfOk, IsOk, OnOk, OnErr};
+ghost use Rattle.std.specs.List.{All};
 ghost use Rattle.codec_defs.specs.Shape.{decoded};
 ghost use Rattle.codec_defs.specs.Schema as schema;
-ghost use Rattle.cell_defs.specs.Ext.{fee_of};
-ghost use Rattle.chain_tree.specs.Told.{blocks_of, HasFee};
-ghost use Rattle.cell_model.specs.ListBlocks.{place_in_hand, contents, IsCanonical, IsExtFor, AreKept};
+ghost use Rattle.chain_tree.specs.Told.{blocks_of};
+ghost use Rattle.cell_model.specs.ListBlocks.{place_in_hand, contents, id_lists, ids_of, all_ids, IsCanonical, IsExtFor, AreKept};
 
-use crate::row::u64_at;
+use crate::hashes::{proposal_id, tx_hash};
 use chain_tree::Blocks;
 use mol_schema::BlockView;
 use outside::{NoMemory, ReadStop};
+use std::alloc::Global;
 use std::marker::Model;
 
-/// Kept blocks with their exts, in two lists of bytes. Clauses see the list of them, and which is in hand. It tells
-/// them, and never fails.
+/// Kept blocks with their exts, in two lists of bytes, and beside each its proposal ids. Clauses see the list of the
+/// blocks, and which is in hand. It tells them, and never fails.
 #[derive(Drop)]
 pub struct ListBlocks {
     blocks: Vec<Vec<u8>>,
     exts: Vec<Vec<u8>>,
+    ids: Vec<Vec<[u8; 10]>>,
     hand: Option<u32>,
 }
 
 impl Model for ListBlocks {
-    ghost use Rattle.std.specs.Prelude.{◌<◌, length, IfSome};
-    ghost use Rattle.cell_model.specs.ListBlocks.{ListBlocksValue, contents, AreKept, stored_from};
+    ghost use Rattle.std.specs.Prelude.{◌≡◌, ◌<◌, length, IfSome};
+    ghost use Rattle.cell_model.specs.ListBlocks.{ListBlocksValue, contents, id_lists, all_ids, AreKept, stored_from};
 
     ghost Value = { ListBlocksValue };
 
     ghost view = { λ it. record { stored = stored_from (contents it.blocks.items) (contents it.exts.items); hand = it.hand } };
 
     ghost invariant = { λ it. AreKept (contents it.blocks.items) (contents it.exts.items)
-        × IfSome it.hand (λ place. place < length it.blocks.items) };
+        × IfSome it.hand (λ place. place < length it.blocks.items)
+        × (id_lists it.ids.items ≡ all_ids it.blocks.items) };
+}
+
+/// The proposal ids of the transactions of a block after its first, in their order.
+fn proposal_ids(alloc: Global, block: &BlockView<'_>) -> Result<Vec<[u8; 10]>, NoMemory>
+    ensures { IfOk result (λ ids. ids.items ≡ ids_of block.now) }
+{
+    let count = block.transactions_count();
+    let mut ids = Vec::with_capacity(alloc, count.saturating_sub(1))?;
+    'later: for i in 1..count {
+        ids.push(proposal_id(&tx_hash(&block.transactions_item(i))))?;
+    }
+    Ok(ids)
+}
+
+/// The same of each block.
+fn proposal_ids_of_all(alloc: Global, blocks: &[Vec<u8>]) -> Result<Vec<Vec<[u8; 10]>>, NoMemory>
+    requires { All IsCanonical (contents blocks.now) }
+    ensures { IfOk result (λ ids. id_lists ids.items ≡ all_ids blocks.now) }
+{
+    let mut ids = Vec::with_capacity(alloc, blocks.len())?;
+    'encodings: for block in blocks {
+        ids.push(proposal_ids(alloc, &BlockView::from_encoding(block))?)?;
+    }
+    Ok(ids)
 }
 
 impl ListBlocks {
     /// Blocks with their exts. The first is the genesis, whose ext is never asked for.
-    pub fn new(blocks: Vec<Vec<u8>>, exts: Vec<Vec<u8>>) -> ListBlocks
+    pub fn new(
+        alloc: Global,
+        blocks: Vec<Vec<u8>>,
+        exts: Vec<Vec<u8>>,
+    ) -> Result<ListBlocks, NoMemory>
         requires { AreKept (contents blocks.items) (contents exts.items) }
-        ensures blocks { map (decoded schema.block) (contents blocks.items) ≡ map Some (blocks_of result.stored) }
-        ensures exts { map (λ it. it.ext) result.stored ≡ contents exts.items }
-        ensures hand { result.hand ≡ None }
+        ensures blocks { IfOk result (λ it. map (decoded schema.block) (contents blocks.items) ≡ map Some (blocks_of it.stored)) }
+        ensures exts { IfOk result (λ it. map (λ entry. entry.ext) it.stored ≡ contents exts.items) }
+        ensures hand { IfOk result (λ it. it.hand ≡ None) }
     {
-        ListBlocks {
+        let ids = proposal_ids_of_all(alloc, &blocks)?;
+        Ok(ListBlocks {
             blocks,
             exts,
+            ids,
             hand: None,
-        }
+        })
     }
 
     /// How many are kept.
@@ -55,8 +88,8 @@ impl ListBlocks {
         self.blocks.len() as u32
     }
 
-    /// Puts a block with its ext behind the others. Out of memory, nothing has changed.
-    pub fn push(&mut self, block: Vec<u8>, ext: Vec<u8>) -> Result<(), NoMemory>
+    /// Puts a block with its ext after the others. Out of memory, nothing has changed.
+    pub fn push(&mut self, alloc: Global, block: Vec<u8>, ext: Vec<u8>) -> Result<(), NoMemory>
         requires few { length self.old.stored + 1 < 2 ^ 32 }
         requires canonical { IsCanonical block.items }
         requires later { 0 < length self.old.stored → IsExtFor block.items ext.items }
@@ -64,9 +97,12 @@ impl ListBlocks {
             → OnOk result (self.new ≡ record self.old { stored = self.old.stored ++ record { block = b; ext = ext.items } ∷ [] }) }
         ensures err { OnErr result (self.new ≡ self.old) }
     {
+        let ids = proposal_ids(alloc, &BlockView::from_encoding(&block))?;
+        self.ids.reserve(1)?;
         self.blocks.reserve(1)?;
         self.exts.push(ext)?;
         self.blocks.push_reserved(block);
+        self.ids.push_reserved(ids);
         Ok(())
     }
 }
@@ -116,16 +152,10 @@ impl Blocks for ListBlocks {
         }
     }
 
-    fn fee(&mut self, e: u32, tx: u32) -> Result<u64, ReadStop>
-        requires within { e < length self.old.stored }
-        requires later { 0 < e }
-        requires paying { 1 ≤ tx }
-        requires has_fee { HasFee self.old.stored e tx }
-        ensures fee { IfOk result (λ fee. IfSome (slice_get self.old.stored e) (λ it. fee ≡ fee_of it.ext tx)) }
-        ensures taken { self.new ≡ record self.old { hand = Some e } }
-        ensures always { IsOk result }
-    {
-        self.hand = Some(e);
-        Ok(u64_at(&self.exts[e as usize], 8 * tx as usize - 4))
+    fn ids(&self) -> &[[u8; 10]] {
+        match self.hand {
+            Some(e) => &self.ids[e as usize],
+            None => unreachable!(),
+        }
     }
 }

@@ -1,7 +1,6 @@
 -- What a source of kept blocks tells, and when it answers that it could not read.
-use Rattle.std.specs.Prelude.{◌≡◌, ℕ, ◌≤◌, List, map, Option, slice_get, Result, Err, IfSome, IsSome}
+use Rattle.std.specs.Prelude.{◌≡◌, ℕ, List, map, Option, Result, Err, IsSome}
 use Rattle.codec_defs.specs.Schema.{Block}
-use Rattle.cell_defs.specs.Ext.{count_at}
 use Rattle.outside.specs.Causes.{CountsFault}
 use Rattle.outside.specs.declared.disk.ReadStop.{ReadStop}
 use Rattle.outside.specs.declared.disk.ReadStop.TheVariants.{DiskFault, Damaged}
@@ -20,7 +19,3 @@ blocks_of stored = map (λ it. it.block) stored
 pub record HasReadCause {T L : Type 0} (before now : ℕ) (told : Option L) (result : Result T ReadStop) : Type 0 where
   pub counts : CountsFault before now (result ≡ Err DiskFault)
   pub undamaged : IsSome told → (damage : Damage) → result ≡ Err (Damaged damage) → ⊥
-
--- a fee is asked of a transaction that has one: of those behind the genesis the ext has one for each after the first
-abbrev pub HasFee : List Stored → ℕ → ℕ → Type 0
-HasFee stored place transaction = IfSome (slice_get stored place) (λ it. transaction ≤ count_at it.ext 0)

@@ -1,16 +1,17 @@
 // Where the bytes of kept blocks come from: the trait that the rules on cells, proposals and uncles read them by.
-ghost use Rattle.std.specs.Prelude.{◌≡◌, ◌-◌, ◌^◌, ◌<◌, ◌≤◌, Option, Some, None, Err, List, ℕ, length, slice_get, IfOk, OnOk, OnErr, IfSome, IsSome, IsTrue};
-ghost use Rattle.cell_defs.specs.Ext.{fee_of, is_ext};
+ghost use Rattle.std.specs.Prelude.{◌≡◌, ◌-◌, ◌^◌, ◌<◌, ◌≤◌, Option, Some, None, Err, List, ℕ, length, map, drop, slice_get, OnOk, OnErr, IfSome, IsSome, IsTrue};
+ghost use Rattle.chain_defs.specs.Hashes.{proposal_id};
+ghost use Rattle.cell_defs.specs.Ext.{is_ext};
 ghost use Rattle.outside.specs.declared.disk.Area.TheVariants.{Log};
 ghost use Rattle.outside.specs.declared.disk.Damage.{Damage};
 ghost use Rattle.outside.specs.declared.disk.ReadStop.TheVariants.{Damaged};
-ghost use Rattle.chain_tree.specs.Told.{Stored, HasReadCause, HasFee};
+ghost use Rattle.chain_tree.specs.Told.{Stored, HasReadCause};
 
 use mol_schema::BlockView;
 use outside::ReadStop;
 
-/// The kept blocks with their exts, each by its place. One entry at a time is in hand: `bring` takes it, and `block`
-/// and `spent` give what it has. What is damaged stands in LOG, where the kept blocks are.
+/// The kept blocks with their exts, each by its place. One entry at a time is in hand: `bring` takes it, and `block`,
+/// `spent` and `ids` give what it has. What is damaged stands in LOG, where the kept blocks are.
 pub trait Blocks {
     /// The kept blocks with their exts, where it tells them.
     ghost told: { Self → Option (List Stored) };
@@ -53,21 +54,11 @@ pub trait Blocks {
         ensures form { IsTrue (is_ext result.now) }
         ensures ext { IfSome (told self.now) (λ stored. IfSome (in_hand self.now) (λ e. IfSome (slice_get stored e) (λ it. result.now ≡ it.ext))) };
 
-    /// Takes an entry in hand that is not the genesis, and answers the fee of its transaction at a place, in shannons.
-    /// After an `Err` none is in hand.
-    fn fee(&mut self, e: u32, tx: u32) -> Result<u64, ReadStop>
-        requires within { e < count self.old }
-        requires later { 0 < e }
-        requires paying { 1 ≤ tx }
-        requires has_fee { IfSome (told self.old) (λ stored. HasFee stored e tx) }
-        ensures told { told self.new ≡ told self.old }
-        ensures count { count self.new ≡ count self.old }
-        ensures loans { loans_of self.new ≡ loans_of self.old }
-        ensures fee { IfOk result (λ fee. IfSome (told self.old) (λ stored. IfSome (slice_get stored e) (λ it. fee ≡ fee_of it.ext tx))) }
-        ensures taken { OnOk result (in_hand self.new ≡ Some e) }
-        ensures dropped { OnErr result (in_hand self.new ≡ None) }
-        ensures damage { (damage : Damage) → result ≡ Err (Damaged damage) → damage.area ≡ Log }
-        ensures cause { HasReadCause (faults self.old) (faults self.new) (told self.old) result };
+    /// The proposal ids of the transactions of the entry in hand after its first, in their order. A source hashes a
+    /// transaction once for them, when it takes its block.
+    fn ids(&self) -> &[[u8; 10]]
+        requires { IsSome (in_hand self.now) }
+        ensures { IfSome (told self.now) (λ stored. IfSome (in_hand self.now) (λ e. IfSome (slice_get stored e) (λ it. result.now ≡ map proposal_id (drop 1 it.block.transactions)))) };
 
     /// It tells as many as it has.
     ghost told_all: { (blocks : Self) → IfSome (told blocks) (λ stored. length stored ≡ count blocks) };

@@ -45,6 +45,7 @@ pub(crate) fn agrees(alloc: Global, blocks: &mut ListBlocks, columns: &str) -> O
     match word {
         "fetch" => is_text(copies::fetched(alloc, blocks, columns), wanted),
         "spent" => is_text(copies::spent(alloc, blocks, columns), wanted),
+        "ids" => is_text(copies::ids(alloc, blocks, columns), wanted),
         _ => is_text(values::answer(alloc, word, columns), wanted),
     }
 }

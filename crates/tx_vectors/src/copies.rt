@@ -77,3 +77,17 @@ pub(crate) fn spent(alloc: Global, blocks: &mut ListBlocks, columns: &str) -> Op
     blocks.bring(place).ok()?;
     text_of(alloc, blocks.spent()).ok()
 }
+
+/// The proposal ids of a kept block, by its place, one after the other.
+pub(crate) fn ids(alloc: Global, blocks: &mut ListBlocks, columns: &str) -> Option<String> {
+    let place: u32 = columns.parse().ok()?;
+    if place >= blocks.len() {
+        return None;
+    }
+    blocks.bring(place).ok()?;
+    let mut bytes = Vec::new(alloc);
+    for id in blocks.ids() {
+        bytes.extend_from_slice(id).ok()?;
+    }
+    text_of(alloc, &bytes).ok()
+}

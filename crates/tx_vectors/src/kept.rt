@@ -80,7 +80,7 @@ fn may_be_kept(alloc: Global, is_first: bool, block: &[u8], ext: &[u8]) -> bool
     }
 }
 
-/// Puts a block with its ext behind the others; None where they may not stand there.
+/// Puts a block with its ext after the others; None where they may not stand there.
 pub(crate) fn put(alloc: Global, blocks: &mut ListBlocks, block: &[u8], ext: &[u8]) -> Option<()> {
     let block = block.to_vec(alloc).ok()?;
     let ext = ext.to_vec(alloc).ok()?;
@@ -88,7 +88,7 @@ pub(crate) fn put(alloc: Global, blocks: &mut ListBlocks, block: &[u8], ext: &[u
     if kept >= MOST || !may_be_kept(alloc, kept == 0, &block, &ext) {
         return None;
     }
-    blocks.push(block, ext).ok()
+    blocks.push(alloc, block, ext).ok()
 }
 
 /// Adds an entry; None where it does not follow a kept one.
@@ -146,7 +146,7 @@ pub(crate) fn of_genesis(alloc: Global, spec: Spec, bytes: &[u8]) -> Option<Chai
     Some(Chain {
         spec,
         tree,
-        blocks: ListBlocks::new(Vec::new(alloc), Vec::new(alloc)),
+        blocks: ListBlocks::new(alloc, Vec::new(alloc), Vec::new(alloc)).ok()?,
         state,
         items: Vec::new(alloc),
     })

@@ -32,6 +32,7 @@ use kept::{Chain, of_genesis};
 use outside::Steps;
 use row_table::{Row, Subject, all_agree};
 use std::alloc::Global;
+use std::io::ErrorKind;
 use std::marker::Brand;
 use std::process::ExitCode;
 use std::sync::ledger::{Blank, Ledger};
@@ -166,9 +167,12 @@ impl<'s, L: Ledger> Subject for Table<'s, L> {
 
 fn all_rows_agree<L: Ledger>(rt: HostRuntime, steps: &mut Steps<L>) -> io::Result<bool> {
     let alloc = rt.alloc();
+    let Ok(blocks) = ListBlocks::new(alloc, Vec::new(alloc), Vec::new(alloc)) else {
+        return Err(io::Error::from(ErrorKind::OutOfMemory));
+    };
     let mut table = Table {
         steps,
-        blocks: ListBlocks::new(Vec::new(alloc), Vec::new(alloc)),
+        blocks,
         state: None,
         spec: None,
         chain: None,

@@ -1,7 +1,7 @@
 //! What occupies, hashes, rows and exts are.
 
 use crate::cells::{bytes_of, meta_in, text_of};
-use cell_model::{CellMeta, Ext, OutPoint, data_hash, occupied, script_hash, tx_hash};
+use cell_model::{CellMeta, Ext, OutPoint, data_hash, fee_in, occupied, script_hash, tx_hash};
 use mol_schema::{ScriptView, TxView};
 use std::alloc::{AllocError, Global};
 use std::string::String;
@@ -25,6 +25,7 @@ pub(crate) fn answer(alloc: Global, word: &str, columns: &str) -> Option<String>
         "row of" => row_of(alloc, columns),
         "ext" => ext(alloc, &bytes_of(alloc, columns)?),
         "fees" => fees(alloc, &bytes_of(alloc, columns)?),
+        "fee in" => fee(alloc, columns),
         "row in" => row_in(alloc, columns),
         _ => None,
     }
@@ -104,6 +105,24 @@ fn fees(alloc: Global, bytes: &[u8]) -> Option<String> {
         text.push_str(one.as_str()).ok()?;
     }
     Some(text)
+}
+
+/// The fee of the transaction at a place in an ext, or `none`.
+fn fee(alloc: Global, columns: &str) -> Option<String> {
+    let (place, bytes) = columns.split_once('\t')?;
+    let place: u32 = place.parse().ok()?;
+    let bytes = bytes_of(alloc, bytes)?;
+    if place == 0 {
+        return None;
+    }
+    match Ext::read(alloc, &bytes) {
+        Ok(Some(_)) => {}
+        _ => return None,
+    }
+    match fee_in(&bytes, place) {
+        Some(fee) => format!(in alloc; "{fee}").ok(),
+        None => format!(in alloc; "none").ok(),
+    }
 }
 
 /// The row at a place of an ext, with its out-point.

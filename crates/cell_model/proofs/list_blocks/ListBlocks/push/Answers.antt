@@ -1,21 +1,30 @@
 use Rattle.std.proofs.Common.{◌≡◌, ◌++◌, ◌∷◌, [], List, Vec, Global, ℕ, length, ap, ◌∙◌, arith}
 use Rattle.std.proofs.lemmas.List.{length_push}
-use Rattle.cell_model.specs.ListBlocks.{ListBlocksValue, contents, stored_from}
-use Rattle.cell_model.proofs.ListLemmas.{as_many, hand-more, seen-push, kept_more}
+use Rattle.codec_defs.specs.Shape.{decoded}
+use Rattle.codec_defs.specs.Schema.{block}
+use Rattle.codec_defs.proofs.ShapeLaws.{IsA-decoded}
+use Rattle.cell_model.specs.ListBlocks.{ListBlocksValue, contents, stored_from, ids_of}
+use Rattle.cell_model.proofs.ListLemmas.{as_many, canonical-decoded, hand-more, seen-push, kept_more, ids_more}
 use Rattle.cell_model.proofs.list_blocks.ListBlocks.push.Goals as goal
+use Rattle.cell_model.proofs.list_blocks.ListBlocks.push.Goals.{After-push_reserved-2}
 
-blocks-more : (c : goal.After-push_reserved) → c.push_reserved.new.self.items ≡ c.self.inside.blocks.items ++ c.args.block ∷ []
-blocks-more c = c.push_reserved.ensures.items ∙ ap (λ (l : List (Vec ℕ Global)). l ++ c.args.block ∷ []) c.in_ok-reserve.ensures.items
+pub from_encoding-requires : goal.from_encoding-requires
+from_encoding-requires c = (_, IsA-decoded block c.deref.result.now _ (ap (decoded block) c.deref.ensures.value ∙ canonical-decoded c.args.block.items c.requires.canonical))
 
-exts-more : (c : goal.After-push_reserved) → c.push.new.self.items ≡ c.self.inside.exts.items ++ c.args.ext ∷ []
+blocks-more : (c : After-push_reserved-2) → c.push_reserved.new.self.items ≡ c.self.inside.blocks.items ++ c.args.block ∷ []
+blocks-more c = c.push_reserved.ensures.items ∙ ap (λ (l : List (Vec ℕ Global)). l ++ c.args.block ∷ []) c.in_ok-reserve-2.ensures.items
+
+exts-more : (c : After-push_reserved-2) → c.push.new.self.items ≡ c.self.inside.exts.items ++ c.args.ext ∷ []
 exts-more c = c.in_ok-push.ensures.items
 
-many : (c : goal.After-push_reserved) → length c.args.self.now.stored ≡ length c.self.inside.blocks.items
+many : (c : After-push_reserved-2) → length c.args.self.now.stored ≡ length c.self.inside.blocks.items
 many c = as_many c.self.inside.blocks.items c.self.inside.exts.items c.args.self.now.stored c.self.invariant.0 (ap (λ (v : ListBlocksValue). v.stored) c.self.view_is)
 
 pub invariant_of-self-2 : goal.invariant_of-self-2
 invariant_of-self-2 c =
-    let here = c.self.inside in (
+    let here = c.self.inside in
+    let view_is : c.from_encoding.result ≡ block.decoding c.args.block.items =
+    c.from_encoding.ensures _ (IsA-decoded block c.deref.result.now _ (ap (decoded block) c.deref.ensures.value ∙ canonical-decoded c.args.block.items c.requires.canonical)) in (
       kept_more
           here.blocks.items
           here.exts.items
@@ -30,6 +39,9 @@ invariant_of-self-2 c =
           c.requires.canonical
           (λ some. c.requires.later (omega (arith, some, many c))),
       hand-more here.hand (length here.blocks.items) _ (omega (arith, ap length (blocks-more c), length_push here.blocks.items c.args.block)) c.self.invariant.1,
+      ids_more here.blocks.items _ here.ids.items _ c.args.block c.in_ok-ids.ids c.self.invariant.2 (blocks-more c)
+          (c.push_reserved-2.ensures.items ∙ ap (λ (l : List (Vec (List ℕ) Global)). l ++ c.in_ok-ids.ids ∷ []) c.in_ok-reserve.ensures.items)
+          (c.in_ok-ids.ensures ∙ ap ids_of view_is),
     )
 
 pub returns-clause-pushed : goal.returns-clause-pushed
