@@ -22,7 +22,7 @@ from make_store import ZERO_HASH, as_bytes, ckbhash, fixvec, table, uint
 
 GREATEST = 2 ** 64 - 1
 
-# C, AR, S and U
+# C, AR, S and U: the specification gives no rewards, so they are those of each block
 DAO = uint(10 ** 15, 8) + uint(10 ** 16, 8) + uint(0, 16)
 
 
@@ -94,7 +94,7 @@ class Chain:
         self.blocks = []
         self.row('spec', uint(100, 4) + uint(self.target, 4) + uint(epoch_length, 4) + uint(2, 4) + uint(10, 4)
                  + uint(max_block_bytes, 4) + uint(max_proposals, 4) + uint(10 ** 9, 8) + uint(0, 8)
-                 + uint(10 ** 12, 8) + uint(10 ** 11, 8) + uint(4, 8) + bytes(range(32)))
+                 + uint(0, 8) + uint(0, 8) + uint(4, 8) + bytes(range(32)))
         genesis = self.block(number=0, parent_hash=ZERO_HASH, timestamp=timestamp)
         self.row('genesis', genesis)
         self.keep(genesis)

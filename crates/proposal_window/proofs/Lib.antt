@@ -1,4 +1,5 @@
 pub mod KeptLemmas
+pub mod IdLemmas
 pub mod ProposingLemmas
 pub mod BranchLemmas
 pub mod ProposedLemmas

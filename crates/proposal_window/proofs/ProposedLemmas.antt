@@ -1,23 +1,20 @@
 -- Ids that are added to a set, one after the other.
-use Rattle.std.proofs.Common.{◌≡◌, ℕ, suc, zero, ◌+◌, ◌-◌, ◌<◌, ◌≤◌, Bool, true, false, cond, ◌||◌, List, [], ◌∷◌, take, Some, refl, sym, ap, ◌∙◌, inl, inr, ◌⊎◌, arith}
+use Rattle.std.proofs.Common.{◌≡◌, ℕ, suc, zero, ◌+◌, ◌-◌, ◌<◌, ◌≤◌, Bool, true, false, cond, ◌||◌, List, [], ◌∷◌, take, Option, Some, None, refl, sym, ap, ◌∙◌, inl, inr, ◌⊎◌, arith}
 use Rattle.std.specs.Prelude.{slice_get, is_some, length}
+use Rattle.std.specs.Option.{option_map}
 use Rattle.std.specs.List.{list_any, find, range_with_len}
 use Rattle.std.specs.Str.{bytes_eq}
 use Rattle.std.proofs.lemmas.Bool.{cases_lt}
 use Rattle.std.proofs.lemmas.List.{take_all}
 use Rattle.std.proofs.lemmas.List.Folds.{list_any_more}
-use Rattle.std.proofs.lemmas.Option.{slice_get_within, get_or_from_slice_get}
-use Rattle.codec_defs.specs.Schema.{UncleBlock, Block}
+use Rattle.std.proofs.lemmas.Option.{slice_get_within, get_or_from_slice_get, same_Some}
+use Rattle.codec_defs.specs.Schema.{Block}
 use Rattle.time_defs.specs.Specification.{Specification}
-use Rattle.window_defs.specs.Window.{proposes, proposes_at, earliest}
+use Rattle.window_defs.specs.Window.{proposed_ids, proposes, proposes_at, earliest}
 use Rattle.window_defs.proofs.WindowLaws.{earliest-range}
-use Rattle.proposal_window.proofs.ProposingLemmas.{proposes-parts}
 
 abbrev pub among : List (List ℕ) → List ℕ → Bool
 among ids id = list_any (λ other. bytes_eq other id) ids
-
-abbrev pub among_uncles : List UncleBlock → List ℕ → Bool
-among_uncles uncles id = list_any (λ uncle. list_any (λ other. bytes_eq other id) uncle.proposals) uncles
 
 or-none : (b : Bool) → b ≡ (b || false)
 or-none true = refl
@@ -53,11 +50,11 @@ pub all-of : {X : Type 0} (test : X → Bool) (xs : List X) (i : ℕ) (old befor
     → before ≡ (old || list_any test (take i xs)) → before ≡ (old || list_any test xs)
 all-of {X = X} test xs i old before all so_far = so_far ∙ ap (λ (l : List X). old || list_any test l) (take_all i xs all)
 
-pub both-parts : (id : List ℕ) (b : Block) (old own all : Bool) → own ≡ (old || among b.proposals id) → all ≡ (own || among_uncles b.uncles id)
-    → all ≡ (old || proposes id (Some b))
-both-parts id b old own all first then =
-    then ∙ ap (λ (c : Bool). c || among_uncles b.uncles id) first ∙ or-moved old (among b.proposals id) (among_uncles b.uncles id)
-    ∙ ap (λ (c : Bool). old || c) (sym (proposes-parts id b))
+-- all ids of a kept block
+pub added-at : (id : List ℕ) (kept : Option Block) (ids : List (List ℕ)) (old : Bool) → option_map proposed_ids kept ≡ Some ids
+    → (old || among ids id) ≡ (old || proposes id kept)
+added-at id None ids old is = absurd (cc)
+added-at id (Some b) ids old is = ap (λ (l : List (List ℕ)). old || among l id) (sym (same_Some (proposed_ids b) ids is))
 
 -- ---- The window
 

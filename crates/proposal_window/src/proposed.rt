@@ -1,5 +1,5 @@
 // All ids that a window proposes.
-ghost use Rattle.std.specs.Prelude.{◌≡◌, ◌+◌, ◌<◌, ◌≤◌, ◌||◌, List, ℕ, length, take, is_some, Some, Err, IfOk, OnOk, IsSomeAnd, slice_get};
+ghost use Rattle.std.specs.Prelude.{◌≡◌, ◌+◌, ◌<◌, ◌≤◌, ◌||◌, List, ℕ, length, is_some, Some, Err, IfOk, OnOk, IsSomeAnd};
 ghost use Rattle.std.specs.List.{list_any};
 ghost use Rattle.std.specs.Str.{bytes_eq};
 ghost use Rattle.std.specs.HashSet as hashed;
@@ -14,10 +14,10 @@ ghost use Rattle.chain_tree.specs.Blocks.{IndexesBlocks};
 ghost use Rattle.chain_tree.specs.Told.{Stored, blocks_of};
 ghost use Rattle.window_defs.specs.Window as window;
 
+use crate::ids::ids_at;
 use crate::proposers::window_of;
 use chain_tree::{Blocks, Tree};
 use epochs::Spec;
-use mol_schema::{BlockView, UncleView};
 use outside::{Area, Damage, NoMemory, ReadStop};
 use std::alloc::Global;
 use std::collections::HashSet;
@@ -38,69 +38,20 @@ impl Model for Proposed {
     ghost view = { λ proposed. keys proposed.ids };
 }
 
-/// A proposal id of a block.
-fn own_id(block: &BlockView<'_>, i: usize) -> [u8; 10]
-    requires { i < length block.now.proposals }
-    ensures { slice_get block.now.proposals i ≡ Some result }
-{
-    let mut id = [0; 10];
-    id.copy_from_slice(block.proposals_item(i));
-    id
-}
-
-/// A proposal id of an uncle.
-fn uncle_id(uncle: &UncleView<'_>, i: usize) -> [u8; 10]
-    requires { i < length uncle.now.proposals }
-    ensures { slice_get uncle.now.proposals i ≡ Some result }
-{
-    let mut id = [0; 10];
-    id.copy_from_slice(uncle.proposals_item(i));
-    id
-}
-
-/// Adds the block's own ids.
-fn add_own(ids: &mut HashSet<[u8; 10]>, block: &BlockView<'_>) -> Result<(), NoMemory>
+/// Adds some ids.
+fn add_all(ids: &mut HashSet<[u8; 10]>, more: &[[u8; 10]]) -> Result<(), NoMemory>
     ensures { OnOk result ((id : List ℕ) → hashed.contains bytes_eq ids.new id
-        ≡ (hashed.contains bytes_eq ids.old id || list_any (λ other. bytes_eq other id) block.now.proposals)) }
+        ≡ (hashed.contains bytes_eq ids.old id || list_any (λ other. bytes_eq other id) more.now)) }
 {
-    'ids: for i in 0..block.proposals_count() {
-        ids.insert(own_id(block, i))?;
+    'more: for i in 0..more.len() {
+        ids.insert(more[i])?;
     }
     Ok(())
 }
 
-/// Adds the ids of an uncle.
-fn add_of_uncle(ids: &mut HashSet<[u8; 10]>, uncle: &UncleView<'_>) -> Result<(), NoMemory>
-    ensures { OnOk result ((id : List ℕ) → hashed.contains bytes_eq ids.new id
-        ≡ (hashed.contains bytes_eq ids.old id || list_any (λ other. bytes_eq other id) uncle.now.proposals)) }
-{
-    'ids: for i in 0..uncle.proposals_count() {
-        ids.insert(uncle_id(uncle, i))?;
-    }
-    Ok(())
-}
-
-/// Adds those of all uncles that the block embeds.
-fn add_of_uncles(ids: &mut HashSet<[u8; 10]>, block: &BlockView<'_>) -> Result<(), NoMemory>
-    ensures { OnOk result ((id : List ℕ) → hashed.contains bytes_eq ids.new id
-        ≡ (hashed.contains bytes_eq ids.old id || list_any (λ uncle. list_any (λ other. bytes_eq other id) uncle.proposals) block.now.uncles)) }
-{
-    'uncles: for i in 0..block.uncles_count() {
-        add_of_uncle(ids, &block.uncles_item(i))?;
-    }
-    Ok(())
-}
-
-/// Adds the ids that the block and its uncles propose.
-fn add(ids: &mut HashSet<[u8; 10]>, block: &BlockView<'_>) -> Result<(), NoMemory>
-    ensures { OnOk result ((id : List ℕ) → hashed.contains bytes_eq ids.new id ≡ (hashed.contains bytes_eq ids.old id || window.proposes id (Some block.now))) }
-{
-    add_own(ids, block)?;
-    add_of_uncles(ids, block)
-}
-
-/// The same for a kept block. Damaged where the source finds it damaged.
+/// Adds the ids that a kept block and its uncles propose. Damaged where the source finds the block damaged.
 fn add_at<B: Blocks>(
+    alloc: Global,
     ids: &mut HashSet<[u8; 10]>,
     tree: &Tree,
     blocks: &mut B,
@@ -117,12 +68,11 @@ fn add_at<B: Blocks>(
     ensures damage { (damage : Damage) → result ≡ Err (Damaged damage) → damage.area ≡ Log }
     ensures cause { CountsFault (B.faults blocks.old) (B.faults blocks.new) (result ≡ Err DiskFault) }
 {
-    match blocks.bring(place) {
-        Ok(()) => {}
+    let more = match ids_at(alloc, tree, blocks, place) {
+        Ok(more) => more,
         Err(stop) => return Err(stop),
-    }
-    let block = blocks.block();
-    match add(ids, &block) {
+    };
+    match add_all(ids, &more) {
         Ok(()) => Ok(()),
         Err(_) => Err(ReadStop::NoMemory),
     }
@@ -156,7 +106,7 @@ impl Proposed {
         let mut ids: HashSet<[u8; 10]> = HashSet::new(alloc);
         'window: for proposer in low..end {
             let place = tree.ancestor(parent, proposer);
-            match add_at(&mut ids, tree, blocks, place) {
+            match add_at(alloc, &mut ids, tree, blocks, place) {
                 Ok(()) => {}
                 Err(stop) => return Err(stop),
             }

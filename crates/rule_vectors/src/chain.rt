@@ -21,16 +21,16 @@ pub(crate) struct Chain {
     pub(crate) uncles: Uncles,
 }
 
-fn entry_of(header: &HeaderView<'_>, parent: u32) -> Entry {
-    Entry {
+fn entry_of(header: &HeaderView<'_>, parent: u32) -> Option<Entry> {
+    Some(Entry {
         hash: ckbhash(header.bytes()),
         parent,
         number: header.number(),
         timestamp: header.timestamp(),
-        dao: [0; 32],
+        dao: <[u8; 32]>::try_from(header.dao()).ok()?,
         at: 0,
         len: 0,
-    }
+    })
 }
 
 /// Whether the bytes are a block, and what stands beside a later one is an ext with a fee for each of its transactions
@@ -52,7 +52,7 @@ fn may_be_kept(alloc: Global, is_first: bool, block: &[u8], ext: &[u8]) -> Optio
 }
 
 /// An ext with no rows, whose fees are 0.
-fn ext_of(alloc: Global, block: &BlockView<'_>) -> Option<Vec<u8>> {
+pub(crate) fn ext_of(alloc: Global, block: &BlockView<'_>) -> Option<Vec<u8>> {
     let fees = block.transactions_count().saturating_sub(1);
     if fees > u32::MAX as usize {
         return None;
@@ -66,39 +66,39 @@ fn ext_of(alloc: Global, block: &BlockView<'_>) -> Option<Vec<u8>> {
     Some(ext)
 }
 
-/// Puts a block behind the others. None where it may not stand there, or there is no memory.
-fn keep(alloc: Global, blocks: &mut ListBlocks, block: &BlockView<'_>) -> Option<()> {
-    let ext = ext_of(alloc, block)?;
+/// Puts a block with its ext after the others. None where it may not stand there, or there is no memory.
+fn keep(alloc: Global, blocks: &mut ListBlocks, block: &BlockView<'_>, ext: Vec<u8>) -> Option<()> {
     let block = block.bytes().to_vec(alloc).ok()?;
     let kept = blocks.len();
     if kept >= BLOCK_LIMIT || !may_be_kept(alloc, kept == 0, &block, &ext)? {
         return None;
     }
-    blocks.push(block, ext).ok()
+    blocks.push(alloc, block, ext).ok()
 }
 
-/// Takes a block whose entry stands at a place: its bytes and its uncles.
+/// Takes a block whose entry stands at a place: its bytes, its ext and its uncles.
 pub(crate) fn take(
     alloc: Global,
     chain: &mut Chain,
     block: &BlockView<'_>,
+    ext: Vec<u8>,
     place: u32,
 ) -> Option<()> {
     chain.uncles.reserve(block.uncles_count()).ok()?;
     chain.uncles.add(block, place);
-    keep(alloc, &mut chain.blocks, block)
+    keep(alloc, &mut chain.blocks, block, ext)
 }
 
 /// The chain of a specification and the entry of a genesis, which is still to be taken.
 pub(crate) fn chain_of(alloc: Global, spec: Spec, genesis: &BlockView<'_>) -> Option<Chain> {
-    let entry = entry_of(&genesis.header(), 0);
+    let entry = entry_of(&genesis.header(), 0)?;
     if entry.number != 0 {
         return None;
     }
     Some(Chain {
         spec,
         tree: Tree::new(alloc, entry).ok()?,
-        blocks: ListBlocks::new(Vec::new(alloc), Vec::new(alloc)),
+        blocks: ListBlocks::new(alloc, Vec::new(alloc), Vec::new(alloc)).ok()?,
         uncles: Uncles::new(alloc),
     })
 }
@@ -123,11 +123,16 @@ pub(crate) fn parent_of(tree: &Tree, header: &HeaderView<'_>) -> Option<u32>
     tree.find(&<[u8; 32]>::try_from(header.parent_hash()).ok()?)
 }
 
-/// Joins a block to its parent, whatever rules it breaks. None where it does not follow this.
-pub(crate) fn join(alloc: Global, chain: &mut Chain, block: &BlockView<'_>) -> Option<()> {
+/// Joins a block with its ext to its parent, whatever rules it breaks. None where it does not follow this.
+pub(crate) fn join(
+    alloc: Global,
+    chain: &mut Chain,
+    block: &BlockView<'_>,
+    ext: Vec<u8>,
+) -> Option<()> {
     let header = block.header();
     let parent = parent_of(&chain.tree, &header)?;
     let place = chain.tree.len();
-    add(&mut chain.tree, entry_of(&header, parent))?;
-    take(alloc, chain, block, place)
+    add(&mut chain.tree, entry_of(&header, parent)?)?;
+    take(alloc, chain, block, ext, place)
 }

@@ -1,6 +1,6 @@
 //! The rules J4 to J14 on an item.
 
-use crate::chain::{Chain, join, parent_of};
+use crate::chain::{Chain, ext_of, join, parent_of};
 use blake2b_ckb::ckbhash;
 use mol_schema::BlockView;
 use std::alloc::Global;
@@ -33,7 +33,7 @@ pub(crate) fn is_answered(
     if let Some(rule) = broken(alloc, chain, &block)? {
         return is_rule(rule, wanted);
     }
-    join(alloc, chain, &block)?;
+    join(alloc, chain, &block, ext_of(alloc, &block)?)?;
     Some(wanted == "joined")
 }
 

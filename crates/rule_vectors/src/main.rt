@@ -6,23 +6,24 @@
 //! from the rules and were worked by hand.
 //!
 //! The other rows are about a chain. `spec` and `genesis` begin a chain, and a `block`
-//! joins it whatever rules it breaks. `earliest` asks for the earliest proposer of an id and `uncles` for J15; both are asked
-//! of the blocks that joined so far, and examples/make_window_rows.py and examples/make_uncle_rows.py say what their columns
-//! are. A row that begins with `joined`, `known` or `refused J` and a number is an item that must be answered so: it joins
+//! joins it whatever rules it breaks; a `kept` block has its ext beside it. `earliest` asks for the earliest proposer of an
+//! id, `uncles` for J15 and `reward` for a reward, each of the blocks that joined so far: examples/make_window_rows.py,
+//! examples/make_uncle_rows.py and examples/make_reward_rows.py say what their columns are. A row that begins with `joined`, `known` or `refused J` and a number is an item that must be answered so: it joins
 //! where it keeps J4 to J14. The first 235 of these rows were made by a program that was written from docs/RULES.md alone. Those of
-//! examples/make_rule_blocks.py stand behind them, then those on the window, then those on uncles.
+//! examples/make_rule_blocks.py stand after them, then those on the window, on uncles and on rewards.
 #![tactic(auto)]
 
 mod chain;
 mod dao;
 mod epoch;
+mod given;
 mod items;
 mod since;
 mod time;
 mod uncles;
 mod window;
 
-use chain::{Chain, chain_of, join, take};
+use chain::{Chain, chain_of, ext_of, join, take};
 use epochs::Spec;
 use mol_schema::BlockView;
 use row_table::{Row, Subject, all_agree};
@@ -50,14 +51,24 @@ impl Table {
 
     fn begins(&mut self, alloc: Global, genesis: &BlockView<'_>) -> Option<bool> {
         self.chain = chain_of(alloc, self.spec?, genesis);
-        Some(take(alloc, self.chain.as_mut()?, genesis, 0).is_some())
+        let ext = ext_of(alloc, genesis)?;
+        Some(take(alloc, self.chain.as_mut()?, genesis, ext, 0).is_some())
     }
 }
 
-/// Joins a block, and says that it did.
+/// Joins a block whose fees are 0, and says that it did.
 fn joins(alloc: Global, chain: &mut Chain, row: &mut Row) -> Option<bool> {
     let bytes = row.bytes(alloc)?;
-    join(alloc, chain, &BlockView::read(&bytes)?)?;
+    let block = BlockView::read(&bytes)?;
+    join(alloc, chain, &block, ext_of(alloc, &block)?)?;
+    Some(true)
+}
+
+/// Joins a block with the ext that its row has, and says that it did.
+fn joins_with_ext(alloc: Global, chain: &mut Chain, row: &mut Row) -> Option<bool> {
+    let bytes = row.bytes(alloc)?;
+    let ext = row.bytes(alloc)?;
+    join(alloc, chain, &BlockView::read(&bytes)?, ext)?;
     Some(true)
 }
 
@@ -89,11 +100,23 @@ fn is_proposed(alloc: Global, chain: &mut Chain, row: &mut Row) -> Option<bool> 
     }
 }
 
+/// Whether a reward is the one of a row.
+fn is_given(alloc: Global, chain: &mut Chain, row: &mut Row) -> Option<bool> {
+    let parent = row.short()?;
+    let target = row.number()?;
+    match given::found(alloc, chain, parent, target)? {
+        Some(reward) => Some(reward == row.number()?),
+        None => Some(row.rest() == "overflow"),
+    }
+}
+
 fn agrees_on_chain(alloc: Global, chain: &mut Chain, word: &str, row: &mut Row) -> Option<bool> {
     match word {
         "block" => joins(alloc, chain, row),
+        "kept" => joins_with_ext(alloc, chain, row),
         "earliest" => is_proposed(alloc, chain, row),
         "uncles" => has_uncles(alloc, chain, row),
+        "reward" => is_given(alloc, chain, row),
         wanted => is_answered(alloc, chain, wanted, row),
     }
 }

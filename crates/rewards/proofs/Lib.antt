@@ -1,0 +1,5 @@
+pub mod SumLemmas
+pub mod StartLemmas
+pub mod BranchLemmas
+pub mod ReadLemmas
+pub mod PartLemmas

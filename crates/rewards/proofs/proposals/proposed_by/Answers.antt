@@ -1,0 +1,33 @@
+use Rattle.std.proofs.Common.{ℕ, List, Some, pos, sym, ap, ◌∙◌, arith}
+use Rattle.std.proofs.lemmas.Grind.{common_steps}
+use Rattle.std.proofs.lemmas.List.{nil_from_length}
+use Rattle.time_defs.specs.Dao.{as_u64}
+use Rattle.chain_defs.specs.Branch.{branch}
+use Rattle.chain_tree.specs.Told.{blocks_of}
+use Rattle.chain_tree.proofs.EntryLemmas.{there-within}
+use Rattle.rewards.proofs.ReadLemmas.{tells_still}
+use Rattle.rewards.proofs.BranchLemmas.{ids-there}
+use Rattle.rewards.proofs.PartLemmas.{none-proposed}
+use Rattle.rewards.proofs.proposals.proposed_by.Goals as goal
+
+pub returns-then-is_empty-clause-sum : goal.returns-then-is_empty-clause-sum
+returns-then-is_empty-clause-sum g c stored tells =
+    ap (λ (n : ℕ). as_u64 (pos n)) (none-proposed c.args.spec.now (branch (blocks_of stored) c.args.parent) c.args.height
+    (ids-there (blocks_of stored) c.args.tree.now.entries c.args.parent c.args.height c.place_at-place.result _ tells.indexes
+    (there-within c.args.tree.now.entries c.args.parent _ c.requires.far) (c.place_at-place.ensures.of_blocks (blocks_of stored) tells.indexes)
+    (c.in-Ok.ensures.ids stored tells.is ∙ ap (λ (l : List (List ℕ)). Some l) (nil_from_length c.in-Ok.ids.items (grind (arith, common_steps))))))
+
+pub returns-in-Ok-starts_at-clause-sum : goal.returns-in-Ok-starts_at-clause-sum
+returns-in-Ok-starts_at-clause-sum g c stored tells =
+    c.proposed_after.ensures.sum stored (tells_still (c.in-Ok-starts_at.ensures.reads.told ∙ c.in-Ok.ensures.told) tells)
+    (c.in-Ok-starts_at.ensures.starts stored (c.in-Ok.ensures.told ∙ tells.is) tells.indexes
+    (ids-there (blocks_of stored) c.args.tree.now.entries c.args.parent c.args.height c.place_at-place.result c.deref.result.now tells.indexes
+    (there-within c.args.tree.now.entries c.args.parent _ c.requires.far) (c.place_at-place.ensures.of_blocks (blocks_of stored) tells.indexes)
+    (c.in-Ok.ensures.ids stored tells.is ∙ ap (λ (l : List (List ℕ)). Some l) (sym c.deref.ensures.value))))
+
+pub returns-clause-sum : goal.returns-clause-sum
+returns-clause-sum g c stored tells =
+    c.in-Err-starts_at.ensures.starts stored (c.in-Ok.ensures.told ∙ tells.is) tells.indexes
+    (ids-there (blocks_of stored) c.args.tree.now.entries c.args.parent c.args.height c.place_at-place.result c.deref.result.now tells.indexes
+    (there-within c.args.tree.now.entries c.args.parent _ c.requires.far) (c.place_at-place.ensures.of_blocks (blocks_of stored) tells.indexes)
+    (c.in-Ok.ensures.ids stored tells.is ∙ ap (λ (l : List (List ℕ)). Some l) (sym c.deref.ensures.value)))

@@ -1,0 +1,4 @@
+pub mod Own
+pub mod Paid
+pub mod Starts
+pub mod Reading

@@ -1,0 +1,83 @@
+// What the fees that later blocks commit give to the block that proposed their transactions.
+ghost use Rattle.std.specs.Prelude.{◌≡◌, ◌+◌, ◌^◌, ◌<◌, ◌≤◌, List, length, IsSomeAnd, pos};
+ghost use Rattle.std.specs.List.{sum_by};
+ghost use Rattle.std.specs.Str.{bytes_eq};
+ghost use Rattle.std.specs.HashMap as hashed;
+ghost use Rattle.time_defs.specs.Dao.{as_u64};
+ghost use Rattle.chain_defs.specs.Branch.{branch};
+ghost use Rattle.chain_tree.specs.Entries.{entry_at};
+ghost use Rattle.chain_tree.specs.Told.{Stored, blocks_of};
+ghost use Rattle.reward_defs.specs.Reward.{commit_heights, proposer_part};
+ghost use Rattle.rewards.specs.Starts.{AreStarts};
+ghost use Rattle.rewards.specs.Reading.{Tells, HasRead, ComesTo};
+
+use crate::amounts::plus;
+use crate::fees::proposed_at;
+use crate::places::place_at;
+use crate::starts::{Starts, starts_at};
+use chain_tree::{Blocks, Tree};
+use epochs::Spec;
+use outside::ReadStop;
+use proposal_window::ids_at;
+use std::alloc::Global;
+
+/// What the blocks from w_close to w_far after a proposer give to it, by its starts. Damaged where the source finds one
+/// of them damaged, or its ext lacks fees.
+fn proposed_after<B: Blocks>(
+    starts: &Starts,
+    spec: &Spec,
+    tree: &Tree,
+    blocks: &mut B,
+    parent: u32,
+    proposer: u64,
+) -> Result<Option<u64>, ReadStop>
+    requires fits { proposer < 2 ^ 32 }
+    requires far { IsSomeAnd (entry_at tree.now.entries parent) (λ entry. proposer + spec.now.w_far ≤ entry.number) }
+    requires counts { B.count blocks.old ≡ length tree.now.entries }
+    ensures reads { HasRead B.told B.count B.loans_of B.faults blocks.old blocks.new result }
+    ensures sum { (stored : List Stored) → Tells spec.now (B.told blocks.old) tree.now.entries stored
+        → AreStarts spec.now (branch (blocks_of stored) parent) proposer (hashed.get bytes_eq starts.now)
+        → ComesTo (λ found. found ≡ as_u64 (pos (sum_by (proposer_part spec.now (branch (blocks_of stored) parent) proposer) (commit_heights spec.now proposer)))) result }
+{
+    let low = proposer + u64::from(spec.w_close);
+    let end = proposer + u64::from(spec.w_far) + 1;
+    let mut sum = Some(0);
+    'commits: for height in low..end {
+        match proposed_at(starts, tree, blocks, parent, height) {
+            Ok(more) => sum = plus(sum, more),
+            Err(stop) => return Err(stop),
+        }
+    }
+    Ok(sum)
+}
+
+/// What later blocks give to the block at a height, for what it and its uncles propose; where they propose nothing, none
+/// is looked at. Damaged where the source finds a block damaged, or an ext lacks fees.
+pub(crate) fn proposed_by<B: Blocks>(
+    alloc: Global,
+    spec: &Spec,
+    tree: &Tree,
+    blocks: &mut B,
+    parent: u32,
+    height: u64,
+) -> Result<Option<u64>, ReadStop>
+    requires later { 1 ≤ height }
+    requires far { IsSomeAnd (entry_at tree.now.entries parent) (λ entry. height + spec.now.w_far ≤ entry.number) }
+    requires counts { B.count blocks.old ≡ length tree.now.entries }
+    ensures reads { HasRead B.told B.count B.loans_of B.faults blocks.old blocks.new result }
+    ensures sum { (stored : List Stored) → Tells spec.now (B.told blocks.old) tree.now.entries stored
+        → ComesTo (λ found. found ≡ as_u64 (pos (sum_by (proposer_part spec.now (branch (blocks_of stored) parent) height) (commit_heights spec.now height)))) result }
+{
+    let place = place_at(tree, parent, height);
+    let ids = match ids_at(alloc, tree, blocks, place) {
+        Ok(ids) => ids,
+        Err(stop) => return Err(stop),
+    };
+    if ids.is_empty() {
+        return Ok(Some(0));
+    }
+    match starts_at(alloc, &ids, spec, tree, blocks, parent, height) {
+        Ok(starts) => proposed_after(&starts, spec, tree, blocks, parent, height),
+        Err(stop) => Err(stop),
+    }
+}
