@@ -1,5 +1,5 @@
 // J27: what the inputs count and the outputs hold.
-ghost use Rattle.std.specs.Prelude.{◌≡◌, ◌<◌, ◌^◌, ℕ, IsTrue, IsSome, false, pos, ◌-ℤ◌, List, length, map, Err, Some, None, IfOk, slice_index, Option};
+ghost use Rattle.std.specs.Prelude.{◌≡◌, ◌<◌, ◌^◌, ℕ, IsTrue, IsSome, false, pos, ◌-ℤ◌, nat_abs, List, length, map, Err, Some, None, IfOk, IfSome, slice_index, Option};
 ghost use Rattle.std.specs.List.{AllZip, sum_by};
 ghost use Rattle.codec_defs.specs.Schema.{OutPoint};
 ghost use Rattle.time_defs.specs.Dao.{field_of_bytes, as_u64};
@@ -153,13 +153,14 @@ fn held_out(tx: &TxView<'_>) -> Option<u64>
     Some(sum)
 }
 
-/// The capacities of all copies.
-fn capacities(copies: &[Resolved]) -> u128
+/// The capacities of copies, one for each input of a transaction.
+fn capacities(tx: &TxView<'_>, copies: &[Resolved]) -> u128
+    requires each { length copies.now ≡ length tx.now.raw.inputs }
     ensures sum { result ≡ sum_by (λ copy. copy.row.capacity) copies.now }
-    ensures fits { result < 2 ^ 127 }
+    ensures fits { result < 2 ^ 96 }
 {
     let mut sum: u128 = 0;
-    'copies: for i in 0..copies.len() {
+    'copies: for i in 0..tx.raw().inputs_count() {
         let copy = &copies[i];
         sum += u128::from(copy.meta.capacity);
     }
@@ -168,8 +169,9 @@ fn capacities(copies: &[Resolved]) -> u128
 
 /// What inputs count beyond their capacities.
 fn beyond(counted: u64, capacities: u128) -> i128
-    requires { capacities < 2 ^ 127 }
-    ensures { result ≡ pos counted -ℤ pos capacities }
+    requires { capacities < 2 ^ 96 }
+    ensures difference { result ≡ pos counted -ℤ pos capacities }
+    ensures fits { nat_abs result < 2 ^ 96 }
 {
     i128::from(counted) - capacities as i128
 }
@@ -184,6 +186,8 @@ pub(crate) fn balance_of(
     headers: &[u32],
 ) -> Result<Option<Balance>, Damage>
     requires placed { IsPlaced at.now }
+    requires each { length copies.now ≡ length tx.now.raw.inputs }
+    ensures fits { IfOk result (λ balance. IfSome balance (λ it. nat_abs it.interest < 2 ^ 96)) }
     ensures balance { (stored : List Stored) (rows : OutPoint → Option Row) (site : Site) → IsSiteOf stored at.now rows site
         → AllZip (Copies (blocks_of stored) at.now.parent) (inputs site tx.now) copies.now → headers.now ≡ map (slice_index (branch_places (blocks_of stored) at.now.parent)) (heights site tx.now)
         → IsTrue (names_deposits site tx.now) → IfOk result (IsBalanceOf site tx.now) }
@@ -205,6 +209,6 @@ pub(crate) fn balance_of(
     }
     Ok(Some(Balance {
         fee: counted - held,
-        interest: beyond(counted, capacities(copies)),
+        interest: beyond(counted, capacities(tx, copies)),
     }))
 }

@@ -1,5 +1,5 @@
 // All rules on one transaction, in their order.
-ghost use Rattle.std.specs.Prelude.{◌≡◌, ◌++◌, List, length, map, Ok, Err, Some, None, IfOk, IsTrue, Option, slice_index, ℕ};
+ghost use Rattle.std.specs.Prelude.{◌≡◌, ◌<◌, ◌^◌, nat_abs, ◌++◌, List, length, map, Ok, Err, Some, None, IfOk, IsTrue, Option, slice_index, ℕ};
 ghost use Rattle.std.specs.List.{All, AllZip};
 ghost use Rattle.outside.specs.Causes.{CountsFault};
 ghost use Rattle.outside.specs.declared.disk.Area.TheVariants.{Log};
@@ -188,6 +188,8 @@ fn paid_by(
     places: &[u32],
 ) -> Result<Balance, TxStop>
     requires placed { IsPlaced at.now }
+    requires each { length copies.now ≡ length tx.now.raw.inputs }
+    ensures fits { IfOk result (λ balance. nat_abs balance.interest < 2 ^ 96) }
     ensures later { StopsLater result }
     ensures unread { result ≡ Err (Read DiskFault) → ⊥ }
     ensures tells { (stored : List Stored) (rows : OutPoint → Option Row) (site : Site) → IsSiteOf stored at.now rows site
@@ -262,7 +264,9 @@ fn copy_cells<B: Blocks>(
 ) -> Result<Copying, TxStop>
     requires placed { IsPlaced at.now }
     requires counts { B.count blocks.old ≡ length at.now.entries }
+    requires each { length finding.now.spent.items ≡ length tx.now.raw.inputs }
     ensures source { IsSameSource B.told B.count B.loans_of blocks.old blocks.new }
+    ensures fits { IfOk result (λ it. nat_abs it.balance.interest < 2 ^ 96) }
     ensures later { StopsLater result }
     ensures tells { (stored : List Stored) (rows : OutPoint → Option Row) (site : Site) → B.told blocks.old ≡ Some stored → IsSiteOf stored at.now rows site
         → AreFound (blocks_of stored) at.now.parent site tx.now finding.now.spent.items finding.now.named.items finding.now.places.items
@@ -316,6 +320,9 @@ pub fn resolve<'a, C: Cells, B: Blocks>(
     ensures of_rows { IfOk result (λ ok. All (CopiesItsRow (B.told blocks.old) at.now) (ok.resolved.inputs ++ ok.resolved.deps)) }
     ensures tried { (rule : ℕ) → result ≡ Err (TxStop.Broken rule) → IsTried rule }
     ensures by_rows { FollowsRows (C.rows cells.now) tx.now result }
+
+    // It has below 2^32 inputs, each of which counts and holds below 2^64 shannons.
+    ensures fits { IfOk result (λ ok. nat_abs ok.interest < 2 ^ 96) }
 
     // Over kept blocks that are told, at the site of the transaction: the first rule that is broken, or none.
     ensures broken { (stored : List Stored) (site : Site) → B.told blocks.old ≡ Some stored → IsSiteOf stored at.now (C.rows cells.now) site

@@ -12,6 +12,7 @@ use Rattle.tx_rules.proofs.capacity.balance_of.Goals as goal
 
 pub returns-in-Err : goal.returns-in-Err
 returns-in-Err c = record {
+  fits = tt;
   balance = λ stored rows site is each are named. tt;
   undamaged = λ stored rows site is each are named damage same.
       c.in-Err.ensures.undamaged stored rows site is each are named c.in-Err.damage refl;
@@ -36,7 +37,7 @@ returns-clause-balance c stored rows site is each are named =
     let fits : SFits w128 c.beyond.result = search rules in (
       all-balances (counted_in site c.args.tx.now) (held_out c.args.tx.now) (2 ^ 64) inside.1 outside.1 (omega (arith, inside.0, outside.0, c.if-held-counted.false)),
       ap (λ (n : ℕ). n - c.in-Some.held) inside.0 ∙ ap (λ (n : ℕ). counted_in site c.args.tx.now - n) outside.0,
-      to_z-of_z w128 c.beyond.result fits ∙ c.beyond.ensures
+      to_z-of_z w128 c.beyond.result fits ∙ c.beyond.ensures.difference
           ∙ ap (λ (n : ℕ). pos n -ℤ pos c.capacities.result) inside.0
           ∙ ap (λ (n : ℕ). pos (counted_in site c.args.tx.now) -ℤ pos n)
           (c.capacities.ensures.sum ∙ capacities-same (blocks_of stored) c.args.at.now.parent (inputs site c.args.tx.now) c.args.copies.now each),

@@ -1,13 +1,14 @@
-use Rattle.std.proofs.Common.{◌≡◌, List, Option, Err, map, ap, subst, sym, ◌∙◌}
+use Rattle.std.proofs.Common.{◌≡◌, List, Option, Err, map, length, ap, subst, sym, ◌∙◌}
 use Rattle.std.specs.Prelude.{slice_index}
 use Rattle.std.specs.List.{All, AllZip}
+use Rattle.std.proofs.lemmas.List.{length-map}
 use Rattle.std.proofs.lemmas.List.Elements.{All-append}
 use Rattle.cell_model.specs.Copies.{ResolvedValue}
 use Rattle.chain_defs.specs.Branch.{branch_places}
 use Rattle.chain_tree.specs.Told.{Stored, blocks_of}
 use Rattle.tx_defs.specs.Resolving.{inputs, deps, heights}
 use Rattle.tx_rules.specs.At.{found_row}
-use Rattle.tx_rules.specs.Copying.{CopiesItsRow, HoldsOutput}
+use Rattle.tx_rules.specs.Copying.{row_in, CopiesItsRow, HoldsOutput}
 use Rattle.tx_rules.specs.Outcome.{Copies}
 use Rattle.tx_rules.specs.Steps.{paying_rules}
 use Rattle.outside.proofs.Endings.{no_fault, no_answer, handed, behind}
@@ -18,9 +19,15 @@ use Rattle.tx_rules.proofs.RuleLemmas.{read-stops}
 use Rattle.tx_rules.proofs.RowRuleLemmas.{later-read}
 use Rattle.tx_rules.proofs.resolving.copy_cells.Goals as goal
 
+pub paid_by-requires-clause-each : goal.paid_by-requires-clause-each
+paid_by-requires-clause-each g c =
+    ap length c.deref-2.ensures.value ∙ sym (length-map c.in-Ok.inputs.items row_in)
+    ∙ ap length (c.in-Ok.ensures.rows ∙ c.deref.ensures.value) ∙ c.requires.each
+
 pub returns-in-Err : goal.returns-in-Err
 returns-in-Err g c = record {
   source = c.in-Err.ensures.source;
+  fits = tt;
   later = later-read c.in-Err.stop (λ damage same. c.in-Err.ensures.damage damage (ap Err same));
   tells = λ stored rows site told is found.
       let spent : c.deref.result.now ≡ map (found_row (blocks_of stored) c.args.at.now.parent) (inputs site c.args.tx.now) = c.deref.ensures.value ∙ found.spent_are in
@@ -38,6 +45,7 @@ returns-in-Err g c = record {
 pub returns-in-Err-paid_by : goal.returns-in-Err-paid_by
 returns-in-Err-paid_by g c = record {
   source = c.in-Ok.ensures.source;
+  fits = tt;
   later = c.in-Err-paid_by.ensures.later;
   tells = λ stored rows site told is found.
       let spent : c.deref.result.now ≡ map (found_row (blocks_of stored) c.args.at.now.parent) (inputs site c.args.tx.now) = c.deref.ensures.value ∙ found.spent_are in
@@ -59,6 +67,7 @@ returns-in-Err-paid_by g c = record {
 pub returns-in-Err-fetch_all : goal.returns-in-Err-fetch_all
 returns-in-Err-fetch_all g c = record {
   source = then-source c.in-Ok.ensures.source c.in-Err-fetch_all.ensures.source;
+  fits = tt;
   later = later-read c.in-Err-fetch_all.stop (λ damage same. c.in-Err-fetch_all.ensures.damage damage (ap Err same));
   tells = λ stored rows site told is found.
       let named : c.deref-4.result.now ≡ map (found_row (blocks_of stored) c.args.at.now.parent) (deps site c.args.tx.now) = c.deref-4.ensures.value ∙ found.named_are in
@@ -77,6 +86,7 @@ returns-in-Err-fetch_all g c = record {
 pub returns-in-Ok-fetch_all : goal.returns-in-Ok-fetch_all
 returns-in-Ok-fetch_all g c = record {
   source = then-source c.in-Ok.ensures.source c.in-Ok-fetch_all.ensures.source;
+  fits = c.in-Ok-paid_by.ensures.fits;
   later = tt;
   tells = λ stored rows site told is found.
       let spent : c.deref.result.now ≡ map (found_row (blocks_of stored) c.args.at.now.parent) (inputs site c.args.tx.now) = c.deref.ensures.value ∙ found.spent_are in

@@ -10,6 +10,7 @@ use Rattle.tx_rules.proofs.resolving.paid_by.Goals as goal
 
 pub returns-in-Ok-false : goal.returns-in-Ok-false
 returns-in-Ok-false c = record {
+  fits = tt;
   later = later-26;
   unread = broken_unread 26 DiskFault;
   tells = λ stored rows site is copies places.
@@ -19,6 +20,7 @@ returns-in-Ok-false c = record {
 
 pub returns-in-Err : goal.returns-in-Err
 returns-in-Err c = record {
+  fits = tt;
   later = later-read c.in-Err.stop (λ damage same. c.in-Err.ensures.damage damage (ap Err same));
   unread = λ same. c.in-Err.ensures.no_fault (fault_read c.in-Err.stop same);
   tells = λ stored rows site is copies places.
@@ -28,6 +30,7 @@ returns-in-Err c = record {
 
 pub returns-in-Ok-Some : goal.returns-in-Ok-Some
 returns-in-Ok-Some c = record {
+  fits = rw c.in-Ok-Some.field-0-is at c.in-Ok-Some.ensures.fits;
   later = tt;
   unread = no_answer _ _;
   tells = λ stored rows site is copies places.
@@ -42,6 +45,7 @@ returns-in-Ok-Some c = record {
 
 pub returns-in-Ok-None : goal.returns-in-Ok-None
 returns-in-Ok-None c = record {
+  fits = tt;
   later = later-27;
   unread = broken_unread 27 DiskFault;
   tells = λ stored rows site is copies places.
@@ -52,6 +56,7 @@ returns-in-Ok-None c = record {
 
 pub returns-in-Err-balance_of : goal.returns-in-Err-balance_of
 returns-in-Err-balance_of c = record {
+  fits = tt;
   later = c.in-Err-balance_of.ensures.damage c.in-Err-balance_of.damage refl;
   unread = damage_unread c.in-Err-balance_of.damage;
   tells = λ stored rows site is copies places.

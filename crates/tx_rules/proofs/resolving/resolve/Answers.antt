@@ -1,18 +1,26 @@
-use Rattle.std.proofs.Common.{◌≡◌, ◌++◌, List, Option, subst, ◌∙◌, rules}
+use Rattle.std.proofs.Common.{◌≡◌, ◌<◌, ◌^◌, ℤ, nat_abs, ◌++◌, List, Option, subst, sym, ◌∙◌, rules}
 use Rattle.std.specs.Int.{w128}
 use Rattle.std.specs.List.{All}
 use Rattle.std.proofs.lemmas.Int.{to_z-of_z}
+use Rattle.codec_defs.specs.Schema.{CellInput}
 use Rattle.tx_defs.specs.Capacity.{interest}
 use Rattle.chain_tree.specs.Told.{Stored}
+use Rattle.tx_rules.specs.At.{find_row}
 use Rattle.tx_rules.specs.Copying.{CopiesItsRow}
+use Rattle.tx_rules.proofs.AllThere.{all_there-long}
 use Rattle.tx_rules.specs.Steps.{finding_rules, paying_rules}
 use Rattle.outside.proofs.Endings.{no_fault, no_answer, behind, counts-handed}
-use Rattle.tx_rules.proofs.RuleLemmas.{stops-front, stops-back, tried-of, damage-of, broken-of, undamaged-of, all-rules, keeps-all, copied-inputs}
+use Rattle.tx_rules.proofs.RuleLemmas.{rows-named, stops-front, stops-back, tried-of, damage-of, broken-of, undamaged-of, all-rules, keeps-all, copied-inputs}
 use Rattle.tx_rules.proofs.RowRuleLemmas.{later-stops, follows-on, follows-behind}
 use Rattle.tx_rules.proofs.resolving.resolve.Goals as goal
 
 pub from_encoding-requires : goal.from_encoding-requires
 from_encoding-requires g c = (c.args.tx.now, c.bytes.ensures)
+
+pub copy_cells-requires-clause-each : goal.copy_cells-requires-clause-each
+copy_cells-requires-clause-each g c =
+    all_there-long (λ (input : CellInput). find_row (g.C.Cells.rows c.args.cells.now) input.previous_output) c.args.tx.now.raw.inputs c.in-Ok.found.spent.items
+    (rows-named (g.C.Cells.rows c.args.cells.now) c.args.tx.now c.in-Ok.found.spent.items c.in-Ok.ensures.spent)
 
 pub returns-in-Err : goal.returns-in-Err
 returns-in-Err g c = record {
@@ -23,6 +31,7 @@ returns-in-Err g c = record {
   of_rows = tt;
   tried = λ rule same. tried-of _ rule c.in-Err.ensures.stops same;
   by_rows = follows-on (g.C.Cells.rows c.args.cells.now) c.args.tx.now c.in-Err.stop c.in-Err.ensures.by_rows;
+  fits = tt;
   broken = λ stored site told is rule same.
       broken-of site c.args.tx.now _ rule
       (stops-front (finding_rules site c.args.tx.now) (paying_rules site c.args.tx.now) c.in-Err.stop (c.in-Err.ensures.tells stored site told is)) same;
@@ -46,6 +55,7 @@ returns-in-Err-copy_cells g c = record {
   of_rows = tt;
   tried = λ rule same. tried-of _ rule (later-stops c.in-Err-copy_cells.stop c.in-Err-copy_cells.ensures.later) same;
   by_rows = follows-behind (g.C.Cells.rows c.args.cells.now) c.args.tx.now c.in-Ok.found _ c.in-Ok.ensures.by_rows c.in-Err-copy_cells.ensures.later;
+  fits = tt;
   broken = λ stored site told is rule same.
       broken-of site c.args.tx.now _ rule
       (stops-back (finding_rules site c.args.tx.now) (paying_rules site c.args.tx.now) c.in-Err-copy_cells.stop (c.in-Ok.ensures.tells stored site told is)
@@ -80,6 +90,8 @@ returns g c = record {
       c.in-Ok.ensures.source.told c.in-Ok-copy_cells.ensures.of_rows;
   tried = λ rule same. absurd (no_answer _ _ same);
   by_rows = follows-behind (g.C.Cells.rows c.args.cells.now) c.args.tx.now c.in-Ok.found _ c.in-Ok.ensures.by_rows tt;
+  fits =
+      subst (λ (z : ℤ). nat_abs z < 2 ^ 96) (sym (to_z-of_z w128 c.in-Ok-copy_cells.copied.balance.interest (search rules))) c.in-Ok-copy_cells.ensures.fits;
   broken = λ stored site told is rule same. absurd (no_answer _ _ same);
   unbroken = λ stored site told is.
       all-rules site c.args.tx.now ∙ keeps-all (finding_rules site c.args.tx.now) (paying_rules site c.args.tx.now) (c.in-Ok.ensures.tells stored site told is)
