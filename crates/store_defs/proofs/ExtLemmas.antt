@@ -1,18 +1,18 @@
 -- The ext beside the block of a record: its form, and its fees.
-use Rattle.std.proofs.Common.{◌≡◌, ℕ, zero, suc, ◌+◌, ◌-◌, ◌*◌, ◌<◌, ◌≤◌, ◌^◌, Bool, true, false, cond, leb, List, [], ◌∷◌, ◌++◌, length, map, take, drop, Option, Some, None, refl, sym, ap, ◌∙◌, subst, arith}
+use Rattle.std.proofs.Common.{◌≡◌, ℕ, zero, suc, ◌+◌, ◌-◌, ◌*◌, ◌<◌, ◌≤◌, ◌^◌, Bool, true, false, cond, leb, List, [], ◌∷◌, ◌++◌, length, map, take, drop, Option, Some, None, refl, sym, ap, ◌∙◌, subst, inl, inr, ◌⊎◌, arith}
 use Rattle.std.specs.Prelude.{◌&&◌, ◌==◌, slice_get, IsTrue}
 use Rattle.std.specs.Option.{option_and_then}
 use Rattle.std.specs.List.{concat}
 use Rattle.std.specs.Int.{w32, w64, to_le_bytes}
 use Rattle.std.proofs.lemmas.Bool.{and_parts}
 use Rattle.std.proofs.lemmas.Nat.{from_le_bytes-to_le_bytes_4}
-use Rattle.std.proofs.lemmas.List.{length-append, length-drop, length_push, take_at, append_assoc}
+use Rattle.std.proofs.lemmas.List.{length-append, length-drop, length_push, take-append-le, take_at, append_assoc}
 use Rattle.outside.specs.Image.{Image}
 use Rattle.codec_defs.specs.Shape.{decoded}
 use Rattle.codec_defs.specs.Schema.{Transaction, Block, block}
 use Rattle.chain_defs.specs.Kept.{block_at, blocks_of_item}
 use Rattle.chain_defs.specs.Branch.{branch}
-use Rattle.chain_defs.proofs.KeptLaws.{slice_get-before, slice_get-push}
+use Rattle.chain_defs.proofs.KeptLaws.{slice_get-before, slice_get-push, slice_get-pushed}
 use Rattle.time_defs.specs.Specification.{Specification}
 use Rattle.cell_defs.specs.Ext.{Ext, row_bytes, ext_bytes, count_at, is_ext}
 use Rattle.block_defs.specs.Ext.{ext_of}
@@ -21,9 +21,9 @@ use Rattle.verdict_defs.specs.Chain.{Chain}
 use Rattle.verdict_defs.specs.Laws.{CanJoin}
 use Rattle.log_defs.specs.Log.{Record, LogContent, record_limit, records_of, log_of, content_of_records, are_first, blocks_over, block_of_record, block_of_parts, block_if, may_stand_on, parts_of_body}
 use Rattle.log_defs.specs.LogLaws.{HasFittingBody}
-use Rattle.store_defs.specs.Store.{StandsFor, HasJoined, EachHasJoined, ext_over, ext_on, ext_of_found, chain_before}
+use Rattle.store_defs.specs.Store.{StandsFor, HasJoined, EachHasJoined, HaveOwnExts, ext_over, ext_on, own_ext, ext_of_found, chain_before}
 use Rattle.log_defs.proofs.Contents.{one_genesis, good_genesis, said}
-use Rattle.store_defs.proofs.JoinedLemmas.{over-front, joined_item, content_of_log}
+use Rattle.store_defs.proofs.JoinedLemmas.{over-front, joined_item, item_of_record, content_of_log}
 
 -- ---- The bytes of an ext
 
@@ -42,11 +42,11 @@ fees-within ext =
     omega (arith, length-append ((count ++ fees) ++ rows) spent, length-append (count ++ fees) rows, length-append count fees, length-fees ext.fees)
 
 -- The count at the front is that of the fees.
-counts-fees : (ext : Ext) → length ext.fees < 2 ^ 32 → count_at (ext_bytes ext) 0 ≡ length ext.fees
+pub counts-fees : (ext : Ext) → length ext.fees < 2 ^ 32 → count_at (ext_bytes ext) 0 ≡ length ext.fees
 unfolding ext_bytes
 counts-fees ext fits = from_le_bytes-to_le_bytes_4 (length ext.fees) fits
 
-length-fees_from : (spec : Specification) (on : List Block) (b : Block) (place : ℕ) (later : List Transaction) → length (fees_from spec on b place later) ≡ length later
+pub length-fees_from : (spec : Specification) (on : List Block) (b : Block) (place : ℕ) (later : List Transaction) → length (fees_from spec on b place later) ≡ length later
 unfolding fees_from
 length-fees_from spec on b place [] = refl
 length-fees_from spec on b place (t ∷ later) = ap suc (length-fees_from spec on b (suc place) later)
@@ -105,6 +105,42 @@ fees_of_record before r after item ext b has fits parts canonical =
     let few : length its.fees < 2 ^ 32 = omega (arith, fees-within its, ap length ext_is, ext-within r.body item ext parts, fits) in
     ap (λ (bytes : List ℕ). count_at bytes 0) (sym ext_is) ∙ counts-fees its few ∙ fees_of_block before.spec before.blocks can.may.parent can.block
     ∙ ap (λ (x : Block). length x.transactions - 1) block_is
+
+-- Beside the item of a record whose block joined stands the own ext of that block.
+pub own_of_record : (log : LogContent) → EachHasJoined log → (before : ℕ) (r : Record) (b : Block) → slice_get log.records before ≡ Some r
+    → block_at log.blocks (before + 1) ≡ Some b → (item : List ℕ) × (parts_of_body r.body ≡ Some (item, own_ext (chain_before log (before + 1)) b))
+unfolding ext_over
+own_of_record log each before r b there here =
+    let has : HasJoined (chain_before log (before + 1)) r (chain_before log (before + 2)) = each before r there in
+    let found = item_of_record log before r b has here in
+    let own : ext_over (chain_before log (before + 1)) has.item ≡ own_ext (chain_before log (before + 1)) b =
+    ap (ext_of_found (chain_before log (before + 1))) found.0.canonical ∙ ap (own_ext (chain_before log (before + 1))) found.1 in
+    (has.item, has.parts ∙ ap (pair has.item) own)
+
+-- With its own ext beside one block more, each block has its own.
+pub own_push : (chain : Chain) (exts : List (List ℕ)) (b : Block) → HaveOwnExts chain exts
+    → HaveOwnExts (record { spec = chain.spec; blocks = chain.blocks ++ b ∷ [] }) (exts ++ own_ext chain b ∷ [])
+own_push chain exts b have = record {
+  as_many = length_push exts (own_ext chain b) ∙ ap (λ (n : ℕ). n + 1) have.as_many ∙ sym (length_push kept b);
+  own = λ place other above there. own_at place other above (slice_get-pushed kept b place other there);
+}
+  where
+    kept : List Block
+    kept = chain.blocks
+
+    with_kept : List Block → Chain
+    with_kept blocks = record { spec = chain.spec; blocks = blocks }
+
+    own_at : (place : ℕ) (other : Block) → 0 < place → ((place < length kept) × (block_at kept place ≡ Some other)) ⊎ ((place ≡ length kept) × (b ≡ other))
+        → slice_get (exts ++ own_ext chain b ∷ []) place ≡ Some (own_ext (with_kept (take place (kept ++ b ∷ []))) other)
+    own_at place other above (inl before) =
+        slice_get-before exts (own_ext chain b ∷ []) place (omega (arith, before.0, have.as_many)) ∙ have.own place other above before.1
+        ∙ ap (λ (earlier : List Block). Some (own_ext (with_kept earlier) other)) (sym (take-append-le place kept (b ∷ []) (omega (arith, before.0))))
+    own_at place other above (inr last) =
+        let at : place ≡ length exts = last.0 ∙ sym have.as_many in
+        ap (slice_get (exts ++ own_ext chain b ∷ [])) at ∙ slice_get-push exts (own_ext chain b)
+        ∙ ap (λ (x : Block). Some (own_ext chain x)) last.1
+        ∙ ap (λ (earlier : List Block). Some (own_ext (with_kept earlier) other)) (sym (take_at kept (b ∷ []) place (sym last.0)))
 
 -- ---- The records of a log
 

@@ -146,15 +146,13 @@ joined_item spec kept item grown = by_joins (joins (verdict spec kept item)) ref
         let can : CanJoin spec kept item = (joins-exactly spec kept item).0 joins_now in
         (can, ((keeps-what-joins spec kept item).0 can).1)
 
--- The block at a place behind the genesis could join over those before it.
-block_joined : (log : LogContent) → EachHasJoined log → length log.blocks ≡ length log.records + 1
-    → (before : ℕ) (b : Block) → block_at log.blocks (before + 1) ≡ Some b → MayJoin (chain_of log).spec (take (before + 1) log.blocks) b
-block_joined log each count before b there =
+-- The item of a record could join over the blocks before it, and the next block is its own.
+pub item_of_record : (log : LogContent) (before : ℕ) (r : Record) (b : Block) (has : HasJoined (chain_before log (before + 1)) r (chain_before log (before + 2)))
+    → block_at log.blocks (before + 1) ≡ Some b → (can : CanJoin (chain_of log).spec (take (before + 1) log.blocks) has.item) × (can.block ≡ b)
+item_of_record log before r b has there =
     let within : before + 1 < length log.blocks = slice_get_within log.blocks (before + 1) b there in
-    let r = slice_get-below log.records before (omega (arith, within, count)) in
     let spec : Specification = specification_of log.specification in
     let kept : List Block = take (before + 1) log.blocks in
-    let has : HasJoined (chain_before log (before + 1)) r.0 (chain_before log (before + 2)) = each before r.0 r.1 in
     let after : take (before + 2) log.blocks ≡ kept_after spec kept has.item = ap (λ (c : Chain). c.blocks) has.kept in
     let joined = joined_item spec kept has.item (ap length (sym after) ∙ has.grown) in
     let can : CanJoin spec kept has.item = joined.0 in
@@ -164,7 +162,16 @@ block_joined log each count before b there =
     ∙ ap (λ (blocks : List Block). slice_get blocks (before + 1)) (after ∙ joined.1)
     ∙ ap (slice_get (kept ++ can.block ∷ [])) (sym size) ∙ slice_get-push kept can.block in
     let same : can.block ≡ b = (cc) in
-    subst (MayJoin spec kept) same can.may
+    (can, same)
+
+-- The block at a place behind the genesis could join over those before it.
+block_joined : (log : LogContent) → EachHasJoined log → length log.blocks ≡ length log.records + 1
+    → (before : ℕ) (b : Block) → block_at log.blocks (before + 1) ≡ Some b → MayJoin (chain_of log).spec (take (before + 1) log.blocks) b
+block_joined log each count before b there =
+    let within : before + 1 < length log.blocks = slice_get_within log.blocks (before + 1) b there in
+    let r = slice_get-below log.records before (omega (arith, within, count)) in
+    let found = item_of_record log before r.0 b (each before r.0 r.1) there in
+    subst (MayJoin (chain_of log).spec (take (before + 1) log.blocks)) found.1 found.0.may
 
 -- ---- A log whose blocks joined
 

@@ -41,9 +41,13 @@ abbrev pub ext_on : Chain → Block → Option ℕ → List ℕ
 ext_on chain b None = []
 ext_on chain b (Some parent) = ext_bytes (ext_of chain.spec chain.blocks parent b)
 
+-- those of its own ext: on the kept parent that it names
+abbrev pub own_ext : Chain → Block → List ℕ
+own_ext chain b = ext_on chain b (place_of chain.blocks b.header.parent_hash)
+
 abbrev pub ext_of_found : Chain → Option Block → List ℕ
 ext_of_found chain None = []
-ext_of_found chain (Some b) = ext_on chain b (place_of chain.blocks b.header.parent_hash)
+ext_of_found chain (Some b) = own_ext chain b
 
 -- The ext that the block of an item has over a chain.
 unfoldable pub ext_over : Chain → List ℕ → List ℕ
@@ -62,6 +66,20 @@ pub record IsJoined (chain : Chain) : Type 0 where
   pub first : block_at chain.blocks 0 ≡ Some genesis
   pub good : first_failing (genesis_rules genesis) ≡ None
   pub each : (place : ℕ) (b : Block) → 0 < place → block_at chain.blocks place ≡ Some b → MayJoin chain.spec (take place chain.blocks) b
+
+-- the chain where its first blocks stand alone, so many of them
+abbrev pub first_of : Chain → ℕ → Chain
+first_of chain count = record { spec = chain.spec; blocks = take count chain.blocks }
+
+-- As many exts as blocks: beside each block after the genesis stands its own, over the blocks before it. Beside the genesis anything may stand.
+pub record HaveOwnExts (chain : Chain) (exts : List (List ℕ)) : Type 0 where
+  pub as_many : length exts ≡ length chain.blocks
+  pub own : (place : ℕ) (b : Block) → 0 < place → block_at chain.blocks place ≡ Some b → slice_get exts place ≡ Some (own_ext (first_of chain place) b)
+
+-- What is kept has joined: the blocks of a chain, each with its own ext beside it.
+pub record AreJoined (chain : Chain) (exts : List (List ℕ)) : Type 0 where
+  pub joined : IsJoined chain
+  pub own : HaveOwnExts chain exts
 
 -- the chain where the first blocks of a log stand alone, so many of them
 abbrev pub chain_before : LogContent → ℕ → Chain
