@@ -4,7 +4,6 @@ use Rattle.std.specs.Prelude.{ℕ, Bool, List, [], ◌∷◌, ◌++◌, Option}
 use Rattle.codec_defs.specs.Schema.{Transaction, Block}
 use Rattle.fold_defs.specs.First.{first_failing}
 use Rattle.time_defs.specs.Specification.{Specification}
-use Rattle.time_defs.specs.Dao.{is_rated}
 use Rattle.tx_defs.specs.Site.{site_after}
 use Rattle.tx_defs.specs.Rules.{form_rules, cell_rules}
 use Rattle.script_defs.specs.Scene.{scene_of}
@@ -12,16 +11,14 @@ use Rattle.script_defs.specs.Rules.{script_rules}
 use Rattle.rule_defs.specs.Header.{header_rules}
 use Rattle.rule_defs.specs.Body.{body_rules}
 use Rattle.family_defs.specs.Rules.{family_rules}
+use Rattle.reward_defs.specs.Rules.{end_rules}
 use Rattle.block_defs.specs.Transactions.{rules_of_transactions}
-
--- Of J32, what is looked at so far: its DAO field is rated.
-abbrev pub end_rules : Block → List (ℕ × Bool)
-end_rules b = (32, is_rated b.header.dao) ∷ []
 
 -- The rules on a block that stands on this branch, genesis to its parent, under the specification of its chain.
 unfoldable pub all_rules : Specification → List Block → Block → List (ℕ × Bool)
 all_rules spec branch b =
-    header_rules spec branch b ++ (body_rules spec b ++ (family_rules spec branch b ++ (rules_of_transactions spec branch b ++ end_rules b)))
+    header_rules spec branch b
+    ++ (body_rules spec b ++ (family_rules spec branch b ++ (rules_of_transactions spec branch b ++ end_rules spec branch b)))
 
 -- The first rule that it breaks.
 unfoldable pub first_broken : Specification → List Block → Block → Option ℕ

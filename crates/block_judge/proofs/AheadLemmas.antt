@@ -18,14 +18,14 @@ use Rattle.rule_defs.specs.Body.{fits_length, has_proposals, commits_to_proposal
 use Rattle.family_defs.specs.Uncles.{has_uncles}
 use Rattle.family_defs.specs.Cellbase.{has_cellbase, begins_with_cellbase, forms_cellbase}
 use Rattle.block_defs.specs.Transactions.{rules_of_transactions}
-use Rattle.block_defs.specs.Rules.{end_rules, all_rules, first_broken}
+use Rattle.reward_defs.specs.Rules.{end_rules}
+use Rattle.block_defs.specs.Rules.{all_rules, first_broken}
 use Rattle.family_defs.specs.Rules.{family_rules}
-use Rattle.time_defs.specs.Dao.{is_rated}
 use Rattle.outside.specs.declared.disk.ReadStop.{ReadStop}
 use Rattle.outside.specs.declared.disk.ReadStop.TheVariants.{DiskFault, NoMemory, Damaged}
 use Rattle.block_judge.specs.declared.stop.Judged.{Judged}
 use Rattle.block_judge.specs.declared.stop.Judged.TheVariants.{Broken, Read}
-use Rattle.block_judge.specs.Ahead.{ahead, StopsAhead, StopsRated}
+use Rattle.block_judge.specs.Ahead.{ahead, StopsAhead}
 use Rattle.block_judge.proofs.Exits.{not_damage, not_fault}
 
 -- ---- Rules ahead of the transactions
@@ -114,40 +114,34 @@ live-there kept parent o row is = ap is_some is ∙ by_cell (live_cell (branch k
 
 -- ---- All rules
 
-in-two : (spec : Specification) (on : List Block) (b : Block) → all_rules spec on b ≡ ahead spec on b ++ (rules_of_transactions spec on b ++ end_rules b)
+in-two : (spec : Specification) (on : List Block) (b : Block) → all_rules spec on b ≡ ahead spec on b ++ (rules_of_transactions spec on b ++ end_rules spec on b)
 unfolding all_rules
 in-two spec on b =
-    ap (λ (rest : List (ℕ × Bool)). header_rules spec on b ++ rest) (sym (append_assoc (body_rules spec b) (family_rules spec on b) (rules_of_transactions spec on b ++ end_rules b)))
-    ∙ sym (append_assoc (header_rules spec on b) (body_rules spec b ++ family_rules spec on b) (rules_of_transactions spec on b ++ end_rules b))
+    ap (λ (rest : List (ℕ × Bool)). header_rules spec on b ++ rest) (sym (append_assoc (body_rules spec b) (family_rules spec on b) (rules_of_transactions spec on b ++ end_rules spec on b)))
+    ∙ sym (append_assoc (header_rules spec on b) (body_rules spec b ++ family_rules spec on b) (rules_of_transactions spec on b ++ end_rules spec on b))
 
 pub first-ahead : (spec : Specification) (on : List Block) (b : Block) (rule : ℕ) → first_failing (ahead spec on b) ≡ Some rule → first_broken spec on b ≡ Some rule
 unfolding first_broken
 first-ahead spec on b rule is =
-    ap first_failing (in-two spec on b) ∙ first_failing-append-fails rule (ahead spec on b) (rules_of_transactions spec on b ++ end_rules b) is
+    ap first_failing (in-two spec on b) ∙ first_failing-append-fails rule (ahead spec on b) (rules_of_transactions spec on b ++ end_rules spec on b) is
 
 behind-ahead : (spec : Specification) (on : List Block) (b : Block) → first_failing (ahead spec on b) ≡ None
-    → first_broken spec on b ≡ first_failing (rules_of_transactions spec on b ++ end_rules b)
+    → first_broken spec on b ≡ first_failing (rules_of_transactions spec on b ++ end_rules spec on b)
 unfolding first_broken
 behind-ahead spec on b kept =
     ap first_failing (in-two spec on b)
-    ∙ first_failing-append-holds (ahead spec on b) (rules_of_transactions spec on b ++ end_rules b) ((finds_none (ahead spec on b)).0 kept)
+    ∙ first_failing-append-holds (ahead spec on b) (rules_of_transactions spec on b ++ end_rules spec on b) ((finds_none (ahead spec on b)).0 kept)
 
 pub first-transaction : (spec : Specification) (on : List Block) (b : Block) (rule : ℕ) → first_failing (ahead spec on b) ≡ None
     → first_failing (rules_of_transactions spec on b) ≡ Some rule → first_broken spec on b ≡ Some rule
-first-transaction spec on b rule kept is = behind-ahead spec on b kept ∙ first_failing-append-fails rule (rules_of_transactions spec on b) (end_rules b) is
+first-transaction spec on b rule kept is = behind-ahead spec on b kept ∙ first_failing-append-fails rule (rules_of_transactions spec on b) (end_rules spec on b) is
 
-at-end : (spec : Specification) (on : List Block) (b : Block) → first_failing (ahead spec on b) ≡ None → first_failing (rules_of_transactions spec on b) ≡ None
-    → first_broken spec on b ≡ first_failing (end_rules b)
+-- One that keeps those before is judged by the last ones.
+pub at-end : (spec : Specification) (on : List Block) (b : Block) → first_failing (ahead spec on b) ≡ None → first_failing (rules_of_transactions spec on b) ≡ None
+    → first_broken spec on b ≡ first_failing (end_rules spec on b)
 at-end spec on b kept judged =
-    behind-ahead spec on b kept ∙ first_failing-append-holds (rules_of_transactions spec on b) (end_rules b) ((finds_none (rules_of_transactions spec on b)).0 judged)
-
-pub first-end : (spec : Specification) (on : List Block) (b : Block) → first_failing (ahead spec on b) ≡ None → first_failing (rules_of_transactions spec on b) ≡ None
-    → is_rated b.header.dao ≡ false → first_broken spec on b ≡ Some 32
-first-end spec on b kept judged rated = at-end spec on b kept judged ∙ first_failing-fails 32 (is_rated b.header.dao) [] rated
-
-pub keeps-all : (spec : Specification) (on : List Block) (b : Block) → first_failing (ahead spec on b) ≡ None → first_failing (rules_of_transactions spec on b) ≡ None
-    → is_rated b.header.dao ≡ true → first_broken spec on b ≡ None
-keeps-all spec on b kept judged rated = at-end spec on b kept judged ∙ first_failing-holds 32 (is_rated b.header.dao) [] rated ∙ first_failing-none
+    behind-ahead spec on b kept
+    ∙ first_failing-append-holds (rules_of_transactions spec on b) (end_rules spec on b) ((finds_none (rules_of_transactions spec on b)).0 judged)
 
 -- ---- Answers over any source of blocks
 
@@ -165,8 +159,3 @@ stops-behind first (Broken rule) none later = inr (later rule refl, none)
 stops-behind first (Read NoMemory) none later = tt
 stops-behind first (Read DiskFault) none later = none
 stops-behind first (Read (Damaged damage)) none later = none
-
--- one at a rule before J32
-pub stops-unrated : (rated : Bool) (stop : Judged) → ((rule : ℕ) → stop ≡ Broken rule → rule < 32) → StopsRated rated stop
-stops-unrated rated (Broken rule) below = λ last. let low = below rule refl in absurd (omega (arith, low, last))
-stops-unrated rated (Read why) below = tt

@@ -9,4 +9,6 @@ pub mod CellbaseLemmas
 pub mod AheadLemmas
 pub mod NextLemmas
 pub mod RowsLemmas
+pub mod MovedLemmas
+pub mod EndingLemmas
 pub mod Exits

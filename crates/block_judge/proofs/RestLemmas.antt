@@ -16,7 +16,7 @@ use Rattle.tx_defs.specs.Site.{site_at}
 use Rattle.block_defs.specs.Ext.{rows_spent, spent_from}
 
 -- the transaction at a place, and those behind it
-rest-next : (transactions : List Transaction) (place : ℕ) (t : Transaction) → slice_get transactions place ≡ Some t
+pub rest-next : (transactions : List Transaction) (place : ℕ) (t : Transaction) → slice_get transactions place ≡ Some t
     → drop place transactions ≡ t ∷ drop (place + 1) transactions
 rest-next transactions place t there =
     let next : suc place ≡ place + 1 = omega arith in

@@ -1,5 +1,5 @@
--- What an answer on a block says whatever is told of kept blocks: of the rules ahead of its transactions, and of the one behind them.
-use Rattle.std.specs.Prelude.{◌≡◌, ◌⊎◌, ⊤, ℕ, ◌<◌, Bool, true, false, List, ◌++◌, Option, Some, None, Result, Ok, Err}
+-- What an answer on a block says whatever is told of kept blocks: of the rules ahead of its transactions.
+use Rattle.std.specs.Prelude.{◌≡◌, ◌⊎◌, ⊤, ℕ, ◌<◌, Bool, List, ◌++◌, Option, Some, None, Result, Ok, Err}
 use Rattle.outside.specs.declared.disk.ReadStop.TheVariants.{DiskFault, NoMemory, Damaged}
 use Rattle.codec_defs.specs.Schema.{Block}
 use Rattle.time_defs.specs.Specification.{Specification}
@@ -24,12 +24,3 @@ StopsAhead first (Read (Damaged damage)) = first ≡ None
 abbrev pub SaysAhead : {T : Type 0} → Option ℕ → Result T Judged → Type 0
 SaysAhead first (Ok it) = first ≡ None
 SaysAhead first (Err stop) = StopsAhead first stop
-
--- J32 is broken where it is answered, and kept where a block is taken.
-abbrev pub StopsRated : Bool → Judged → Type 0
-StopsRated rated (Broken rule) = rule ≡ 32 → rated ≡ false
-StopsRated rated (Read stop) = ⊤
-
-abbrev pub SaysRated : {T : Type 0} → Bool → Result T Judged → Type 0
-SaysRated rated (Ok it) = rated ≡ true
-SaysRated rated (Err stop) = StopsRated rated stop

@@ -1,6 +1,7 @@
 -- What a block is judged over, and what that stands for.
 use Rattle.std.specs.Prelude.{◌≡◌, ◌⊎◌, ℕ, ◌≤◌, List, Option, Some, IsTrue, IsSome}
 use Rattle.codec_defs.specs.Schema.{OutPoint}
+use Rattle.time_defs.specs.Specification.{Specification}
 use Rattle.chain_defs.specs.Branch.{branch}
 use Rattle.chain_tree.specs.declared.entry.Entry.{Entry}
 use Rattle.chain_tree.specs.Blocks.{IndexesBlocks}
@@ -8,6 +9,8 @@ use Rattle.chain_tree.specs.Told.{Stored, blocks_of}
 use Rattle.cell_defs.specs.Cell.{Cell, holds_its_own}
 use Rattle.cell_defs.specs.Events.{live_cell}
 use Rattle.cell_defs.specs.Row.{Row, live_row}
+use Rattle.uncle_rules.specs.Embedded.{UnclesValue, IndexesUncles}
+use Rattle.rewards.specs.Own.{HaveOwnFees}
 
 -- Over kept blocks that are told the tree indexes them, and the rows are those of the live cells of the parent's branch, of which those with a
 -- type script hold what they occupy.
@@ -17,9 +20,16 @@ pub record Stands (stored : List Stored) (entries : List Entry) (parent : ℕ) (
   pub typed : (o : OutPoint) (cell : Cell) → live_cell (branch (blocks_of stored) parent) o ≡ Some cell → IsSome cell.output.type_script
       → IsTrue (holds_its_own cell.output cell.content)
 
+-- All that a whole block is judged over: so it stands, the index of uncles is that of the kept blocks, and their exts have their own fees.
+pub record StandsWhole (spec : Specification) (stored : List Stored) (entries : List Entry) (parent : ℕ) (rows : OutPoint → Option Row)
+    (index : UnclesValue) : Type 0 where
+  pub stands : Stands stored entries parent rows
+  pub uncles : IndexesUncles (blocks_of stored) index
+  pub fees : HaveOwnFees spec stored
+
 -- the rules that are tried on a block
 abbrev pub IsTried : ℕ → Type 0
-IsTried rule = ((4 ≤ rule) × (rule ≤ 30)) ⊎ (rule ≡ 32)
+IsTried rule = (4 ≤ rule) × (rule ≤ 32)
 
 -- those that are tried on a transaction alone
 abbrev pub IsTriedAlone : ℕ → Type 0

@@ -1,4 +1,4 @@
-// What is tried of a block ahead of its transactions, J4 to J17, and behind them, J32.
+// What is tried of a block ahead of its transactions, J4 to J17.
 ghost use Rattle.std.specs.Prelude.{◌≡◌, ◌<◌, ◌≤◌, ◌++◌, ℕ, List, None, Some, Err, IfOk, length};
 ghost use Rattle.fold_defs.specs.First.{first_failing};
 ghost use Rattle.outside.specs.declared.disk.ReadStop.{ReadStop as a_stop};
@@ -11,7 +11,6 @@ ghost use Rattle.rule_defs.specs.Header.{header_rules as rules_on_header};
 ghost use Rattle.rule_defs.specs.Body.{body_rules};
 ghost use Rattle.uncle_rules.specs.Embedded.{IndexesUncles};
 ghost use Rattle.family_defs.specs.Rules.{family_rules};
-ghost use Rattle.time_defs.specs.Dao as dao;
 ghost use Rattle.block_judge.specs.declared.stop.Judged.TheVariants.{Broken, Read};
 ghost use Rattle.block_judge.specs.Standing.{Stands};
 
@@ -100,13 +99,4 @@ pub(crate) fn judge_ahead<C: Cells>(
         return Err(Judged::Broken(rule));
     }
     judge_family(alloc, spec, tree, uncles, cells, parent, block)
-}
-
-/// Of J32, what is looked at so far: C and AR of its DAO field are above 0.
-pub(crate) fn is_rated(block: &BlockView<'_>) -> bool
-    ensures { result ≡ dao.is_rated block.now.header.dao }
-{
-    let mut bytes = [0; 32];
-    bytes.copy_from_slice(block.header().dao());
-    dao_math::is_rated(&bytes)
 }

@@ -1,5 +1,5 @@
 // J18 to J30: the transactions of a block, one after the other.
-ghost use Rattle.std.specs.Prelude.{◌≡◌, ◌+◌, ◌-◌, ◌<◌, ◌^◌, ◌≤◌, ◌++◌, ◌∷◌, [], ℕ, nat_lt, List, None, Some, Err, IfOk, OnOk, length, map, take};
+ghost use Rattle.std.specs.Prelude.{◌≡◌, ◌+◌, ◌-◌, ◌<◌, ◌^◌, ◌≤◌, ◌++◌, ◌∷◌, [], ℕ, nat_lt, pos, ◌+ℤ◌, List, None, Some, Err, IfOk, OnOk, length, map, drop};
 ghost use Rattle.std.specs.List.{filter};
 ghost use Rattle.fold_defs.specs.First.{first_failing};
 ghost use Rattle.outside.specs.Causes.{CountsFault};
@@ -19,16 +19,17 @@ ghost use Rattle.chain_tree.specs.Blocks.{AreRated};
 ghost use Rattle.tx_rules.specs.Copying.{row_in};
 ghost use Rattle.block_defs.specs.Transactions.{transaction_rules, left_after, rules_of_transactions};
 ghost use Rattle.block_defs.specs.Ext.{ext_of, rows_spent};
+ghost use Rattle.reward_defs.specs.Field.{freed_by, freed_from, interest_from};
 ghost use Rattle.block_judge.specs.declared.stop.Judged.TheVariants.{Broken, Read};
 ghost use Rattle.block_judge.specs.Changes.{with_changes};
-ghost use Rattle.block_judge.specs.Progress.{AreProposed};
+ghost use Rattle.block_judge.specs.Progress.{AreProposed, CanMove};
 ghost use Rattle.block_judge.specs.Standing.{IsTriedOnTransaction, Stands};
 
 use crate::block_cells::BlockCells;
 use crate::spent::push_spent;
 use crate::stop::Judged;
 use crate::transactions::{Taken, judge_transaction};
-use cell_model::{Cells, Ext, tx_hash};
+use cell_model::{Cells, Ext, proposal_id, tx_hash};
 use chain_tree::{Blocks, Tree};
 use epochs::Spec;
 use mol_schema::{BlockView, TxView};
@@ -37,21 +38,23 @@ use proposal_window::Proposed;
 use std::alloc::Global;
 use tx_rules::TxAt;
 
-/// What the transactions of a block so far leave: the cells that the next one sees, the cycles, and the ext of them.
+/// What the transactions of a block come to: their ext, the interest that they withdraw and what the cells occupy that
+/// they spend, in shannons.
+#[derive(Drop)]
+pub(crate) struct Outcome {
+    pub(crate) ext: Ext,
+    pub(crate) interest: i128,
+    pub(crate) freed: u128,
+}
+
+/// What the transactions of a block so far leave: the cells that the next one sees, the cycles, and what they come to.
 #[derive(Drop)]
 struct Progress<'a, C: Cells> {
     cells: BlockCells<'a, C>,
     left: u64,
     ext: Ext,
-}
-
-/// The proposal id of a transaction, of its hash.
-fn id_of(hash: &[u8; 32]) -> [u8; 10]
-    ensures { result ≡ take 10 hash.now }
-{
-    let mut id = [0; 10];
-    id.copy_from_slice(&hash[..10]);
-    id
+    interest: i128,
+    freed: u128,
 }
 
 /// Puts a fee behind those that are there.
@@ -84,6 +87,8 @@ impl<'a, C: Cells> Progress<'a, C> {
         ensures few { IfOk result (λ progress. progress.left ≤ 2 ^ 40) }
         ensures fees { IfOk result (λ progress. progress.ext.fees ≡ []) }
         ensures spent { IfOk result (λ progress. progress.ext.spent ≡ []) }
+        ensures interest { IfOk result (λ progress. progress.interest ≡ pos 0) }
+        ensures freed { IfOk result (λ progress. progress.freed ≡ 0) }
         ensures rows { IfOk result (λ progress. (height : ℕ) (o : OutPoint) → 0 < height
             → with_changes progress.cells.changed (C.rows progress.cells.base.now) o
             ≡ row_after (length at.now.entries) (events_of cellbase.now height 0) (C.rows cells.now) o) }
@@ -98,6 +103,8 @@ impl<'a, C: Cells> Progress<'a, C> {
                 fees: Vec::new(alloc),
                 spent: Vec::new(alloc),
             },
+            interest: 0,
+            freed: 0,
         })
     }
 
@@ -105,6 +112,12 @@ impl<'a, C: Cells> Progress<'a, C> {
     fn take(&mut self, tx: &TxView<'_>, taken: &Taken, place: u32, e: u32) -> Result<(), NoMemory>
         requires hash { taken.now.hash ≡ transaction_hash tx.now }
         requires cycles { taken.now.cycles ≤ self.old.left }
+        requires few { place < 2 ^ 30 }
+        requires moved { CanMove place self.old.interest self.old.freed }
+        requires moves { CanMove 1 taken.now.interest taken.now.freed }
+        ensures moved { OnOk result (CanMove (place + 1) self.new.interest self.new.freed) }
+        ensures interest { OnOk result (self.new.interest ≡ self.old.interest +ℤ taken.now.interest) }
+        ensures freed { OnOk result (self.new.freed ≡ self.old.freed + taken.now.freed) }
         ensures within { self.new.left ≤ self.old.left }
         ensures left { OnOk result (self.new.left ≡ self.old.left - taken.now.cycles) }
         ensures fees { OnOk result (self.new.ext.fees ≡ self.old.ext.fees ++ taken.now.fee ∷ []) }
@@ -116,6 +129,8 @@ impl<'a, C: Cells> Progress<'a, C> {
         self.cells.take(tx, &taken.hash, place, e)?;
         push_ext(&mut self.ext, taken, e)?;
         self.left -= taken.cycles;
+        self.interest += taken.interest;
+        self.freed += taken.freed;
         Ok(())
     }
 
@@ -131,12 +146,15 @@ impl<'a, C: Cells> Progress<'a, C> {
     ) -> Result<(), Judged>
         requires placed { IsPlaced at.now }
         requires left { self.old.left ≤ 2 ^ 40 }
+        requires few { place < 2 ^ 30 }
+        requires moved { CanMove place self.old.interest self.old.freed }
         requires counts { B.count blocks.old ≡ length at.now.entries }
         ensures told { B.told blocks.new ≡ B.told blocks.old }
         ensures count { B.count blocks.new ≡ B.count blocks.old }
         ensures loans { B.loans_of blocks.new ≡ B.loans_of blocks.old }
         ensures rule { (rule : ℕ) → result ≡ Err (Broken rule) → IsTriedOnTransaction rule }
         ensures within { self.new.left ≤ self.old.left }
+        ensures moved { OnOk result (CanMove (place + 1) self.new.interest self.new.freed) }
         ensures fees { OnOk result (length self.new.ext.fees ≡ length self.old.ext.fees + 1) }
         ensures rows { OnOk result ((height : ℕ) (o : OutPoint) → 0 < height
             → with_changes self.new.cells.changed (C.rows self.new.cells.base.now) o
@@ -158,13 +176,19 @@ impl<'a, C: Cells> Progress<'a, C> {
         ensures spends { (stored : List Stored) (site : Site) → B.told blocks.old ≡ Some stored
             → IsSiteOf stored at.now (with_changes self.old.cells.changed (C.rows self.old.cells.base.now)) site
             → OnOk result (self.new.ext.spent ≡ self.old.ext.spent ++ rows_spent (blocks_of stored) at.now.parent site tx.now) }
+        ensures interest { (stored : List Stored) (site : Site) → B.told blocks.old ≡ Some stored
+            → IsSiteOf stored at.now (with_changes self.old.cells.changed (C.rows self.old.cells.base.now)) site
+            → OnOk result (self.new.interest ≡ self.old.interest +ℤ capacity.interest site tx.now) }
+        ensures freed { (stored : List Stored) (site : Site) → B.told blocks.old ≡ Some stored
+            → IsSiteOf stored at.now (with_changes self.old.cells.changed (C.rows self.old.cells.base.now)) site
+            → OnOk result (self.new.freed ≡ self.old.freed + freed_by site tx.now) }
         ensures undamaged { (stored : List Stored) (site : Site) → B.told blocks.old ≡ Some stored
             → IsSiteOf stored at.now (with_changes self.old.cells.changed (C.rows self.old.cells.base.now)) site
             → (damage : Damage) → result ≡ Err (Read (Damaged damage)) → ⊥ }
         ensures damage { (damage : Damage) → result ≡ Err (Read (Damaged damage)) → damage.area ≡ Log }
         ensures cause { CountsFault (B.faults blocks.old) (B.faults blocks.new) (result ≡ Err (Read DiskFault)) }
     {
-        let is_proposed = proposed.contains(&id_of(&tx_hash(tx)));
+        let is_proposed = proposed.contains(&proposal_id(&tx_hash(tx)));
         let taken = match judge_transaction(
             alloc,
             tx,
@@ -194,7 +218,7 @@ pub(crate) fn judge_transactions<C: Cells, B: Blocks>(
     blocks: &mut B,
     parent: u32,
     block: &BlockView<'_>,
-) -> Result<Ext, Judged>
+) -> Result<Outcome, Judged>
     requires parent { parent < length tree.now.entries }
     requires few { length tree.now.entries < 2 ^ 24 }
     requires rated { AreRated tree.now.entries }
@@ -204,13 +228,17 @@ pub(crate) fn judge_transactions<C: Cells, B: Blocks>(
     ensures count { B.count blocks.new ≡ B.count blocks.old }
     ensures loans { B.loans_of blocks.new ≡ B.loans_of blocks.old }
     ensures rule { (rule : ℕ) → result ≡ Err (Broken rule) → IsTriedOnTransaction rule }
-    ensures fees { IfOk result (λ ext. length ext.fees ≡ length block.now.transactions - 1) }
+    ensures fees { IfOk result (λ it. length it.ext.fees ≡ length block.now.transactions - 1) }
     ensures broken { (stored : List Stored) → B.told blocks.old ≡ Some stored → Stands stored tree.now.entries parent (C.rows cells.now)
         → (rule : ℕ) → result ≡ Err (Broken rule) → first_failing (rules_of_transactions spec.now (branch (blocks_of stored) parent) block.now) ≡ Some rule }
     ensures unbroken { (stored : List Stored) → B.told blocks.old ≡ Some stored → Stands stored tree.now.entries parent (C.rows cells.now)
         → IfOk result (λ _. first_failing (rules_of_transactions spec.now (branch (blocks_of stored) parent) block.now) ≡ None) }
     ensures ext { (stored : List Stored) → B.told blocks.old ≡ Some stored → Stands stored tree.now.entries parent (C.rows cells.now)
-        → IfOk result (λ ext. ext ≡ ext_of spec.now (blocks_of stored) parent block.now) }
+        → IfOk result (λ it. it.ext ≡ ext_of spec.now (blocks_of stored) parent block.now) }
+    ensures interest { (stored : List Stored) → B.told blocks.old ≡ Some stored → Stands stored tree.now.entries parent (C.rows cells.now)
+        → IfOk result (λ it. it.interest ≡ interest_from spec.now (branch (blocks_of stored) parent) block.now 1 (drop 1 block.now.transactions)) }
+    ensures freed { (stored : List Stored) → B.told blocks.old ≡ Some stored → Stands stored tree.now.entries parent (C.rows cells.now)
+        → IfOk result (λ it. it.freed ≡ freed_from spec.now (branch (blocks_of stored) parent) block.now 1 (drop 1 block.now.transactions)) }
     ensures undamaged { (stored : List Stored) → B.told blocks.old ≡ Some stored → Stands stored tree.now.entries parent (C.rows cells.now)
         → (damage : Damage) → result ≡ Err (Read (Damaged damage)) → ⊥ }
     ensures damage { (damage : Damage) → result ≡ Err (Read (Damaged damage)) → damage.area ≡ Log }
@@ -218,9 +246,13 @@ pub(crate) fn judge_transactions<C: Cells, B: Blocks>(
 {
     let count = block.transactions_count();
     if count == 1 {
-        return Ok(Ext {
-            fees: Vec::new(alloc),
-            spent: Vec::new(alloc),
+        return Ok(Outcome {
+            ext: Ext {
+                fees: Vec::new(alloc),
+                spent: Vec::new(alloc),
+            },
+            interest: 0,
+            freed: 0,
         });
     }
     let at = TxAt {
@@ -247,5 +279,9 @@ pub(crate) fn judge_transactions<C: Cells, B: Blocks>(
             }
         }
     }
-    Ok(progress.ext)
+    Ok(Outcome {
+        ext: progress.ext,
+        interest: progress.interest,
+        freed: progress.freed,
+    })
 }

@@ -1,5 +1,5 @@
 // A block judged by all rules, and a transaction judged alone.
-ghost use Rattle.std.specs.Prelude.{◌≡◌, ◌-◌, ◌<◌, ◌^◌, ◌≤◌, ℕ, List, None, Some, Err, IfOk, length};
+ghost use Rattle.std.specs.Prelude.{◌≡◌, ◌-◌, ◌<◌, ◌^◌, ◌≤◌, ℕ, List, None, Some, Err, IfOk, IsTrue, length};
 ghost use Rattle.fold_defs.specs.First.{first_failing};
 ghost use Rattle.outside.specs.Causes.{CountsFault};
 ghost use Rattle.outside.specs.declared.disk.Area.TheVariants.{Log};
@@ -18,16 +18,17 @@ ghost use Rattle.tx_rules.specs.At.{spends_rows};
 ghost use Rattle.chain_tree.specs.Blocks.{AreRated};
 ghost use Rattle.uncle_rules.specs.Embedded.{IndexesUncles};
 ghost use Rattle.block_defs.specs.Ext.{ext_of};
-ghost use Rattle.time_defs.specs.Dao as dao;
+ghost use Rattle.time_defs.specs.Dao.{is_rated};
 ghost use Rattle.block_defs.specs.Rules.{first_broken, broken_in_dry_run};
 ghost use Rattle.tx_defs.specs.Site.{site_after};
 ghost use Rattle.block_judge.specs.declared.stop.Judged.TheVariants.{Broken, Read};
-ghost use Rattle.block_judge.specs.Ahead.{SaysAhead, SaysRated, ahead as rules_ahead};
+ghost use Rattle.block_judge.specs.Ahead.{SaysAhead, ahead as rules_ahead};
 ghost use Rattle.block_judge.specs.ByRows.{SaysByRows};
-ghost use Rattle.block_judge.specs.Standing.{IsTried, IsTriedAlone, Stands};
+ghost use Rattle.block_judge.specs.Standing.{IsTried, IsTriedAlone, Stands, StandsWhole};
 
-use crate::ahead::{is_rated, judge_ahead};
+use crate::ahead::judge_ahead;
 use crate::all_transactions::judge_transactions;
+use crate::ending::judge_end;
 use crate::stop::Judged;
 use crate::transactions::judge_transaction;
 use cell_model::{Cells, Ext};
@@ -38,9 +39,9 @@ use std::alloc::Global;
 use tx_rules::TxAt;
 use uncle_rules::Uncles;
 
-/// Judges a block on a parent in the tree, by J4 to J30 and then by what is looked at of J32: the first rule that it
-/// breaks, or its ext. The cells are those of the parent's branch, whichever the tip is on. Damaged where a kept block, or
-/// a row of the cells, is not what the tree and the branch say, which never comes over blocks that tell them.
+/// Judges a block on a parent in the tree, by J4 to J32: the first rule that it breaks, or its ext. The cells are those of
+/// the parent's branch, whichever the tip is on. Damaged where a kept block, or a row of the cells, is not what the tree
+/// and the branch say, which never comes over blocks that tell them.
 pub fn judge<C: Cells, B: Blocks>(
     alloc: Global,
     spec: &Spec,
@@ -60,25 +61,27 @@ pub fn judge<C: Cells, B: Blocks>(
     ensures loans { B.loans_of blocks.new ≡ B.loans_of blocks.old }
     ensures tried { (rule : ℕ) → result ≡ Err (Broken rule) → IsTried rule }
 
-    // Over any source of blocks: the rules on the header, those ahead of the transactions, and the one behind them; and a fee for each
-    // transaction behind the cellbase.
+    // Over any source of blocks: the rules on the header, and those ahead of the transactions; a fee for each transaction after the
+    // cellbase; and a DAO field that later ones can be reckoned by.
     ensures header { (kept : List Block) → IndexesBlocks kept tree.now.entries
         → IfOk result (λ _. first_failing (header_rules spec.now (branch kept parent) block.now) ≡ None) }
     ensures fees { IfOk result (λ ext. length ext.fees ≡ length block.now.transactions - 1) }
     ensures ahead { (stored : List Stored) → Stands stored tree.now.entries parent (C.rows cells.now) → IndexesUncles (blocks_of stored) uncles.now
         → SaysAhead (first_failing (rules_ahead spec.now (branch (blocks_of stored) parent) block.now)) result }
-    ensures rated { SaysRated (dao.is_rated block.now.header.dao) result }
+    ensures rated { IfOk result (λ _. IsTrue (is_rated block.now.header.dao)) }
 
-    // Over kept blocks that are told, with the cells of the parent's branch.
-    ensures broken { (stored : List Stored) → B.told blocks.old ≡ Some stored → Stands stored tree.now.entries parent (C.rows cells.now)
-        → IndexesUncles (blocks_of stored) uncles.now → (rule : ℕ) → result ≡ Err (Broken rule)
+    // Over kept blocks that are told with their own fees, with the cells of the parent's branch.
+    ensures broken { (stored : List Stored) → B.told blocks.old ≡ Some stored
+        → StandsWhole spec.now stored tree.now.entries parent (C.rows cells.now) uncles.now → (rule : ℕ) → result ≡ Err (Broken rule)
         → first_broken spec.now (branch (blocks_of stored) parent) block.now ≡ Some rule }
-    ensures unbroken { (stored : List Stored) → B.told blocks.old ≡ Some stored → Stands stored tree.now.entries parent (C.rows cells.now)
-        → IndexesUncles (blocks_of stored) uncles.now → IfOk result (λ _. first_broken spec.now (branch (blocks_of stored) parent) block.now ≡ None) }
-    ensures ext { (stored : List Stored) → B.told blocks.old ≡ Some stored → Stands stored tree.now.entries parent (C.rows cells.now)
-        → IndexesUncles (blocks_of stored) uncles.now → IfOk result (λ ext. ext ≡ ext_of spec.now (blocks_of stored) parent block.now) }
-    ensures undamaged { (stored : List Stored) → B.told blocks.old ≡ Some stored → Stands stored tree.now.entries parent (C.rows cells.now)
-        → IndexesUncles (blocks_of stored) uncles.now → (damage : Damage) → result ≡ Err (Read (Damaged damage)) → ⊥ }
+    ensures unbroken { (stored : List Stored) → B.told blocks.old ≡ Some stored
+        → StandsWhole spec.now stored tree.now.entries parent (C.rows cells.now) uncles.now
+        → IfOk result (λ _. first_broken spec.now (branch (blocks_of stored) parent) block.now ≡ None) }
+    ensures ext { (stored : List Stored) → B.told blocks.old ≡ Some stored
+        → StandsWhole spec.now stored tree.now.entries parent (C.rows cells.now) uncles.now
+        → IfOk result (λ ext. ext ≡ ext_of spec.now (blocks_of stored) parent block.now) }
+    ensures undamaged { (stored : List Stored) → B.told blocks.old ≡ Some stored
+        → StandsWhole spec.now stored tree.now.entries parent (C.rows cells.now) uncles.now → (damage : Damage) → result ≡ Err (Read (Damaged damage)) → ⊥ }
     ensures damage { (damage : Damage) → result ≡ Err (Read (Damaged damage)) → damage.area ≡ Log }
     ensures cause { CountsFault (B.faults blocks.old) (B.faults blocks.new) (result ≡ Err (Read DiskFault)) }
 {
@@ -86,14 +89,17 @@ pub fn judge<C: Cells, B: Blocks>(
         Ok(()) => {}
         Err(stop) => return Err(stop),
     }
-    let ext = match judge_transactions(alloc, spec, tree, cells, blocks, parent, block) {
-        Ok(ext) => ext,
+    let outcome = match judge_transactions(alloc, spec, tree, cells, blocks, parent, block) {
+        Ok(outcome) => outcome,
         Err(stop) => return Err(stop),
     };
-    if !is_rated(block) {
-        return Err(Judged::Broken(32));
+    match judge_end(alloc, spec, tree, blocks, parent, block, &outcome) {
+        Ok(()) => Ok(outcome.ext),
+        Err(stop) => {
+            drop(outcome);
+            Err(stop)
+        }
     }
-    Ok(ext)
 }
 
 /// Judges a transaction alone, at the height after the parent, by J18 and J20 to J30 with all cycles of a block: its fee

@@ -1,9 +1,8 @@
-//! A block judged over its ancestors, by J4 to J30 and what is looked at of J32, and a transaction judged alone
-//! (docs/RULES.md, "A block").
+//! A block judged over its ancestors, by J4 to J32, and a transaction judged alone (docs/RULES.md, "A block").
 //!
-//! [`judge`] is the contract of use: over a tree, the live cells of the parent's branch and a source of kept blocks it
-//! answers the first rule that a block breaks, exactly by `first_broken` of `block_defs`, and otherwise its ext. The cells
-//! that the block makes and spends stand beside those of the branch, which it neither copies nor changes.
+//! [`judge`] is the contract of use: over a tree, the live cells of the parent's branch and a source of kept blocks with
+//! their fees it answers the first rule that a block breaks, exactly by `first_broken` of `block_defs`, and otherwise its
+//! ext. The cells that the block makes and spends stand beside those of the branch, which it neither copies nor changes.
 //! [`dry_run`] judges a transaction after the parent and answers its fee and its cycles. That an item is a block, new, and
 //! on a kept parent (J1 to J3), and what becomes of it, is left to the layer above.
 #![tactic(auto)]
@@ -13,6 +12,7 @@ mod all_transactions;
 mod block_cells;
 mod cellbase;
 mod changes;
+mod ending;
 mod judging;
 mod scripts;
 mod spent;

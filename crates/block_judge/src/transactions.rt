@@ -1,5 +1,6 @@
 // J18 to J30: one transaction.
-ghost use Rattle.std.specs.Prelude.{◌≡◌, ◌^◌, ◌≤◌, ◌++◌, ◌∷◌, ℕ, true, List, None, Some, Err, IfOk, length, map};
+ghost use Rattle.std.specs.Prelude.{◌≡◌, ◌^◌, ◌<◌, ◌≤◌, ◌++◌, ◌∷◌, ℕ, nat_abs, true, List, None, Some, Err, IfOk, length, map};
+ghost use Rattle.std.specs.List.{sum_by};
 ghost use Rattle.fold_defs.specs.First.{first_failing};
 ghost use Rattle.outside.specs.Causes.{CountsFault};
 ghost use Rattle.outside.specs.declared.disk.Area.TheVariants.{Log};
@@ -9,10 +10,11 @@ ghost use Rattle.chain_defs.specs.Hashes.{transaction_hash};
 ghost use Rattle.chain_tree.specs.Told.{Stored, blocks_of};
 ghost use Rattle.tx_defs.specs.Site.{Site};
 ghost use Rattle.tx_defs.specs.Rules.{form_rules, cell_rules, has_form};
-ghost use Rattle.tx_defs.specs.Capacity.{fee};
+ghost use Rattle.tx_defs.specs.Capacity.{fee, interest};
 ghost use Rattle.tx_defs.specs.Resolving.{inputs};
 ghost use Rattle.tx_rules.specs.At.{IsPlaced, IsSiteOf, found_row, spends_rows};
 ghost use Rattle.tx_rules.specs.Copying.{row_in};
+ghost use Rattle.reward_defs.specs.Field.{freed_by};
 ghost use Rattle.script_defs.specs.Scene.{scene_of};
 ghost use Rattle.script_defs.specs.Rules.{script_rules, cycles_of};
 ghost use Rattle.block_judge.specs.declared.stop.Judged.TheVariants.{Broken, Read};
@@ -28,14 +30,30 @@ use mol_schema::TxView;
 use std::alloc::Global;
 use tx_rules::{TxAt, TxStop, resolve};
 
-/// A transaction that keeps its rules: its hash, its fee in shannons, the cycles of its scripts, and the cells of its
-/// inputs.
+/// A transaction that keeps its rules: its hash, its fee, the interest that it withdraws and what the cells occupy that it
+/// spends, in shannons; the cycles of its scripts, and the cells of its inputs.
 #[derive(Drop)]
 pub(crate) struct Taken {
     pub(crate) hash: [u8; 32],
     pub(crate) fee: u64,
+    pub(crate) interest: i128,
+    pub(crate) freed: u128,
     pub(crate) cycles: u64,
     pub(crate) inputs: Vec<Resolved>,
+}
+
+/// What the cells of a transaction's inputs occupy, in shannons. It has below 2^32 of them.
+fn freed_with(tx: &TxView<'_>, inputs: &[Resolved]) -> u128
+    requires each { length inputs.now ≡ length tx.now.raw.inputs }
+    ensures freed { result ≡ sum_by (λ input. input.row.occupied) inputs.now }
+    ensures fits { result < 2 ^ 96 }
+{
+    let mut freed: u128 = 0;
+    'inputs: for i in 0..tx.raw().inputs_count() {
+        let input = &inputs[i];
+        freed += u128::from(input.meta.occupied);
+    }
+    freed
 }
 
 /// What a stop of resolving is answered as: J19 is tried behind J18 and before the rules on the cells.
@@ -67,6 +85,8 @@ pub(crate) fn judge_transaction<C: Cells, B: Blocks>(
     ensures loans { B.loans_of blocks.new ≡ B.loans_of blocks.old }
     ensures hash { IfOk result (λ taken. taken.hash ≡ transaction_hash tx.now) }
     ensures within { IfOk result (λ taken. taken.cycles ≤ left) }
+    ensures interest_fits { IfOk result (λ taken. nat_abs taken.interest < 2 ^ 96) }
+    ensures freed_fits { IfOk result (λ taken. taken.freed < 2 ^ 96) }
     ensures rule { (rule : ℕ) → result ≡ Err (Broken rule) → IsTriedOnTransaction rule }
     // J18 and J20 over any source of blocks.
     ensures by_rows { proposed ≡ true → SaysByRows (has_form tx.now) (spends_rows (C.rows cells.now) tx.now) result }
@@ -78,6 +98,10 @@ pub(crate) fn judge_transaction<C: Cells, B: Blocks>(
         → IfOk result (λ _. first_failing (form_rules tx.now ++ (19, proposed) ∷ cell_rules site tx.now ++ script_rules (scene_of site tx.now) left) ≡ None) }
     ensures fee { (stored : List Stored) (site : Site) → B.told blocks.old ≡ Some stored → IsSiteOf stored at.now (C.rows cells.now) site
         → IfOk result (λ taken. taken.fee ≡ fee site tx.now) }
+    ensures interest { (stored : List Stored) (site : Site) → B.told blocks.old ≡ Some stored → IsSiteOf stored at.now (C.rows cells.now) site
+        → IfOk result (λ taken. taken.interest ≡ interest site tx.now) }
+    ensures freed { (stored : List Stored) (site : Site) → B.told blocks.old ≡ Some stored → IsSiteOf stored at.now (C.rows cells.now) site
+        → IfOk result (λ taken. taken.freed ≡ freed_by site tx.now) }
     ensures cycles { (stored : List Stored) (site : Site) → B.told blocks.old ≡ Some stored → IsSiteOf stored at.now (C.rows cells.now) site
         → IfOk result (λ taken. taken.cycles ≡ cycles_of (scene_of site tx.now) left) }
     ensures spends { (stored : List Stored) (site : Site) → B.told blocks.old ≡ Some stored → IsSiteOf stored at.now (C.rows cells.now) site
@@ -106,6 +130,8 @@ pub(crate) fn judge_transaction<C: Cells, B: Blocks>(
     Ok(Taken {
         hash: ok.resolved.hash,
         fee: ok.fee,
+        interest: ok.interest,
+        freed: freed_with(tx, &ok.resolved.inputs),
         cycles,
         inputs: ok.resolved.inputs,
     })

@@ -8,3 +8,4 @@ pub mod BranchFitLaws
 pub mod HeaderLaws
 pub mod UncleLaws
 pub mod TypedLaws
+pub mod FeeLaws

@@ -1,7 +1,9 @@
 -- What single rules say of a block that breaks none, and of a genesis.
-use Rattle.std.proofs.Common.{◌≡◌, ℕ, zero, suc, Bool, List, [], ◌∷◌, ◌++◌, drop, Some, None, subst}
-use Rattle.std.specs.Prelude.{IsTrue, slice_get}
+use Rattle.std.proofs.Common.{◌≡◌, ℕ, zero, suc, ◌<◌, ◌^◌, Bool, true, List, [], ◌∷◌, ◌++◌, drop, Some, None, subst, arith}
+use Rattle.std.specs.Prelude.{IsTrue, nat_lt, slice_get}
+use Rattle.std.specs.List.{All}
 use Rattle.std.proofs.lemmas.Bool.{and_parts}
+use Rattle.std.proofs.lemmas.Bool.Decides.{Decides-ltb}
 use Rattle.std.proofs.lemmas.Option.{same_Some}
 use Rattle.std.proofs.lemmas.List.Elements.{All-nil, All-cons, All-head, All-tail, All-drop}
 use Rattle.codec_defs.specs.Schema.{Transaction, Block}
@@ -10,12 +12,13 @@ use Rattle.fold_defs.proofs.FirstLemmas.{finds_none}
 use Rattle.time_defs.specs.Specification.{Specification}
 use Rattle.cell_defs.specs.Events.{live_cell}
 use Rattle.tx_defs.specs.Site.{Site, site_at}
-use Rattle.tx_defs.specs.Capacity.{makes_good_cells}
+use Rattle.tx_defs.specs.Capacity.{makes_good_cells, balances, counted_in, fee, fees_from}
 use Rattle.cell_defs.specs.Cell.{outputs_hold_their_own}
 use Rattle.family_defs.specs.Uncles.{has_uncles}
 use Rattle.family_defs.specs.Cellbase.{forms_cellbase}
 use Rattle.block_defs.specs.Transactions.{transaction_rules, left_after, rules_from, rules_of_transactions}
-use Rattle.block_defs.specs.Rules.{end_rules, all_rules, first_broken}
+use Rattle.reward_defs.specs.Rules.{pays_reward, has_next_dao, end_rules}
+use Rattle.block_defs.specs.Rules.{all_rules, first_broken}
 use Rattle.time_defs.specs.Dao.{is_rated}
 use Rattle.genesis_defs.specs.Genesis.{is_first, has_no_uncles_or_proposals, has_transactions, all_hold_capacity, genesis_rules}
 
@@ -53,21 +56,23 @@ forms-unbroken spec branch b unbroken =
     (All-drop (λ rule. IsTrue rule.1) 13 (all_rules spec branch b) (all-hold spec branch b unbroken))
 
 behind-forms : (spec : Specification) (branch : List Block) (b : Block) → first_broken spec branch b ≡ None
-    → AllHold (rules_of_transactions spec branch b ++ end_rules b)
+    → AllHold (rules_of_transactions spec branch b ++ end_rules spec branch b)
 unfolding all_rules
 behind-forms spec branch b unbroken = All-drop (λ rule. IsTrue rule.1) 14 (all_rules spec branch b) (all-hold spec branch b unbroken)
 
 -- J32
-pub rated-unbroken : (spec : Specification) (branch : List Block) (b : Block) → first_broken spec branch b ≡ None → IsTrue (is_rated b.header.dao)
-rated-unbroken spec branch b unbroken =
-    All-head (λ rule. IsTrue rule.1) (32, is_rated b.header.dao) []
-    (holds-behind (rules_of_transactions spec branch b) (end_rules b) (behind-forms spec branch b unbroken))
+pub dao-unbroken : (spec : Specification) (branch : List Block) (b : Block) → first_broken spec branch b ≡ None → IsTrue (has_next_dao spec branch b)
+dao-unbroken spec branch b unbroken =
+    let last : List (ℕ × Bool) = (32, has_next_dao spec branch b) ∷ [] in
+    All-head (λ rule. IsTrue rule.1) (32, has_next_dao spec branch b) []
+    (All-tail (λ rule. IsTrue rule.1) (31, pays_reward spec branch b) last
+    (holds-behind (rules_of_transactions spec branch b) (end_rules spec branch b) (behind-forms spec branch b unbroken)))
 
 -- the rules on all its transactions behind the first
 pub transactions-unbroken : (spec : Specification) (branch : List Block) (b : Block) → first_broken spec branch b ≡ None
     → AllHold (rules_of_transactions spec branch b)
 transactions-unbroken spec branch b unbroken =
-    holds-front (rules_of_transactions spec branch b) (end_rules b) (behind-forms spec branch b unbroken)
+    holds-front (rules_of_transactions spec branch b) (end_rules spec branch b) (behind-forms spec branch b unbroken)
 
 -- ---- A transaction
 
@@ -93,6 +98,28 @@ hold-from spec branch b place left (first ∷ later) (suc i) t hold there =
     hold-from spec branch b (suc place) (left_after (site_at spec branch b place) left first) later i t
     (holds-behind (transaction_rules (site_at spec branch b place) left first)
     (rules_from spec branch b (suc place) (left_after (site_at spec branch b place) left first) later) hold) there
+
+-- J27: each fee is a number of eight bytes.
+balances-by-rules : (site : Site) (left : ℕ) (t : Transaction) → AllHold (transaction_rules site left t) → IsTrue (balances site t)
+balances-by-rules site left t hold =
+    All-head (λ rule. IsTrue rule.1) (27, balances site t) (drop 10 (transaction_rules site left t))
+    (All-drop (λ rule. IsTrue rule.1) 9 (transaction_rules site left t) hold)
+
+fee-fits : (site : Site) (t : Transaction) → IsTrue (balances site t) → fee site t < 2 ^ 64
+fee-fits site t balanced =
+    let counted : nat_lt (counted_in site t) (2 ^ 64) ≡ true = (and_parts _ _ (and_parts _ _ balanced).0).0 in
+    omega (arith, (Decides-ltb (counted_in site t) (2 ^ 64)).0 counted)
+
+pub fees-fit : (spec : Specification) (branch : List Block) (b : Block) (place left : ℕ) (txs : List Transaction)
+    → AllHold (rules_from spec branch b place left txs) → All (λ paid. paid < 2 ^ 64) (fees_from spec branch b place txs)
+unfolding rules_from fees_from
+fees-fit spec branch b place left [] hold = All-nil (λ paid. paid < 2 ^ 64)
+fees-fit spec branch b place left (t ∷ later) hold =
+    let site : Site = site_at spec branch b place in
+    let rest : List (ℕ × Bool) = rules_from spec branch b (suc place) (left_after site left t) later in
+    All-cons (λ paid. paid < 2 ^ 64) (fee site t) (fees_from spec branch b (suc place) later)
+    (fee-fits site t (balances-by-rules site left t (holds-front (transaction_rules site left t) rest hold)))
+    (fees-fit spec branch b (suc place) (left_after site left t) later (holds-behind (transaction_rules site left t) rest hold))
 
 -- ---- A genesis
 

@@ -1,17 +1,19 @@
 -- What is true of a chain whose blocks joined, in words.
-use Rattle.std.specs.Prelude.{◌≡◌, ℕ, ◌<◌, map, length, Some, IsTrue, IsSome, slice_get}
+use Rattle.std.specs.Prelude.{◌≡◌, ℕ, ◌+◌, ◌^◌, ◌<◌, List, map, length, drop, Some, IsTrue, IsSome, slice_get, slice_index}
 use Rattle.codec_defs.specs.Schema.{OutPoint, UncleBlock, Block}
 use Rattle.time_defs.specs.Dao.{is_rated}
-use Rattle.chain_defs.specs.Kept.{block_hash, block_at}
+use Rattle.chain_defs.specs.Kept.{block_hash, block_at, parent_place}
 use Rattle.chain_defs.specs.Hashes.{uncle_hash, are_distinct}
 use Rattle.chain_defs.specs.Branch.{branch}
 use Rattle.cell_defs.specs.Cell.{Cell, holds_its_own}
+use Rattle.cell_defs.specs.Ext.{count_at, fee_of}
 use Rattle.cell_defs.specs.Events.{live_cell, events_of_block, events}
 use Rattle.cell_defs.specs.Fit.{are_live, none_live, AllFit, BranchFits}
+use Rattle.tx_defs.specs.Capacity.{fees_from}
 use Rattle.family_defs.specs.Uncles.{embedded_uncles}
 use Rattle.verdict_defs.specs.Chain.{Chain}
 use Rattle.verdict_defs.specs.Laws.{MayJoin}
-use Rattle.store_defs.specs.Store.{IsJoined}
+use Rattle.store_defs.specs.Store.{IsJoined, HaveOwnExts}
 
 -- ---- Cells
 
@@ -56,3 +58,16 @@ abbrev pub UnclesAreNoAncestors : Type 0
 UnclesAreNoAncestors = (chain : Chain) (place height other index : ℕ) (b ancestor : Block) (uncle : UncleBlock) → IsJoined chain
     → place < length chain.blocks → block_at (branch chain.blocks place) height ≡ Some b → slice_get b.uncles index ≡ Some uncle
     → block_at (branch chain.blocks place) other ≡ Some ancestor → other < height → uncle_hash uncle ≡ block_hash ancestor → ⊥
+
+-- ---- Exts
+
+-- The bytes of an ext hold these fees, that of the first transaction after the cellbase first. Their count stands in four bytes.
+pub record HoldsFees (ext : List ℕ) (fees : List ℕ) : Type 0 where
+  pub count : length fees < 2 ^ 32 → count_at ext 0 ≡ length fees
+  pub each : (i : ℕ) → i < length fees → fee_of ext (i + 1) ≡ slice_index fees i
+
+-- Law: the own ext of each block after the genesis holds the fees of its transactions on the branch of its parent.
+abbrev pub ExtsHoldFees : Type 0
+ExtsHoldFees = (chain : Chain) (exts : List (List ℕ)) (place parent : ℕ) (b : Block) (ext : List ℕ) → IsJoined chain → HaveOwnExts chain exts → 0 < place
+    → block_at chain.blocks place ≡ Some b → slice_get exts place ≡ Some ext → parent_place chain.blocks place ≡ Some parent
+    → HoldsFees ext (fees_from chain.spec (branch chain.blocks parent) b 1 (drop 1 b.transactions))

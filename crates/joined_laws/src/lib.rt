@@ -2,7 +2,7 @@
 //! They stand on definitions alone, and apart from them, so that only a crate that cites one waits for their proofs.
 #![tactic(auto)]
 
-ghost use Rattle.joined_laws.specs.Laws.{TypedCellsHoldTheirOwn, EventsFit, WhatJoinsFits, BranchesFit, BlocksAreRated, NumbersAreHeights, UnclesDiffer, UnclesAreNoAncestors};
+ghost use Rattle.joined_laws.specs.Laws.{TypedCellsHoldTheirOwn, EventsFit, WhatJoinsFits, BranchesFit, BlocksAreRated, NumbersAreHeights, UnclesDiffer, UnclesAreNoAncestors, ExtsHoldFees};
 
 /// States of a chain that has joined: on each of its branches the live cells with a type script hold what they occupy; the
 /// events of a branch fit, from the genesis on; those of a block that may join it fit the cells that are live on its
@@ -26,4 +26,10 @@ pub fn headers_of_joined()
 pub fn uncles_of_joined()
     ensures uncles_differ { UnclesDiffer }
     ensures uncles_are_no_ancestors { UnclesAreNoAncestors }
+{}
+
+/// States of a chain that has joined, with the own ext of each block beside it: each ext but that of the genesis holds the
+/// fees of its block's transactions on the branch of the block's parent. It does nothing.
+pub fn exts_of_joined()
+    ensures exts_hold_fees { ExtsHoldFees }
 {}

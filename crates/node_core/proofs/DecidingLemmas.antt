@@ -29,7 +29,7 @@ use Rattle.block_defs.specs.Ext.{ext_of}
 use Rattle.block_defs.specs.Rules.{first_broken, broken_in_dry_run}
 use Rattle.tx_defs.specs.Site.{site_after}
 use Rattle.time_defs.specs.Dao.{is_rated}
-use Rattle.block_judge.specs.Standing.{Stands}
+use Rattle.block_judge.specs.Standing.{Stands, StandsWhole}
 use Rattle.cell_defs.specs.Fit.{BranchFits}
 use Rattle.verdict_defs.specs.Verdict.{verdict, verdict_of, verdict_of_block, verdict_on, verdict_by_rules}
 use Rattle.verdict_defs.specs.Chain.{Chain}
@@ -37,15 +37,16 @@ use Rattle.verdict_defs.specs.Trial.{trial_on, trial_by}
 use Rattle.verdict_defs.specs.declared.verdict.Verdict.{Verdict}
 use Rattle.verdict_defs.specs.declared.verdict.Verdict.TheVariants.{Joined, Known, Refused, Full}
 use Rattle.verdict_defs.specs.declared.trial.Trial.TheVariants as trials
-use Rattle.store_defs.specs.Store.{IsJoined}
+use Rattle.store_defs.specs.Store.{IsJoined, AreJoined}
 use Rattle.joined_laws.proofs.TypedLaws.{typed-cells-hold-their-own}
 use Rattle.joined_laws.proofs.FitLaws.{what-joins-fits}
 use Rattle.joined_laws.proofs.BranchFitLaws.{branches-fit}
 use Rattle.node_core.specs.declared.deciding.Joining.{Joining}
 use Rattle.node_core.specs.declared.deciding.Decision.{Decision}
 use Rattle.node_core.specs.declared.deciding.Decision.TheVariants.{Joins, Stays}
-use Rattle.node_core.specs.Node.{AreKept}
+use Rattle.node_core.specs.Node.{KeptValue, kept_of, AreKept}
 use Rattle.node_core.proofs.JoiningLemmas.{few-heights}
+use Rattle.node_core.proofs.OwnLemmas.{have-own-fees}
 use Rattle.node_core.specs.Judging.{AreCellsOn, IsEntryOn, IsJudged, IsDecidedBlock, IsDecided, IsReady, IsReadyBlock, IsReadyItem}
 
 pub none-there : {T : Type 0} (o : Option T) → is_some o ≡ false → o ≡ None
@@ -95,7 +96,7 @@ pub within-entries : (kept blocks : List Block) (entries : List Entry) (place : 
 within-entries kept blocks entries place seen indexed below = omega (arith, below, ap length seen, len-same kept entries indexed)
 
 -- those of its parent's branch
-pub stands-at-hand : (spec : Specification) (stored : List Stored) (entries : List Entry) (index : UnclesValue) (tip state : StateValue) (chain : Chain) (b : Block)
+stands-at-hand : (spec : Specification) (stored : List Stored) (entries : List Entry) (index : UnclesValue) (tip state : StateValue) (chain : Chain) (b : Block)
     (entry : Entry) (given : Option StateValue) → record { spec = spec; blocks = blocks_of stored } ≡ chain → AreKept stored entries index (rows tip)
     → IsEntryOn chain.blocks b entry → IsJoined chain → AreCellsOn chain.blocks entry.parent given → IfSome given (λ cells. state ≡ cells)
     → (given ≡ None → state ≡ tip) → Stands stored entries entry.parent (rows state)
@@ -106,6 +107,19 @@ stands-at-hand spec stored entries index tip state chain b entry given whole are
     (place_of-below chain.blocks b.header.parent_hash entry.parent on.on_kept))
     (cells-at-hand (blocks_of stored) entry.parent given tip state
     (subst (λ (kept : List Block). AreCellsOn kept entry.parent given) (sym seen) have) are.live some none)
+
+-- and all that a block is judged over
+pub whole-at-hand : (spec : Specification) (stored : List Stored) (entries : List Entry) (index : UnclesValue) (tip state : StateValue) (kept : KeptValue) (b : Block)
+    (entry : Entry) (given : Option StateValue) → kept_of spec stored ≡ kept → AreKept stored entries index (rows tip)
+    → IsEntryOn kept.chain.blocks b entry → AreJoined kept.chain kept.exts → AreCellsOn kept.chain.blocks entry.parent given
+    → IfSome given (λ cells. state ≡ cells) → (given ≡ None → state ≡ tip) → StandsWhole spec stored entries entry.parent (rows state) index
+whole-at-hand spec stored entries index tip state kept b entry given whole are on joined have some none =
+    let before : AreJoined (kept_of spec stored).chain (kept_of spec stored).exts = subst (λ (k : KeptValue). AreJoined k.chain k.exts) (sym whole) joined in
+    record {
+      stands = stands-at-hand spec stored entries index tip state kept.chain b entry given (ap (λ (k : KeptValue). k.chain) whole) are on joined.joined have some none;
+      uncles = are.uncles;
+      fees = have-own-fees spec stored before.joined before.own are.counted;
+    }
 
 -- its parent's branch fits
 pub fits-below : (chain : Chain) (entries : List Entry) (parent : ℕ) → IsJoined chain → IndexesBlocks chain.blocks entries → parent < length entries

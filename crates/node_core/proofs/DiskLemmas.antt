@@ -13,7 +13,7 @@ use Rattle.log_defs.specs.Log.{record_bytes}
 use Rattle.store_defs.specs.JoinLaws.{record_over}
 use Rattle.log_defs.specs.Rest.{IsAtRest, IsBeforeOrAfter, IsSettled, HasLog}
 use Rattle.cell_defs.specs.Ext.{is_ext}
-use Rattle.store_defs.specs.Store.{ext_over, StandsFor}
+use Rattle.store_defs.specs.Store.{ext_over, StandsFor, HaveOwnExts}
 use Rattle.log_defs.proofs.Contents.{says_its_records}
 use Rattle.store_defs.proofs.StoreLemmas.{stands_as_it_says, stands_after_an_item}
 use Rattle.node_core.specs.Node.{NodeValue, IsOn}
@@ -88,7 +88,7 @@ module _ (node : NodeValue) (reads : Option Image) (images : Image → Type 0) (
         (cc)
 
     module _ (next : ℕ) (reads1 : Option Image) (images1 : Image → Type 0) (settled : IsSettled next (on.records ++ record_over node.chain item ∷ []) reads1 images1)
-        (others : OthersRead Log reads reads1)
+        (others : OthersRead Log reads reads1) (exts : List (List ℕ)) (own : HaveOwnExts (chain_after node.chain item) exts)
         (left_so : (image : Image) → images1 image → HasLog (IsBeforeOrAfter place on.records (record_over node.chain item)) images image) where
       now_is : settled.now ≡ with_content Log settled.now.log on.now
       now_is = by_bytes others
@@ -105,7 +105,7 @@ module _ (node : NodeValue) (reads : Option Image) (images : Image → Type 0) (
           (snaps.0 ∙ sym (ap (λ (i : Image). i.snap_a) now_is)) (snaps.1 ∙ sym (ap (λ (i : Image). i.snap_b) now_is))
 
       -- once it stands there
-      pub is_on_after : IsOn (record { chain = chain_after node.chain item; place = next }) reads1 images1
+      pub is_on_after : IsOn (record { chain = chain_after node.chain item; exts = exts; place = next }) reads1 images1
       is_on_after = record {
         now = settled.now;
         told = settled.told;
@@ -114,4 +114,5 @@ module _ (node : NodeValue) (reads : Option Image) (images : Image → Type 0) (
             (stands_after_an_item node.chain item on.now settled.now.log place next on.records on.stands can short form rests settled.rest);
         records = on.records ++ record_over node.chain item ∷ [];
         rest = settled.rest;
+        own = own;
       }

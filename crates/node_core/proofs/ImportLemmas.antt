@@ -2,6 +2,7 @@
 use Rattle.std.proofs.Common.{◌≡◌, ℕ, ◌+◌, ◌-◌, ◌<◌, ◌≤◌, ◌^◌, List, [], ◌∷◌, ◌++◌, length, Option, Some, sym, ap, ◌∙◌, subst, arith}
 use Rattle.std.specs.Prelude.{Bool, true, false, IsTrue, IfSome}
 use Rattle.std.proofs.lemmas.List.{length_push}
+use Rattle.outside.specs.Image.{Image}
 use Rattle.codec_defs.specs.Shape.{decoded}
 use Rattle.codec_defs.specs.Schema.{Block, block}
 use Rattle.chain_defs.specs.Kept.{block_hash, kept_limit}
@@ -14,25 +15,32 @@ use Rattle.verdict_defs.specs.Laws.{CanJoin}
 use Rattle.verdict_defs.specs.declared.verdict.Verdict.TheVariants.{Joined}
 use Rattle.verdict_defs.proofs.VerdictLaws.{verdict-joined, keeps-what-joins, kept_after-stays}
 use Rattle.store_defs.specs.JoinLaws.{record_over}
-use Rattle.store_defs.specs.Store.{ext_on, ext_of_found, ext_over, IsJoined}
+use Rattle.store_defs.specs.Store.{ext_on, own_ext, ext_of_found, ext_over, HaveOwnExts, AreJoined}
+use Rattle.store_defs.proofs.ExtLemmas.{own_push}
+use Rattle.store_defs.proofs.JoinedLemmas.{joined_of_image}
 use Rattle.log_file.specs.Pieces.{block_record}
 use Rattle.node_core.specs.declared.deciding.Joining.{Joining}
 use Rattle.node_core.specs.declared.deciding.Decision.{Decision}
 use Rattle.node_core.specs.declared.deciding.Decision.TheVariants.{Joins}
-use Rattle.node_core.specs.Judging.{IsReadyItem, IsDecided}
-use Rattle.node_core.specs.Node.{IsWithin}
+use Rattle.node_core.specs.Judging.{IsReadyItem, IsJudged, IsDecided}
+use Rattle.node_core.specs.Node.{KeptValue, NodeValue, kept_with, IsOn, IsWithin}
 
 pub joined_stays_not : ◌≡◌ {A = Bool} true false → ⊥
 joined_stays_not is = absurd (cc)
 
+-- what a node keeps on its disk has joined
+pub joined_on : (node : NodeValue) (reads : Option Image) (images : Image → Type 0) → IsOn node reads images → AreJoined node.chain node.exts
+joined_on node reads images on = record { joined = joined_of_image node.chain on.now on.stands; own = on.own }
+
 -- ---- What was decided
 
 -- what was decided over this chain
-pub decided_on : (inside chain : Chain) (item : List ℕ) (decision is : Decision) → inside ≡ chain → decision ≡ is
-    → (IsJoined inside → IsDecided inside item decision) → IsJoined chain → IsDecided chain item is
-decided_on inside chain item decision is same found decided joined =
-    subst (λ (d : Decision). IsDecided chain item d) found
-    (subst (λ (k : Chain). IsDecided k item decision) same (decided (subst IsJoined (sym same) joined)))
+pub decided_on : (inside kept : KeptValue) (item : List ℕ) (decision is : Decision) → inside ≡ kept → decision ≡ is
+    → (AreJoined inside.chain inside.exts → IsDecided inside.chain item decision) → AreJoined kept.chain kept.exts → IsDecided kept.chain item is
+decided_on inside kept item decision is same found decided joined =
+    subst (λ (d : Decision). IsDecided kept.chain item d) found
+    (subst (λ (k : KeptValue). IsDecided k.chain item decision) same
+    (decided (subst (λ (k : KeptValue). AreJoined k.chain k.exts) (sym same) joined)))
 
 pub ready_on : (inside chain : Chain) (item : List ℕ) (decision is : Decision) → inside ≡ chain → decision ≡ is
     → IsReadyItem inside.blocks item decision → IsReadyItem chain.blocks item is
@@ -43,11 +51,14 @@ ready_on inside chain item decision is same found ready =
 pub can_join : (chain : Chain) (item : List ℕ) (joining : Joining) → IsDecided chain item (Joins joining) → CanJoin chain.spec chain.blocks item
 can_join chain item joining (b, is, judged) = record { block = b; canonical = is; may = judged.may }
 
+own_is : (chain : Chain) (b : Block) (joining : Joining) → IsJudged chain b joining → own_ext chain b ≡ ext_bytes joining.ext
+own_is chain b joining judged =
+    ap (ext_on chain b) judged.may.on_kept ∙ ap (λ (parent : ℕ). ext_bytes (ext_of chain.spec chain.blocks parent b)) judged.on
+    ∙ ap ext_bytes (sym judged.ext)
+
 ext_is : (chain : Chain) (item : List ℕ) (joining : Joining) → IsDecided chain item (Joins joining) → ext_over chain item ≡ ext_bytes joining.ext
 unfolding ext_over
-ext_is chain item joining (b, is, judged) =
-    ap (ext_of_found chain) is ∙ ap (ext_on chain b) judged.may.on_kept
-    ∙ ap (λ (parent : ℕ). ext_bytes (ext_of chain.spec chain.blocks parent b)) judged.on ∙ ap ext_bytes (sym judged.ext)
+ext_is chain item joining (b, is, judged) = ap (ext_of_found chain) is ∙ own_is chain b joining judged
 
 -- its ext is its own
 pub record_is : (chain : Chain) (item : List ℕ) (joining : Joining) → IsDecided chain item (Joins joining)
@@ -92,25 +103,35 @@ pub place_limit : (count place : ℕ) → count ≤ kept_limit → IsWithin coun
 unfolding kept_limit
 place_limit count place few within = omega (arith, few, within)
 
-module _ (inside chain next : Chain) (item : List ℕ) (joining : Joining) (same : inside ≡ chain)
-    (kept : (b : Block) → decoded block item ≡ Some b → next ≡ record { spec = inside.spec; blocks = inside.blocks ++ b ∷ [] }) where
+module _ (inside next : KeptValue) (chain : Chain) (item ext : List ℕ) (joining : Joining) (same : inside.chain ≡ chain)
+    (kept : (b : Block) → decoded block item ≡ Some b → next ≡ kept_with inside b ext) where
   -- the chain after it
-  pub is_after : IsDecided chain item (Joins joining) → next ≡ chain_after chain item
+  pub is_after : IsDecided chain item (Joins joining) → next.chain ≡ chain_after chain item
   unfolding can_join
   is_after (b, is, judged) =
-      kept b is ∙ ap (λ (c : Chain). record { spec = c.spec; blocks = c.blocks ++ b ∷ [] }) same
+      ap (λ (k : KeptValue). k.chain) (kept b is) ∙ ap (λ (c : Chain). record { spec = c.spec; blocks = c.blocks ++ b ∷ [] }) same
       ∙ ap (λ (blocks : List Block). record { spec = chain.spec; blocks = blocks })
       (sym ((keeps-what-joins chain.spec chain.blocks item).0 (can_join chain item joining (b, is, judged))).1)
 
+  -- where each block had its own ext, so it is with this one
+  pub own_after : IsDecided chain item (Joins joining) → ext ≡ ext_bytes joining.ext → (exts : List (List ℕ)) → inside.exts ≡ exts → HaveOwnExts chain exts
+      → HaveOwnExts next.chain next.exts
+  own_after (b, is, judged) bytes exts beside have =
+      let own : ext ≡ own_ext chain b = bytes ∙ sym (own_is chain b joining judged) in
+      let whole : next ≡ kept_with (record { chain = chain; exts = exts }) b (own_ext chain b) =
+      kept b is ∙ (λ i. kept_with (record { chain = same i; exts = beside i }) b (own i)) in
+      subst (λ (k : KeptValue). HaveOwnExts k.chain k.exts) (sym whole) (own_push chain exts b have)
+
   module _ (ready : IsReadyItem chain.blocks item (Joins joining)) where
-    one_more : length next.blocks ≡ length chain.blocks + 1
+    one_more : length next.chain.blocks ≡ length chain.blocks + 1
     one_more =
-        ap (λ (c : Chain). length c.blocks) (kept ready.0 ready.1) ∙ length_push inside.blocks ready.0
+        ap (λ (k : KeptValue). length k.chain.blocks) (kept ready.0 ready.1) ∙ length_push inside.chain.blocks ready.0
         ∙ ap (λ (c : Chain). length c.blocks + 1) same
 
-    pub few_after : length next.blocks ≤ kept_limit
+    pub few_after : length next.chain.blocks ≤ kept_limit
     few_after = omega (arith, one_more, ready.2.room)
 
-    pub within_after : (place end size : ℕ) → IsWithin (length inside.blocks) place → end ≡ place + size → size < 2 ^ 33 → IsWithin (length next.blocks) end
+    pub within_after : (place end size : ℕ) → IsWithin (length inside.chain.blocks) place → end ≡ place + size → size < 2 ^ 33
+        → IsWithin (length next.chain.blocks) end
     within_after place end size within sum short =
         omega (arith, one_more, ap (λ (c : Chain). length c.blocks) same, within, sum, short)

@@ -1,6 +1,6 @@
 -- What is kept with one more block: the index, the uncles, and the live cells of the tip.
 use Rattle.std.proofs.Common.{◌≡◌, ℕ, suc, ◌+◌, ◌-◌, ◌≤◌, ◌<◌, ◌^◌, Bool, true, false, cond, ltb, List, [], ◌∷◌, ◌++◌, length, Option, Some, None, refl, sym, ap, ◌∙◌, subst, inl, inr, ◌⊎◌, arith}
-use Rattle.std.specs.Prelude.{Result, Ok, Err, IfOk, IsTrue, IsSomeAnd, is_some, slice_get}
+use Rattle.std.specs.Prelude.{Result, Ok, Err, IfOk, IfSome, IsTrue, IsSomeAnd, is_some, slice_get}
 use Rattle.std.proofs.lemmas.Bool.Decides.{Decides-eqb, Decides-ltb, nat_tests}
 use Rattle.std.proofs.lemmas.List.{append-nil, append_assoc, length_push, length-map, map-append}
 use Rattle.std.proofs.lemmas.Option.{slice_get_within, same_Some}
@@ -15,9 +15,11 @@ use Rattle.chain_defs.proofs.BranchLaws.{branch-last}
 use Rattle.chain_defs.proofs.TipLaws.{tip_place-below, tip_place-push}
 use Rattle.time_defs.specs.Dao.{is_rated}
 use Rattle.rule_defs.specs.Header.{parent_of}
+use Rattle.cell_defs.specs.Ext.{count_at}
 use Rattle.cell_defs.specs.Events.{events_of_block, live_cell}
 use Rattle.cell_defs.specs.Row.{Row, live_row}
 use Rattle.cell_defs.specs.Fit.{are_live, AllFit}
+use Rattle.cell_model.specs.ListBlocks.{IsExtFor}
 use Rattle.cell_state.specs.State.{StateValue, rows, Grows}
 use Rattle.replay.proofs.RowLemmas.{live_row-front}
 use Rattle.cell_laws.proofs.FitLemmas.{row-where-cell, all-same}
@@ -34,7 +36,7 @@ use Rattle.verdict_defs.specs.Laws.{MayJoin}
 use Rattle.verdict_defs.proofs.VerdictLaws.{parent_of-branch}
 use Rattle.joined_laws.proofs.FitLaws.{what-joins-fits}
 use Rattle.node_core.specs.declared.deciding.Joining.{Joining}
-use Rattle.node_core.specs.Node.{AreKept}
+use Rattle.node_core.specs.Node.{exts_of, KeptValue, kept_of, kept_with, CountFees, AreKept}
 use Rattle.node_core.specs.Judging.{AreCellsOn, IsReady}
 
 -- ---- A block that is ready
@@ -240,22 +242,40 @@ blocks-push : (stored after : List Stored) (b : Block) (ext : List ℕ) → afte
     → blocks_of after ≡ blocks_of stored ++ b ∷ []
 blocks-push stored after b ext is = ap blocks_of is ∙ map-append (λ (it : Stored). it.block) stored (record { block = b; ext = ext } ∷ [])
 
-abbrev pub chain_as : Specification → List Block → Chain
-chain_as spec blocks = record { spec = spec; blocks = blocks }
+exts-push : (stored after : List Stored) (b : Block) (ext : List ℕ) → after ≡ stored ++ record { block = b; ext = ext } ∷ []
+    → exts_of after ≡ exts_of stored ++ ext ∷ []
+exts-push stored after b ext is = ap exts_of is ∙ map-append (λ (it : Stored). it.ext) stored (record { block = b; ext = ext } ∷ [])
 
-pub chain-push : (spec : Specification) (stored after : List Stored) (b : Block) (ext : List ℕ) (chain : Chain) → chain_as spec (blocks_of stored) ≡ chain
-    → after ≡ stored ++ record { block = b; ext = ext } ∷ [] → chain_as spec (blocks_of after) ≡ chain_as chain.spec (chain.blocks ++ b ∷ [])
-chain-push spec stored after b ext chain whole is =
-    subst (λ (v : Chain). chain_as spec (blocks_of after) ≡ chain_as v.spec (v.blocks ++ b ∷ [])) whole
-    (ap (chain_as spec) (blocks-push stored after b ext is))
+pub kept-push : (spec : Specification) (stored after : List Stored) (b : Block) (ext : List ℕ) (kept : KeptValue) → kept_of spec stored ≡ kept
+    → after ≡ stored ++ record { block = b; ext = ext } ∷ [] → kept_of spec after ≡ kept_with kept b ext
+kept-push spec stored after b ext kept whole is =
+    let blocks = blocks-push stored after b ext is in
+    let exts = exts-push stored after b ext is in
+    subst (λ (v : KeptValue). kept_of spec after ≡ kept_with v b ext) whole
+    (λ i. record { chain = record { spec = spec; blocks = blocks i }; exts = exts i })
 
-pub are-kept-push : (stored after : List Stored) (entries later : List Entry) (index next : UnclesValue) (b : Block) (ext : List ℕ) (joining : Joining) (entry : Entry)
-    (place : ℕ) (old new : OutPoint → Option Row) → AreKept stored entries index old → IsReady (blocks_of stored) b joining
+-- its ext counts its fees
+counted-push : (stored after : List Stored) (b : Block) (ext item : List ℕ) → CountFees stored → decoded block item ≡ Some b → IsExtFor item ext
+    → after ≡ stored ++ record { block = b; ext = ext } ∷ [] → CountFees after
+counted-push stored after b ext item counted is for grown place it above there =
+    by_place (slice_get-pushed stored (record { block = b; ext = ext }) place it (ap (λ (l : List Stored). slice_get l place) (sym grown) ∙ there))
+  where
+    own : count_at ext 0 ≡ length b.transactions - 1
+    own = subst (λ (o : Option Block). IfSome o (λ x. count_at ext 0 ≡ length x.transactions - 1)) is for.fees
+
+    by_place : ((place < length stored) × (slice_get stored place ≡ Some it)) ⊎ ((place ≡ length stored) × (record { block = b; ext = ext } ≡ it))
+        → count_at it.ext 0 ≡ length it.block.transactions - 1
+    by_place (inl before) = counted place it above before.1
+    by_place (inr last) = subst (λ (x : Stored). count_at x.ext 0 ≡ length x.block.transactions - 1) last.1 own
+
+pub are-kept-push : (stored after : List Stored) (entries later : List Entry) (index next : UnclesValue) (b : Block) (ext item : List ℕ) (joining : Joining)
+    (entry : Entry) (place : ℕ) (old new : OutPoint → Option Row) → AreKept stored entries index old → IsReady (blocks_of stored) b joining
+    → decoded block item ≡ Some b → IsExtFor item ext
     → after ≡ stored ++ record { block = b; ext = ext } ∷ [] → later ≡ entries ++ entry ∷ [] → Describes b entry → IndexesBlocks (blocks_of stored ++ b ∷ []) later
     → place ≡ length (blocks_of stored) → next.embedded ≡ index.embedded ++ embedded_in place b
     → ((tip : ℕ) → tip_place (blocks_of stored ++ b ∷ []) ≡ Some tip → (o : OutPoint) → new o ≡ live_row (blocks_of stored ++ b ∷ []) tip o)
     → AreKept after later next new
-are-kept-push stored after entries later index next b ext joining entry place old new are ready grown entered describes indexed at uncles live =
+are-kept-push stored after entries later index next b ext item joining entry place old new are ready is for grown entered describes indexed at uncles live =
     let blocks : blocks_of after ≡ blocks_of stored ++ b ∷ [] = blocks-push stored after b ext grown in
     record {
       indexed = subst (λ (bs : List Block). IndexesBlocks bs later) (sym blocks) indexed;
@@ -263,5 +283,6 @@ are-kept-push stored after entries later index next b ext joining entry place ol
           ∙ ap (embedded_from 0) (sym blocks);
       live = subst (λ (bs : List Block). (tip : ℕ) → tip_place bs ≡ Some tip → (o : OutPoint) → new o ≡ live_row bs tip o) (sym blocks) live;
       rated = subst AreRated (sym entered) (rated-push entries b entry are.rated describes ready.rated);
+      counted = counted-push stored after b ext item are.counted is for grown;
       few = omega (arith, ready.room, ap length grown, length_push stored (record { block = b; ext = ext }), length-map stored (λ (it : Stored). it.block));
     }

@@ -7,3 +7,4 @@ pub mod NewLemmas
 pub mod OpenLemmas
 pub mod OpeningLemmas
 pub mod ReplayLemmas
+pub mod OwnLemmas

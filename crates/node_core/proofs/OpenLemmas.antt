@@ -1,9 +1,10 @@
 -- A store that is opened: what its image keeps, and what its disk stands for then.
 use Rattle.std.proofs.Common.{◌≡◌, ℕ, zero, suc, ◌+◌, ◌-◌, ◌*◌, ◌^◌, ◌<◌, ◌≤◌, Bool, false, cond, List, [], ◌∷◌, length, drop, map, Option, Some, None, refl, sym, ap, ◌∙◌, subst, inl, inr, ◌⊎◌, arith}
-use Rattle.std.specs.Prelude.{IfSome, IsTrue, ◌==◌, slice_index_or, Result, Ok, Err, IsOk, is_err}
+use Rattle.std.specs.Prelude.{IfSome, IsTrue, ◌==◌, slice_get, slice_index_or, Result, Ok, Err, IsOk, is_err}
+use Rattle.std.specs.Option.{option_map}
 use Rattle.std.proofs.lemmas.Bool.{ne_eqb}
-use Rattle.std.proofs.lemmas.List.{get_or-map}
-use Rattle.std.proofs.lemmas.Option.{slice_get-get_or}
+use Rattle.std.proofs.lemmas.List.{get_or-map, length-map}
+use Rattle.std.proofs.lemmas.Option.{slice_get-get_or, slice_get-map, slice_get_within}
 use Rattle.outside.specs.declared.disk.Area.TheVariants.{Log, SnapA, SnapB}
 use Rattle.outside.specs.declared.disk.Damage.{Damage}
 use Rattle.outside.specs.declared.disk.ReadStop.{ReadStop}
@@ -22,15 +23,15 @@ use Rattle.time_defs.specs.Specification.{Specification, specification_of}
 use Rattle.verdict_defs.specs.Chain.{Chain}
 use Rattle.log_defs.specs.Log.{Record, LogContent, log_of, records_of, parts_of_body}
 use Rattle.log_defs.specs.Rest.{IsSettled, HasLog}
-use Rattle.store_defs.specs.Store.{NoLog, Keeps, store_of, store_of_log, chain_of, StandsFor, IsSound, IsJoined, EachHasJoined}
+use Rattle.store_defs.specs.Store.{NoLog, Keeps, store_of, store_of_log, chain_of, StandsFor, IsSound, IsJoined, HaveOwnExts, own_ext, chain_before, EachHasJoined}
 use Rattle.log_defs.proofs.Contents.{says_its_records}
 use Rattle.log_defs.proofs.Contents.{counts_its_records}
 use Rattle.store_defs.proofs.JoinedLemmas.{joined_of_image}
-use Rattle.store_defs.proofs.ExtLemmas.{HoldsItsExt, exts_of_log}
+use Rattle.store_defs.proofs.ExtLemmas.{HoldsItsExt, exts_of_log, own_of_record}
 use Rattle.chain_tree.specs.declared.entry.Entry.{Entry}
 use Rattle.log_file.specs.Grammar.{record_of, ext_in}
 use Rattle.log_file.specs.Opening.{IsOpened}
-use Rattle.node_core.specs.Node.{IsOn, IsWithin}
+use Rattle.node_core.specs.Node.{KeptValue, node_of, IsOn, IsWithin}
 use Rattle.node_core.specs.Opening.{HaveExts}
 use Rattle.node_core.proofs.OpeningLemmas.{same-blocks, as-many, decoded-at}
 use Rattle.node_core.proofs.DiskLemmas.{same_image}
@@ -63,34 +64,36 @@ same_log one other same = (cc)
 abbrev pub Opened : Specification → List (List ℕ) → List (List ℕ) → List Entry → Image → Type 0
 Opened spec items exts entries now = (log : LogContent) × IsOpened now.log log spec items exts entries
 
--- The chain that is kept then.
-pub record IsChainOf (chain : Chain) (spec : Specification) (items : List (List ℕ)) : Type 0 where
-  pub spec_is : chain.spec ≡ spec
-  pub decode : map (decoded block) items ≡ map Some chain.blocks
+-- What is kept then.
+pub record IsKeptOf (kept : KeptValue) (spec : Specification) (items exts : List (List ℕ)) : Type 0 where
+  pub spec_is : kept.chain.spec ≡ spec
+  pub decode : map (decoded block) items ≡ map Some kept.chain.blocks
+  pub beside : kept.exts ≡ exts
 
-chain_opened : (bytes : List ℕ) (log : LogContent) (chain : Chain) (spec : Specification) (items exts : List (List ℕ)) (entries : List Entry)
-    → IsChainOf chain spec items → IsOpened bytes log spec items exts entries → chain_of log ≡ chain
-chain_opened bytes log chain spec items exts entries of is =
-    let specified : specification_of log.specification ≡ chain.spec = sym is.specified ∙ sym of.spec_is in
-    let blocks : log.blocks ≡ chain.blocks = same-blocks log.blocks chain.blocks (sym is.decode ∙ of.decode) in
+chain_opened : (bytes : List ℕ) (log : LogContent) (kept : KeptValue) (spec : Specification) (items exts : List (List ℕ)) (entries : List Entry)
+    → IsKeptOf kept spec items exts → IsOpened bytes log spec items exts entries → chain_of log ≡ kept.chain
+chain_opened bytes log kept spec items exts entries of is =
+    let specified : specification_of log.specification ≡ kept.chain.spec = sym is.specified ∙ sym of.spec_is in
+    let blocks : log.blocks ≡ kept.chain.blocks = same-blocks log.blocks kept.chain.blocks (sym is.decode ∙ of.decode) in
     λ i. record { spec = specified i; blocks = blocks i }
 
-keeps_at : (chain : Chain) (spec : Specification) (items exts : List (List ℕ)) (entries : List Entry) (now : Image) → IsChainOf chain spec items
-    → Opened spec items exts entries now → store_of now ≡ Keeps chain
-keeps_at chain spec items exts entries now of (log, is) =
-    store_keeps now log is.is_log ∙ ap Keeps (chain_opened now.log log chain spec items exts entries of is)
+keeps_at : (kept : KeptValue) (spec : Specification) (items exts : List (List ℕ)) (entries : List Entry) (now : Image) → IsKeptOf kept spec items exts
+    → Opened spec items exts entries now → store_of now ≡ Keeps kept.chain
+keeps_at kept spec items exts entries now of (log, is) =
+    store_keeps now log is.is_log ∙ ap Keeps (chain_opened now.log log kept spec items exts entries of is)
 
-pub opened_keeps : (reads mid : Option Image) (chain : Chain) (spec : Specification) (items exts : List (List ℕ)) (entries : List Entry)
-    → IsChainOf chain spec items → mid ≡ reads → IfSome mid (Opened spec items exts entries) → IfSome reads (λ now. store_of now ≡ Keeps chain)
-opened_keeps None mid chain spec items exts entries of same opened = tt
-opened_keeps (Some now) mid chain spec items exts entries of same opened =
-    keeps_at chain spec items exts entries now of (subst (λ (o : Option Image). IfSome o (Opened spec items exts entries)) same opened)
+pub opened_keeps : (reads mid : Option Image) (kept : KeptValue) (spec : Specification) (items exts : List (List ℕ)) (entries : List Entry)
+    → IsKeptOf kept spec items exts → mid ≡ reads → IfSome mid (Opened spec items exts entries) → IfSome reads (λ now. store_of now ≡ Keeps kept.chain)
+opened_keeps None mid kept spec items exts entries of same opened = tt
+opened_keeps (Some now) mid kept spec items exts entries of same opened =
+    keeps_at kept spec items exts entries now of (subst (λ (o : Option Image). IfSome o (Opened spec items exts entries)) same opened)
 
 -- what a node asks of its chain and its place
-pub is_within : (chain : Chain) (spec : Specification) (items : List (List ℕ)) (place : ℕ) → IsChainOf chain spec items → length items ≤ kept_limit
-    → place ≤ 2 ^ 33 * (length items + 1) → (length chain.blocks ≤ kept_limit) × IsWithin (length chain.blocks) place
-is_within chain spec items place of few within =
-    let many : length items ≡ length chain.blocks = as-many items chain.blocks of.decode in
+pub is_within : (kept : KeptValue) (spec : Specification) (items exts : List (List ℕ)) (place : ℕ) → IsKeptOf kept spec items exts
+    → length items ≤ kept_limit → place ≤ 2 ^ 33 * (length items + 1)
+    → (length kept.chain.blocks ≤ kept_limit) × IsWithin (length kept.chain.blocks) place
+is_within kept spec items exts place of few within =
+    let many : length items ≡ length kept.chain.blocks = as-many items kept.chain.blocks of.decode in
     (omega (arith, few, many), subst (λ (n : ℕ). IsWithin n place) many within)
 
 -- ---- Where nothing is opened
@@ -201,6 +204,50 @@ not_joined None mid spec items exts entries same opened never = tt
 not_joined (Some now) mid spec items exts entries same opened never =
     never_sound now spec items exts entries (subst (λ (o : Option Image). IfSome o (Opened spec items exts entries)) same opened) never
 
+-- ---- The exts of a sound log
+
+-- a sound image keeps one chain
+joined_so : (now : Image) (log : LogContent) → IsSound now → log_of now.log ≡ Some log → EachHasJoined log
+joined_so now log (chain, stands) is = subst EachHasJoined (same_log stands.log log (sym stands.is_log ∙ is)) stands.joined
+
+module _ (bytes : List ℕ) (log : LogContent) (spec : Specification) (items exts : List (List ℕ)) (entries : List Entry)
+    (is : IsOpened bytes log spec items exts entries) (each : EachHasJoined log) where
+  many : length log.blocks ≡ length log.records + 1
+  many = counts_its_records (records_of (drop 8 bytes)) log is.says
+
+  own_at : (place : ℕ) (b : Block) → 0 < place → block_at log.blocks place ≡ Some b → slice_get exts place ≡ Some (own_ext (chain_before log place) b)
+  own_at zero b above there = absurd (omega (arith, above))
+  own_at (suc before) b above there =
+      let next : before + 1 ≡ suc before = omega arith in
+      let r = slice_get-below log.records before (omega (arith, many, slice_get_within log.blocks (suc before) b there)) in
+      let own = own_of_record log each before r.0 b r.1 (ap (block_at log.blocks) next ∙ there) in
+      ap (λ (l : List (List ℕ)). slice_get l (suc before)) is.beside ∙ slice_get-map ext_in log.records before ∙ ap (option_map ext_in) r.1
+      ∙ ap Some (ext_is r.0 own.0 (own_ext (chain_before log (before + 1)) b) own.1)
+      ∙ ap (λ (count : ℕ). Some (own_ext (chain_before log count) b)) next
+
+  own_of_log : HaveOwnExts (chain_of log) exts
+  own_of_log = record {
+    as_many = ap length is.beside ∙ ap suc (length-map log.records ext_in) ∙ omega (arith, many);
+    own = own_at;
+  }
+
+  pub own_opened : (kept : KeptValue) → IsKeptOf kept spec items exts → HaveOwnExts kept.chain kept.exts
+  own_opened kept of =
+      subst (HaveOwnExts kept.chain) (sym of.beside)
+      (subst (λ (c : Chain). HaveOwnExts c exts) (chain_opened bytes log kept spec items exts entries of is) own_of_log)
+
+own_if_sound : (kept : KeptValue) (spec : Specification) (items exts : List (List ℕ)) (entries : List Entry) (now : Image) → IsKeptOf kept spec items exts
+    → Opened spec items exts entries now → IsSound now → HaveOwnExts kept.chain kept.exts
+own_if_sound kept spec items exts entries now of (log, is) sound =
+    own_opened now.log log spec items exts entries is (joined_so now log sound is.is_log) kept of
+
+-- Where what was read is sound, each block has its own ext.
+pub opened_own : (reads mid : Option Image) (kept : KeptValue) (spec : Specification) (items exts : List (List ℕ)) (entries : List Entry)
+    → IsKeptOf kept spec items exts → mid ≡ reads → IfSome mid (Opened spec items exts entries) → (now : Image) → reads ≡ Some now → IsSound now
+    → HaveOwnExts kept.chain kept.exts
+opened_own reads mid kept spec items exts entries of same opened now told sound =
+    own_if_sound kept spec items exts entries now of (subst (λ (o : Option Image). IfSome o (Opened spec items exts entries)) (same ∙ told) opened) sound
+
 -- ---- A disk that was only read
 
 module _ {D : Type 0} (reads_as : D → Option Image) (images : D → Image → Type 0) (moment : D → ℕ) (left_since : D → ℕ → Image → Type 0) where
@@ -232,10 +279,6 @@ module _ (images0 images1 : Image → Type 0) (none_new : NoneNew images0 images
       let snaps = no_snaps before (sound before (none_new before here)) in
       (ap (λ (i : Image). i.snap_a) is ∙ snaps.0, ap (λ (i : Image). i.snap_b) is ∙ snaps.1)
 
-  -- a sound image keeps one chain
-  joined_so : (now : Image) (log : LogContent) → IsSound now → log_of now.log ≡ Some log → EachHasJoined log
-  joined_so now log (chain, stands) is = subst EachHasJoined (same_log stands.log log (sym stands.is_log ∙ is)) stands.joined
-
   chain_so : (now : Image) (chain : Chain) (log : LogContent) → log_of now.log ≡ Some log → store_of now ≡ Keeps chain → chain_of log ≡ chain
   chain_so now chain log is keeps = same_chain (chain_of log) chain (sym (store_keeps now log is) ∙ keeps)
 
@@ -262,11 +305,11 @@ module _ (images0 images1 : Image → Type 0) (none_new : NoneNew images0 images
       inr (stands_so now image chain (sound now (subst (λ (o : Option Image). IfSome o images0) told read)) keeps left)
 
   -- when it is opened
-  module _ (images2 : Image → Type 0) (reads2 : Option Image) (place : ℕ) (chain : Chain) (spec : Specification) (items exts : List (List ℕ)) (entries : List Entry)
-      (of : IsChainOf chain spec items) (read2 : IfSome reads2 images2) where
+  module _ (images2 : Image → Type 0) (reads2 : Option Image) (place : ℕ) (kept : KeptValue) (spec : Specification) (items exts : List (List ℕ)) (entries : List Entry)
+      (of : IsKeptOf kept spec items exts) (read2 : IfSome reads2 images2) where
     is_on_at : (now : Image) (log : LogContent) → IsSound now → IsOpened now.log log spec items exts entries
         → IsSettled place (records_of (drop 8 now.log)) reads2 images2 → ((image : Image) → images2 image → LeftSo images1 now image)
-        → IsOn (record { chain = chain; place = place }) reads2 images2
+        → IsOn (node_of kept place) reads2 images2
     is_on_at now log is_sound is settled left =
         let mine = left_snaps now settled.now (left settled.now (subst (λ (o : Option Image). IfSome o images2) settled.told read2)) in
         record {
@@ -278,24 +321,25 @@ module _ (images0 images1 : Image → Type 0) (none_new : NoneNew images0 images
           stands = record {
             log = log;
             is_log = says_its_records place (records_of (drop 8 now.log)) settled.now.log settled.rest ∙ is.says;
-            keeps = chain_opened now.log log chain spec items exts entries of is;
+            keeps = chain_opened now.log log kept spec items exts entries of is;
             joined = joined_so now log is_sound is.is_log;
             no_snap_a = mine.0;
             no_snap_b = mine.1;
           };
           records = records_of (drop 8 now.log);
           rest = settled.rest;
+          own = own_opened now.log log spec items exts entries is (joined_so now log is_sound is.is_log) kept of;
         }
 
     by_log : (now : Image) → IsSound now → Opened spec items exts entries now → IsSettled place (records_of (drop 8 now.log)) reads2 images2
         → ((image : Image) → images2 image → LeftSo images1 now image)
-        → IsOn (record { chain = chain; place = place }) reads2 images2
+        → IsOn (node_of kept place) reads2 images2
     by_log now is_sound (log, is) settled left = is_on_at now log is_sound is settled left
 
     pub opened_on : (reads0 reads1 : Option Image) → IfSome reads0 images0 → reads1 ≡ reads0 → IfSome reads1 (Opened spec items exts entries)
         → IfSome reads1 (λ now. IsSettled place (records_of (drop 8 now.log)) reads2 images2)
         → IfSome reads1 (λ now. (image : Image) → images2 image → LeftSo images1 now image)
-        → IfSome reads0 (λ _. IsOn (record { chain = chain; place = place }) reads2 images2)
+        → IfSome reads0 (λ _. IsOn (node_of kept place) reads2 images2)
     opened_on None reads1 read same opened settled left = tt
     opened_on (Some now) reads1 read same opened settled left =
         by_log now (sound now read) (subst (λ (o : Option Image). IfSome o (Opened spec items exts entries)) same opened)

@@ -1,13 +1,13 @@
 -- The kept blocks of a log: their ratings, their exts and their uncles.
-use Rattle.std.proofs.Common.{◌≡◌, ℕ, zero, suc, ◌+◌, ◌*◌, ◌^◌, ◌<◌, ◌≤◌, Bool, true, false, eqb, List, [], ◌∷◌, ◌++◌, map, length, take, drop, Vec, Global, Option, Some, None, refl, sym, ap, ◌∙◌, subst, append_assoc, arith}
-use Rattle.std.specs.Prelude.{nat_lt, slice_get, slice_index_or, IsTrue, IsSome}
-use Rattle.std.specs.Option.{unwrap_or}
+use Rattle.std.proofs.Common.{◌≡◌, ℕ, zero, suc, ◌+◌, ◌-◌, ◌*◌, ◌^◌, ◌<◌, ◌≤◌, Bool, true, false, eqb, List, [], ◌∷◌, ◌++◌, map, length, take, drop, Vec, Global, Option, Some, None, refl, sym, ap, ◌∙◌, subst, append_assoc, arith}
+use Rattle.std.specs.Prelude.{nat_lt, slice_get, slice_index_or, IsTrue, IsSome, IfSome}
+use Rattle.std.specs.Option.{unwrap_or, option_map}
 use Rattle.std.specs.List.{All}
 use Rattle.std.proofs.lemmas.Bool.{ltb-true, ltb-false, and_parts}
 use Rattle.std.proofs.lemmas.Bool.Decides.{Decides-eqb}
 use Rattle.std.proofs.lemmas.List.{append-nil, length-map, get_or-map, take_all}
 use Rattle.std.proofs.lemmas.List.Elements.{All-nil, All-cons}
-use Rattle.std.proofs.lemmas.Option.{same_Some}
+use Rattle.std.proofs.lemmas.Option.{same_Some, slice_get-map, slice_get_within, get_or_from_slice_get}
 use Rattle.codec_defs.specs.Shape.{IsA, decoded}
 use Rattle.codec_defs.proofs.ShapeLaws.{IsA-decoded}
 use Rattle.codec_defs.specs.Schema.{OutPoint, Block, block}
@@ -34,7 +34,7 @@ use Rattle.joined_laws.proofs.HeaderLaws.{blocks-are-rated}
 use Rattle.joined_laws.proofs.FitLaws.{what-joins-fits}
 use Rattle.joined_laws.proofs.BranchFitLaws.{branches-fit}
 use Rattle.log_file.specs.Grammar.{AreBlocks}
-use Rattle.node_core.specs.Node.{AreKept}
+use Rattle.node_core.specs.Node.{exts_of, CountFees, AreKept}
 use Rattle.node_core.specs.Opening.{HaveExts}
 
 -- ---- Ratings
@@ -150,17 +150,32 @@ pub counts-entries : (items : List (List ℕ)) (entries : List Entry) (stored : 
 counts-entries items entries stored are decode =
     sym (length-map stored (λ (it : Stored). it.block)) ∙ sym (len-same (blocks_of stored) entries (indexed-by items entries (blocks_of stored) are decode))
 
+-- their exts count their fees
+counts-fees : (items exts : List (List ℕ)) (stored : List Stored) → HaveExts items exts → map (decoded block) items ≡ map Some (blocks_of stored)
+    → exts_of stored ≡ exts → CountFees stored
+counts-fees items exts stored have decode beside place it above there =
+    let here : slice_get (blocks_of stored) place ≡ Some it.block =
+    slice_get-map (λ (x : Stored). x.block) stored place ∙ ap (option_map (λ (x : Stored). x.block)) there in
+    let ext_here : slice_get exts place ≡ Some it.ext =
+    ap (λ (l : List (List ℕ)). slice_get l place) (sym beside) ∙ slice_get-map (λ (x : Stored). x.ext) stored place
+    ∙ ap (option_map (λ (x : Stored). x.ext)) there in
+    let within : place < length items = omega (arith, slice_get_within (blocks_of stored) place it.block here, as-many items (blocks_of stored) decode) in
+    ap (λ (e : List ℕ). count_at e 0) (sym (get_or_from_slice_get exts place it.ext [] ext_here))
+    ∙ subst (λ (o : Option Block). IfSome o (λ b. count_at (slice_index_or exts place []) 0 ≡ length b.transactions - 1))
+    (decoded-at items (blocks_of stored) place it.block decode here) (have place above within).fees
+
 -- With the rows of the tip's branch all is kept.
-pub are-kept : (items : List (List ℕ)) (entries : List Entry) (before stored : List Stored) (index : UnclesValue) (rows : OutPoint → Option Row) (tip : ℕ)
+pub are-kept : (items exts : List (List ℕ)) (entries : List Entry) (before stored : List Stored) (index : UnclesValue) (rows : OutPoint → Option Row) (tip : ℕ)
     → AreBlocks items entries → length items ≤ kept_limit → map (decoded block) items ≡ map Some (blocks_of before) → Some stored ≡ Some before
-    → AreRated entries → IndexesUncles (blocks_of before) index → tip_place (blocks_of before) ≡ Some tip
+    → HaveExts items exts → exts_of before ≡ exts → AreRated entries → IndexesUncles (blocks_of before) index → tip_place (blocks_of before) ≡ Some tip
     → ((o : OutPoint) → rows o ≡ live_row (blocks_of before) tip o) → AreKept stored entries index rows
-are-kept items entries before stored index rows tip are few decode told rated uncles at_tip live =
+are-kept items exts entries before stored index rows tip are few decode told have beside rated uncles at_tip live =
     subst (λ (s : List Stored). AreKept s entries index rows) (sym (same_Some stored before told)) (record {
       indexed = indexed-by items entries (blocks_of before) are decode;
       uncles = uncles;
       live = λ place there o. live o ∙ ap (λ (p : ℕ). live_row (blocks_of before) p o) (same_Some tip place (sym at_tip ∙ there));
       rated = rated;
+      counted = counts-fees items exts before have decode beside;
       few = omega (arith, few, as-many items (blocks_of before) decode, length-map before (λ (it : Stored). it.block));
     })
 

@@ -1,5 +1,5 @@
 -- What contracts see of a node and of a new store, and a disk as a node left it.
-use Rattle.std.specs.Prelude.{◌≡◌, ℕ, ◌+◌, ◌*◌, ◌^◌, ◌<◌, ◌≤◌, List, length, Option, Some, None}
+use Rattle.std.specs.Prelude.{◌≡◌, ℕ, ◌+◌, ◌-◌, ◌*◌, ◌^◌, ◌<◌, ◌≤◌, List, [], ◌∷◌, ◌++◌, map, length, slice_get, Option, Some, None}
 use Rattle.outside.specs.Image.{Image}
 use Rattle.codec_defs.specs.Shape.{decoded}
 use Rattle.codec_defs.specs.Schema.{OutPoint, Block, block}
@@ -8,22 +8,48 @@ use Rattle.chain_defs.specs.Tip.{tip_place}
 use Rattle.chain_tree.specs.declared.entry.Entry.{Entry}
 use Rattle.chain_tree.specs.Blocks.{IndexesBlocks}
 use Rattle.chain_tree.specs.Told.{Stored, blocks_of}
+use Rattle.cell_defs.specs.Ext.{count_at}
 use Rattle.cell_defs.specs.Row.{Row, live_row}
 use Rattle.chain_tree.specs.Blocks.{AreRated}
 use Rattle.uncle_rules.specs.Embedded.{UnclesValue, IndexesUncles}
-use Rattle.time_defs.specs.Specification.{broken_specification_rule}
+use Rattle.time_defs.specs.Specification.{Specification, broken_specification_rule}
 use Rattle.verdict_defs.specs.Chain.{Chain}
 use Rattle.genesis_defs.specs.Genesis.{broken_genesis_rule}
 use Rattle.log_defs.specs.Log.{Record}
 use Rattle.log_defs.specs.Rest.{IsAtRest}
-use Rattle.store_defs.specs.Store.{StandsFor}
+use Rattle.store_defs.specs.Store.{StandsFor, HaveOwnExts}
 
--- a node: its chain, and the offset where the records of its log end
+-- the ext beside each kept block
+abbrev pub exts_of : List Stored → List (List ℕ)
+exts_of stored = map (λ it. it.ext) stored
+
+-- what is kept in memory: a chain, and the exts of its blocks
+pub record KeptValue : Type 0 where
+  pub chain : Chain
+  pub exts : List (List ℕ)
+
+abbrev pub kept_of : Specification → List Stored → KeptValue
+kept_of spec stored = record { chain = record { spec = spec; blocks = blocks_of stored }; exts = exts_of stored }
+
+-- with one more block and its ext
+abbrev pub kept_with : KeptValue → Block → List ℕ → KeptValue
+kept_with kept b ext =
+    record { chain = record { spec = kept.chain.spec; blocks = kept.chain.blocks ++ b ∷ [] }; exts = kept.exts ++ ext ∷ [] }
+
+-- a node: its chain, the exts of its blocks, and the offset where the records of its log end
 pub record NodeValue : Type 0 where
   pub chain : Chain
+  pub exts : List (List ℕ)
   pub place : ℕ
 
--- The disk has one image, which stands for the node's chain, with a log at rest whose records end at the node's place.
+abbrev pub kept_in : NodeValue → KeptValue
+kept_in node = record { chain = node.chain; exts = node.exts }
+
+abbrev pub node_of : KeptValue → ℕ → NodeValue
+node_of kept place = record { chain = kept.chain; exts = kept.exts; place = place }
+
+-- The disk has one image, which stands for the node's chain, with a log at rest whose records end at the node's place; and the exts of the node's
+-- blocks are their own.
 pub record IsOn (node : NodeValue) (reads : Option Image) (images : Image → Type 0) : Type 0 where
   pub now : Image
   pub told : reads ≡ Some now
@@ -31,14 +57,20 @@ pub record IsOn (node : NodeValue) (reads : Option Image) (images : Image → Ty
   pub stands : StandsFor node.chain now
   pub records : List Record
   pub rest : IsAtRest node.place records now.log
+  pub own : HaveOwnExts node.chain node.exts
+
+-- The ext of each block after the genesis counts a fee for each transaction of the block after the first.
+abbrev pub CountFees : List Stored → Type 0
+CountFees stored = (place : ℕ) (it : Stored) → 0 < place → slice_get stored place ≡ Some it → count_at it.ext 0 ≡ length it.block.transactions - 1
 
 -- What is kept in memory: the tree indexes the blocks, and the other index their uncles; the rows are those of the live cells of the tip; the C
--- and the AR of each block's DAO field are above 0; and no more blocks are kept than may be.
+-- and the AR of each block's DAO field are above 0; the exts count their fees; and no more blocks are kept than may be.
 pub record AreKept (stored : List Stored) (entries : List Entry) (index : UnclesValue) (rows : OutPoint → Option Row) : Type 0 where
   pub indexed : IndexesBlocks (blocks_of stored) entries
   pub uncles : IndexesUncles (blocks_of stored) index
   pub live : (tip : ℕ) → tip_place (blocks_of stored) ≡ Some tip → (o : OutPoint) → rows o ≡ live_row (blocks_of stored) tip o
   pub rated : AreRated entries
+  pub counted : CountFees stored
   pub few : length stored ≤ kept_limit
 
 -- A log is no longer than the records of so many blocks may make it.

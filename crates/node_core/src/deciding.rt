@@ -11,7 +11,7 @@ ghost use Rattle.outside.specs.declared.disk.ReadStop.TheVariants.{DiskFault, Da
 ghost use Rattle.block_judge.specs.declared.stop.Judged.TheVariants.{Broken, Read};
 ghost use Rattle.verdict_defs.specs.Trial.{trial_on};
 ghost use Rattle.verdict_defs.specs.declared.trial.Trial.TheVariants.{Passes, Refused};
-ghost use Rattle.store_defs.specs.Store.{IsJoined};
+ghost use Rattle.store_defs.specs.Store.{IsJoined, AreJoined};
 ghost use Rattle.node_core.specs.Steps.{replays_at, replays_of_block, replays_for};
 ghost use Rattle.node_core.specs.Judging.{AreCellsOn, IsEntryOn, IsDecidedBlock, IsDecided, IsReadyBlock, IsReadyItem};
 
@@ -75,14 +75,14 @@ impl Kept {
         place: u32,
         steps: &mut Steps<L>,
     ) -> Result<Option<State>, ReadStop>
-        requires { place < length self.old.blocks }
+        requires { place < length self.old.chain.blocks }
         ensures same { self.new ≡ self.old }
-        ensures cells { IfOk result (AreCellsOn self.old.blocks place) }
-        ensures undamaged { IsJoined self.old → (damage : Damage) → result ≡ Err (Damaged damage) → ⊥ }
+        ensures cells { IfOk result (AreCellsOn self.old.chain.blocks place) }
+        ensures undamaged { IsJoined self.old.chain → (damage : Damage) → result ≡ Err (Damaged damage) → ⊥ }
         ensures damage { (damage : Damage) → result ≡ Err (Damaged damage) → damage.area ≡ Log }
         ensures reads { result ≢ Err DiskFault }
-        ensures steps { tip_place self.old.blocks ≡ Some place → steps.new ≡ steps.old }
-        ensures most { steps.new ≤ steps.old + replays_at self.old.blocks place }
+        ensures steps { tip_place self.old.chain.blocks ≡ Some place → steps.new ≡ steps.old }
+        ensures most { steps.new ≤ steps.old + replays_at self.old.chain.blocks place }
     {
         if place == self.tree.tip() {
             return Ok(None);
@@ -102,15 +102,15 @@ impl Kept {
         entry: Entry,
         steps: &mut Steps<L>,
     ) -> Result<Decision, ReadStop>
-        requires { IsEntryOn self.old.blocks block.now entry }
+        requires { IsEntryOn self.old.chain.blocks block.now entry }
         ensures same { self.new ≡ self.old }
-        ensures ready { IfOk result (IsReadyBlock self.old.blocks block.now) }
-        ensures decided { IsJoined self.old → IfOk result (IsDecidedBlock self.old block.now) }
-        ensures undamaged { IsJoined self.old → (damage : Damage) → result ≡ Err (Damaged damage) → ⊥ }
+        ensures ready { IfOk result (IsReadyBlock self.old.chain.blocks block.now) }
+        ensures decided { AreJoined self.old.chain self.old.exts → IfOk result (IsDecidedBlock self.old.chain block.now) }
+        ensures undamaged { AreJoined self.old.chain self.old.exts → (damage : Damage) → result ≡ Err (Damaged damage) → ⊥ }
         ensures damage { (damage : Damage) → result ≡ Err (Damaged damage) → damage.area ≡ Log }
         ensures reads { result ≢ Err DiskFault }
-        ensures steps { tip_place self.old.blocks ≡ Some entry.parent → steps.new ≡ steps.old }
-        ensures most { steps.new ≤ steps.old + replays_at self.old.blocks entry.parent }
+        ensures steps { tip_place self.old.chain.blocks ≡ Some entry.parent → steps.new ≡ steps.old }
+        ensures most { steps.new ≤ steps.old + replays_at self.old.chain.blocks entry.parent }
     {
         let parent = entry.parent;
         let cells = match self.replayed(alloc, parent, steps) {
@@ -148,13 +148,13 @@ impl Kept {
         steps: &mut Steps<L>,
     ) -> Result<Decision, ReadStop>
         ensures same { self.new ≡ self.old }
-        ensures ready { IfOk result (IsReadyBlock self.old.blocks block.now) }
-        ensures decided { IsJoined self.old → IfOk result (IsDecidedBlock self.old block.now) }
-        ensures undamaged { IsJoined self.old → (damage : Damage) → result ≡ Err (Damaged damage) → ⊥ }
+        ensures ready { IfOk result (IsReadyBlock self.old.chain.blocks block.now) }
+        ensures decided { AreJoined self.old.chain self.old.exts → IfOk result (IsDecidedBlock self.old.chain block.now) }
+        ensures undamaged { AreJoined self.old.chain self.old.exts → (damage : Damage) → result ≡ Err (Damaged damage) → ⊥ }
         ensures damage { (damage : Damage) → result ≡ Err (Damaged damage) → damage.area ≡ Log }
         ensures reads { result ≢ Err DiskFault }
-        ensures steps { place_of self.old.blocks block.now.header.parent_hash ≡ tip_place self.old.blocks → steps.new ≡ steps.old }
-        ensures most { steps.new ≤ steps.old + replays_of_block self.old.blocks block.now }
+        ensures steps { place_of self.old.chain.blocks block.now.header.parent_hash ≡ tip_place self.old.chain.blocks → steps.new ≡ steps.old }
+        ensures most { steps.new ≤ steps.old + replays_of_block self.old.chain.blocks block.now }
     {
         let hash = hash_of(block);
         if self.tree.find(&hash).is_some() {
@@ -175,14 +175,14 @@ impl Kept {
         steps: &mut Steps<L>,
     ) -> Result<Decision, ReadStop>
         ensures same { self.new ≡ self.old }
-        ensures ready { IfOk result (IsReadyItem self.old.blocks item.now) }
-        ensures decided { IsJoined self.old → IfOk result (IsDecided self.old item.now) }
-        ensures undamaged { IsJoined self.old → (damage : Damage) → result ≡ Err (Damaged damage) → ⊥ }
+        ensures ready { IfOk result (IsReadyItem self.old.chain.blocks item.now) }
+        ensures decided { AreJoined self.old.chain self.old.exts → IfOk result (IsDecided self.old.chain item.now) }
+        ensures undamaged { AreJoined self.old.chain self.old.exts → (damage : Damage) → result ≡ Err (Damaged damage) → ⊥ }
         ensures damage { (damage : Damage) → result ≡ Err (Damaged damage) → damage.area ≡ Log }
         ensures reads { result ≢ Err DiskFault }
         ensures steps { (b : Block) → decoded schema.block item.now ≡ Some b
-            → place_of self.old.blocks b.header.parent_hash ≡ tip_place self.old.blocks → steps.new ≡ steps.old }
-        ensures most { steps.new ≤ steps.old + replays_for self.old.blocks item.now }
+            → place_of self.old.chain.blocks b.header.parent_hash ≡ tip_place self.old.chain.blocks → steps.new ≡ steps.old }
+        ensures most { steps.new ≤ steps.old + replays_for self.old.chain.blocks item.now }
     {
         match BlockView::read(item) {
             None => Ok(Decision::Stays(Verdict::Refused(1))),
@@ -193,10 +193,10 @@ impl Kept {
     /// Judges a transaction alone behind the tip: its fee in shannons, and the cycles of its scripts.
     pub(crate) fn check(&mut self, alloc: Global, tx: &TxView<'_>) -> Result<(u64, u64), Judged>
         ensures same { self.new ≡ self.old }
-        ensures passes { IsJoined self.old → IfOk result (λ it. trial_on self.old.spec (best_branch self.old.blocks) tx.now ≡ Passes it.0 it.1) }
-        ensures broken { IsJoined self.old → (rule : ℕ) → result ≡ Err (Broken rule)
-            → trial_on self.old.spec (best_branch self.old.blocks) tx.now ≡ Refused rule }
-        ensures undamaged { IsJoined self.old → (damage : Damage) → result ≡ Err (Read (Damaged damage)) → ⊥ }
+        ensures passes { IsJoined self.old.chain → IfOk result (λ it. trial_on self.old.chain.spec (best_branch self.old.chain.blocks) tx.now ≡ Passes it.0 it.1) }
+        ensures broken { IsJoined self.old.chain → (rule : ℕ) → result ≡ Err (Broken rule)
+            → trial_on self.old.chain.spec (best_branch self.old.chain.blocks) tx.now ≡ Refused rule }
+        ensures undamaged { IsJoined self.old.chain → (damage : Damage) → result ≡ Err (Read (Damaged damage)) → ⊥ }
         ensures damage { (damage : Damage) → result ≡ Err (Read (Damaged damage)) → damage.area ≡ Log }
         ensures reads { result ≢ Err (Read DiskFault) }
     {

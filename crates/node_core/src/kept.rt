@@ -20,6 +20,7 @@ ghost use Rattle.outside.specs.declared.disk.Damage.{Damage as a_damage};
 ghost use Rattle.outside.specs.declared.disk.ReadStop.TheVariants.{DiskFault, Damaged};
 ghost use Rattle.verdict_defs.specs.Laws.{MayJoin};
 ghost use Rattle.store_defs.specs.Store.{IsJoined};
+ghost use Rattle.node_core.specs.Node.{kept_with};
 ghost use Rattle.node_core.specs.Judging.{IsReady};
 
 use crate::deciding::Joining;
@@ -35,7 +36,8 @@ use std::marker::Model;
 use std::sync::ledger::Ledger;
 use uncle_rules::Uncles;
 
-/// The kept blocks with their exts, all that is looked up in them, and the live cells of the tip. Clauses see the chain.
+/// The kept blocks with their exts, all that is looked up in them, and the live cells of the tip. Clauses see the chain and
+/// the exts.
 // At an exit it is dropped by a call, which is one step of the proof; else each of its fields, and theirs, is one.
 #[derive(Drop)]
 pub(crate) struct Kept {
@@ -47,14 +49,12 @@ pub(crate) struct Kept {
 }
 
 impl Model for Kept {
-    ghost use Rattle.chain_tree.specs.Told.{blocks_of};
     ghost use Rattle.cell_state.specs.State.{rows};
-    ghost use Rattle.verdict_defs.specs.Chain.{Chain};
-    ghost use Rattle.node_core.specs.Node.{AreKept};
+    ghost use Rattle.node_core.specs.Node.{KeptValue, kept_of, AreKept};
 
-    ghost Value = { Chain };
+    ghost Value = { KeptValue };
 
-    ghost view = { λ kept. record { spec = kept.spec; blocks = blocks_of kept.blocks.stored } };
+    ghost view = { λ kept. kept_of kept.spec kept.blocks.stored };
 
     ghost invariant = { λ kept. AreKept kept.blocks.stored kept.tree.entries kept.uncles (rows kept.state) };
 }
@@ -141,11 +141,10 @@ impl Kept {
         joining: Joining,
         steps: &mut Steps<L>,
     ) -> Result<Kept, ReadStop>
-        requires canonical { (b : Block) × (decoded schema.block item.now ≡ Some b) × IsReady self.blocks b joining }
+        requires canonical { (b : Block) × (decoded schema.block item.now ≡ Some b) × IsReady self.chain.blocks b joining }
         requires ext { IsExtFor item.now ext.items }
-        ensures kept { (b : Block) → decoded schema.block item.now ≡ Some b
-            → IfOk result (λ kept. kept ≡ record { spec = self.spec; blocks = self.blocks ++ b ∷ [] }) }
-        ensures undamaged { (b : Block) → decoded schema.block item.now ≡ Some b → IsJoined self → MayJoin self.spec self.blocks b
+        ensures kept { (b : Block) → decoded schema.block item.now ≡ Some b → IfOk result (λ kept. kept ≡ kept_with self b ext.items) }
+        ensures undamaged { (b : Block) → decoded schema.block item.now ≡ Some b → IsJoined self.chain → MayJoin self.chain.spec self.chain.blocks b
             → (damage : a_damage) → result ≡ Err (Damaged damage) → ⊥ }
         ensures damage { (damage : a_damage) → result ≡ Err (Damaged damage) → damage.area ≡ Log }
         ensures reads { result ≢ Err DiskFault }
@@ -200,21 +199,21 @@ impl Kept {
 
     /// What is kept of the tip.
     pub(crate) fn tip(&self) -> &Entry
-        ensures { (block : Block) × (tips.tip self.now.blocks ≡ Some block) × Describes block result.now }
+        ensures { (block : Block) × (tips.tip self.now.chain.blocks ≡ Some block) × Describes block result.now }
     {
         self.tree.entry(self.tree.tip())
     }
 
     /// The tree of the kept blocks.
     pub(crate) fn tree(&self) -> &Tree
-        ensures { IndexesBlocks self.now.blocks result.now.entries }
+        ensures { IndexesBlocks self.now.chain.blocks result.now.entries }
     {
         &self.tree
     }
 
     /// The live cells of the tip.
     pub(crate) fn state(&self) -> &State
-        ensures { (tip : ℕ) → tip_place self.now.blocks ≡ Some tip → (o : OutPoint) → rows result.now o ≡ live_row self.now.blocks tip o }
+        ensures { (tip : ℕ) → tip_place self.now.chain.blocks ≡ Some tip → (o : OutPoint) → rows result.now o ≡ live_row self.now.chain.blocks tip o }
     {
         &self.state
     }
@@ -270,7 +269,7 @@ fn put(
         Ok(copy) => copy,
         Err(_) => return Err(NoMemory),
     };
-    match blocks.push(copy, ext) {
+    match blocks.push(alloc, copy, ext) {
         Ok(()) => {}
         Err(_) => return Err(NoMemory),
     }

@@ -22,7 +22,7 @@ ghost use Rattle.verdict_defs.specs.Verdict.{joins};
 ghost use Rattle.verdict_defs.specs.Trial.{trial_on};
 ghost use Rattle.verdict_defs.specs.declared.trial.Trial.TheVariants.{Passes, Refused};
 ghost use Rattle.log_defs.specs.Log.{end_of_log};
-ghost use Rattle.store_defs.specs.Store.{Keeps, store_of, StandsFor, IsSound, IsJoined};
+ghost use Rattle.store_defs.specs.Store.{Keeps, store_of, StandsFor, IsSound, IsJoined, HaveOwnExts, AreJoined};
 ghost use Rattle.log_file.specs.Pieces.{behind_gate, block_record};
 ghost use Rattle.node_core.specs.Node.{IsOn};
 ghost use Rattle.node_core.specs.Steps.{replays_for, replays_to_open};
@@ -79,7 +79,7 @@ fn fill(alloc: Global, body: &mut Body, item: &[u8], ext: &Ext) -> Result<Vec<u8
     Ok(bytes)
 }
 
-/// The kept blocks of a store. Clauses see their chain, and where the records of its log end.
+/// The kept blocks of a store. Clauses see their chain, their exts, and where the records of its log end.
 #[derive(Drop)]
 pub struct Node {
     kept: Kept,
@@ -91,13 +91,13 @@ pub struct Node {
 impl Model for Node {
     ghost use Rattle.std.specs.Prelude.{◌≤◌, length};
     ghost use Rattle.chain_defs.specs.Kept.{kept_limit};
-    ghost use Rattle.node_core.specs.Node.{NodeValue, IsWithin};
+    ghost use Rattle.node_core.specs.Node.{NodeValue, node_of, IsWithin};
 
     ghost Value = { NodeValue };
 
-    ghost view = { λ node. record { chain = node.kept; place = node.log.place } };
+    ghost view = { λ node. node_of node.kept node.log.place };
 
-    ghost invariant = { λ node. (length node.kept.blocks ≤ kept_limit) × IsWithin (length node.kept.blocks) node.log.place };
+    ghost invariant = { λ node. (length node.kept.chain.blocks ≤ kept_limit) × IsWithin (length node.kept.chain.blocks) node.log.place };
 }
 
 impl Node {
@@ -118,6 +118,7 @@ impl Node {
         ensures one_image { OnOk result (HasOneImage (D.reads_as disk.new) (D.images disk.new)) }
         ensures on { ((image : Image) → D.images disk.old image → IsSound image)
             → IfOk result (λ node. IfSome (D.reads_as disk.old) (λ _. IsOn node (D.reads_as disk.new) (D.images disk.new))) }
+        ensures own { (now : Image) → D.reads_as disk.old ≡ Some now → IsSound now → IfOk result (λ node. HaveOwnExts node.chain node.exts) }
         ensures moments { (now : Image) (chain : Chain) → D.reads_as disk.old ≡ Some now → store_of now ≡ Keeps chain → ((image : Image) → D.images disk.old image → IsSound image)
             → LeavesOnly D.moment D.left_since disk.old disk.new (λ image. D.images disk.old image ⊎ StandsFor chain image) }
         ensures cause { CountsFault (D.faults disk.old) (D.faults disk.new) (result ≡ Err LogStop.DiskFault) }
@@ -161,6 +162,7 @@ impl Node {
         requires ready { IsReadyItem self.chain.blocks item.now (Joins joining) }
         ensures kept { IsDecided self.chain item.now (Joins joining) → IfOk result (λ node. node.chain ≡ chain_after self.chain item.now) }
         ensures there { IfOk result (λ node. IfSome (D.reads_as disk.new) (λ image. node.place < length image.log)) }
+        ensures own { IsDecided self.chain item.now (Joins joining) → HaveOwnExts self.chain self.exts → IfOk result (λ node. HaveOwnExts node.chain node.exts) }
         ensures on { IsDecided self.chain item.now (Joins joining) → IsOn self (D.reads_as disk.old) (D.images disk.old)
             → IfOk result (λ node. IsOn node (D.reads_as disk.new) (D.images disk.new)) }
         ensures moments { IsDecided self.chain item.now (Joins joining) → IsOn self (D.reads_as disk.old) (D.images disk.old)
@@ -210,15 +212,16 @@ impl Node {
     ) -> Result<(Node, Verdict), ReadStop>
         requires size { length item.now < 2 ^ 31 }
         requires there { IfSome (D.reads_as disk.old) (λ image. self.place < length image.log) }
-        ensures verdict { IsJoined self.chain → IfOk result (λ answer. answer.1 ≡ verdict_over self.chain item.now) }
-        ensures kept { IsJoined self.chain → IfOk result (λ answer. answer.0.chain ≡ chain_after self.chain item.now) }
+        ensures verdict { AreJoined self.chain self.exts → IfOk result (λ answer. answer.1 ≡ verdict_over self.chain item.now) }
+        ensures kept { AreJoined self.chain self.exts → IfOk result (λ answer. answer.0.chain ≡ chain_after self.chain item.now) }
+        ensures joined { AreJoined self.chain self.exts → IfOk result (λ answer. AreJoined answer.0.chain answer.0.exts) }
         ensures there { IfOk result (λ answer. IfSome (D.reads_as disk.new) (λ image. answer.0.place < length image.log)) }
         ensures on { IsOn self (D.reads_as disk.old) (D.images disk.old) → IfOk result (λ answer. IsOn answer.0 (D.reads_as disk.new) (D.images disk.new)) }
         ensures moments { IsOn self (D.reads_as disk.old) (D.images disk.old)
             → LeavesOnly D.moment D.left_since disk.old disk.new (λ image. StandsFor self.chain image ⊎ StandsFor (chain_after self.chain item.now) image) }
         ensures unwritten { IfOk result (λ answer. joins answer.1 ≡ false → disk.new ≡ disk.old) }
         ensures untouched { IfErr result (λ stop. stop ≢ DiskFault → disk.new ≡ disk.old) }
-        ensures undamaged { IsJoined self.chain → (damage : Damage) → result ≡ Err (Damaged damage) → ⊥ }
+        ensures undamaged { AreJoined self.chain self.exts → (damage : Damage) → result ≡ Err (Damaged damage) → ⊥ }
         ensures damage { (damage : Damage) → result ≡ Err (Damaged damage) → damage.area ≡ log_area }
         ensures cause { CountsFault (D.faults disk.old) (D.faults disk.new) (result ≡ Err DiskFault) }
         ensures steps { (b : Block) → decoded schema.block item.now ≡ Some b

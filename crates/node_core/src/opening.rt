@@ -126,8 +126,9 @@ impl Kept {
         requires blocks { AreBlocks (contents blocks.items) tree.entries }
         requires beside { length exts.items ≡ length blocks.items }
         requires few { length blocks.items ≤ kept_limit }
-        ensures spec { IfOk result (λ kept. kept.spec ≡ spec) }
-        ensures blocks { IfOk result (λ kept. map (decoded schema.block) (contents blocks.items) ≡ map Some kept.blocks) }
+        ensures spec { IfOk result (λ kept. kept.chain.spec ≡ spec) }
+        ensures blocks { IfOk result (λ kept. map (decoded schema.block) (contents blocks.items) ≡ map Some kept.chain.blocks) }
+        ensures exts { IfOk result (λ kept. kept.exts ≡ contents exts.items) }
         ensures joined { (kept : List Block) → map (decoded schema.block) (contents blocks.items) ≡ map Some kept
             → IsJoined (record { spec = spec; blocks = kept }) → HaveExts (contents blocks.items) (contents exts.items) → result ≢ Err NotAStore }
         ensures reads { result ≢ Err DiskFault }
@@ -144,7 +145,13 @@ impl Kept {
                 return Err(LogStop::NoMemory);
             }
         };
-        let mut blocks = ListBlocks::new(blocks, exts);
+        let mut blocks = match ListBlocks::new(alloc, blocks, exts) {
+            Ok(blocks) => blocks,
+            Err(_) => {
+                drop((tree, uncles));
+                return Err(LogStop::NoMemory);
+            }
+        };
         match replay(alloc, &tree, &mut blocks, tree.tip(), steps) {
             Ok(state) => Ok(Kept {
                 spec,

@@ -7,7 +7,7 @@ use Rattle.outside.specs.Streams.{Gives}
 use Rattle.outside.proofs.Streams.{gives_more}
 use Rattle.chain_defs.specs.Tip.{greatest_number}
 use Rattle.verdict_defs.specs.Chain.{Chain}
-use Rattle.store_defs.specs.Store.{Store, Keeps, store_of, StandsFor, IsJoined}
+use Rattle.store_defs.specs.Store.{Store, Keeps, store_of, StandsFor, IsSound, IsJoined, HaveOwnExts, AreJoined}
 use Rattle.store_defs.proofs.JoinedLemmas.{joined_of_image}
 use Rattle.report_defs.specs.Items.{Split, split_of}
 use Rattle.report_defs.specs.Report.{item_limit, input_limit, import_limits}
@@ -27,11 +27,11 @@ steps_given chain items rest given before now are most = subst (λ (s : Split). 
 -- ---- Items one after the other
 
 module _ (chain : Chain) (offset : ℕ) (left_old left left_new taken_old taken : Option (List ℕ)) (now : Chain) (refused : Bool)
-    (was_on is_on : Type 0) (leaves : (Image → Type 0) → Type 0) (steps_old steps_now : ℕ)
-    (whole : Whole chain offset left_old left taken_old taken now refused was_on is_on leaves steps_old steps_now) where
+    (were_joined are_joined was_on is_on : Type 0) (leaves : (Image → Type 0) → Type 0) (steps_old steps_now : ℕ)
+    (whole : Whole chain offset left_old left taken_old taken now refused were_joined are_joined was_on is_on leaves steps_old steps_now) where
   -- what stands behind them holds no whole item
   pub counted_to_part : (given : List ℕ) → Gives left left_new given → IsPartial item_limit (Some input_limit) offset given
-      → Gave left_old left_new (λ given. IsJoined chain → steps_now ≤ steps_old + steps_over chain (split_of import_limits given).items)
+      → Gave left_old left_new (λ given. were_joined → steps_now ≤ steps_old + steps_over chain (split_of import_limits given).items)
   counted_to_part given gives partial = (
     concat whole.items ++ given,
     gives_more left_old left left_new (concat whole.items) given whole.gives gives,
@@ -46,7 +46,7 @@ module _ (chain : Chain) (offset : ℕ) (left_old left left_new taken_old taken 
   -- an item stands behind them
   pub counted_to_item : (steps_new : ℕ) (item given : List ℕ) → IsItemAt item_limit (Some input_limit) offset item given → Gives left left_new given
       → steps_new ≤ steps_now + replays_for now.blocks item + 1
-      → Gave left_old left_new (λ given. IsJoined chain → steps_new ≤ steps_old + steps_over chain (split_of import_limits given).items)
+      → Gave left_old left_new (λ given. were_joined → steps_new ≤ steps_old + steps_over chain (split_of import_limits given).items)
   counted_to_item steps_new item given at gives most = (
     concat whole.items ++ item,
     gives_more left_old left left_new (concat whole.items) item whole.gives (subst (Gives left left_new) at.same gives),
@@ -67,7 +67,7 @@ module _ (chain : Chain) (offset : ℕ) (left_old left left_new taken_old taken 
   -- the reading was stopped
   pub counted_to_stop : (given : List ℕ) → Gives left left_new given
       → IsPartial item_limit (Some input_limit) offset given ⊎ IsItemAt item_limit (Some input_limit) offset given given
-      → Gave left_old left_new (λ given. IsJoined chain → steps_now ≤ steps_old + steps_over chain (split_of import_limits given).items)
+      → Gave left_old left_new (λ given. were_joined → steps_now ≤ steps_old + steps_over chain (split_of import_limits given).items)
   counted_to_stop given gives (inl partial) = counted_to_part given gives partial
   counted_to_stop given gives (inr item) = counted_to_item steps_now given given item gives (omega arith)
 
@@ -77,13 +77,11 @@ pub opened_in : (chain : Chain) (now : Image) (before after : ℕ) → StandsFor
     → after ≤ before + greatest_number chain.blocks
 opened_in chain now before after stands most = subst (λ (s : Store). after ≤ before + replays_to_open s) (store_of_stands chain now stands) most
 
-pub counted_over : (reads : Option Image) (opened chain : Chain) (now : Image) (items : List (List ℕ)) (before mid after : ℕ)
-    → (IfSome reads (λ image. store_of image ≡ Keeps opened)) → reads ≡ Some now → StandsFor chain now → mid ≤ before + replays_to_open (store_of now)
-    → (IsJoined opened → after ≤ mid + steps_over opened items) → after ≤ before + greatest_number chain.blocks + steps_over chain items
-counted_over reads opened chain now items before mid after kept told stands most counts =
+pub counted_over : (reads : Option Image) (opened chain : Chain) (exts : List (List ℕ)) (now : Image) (items : List (List ℕ)) (before mid after : ℕ)
+    → (IfSome reads (λ image. store_of image ≡ Keeps opened)) → (IsSound now → HaveOwnExts opened exts) → reads ≡ Some now → StandsFor chain now
+    → mid ≤ before + replays_to_open (store_of now) → (AreJoined opened exts → after ≤ mid + steps_over opened items)
+    → after ≤ before + greatest_number chain.blocks + steps_over chain items
+counted_over reads opened chain exts now items before mid after kept own told stands most counts =
     let same : opened ≡ chain = same_chain opened chain (sym (if_told reads (λ image. store_of image ≡ Keeps opened) now kept told) ∙ store_of_stands chain now stands) in
-    omega (
-      arith,
-      opened_in chain now before mid stands most,
-      subst (λ (k : Chain). IsJoined k → after ≤ mid + steps_over k items) same counts (joined_of_image chain now stands),
-    )
+    let joined : AreJoined opened exts = record { joined = subst IsJoined (sym same) (joined_of_image chain now stands); own = own (chain, stands) } in
+    omega (arith, opened_in chain now before mid stands most, subst (λ (k : Chain). after ≤ mid + steps_over k items) same (counts joined))

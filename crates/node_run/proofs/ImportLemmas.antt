@@ -13,8 +13,7 @@ use Rattle.verdict_defs.specs.declared.verdict.Verdict.{Verdict}
 use Rattle.verdict_defs.specs.Verdict as rules
 use Rattle.verdict_defs.specs.Chain.{Chain, chain_after, verdict_over, chain_over, verdicts_over}
 use Rattle.fold_defs.proofs.FoldLemmas.{keep-push, verdicts-push}
-use Rattle.store_defs.specs.Store.{StandsFor, IsJoined}
-use Rattle.store_defs.proofs.JoinedLemmas.{joined_of_image, joined_after}
+use Rattle.store_defs.specs.Store.{StandsFor}
 use Rattle.report_defs.specs.declared.status.Status.{Status}
 use Rattle.report_defs.specs.declared.status.Status.TheVariants.{InputFault, SinkFault, DiskFault, NoMemory}
 use Rattle.report_defs.specs.Status.{IsOneOf}
@@ -44,10 +43,10 @@ pub input_limit-is : input_limit ≡ 1099511627776
 unfolding input_limit
 input_limit-is = refl
 
--- Whole items were imported, and nothing of a next one was read. Over a chain that has joined they are answered by their lines. Where the
+-- Whole items were imported, and nothing of a next one was read. Where what was kept had joined they are answered by their lines. Where the
 -- node was on its disk it is so now, and at each moment a crash left what joined of some of them.
 pub record Whole (chain : Chain) (offset : ℕ) (left_old left_new taken_old taken_new : Option (List ℕ)) (now : Chain) (refused : Bool)
-    (was_on is_on : Type 0) (leaves : (Image → Type 0) → Type 0) (steps_old steps_now : ℕ) : Type 0 where
+    (were_joined are_joined was_on is_on : Type 0) (leaves : (Image → Type 0) → Type 0) (steps_old steps_now : ℕ) : Type 0 where
   pub items : List (List ℕ)
   pub taken : List ℕ
   pub gives : Gives left_old left_new (concat items)
@@ -55,13 +54,13 @@ pub record Whole (chain : Chain) (offset : ℕ) (left_old left_new taken_old tak
   pub all : AreItems import_limits 0 items
   pub place : offset ≡ length (concat items)
   pub within : offset ≤ input_limit
-  pub joined : IsJoined chain → IsJoined now
-  pub lines : IsJoined chain → taken ≡ text_over chain items
-  pub kept_now : IsJoined chain → now ≡ chain_over chain items
-  pub any_refused : IsJoined chain → refused ≡ list_any rules.refuses (verdicts_over chain items)
+  pub joined : were_joined → are_joined
+  pub lines : were_joined → taken ≡ text_over chain items
+  pub kept_now : were_joined → now ≡ chain_over chain items
+  pub any_refused : were_joined → refused ≡ list_any rules.refuses (verdicts_over chain items)
   pub on : was_on → is_on
   pub moments : was_on → leaves (KeepsSome chain items)
-  pub steps : IsJoined chain → steps_now ≤ steps_old + steps_over chain items
+  pub steps : were_joined → steps_now ≤ steps_old + steps_over chain items
 
 -- ---- What a crash leaves
 
@@ -92,10 +91,6 @@ pub on_stands : (node : NodeValue) (chain : Chain) (reads : Option Image) (image
     → (image : Image) → images image → StandsFor chain image
 on_stands node chain reads images is on image left =
     subst (λ (k : Chain). StandsFor k image) is (subst (λ (i : Image). StandsFor node.chain i) (sym (on.one image left)) on.stands)
-
--- the chain of a node on its disk has joined
-pub joined_on : (node : NodeValue) (reads : Option Image) (images : Image → Type 0) → IsOn node reads images → IsJoined node.chain
-joined_on node reads images on = joined_of_image node.chain on.now on.stands
 
 module _ {D : Type 0} (images : D → Image → Type 0) (moment : D → ℕ) (left_since : D → ℕ → Image → Type 0)
     (counts_now : (disk : D) (t : ℕ) (image : Image) → t ≤ moment disk → images disk image → left_since disk t image) where
@@ -200,16 +195,16 @@ steps-push chain (x ∷ items) item =
 
 -- one item more was imported
 pub whole_more : (chain : Chain) (offset : ℕ) (left_old left left_new taken_old taken taken_new : Option (List ℕ)) (now new : Chain) (refused : Bool)
-    (was_on is_on on_new : Type 0) (leaves leaves_new : (Image → Type 0) → Type 0) (steps_old steps_now steps_new : ℕ)
+    (were_joined are_joined joined_new was_on is_on on_new : Type 0) (leaves leaves_new : (Image → Type 0) → Type 0) (steps_old steps_now steps_new : ℕ)
     (item given text : List ℕ) (verdict : Verdict) (size : ℕ) (any : Bool)
     → size ≡ length item → any ≡ (refused || rules.refuses verdict)
-    → (whole : Whole chain offset left_old left taken_old taken now refused was_on is_on leaves steps_old steps_now) → IsItemAt item_limit (Some input_limit) offset item given
+    → (whole : Whole chain offset left_old left taken_old taken now refused were_joined are_joined was_on is_on leaves steps_old steps_now) → IsItemAt item_limit (Some input_limit) offset item given
     → Gives left left_new given → Takes taken taken_new text
-    → (IsJoined now → verdict ≡ verdict_over now item) → (IsJoined now → new ≡ chain_after now item) → (IsJoined now → text ≡ line_over now item)
-    → (is_on → on_new) → (was_on → leaves_new (KeepsSome chain (whole.items ++ item ∷ []))) → steps_new ≤ steps_now + replays_for now.blocks item + 1
-    → Whole chain (offset + size) left_old left_new taken_old taken_new new any was_on on_new leaves_new steps_old steps_new
-whole_more chain offset left_old left left_new taken_old taken taken_new now new refused was_on is_on on_new leaves leaves_new steps_old steps_now steps_new item given text verdict size any
-    long either whole at gives takes judged kept_is text_is goes_on moments most = record {
+    → (are_joined → verdict ≡ verdict_over now item) → (are_joined → new ≡ chain_after now item) → (are_joined → text ≡ line_over now item)
+    → (are_joined → joined_new) → (is_on → on_new) → (was_on → leaves_new (KeepsSome chain (whole.items ++ item ∷ []))) → steps_new ≤ steps_now + replays_for now.blocks item + 1
+    → Whole chain (offset + size) left_old left_new taken_old taken_new new any were_joined joined_new was_on on_new leaves_new steps_old steps_new
+whole_more chain offset left_old left left_new taken_old taken taken_new now new refused were_joined are_joined joined_new was_on is_on on_new leaves leaves_new steps_old steps_now steps_new item given text verdict size any
+    long either whole at gives takes judged kept_is text_is stay goes_on moments most = record {
       items = whole.items ++ item ∷ [];
       taken = whole.taken ++ text;
       gives = rw concat-push (gives_more left_old left left_new (concat whole.items) item whole.gives (subst (Gives left left_new) at.same gives));
@@ -217,7 +212,7 @@ whole_more chain offset left_old left left_new taken_old taken taken_new now new
       all = all-push whole.items item whole.all at.is_item;
       place = omega (arith, long, whole.place, ap length (concat-push whole.items item), length-append (concat whole.items) item);
       within = rw long at.within;
-      joined = λ joined. subst IsJoined (sym (kept_is (whole.joined joined))) (joined_after now item (whole.joined joined));
+      joined = λ joined. stay (whole.joined joined);
       lines = λ joined.
           ap (λ bs. bs ++ text) (whole.lines joined)
           ∙ ap (λ bs. text_over chain whole.items ++ bs) (text_is (whole.joined joined) ∙ ap (λ (k : Chain). line_over k item) (whole.kept_now joined))
@@ -244,12 +239,12 @@ whole_more chain offset left_old left left_new taken_old taken taken_new now new
 
 -- the reading ended behind whole items
 pub imported_to_end : (chain : Chain) (offset : ℕ) (left_old left left_new taken_old taken : Option (List ℕ)) (now : Chain) (ended : Ended)
-    (was_on is_on : Type 0) (images : Image → Type 0) (leaves : (Image → Type 0) → Type 0) (steps_old steps_now : ℕ) (given : List ℕ)
-    → Whole chain offset left_old left taken_old taken now ended.refused was_on is_on leaves steps_old steps_now → Gives left left_new given
+    (were_joined are_joined was_on is_on : Type 0) (images : Image → Type 0) (leaves : (Image → Type 0) → Type 0) (steps_old steps_now : ℕ) (given : List ℕ)
+    → Whole chain offset left_old left taken_old taken now ended.refused were_joined are_joined was_on is_on leaves steps_old steps_now → Gives left left_new given
     → EndsAt (Some item_limit) (Some input_limit) offset left_new ended.end given → IsPartial item_limit (Some input_limit) offset given → ended.offset ≡ offset
     → (is_on → Each images (StandsFor now))
-    → Transfers left_old left_new taken_old taken (λ given taken. IsJoined chain → AreImported chain left_new (Ok ended) was_on images leaves given taken)
-imported_to_end chain offset left_old left left_new taken_old taken now ended was_on is_on images leaves steps_old steps_now given whole gives ends partial there stand = (
+    → Transfers left_old left_new taken_old taken (λ given taken. were_joined → AreImported chain left_new (Ok ended) was_on images leaves given taken)
+imported_to_end chain offset left_old left left_new taken_old taken now ended were_joined are_joined was_on is_on images leaves steps_old steps_now given whole gives ends partial there stand = (
   concat whole.items ++ given,
   whole.taken,
   gives_more left_old left left_new (concat whole.items) given whole.gives gives,
@@ -280,13 +275,13 @@ imported_to_end chain offset left_old left left_new taken_old taken now ended wa
 
 -- the reading was stopped behind whole items
 pub imported_to_fault : (chain : Chain) (offset : ℕ) (left_old left left_new taken_old taken : Option (List ℕ)) (now : Chain) (refused : Bool)
-    (was_on is_on : Type 0) (images : Image → Type 0) (leaves : (Image → Type 0) → Type 0) (steps_old steps_now : ℕ) (status : Status) (given : List ℕ)
-    → (whole : Whole chain offset left_old left taken_old taken now refused was_on is_on leaves steps_old steps_now) → Gives left left_new given → IsReadingStop status
+    (were_joined are_joined was_on is_on : Type 0) (images : Image → Type 0) (leaves : (Image → Type 0) → Type 0) (steps_old steps_now : ℕ) (status : Status) (given : List ℕ)
+    → (whole : Whole chain offset left_old left taken_old taken now refused were_joined are_joined was_on is_on leaves steps_old steps_now) → Gives left left_new given → IsReadingStop status
     → IsPartial item_limit (Some input_limit) offset given ⊎ IsItemAt item_limit (Some input_limit) offset given given
     → (is_on → Each images (StandsFor now))
     → (leaves (KeepsSome chain whole.items) → leaves (KeepsSome chain (whole.items ++ given ∷ [])))
-    → Transfers left_old left_new taken_old taken (λ given taken. IsJoined chain → AreImported chain left_new (Err status) was_on images leaves given taken)
-imported_to_fault chain offset left_old left left_new taken_old taken now refused was_on is_on images leaves steps_old steps_now status given whole gives stop (inl partial) stand weaker = (
+    → Transfers left_old left_new taken_old taken (λ given taken. were_joined → AreImported chain left_new (Err status) was_on images leaves given taken)
+imported_to_fault chain offset left_old left left_new taken_old taken now refused were_joined are_joined was_on is_on images leaves steps_old steps_now status given whole gives stop (inl partial) stand weaker = (
   concat whole.items ++ given,
   whole.taken,
   gives_more left_old left left_new (concat whole.items) given whole.gives gives,
@@ -312,7 +307,7 @@ imported_to_fault chain offset left_old left left_new taken_old taken now refuse
     moments = whole.moments;
   },
 )
-imported_to_fault chain offset left_old left left_new taken_old taken now refused was_on is_on images leaves steps_old steps_now status given whole gives stop (inr at) stand weaker = (
+imported_to_fault chain offset left_old left left_new taken_old taken now refused were_joined are_joined was_on is_on images leaves steps_old steps_now status given whole gives stop (inr at) stand weaker = (
   concat whole.items ++ given,
   whole.taken,
   gives_more left_old left left_new (concat whole.items) given whole.gives gives,
@@ -349,13 +344,13 @@ imported_to_fault chain offset left_old left left_new taken_old taken now refuse
 
 -- an item was read, and its import was stopped
 pub imported_to_line : (chain : Chain) (offset : ℕ) (left_old left left_new taken_old taken taken_new : Option (List ℕ)) (now : Chain) (refused : Bool)
-    (was_on is_on : Type 0) (images : Image → Type 0) (leaves leaves_new : (Image → Type 0) → Type 0) (steps_old steps_now : ℕ) (status : Status) (item given part : List ℕ)
-    → (whole : Whole chain offset left_old left taken_old taken now refused was_on is_on leaves steps_old steps_now) → IsItemAt item_limit (Some input_limit) offset item given
-    → Gives left left_new given → Takes taken taken_new part → (IsJoined now → IsCutShort (line_over now item) status part)
-    → (IsJoined chain → is_on → Each images (λ image. StandsFor (chain_over chain whole.items) image ⊎ StandsFor (chain_over chain (whole.items ++ item ∷ [])) image))
+    (were_joined are_joined was_on is_on : Type 0) (images : Image → Type 0) (leaves leaves_new : (Image → Type 0) → Type 0) (steps_old steps_now : ℕ) (status : Status) (item given part : List ℕ)
+    → (whole : Whole chain offset left_old left taken_old taken now refused were_joined are_joined was_on is_on leaves steps_old steps_now) → IsItemAt item_limit (Some input_limit) offset item given
+    → Gives left left_new given → Takes taken taken_new part → (are_joined → IsCutShort (line_over now item) status part)
+    → (were_joined → is_on → Each images (λ image. StandsFor (chain_over chain whole.items) image ⊎ StandsFor (chain_over chain (whole.items ++ item ∷ [])) image))
     → (was_on → leaves_new (KeepsSome chain (whole.items ++ item ∷ [])))
-    → Transfers left_old left_new taken_old taken_new (λ given taken. IsJoined chain → AreImported chain left_new (Err status) was_on images leaves_new given taken)
-imported_to_line chain offset left_old left left_new taken_old taken taken_new now refused was_on is_on images leaves leaves_new steps_old steps_now status item given part
+    → Transfers left_old left_new taken_old taken_new (λ given taken. were_joined → AreImported chain left_new (Err status) was_on images leaves_new given taken)
+imported_to_line chain offset left_old left left_new taken_old taken taken_new now refused were_joined are_joined was_on is_on images leaves leaves_new steps_old steps_now status item given part
     whole at gives takes short exit moments = (
       concat whole.items ++ item,
       whole.taken ++ part,

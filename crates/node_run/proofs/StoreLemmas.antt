@@ -9,7 +9,7 @@ use Rattle.codec_defs.specs.Schema.{Block}
 use Rattle.chain_defs.specs.Kept.{block_hash}
 use Rattle.verdict_defs.specs.Chain.{Chain, chain_over}
 use Rattle.log_defs.specs.Log.{LogContent, log_of}
-use Rattle.store_defs.specs.Store.{Store, NoLog, NotALog, Keeps, store_of, store_of_log, StandsFor, IsSound, IsJoined}
+use Rattle.store_defs.specs.Store.{Store, NoLog, NotALog, Keeps, store_of, store_of_log, StandsFor, IsSound, IsJoined, HaveOwnExts, AreJoined}
 use Rattle.store_defs.proofs.JoinedLemmas.{joined_of_image}
 use Rattle.report_defs.specs.declared.command.Command.{Command}
 use Rattle.report_defs.specs.declared.status.Status.{Status}
@@ -36,6 +36,14 @@ opened_store reads chain store kept found = found.2 ∙ if_told reads (λ now. s
 -- and its chain has joined
 opened_joined : (reads : Option Image) (chain : Chain) (store : Store) → IfSome reads (λ now. store_of now ≡ Keeps chain) → IsSoundStoreOf reads store → IsJoined chain
 opened_joined reads chain store kept found = joined_of_image chain found.0 (found.3 chain (opened_store reads chain store kept found))
+
+-- and the exts beside its blocks are their own
+pub opened_joined_whole : (reads : Option Image) (chain : Chain) (exts : List (List ℕ)) (store : Store) → IfSome reads (λ now. store_of now ≡ Keeps chain)
+    → ((now : Image) → reads ≡ Some now → IsSound now → HaveOwnExts chain exts) → IsSoundStoreOf reads store → AreJoined chain exts
+opened_joined_whole reads chain exts store kept own found = record {
+  joined = opened_joined reads chain store kept found;
+  own = own found.0 found.1 (chain, found.3 chain (opened_store reads chain store kept found));
+}
 
 -- where a store was opened, there is one
 pub opened_there : (reads : Option Image) (chain : Chain) (now : Image) → IfSome reads (λ now. store_of now ≡ Keeps chain) → reads ≡ Some now
@@ -64,24 +72,36 @@ store_of_stands chain image stands =
 
 -- ---- Where a store was opened
 
--- What is said is said of a chain that has joined.
+-- What is said is said of what has joined, as what a sound store keeps has.
+pub delivers_over : (has_joined : Type 0) (command : Command) (reads : Option Image) (chain : Chain) (at_start at_exit meanwhile : Image → Type 0)
+    (left : Option (List ℕ)) (given taken : List ℕ) (status : Status)
+    → ((store : Store) → Finds (Some command) reads store → IsSoundStoreOf reads store)
+    → IfSome reads (λ now. store_of now ≡ Keeps chain)
+    → ((store : Store) → IsSoundStoreOf reads store → has_joined)
+    → (has_joined → MatchesReport (λ whole. report_of_command (Some command) whole (Keeps chain)) given left taken status × KeepsOrder (Some command) (Keeps chain) given left taken status)
+    → ((now : Image) → reads ≡ Some now → KeepsDisk (Some command) now at_start at_exit meanwhile given taken status)
+    → Delivers command reads at_start at_exit meanwhile left given taken status
+delivers_over has_joined command reads chain at_start at_exit meanwhile left given taken status sound kept joined says disk = record {
+  text = λ store finds.
+      let found = sound store finds in
+      subst (λ (s : Store). MatchesReport (λ whole. report_of_command (Some command) whole s) given left taken status) (sym (opened_store reads chain store kept found))
+      (says (joined store found)).0;
+  order = λ store finds.
+      let found = sound store finds in
+      subst (λ (s : Store). KeepsOrder (Some command) s given left taken status) (sym (opened_store reads chain store kept found))
+      (says (joined store found)).1;
+  disk = disk;
+}
+
+-- of a chain that has joined
 pub delivers : (command : Command) (reads : Option Image) (chain : Chain) (at_start at_exit meanwhile : Image → Type 0) (left : Option (List ℕ)) (given taken : List ℕ) (status : Status)
     → ((store : Store) → Finds (Some command) reads store → IsSoundStoreOf reads store)
     → IfSome reads (λ now. store_of now ≡ Keeps chain)
     → (IsJoined chain → MatchesReport (λ whole. report_of_command (Some command) whole (Keeps chain)) given left taken status × KeepsOrder (Some command) (Keeps chain) given left taken status)
     → ((now : Image) → reads ≡ Some now → KeepsDisk (Some command) now at_start at_exit meanwhile given taken status)
     → Delivers command reads at_start at_exit meanwhile left given taken status
-delivers command reads chain at_start at_exit meanwhile left given taken status sound kept says disk = record {
-  text = λ store finds.
-      let found = sound store finds in
-      subst (λ (s : Store). MatchesReport (λ whole. report_of_command (Some command) whole s) given left taken status) (sym (opened_store reads chain store kept found))
-      (says (opened_joined reads chain store kept found)).0;
-  order = λ store finds.
-      let found = sound store finds in
-      subst (λ (s : Store). KeepsOrder (Some command) s given left taken status) (sym (opened_store reads chain store kept found))
-      (says (opened_joined reads chain store kept found)).1;
-  disk = disk;
-}
+delivers command reads chain at_start at_exit meanwhile left given taken status sound kept =
+    delivers_over (IsJoined chain) command reads chain at_start at_exit meanwhile left given taken status sound kept (λ store found. opened_joined reads chain store kept found)
 
 -- what is kept of the chain that was opened is kept of that which the disk reads as
 pub keeps_opened : (reads : Option Image) (chain : Chain) (items : List (List ℕ)) (at_start at_exit meanwhile : Image → Type 0) (taken : List ℕ) (status : Status)

@@ -5,7 +5,7 @@ ghost use Rattle.outside.specs.Disk.{LeavesOnly, IsOnlyRead};
 ghost use Rattle.outside.specs.Image.{Image};
 ghost use Rattle.chain_defs.specs.Tip.{greatest_number};
 ghost use Rattle.verdict_defs.specs.Chain.{Chain, verdict_over, chain_after};
-ghost use Rattle.store_defs.specs.Store.{Keeps, store_of, StandsFor, IsJoined};
+ghost use Rattle.store_defs.specs.Store.{Keeps, store_of, StandsFor, AreJoined};
 ghost use Rattle.report_defs.specs.Items.{split_of};
 ghost use Rattle.report_defs.specs.Report as reports;
 ghost use Rattle.report_defs.specs.Status.{IsOneOf};
@@ -76,9 +76,10 @@ fn import_item<K: Sink, D: Disk, L: Ledger>(
 ) -> Result<(Node, Verdict), Status>
     requires size { length item.now < 2 ^ 31 }
     requires there { IfSome (D.reads_as disk.old) (λ image. node.place < length image.log) }
-    ensures verdict { IsJoined node.chain → IfOk result (λ answer. answer.1 ≡ verdict_over node.chain item.now) }
-    ensures kept { IsJoined node.chain → IfOk result (λ answer. answer.0.chain ≡ chain_after node.chain item.now) }
-    ensures written { Took (K.taken out.old) (K.taken out.new) (λ taken. IsJoined node.chain → IsAnswered (line_over node.chain item.now) result taken) }
+    ensures verdict { AreJoined node.chain node.exts → IfOk result (λ answer. answer.1 ≡ verdict_over node.chain item.now) }
+    ensures kept { AreJoined node.chain node.exts → IfOk result (λ answer. answer.0.chain ≡ chain_after node.chain item.now) }
+    ensures joined { AreJoined node.chain node.exts → IfOk result (λ answer. AreJoined answer.0.chain answer.0.exts) }
+    ensures written { Took (K.taken out.old) (K.taken out.new) (λ taken. AreJoined node.chain node.exts → IsAnswered (line_over node.chain item.now) result taken) }
     ensures status { (status : Status) → result ≡ Err status → IsOneOf item_stops status }
     ensures there { IfOk result (λ answer. IfSome (D.reads_as disk.new) (λ image. answer.0.place < length image.log)) }
     ensures on { IsOn node (D.reads_as disk.old) (D.images disk.old) → IfOk result (λ answer. IsOn answer.0 (D.reads_as disk.new) (D.images disk.new)) }
@@ -112,13 +113,13 @@ fn import_items<S: Source, K: Sink, D: Disk, L: Ledger>(
 ) -> Result<Ended, Status>
     requires there { IfSome (D.reads_as disk.old) (λ image. opened.place < length image.log) }
     ensures imported { Transfers (S.left input.old) (S.left input.new) (K.taken out.old) (K.taken out.new)
-        (λ given taken. IsJoined opened.chain → AreImported opened.chain (S.left input.new) result (IsOn opened (D.reads_as disk.old) (D.images disk.old))
+        (λ given taken. AreJoined opened.chain opened.exts → AreImported opened.chain (S.left input.new) result (IsOn opened (D.reads_as disk.old) (D.images disk.old))
         (D.images disk.new) (LeavesOnly D.moment D.left_since disk.old disk.new) given taken) }
     ensures status { (status : Status) → result ≡ Err status → IsOneOf (Status.InputFault ∷ item_stops) status }
     ensures input_faults { CountsFault (S.faults input.old) (S.faults input.new) (result ≡ Err Status.InputFault) }
     ensures out_faults { CountsFault (K.faults out.old) (K.faults out.new) (result ≡ Err Status.SinkFault) }
     ensures disk_faults { CountsFault (D.faults disk.old) (D.faults disk.new) (result ≡ Err Status.DiskFault) }
-    ensures steps { Gave (S.left input.old) (S.left input.new) (λ given. IsJoined opened.chain
+    ensures steps { Gave (S.left input.old) (S.left input.new) (λ given. AreJoined opened.chain opened.exts
         → steps.new ≤ steps.old + steps_over opened.chain (split_of reports.import_limits given).items) }
 {
     let mut node = opened;

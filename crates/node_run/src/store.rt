@@ -6,7 +6,7 @@ ghost use Rattle.outside.specs.declared.disk.Damage.{Damage};
 ghost use Rattle.outside.specs.Image.{Image};
 ghost use Rattle.verdict_defs.specs.Chain.{Chain};
 ghost use Rattle.log_defs.specs.Log.{end_of_log};
-ghost use Rattle.store_defs.specs.Store.{Keeps, store_of, StandsFor, IsSound};
+ghost use Rattle.store_defs.specs.Store.{Keeps, store_of, StandsFor, IsSound, HaveOwnExts};
 ghost use Rattle.report_defs.specs.Status.{IsOneOf};
 ghost use Rattle.node_core.specs.Node.{IsOn};
 ghost use Rattle.node_core.specs.Steps.{replays_to_open};
@@ -71,6 +71,7 @@ pub fn open<D: Disk, L: Ledger>(
     ensures there { IfOk result (λ node. IfSome (D.reads_as disk.new) (λ image. node.place < length image.log)) }
     ensures on { ((image : Image) → D.images disk.old image → IsSound image)
         → IfOk result (λ node. IfSome (D.reads_as disk.old) (λ _. IsOn node (D.reads_as disk.new) (D.images disk.new))) }
+    ensures own { (now : Image) → D.reads_as disk.old ≡ Some now → IsSound now → IfOk result (λ node. HaveOwnExts node.chain node.exts) }
     ensures moments { (now : Image) (chain : Chain) → D.reads_as disk.old ≡ Some now → store_of now ≡ Keeps chain → ((image : Image) → D.images disk.old image → IsSound image)
         → LeavesOnly D.moment D.left_since disk.old disk.new (λ image. D.images disk.old image ⊎ StandsFor chain image) }
     ensures cause { CountsFault (D.faults disk.old) (D.faults disk.new) (result ≡ Err Status.DiskFault) }

@@ -1,9 +1,14 @@
-use Rattle.std.proofs.Common.{◌≡◌, ℕ, ◌-◌, ◌≤◌, Some, refl, ap, ◌∙◌, [], length, arith}
+use Rattle.std.proofs.Common.{◌≡◌, ℕ, ◌-◌, ◌≤◌, pos, List, Some, refl, ap, ◌∙◌, [], length, arith, rules}
+use Rattle.std.specs.Int.{w128}
+use Rattle.std.proofs.lemmas.Int.{to_z-of_z}
 use Rattle.chain_defs.specs.Branch.{branch}
-use Rattle.chain_tree.specs.Told.{blocks_of}
+use Rattle.codec_defs.specs.Schema.{Block}
+use Rattle.chain_tree.specs.Told.{Stored, blocks_of}
 use Rattle.tx_defs.specs.Site.{Site, site_at}
 use Rattle.tx_rules.specs.At.{AtValue}
 use Rattle.block_judge.specs.Changes.{with_changes}
+use Rattle.block_judge.specs.Standing.{Stands}
+use Rattle.block_judge.proofs.MovedLemmas.{can-move-none, moved-none, moved-more, moved-all}
 use Rattle.block_judge.proofs.Exits.{as_step, as_read, as_judged, no_error, no_rule, no_damage, no_fault, counts-on, counts-none, counts-still, counts-behind}
 use Rattle.block_judge.proofs.SiteLemmas.{rows-after_none, rows-after_more, site-in_block}
 use Rattle.block_judge.proofs.NextLemmas.{proposed-here, judged-none, judged-breaks, judged-more, judged-all, judged-ext}
@@ -11,7 +16,9 @@ use Rattle.block_judge.proofs.all_transactions.judge_transactions.Goals as goal
 
 pub returns-then-count-eq1 : goal.returns-then-count-eq1
 returns-then-count-eq1 g c =
-    let alone : 1 ≡ length c.args.block.now.transactions = omega (arith, c.if-count-eq1.true, c.transactions_count-count.ensures.value) in record {
+    let alone : 1 ≡ length c.args.block.now.transactions = omega (arith, c.if-count-eq1.true, c.transactions_count-count.ensures.value) in
+    let moved = λ (on : List Block).
+    moved-all c.args.spec.now on c.args.block.now 1 (pos 0) 0 (moved-none c.args.spec.now on c.args.block.now (pos 0) 0 refl refl) (omega (arith, alone)) in record {
       told = refl;
       count = refl;
       loans = refl;
@@ -28,6 +35,8 @@ returns-then-count-eq1 g c =
           (judged-none c.args.spec.now (blocks_of stored) c.args.parent c.args.block.now c.args.spec.now.max_cycles
           (record { fees = c.new.result.items; spent = c.new-then-count-eq1.result.items }) refl c.new.ensures.items c.new-then-count-eq1.ensures.items)
           (omega (arith, alone));
+      interest = λ stored tells stands. (moved (branch (blocks_of stored) c.args.parent)).interest_is;
+      freed = λ stored tells stands. (moved (branch (blocks_of stored) c.args.parent)).freed_is;
       undamaged = λ stored tells stands damage same. no_error same;
       damage = λ damage same. absurd (no_error same);
       cause = counts-still (λ fault. no_error fault);
@@ -43,6 +52,8 @@ returns-in-Err g c = record {
   broken = λ stored tells stands rule same. absurd (no_rule same);
   unbroken = λ stored tells stands. tt;
   ext = λ stored tells stands. tt;
+  interest = λ stored tells stands. tt;
+  freed = λ stored tells stands. tt;
   undamaged = λ stored tells stands damage same. c.in-Err.ensures.undamaged stored tells stands.indexed damage (as_read same);
   damage = λ damage same. c.in-Err.ensures.damage damage (as_read same);
   cause = counts-on as_judged as_read c.in-Err.ensures.cause;
@@ -58,6 +69,8 @@ returns-in-Err-behind g c = record {
   broken = λ stored tells stands rule same. absurd (no_rule same);
   unbroken = λ stored tells stands. tt;
   ext = λ stored tells stands. tt;
+  interest = λ stored tells stands. tt;
+  freed = λ stored tells stands. tt;
   undamaged = λ stored tells stands damage same. no_damage same;
   damage = λ damage same. absurd (no_damage same);
   cause = counts-none no_error no_fault c.in-Ok.ensures.cause;
@@ -71,6 +84,7 @@ later-init g c = record {
   faults = c.in-Ok.ensures.cause.unchanged no_error;
   left = c.in-Ok-behind.ensures.few;
   within = omega (arith, c.requires.some);
+  moves = can-move-none 1 c.in-Ok-behind.progress.interest c.in-Ok-behind.progress.freed c.in-Ok-behind.ensures.interest c.in-Ok-behind.ensures.freed;
   fees = omega (arith, ap length c.in-Ok-behind.ensures.fees);
   rows = rows-after_more _ c.args.block.now 0 c.transactions_item.result (g.C.Cells.rows c.args.cells.now) (g.C.Cells.rows c.args.cells.now) _
       (rows-after_none _ c.args.block.now (g.C.Cells.rows c.args.cells.now) (g.C.Cells.rows c.args.cells.now) (λ o. refl)) c.transactions_item.ensures
@@ -78,6 +92,9 @@ later-init g c = record {
   judged = λ stored tells stands.
       judged-none c.args.spec.now (blocks_of stored) c.args.parent c.args.block.now c.in-Ok-behind.progress.left c.in-Ok-behind.progress.ext
       c.in-Ok-behind.ensures.left c.in-Ok-behind.ensures.fees c.in-Ok-behind.ensures.spent;
+  moved = λ stored tells stands.
+      moved-none c.args.spec.now (branch (blocks_of stored) c.args.parent) c.args.block.now c.in-Ok-behind.progress.interest c.in-Ok-behind.progress.freed
+      c.in-Ok-behind.ensures.interest c.in-Ok-behind.ensures.freed;
 }
 
 pub later-preserved : goal.later-preserved
@@ -88,6 +105,7 @@ later-preserved g c = record {
   faults = c.in-Ok-judge_next.ensures.cause.unchanged no_error ∙ c.later.invariant.faults;
   left = omega (arith, c.judge_next.ensures.within, c.later.invariant.left);
   within = omega (arith, c.later-test.true, c.transactions_count-count.ensures.value);
+  moves = c.in-Ok-judge_next.ensures.moved;
   fees = omega (arith, c.in-Ok-judge_next.ensures.fees, c.later.invariant.fees);
   rows = rows-after_more _ c.args.block.now c.later.place c.transactions_item-tx.result (g.C.Cells.rows c.args.cells.now)
       (with_changes c.later.progress.cells.changed (g.C.Cells.rows c.later.progress.cells.base.now)) _
@@ -106,6 +124,16 @@ later-preserved g c = record {
       (c.in-Ok-judge_next.ensures.cycles stored site (c.later.invariant.told ∙ tells) is)
       (c.in-Ok-judge_next.ensures.fee stored site (c.later.invariant.told ∙ tells) is)
       (c.in-Ok-judge_next.ensures.spends stored site (c.later.invariant.told ∙ tells) is);
+  moved = λ stored tells stands.
+      let at : AtValue = record { spec = c.args.spec.now; entries = c.args.tree.now.entries; parent = c.args.parent; block = Some c.from_encoding.result } in
+      let site : Site = site_at c.args.spec.now (branch (blocks_of stored) c.args.parent) c.args.block.now c.later.place in
+      let is = site-in_block stored at c.args.block.now c.later.place (g.C.Cells.rows c.args.cells.now)
+      (with_changes c.later.progress.cells.changed (g.C.Cells.rows c.later.progress.cells.base.now))
+      (ap Some (c.from_encoding.ensures c.args.block.now c.bytes.ensures)) c.requires.parent stands c.later.invariant.rows in
+      moved-more c.args.spec.now (branch (blocks_of stored) c.args.parent) c.args.block.now c.later.place c.transactions_item-tx.result
+      c.later.progress.interest c.judge_next.new.self.interest c.later.progress.freed c.judge_next.new.self.freed (c.later.invariant.moved stored tells stands)
+      c.transactions_item-tx.ensures (c.in-Ok-judge_next.ensures.interest stored site (c.later.invariant.told ∙ tells) is)
+      (c.in-Ok-judge_next.ensures.freed stored site (c.later.invariant.told ∙ tells) is);
 }
 
 pub returns-in-Err-judge_next : goal.returns-in-Err-judge_next
@@ -128,6 +156,8 @@ returns-in-Err-judge_next g c =
           (c.in-Err-judge_next.ensures.broken stored site (c.later.invariant.told ∙ tells) is proposed rule (as_step same));
       unbroken = λ stored tells stands. tt;
       ext = λ stored tells stands. tt;
+      interest = λ stored tells stands. tt;
+      freed = λ stored tells stands. tt;
       undamaged = λ stored tells stands damage same.
           let site : Site = site_at c.args.spec.now (branch (blocks_of stored) c.args.parent) c.args.block.now c.later.place in
           let is = site-in_block stored at c.args.block.now c.later.place (g.C.Cells.rows c.args.cells.now)
@@ -140,7 +170,11 @@ returns-in-Err-judge_next g c =
 
 pub returns : goal.returns
 returns g c =
-    let past : length c.args.block.now.transactions ≤ c.later.place = omega (arith, c.later-test.false, c.transactions_count-count.ensures.value) in record {
+    let past : length c.args.block.now.transactions ≤ c.later.place = omega (arith, c.later-test.false, c.transactions_count-count.ensures.value) in
+    let moved = λ (stored : List Stored) (tells : g.B.Blocks.told c.args.blocks.now ≡ Some stored)
+    (stands : Stands stored c.args.tree.now.entries c.args.parent (g.C.Cells.rows c.args.cells.now)).
+    moved-all c.args.spec.now (branch (blocks_of stored) c.args.parent) c.args.block.now c.later.place c.later.progress.interest c.later.progress.freed
+    (c.later.invariant.moved stored tells stands) past in record {
       told = c.later.invariant.told;
       count = c.later.invariant.count;
       loans = c.later.invariant.loans;
@@ -153,6 +187,8 @@ returns g c =
       ext = λ stored tells stands.
           judged-ext c.args.spec.now (blocks_of stored) c.args.parent c.args.block.now c.later.place c.later.progress.left c.later.progress.ext
           (c.later.invariant.judged stored tells stands) past;
+      interest = λ stored tells stands. to_z-of_z w128 c.later.progress.interest (search rules) ∙ (moved stored tells stands).interest_is;
+      freed = λ stored tells stands. (moved stored tells stands).freed_is;
       undamaged = λ stored tells stands damage same. no_error same;
       damage = λ damage same. absurd (no_error same);
       cause = counts-behind c.later.invariant.faults (counts-still (λ fault. no_error fault));

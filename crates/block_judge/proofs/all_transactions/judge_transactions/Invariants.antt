@@ -1,13 +1,16 @@
 use Rattle.std.proofs.Common.{◌≡◌, ◌+◌, ◌^◌, ◌≤◌, List, length, Some}
+use Rattle.chain_defs.specs.Branch.{branch}
 use Rattle.chain_tree.specs.Told.{Stored, blocks_of}
 use Rattle.block_judge.specs.Changes.{with_changes}
+use Rattle.block_judge.specs.Progress.{CanMove}
 use Rattle.block_judge.specs.Standing.{Stands}
 use Rattle.block_judge.proofs.SiteLemmas.{AreRowsAfter}
+use Rattle.block_judge.proofs.MovedLemmas.{IsMovedTo}
 use Rattle.block_judge.proofs.NextLemmas.{IsJudgedTo}
 use Rattle.block_judge.proofs.all_transactions.judge_transactions.Given as goal
 
--- the cells are those after the transactions so far, and the rest of them is what is left to judge; the ext has a fee for each behind the
--- cellbase; the source of blocks tells and counts the same
+-- the cells are those after the transactions so far, and the rest of them is what is left to judge and to move; the ext has a fee for each
+-- after the cellbase; the source of blocks tells and counts the same
 abbrev pub invariant-later : goal.invariant-later
 invariant-later g l = record {
   told : g.B.Blocks.told l.blocks ≡ g.B.Blocks.told l.fn.blocks;
@@ -15,10 +18,13 @@ invariant-later g l = record {
   loans : g.B.Blocks.loans_of l.blocks ≡ g.B.Blocks.loans_of l.fn.blocks;
   faults : g.B.Blocks.faults l.blocks ≡ g.B.Blocks.faults l.fn.blocks;
   left : l.progress.left ≤ 2 ^ 40;
+  moves : CanMove l.place l.progress.interest l.progress.freed;
   within : l.place ≤ length l.block.transactions;
   fees : length l.progress.ext.fees + 1 ≡ l.place;
   rows : AreRowsAfter (length l.tree.entries) l.block l.place (g.C.Cells.rows l.cells)
       (with_changes l.progress.cells.changed (g.C.Cells.rows l.progress.cells.base.now));
   judged : (stored : List Stored) → g.B.Blocks.told l.fn.blocks ≡ Some stored → Stands stored l.tree.entries l.parent (g.C.Cells.rows l.cells)
       → IsJudgedTo l.spec (blocks_of stored) l.parent l.block l.place l.progress.left l.progress.ext;
+  moved : (stored : List Stored) → g.B.Blocks.told l.fn.blocks ≡ Some stored → Stands stored l.tree.entries l.parent (g.C.Cells.rows l.cells)
+      → IsMovedTo l.spec (branch (blocks_of stored) l.parent) l.block l.place l.progress.interest l.progress.freed;
 }

@@ -1,4 +1,5 @@
-use Rattle.std.proofs.Common.{◌≡◌, inr, Bool, Some, Err, sym, ap, ◌∙◌, subst, arith}
+use Rattle.std.proofs.Common.{◌≡◌, ◌<◌, ◌^◌, ℤ, nat_abs, inr, Bool, Some, Err, sym, ap, ◌∙◌, subst, arith}
+use Rattle.std.specs.List.{sum_by}
 use Rattle.fold_defs.specs.First.{first_failing}
 use Rattle.outside.specs.declared.disk.ReadStop.TheVariants.{DiskFault, Damaged}
 use Rattle.codec_defs.specs.Schema.{Transaction}
@@ -12,6 +13,7 @@ use Rattle.block_judge.specs.ByRows.{StopsByRows}
 use Rattle.block_judge.specs.Stops.{of_resolving}
 use Rattle.block_judge.proofs.Exits.{same_stop, same_rule, as_step, no_error, no_read, not_both, counts-on, counts-none, counts-behind}
 use Rattle.block_judge.proofs.TransactionLemmas.{stops-resolving, reads-resolving, tried-resolving, alone-resolving, breaks-proposed, leaves-scripts, its-transaction, resolved-own, spent-rows}
+use Rattle.block_judge.proofs.MovedLemmas.{interest-kept, freed-same}
 use Rattle.block_judge.proofs.RowsLemmas.{stops-by-rows, resolved-by-rows, later-by-rows}
 use Rattle.block_judge.proofs.transactions.judge_transaction.Goals as goal
 
@@ -22,6 +24,8 @@ returns-in-Err g c = record {
   loans = c.resolve.ensures.loans;
   hash = tt;
   within = tt;
+  interest_fits = tt;
+  freed_fits = tt;
   rule = λ rule same.
       tried-resolving c.args.proposed c.in-Err.stop rule (λ number its. c.in-Err.ensures.tried number (ap Err its)) (sym c.stopped.ensures ∙ same_stop same);
   by_rows = λ proposed.
@@ -36,6 +40,8 @@ returns-in-Err g c = record {
       (λ number its. c.in-Err.ensures.broken stored site told is number (ap Err its)) (sym c.stopped.ensures ∙ same_stop same);
   unbroken = λ stored site told is. tt;
   fee = λ stored site told is. tt;
+  interest = λ stored site told is. tt;
+  freed = λ stored site told is. tt;
   cycles = λ stored site told is. tt;
   spends = λ stored site told is. tt;
   undamaged = λ stored site told is damage same.
@@ -54,6 +60,8 @@ returns-then-not-proposed g c = record {
   loans = c.resolve.ensures.loans;
   hash = tt;
   within = tt;
+  interest_fits = tt;
+  freed_fits = tt;
   rule = λ rule same. let is : 19 ≡ rule = same_rule same in (omega (arith, is), omega (arith, is));
   by_rows = λ proposed. absurd (not_both proposed c.if-not-proposed.true);
   alone = λ proposed. absurd (not_both proposed c.if-not-proposed.true);
@@ -62,6 +70,8 @@ returns-then-not-proposed g c = record {
       (c.in-Ok.ensures.unbroken stored site told is) ∙ ap Some (same_rule same);
   unbroken = λ stored site told is. tt;
   fee = λ stored site told is. tt;
+  interest = λ stored site told is. tt;
+  freed = λ stored site told is. tt;
   cycles = λ stored site told is. tt;
   spends = λ stored site told is. tt;
   undamaged = λ stored site told is damage same. no_read same;
@@ -76,6 +86,8 @@ returns-in-Err-run_scripts g c = record {
   loans = c.run_scripts.ensures.loans ∙ c.resolve.ensures.loans;
   hash = tt;
   within = tt;
+  interest_fits = tt;
+  freed_fits = tt;
   rule = λ rule same. let its = c.in-Err-run_scripts.ensures.rule rule (as_step same) in (omega (arith, its.0), its.1);
   by_rows = λ proposed.
       later-by-rows _ _ c.in-Err-run_scripts.stop
@@ -92,6 +104,8 @@ returns-in-Err-run_scripts g c = record {
       (as_step same);
   unbroken = λ stored site told is. tt;
   fee = λ stored site told is. tt;
+  interest = λ stored site told is. tt;
+  freed = λ stored site told is. tt;
   cycles = λ stored site told is. tt;
   spends = λ stored site told is. tt;
   undamaged = λ stored site told is damage same.
@@ -109,6 +123,10 @@ returns g c = record {
   loans = c.run_scripts.ensures.loans ∙ c.resolve.ensures.loans;
   hash = ap (λ (ok : TxOk). ok.resolved.hash) c.ok.view_is ∙ c.in-Ok.ensures.formed.hash;
   within = c.in-Ok-run_scripts.ensures.within;
+  interest_fits =
+      subst (λ (z : ℤ). nat_abs z < 2 ^ 96)
+      (sym (interest-kept c.in-Ok.ok.interest (ap (λ (ok : TxOk). ok.interest) c.ok.view_is) c.in-Ok.ensures.fits)) c.in-Ok.ensures.fits;
+  freed_fits = c.freed_with.ensures.fits;
   rule = λ rule same. absurd (no_error same);
   by_rows = λ proposed.
       resolved-by-rows (g.C.Cells.rows c.args.cells.now) c.args.tx.now c.in-Ok.ok c.resolve.result c.resolve.ensures.by_rows c.in-Ok.is;
@@ -122,6 +140,11 @@ returns g c = record {
       ∙ (c.in-Ok-run_scripts.ensures.unbroken stored (g.C.Cells.rows c.args.cells.now) site (c.resolve.ensures.told ∙ told) is
       (resolved-own (blocks_of stored) c.args.at.now.parent site c.args.tx.now its c.in-Ok.ensures.formed.tx (c.in-Ok.ensures.resolved stored site told is))).0;
   fee = λ stored site told is. ap (λ (ok : TxOk). ok.fee) c.ok.view_is ∙ c.in-Ok.ensures.fee stored site told is;
+  interest = λ stored site told is.
+      interest-kept c.in-Ok.ok.interest (ap (λ (ok : TxOk). ok.interest) c.ok.view_is) c.in-Ok.ensures.fits ∙ c.in-Ok.ensures.interest stored site told is;
+  freed = λ stored site told is.
+      c.freed_with.ensures.freed ∙ ap (sum_by (λ input. input.row.occupied)) c.deref.ensures.value
+      ∙ freed-same (blocks_of stored) c.args.at.now.parent site c.args.tx.now (ap (λ (ok : TxOk). ok.resolved) c.ok.view_is) (c.in-Ok.ensures.resolved stored site told is);
   cycles = λ stored site told is.
       let its = ap (λ (ok : TxOk). ok.resolved) c.ok.view_is in
       (c.in-Ok-run_scripts.ensures.unbroken stored (g.C.Cells.rows c.args.cells.now) site (c.resolve.ensures.told ∙ told) is

@@ -7,12 +7,14 @@ use Rattle.report_defs.specs.declared.status.Status.{Status}
 use Rattle.report_defs.specs.declared.status.Status.TheVariants.{Done, SomeRefused, NoMemory}
 use Rattle.report_defs.specs.Items.{split_of}
 use Rattle.report_defs.specs.Report.{import_limits, closing_of_end, status_of_end}
+use Rattle.store_defs.specs.Store.{AreJoined}
 use Rattle.node_core.specs.Node.{IsOn}
+use Rattle.node_core.proofs.ImportLemmas.{joined_on}
 use Rattle.node_run.specs.Output.{IsToldAnswer}
 use Rattle.node_run.specs.Import.{text_over}
 use Rattle.node_run.proofs.Faults.{then_counts, counts_also, no_fault, IsNoFault, end_no_fault, told_no_fault, no_input_there, no_disk_there, IsMemory}
-use Rattle.node_run.proofs.ImportLemmas.{joined_on, items_stop_import}
-use Rattle.node_run.proofs.StoreLemmas.{delivers, keeps_opened, keeps_unopened, opened_there, unopened, sound_opening, sound_here, by_disk_or_memory, if_told}
+use Rattle.node_run.proofs.ImportLemmas.{items_stop_import}
+use Rattle.node_run.proofs.StoreLemmas.{delivers_over, opened_joined_whole, keeps_opened, keeps_unopened, opened_there, unopened, sound_opening, sound_here, by_disk_or_memory, if_told}
 use Rattle.node_run.proofs.ImportReport.{stopped_import, stopped_at_once, stopped_behind, stopped_acknowledges, stopped_take, ended_import, keeps_given, keeps_all_given}
 use Rattle.node_run.proofs.Statuses.{import_opening, import_told, opening_no_input, opening_no_sink}
 use Rattle.node_run.proofs.Exits.{no_error, same_stop}
@@ -48,8 +50,9 @@ returns-in-Err-import_items-clause-import g c =
       came.1,
       came.2,
       came.3,
-      delivers Import reads chain (g.D.Disk.images c.args.disk.now) (g.D.Disk.images c.import_items.new.disk)
+      delivers_over (AreJoined chain c.in-Ok.node.exts) Import reads chain (g.D.Disk.images c.args.disk.now) (g.D.Disk.images c.import_items.new.disk)
           (g.D.Disk.left_since c.import_items.new.disk (g.D.Disk.moment c.args.disk.now)) (g.S.Source.left c.import_items.new.input) came.0 came.1 status (λ store found. found) c.in-Ok.ensures.kept
+          (λ store found. opened_joined_whole reads chain c.in-Ok.node.exts store c.in-Ok.ensures.kept c.in-Ok.ensures.own found)
           (λ joined. let are = came.4 joined in stopped_import chain are.items are.before are.rest came.0 came.1 (g.S.Source.left c.import_items.new.input) status are.are_given are.came)
           (keeps_opened reads chain (split_of import_limits came.0).items (g.D.Disk.images c.args.disk.now) (g.D.Disk.images c.import_items.new.disk)
           (g.D.Disk.left_since c.import_items.new.disk (g.D.Disk.moment c.args.disk.now)) came.1 status c.in-Ok.ensures.kept
@@ -72,8 +75,9 @@ returns-in-Err-answer_to_end-clause-import g c =
       came.1,
       came.2,
       came.3,
-      delivers Import reads chain (g.D.Disk.images c.args.disk.now) (g.D.Disk.images c.import_items.new.disk)
+      delivers_over (AreJoined chain c.in-Ok.node.exts) Import reads chain (g.D.Disk.images c.args.disk.now) (g.D.Disk.images c.import_items.new.disk)
           (g.D.Disk.left_since c.import_items.new.disk (g.D.Disk.moment c.args.disk.now)) left came.0 came.1 NoMemory (λ store found. found) c.in-Ok.ensures.kept
+          (λ store found. opened_joined_whole reads chain c.in-Ok.node.exts store c.in-Ok.ensures.kept c.in-Ok.ensures.own found)
           (λ joined. let are = came.4 joined in stopped_import chain are.items are.items are.rest came.0 came.1 left NoMemory are.are_given
           (stopped_behind chain left c.in-Ok-import_items.ended are.items are.rest came.0 came.1 are.are_given are.came.1 NoMemory tt))
           (keeps_opened reads chain (split_of import_limits came.0).items (g.D.Disk.images c.args.disk.now) (g.D.Disk.images c.import_items.new.disk)
@@ -102,8 +106,9 @@ returns-clause-import g c =
       came.1 ++ told.0,
       came.2,
       takes_more (g.K.Sink.taken c.args.out.now) (g.K.Sink.taken c.import_items.new.out) (g.K.Sink.taken c.tell.new.out) came.1 told.0 came.3 told.1,
-      delivers Import reads chain (g.D.Disk.images c.args.disk.now) (g.D.Disk.images c.import_items.new.disk)
+      delivers_over (AreJoined chain c.in-Ok.node.exts) Import reads chain (g.D.Disk.images c.args.disk.now) (g.D.Disk.images c.import_items.new.disk)
           (g.D.Disk.left_since c.import_items.new.disk (g.D.Disk.moment c.args.disk.now)) left came.0 (came.1 ++ told.0) c.tell.result (λ store found. found) c.in-Ok.ensures.kept
+          (λ store found. opened_joined_whole reads chain c.in-Ok.node.exts store c.in-Ok.ensures.kept c.in-Ok.ensures.own found)
           (λ joined. let are = came.4 joined in ended_import chain left ended are.items are.rest came.0 came.1 are.are_given are.came.1 told.0 c.tell.result last)
           (keeps_opened reads chain (split_of import_limits came.0).items (g.D.Disk.images c.args.disk.now) (g.D.Disk.images c.import_items.new.disk)
           (g.D.Disk.left_since c.import_items.new.disk (g.D.Disk.moment c.args.disk.now)) (came.1 ++ told.0) c.tell.result c.in-Ok.ensures.kept
@@ -204,8 +209,8 @@ returns-in-Err-import_items-clause-steps g c =
     let came = c.import_items.ensures.steps in (
       came.0,
       came.1,
-      λ now chain told stands. counted_over (g.D.Disk.reads_as c.args.disk.now) c.in-Ok.node.chain chain now (split_of import_limits came.0).items _ _ _
-          c.in-Ok.ensures.kept told stands (c.open.ensures.most now told) came.2,
+      λ now chain told stands. counted_over (g.D.Disk.reads_as c.args.disk.now) c.in-Ok.node.chain chain c.in-Ok.node.exts now (split_of import_limits came.0).items _ _ _
+          c.in-Ok.ensures.kept (c.in-Ok.ensures.own now told) told stands (c.open.ensures.most now told) came.2,
     )
 
 pub returns-in-Err-answer_to_end-clause-steps : goal.returns-in-Err-answer_to_end-clause-steps
@@ -213,8 +218,8 @@ returns-in-Err-answer_to_end-clause-steps g c =
     let came = c.import_items.ensures.steps in (
       came.0,
       came.1,
-      λ now chain told stands. counted_over (g.D.Disk.reads_as c.args.disk.now) c.in-Ok.node.chain chain now (split_of import_limits came.0).items _ _ _
-          c.in-Ok.ensures.kept told stands (c.open.ensures.most now told) came.2,
+      λ now chain told stands. counted_over (g.D.Disk.reads_as c.args.disk.now) c.in-Ok.node.chain chain c.in-Ok.node.exts now (split_of import_limits came.0).items _ _ _
+          c.in-Ok.ensures.kept (c.in-Ok.ensures.own now told) told stands (c.open.ensures.most now told) came.2,
     )
 
 pub returns-clause-steps : goal.returns-clause-steps
@@ -222,6 +227,6 @@ returns-clause-steps g c =
     let came = c.import_items.ensures.steps in (
       came.0,
       came.1,
-      λ now chain told stands. counted_over (g.D.Disk.reads_as c.args.disk.now) c.in-Ok.node.chain chain now (split_of import_limits came.0).items _ _ _
-          c.in-Ok.ensures.kept told stands (c.open.ensures.most now told) came.2,
+      λ now chain told stands. counted_over (g.D.Disk.reads_as c.args.disk.now) c.in-Ok.node.chain chain c.in-Ok.node.exts now (split_of import_limits came.0).items _ _ _
+          c.in-Ok.ensures.kept (c.in-Ok.ensures.own now told) told stands (c.open.ensures.most now told) came.2,
     )

@@ -21,6 +21,9 @@ returns-in-Err-clause-verdict g c = λ joined. tt
 pub returns-in-Err-clause-kept : goal.returns-in-Err-clause-kept
 returns-in-Err-clause-kept g c = λ joined. tt
 
+pub returns-in-Err-clause-joined : goal.returns-in-Err-clause-joined
+returns-in-Err-clause-joined g c = λ joined. tt
+
 pub returns-in-Err-clause-written : goal.returns-in-Err-clause-written
 returns-in-Err-clause-written g c = (
   [],
@@ -63,6 +66,9 @@ returns-in-Ok-write_verdict-clause-verdict g c = c.in-Ok.ensures.verdict
 pub returns-in-Ok-write_verdict-clause-kept : goal.returns-in-Ok-write_verdict-clause-kept
 returns-in-Ok-write_verdict-clause-kept g c = c.in-Ok.ensures.kept
 
+pub returns-in-Ok-write_verdict-clause-joined : goal.returns-in-Ok-write_verdict-clause-joined
+returns-in-Ok-write_verdict-clause-joined g c = c.in-Ok.ensures.joined
+
 pub returns-in-Ok-write_verdict-clause-written : goal.returns-in-Ok-write_verdict-clause-written
 returns-in-Ok-write_verdict-clause-written g c =
     let written = c.in-Ok-write_verdict.ensures.written in (
@@ -96,6 +102,9 @@ returns-in-Err-write_verdict-clause-verdict g c = λ joined. tt
 
 pub returns-in-Err-write_verdict-clause-kept : goal.returns-in-Err-write_verdict-clause-kept
 returns-in-Err-write_verdict-clause-kept g c = λ joined. tt
+
+pub returns-in-Err-write_verdict-clause-joined : goal.returns-in-Err-write_verdict-clause-joined
+returns-in-Err-write_verdict-clause-joined g c = λ joined. tt
 
 pub returns-in-Err-write_verdict-clause-written : goal.returns-in-Err-write_verdict-clause-written
 returns-in-Err-write_verdict-clause-written g c =

@@ -3,7 +3,9 @@ use Rattle.std.specs.Prelude.{Ok, Err, Some, ◌||◌}
 use Rattle.outside.proofs.Streams.{gives_none, takes_none}
 use Rattle.outside.specs.Disk.{LeavesOnly}
 use Rattle.outside.proofs.Moments.{leaves_also}
+use Rattle.store_defs.specs.Store.{AreJoined}
 use Rattle.node_core.specs.Node.{IsOn}
+use Rattle.node_core.proofs.ImportLemmas.{joined_on}
 use Rattle.report_defs.specs.declared.status.Status.TheVariants.{InputFault}
 use Rattle.report_defs.specs.Report.{item_limit, input_limit}
 use Rattle.verdict_defs.specs.Verdict as rules
@@ -13,7 +15,7 @@ use Rattle.report_defs.specs.Status.{IsOneOf}
 use Rattle.node_run.specs.Import.{item_stops}
 use Rattle.node_run.proofs.Exits.{no_error, same_stop}
 use Rattle.node_run.proofs.Faults.{no_fault, then_counts}
-use Rattle.node_run.proofs.ImportLemmas.{whole_more, imported_to_end, imported_to_fault, imported_to_line, leaves_none, leaves_item, exit_of_item, on_stands, joined_on, no_input_fault, reading_stopped, keeps_more, or_then, or_else, item_limit-is, input_limit-is}
+use Rattle.node_run.proofs.ImportLemmas.{whole_more, imported_to_end, imported_to_fault, imported_to_line, leaves_none, leaves_item, exit_of_item, on_stands, no_input_fault, reading_stopped, keeps_more, or_then, or_else, item_limit-is, input_limit-is}
 use Rattle.node_run.proofs.CountLemmas.{counted_to_part, counted_to_stop, counted_to_item}
 use Rattle.node_run.proofs.import.import_items.Goals as goal
 use Rattle.node_run.proofs.import.import_items.Goals.{then-refused, else-refused}
@@ -54,6 +56,7 @@ returns-in-Ok-End-clause-imported g c =
     subst (λ (n : Next). IsNext item_limit (Some input_limit) c.items.offset left (Ok n) next.0) c.in-Ok-End.field-0-is next.2 in
     imported_to_end c.args.opened.chain c.items.offset (g.S.Source.left c.args.input.now) (g.S.Source.left c.items.input) (g.S.Source.left c.next_block.new.input)
     (g.K.Sink.taken c.args.out.now) (g.K.Sink.taken c.items.out) c.items.node.chain (record { end = c.in-Ok-End.end; offset = c.items.offset; refused = c.items.refused })
+    (AreJoined c.args.opened.chain c.args.opened.exts) (AreJoined c.items.node.chain c.items.node.exts)
     (IsOn c.args.opened (g.D.Disk.reads_as c.args.disk.now) (g.D.Disk.images c.args.disk.now)) (IsOn c.items.node (g.D.Disk.reads_as c.items.disk) (g.D.Disk.images c.items.disk))
     (g.D.Disk.images c.items.disk) (LeavesOnly g.D.Disk.moment g.D.Disk.left_since c.args.disk.now c.items.disk) c.args.steps.now c.items.steps next.0 c.items.invariant.whole next.1 ends.0 ends.1 refl
     (on_stands c.items.node c.items.node.chain (g.D.Disk.reads_as c.items.disk) (g.D.Disk.images c.items.disk) refl)
@@ -81,6 +84,7 @@ returns-in-Err-clause-imported g c =
     let whole = c.items.invariant.whole in
     imported_to_fault c.args.opened.chain c.items.offset (g.S.Source.left c.args.input.now) (g.S.Source.left c.items.input) (g.S.Source.left c.next_block.new.input)
     (g.K.Sink.taken c.args.out.now) (g.K.Sink.taken c.items.out) c.items.node.chain c.items.refused
+    (AreJoined c.args.opened.chain c.args.opened.exts) (AreJoined c.items.node.chain c.items.node.exts)
     (IsOn c.args.opened (g.D.Disk.reads_as c.args.disk.now) (g.D.Disk.images c.args.disk.now)) (IsOn c.items.node (g.D.Disk.reads_as c.items.disk) (g.D.Disk.images c.items.disk))
     (g.D.Disk.images c.items.disk) (LeavesOnly g.D.Disk.moment g.D.Disk.left_since c.args.disk.now c.items.disk) c.args.steps.now c.items.steps c.in-Err.status
     next.0 whole next.1 next.2.0 next.2.1
@@ -98,6 +102,7 @@ returns-in-Err-import_item-clause-imported g c =
     subst (λ bytes. IsItemAt item_limit (Some input_limit) c.items.offset bytes next.0) (sym c.deref.ensures.value) found in
     imported_to_line c.args.opened.chain c.items.offset (g.S.Source.left c.args.input.now) (g.S.Source.left c.items.input) (g.S.Source.left c.next_block.new.input)
     (g.K.Sink.taken c.args.out.now) (g.K.Sink.taken c.items.out) (g.K.Sink.taken c.import_item.new.out) c.items.node.chain c.items.refused
+    (AreJoined c.args.opened.chain c.args.opened.exts) (AreJoined c.items.node.chain c.items.node.exts)
     (IsOn c.args.opened (g.D.Disk.reads_as c.args.disk.now) (g.D.Disk.images c.args.disk.now)) (IsOn c.items.node (g.D.Disk.reads_as c.items.disk) (g.D.Disk.images c.items.disk))
     (g.D.Disk.images c.import_item.new.disk) (LeavesOnly g.D.Disk.moment g.D.Disk.left_since c.args.disk.now c.items.disk) (LeavesOnly g.D.Disk.moment g.D.Disk.left_since c.args.disk.now c.import_item.new.disk)
     c.args.steps.now c.items.steps c.in-Err-import_item.status c.deref.result.now next.0 written.0 whole at next.1 written.1 written.2
@@ -196,10 +201,11 @@ items-preserved g c =
     record {
       whole = whole_more c.args.opened.chain c.items.offset (g.S.Source.left c.args.input.now) (g.S.Source.left c.items.input) (g.S.Source.left c.next_block.new.input)
           (g.K.Sink.taken c.args.out.now) (g.K.Sink.taken c.items.out) (g.K.Sink.taken c.import_item.new.out) c.items.node.chain c.in-Ok.answer.0.chain c.items.refused
+          (AreJoined c.args.opened.chain c.args.opened.exts) (AreJoined c.items.node.chain c.items.node.exts) (AreJoined c.in-Ok.answer.0.chain c.in-Ok.answer.0.exts)
           (IsOn c.args.opened (g.D.Disk.reads_as c.args.disk.now) (g.D.Disk.images c.args.disk.now)) (IsOn c.items.node (g.D.Disk.reads_as c.items.disk) (g.D.Disk.images c.items.disk))
           (IsOn c.in-Ok.answer.0 (g.D.Disk.reads_as c.import_item.new.disk) (g.D.Disk.images c.import_item.new.disk)) (LeavesOnly g.D.Disk.moment g.D.Disk.left_since c.args.disk.now c.items.disk)
           (LeavesOnly g.D.Disk.moment g.D.Disk.left_since c.args.disk.now c.import_item.new.disk) c.args.steps.now c.items.steps c.import_item.new.steps item next.0 written.0 c.in-Ok.answer.1 c.len.result c.if-refused.refused size any
-          whole at next.1 written.1 c.in-Ok.ensures.verdict c.in-Ok.ensures.kept written.2 c.in-Ok.ensures.on
+          whole at next.1 written.1 c.in-Ok.ensures.verdict c.in-Ok.ensures.kept written.2 c.in-Ok.ensures.joined c.in-Ok.ensures.on
           (λ was. leaves_item g.D.Disk.images g.D.Disk.moment g.D.Disk.left_since g.met.D.Disk.counts_now c.args.disk.now c.items.disk c.import_item.new.disk c.args.opened.chain
           c.items.node.chain whole.items item (whole.kept_now (joined_on c.args.opened (g.D.Disk.reads_as c.args.disk.now) (g.D.Disk.images c.args.disk.now) was))
           (whole.moments was) (c.in-Ok.ensures.moments (whole.on was))) c.import_item.ensures.most;
@@ -217,6 +223,7 @@ returns-in-Ok-End-clause-steps g c =
     subst (λ (n : Next). IsNext item_limit (Some input_limit) c.items.offset left (Ok n) next.0) c.in-Ok-End.field-0-is next.2 in
     counted_to_part c.args.opened.chain c.items.offset (g.S.Source.left c.args.input.now) (g.S.Source.left c.items.input) (g.S.Source.left c.next_block.new.input)
     (g.K.Sink.taken c.args.out.now) (g.K.Sink.taken c.items.out) c.items.node.chain c.items.refused
+    (AreJoined c.args.opened.chain c.args.opened.exts) (AreJoined c.items.node.chain c.items.node.exts)
     (IsOn c.args.opened (g.D.Disk.reads_as c.args.disk.now) (g.D.Disk.images c.args.disk.now)) (IsOn c.items.node (g.D.Disk.reads_as c.items.disk) (g.D.Disk.images c.items.disk))
     (LeavesOnly g.D.Disk.moment g.D.Disk.left_since c.args.disk.now c.items.disk) c.args.steps.now c.items.steps c.items.invariant.whole next.0 next.1 ends.1
 
@@ -225,6 +232,7 @@ returns-in-Err-clause-steps g c =
     let next = c.in-Err.ensures.next in
     counted_to_stop c.args.opened.chain c.items.offset (g.S.Source.left c.args.input.now) (g.S.Source.left c.items.input) (g.S.Source.left c.next_block.new.input)
     (g.K.Sink.taken c.args.out.now) (g.K.Sink.taken c.items.out) c.items.node.chain c.items.refused
+    (AreJoined c.args.opened.chain c.args.opened.exts) (AreJoined c.items.node.chain c.items.node.exts)
     (IsOn c.args.opened (g.D.Disk.reads_as c.args.disk.now) (g.D.Disk.images c.args.disk.now)) (IsOn c.items.node (g.D.Disk.reads_as c.items.disk) (g.D.Disk.images c.items.disk))
     (LeavesOnly g.D.Disk.moment g.D.Disk.left_since c.args.disk.now c.items.disk) c.args.steps.now c.items.steps c.items.invariant.whole next.0 next.1 next.2.1
 
@@ -237,5 +245,6 @@ returns-in-Err-import_item-clause-steps g c =
     subst (λ bytes. IsItemAt item_limit (Some input_limit) c.items.offset bytes next.0) (sym c.deref.ensures.value) found in
     counted_to_item c.args.opened.chain c.items.offset (g.S.Source.left c.args.input.now) (g.S.Source.left c.items.input) (g.S.Source.left c.next_block.new.input)
     (g.K.Sink.taken c.args.out.now) (g.K.Sink.taken c.items.out) c.items.node.chain c.items.refused
+    (AreJoined c.args.opened.chain c.args.opened.exts) (AreJoined c.items.node.chain c.items.node.exts)
     (IsOn c.args.opened (g.D.Disk.reads_as c.args.disk.now) (g.D.Disk.images c.args.disk.now)) (IsOn c.items.node (g.D.Disk.reads_as c.items.disk) (g.D.Disk.images c.items.disk))
     (LeavesOnly g.D.Disk.moment g.D.Disk.left_since c.args.disk.now c.items.disk) c.args.steps.now c.items.steps c.items.invariant.whole c.import_item.new.steps c.deref.result.now next.0 at next.1 c.import_item.ensures.most

@@ -2,6 +2,7 @@ use Rattle.std.proofs.Common.{◌≡◌, ◌-◌, ◌<◌, length}
 use Rattle.std.specs.Prelude.{IfSome}
 use Rattle.outside.specs.Disk.{LeavesOnly}
 use Rattle.report_defs.specs.Report.{input_limit}
+use Rattle.store_defs.specs.Store.{AreJoined}
 use Rattle.node_core.specs.Node.{IsOn}
 use Rattle.node_run.proofs.ImportLemmas.{Whole}
 use Rattle.node_run.proofs.import.import_items.Given as goal
@@ -9,6 +10,7 @@ use Rattle.node_run.proofs.import.import_items.Given as goal
 abbrev pub invariant-items : goal.invariant-items
 invariant-items g l = record {
   whole : Whole l.fn.opened.chain l.offset (g.S.Source.left l.fn.input) (g.S.Source.left l.input) (g.K.Sink.taken l.fn.out) (g.K.Sink.taken l.out) l.node.chain l.refused
+      (AreJoined l.fn.opened.chain l.fn.opened.exts) (AreJoined l.node.chain l.node.exts)
       (IsOn l.fn.opened (g.D.Disk.reads_as l.fn.disk) (g.D.Disk.images l.fn.disk)) (IsOn l.node (g.D.Disk.reads_as l.disk) (g.D.Disk.images l.disk))
       (LeavesOnly g.D.Disk.moment g.D.Disk.left_since l.fn.disk l.disk) l.fn.steps l.steps;
   there : IfSome (g.D.Disk.reads_as l.disk) (λ image. l.node.place < length image.log);

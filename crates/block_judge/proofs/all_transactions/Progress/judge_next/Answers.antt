@@ -1,8 +1,12 @@
-use Rattle.std.proofs.Common.{ℕ, ◌-◌, [], ◌∷◌, ◌++◌, Some, None, length, refl, ap, ◌∙◌, arith, rules}
+use Rattle.std.proofs.Common.{ℕ, ◌+◌, ◌-◌, ℤ, ◌+ℤ◌, [], ◌∷◌, ◌++◌, Some, None, length, refl, ap, ◌∙◌, arith, rules}
 use Rattle.std.proofs.lemmas.List.{length_push}
 use Rattle.block_judge.proofs.Exits.{as_step, no_error, no_rule, no_damage, no_fault, counts-on, counts-none}
+use Rattle.block_judge.proofs.MovedLemmas.{can-move-one}
 use Rattle.block_judge.proofs.NextLemmas.{by-proposed, spent-next}
 use Rattle.block_judge.proofs.all_transactions.Progress.judge_next.Goals as goal
+
+pub take-requires-clause-moves : goal.take-requires-clause-moves
+take-requires-clause-moves g c = can-move-one c.in-Ok.taken.interest c.in-Ok.taken.freed c.in-Ok.ensures.interest_fits c.in-Ok.ensures.freed_fits
 
 pub returns-in-Err : goal.returns-in-Err
 returns-in-Err g c = record {
@@ -11,15 +15,18 @@ returns-in-Err g c = record {
   loans = c.judge_transaction.ensures.loans;
   rule = λ rule same. c.in-Err.ensures.rule rule (as_step same);
   within = omega arith;
+  moved = tt;
   fees = tt;
   rows = tt;
   broken = λ stored site told is proposed rule same.
-      by-proposed site _ c.args.tx.now c.contains-is_proposed.result c.args.proposed.now c.id_of.result c.tx_hash.result (Some rule)
-      c.tx_hash.ensures c.id_of.ensures c.contains-is_proposed.ensures proposed (c.in-Err.ensures.broken stored site told is rule (as_step same));
+      by-proposed site _ c.args.tx.now c.contains-is_proposed.result c.args.proposed.now c.proposal_id.result c.tx_hash.result (Some rule)
+      c.tx_hash.ensures c.proposal_id.ensures c.contains-is_proposed.ensures proposed (c.in-Err.ensures.broken stored site told is rule (as_step same));
   unbroken = λ stored site told is proposed. tt;
   cycles = λ stored site told is. tt;
   fee = λ stored site told is. tt;
   spends = λ stored site told is. tt;
+  interest = λ stored site told is. tt;
+  freed = λ stored site told is. tt;
   undamaged = λ stored site told is damage same. c.in-Err.ensures.undamaged stored site told is damage (as_step same);
   damage = λ damage same. c.in-Err.ensures.damage damage (as_step same);
   cause = counts-on as_step as_step c.in-Err.ensures.cause;
@@ -32,6 +39,7 @@ returns g c = record {
   loans = c.judge_transaction.ensures.loans;
   rule = λ rule same. absurd (no_rule same);
   within = c.take.ensures.within;
+  moved = tt;
   fees = tt;
   rows = tt;
   broken = λ stored site told is proposed rule same. absurd (no_rule same);
@@ -39,6 +47,8 @@ returns g c = record {
   cycles = λ stored site told is. tt;
   fee = λ stored site told is. tt;
   spends = λ stored site told is. tt;
+  interest = λ stored site told is. tt;
+  freed = λ stored site told is. tt;
   undamaged = λ stored site told is damage same. no_damage same;
   damage = λ damage same. absurd (no_damage same);
   cause = counts-none no_error no_fault c.in-Ok.ensures.cause;
@@ -51,17 +61,22 @@ returns-in-Ok-take g c = record {
   loans = c.judge_transaction.ensures.loans;
   rule = λ rule same. absurd (no_error same);
   within = c.take.ensures.within;
+  moved = c.in-Ok-take.ensures.moved;
   fees = ap length c.in-Ok-take.ensures.fees ∙ length_push _ _;
   rows = search rules;
   broken = λ stored site told is proposed rule same. absurd (no_error same);
   unbroken = λ stored site told is proposed.
-      by-proposed site _ c.args.tx.now c.contains-is_proposed.result c.args.proposed.now c.id_of.result c.tx_hash.result None
-      c.tx_hash.ensures c.id_of.ensures c.contains-is_proposed.ensures proposed (c.in-Ok.ensures.unbroken stored site told is);
+      by-proposed site _ c.args.tx.now c.contains-is_proposed.result c.args.proposed.now c.proposal_id.result c.tx_hash.result None
+      c.tx_hash.ensures c.proposal_id.ensures c.contains-is_proposed.ensures proposed (c.in-Ok.ensures.unbroken stored site told is);
   cycles = λ stored site told is. c.in-Ok-take.ensures.left ∙ ap (λ (n : ℕ). c.args.self.now.left - n) (c.in-Ok.ensures.cycles stored site told is);
   fee = λ stored site told is. c.in-Ok-take.ensures.fees ∙ ap (λ (n : ℕ). c.args.self.now.ext.fees ++ n ∷ []) (c.in-Ok.ensures.fee stored site told is);
   spends = λ stored site told is.
       spent-next stored c.args.at.now _ site c.args.tx.now _ _ c.len.result _ _ _ c.requires.placed.parent is
       (c.len.ensures.len ∙ ap (λ at. length at.entries) c.at.view_is) refl (c.in-Ok.ensures.spends stored site told is) refl c.in-Ok-take.ensures.spent;
+  interest = λ stored site told is.
+      c.in-Ok-take.ensures.interest ∙ ap (λ (z : ℤ). c.args.self.now.interest +ℤ z) (c.in-Ok.ensures.interest stored site told is);
+  freed = λ stored site told is.
+      c.in-Ok-take.ensures.freed ∙ ap (λ (n : ℕ). c.args.self.now.freed + n) (c.in-Ok.ensures.freed stored site told is);
   undamaged = λ stored site told is damage same. no_error same;
   damage = λ damage same. absurd (no_error same);
   cause = counts-none no_error no_error c.in-Ok.ensures.cause;

@@ -3,10 +3,10 @@ use Rattle.std.specs.Prelude.{IfOk}
 use Rattle.chain_defs.specs.Tip.{best_branch}
 use Rattle.chain_tree.specs.Told.{blocks_of}
 use Rattle.cell_state.specs.State.{rows}
-use Rattle.verdict_defs.specs.Chain.{Chain}
 use Rattle.verdict_defs.specs.Trial.{trial_on}
 use Rattle.verdict_defs.specs.declared.trial.Trial.TheVariants.{Passes, Refused}
 use Rattle.store_defs.specs.Store.{IsJoined}
+use Rattle.node_core.specs.Node.{KeptValue}
 use Rattle.node_core.proofs.DecidingLemmas.{as-many, few-entries, stands-tip, trial-refused, trial-passes-else}
 use Rattle.node_core.proofs.kept.Kept.check.Goals as goal
 
@@ -22,8 +22,8 @@ pub returns-clause-passes : goal.returns-clause-passes
 returns-clause-passes c joined =
     let is = c.tip-tip.ensures.of_blocks (blocks_of c.self.inside.blocks.stored) c.self.invariant.indexed in
     let stands = stands-tip c.self.inside.spec c.self.inside.blocks.stored c.self.inside.tree.entries c.self.inside.uncles (rows c.self.inside.state)
-    c.tip-tip.result c.self.invariant (subst IsJoined (sym c.self.view_is) joined) is c.tip-tip.ensures.within in
-    subst (λ (v : Chain). IfOk c.dry_run.result (λ it. trial_on v.spec (best_branch v.blocks) c.args.tx.now ≡ Passes it.0 it.1)) c.self.view_is
+    c.tip-tip.result c.self.invariant (subst (λ (v : KeptValue). IsJoined v.chain) (sym c.self.view_is) joined) is c.tip-tip.ensures.within in
+    subst (λ (v : KeptValue). IfOk c.dry_run.result (λ it. trial_on v.chain.spec (best_branch v.chain.blocks) c.args.tx.now ≡ Passes it.0 it.1)) c.self.view_is
     (trial-passes-else c.self.inside.spec (blocks_of c.self.inside.blocks.stored) c.args.tx.now c.tip-tip.result c.dry_run.result is
     (c.dry_run.ensures.unbroken c.self.inside.blocks.stored refl stands) (c.dry_run.ensures.fee c.self.inside.blocks.stored refl stands)
     (c.dry_run.ensures.cycles c.self.inside.blocks.stored refl stands))
@@ -32,8 +32,8 @@ pub returns-clause-broken : goal.returns-clause-broken
 returns-clause-broken c joined rule broken =
     let is = c.tip-tip.ensures.of_blocks (blocks_of c.self.inside.blocks.stored) c.self.invariant.indexed in
     let stands = stands-tip c.self.inside.spec c.self.inside.blocks.stored c.self.inside.tree.entries c.self.inside.uncles (rows c.self.inside.state)
-    c.tip-tip.result c.self.invariant (subst IsJoined (sym c.self.view_is) joined) is c.tip-tip.ensures.within in
-    subst (λ (v : Chain). trial_on v.spec (best_branch v.blocks) c.args.tx.now ≡ Refused rule) c.self.view_is
+    c.tip-tip.result c.self.invariant (subst (λ (v : KeptValue). IsJoined v.chain) (sym c.self.view_is) joined) is c.tip-tip.ensures.within in
+    subst (λ (v : KeptValue). trial_on v.chain.spec (best_branch v.chain.blocks) c.args.tx.now ≡ Refused rule) c.self.view_is
     (trial-refused c.self.inside.spec (blocks_of c.self.inside.blocks.stored) c.args.tx.now c.tip-tip.result is rule
     (c.dry_run.ensures.broken c.self.inside.blocks.stored refl stands rule broken))
 
@@ -41,5 +41,5 @@ pub returns-clause-undamaged : goal.returns-clause-undamaged
 returns-clause-undamaged c joined damage =
     let is = c.tip-tip.ensures.of_blocks (blocks_of c.self.inside.blocks.stored) c.self.invariant.indexed in
     let stands = stands-tip c.self.inside.spec c.self.inside.blocks.stored c.self.inside.tree.entries c.self.inside.uncles (rows c.self.inside.state)
-    c.tip-tip.result c.self.invariant (subst IsJoined (sym c.self.view_is) joined) is c.tip-tip.ensures.within in
+    c.tip-tip.result c.self.invariant (subst (λ (v : KeptValue). IsJoined v.chain) (sym c.self.view_is) joined) is c.tip-tip.ensures.within in
     c.dry_run.ensures.undamaged c.self.inside.blocks.stored refl stands damage

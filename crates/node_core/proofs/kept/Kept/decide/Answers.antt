@@ -9,11 +9,11 @@ use Rattle.chain_defs.specs.Tip.{tip_place}
 use Rattle.node_core.proofs.kept.Kept.decide.Goals as goal
 
 pub returns-in-None-clause-decided : goal.returns-in-None-clause-decided
-returns-in-None-clause-decided g c joined = verdict-no-block c.args.self.now c.args.item.now (sym c.in-None.ensures.value)
+returns-in-None-clause-decided g c joined = verdict-no-block c.args.self.now.chain c.args.item.now (sym c.in-None.ensures.value)
 
 pub returns-in-Some-clause-decided : goal.returns-in-Some-clause-decided
 returns-in-Some-clause-decided g c joined =
-    decided-else c.args.self.now c.args.item.now c.in-Some.block c.decide_block.result (sym c.in-Some.ensures.value) (c.decide_block.ensures.decided joined)
+    decided-else c.args.self.now.chain c.args.item.now c.in-Some.block c.decide_block.result (sym c.in-Some.ensures.value) (c.decide_block.ensures.decided joined)
 
 pub returns-in-None-clause-undamaged : goal.returns-in-None-clause-undamaged
 returns-in-None-clause-undamaged g c = λ _ _ e. ok_err _ _ e
@@ -47,16 +47,16 @@ returns-in-Some-clause-reads g c = c.decide_block.ensures.reads
 
 pub returns-in-Some-clause-ready : goal.returns-in-Some-clause-ready
 returns-in-Some-clause-ready g c =
-    ready-else c.args.self.now.blocks c.args.item.now c.in-Some.block c.decide_block.result (sym c.in-Some.ensures.value) c.decide_block.ensures.ready
+    ready-else c.args.self.now.chain.blocks c.args.item.now c.in-Some.block c.decide_block.result (sym c.in-Some.ensures.value) c.decide_block.ensures.ready
 
 pub returns-in-Some-clause-steps : goal.returns-in-Some-clause-steps
 returns-in-Some-clause-steps g c = λ b is on_tip.
     let same : b ≡ c.in-Some.block = sym (same_Some c.in-Some.block b (c.in-Some.ensures.value ∙ is)) in
-    c.decide_block.ensures.steps (subst (λ (x : Block). place_of c.args.self.now.blocks x.header.parent_hash ≡ tip_place c.args.self.now.blocks) same on_tip)
+    c.decide_block.ensures.steps (subst (λ (x : Block). place_of c.args.self.now.chain.blocks x.header.parent_hash ≡ tip_place c.args.self.now.chain.blocks) same on_tip)
 
 pub returns-in-None-clause-most : goal.returns-in-None-clause-most
 returns-in-None-clause-most g c = none-replayed _ _
 
 pub returns-in-Some-clause-most : goal.returns-in-Some-clause-most
 returns-in-Some-clause-most g c =
-    replays-of-item c.args.self.now.blocks c.args.item.now c.in-Some.block _ _ (sym c.in-Some.ensures.value) c.decide_block.ensures.most
+    replays-of-item c.args.self.now.chain.blocks c.args.item.now c.in-Some.block _ _ (sym c.in-Some.ensures.value) c.decide_block.ensures.most

@@ -1,7 +1,7 @@
 use Rattle.std.proofs.Common.{Some, refl, sym, ap, ◌∙◌, subst}
 use Rattle.chain_defs.specs.Kept.{place_of}
 use Rattle.chain_tree.specs.Told.{blocks_of}
-use Rattle.verdict_defs.specs.Chain.{Chain}
+use Rattle.node_core.specs.Node.{KeptValue}
 use Rattle.node_core.specs.Judging.{IsEntryOn}
 use Rattle.node_core.proofs.DecidingLemmas.{none-there}
 use Rattle.node_core.proofs.OpenLemmas.{ok_err}
@@ -83,7 +83,7 @@ entry_on-entry-requires g c = c.hash_of-hash.ensures
 pub judge_on-requires : goal.judge_on-requires
 judge_on-requires g c =
     let kept = blocks_of c.self.inside.blocks.stored in
-    subst (λ (v : Chain). IsEntryOn v.blocks c.args.block.now c.entry_on-entry.result) c.self.view_is (record {
+    subst (λ (v : KeptValue). IsEntryOn v.chain.blocks c.args.block.now c.entry_on-entry.result) c.self.view_is (record {
       new = sym (c.find.ensures.of_blocks kept c.self.invariant.indexed ∙ ap (place_of kept) c.hash_of-hash.ensures) ∙ none-there c.find.result (sym c.is_some.ensures ∙ c.if-is_some.false);
       on_kept = sym (c.in-Some.ensures.of_blocks kept c.self.invariant.indexed ∙ ap (place_of kept) c.parent_hash.ensures) ∙ ap Some (sym c.entry_on-entry.ensures.parent);
       describes = c.entry_on-entry.ensures.describes;

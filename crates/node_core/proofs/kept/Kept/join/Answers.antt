@@ -3,24 +3,24 @@ use Rattle.std.proofs.lemmas.Option.{same_Some}
 use Rattle.codec_defs.specs.Schema.{Block}
 use Rattle.chain_tree.specs.Told.{blocks_of}
 use Rattle.cell_state.specs.State.{rows}
-use Rattle.verdict_defs.specs.Chain.{Chain}
+use Rattle.node_core.specs.Node.{KeptValue}
 use Rattle.node_core.specs.Judging.{IsReady}
 use Rattle.node_core.proofs.DecidingLemmas.{few-entries}
-use Rattle.node_core.proofs.JoiningLemmas.{few-kept, follows-parent, hash-new, FitsOn, fits-on, ready-for, describes-named, chain-push, are-kept-push}
+use Rattle.node_core.proofs.JoiningLemmas.{few-kept, follows-parent, hash-new, FitsOn, fits-on, ready-for, describes-named, kept-push, are-kept-push}
 use Rattle.node_core.proofs.OpenLemmas.{ok_err, same_stop, memory_no_damage, memory_no_fault}
 use Rattle.node_core.proofs.kept.Kept.join.Goals as goal
 
 pub returns-in-Err-clause-undamaged : goal.returns-in-Err-clause-undamaged
 returns-in-Err-clause-undamaged g c b is joined may damage was =
     let kept = blocks_of c.self.inside.blocks.stored in
-    let seen : kept ≡ c.args.self.blocks = ap (λ (v : Chain). v.blocks) c.self.view_is in
+    let seen : kept ≡ c.args.self.chain.blocks = ap (λ (v : KeptValue). v.chain.blocks) c.self.view_is in
     let same : c.in-Some.block ≡ b = same_Some c.in-Some.block b (c.in-Some.ensures.value ∙ is) in
     let ready = subst (λ (bs : List Block). IsReady bs c.in-Some.block c.args.joining) (sym seen)
-    (ready-for c.args.self.blocks c.args.item.now c.in-Some.block c.args.joining c.requires.canonical (sym c.in-Some.ensures.value)) in
-    let own = fits-on c.args.self b c.args.joining may (ready-for c.args.self.blocks c.args.item.now b c.args.joining c.requires.canonical is) in
+    (ready-for c.args.self.chain.blocks c.args.item.now c.in-Some.block c.args.joining c.requires.canonical (sym c.in-Some.ensures.value)) in
+    let own = fits-on c.args.self.chain b c.args.joining may (ready-for c.args.self.chain.blocks c.args.item.now b c.args.joining c.requires.canonical is) in
     let fits : FitsOn kept c.in-Some.block c.args.joining.entry.parent =
     subst (λ (bs : List Block). FitsOn bs c.in-Some.block c.args.joining.entry.parent) (sym seen)
-    (subst (λ (x : Block). FitsOn c.args.self.blocks x c.args.joining.entry.parent) (sym same) own) in
+    (subst (λ (x : Block). FitsOn c.args.self.chain.blocks x c.args.joining.entry.parent) (sym same) own) in
     let no = c.in-Err.ensures.undamaged kept fits.height c.self.invariant.indexed ready c.self.invariant.live fits.above fits.fits damage in
     no (ap Err (same_stop _ _ was))
 
@@ -35,9 +35,9 @@ put-requires-clause-fewer g c =
 pub put-requires-clause-parent : goal.put-requires-clause-parent
 put-requires-clause-parent g c =
     let kept = blocks_of c.self.inside.blocks.stored in
-    let seen : kept ≡ c.args.self.blocks = ap (λ (v : Chain). v.blocks) c.self.view_is in
+    let seen : kept ≡ c.args.self.chain.blocks = ap (λ (v : KeptValue). v.chain.blocks) c.self.view_is in
     let ready = subst (λ (bs : List Block). IsReady bs c.in-Some.block c.args.joining) (sym seen)
-    (ready-for c.args.self.blocks c.args.item.now c.in-Some.block c.args.joining c.requires.canonical (sym c.in-Some.ensures.value)) in
+    (ready-for c.args.self.chain.blocks c.args.item.now c.in-Some.block c.args.joining c.requires.canonical (sym c.in-Some.ensures.value)) in
     follows-parent kept c.self.inside.tree.entries c.in-Some.block c.args.joining
     (record {
       hash = c.args.joining.entry.hash;
@@ -52,18 +52,18 @@ put-requires-clause-parent g c =
 pub put-requires-clause-new : goal.put-requires-clause-new
 put-requires-clause-new g c =
     let kept = blocks_of c.self.inside.blocks.stored in
-    let seen : kept ≡ c.args.self.blocks = ap (λ (v : Chain). v.blocks) c.self.view_is in
+    let seen : kept ≡ c.args.self.chain.blocks = ap (λ (v : KeptValue). v.chain.blocks) c.self.view_is in
     let ready = subst (λ (bs : List Block). IsReady bs c.in-Some.block c.args.joining) (sym seen)
-    (ready-for c.args.self.blocks c.args.item.now c.in-Some.block c.args.joining c.requires.canonical (sym c.in-Some.ensures.value)) in
+    (ready-for c.args.self.chain.blocks c.args.item.now c.in-Some.block c.args.joining c.requires.canonical (sym c.in-Some.ensures.value)) in
     hash-new kept c.self.inside.tree.entries c.in-Some.block c.args.joining c.self.invariant.indexed ready
 
 pub invariant_of-result : goal.invariant_of-result
 invariant_of-result g c =
     let kept = blocks_of c.self.inside.blocks.stored in
-    let seen : kept ≡ c.args.self.blocks = ap (λ (v : Chain). v.blocks) c.self.view_is in
+    let seen : kept ≡ c.args.self.chain.blocks = ap (λ (v : KeptValue). v.chain.blocks) c.self.view_is in
     let is = sym c.in-Some.ensures.value in
     let ready = subst (λ (bs : List Block). IsReady bs c.in-Some.block c.args.joining) (sym seen)
-    (ready-for c.args.self.blocks c.args.item.now c.in-Some.block c.args.joining c.requires.canonical is) in
+    (ready-for c.args.self.chain.blocks c.args.item.now c.in-Some.block c.args.joining c.requires.canonical is) in
     let describes = describes-named c.in-Some.block c.args.joining.entry
     (record {
       hash = c.args.joining.entry.hash;
@@ -75,7 +75,7 @@ invariant_of-result g c =
       len = c.args.rec.len;
     }) ready.entry.describes refl refl refl refl in
     are-kept-push c.self.inside.blocks.stored c.put.new.blocks.stored c.self.inside.tree.entries c.put.new.tree.entries c.self.inside.uncles c.put.new.uncles
-    c.in-Some.block c.args.ext.items c.args.joining _ (length kept) (rows c.self.inside.state) (rows c.in-Ok.state) c.self.invariant ready
+    c.in-Some.block c.args.ext.items c.args.item.now c.args.joining _ (length kept) (rows c.self.inside.state) (rows c.in-Ok.state) c.self.invariant ready is c.requires.ext
     (c.in-Ok-put.ensures.blocks c.in-Some.block is) c.in-Ok-put.ensures.entries describes
     (c.in-Ok-put.ensures.indexed kept c.in-Some.block c.self.invariant.indexed describes ready.entry.on_kept)
     refl (c.in-Ok-put.ensures.uncles kept c.self.invariant.indexed)
@@ -83,7 +83,7 @@ invariant_of-result g c =
 
 pub returns-in-Ok-put-clause-kept : goal.returns-in-Ok-put-clause-kept
 returns-in-Ok-put-clause-kept g c b is =
-    chain-push c.self.inside.spec c.self.inside.blocks.stored c.put.new.blocks.stored b c.args.ext.items c.args.self c.self.view_is (c.in-Ok-put.ensures.blocks b is)
+    kept-push c.self.inside.spec c.self.inside.blocks.stored c.put.new.blocks.stored b c.args.ext.items c.args.self c.self.view_is (c.in-Ok-put.ensures.blocks b is)
 
 pub returns-in_default-clause-kept : goal.returns-in_default-clause-kept
 returns-in_default-clause-kept g c = λ _ _. tt

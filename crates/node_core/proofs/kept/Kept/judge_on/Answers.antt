@@ -11,20 +11,20 @@ use Rattle.block_defs.specs.Ext.{ext_of}
 use Rattle.block_defs.specs.Rules.{first_broken}
 use Rattle.verdict_defs.specs.Chain.{Chain}
 use Rattle.verdict_defs.specs.declared.verdict.Verdict.TheVariants.{Refused}
-use Rattle.node_core.proofs.DecidingLemmas.{as-many, few-entries, within-entries, stands-at-hand, room-for, is-ready, is-judged, verdict-refused, verdict-full}
+use Rattle.node_core.proofs.DecidingLemmas.{as-many, few-entries, within-entries, whole-at-hand, room-for, is-ready, is-judged, verdict-refused, verdict-full}
 use Rattle.node_core.proofs.OpenLemmas.{ok_err, same_stop}
-use Rattle.node_core.specs.Node.{AreKept}
+use Rattle.node_core.specs.Node.{KeptValue, kept_of, AreKept}
 use Rattle.std.proofs.lemmas.Option.{same_Some}
 use Rattle.node_core.proofs.kept.Kept.judge_on.Goals as goal
 
 pub replayed-requires : goal.replayed-requires
-replayed-requires g c = place_of-below c.args.self.now.blocks c.args.block.now.header.parent_hash c.args.entry.parent c.requires.on_kept
+replayed-requires g c = place_of-below c.args.self.now.chain.blocks c.args.block.now.header.parent_hash c.args.entry.parent c.requires.on_kept
 
 pub judge-requires-clause-parent : goal.judge-requires-clause-parent
 judge-requires-clause-parent g c =
-    within-entries (blocks_of c.self.inside.blocks.stored) c.args.self.now.blocks c.self.inside.tree.entries c.args.entry.parent
-    (ap (λ (v : Chain). v.blocks) (c.self.view_is ∙ c.replayed.ensures.same)) c.self.invariant.indexed
-    (place_of-below c.args.self.now.blocks c.args.block.now.header.parent_hash c.args.entry.parent c.requires.on_kept)
+    within-entries (blocks_of c.self.inside.blocks.stored) c.args.self.now.chain.blocks c.self.inside.tree.entries c.args.entry.parent
+    (ap (λ (v : KeptValue). v.chain.blocks) (c.self.view_is ∙ c.replayed.ensures.same)) c.self.invariant.indexed
+    (place_of-below c.args.self.now.chain.blocks c.args.block.now.header.parent_hash c.args.entry.parent c.requires.on_kept)
 
 pub judge-requires-clause-few : goal.judge-requires-clause-few
 judge-requires-clause-few g c =
@@ -36,28 +36,28 @@ judge-requires-clause-counts g c =
 
 pub returns-in-Err-Broken-clause-decided : goal.returns-in-Err-Broken-clause-decided
 returns-in-Err-Broken-clause-decided g c joined =
-    let whole = c.self.view_is ∙ c.replayed.ensures.same in
-    let stands = stands-at-hand c.self.inside.spec c.self.inside.blocks.stored c.self.inside.tree.entries c.self.inside.uncles c.self.inside.state
-    c.cells_or-state.result.now c.args.self.now c.args.block.now c.args.entry c.in-Ok.cells whole c.self.invariant c.requires joined
+    let whole = ap (λ (v : KeptValue). v.chain) (c.self.view_is ∙ c.replayed.ensures.same) in
+    let stands = whole-at-hand c.self.inside.spec c.self.inside.blocks.stored c.self.inside.tree.entries c.self.inside.uncles c.self.inside.state
+    c.cells_or-state.result.now c.args.self.now c.args.block.now c.args.entry c.in-Ok.cells (c.self.view_is ∙ c.replayed.ensures.same) c.self.invariant c.requires joined
     c.in-Ok.ensures.cells c.cells_or-state.ensures.given c.cells_or-state.ensures.tip in
     ap Refused c.in-Err-Broken.rule-is
-    ∙ verdict-refused c.args.self.now.spec c.args.self.now.blocks c.args.block.now c.args.entry c.requires c.in-Err-Broken.rule
+    ∙ verdict-refused c.args.self.now.chain.spec c.args.self.now.chain.blocks c.args.block.now c.args.entry c.requires c.in-Err-Broken.rule
     (subst (λ (v : Chain). first_broken v.spec (branch v.blocks c.args.entry.parent) c.args.block.now ≡ Some c.in-Err-Broken.rule) whole
-    (c.in-Err-Broken.ensures.broken c.self.inside.blocks.stored refl stands c.self.invariant.uncles c.in-Err-Broken.rule (ap Err c.in-Err-Broken.field-0-is)))
+    (c.in-Err-Broken.ensures.broken c.self.inside.blocks.stored refl stands c.in-Err-Broken.rule (ap Err c.in-Err-Broken.field-0-is)))
 
 pub returns-in-Err-Read-clause-undamaged : goal.returns-in-Err-Read-clause-undamaged
 returns-in-Err-Read-clause-undamaged g c joined damage was =
-    let whole = c.self.view_is ∙ c.replayed.ensures.same in
-    let stands = stands-at-hand c.self.inside.spec c.self.inside.blocks.stored c.self.inside.tree.entries c.self.inside.uncles c.self.inside.state
-    c.cells_or-state.result.now c.args.self.now c.args.block.now c.args.entry c.in-Ok.cells whole c.self.invariant c.requires joined
+    let whole = ap (λ (v : KeptValue). v.chain) (c.self.view_is ∙ c.replayed.ensures.same) in
+    let stands = whole-at-hand c.self.inside.spec c.self.inside.blocks.stored c.self.inside.tree.entries c.self.inside.uncles c.self.inside.state
+    c.cells_or-state.result.now c.args.self.now c.args.block.now c.args.entry c.in-Ok.cells (c.self.view_is ∙ c.replayed.ensures.same) c.self.invariant c.requires joined
     c.in-Ok.ensures.cells c.cells_or-state.ensures.given c.cells_or-state.ensures.tip in
-    c.in-Err-Read.ensures.undamaged c.self.inside.blocks.stored refl stands c.self.invariant.uncles damage
+    c.in-Err-Read.ensures.undamaged c.self.inside.blocks.stored refl stands damage
     (ap Err (c.in-Err-Read.field-0-is ∙ ap Read (sym c.in-Err-Read.stop-is ∙ same_stop _ _ was)))
 
 pub returns-then-has_room-clause-ready : goal.returns-then-has_room-clause-ready
 returns-then-has_room-clause-ready g c =
-    let whole = c.self.view_is ∙ c.replayed.ensures.same in
-    is-ready c.args.self.now.spec c.args.self.now.blocks c.args.block.now c.args.entry c.in-Ok-judge.ext c.in-Ok.cells c.requires
+    let whole = ap (λ (v : KeptValue). v.chain) (c.self.view_is ∙ c.replayed.ensures.same) in
+    is-ready c.args.self.now.chain.spec c.args.self.now.chain.blocks c.args.block.now c.args.entry c.in-Ok-judge.ext c.in-Ok.cells c.requires
     (subst (λ (v : Chain). first_failing (header_rules v.spec (branch v.blocks c.args.entry.parent) c.args.block.now) ≡ None) whole
     (c.in-Ok-judge.ensures.header (blocks_of c.self.inside.blocks.stored) c.self.invariant.indexed))
     (room-for c.len.result _ c.has_room.result c.has_room.ensures c.if-has_room.true
@@ -66,27 +66,27 @@ returns-then-has_room-clause-ready g c =
 
 pub returns-then-has_room-clause-decided : goal.returns-then-has_room-clause-decided
 returns-then-has_room-clause-decided g c joined =
-    let whole = c.self.view_is ∙ c.replayed.ensures.same in
-    let stands = stands-at-hand c.self.inside.spec c.self.inside.blocks.stored c.self.inside.tree.entries c.self.inside.uncles c.self.inside.state
-    c.cells_or-state.result.now c.args.self.now c.args.block.now c.args.entry c.in-Ok.cells whole c.self.invariant c.requires joined
+    let whole = ap (λ (v : KeptValue). v.chain) (c.self.view_is ∙ c.replayed.ensures.same) in
+    let stands = whole-at-hand c.self.inside.spec c.self.inside.blocks.stored c.self.inside.tree.entries c.self.inside.uncles c.self.inside.state
+    c.cells_or-state.result.now c.args.self.now c.args.block.now c.args.entry c.in-Ok.cells (c.self.view_is ∙ c.replayed.ensures.same) c.self.invariant c.requires joined
     c.in-Ok.ensures.cells c.cells_or-state.ensures.given c.cells_or-state.ensures.tip in
-    is-judged c.args.self.now c.args.block.now (record { entry = c.args.entry; ext = c.in-Ok-judge.ext; cells = c.in-Ok.cells }) c.requires
+    is-judged c.args.self.now.chain c.args.block.now (record { entry = c.args.entry; ext = c.in-Ok-judge.ext; cells = c.in-Ok.cells }) c.requires
     (subst (λ (v : Chain). first_broken v.spec (branch v.blocks c.args.entry.parent) c.args.block.now ≡ None) whole
-    (c.in-Ok-judge.ensures.unbroken c.self.inside.blocks.stored refl stands c.self.invariant.uncles))
+    (c.in-Ok-judge.ensures.unbroken c.self.inside.blocks.stored refl stands))
     (room-for c.len.result _ c.has_room.result c.has_room.ensures c.if-has_room.true
     (c.len.ensures.of_blocks (blocks_of c.self.inside.blocks.stored) c.self.invariant.indexed ∙ ap (λ (v : Chain). length v.blocks) whole))
     (subst (λ (v : Chain). c.in-Ok-judge.ext ≡ ext_of v.spec v.blocks c.args.entry.parent c.args.block.now) whole
-    (c.in-Ok-judge.ensures.ext c.self.inside.blocks.stored refl stands c.self.invariant.uncles))
+    (c.in-Ok-judge.ensures.ext c.self.inside.blocks.stored refl stands))
 
 pub returns-clause-decided : goal.returns-clause-decided
 returns-clause-decided g c joined =
-    let whole = c.self.view_is ∙ c.replayed.ensures.same in
-    let stands = stands-at-hand c.self.inside.spec c.self.inside.blocks.stored c.self.inside.tree.entries c.self.inside.uncles c.self.inside.state
-    c.cells_or-state.result.now c.args.self.now c.args.block.now c.args.entry c.in-Ok.cells whole c.self.invariant c.requires joined
+    let whole = ap (λ (v : KeptValue). v.chain) (c.self.view_is ∙ c.replayed.ensures.same) in
+    let stands = whole-at-hand c.self.inside.spec c.self.inside.blocks.stored c.self.inside.tree.entries c.self.inside.uncles c.self.inside.state
+    c.cells_or-state.result.now c.args.self.now c.args.block.now c.args.entry c.in-Ok.cells (c.self.view_is ∙ c.replayed.ensures.same) c.self.invariant c.requires joined
     c.in-Ok.ensures.cells c.cells_or-state.ensures.given c.cells_or-state.ensures.tip in
-    verdict-full c.args.self.now.spec c.args.self.now.blocks c.args.block.now c.args.entry c.requires c.len.result c.has_room.result
+    verdict-full c.args.self.now.chain.spec c.args.self.now.chain.blocks c.args.block.now c.args.entry c.requires c.len.result c.has_room.result
     (subst (λ (v : Chain). first_broken v.spec (branch v.blocks c.args.entry.parent) c.args.block.now ≡ None) whole
-    (c.in-Ok-judge.ensures.unbroken c.self.inside.blocks.stored refl stands c.self.invariant.uncles))
+    (c.in-Ok-judge.ensures.unbroken c.self.inside.blocks.stored refl stands))
     c.has_room.ensures c.if-has_room.false
     (c.len.ensures.of_blocks (blocks_of c.self.inside.blocks.stored) c.self.invariant.indexed ∙ ap (λ (v : Chain). length v.blocks) whole)
 
@@ -133,7 +133,7 @@ pub returns-in-Err-clause-same : goal.returns-in-Err-clause-same
 returns-in-Err-clause-same g c = c.replayed.ensures.same
 
 pub returns-in-Err-clause-undamaged : goal.returns-in-Err-clause-undamaged
-returns-in-Err-clause-undamaged g c = λ joined damage e. c.in-Err.ensures.undamaged joined damage (ap Err (same_stop _ _ e))
+returns-in-Err-clause-undamaged g c = λ joined damage e. c.in-Err.ensures.undamaged joined.joined damage (ap Err (same_stop _ _ e))
 
 pub returns-in-Err-clause-damage : goal.returns-in-Err-clause-damage
 returns-in-Err-clause-damage g c = λ damage e. c.in-Err.ensures.damage damage (ap Err (same_stop _ _ e))
@@ -164,19 +164,19 @@ returns-clause-steps g c = c.replayed.ensures.steps
 
 pub returns-in-Err-Broken-clause-same : goal.returns-in-Err-Broken-clause-same
 returns-in-Err-Broken-clause-same g c =
-    ap (λ (l : List Stored). record { spec = c.self.inside.spec; blocks = blocks_of l }) (same_Some _ _ c.judge.ensures.told) ∙ c.self.view_is ∙ c.replayed.ensures.same
+    ap (kept_of c.self.inside.spec) (same_Some _ _ c.judge.ensures.told) ∙ c.self.view_is ∙ c.replayed.ensures.same
 
 pub returns-in-Err-Read-clause-same : goal.returns-in-Err-Read-clause-same
 returns-in-Err-Read-clause-same g c =
-    ap (λ (l : List Stored). record { spec = c.self.inside.spec; blocks = blocks_of l }) (same_Some _ _ c.judge.ensures.told) ∙ c.self.view_is ∙ c.replayed.ensures.same
+    ap (kept_of c.self.inside.spec) (same_Some _ _ c.judge.ensures.told) ∙ c.self.view_is ∙ c.replayed.ensures.same
 
 pub returns-then-has_room-clause-same : goal.returns-then-has_room-clause-same
 returns-then-has_room-clause-same g c =
-    ap (λ (l : List Stored). record { spec = c.self.inside.spec; blocks = blocks_of l }) (same_Some _ _ c.judge.ensures.told) ∙ c.self.view_is ∙ c.replayed.ensures.same
+    ap (kept_of c.self.inside.spec) (same_Some _ _ c.judge.ensures.told) ∙ c.self.view_is ∙ c.replayed.ensures.same
 
 pub returns-clause-same : goal.returns-clause-same
 returns-clause-same g c =
-    ap (λ (l : List Stored). record { spec = c.self.inside.spec; blocks = blocks_of l }) (same_Some _ _ c.judge.ensures.told) ∙ c.self.view_is ∙ c.replayed.ensures.same
+    ap (kept_of c.self.inside.spec) (same_Some _ _ c.judge.ensures.told) ∙ c.self.view_is ∙ c.replayed.ensures.same
 
 pub invariant_of-self : goal.invariant_of-self
 invariant_of-self g c =

@@ -1,9 +1,11 @@
 use Rattle.std.proofs.Common.{ℕ, List, Vec, Global, Err, map, length, refl, sym, ap, ◌∙◌, arith}
+use Rattle.std.proofs.lemmas.Option.{same_Some}
 use Rattle.codec_defs.specs.Shape.{decoded}
 use Rattle.codec_defs.specs.Schema.{block}
 use Rattle.chain_tree.specs.Told.{blocks_of}
 use Rattle.cell_state.specs.State.{rows}
 use Rattle.cell_model.specs.ListBlocks.{contents}
+use Rattle.node_core.specs.Node.{exts_of}
 use Rattle.node_core.proofs.OpeningLemmas.{as-many-contents, few-blocks, canonical-in, exts-in, can-be-listed, counts-entries, indexed-by, are-kept, rated-joined, fits-joined}
 use Rattle.node_core.proofs.OpenLemmas.{same_stop, ok_err}
 use Rattle.node_core.proofs.ReplayLemmas.{none-replayed, replayed-to-tip}
@@ -31,8 +33,8 @@ uncles_of-requires g c = record {
   canonical = canonical-in c.args.blocks.items c.deref-2.result.now c.args.tree.entries c.requires.blocks c.deref-2.ensures.value;
 }
 
-pub new-blocks-requires : goal.new-blocks-requires
-new-blocks-requires g c =
+pub new-requires : goal.new-requires
+new-requires g c =
     can-be-listed (contents c.args.blocks.items) (contents c.args.exts.items) c.args.tree.entries c.requires.blocks
     (omega (arith, c.requires.beside, as-many-contents c.args.blocks.items, as-many-contents c.args.exts.items))
     (omega (arith, c.requires.few, as-many-contents c.args.blocks.items))
@@ -41,30 +43,45 @@ new-blocks-requires g c =
 
 pub replay-requires-clause-counts : goal.replay-requires-clause-counts
 replay-requires-clause-counts g c =
-    counts-entries (contents c.args.blocks.items) c.args.tree.entries c.new-blocks.result.stored c.requires.blocks c.new-blocks.ensures.blocks
+    counts-entries (contents c.args.blocks.items) c.args.tree.entries c.in-Ok-new.blocks.stored c.requires.blocks c.in-Ok-new.ensures.blocks
 
 pub invariant_of-result : goal.invariant_of-result
 invariant_of-result g c =
-    let stored = c.new-blocks.result.stored in
-    let indexed = indexed-by (contents c.args.blocks.items) c.args.tree.entries (blocks_of stored) c.requires.blocks c.new-blocks.ensures.blocks in
-    are-kept (contents c.args.blocks.items) c.args.tree.entries stored c.replay.new.blocks.stored c.in-Ok.uncles (rows c.in-Ok-replay.state) c.tip.result
-    c.requires.blocks (omega (arith, c.requires.few, as-many-contents c.args.blocks.items)) c.new-blocks.ensures.blocks c.replay.ensures.told
+    let stored = c.in-Ok-new.blocks.stored in
+    let indexed = indexed-by (contents c.args.blocks.items) c.args.tree.entries (blocks_of stored) c.requires.blocks c.in-Ok-new.ensures.blocks in
+    are-kept (contents c.args.blocks.items) (contents c.args.exts.items) c.args.tree.entries stored c.replay.new.blocks.stored c.in-Ok.uncles (rows c.in-Ok-replay.state) c.tip.result
+    c.requires.blocks (omega (arith, c.requires.few, as-many-contents c.args.blocks.items)) c.in-Ok-new.ensures.blocks c.replay.ensures.told
+    (exts-in c.args.blocks.items c.deref.result.now c.args.exts.items c.deref-else-not-are_rated.result.now
+    c.deref.ensures.value c.deref-else-not-are_rated.ensures.value (c.have_exts.ensures.have c.if-not-have_exts.false))
+    c.in-Ok-new.ensures.exts
     (c.are_rated.ensures.rated c.if-not-are_rated.false)
     (c.in-Ok.ensures (blocks_of stored)
-    (ap (λ (v : List (Vec ℕ Global)). map (decoded block) (contents v)) c.deref-2.ensures.value ∙ c.new-blocks.ensures.blocks))
+    (ap (λ (v : List (Vec ℕ Global)). map (decoded block) (contents v)) c.deref-2.ensures.value ∙ c.in-Ok-new.ensures.blocks))
     (c.tip.ensures.of_blocks (blocks_of stored) indexed) (c.in-Ok-replay.ensures.rows stored refl indexed)
 
 pub returns-in-Err-replay-clause-joined : goal.returns-in-Err-replay-clause-joined
 returns-in-Err-replay-clause-joined g c = λ kept decode joined exts none.
     let found = c.stop_of_replay.ensures.damaged (same_stop _ _ none) in
-    let stored = c.new-blocks.result.stored in
-    let indexed = indexed-by (contents c.args.blocks.items) c.args.tree.entries (blocks_of stored) c.requires.blocks c.new-blocks.ensures.blocks in
+    let stored = c.in-Ok-new.blocks.stored in
+    let indexed = indexed-by (contents c.args.blocks.items) c.args.tree.entries (blocks_of stored) c.requires.blocks c.in-Ok-new.ensures.blocks in
     c.replay.ensures.undamaged stored refl indexed
-    (fits-joined c.args.spec (contents c.args.blocks.items) c.args.tree.entries kept stored c.tip.result c.requires.blocks c.new-blocks.ensures.blocks decode joined
+    (fits-joined c.args.spec (contents c.args.blocks.items) c.args.tree.entries kept stored c.tip.result c.requires.blocks c.in-Ok-new.ensures.blocks decode joined
     c.tip.ensures.within) found.0 (c.in-Err-replay.is ∙ ap Err found.1)
 
 pub returns-then-not-are_rated-clause-spec : goal.returns-then-not-are_rated-clause-spec
 returns-then-not-are_rated-clause-spec g c = tt
+
+pub returns-then-not-are_rated-clause-exts : goal.returns-then-not-are_rated-clause-exts
+returns-then-not-are_rated-clause-exts g c = tt
+
+pub returns-in-Err-clause-exts : goal.returns-in-Err-clause-exts
+returns-in-Err-clause-exts g c = tt
+
+pub returns-in-Err-replay-clause-exts : goal.returns-in-Err-replay-clause-exts
+returns-in-Err-replay-clause-exts g c = tt
+
+pub returns-in-Ok-replay-clause-exts : goal.returns-in-Ok-replay-clause-exts
+returns-in-Ok-replay-clause-exts g c = ap exts_of (same_Some _ _ c.replay.ensures.told) ∙ c.in-Ok-new.ensures.exts
 
 pub returns-then-not-are_rated-clause-blocks : goal.returns-then-not-are_rated-clause-blocks
 returns-then-not-are_rated-clause-blocks g c = tt
@@ -117,3 +134,21 @@ pub returns-in-Ok-replay-clause-most : goal.returns-in-Ok-replay-clause-most
 returns-in-Ok-replay-clause-most g c = λ kept decode.
     replayed-to-tip kept c.args.tree.entries c.tip.result _ _ (indexed-by (contents c.args.blocks.items) c.args.tree.entries kept c.requires.blocks decode)
     c.tip.ensures.within c.replay.ensures.most
+
+pub returns-in-Err-new-clause-exts : goal.returns-in-Err-new-clause-exts
+returns-in-Err-new-clause-exts g c = tt
+
+pub returns-in-Err-new-clause-spec : goal.returns-in-Err-new-clause-spec
+returns-in-Err-new-clause-spec g c = tt
+
+pub returns-in-Err-new-clause-blocks : goal.returns-in-Err-new-clause-blocks
+returns-in-Err-new-clause-blocks g c = tt
+
+pub returns-in-Err-new-clause-joined : goal.returns-in-Err-new-clause-joined
+returns-in-Err-new-clause-joined g c = λ _ _ _ _ e. not_wrong e
+
+pub returns-in-Err-new-clause-reads : goal.returns-in-Err-new-clause-reads
+returns-in-Err-new-clause-reads g c = memory_not_fault
+
+pub returns-in-Err-new-clause-most : goal.returns-in-Err-new-clause-most
+returns-in-Err-new-clause-most g c = λ _ _. none-replayed _ _

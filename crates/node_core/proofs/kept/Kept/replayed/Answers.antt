@@ -5,9 +5,8 @@ use Rattle.chain_defs.specs.Tip.{tip_place}
 use Rattle.cell_defs.specs.Row.{live_row}
 use Rattle.chain_tree.specs.Told.{blocks_of, Stored}
 use Rattle.cell_state.specs.State.{rows}
-use Rattle.verdict_defs.specs.Chain.{Chain}
 use Rattle.store_defs.specs.Store.{IsJoined}
-use Rattle.node_core.specs.Node.{AreKept}
+use Rattle.node_core.specs.Node.{KeptValue, kept_of, AreKept}
 use Rattle.node_core.proofs.DecidingLemmas.{as-many, within-entries, fits-below}
 use Rattle.node_core.proofs.OpenLemmas.{ok_err, same_stop}
 use Rattle.node_core.proofs.ReplayLemmas.{none-replayed, replayed-off-tip}
@@ -15,8 +14,8 @@ use Rattle.node_core.proofs.kept.Kept.replayed.Goals as goal
 
 pub replay-requires-clause-within : goal.replay-requires-clause-within
 replay-requires-clause-within g c =
-    within-entries (blocks_of c.self.inside.blocks.stored) c.args.self.now.blocks c.self.inside.tree.entries c.args.place
-    (ap (λ (v : Chain). v.blocks) c.self.view_is) c.self.invariant.indexed c.requires
+    within-entries (blocks_of c.self.inside.blocks.stored) c.args.self.now.chain.blocks c.self.inside.tree.entries c.args.place
+    (ap (λ (v : KeptValue). v.chain.blocks) c.self.view_is) c.self.invariant.indexed c.requires
 
 pub replay-requires-clause-counts : goal.replay-requires-clause-counts
 replay-requires-clause-counts g c =
@@ -24,11 +23,11 @@ replay-requires-clause-counts g c =
 
 pub returns-in-Err-clause-undamaged : goal.returns-in-Err-clause-undamaged
 returns-in-Err-clause-undamaged g c joined damage was =
-    let within = within-entries (blocks_of c.self.inside.blocks.stored) c.args.self.now.blocks c.self.inside.tree.entries c.args.place
-    (ap (λ (v : Chain). v.blocks) c.self.view_is) c.self.invariant.indexed c.requires in
+    let within = within-entries (blocks_of c.self.inside.blocks.stored) c.args.self.now.chain.blocks c.self.inside.tree.entries c.args.place
+    (ap (λ (v : KeptValue). v.chain.blocks) c.self.view_is) c.self.invariant.indexed c.requires in
     let no = c.in-Err.ensures.undamaged c.self.inside.blocks.stored refl c.self.invariant.indexed
     (fits-below (record { spec = c.self.inside.spec; blocks = blocks_of c.self.inside.blocks.stored }) c.self.inside.tree.entries c.args.place
-    (subst IsJoined (sym c.self.view_is) joined) c.self.invariant.indexed within) damage in
+    (subst (λ (v : KeptValue). IsJoined v.chain) (sym c.self.view_is) joined) c.self.invariant.indexed within) damage in
     no (ap Err (same_stop _ _ was))
 
 pub returns-then-place-tip-clause-undamaged : goal.returns-then-place-tip-clause-undamaged
@@ -63,19 +62,19 @@ returns-then-place-tip-clause-most g c = none-replayed _ _
 
 pub returns-in-Err-clause-most : goal.returns-in-Err-clause-most
 returns-in-Err-clause-most g c =
-    let within = within-entries (blocks_of c.self.inside.blocks.stored) c.args.self.now.blocks c.self.inside.tree.entries c.args.place
-    (ap (λ (v : Chain). v.blocks) c.self.view_is) c.self.invariant.indexed c.requires in
-    replayed-off-tip (blocks_of c.self.inside.blocks.stored) c.args.self.now.blocks c.self.inside.tree.entries c.tip.result c.args.place _ _
-    (ap (λ (v : Chain). v.blocks) c.self.view_is) c.self.invariant.indexed
+    let within = within-entries (blocks_of c.self.inside.blocks.stored) c.args.self.now.chain.blocks c.self.inside.tree.entries c.args.place
+    (ap (λ (v : KeptValue). v.chain.blocks) c.self.view_is) c.self.invariant.indexed c.requires in
+    replayed-off-tip (blocks_of c.self.inside.blocks.stored) c.args.self.now.chain.blocks c.self.inside.tree.entries c.tip.result c.args.place _ _
+    (ap (λ (v : KeptValue). v.chain.blocks) c.self.view_is) c.self.invariant.indexed
     (c.tip.ensures.of_blocks (blocks_of c.self.inside.blocks.stored) c.self.invariant.indexed) (λ same. omega (arith, same, c.if-place-tip.false)) within
     c.replay.ensures.most
 
 pub returns-clause-most : goal.returns-clause-most
 returns-clause-most g c =
-    let within = within-entries (blocks_of c.self.inside.blocks.stored) c.args.self.now.blocks c.self.inside.tree.entries c.args.place
-    (ap (λ (v : Chain). v.blocks) c.self.view_is) c.self.invariant.indexed c.requires in
-    replayed-off-tip (blocks_of c.self.inside.blocks.stored) c.args.self.now.blocks c.self.inside.tree.entries c.tip.result c.args.place _ _
-    (ap (λ (v : Chain). v.blocks) c.self.view_is) c.self.invariant.indexed
+    let within = within-entries (blocks_of c.self.inside.blocks.stored) c.args.self.now.chain.blocks c.self.inside.tree.entries c.args.place
+    (ap (λ (v : KeptValue). v.chain.blocks) c.self.view_is) c.self.invariant.indexed c.requires in
+    replayed-off-tip (blocks_of c.self.inside.blocks.stored) c.args.self.now.chain.blocks c.self.inside.tree.entries c.tip.result c.args.place _ _
+    (ap (λ (v : KeptValue). v.chain.blocks) c.self.view_is) c.self.invariant.indexed
     (c.tip.ensures.of_blocks (blocks_of c.self.inside.blocks.stored) c.self.invariant.indexed) (λ same. omega (arith, same, c.if-place-tip.false)) within
     c.replay.ensures.most
 
@@ -88,12 +87,12 @@ returns-then-place-tip-clause-same g c = refl
 pub returns-then-place-tip-clause-cells : goal.returns-then-place-tip-clause-cells
 returns-then-place-tip-clause-cells g c =
     let here : c.tip.result ≡ c.args.place = omega (arith, c.if-place-tip.true) in
-    subst (λ (v : Chain). tip_place v.blocks ≡ Some c.args.place) c.self.view_is
+    subst (λ (v : KeptValue). tip_place v.chain.blocks ≡ Some c.args.place) c.self.view_is
     (c.tip.ensures.of_blocks (blocks_of c.self.inside.blocks.stored) c.self.invariant.indexed ∙ ap Some here)
 
 pub returns-clause-cells : goal.returns-clause-cells
 returns-clause-cells g c =
-    subst (λ (v : Chain). (o : OutPoint) → rows c.in-Ok.cells o ≡ live_row v.blocks c.args.place o) c.self.view_is
+    subst (λ (v : KeptValue). (o : OutPoint) → rows c.in-Ok.cells o ≡ live_row v.chain.blocks c.args.place o) c.self.view_is
     (c.in-Ok.ensures.rows c.self.inside.blocks.stored refl c.self.invariant.indexed)
 
 pub invariant_of-self : goal.invariant_of-self
@@ -106,8 +105,8 @@ invariant_of-self-2 g c =
 
 pub returns-in-Err-clause-same : goal.returns-in-Err-clause-same
 returns-in-Err-clause-same g c =
-    ap (λ (l : List Stored). record { spec = c.self.inside.spec; blocks = blocks_of l }) (same_Some _ _ c.replay.ensures.told) ∙ c.self.view_is
+    ap (kept_of c.self.inside.spec) (same_Some _ _ c.replay.ensures.told) ∙ c.self.view_is
 
 pub returns-clause-same : goal.returns-clause-same
 returns-clause-same g c =
-    ap (λ (l : List Stored). record { spec = c.self.inside.spec; blocks = blocks_of l }) (same_Some _ _ c.replay.ensures.told) ∙ c.self.view_is
+    ap (kept_of c.self.inside.spec) (same_Some _ _ c.replay.ensures.told) ∙ c.self.view_is

@@ -4,12 +4,12 @@ use Rattle.chain_defs.specs.Kept.{place_of, kept_limit}
 use Rattle.chain_defs.specs.Tip.{tip_place}
 use Rattle.verdict_defs.specs.Verdict.{joins}
 use Rattle.verdict_defs.specs.Chain.{Chain, chain_after}
-use Rattle.store_defs.specs.Store.{IsJoined, StandsFor}
-use Rattle.store_defs.proofs.JoinedLemmas.{joined_of_image}
-use Rattle.node_core.specs.Node.{NodeValue, IsOn, IsWithin}
+use Rattle.store_defs.specs.Store.{IsJoined, HaveOwnExts, AreJoined, StandsFor}
+use Rattle.store_defs.proofs.JoinedLemmas.{joined_after}
+use Rattle.node_core.specs.Node.{KeptValue, NodeValue, kept_in, node_of, IsOn, IsWithin}
 use Rattle.node_core.specs.Judging.{IsReadyItem, IsDecided}
 use Rattle.node_core.specs.declared.deciding.Decision.TheVariants.{Joins, Stays}
-use Rattle.node_core.proofs.ImportLemmas.{joined_stays_not, decided_on, ready_on, verdict_is, stays_so}
+use Rattle.node_core.proofs.ImportLemmas.{joined_on, joined_stays_not, decided_on, ready_on, verdict_is, stays_so}
 use Rattle.node_core.proofs.DiskLemmas.{counts_none, before_calls}
 use Rattle.log_file.proofs.Exits.{stop_counts}
 use Rattle.node_core.proofs.OpenLemmas.{ok_err, same_stop}
@@ -19,12 +19,12 @@ use Rattle.node_core.proofs.node.Node.import.Goals as goal
 
 pub returns-in-Err-join-clause-moments : goal.returns-in-Err-join-clause-moments
 returns-in-Err-join-clause-moments g c = λ on.
-    let chain_is : c.node.inside.kept ≡ c.args.self.chain = ap (λ (v : NodeValue). v.chain) c.node.view_is in
-    let same : c.decide.new.self ≡ c.args.self.chain = c.decide.ensures.same ∙ chain_is in
-    let decided = decided_on c.node.inside.kept c.args.self.chain c.args.item.now c.in-Ok.decision (Joins c.in-Joins.joining) chain_is c.in-Joins.is
-    c.in-Ok.ensures.decided (joined_of_image c.args.self.chain on.now on.stands) in
-    let before : record { chain = c.decide.new.self; place = c.node.inside.log.place } ≡ c.args.self =
-    ap (λ (k : Chain). record { chain = k; place = c.node.inside.log.place }) c.decide.ensures.same ∙ c.node.view_is in
+    let chain_is : c.node.inside.kept.chain ≡ c.args.self.chain = ap (λ (v : NodeValue). v.chain) c.node.view_is in
+    let same : c.decide.new.self.chain ≡ c.args.self.chain = ap (λ (k : KeptValue). k.chain) c.decide.ensures.same ∙ chain_is in
+    let decided = decided_on c.node.inside.kept (kept_in c.args.self) c.args.item.now c.in-Ok.decision (Joins c.in-Joins.joining) (ap kept_in c.node.view_is) c.in-Joins.is
+    c.in-Ok.ensures.decided (joined_on c.args.self _ _ on) in
+    let before : node_of c.decide.new.self c.node.inside.log.place ≡ c.args.self =
+    ap (λ (k : KeptValue). node_of k c.node.inside.log.place) c.decide.ensures.same ∙ c.node.view_is in
     subst (λ (k : Chain). LeavesOnly g.D.Disk.moment g.D.Disk.left_since c.args.disk.now c.join.new.disk
     (λ image. StandsFor k image ⊎ StandsFor (chain_after k c.args.item.now) image)) same
     (c.join.ensures.moments (subst (λ (k : Chain). IsDecided k c.args.item.now (Joins c.in-Joins.joining)) (sym same) decided)
@@ -32,55 +32,55 @@ returns-in-Err-join-clause-moments g c = λ on.
 
 pub returns-in-Err-join-clause-undamaged : goal.returns-in-Err-join-clause-undamaged
 returns-in-Err-join-clause-undamaged g c joined damage told =
-    let chain_is : c.node.inside.kept ≡ c.args.self.chain = ap (λ (v : NodeValue). v.chain) c.node.view_is in
-    let same : c.decide.new.self ≡ c.args.self.chain = c.decide.ensures.same ∙ chain_is in
-    let decided = decided_on c.node.inside.kept c.args.self.chain c.args.item.now c.in-Ok.decision (Joins c.in-Joins.joining) chain_is c.in-Joins.is
+    let chain_is : c.node.inside.kept.chain ≡ c.args.self.chain = ap (λ (v : NodeValue). v.chain) c.node.view_is in
+    let same : c.decide.new.self.chain ≡ c.args.self.chain = ap (λ (k : KeptValue). k.chain) c.decide.ensures.same ∙ chain_is in
+    let decided = decided_on c.node.inside.kept (kept_in c.args.self) c.args.item.now c.in-Ok.decision (Joins c.in-Joins.joining) (ap kept_in c.node.view_is) c.in-Joins.is
     c.in-Ok.ensures.decided joined in
     c.join.ensures.undamaged (subst (λ (k : Chain). IsDecided k c.args.item.now (Joins c.in-Joins.joining)) (sym same) decided)
-    (subst IsJoined (sym same) joined) damage (c.in-Err-join.is ∙ ap Err (same_stop _ _ told))
+    (subst IsJoined (sym same) joined.joined) damage (c.in-Err-join.is ∙ ap Err (same_stop _ _ told))
 
 pub returns-in-Err-join-clause-cause : goal.returns-in-Err-join-clause-cause
 returns-in-Err-join-clause-cause g c = stop_counts _ _ _ _ c.in-Err-join.ensures.cause
 
 pub returns-in-Stays-clause-kept : goal.returns-in-Stays-clause-kept
 returns-in-Stays-clause-kept g c joined =
-    let chain_is : c.node.inside.kept ≡ c.args.self.chain = ap (λ (v : NodeValue). v.chain) c.node.view_is in
+    let chain_is : c.node.inside.kept.chain ≡ c.args.self.chain = ap (λ (v : NodeValue). v.chain) c.node.view_is in
     let decided : IsDecided c.args.self.chain c.args.item.now (Stays c.in-Stays.verdict) =
-    decided_on c.node.inside.kept c.args.self.chain c.args.item.now c.in-Ok.decision (Stays c.in-Stays.verdict) chain_is c.in-Stays.is
+    decided_on c.node.inside.kept (kept_in c.args.self) c.args.item.now c.in-Ok.decision (Stays c.in-Stays.verdict) (ap kept_in c.node.view_is) c.in-Stays.is
     c.in-Ok.ensures.decided joined in
     let left : IsReadyItem c.args.self.chain.blocks c.args.item.now (Stays c.in-Stays.verdict) =
-    ready_on c.node.inside.kept c.args.self.chain c.args.item.now c.in-Ok.decision (Stays c.in-Stays.verdict) chain_is c.in-Stays.is
+    ready_on c.node.inside.kept.chain c.args.self.chain c.args.item.now c.in-Ok.decision (Stays c.in-Stays.verdict) chain_is c.in-Stays.is
     c.in-Ok.ensures.ready in
-    c.decide.ensures.same ∙ chain_is ∙ stays_so c.args.self.chain c.args.item.now (ap joins (sym decided) ∙ left)
+    ap (λ (k : KeptValue). k.chain) c.decide.ensures.same ∙ chain_is ∙ stays_so c.args.self.chain c.args.item.now (ap joins (sym decided) ∙ left)
 
 pub returns-in-Ok-join-clause-verdict : goal.returns-in-Ok-join-clause-verdict
 returns-in-Ok-join-clause-verdict g c joined =
-    let chain_is : c.node.inside.kept ≡ c.args.self.chain = ap (λ (v : NodeValue). v.chain) c.node.view_is in
+    let chain_is : c.node.inside.kept.chain ≡ c.args.self.chain = ap (λ (v : NodeValue). v.chain) c.node.view_is in
     verdict_is c.args.self.chain c.args.item.now c.in-Joins.joining
-    (decided_on c.node.inside.kept c.args.self.chain c.args.item.now c.in-Ok.decision (Joins c.in-Joins.joining) chain_is c.in-Joins.is
+    (decided_on c.node.inside.kept (kept_in c.args.self) c.args.item.now c.in-Ok.decision (Joins c.in-Joins.joining) (ap kept_in c.node.view_is) c.in-Joins.is
     c.in-Ok.ensures.decided joined)
-    (ready_on c.node.inside.kept c.args.self.chain c.args.item.now c.in-Ok.decision (Joins c.in-Joins.joining) chain_is c.in-Joins.is
+    (ready_on c.node.inside.kept.chain c.args.self.chain c.args.item.now c.in-Ok.decision (Joins c.in-Joins.joining) chain_is c.in-Joins.is
     c.in-Ok.ensures.ready)
 
 pub returns-in-Ok-join-clause-on : goal.returns-in-Ok-join-clause-on
 returns-in-Ok-join-clause-on g c = λ on.
-    let chain_is : c.node.inside.kept ≡ c.args.self.chain = ap (λ (v : NodeValue). v.chain) c.node.view_is in
-    let same : c.decide.new.self ≡ c.args.self.chain = c.decide.ensures.same ∙ chain_is in
-    let decided = decided_on c.node.inside.kept c.args.self.chain c.args.item.now c.in-Ok.decision (Joins c.in-Joins.joining) chain_is c.in-Joins.is
-    c.in-Ok.ensures.decided (joined_of_image c.args.self.chain on.now on.stands) in
-    let before : record { chain = c.decide.new.self; place = c.node.inside.log.place } ≡ c.args.self =
-    ap (λ (k : Chain). record { chain = k; place = c.node.inside.log.place }) c.decide.ensures.same ∙ c.node.view_is in
+    let chain_is : c.node.inside.kept.chain ≡ c.args.self.chain = ap (λ (v : NodeValue). v.chain) c.node.view_is in
+    let same : c.decide.new.self.chain ≡ c.args.self.chain = ap (λ (k : KeptValue). k.chain) c.decide.ensures.same ∙ chain_is in
+    let decided = decided_on c.node.inside.kept (kept_in c.args.self) c.args.item.now c.in-Ok.decision (Joins c.in-Joins.joining) (ap kept_in c.node.view_is) c.in-Joins.is
+    c.in-Ok.ensures.decided (joined_on c.args.self _ _ on) in
+    let before : node_of c.decide.new.self c.node.inside.log.place ≡ c.args.self =
+    ap (λ (k : KeptValue). node_of k c.node.inside.log.place) c.decide.ensures.same ∙ c.node.view_is in
     c.in-Ok-join.ensures.on (subst (λ (k : Chain). IsDecided k c.args.item.now (Joins c.in-Joins.joining)) (sym same) decided)
     (subst (λ (v : NodeValue). IsOn v (g.D.Disk.reads_as c.args.disk.now) (g.D.Disk.images c.args.disk.now)) (sym before) on)
 
 pub returns-in-Ok-join-clause-moments : goal.returns-in-Ok-join-clause-moments
 returns-in-Ok-join-clause-moments g c = λ on.
-    let chain_is : c.node.inside.kept ≡ c.args.self.chain = ap (λ (v : NodeValue). v.chain) c.node.view_is in
-    let same : c.decide.new.self ≡ c.args.self.chain = c.decide.ensures.same ∙ chain_is in
-    let decided = decided_on c.node.inside.kept c.args.self.chain c.args.item.now c.in-Ok.decision (Joins c.in-Joins.joining) chain_is c.in-Joins.is
-    c.in-Ok.ensures.decided (joined_of_image c.args.self.chain on.now on.stands) in
-    let before : record { chain = c.decide.new.self; place = c.node.inside.log.place } ≡ c.args.self =
-    ap (λ (k : Chain). record { chain = k; place = c.node.inside.log.place }) c.decide.ensures.same ∙ c.node.view_is in
+    let chain_is : c.node.inside.kept.chain ≡ c.args.self.chain = ap (λ (v : NodeValue). v.chain) c.node.view_is in
+    let same : c.decide.new.self.chain ≡ c.args.self.chain = ap (λ (k : KeptValue). k.chain) c.decide.ensures.same ∙ chain_is in
+    let decided = decided_on c.node.inside.kept (kept_in c.args.self) c.args.item.now c.in-Ok.decision (Joins c.in-Joins.joining) (ap kept_in c.node.view_is) c.in-Joins.is
+    c.in-Ok.ensures.decided (joined_on c.args.self _ _ on) in
+    let before : node_of c.decide.new.self c.node.inside.log.place ≡ c.args.self =
+    ap (λ (k : KeptValue). node_of k c.node.inside.log.place) c.decide.ensures.same ∙ c.node.view_is in
     subst (λ (k : Chain). LeavesOnly g.D.Disk.moment g.D.Disk.left_since c.args.disk.now c.join.new.disk
     (λ image. StandsFor k image ⊎ StandsFor (chain_after k c.args.item.now) image)) same
     (c.join.ensures.moments (subst (λ (k : Chain). IsDecided k c.args.item.now (Joins c.in-Joins.joining)) (sym same) decided)
@@ -91,7 +91,7 @@ returns-in-Ok-join-clause-cause g c = counts_none _ _ (c.in-Ok-join.ensures.caus
 
 pub returns-in-Ok-join-clause-steps : goal.returns-in-Ok-join-clause-steps
 returns-in-Ok-join-clause-steps g c b is on_tip =
-    let chain_is : c.node.inside.kept ≡ c.args.self.chain = ap (λ (v : NodeValue). v.chain) c.node.view_is in
+    let chain_is : c.node.inside.kept.chain ≡ c.args.self.chain = ap (λ (v : NodeValue). v.chain) c.node.view_is in
     omega (arith, c.join.ensures.most, c.decide.ensures.steps b is (subst (λ (k : Chain). place_of k.blocks b.header.parent_hash ≡ tip_place k.blocks) (sym chain_is) on_tip))
 
 pub returns-in-Err-clause-verdict : goal.returns-in-Err-clause-verdict
@@ -138,8 +138,8 @@ returns-in-Err-clause-untouched g c = λ _. refl
 
 pub returns-in-Err-clause-undamaged : goal.returns-in-Err-clause-undamaged
 returns-in-Err-clause-undamaged g c = λ joined damage e.
-    let chain_is : c.node.inside.kept ≡ c.args.self.chain = ap (λ (v : NodeValue). v.chain) c.node.view_is in
-    c.in-Err.ensures.undamaged (subst IsJoined (sym chain_is) joined) damage (ap Err (same_stop _ _ e))
+    c.in-Err.ensures.undamaged (subst (λ (k : KeptValue). AreJoined k.chain k.exts) (sym (ap kept_in c.node.view_is)) joined) damage
+    (ap Err (same_stop _ _ e))
 
 pub returns-in-Err-clause-damage : goal.returns-in-Err-clause-damage
 returns-in-Err-clause-damage g c = λ damage e. c.in-Err.ensures.damage damage (ap Err (same_stop _ _ e))
@@ -149,13 +149,13 @@ returns-in-Err-clause-cause g c = counts_none _ _ refl (λ e. c.in-Err.ensures.r
 
 pub returns-in-Err-clause-steps : goal.returns-in-Err-clause-steps
 returns-in-Err-clause-steps g c = λ b is on_tip.
-    let chain_is : c.node.inside.kept ≡ c.args.self.chain = ap (λ (v : NodeValue). v.chain) c.node.view_is in
+    let chain_is : c.node.inside.kept.chain ≡ c.args.self.chain = ap (λ (v : NodeValue). v.chain) c.node.view_is in
     omega (arith, c.decide.ensures.steps b is (subst (λ (k : Chain). place_of k.blocks b.header.parent_hash ≡ tip_place k.blocks) (sym chain_is) on_tip))
 
 pub returns-in-Stays-clause-verdict : goal.returns-in-Stays-clause-verdict
 returns-in-Stays-clause-verdict g c = λ joined.
-    let chain_is : c.node.inside.kept ≡ c.args.self.chain = ap (λ (v : NodeValue). v.chain) c.node.view_is in
-    decided_on c.node.inside.kept c.args.self.chain c.args.item.now c.in-Ok.decision (Stays c.in-Stays.verdict) chain_is c.in-Stays.is
+    let chain_is : c.node.inside.kept.chain ≡ c.args.self.chain = ap (λ (v : NodeValue). v.chain) c.node.view_is in
+    decided_on c.node.inside.kept (kept_in c.args.self) c.args.item.now c.in-Ok.decision (Stays c.in-Stays.verdict) (ap kept_in c.node.view_is) c.in-Stays.is
     c.in-Ok.ensures.decided joined
 
 pub returns-in-Stays-clause-there : goal.returns-in-Stays-clause-there
@@ -165,8 +165,8 @@ returns-in-Stays-clause-there g c =
 
 pub returns-in-Stays-clause-on : goal.returns-in-Stays-clause-on
 returns-in-Stays-clause-on g c = λ on.
-    let before : record { chain = c.decide.new.self; place = c.node.inside.log.place } ≡ c.args.self =
-    ap (λ (k : Chain). record { chain = k; place = c.node.inside.log.place }) c.decide.ensures.same ∙ c.node.view_is in
+    let before : node_of c.decide.new.self c.node.inside.log.place ≡ c.args.self =
+    ap (λ (k : KeptValue). node_of k c.node.inside.log.place) c.decide.ensures.same ∙ c.node.view_is in
     subst (λ (v : NodeValue). IsOn v (g.D.Disk.reads_as c.args.disk.now) (g.D.Disk.images c.args.disk.now)) (sym before) on
 
 pub returns-in-Stays-clause-moments : goal.returns-in-Stays-clause-moments
@@ -186,17 +186,43 @@ returns-in-Stays-clause-cause g c = counts_none _ _ refl (λ e. ok_err _ _ e)
 
 pub returns-in-Stays-clause-steps : goal.returns-in-Stays-clause-steps
 returns-in-Stays-clause-steps g c = λ b is on_tip.
-    let chain_is : c.node.inside.kept ≡ c.args.self.chain = ap (λ (v : NodeValue). v.chain) c.node.view_is in
+    let chain_is : c.node.inside.kept.chain ≡ c.args.self.chain = ap (λ (v : NodeValue). v.chain) c.node.view_is in
     omega (arith, c.decide.ensures.steps b is (subst (λ (k : Chain). place_of k.blocks b.header.parent_hash ≡ tip_place k.blocks) (sym chain_is) on_tip))
 
 pub returns-in-Ok-join-clause-kept : goal.returns-in-Ok-join-clause-kept
 returns-in-Ok-join-clause-kept g c = λ joined.
-    let chain_is : c.node.inside.kept ≡ c.args.self.chain = ap (λ (v : NodeValue). v.chain) c.node.view_is in
-    let same : c.decide.new.self ≡ c.args.self.chain = c.decide.ensures.same ∙ chain_is in
-    let decided = decided_on c.node.inside.kept c.args.self.chain c.args.item.now c.in-Ok.decision (Joins c.in-Joins.joining) chain_is c.in-Joins.is
+    let chain_is : c.node.inside.kept.chain ≡ c.args.self.chain = ap (λ (v : NodeValue). v.chain) c.node.view_is in
+    let same : c.decide.new.self.chain ≡ c.args.self.chain = ap (λ (k : KeptValue). k.chain) c.decide.ensures.same ∙ chain_is in
+    let decided = decided_on c.node.inside.kept (kept_in c.args.self) c.args.item.now c.in-Ok.decision (Joins c.in-Joins.joining) (ap kept_in c.node.view_is) c.in-Joins.is
     c.in-Ok.ensures.decided joined in
     c.in-Ok-join.ensures.kept (subst (λ (k : Chain). IsDecided k c.args.item.now (Joins c.in-Joins.joining)) (sym same) decided)
     ∙ ap (λ (k : Chain). chain_after k c.args.item.now) same
+
+pub returns-in-Ok-join-clause-joined : goal.returns-in-Ok-join-clause-joined
+returns-in-Ok-join-clause-joined g c = λ joined.
+    let chain_is : c.node.inside.kept.chain ≡ c.args.self.chain = ap (λ (v : NodeValue). v.chain) c.node.view_is in
+    let same : c.decide.new.self.chain ≡ c.args.self.chain = ap (λ (k : KeptValue). k.chain) c.decide.ensures.same ∙ chain_is in
+    let decided = decided_on c.node.inside.kept (kept_in c.args.self) c.args.item.now c.in-Ok.decision (Joins c.in-Joins.joining) (ap kept_in c.node.view_is) c.in-Joins.is
+    c.in-Ok.ensures.decided joined in
+    let before : node_of c.decide.new.self c.node.inside.log.place ≡ c.args.self =
+    ap (λ (k : KeptValue). node_of k c.node.inside.log.place) c.decide.ensures.same ∙ c.node.view_is in
+    record {
+      joined = subst IsJoined (sym (returns-in-Ok-join-clause-kept g c joined)) (joined_after c.args.self.chain c.args.item.now joined.joined);
+      own = c.in-Ok-join.ensures.own (subst (λ (k : Chain). IsDecided k c.args.item.now (Joins c.in-Joins.joining)) (sym same) decided)
+          (subst (λ (v : NodeValue). HaveOwnExts v.chain v.exts) (sym before) joined.own);
+    }
+
+pub returns-in-Stays-clause-joined : goal.returns-in-Stays-clause-joined
+returns-in-Stays-clause-joined g c = λ joined.
+    let before : node_of c.decide.new.self c.node.inside.log.place ≡ c.args.self =
+    ap (λ (k : KeptValue). node_of k c.node.inside.log.place) c.decide.ensures.same ∙ c.node.view_is in
+    subst (λ (v : NodeValue). AreJoined v.chain v.exts) (sym before) joined
+
+pub returns-in-Err-clause-joined : goal.returns-in-Err-clause-joined
+returns-in-Err-clause-joined g c = λ _. tt
+
+pub returns-in-Err-join-clause-joined : goal.returns-in-Err-join-clause-joined
+returns-in-Err-join-clause-joined g c = λ _. tt
 
 pub returns-in-Ok-join-clause-there : goal.returns-in-Ok-join-clause-there
 returns-in-Ok-join-clause-there g c = c.in-Ok-join.ensures.there
@@ -218,12 +244,12 @@ returns-in-Err-join-clause-damage g c = λ damage e. c.in-Err-join.ensures.damag
 
 pub returns-in-Err-join-clause-steps : goal.returns-in-Err-join-clause-steps
 returns-in-Err-join-clause-steps g c = λ b is on_tip.
-    let chain_is : c.node.inside.kept ≡ c.args.self.chain = ap (λ (v : NodeValue). v.chain) c.node.view_is in
+    let chain_is : c.node.inside.kept.chain ≡ c.args.self.chain = ap (λ (v : NodeValue). v.chain) c.node.view_is in
     omega (arith, c.join.ensures.most, c.decide.ensures.steps b is (subst (λ (k : Chain). place_of k.blocks b.header.parent_hash ≡ tip_place k.blocks) (sym chain_is) on_tip))
 
 pub invariant_of-node : goal.invariant_of-node
 invariant_of-node g c =
-    subst (λ (k : Chain). (length k.blocks ≤ kept_limit) × IsWithin (length k.blocks) c.node.inside.log.place) (sym c.decide.ensures.same) c.node.invariant
+    subst (λ (k : KeptValue). (length k.chain.blocks ≤ kept_limit) × IsWithin (length k.chain.blocks) c.node.inside.log.place) (sym c.decide.ensures.same) c.node.invariant
 
 pub join-requires-clause-there : goal.join-requires-clause-there
 join-requires-clause-there g c =
@@ -232,37 +258,38 @@ join-requires-clause-there g c =
 
 pub join-requires-clause-ready : goal.join-requires-clause-ready
 join-requires-clause-ready g c =
-    ready_on c.node.inside.kept c.decide.new.self c.args.item.now c.in-Ok.decision (Joins c.in-Joins.joining) (sym c.decide.ensures.same) c.in-Joins.is
+    ready_on c.node.inside.kept.chain c.decide.new.self.chain c.args.item.now c.in-Ok.decision (Joins c.in-Joins.joining)
+    (ap (λ (k : KeptValue). k.chain) (sym c.decide.ensures.same)) c.in-Joins.is
     c.in-Ok.ensures.ready
 
 pub returns-in-Err-clause-most : goal.returns-in-Err-clause-most
 returns-in-Err-clause-most g c =
-    let chain_is : c.node.inside.kept ≡ c.args.self.chain = ap (λ (v : NodeValue). v.chain) c.node.view_is in
-    let most = replays-of-chain c.node.inside.kept c.args.self.chain c.args.item.now _ _ chain_is c.decide.ensures.most in
+    let chain_is : c.node.inside.kept.chain ≡ c.args.self.chain = ap (λ (v : NodeValue). v.chain) c.node.view_is in
+    let most = replays-of-chain c.node.inside.kept.chain c.args.self.chain c.args.item.now _ _ chain_is c.decide.ensures.most in
     omega (arith, most)
 
 pub returns-in-Stays-clause-most : goal.returns-in-Stays-clause-most
 returns-in-Stays-clause-most g c =
-    let chain_is : c.node.inside.kept ≡ c.args.self.chain = ap (λ (v : NodeValue). v.chain) c.node.view_is in
-    let most = replays-of-chain c.node.inside.kept c.args.self.chain c.args.item.now _ _ chain_is c.decide.ensures.most in
+    let chain_is : c.node.inside.kept.chain ≡ c.args.self.chain = ap (λ (v : NodeValue). v.chain) c.node.view_is in
+    let most = replays-of-chain c.node.inside.kept.chain c.args.self.chain c.args.item.now _ _ chain_is c.decide.ensures.most in
     omega (arith, most)
 
 pub returns-in-Err-join-clause-most : goal.returns-in-Err-join-clause-most
 returns-in-Err-join-clause-most g c =
-    let chain_is : c.node.inside.kept ≡ c.args.self.chain = ap (λ (v : NodeValue). v.chain) c.node.view_is in
-    let most = replays-of-chain c.node.inside.kept c.args.self.chain c.args.item.now _ _ chain_is c.decide.ensures.most in
+    let chain_is : c.node.inside.kept.chain ≡ c.args.self.chain = ap (λ (v : NodeValue). v.chain) c.node.view_is in
+    let most = replays-of-chain c.node.inside.kept.chain c.args.self.chain c.args.item.now _ _ chain_is c.decide.ensures.most in
     omega (arith, most, c.join.ensures.most)
 
 pub returns-in-Ok-join-clause-most : goal.returns-in-Ok-join-clause-most
 returns-in-Ok-join-clause-most g c =
-    let chain_is : c.node.inside.kept ≡ c.args.self.chain = ap (λ (v : NodeValue). v.chain) c.node.view_is in
-    let most = replays-of-chain c.node.inside.kept c.args.self.chain c.args.item.now _ _ chain_is c.decide.ensures.most in
+    let chain_is : c.node.inside.kept.chain ≡ c.args.self.chain = ap (λ (v : NodeValue). v.chain) c.node.view_is in
+    let most = replays-of-chain c.node.inside.kept.chain c.args.self.chain c.args.item.now _ _ chain_is c.decide.ensures.most in
     omega (arith, most, c.join.ensures.most)
 
 pub returns-in-Stays-clause-stays : goal.returns-in-Stays-clause-stays
 returns-in-Stays-clause-stays g c = λ _.
-    let chain_is : c.node.inside.kept ≡ c.args.self.chain = ap (λ (v : NodeValue). v.chain) c.node.view_is in
-    let most = replays-of-chain c.node.inside.kept c.args.self.chain c.args.item.now _ _ chain_is c.decide.ensures.most in
+    let chain_is : c.node.inside.kept.chain ≡ c.args.self.chain = ap (λ (v : NodeValue). v.chain) c.node.view_is in
+    let most = replays-of-chain c.node.inside.kept.chain c.args.self.chain c.args.item.now _ _ chain_is c.decide.ensures.most in
     most
 
 pub returns-in-Err-clause-stays : goal.returns-in-Err-clause-stays

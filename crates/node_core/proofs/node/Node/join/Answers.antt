@@ -5,13 +5,13 @@ use Rattle.cell_defs.specs.Ext.{ext_bytes}
 use Rattle.verdict_defs.specs.Chain.{Chain, chain_after}
 use Rattle.verdict_defs.specs.Laws.{MayJoin}
 use Rattle.store_defs.specs.JoinLaws.{record_over}
-use Rattle.store_defs.specs.Store.{IsJoined}
+use Rattle.store_defs.specs.Store.{IsJoined, HaveOwnExts}
 use Rattle.log_file.specs.Pieces.{behind_gate, block_record}
 use Rattle.node_core.specs.Node.{NodeValue, IsOn}
 use Rattle.node_core.specs.Judging.{IsReadyItem}
 use Rattle.node_core.specs.declared.deciding.Decision.TheVariants.{Joins}
 use Rattle.node_core.proofs.WritingLemmas.{piece_long}
-use Rattle.node_core.proofs.ImportLemmas.{can_join, record_is, form_is, is_ext_for, place_limit, is_after, few_after, within_after}
+use Rattle.node_core.proofs.ImportLemmas.{can_join, record_is, form_is, is_ext_for, place_limit, is_after, own_after, few_after, within_after}
 use Rattle.node_core.proofs.DiskLemmas.{counts_none, settled_on, stands_either, is_on_after, before_calls}
 use Rattle.log_file.proofs.Exits.{fault_counts}
 use Rattle.node_core.proofs.OpenLemmas.{ok_err, same_stop, memory_no_damage, memory_no_fault, fault_no_damage}
@@ -19,7 +19,7 @@ use Rattle.node_core.proofs.node.Node.join.Goals as goal
 
 pub rec_behind-rec-requires-clause-limit : goal.rec_behind-rec-requires-clause-limit
 rec_behind-rec-requires-clause-limit g c =
-    place_limit (length c.self.inside.kept.blocks) c.self.inside.log.place c.self.invariant.0 c.self.invariant.1
+    place_limit (length c.self.inside.kept.chain.blocks) c.self.inside.log.place c.self.invariant.0 c.self.invariant.1
 
 pub rec_behind-rec-requires-clause-filled : goal.rec_behind-rec-requires-clause-filled
 rec_behind-rec-requires-clause-filled g c =
@@ -35,7 +35,7 @@ join-requires-clause-ext g c =
 
 pub append-requires-clause-limit : goal.append-requires-clause-limit
 append-requires-clause-limit g c =
-    place_limit (length c.self.inside.kept.blocks) c.self.inside.log.place c.self.invariant.0 c.self.invariant.1
+    place_limit (length c.self.inside.kept.chain.blocks) c.self.inside.log.place c.self.invariant.0 c.self.invariant.1
 
 pub append-requires-clause-there : goal.append-requires-clause-there
 append-requires-clause-there g c =
@@ -48,15 +48,15 @@ append-requires-clause-filled g c =
 
 pub invariant_of-result : goal.invariant_of-result
 invariant_of-result g c =
-    let seen : c.self.inside.kept ≡ c.args.self.chain = ap (λ (v : NodeValue). v.chain) c.self.view_is in (
-      few_after c.self.inside.kept c.args.self.chain c.in-Ok-join.kept c.args.item.now c.args.joining seen c.in-Ok-join.ensures.kept c.requires.ready,
-      within_after c.self.inside.kept c.args.self.chain c.in-Ok-join.kept c.args.item.now c.args.joining seen c.in-Ok-join.ensures.kept c.requires.ready
+    let seen : c.self.inside.kept.chain ≡ c.args.self.chain = ap (λ (v : NodeValue). v.chain) c.self.view_is in (
+      few_after c.self.inside.kept c.in-Ok-join.kept c.args.self.chain c.args.item.now c.in-Ok.ext.items c.args.joining seen c.in-Ok-join.ensures.kept c.requires.ready,
+      within_after c.self.inside.kept c.in-Ok-join.kept c.args.self.chain c.args.item.now c.in-Ok.ext.items c.args.joining seen c.in-Ok-join.ensures.kept c.requires.ready
           c.self.inside.log.place c.in-Ok-append.log.place (length c.fill.new.body) c.self.invariant.1 c.in-Ok-append.ensures.place c.in-Ok.ensures.short,
     )
 
 pub returns-in-Err-join-clause-undamaged : goal.returns-in-Err-join-clause-undamaged
 returns-in-Err-join-clause-undamaged g c decided joined damage same =
-    let seen : c.self.inside.kept ≡ c.args.self.chain = ap (λ (v : NodeValue). v.chain) c.self.view_is in
+    let seen : c.self.inside.kept.chain ≡ c.args.self.chain = ap (λ (v : NodeValue). v.chain) c.self.view_is in
     c.join.ensures.undamaged decided.0 decided.1 (subst IsJoined (sym seen) joined)
     (subst (λ (k : Chain). MayJoin k.spec k.blocks decided.0) (sym seen) decided.2.may) damage (c.in-Err-join.is ∙ ap Err (same_stop _ _ same))
 
@@ -76,8 +76,23 @@ returns-in-Err-append-clause-moments g c = λ decided on.
 
 pub returns-in-Ok-append-clause-kept : goal.returns-in-Ok-append-clause-kept
 returns-in-Ok-append-clause-kept g c =
-    is_after c.self.inside.kept c.args.self.chain c.in-Ok-join.kept c.args.item.now c.args.joining
+    is_after c.self.inside.kept c.in-Ok-join.kept c.args.self.chain c.args.item.now c.in-Ok.ext.items c.args.joining
     (ap (λ (v : NodeValue). v.chain) c.self.view_is) c.in-Ok-join.ensures.kept
+
+pub returns-in-Ok-append-clause-own : goal.returns-in-Ok-append-clause-own
+returns-in-Ok-append-clause-own g c = λ decided have.
+    own_after c.self.inside.kept c.in-Ok-join.kept c.args.self.chain c.args.item.now c.in-Ok.ext.items c.args.joining
+    (ap (λ (v : NodeValue). v.chain) c.self.view_is) c.in-Ok-join.ensures.kept decided c.in-Ok.ensures.bytes c.args.self.exts
+    (ap (λ (v : NodeValue). v.exts) c.self.view_is) have
+
+pub returns-in-Err-clause-own : goal.returns-in-Err-clause-own
+returns-in-Err-clause-own g c = λ _ _. tt
+
+pub returns-in-Err-join-clause-own : goal.returns-in-Err-join-clause-own
+returns-in-Err-join-clause-own g c = λ _ _. tt
+
+pub returns-in-Err-append-clause-own : goal.returns-in-Err-append-clause-own
+returns-in-Err-append-clause-own g c = λ _ _. tt
 
 pub returns-in-Ok-append-clause-on : goal.returns-in-Ok-append-clause-on
 returns-in-Ok-append-clause-on g c = λ decided on.
@@ -87,13 +102,17 @@ returns-in-Ok-append-clause-on g c = λ decided on.
     let filled : c.fill.new.body ≡ behind_gate (record_over c.args.self.chain c.args.item.now) =
     c.in-Ok.ensures.filled ∙ ap behind_gate (record_is c.args.self.chain c.args.item.now c.args.joining decided) in
     let settled = settled_on c.args.self _ _ on c.self.inside.log.place at in
-    let kept : c.in-Ok-join.kept ≡ chain_after c.args.self.chain c.args.item.now =
-    is_after c.self.inside.kept c.args.self.chain c.in-Ok-join.kept c.args.item.now c.args.joining
+    let kept : c.in-Ok-join.kept.chain ≡ chain_after c.args.self.chain c.args.item.now =
+    is_after c.self.inside.kept c.in-Ok-join.kept c.args.self.chain c.args.item.now c.in-Ok.ext.items c.args.joining
     (ap (λ (v : NodeValue). v.chain) c.self.view_is) c.in-Ok-join.ensures.kept decided in
-    subst (λ (chain : Chain). IsOn (record { chain = chain; place = c.in-Ok-append.log.place }) (g.D.Disk.reads_as c.append.new.disk) (g.D.Disk.images c.append.new.disk)) (sym kept)
+    let own : HaveOwnExts c.in-Ok-join.kept.chain c.in-Ok-join.kept.exts =
+    own_after c.self.inside.kept c.in-Ok-join.kept c.args.self.chain c.args.item.now c.in-Ok.ext.items c.args.joining
+    (ap (λ (v : NodeValue). v.chain) c.self.view_is) c.in-Ok-join.ensures.kept decided c.in-Ok.ensures.bytes c.args.self.exts
+    (ap (λ (v : NodeValue). v.exts) c.self.view_is) on.own in
+    subst (λ (chain : Chain). IsOn (record { chain = chain; exts = c.in-Ok-join.kept.exts; place = c.in-Ok-append.log.place }) (g.D.Disk.reads_as c.append.new.disk) (g.D.Disk.images c.append.new.disk)) (sym kept)
     (is_on_after c.args.self _ _ on c.self.inside.log.place at c.args.item.now can c.requires.size form c.in-Ok-append.log.place _ _
     (c.in-Ok-append.ensures.settled on.records (record_over c.args.self.chain c.args.item.now) filled settled)
-    c.append.ensures.others
+    c.append.ensures.others c.in-Ok-join.kept.exts (subst (λ (chain : Chain). HaveOwnExts chain c.in-Ok-join.kept.exts) kept own)
     (now_too g.D.Disk.moment g.D.Disk.left_since g.D.Disk.images g.met.D.Disk.counts_now _ _ _
     (c.append.ensures.moments on.records (record_over c.args.self.chain c.args.item.now) filled settled)))
 

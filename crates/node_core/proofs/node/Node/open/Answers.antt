@@ -3,7 +3,7 @@ use Rattle.outside.proofs.Moments.{leaves_also, leaves_then, now_too}
 use Rattle.cell_model.specs.ListBlocks.{contents}
 use Rattle.log_file.specs.declared.stop.LogStop.TheVariants.{NotAStore}
 use Rattle.node_core.proofs.OpeningLemmas.{as-many-contents}
-use Rattle.node_core.proofs.OpenLemmas.{opened_keeps, is_within, no_log_in, none_opened, not_sound, not_joined, only_read-then, stands_while_opened, opened_on, ok_err, was_ok, counts_none, at_some, if_some_also, one_after, same_stop}
+use Rattle.node_core.proofs.OpenLemmas.{opened_keeps, opened_own, is_within, no_log_in, none_opened, not_sound, not_joined, only_read-then, stands_while_opened, opened_on, ok_err, was_ok, counts_none, at_some, if_some_also, one_after, same_stop}
 use Rattle.node_core.proofs.NewLemmas.{when_ok}
 use Rattle.node_core.proofs.ReplayLemmas.{none-replayed, replayed-to-open}
 use Rattle.log_file.proofs.Exits.{fault_not_wrong, stop_counts, counts_on}
@@ -29,8 +29,8 @@ returns-in-Err-clause-moments g c now chain told keeps sound =
 pub invariant_of-result : goal.invariant_of-result
 invariant_of-result g c =
     let many = as-many-contents c.in-Ok.opened.blocks.items in
-    is_within c.in-Ok-of.kept c.in-Ok.opened.spec (contents c.in-Ok.opened.blocks.items) c.in-Ok.opened.log.place
-    (record { spec_is = c.in-Ok-of.ensures.spec; decode = c.in-Ok-of.ensures.blocks })
+    is_within c.in-Ok-of.kept c.in-Ok.opened.spec (contents c.in-Ok.opened.blocks.items) (contents c.in-Ok.opened.exts.items) c.in-Ok.opened.log.place
+    (record { spec_is = c.in-Ok-of.ensures.spec; decode = c.in-Ok-of.ensures.blocks; beside = c.in-Ok-of.ensures.exts })
     (omega (arith, many, c.in-Ok.ensures.few)) (omega (arith, many, c.in-Ok.ensures.place))
 
 pub returns-in-Err-of-clause-not_a_store : goal.returns-in-Err-of-clause-not_a_store
@@ -55,7 +55,14 @@ returns-in-Err-of-clause-moments g c now chain told keeps sound =
 pub returns-in-Ok-of-clause-kept : goal.returns-in-Ok-of-clause-kept
 returns-in-Ok-of-clause-kept g c =
     opened_keeps _ _ c.in-Ok-of.kept c.in-Ok.opened.spec (contents c.in-Ok.opened.blocks.items) (contents c.in-Ok.opened.exts.items) c.in-Ok.opened.tree.entries
-    (record { spec_is = c.in-Ok-of.ensures.spec; decode = c.in-Ok-of.ensures.blocks }) c.sync_snapshots.ensures.same c.in-Ok.ensures.opened
+    (record { spec_is = c.in-Ok-of.ensures.spec; decode = c.in-Ok-of.ensures.blocks; beside = c.in-Ok-of.ensures.exts })
+    c.sync_snapshots.ensures.same c.in-Ok.ensures.opened
+
+pub returns-in-Ok-of-clause-own : goal.returns-in-Ok-of-clause-own
+returns-in-Ok-of-clause-own g c now told sound =
+    opened_own _ _ c.in-Ok-of.kept c.in-Ok.opened.spec (contents c.in-Ok.opened.blocks.items) (contents c.in-Ok.opened.exts.items) c.in-Ok.opened.tree.entries
+    (record { spec_is = c.in-Ok-of.ensures.spec; decode = c.in-Ok-of.ensures.blocks; beside = c.in-Ok-of.ensures.exts })
+    c.sync_snapshots.ensures.same c.in-Ok.ensures.opened now told sound
 
 pub returns-in-Ok-of-clause-no_log : goal.returns-in-Ok-of-clause-no_log
 returns-in-Ok-of-clause-no_log g c now told nothing =
@@ -74,7 +81,7 @@ pub returns-in-Ok-of-clause-on : goal.returns-in-Ok-of-clause-on
 returns-in-Ok-of-clause-on g c sound =
     opened_on _ _ c.sync_snapshots.ensures.images sound _ _ c.in-Ok.opened.log.place c.in-Ok-of.kept c.in-Ok.opened.spec
     (contents c.in-Ok.opened.blocks.items) (contents c.in-Ok.opened.exts.items) c.in-Ok.opened.tree.entries
-    (record { spec_is = c.in-Ok-of.ensures.spec; decode = c.in-Ok-of.ensures.blocks })
+    (record { spec_is = c.in-Ok-of.ensures.spec; decode = c.in-Ok-of.ensures.blocks; beside = c.in-Ok-of.ensures.exts })
     (g.met.D.Disk.reads_image c.open.new.disk) _ _ (g.met.D.Disk.reads_image c.args.disk.now) c.sync_snapshots.ensures.same c.in-Ok.ensures.opened c.in-Ok.ensures.settled
     (if_some_also _ _ _ c.open.ensures.moments (λ now left. now_too g.D.Disk.moment g.D.Disk.left_since g.D.Disk.images g.met.D.Disk.counts_now _ _ _ left))
 
@@ -110,6 +117,15 @@ returns-in-Err-of-clause-there g c = tt
 
 pub returns-in-Err-of-clause-one_image : goal.returns-in-Err-of-clause-one_image
 returns-in-Err-of-clause-one_image g c = tt
+
+pub returns-in-Err-clause-own : goal.returns-in-Err-clause-own
+returns-in-Err-clause-own g c = λ _ _ _. tt
+
+pub returns-in-Err-of-clause-own : goal.returns-in-Err-of-clause-own
+returns-in-Err-of-clause-own g c = λ _ _ _. tt
+
+pub returns-then-is_err-clause-own : goal.returns-then-is_err-clause-own
+returns-then-is_err-clause-own g c = λ _ _ _. tt
 
 pub returns-in-Err-of-clause-on : goal.returns-in-Err-of-clause-on
 returns-in-Err-of-clause-on g c = λ _. tt
