@@ -8,17 +8,17 @@ the texts and statuses in docs/COMMANDS.md. It uses nothing of the other scripts
 prints each row whose text, status or LOG differs, and how many agree; its status is 1
 where one differs.
 
-It judges a block by J1 to J14, J16, J17, and of J32 that C and AR are above 0. That
-is all there is to ask of a block of a cellbase alone. Two kinds of runs it cannot
-judge, and counts.
+It judges a block by J1 to J14, J16, J17, J31 and J32. That is all there is to ask of
+a block of a cellbase alone, where no fee is committed that its cellbase may pay. Two
+kinds of runs it cannot judge, and counts.
 
 Left out is a run whose disk or streams fail, and behind one of `init` or `import`
 each later run over the same folder, until a LOG is put there: what is kept is not
 known.
 
 Judged in part is a run that reads a block of another form: one that keeps J1 to J14
-and has an uncle, or that keeps J1 to J17 and has more transactions than its cellbase.
-The line of such a block is taken at its word, where it is `joined` with the block's
+and has an uncle, one that keeps J1 to J17 and has more transactions than its cellbase,
+or one that keeps J1 to J17 after such a block on its branch. The line of such a block is taken at its word, where it is `joined` with the block's
 number and hash, or names a rule that was not looked at. All other lines must agree.
 What joins so is kept; but LOG is not compared from there on, since its ext is not
 worked out.
@@ -99,7 +99,7 @@ class Script:
         code_hash, hash_type, args = table(content, 3)
         of_size(code_hash, 32)
         of_size(hash_type, 1)
-        self.args = as_bytes(args)
+        self.args, self.content = as_bytes(args), content
 
 
 class Output:
@@ -142,7 +142,8 @@ class Header:
         self.timestamp, self.number, self.epoch = (number(content[at:at + 8]) for at in (8, 16, 24))
         (self.parent_hash, self.transactions_root, self.proposals_hash,
          self.uncles_hash) = (content[at:at + 32] for at in (32, 64, 96, 128))
-        self.issued, self.rate = number(content[160:168]), number(content[168:176])
+        self.issued, self.rate, self.savings, self.occupied = self.dao = [
+            number(content[at:at + 8]) for at in range(160, 192, 8)]
         self.hash = ckbhash(content)
 
 
@@ -168,14 +169,14 @@ def block_of(content):
         return None
 
 
-def is_cellbase_witness(content):
+def lock_named(witness):
+    """The lock of a `CellbaseWitness`, or None."""
     try:
-        lock, message = table(content, 2)
-        Script(lock)
+        lock, message = table(witness, 2)
         as_bytes(message)
+        return Script(lock)
     except NoEncoding:
-        return False
-    return True
+        return None
 
 
 # --------------------------------------------------- hashes (docs/RULES.md)
@@ -209,7 +210,8 @@ class Spec:
         (self.compact_target, self.epoch_length, self.w_close, self.w_far, self.max_block_bytes,
          self.max_proposals) = (number(content[at:at + 4]) for at in range(4, 28, 4))
         self.max_cycles, self.maturity = number(content[28:36]), number(content[36:44])
-        self.halving_interval = number(content[60:68])
+        self.primary_reward, self.secondary_reward, self.halving_interval = (
+            number(content[at:at + 8]) for at in (44, 52, 60))
 
     def is_good(self):
         """S1 to S7."""
@@ -225,6 +227,12 @@ class Spec:
     def epoch_field(self, height):
         length = self.epoch_length
         return height // length + (height % length << 24) + (length << 40)
+
+    def shares(self, height):
+        """Those of a block in the primary and in the secondary reward of its epoch."""
+        epoch, index = divmod(height, self.epoch_length)
+        for reward in (self.primary_reward >> epoch // self.halving_interval, self.secondary_reward):
+            yield reward // self.epoch_length + (index < reward % self.epoch_length)
 
 
 def is_good_genesis(block):
@@ -293,7 +301,7 @@ class Store:
         return 'joined %d 0x%s' % (header.number, header.hash.hex())
 
 
-# ------------------------------------------------------ J4 to J14, J16, J17
+# -------------------------------------------- J4 to J14, J16, J17, J31, J32
 
 def first_of(rules):
     return next((rule for rule, holds in rules.items() if not holds), None)
@@ -350,7 +358,7 @@ def has_form_of_cellbase(cellbase, height, branch):
             and len(cellbase.outputs) <= 1 and len(cellbase.data) == len(cellbase.outputs)
             and not any(it.type_script for it in cellbase.outputs) and not any(cellbase.data)
             and not live_cells(branch) & set(cellbase.out_points())
-            and bool(cellbase.witnesses) and is_cellbase_witness(cellbase.witnesses[0]))
+            and bool(cellbase.witnesses) and bool(lock_named(cellbase.witnesses[0])))
 
 
 def first_broken(spec, branch, block):
@@ -367,7 +375,35 @@ def first_broken(spec, branch, block):
         return 17
     if len(transactions) > 1:
         raise Unjudged(range(18, 33))
-    return None if header.issued > 0 and header.rate > 0 else 32
+    if any(len(it.transactions) > 1 for it in branch[1:]):
+        raise Unjudged((31, 32))
+    if not pays_reward(spec, branch, transactions[0]):
+        return 31
+    return None if header.dao == next_dao(spec, branch, transactions[0]) else 32
+
+
+def pays_reward(spec, branch, cellbase):
+    """J31, where no block of the branch has committed a fee."""
+    paid, reward, lock = len(branch) - (spec.w_far + 1), 0, None
+    if paid > 0:
+        primary, secondary = spec.shares(paid)
+        before = branch[paid - 1].header
+        reward = primary + secondary * before.occupied // before.issued
+        lock = lock_named(branch[paid].transactions[0].witnesses[0])
+    if reward >= 1 << 64:
+        return False
+    if lock is None or reward < (8 + 33 + len(lock.args)) * SHANNONS:
+        return not cellbase.outputs
+    return [(it.capacity, it.lock.content, it.type_script) for it in cellbase.outputs] == [(reward, lock.content, None)]
+
+
+def next_dao(spec, branch, cellbase):
+    """The field after a block that spends nothing, or None."""
+    primary, secondary = spec.shares(len(branch))
+    c, ar, s, u = branch[-1].header.dao
+    made = sum(output.occupied(data) for output, data in zip(cellbase.outputs, cellbase.data))
+    field = [c + primary + secondary, ar + ar * secondary // c, s + secondary - secondary * u // c, u + made]
+    return field if all(0 <= it < 1 << 64 for it in field) else None
 
 
 # ------------------------------------------------------- LOG (docs/STORE.md)

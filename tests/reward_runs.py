@@ -1,0 +1,474 @@
+#!/usr/bin/env python3
+"""Rows of crates/run_vectors/stdin over chains whose cellbases pay rewards: J31 and J32 as imports.
+
+    python3 tests/reward_runs.py
+
+Each chain is a store of its own, and its items are one input of `import`. A block
+that joins pays what is worked out here, in plain Python, by docs/RULES.md, "The
+reward" and "Capacity and the DAO field"; one that is refused differs from it in what
+its line says. Nothing is taken from the program.
+"""
+
+import dataclasses
+import os
+import sys
+
+HERE = os.path.dirname(os.path.abspath(__file__))
+sys.path.insert(0, os.path.join(os.path.dirname(HERE), 'examples'))
+sys.dont_write_bytecode = True
+
+import make_contract_chain as contract  # noqa: E402 (beside the path above)
+import make_store as store  # noqa: E402
+from make_contract_chain import ANYONE, First, Transaction, hash_of_all  # noqa: E402
+from make_first_blocks import genesis_line, joined  # noqa: E402
+from make_store import COIN, LOCK, NULL_OUT_POINT, SHANNONS, Spec, as_bytes, ckbhash, fixvec, root, table, uint  # noqa: E402
+from script_scene import Cell, Script  # noqa: E402
+
+# what a cellbase's output with the lock of all occupies
+LEAST = 41 * SHANNONS
+# 20 bytes of args: its outputs occupy 61 CKB
+LONG_LOCK = table([ckbhash(store.PROGRAM), b'\0', as_bytes(bytes(20))])
+
+
+def occupied_with(lock):
+    """What a cellbase's output with this lock occupies."""
+    args = lock[int.from_bytes(lock[12:16], 'little') + 4:]
+    return LEAST + len(args) * SHANNONS
+
+
+@dataclasses.dataclass(frozen=True)
+class Block:
+    """A block with its parent, what it commits and proposes, its uncles, the lock that it names and what its cellbase pays."""
+
+    spec: Spec
+    parent: object
+    commits: tuple
+    proposes: tuple
+    uncles: tuple
+    lock: bytes
+    # pairs of a capacity and a lock
+    pays: tuple
+    dao: tuple
+    nonce: int
+
+    @property
+    def number(self):
+        return self.parent.number + 1
+
+    @property
+    def timestamp(self):
+        return self.parent.timestamp + 1000
+
+    def cellbase(self):
+        outputs = [table([uint(capacity, 8), lock, b'']) for capacity, lock in self.pays]
+        raw = table([uint(0, 4), fixvec([]), fixvec([]), fixvec([uint(self.number, 8) + NULL_OUT_POINT]),
+                     table(outputs), table([as_bytes(b'')] * len(outputs))])
+        return raw, table([raw, table([as_bytes(table([self.lock, as_bytes(b'')]))])])
+
+    def header(self):
+        raw, whole = self.cellbase()
+        roots = [root([ckbhash(raw)] + [it.hash for it in self.commits]),
+                 root(list(map(ckbhash, [whole] + [it.item for it in self.commits])))]
+        return (uint(0, 4) + uint(self.spec.compact_target, 4) + uint(self.timestamp, 8) + uint(self.number, 8)
+                + uint(self.spec.epoch_field(self.number), 8) + self.parent.hash() + root(roots)
+                + hash_of_all([it.proposal_id for it in self.proposes])
+                + hash_of_all([it.hash() for it in self.uncles]) + b''.join(uint(it, 8) for it in self.dao)
+                + uint(self.nonce, 16))
+
+    def ids(self):
+        return fixvec([it.proposal_id for it in self.proposes])
+
+    def item(self):
+        uncles = [table([it.header(), it.ids()]) for it in self.uncles]
+        return table([self.header(), table(uncles), table([self.cellbase()[1]] + [it.item for it in self.commits]), self.ids()])
+
+    def hash(self):
+        return ckbhash(self.header())
+
+
+def ancestors(block):
+    """The blocks from the genesis to this one."""
+    found = []
+    while block:
+        found.append(block)
+        block = getattr(block, 'parent', None) if block.number else None
+    return found[::-1]
+
+
+def interest_of(transaction):
+    """What its withdrawing inputs count beyond their capacities."""
+    return getattr(transaction, 'interest', 0)
+
+
+def fee_of(transaction):
+    counted = sum(it.capacity for it in transaction.inputs) + interest_of(transaction)
+    return counted - sum(it.capacity for it in transaction.outputs)
+
+
+def earliest(spec, branch, transaction, committed):
+    """The lowest height of the window at which a block or one of its uncles proposes it."""
+    for height in range(max(1, committed - spec.w_far), committed - spec.w_close + 1):
+        block = branch[height]
+        if any(transaction in it.proposes for it in (block,) + block.uncles):
+            return height
+    return None
+
+
+def reward(spec, branch, target):
+    """The four parts of docs/RULES.md, "The reward"."""
+    c, _, _, u = branch[target - 1].dao
+    given = spec.primary(target) + spec.secondary(target) * u // c
+    given += sum(fee - 4 * fee // 10 for fee in map(fee_of, branch[target].commits))
+    for height in range(target + spec.w_close, target + spec.w_far + 1):
+        given += sum(4 * fee_of(it) // 10 for it in branch[height].commits
+                     if earliest(spec, branch, it, height) == target)
+    return given
+
+
+def owed(spec, branch):
+    """What the cellbase on this branch pays: pairs of a capacity and a lock, at most one."""
+    target = len(branch) - (spec.w_far + 1)
+    if target <= 0:
+        return ()
+    lock, given = branch[target].lock, reward(spec, branch, target)
+    return ((given, lock),) if given >= occupied_with(lock) else ()
+
+
+def next_dao(spec, parent, commits, pays):
+    number = parent.number + 1
+    c, ar, s, u = parent.dao
+    second = spec.secondary(number)
+    made = sum(occupied_with(lock) for _, lock in pays)
+    made += sum(cell.occupied() for it in commits for cell in it.outputs)
+    freed = sum(cell.occupied() for it in commits for cell in it.inputs)
+    interest = sum(map(interest_of, commits))
+    return (c + spec.primary(number) + second, ar + ar * second // c, s - interest + second - second * u // c, u + made - freed)
+
+
+class Chain:
+    """A store and the items that are handed in, each with its line."""
+
+    def __init__(self, dao=None, first=None, **fields):
+        self.spec = Spec(**fields)
+        genesis = store.genesis(self.spec, outputs=((store.occupied(contract.CONTRACT), contract.CONTRACT),))
+        if first:
+            genesis = dataclasses.replace(genesis, transactions=(first,))
+        self.genesis = dataclasses.replace(genesis, dao=dao) if dao else genesis
+        self.tip, self.items = self.genesis, []
+
+    def block(self, parent=None, commits=(), proposes=(), uncles=(), lock=LOCK, nonce=0, **changes):
+        """The next block on the tip, or on another, that keeps all rules but for what changes."""
+        parent = parent or self.tip
+        pays = changes.get('pays', owed(self.spec, ancestors(parent)))
+        dao = changes.get('dao', next_dao(self.spec, parent, commits, pays))
+        return Block(self.spec, parent, tuple(commits), tuple(proposes), tuple(uncles), lock, tuple(pays), tuple(dao), nonce)
+
+    def joins(self, **parts):
+        self.tip = self.block(**parts)
+        self.items.append((self.tip.item(), joined(self.tip)))
+
+    def refuses(self, rule, **parts):
+        self.items.append((self.block(**parts).item(), 'refused J%d' % rule))
+
+    def grows_to(self, number):
+        while self.tip.number < number:
+            self.joins()
+
+    def tries_payments(self):
+        """Where one output is owed: one shannon more and less, another lock, no output; then each number of the field one off."""
+        ((capacity, lock),) = self.block().pays
+        self.refuses(31, pays=[(capacity + 1, lock)])
+        self.refuses(31, pays=[(capacity - 1, lock)])
+        self.refuses(31, pays=[(capacity, LONG_LOCK if lock == LOCK else LOCK)])
+        self.refuses(31, pays=[])
+        self.tries_fields()
+        # both are broken: J31 comes first
+        self.refuses(31, pays=[], dao=(1, 1, 1, 1))
+
+    def tries_fields(self, **parts):
+        for part in range(4):
+            for off in (1, -1):
+                dao = list(self.block(**parts).dao)
+                if dao[part] + off >= 0:
+                    dao[part] += off
+                    self.refuses(32, dao=dao, **parts)
+        if self.block(**parts).dao != self.tip.dao:
+            self.refuses(32, dao=self.tip.dao, **parts)
+
+
+def spends_of(fees):
+    """Transactions that pay these fees, each of which spends what the one before it made."""
+    found, spent, left = [], (First, 1), COIN
+    for fee in fees:
+        left -= fee
+        found.append(Transaction([spent], [Cell(ANYONE, capacity=left)]))
+        spent = (found[-1], 0)
+    return found
+
+
+# ------------------------------------------------------------- withdrawals
+
+# the type script of the cell that has the DAO's code, and the one that names that code
+CODE_NAME = Script(store.ZERO_HASH, args=b'code')
+DAO = Script(CODE_NAME.hash(), hash_type=1)
+
+
+def dao_cell(capacity, content):
+    return Cell(ANYONE, type_script=DAO, content=content, capacity=capacity)
+
+
+class Deposits:
+    """The transaction of a genesis: a program, the same as the DAO's code, and two deposits."""
+
+    outputs = [Cell(ANYONE, content=store.PROGRAM, capacity=store.occupied(store.PROGRAM)),
+               Cell(ANYONE, type_script=CODE_NAME, content=store.PROGRAM, capacity=400 * SHANNONS),
+               dao_cell(18_200_000_000, bytes(8)), dao_cell(31_000_000_007, bytes(8))]
+
+    def raw(self):
+        return table([uint(0, 4), fixvec([]), fixvec([]), fixvec([uint(0, 8) + NULL_OUT_POINT]),
+                      table([it.item() for it in self.outputs]), table([as_bytes(it.content) for it in self.outputs])])
+
+    def item(self):
+        return table([self.raw(), table([])])
+
+    @property
+    def hash(self):
+        return ckbhash(self.raw())
+
+
+class Spending:
+    """Spends an output of an earlier transaction under the DAO's code, and makes a cell."""
+
+    def __init__(self, spent, made, headers=(), witnesses=(), interest=0):
+        source, place = spent
+        deps = [first_hash + uint(it, 4) + b'\0' for first_hash in (Deposits().hash,) for it in (0, 1)]
+        self.inputs, self.outputs, self.interest = [source.outputs[place]], [made], interest
+        raw = table([uint(0, 4), fixvec(deps), fixvec(headers), fixvec([uint(0, 8) + source.hash + uint(place, 4)]),
+                     table([made.item()]), table([as_bytes(made.content)])])
+        self.item = table([raw, table([as_bytes(it) for it in witnesses])])
+        self.hash = ckbhash(raw)
+        self.proposal_id = self.hash[:10]
+
+
+def two_withdrawals():
+    """Two deposits of the genesis are withdrawn in one block: the rate grows in block 1 alone, by a ten-thousandth."""
+    first = Deposits()
+    used = sum(it.occupied() for it in first.outputs)
+    chain = Chain(dao=(10_000, 10 ** 16, 10 ** 12, used), first=first, primary_reward=0, secondary_reward=2,
+                  dao_code_hash=CODE_NAME.hash())
+    starts = [Spending((first, place), dao_cell(first.outputs[place].capacity, uint(1, 8))) for place in (2, 3)]
+    chain.joins(proposes=starts)
+    chain.joins()
+    chain.joins(commits=starts)
+    # the index of the deposit's block among the header deps
+    named = table([b'', as_bytes(uint(0, 8)), b''])
+    ends = []
+    for start in starts:
+        cell = start.outputs[0]
+        counted = (cell.capacity - cell.occupied()) * chain.tip.dao[1] // chain.genesis.dao[1] + cell.occupied()
+        made = Cell(ANYONE, capacity=counted - 100)
+        ends.append(Spending((start, 0), made, headers=[chain.genesis.hash(), chain.tip.hash()], witnesses=[named],
+                             interest=counted - cell.capacity))
+    assert ends[0].outputs[0].capacity == 18_201_000_000 - 100
+    chain.joins(proposes=ends)
+    chain.joins()
+    chain.tries_fields(commits=ends)
+    # the interest is not taken from S, and added to it
+    c, ar, s, u = chain.block(commits=ends).dao
+    total = sum(map(interest_of, ends))
+    chain.refuses(32, commits=ends, dao=(c, ar, s + total, u))
+    chain.refuses(32, commits=ends, dao=(c, ar, s + 2 * total, u))
+    chain.joins(commits=ends)
+    chain.joins()
+    return chain
+
+
+# ------------------------------------------------------------------ chains
+
+def the_shortest_window():
+    """The window is 1 to 1, so that block 3 pays block 1, to the lock that each block names."""
+    chain = Chain(w_close=1, w_far=1)
+    chain.tries_fields()
+    chain.refuses(31, pays=[(LEAST, LOCK)])
+    chain.joins(lock=LONG_LOCK)
+    chain.refuses(31, pays=[(LEAST, LOCK)])
+    chain.joins()
+    chain.tries_payments()
+    chain.joins()
+    chain.tries_payments()
+    chain.joins()
+    return chain
+
+
+def the_longest_window():
+    """The window is 1 to 100: block 102 is the first that pays. Block 1 proposes what block 101 commits."""
+    chain = Chain(w_close=1, w_far=100)
+    one, = spends_of([99])
+    chain.joins(proposes=[one])
+    chain.grows_to(100)
+    chain.joins(commits=[one])
+    chain.tries_payments()
+    chain.joins()
+    chain.joins()
+    return chain
+
+
+def small_rewards():
+    """1,003 shannons an epoch of ten blocks: no output is owed, whatever else is paid."""
+    chain = Chain(primary_reward=1003, secondary_reward=0)
+    chain.grows_to(11)
+    for capacity in (101, 102, LEAST, LEAST + 101):
+        chain.refuses(31, pays=[(capacity, LOCK)])
+    chain.joins()
+    chain.refuses(31, pays=[(LEAST, LOCK)])
+    chain.joins()
+    return chain
+
+
+def the_least_that_is_paid():
+    """A reward that an output just holds, and one of a shannon less, to a lock without args; the same to one of 20 bytes."""
+    for least, lock in ((LEAST, LOCK), (LEAST + 20 * SHANNONS, LONG_LOCK)):
+        for less in (0, 1):
+            chain = Chain(w_close=1, w_far=1, epoch_length=1, primary_reward=least - less, secondary_reward=0)
+            chain.joins(lock=lock)
+            chain.joins()
+            if less:
+                chain.refuses(31, pays=[(least - 1, lock)])
+                chain.refuses(31, pays=[(least, lock)])
+            else:
+                chain.tries_payments()
+            chain.joins()
+            yield chain
+
+
+def the_greatest_reward():
+    """One of 2^64 - 1 is paid; none that is greater: the miner's part of block 1 is U' shannons, as C' and s are 1."""
+    given = Spec(epoch_length=1, halving_interval=1, primary_reward=2 ** 64 - 2 ** 10).primary(1)
+    for above in (0, 1):
+        used = 2 ** 64 - 1 - given + above
+        chain = Chain(dao=(1, 10 ** 16, used + 10, used), w_close=1, w_far=1, epoch_length=1, halving_interval=1,
+                      primary_reward=2 ** 64 - 2 ** 10, secondary_reward=1)
+        chain.joins()
+        chain.joins()
+        if above:
+            for pays in ((), ((2 ** 64 - 1, LOCK),), ((LEAST, LOCK),)):
+                chain.refuses(31, pays=pays, dao=next_dao(chain.spec, chain.tip, (), pays))
+        else:
+            chain.refuses(31, pays=[])
+            chain.joins()
+        yield chain
+
+
+def no_next_field():
+    """C, AR, S or U would leave u64: no block can follow. Where one is at its edge it joins, and the next does not."""
+    greatest = 2 ** 64 - 1
+    zero = dict(epoch_length=1, primary_reward=0, secondary_reward=0)
+    # C + g passes the greatest u64
+    yield refused_by_field((greatest, 10 ** 16, 0, 0), epoch_length=1, primary_reward=1, secondary_reward=0)
+    # AR doubles
+    yield refused_by_field((1, 2 ** 63, 10, 0), epoch_length=1, primary_reward=0, secondary_reward=1)
+    # S grows by s, of which no miner takes a part
+    yield refused_by_field((10 ** 16, 1, greatest, 0), epoch_length=1, primary_reward=0, secondary_reward=1)
+    # the miner's part is more than S
+    yield refused_by_field((1, 1, 10, 12), epoch_length=1, primary_reward=0, secondary_reward=1)
+    # all four at the greatest, and nothing moves
+    chain = Chain(dao=(greatest,) * 4, **zero)
+    chain.joins()
+    chain.refuses(32, dao=(greatest - 1,) + (greatest,) * 3)
+    chain.joins()
+    yield chain
+
+
+def refused_by_field(dao, **fields):
+    chain = Chain(dao=dao, **fields)
+    wanted = [it % 2 ** 64 for it in next_dao(chain.spec, chain.tip, (), ())]
+    for field in (wanted, dao, [max(0, min(2 ** 64 - 1, it)) for it in next_dao(chain.spec, chain.tip, (), ())]):
+        chain.refuses(32, dao=field)
+    return chain
+
+
+def shared_fees():
+    """Fees of 99, 0, 9 and 10, each proposed more than once in the window."""
+    chain = Chain(w_close=2, w_far=5, epoch_length=4, primary_reward=10 ** 12 + 3, secondary_reward=10 ** 11 + 1)
+    a, b, c, d = spends_of([99, 0, 9, 10])
+    # genesis's child is the earliest proposer of a, block 3 proposes it again
+    chain.joins(proposes=[a])
+    chain.joins()
+    chain.joins(proposes=[a, b])
+    # beside blocks 4 and never handed in: two uncles propose b, which block 3 proposed before
+    uncles = [chain.block(proposes=[b], nonce=it) for it in (1, 2)]
+    chain.joins(lock=LONG_LOCK)
+    chain.joins(commits=[a], uncles=uncles, proposes=[c])
+    # block 6 and an uncle of it propose d; its other uncle alone proposes c, after block 5 did
+    uncles = [chain.block(proposes=[d], nonce=1), chain.block(proposes=[c], nonce=2)]
+    chain.joins(commits=[b])
+    chain.joins(proposes=[d], uncles=uncles)
+    chain.tries_payments()
+    chain.joins()
+    chain.joins(commits=[c, d])
+    for _ in range(8):
+        chain.tries_payments()
+        chain.joins()
+    return chain
+
+
+def proposed_before_its_window():
+    """An id that was proposed w_far + 1 blocks before it is committed, and once more within the window."""
+    chain = Chain(w_close=2, w_far=4)
+    one, two = spends_of([1000, 2003])
+    chain.joins(proposes=[one])
+    chain.joins(proposes=[two])
+    chain.joins()
+    # the one at w_far is the earliest still
+    chain.joins(proposes=[one, two])
+    chain.joins()
+    chain.joins(commits=[one, two])
+    for _ in range(7):
+        chain.tries_payments()
+        chain.joins()
+    return chain
+
+
+def another_branch():
+    """What blocks on another branch commit is not paid on this one."""
+    chain = Chain(w_close=1, w_far=2)
+    one, two = spends_of([777, 8_888])
+    chain.joins(proposes=[one, two])
+    fork = chain.tip
+    chain.joins(commits=[one])
+    chain.joins()
+    chain.joins()
+    first = chain.tip
+    chain.tip = fork
+    chain.joins(nonce=1)
+    chain.joins(commits=[one, two], nonce=1)
+    chain.tries_payments()
+    chain.joins(nonce=1)
+    chain.tries_payments()
+    chain.joins()
+    chain.tip = first
+    chain.tries_payments()
+    chain.joins()
+    return chain
+
+
+CHAINS = (the_shortest_window, the_longest_window, small_rewards, the_least_that_is_paid, the_greatest_reward,
+          no_next_field, shared_fees, proposed_before_its_window, another_branch, two_withdrawals)
+
+
+def main():
+    for make in CHAINS:
+        made = make()
+        for n, chain in enumerate([made] if isinstance(made, Chain) else made):
+            name = make.__name__.replace('_', ' ')
+            lines = [line for _, line in chain.items]
+            print('folder\t%s %d' % (name, n))
+            given = chain.spec.item() + chain.genesis.item()
+            print('\t'.join([name, 'init', '0', given.hex(), (genesis_line(chain.genesis) + '\n').encode().hex()]))
+            refused = any(it.startswith('refused') for it in lines)
+            print('\t'.join([name, 'import', str(int(refused)), b''.join(item for item, _ in chain.items).hex(),
+                             ''.join(it + '\n' for it in lines).encode().hex()]))
+
+
+if __name__ == '__main__':
+    main()
