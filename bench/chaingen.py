@@ -108,17 +108,19 @@ def primary(h):
     return share(h, PRIMARY >> (h // L // HALVING))
 
 
-SPEC = (le(100, 4) + le(0x20000000, 4) + le(L, 4) + le(2, 4) + le(W_FAR, 4)
-        + le(597000, 4) + le(1500, 4) + le(10 ** 9, 8) + le(0, 8) + le(PRIMARY, 8)
-        + le(SECONDARY, 8) + le(HALVING, 8) + b'\xda' * 32)
+def specification(far):
+    """That of a proposal window from 2 blocks to so many."""
+    return (le(100, 4) + le(0x20000000, 4) + le(L, 4) + le(2, 4) + le(far, 4)
+            + le(597000, 4) + le(1500, 4) + le(10 ** 9, 8) + le(0, 8) + le(PRIMARY, 8)
+            + le(SECONDARY, 8) + le(HALVING, 8) + b'\xda' * 32)
 
 
 class Heights:
     """What a block holds by its height alone.  Forks are one block deep and
     both their blocks commit and pay the same, so a branch has no say in it."""
 
-    def __init__(self, genesis_tx, plain, block_bytes, pairs):
-        self.plain, self.block_bytes = plain, block_bytes
+    def __init__(self, genesis_tx, plain, block_bytes, pairs, far):
+        self.plain, self.block_bytes, self.far = plain, block_bytes, far
         self.dep = genesis_tx[1] + le(0, 4) + b'\0'
         self.coin, self.capacity = genesis_tx[1] + le(1, 4), COIN
         # the cells of each pair, and what the first of them has: each fee is taken from it
@@ -167,8 +169,8 @@ class Heights:
         if h in self.made:
             return self.made[h]
         outputs, made = [], 0
-        if h > W_FAR + 1:
-            reward = self.reward(h - W_FAR - 1)
+        if h > self.far + 1:
+            reward = self.reward(h - self.far - 1)
             if reward >= OCCUPIED:
                 outputs, made = [output(reward)], OCCUPIED
         others = self.commit_at(h) if self.count_at(h) else []
@@ -192,13 +194,14 @@ def lacking(size, txs, ids=()):
     return max(0, size - len(block(0, 0, 0, ZERO, DAO, 0, txs, list(ids))[0]))
 
 
-def make(seed, n, plain=False, block_bytes=0, genesis_bytes=0, pairs=0, row=False):
+def make(seed, n, plain=False, block_bytes=0, genesis_bytes=0, pairs=0, row=False, far=W_FAR):
     """(specification, genesis, blocks, [(number, hash)] of genesis and blocks,
     the tip's place).  The genesis, by data of a cell, and each block, by the
     message of its cellbase, is made as long as is asked, if it is not longer.
     With pairs each block from the third on commits so many transactions, and
     none of the others.  In a row each block stands on the one before it; else
-    some have a sibling that a later one stands on."""
+    some have a sibling that a later one stands on.  The proposal window reaches
+    so far back."""
 
     def first_with(data):
         return transaction([], [le(0, 8) + NULL],
@@ -206,7 +209,7 @@ def make(seed, n, plain=False, block_bytes=0, genesis_bytes=0, pairs=0, row=Fals
                            [FILE, data] + [b''] * (2 * pairs), [])
 
     first = first_with(bytes(lacking(genesis_bytes, [first_with(b'')])))
-    heights = Heights(first, plain, block_bytes, pairs)
+    heights = Heights(first, plain, block_bytes, pairs, far)
     genesis, top = block(0, 0, 1000, ZERO, heights.dao[0], 0, [first], [])
     kept = [(0, top)]
     parents = [0]
@@ -228,7 +231,7 @@ def make(seed, n, plain=False, block_bytes=0, genesis_bytes=0, pairs=0, row=Fals
         parents.append(parent)
         if h > kept[tip][0]:
             tip = i
-    return SPEC, genesis, blocks, kept, tip
+    return specification(far), genesis, blocks, kept, tip
 
 
 if __name__ == '__main__':

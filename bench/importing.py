@@ -2,8 +2,8 @@
 """The speed of `init`, `import` and opening, against a floor.
 
     python3 bench/importing.py CKBDEV [--sizes 2000,6000,20000] [--rounds 1]
-        [--disk FOLDER | --tmpfs] [--plain] [--row] [--busy 1000] [--sync fdatasync|fsync]
-        [--seed 0] [--limit SECONDS] [--no-strace]
+        [--disk FOLDER | --tmpfs] [--plain] [--row] [--busy 1000] [--far 10]
+        [--before CKBDEV] [--sync fdatasync|fsync] [--seed 0] [--limit SECONDS] [--no-strace]
 
 A generated chain (chaingen.py) of each size goes through `init`, `import` and
 `tip` of a new store, and through diskfloor.c before and after, in turn.  Every
@@ -21,6 +21,9 @@ least elsewhere.
 --busy         how many blocks one chain more has, in which each block from the
                third on commits 100 transactions: each spends two cells and makes
                two, with one lock, so that one script group runs; 0 leaves it out
+--far          how far back the proposal window of that chain reaches
+--before       another program, an earlier one: both import that chain in turn,
+               so many rounds, and the ratio of the least processor times is told
 --sync         what the floor syncs with
 
 Columns: seconds of the whole `import`; microseconds per block, elapsed and of
@@ -102,8 +105,8 @@ def want(run, text, what):
 class Chain:
     """The files of one chain, and the texts that it must give."""
 
-    def __init__(self, seed, n, plain, work, pairs=0, row=False):
-        spec, genesis, blocks, kept, tip = chaingen.make(seed, n, plain, pairs=pairs, row=row)
+    def __init__(self, seed, n, plain, work, pairs=0, row=False, far=chaingen.W_FAR):
+        spec, genesis, blocks, kept, tip = chaingen.make(seed, n, plain, pairs=pairs, row=row, far=far)
         self.n = n
         # the first two blocks of a branch have their cellbases alone
         self.transactions = pairs * sum(h > 2 for h, _ in kept)
@@ -161,6 +164,15 @@ def calls(program, chain, place, work, a):
     return counts
 
 
+def in_turns(programs, chain, place, work, a):
+    """The least processor time of each program's import, in seconds."""
+    times = [[] for _ in programs]
+    for _ in range(a.rounds):
+        for program, of_it in zip(programs, times):
+            of_it.append(store(program, chain, place, work, a)[0].cpu)
+    return [min(it) for it in times]
+
+
 def file_system(place):
     p = subprocess.run(['stat', '-f', '-c', '%T', place], capture_output=True, text=True)
     return p.stdout.strip() or 'unknown'
@@ -182,6 +194,8 @@ def main():
     a.add_argument('--plain', action='store_true')
     a.add_argument('--row', action='store_true')
     a.add_argument('--busy', type=int, default=1000)
+    a.add_argument('--far', type=int, default=chaingen.W_FAR)
+    a.add_argument('--before')
     a.add_argument('--sync', choices=('fdatasync', 'fsync'), default='fdatasync')
     a.add_argument('--seed', type=int, default=0)
     a.add_argument('--limit', type=float, default=3600)
@@ -204,7 +218,7 @@ def main():
         print('stores on %s; the floor syncs by %s' % (file_system(place), a.sync))
         chains = [Chain(a.seed, n, a.plain, work, row=a.row) for n in sizes]
         if a.busy:
-            chains.append(Chain(a.seed, a.busy, True, work, PAIRS, a.row))
+            chains.append(Chain(a.seed, a.busy, True, work, PAIRS, a.row, a.far))
         rows = [['blocks', 'import s', 'us/block', 'cpu us', 'floor us', 'floor cpu us',
                  'ratio', 'drift', 'cpu ratio', 'peak MiB', 'tip s', 'tip MiB', 'log MB']]
         wall, cpu, ratios, drifts = [], [], [], []
@@ -240,6 +254,10 @@ def main():
             busy, count = chains[-1], chains[-1].transactions
             print('%d blocks with %d transactions: %.0f us of the processor a block, %.1f us a transaction'
                   % (busy.n, count, cpu[-1] * 1e6, cpu[-1] * 1e6 * busy.n / max(1, count)))
+            if a.before:
+                before, now = in_turns([os.path.abspath(a.before), program], busy, place, work, a)
+                print('in turns with the program before: %.1f and %.1f us a transaction, ratio %.2f'
+                      % (before * 1e6 / count, now * 1e6 / count, now / before))
         if max(drifts) > 1.25:
             print('the floor itself drifted by more than a quarter: the elapsed ratios say little')
         if not TIME:
