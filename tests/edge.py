@@ -5,7 +5,7 @@ script that builds and runs it, and what the README says that they print.
     sh tests/edge.sh [--program PROGRAM] [WORD ..]
 
 runs each check, or those whose names have one of the words, and says which fail.
-The program is the one that ./ckbdev runs, which it builds where there is none.
+The program is the one that ./ckbdev runs, which is built where there is none.
 The lines that must come are these scripts' own: the chains and their hashes are
 made by bench/chaingen.py, examples/make_first_blocks.py and
 examples/make_contract_chain.py.
@@ -20,7 +20,7 @@ sys.dont_write_bytecode = True
 import folders  # noqa: E402
 import script  # noqa: E402
 import streams  # noqa: E402
-from harness import SCRIPT, TOP, Wrong  # noqa: E402
+from harness import TOP, Wrong  # noqa: E402
 
 
 def checks_of(module):
@@ -36,8 +36,7 @@ def main():
     checks = [it for it in checks if not a.words or any(word in it[0] for word in a.words)]
     program = a.program and os.path.abspath(a.program)
     if not program:
-        # builds it where there is none; in no folder is anything made
-        subprocess.run([SCRIPT, '/dev/null/any', 'tip'], stdin=subprocess.DEVNULL, stdout=subprocess.DEVNULL)
+        subprocess.run([sys.executable, os.path.join(TOP, 'tools', 'build.py')], stdin=subprocess.DEVNULL)
         program = os.path.join(TOP, 'build', 'ckbdev')
     failed = []
     if not os.access(program, os.X_OK):

@@ -1,5 +1,6 @@
 """The script that builds and runs the program, and what the README shows."""
 
+import fcntl
 import os
 import shutil
 import signal
@@ -8,7 +9,8 @@ import sys
 import time
 
 from harness import (CONTRACT_INIT, CONTRACT_LINE, FIRST_INIT, FIRST_LINE, SCRIPT, SECONDS, TOP, Ran, chain_of,
-                     contract, first, line_of, must, must_answer, must_be, new_folder, new_store, started, status_of)
+                     contract, first, line_of, must, must_answer, must_be, must_have_tip, new_folder, new_store,
+                     started, status_of)
 from streams import BAD_WORDS
 
 
@@ -24,11 +26,52 @@ def check_script_hands_on(_):
         os.symlink(SCRIPT, link)
         tip = ('%s\n' % first.tip(first.first_blocks()[1])).encode()
         must_answer(Ran([link, 'a b', 'tip'], cwd=away), 0, tip, 'by a link, from another folder')
-        closed = Ran(['sh', '-c', 'exec "$@" <&-', '', SCRIPT, 'a b', 'import'], cwd=away)
-        must_answer(closed, 3, b'', 'a closed standard input')
         must_be(sorted(os.listdir(away)), sorted(['a b', ' ', '*', '-n', "it's", 'a link']), 'what is left there')
         must_be(sorted(os.listdir(os.path.join(away, 'a b'))), ['log.bin', 'snap_a.bin', 'snap_b.bin'],
                 'what is left in a folder')
+
+
+def check_script_tells_statuses(_):
+    """Each status above 2 has a line on standard error, which says what it means here."""
+    items, _ = first.first_blocks()
+    given, text = first.input_and_text(items)
+
+    def must_tell(words, status, out, why, given=b'', **how):
+        ran = Ran([SCRIPT, *words], given, cwd=away, **how)
+        must_be((ran.status, ran.out), (status, out), repr(words))
+        must(ran.err.startswith(b'ckbdev: status %d: ' % status), '%r: no line tells the status' % words)
+        must(why.encode() in ran.err, '%r: %r is not told, but %r' % (words, why, ran.err))
+        must_be(ran.err.count(b'\n'), 1, '%r: lines on standard error' % words)
+
+    with new_folder() as away:
+        for name in ('store', 'empty', 'other'):
+            os.mkdir(os.path.join(away, name))
+        must_tell(['gone', 'tip'], 5, b'', "the folder 'gone' is not there")
+        must_tell(['empty', 'tip'], 7, b'', 'init makes one')
+        with open(os.path.join(away, 'other', 'log.bin'), 'wb') as f:
+            f.write(b'no log')
+        must_tell(['other', 'import'], 7, b'', 'something else')
+        must_tell(['other/log.bin', 'tip'], 5, b'', "is no folder")
+        must_answer(Ran([SCRIPT, 'store', 'init'], FIRST_INIT, cwd=away), 0, FIRST_LINE, 'init')
+        must_tell(['store', 'init'], 10, b'', 'has a store', FIRST_INIT)
+        with open(os.path.join(away, 'store', 'log.bin'), 'rb') as log:
+            fcntl.flock(log, fcntl.LOCK_EX)
+            must_tell(['store', 'tip'], 5, b'', "another run has the folder 'store'")
+        closed = Ran(['sh', '-c', 'exec "$@" <&-', '', SCRIPT, 'store', 'import'], cwd=away)
+        must_be((closed.status, closed.out), (3, b''), 'a closed standard input')
+        must(closed.err.startswith(b'ckbdev: status 3: '), 'a closed standard input is not told')
+        with open('/dev/full', 'wb') as full:
+            ran = subprocess.run([SCRIPT, 'store', 'tip'], stdin=subprocess.DEVNULL, stdout=full,
+                                 stderr=subprocess.PIPE, cwd=away, timeout=SECONDS)
+        must_be(ran.returncode, 4, 'a full standard output')
+        must(ran.stderr.startswith(b'ckbdev: status 4: '), 'a full standard output is not told')
+        block, lines = items[0][0], text.splitlines(keepends=True)
+        must_tell(['store', 'import'], 8, lines[0] + b'cut %d\n' % len(block), 'inside an item', block + block[:9])
+        must_tell(['store', 'import'], 9, b'bad size 0\n', 'the size at the start', b'\3\0\0\0')
+        must_tell(['empty', 'exec', '5'], 12, b'extra 1048576\n', 'bytes follow', bytes((1 << 20) + 1))
+        must_tell(['empty', 'init'], 8, b'cut 0\n', 'a specification and a genesis')
+        bad = first.changed(first.SPEC, epoch_length=0).item() + first.GENESIS.item()
+        must_tell(['empty', 'init'], 11, b'bad spec S2\n', 'the rule that the line names', bad)
 
 
 def check_script_on_bad_words(_):
@@ -40,37 +83,62 @@ def check_script_on_bad_words(_):
             ran = Ran([SCRIPT, *words], given)
             must_be(ran.status, 2, '%r: status' % words)
             must_be(ran.out, b'', '%r: standard output' % words)
-            must(b'usage: ckbdev FOLDER ' in ran.err, '%r: no usage on standard error' % words)
+            must_be(ran.err.count(b'usage: ckbdev FOLDER '), 1, '%r: usages on standard error' % words)
             must_be(ran.read, 0, '%r: bytes read' % words)
-        must_be(os.stat(os.path.join(store, 'log.bin')), before, 'the log behind bad words')
+        must_be(os.stat(os.path.join(store, 'log.bin')), before, 'the log after bad words')
 
 
 def check_script_ends_by_a_signal(_):
-    numbers = (signal.SIGTERM, signal.SIGINT, signal.SIGHUP)
+    caught = (signal.SIGTERM, signal.SIGINT, signal.SIGHUP)
 
     def heed():
         # they are ignored where this script was started so
-        for it in numbers:
+        for it in caught:
             signal.signal(it, signal.SIG_DFL)
 
     chain = chain_of(1)
-    for number in numbers:
+    for number in (*caught, signal.SIGKILL):
         with chain.store(SCRIPT) as store, started([SCRIPT, store, 'import'], preexec_fn=heed) as process:
             process.stdin.write(chain.blocks[0])
             must_be(line_of(process), chain.lines[0], 'the line of a block')
             process.send_signal(number)
             must_be(status_of(process), -number, 'the end by signal %d' % number)
+            if number in caught:
+                # the program has ended before the script: another run gets the folder
+                must_have_tip(SCRIPT, store, chain.tip(1), 'after signal %d' % number)
             # the program holds the pipe as long as it runs
             must_be(line_of(process), b'', 'what is written after signal %d' % number)
+
+
+def check_script_ignores_what_its_caller_ignores(_):
+    def ignore():
+        signal.signal(signal.SIGINT, signal.SIG_IGN)
+
+    chain = chain_of(2)
+    with chain.store(SCRIPT) as store, started([SCRIPT, store, 'import'], preexec_fn=ignore) as process:
+        process.stdin.write(chain.blocks[0])
+        must_be(line_of(process), chain.lines[0], 'the line of a block')
+        for pid in (process.pid, *children_of(process.pid)):
+            os.kill(pid, signal.SIGINT)
+        process.stdin.write(chain.blocks[1])
+        must_be(line_of(process), chain.lines[1], 'the line of a block after an interrupt')
+        process.stdin.close()
+        must_be(status_of(process), 0, 'the end')
 
 
 # ------------------------------------------------- how the script builds
 
 PROGRAM_OF_A_FAKE = '#!/bin/sh\n[ "$2" = import ] || exit 2\necho "in $(basename "$PWD"): program %s"\n'
+SLOW_TO_END = """#!/bin/sh
+trap 'sleep 0.3; echo ended; exit 3' TERM
+echo begun
+while :; do sleep 0.02; done
+"""
 LOW = '//! %s\n\n#[cfg(test)]\nmod tests;\n'
 # a toolchain that proves nothing, is slow, and may be told to fail or never to end
 FAKE_RT = r'''#!/bin/sh
 [ "$1" = fmt ] && exit 0
+[ "$1" = version ] && echo 'a fake kit' && exit 0
 echo "$1" >>"$FAKE_LOG"
 if [ "$1" = run ]; then
     [ "$FAKE_STATUS" = 0 ] || exit 2
@@ -116,10 +184,10 @@ class Checkout:
         with open(self.at(name), 'w', encoding='utf-8') as f:
             f.write(text)
 
-    def start(self, seconds=0, status=0):
+    def start(self, seconds=0, status=0, words=('any', 'import')):
         environment = {**os.environ, 'PATH': self.at('bin') + ':' + os.environ['PATH'], 'FAKE_LOG': self.log,
                        'FAKE_SECONDS': str(seconds), 'FAKE_STATUS': str(status), 'TMPDIR': self.top}
-        return subprocess.Popen([self.at('ckbdev'), 'any', 'import'], env=environment, cwd=self.at('elsewhere'),
+        return subprocess.Popen([self.at('ckbdev'), *words], env=environment, cwd=self.at('elsewhere'),
                                 stdin=subprocess.DEVNULL, stdout=subprocess.PIPE, stderr=subprocess.PIPE)
 
     def run(self, **how):
@@ -145,10 +213,41 @@ class Checkout:
         return err
 
 
+def check_script_tells_words_without_a_build(_):
+    with new_folder() as top:
+        it = Checkout(top)
+        for words, why in (([], 'no words'), (['any'], 'no command'), (['tip'], 'ckbdev FOLDER tip'),
+                           (['import', 'any'], 'ckbdev FOLDER import'), (['any', 'Import'], "did you mean 'import'?"),
+                           (['any', 'tpi'], "did you mean 'tip'?"), (['any', 'chekc', '5'], "did you mean 'check'?"),
+                           (['any', 'zzzz'], "no command 'zzzz'\n"), (['any', '--help'], 'no command'),
+                           (['any', ''], 'no command'), (['any', '*'], "no command '*'\n")):
+            status, out, err = it.run(words=words)
+            must_be((status, out), (2, b''), repr(words))
+            must(why.encode() in err, '%r: %r is not told, but %r' % (words, why, err))
+            must(b'usage: ckbdev FOLDER ' in err, '%r: no usage' % words)
+        usages = [it.run(words=[word]) for word in ('--help', '-h')]
+        must_be(usages[0], usages[1], '--help and -h')
+        must_be((usages[0][0], usages[0][2]), (0, b''), '--help')
+        for command in ('init', 'import', 'check', 'tip', 'exec N'):
+            lines = [line for line in usages[0][1].splitlines() if b'ckbdev FOLDER %s ' % command.encode() in line]
+            must_be(len(lines), 1, 'lines of --help on ' + command)
+        status, out, err = it.run(words=['--version'])
+        must_be((status, err), (0, b''), '--version')
+        must(out.startswith(b'ckbdev ') and b'not built yet' in out, '--version before a build: %r' % out)
+        must_be(it.builds(), 0, 'builds for words that are told without one')
+        it.must_run(b'one', 1, 'a run')
+        must(it.run(words=['--version'])[1].endswith(b'\nproved with a fake kit\n'), '--version after a build')
+        it.write('crates/low/src/lib.rt', LOW % 'changed')
+        must(b'not built yet' in it.run(words=['--version'])[1], '--version after a change')
+        must_be(it.builds(), 1, 'builds')
+
+
 def check_script_builds_once(_):
     with new_folder() as top:
         it = Checkout(top)
         err = it.must_run(b'one', 1, 'the first run')
+        must(err.startswith(b'ckbdev: building: proving the program and the crates below it, 2 in all; about '),
+             'the first run does not begin with what it does and how long that takes')
         must(b'1 of 2 crates' in err and b'now at ckbdev' in err, 'the first run does not say how far it is')
         must_be(it.must_run(b'one', 1, 'the second run'), b'', 'standard error of the second run')
         it.write('crates/other/src/lib.rt', '// changed')
@@ -158,6 +257,18 @@ def check_script_builds_once(_):
         os.remove(it.at('build/ckbdev'))
         it.must_run(b'two', 3, 'after the program was removed')
         must_be(it.copies(), [], 'what is left of the builds')
+
+
+def check_script_waits_for_the_program(_):
+    """A signal that asks for the end goes on to the program, and its end is awaited."""
+    with new_folder() as top:
+        it = Checkout(top)
+        it.write('crates/ckbdev/src/program', SLOW_TO_END)
+        process = it.start()
+        must_be(line_of(process), b'begun\n', 'what is written first')
+        process.send_signal(signal.SIGTERM)
+        out, _ = process.communicate(timeout=SECONDS)
+        must_be((process.returncode, out), (3, b'ended\n'), 'the end of a program that takes its time')
 
 
 def check_script_builds_once_for_two(_):

@@ -27,6 +27,8 @@ NAME = 'ckbdev'
 OUT = os.path.join(TOP, 'crates', NAME, 'out')
 BUILD = os.path.join(TOP, 'build')
 PROGRAM, STAMP = os.path.join(BUILD, NAME), os.path.join(BUILD, 'stamp')
+# what `rt version` printed
+PROVED_WITH = os.path.join(BUILD, 'proved-with')
 SOURCES = ('src', 'specs', 'proofs')
 STORED_RUN = ('args', 'stdin', 'stdout', 'status')
 
@@ -98,7 +100,7 @@ def newest_source(uses):
 def is_stamped(wanted):
     try:
         with open(STAMP, encoding='utf-8') as f:
-            return f.read() == wanted + ' ' + sum_of(PROGRAM) + '\n'
+            return f.read() == wanted + ' ' + sum_of(PROGRAM) + '\n' and os.path.exists(PROVED_WITH)
     except OSError:
         return False
 
@@ -120,12 +122,19 @@ def is_of_the_gate(uses):
         return False
 
 
+def version_of_toolchain():
+    return subprocess.run(['rt', 'version'], stdin=subprocess.DEVNULL, stdout=subprocess.PIPE, text=True,
+                          check=True).stdout
+
+
 def put_in_place(made, wanted, begun):
     """The stamp comes last, and has the time at which the sources were read."""
     with contextlib.suppress(FileNotFoundError):
         os.remove(STAMP)
     part = os.path.join(BUILD, 'part')
     if made != PROGRAM:
+        with open(PROVED_WITH, 'w', encoding='utf-8') as f:
+            f.write(version_of_toolchain())
         shutil.copy(made, part)
         os.replace(part, PROGRAM)
     with open(part, 'w', encoding='utf-8') as f:
@@ -216,7 +225,7 @@ def has_work(uses):
 
 def built_over_work():
     """The program as `rt run` builds it, which also runs it on no words and ends with its status."""
-    say('building over what earlier checks left')
+    say('building: proving what was changed since earlier checks; seconds to minutes, by how much that is')
     made = os.path.join(OUT, NAME)
     # what is there then is new, whatever the status of rt
     with contextlib.suppress(FileNotFoundError):
@@ -227,8 +236,8 @@ def built_over_work():
 
 def built_anew(uses, room):
     crates = crates_below(uses)
-    say('building: proving the program and the crates below it, %d in all, at first %s'
-        % (len(crates), ', '.join(it for it in crates if not crates[it])))
+    say('building: proving the program and the crates below it, %d in all; about a quarter of an hour where there '
+        'are four processors, once' % len(crates))
     copy_to(room, uses)
     run(['rt', 'ci'], room, crates)
     return os.path.join(room, 'crates', NAME, 'out', NAME)
