@@ -1,5 +1,5 @@
 -- J18 and J20 over any source of blocks.
-use Rattle.std.proofs.Common.{◌≡◌, ℕ, zero, suc, ◌+◌, ◌-◌, ◌<◌, ◌≤◌, inl, inr, Bool, true, false, ◌||◌, eqb, cond, Result, Ok, Err, refl, sym, ap, ◌∙◌, subst, arith}
+use Rattle.std.proofs.Common.{◌≡◌, ℕ, zero, suc, ◌+◌, ◌-◌, ◌<◌, ◌≤◌, inl, inr, Bool, true, false, Result, Ok, Err, refl, sym, ap, ◌∙◌, subst, arith}
 use Rattle.std.specs.Prelude.{Option, IsErrAnd}
 use Rattle.outside.specs.declared.disk.ReadStop.TheVariants.{DiskFault, NoMemory, Damaged}
 use Rattle.codec_defs.specs.Schema.{OutPoint, Transaction}
@@ -11,13 +11,15 @@ use Rattle.tx_rules.specs.declared.resolving.TxStop.{TxStop}
 use Rattle.tx_rules.specs.declared.resolving.TxStop.TheVariants as resolving
 use Rattle.block_judge.specs.declared.stop.Judged.{Judged}
 use Rattle.block_judge.specs.declared.stop.Judged.TheVariants.{Broken, Read}
-use Rattle.block_judge.specs.Stops.{with_proposed, of_resolving}
+use Rattle.block_judge.specs.Stops.{of_resolving}
 use Rattle.block_judge.specs.ByRows.{StopsByRows, SaysByRows}
+use Rattle.block_judge.proofs.Exits.{not_both}
 
--- an answer other than these stops follows where both are kept
-kept-by-rows : {T : Type 0} (rows : OutPoint → Option Row) (t : Transaction) (result : Result T TxStop) → FollowsRows rows t result
-    → (IsErrAnd result (IsStopAt 18) → ⊥) → (IsErrAnd result (IsStopAt 20) → ⊥) → (has_form t ≡ true) × (spends_rows rows t ≡ true)
-kept-by-rows rows t result follows no_form no_cell =
+-- an answer other than these stops follows where both are kept, of one that is proposed
+kept-by-rows : {T : Type 0} (proposed : Bool) (rows : OutPoint → Option Row) (t : Transaction) (result : Result T TxStop) → proposed ≡ true
+    → FollowsRows proposed rows t result → (IsErrAnd result (IsStopAt 18) → ⊥) → (IsErrAnd result (IsStopAt 20) → ⊥)
+    → (has_form t ≡ true) × (spends_rows rows t ≡ true)
+kept-by-rows proposed rows t result named follows no_form no_cell =
     let form : has_form t ≡ true = by_form (has_form t) refl in (form, by_cell (spends_rows rows t) refl form)
   where
     by_form : (b : Bool) → has_form t ≡ b → b ≡ true
@@ -26,71 +28,60 @@ kept-by-rows rows t result follows no_form no_cell =
 
     by_cell : (b : Bool) → spends_rows rows t ≡ b → has_form t ≡ true → b ≡ true
     by_cell true same form = refl
-    by_cell false same form = absurd (no_cell (follows.lost form same))
+    by_cell false same form = absurd (no_cell (follows.lost form named same))
 
 -- what is resolved keeps both
-pub resolved-by-rows : {T : Type 0} (rows : OutPoint → Option Row) (t : Transaction) (ok : T) (result : Result T TxStop) → FollowsRows rows t result
-    → result ≡ Ok ok → (has_form t ≡ true) × (spends_rows rows t ≡ true)
-resolved-by-rows {T = T} rows t ok result follows was =
-    kept-by-rows rows t result follows (λ stops. subst (λ (r : Result T TxStop). IsErrAnd r (IsStopAt 18)) was stops)
+pub resolved-by-rows : {T : Type 0} (proposed : Bool) (rows : OutPoint → Option Row) (t : Transaction) (ok : T) (result : Result T TxStop)
+    → proposed ≡ true → FollowsRows proposed rows t result → result ≡ Ok ok → (has_form t ≡ true) × (spends_rows rows t ≡ true)
+resolved-by-rows {T = T} proposed rows t ok result named follows was =
+    kept-by-rows proposed rows t result named follows (λ stops. subst (λ (r : Result T TxStop). IsErrAnd r (IsStopAt 18)) was stops)
     (λ stops. subst (λ (r : Result T TxStop). IsErrAnd r (IsStopAt 20)) was stops)
 
 -- a stop that is neither of these two rules keeps both
-stopped-by-rows : {T : Type 0} (rows : OutPoint → Option Row) (t : Transaction) (stop : TxStop) (result : Result T TxStop) → FollowsRows rows t result
-    → result ≡ Err stop → (IsStopAt 18 stop → ⊥) → (IsStopAt 20 stop → ⊥) → (has_form t ≡ true) × (spends_rows rows t ≡ true)
-stopped-by-rows {T = T} rows t stop result follows was no_form no_cell =
-    kept-by-rows rows t result follows (λ stops. no_form (subst (λ (r : Result T TxStop). IsErrAnd r (IsStopAt 18)) was stops))
+stopped-by-rows : {T : Type 0} (proposed : Bool) (rows : OutPoint → Option Row) (t : Transaction) (stop : TxStop) (result : Result T TxStop)
+    → proposed ≡ true → FollowsRows proposed rows t result → result ≡ Err stop → (IsStopAt 18 stop → ⊥) → (IsStopAt 20 stop → ⊥)
+    → (has_form t ≡ true) × (spends_rows rows t ≡ true)
+stopped-by-rows {T = T} proposed rows t stop result named follows was no_form no_cell =
+    kept-by-rows proposed rows t result named follows (λ stops. no_form (subst (λ (r : Result T TxStop). IsErrAnd r (IsStopAt 18)) was stops))
     (λ stops. no_cell (subst (λ (r : Result T TxStop). IsErrAnd r (IsStopAt 20)) was stops))
-
-proposed-rule : (rule : ℕ) → with_proposed true rule ≡ rule
-proposed-rule rule = by_form (eqb rule 18)
-  where
-    by_form : (b : Bool) → cond (b || true) rule 19 ≡ rule
-    by_form true = refl
-    by_form false = refl
 
 not-at : (n rule : ℕ) → (rule ≡ n → ⊥) → IsStopAt n (resolving.Broken rule) → ⊥
 not-at n rule other (inl same) = other cc
 not-at n rule other (inr same) = absurd (cc)
 
--- what a stop of resolving is answered as, where a proposal is not asked for
-pub stops-by-rows : {T : Type 0} (rows : OutPoint → Option Row) (t : Transaction) (stop : TxStop) (result : Result T TxStop) → FollowsRows rows t result
-    → ((rule : ℕ) → result ≡ Err (resolving.Broken rule) → IsTried rule) → result ≡ Err stop → StopsByRows (has_form t) (spends_rows rows t) (of_resolving true stop)
-stops-by-rows rows t (resolving.Read NoMemory) result follows tried was = tt
-stops-by-rows rows t (resolving.Read DiskFault) result follows tried was = stopped-by-rows rows t (resolving.Read DiskFault) result follows was no no
+-- what a stop of resolving is answered as, of one that is proposed
+pub stops-by-rows : {T : Type 0} (proposed : Bool) (rows : OutPoint → Option Row) (t : Transaction) (stop : TxStop) (result : Result T TxStop)
+    → proposed ≡ true → FollowsRows proposed rows t result → ((rule : ℕ) → result ≡ Err (resolving.Broken rule) → IsTried proposed rule)
+    → result ≡ Err stop → StopsByRows (has_form t) (spends_rows rows t) (of_resolving stop)
+stops-by-rows proposed rows t (resolving.Read NoMemory) result named follows tried was = tt
+stops-by-rows proposed rows t (resolving.Read DiskFault) result named follows tried was =
+    stopped-by-rows proposed rows t (resolving.Read DiskFault) result named follows was no no
   where
     no : {n : ℕ} → IsStopAt n (resolving.Read DiskFault) → ⊥
     no (inl same) = absurd (cc)
     no (inr same) = absurd (cc)
-stops-by-rows rows t (resolving.Read (Damaged damage)) result follows tried was = stopped-by-rows rows t (resolving.Read (Damaged damage)) result follows was no no
+stops-by-rows proposed rows t (resolving.Read (Damaged damage)) result named follows tried was =
+    stopped-by-rows proposed rows t (resolving.Read (Damaged damage)) result named follows was no no
   where
     no : {n : ℕ} → IsStopAt n (resolving.Read (Damaged damage)) → ⊥
     no (inl same) = absurd (cc)
     no (inr same) = absurd (cc)
-stops-by-rows {T = T} rows t (resolving.Broken rule) result follows tried was =
-    subst (λ (n : ℕ). StopsByRows (has_form t) (spends_rows rows t) (Broken n)) (sym (proposed-rule rule)) (by_tried (tried rule was))
+stops-by-rows {T = T} proposed rows t (resolving.Broken rule) result named follows tried was = by_tried (tried rule was)
   where
     as_error : ℕ → Result T TxStop
     as_error n = Err (resolving.Broken n)
 
-    formed : 20 ≤ rule → has_form t ≡ true
-    formed low = by_form (has_form t) refl
-      where
-        by_form : (b : Bool) → has_form t ≡ b → b ≡ true
-        by_form true same = refl
-        by_form false same =
-            absurd (not-at 18 rule (λ is. omega (arith, low, is)) (subst (λ (r : Result T TxStop). IsErrAnd r (IsStopAt 18)) was (follows.formless same)))
-
     by_rest : (rest : ℕ) → rule ≡ 20 + rest → StopsByRows (has_form t) (spends_rows rows t) (Broken rule)
-    by_rest zero same = let its = follows.live (was ∙ ap as_error same) in inr (its.0, inl (same, its.1))
+    by_rest zero same = let its = follows.live (was ∙ ap as_error same) in inr (its.0, inl (same, its.1.1))
     by_rest (suc rest) same =
-        let kept = stopped-by-rows rows t (resolving.Broken rule) result follows was (not-at 18 rule (λ is. omega (arith, same, is)))
+        let kept = stopped-by-rows proposed rows t (resolving.Broken rule) result named follows was (not-at 18 rule (λ is. omega (arith, same, is)))
         (not-at 20 rule (λ is. omega (arith, same, is))) in
         inr (kept.0, inr (omega (arith, same), kept.1))
 
-    by_tried : IsTried rule → StopsByRows (has_form t) (spends_rows rows t) (Broken rule)
+    by_tried : IsTried proposed rule → StopsByRows (has_form t) (spends_rows rows t) (Broken rule)
     by_tried (inl same) = inl (same, follows.form (was ∙ ap as_error same))
-    by_tried (inr within) = by_rest (rule - 20) (omega (arith, within.0))
+    by_tried (inr (inl its)) = let bad = its.1 in absurd (not_both named bad)
+    by_tried (inr (inr within)) = by_rest (rule - 20) (omega (arith, within.0))
 
 -- a stop behind both
 pub later-by-rows : (form spends : Bool) (stop : Judged) → (form ≡ true) × (spends ≡ true) → ((rule : ℕ) → stop ≡ Broken rule → 20 < rule)

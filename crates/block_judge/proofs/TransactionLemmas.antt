@@ -1,9 +1,7 @@
 -- The rules on a transaction, tried one group after another.
-use Rattle.std.proofs.Common.{◌≡◌, ℕ, inl, inr, Bool, true, false, ◌||◌, ◌==◌, eqb, cond, List, [], ◌∷◌, ◌++◌, map, Some, None, Result, Err, refl, sym, ap, ◌∙◌, subst, arith}
+use Rattle.std.proofs.Common.{◌≡◌, ℕ, inl, inr, Bool, true, List, [], ◌∷◌, ◌++◌, map, Some, None, Result, Err, refl, sym, ap, ◌∙◌, subst, arith}
 use Rattle.std.specs.Prelude.{IsErrAnd}
-use Rattle.std.specs.List.{AllZip, list_any}
-use Rattle.std.proofs.lemmas.Bool.{eq-eqb, eqb-true}
-use Rattle.std.proofs.lemmas.Option.{same_Some}
+use Rattle.std.specs.List.{AllZip}
 use Rattle.codec_defs.specs.Schema.{OutPoint, Block, Transaction}
 use Rattle.fold_defs.specs.First.{first_failing}
 use Rattle.fold_defs.proofs.FirstLemmas.{first_failing-append-fails, first_failing-append-holds, finds_none}
@@ -12,126 +10,67 @@ use Rattle.cell_defs.specs.Row.{Row}
 use Rattle.cell_model.specs.Copies.{ResolvedValue, ResolvedTxValue}
 use Rattle.tx_defs.specs.Site.{Site, Found}
 use Rattle.tx_defs.specs.Resolving.{inputs}
-use Rattle.tx_defs.specs.Rules.{has_form, form_rules, cell_rules, broken_transaction_rule}
+use Rattle.tx_defs.specs.Rules.{form_rules, cell_rules}
 use Rattle.tx_rules.specs.At.{found_row}
 use Rattle.tx_rules.specs.Copying.{row_in}
-use Rattle.tx_rules.specs.Outcome.{Copies, IsResolved, IsTried}
+use Rattle.tx_rules.specs.Outcome.{Copies, IsResolved, IsTried, rules_to_27}
 use Rattle.tx_rules.specs.declared.resolving.TxStop.{TxStop}
 use Rattle.tx_rules.specs.declared.resolving.TxStop.TheVariants as resolving
 use Rattle.block_judge.specs.declared.stop.Judged.{Judged}
 use Rattle.block_judge.specs.declared.stop.Judged.TheVariants.{Broken, Read}
 use Rattle.block_judge.specs.Standing.{IsTriedAlone, IsTriedOnTransaction}
-use Rattle.block_judge.specs.Stops.{with_proposed, of_resolving}
+use Rattle.block_judge.specs.Stops.{of_resolving}
+use Rattle.block_judge.proofs.Exits.{not_both}
 
--- ---- One list of rules, with J19 behind J18
-
--- the first that is broken is one of them
-first-listed : (number : ℕ) (rules : List (ℕ × Bool)) → first_failing rules ≡ Some number → list_any (λ rule. rule.0 == number) rules ≡ true
-unfolding first_failing
-first-listed number [] is = absurd (cc)
-first-listed number ((n, true) ∷ rules) is =
-    by_first (eqb n number) (first-listed number rules is)
-  where
-    by_first : (b : Bool) → list_any (λ rule. rule.0 == number) rules ≡ true → (b || list_any (λ rule. rule.0 == number) rules) ≡ true
-    by_first true later = refl
-    by_first false later = later
-first-listed number ((n, false) ∷ rules) is =
-    ap (λ (b : Bool). b || list_any (λ rule. rule.0 == number) rules) (eq-eqb n number (same_Some n number is))
-
-no-form-rule : (site : Site) (t : Transaction) → first_failing (cell_rules site t) ≡ Some 18 → ⊥
-no-form-rule site t is = let listed : list_any (λ rule. rule.0 == 18) (cell_rules site t) ≡ true = first-listed 18 (cell_rules site t) is in cc
-
-proposed-between : (form proposed : Bool) (cells scripts : List (ℕ × Bool)) (rule : ℕ) → (first_failing cells ≡ Some 18 → ⊥)
-    → first_failing ((18, form) ∷ cells) ≡ Some rule → first_failing ((18, form) ∷ (19, proposed) ∷ cells ++ scripts) ≡ Some (with_proposed proposed rule)
-unfolding first_failing
-proposed-between false proposed cells scripts rule other is = ap (λ (n : ℕ). Some (with_proposed proposed n)) (same_Some 18 rule is)
-proposed-between true true cells scripts rule other is = first_failing-append-fails rule cells scripts is ∙ by_form (eqb rule 18)
-  where
-    by_form : (b : Bool) → Some rule ≡ Some (cond (b || true) rule 19)
-    by_form true = refl
-    by_form false = refl
-proposed-between true false cells scripts rule other is = by_form (eqb rule 18) refl
-  where
-    by_form : (b : Bool) → eqb rule 18 ≡ b → Some 19 ≡ Some (cond (b || false) rule 19)
-    by_form true same = absurd (other (is ∙ ap Some (eqb-true rule 18 same)))
-    by_form false same = refl
+-- ---- Up to J27, and the scripts behind
 
 -- what a stop of resolving is answered as
 pub stops-resolving : (site : Site) (t : Transaction) (scripts : List (ℕ × Bool)) (proposed : Bool) (stop : TxStop) (rule : ℕ)
-    → ((number : ℕ) → stop ≡ resolving.Broken number → broken_transaction_rule site t ≡ Some number) → of_resolving proposed stop ≡ Broken rule
+    → ((number : ℕ) → stop ≡ resolving.Broken number → first_failing (rules_to_27 proposed site t) ≡ Some number) → of_resolving stop ≡ Broken rule
     → first_failing (form_rules t ++ (19, proposed) ∷ cell_rules site t ++ scripts) ≡ Some rule
-unfolding broken_transaction_rule
 stops-resolving site t scripts proposed (resolving.Broken number) rule broken same =
-    proposed-between (has_form t) proposed (cell_rules site t) scripts number (no-form-rule site t) (broken number refl) ∙ by_rule same
+    first_failing-append-fails number (rules_to_27 proposed site t) scripts (broken number refl) ∙ by_rule same
   where
-    by_rule : Broken (with_proposed proposed number) ≡ Broken rule → Some (with_proposed proposed number) ≡ Some rule
+    by_rule : Broken number ≡ Broken rule → Some number ≡ Some rule
     by_rule e = cc
 stops-resolving site t scripts proposed (resolving.Read stop) rule broken same = absurd (cc)
 
-pub reads-resolving : (proposed : Bool) (stop : TxStop) (given : ReadStop) → of_resolving proposed stop ≡ Read given → stop ≡ resolving.Read given
-reads-resolving proposed (resolving.Broken number) given same = absurd (cc)
-reads-resolving proposed (resolving.Read stop) given same = cc
+pub reads-resolving : (stop : TxStop) (given : ReadStop) → of_resolving stop ≡ Read given → stop ≡ resolving.Read given
+reads-resolving (resolving.Broken number) given same = absurd (cc)
+reads-resolving (resolving.Read stop) given same = cc
 
 -- the rules that are tried
-pub tried-resolving : (proposed : Bool) (stop : TxStop) (rule : ℕ) → ((number : ℕ) → stop ≡ resolving.Broken number → IsTried number)
-    → of_resolving proposed stop ≡ Broken rule → IsTriedOnTransaction rule
+pub tried-resolving : (proposed : Bool) (stop : TxStop) (rule : ℕ) → ((number : ℕ) → stop ≡ resolving.Broken number → IsTried proposed number)
+    → of_resolving stop ≡ Broken rule → IsTriedOnTransaction rule
 tried-resolving proposed (resolving.Read stop) rule tried same = absurd (cc)
-tried-resolving proposed (resolving.Broken number) rule tried same = by_test (eqb number 18 || proposed) by_rule (tried number refl)
+tried-resolving proposed (resolving.Broken number) rule tried same = by_tried by_rule (tried number refl)
   where
-    by_rule : with_proposed proposed number ≡ rule
+    by_rule : number ≡ rule
     by_rule = cc
 
-    by_test : (b : Bool) → cond b number 19 ≡ rule → IsTried number → IsTriedOnTransaction rule
-    by_test true is (inl its) = (omega (arith, is, its), omega (arith, is, its))
-    by_test true is (inr its) = (omega (arith, is, its.0), omega (arith, is, its.1))
-    by_test false is its = (omega (arith, is), omega (arith, is))
+    by_tried : number ≡ rule → IsTried proposed number → IsTriedOnTransaction rule
+    by_tried is (inl its) = (omega (arith, is, its), omega (arith, is, its))
+    by_tried is (inr (inl its)) = let at = its.0 in (omega (arith, is, at), omega (arith, is, at))
+    by_tried is (inr (inr its)) = (omega (arith, is, its.0), omega (arith, is, its.1))
 
-pub alone-resolving : (proposed : Bool) (stop : TxStop) (rule : ℕ) → proposed ≡ true → ((number : ℕ) → stop ≡ resolving.Broken number → IsTried number)
-    → of_resolving proposed stop ≡ Broken rule → IsTriedAlone rule
+pub alone-resolving : (proposed : Bool) (stop : TxStop) (rule : ℕ) → proposed ≡ true
+    → ((number : ℕ) → stop ≡ resolving.Broken number → IsTried proposed number) → of_resolving stop ≡ Broken rule → IsTriedAlone rule
 alone-resolving proposed (resolving.Read stop) rule alone tried same = absurd (cc)
-alone-resolving false (resolving.Broken number) rule alone tried same = absurd (cc)
-alone-resolving true (resolving.Broken number) rule alone tried same = by_test (eqb number 18) by_rule (tried number refl)
+alone-resolving proposed (resolving.Broken number) rule alone tried same = by_tried by_rule (tried number refl)
   where
-    by_rule : with_proposed true number ≡ rule
+    by_rule : number ≡ rule
     by_rule = cc
 
-    by_test : (b : Bool) → cond (b || true) number 19 ≡ rule → IsTried number → IsTriedAlone rule
-    by_test true is its = tries is its
-      where
-        tries : number ≡ rule → IsTried number → IsTriedAlone rule
-        tries is (inl its) = inl (omega (arith, is, its))
-        tries is (inr its) = inr (omega (arith, is, its.0), omega (arith, is, its.1))
-    by_test false is its = tries is its
-      where
-        tries : number ≡ rule → IsTried number → IsTriedAlone rule
-        tries is (inl its) = inl (omega (arith, is, its))
-        tries is (inr its) = inr (omega (arith, is, its.0), omega (arith, is, its.1))
-
-unproposed : (form : Bool) (cells later : List (ℕ × Bool)) → first_failing ((18, form) ∷ cells) ≡ None → first_failing ((18, form) ∷ (19, false) ∷ later) ≡ Some 19
-unfolding first_failing
-unproposed true cells later is = refl
-unproposed false cells later is = absurd (cc)
-
--- one that is not proposed and keeps the other rules up to its scripts
-pub breaks-proposed : (site : Site) (t : Transaction) (scripts : List (ℕ × Bool)) (proposed : Bool) → proposed ≡ false → broken_transaction_rule site t ≡ None
-    → first_failing (form_rules t ++ (19, proposed) ∷ cell_rules site t ++ scripts) ≡ Some 19
-unfolding broken_transaction_rule
-breaks-proposed site t scripts proposed unnamed is =
-    ap (λ (b : Bool). first_failing (form_rules t ++ (19, b) ∷ cell_rules site t ++ scripts)) unnamed
-    ∙ unproposed (has_form t) (cell_rules site t) (cell_rules site t ++ scripts) is
-
-behind : (form proposed : Bool) (cells scripts : List (ℕ × Bool)) → proposed ≡ true → first_failing ((18, form) ∷ cells) ≡ None
-    → first_failing ((18, form) ∷ (19, proposed) ∷ cells ++ scripts) ≡ first_failing scripts
-unfolding first_failing
-behind true true cells scripts named is = first_failing-append-holds cells scripts ((finds_none cells).0 is)
-behind true false cells scripts named is = absurd (cc)
-behind false proposed cells scripts named is = absurd (cc)
+    by_tried : number ≡ rule → IsTried proposed number → IsTriedAlone rule
+    by_tried is (inl its) = inl (omega (arith, is, its))
+    by_tried is (inr (inl its)) = let bad = its.1 in absurd (not_both alone bad)
+    by_tried is (inr (inr its)) = inr (omega (arith, is, its.0), omega (arith, is, its.1))
 
 -- One that keeps them is judged by its scripts.
-pub leaves-scripts : (site : Site) (t : Transaction) (scripts : List (ℕ × Bool)) (proposed : Bool) → proposed ≡ true → broken_transaction_rule site t ≡ None
+pub leaves-scripts : (site : Site) (t : Transaction) (scripts : List (ℕ × Bool)) (proposed : Bool) → first_failing (rules_to_27 proposed site t) ≡ None
     → first_failing (form_rules t ++ (19, proposed) ∷ cell_rules site t ++ scripts) ≡ first_failing scripts
-unfolding broken_transaction_rule
-leaves-scripts site t scripts proposed named is = behind (has_form t) proposed (cell_rules site t) scripts named is
+leaves-scripts site t scripts proposed is =
+    first_failing-append-holds (rules_to_27 proposed site t) scripts ((finds_none (rules_to_27 proposed site t)).0 is)
 
 -- ---- Steps
 

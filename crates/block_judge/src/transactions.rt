@@ -56,12 +56,12 @@ fn freed_with(tx: &TxView<'_>, inputs: &[Resolved]) -> u128
     freed
 }
 
-/// What a stop of resolving is answered as: J19 is tried behind J18 and before the rules on the cells.
-fn stopped(stop: TxStop, proposed: bool) -> Judged
-    ensures { result ≡ of_resolving proposed stop }
+/// What a stop of resolving is answered as.
+fn stopped(stop: TxStop) -> Judged
+    ensures { result ≡ of_resolving stop }
 {
     match stop {
-        TxStop::Broken(rule) => Judged::Broken(if rule == 18 || proposed { rule } else { 19 }),
+        TxStop::Broken(rule) => Judged::Broken(rule),
         TxStop::Read(stop) => Judged::Read(stop),
     }
 }
@@ -111,18 +111,14 @@ pub(crate) fn judge_transaction<C: Cells, B: Blocks>(
     ensures damage { (damage : Damage) → result ≡ Err (Read (Damaged damage)) → damage.area ≡ Log }
     ensures cause { CountsFault (B.faults blocks.old) (B.faults blocks.new) (result ≡ Err (Read DiskFault)) }
 {
-    let ok = match resolve(alloc, tx, at, cells, blocks) {
+    let ok = match resolve(alloc, tx, at, proposed, cells, blocks) {
         Ok(ok) => ok,
-        Err(stop) => return Err(stopped(stop, proposed)),
+        Err(stop) => return Err(stopped(stop)),
     };
-    // What was resolved is dropped by a call, which is one step of the proof; else each of its fields is one.
-    if !proposed {
-        drop(ok);
-        return Err(Judged::Broken(19));
-    }
     let cycles = match run_scripts(alloc, at, &ok.resolved, blocks, left) {
         Ok(cycles) => cycles,
         Err(stop) => {
+            // What was resolved is dropped by a call, which is one step of the proof; else each of its fields is one.
             drop(ok);
             return Err(stop);
         }

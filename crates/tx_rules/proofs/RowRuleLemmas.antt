@@ -1,4 +1,4 @@
--- J18 and J20 by the rows alone, and what stops behind them.
+-- J18 to J20 by the rows alone, and what stops behind them.
 use Rattle.std.proofs.Common.{◌≡◌, ℕ, ◌<◌, Bool, true, false, cond, Option, None, List, Result, Ok, Err, refl, ap, ◌∙◌, subst, inl, inr, arith}
 use Rattle.std.specs.Prelude.{is_some, ◌≤◌}
 use Rattle.codec_defs.specs.Schema.{OutPoint, Transaction}
@@ -59,63 +59,88 @@ later-read NoMemory in_log = tt
 later-read (Damaged damage) in_log = in_log damage refl
 
 -- what stops later is a stop
-pub later-stops : (stop : TxStop) → IsLater stop → IsStop stop
-later-stops (Broken rule) later = inr (let above = later.0 in omega (arith, above), later.1)
-later-stops (Read DiskFault) later = tt
-later-stops (Read NoMemory) later = tt
-later-stops (Read (Damaged damage)) later = later
+pub later-stops : (proposed : Bool) (stop : TxStop) → IsLater stop → IsStop proposed stop
+later-stops proposed (Broken rule) later = inr (inr (let above = later.0 in omega (arith, above), later.1))
+later-stops proposed (Read DiskFault) later = tt
+later-stops proposed (Read NoMemory) later = tt
+later-stops proposed (Read (Damaged damage)) later = later
 
 -- ---- Each answer
 
-pub tried-18 : IsTried 18
-tried-18 = inl refl
+pub tried-18 : (proposed : Bool) → IsTried proposed 18
+tried-18 proposed = inl refl
 
-pub tried-20 : IsTried 20
-tried-20 = inr (omega arith, omega arith)
+pub tried-19 : (proposed : Bool) → proposed ≡ false → IsTried proposed 19
+tried-19 proposed bad = inr (inl (refl, bad))
 
-pub follows-memory : {T : Type 0} (rows : OutPoint → Option Row) (t : Transaction) → FollowsRows {T = T} rows t (Err (Read NoMemory))
-follows-memory rows t = record {
+pub tried-20 : (proposed : Bool) → IsTried proposed 20
+tried-20 proposed = inr (inr (omega arith, omega arith))
+
+pub follows-memory : {T : Type 0} (proposed : Bool) (rows : OutPoint → Option Row) (t : Transaction) → FollowsRows {T = T} proposed rows t (Err (Read NoMemory))
+follows-memory proposed rows t = record {
   formless = λ bad. inr refl;
-  lost = λ form bad. inr refl;
+  unproposed = λ form bad. inr refl;
+  lost = λ form named bad. inr refl;
   form = λ same. absurd (cc);
+  named = λ same. absurd (cc);
   live = λ same. absurd (cc);
 }
 
-pub follows-form : {T : Type 0} (rows : OutPoint → Option Row) (t : Transaction) → has_form t ≡ false → FollowsRows {T = T} rows t (Err (Broken 18))
-follows-form rows t bad = record {
+pub follows-form : {T : Type 0} (proposed : Bool) (rows : OutPoint → Option Row) (t : Transaction) → has_form t ≡ false
+    → FollowsRows {T = T} proposed rows t (Err (Broken 18))
+follows-form proposed rows t bad = record {
   formless = λ again. inl refl;
-  lost = λ form again. absurd (cc);
+  unproposed = λ form again. absurd (cc);
+  lost = λ form named again. absurd (cc);
   form = λ same. bad;
+  named = λ same. absurd (cc);
   live = λ same. absurd (cc);
 }
 
-pub follows-lost : {T : Type 0} (rows : OutPoint → Option Row) (t : Transaction) → has_form t ≡ true → spends_rows rows t ≡ false
-    → FollowsRows {T = T} rows t (Err (Broken 20))
-follows-lost rows t form bad = record {
+pub follows-unproposed : {T : Type 0} (proposed : Bool) (rows : OutPoint → Option Row) (t : Transaction) → has_form t ≡ true → proposed ≡ false
+    → FollowsRows {T = T} proposed rows t (Err (Broken 19))
+follows-unproposed proposed rows t form bad = record {
   formless = λ other. absurd (cc);
-  lost = λ same again. inl refl;
+  unproposed = λ same again. inl refl;
+  lost = λ same other lost. absurd (cc);
   form = λ same. absurd (cc);
-  live = λ same. (form, bad);
+  named = λ same. (form, bad);
+  live = λ same. absurd (cc);
 }
 
--- where both are kept it stops later
-pub follows-kept : {T : Type 0} (rows : OutPoint → Option Row) (t : Transaction) (result : Result T TxStop) → has_form t ≡ true → spends_rows rows t ≡ true
-    → StopsLater result → FollowsRows rows t result
-follows-kept rows t result form spends later = record {
+pub follows-lost : {T : Type 0} (proposed : Bool) (rows : OutPoint → Option Row) (t : Transaction) → has_form t ≡ true → proposed ≡ true
+    → spends_rows rows t ≡ false → FollowsRows {T = T} proposed rows t (Err (Broken 20))
+follows-lost proposed rows t form named bad = record {
   formless = λ other. absurd (cc);
-  lost = λ same other. absurd (cc);
+  unproposed = λ same other. absurd (cc);
+  lost = λ same again lost. inl refl;
+  form = λ same. absurd (cc);
+  named = λ same. absurd (cc);
+  live = λ same. (form, (named, bad));
+}
+
+-- where all three are kept it stops later
+pub follows-kept : {T : Type 0} (proposed : Bool) (rows : OutPoint → Option Row) (t : Transaction) (result : Result T TxStop) → has_form t ≡ true
+    → proposed ≡ true → spends_rows rows t ≡ true → StopsLater result → FollowsRows proposed rows t result
+follows-kept proposed rows t result form named spends later = record {
+  formless = λ other. absurd (cc);
+  unproposed = λ same other. absurd (cc);
+  lost = λ same again other. absurd (cc);
   form = λ same. absurd (let high = later-rule result 18 later same in omega (arith, high));
+  named = λ same. absurd (let high = later-rule result 19 later same in omega (arith, high));
   live = λ same. absurd (let high = later-rule result 20 later same in omega (arith, high));
 }
 
 -- ---- Handed on
 
-pub follows-on : {T U : Type 0} (rows : OutPoint → Option Row) (t : Transaction) (stop : TxStop) → FollowsRows {T = T} rows t (Err stop)
-    → FollowsRows {T = U} rows t (Err stop)
-follows-on rows t stop follows = record {
+pub follows-on : {T U : Type 0} (proposed : Bool) (rows : OutPoint → Option Row) (t : Transaction) (stop : TxStop)
+    → FollowsRows {T = T} proposed rows t (Err stop) → FollowsRows {T = U} proposed rows t (Err stop)
+follows-on proposed rows t stop follows = record {
   formless = follows.formless;
+  unproposed = follows.unproposed;
   lost = follows.lost;
   form = λ same. follows.form (cc);
+  named = λ same. follows.named (cc);
   live = λ same. follows.live (cc);
 }
 
@@ -124,9 +149,13 @@ by_true : (b : Bool) → (b ≡ false → ⊥) → b ≡ true
 by_true true none = refl
 by_true false none = absurd (none refl)
 
-pub follows-behind : {T U : Type 0} (rows : OutPoint → Option Row) (t : Transaction) (v : T) (result : Result U TxStop) → FollowsRows {T = T} rows t (Ok v)
-    → StopsLater result → FollowsRows rows t result
-follows-behind rows t v result done later = follows-kept rows t result form (by_true (spends_rows rows t) (done.lost form)) later
+pub follows-behind : {T U : Type 0} (proposed : Bool) (rows : OutPoint → Option Row) (t : Transaction) (v : T) (result : Result U TxStop)
+    → FollowsRows {T = T} proposed rows t (Ok v) → StopsLater result → FollowsRows proposed rows t result
+follows-behind proposed rows t v result done later =
+    follows-kept proposed rows t result form named (by_true (spends_rows rows t) (done.lost form named)) later
   where
     form : has_form t ≡ true
     form = by_true (has_form t) done.formless
+
+    named : proposed ≡ true
+    named = by_true proposed (done.unproposed form)

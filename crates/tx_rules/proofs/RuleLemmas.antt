@@ -21,28 +21,39 @@ use Rattle.tx_defs.specs.Resolving.{input_cells, spends_each_once, spends_live_c
 use Rattle.tx_defs.specs.Age.{is_mature, uses_mature_cells, meets_each_since}
 use Rattle.tx_defs.specs.Withdrawals.{names_deposits}
 use Rattle.tx_defs.specs.Capacity.{makes_good_cells, balances}
-use Rattle.tx_defs.specs.Rules.{has_form, broken_transaction_rule}
+use Rattle.tx_defs.specs.Rules.{has_form}
 use Rattle.tx_rules.specs.At.{AtValue, IsSiteOf, place_of_height, found_row, find_row, named_rows, input_rows, spends_rows}
 use Rattle.tx_rules.specs.Copying.{row_in}
-use Rattle.tx_rules.specs.Outcome.{IsTried}
+use Rattle.tx_rules.specs.Outcome.{IsTried, rules_to_27}
 use Rattle.tx_rules.specs.Steps.{spending_rules, naming_rules, using_rules, finding_rules, paying_rules, StopsAt, Tells, Stops}
 use Rattle.tx_rules.specs.declared.resolving.TxStop.{TxStop}
 use Rattle.tx_rules.specs.declared.resolving.TxStop.TheVariants.{Broken, Read}
 use Rattle.tx_rules.proofs.AllThere.{all_there-back}
 use Rattle.tx_rules.proofs.SiteLemmas.{input_rows-cells}
 
--- ---- Form and inputs
+-- ---- Form, proposal and inputs
 
-pub no-form : (site : Site) (t : Transaction) → has_form t ≡ false → first_failing (spending_rules site t) ≡ Some 18
-no-form site t form = first_failing-fails 18 (has_form t) ((20, spends_live_cells site t) ∷ []) form
+pub no-form : (proposed : Bool) (site : Site) (t : Transaction) → has_form t ≡ false → first_failing (spending_rules proposed site t) ≡ Some 18
+no-form proposed site t form = first_failing-fails 18 (has_form t) ((19, proposed) ∷ (20, spends_live_cells site t) ∷ []) form
 
-pub spends-badly : (site : Site) (t : Transaction) → has_form t ≡ true → spends_live_cells site t ≡ false → first_failing (spending_rules site t) ≡ Some 20
-spends-badly site t form spends =
-    first_failing-holds 18 (has_form t) ((20, spends_live_cells site t) ∷ []) form ∙ first_failing-fails 20 (spends_live_cells site t) [] spends
+pub not-proposed : (proposed : Bool) (site : Site) (t : Transaction) → has_form t ≡ true → proposed ≡ false
+    → first_failing (spending_rules proposed site t) ≡ Some 19
+not-proposed proposed site t form bad =
+    first_failing-holds 18 (has_form t) ((19, proposed) ∷ (20, spends_live_cells site t) ∷ []) form
+    ∙ first_failing-fails 19 proposed ((20, spends_live_cells site t) ∷ []) bad
 
-pub spends-well : (site : Site) (t : Transaction) → has_form t ≡ true → spends_live_cells site t ≡ true → first_failing (spending_rules site t) ≡ None
-spends-well site t form spends =
-    first_failing-holds 18 (has_form t) ((20, spends_live_cells site t) ∷ []) form
+pub spends-badly : (proposed : Bool) (site : Site) (t : Transaction) → has_form t ≡ true → proposed ≡ true → spends_live_cells site t ≡ false
+    → first_failing (spending_rules proposed site t) ≡ Some 20
+spends-badly proposed site t form named spends =
+    first_failing-holds 18 (has_form t) ((19, proposed) ∷ (20, spends_live_cells site t) ∷ []) form
+    ∙ first_failing-holds 19 proposed ((20, spends_live_cells site t) ∷ []) named
+    ∙ first_failing-fails 20 (spends_live_cells site t) [] spends
+
+pub spends-well : (proposed : Bool) (site : Site) (t : Transaction) → has_form t ≡ true → proposed ≡ true → spends_live_cells site t ≡ true
+    → first_failing (spending_rules proposed site t) ≡ None
+spends-well proposed site t form named spends =
+    first_failing-holds 18 (has_form t) ((19, proposed) ∷ (20, spends_live_cells site t) ∷ []) form
+    ∙ first_failing-holds 19 proposed ((20, spends_live_cells site t) ∷ []) named
     ∙ first_failing-holds 20 (spends_live_cells site t) [] spends ∙ first_failing-none
 
 -- a list that is found for one that is
@@ -170,9 +181,9 @@ stops-back front back (Read (Damaged damage)) none is = is
 
 -- ---- All of them
 
-pub all-rules : (site : Site) (t : Transaction) → broken_transaction_rule site t ≡ first_failing (finding_rules site t ++ paying_rules site t)
-unfolding broken_transaction_rule
-all-rules site t = refl
+pub all-rules : (proposed : Bool) (site : Site) (t : Transaction)
+    → first_failing (rules_to_27 proposed site t) ≡ first_failing (finding_rules proposed site t ++ paying_rules site t)
+all-rules proposed site t = refl
 
 -- both groups are kept
 pub keeps-all : (front back : List (ℕ × Bool)) → first_failing front ≡ None → first_failing back ≡ None → first_failing (front ++ back) ≡ None
@@ -186,16 +197,19 @@ spent-inputs stored at rows site t spent is some =
 
 -- ---- What the whole answers
 
-pub tried-of : {T : Type 0} (result : Result T TxStop) (rule : ℕ) → Stops result → result ≡ Err (Broken rule) → IsTried rule
-tried-of {T = T} result rule stops same = subst (λ (r : Result T TxStop). Stops r) same stops
+pub tried-of : {T : Type 0} (proposed : Bool) (result : Result T TxStop) (rule : ℕ) → Stops proposed result → result ≡ Err (Broken rule)
+    → IsTried proposed rule
+tried-of {T = T} proposed result rule stops same = subst (λ (r : Result T TxStop). Stops proposed r) same stops
 
-pub damage-of : {T : Type 0} (result : Result T TxStop) (damage : Damage) → Stops result → result ≡ Err (Read (Damaged damage)) → damage.area ≡ Log
-damage-of {T = T} result damage stops same = subst (λ (r : Result T TxStop). Stops r) same stops
+pub damage-of : {T : Type 0} (proposed : Bool) (result : Result T TxStop) (damage : Damage) → Stops proposed result
+    → result ≡ Err (Read (Damaged damage)) → damage.area ≡ Log
+damage-of {T = T} proposed result damage stops same = subst (λ (r : Result T TxStop). Stops proposed r) same stops
 
-pub broken-of : {T : Type 0} (site : Site) (t : Transaction) (result : Result T TxStop) (rule : ℕ) → Tells (finding_rules site t ++ paying_rules site t) result
-    → result ≡ Err (Broken rule) → broken_transaction_rule site t ≡ Some rule
-broken-of {T = T} site t result rule tells same =
-    all-rules site t ∙ subst (λ (r : Result T TxStop). Tells (finding_rules site t ++ paying_rules site t) r) same tells
+pub broken-of : {T : Type 0} (proposed : Bool) (site : Site) (t : Transaction) (result : Result T TxStop) (rule : ℕ)
+    → Tells (finding_rules proposed site t ++ paying_rules site t) result → result ≡ Err (Broken rule)
+    → first_failing (rules_to_27 proposed site t) ≡ Some rule
+broken-of {T = T} proposed site t result rule tells same =
+    all-rules proposed site t ∙ subst (λ (r : Result T TxStop). Tells (finding_rules proposed site t ++ paying_rules site t) r) same tells
 
 pub undamaged-of : {T : Type 0} (rules : List (ℕ × Bool)) (result : Result T TxStop) (damage : Damage) → Tells rules result
     → result ≡ Err (Read (Damaged damage)) → ⊥

@@ -1,5 +1,5 @@
 -- What a transaction resolves to.
-use Rattle.std.specs.Prelude.{◌≡◌, ◌⊎◌, ℕ, ◌≤◌, false, List, ◌++◌, map, Option, Some, None, Result, Err, IsErrAnd, IsTrue, IsSome, slice_index}
+use Rattle.std.specs.Prelude.{◌≡◌, ◌⊎◌, ℕ, ◌≤◌, Bool, false, List, ◌∷◌, ◌++◌, map, Option, Some, None, Result, Err, IsErrAnd, IsTrue, IsSome, slice_index}
 use Rattle.std.specs.List.{All, AllZip}
 use Rattle.codec_defs.specs.Shape.{decoded}
 use Rattle.codec_defs.specs.Schema.{OutPoint, Transaction, cell_output, Block}
@@ -12,7 +12,7 @@ use Rattle.cell_defs.specs.Row.{Row}
 use Rattle.cell_model.specs.Copies.{ResolvedValue, ResolvedTxValue, IsCopyOf}
 use Rattle.tx_defs.specs.Site.{Site, Found}
 use Rattle.tx_defs.specs.Resolving.{inputs, deps, heights}
-use Rattle.tx_defs.specs.Rules.{has_form}
+use Rattle.tx_defs.specs.Rules.{has_form, form_rules, cell_rules}
 use Rattle.tx_defs.specs.Capacity as capacity
 use Rattle.tx_rules.specs.At.{found_row, spends_rows}
 use Rattle.tx_rules.specs.declared.capacity.Balance.{Balance}
@@ -44,17 +44,23 @@ pub record IsResolved (kept : List Block) (parent : ℕ) (site : Site) (t : Tran
 abbrev pub IsStopAt : ℕ → TxStop → Type 0
 IsStopAt rule stop = (stop ≡ Broken rule) ⊎ (stop ≡ Read NoMemory)
 
--- J18 and J20 over any source of blocks: an answer says of them what the transaction and the rows do.
-pub record FollowsRows {T : Type 0} (rows : OutPoint → Option Row) (t : Transaction) (result : Result T TxStop) : Type 0 where
+-- J18 to J20 over any source of blocks: an answer says of them what the transaction, its proposal and the rows do.
+pub record FollowsRows {T : Type 0} (proposed : Bool) (rows : OutPoint → Option Row) (t : Transaction) (result : Result T TxStop) : Type 0 where
   pub formless : has_form t ≡ false → IsErrAnd result (IsStopAt 18)
-  pub lost : IsTrue (has_form t) → spends_rows rows t ≡ false → IsErrAnd result (IsStopAt 20)
+  pub unproposed : IsTrue (has_form t) → proposed ≡ false → IsErrAnd result (IsStopAt 19)
+  pub lost : IsTrue (has_form t) → IsTrue proposed → spends_rows rows t ≡ false → IsErrAnd result (IsStopAt 20)
   -- and the other way
   pub form : result ≡ Err (Broken 18) → has_form t ≡ false
-  pub live : result ≡ Err (Broken 20) → IsTrue (has_form t) × (spends_rows rows t ≡ false)
+  pub named : result ≡ Err (Broken 19) → IsTrue (has_form t) × (proposed ≡ false)
+  pub live : result ≡ Err (Broken 20) → IsTrue (has_form t) × (IsTrue proposed × (spends_rows rows t ≡ false))
 
--- the rules that are tried
-abbrev pub IsTried : ℕ → Type 0
-IsTried rule = (rule ≡ 18) ⊎ ((20 ≤ rule) × (rule ≤ 27))
+-- the rules that are tried: J19 is broken only where it is not proposed
+abbrev pub IsTried : Bool → ℕ → Type 0
+IsTried proposed rule = (rule ≡ 18) ⊎ (((rule ≡ 19) × (proposed ≡ false)) ⊎ ((20 ≤ rule) × (rule ≤ 27)))
+
+-- The rules on it up to J27, in their order, where it is told whether its id is proposed.
+abbrev pub rules_to_27 : Bool → Site → Transaction → List (ℕ × Bool)
+rules_to_27 proposed site t = form_rules t ++ (19, proposed) ∷ cell_rules site t
 
 -- A balance: none exactly where the capacity rule is broken, and else the fee and the interest.
 abbrev pub IsBalanceOf : Site → Transaction → Option Balance → Type 0

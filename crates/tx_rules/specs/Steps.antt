@@ -20,9 +20,9 @@ use Rattle.tx_rules.specs.declared.resolving.TxStop.TheVariants.{Broken, Read}
 
 -- ---- The rules in groups, in their order
 
--- on its form and its inputs
-abbrev pub spending_rules : Site → Transaction → List (ℕ × Bool)
-spending_rules site t = (18, has_form t) ∷ (20, spends_live_cells site t) ∷ []
+-- on its form, its proposal and its inputs
+abbrev pub spending_rules : Bool → Site → Transaction → List (ℕ × Bool)
+spending_rules proposed site t = (18, has_form t) ∷ (19, proposed) ∷ (20, spends_live_cells site t) ∷ []
 
 -- on its deps
 abbrev pub naming_rules : Site → Transaction → List (ℕ × Bool)
@@ -33,10 +33,10 @@ abbrev pub using_rules : Site → Transaction → List (ℕ × Bool)
 using_rules site t = (23, uses_mature_cells site t) ∷ (24, meets_each_since site t) ∷ (25, makes_good_cells site t) ∷ []
 
 -- those that take no copy of a cell
-abbrev pub finding_rules : Site → Transaction → List (ℕ × Bool)
-finding_rules site t =
-    (18, has_form t) ∷ (20, spends_live_cells site t) ∷ (21, has_cell_deps site t) ∷ (22, has_header_deps site t) ∷ (23, uses_mature_cells site t)
-    ∷ (24, meets_each_since site t) ∷ (25, makes_good_cells site t) ∷ []
+abbrev pub finding_rules : Bool → Site → Transaction → List (ℕ × Bool)
+finding_rules proposed site t =
+    (18, has_form t) ∷ (19, proposed) ∷ (20, spends_live_cells site t) ∷ (21, has_cell_deps site t) ∷ (22, has_header_deps site t)
+    ∷ (23, uses_mature_cells site t) ∷ (24, meets_each_since site t) ∷ (25, makes_good_cells site t) ∷ []
 
 -- on withdrawals and capacity
 abbrev pub paying_rules : Site → Transaction → List (ℕ × Bool)
@@ -57,17 +57,17 @@ Tells rules (Ok v) = first_failing rules ≡ None
 Tells rules (Err stop) = StopsAt rules stop
 
 -- why a step stops, whatever is told: at a rule that is tried, and what is damaged stands in LOG
-abbrev pub IsStop : TxStop → Type 0
-IsStop (Broken rule) = IsTried rule
-IsStop (Read DiskFault) = Unit {0}
-IsStop (Read NoMemory) = Unit {0}
-IsStop (Read (Damaged damage)) = damage.area ≡ Log
+abbrev pub IsStop : Bool → TxStop → Type 0
+IsStop proposed (Broken rule) = IsTried proposed rule
+IsStop proposed (Read DiskFault) = Unit {0}
+IsStop proposed (Read NoMemory) = Unit {0}
+IsStop proposed (Read (Damaged damage)) = damage.area ≡ Log
 
-abbrev pub Stops : {T : Type 0} → Result T TxStop → Type 0
-Stops (Ok v) = Unit {0}
-Stops (Err stop) = IsStop stop
+abbrev pub Stops : {T : Type 0} → Bool → Result T TxStop → Type 0
+Stops proposed (Ok v) = Unit {0}
+Stops proposed (Err stop) = IsStop proposed stop
 
--- behind J18 and J20 a step stops at a later rule
+-- behind J18 to J20 a step stops at a later rule
 abbrev pub IsLater : TxStop → Type 0
 IsLater (Broken rule) = (20 < rule) × (rule ≤ 27)
 IsLater (Read DiskFault) = Unit {0}

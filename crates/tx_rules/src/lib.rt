@@ -1,11 +1,11 @@
-//! The rules on one transaction behind the cellbase, J18 and J20 to J27 (docs/RULES.md, "A block").
+//! The rules on one transaction behind the cellbase, J18 to J27 (docs/RULES.md, "A block").
 //!
 //! [`resolve`] is the contract of use: over a tree, the live cells that the transaction sees and a source of kept
 //! blocks it answers the least of these rules that is broken, exactly by `tx_defs`, and otherwise the transaction with
-//! copies of the cells of its inputs and deps, its fee and its interest. What it answers of J18 and J20 stands on the
-//! transaction and the rows of its inputs alone, whatever the source tells. It copies the cells of the inputs where J18
-//! to J25 are kept, those of the deps where all are, and no other. That the transaction was proposed (J19), and what
-//! its scripts say (J28 to J30), is left to others.
+//! copies of the cells of its inputs and deps, its fee and its interest. What it answers of J18 to J20 stands on the
+//! transaction, its proposal and the rows of its inputs alone, whatever the source tells. It copies the cells of the
+//! inputs where J18 to J25 are kept, those of the deps where all are, and no other. Whether the transaction's id is
+//! proposed (J19) it is told; what its scripts say (J28 to J30) is left to others.
 //!
 //! Its work is linear in the transaction and the cells that it names, the members of a dep group with them, but for
 //! three things. A kept block is read whole: once for all cells of inputs that it made, once for all those of deps, and

@@ -12,7 +12,7 @@ ghost use Rattle.chain_defs.specs.Branch.{branch_places};
 ghost use Rattle.chain_tree.specs.Entries.{place_of_hash};
 ghost use Rattle.chain_tree.specs.Told.{Stored, blocks_of};
 ghost use Rattle.tx_defs.specs.Site.{Site};
-ghost use Rattle.tx_defs.specs.Rules.{broken_transaction_rule};
+ghost use Rattle.fold_defs.specs.First.{first_failing};
 ghost use Rattle.tx_defs.specs.Rules as defs;
 ghost use Rattle.tx_defs.specs.Capacity as rules;
 ghost use Rattle.tx_defs.specs.Resolving.{inputs, deps, heights};
@@ -21,7 +21,7 @@ ghost use Rattle.tx_rules.specs.Steps.{spending_rules, naming_rules, using_rules
 ghost use Rattle.tx_rules.specs.declared.resolving.TxStop.TheVariants.{Read};
 ghost use Rattle.tx_rules.specs.Source.{IsSameSource};
 ghost use Rattle.tx_rules.specs.Copying.{row_in, CopiesItsRow, HoldsOutput};
-ghost use Rattle.tx_rules.specs.Outcome.{Copies, FollowsRows, IsFormed, IsResolved, IsTried};
+ghost use Rattle.tx_rules.specs.Outcome.{Copies, FollowsRows, IsFormed, IsResolved, IsTried, rules_to_27};
 
 use crate::age::{are_mature, meets_each_since};
 use crate::at::TxAt;
@@ -39,7 +39,7 @@ use mol_schema::TxView;
 use outside::{Damage, NoMemory, ReadStop};
 use std::alloc::Global;
 
-/// A transaction that keeps J18 and J20 to J27.
+/// A transaction that keeps J18 to J27.
 #[derive(Drop)]
 pub struct TxOk<'a> {
     pub resolved: ResolvedTx<'a>,
@@ -53,13 +53,13 @@ pub struct TxOk<'a> {
 /// Why a transaction was not resolved.
 #[derive(Clone, Copy)]
 pub enum TxStop {
-    /// The first rule that it breaks: 18, or one of 20 to 27.
+    /// The first rule that it breaks: one of 18 to 27.
     Broken(u8),
     /// The kept blocks could not be read, or there was no memory.
     Read(ReadStop),
 }
 
-/// What is found of a transaction that keeps J18 and J20 to J25: its hash, the rows of the cells of its inputs and of
+/// What is found of a transaction that keeps J18 to J25: its hash, the rows of the cells of its inputs and of
 /// its resolved deps, and the places of its header deps.
 #[derive(Drop)]
 struct Finding {
@@ -77,16 +77,17 @@ struct Copying {
     balance: Balance,
 }
 
-/// J18 and J20: the rows of its inputs.
+/// J18 to J20: the rows of its inputs.
 fn spent_rows<C: Cells>(
     alloc: Global,
     tx: &TxView<'_>,
+    proposed: bool,
     cells: &C,
 ) -> Result<Vec<(OutPoint, CellMeta)>, TxStop>
-    ensures stops { Stops result }
-    ensures by_rows { FollowsRows (C.rows cells.now) tx.now result }
+    ensures stops { Stops proposed result }
+    ensures by_rows { FollowsRows proposed (C.rows cells.now) tx.now result }
     ensures unread { result ≡ Err (Read DiskFault) → ⊥ }
-    ensures tells { (stored : List Stored) (at : AtValue) (site : Site) → IsSiteOf stored at (C.rows cells.now) site → Tells (spending_rules site tx.now) result }
+    ensures tells { (stored : List Stored) (at : AtValue) (site : Site) → IsSiteOf stored at (C.rows cells.now) site → Tells (spending_rules proposed site tx.now) result }
     ensures form { IfOk result (λ _. IsTrue (defs.has_form tx.now)) }
     ensures rows { IfOk result (λ rows. input_rows (C.rows cells.now) tx.now ≡ Some rows.items) }
 {
@@ -94,6 +95,9 @@ fn spent_rows<C: Cells>(
         Ok(true) => {}
         Ok(false) => return Err(TxStop::Broken(18)),
         Err(NoMemory) => return Err(TxStop::Read(ReadStop::NoMemory)),
+    }
+    if !proposed {
+        return Err(TxStop::Broken(19));
     }
     match are_inputs_distinct(alloc, tx) {
         Ok(true) => {}
@@ -211,21 +215,22 @@ fn paid_by(
     }
 }
 
-/// J18 and J20 to J25, which take no copy of a cell.
+/// J18 to J25, which take no copy of a cell.
 fn find<C: Cells, B: Blocks>(
     alloc: Global,
     tx: &TxView<'_>,
     at: &TxAt<'_>,
+    proposed: bool,
     cells: &C,
     blocks: &mut B,
 ) -> Result<Finding, TxStop>
     requires placed { IsPlaced at.now }
     requires counts { B.count blocks.old ≡ length at.now.entries }
     ensures source { IsSameSource B.told B.count B.loans_of blocks.old blocks.new }
-    ensures stops { Stops result }
-    ensures by_rows { FollowsRows (C.rows cells.now) tx.now result }
+    ensures stops { Stops proposed result }
+    ensures by_rows { FollowsRows proposed (C.rows cells.now) tx.now result }
     ensures tells { (stored : List Stored) (site : Site) → B.told blocks.old ≡ Some stored → IsSiteOf stored at.now (C.rows cells.now) site
-        → Tells (finding_rules site tx.now) result }
+        → Tells (finding_rules proposed site tx.now) result }
     ensures found { (stored : List Stored) (site : Site) → B.told blocks.old ≡ Some stored → IsSiteOf stored at.now (C.rows cells.now) site
         → IfOk result (λ it. AreFound (blocks_of stored) at.now.parent site tx.now it.spent.items it.named.items it.places.items) }
     ensures form { IfOk result (λ _. IsTrue (defs.has_form tx.now)) }
@@ -234,7 +239,7 @@ fn find<C: Cells, B: Blocks>(
     ensures headers { IfOk result (λ it. AllZip (λ hash place. place_of_hash at.now.entries hash ≡ Some place) tx.now.raw.header_deps it.places.items) }
     ensures cause { CountsFault (B.faults blocks.old) (B.faults blocks.new) (result ≡ Err (Read DiskFault)) }
 {
-    let spent = match spent_rows(alloc, tx, cells) {
+    let spent = match spent_rows(alloc, tx, proposed, cells) {
         Ok(spent) => spent,
         Err(stop) => return Err(stop),
     };
@@ -303,11 +308,13 @@ fn copy_cells<B: Blocks>(
     }
 }
 
-/// Tries the rules on one transaction, in their order.
+/// Tries the rules on one transaction, in their order. It is told whether the transaction's id is proposed (J19): that it
+/// is, where nothing is asked of a proposal.
 pub fn resolve<'a, C: Cells, B: Blocks>(
     alloc: Global,
     tx: &TxView<'a>,
     at: &TxAt<'_>,
+    proposed: bool,
     cells: &C,
     blocks: &mut B,
 ) -> Result<TxOk<'a>, TxStop>
@@ -318,17 +325,17 @@ pub fn resolve<'a, C: Cells, B: Blocks>(
     ensures loans { B.loans_of blocks.new ≡ B.loans_of blocks.old }
     ensures formed { IfOk result (λ ok. IsFormed at.now.entries tx.now ok.resolved) }
     ensures of_rows { IfOk result (λ ok. All (CopiesItsRow (B.told blocks.old) at.now) (ok.resolved.inputs ++ ok.resolved.deps)) }
-    ensures tried { (rule : ℕ) → result ≡ Err (TxStop.Broken rule) → IsTried rule }
-    ensures by_rows { FollowsRows (C.rows cells.now) tx.now result }
+    ensures tried { (rule : ℕ) → result ≡ Err (TxStop.Broken rule) → IsTried proposed rule }
+    ensures by_rows { FollowsRows proposed (C.rows cells.now) tx.now result }
 
     // It has below 2^32 inputs, each of which counts and holds below 2^64 shannons.
     ensures fits { IfOk result (λ ok. nat_abs ok.interest < 2 ^ 96) }
 
     // Over kept blocks that are told, at the site of the transaction: the first rule that is broken, or none.
     ensures broken { (stored : List Stored) (site : Site) → B.told blocks.old ≡ Some stored → IsSiteOf stored at.now (C.rows cells.now) site
-        → (rule : ℕ) → result ≡ Err (TxStop.Broken rule) → broken_transaction_rule site tx.now ≡ Some rule }
+        → (rule : ℕ) → result ≡ Err (TxStop.Broken rule) → first_failing (rules_to_27 proposed site tx.now) ≡ Some rule }
     ensures unbroken { (stored : List Stored) (site : Site) → B.told blocks.old ≡ Some stored → IsSiteOf stored at.now (C.rows cells.now) site
-        → IfOk result (λ _. broken_transaction_rule site tx.now ≡ None) }
+        → IfOk result (λ _. first_failing (rules_to_27 proposed site tx.now) ≡ None) }
     ensures resolved { (stored : List Stored) (site : Site) → B.told blocks.old ≡ Some stored → IsSiteOf stored at.now (C.rows cells.now) site
         → IfOk result (λ ok. IsResolved (blocks_of stored) at.now.parent site tx.now ok.resolved) }
     ensures fee { (stored : List Stored) (site : Site) → B.told blocks.old ≡ Some stored → IsSiteOf stored at.now (C.rows cells.now) site
@@ -340,7 +347,7 @@ pub fn resolve<'a, C: Cells, B: Blocks>(
     ensures damage { (damage : Damage) → result ≡ Err (TxStop.Read (Damaged damage)) → damage.area ≡ Log }
     ensures cause { CountsFault (B.faults blocks.old) (B.faults blocks.new) (result ≡ Err (TxStop.Read DiskFault)) }
 {
-    let found = match find(alloc, tx, at, cells, blocks) {
+    let found = match find(alloc, tx, at, proposed, cells, blocks) {
         Ok(found) => found,
         Err(stop) => return Err(stop),
     };

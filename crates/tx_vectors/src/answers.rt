@@ -70,7 +70,7 @@ fn answer(
     if !is_placed(at) || blocks.len() != at.tree.len() {
         return None;
     }
-    text_of(alloc, &resolve(alloc, tx, at, state, blocks))
+    text_of(alloc, &resolve(alloc, tx, at, true, state, blocks))
 }
 
 /// What a transaction is answered alone, behind the last block.

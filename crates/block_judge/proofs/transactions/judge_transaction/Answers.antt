@@ -1,4 +1,4 @@
-use Rattle.std.proofs.Common.{◌≡◌, ◌<◌, ◌^◌, ℤ, nat_abs, inr, Bool, Some, Err, sym, ap, ◌∙◌, subst, arith}
+use Rattle.std.proofs.Common.{◌≡◌, ◌<◌, ◌^◌, ℤ, nat_abs, inr, Err, sym, ap, ◌∙◌, subst, arith}
 use Rattle.std.specs.List.{sum_by}
 use Rattle.fold_defs.specs.First.{first_failing}
 use Rattle.outside.specs.declared.disk.ReadStop.TheVariants.{DiskFault, Damaged}
@@ -11,8 +11,8 @@ use Rattle.script_defs.specs.Scene.{scene_of}
 use Rattle.script_defs.specs.Rules.{script_rules, cycles_of}
 use Rattle.block_judge.specs.ByRows.{StopsByRows}
 use Rattle.block_judge.specs.Stops.{of_resolving}
-use Rattle.block_judge.proofs.Exits.{same_stop, same_rule, as_step, no_error, no_read, not_both, counts-on, counts-none, counts-behind}
-use Rattle.block_judge.proofs.TransactionLemmas.{stops-resolving, reads-resolving, tried-resolving, alone-resolving, breaks-proposed, leaves-scripts, its-transaction, resolved-own, spent-rows}
+use Rattle.block_judge.proofs.Exits.{same_stop, as_step, no_error, counts-on, counts-none, counts-behind}
+use Rattle.block_judge.proofs.TransactionLemmas.{stops-resolving, reads-resolving, tried-resolving, alone-resolving, leaves-scripts, its-transaction, resolved-own, spent-rows}
 use Rattle.block_judge.proofs.MovedLemmas.{interest-kept, freed-same}
 use Rattle.block_judge.proofs.RowsLemmas.{stops-by-rows, resolved-by-rows, later-by-rows}
 use Rattle.block_judge.proofs.transactions.judge_transaction.Goals as goal
@@ -30,9 +30,8 @@ returns-in-Err g c = record {
       tried-resolving c.args.proposed c.in-Err.stop rule (λ number its. c.in-Err.ensures.tried number (ap Err its)) (sym c.stopped.ensures ∙ same_stop same);
   by_rows = λ proposed.
       let rows = g.C.Cells.rows c.args.cells.now in
-      subst (StopsByRows (has_form c.args.tx.now) (spends_rows rows c.args.tx.now))
-      (ap (λ (b : Bool). of_resolving b c.in-Err.stop) (sym proposed) ∙ sym c.stopped.ensures)
-      (stops-by-rows rows c.args.tx.now c.in-Err.stop c.resolve.result c.resolve.ensures.by_rows c.resolve.ensures.tried c.in-Err.is);
+      subst (StopsByRows (has_form c.args.tx.now) (spends_rows rows c.args.tx.now)) (sym c.stopped.ensures)
+      (stops-by-rows c.args.proposed rows c.args.tx.now c.in-Err.stop c.resolve.result proposed c.resolve.ensures.by_rows c.resolve.ensures.tried c.in-Err.is);
   alone = λ proposed rule same.
       alone-resolving c.args.proposed c.in-Err.stop rule proposed (λ number its. c.in-Err.ensures.tried number (ap Err its)) (sym c.stopped.ensures ∙ same_stop same);
   broken = λ stored site told is rule same.
@@ -46,37 +45,11 @@ returns-in-Err g c = record {
   spends = λ stored site told is. tt;
   undamaged = λ stored site told is damage same.
       c.in-Err.ensures.undamaged stored site told is damage
-      (ap Err (reads-resolving c.args.proposed c.in-Err.stop (Damaged damage) (sym c.stopped.ensures ∙ same_stop same)));
+      (ap Err (reads-resolving c.in-Err.stop (Damaged damage) (sym c.stopped.ensures ∙ same_stop same)));
   damage = λ damage same.
-      c.in-Err.ensures.damage damage (ap Err (reads-resolving c.args.proposed c.in-Err.stop (Damaged damage) (sym c.stopped.ensures ∙ same_stop same)));
-  cause = counts-on (λ fault. ap Err (c.stopped.ensures ∙ ap (of_resolving c.args.proposed) (same_stop fault)))
-      (λ fault. ap Err (reads-resolving c.args.proposed c.in-Err.stop DiskFault (sym c.stopped.ensures ∙ same_stop fault))) c.in-Err.ensures.cause;
-}
-
-pub returns-then-not-proposed : goal.returns-then-not-proposed
-returns-then-not-proposed g c = record {
-  told = c.resolve.ensures.told;
-  count = c.resolve.ensures.count;
-  loans = c.resolve.ensures.loans;
-  hash = tt;
-  within = tt;
-  interest_fits = tt;
-  freed_fits = tt;
-  rule = λ rule same. let is : 19 ≡ rule = same_rule same in (omega (arith, is), omega (arith, is));
-  by_rows = λ proposed. absurd (not_both proposed c.if-not-proposed.true);
-  alone = λ proposed. absurd (not_both proposed c.if-not-proposed.true);
-  broken = λ stored site told is rule same.
-      breaks-proposed site c.args.tx.now (script_rules (scene_of site c.args.tx.now) c.args.left) c.args.proposed c.if-not-proposed.true
-      (c.in-Ok.ensures.unbroken stored site told is) ∙ ap Some (same_rule same);
-  unbroken = λ stored site told is. tt;
-  fee = λ stored site told is. tt;
-  interest = λ stored site told is. tt;
-  freed = λ stored site told is. tt;
-  cycles = λ stored site told is. tt;
-  spends = λ stored site told is. tt;
-  undamaged = λ stored site told is damage same. no_read same;
-  damage = λ damage same. absurd (no_read same);
-  cause = counts-none no_error no_read c.in-Ok.ensures.cause;
+      c.in-Err.ensures.damage damage (ap Err (reads-resolving c.in-Err.stop (Damaged damage) (sym c.stopped.ensures ∙ same_stop same)));
+  cause = counts-on (λ fault. ap Err (c.stopped.ensures ∙ ap of_resolving (same_stop fault)))
+      (λ fault. ap Err (reads-resolving c.in-Err.stop DiskFault (sym c.stopped.ensures ∙ same_stop fault))) c.in-Err.ensures.cause;
 }
 
 pub returns-in-Err-run_scripts : goal.returns-in-Err-run_scripts
@@ -91,12 +64,12 @@ returns-in-Err-run_scripts g c = record {
   rule = λ rule same. let its = c.in-Err-run_scripts.ensures.rule rule (as_step same) in (omega (arith, its.0), its.1);
   by_rows = λ proposed.
       later-by-rows _ _ c.in-Err-run_scripts.stop
-      (resolved-by-rows (g.C.Cells.rows c.args.cells.now) c.args.tx.now c.in-Ok.ok c.resolve.result c.resolve.ensures.by_rows c.in-Ok.is)
+      (resolved-by-rows c.args.proposed (g.C.Cells.rows c.args.cells.now) c.args.tx.now c.in-Ok.ok c.resolve.result proposed c.resolve.ensures.by_rows c.in-Ok.is)
       (λ rule same. let its = c.in-Err-run_scripts.ensures.rule rule (ap Err same) in omega (arith, its.0));
   alone = λ proposed rule same. let its = c.in-Err-run_scripts.ensures.rule rule (as_step same) in inr (omega (arith, its.0), its.1);
   broken = λ stored site told is rule same.
       let its = ap (λ (ok : TxOk). ok.resolved) c.ok.view_is in
-      leaves-scripts site c.args.tx.now (script_rules (scene_of site c.args.tx.now) c.args.left) c.args.proposed c.if-not-proposed.false
+      leaves-scripts site c.args.tx.now (script_rules (scene_of site c.args.tx.now) c.args.left) c.args.proposed
       (c.in-Ok.ensures.unbroken stored site told is)
       ∙ ap (λ (t : Transaction). first_failing (script_rules (scene_of site t) c.args.left)) (sym (its-transaction c.args.tx.now its c.in-Ok.ensures.formed.tx))
       ∙ c.in-Err-run_scripts.ensures.broken stored (g.C.Cells.rows c.args.cells.now) site (c.resolve.ensures.told ∙ told) is
@@ -129,12 +102,12 @@ returns g c = record {
   freed_fits = c.freed_with.ensures.fits;
   rule = λ rule same. absurd (no_error same);
   by_rows = λ proposed.
-      resolved-by-rows (g.C.Cells.rows c.args.cells.now) c.args.tx.now c.in-Ok.ok c.resolve.result c.resolve.ensures.by_rows c.in-Ok.is;
+      resolved-by-rows c.args.proposed (g.C.Cells.rows c.args.cells.now) c.args.tx.now c.in-Ok.ok c.resolve.result proposed c.resolve.ensures.by_rows c.in-Ok.is;
   alone = λ proposed rule same. absurd (no_error same);
   broken = λ stored site told is rule same. absurd (no_error same);
   unbroken = λ stored site told is.
       let its = ap (λ (ok : TxOk). ok.resolved) c.ok.view_is in
-      leaves-scripts site c.args.tx.now (script_rules (scene_of site c.args.tx.now) c.args.left) c.args.proposed c.if-not-proposed.false
+      leaves-scripts site c.args.tx.now (script_rules (scene_of site c.args.tx.now) c.args.left) c.args.proposed
       (c.in-Ok.ensures.unbroken stored site told is)
       ∙ ap (λ (t : Transaction). first_failing (script_rules (scene_of site t) c.args.left)) (sym (its-transaction c.args.tx.now its c.in-Ok.ensures.formed.tx))
       ∙ (c.in-Ok-run_scripts.ensures.unbroken stored (g.C.Cells.rows c.args.cells.now) site (c.resolve.ensures.told ∙ told) is

@@ -21,9 +21,9 @@ pub returns-in-Err : goal.returns-in-Err
 returns-in-Err g c = record {
   source = unchanged-source _ _ _ _;
   stops = c.in-Err.ensures.stops;
-  by_rows = follows-on (g.C.Cells.rows c.args.cells.now) c.args.tx.now c.in-Err.stop c.in-Err.ensures.by_rows;
+  by_rows = follows-on c.args.proposed (g.C.Cells.rows c.args.cells.now) c.args.tx.now c.in-Err.stop c.in-Err.ensures.by_rows;
   tells = λ stored site told is.
-      stops-front (spending_rules site c.args.tx.now) (naming_rules site c.args.tx.now ++ using_rules site c.args.tx.now) c.in-Err.stop
+      stops-front (spending_rules c.args.proposed site c.args.tx.now) (naming_rules site c.args.tx.now ++ using_rules site c.args.tx.now) c.in-Err.stop
       (c.in-Err.ensures.tells stored c.args.at.now site is);
   found = λ stored site told is. tt;
   form = tt;
@@ -36,10 +36,10 @@ returns-in-Err g c = record {
 pub returns-in-Err-named_rows : goal.returns-in-Err-named_rows
 returns-in-Err-named_rows g c = record {
   source = c.in-Err-named_rows.ensures.source;
-  stops = later-stops c.in-Err-named_rows.stop c.in-Err-named_rows.ensures.later;
-  by_rows = follows-behind (g.C.Cells.rows c.args.cells.now) c.args.tx.now c.in-Ok.spent _ c.in-Ok.ensures.by_rows c.in-Err-named_rows.ensures.later;
+  stops = later-stops c.args.proposed c.in-Err-named_rows.stop c.in-Err-named_rows.ensures.later;
+  by_rows = follows-behind c.args.proposed (g.C.Cells.rows c.args.cells.now) c.args.tx.now c.in-Ok.spent _ c.in-Ok.ensures.by_rows c.in-Err-named_rows.ensures.later;
   tells = λ stored site told is.
-      stops-back (spending_rules site c.args.tx.now) (naming_rules site c.args.tx.now ++ using_rules site c.args.tx.now) c.in-Err-named_rows.stop
+      stops-back (spending_rules c.args.proposed site c.args.tx.now) (naming_rules site c.args.tx.now ++ using_rules site c.args.tx.now) c.in-Err-named_rows.stop
       (c.in-Ok.ensures.tells stored c.args.at.now site is)
       (stops-front (naming_rules site c.args.tx.now) (using_rules site c.args.tx.now) c.in-Err-named_rows.stop (c.in-Err-named_rows.ensures.tells stored site told is));
   found = λ stored site told is. tt;
@@ -53,14 +53,14 @@ returns-in-Err-named_rows g c = record {
 pub returns-in-Err-try_cells : goal.returns-in-Err-try_cells
 returns-in-Err-try_cells g c = record {
   source = c.in-Ok-named_rows.ensures.source;
-  stops = later-stops c.in-Err-try_cells.stop c.in-Err-try_cells.ensures.later;
-  by_rows = follows-behind (g.C.Cells.rows c.args.cells.now) c.args.tx.now c.in-Ok.spent _ c.in-Ok.ensures.by_rows c.in-Err-try_cells.ensures.later;
+  stops = later-stops c.args.proposed c.in-Err-try_cells.stop c.in-Err-try_cells.ensures.later;
+  by_rows = follows-behind c.args.proposed (g.C.Cells.rows c.args.cells.now) c.args.tx.now c.in-Ok.spent _ c.in-Ok.ensures.by_rows c.in-Err-try_cells.ensures.later;
   tells = λ stored site told is.
       let named : c.deref-2.result.now ≡ map (found_row (blocks_of stored) c.args.at.now.parent) (deps site c.args.tx.now) =
       c.deref-2.ensures.value ∙ c.in-Ok-named_rows.ensures.cells stored site told is in
       let spent : c.deref.result.now ≡ map (found_row (blocks_of stored) c.args.at.now.parent) (inputs site c.args.tx.now) =
       c.deref.ensures.value ∙ spent-inputs stored c.args.at.now (g.C.Cells.rows c.args.cells.now) site c.args.tx.now c.in-Ok.spent.items is c.in-Ok.ensures.rows in
-      stops-back (spending_rules site c.args.tx.now) (naming_rules site c.args.tx.now ++ using_rules site c.args.tx.now) c.in-Err-try_cells.stop
+      stops-back (spending_rules c.args.proposed site c.args.tx.now) (naming_rules site c.args.tx.now ++ using_rules site c.args.tx.now) c.in-Err-try_cells.stop
       (c.in-Ok.ensures.tells stored c.args.at.now site is)
       (stops-back (naming_rules site c.args.tx.now) (using_rules site c.args.tx.now) c.in-Err-try_cells.stop (c.in-Ok-named_rows.ensures.tells stored site told is)
       (c.in-Err-try_cells.ensures.tells stored site is spent named));
@@ -76,13 +76,13 @@ pub returns-in-Ok-try_cells : goal.returns-in-Ok-try_cells
 returns-in-Ok-try_cells g c = record {
   source = c.in-Ok-named_rows.ensures.source;
   stops = tt;
-  by_rows = follows-behind (g.C.Cells.rows c.args.cells.now) c.args.tx.now c.in-Ok.spent _ c.in-Ok.ensures.by_rows tt;
+  by_rows = follows-behind c.args.proposed (g.C.Cells.rows c.args.cells.now) c.args.tx.now c.in-Ok.spent _ c.in-Ok.ensures.by_rows tt;
   tells = λ stored site told is.
       let named : c.deref-2.result.now ≡ map (found_row (blocks_of stored) c.args.at.now.parent) (deps site c.args.tx.now) =
       c.deref-2.ensures.value ∙ c.in-Ok-named_rows.ensures.cells stored site told is in
       let spent : c.deref.result.now ≡ map (found_row (blocks_of stored) c.args.at.now.parent) (inputs site c.args.tx.now) =
       c.deref.ensures.value ∙ spent-inputs stored c.args.at.now (g.C.Cells.rows c.args.cells.now) site c.args.tx.now c.in-Ok.spent.items is c.in-Ok.ensures.rows in
-      keeps-all (spending_rules site c.args.tx.now) (naming_rules site c.args.tx.now ++ using_rules site c.args.tx.now) (c.in-Ok.ensures.tells stored c.args.at.now site is)
+      keeps-all (spending_rules c.args.proposed site c.args.tx.now) (naming_rules site c.args.tx.now ++ using_rules site c.args.tx.now) (c.in-Ok.ensures.tells stored c.args.at.now site is)
       (keeps-all (naming_rules site c.args.tx.now) (using_rules site c.args.tx.now) (c.in-Ok-named_rows.ensures.tells stored site told is)
       (c.in-Ok-try_cells.ensures.tells stored site is spent named));
   found = λ stored site told is. record {

@@ -29,20 +29,20 @@ returns-in-Err g c = record {
   loans = c.in-Err.ensures.source.loans;
   formed = tt;
   of_rows = tt;
-  tried = λ rule same. tried-of _ rule c.in-Err.ensures.stops same;
-  by_rows = follows-on (g.C.Cells.rows c.args.cells.now) c.args.tx.now c.in-Err.stop c.in-Err.ensures.by_rows;
+  tried = λ rule same. tried-of c.args.proposed _ rule c.in-Err.ensures.stops same;
+  by_rows = follows-on c.args.proposed (g.C.Cells.rows c.args.cells.now) c.args.tx.now c.in-Err.stop c.in-Err.ensures.by_rows;
   fits = tt;
   broken = λ stored site told is rule same.
-      broken-of site c.args.tx.now _ rule
-      (stops-front (finding_rules site c.args.tx.now) (paying_rules site c.args.tx.now) c.in-Err.stop (c.in-Err.ensures.tells stored site told is)) same;
+      broken-of c.args.proposed site c.args.tx.now _ rule
+      (stops-front (finding_rules c.args.proposed site c.args.tx.now) (paying_rules site c.args.tx.now) c.in-Err.stop (c.in-Err.ensures.tells stored site told is)) same;
   unbroken = λ stored site told is. tt;
   resolved = λ stored site told is. tt;
   fee = λ stored site told is. tt;
   interest = λ stored site told is. tt;
   undamaged = λ stored site told is damage same.
-      undamaged-of (finding_rules site c.args.tx.now ++ paying_rules site c.args.tx.now) _ damage
-      (stops-front (finding_rules site c.args.tx.now) (paying_rules site c.args.tx.now) c.in-Err.stop (c.in-Err.ensures.tells stored site told is)) same;
-  damage = λ damage same. damage-of _ damage c.in-Err.ensures.stops same;
+      undamaged-of (finding_rules c.args.proposed site c.args.tx.now ++ paying_rules site c.args.tx.now) _ damage
+      (stops-front (finding_rules c.args.proposed site c.args.tx.now) (paying_rules site c.args.tx.now) c.in-Err.stop (c.in-Err.ensures.tells stored site told is)) same;
+  damage = λ damage same. damage-of c.args.proposed _ damage c.in-Err.ensures.stops same;
   cause = counts-handed c.in-Err.stop _ c.in-Err.ensures.cause;
 }
 
@@ -53,22 +53,22 @@ returns-in-Err-copy_cells g c = record {
   loans = c.in-Err-copy_cells.ensures.source.loans ∙ c.in-Ok.ensures.source.loans;
   formed = tt;
   of_rows = tt;
-  tried = λ rule same. tried-of _ rule (later-stops c.in-Err-copy_cells.stop c.in-Err-copy_cells.ensures.later) same;
-  by_rows = follows-behind (g.C.Cells.rows c.args.cells.now) c.args.tx.now c.in-Ok.found _ c.in-Ok.ensures.by_rows c.in-Err-copy_cells.ensures.later;
+  tried = λ rule same. tried-of c.args.proposed _ rule (later-stops c.args.proposed c.in-Err-copy_cells.stop c.in-Err-copy_cells.ensures.later) same;
+  by_rows = follows-behind c.args.proposed (g.C.Cells.rows c.args.cells.now) c.args.tx.now c.in-Ok.found _ c.in-Ok.ensures.by_rows c.in-Err-copy_cells.ensures.later;
   fits = tt;
   broken = λ stored site told is rule same.
-      broken-of site c.args.tx.now _ rule
-      (stops-back (finding_rules site c.args.tx.now) (paying_rules site c.args.tx.now) c.in-Err-copy_cells.stop (c.in-Ok.ensures.tells stored site told is)
+      broken-of c.args.proposed site c.args.tx.now _ rule
+      (stops-back (finding_rules c.args.proposed site c.args.tx.now) (paying_rules site c.args.tx.now) c.in-Err-copy_cells.stop (c.in-Ok.ensures.tells stored site told is)
       (c.in-Err-copy_cells.ensures.tells stored (g.C.Cells.rows c.args.cells.now) site (c.in-Ok.ensures.source.told ∙ told) is (c.in-Ok.ensures.found stored site told is))) same;
   unbroken = λ stored site told is. tt;
   resolved = λ stored site told is. tt;
   fee = λ stored site told is. tt;
   interest = λ stored site told is. tt;
   undamaged = λ stored site told is damage same.
-      undamaged-of (finding_rules site c.args.tx.now ++ paying_rules site c.args.tx.now) _ damage
-      (stops-back (finding_rules site c.args.tx.now) (paying_rules site c.args.tx.now) c.in-Err-copy_cells.stop (c.in-Ok.ensures.tells stored site told is)
+      undamaged-of (finding_rules c.args.proposed site c.args.tx.now ++ paying_rules site c.args.tx.now) _ damage
+      (stops-back (finding_rules c.args.proposed site c.args.tx.now) (paying_rules site c.args.tx.now) c.in-Err-copy_cells.stop (c.in-Ok.ensures.tells stored site told is)
       (c.in-Err-copy_cells.ensures.tells stored (g.C.Cells.rows c.args.cells.now) site (c.in-Ok.ensures.source.told ∙ told) is (c.in-Ok.ensures.found stored site told is))) same;
-  damage = λ damage same. damage-of _ damage (later-stops c.in-Err-copy_cells.stop c.in-Err-copy_cells.ensures.later) same;
+  damage = λ damage same. damage-of c.args.proposed _ damage (later-stops c.args.proposed c.in-Err-copy_cells.stop c.in-Err-copy_cells.ensures.later) same;
   cause = behind (c.in-Ok.ensures.cause.unchanged (no_answer _ _)) (counts-handed c.in-Err-copy_cells.stop _ c.in-Err-copy_cells.ensures.cause);
 }
 
@@ -89,12 +89,12 @@ returns g c = record {
       subst (λ (told : Option (List Stored)). All (CopiesItsRow told c.args.at.now) (c.in-Ok-copy_cells.copied.inputs.items ++ c.in-Ok-copy_cells.copied.deps.items))
       c.in-Ok.ensures.source.told c.in-Ok-copy_cells.ensures.of_rows;
   tried = λ rule same. absurd (no_answer _ _ same);
-  by_rows = follows-behind (g.C.Cells.rows c.args.cells.now) c.args.tx.now c.in-Ok.found _ c.in-Ok.ensures.by_rows tt;
+  by_rows = follows-behind c.args.proposed (g.C.Cells.rows c.args.cells.now) c.args.tx.now c.in-Ok.found _ c.in-Ok.ensures.by_rows tt;
   fits =
       subst (λ (z : ℤ). nat_abs z < 2 ^ 96) (sym (to_z-of_z w128 c.in-Ok-copy_cells.copied.balance.interest (search rules))) c.in-Ok-copy_cells.ensures.fits;
   broken = λ stored site told is rule same. absurd (no_answer _ _ same);
   unbroken = λ stored site told is.
-      all-rules site c.args.tx.now ∙ keeps-all (finding_rules site c.args.tx.now) (paying_rules site c.args.tx.now) (c.in-Ok.ensures.tells stored site told is)
+      all-rules c.args.proposed site c.args.tx.now ∙ keeps-all (finding_rules c.args.proposed site c.args.tx.now) (paying_rules site c.args.tx.now) (c.in-Ok.ensures.tells stored site told is)
       (c.in-Ok-copy_cells.ensures.tells stored (g.C.Cells.rows c.args.cells.now) site (c.in-Ok.ensures.source.told ∙ told) is (c.in-Ok.ensures.found stored site told is));
   resolved = λ stored site told is. record {
     inputs_are = c.in-Ok-copy_cells.ensures.inputs stored (g.C.Cells.rows c.args.cells.now) site (c.in-Ok.ensures.source.told ∙ told) is (c.in-Ok.ensures.found stored site told is);
