@@ -1,10 +1,11 @@
 // What is tried of a block ahead of its transactions, J4 to J17.
-ghost use Rattle.std.specs.Prelude.{◌≡◌, ◌<◌, ◌≤◌, ◌++◌, ℕ, List, None, Some, Err, IfOk, length};
+ghost use Rattle.std.specs.Prelude.{◌≡◌, ◌<◌, ◌≤◌, ◌++◌, ℕ, List, None, Some, Err, IfOk, length, map};
 ghost use Rattle.fold_defs.specs.First.{first_failing};
 ghost use Rattle.outside.specs.declared.disk.ReadStop.{ReadStop as a_stop};
 ghost use Rattle.outside.specs.declared.disk.ReadStop.TheVariants.{NoMemory as no_memory};
 ghost use Rattle.codec_defs.specs.Schema.{Block};
 ghost use Rattle.chain_defs.specs.Branch.{branch};
+ghost use Rattle.chain_defs.specs.Hashes.{transaction_hash};
 ghost use Rattle.chain_tree.specs.Blocks.{IndexesBlocks};
 ghost use Rattle.chain_tree.specs.Told.{Stored, blocks_of};
 ghost use Rattle.rule_defs.specs.Header.{header_rules as rules_on_header};
@@ -16,6 +17,7 @@ ghost use Rattle.block_judge.specs.Standing.{Stands};
 
 use crate::cellbase::{forms_cellbase, has_cellbase};
 use crate::stop::Judged;
+use block_rules::Checked;
 use cell_model::Cells;
 use chain_tree::Tree;
 use epochs::Spec;
@@ -33,8 +35,10 @@ fn judge_family<C: Cells>(
     cells: &C,
     parent: u32,
     block: &BlockView<'_>,
+    hashes: &[[u8; 32]],
 ) -> Result<(), Judged>
     requires parent { parent < length tree.now.entries }
+    requires hashes { hashes.now ≡ map transaction_hash block.now.transactions }
     ensures tried { (rule : ℕ) → result ≡ Err (Broken rule) → (15 ≤ rule) × (rule ≤ 17) }
     ensures memory { (stop : a_stop) → result ≡ Err (Read stop) → stop ≡ no_memory }
     ensures some { IfOk result (λ _. 0 < length block.now.transactions) }
@@ -51,20 +55,21 @@ fn judge_family<C: Cells>(
     if !has_uncles {
         return Err(Judged::Broken(15));
     }
-    let begins = match has_cellbase(alloc, block) {
+    let begins = match has_cellbase(alloc, block, hashes) {
         Ok(has) => has,
         Err(_) => return Err(Judged::Read(ReadStop::NoMemory)),
     };
     if !begins {
         return Err(Judged::Broken(16));
     }
-    if !forms_cellbase(cells, block) {
+    if !forms_cellbase(cells, block, hashes) {
         return Err(Judged::Broken(17));
     }
     Ok(())
 }
 
-/// J4 to J17, over the cells of the parent's branch. No kept block is read.
+/// J4 to J17, over the cells of the parent's branch. No kept block is read. Where all are kept, the hashes of the
+/// block's transactions, in their order.
 pub(crate) fn judge_ahead<C: Cells>(
     alloc: Global,
     spec: &Spec,
@@ -73,8 +78,9 @@ pub(crate) fn judge_ahead<C: Cells>(
     cells: &C,
     parent: u32,
     block: &BlockView<'_>,
-) -> Result<(), Judged>
+) -> Result<Vec<[u8; 32]>, Judged>
     requires parent { parent < length tree.now.entries }
+    ensures hashes { IfOk result (λ hashes. hashes.items ≡ map transaction_hash block.now.transactions) }
     ensures tried { (rule : ℕ) → result ≡ Err (Broken rule) → (4 ≤ rule) × (rule ≤ 17) }
     ensures memory { (stop : a_stop) → result ≡ Err (Read stop) → stop ≡ no_memory }
     ensures some { IfOk result (λ _. 0 < length block.now.transactions) }
@@ -91,12 +97,13 @@ pub(crate) fn judge_ahead<C: Cells>(
     if let Some(rule) = header_rules::check(spec, tree, parent, &block.header()) {
         return Err(Judged::Broken(rule));
     }
-    let broken = match block_rules::check(alloc, spec, block) {
-        Ok(broken) => broken,
+    let hashes = match block_rules::check(alloc, spec, block) {
+        Ok(Checked::Kept(hashes)) => hashes,
+        Ok(Checked::Broken(rule)) => return Err(Judged::Broken(rule)),
         Err(_) => return Err(Judged::Read(ReadStop::NoMemory)),
     };
-    if let Some(rule) = broken {
-        return Err(Judged::Broken(rule));
+    match judge_family(alloc, spec, tree, uncles, cells, parent, block, &hashes) {
+        Ok(()) => Ok(hashes),
+        Err(stop) => Err(stop),
     }
-    judge_family(alloc, spec, tree, uncles, cells, parent, block)
 }

@@ -26,10 +26,11 @@ ghost use Rattle.block_judge.specs.Progress.{AreProposed, CanMove};
 ghost use Rattle.block_judge.specs.Standing.{IsTriedOnTransaction, Stands};
 
 use crate::block_cells::BlockCells;
+use crate::known::hash_of;
 use crate::spent::push_spent;
 use crate::stop::Judged;
 use crate::transactions::{Taken, judge_transaction};
-use cell_model::{Cells, Ext, proposal_id, tx_hash};
+use cell_model::{Cells, Ext, proposal_id};
 use chain_tree::{Blocks, Tree};
 use epochs::Spec;
 use mol_schema::{BlockView, TxView};
@@ -76,13 +77,15 @@ fn push_ext(ext: &mut Ext, taken: &Taken, e: u32) -> Result<(), NoMemory>
 }
 
 impl<'a, C: Cells> Progress<'a, C> {
-    /// That of the cellbase alone: it takes no cycles, and the ext has nothing of it.
+    /// That of the cellbase alone, which comes with its hash: it takes no cycles, and the ext has nothing of it.
     fn behind(
         alloc: Global,
         cellbase: &TxView<'_>,
+        hash: &[u8; 32],
         at: &TxAt<'_>,
         cells: &'a C,
     ) -> Result<Progress<'a, C>, NoMemory>
+        requires hash { hash.now ≡ transaction_hash cellbase.now }
         ensures left { IfOk result (λ progress. progress.left ≡ at.now.spec.max_cycles) }
         ensures few { IfOk result (λ progress. progress.left ≤ 2 ^ 40) }
         ensures fees { IfOk result (λ progress. progress.ext.fees ≡ []) }
@@ -95,7 +98,7 @@ impl<'a, C: Cells> Progress<'a, C> {
     {
         let spec = at.spec;
         let mut cells = BlockCells::of(alloc, cells);
-        cells.take(cellbase, &tx_hash(cellbase), 0, at.tree.len())?;
+        cells.take(cellbase, hash, 0, at.tree.len())?;
         Ok(Progress {
             cells,
             left: spec.max_cycles,
@@ -134,17 +137,19 @@ impl<'a, C: Cells> Progress<'a, C> {
         Ok(())
     }
 
-    /// Judges the next transaction, which is at a place behind the cellbase, and takes what it does.
+    /// Judges the next transaction, which is at a place behind the cellbase and comes with its hash, and takes what it does.
     fn judge_next<B: Blocks>(
         &mut self,
         alloc: Global,
         tx: &TxView<'_>,
+        hash: &[u8; 32],
         at: &TxAt<'_>,
         proposed: &Proposed,
         blocks: &mut B,
         place: u32,
     ) -> Result<(), Judged>
         requires placed { IsPlaced at.now }
+        requires hash { hash.now ≡ transaction_hash tx.now }
         requires left { self.old.left ≤ 2 ^ 40 }
         requires few { place < 2 ^ 30 }
         requires moved { CanMove place self.old.interest self.old.freed }
@@ -188,7 +193,7 @@ impl<'a, C: Cells> Progress<'a, C> {
         ensures damage { (damage : Damage) → result ≡ Err (Read (Damaged damage)) → damage.area ≡ Log }
         ensures cause { CountsFault (B.faults blocks.old) (B.faults blocks.new) (result ≡ Err (Read DiskFault)) }
     {
-        let is_proposed = proposed.contains(&proposal_id(&tx_hash(tx)));
+        let is_proposed = proposed.contains(&proposal_id(hash));
         let taken = match judge_transaction(
             alloc,
             tx,
@@ -218,12 +223,14 @@ pub(crate) fn judge_transactions<C: Cells, B: Blocks>(
     blocks: &mut B,
     parent: u32,
     block: &BlockView<'_>,
+    hashes: &[[u8; 32]],
 ) -> Result<Outcome, Judged>
     requires parent { parent < length tree.now.entries }
     requires few { length tree.now.entries < 2 ^ 24 }
     requires rated { AreRated tree.now.entries }
     requires counts { B.count blocks.old ≡ length tree.now.entries }
     requires some { 0 < length block.now.transactions }
+    requires hashes { hashes.now ≡ map transaction_hash block.now.transactions }
     ensures told { B.told blocks.new ≡ B.told blocks.old }
     ensures count { B.count blocks.new ≡ B.count blocks.old }
     ensures loans { B.loans_of blocks.new ≡ B.loans_of blocks.old }
@@ -265,13 +272,16 @@ pub(crate) fn judge_transactions<C: Cells, B: Blocks>(
         Ok(proposed) => proposed,
         Err(stop) => return Err(Judged::Read(stop)),
     };
-    let mut progress = match Progress::behind(alloc, &block.transactions_item(0), &at, cells) {
+    let cellbase = block.transactions_item(0);
+    let hash = hash_of(block, hashes, &cellbase, 0);
+    let mut progress = match Progress::behind(alloc, &cellbase, &hash, &at, cells) {
         Ok(progress) => progress,
         Err(_) => return Err(Judged::Read(ReadStop::NoMemory)),
     };
     'later: for place in 1..count {
         let tx = block.transactions_item(place);
-        match progress.judge_next(alloc, &tx, &at, &proposed, blocks, place as u32) {
+        let hash = hash_of(block, hashes, &tx, place);
+        match progress.judge_next(alloc, &tx, &hash, &at, &proposed, blocks, place as u32) {
             Ok(()) => {}
             Err(stop) => {
                 drop(progress);

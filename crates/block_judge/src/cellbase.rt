@@ -1,12 +1,13 @@
 // J16 and J17: the cellbase of a block.
-ghost use Rattle.std.specs.Prelude.{◌≡◌, ◌<◌, ◌^◌, ◌==◌, IfOk, Option, Some, not, drop, is_some, length, map, slice_get};
+ghost use Rattle.std.specs.Prelude.{◌≡◌, ◌<◌, ◌^◌, ◌==◌, IfOk, Option, not, drop, is_some, length, map};
 ghost use Rattle.std.specs.List.{list_all, list_any, range_with_len};
 ghost use Rattle.codec_defs.specs.Schema.{OutPoint as an_out_point};
 ghost use Rattle.cell_defs.specs.Cell.{Cell};
 ghost use Rattle.chain_defs.specs.Hashes.{transaction_hash, are_distinct};
 ghost use Rattle.family_defs.specs.Cellbase as rules;
 
-use cell_model::{Cells, OutPoint, tx_hash};
+use crate::known::{hash_at, hash_of};
+use cell_model::{Cells, OutPoint};
 use mol_schema::{BlockView, CellbaseWitnessView, OutPointView, RawTxView, TxView};
 use outside::NoMemory;
 use std::alloc::Global;
@@ -46,21 +47,13 @@ fn has_later_cellbase(block: &BlockView<'_>) -> bool
     false
 }
 
-/// The hash of the transaction at a place.
-fn hash_at(block: &BlockView<'_>, i: usize) -> [u8; 32]
-    requires { i < length block.now.transactions }
-    ensures { slice_get (map transaction_hash block.now.transactions) i ≡ Some result }
-{
-    tx_hash(&block.transactions_item(i))
-}
-
-/// Whether no two transactions have one hash.
-fn are_hashes_distinct(alloc: Global, block: &BlockView<'_>) -> Result<bool, NoMemory>
-    ensures { IfOk result (λ distinct. distinct ≡ are_distinct (map transaction_hash block.now.transactions)) }
+/// Whether no two hashes are equal.
+fn are_hashes_distinct(alloc: Global, hashes: &[[u8; 32]]) -> Result<bool, NoMemory>
+    ensures { IfOk result (λ distinct. distinct ≡ are_distinct hashes.now) }
 {
     let mut seen: HashSet<[u8; 32]> = HashSet::new(alloc);
-    'later: for i in (0..block.transactions_count()).rev() {
-        if !seen.insert(hash_at(block, i))? {
+    'later: for i in (0..hashes.len()).rev() {
+        if !seen.insert(hash_at(hashes, i))? {
             return Ok(false);
         }
     }
@@ -68,7 +61,12 @@ fn are_hashes_distinct(alloc: Global, block: &BlockView<'_>) -> Result<bool, NoM
 }
 
 /// J16: the first transaction is a cellbase, no other is one, and the hashes of the transactions are distinct.
-pub(crate) fn has_cellbase(alloc: Global, block: &BlockView<'_>) -> Result<bool, NoMemory>
+pub(crate) fn has_cellbase(
+    alloc: Global,
+    block: &BlockView<'_>,
+    hashes: &[[u8; 32]],
+) -> Result<bool, NoMemory>
+    requires hashes { hashes.now ≡ map transaction_hash block.now.transactions }
     ensures { IfOk result (λ has. has ≡ rules.has_cellbase block.now) }
 {
     if block.transactions_count() == 0 {
@@ -77,7 +75,7 @@ pub(crate) fn has_cellbase(alloc: Global, block: &BlockView<'_>) -> Result<bool,
     if !is_cellbase(&block.transactions_item(0)) || has_later_cellbase(block) {
         return Ok(false);
     }
-    are_hashes_distinct(alloc, block)
+    are_hashes_distinct(alloc, hashes)
 }
 
 /// Whether each input has the block's number as its since.
@@ -152,8 +150,10 @@ fn names_lock(tx: &TxView<'_>) -> bool
     CellbaseWitnessView::read(tx.witnesses_item(0)).is_some()
 }
 
-/// Whether a transaction has the form of the cellbase of a block of this number, over the live cells of the branch.
-fn is_well_formed<C: Cells>(cells: &C, number: u64, tx: &TxView<'_>) -> bool
+/// Whether a transaction of this hash has the form of the cellbase of a block of this number, over the live cells of
+/// the branch.
+fn is_well_formed<C: Cells>(cells: &C, number: u64, tx: &TxView<'_>, hash: [u8; 32]) -> bool
+    requires { hash ≡ transaction_hash tx.now }
     ensures { (live : an_out_point → Option Cell) → ((o : an_out_point) → is_some (C.rows cells.now o) ≡ is_some (live o))
         → result ≡ rules.is_well_formed_cellbase live number tx.now }
 {
@@ -164,16 +164,23 @@ fn is_well_formed<C: Cells>(cells: &C, number: u64, tx: &TxView<'_>) -> bool
     if !has_sinces(&raw, number) || !has_plain_output(tx) {
         return false;
     }
-    is_none_live(tx_hash(tx), raw.outputs_count(), cells) && names_lock(tx)
+    is_none_live(hash, raw.outputs_count(), cells) && names_lock(tx)
 }
 
 /// J17: the cellbase has its form, over the live cells of the branch.
-pub(crate) fn forms_cellbase<C: Cells>(cells: &C, block: &BlockView<'_>) -> bool
+pub(crate) fn forms_cellbase<C: Cells>(
+    cells: &C,
+    block: &BlockView<'_>,
+    hashes: &[[u8; 32]],
+) -> bool
+    requires hashes { hashes.now ≡ map transaction_hash block.now.transactions }
     ensures { (live : an_out_point → Option Cell) → ((o : an_out_point) → is_some (C.rows cells.now o) ≡ is_some (live o))
         → result ≡ rules.forms_cellbase live block.now }
 {
     if block.transactions_count() == 0 {
         return false;
     }
-    is_well_formed(cells, block.header().number(), &block.transactions_item(0))
+    let cellbase = block.transactions_item(0);
+    let hash = hash_of(block, hashes, &cellbase, 0);
+    is_well_formed(cells, block.header().number(), &cellbase, hash)
 }

@@ -85,11 +85,13 @@ pub fn judge<C: Cells, B: Blocks>(
     ensures damage { (damage : Damage) → result ≡ Err (Read (Damaged damage)) → damage.area ≡ Log }
     ensures cause { CountsFault (B.faults blocks.old) (B.faults blocks.new) (result ≡ Err (Read DiskFault)) }
 {
-    match judge_ahead(alloc, spec, tree, uncles, cells, parent, block) {
-        Ok(()) => {}
+    let hashes = match judge_ahead(alloc, spec, tree, uncles, cells, parent, block) {
+        Ok(hashes) => hashes,
         Err(stop) => return Err(stop),
-    }
-    let outcome = match judge_transactions(alloc, spec, tree, cells, blocks, parent, block) {
+    };
+    let outcome = match judge_transactions(
+        alloc, spec, tree, cells, blocks, parent, block, &hashes,
+    ) {
         Ok(outcome) => outcome,
         Err(stop) => return Err(stop),
     };

@@ -14,6 +14,7 @@ mod cellbase;
 mod changes;
 mod ending;
 mod judging;
+mod known;
 mod scripts;
 mod spent;
 mod stop;

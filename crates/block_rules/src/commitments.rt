@@ -30,7 +30,7 @@ fn hash_of_header(header: &HeaderView<'_>) -> [u8; 32]
 }
 
 /// The hashes of a block's transactions, in their order.
-fn transaction_hashes(alloc: Global, block: &BlockView<'_>) -> Result<Vec<[u8; 32]>, NoMemory>
+pub fn transaction_hashes(alloc: Global, block: &BlockView<'_>) -> Result<Vec<[u8; 32]>, NoMemory>
     ensures hashes { IfOk result (λ list. list.items ≡ map hashes.transaction_hash block.now.transactions) }
     ensures fits { IfOk result (λ list. length list.items < 2 ^ 30) }
 {
@@ -53,13 +53,26 @@ fn witness_hashes(alloc: Global, block: &BlockView<'_>) -> Result<Vec<[u8; 32]>,
     Ok(list)
 }
 
+/// The root that a header has of the transactions, of which the hashes are at hand.
+pub(crate) fn root_over(
+    alloc: Global,
+    block: &BlockView<'_>,
+    known: &[[u8; 32]],
+) -> Result<[u8; 32], NoMemory>
+    requires known { known.now ≡ map hashes.transaction_hash block.now.transactions }
+    ensures { IfOk result (λ root. root ≡ hashes.transactions_root block.now.transactions) }
+{
+    let listed = witness_hashes(alloc, block)?;
+    let transactions = cbmt::root(alloc, known)?;
+    let witnesses = cbmt::root(alloc, &listed)?;
+    cbmt::root(alloc, &[transactions, witnesses])
+}
+
 /// The root that a header has of the transactions.
 pub fn transactions_root(alloc: Global, block: &BlockView<'_>) -> Result<[u8; 32], NoMemory>
     ensures { IfOk result (λ root. root ≡ hashes.transactions_root block.now.transactions) }
 {
-    let transactions = cbmt::root(alloc, &transaction_hashes(alloc, block)?)?;
-    let witnesses = cbmt::root(alloc, &witness_hashes(alloc, block)?)?;
-    cbmt::root(alloc, &[transactions, witnesses])
+    root_over(alloc, block, &transaction_hashes(alloc, block)?)
 }
 
 /// The hash that a header has of the proposal ids.

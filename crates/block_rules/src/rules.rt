@@ -1,10 +1,12 @@
 //! J9 to J14, one function a rule.
-ghost use Rattle.std.specs.Prelude.{◌≡◌, ◌<◌, Some, length, slice_get, IfOk};
+ghost use Rattle.std.specs.Prelude.{◌≡◌, ◌<◌, Some, length, map, slice_get, IfOk};
 ghost use Rattle.fold_defs.specs.First.{first_failing};
-ghost use Rattle.chain_defs.specs.Hashes.{are_distinct};
+ghost use Rattle.chain_defs.specs.Hashes.{are_distinct, transaction_hash};
 ghost use Rattle.rule_defs.specs.Body as rules;
+ghost use Rattle.block_rules.specs.Checked.{HasHashes, broken_in};
 
-use crate::commitments::{proposals_hash, transactions_root, uncles_hash};
+use crate::checked::Checked;
+use crate::commitments::{proposals_hash, root_over, transaction_hashes, uncles_hash};
 use epochs::Spec;
 use mol_schema::BlockView;
 use outside::NoMemory;
@@ -69,11 +71,16 @@ fn commits_to_proposals(block: &BlockView<'_>) -> bool
     block.header().proposals_hash() == proposals_hash(block).as_slice()
 }
 
-/// J12: its `transactions_root` is that of its transactions.
-fn commits_to_transactions(alloc: Global, block: &BlockView<'_>) -> Result<bool, NoMemory>
+/// J12: its `transactions_root` is that of its transactions, of which the hashes are at hand.
+fn commits_to_transactions(
+    alloc: Global,
+    block: &BlockView<'_>,
+    known: &[[u8; 32]],
+) -> Result<bool, NoMemory>
+    requires known { known.now ≡ map transaction_hash block.now.transactions }
     ensures { IfOk result (λ commits. commits ≡ rules.commits_to_transactions block.now) }
 {
-    let root = transactions_root(alloc, block)?;
+    let root = root_over(alloc, block, known)?;
     Ok(block.header().transactions_root() == root.as_slice())
 }
 
@@ -91,28 +98,31 @@ fn commits_to_uncles(block: &BlockView<'_>) -> bool
     block.header().uncles_hash() == uncles_hash(block).as_slice()
 }
 
-/// The least of J9 to J14 that a block breaks.
+/// The least of J9 to J14 that a block breaks, or the hashes of its transactions where it breaks none: J12 asks for
+/// them, and so do later rules.
 #[tactic(auto, unfolding(fold_defs::specs::First::first_failing))]
-pub fn check(alloc: Global, spec: &Spec, block: &BlockView<'_>) -> Result<Option<u8>, NoMemory>
-    ensures { IfOk result (λ broken. broken ≡ first_failing (rules.body_rules spec.now block.now)) }
+pub fn check(alloc: Global, spec: &Spec, block: &BlockView<'_>) -> Result<Checked, NoMemory>
+    ensures broken { IfOk result (λ checked. broken_in checked ≡ first_failing (rules.body_rules spec.now block.now)) }
+    ensures hashes { IfOk result (HasHashes block.now) }
 {
     if !fits_length(spec, block) {
-        return Ok(Some(9));
+        return Ok(Checked::Broken(9));
     }
     if !has_proposals(alloc, spec, block)? {
-        return Ok(Some(10));
+        return Ok(Checked::Broken(10));
     }
     if !commits_to_proposals(block) {
-        return Ok(Some(11));
+        return Ok(Checked::Broken(11));
     }
-    if !commits_to_transactions(alloc, block)? {
-        return Ok(Some(12));
+    let known = transaction_hashes(alloc, block)?;
+    if !commits_to_transactions(alloc, block, &known)? {
+        return Ok(Checked::Broken(12));
     }
     if !has_few_uncles(block) {
-        return Ok(Some(13));
+        return Ok(Checked::Broken(13));
     }
     if !commits_to_uncles(block) {
-        return Ok(Some(14));
+        return Ok(Checked::Broken(14));
     }
-    Ok(None)
+    Ok(Checked::Kept(known))
 }

@@ -2,6 +2,7 @@
 
 use crate::chain::{Chain, ext_of, join, parent_of};
 use blake2b_ckb::ckbhash;
+use block_rules::Checked;
 use mol_schema::BlockView;
 use std::alloc::Global;
 
@@ -14,7 +15,11 @@ fn broken(alloc: Global, chain: &Chain, block: &BlockView<'_>) -> Option<Option<
     if let Some(rule) = header_rules::check(&chain.spec, &chain.tree, parent, &header) {
         return Some(Some(rule));
     }
-    block_rules::check(alloc, &chain.spec, block).ok()
+    match block_rules::check(alloc, &chain.spec, block) {
+        Ok(Checked::Broken(rule)) => Some(Some(rule)),
+        Ok(Checked::Kept(_)) => Some(None),
+        Err(_) => None,
+    }
 }
 
 /// Whether an item is answered so. None where a block that breaks none of the rules does not join its parent.

@@ -1,17 +1,16 @@
-use Rattle.std.proofs.Common.{◌≡◌, ◌<◌, length, Some, None, sym, ap, ◌∙◌, arith}
-use Rattle.std.proofs.lemmas.Result.{IfOk-weaker}
-use Rattle.fold_defs.specs.First.{first_failing}
+use Rattle.std.proofs.Common.{◌≡◌, Some, sym, ap, ◌∙◌, arith}
 use Rattle.chain_defs.specs.Branch.{branch}
 use Rattle.chain_tree.specs.Told.{blocks_of}
-use Rattle.rule_defs.specs.Header.{header_rules}
-use Rattle.family_defs.specs.Rules.{family_rules}
-use Rattle.block_judge.specs.Ahead.{ahead}
-use Rattle.block_judge.proofs.Exits.{same_rule, same_read, no_rule, no_read}
+use Rattle.block_judge.proofs.Exits.{same_rule, same_read, as_step, no_error, no_rule, no_read}
 use Rattle.block_judge.proofs.AheadLemmas.{breaks-header, breaks-body, leaves-family, body-rule}
 use Rattle.block_judge.proofs.ahead.judge_ahead.Goals as goal
 
+pub judge_family-requires-clause-hashes : goal.judge_family-requires-clause-hashes
+judge_family-requires-clause-hashes g c = c.deref.ensures.value ∙ (rw c.in-Ok-Kept.field-0-is at c.in-Ok-Kept.ensures.hashes)
+
 pub returns-in-Some : goal.returns-in-Some
 returns-in-Some g c = record {
+  hashes = tt;
   tried = λ rule same.
       let its = c.in-Some.ensures.tried in let is : c.in-Some.rule ≡ rule = same_rule same in (omega (arith, its.0, is), omega (arith, its.1, is));
   memory = λ stop same. absurd (no_read same);
@@ -23,8 +22,25 @@ returns-in-Some g c = record {
   unbroken = λ stored stands uncles. tt;
 }
 
+pub returns-in-Ok-Broken : goal.returns-in-Ok-Broken
+returns-in-Ok-Broken g c = record {
+  hashes = tt;
+  tried = λ rule same.
+      let its = body-rule c.args.spec.now c.args.block.now c.in-Ok-Broken.rule (sym (rw c.in-Ok-Broken.field-0-is at c.in-Ok-Broken.ensures.broken)) in
+      let is : c.in-Ok-Broken.rule ≡ rule = same_rule same in (omega (arith, its.0, is), omega (arith, its.1, is));
+  memory = λ stop same. absurd (no_read same);
+  some = tt;
+  header = λ kept indexes. tt;
+  broken = λ stored stands uncles rule same.
+      breaks-body c.args.spec.now (branch (blocks_of stored) c.args.parent) c.args.block.now c.in-Ok-Broken.rule
+      (c.in_default.ensures.of_blocks (blocks_of stored) c.args.block.now stands.indexed c.header.ensures) (rw c.in-Ok-Broken.field-0-is at c.in-Ok-Broken.ensures.broken)
+      ∙ ap Some (same_rule same);
+  unbroken = λ stored stands uncles. tt;
+}
+
 pub returns-in-Err : goal.returns-in-Err
 returns-in-Err g c = record {
+  hashes = tt;
   tried = λ rule same. absurd (no_rule same);
   memory = λ stop same. sym (same_read same);
   some = tt;
@@ -33,40 +49,30 @@ returns-in-Err g c = record {
   unbroken = λ stored stands uncles. tt;
 }
 
-pub returns-in-Some-broken : goal.returns-in-Some-broken
-returns-in-Some-broken g c = record {
-  tried = λ rule same.
-      let its = body-rule c.args.spec.now c.args.block.now c.in-Some-broken.rule (sym c.in-Ok.ensures ∙ c.in-Some-broken.is) in
-      let is : c.in-Some-broken.rule ≡ rule = same_rule same in (omega (arith, its.0, is), omega (arith, its.1, is));
-  memory = λ stop same. absurd (no_read same);
+pub returns-in-Err-judge_family : goal.returns-in-Err-judge_family
+returns-in-Err-judge_family g c = record {
+  hashes = tt;
+  tried = λ rule same. let its = c.in-Err-judge_family.ensures.tried rule (as_step same) in (omega (arith, its.0), its.1);
+  memory = λ stop same. c.in-Err-judge_family.ensures.memory stop (as_step same);
   some = tt;
   header = λ kept indexes. tt;
   broken = λ stored stands uncles rule same.
-      breaks-body c.args.spec.now (branch (blocks_of stored) c.args.parent) c.args.block.now c.in-Some-broken.rule
-      (c.in_default.ensures.of_blocks (blocks_of stored) c.args.block.now stands.indexed c.header.ensures) (sym c.in-Some-broken.is ∙ c.in-Ok.ensures)
-      ∙ ap Some (same_rule same);
+      leaves-family c.args.spec.now (branch (blocks_of stored) c.args.parent) c.args.block.now
+      (c.in_default.ensures.of_blocks (blocks_of stored) c.args.block.now stands.indexed c.header.ensures) (rw c.in-Ok-Kept.field-0-is at c.in-Ok-Kept.ensures.broken)
+      ∙ c.in-Err-judge_family.ensures.broken stored stands uncles rule (as_step same);
   unbroken = λ stored stands uncles. tt;
 }
 
-pub returns : goal.returns
-returns g c = record {
-  tried = λ rule same. let its = c.judge_family.ensures.tried rule same in (omega (arith, its.0), its.1);
-  memory = c.judge_family.ensures.memory;
-  some = c.judge_family.ensures.some;
-  header = λ kept indexes.
-      IfOk-weaker c.judge_family.result (λ _. 0 < length c.args.block.now.transactions)
-      (λ _. first_failing (header_rules c.args.spec.now (branch kept c.args.parent) c.args.block.now) ≡ None)
-      (λ _ _. sym (c.in_default.ensures.of_blocks kept c.args.block.now indexes c.header.ensures)) c.judge_family.ensures.some;
-  broken = λ stored stands uncles rule same.
-      leaves-family c.args.spec.now (branch (blocks_of stored) c.args.parent) c.args.block.now
-      (c.in_default.ensures.of_blocks (blocks_of stored) c.args.block.now stands.indexed c.header.ensures) (sym c.in_default-broken.is ∙ c.in-Ok.ensures)
-      ∙ c.judge_family.ensures.broken stored stands uncles rule same;
+pub returns-in-Ok : goal.returns-in-Ok
+returns-in-Ok g c = record {
+  hashes = rw c.in-Ok-Kept.field-0-is at c.in-Ok-Kept.ensures.hashes;
+  tried = λ rule same. absurd (no_error same);
+  memory = λ stop same. absurd (no_error same);
+  some = c.in-Ok.ensures.some;
+  header = λ kept indexes. sym (c.in_default.ensures.of_blocks kept c.args.block.now indexes c.header.ensures);
+  broken = λ stored stands uncles rule same. absurd (no_error same);
   unbroken = λ stored stands uncles.
-      IfOk-weaker c.judge_family.result
-      (λ _. first_failing (family_rules c.args.spec.now (branch (blocks_of stored) c.args.parent) c.args.block.now) ≡ None)
-      (λ _. first_failing (ahead c.args.spec.now (branch (blocks_of stored) c.args.parent) c.args.block.now) ≡ None)
-      (λ _ keeps.
       leaves-family c.args.spec.now (branch (blocks_of stored) c.args.parent) c.args.block.now
-      (c.in_default.ensures.of_blocks (blocks_of stored) c.args.block.now stands.indexed c.header.ensures) (sym c.in_default-broken.is ∙ c.in-Ok.ensures) ∙ keeps)
-      (c.judge_family.ensures.unbroken stored stands uncles);
+      (c.in_default.ensures.of_blocks (blocks_of stored) c.args.block.now stands.indexed c.header.ensures) (rw c.in-Ok-Kept.field-0-is at c.in-Ok-Kept.ensures.broken)
+      ∙ c.in-Ok.ensures.unbroken stored stands uncles;
 }

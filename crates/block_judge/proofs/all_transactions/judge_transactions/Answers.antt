@@ -86,8 +86,8 @@ later-init g c = record {
   within = omega (arith, c.requires.some);
   moves = can-move-none 1 c.in-Ok-behind.progress.interest c.in-Ok-behind.progress.freed c.in-Ok-behind.ensures.interest c.in-Ok-behind.ensures.freed;
   fees = omega (arith, ap length c.in-Ok-behind.ensures.fees);
-  rows = rows-after_more _ c.args.block.now 0 c.transactions_item.result (g.C.Cells.rows c.args.cells.now) (g.C.Cells.rows c.args.cells.now) _
-      (rows-after_none _ c.args.block.now (g.C.Cells.rows c.args.cells.now) (g.C.Cells.rows c.args.cells.now) (λ o. refl)) c.transactions_item.ensures
+  rows = rows-after_more _ c.args.block.now 0 c.transactions_item-cellbase.result (g.C.Cells.rows c.args.cells.now) (g.C.Cells.rows c.args.cells.now) _
+      (rows-after_none _ c.args.block.now (g.C.Cells.rows c.args.cells.now) (g.C.Cells.rows c.args.cells.now) (λ o. refl)) c.transactions_item-cellbase.ensures
       (λ height o above. c.in-Ok-behind.ensures.rows height o above);
   judged = λ stored tells stands.
       judged-none c.args.spec.now (blocks_of stored) c.args.parent c.args.block.now c.in-Ok-behind.progress.left c.in-Ok-behind.progress.ext

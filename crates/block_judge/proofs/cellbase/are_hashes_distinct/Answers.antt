@@ -1,14 +1,13 @@
-use Rattle.std.proofs.Common.{◌≡◌, ℕ, ◌+◌, ◌-◌, true, false, List, map, sym, ◌∙◌, arith, rules}
+use Rattle.std.proofs.Common.{◌≡◌, ℕ, ◌+◌, ◌-◌, true, false, List, sym, ◌∙◌, arith, rules}
 use Rattle.std.specs.Str.{bytes_eq}
 use Rattle.std.specs.HashSet.{contains}
 use Rattle.std.proofs.lemmas.Bool.{not-true, not-false}
-use Rattle.chain_defs.specs.Hashes.{transaction_hash}
 use Rattle.chain_defs.proofs.DistinctLemmas.{has_more, distinct_more, distinct_twice}
 use Rattle.block_judge.proofs.cellbase.are_hashes_distinct.Goals as goal
 
 pub returns-then-not-branch : goal.returns-then-not-branch
 returns-then-not-branch c =
-    let values : List (List ℕ) = map transaction_hash c.args.block.now.transactions in
+    let values : List (List ℕ) = c.args.hashes.now in
     let value : List ℕ = c.hash_at.result in
     let next : c.later.i - 1 + 1 ≡ c.later.i = omega (arith, c.later-test.true) in
     let old : contains bytes_eq c.later.seen value ≡ true = not-false (contains bytes_eq c.later.seen value) (search rules) in
@@ -16,7 +15,7 @@ returns-then-not-branch c =
 
 pub later-preserved : goal.later-preserved
 later-preserved c =
-    let values : List (List ℕ) = map transaction_hash c.args.block.now.transactions in
+    let values : List (List ℕ) = c.args.hashes.now in
     let value : List ℕ = c.hash_at.result in
     let keeps = c.later.invariant in
     let next : c.later.i - 1 + 1 ≡ c.later.i = omega (arith, c.later-test.true) in

@@ -11,5 +11,5 @@ returns-then-transactions_count-eq0 g c live same =
 pub returns : goal.returns
 returns g c live same =
     c.is_well_formed.ensures live same
-    ∙ ap (λ (number : ℕ). is_well_formed_cellbase live number c.transactions_item.result) (c.number.ensures ∙ ap (λ (h : Header). h.number) c.header.ensures)
-    ∙ first-formed live c.args.block.now c.transactions_item.result c.transactions_item.ensures
+    ∙ ap (λ (number : ℕ). is_well_formed_cellbase live number c.transactions_item-cellbase.result) (c.number.ensures ∙ ap (λ (h : Header). h.number) c.header.ensures)
+    ∙ first-formed live c.args.block.now c.transactions_item-cellbase.result c.transactions_item-cellbase.ensures

@@ -2,6 +2,7 @@ use Rattle.std.proofs.Common.{◌≡◌, Bool, drop, sym, ap, ◌∙◌, subst, 
 use Rattle.std.specs.Prelude.{not, IfOk}
 use Rattle.std.specs.List.{list_any}
 use Rattle.std.proofs.lemmas.Bool.{and_left, and_right, and_from}
+use Rattle.chain_defs.specs.Hashes.{are_distinct}
 use Rattle.family_defs.specs.Cellbase.{is_cellbase}
 use Rattle.block_judge.proofs.CellbaseLemmas.{begins, begins-not, no-cellbase, one-cellbase}
 use Rattle.block_judge.proofs.cellbase.has_cellbase.Goals as goal
@@ -30,4 +31,4 @@ returns c =
     let begun = begins txs first c.transactions_item.ensures
     ∙ and_from (is_cellbase first) (not (list_any is_cellbase (drop 1 txs))) (sym c.is_cellbase.ensures ∙ c.if-not-is_cellbase.false)
     (ap not (sym c.has_later_cellbase.ensures ∙ c.if-has_later_cellbase.false)) in
-    subst (λ (b : Bool). IfOk c.are_hashes_distinct.result (λ has. has ≡ b)) (one-cellbase c.args.block.now begun) c.are_hashes_distinct.ensures
+    subst (λ (b : Bool). IfOk c.are_hashes_distinct.result (λ has. has ≡ b)) (ap are_distinct c.requires.hashes ∙ one-cellbase c.args.block.now begun) c.are_hashes_distinct.ensures

@@ -49,8 +49,8 @@ returns-in-Err-judge_transactions g c = record {
   cause = counts-on as_step as_step c.in-Err-judge_transactions.ensures.cause;
 }
 
-pub returns-in-Err-judge_end : goal.returns-in-Err-judge_end
-returns-in-Err-judge_end g c = record {
+pub returns : goal.returns
+returns g c = record {
   told = c.judge_end.ensures.told ∙ c.judge_transactions.ensures.told;
   count = c.judge_end.ensures.count ∙ c.judge_transactions.ensures.count;
   loans = c.judge_end.ensures.loans ∙ c.judge_transactions.ensures.loans;

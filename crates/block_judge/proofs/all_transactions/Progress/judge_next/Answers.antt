@@ -19,8 +19,8 @@ returns-in-Err g c = record {
   fees = tt;
   rows = tt;
   broken = λ stored site told is proposed rule same.
-      by-proposed site _ c.args.tx.now c.contains-is_proposed.result c.args.proposed.now c.proposal_id.result c.tx_hash.result (Some rule)
-      c.tx_hash.ensures c.proposal_id.ensures c.contains-is_proposed.ensures proposed (c.in-Err.ensures.broken stored site told is rule (as_step same));
+      by-proposed site _ c.args.tx.now c.contains-is_proposed.result c.args.proposed.now c.proposal_id.result c.args.hash.now (Some rule)
+      c.requires.hash c.proposal_id.ensures c.contains-is_proposed.ensures proposed (c.in-Err.ensures.broken stored site told is rule (as_step same));
   unbroken = λ stored site told is proposed. tt;
   cycles = λ stored site told is. tt;
   fee = λ stored site told is. tt;
@@ -66,8 +66,8 @@ returns-in-Ok-take g c = record {
   rows = search rules;
   broken = λ stored site told is proposed rule same. absurd (no_error same);
   unbroken = λ stored site told is proposed.
-      by-proposed site _ c.args.tx.now c.contains-is_proposed.result c.args.proposed.now c.proposal_id.result c.tx_hash.result None
-      c.tx_hash.ensures c.proposal_id.ensures c.contains-is_proposed.ensures proposed (c.in-Ok.ensures.unbroken stored site told is);
+      by-proposed site _ c.args.tx.now c.contains-is_proposed.result c.args.proposed.now c.proposal_id.result c.args.hash.now None
+      c.requires.hash c.proposal_id.ensures c.contains-is_proposed.ensures proposed (c.in-Ok.ensures.unbroken stored site told is);
   cycles = λ stored site told is. c.in-Ok-take.ensures.left ∙ ap (λ (n : ℕ). c.args.self.now.left - n) (c.in-Ok.ensures.cycles stored site told is);
   fee = λ stored site told is. c.in-Ok-take.ensures.fees ∙ ap (λ (n : ℕ). c.args.self.now.ext.fees ++ n ∷ []) (c.in-Ok.ensures.fee stored site told is);
   spends = λ stored site told is.
