@@ -4,3 +4,10 @@ pub mod Rows
 pub mod ReadBack
 pub mod ReadOnce
 pub mod TextBack
+pub mod DigitLemmas
+pub mod Members
+pub mod Encodings
+pub mod Exact
+pub mod ExactObjects
+pub mod TextUtf8
+pub mod FromText

@@ -18,10 +18,10 @@ use Rattle.json_blocks.specs.Blocks as form
 use Rattle.json_blocks.specs.Blocks.{free_key, usual_header_rows, other_header_rows, header_read}
 use Rattle.json_blocks.specs.Laws.{IsReadOnce}
 
-is_false : {P : Type 0} → false ≡ true → P
+pub is_false : {P : Type 0} → false ≡ true → P
 is_false h = absurd (cc)
 
-equal_texts : (s t : List ℕ) → bytes_eq s t ≡ true → s ≡ t
+pub equal_texts : (s t : List ℕ) → bytes_eq s t ≡ true → s ≡ t
 equal_texts s t e = (bytes_eq-Decides s t).0 e
 
 -- ---- digits tell their number
@@ -88,7 +88,7 @@ same_bytes a b t fits fits' first second =
 
 -- ---- what fits
 
-bytes_fit : (b : List ℕ) → IsTrue (shape.are_bytes b) → IsBytes b
+pub bytes_fit : (b : List ℕ) → IsTrue (shape.are_bytes b) → IsBytes b
 bytes_fit [] fits i = omega arith
 bytes_fit (x ∷ b) fits zero = ltb-true x 256 (and_parts _ _ fits).0
 bytes_fit (x ∷ b) fits (suc i) = bytes_fit b (and_parts _ _ fits).1 i
@@ -101,21 +101,21 @@ number_fits n most small below =
 
 -- ---- forms
 
-bytes-once : IsReadOnce byte_string shape.bytes
+pub bytes-once : IsReadOnce byte_string shape.bytes
 bytes-once v w t fits fits' first second = same_bytes v w t (bytes_fit v (and_parts _ _ fits).1) (bytes_fit w (and_parts _ _ fits').1) first second
 
-array-once : (n : ℕ) → IsReadOnce byte_string (shape.byte_array n)
+pub array-once : (n : ℕ) → IsReadOnce byte_string (shape.byte_array n)
 array-once n v w t fits fits' first second = same_bytes v w t (bytes_fit v (and_parts _ _ fits).1) (bytes_fit w (and_parts _ _ fits').1) first second
 
-u32-once : IsReadOnce hex_number shape.u32
+pub u32-once : IsReadOnce hex_number shape.u32
 unfolding limit
 u32-once v w t fits fits' first second = same_number v w t (number_fits v (256 ^ byte_len w32) refl fits) (number_fits w (256 ^ byte_len w32) refl fits') first second
 
-u64-once : IsReadOnce hex_number shape.u64
+pub u64-once : IsReadOnce hex_number shape.u64
 unfolding limit
 u64-once v w t fits fits' first second = same_number v w t (number_fits v (256 ^ byte_len w64) refl fits) (number_fits w (256 ^ byte_len w64) refl fits') first second
 
-u128-once : IsReadOnce hex_number shape.u128
+pub u128-once : IsReadOnce hex_number shape.u128
 unfolding limit
 u128-once v w t fits fits' first second = same_number v w t (number_fits v (256 ^ byte_len w128) refl fits) (number_fits w (256 ^ byte_len w128) refl fits') first second
 
@@ -182,10 +182,10 @@ named-once zeroth first is_name is_name' differ v w t fits fits' read read' =
     by (as_byte p) (as_byte p') = ap (λ (l : List ℕ). slice_index l 0) (same_bytes (v ∷ []) (w ∷ []) t (one_byte v fits) (one_byte w fits') p p')
 
 -- the values of a list fit
-abbrev Fits : {V : Type 0} → shape.Shape V → List V → Type 0
+abbrev pub Fits : {V : Type 0} → shape.Shape V → List V → Type 0
 Fits it vs = IsTrue (shape.all_fit (map it.encoding vs))
 
-items-once : {V : Type 0} (of : Form V) (it : shape.Shape V) → IsReadOnce of it → (vs ws : List V) (ds : Items) → Fits it vs → Fits it ws
+pub items-once : {V : Type 0} (of : Form V) (it : shape.Shape V) → IsReadOnce of it → (vs ws : List V) (ds : Items) → Fits it vs → Fits it ws
     → items_read of.reads vs ds ≡ true → items_read of.reads ws ds ≡ true → vs ≡ ws
 items-once of it once [] [] no_items fits fits' first second = refl
 items-once of it once [] [] (item d ds) fits fits' first second = refl
@@ -199,7 +199,7 @@ items-once {V} of it once (v ∷ vs) (w ∷ ws) (item d ds) fits fits' first sec
     let tail : vs ≡ ws = items-once of it once vs ws ds (and_parts _ _ fits).1 (and_parts _ _ fits').1 (and_parts _ _ first).1 (and_parts _ _ second).1 in
     λ i. head i ∷ tail i
 
-list-once : {V : Type 0} (of : Form V) (it : shape.Shape V) → IsReadOnce of it → (vs ws : List V) (t : Data) → Fits it vs → Fits it ws
+pub list-once : {V : Type 0} (of : Form V) (it : shape.Shape V) → IsReadOnce of it → (vs ws : List V) (t : Data) → Fits it vs → Fits it ws
     → (list of).reads vs t ≡ true → (list of).reads ws t ≡ true → vs ≡ ws
 list-once of it once vs ws null fits fits' first second = is_false first
 list-once of it once vs ws (boolean x) fits fits' first second = is_false first
@@ -208,7 +208,7 @@ list-once of it once vs ws (string s) fits fits' first second = is_false first
 list-once of it once vs ws (array ds) fits fits' first second = items-once of it once vs ws ds fits fits' first second
 list-once of it once vs ws (object ms) fits fits' first second = is_false first
 
-option-once : {V : Type 0} (of : Form V) (it : shape.Shape V) → IsReadOnce of it → ((v : V) → of.reads v null ≡ false) → IsReadOnce (option of) (shape.option it)
+pub option-once : {V : Type 0} (of : Form V) (it : shape.Shape V) → IsReadOnce of it → ((v : V) → of.reads v null ≡ false) → IsReadOnce (option of) (shape.option it)
 option-once of it once some None None t fits fits' first second = refl
 option-once of it once some None (Some w) null fits fits' first second = is_false (sym (some w) ∙ second)
 option-once of it once some None (Some w) (boolean x) fits fits' first second = is_false first
@@ -266,17 +266,17 @@ agree (r ∷ rows) (r' ∷ rows') (member k d ms) first second =
       agree rows rows' ms p'.1 q'.1,
     )
 
-hash_type-once : IsReadOnce (named_byte (codes "data") (codes "type")) shape.byte
+pub hash_type-once : IsReadOnce (named_byte (codes "data") (codes "type")) shape.byte
 hash_type-once =
     named-once (codes "data") (codes "type") (λ h. let e : 100 ≡ 48 = h in omega arith) (λ h. let e : 116 ≡ 48 = h in omega arith)
     (λ h. let e : 100 ≡ 116 = ap (λ (l : List ℕ). slice_index l 0) h in omega arith)
 
-dep_type-once : IsReadOnce (named_byte (codes "code") (codes "dep_group")) shape.byte
+pub dep_type-once : IsReadOnce (named_byte (codes "code") (codes "dep_group")) shape.byte
 dep_type-once =
     named-once (codes "code") (codes "dep_group") (λ h. let e : 99 ≡ 48 = h in omega arith) (λ h. let e : 100 ≡ 48 = h in omega arith)
     (λ h. let e : 99 ≡ 100 = ap (λ (l : List ℕ). slice_index l 0) h in omega arith)
 
-script-once : IsReadOnce form.script schema.script
+pub script-once : IsReadOnce form.script schema.script
 unfolding form.script schema.script
 script-once v w t fits fits' read read' =
     let o = opened (members_read (form.script_rows v)) (members_read (form.script_rows w)) t read read' in
@@ -288,7 +288,7 @@ script-once v w t fits fits' read read' =
     let e_hash_type = hash_type-once v.hash_type w.hash_type a.1.1.0.tree f.1.0 f'.1.0 a.1.1.0.first a.1.1.0.second in
     λ i. record { code_hash = e_code_hash i; hash_type = e_hash_type i; args = e_args i }
 
-out_point-once : IsReadOnce form.out_point schema.out_point
+pub out_point-once : IsReadOnce form.out_point schema.out_point
 unfolding form.out_point schema.out_point
 out_point-once v w t fits fits' read read' =
     let o = opened (members_read (form.out_point_rows v)) (members_read (form.out_point_rows w)) t read read' in
@@ -299,7 +299,7 @@ out_point-once v w t fits fits' read read' =
     let e_tx_hash = array-once 32 v.tx_hash w.tx_hash a.1.0.tree f.0 f'.0 a.1.0.first a.1.0.second in
     λ i. record { tx_hash = e_tx_hash i; index = e_index i }
 
-cell_input-once : IsReadOnce form.cell_input schema.cell_input
+pub cell_input-once : IsReadOnce form.cell_input schema.cell_input
 unfolding form.cell_input schema.cell_input
 cell_input-once v w t fits fits' read read' =
     let o = opened (members_read (form.cell_input_rows v)) (members_read (form.cell_input_rows w)) t read read' in
@@ -310,7 +310,7 @@ cell_input-once v w t fits fits' read read' =
     let e_since = u64-once v.since w.since a.1.0.tree f.0 f'.0 a.1.0.first a.1.0.second in
     λ i. record { since = e_since i; previous_output = e_previous_output i }
 
-cell_dep-once : IsReadOnce form.cell_dep schema.cell_dep
+pub cell_dep-once : IsReadOnce form.cell_dep schema.cell_dep
 unfolding form.cell_dep schema.cell_dep
 cell_dep-once v w t fits fits' read read' =
     let o = opened (members_read (form.cell_dep_rows v)) (members_read (form.cell_dep_rows w)) t read read' in
@@ -321,11 +321,11 @@ cell_dep-once v w t fits fits' read read' =
     let e_out_point = out_point-once v.out_point w.out_point a.1.0.tree f.0 f'.0 a.1.0.first a.1.0.second in
     λ i. record { out_point = e_out_point i; dep_type = e_dep_type i }
 
-no_script : (s : schema.Script) → form.script.reads s null ≡ false
+pub no_script : (s : schema.Script) → form.script.reads s null ≡ false
 unfolding form.script
 no_script s = refl
 
-cell_output-once : IsReadOnce form.cell_output schema.cell_output
+pub cell_output-once : IsReadOnce form.cell_output schema.cell_output
 unfolding form.cell_output schema.cell_output
 cell_output-once v w t fits fits' read read' =
     let o = opened (members_read (form.cell_output_rows v)) (members_read (form.cell_output_rows w)) t read read' in
@@ -337,7 +337,7 @@ cell_output-once v w t fits fits' read read' =
     let e_type_script = option-once form.script schema.script script-once no_script v.type_script w.type_script a.1.1.0.tree f.1.1.0 f'.1.1.0 a.1.1.0.first a.1.1.0.second in
     λ i. record { capacity = e_capacity i; lock = e_lock i; type_script = e_type_script i }
 
-transaction-once : IsReadOnce form.transaction schema.transaction
+pub transaction-once : IsReadOnce form.transaction schema.transaction
 unfolding form.transaction schema.transaction schema.raw_transaction
 transaction-once v w t fits fits' read read' =
     let o = opened (λ ms. members_read (form.transaction_rows v) (without free_key ms)) (λ ms. members_read (form.transaction_rows w) (without free_key ms)) t read read' in
@@ -358,11 +358,11 @@ transaction-once v w t fits fits' read read' =
       witnesses = e_witnesses i;
     }
 
-or_cases : (x y : Bool) → (x || y) ≡ true → (x ≡ true) ⊎ (y ≡ true)
+pub or_cases : (x y : Bool) → (x || y) ≡ true → (x ≡ true) ⊎ (y ≡ true)
 or_cases true y h = inl refl
 or_cases false y h = inr h
 
-abbrev header_fields : schema.Header → List shape.Encoding
+abbrev pub header_fields : schema.Header → List shape.Encoding
 header_fields h = shape.encode_field shape.u32 h.version ∷ shape.encode_field shape.u32 h.compact_target ∷ shape.encode_field shape.u64 h.timestamp ∷ shape.encode_field shape.u64 h.number ∷ shape.encode_field shape.u64 h.epoch ∷ shape.encode_field schema.byte32 h.parent_hash ∷ shape.encode_field schema.byte32 h.transactions_root ∷ shape.encode_field schema.byte32 h.proposals_hash ∷ shape.encode_field schema.byte32 h.uncles_hash ∷ shape.encode_field schema.byte32 h.dao ∷ shape.encode_field shape.u128 h.nonce ∷ []
 
 usual-once : (v w : schema.Header) → AllFit (header_fields v) → AllFit (header_fields w) → Agree (usual_header_rows v) (usual_header_rows w) → v ≡ w
@@ -402,7 +402,7 @@ nonce_or_extra v w a =
     let letters : 110 ≡ 101 = ap (λ (l : List ℕ). slice_index l 0) keys in
     omega (arith, letters)
 
-header-once : IsReadOnce form.header schema.header
+pub header-once : IsReadOnce form.header schema.header
 unfolding form.header schema.header
 header-once v w t fits fits' read read' =
     let o = opened (λ ms. header_read v (without free_key ms)) (λ ms. header_read w (without free_key ms)) t read read' in
@@ -422,7 +422,7 @@ header-once v w t fits fits' read read' =
       ]
     ]
 
-uncle-once : IsReadOnce form.uncle schema.uncle_block
+pub uncle-once : IsReadOnce form.uncle schema.uncle_block
 unfolding form.uncle schema.uncle_block
 uncle-once v w t fits fits' read read' =
     let o = opened (members_read (form.uncle_rows v)) (members_read (form.uncle_rows w)) t read read' in

@@ -1,7 +1,7 @@
 // The laws of the tables.
 ghost use Rattle.codec_defs.specs.Schema as schema;
 ghost use Rattle.json_blocks.specs.Blocks as form;
-ghost use Rattle.json_blocks.specs.Laws.{IsReadBack, IsReadOnce, IsTextOfTree};
+ghost use Rattle.json_blocks.specs.Laws.{IsReadBack, IsReadOnce, IsTextOfTree, IsTextBack, IsOneOfText};
 
 /// States that the text of a block reads as its tree, that a block is read from its own tree, and that at most one
 /// block is read from a tree. It does nothing.
@@ -9,4 +9,11 @@ pub fn form_laws()
     ensures text_of_tree { IsTextOfTree form.block }
     ensures read_back { IsReadBack form.block }
     ensures read_once { IsReadOnce form.block schema.block }
+{}
+
+/// States that the text of a block is read as this block, so that `from_json` of `to_json` gives the block back, and
+/// that a text is read as at most one block. It does nothing.
+pub fn reading_laws()
+    ensures text_back { IsTextBack form.block }
+    ensures one_block { IsOneOfText form.block schema.block }
 {}

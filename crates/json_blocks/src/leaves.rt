@@ -34,7 +34,7 @@ pub(crate) fn put_comma(out: &mut Vec<u8>, later: bool) -> Result<(), NoMemory>
 }
 
 /// Writes the hex digits of a number at the end of `text`, and gives where they start.
-fn number_digits(n: u128, text: &mut [u8; 64]) -> usize
+pub(crate) fn number_digits(n: u128, text: &mut [u8; 64]) -> usize
     ensures bound { result ≤ 64 }
     ensures value { drop result text.new ≡ digits 16 false n }
 {
@@ -64,7 +64,7 @@ pub(crate) fn put_number(out: &mut Vec<u8>, n: u128) -> Result<(), NoMemory>
 }
 
 /// Puts two hex digits for each byte.
-fn put_digits(out: &mut Vec<u8>, bytes: &[u8]) -> Result<(), NoMemory>
+pub(crate) fn put_digits(out: &mut Vec<u8>, bytes: &[u8]) -> Result<(), NoMemory>
     ensures { OnOk result (Puts out.old.items out.new.items (encode_lower bytes.now)) }
 {
     'digits: for byte in bytes {

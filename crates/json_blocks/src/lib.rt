@@ -1,16 +1,28 @@
 //! Blocks as JSON.
 //!
 //! `to_json` writes a block as one compact text: `block.tree` of specs/Blocks.antt is the tree, one row for each key,
-//! and the text is serde_json's own of that tree. It is written from the block's view, with no tree in memory. The same
-//! rows say which trees are read as a block, and `form_laws` what is true of them. What a block has to keep is left to
-//! the rules above.
+//! and the text is serde_json's own of that tree. It is written from the block's view, with no tree in memory.
+//! `from_json` reads a text by the same rows: it gives the encoding of the block that the text is read as, and Bad where
+//! there is none. serde_json makes the tree. `form_laws` and `reading_laws` say what is true of the rows and of texts.
+//! What a block has to keep is left to the rules above.
 #![tactic(auto)]
 
+mod digits;
+mod fields;
+mod items;
 mod laws;
 mod leaves;
+mod lists;
 mod objects;
 mod parts;
+mod read;
+mod read_objects;
+mod read_parts;
+mod reading;
+mod stop;
 mod write;
 
-pub use laws::form_laws;
+pub use laws::{form_laws, reading_laws};
+pub use read::from_json;
+pub use stop::JsonStop;
 pub use write::to_json;

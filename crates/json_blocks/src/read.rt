@@ -1,0 +1,46 @@
+// A block, read from its text.
+ghost use Rattle.std.specs.Prelude.{◌≡◌, IfOk, IsTrue, IsUtf8, Some, None, Err};
+ghost use Rattle.codec_defs.specs.Shape.{IsA};
+ghost use Rattle.codec_defs.specs.Schema as schema;
+ghost use Rattle.serde_json.specs.Read.{read};
+ghost use Rattle.serde_json.specs.View.{view};
+ghost use Rattle.json_blocks.specs.declared.stop.JsonStop.TheVariants.{Bad};
+ghost use Rattle.json_blocks.specs.Blocks as form;
+ghost use Rattle.json_blocks.specs.Laws.{IsReadAs};
+
+use crate::read_objects::read_block;
+use crate::stop::JsonStop;
+use serde_json::Value;
+use std::alloc::Global;
+
+/// The tree of a text.
+fn tree_of(alloc: Global, text: &[u8]) -> Result<Value, JsonStop>
+    ensures found { IfOk result (λ v. IsUtf8 text.now × (read text.now ≡ Some (view v))) }
+    ensures only { result ≡ Err Bad → IsUtf8 text.now → read text.now ≡ None }
+{
+    match Value::from_slice(alloc, text) {
+        Ok(value) => Ok(value),
+        Err(error) => {
+            if error.is_memory() {
+                Err(JsonStop::NoMemory)
+            } else {
+                Err(JsonStop::Bad)
+            }
+        }
+    }
+}
+
+/// The encoding of the block that a text is read as (docs/FORMATS.md, Blocks as JSON). Bad where there is no such block:
+/// the text is no JSON, it nests deeper than 127, or its tree is that of no block.
+#[tactic(auto, using(crate::proofs::FromText::only, crate::proofs::FromText::no_tree))]
+pub fn from_json(alloc: Global, text: &[u8]) -> Result<Vec<u8>, JsonStop>
+    // What is given encodes a block that the text is read as.
+    ensures found { IfOk result (λ bytes. (v : schema.Block) × IsA schema.block bytes.items v × IsReadAs form.block text.now v) }
+    // Bad comes only where the text is read as no block.
+    ensures only { result ≡ Err Bad → (v : schema.Block) → IsTrue (schema.block.encoding v).fits → IsReadAs form.block text.now v → ⊥ }
+{
+    match tree_of(alloc, text) {
+        Ok(value) => read_block(alloc, &value),
+        Err(stop) => Err(stop),
+    }
+}

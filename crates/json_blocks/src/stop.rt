@@ -1,0 +1,38 @@
+// Why a text is not read as a block.
+ghost use Rattle.std.specs.Prelude.{◌≡◌};
+ghost use Rattle.json_blocks.specs.declared.stop.JsonStop.TheVariants.{NoMemory as no_memory};
+
+use outside::NoMemory;
+use std::alloc::{AllocError, AllocFailed};
+
+/// Why a text is not read as a block.
+#[derive(Clone, Copy, PartialEq, Eq, Debug, Drop)]
+pub enum JsonStop {
+    /// It is no JSON, or no block is read from it.
+    Bad,
+    NoMemory,
+}
+
+impl From<NoMemory> for JsonStop {
+    ghost from_gives = { λ _ stop. stop ≡ no_memory };
+
+    fn from(_: NoMemory) -> JsonStop {
+        JsonStop::NoMemory
+    }
+}
+
+impl From<AllocError> for JsonStop {
+    ghost from_gives = { λ _ stop. stop ≡ no_memory };
+
+    fn from(_: AllocError) -> JsonStop {
+        JsonStop::NoMemory
+    }
+}
+
+impl<T: Drop> From<AllocFailed<T>> for JsonStop {
+    ghost from_gives = { λ _ stop. stop ≡ no_memory };
+
+    fn from(_: AllocFailed<T>) -> JsonStop {
+        JsonStop::NoMemory
+    }
+}
