@@ -1,0 +1,202 @@
+#!/usr/bin/env python3
+"""A block as JSON, beside Python.
+
+    (cd crates/format_vectors && rt run)   # builds it
+    python3 bench/json_text.py [--most 2]
+
+The program format_vectors makes the text of one block of 597,000 bytes again
+and again. Python decodes the same block and calls json.dumps. A line has the
+processor time of each for one text, and the ratio: for a block of many small
+transactions, and for one whose bytes are nearly all in one witness. Where the
+ratio of the first is above --most, the status is 1.
+
+Then the program reads texts of 4 and 16 MiB. Four times the bytes are to take
+at most five times the processor time above that of no row, and five times the
+peak of resident memory; else the status is 1. The process that starts the
+program is smaller than either peak.
+"""
+
+import argparse
+import json
+import os
+import subprocess
+import sys
+import time
+
+sys.dont_write_bytecode = True
+PROGRAM = os.path.join(os.path.dirname(os.path.abspath(__file__)), '..', 'crates', 'format_vectors', 'out', 'format_vectors')
+SIZE, OFTEN = 597000, 40
+RUNNER = ('import resource, subprocess, sys\n'
+          'p = subprocess.run(sys.argv[1:])\n'
+          'u = resource.getrusage(resource.RUSAGE_CHILDREN)\n'
+          'print(u.ru_utime + u.ru_stime, u.ru_maxrss * 1024, file=sys.stderr)\n'
+          'sys.exit(p.returncode)\n')
+
+
+def le(n, width):
+    return n.to_bytes(width, 'little')
+
+
+def number(b):
+    return int.from_bytes(b, 'little')
+
+
+# ------------------------------------------------------------------ encoding
+
+def table(fields):
+    """A table, or a dynvec."""
+    at, heads = 4 + 4 * len(fields), []
+    for f in fields:
+        heads.append(le(at, 4))
+        at += len(f)
+    return le(at, 4) + b''.join(heads) + b''.join(fields)
+
+
+def as_bytes(b):
+    return le(len(b), 4) + b
+
+
+def transaction(i, witness):
+    lock = table([bytes([i % 251]) * 32, b'\x01', as_bytes(bytes(20))])
+    outputs = table([table([le(10 ** 10 + i, 8), lock, b'']) for _ in range(2)])
+    raw = table([le(0, 4), le(1, 4) + bytes(32) + le(i, 4) + b'\0', le(0, 4), le(1, 4) + le(0, 8) + bytes([i % 13]) * 32 + le(i, 4),
+                 outputs, table([as_bytes(b'')] * 2)])
+    return table([raw, table([as_bytes(witness)])])
+
+
+def block(transactions):
+    return table([bytes(range(208)), table([]), table(transactions), le(0, 4)])
+
+
+def busy():
+    """A block of many transactions."""
+    small = transaction(0, bytes(65))
+    count = (SIZE - len(block([])) - 1000) // (len(small) + 4)
+    many = [transaction(i, bytes(65)) for i in range(count)]
+    rest = SIZE - len(block(many)) - len(transaction(0, b'')) - 4
+    return block(many + [transaction(0, bytes(rest))])
+
+
+def plain(size):
+    """A block whose bytes are nearly all in one witness."""
+    rest = size - len(block([transaction(0, b'')]))
+    return block([transaction(0, bytes(i % 256 for i in range(rest)))])
+
+
+# ------------------------------------------------------------------ the baseline
+
+def parts(b):
+    if len(b) == 4:
+        return []
+    first = number(b[4:8])
+    offsets = [number(b[i:i + 4]) for i in range(4, first, 4)] + [len(b)]
+    return [b[s:e] for s, e in zip(offsets, offsets[1:])]
+
+
+def items(b, size):
+    return [b[4 + i * size:4 + (i + 1) * size] for i in range(number(b[:4]))]
+
+
+def text(b):
+    return '0x' + b.hex()
+
+
+def of_number(b):
+    return hex(number(b))
+
+
+def script(b):
+    code_hash, hash_type, args = parts(b)
+    return {'args': text(args[4:]), 'code_hash': text(code_hash), 'hash_type': {0: 'data', 1: 'type'}.get(hash_type[0]) or text(hash_type)}
+
+
+def out_point(b):
+    return {'index': of_number(b[32:36]), 'tx_hash': text(b[:32])}
+
+
+def output(b):
+    capacity, lock, type_script = parts(b)
+    return {'capacity': of_number(capacity), 'lock': script(lock), 'type': script(type_script) if type_script else None}
+
+
+def of_transaction(b):
+    raw, witnesses = parts(b)
+    version, deps, header_deps, inputs, outputs, data = parts(raw)
+    return {
+        'cell_deps': [{'dep_type': {0: 'code', 1: 'dep_group'}.get(d[36]) or text(d[36:]), 'out_point': out_point(d[:36])} for d in items(deps, 37)],
+        'header_deps': [text(h) for h in items(header_deps, 32)],
+        'inputs': [{'previous_output': out_point(i[8:]), 'since': of_number(i[:8])} for i in items(inputs, 44)],
+        'outputs': [output(o) for o in parts(outputs)],
+        'outputs_data': [text(d[4:]) for d in parts(data)],
+        'version': of_number(version),
+        'witnesses': [text(w[4:]) for w in parts(witnesses)],
+    }
+
+
+def header(b):
+    return {
+        'compact_target': of_number(b[4:8]), 'dao': text(b[160:192]), 'epoch': of_number(b[24:32]), 'nonce': of_number(b[192:208]),
+        'number': of_number(b[16:24]), 'parent_hash': text(b[32:64]), 'proposals_hash': text(b[96:128]), 'timestamp': of_number(b[8:16]),
+        'transactions_root': text(b[64:96]), 'uncles_hash': text(b[128:160]), 'version': of_number(b[:4]),
+    }
+
+
+def of_block(b):
+    head, uncles, transactions, proposals = parts(b)
+    return json.dumps({
+        'header': header(head),
+        'proposals': [text(p) for p in items(proposals, 10)],
+        'transactions': [of_transaction(t) for t in parts(transactions)],
+        'uncles': [{'header': header(parts(u)[0]), 'proposals': [text(p) for p in items(parts(u)[1], 10)]} for u in parts(uncles)],
+    }, separators=(',', ':'))
+
+
+# ------------------------------------------------------------------ the program
+
+def run(rows):
+    """The processor time in seconds and the peak in bytes. A small process runs the program, so that they are its own."""
+    p = subprocess.run([sys.executable, '-c', RUNNER, PROGRAM], input=''.join(rows), capture_output=True, text=True)
+    if p.returncode != 0 or p.stdout != '%d of %d rows agree\n' % (len(rows), len(rows)):
+        sys.exit('the rows do not agree: %s' % p.stdout[:200])
+    seconds, peak = p.stderr.split()[-2:]
+    return float(seconds), int(peak)
+
+
+def text_ratio(name, b):
+    """The program's time for one text over that of Python."""
+    ours, theirs = [], []
+    for _ in range(5):
+        least = run(['again\t1\t%s\n' % b.hex()])[0]
+        ours.append((run(['again\t%d\t%s\n' % (OFTEN + 1, b.hex())])[0] - least) / OFTEN)
+        begin = time.process_time()
+        for _ in range(5):
+            made = of_block(b)
+        theirs.append((time.process_time() - begin) / 5)
+    run(['json\t%s\t%s\n' % (b.hex(), made)])
+    print('%-17s %d bytes: %.2f ms, Python %.2f ms, ratio %.2f' % (name, len(b), min(ours) * 1e3, min(theirs) * 1e3, min(ours) / min(theirs)))
+    return min(ours) / min(theirs)
+
+
+def reading(mib):
+    """The time above that of no row, and the peak, for a text of so many MiB."""
+    b = plain((mib << 19) - 1200)
+    row = 'unjson\t%s\t%s\n' % (of_block(b).encode().hex(), b.hex())
+    seconds, peak = min(run([row]) for _ in range(3))
+    seconds -= run([])[0]
+    print('a text of %2d MiB: %.3f s, peak %.1f MiB' % (mib, seconds, peak / 2 ** 20))
+    return seconds, peak
+
+
+def main():
+    a = argparse.ArgumentParser(description=__doc__.split('\n')[0])
+    a.add_argument('--most', type=float, default=2)
+    a = a.parse_args()
+    ratio = text_ratio('many transactions', busy())
+    text_ratio('one witness', plain(SIZE))
+    small, large = reading(4), reading(16)
+    growth = [y / x for x, y in zip(small, large)]
+    print('four times the bytes: %.2f times the time, %.2f times the memory' % tuple(growth))
+    sys.exit(1 if ratio > a.most or max(growth) > 5 else 0)
+
+
+main()
