@@ -119,3 +119,13 @@ log_of bytes = if bytes_eq (take 8 bytes) magic then content_of_records (records
 -- where the records end
 unfoldable pub end_of_log : List ℕ → ℕ
 end_of_log bytes = 8 + length (all_record_bytes (records_of (drop 8 bytes)))
+
+-- ---- A new log
+
+-- the two records that each log begins with
+abbrev pub first_records : List ℕ → List ℕ → List Record
+first_records specification genesis = record { kind = 1; body = specification } ∷ record { kind = 2; body = genesis } ∷ []
+
+-- a new log: its first bytes, the two records, and a gate that is not open
+abbrev pub new_log : List ℕ → List ℕ → List ℕ
+new_log specification genesis = magic ++ (all_record_bytes (first_records specification genesis) ++ 0 ∷ [])

@@ -1,5 +1,5 @@
 -- A log at rest, and a disk that leaves it so (docs/STORE.md).
-use Rattle.std.specs.Prelude.{◌≡◌, ◌≢◌, ◌⊎◌, ℕ, ◌+◌, ◌<◌, List, [], ◌∷◌, ◌++◌, take, drop, length, slice_index, Option, Some}
+use Rattle.std.specs.Prelude.{◌≡◌, ◌≢◌, ◌⊎◌, ℕ, ◌+◌, ◌<◌, ◌≤◌, max, List, [], ◌∷◌, ◌++◌, take, drop, length, slice_index, Option, Some}
 use Rattle.outside.specs.declared.disk.Area.TheVariants.{Log}
 use Rattle.outside.specs.Image.{Image, InArea}
 use Rattle.outside.specs.Disk.{ComesBy, IsDurable}
@@ -35,6 +35,20 @@ pub record IsSettled (place : ℕ) (records : List Record) (reads : Option Image
 abbrev pub HasLog : (List ℕ → Type 0) → (Image → Type 0) → Image → Type 0
 HasLog P images = ComesBy (InArea Log (λ old new. P new)) images
 
--- An image with the other areas of one of these.
-abbrev pub HasOthers : (Image → Type 0) → Image → Type 0
-HasOthers images = ComesBy (InArea Log (λ old new. Unit)) images
+-- It is no longer than it was, or than to one byte behind this place.
+abbrev pub IsNoLonger : ℕ → List ℕ → List ℕ → Type 0
+IsNoLonger place old new = length new ≤ max (length old) (place + 1)
+
+-- An image with the other areas of one of these, and with a log that is no longer than it was there, or than to one byte behind this place.
+abbrev pub HasNoLonger : ℕ → (Image → Type 0) → Image → Type 0
+HasNoLonger place images = ComesBy (InArea Log (IsNoLonger place)) images
+
+-- What an append of a record leaves of a log, at each moment: it is at rest before the record or after it, and no longer than it was, or than to one
+-- byte behind the record.
+pub record IsAppended (place : ℕ) (records : List Record) (r : Record) (old new : List ℕ) : Type 0 where
+  pub rest : IsBeforeOrAfter place records r new
+  pub size : IsNoLonger (place + length (record_bytes r)) old new
+
+-- An image with the other areas of one of these, and with what an append leaves of the log that was there.
+abbrev pub HasAppended : ℕ → List Record → Record → (Image → Type 0) → Image → Type 0
+HasAppended place records r images = ComesBy (InArea Log (IsAppended place records r)) images

@@ -11,7 +11,7 @@ use Rattle.outside.specs.Disk.{written, write_area, Torn, ComesBy, Follows, IsDu
 use Rattle.outside.proofs.Torn.{tears_to_the_written}
 use Rattle.log_defs.specs.Log.{Record, record_bytes}
 use Rattle.log_defs.specs.LogLaws.{HasFittingBody}
-use Rattle.log_defs.specs.Rest.{IsAtRest, IsBeforeOrAfter, IsSettled, HasLog}
+use Rattle.log_defs.specs.Rest.{IsAtRest, IsBeforeOrAfter, IsSettled, IsNoLonger, IsAppended, HasAppended}
 use Rattle.log_defs.proofs.Records.{record_length}
 use Rattle.log_defs.proofs.Resting.{rest_kept, rest_grown}
 use Rattle.log_file.specs.Pieces.{behind_gate}
@@ -86,11 +86,17 @@ gate_written place records r bytes fits s =
 -- ---- Images
 
 -- what a crash leaves while the record is written
-pub leaves_while_written : (place size : ℕ) (records : List Record) (r : Record) (reads : Option Image) (images : Image → Type 0) → IsSettled place records reads images
-    → (image : Image) → ComesBy (InArea Log (Torn (place + 1) size)) images image → HasLog (IsBeforeOrAfter place records r) images image
-leaves_while_written place size records r reads images settled image (before, left, (bytes, torn, is)) =
+pub leaves_while_written : (place : ℕ) (records : List Record) (r : Record) (piece : List ℕ) (reads : Option Image) (images : Image → Type 0) → piece ≡ behind_gate r
+    → IsSettled place records reads images
+    → (image : Image) → ComesBy (InArea Log (Torn (place + 1) (length piece))) images image → HasAppended place records r images image
+leaves_while_written place records r piece reads images same settled image (before, left, (bytes, torn, is)) =
     let here : IsAtRest place records before.log = subst (IsAtRest place records) (sym (settled.durable before left)) settled.rest in
-    (before, left, (bytes, inl (torn_kept place size records before.log bytes here torn), is))
+    let appended : IsAppended place records r before.log bytes =
+    record {
+      rest = inl (torn_kept place (length piece) records before.log bytes here torn);
+      size = omega (arith, torn.no_longer, ap length same, piece_length r);
+    } in
+    (before, left, (bytes, appended, is))
 
 -- the log as it reads between the two writes
 record IsBetween (place : ℕ) (records : List Record) (r : Record) (reads : Option Image) (images : Image → Type 0) : Type 0 where
@@ -116,7 +122,7 @@ between place records r piece reads reads1 images images1 is settled wrote durab
 pub leaves_while_opened : (place : ℕ) (records : List Record) (r : Record) (piece : List ℕ) (reads reads1 : Option Image) (images images1 : Image → Type 0) → piece ≡ behind_gate r
     → length piece < 2 ^ 32 + 6 → IsSettled place records reads images → reads1 ≡ option_map (write_area Log (place + 1) piece) reads → IfSome reads1 (IsDurable Log images1)
     → Follows (InArea Log (Torn (place + 1) (length piece))) images images1
-    → (image : Image) → ComesBy (InArea Log (Torn place 1)) images1 image → HasLog (IsBeforeOrAfter place records r) images image
+    → (image : Image) → ComesBy (InArea Log (Torn place 1)) images1 image → HasAppended place records r images image
 leaves_while_opened place records r piece reads reads1 images images1 same short settled wrote durable follows image (mid, left, (bytes, torn, is)) =
     from (follows mid left)
   where
@@ -126,9 +132,14 @@ leaves_while_opened place records r piece reads reads1 images images1 same short
     s : IsStaged place records r mid.log
     s = subst (IsStaged place records r) (sym (b.durable mid left)) b.staged
 
-    from : ComesBy (InArea Log (Torn (place + 1) (length piece))) images mid → HasLog (IsBeforeOrAfter place records r) images image
+    from : ComesBy (InArea Log (Torn (place + 1) (length piece))) images mid → HasAppended place records r images image
     from (before, first, (other, earlier, was)) =
-        (before, first, (bytes, gate_torn place records r mid.log bytes (body_fits r piece same short) s torn, is ∙ ap (with_content Log bytes) was))
+        let appended : IsAppended place records r before.log bytes =
+        record {
+          rest = gate_torn place records r mid.log bytes (body_fits r piece same short) s torn;
+          size = omega (arith, torn.no_longer, earlier.no_longer, ap (λ (i : Image). length i.log) was, ap length same, piece_length r);
+        } in
+        (before, first, (bytes, appended, is ∙ ap (with_content Log bytes) was))
 
 pub settles_after : (place : ℕ) (records : List Record) (r : Record) (piece : List ℕ) (reads reads1 reads2 : Option Image) (images images1 images2 : Image → Type 0) → piece ≡ behind_gate r
     → length piece < 2 ^ 32 + 6 → IsSettled place records reads images → reads1 ≡ option_map (write_area Log (place + 1) piece) reads → IfSome reads1 (IsDurable Log images1)
@@ -164,3 +175,15 @@ ends_there place piece (Some image) reads1 reads2 there wrote opened =
     ) in
     let kept : length mid ≤ length (written place (1 ∷ []) mid) = (tears_to_the_written place 0 (1 ∷ []) mid (omega (arith, long))).no_shorter in
     subst (λ (o : Option Image). IfSome o (λ image. place + length piece < length image.log)) (sym some) (omega (arith, long, kept))
+
+-- and it ends one byte behind them, or where it ended before
+pub ends_no_later : (place : ℕ) (piece : List ℕ) (reads reads1 reads2 : Option Image) → IfSome reads (λ image. place < length image.log)
+    → reads1 ≡ option_map (write_area Log (place + 1) piece) reads → reads2 ≡ option_map (write_area Log place (1 ∷ [])) reads1
+    → IfSome reads (λ image. IfSome reads2 (λ now. IsNoLonger (place + length piece) image.log now.log))
+ends_no_later place piece None reads1 reads2 there wrote opened = tt
+ends_no_later place piece (Some image) reads1 reads2 there wrote opened =
+    let mid : Image = write_area Log (place + 1) piece image in
+    let told : reads2 ≡ Some (write_area Log place (1 ∷ []) mid) = opened ∙ ap (option_map (write_area Log place (1 ∷ []))) wrote in
+    let first = tears_to_the_written (place + 1) 0 piece image.log (omega (arith, there)) in
+    let second = tears_to_the_written place 0 (1 ∷ []) mid.log (omega (arith, there, first.no_shorter)) in
+    subst (λ (o : Option Image). IfSome o (λ now. IsNoLonger (place + length piece) image.log now.log)) (sym told) (omega (arith, first.no_longer, second.no_longer))

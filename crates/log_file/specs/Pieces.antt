@@ -1,7 +1,10 @@
 -- The bytes that are written into a log.
-use Rattle.std.specs.Prelude.{◌≡◌, ℕ, ◌+◌, List, [], ◌∷◌, ◌++◌, length}
+use Rattle.std.specs.Prelude.{◌≡◌, ℕ, ◌+◌, ◌≤◌, max, List, [], ◌∷◌, ◌++◌, length}
 use Rattle.std.specs.Int.{w32, to_le_bytes}
-use Rattle.log_defs.specs.Log.{Record, magic, all_record_bytes, body_of_parts}
+use Rattle.outside.specs.declared.disk.Area.TheVariants.{Log}
+use Rattle.outside.specs.Image.{Image, InArea}
+use Rattle.outside.specs.Disk.{ComesBy}
+use Rattle.log_defs.specs.Log.{Record, body_of_parts}
 use Rattle.log_file.specs.declared.log.Rec.{Rec}
 
 -- the record of a block with its ext
@@ -12,14 +15,10 @@ block_record item ext = record { kind = 3; body = body_of_parts item ext }
 abbrev pub behind_gate : Record → List ℕ
 behind_gate r = r.kind ∷ (to_le_bytes w32 (length r.body) ++ (r.body ++ 0 ∷ []))
 
--- the two records that each log begins with
-abbrev pub first_records : List ℕ → List ℕ → List Record
-first_records specification genesis = record { kind = 1; body = specification } ∷ record { kind = 2; body = genesis } ∷ []
-
--- a new log: its first bytes, the two records, and a gate that is not open
-abbrev pub new_log : List ℕ → List ℕ → List ℕ
-new_log specification genesis = magic ++ (all_record_bytes (first_records specification genesis) ++ 0 ∷ [])
-
 -- how a record that begins at a place is named
 abbrev pub Names : Rec → ℕ → Record → Type 0
 Names rec place r = (rec.kind ≡ r.kind) × (rec.at ≡ place + 6) × (rec.len ≡ length r.body)
+
+-- an image with the other areas of one of these, and with a log that is no longer than it was there, or than this
+abbrev pub HasUpTo : ℕ → (Image → Type 0) → Image → Type 0
+HasUpTo size images = ComesBy (InArea Log (λ old new. length new ≤ max (length old) size)) images

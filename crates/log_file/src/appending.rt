@@ -5,7 +5,7 @@ ghost use Rattle.outside.specs.Causes.{HasCause};
 ghost use Rattle.outside.specs.Disk.{OthersRead, LeavesOnly};
 ghost use Rattle.outside.specs.declared.disk.Area.TheVariants.{Log as log_area};
 ghost use Rattle.log_defs.specs.Log.{Record};
-ghost use Rattle.log_defs.specs.Rest.{IsSettled, IsBeforeOrAfter, HasLog};
+ghost use Rattle.log_defs.specs.Rest.{IsSettled, IsNoLonger, HasAppended};
 ghost use Rattle.log_file.specs.Pieces.{behind_gate, Names};
 
 use crate::body::Body;
@@ -27,21 +27,23 @@ pub fn rec_behind(log: &Log, body: &Body) -> Rec
 }
 
 /// Puts the record of `body` behind the others, in four calls of the disk: the record and a closed gate behind it are
-/// written and synced, and then its own gate is opened and synced. It takes no memory.
+/// written and synced, and then its own gate is opened and synced. LOG ends one byte behind the record, or where it
+/// ended before. It takes no memory.
 pub fn append<D: Disk>(log: Log, disk: &mut D, body: &Body) -> Result<(Log, Rec), Failed>
     requires limit { log.place ≤ 2 ^ 61 }
     requires filled { 6 ≤ length body.now }
     requires there { IfSome (D.reads_as disk.old) (λ image. log.place < length image.log) }
 
-    // Whatever records the log holds: at each moment a crash leaves those, or those and the new one, and after
-    // `Ok` the latter.
+    // Whatever records the log holds: at each moment a crash leaves those, or those and the new one, and nothing but
+    // what was there and one byte behind them; and after `Ok` the latter.
     ensures settled { (records : List Record) (r : Record) → body.now ≡ behind_gate r → IsSettled log.place records (D.reads_as disk.old) (D.images disk.old)
         → IfOk result (λ answer. IsSettled answer.0.place (records ++ r ∷ []) (D.reads_as disk.new) (D.images disk.new)) }
     ensures moments { (records : List Record) (r : Record) → body.now ≡ behind_gate r → IsSettled log.place records (D.reads_as disk.old) (D.images disk.old)
-        → LeavesOnly D.moment D.left_since disk.old disk.new (HasLog (IsBeforeOrAfter log.place records r) (D.images disk.old)) }
+        → LeavesOnly D.moment D.left_since disk.old disk.new (HasAppended log.place records r (D.images disk.old)) }
 
     ensures place { IfOk result (λ answer. answer.0.place ≡ log.place + length body.now) }
     ensures there { IfOk result (λ answer. IfSome (D.reads_as disk.new) (λ image. answer.0.place < length image.log)) }
+    ensures size { IfSome (D.reads_as disk.old) (λ image. IfOk result (λ answer. IfSome (D.reads_as disk.new) (λ now. IsNoLonger answer.0.place image.log now.log))) }
     ensures named { (r : Record) → body.now ≡ behind_gate r → IfOk result (λ answer. Names answer.1 log.place r) }
     ensures others { OthersRead log_area (D.reads_as disk.old) (D.reads_as disk.new) }
     ensures cause { HasCause (D.faults disk.old) (D.faults disk.new) result }

@@ -1,18 +1,20 @@
 // A new log.
 
-ghost use Rattle.std.specs.Prelude.{◌≡◌, ◌+◌, ◌<◌, ◌^◌, ◌++◌, Err, length, IsSome, IfOk, OnOk};
-ghost use Rattle.outside.specs.Causes.{CountsFault};
-ghost use Rattle.outside.specs.Disk.{OthersRead, LeavesOnly};
+ghost use Rattle.std.specs.Prelude.{◌≡◌, ◌+◌, ◌<◌, ◌≤◌, ◌^◌, ◌++◌, Err, length, IsSome, IfSome, IfOk, OnOk};
+ghost use Rattle.std.specs.Option.{option_map};
+ghost use Rattle.outside.specs.Causes.{HasCause, CountsFault};
+ghost use Rattle.outside.specs.Image.{with_content};
+ghost use Rattle.outside.specs.Disk.{IsDurable, OthersRead, LeavesOnly};
 ghost use Rattle.outside.specs.declared.disk.Area.TheVariants.{Log as log_area};
 ghost use Rattle.outside.specs.declared.disk.WriteStop.TheVariants.{DiskFault, NoMemory as no_memory};
-ghost use Rattle.log_defs.specs.Log.{record_bytes};
-ghost use Rattle.log_defs.specs.Rest.{IsSettled, HasOthers};
+ghost use Rattle.log_defs.specs.Log.{record_bytes, first_records, new_log};
+ghost use Rattle.log_defs.specs.Rest.{IsSettled, HasNoLonger};
 ghost use Rattle.log_file.specs.Grammar.{record_of};
-ghost use Rattle.log_file.specs.Pieces.{first_records, new_log};
+ghost use Rattle.log_file.specs.Pieces.{HasUpTo};
 
 use crate::body::put_header;
 use crate::log::Log;
-use outside::{Area, Disk, NoMemory, WriteStop, write_durably};
+use outside::{Area, Disk, Failed, NoMemory, WriteStop, write_durably};
 use std::alloc::Global;
 
 /// A record with its open gate behind what is there.
@@ -55,8 +57,27 @@ fn new_log(alloc: Global, spec: &[u8], genesis: &[u8]) -> Result<Vec<u8>, NoMemo
     }
 }
 
-/// Makes a log of a specification and a genesis, in place of what stands there. Nothing is promised of the log
-/// before it is whole.
+/// Puts these bytes in place of what LOG holds.
+fn replace_log<D: Disk>(disk: &mut D, bytes: &[u8]) -> Result<(), Failed>
+    requires { length bytes.now ≤ 2 ^ 62 }
+    ensures written { OnOk result (D.reads_as disk.new ≡ option_map (with_content log_area bytes.now) (D.reads_as disk.old)) }
+    ensures durable { OnOk result (IfSome (D.reads_as disk.new) (IsDurable log_area (D.images disk.new))) }
+    ensures others { OthersRead log_area (D.reads_as disk.old) (D.reads_as disk.new) }
+    ensures moments { LeavesOnly D.moment D.left_since disk.old disk.new (HasUpTo (length bytes.now) (D.images disk.old)) }
+    ensures cause { HasCause (D.faults disk.old) (D.faults disk.new) result }
+{
+    match disk.cut(Area::Log, 0) {
+        Ok(()) => {}
+        Err(failed) => return Err(failed),
+    }
+    match write_durably(disk, Area::Log, 0, bytes) {
+        Ok(()) => Ok(()),
+        Err(failed) => Err(failed),
+    }
+}
+
+/// Makes a log of a specification and a genesis, in place of what stands there: after `Ok` LOG holds their log and not
+/// a byte more. Nothing is promised of the records of LOG before it is whole.
 pub fn create<D: Disk>(
     alloc: Global,
     disk: &mut D,
@@ -65,11 +86,12 @@ pub fn create<D: Disk>(
 ) -> Result<Log, WriteStop>
     requires spec { length spec.now < 2 ^ 32 }
     requires genesis { length genesis.now < 2 ^ 32 }
+    ensures made { OnOk result (D.reads_as disk.new ≡ option_map (with_content log_area (new_log spec.now genesis.now)) (D.reads_as disk.old)) }
     ensures settled { IsSome (D.reads_as disk.old)
         → IfOk result (λ log. IsSettled log.place (first_records spec.now genesis.now) (D.reads_as disk.new) (D.images disk.new)) }
     ensures place { IfOk result (λ log. log.place ≡ 20 + length spec.now + length genesis.now) }
     ensures others { OthersRead log_area (D.reads_as disk.old) (D.reads_as disk.new) }
-    ensures moments { LeavesOnly D.moment D.left_since disk.old disk.new (HasOthers (D.images disk.old)) }
+    ensures moments { LeavesOnly D.moment D.left_since disk.old disk.new (HasNoLonger (20 + length spec.now + length genesis.now) (D.images disk.old)) }
     ensures unchanged { result ≡ Err no_memory → disk.new ≡ disk.old }
     ensures cause { CountsFault (D.faults disk.old) (D.faults disk.new) (result ≡ Err DiskFault) }
 {
@@ -77,7 +99,7 @@ pub fn create<D: Disk>(
         Ok(bytes) => bytes,
         Err(_) => return Err(WriteStop::NoMemory),
     };
-    match write_durably(disk, Area::Log, 0, &bytes) {
+    match replace_log(disk, &bytes) {
         Ok(()) => Ok(Log {
             place: bytes.len() as u64 - 1,
         }),

@@ -1,6 +1,6 @@
 use Rattle.std.proofs.Common.{length, ◌+◌, ◌∷◌, [], ◌∙◌, refl}
 use Rattle.outside.proofs.Moments.{leaves_also, leaves_then}
-use Rattle.log_file.proofs.Gates.{leaves_while_written, leaves_while_opened, settles_after, ends_there}
+use Rattle.log_file.proofs.Gates.{leaves_while_written, leaves_while_opened, settles_after, ends_there, ends_no_later}
 use Rattle.log_file.proofs.Creating.{others_then, others_written}
 use Rattle.log_file.proofs.Exits.{failed_on, answered}
 use Rattle.log_file.proofs.appending.append.Goals as goal
@@ -8,13 +8,13 @@ use Rattle.log_file.proofs.appending.append.Goals as goal
 pub returns-in-Err-clause-moments : goal.returns-in-Err-clause-moments
 returns-in-Err-clause-moments g c = λ records r is settled.
     leaves_also g.D.Disk.moment g.D.Disk.left_since _ _ _ _ c.write_durably.ensures.moments
-    (leaves_while_written c.args.log.place (length c.piece-piece.result.now) records r _ _ settled)
+    (leaves_while_written c.args.log.place records r c.piece-piece.result.now _ _ (c.piece-piece.ensures.value ∙ is) settled)
 
 pub returns-in-Err-write_durably-clause-moments : goal.returns-in-Err-write_durably-clause-moments
 returns-in-Err-write_durably-clause-moments g c = λ records r is settled.
     leaves_then g.D.Disk.moment g.D.Disk.left_since _ _ _ _
     (leaves_also g.D.Disk.moment g.D.Disk.left_since _ _ _ _ c.write_durably.ensures.moments
-    (leaves_while_written c.args.log.place (length c.piece-piece.result.now) records r _ _ settled))
+    (leaves_while_written c.args.log.place records r c.piece-piece.result.now _ _ (c.piece-piece.ensures.value ∙ is) settled))
     (leaves_also g.D.Disk.moment g.D.Disk.left_since _ _ _ _ c.write_durably-2.ensures.moments
     (leaves_while_opened c.args.log.place records r c.piece-piece.result.now _ _ _ _ (c.piece-piece.ensures.value ∙ is) c.piece-piece.ensures.fits settled
     c.in-Ok.ensures.written c.in-Ok.ensures.durable c.write_durably.ensures.images))
@@ -23,7 +23,7 @@ pub returns-clause-moments : goal.returns-clause-moments
 returns-clause-moments g c = λ records r is settled.
     leaves_then g.D.Disk.moment g.D.Disk.left_since _ _ _ _
     (leaves_also g.D.Disk.moment g.D.Disk.left_since _ _ _ _ c.write_durably.ensures.moments
-    (leaves_while_written c.args.log.place (length c.piece-piece.result.now) records r _ _ settled))
+    (leaves_while_written c.args.log.place records r c.piece-piece.result.now _ _ (c.piece-piece.ensures.value ∙ is) settled))
     (leaves_also g.D.Disk.moment g.D.Disk.left_since _ _ _ _ c.write_durably-2.ensures.moments
     (leaves_while_opened c.args.log.place records r c.piece-piece.result.now _ _ _ _ (c.piece-piece.ensures.value ∙ is) c.piece-piece.ensures.fits settled
     c.in-Ok.ensures.written c.in-Ok.ensures.durable c.write_durably.ensures.images))
@@ -37,6 +37,10 @@ returns-clause-settled g c = λ records r is settled.
 pub returns-clause-there : goal.returns-clause-there
 returns-clause-there g c =
     ends_there c.args.log.place c.piece-piece.result.now _ _ _ c.requires.there c.in-Ok.ensures.written c.in-Ok-write_durably.ensures.written
+
+pub returns-clause-size : goal.returns-clause-size
+returns-clause-size g c =
+    ends_no_later c.args.log.place c.piece-piece.result.now _ _ _ c.requires.there c.in-Ok.ensures.written c.in-Ok-write_durably.ensures.written
 
 pub returns-in-Err-clause-settled : goal.returns-in-Err-clause-settled
 returns-in-Err-clause-settled g c = λ _ _ _ _. tt
