@@ -11,7 +11,7 @@ use Rattle.verdict_defs.specs.Chain.{chain_after}
 use Rattle.verdict_defs.specs.Laws.{CanJoin}
 use Rattle.log_defs.specs.Log.{record_bytes}
 use Rattle.store_defs.specs.JoinLaws.{record_over}
-use Rattle.log_defs.specs.Rest.{IsAtRest, IsBeforeOrAfter, IsSettled, HasLog}
+use Rattle.log_defs.specs.Rest.{IsAtRest, IsBeforeOrAfter, IsSettled, HasAppended}
 use Rattle.cell_defs.specs.Ext.{is_ext}
 use Rattle.store_defs.specs.Store.{ext_over, StandsFor, HaveOwnExts}
 use Rattle.log_defs.proofs.Contents.{says_its_records}
@@ -68,15 +68,15 @@ module _ (node : NodeValue) (reads : Option Image) (images : Image → Type 0) (
         on.records on.stands can short form rests after)
 
     -- while its record is put behind the others
-    pub stands_either : (image : Image) → HasLog (IsBeforeOrAfter place on.records (record_over node.chain item)) images image
+    pub stands_either : (image : Image) → HasAppended place on.records (record_over node.chain item) images image
         → StandsFor node.chain image ⊎ StandsFor (chain_after node.chain item) image
-    stands_either image (before, left, (bytes, either, is)) =
+    stands_either image (before, left, (bytes, appended, is)) =
         subst (λ (i : Image). StandsFor node.chain i ⊎ StandsFor (chain_after node.chain item) i)
-        (ap (with_content Log bytes) (sym (on.one before left)) ∙ sym is) (stands_so bytes either)
+        (ap (with_content Log bytes) (sym (on.one before left)) ∙ sym is) (stands_so bytes appended.rest)
 
-    snaps_stay : (image : Image) → HasLog (IsBeforeOrAfter place on.records (record_over node.chain item)) images image
+    snaps_stay : (image : Image) → HasAppended place on.records (record_over node.chain item) images image
         → (image.snap_a ≡ on.now.snap_a) × (image.snap_b ≡ on.now.snap_b)
-    snaps_stay image (before, left, (bytes, either, is)) =
+    snaps_stay image (before, left, (bytes, appended, is)) =
         let same : image ≡ with_content Log bytes on.now = is ∙ ap (with_content Log bytes) (on.one before left) in
         (ap (λ (i : Image). i.snap_a) same, ap (λ (i : Image). i.snap_b) same)
 
@@ -89,7 +89,7 @@ module _ (node : NodeValue) (reads : Option Image) (images : Image → Type 0) (
 
     module _ (next : ℕ) (reads1 : Option Image) (images1 : Image → Type 0) (settled : IsSettled next (on.records ++ record_over node.chain item ∷ []) reads1 images1)
         (others : OthersRead Log reads reads1) (exts : List (List ℕ)) (own : HaveOwnExts (chain_after node.chain item) exts)
-        (left_so : (image : Image) → images1 image → HasLog (IsBeforeOrAfter place on.records (record_over node.chain item)) images image) where
+        (left_so : (image : Image) → images1 image → HasAppended place on.records (record_over node.chain item) images image) where
       now_is : settled.now ≡ with_content Log settled.now.log on.now
       now_is = by_bytes others
         where

@@ -1,6 +1,9 @@
 -- What contracts see of a node and of a new store, and a disk as a node left it.
-use Rattle.std.specs.Prelude.{◌≡◌, ℕ, ◌+◌, ◌-◌, ◌*◌, ◌^◌, ◌<◌, ◌≤◌, List, [], ◌∷◌, ◌++◌, map, length, slice_get, Option, Some, None}
-use Rattle.outside.specs.Image.{Image}
+use Rattle.std.specs.Prelude.{◌≡◌, ◌⊎◌, ℕ, ◌+◌, ◌-◌, ◌*◌, ◌^◌, ◌<◌, ◌≤◌, List, [], ◌∷◌, ◌++◌, map, length, slice_get, Option, Some, None}
+use Rattle.outside.specs.declared.disk.Area.TheVariants.{Log}
+use Rattle.outside.specs.Image.{Image, content}
+use Rattle.outside.specs.Disk.{ComesBy, Follows, AreaKept}
+use Rattle.std.specs.Option.{option_map}
 use Rattle.codec_defs.specs.Shape.{decoded}
 use Rattle.codec_defs.specs.Schema.{OutPoint, Block, block}
 use Rattle.chain_defs.specs.Kept.{block_hash, kept_limit}
@@ -13,11 +16,11 @@ use Rattle.cell_defs.specs.Row.{Row, live_row}
 use Rattle.chain_tree.specs.Blocks.{AreRated}
 use Rattle.uncle_rules.specs.Embedded.{UnclesValue, IndexesUncles}
 use Rattle.time_defs.specs.Specification.{Specification, broken_specification_rule}
-use Rattle.verdict_defs.specs.Chain.{Chain}
+use Rattle.verdict_defs.specs.Chain.{Chain, chain_of_genesis}
 use Rattle.genesis_defs.specs.Genesis.{broken_genesis_rule}
 use Rattle.log_defs.specs.Log.{Record}
 use Rattle.log_defs.specs.Rest.{IsAtRest}
-use Rattle.store_defs.specs.Store.{StandsFor, HaveOwnExts}
+use Rattle.store_defs.specs.Store.{StandsFor, HaveOwnExts, HasNoSnapshots, new_image}
 
 -- the ext beside each kept block
 abbrev pub exts_of : List Stored → List (List ℕ)
@@ -93,3 +96,18 @@ pub record AreJudged (specification genesis hash : List ℕ) : Type 0 where
   pub short_spec : length specification < 2 ^ 32
   pub short_genesis : length genesis < 2 ^ 32
   pub named : IsHashOf genesis hash
+
+-- The disk has one image, that of a new store, and it stands for the chain of its genesis.
+pub record IsNew (specification genesis : List ℕ) (reads : Option Image) (images : Image → Type 0) : Type 0 where
+  pub told : reads ≡ Some (new_image specification genesis)
+  pub one : (image : Image) → images image → image ≡ new_image specification genesis
+  pub stands : StandsFor (chain_of_genesis specification genesis) (new_image specification genesis)
+
+-- While a new store is made: LOG is as it was in one of these, or the snapshots are cleared already.
+abbrev pub HasOldLogOrNoSnapshots : (Image → Type 0) → Image → Type 0
+HasOldLogOrNoSnapshots images image = ComesBy (AreaKept Log) images image ⊎ HasNoSnapshots image
+
+-- LOG is as it was: as the disk reads, and in each image.
+pub record KeepsLog (reads_old reads_new : Option Image) (old new : Image → Type 0) : Type 0 where
+  pub reads : option_map (content Log) reads_new ≡ option_map (content Log) reads_old
+  pub images : Follows (AreaKept Log) old new

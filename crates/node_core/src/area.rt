@@ -4,7 +4,7 @@ ghost use Rattle.std.specs.Option.{option_map};
 ghost use Rattle.outside.specs.Causes.{HasCause};
 ghost use Rattle.outside.specs.declared.disk.Area.TheVariants.{SnapA as snap_a_area, SnapB as snap_b_area};
 ghost use Rattle.outside.specs.Image.{InArea};
-ghost use Rattle.outside.specs.Disk.{cut_area, Cut, Follows, NoneNew, IsDurable, LeavesOnly};
+ghost use Rattle.outside.specs.Disk.{cut_area, Cut, ComesBy, Follows, NoneNew, IsDurable, OthersRead, LeavesOnly};
 
 use outside::{Area, Disk, Failed};
 
@@ -26,10 +26,17 @@ pub(crate) fn sync_snapshots<D: Disk>(disk: &mut D) -> Result<(), Failed>
 pub(crate) fn clear<D: Disk>(disk: &mut D, area: Area) -> Result<(), Failed>
     ensures cleared { OnOk result (D.reads_as disk.new ≡ option_map (cut_area area 0) (D.reads_as disk.old)) }
     ensures durable { OnOk result (IfSome (D.reads_as disk.new) (IsDurable area (D.images disk.new))) }
+    ensures others { OthersRead area (D.reads_as disk.old) (D.reads_as disk.new) }
     ensures images { Follows (InArea area (Cut 0)) (D.images disk.old) (D.images disk.new) }
+    ensures moments { LeavesOnly D.moment D.left_since disk.old disk.new (ComesBy (InArea area (Cut 0)) (D.images disk.old)) }
     ensures cause { HasCause (D.faults disk.old) (D.faults disk.new) result }
 {
-    disk.cut(area, 0)?;
-    disk.sync(area)?;
-    Ok(())
+    match disk.cut(area, 0) {
+        Ok(()) => {}
+        Err(failed) => return Err(failed),
+    }
+    match disk.sync(area) {
+        Ok(()) => Ok(()),
+        Err(failed) => Err(failed),
+    }
 }

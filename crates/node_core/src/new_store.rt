@@ -1,13 +1,11 @@
 // A new store.
 ghost use Rattle.std.specs.Prelude.{◌≡◌, ◌<◌, ◌^◌, ℕ, Err, None, Some, length, IsSome, IfOk, OnOk};
 ghost use Rattle.outside.specs.Causes.{CountsFault};
-ghost use Rattle.outside.specs.Image.{Image};
+ghost use Rattle.outside.specs.Disk.{LeavesOnly};
 ghost use Rattle.outside.specs.declared.disk.WriteStop.TheVariants.{DiskFault};
 ghost use Rattle.time_defs.specs.Specification.{broken_specification_rule};
-ghost use Rattle.verdict_defs.specs.Chain.{chain_of_genesis};
 ghost use Rattle.genesis_defs.specs.Genesis.{broken_genesis_rule};
-ghost use Rattle.store_defs.specs.Store.{StandsFor};
-ghost use Rattle.node_core.specs.Node.{IsHashOf};
+ghost use Rattle.node_core.specs.Node.{IsHashOf, IsNew, KeepsLog, HasOldLogOrNoSnapshots};
 
 use crate::area::clear;
 use crate::entry::hash_of;
@@ -82,17 +80,21 @@ impl<'a> NewStore<'a> {
         self.hash
     }
 
-    /// Makes the store, in place of what the disk holds. Nothing is promised of the disk before it is whole.
+    /// Makes the store, in place of what the disk holds: after `Ok` a crash leaves the log of these two items and not a
+    /// byte more. The snapshots are cleared before LOG is touched; of LOG nothing is promised then before it is whole.
     pub fn create<D: Disk>(&self, alloc: Global, disk: &mut D) -> Result<(), WriteStop>
-        ensures stands { IsSome (D.reads_as disk.old) → OnOk result ((only : Image) × ((image : Image) → D.images disk.new image → image ≡ only)
-            × StandsFor (chain_of_genesis self.now.specification self.now.genesis) only) }
+        ensures made { IsSome (D.reads_as disk.old) → OnOk result (IsNew self.now.specification self.now.genesis (D.reads_as disk.new) (D.images disk.new)) }
+        ensures unmade { result ≡ Err WriteStop.NoMemory → KeepsLog (D.reads_as disk.old) (D.reads_as disk.new) (D.images disk.old) (D.images disk.new) }
+        ensures moments { IsSome (D.reads_as disk.old) → LeavesOnly D.moment D.left_since disk.old disk.new (HasOldLogOrNoSnapshots (D.images disk.old)) }
         ensures cause { CountsFault (D.faults disk.old) (D.faults disk.new) (result ≡ Err DiskFault) }
     {
-        if clear(disk, Area::SnapA).is_err() {
-            return Err(WriteStop::DiskFault);
+        match clear(disk, Area::SnapA) {
+            Ok(()) => {}
+            Err(_) => return Err(WriteStop::DiskFault),
         }
-        if clear(disk, Area::SnapB).is_err() {
-            return Err(WriteStop::DiskFault);
+        match clear(disk, Area::SnapB) {
+            Ok(()) => {}
+            Err(_) => return Err(WriteStop::DiskFault),
         }
         match log_file::create(alloc, disk, self.spec, self.genesis) {
             Err(stop) => Err(stop),

@@ -8,7 +8,7 @@ use Rattle.outside.specs.Image.{Image}
 use Rattle.outside.specs.Disk.{Elapses, SameImages, IsAsBefore}
 use Rattle.outside.proofs.Images.{as_before_started, as_before_goes_on}
 use Rattle.log_defs.specs.Log.{LogContent, log_of}
-use Rattle.store_defs.specs.Store.{Store, NoLog, NotALog, Keeps, store_of, store_of_log}
+use Rattle.store_defs.specs.Store.{Store, NoLog, NotALog, Keeps, store_of, store_of_log, new_image}
 use Rattle.report_defs.specs.declared.command.Command.TheVariants.{Init}
 use Rattle.report_defs.specs.declared.status.Status.{Status}
 use Rattle.report_defs.specs.declared.status.Status.TheVariants.{Done, InputFault, SinkFault, DiskFault, NoMemory, StoreThere, BadGenesis, CutInput, BadSize, ExtraInput}
@@ -19,6 +19,7 @@ use Rattle.report_defs.specs.Items.{Split, AreItems, split_of, end_offset}
 use Rattle.report_defs.specs.Report.{Report, text_of, genesis_limit, init_limits, init_item_limit, end_of_needed, status_of_end, report_of_rules, report_of_items, report_of_init, report_of_end, report_of_new, report_of_command}
 use Rattle.report_defs.specs.Promise.{IsPrefix, MatchesReport, IsStoreOf, IsStoppedBeforeTheSink, EndsTheReading, ReadsNoFurther, ended_early, init_statuses}
 use Rattle.report_defs.specs.Survival.{IsNewStore, as_before}
+use Rattle.node_core.specs.Node.{IsNew}
 use Rattle.report_defs.proofs.ItemLemmas.{split_of-is, end_at-nothing}
 use Rattle.item_reader.specs.Items.{EndsAt, IsNext, IsReadingStop}
 use Rattle.item_reader.specs.declared.next.Next.{Next}
@@ -263,12 +264,20 @@ init_both reads at_start at_exit meanwhile left given taken specification genesi
       genesis = genesis;
       items = ap (λ (s : Split). s.items) split;
       only = alone.0;
+      made = alone.3;
       one = alone.1;
       stands = alone.2;
     })
   where
     split : split_of init_limits given ≡ record { items = specification ∷ genesis ∷ []; rest = []; end = ends.AtEnd }
     split = both_split left specification genesis given both
+
+-- the store that was made, of the two items that were judged
+pub alone_of : (specification genesis one two : List ℕ) (reads : Option Image) (images : Image → Type 0) → (one ≡ specification) × (two ≡ genesis) → IsNew one two reads images
+    → StandsAlone specification genesis images
+alone_of specification genesis one two reads images both new =
+    subst (λ (s : List ℕ). StandsAlone s genesis images) both.0
+    (subst (λ (g : List ℕ). StandsAlone one g images) both.1 (new_image one two, new.one, new.stands, refl))
 
 -- ---- The statuses behind which the disk is as before
 

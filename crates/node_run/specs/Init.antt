@@ -3,7 +3,7 @@ use Rattle.std.specs.Prelude.{◌≡◌, ℕ, ◌≤◌, List, [], ◌∷◌, �
 use Rattle.std.specs.Io.KnownBytes.{IsAtEnd}
 use Rattle.outside.specs.Image.{Image}
 use Rattle.verdict_defs.specs.Chain.{chain_of_genesis}
-use Rattle.store_defs.specs.Store.{StandsFor}
+use Rattle.store_defs.specs.Store.{StandsFor, new_image}
 use Rattle.report_defs.specs.declared.end.End.{End}
 use Rattle.report_defs.specs.declared.end.End.TheVariants.{AtEnd}
 use Rattle.report_defs.specs.declared.status.Status.{Status}
@@ -43,9 +43,10 @@ text_of_stop (stops.BadSpec rule) = bad_spec_line rule
 text_of_stop (stops.BadGenesis rule) = bad_genesis_line rule
 text_of_stop stops.NoMemory = []
 
--- the disk has one image, which keeps the genesis alone
+-- the disk has one image, that of a new store, which keeps the genesis alone
 abbrev pub StandsAlone : List ℕ → List ℕ → (Image → Type 0) → Type 0
-StandsAlone specification genesis images = (only : Image) × ((image : Image) → images image → image ≡ only) × StandsFor (chain_of_genesis specification genesis) only
+StandsAlone specification genesis images =
+    (only : Image) × ((image : Image) → images image → image ≡ only) × StandsFor (chain_of_genesis specification genesis) only × (only ≡ new_image specification genesis)
 
 abbrev pub new_statuses : List Status
 new_statuses = Done ∷ SinkFault ∷ DiskFault ∷ NoMemory ∷ BadGenesis ∷ []

@@ -119,7 +119,7 @@ fn refusal(alloc: Global, stop: NewStop) -> Result<Answer, Status>
     }
 }
 
-/// Makes the store, unless a rule is broken, and answers what is said of it. All memory is had before the disk is written.
+/// Makes the store, unless a rule is broken, and answers what is said of it. The text is had before the disk is called.
 fn make<D: Disk>(
     alloc: Global,
     disk: &mut D,

@@ -6,7 +6,7 @@ use Rattle.std.specs.List.{concat}
 use Rattle.outside.specs.Image.{Image}
 use Rattle.chain_defs.specs.Tip.{tip}
 use Rattle.verdict_defs.specs.Chain.{Chain, chain_of_genesis, chain_over}
-use Rattle.store_defs.specs.Store.{Store, Keeps, store_of, StandsFor, IsSound}
+use Rattle.store_defs.specs.Store.{Store, Keeps, store_of, StandsFor, IsSound, new_image}
 use Rattle.report_defs.specs.declared.command.Command.{Command}
 use Rattle.report_defs.specs.declared.command.Command.TheVariants.{Init, Import, Tip, Check, Exec}
 use Rattle.report_defs.specs.declared.status.Status.{Status}
@@ -75,12 +75,14 @@ pub record KeepsStore (chain : Chain) (items : List (List ℕ)) (taken : List �
   -- at each moment it is one of the start, or keeps what joined of some items
   pub moments : Each meanwhile (λ image. at_start image ⊎ ((count : ℕ) × (count ≤ length items) × StandsFor (chain_over chain (take count items)) image))
 
--- A new store: the disk has one image, which keeps the genesis alone.
+-- A new store: the disk has one image, which keeps the genesis alone: its log is that of the two items, with not a byte behind it, and the other
+-- areas are empty.
 pub record IsNewStore (given : List ℕ) (at_exit : Image → Type 0) : Type 0 where
   pub specification : List ℕ
   pub genesis : List ℕ
   pub items : (split_of init_limits given).items ≡ specification ∷ genesis ∷ []
   pub only : Image
+  pub made : only ≡ new_image specification genesis
   pub one : Each at_exit (λ image. image ≡ only)
   pub stands : StandsFor (chain_of_genesis specification genesis) only
 

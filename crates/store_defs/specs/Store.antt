@@ -11,7 +11,7 @@ use Rattle.time_defs.specs.Specification.{specification_of}
 use Rattle.verdict_defs.specs.Chain.{Chain, chain_after}
 use Rattle.verdict_defs.specs.Laws.{MayJoin}
 use Rattle.genesis_defs.specs.Genesis.{genesis_rules}
-use Rattle.log_defs.specs.Log.{LogContent, Record, log_of, parts_of_body}
+use Rattle.log_defs.specs.Log.{LogContent, Record, log_of, parts_of_body, new_log}
 
 -- What stands in the folder when a run begins.
 pub data Store : Type 0 where
@@ -97,6 +97,14 @@ pub record StandsFor (chain : Chain) (image : Image) : Type 0 where
   pub joined : EachHasJoined log
   pub no_snap_a : image.snap_a ≡ []
   pub no_snap_b : image.snap_b ≡ []
+
+-- no snapshot is there
+abbrev pub HasNoSnapshots : Image → Type 0
+HasNoSnapshots image = (image.snap_a ≡ []) × (image.snap_b ≡ [])
+
+-- The image of a new store: its log is that of these two items, with not a byte behind it, and no snapshot is there.
+abbrev pub new_image : List ℕ → List ℕ → Image
+new_image specification genesis = record { log = new_log specification genesis; snap_a = []; snap_b = [] }
 
 -- An image is sound: it stands for some chain.
 abbrev pub IsSound : Image → Type 0

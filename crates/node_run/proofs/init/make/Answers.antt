@@ -4,6 +4,7 @@ use Rattle.report_defs.specs.declared.status.Status.TheVariants.{DiskFault, NoMe
 use Rattle.report_defs.specs.Status.{IsOneOf}
 use Rattle.node_run.proofs.Exits.{no_error, same_stop}
 use Rattle.node_run.proofs.Faults.{no_fault, counts_also, IsMemory}
+use Rattle.node_run.proofs.InitLemmas.{alone_of}
 use Rattle.node_run.proofs.init.make.Goals as goal
 
 pub returns-in-Err-clause-stop : goal.returns-in-Err-clause-stop
@@ -65,3 +66,7 @@ returns-in-Ok-create-clause-stop g c = λ status e. absurd (no_error _ _ e)
 
 pub returns-in-Ok-create-clause-cause : goal.returns-in-Ok-create-clause-cause
 returns-in-Ok-create-clause-cause g c = no_fault _ _ (c.in-Ok-create.ensures.cause.unchanged (no_error _ _)) (no_error _ _)
+
+pub returns-in-Ok-create-clause-made : goal.returns-in-Ok-create-clause-made
+returns-in-Ok-create-clause-made g c = λ some done.
+    alone_of c.args.specification.now c.args.genesis.now _ _ _ _ c.in-Ok.ensures.both (c.in-Ok-create.ensures.made some)
