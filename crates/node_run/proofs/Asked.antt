@@ -1,28 +1,21 @@
 -- What the command that the words ask for decides.
-use Rattle.std.proofs.Common.{◌≡◌, Option, Some, None, ◌∙◌, subst}
+use Rattle.std.proofs.Common.{◌≡◌, Option, Some, None, refl, ◌∙◌, subst}
 use Rattle.std.specs.Prelude.{◌↔◌}
 use Rattle.report_defs.specs.declared.command.Command.{Command}
-use Rattle.report_defs.specs.declared.command.Command.TheVariants.{Init, Import, Tip, Check, Exec}
+use Rattle.report_defs.specs.declared.command.Command.TheVariants.{Init, Import, Query, Question, Standalone}
 use Rattle.report_defs.specs.declared.status.Status.{Status}
 use Rattle.report_defs.specs.declared.status.Status.TheVariants.{BadWords, InputFault, DiskFault}
 use Rattle.report_defs.specs.Status.{IsOneOf}
-use Rattle.report_defs.specs.Promise.{tip_statuses, exec_statuses, statuses_of}
-use Rattle.node_run.proofs.Statuses.{each_of}
-
-abbrev IsOfGoodWords : Status → Type 0
-IsOfGoodWords BadWords = ⊥
-IsOfGoodWords _ = Unit {0}
+use Rattle.report_defs.specs.Promise.{init_statuses, import_statuses, query_statuses, question_statuses, standalone_statuses, statuses_of}
+use Rattle.node_run.proofs.Tables.{lacks}
 
 -- no command answers that the words are bad
-of_good_words : (command : Command) (status : Status) → IsOneOf (statuses_of (Some command)) status → IsOfGoodWords status
-of_good_words Init status one = each_of IsOfGoodWords (statuses_of (Some Init)) status (tt, (tt, (tt, (tt, (tt, (tt, (tt, (tt, (tt, (tt, tt)))))))))) one
-of_good_words Import status one = each_of IsOfGoodWords (statuses_of (Some Import)) status (tt, (tt, (tt, (tt, (tt, (tt, (tt, (tt, (tt, (tt, tt)))))))))) one
-of_good_words Tip status one = each_of IsOfGoodWords (statuses_of (Some Tip)) status (tt, (tt, (tt, (tt, (tt, tt))))) one
-of_good_words Check status one = each_of IsOfGoodWords (statuses_of (Some Check)) status (tt, (tt, (tt, (tt, (tt, (tt, (tt, (tt, (tt, (tt, tt)))))))))) one
-of_good_words (Exec budget) status one = each_of IsOfGoodWords (statuses_of (Some (Exec budget))) status (tt, (tt, (tt, (tt, (tt, tt))))) one
-
 pub never_bad_words : (command : Command) (status : Status) → IsOneOf (statuses_of (Some command)) status → status ≡ BadWords → ⊥
-never_bad_words command status one bad = subst IsOfGoodWords bad (of_good_words command status one)
+never_bad_words Init = lacks init_statuses BadWords refl
+never_bad_words Import = lacks import_statuses BadWords refl
+never_bad_words (Query query) = lacks query_statuses BadWords refl
+never_bad_words (Question question) = lacks question_statuses BadWords refl
+never_bad_words (Standalone command) = lacks standalone_statuses BadWords refl
 
 abbrev IsAsked : Option Command → Type 0
 IsAsked None = ⊥
@@ -45,8 +38,8 @@ abbrev pub IsNotImport : Option Command → Type 0
 IsNotImport (Some Import) = ⊥
 IsNotImport _ = Unit {0}
 
-pub tip_no_input_fault : (status : Status) → IsOneOf tip_statuses status → status ≡ InputFault → ⊥
-tip_no_input_fault status one = each_of (λ s. s ≡ InputFault → ⊥) tip_statuses status (λ e. cc, (λ e. cc, (λ e. cc, (λ e. cc, (λ e. cc, tt))))) one
+pub query_no_input_fault : (status : Status) → IsOneOf query_statuses status → status ≡ InputFault → ⊥
+query_no_input_fault = lacks query_statuses InputFault refl
 
-pub exec_no_disk_fault : (status : Status) → IsOneOf exec_statuses status → status ≡ DiskFault → ⊥
-exec_no_disk_fault status one = each_of (λ s. s ≡ DiskFault → ⊥) exec_statuses status (λ e. cc, (λ e. cc, (λ e. cc, (λ e. cc, (λ e. cc, tt))))) one
+pub standalone_no_disk_fault : (status : Status) → IsOneOf standalone_statuses status → status ≡ DiskFault → ⊥
+standalone_no_disk_fault = lacks standalone_statuses DiskFault refl

@@ -1,7 +1,8 @@
 -- What a function did to a count of faults, and which answers are none.
-use Rattle.std.proofs.Common.{◌≡◌, ℕ, Bool, true, false, List, refl, sym, ◌∙◌, subst, inl, inr, arith}
+use Rattle.std.proofs.Common.{◌≡◌, ℕ, Bool, true, false, List, refl, sym, subst, inl, inr}
 use Rattle.std.specs.Prelude.{Err, if◌then◌else◌}
 use Rattle.outside.specs.Causes.{HasCause, CountsFault}
+use Rattle.outside.proofs.Endings.{counts-as, behind}
 use Rattle.report_defs.specs.declared.end.End.{End}
 use Rattle.report_defs.specs.declared.end.End.TheVariants.{AtEnd, Cut, BadSize, Extra}
 use Rattle.report_defs.specs.declared.status.Status.{Status}
@@ -17,26 +18,10 @@ failed_counts before now error cause fault = record {
   unchanged = λ never. absurd (never fault);
 }
 
--- no fault was met
-pub no_fault : {Fault : Type 0} (before now : ℕ) → now ≡ before → (Fault → ⊥) → CountsFault before now Fault
-no_fault before now unchanged never = record {
-  later = omega (arith, unchanged);
-  rose = λ fault. absurd (never fault);
-  unchanged = λ _. unchanged;
-}
-
 -- a count that was unchanged, and then counts the same fault
 pub then_counts : {First Fault : Type 0} (before still now : ℕ) → still ≡ before → CountsFault still now First → (Fault → First) → (First → Fault)
     → CountsFault before now Fault
-then_counts before still now unchanged counts there back = record {
-  later = omega (arith, unchanged, counts.later);
-  rose = λ fault. rw (← unchanged) (counts.rose (there fault));
-  unchanged = λ never. counts.unchanged (λ first. never (back first)) ∙ unchanged;
-}
-
--- the same fault by another name
-pub counts_also : {First Fault : Type 0} (before now : ℕ) → CountsFault before now First → (Fault → First) → (First → Fault) → CountsFault before now Fault
-counts_also before now counts there back = then_counts before before now refl counts there back
+then_counts before still now unchanged counts there back = behind unchanged (counts-as counts there back)
 
 -- ---- What an input that ended is answered
 

@@ -33,7 +33,8 @@ use Rattle.node_run.specs.Import.{AreImported, IsAnswered, IsCutShort, KeepsSome
 use Rattle.node_run.specs.Store.{opening_stops}
 use Rattle.node_run.specs.declared.import.Ended.{Ended}
 use Rattle.node_run.proofs.LineLemmas.{concat-push, lines-push, line_some, take_all}
-use Rattle.node_run.proofs.Statuses.{each_of, not_early, reading_stops, writing_stops, disk_stops}
+use Rattle.node_run.proofs.Tables.{held, lacks, among}
+use Rattle.node_run.proofs.Statuses.{not_early, reading_stops, writing_stops, disk_stops}
 
 pub item_limit-is : item_limit ≡ 1048576
 unfolding item_limit
@@ -149,30 +150,25 @@ line_written text (Err status) taken stop part = record {
 
 -- what stops a line stops an item
 pub line_stopped : (status : Status) → IsOneOf (SinkFault ∷ NoMemory ∷ []) status → IsOneOf item_stops status
-line_stopped status one = each_of (λ s. IsOneOf item_stops s) (SinkFault ∷ NoMemory ∷ []) status (inl refl, (inr (inr (inl refl)), tt)) one
+line_stopped = among (SinkFault ∷ NoMemory ∷ []) item_stops refl
 
 pub line_no_disk_fault : (status : Status) → IsOneOf (SinkFault ∷ NoMemory ∷ []) status → status ≡ DiskFault → ⊥
-line_no_disk_fault status one = each_of (λ s. s ≡ DiskFault → ⊥) (SinkFault ∷ NoMemory ∷ []) status (λ e. cc, (λ e. cc, tt)) one
+line_no_disk_fault = lacks (SinkFault ∷ NoMemory ∷ []) DiskFault refl
 
 -- where the store stops an item
 pub item_stopped : (status : Status) → IsOneOf opening_stops status → IsOneOf item_stops status
-item_stopped status one =
-    each_of (λ s. IsOneOf item_stops s) opening_stops status
-    (inr (inr (inr (inl refl))), (inr (inl refl), (inr (inr (inl refl)), tt))) one
+item_stopped = among opening_stops item_stops refl
 
 pub no_input_fault : (status : Status) → IsOneOf item_stops status → status ≡ InputFault → ⊥
-no_input_fault status one =
-    each_of (λ s. s ≡ InputFault → ⊥) item_stops status (λ e. cc, (λ e. cc, (λ e. cc, (λ e. cc, tt)))) one
+no_input_fault = lacks item_stops InputFault refl
 
 pub reading_stopped : (status : Status) → IsReadingStop status → IsOneOf (InputFault ∷ item_stops) status
-reading_stopped InputFault stop = inl refl
-reading_stopped NoMemory stop = inr (inr (inr (inl refl)))
+reading_stopped InputFault stop = held (InputFault ∷ item_stops) InputFault refl
+reading_stopped NoMemory stop = held (InputFault ∷ item_stops) NoMemory refl
 reading_stopped _ stop = absurd stop
 
 pub items_stop_import : (status : Status) → IsOneOf (InputFault ∷ item_stops) status → IsOneOf import_statuses status
-items_stop_import status one =
-    each_of (λ s. IsOneOf import_statuses s) (InputFault ∷ item_stops) status
-    (inr (inr (inl refl)), (inr (inr (inr (inl refl))), (inr (inr (inr (inr (inl refl)))), (inr (inr (inr (inr (inr (inl refl))))), (inr (inr (inr (inr (inr (inr (inl refl)))))), tt))))) one
+items_stop_import = among (InputFault ∷ item_stops) import_statuses refl
 
 -- ---- The loop
 

@@ -3,20 +3,21 @@ use Rattle.std.proofs.Common.{◌≡◌, inl, inr, ℕ, List, [], ◌∷◌, tak
 use Rattle.std.specs.Prelude.{Option, Some, None, IfSome, IsSome}
 use Rattle.outside.specs.Image.{Image}
 use Rattle.outside.specs.Disk.{IsAsBefore}
-use Rattle.chain_defs.specs.Tip.{tip}
 use Rattle.verdict_defs.specs.Chain.{Chain, chain_over}
 use Rattle.store_defs.specs.Store.{Store, NoLog, Keeps, store_of, StandsFor, IsSound}
 use Rattle.report_defs.specs.declared.command.Command.{Command}
-use Rattle.report_defs.specs.declared.command.Command.TheVariants.{Init, Import, Tip, Check, Exec}
+use Rattle.report_defs.specs.declared.command.Command.TheVariants.{Init, Import, Query, Question, Standalone}
+use Rattle.report_defs.specs.declared.command.Query as queries
+use Rattle.report_defs.specs.declared.command.Question as questions
+use Rattle.report_defs.specs.declared.command.Standalone as files
 use Rattle.report_defs.specs.declared.status.Status.{Status}
 use Rattle.report_defs.specs.declared.status.Status.TheVariants.{Done, SomeRefused, BadWords}
 use Rattle.report_defs.specs.Status.{IsOneOf}
-use Rattle.report_defs.specs.Text.{tip_line}
-use Rattle.report_defs.specs.Report.{report_of_command, exec_report}
-use Rattle.report_defs.specs.Promise.{MatchesReport, KeepsOrder, ExecutesInOrder, Finds, IsReported}
-use Rattle.report_defs.specs.Survival.{Each, Run, IsFront, IsKeptBy, IsLeftBy, KeepsStore, KeepsDisk, Answers, IsPromised, items_of}
+use Rattle.report_defs.specs.Report.{report_of_command, answer_to_query, report_of_file}
+use Rattle.report_defs.specs.Promise.{MatchesReport, KeepsOrder, ReadsFileInOrder, Finds, IsReported}
+use Rattle.report_defs.specs.Survival.{Each, Run, IsFront, IsKeptBy, IsLeftBy, KeepsStore, KeepsItems, KeepsDisk, Answers, IsPromised, items_of}
 use Rattle.node_run.specs.Store.{Delivers}
-use Rattle.node_run.specs.Check.{DeliversCheck}
+use Rattle.node_run.specs.Question.{DeliversAnswer}
 use Rattle.node_run.proofs.LineLemmas.{front_of_none}
 use Rattle.node_run.proofs.StoreLemmas.{same_chain, store_of_stands}
 
@@ -79,28 +80,37 @@ told_image (Some now) told = (now, refl)
 reads_here : (reads : Option Image) (images : Image → Type 0) (now : Image) → IfSome reads images → reads ≡ Some now → images now
 reads_here reads images now here told = subst (λ (r : Option Image). IfSome r images) told here
 
--- ---- Each command
+-- ---- Each class of commands
 
-pub import_promised : (reads : Option Image) (at_start at_exit meanwhile : Image → Type 0) (left : Option (List ℕ)) (given taken : List ℕ) (status : Status)
-    → IfSome reads at_start → Delivers Import reads at_start at_exit meanwhile left given taken status
-    → IsPromised (Some Import) reads at_start at_exit meanwhile left given taken status
-import_promised reads at_start at_exit meanwhile left given taken status here kept = record {
+-- a command that opens the store
+opening_promised : (command : Command) (reads : Option Image) (at_start at_exit meanwhile : Image → Type 0) (left : Option (List ℕ)) (given taken : List ℕ) (status : Status)
+    → IfSome reads at_start → Delivers command reads at_start at_exit meanwhile left given taken status
+    → ((now : Image) → KeepsDisk (Some command) now at_start at_exit meanwhile given taken status → KeepsItems (items_of (Some command) given) now at_start at_exit meanwhile taken status)
+    → ((now : Image) (kept : Chain) → reads ≡ Some now → StandsFor kept now → IsOneOf (Done ∷ SomeRefused ∷ []) status → Answers (Some command) kept given taken)
+    → IsPromised (Some command) reads at_start at_exit meanwhile left given taken status
+opening_promised command reads at_start at_exit meanwhile left given taken status here kept keeps answers = record {
   text = kept.text;
   order = kept.order;
   disk = kept.disk;
   survives = λ told.
       let now = told_image reads told in
-      survives_store now.0 at_start at_exit meanwhile taken status (items_of (Some Import) given)
-      (reads_here reads at_start now.0 here now.1) (kept.disk now.0 now.1);
+      survives_store now.0 at_start at_exit meanwhile taken status (items_of (Some command) given)
+      (reads_here reads at_start now.0 here now.1) (keeps now.0 (kept.disk now.0 now.1));
   at_each_moment = λ told.
       let now = told_image reads told in
-      survives_store_meanwhile now.0 at_start at_exit meanwhile taken status (items_of (Some Import) given)
-      (reads_here reads at_start now.0 here now.1) (kept.disk now.0 now.1);
+      survives_store_meanwhile now.0 at_start at_exit meanwhile taken status (items_of (Some command) given)
+      (reads_here reads at_start now.0 here now.1) (keeps now.0 (kept.disk now.0 now.1));
   answers = λ told genesis past by done.
       let now = told_image reads told in
       let first = by now.0 (reads_here reads at_start now.0 here now.1) in
-      (first.0, first.1, tt);
+      (first.0, first.1, answers now.0 first.0 now.1 first.2 done);
 }
+
+pub import_promised : (reads : Option Image) (at_start at_exit meanwhile : Image → Type 0) (left : Option (List ℕ)) (given taken : List ℕ) (status : Status)
+    → IfSome reads at_start → Delivers Import reads at_start at_exit meanwhile left given taken status
+    → IsPromised (Some Import) reads at_start at_exit meanwhile left given taken status
+import_promised reads at_start at_exit meanwhile left given taken status here kept =
+    opening_promised Import reads at_start at_exit meanwhile left given taken status here kept (λ now keeps. keeps) (λ now chain told stands done. tt)
 
 -- what was done is reported
 reported : (status : Status) → IsOneOf (Done ∷ SomeRefused ∷ []) status → IsReported status
@@ -108,59 +118,26 @@ reported status (inl done) = inl done
 reported status (inr (inl refused)) = inr (inl refused)
 reported status (inr (inr never)) = absurd never
 
--- the line of `tip` is that of the chain that a past left
-tip_answers : (reads : Option Image) (at_start at_exit meanwhile : Image → Type 0) (taken : List ℕ) (status : Status) (now : Image) (kept : Chain)
-    → Delivers Tip reads at_start at_exit meanwhile (Some []) [] taken status → reads ≡ Some now → StandsFor kept now → IsOneOf (Done ∷ SomeRefused ∷ []) status
-    → taken ≡ tip_line (tip kept.blocks)
-tip_answers reads at_start at_exit meanwhile taken status now kept delivers told stands done =
+-- the answer of a query is that over the chain that a past left
+query_answers : (query : queries.Query) (reads : Option Image) (at_start at_exit meanwhile : Image → Type 0) (taken : List ℕ) (status : Status) (now : Image) (kept : Chain)
+    → Delivers (Query query) reads at_start at_exit meanwhile (Some []) [] taken status → reads ≡ Some now → StandsFor kept now → IsOneOf (Done ∷ SomeRefused ∷ []) status
+    → taken ≡ answer_to_query query kept
+query_answers query reads at_start at_exit meanwhile taken status now kept delivers told stands done =
     (delivers.text (Keeps kept) (now, told, sym (store_of_stands kept now stands), λ chain same. subst (λ (k : Chain). StandsFor k now) (same_chain kept chain same) stands)).whole_text
     [] refl (reported status done)
 
-pub tip_promised : (reads : Option Image) (at_start at_exit meanwhile : Image → Type 0) (left : Option (List ℕ)) (taken : List ℕ) (status : Status)
-    → IfSome reads at_start → ((left : Option (List ℕ)) → Delivers Tip reads at_start at_exit meanwhile left [] taken status)
-    → IsPromised (Some Tip) reads at_start at_exit meanwhile left [] taken status
-tip_promised reads at_start at_exit meanwhile left taken status here all =
-    let kept = all left in
-    record {
-      text = kept.text;
-      order = kept.order;
-      disk = kept.disk;
-      survives = λ told.
-          let now = told_image reads told in
-          survives_store now.0 at_start at_exit meanwhile taken status []
-          (reads_here reads at_start now.0 here now.1) (kept.disk now.0 now.1);
-      at_each_moment = λ told.
-          let now = told_image reads told in
-          survives_store_meanwhile now.0 at_start at_exit meanwhile taken status []
-          (reads_here reads at_start now.0 here now.1) (kept.disk now.0 now.1);
-      answers = λ told genesis past by done.
-          let now = told_image reads told in
-          let first = by now.0 (reads_here reads at_start now.0 here now.1) in
-          (first.0, first.1, tip_answers reads at_start at_exit meanwhile taken status now.0 first.0 (all (Some [])) now.1 first.2 done);
-    }
+pub query_promised : (query : queries.Query) (reads : Option Image) (at_start at_exit meanwhile : Image → Type 0) (left : Option (List ℕ)) (taken : List ℕ) (status : Status)
+    → IfSome reads at_start → ((left : Option (List ℕ)) → Delivers (Query query) reads at_start at_exit meanwhile left [] taken status)
+    → IsPromised (Some (Query query)) reads at_start at_exit meanwhile left [] taken status
+query_promised query reads at_start at_exit meanwhile left taken status here all =
+    opening_promised (Query query) reads at_start at_exit meanwhile left [] taken status here (all left) (λ now keeps. keeps)
+    (λ now kept told stands done. query_answers query reads at_start at_exit meanwhile taken status now kept (all (Some [])) told stands done)
 
-pub check_promised : (reads : Option Image) (at_start at_exit meanwhile : Image → Type 0) (left : Option (List ℕ)) (given taken : List ℕ) (status : Status)
-    → IfSome reads at_start → DeliversCheck reads at_start at_exit meanwhile left given taken status
-    → IsPromised (Some Check) reads at_start at_exit meanwhile left given taken status
-check_promised reads at_start at_exit meanwhile left given taken status here checked =
-    let kept = checked.delivers in
-    record {
-      text = kept.text;
-      order = kept.order;
-      disk = kept.disk;
-      survives = λ told.
-          let now = told_image reads told in
-          survives_store now.0 at_start at_exit meanwhile taken status []
-          (reads_here reads at_start now.0 here now.1) (kept.disk now.0 now.1);
-      at_each_moment = λ told.
-          let now = told_image reads told in
-          survives_store_meanwhile now.0 at_start at_exit meanwhile taken status []
-          (reads_here reads at_start now.0 here now.1) (kept.disk now.0 now.1);
-      answers = λ told genesis past by done.
-          let now = told_image reads told in
-          let first = by now.0 (reads_here reads at_start now.0 here now.1) in
-          (first.0, first.1, checked.answers now.0 first.0 now.1 first.2 done);
-    }
+pub question_promised : (question : questions.Question) (reads : Option Image) (at_start at_exit meanwhile : Image → Type 0) (left : Option (List ℕ)) (given taken : List ℕ) (status : Status)
+    → IfSome reads at_start → DeliversAnswer question reads at_start at_exit meanwhile left given taken status
+    → IsPromised (Some (Question question)) reads at_start at_exit meanwhile left given taken status
+question_promised question reads at_start at_exit meanwhile left given taken status here answered =
+    opening_promised (Question question) reads at_start at_exit meanwhile left given taken status here answered.delivers (λ now keeps. keeps) answered.answers
 
 -- where a log is there, `init` leaves the disk as it was
 not_keeps : (chain : Chain) → Keeps chain ≡ NoLog → ⊥
@@ -217,11 +194,11 @@ module _ {D : Type 0} (reads_as : D → Option Image) (images : D → Image → 
         (first.0, first.1, answers first.0);
   }
 
-  pub exec_promised : (budget : ℕ) (old : D) (left : Option (List ℕ)) (given taken : List ℕ) (status : Status)
-      → MatchesReport (exec_report budget) given left taken status × ExecutesInOrder given left taken status
-      → IsPromised (Some (Exec budget)) (reads_as old) (images old) (images old) (left_since old (moment old)) left given taken status
-  exec_promised budget old left given taken status says =
-      uncalled_promised (Some (Exec budget)) old left given taken status refl (λ store found. says) (λ now. tt) (λ kept. tt)
+  pub standalone_promised : (command : files.Standalone) (old : D) (left : Option (List ℕ)) (given taken : List ℕ) (status : Status)
+      → MatchesReport (report_of_file command) given left taken status × ReadsFileInOrder given left taken status
+      → IsPromised (Some (Standalone command)) (reads_as old) (images old) (images old) (left_since old (moment old)) left given taken status
+  standalone_promised command old left given taken status says =
+      uncalled_promised (Some (Standalone command)) old left given taken status refl (λ store found. says) (λ now. tt) (λ kept. tt)
 
   pub words_promised : (old : D) (left : Option (List ℕ)) → IsPromised None (reads_as old) (images old) (images old) (left_since old (moment old)) left [] [] BadWords
   words_promised old left = uncalled_promised None old left [] [] BadWords refl

@@ -1,4 +1,4 @@
--- Statuses by tables.
+-- Statuses by tables of them.
 use Rattle.std.proofs.Common.{◌≡◌, inl, inr, ℕ, Bool, true, false, List, [], ◌∷◌, refl, sym, ◌∙◌, subst}
 use Rattle.std.specs.Prelude.{if◌then◌else◌}
 use Rattle.report_defs.specs.declared.status.Status.{Status}
@@ -7,11 +7,12 @@ use Rattle.report_defs.specs.declared.end.End.{End}
 use Rattle.report_defs.specs.declared.end.End.TheVariants as ends
 use Rattle.report_defs.specs.Status.{IsOneOf}
 use Rattle.report_defs.specs.Report.{status_of_end}
-use Rattle.report_defs.specs.Promise.{IsReported, reported, ended_early, IsStoppedBeforeTheSink, import_statuses, tip_statuses}
+use Rattle.report_defs.specs.Promise.{IsReported, reported, ended_early, IsStoppedBeforeTheSink, import_statuses, query_statuses, question_statuses}
 use Rattle.item_reader.specs.Items.{IsReadingStop}
 use Rattle.node_run.specs.Import.{IsStop}
-use Rattle.node_run.specs.Output.{IsToldAnswer, IsWritingStop}
-use Rattle.node_run.specs.Store.{opening_stops}
+use Rattle.node_run.specs.Output.{IsToldAnswer, IsWritingStop, early_ends}
+use Rattle.node_run.specs.Store.{opening_stops, finding_stops}
+use Rattle.node_run.proofs.Tables.{held, lacks, among, apart}
 
 -- each of these statuses has P
 abbrev pub Have : (Status → Type 0) → List Status → Type 0
@@ -75,60 +76,78 @@ opening_stop status (inr (inr (inl memory))) there = subst IsStop (sym memory) t
 opening_stop status (inr (inr (inr never))) there = absurd never
 
 pub opening_no_input : (status : Status) → IsOneOf opening_stops status → status ≡ InputFault → ⊥
-opening_no_input status one = each_of (λ s. s ≡ InputFault → ⊥) opening_stops status (λ e. cc, (λ e. cc, (λ e. cc, tt))) one
+opening_no_input = lacks opening_stops InputFault refl
 
 pub opening_no_sink : (status : Status) → IsOneOf opening_stops status → status ≡ SinkFault → ⊥
-opening_no_sink status one = each_of (λ s. s ≡ SinkFault → ⊥) opening_stops status (λ e. cc, (λ e. cc, (λ e. cc, tt))) one
-
--- what stops an opening is no answer
-abbrev IsOpeningStop : Status → Type 0
-IsOpeningStop NotAStore = Unit {0}
-IsOpeningStop DiskFault = Unit {0}
-IsOpeningStop NoMemory = Unit {0}
-IsOpeningStop _ = ⊥
+opening_no_sink = lacks opening_stops SinkFault refl
 
 pub opening_not_done : (status : Status) → IsOneOf opening_stops status → IsOneOf (Done ∷ SomeRefused ∷ []) status → ⊥
-opening_not_done status one told =
-    each_of (λ s. IsOpeningStop s → ⊥) (Done ∷ SomeRefused ∷ []) status (λ n. n, (λ n. n, tt)) told
-    (each_of IsOpeningStop opening_stops status (tt, (tt, (tt, tt))) one)
+opening_not_done = apart opening_stops (Done ∷ SomeRefused ∷ []) refl
 
--- ---- Those of each command
+-- ---- Those of each class of commands
 
 pub import_opening : (status : Status) → IsOneOf opening_stops status → IsOneOf import_statuses status
-import_opening status one =
-    each_of (λ s. IsOneOf import_statuses s) opening_stops status
-    (inr (inr (inr (inr (inr (inr (inl refl)))))), (inr (inr (inr (inr (inl refl)))), (inr (inr (inr (inr (inr (inl refl))))), tt))) one
+import_opening = among opening_stops import_statuses refl
 
 pub import_stop : (status : Status) → IsStop status → IsOneOf import_statuses status
-import_stop InputFault stop = inr (inr (inl refl))
-import_stop SinkFault stop = inr (inr (inr (inl refl)))
-import_stop DiskFault stop = inr (inr (inr (inr (inl refl))))
-import_stop NoMemory stop = inr (inr (inr (inr (inr (inl refl)))))
+import_stop InputFault stop = held import_statuses InputFault refl
+import_stop SinkFault stop = held import_statuses SinkFault refl
+import_stop DiskFault stop = held import_statuses DiskFault refl
+import_stop NoMemory stop = held import_statuses NoMemory refl
 import_stop _ stop = absurd stop
 
 pub import_end : (refused : Bool) (end : End) → IsOneOf import_statuses (status_of_end (if refused then SomeRefused else Done) end)
-import_end true ends.AtEnd = inr (inl refl)
-import_end false ends.AtEnd = inl refl
-import_end refused ends.Cut = inr (inr (inr (inr (inr (inr (inr (inl refl)))))))
-import_end refused ends.BadSize = inr (inr (inr (inr (inr (inr (inr (inr (inl refl))))))))
-import_end refused ends.Extra = inr (inr (inr (inr (inr (inr (inr (inr (inr (inl refl)))))))))
+import_end true ends.AtEnd = held import_statuses SomeRefused refl
+import_end false ends.AtEnd = held import_statuses Done refl
+import_end refused ends.Cut = held import_statuses CutInput refl
+import_end refused ends.BadSize = held import_statuses BadSize refl
+import_end refused ends.Extra = held import_statuses ExtraInput refl
 
 pub import_told : (text : List ℕ) (refused : Bool) (end : End) (status result : Status) (taken : List ℕ)
     → status ≡ status_of_end (if refused then SomeRefused else Done) end → IsToldAnswer text status result taken → IsOneOf import_statuses result
 import_told text refused end status result taken is (inl told) = subst (λ (s : Status). IsOneOf import_statuses s) (sym (told.1 ∙ is)) (import_end refused end)
 import_told text refused end status result taken is (inr failed) = inr (inr (inr (inl failed.1)))
 
-pub tip_opening : (status : Status) → IsOneOf opening_stops status → IsOneOf tip_statuses status
-tip_opening status one =
-    each_of (λ s. IsOneOf tip_statuses s) opening_stops status
-    (inr (inr (inr (inr (inl refl)))), (inr (inr (inl refl)), (inr (inr (inr (inl refl))), tt))) one
+pub query_opening : (status : Status) → IsOneOf opening_stops status → IsOneOf query_statuses status
+query_opening = among opening_stops query_statuses refl
 
-pub tip_telling : (status : Status) → IsOneOf (Done ∷ SinkFault ∷ NoMemory ∷ []) status → IsOneOf tip_statuses status
-tip_telling status one =
-    each_of (λ s. IsOneOf tip_statuses s) (Done ∷ SinkFault ∷ NoMemory ∷ []) status (inl refl, (inr (inl refl), (inr (inr (inr (inl refl))), tt))) one
+-- ---- What stops the finding of an answer
 
-pub tip_no_disk_fault : (status : Status) → IsOneOf (Done ∷ SinkFault ∷ NoMemory ∷ []) status → status ≡ DiskFault → ⊥
-tip_no_disk_fault status one = each_of (λ s. s ≡ DiskFault → ⊥) (Done ∷ SinkFault ∷ NoMemory ∷ []) status (λ e. cc, (λ e. cc, (λ e. cc, tt))) one
+-- over a chain that has joined it is missing memory
+pub finding_stop : (status : Status) → IsOneOf finding_stops status → (status ≡ NotAStore → ⊥) → IsStop status
+finding_stop status (inl none) sound = absurd (sound none)
+finding_stop status (inr (inl memory)) sound = subst IsStop (sym memory) tt
+finding_stop status (inr (inr never)) sound = absurd never
+
+pub query_finding : (status : Status) → IsOneOf finding_stops status → IsOneOf query_statuses status
+query_finding = among finding_stops query_statuses refl
+
+pub question_finding : (status : Status) → IsOneOf finding_stops status → IsOneOf question_statuses status
+question_finding = among finding_stops question_statuses refl
+
+-- ---- An answer that was told
+
+-- it has its own status, or that of the sink
+pub told_one : (statuses : List Status) (text : List ℕ) (status result : Status) (taken : List ℕ) → IsOneOf statuses status → IsToldAnswer text status result taken
+    → IsOneOf (SinkFault ∷ statuses) result
+told_one statuses text status result taken one (inl told) = inr (subst (λ (s : Status). IsOneOf statuses s) (sym told.1) one)
+told_one statuses text status result taken one (inr failed) = inl failed.1
+
+pub query_told : (status : Status) → IsOneOf (SinkFault ∷ Done ∷ []) status → IsOneOf query_statuses status
+query_told = among (SinkFault ∷ Done ∷ []) query_statuses refl
+
+pub question_told : (status : Status) → IsOneOf (SinkFault ∷ Done ∷ SomeRefused ∷ []) status → IsOneOf question_statuses status
+question_told = among (SinkFault ∷ Done ∷ SomeRefused ∷ []) question_statuses refl
+
+-- ---- An input that ended early
+
+pub question_early : (status : Status) → IsOneOf early_ends status → IsOneOf question_statuses status
+question_early = among early_ends question_statuses refl
+
+pub question_reading : (status : Status) → IsReadingStop status → IsOneOf question_statuses status
+question_reading InputFault stop = held question_statuses InputFault refl
+question_reading NoMemory stop = held question_statuses NoMemory refl
+question_reading _ stop = absurd stop
 
 -- ---- The status behind the end of an import
 

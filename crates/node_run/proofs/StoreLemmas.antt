@@ -12,17 +12,19 @@ use Rattle.log_defs.specs.Log.{LogContent, log_of}
 use Rattle.store_defs.specs.Store.{Store, NoLog, NotALog, Keeps, store_of, store_of_log, StandsFor, IsSound, IsJoined, HaveOwnExts, AreJoined}
 use Rattle.store_defs.proofs.JoinedLemmas.{joined_of_image}
 use Rattle.report_defs.specs.declared.command.Command.{Command}
+use Rattle.report_defs.specs.declared.command.Query.{Query}
 use Rattle.report_defs.specs.declared.status.Status.{Status}
 use Rattle.report_defs.specs.declared.status.Status.TheVariants.{Done, DiskFault, NoMemory, NotAStore}
 use Rattle.report_defs.specs.Status.{IsOneOf}
 use Rattle.report_defs.specs.Text.{tip_line, tip_line_of}
-use Rattle.report_defs.specs.Report.{Report, report_without_lines, text_of, report_of_command, tip_report}
+use Rattle.report_defs.specs.Report.{Report, report_without_lines, text_of, report_of_command, answer_to_query, report_of_query}
 use Rattle.report_defs.specs.Promise.{IsPrefix, MatchesReport, KeepsOrder, IsSoundStoreOf, Finds, FindsNoStore, IsStoppedBeforeTheSink}
 use Rattle.report_defs.specs.Survival.{Each, IsFront, KeepsStore, KeepsDisk}
 use Rattle.node_run.specs.Import.{IsStop, KeepsSome}
-use Rattle.node_run.specs.Store.{Delivers, IsTipTold, opening_stops}
+use Rattle.node_run.specs.Output.{IsToldAnswer}
+use Rattle.node_run.specs.Store.{Delivers, IsQueryTold, opening_stops}
 use Rattle.node_run.proofs.LineLemmas.{front_of_all, front_of_none, take_all}
-use Rattle.node_run.proofs.Statuses.{stop_not_reported, opening_reported, opening_stop}
+use Rattle.node_run.proofs.Statuses.{stop_not_reported, opening_reported, opening_stop, is_early, not_early}
 
 -- ---- What the disk reads as
 
@@ -225,32 +227,33 @@ unopened command reads at_start at_exit meanwhile left status sound one none no_
     order NotALog found = order_not (finds_none status one)
     order (Keeps chain) found = order_stop chain (opening_stop status one (stopped_opening reads status chain none found))
 
--- ---- `tip`
+-- ---- Queries
 
 pub tip_line_is : (found : Option Block) (block : Block) (number : ℕ) (hash line : List ℕ) → found ≡ Some block → number ≡ block.header.number → hash ≡ block_hash block
     → line ≡ tip_line_of number hash → line ≡ tip_line found
 tip_line_is found block number hash line is number_is hash_is line_is =
     line_is ∙ ap (λ n. tip_line_of n hash) number_is ∙ ap (tip_line_of block.header.number) hash_is ∙ sym (ap (λ (b : Option Block). tip_line b) is)
 
-pub tip_stopped : (chain : Chain) (left : Option (List ℕ)) (taken line : List ℕ) (status : Status) → IsStop status
-    → IsPrefix taken line → line ≡ text_of (tip_report (Keeps chain)) → (IsStoppedBeforeTheSink status → taken ≡ [])
-    → IsTipTold chain left taken status
-tip_stopped chain left taken line status stop front is silent = (
-  record {
-    front = λ more told. subst (IsPrefix taken) is front;
-    whole_text = λ more is told. absurd (stop_not_reported status stop told);
-    same_status = λ more is told. absurd (stop_not_reported status stop told);
-  },
-  record { unread = refl; silent = silent },
-)
+-- no answer was found
+pub query_stopped : (query : Query) (chain : Chain) (left : Option (List ℕ)) (status : Status) → IsStop status → IsQueryTold query chain left [] status
+query_stopped query chain left status stop = (stop_says (λ whole. report_of_query query chain) left status stop, record { unread = refl; silent = λ early. refl })
 
-pub tip_told : (chain : Chain) (left : Option (List ℕ)) (taken : List ℕ) → taken ≡ text_of (tip_report (Keeps chain)) → (IsStoppedBeforeTheSink Done → ⊥)
-    → IsTipTold chain left taken Done
-tip_told chain left taken is never = (
+-- it was told, or a part of it
+pub query_told : (query : Query) (chain : Chain) (left : Option (List ℕ)) (taken text : List ℕ) (result : Status) → text ≡ answer_to_query query chain
+    → IsToldAnswer text Done result taken → IsQueryTold query chain left taken result
+query_told query chain left taken text result is (inl told) = (
   record {
-    front = λ more told. subst (IsPrefix taken) is ([], sym (append-nil taken));
-    whole_text = λ more known told. is;
-    same_status = λ more known told. refl;
+    front = λ more at. ([], sym (told.0 ∙ is) ∙ sym (append-nil taken));
+    whole_text = λ more at reported. told.0 ∙ is;
+    same_status = λ more at reported. told.1;
   },
-  record { unread = refl; silent = λ early. absurd (never early) },
+  record { unread = refl; silent = λ early. absurd (is_early Done (subst IsStoppedBeforeTheSink told.1 early)) },
+)
+query_told query chain left taken text result is (inr failed) = (
+  record {
+    front = λ more at. subst (IsPrefix taken) is failed.0.front;
+    whole_text = λ more at reported. absurd (stop_not_reported result (subst IsStop (sym failed.1) tt) reported);
+    same_status = λ more at reported. absurd (stop_not_reported result (subst IsStop (sym failed.1) tt) reported);
+  },
+  record { unread = refl; silent = λ early. absurd (not_early result failed.1 early) },
 )

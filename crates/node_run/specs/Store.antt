@@ -2,11 +2,12 @@
 use Rattle.std.specs.Prelude.{◌≡◌, ℕ, List, [], ◌∷◌, Option, Some}
 use Rattle.outside.specs.Image.{Image}
 use Rattle.verdict_defs.specs.Chain.{Chain}
-use Rattle.store_defs.specs.Store.{Store, Keeps}
+use Rattle.store_defs.specs.Store.{Store}
 use Rattle.report_defs.specs.declared.command.Command.{Command}
+use Rattle.report_defs.specs.declared.command.Query.{Query}
 use Rattle.report_defs.specs.declared.status.Status.{Status}
 use Rattle.report_defs.specs.declared.status.Status.TheVariants.{DiskFault, NoMemory, NotAStore}
-use Rattle.report_defs.specs.Report.{report_of_command, tip_report}
+use Rattle.report_defs.specs.Report.{report_of_command, report_of_query}
 use Rattle.report_defs.specs.Promise.{MatchesReport, TellsInOrder, KeepsOrder, Finds}
 use Rattle.report_defs.specs.Survival.{KeepsDisk}
 
@@ -19,6 +20,10 @@ pub record Delivers (command : Command) (reads : Option Image) (at_start at_exit
   pub order : (store : Store) → Finds (Some command) reads store → KeepsOrder (Some command) store given left taken status
   pub disk : (now : Image) → reads ≡ Some now → KeepsDisk (Some command) now at_start at_exit meanwhile given taken status
 
--- the line of the tip of a chain was told, or a part of it
-abbrev pub IsTipTold : Chain → Option (List ℕ) → List ℕ → Status → Type 0
-IsTipTold chain left taken status = MatchesReport (λ whole. tip_report (Keeps chain)) [] left taken status × TellsInOrder [] taken status
+-- what stops the finding of an answer, in a store that is sound or not
+abbrev pub finding_stops : List Status
+finding_stops = NotAStore ∷ NoMemory ∷ []
+
+-- what a query answers over a chain was told, or a part of it
+abbrev pub IsQueryTold : Query → Chain → Option (List ℕ) → List ℕ → Status → Type 0
+IsQueryTold query chain left taken status = MatchesReport (λ whole. report_of_query query chain) [] left taken status × TellsInOrder [] taken status

@@ -1,15 +1,20 @@
 -- The parts of the grammar of words.
 use Rattle.std.specs.Prelude.{ℕ, ◌^◌, ◌≤◌, ◌==◌, nat_lt, ◌&&◌, ◌||◌, Bool, List, length, slice_index}
 use Rattle.report_defs.specs.declared.command.Command.{Command}
-use Rattle.report_defs.specs.declared.command.Command.TheVariants.{Init, Import, Tip, Check, Exec}
+use Rattle.report_defs.specs.declared.command.Command.TheVariants.{Init, Import, Query, Question, Standalone}
+use Rattle.report_defs.specs.declared.command.Standalone as files
+use Rattle.report_defs.specs.declared.command.Standalone.TheVariants.{Exec}
 
 -- a budget is within its limit
+abbrev pub IsWithinBudget : files.Standalone → Type 0
+IsWithinBudget (Exec budget) = budget ≤ 2 ^ 40
+
 abbrev pub IsWithinLimit : Command → Type 0
 IsWithinLimit Init = Unit {0}
 IsWithinLimit Import = Unit {0}
-IsWithinLimit Tip = Unit {0}
-IsWithinLimit Check = Unit {0}
-IsWithinLimit (Exec budget) = budget ≤ 2 ^ 40
+IsWithinLimit (Query query) = Unit {0}
+IsWithinLimit (Question question) = Unit {0}
+IsWithinLimit (Standalone command) = IsWithinBudget command
 
 -- It begins with a plus, or with a zero and is longer: a number may be read from such a word, but no number is written so.
 abbrev pub is_padded : List ℕ → Bool

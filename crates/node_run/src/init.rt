@@ -4,24 +4,22 @@ ghost use Rattle.outside.specs.Causes.{CountsFault};
 ghost use Rattle.outside.specs.Disk.{IsAsBefore};
 ghost use Rattle.outside.specs.Image.{Image};
 ghost use Rattle.store_defs.specs.Store.{NoLog, store_of};
-ghost use Rattle.report_defs.specs.Items.{IsItem};
 ghost use Rattle.report_defs.specs.Report as reports;
 ghost use Rattle.report_defs.specs.Status.{IsOneOf};
 ghost use Rattle.report_defs.specs.Promise.{init_statuses};
 ghost use Rattle.report_defs.specs.Survival.{as_before};
 ghost use Rattle.report_defs.specs.declared.command.Command.TheVariants.{Init as init_command};
-ghost use Rattle.item_reader.specs.Items.{Gave};
 ghost use Rattle.node_run.specs.Output.{Took, Transfers, IsSaid};
 ghost use Rattle.node_run.specs.Store.{Delivers};
-ghost use Rattle.node_run.specs.Init.{IsReadOfInit, StandsAlone, new_statuses, text_of_stop};
+ghost use Rattle.node_run.specs.Init.{StandsAlone, new_statuses, text_of_stop};
 
 use crate::lines::{bad_genesis_line, bad_spec_line, genesis_line};
-use crate::output::{Answer, end_of_needed, tell, tell_early};
+use crate::output::{Answer, tell, tell_early};
 use crate::store::status_of_writing;
-use item_reader::{Next, has_more, next_item};
+use item_reader::{Whole, read_whole};
 use node_core::{NewStop, judge};
 use outside::{Area, Disk, Sink, Source};
-use report_defs::{End, Status};
+use report_defs::Status;
 use std::alloc::Global;
 
 /// The most bytes of a specification.
@@ -29,74 +27,6 @@ const SPEC_LIMIT: usize = 1 << 20;
 
 /// The most bytes of a genesis.
 const GENESIS_LIMIT: usize = 1 << 22;
-
-/// What the input holds: a specification and a genesis alone, or its reading ends at an offset where it should not.
-#[derive(Drop)]
-enum Input {
-    Both {
-        specification: Vec<u8>,
-        genesis: Vec<u8>,
-    },
-    Early {
-        end: End,
-        offset: u64,
-    },
-}
-
-/// Reads the input to its end, or to where it ends early.
-fn read_input<S: Source>(alloc: Global, input: &mut S) -> Result<Input, Status>
-    ensures read { Gave (S.left input.old) (S.left input.new) (IsReadOfInit (S.left input.new) result) }
-    ensures faults { CountsFault (S.faults input.old) (S.faults input.new) (result ≡ Err Status.InputFault) }
-{
-    let specification = match next_item(alloc, input, SPEC_LIMIT, None, 0) {
-        Ok(Next::Item(item)) => item,
-        Ok(Next::End(end)) => {
-            return Ok(Input::Early {
-                end: end_of_needed(end),
-                offset: 0,
-            });
-        }
-        Err(status) => return Err(status),
-    };
-    read_genesis(alloc, input, specification)
-}
-
-/// Reads on behind the specification.
-fn read_genesis<S: Source>(
-    alloc: Global,
-    input: &mut S,
-    specification: Vec<u8>,
-) -> Result<Input, Status>
-    requires { IsItem reports.item_limit specification.items }
-    ensures read { Gave (S.left input.old) (S.left input.new) (λ given. IsReadOfInit (S.left input.new) result (specification.items ++ given)) }
-    ensures faults { CountsFault (S.faults input.old) (S.faults input.new) (result ≡ Err Status.InputFault) }
-{
-    let offset = specification.len() as u64;
-    let genesis = match next_item(alloc, input, GENESIS_LIMIT, None, offset) {
-        Ok(Next::Item(item)) => item,
-        Ok(Next::End(end)) => {
-            return Ok(Input::Early {
-                end: end_of_needed(end),
-                offset,
-            });
-        }
-        Err(status) => return Err(status),
-    };
-    let more = match has_more(input) {
-        Ok(more) => more,
-        Err(status) => return Err(status),
-    };
-    if more {
-        return Ok(Input::Early {
-            end: End::Extra,
-            offset: offset + genesis.len() as u64,
-        });
-    }
-    Ok(Input::Both {
-        specification,
-        genesis,
-    })
-}
 
 /// What is said of a specification or a genesis that breaks a rule. The status is `NoMemory`.
 fn refusal(alloc: Global, stop: NewStop) -> Result<Answer, Status>
@@ -200,14 +130,9 @@ pub fn init<S: Source, K: Sink, D: Disk>(
     if length != 0 {
         return Status::StoreThere;
     }
-    match read_input(alloc, input) {
-        Ok(
-            Input::Both {
-                specification,
-                genesis,
-            },
-        ) => make_and_tell(alloc, out, disk, &specification, &genesis),
-        Ok(Input::Early { end, offset }) => tell_early(alloc, out, end, offset),
+    match read_whole(alloc, input, &[SPEC_LIMIT, GENESIS_LIMIT]) {
+        Ok(Whole::Items(items)) => make_and_tell(alloc, out, disk, &items[0], &items[1]),
+        Ok(Whole::Early { end, offset }) => tell_early(alloc, out, end, offset),
         Err(status) => status,
     }
 }

@@ -53,18 +53,6 @@ pub fn status_of_end(whole: Status, end: End) -> Status
     }
 }
 
-/// Where an item is needed, an input that ends between two items is cut.
-pub fn end_of_needed(end: End) -> End
-    ensures { result ≡ reports.end_of_needed end }
-{
-    match end {
-        End::AtEnd => End::Cut,
-        End::Cut => End::Cut,
-        End::BadSize => End::BadSize,
-        End::Extra => End::Extra,
-    }
-}
-
 /// What is said of an input that ends early.
 pub fn tell_early<K: Sink>(alloc: Global, out: &mut K, end: End, offset: u64) -> Status
     requires { end ≡ End.AtEnd → ⊥ }

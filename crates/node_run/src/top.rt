@@ -12,16 +12,16 @@ ghost use Rattle.report_defs.specs.Report.{import_limits};
 ghost use Rattle.report_defs.specs.Words as grammar;
 ghost use Rattle.report_defs.specs.Status.{IsOneOf};
 ghost use Rattle.report_defs.specs.Promise.{statuses_of};
-ghost use Rattle.report_defs.specs.Survival.{IsPromised, CallsNoDisk, OpensStore, IsQuery, as_before};
+ghost use Rattle.report_defs.specs.Survival.{IsPromised, CallsNoDisk, OpensStore, AsksStore, as_before};
 ghost use Rattle.item_reader.specs.Items.{Gave};
 ghost use Rattle.node_core.specs.Steps.{replays_to_open, steps_over};
 ghost use Rattle.node_run.specs.Output.{Transfers};
 
-use crate::check::check;
-use crate::exec::exec;
 use crate::import::import;
 use crate::init::init;
-use crate::tip::tip;
+use crate::query::query;
+use crate::question::question;
+use crate::standalone::standalone;
 use crate::words::command_of;
 use outside::{Disk, Sink, Source, Steps};
 use report_defs::{Command, Status};
@@ -57,7 +57,7 @@ pub fn run<S: Source, K: Sink, D: Disk, L: Ledger>(
     ensures out_faults { CountsFault (K.faults out.old) (K.faults out.new) (result ≡ Status.SinkFault) }
     ensures disk_faults { CountsFault (D.faults disk.old) (D.faults disk.new) (result ≡ Status.DiskFault) }
 
-    // Where the disk is not called, is as it was, also for an `init` that finds a log, and where it is only read: it has no log, or a query finds its log at rest.
+    // Where the disk is not called, is as it was, also for an `init` that finds a log, and where it is only read: it has no log, or a query or question finds its log at rest.
     ensures uncalled { CallsNoDisk (grammar.command_of (map string_bytes words.now)) → disk.new ≡ disk.old }
     ensures as_before { IsOneOf (as_before (grammar.command_of (map string_bytes words.now))) result
         → IsAsBefore D.reads_as D.images D.moment D.left_since disk.old disk.new }
@@ -66,12 +66,12 @@ pub fn run<S: Source, K: Sink, D: Disk, L: Ledger>(
     ensures loses_nothing { (now : Image) → D.reads_as disk.old ≡ Some now → ((chain : Chain) → store_of now ≡ Keeps chain → ⊥)
         → OpensStore (grammar.command_of (map string_bytes words.now)) → IsOnlyRead D.reads_as D.images D.moment D.left_since disk.old disk.new }
     ensures rests { (now : Image) → D.reads_as disk.old ≡ Some now → slice_index now.log (end_of_log now.log) ≢ 1
-        → IsQuery (grammar.command_of (map string_bytes words.now)) → IsOnlyRead D.reads_as D.images D.moment D.left_since disk.old disk.new }
+        → AsksStore (grammar.command_of (map string_bytes words.now)) → IsOnlyRead D.reads_as D.images D.moment D.left_since disk.old disk.new }
 
-    // Only a command that opens the store counts steps: a query at most one for each block behind the genesis on the branch of the tip, and an import
+    // Only a command that opens the store counts steps: a query or question at most one for each block behind the genesis on the branch of the tip, and an import
     // over a store that is sound at most these, and for each item one and those of the branch that is replayed for it.
     ensures steps { (OpensStore (grammar.command_of (map string_bytes words.now)) → ⊥) → steps.new ≡ steps.old }
-    ensures query_steps { (now : Image) → D.reads_as disk.old ≡ Some now → IsQuery (grammar.command_of (map string_bytes words.now))
+    ensures query_steps { (now : Image) → D.reads_as disk.old ≡ Some now → AsksStore (grammar.command_of (map string_bytes words.now))
         → steps.new ≤ steps.old + replays_to_open (store_of now) }
     ensures import_steps { grammar.command_of (map string_bytes words.now) ≡ Some Command.Import → Gave (S.left input.old) (S.left input.new)
         (λ given. (now : Image) (chain : Chain) → D.reads_as disk.old ≡ Some now → StandsFor chain now
@@ -80,9 +80,9 @@ pub fn run<S: Source, K: Sink, D: Disk, L: Ledger>(
     match command_of(words) {
         Some(Command::Init) => init(alloc, input, out, disk),
         Some(Command::Import) => import(alloc, input, out, disk, steps),
-        Some(Command::Tip) => tip(alloc, out, disk, steps),
-        Some(Command::Check) => check(alloc, input, out, disk, steps),
-        Some(Command::Exec { budget }) => exec(alloc, input, out, budget),
+        Some(Command::Query(asked)) => query(alloc, out, disk, asked, steps),
+        Some(Command::Question(asked)) => question(alloc, input, out, disk, asked, steps),
+        Some(Command::Standalone(command)) => standalone(alloc, input, out, command),
         None => Status::BadWords,
     }
 }

@@ -5,7 +5,7 @@ ghost use Rattle.report_defs.specs.Words as grammar;
 ghost use Rattle.node_run.specs.Words as parts;
 ghost use Rattle.node_run.specs.Words.{IsWithinLimit};
 
-use report_defs::Command;
+use report_defs::{Command, Query, Question, Standalone};
 
 /// The most cycles of a budget.
 const BUDGET_LIMIT: u64 = 1 << 40;
@@ -47,10 +47,10 @@ fn command_alone(name: &[u8]) -> Option<Command>
         return Some(Command::Import);
     }
     if name == b"tip".as_slice() {
-        return Some(Command::Tip);
+        return Some(Command::Query(Query::Tip));
     }
     if name == b"check".as_slice() {
-        return Some(Command::Check);
+        return Some(Command::Question(Question::Check));
     }
     None
 }
@@ -65,7 +65,7 @@ fn command_with(name: &[u8], argument: &str) -> Option<Command>
         return None;
     }
     let budget = number_up_to(BUDGET_LIMIT, argument)?;
-    Some(Command::Exec { budget })
+    Some(Command::Standalone(Standalone::Exec { budget }))
 }
 
 /// The number that a word spells, if it is within the limit.

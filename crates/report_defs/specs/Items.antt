@@ -1,6 +1,6 @@
 -- How an input is cut into items. An item begins with its size as a little-endian u32, which counts itself
 -- (docs/COMMANDS.md, "The input").
-use Rattle.std.specs.Prelude.{◌≡◌, ◌↔◌, ℕ, zero, suc, ◌+◌, ◌≤◌, List, [], ◌∷◌, ◌++◌, length, take, drop, Option, Some, None, Bool, false, nat_lt, ◌==◌, ◌||◌, if◌then◌else◌}
+use Rattle.std.specs.Prelude.{◌≡◌, ◌↔◌, ℕ, zero, suc, ◌+◌, ◌≤◌, List, [], ◌∷◌, ◌++◌, length, take, drop, Option, Some, None, Bool, false, nat_lt, ◌==◌, ◌||◌, if◌then◌else◌, slice_get}
 use Rattle.std.specs.List.{concat}
 use Rattle.std.specs.Int.{w32, from_le_bytes}
 use Rattle.report_defs.specs.declared.end.End.{End}
@@ -75,6 +75,25 @@ pub record IsSplit (limits : Limits) (input : List ℕ) (split : Split) : Type 0
   pub within : IsWithin limits.input (end_offset split)
   pub ends : end_at (limits.item (length split.items)) limits.input (end_offset split) split.rest ≡ Some split.end
 
+-- ---- A whole input
+
+-- An input that is read whole has an item for each of these limits, and nothing behind them.
+abbrev pub whole_limits : List ℕ → Limits
+whole_limits limits = record { item = slice_get limits; input = None }
+
+-- where an item is needed, an input that ends between two items is cut
+abbrev pub end_of_needed : End → End
+end_of_needed AtEnd = Cut
+end_of_needed Cut = Cut
+end_of_needed BadSize = BadSize
+end_of_needed Extra = Extra
+
+-- how it ends, where so many items are needed
+abbrev pub end_of_whole : ℕ → Split → End
+end_of_whole needed split = if nat_lt (length split.items) needed then end_of_needed split.end else split.end
+
+-- ---- The split of an input
+
 -- the split with an item before it
 abbrev pub put_front : List ℕ → Split → Split
 put_front item split = record { items = item ∷ split.items; rest = split.rest; end = split.end }
@@ -92,6 +111,20 @@ split_from (suc most) limits place offset bytes = elim (end_at (limits.item plac
 -- the split of an input
 unfoldable pub split_of : Limits → List ℕ → Split
 split_of limits input = split_from (suc (length input)) limits 0 0 input
+
+-- ---- How far an input was read
+
+-- how many bytes tell that the reading ends at an item's place: those of its size word, or one where no item is taken
+abbrev pub bytes_to_tell : Option ℕ → ℕ
+bytes_to_tell None = 1
+bytes_to_tell (Some limit) = 4
+
+abbrev pub EndsTheReading : Limits → Split → Type 0
+EndsTheReading limits split = IsAtWord split.end → length split.rest ≡ bytes_to_tell (limits.item (length split.items))
+
+-- nothing is read behind the size word, or the first byte too many, at which the reading ends
+abbrev pub ReadsNoFurther : Limits → List ℕ → Type 0
+ReadsNoFurther limits given = EndsTheReading limits (split_of limits given)
 
 -- Law: it is a split of the input, and there is no other.
 abbrev pub SplitsAreOne : Type 0

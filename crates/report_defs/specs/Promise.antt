@@ -7,12 +7,13 @@ use Rattle.outside.specs.Image.{Image}
 use Rattle.verdict_defs.specs.Chain.{Chain}
 use Rattle.store_defs.specs.Store.{Store, NoLog, NotALog, Keeps, store_of, StandsFor}
 use Rattle.report_defs.specs.declared.command.Command.{Command}
-use Rattle.report_defs.specs.declared.command.Command.TheVariants.{Init, Import, Tip, Check, Exec}
+use Rattle.report_defs.specs.declared.command.Command.TheVariants.{Init, Import, Query, Question, Standalone}
+use Rattle.report_defs.specs.declared.command.Question as questions
 use Rattle.report_defs.specs.declared.status.Status.{Status}
 use Rattle.report_defs.specs.declared.status.Status.TheVariants.{Done, SomeRefused, BadWords, InputFault, SinkFault, DiskFault, NoMemory, NotAStore, CutInput, BadSize, StoreThere, BadGenesis, ExtraInput}
 use Rattle.report_defs.specs.Status.{IsOneOf}
-use Rattle.report_defs.specs.Items.{IsAtWord, Limits, Split, split_of, end_offset}
-use Rattle.report_defs.specs.Report.{Report, text_of, init_limits, import_limits, check_limits, lines_over, file_limit}
+use Rattle.report_defs.specs.Items.{IsAtWord, Limits, split_of, end_offset, ReadsNoFurther}
+use Rattle.report_defs.specs.Report.{Report, text_of, init_limits, import_limits, question_limits, lines_over, file_limit}
 
 -- ---- Statuses
 
@@ -27,29 +28,29 @@ IsReported status = IsOneOf reported status
 abbrev pub ended_early : List Status
 ended_early = CutInput ∷ BadSize ∷ ExtraInput ∷ []
 
--- those of each command
+-- those of each class of commands
 abbrev pub init_statuses : List Status
 init_statuses = Done ∷ InputFault ∷ SinkFault ∷ DiskFault ∷ NoMemory ∷ CutInput ∷ BadSize ∷ StoreThere ∷ BadGenesis ∷ ExtraInput ∷ []
 
 abbrev pub import_statuses : List Status
 import_statuses = Done ∷ SomeRefused ∷ InputFault ∷ SinkFault ∷ DiskFault ∷ NoMemory ∷ NotAStore ∷ CutInput ∷ BadSize ∷ ExtraInput ∷ []
 
-abbrev pub tip_statuses : List Status
-tip_statuses = Done ∷ SinkFault ∷ DiskFault ∷ NoMemory ∷ NotAStore ∷ []
+abbrev pub query_statuses : List Status
+query_statuses = Done ∷ SinkFault ∷ DiskFault ∷ NoMemory ∷ NotAStore ∷ []
 
-abbrev pub check_statuses : List Status
-check_statuses = Done ∷ SomeRefused ∷ InputFault ∷ SinkFault ∷ DiskFault ∷ NoMemory ∷ NotAStore ∷ CutInput ∷ BadSize ∷ ExtraInput ∷ []
+abbrev pub question_statuses : List Status
+question_statuses = Done ∷ SomeRefused ∷ InputFault ∷ SinkFault ∷ DiskFault ∷ NoMemory ∷ NotAStore ∷ CutInput ∷ BadSize ∷ ExtraInput ∷ []
 
-abbrev pub exec_statuses : List Status
-exec_statuses = Done ∷ InputFault ∷ SinkFault ∷ NoMemory ∷ ExtraInput ∷ []
+abbrev pub standalone_statuses : List Status
+standalone_statuses = Done ∷ InputFault ∷ SinkFault ∷ NoMemory ∷ ExtraInput ∷ []
 
 abbrev pub statuses_of : Option Command → List Status
 statuses_of None = BadWords ∷ []
 statuses_of (Some Init) = init_statuses
 statuses_of (Some Import) = import_statuses
-statuses_of (Some Tip) = tip_statuses
-statuses_of (Some Check) = check_statuses
-statuses_of (Some (Exec budget)) = exec_statuses
+statuses_of (Some (Query query)) = query_statuses
+statuses_of (Some (Question question)) = question_statuses
+statuses_of (Some (Standalone command)) = standalone_statuses
 
 -- The run was stopped, and not by the sink.
 abbrev pub IsStoppedBeforeTheSink : Status → Type 0
@@ -94,28 +95,20 @@ abbrev pub ReadsToTheEnd : Limits → List ℕ → Option (List ℕ) → Status 
 ReadsToTheEnd limits given left status =
     IsOneOf ended_early status → (more : List ℕ) → left ≡ Some more → end_offset (split_of limits (given ++ more)) ≤ length given
 
--- how many bytes tell that the reading ends at an item's place: those of its size word, or one where no item is taken
-abbrev pub bytes_to_tell : Option ℕ → ℕ
-bytes_to_tell None = 1
-bytes_to_tell (Some limit) = 4
-
-abbrev pub EndsTheReading : Limits → Split → Type 0
-EndsTheReading limits split = IsAtWord split.end → length split.rest ≡ bytes_to_tell (limits.item (length split.items))
-
--- nothing is read behind the size word, or the first byte too many, at which the reading ends
-abbrev pub ReadsNoFurther : Limits → List ℕ → Type 0
-ReadsNoFurther limits given = EndsTheReading limits (split_of limits given)
+-- An input that is read whole is read and answered in this order, where these statuses tell what was judged.
+pub record ReadsWhole (limits : Limits) (judged : List Status) (given : List ℕ) (left : Option (List ℕ)) (taken : List ℕ) (status : Status) : Type 0 where
+  -- it was read to its end before it is judged
+  pub to_end : IsOneOf judged status → IsAtEnd left
+  pub to_early_end : ReadsToTheEnd limits given left status
+  pub no_further : ReadsNoFurther limits given
+  -- nothing is written but what follows the whole input
+  pub silent : IsStoppedBeforeTheSink status → taken ≡ []
 
 -- `init`
 pub record InitsInOrder (store : Store) (given : List ℕ) (left : Option (List ℕ)) (taken : List ℕ) (status : Status) : Type 0 where
   -- where there is a log nothing is read and nothing written
   pub there : (store ≡ NoLog → ⊥) → IsUntouched given taken
-  -- the input was read to its end before it is judged
-  pub to_end : IsOneOf (Done ∷ BadGenesis ∷ []) status → IsAtEnd left
-  pub to_early_end : ReadsToTheEnd init_limits given left status
-  pub no_further : ReadsNoFurther init_limits given
-  -- nothing is written but what follows the whole input
-  pub silent : IsStoppedBeforeTheSink status → taken ≡ []
+  pub whole : ReadsWhole init_limits (Done ∷ BadGenesis ∷ []) given left taken status
 
 -- `import`, over the chain of a store
 pub record ImportsInOrder (chain : Chain) (given : List ℕ) (left : Option (List ℕ)) (taken : List ℕ) (status : Status) : Type 0 where
@@ -132,37 +125,23 @@ pub record FindsNoStore (given taken : List ℕ) (status : Status) : Type 0 wher
   pub untouched : IsUntouched given taken
   pub answer : IsOneOf (NotAStore ∷ DiskFault ∷ NoMemory ∷ []) status
 
-abbrev pub ImportsToStore : Store → List ℕ → Option (List ℕ) → List ℕ → Status → Type 0
-ImportsToStore NoLog given left taken status = FindsNoStore given taken status
-ImportsToStore NotALog given left taken status = FindsNoStore given taken status
-ImportsToStore (Keeps chain) given left taken status = ImportsInOrder chain given left taken status
+-- over the chain of a store P holds
+abbrev pub OverStore : Store → (Chain → Type 0) → List ℕ → List ℕ → Status → Type 0
+OverStore NoLog P given taken status = FindsNoStore given taken status
+OverStore NotALog P given taken status = FindsNoStore given taken status
+OverStore (Keeps chain) P given taken status = P chain
 
--- `tip`: nothing is read, and nothing written where the run was stopped before the sink
+-- a query: nothing is read, and nothing written where the run was stopped before the sink
 pub record TellsInOrder (given taken : List ℕ) (status : Status) : Type 0 where
   pub unread : given ≡ []
   pub silent : IsStoppedBeforeTheSink status → taken ≡ []
 
-abbrev pub TellsOfStore : Store → List ℕ → List ℕ → Status → Type 0
-TellsOfStore NoLog given taken status = FindsNoStore given taken status
-TellsOfStore NotALog given taken status = FindsNoStore given taken status
-TellsOfStore (Keeps chain) given taken status = TellsInOrder given taken status
+-- a question
+abbrev pub AnswersInOrder : questions.Question → List ℕ → Option (List ℕ) → List ℕ → Status → Type 0
+AnswersInOrder question given left taken status = ReadsWhole (question_limits question) (Done ∷ SomeRefused ∷ []) given left taken status
 
--- `check`
-pub record ChecksInOrder (given : List ℕ) (left : Option (List ℕ)) (taken : List ℕ) (status : Status) : Type 0 where
-  -- the input was read to its end before the item is judged
-  pub to_end : IsOneOf (Done ∷ SomeRefused ∷ []) status → IsAtEnd left
-  pub to_early_end : ReadsToTheEnd check_limits given left status
-  pub no_further : ReadsNoFurther check_limits given
-  -- nothing is written but what follows the whole input
-  pub silent : IsStoppedBeforeTheSink status → taken ≡ []
-
-abbrev pub ChecksOverStore : Store → List ℕ → Option (List ℕ) → List ℕ → Status → Type 0
-ChecksOverStore NoLog given left taken status = FindsNoStore given taken status
-ChecksOverStore NotALog given left taken status = FindsNoStore given taken status
-ChecksOverStore (Keeps chain) given left taken status = ChecksInOrder given left taken status
-
--- `exec`
-pub record ExecutesInOrder (given : List ℕ) (left : Option (List ℕ)) (taken : List ℕ) (status : Status) : Type 0 where
+-- a command without a store
+pub record ReadsFileInOrder (given : List ℕ) (left : Option (List ℕ)) (taken : List ℕ) (status : Status) : Type 0 where
   pub to_end : status ≡ Done → IsAtEnd left
   pub to_extra : status ≡ ExtraInput → file_limit < length given
   -- of an input that is too long one byte more than a file has is read
@@ -185,15 +164,15 @@ abbrev pub Finds : Option Command → Option Image → Store → Type 0
 Finds None reads store = Unit {0}
 Finds (Some Init) reads store = IsStoreOf reads store
 Finds (Some Import) reads store = IsSoundStoreOf reads store
-Finds (Some Tip) reads store = IsSoundStoreOf reads store
-Finds (Some Check) reads store = IsSoundStoreOf reads store
-Finds (Some (Exec budget)) reads store = Unit {0}
+Finds (Some (Query query)) reads store = IsSoundStoreOf reads store
+Finds (Some (Question question)) reads store = IsSoundStoreOf reads store
+Finds (Some (Standalone command)) reads store = Unit {0}
 
 -- By what the words ask for, over what stands in the folder.
 abbrev pub KeepsOrder : Option Command → Store → List ℕ → Option (List ℕ) → List ℕ → Status → Type 0
 KeepsOrder None store given left taken status = IsUntouched given taken
 KeepsOrder (Some Init) store given left taken status = InitsInOrder store given left taken status
-KeepsOrder (Some Import) store given left taken status = ImportsToStore store given left taken status
-KeepsOrder (Some Tip) store given left taken status = TellsOfStore store given taken status
-KeepsOrder (Some Check) store given left taken status = ChecksOverStore store given left taken status
-KeepsOrder (Some (Exec budget)) store given left taken status = ExecutesInOrder given left taken status
+KeepsOrder (Some Import) store given left taken status = OverStore store (λ chain. ImportsInOrder chain given left taken status) given taken status
+KeepsOrder (Some (Query query)) store given left taken status = OverStore store (λ chain. TellsInOrder given taken status) given taken status
+KeepsOrder (Some (Question question)) store given left taken status = OverStore store (λ chain. AnswersInOrder question given left taken status) given taken status
+KeepsOrder (Some (Standalone command)) store given left taken status = ReadsFileInOrder given left taken status

@@ -1,5 +1,5 @@
 -- The report of a run that meets no fault and has memory enough: what it prints and how it ends (docs/COMMANDS.md).
-use Rattle.std.specs.Prelude.{ℕ, zero, suc, ◌^◌, nat_lt, List, [], ◌∷◌, ◌++◌, map, length, Option, Some, None, if◌then◌else◌}
+use Rattle.std.specs.Prelude.{ℕ, ◌^◌, nat_lt, List, [], ◌∷◌, ◌++◌, map, length, Option, Some, None, if◌then◌else◌}
 use Rattle.std.specs.List.{concat, list_any}
 use Rattle.codec_defs.specs.Shape.{decoded}
 use Rattle.codec_defs.specs.Schema.{block}
@@ -16,12 +16,18 @@ use Rattle.store_defs.specs.Store.{Store, NoLog, NotALog, Keeps}
 use Rattle.vm_defs.specs.Alone.{answer_ecall}
 use Rattle.vm_defs.specs.Program.{execution}
 use Rattle.report_defs.specs.declared.command.Command.{Command}
-use Rattle.report_defs.specs.declared.command.Command.TheVariants.{Init, Import, Tip, Check, Exec}
+use Rattle.report_defs.specs.declared.command.Command.TheVariants.{Init, Import, Query, Question, Standalone}
+use Rattle.report_defs.specs.declared.command.Query as queries
+use Rattle.report_defs.specs.declared.command.Query.TheVariants.{Tip}
+use Rattle.report_defs.specs.declared.command.Question as questions
+use Rattle.report_defs.specs.declared.command.Question.TheVariants.{Check}
+use Rattle.report_defs.specs.declared.command.Standalone as files
+use Rattle.report_defs.specs.declared.command.Standalone.TheVariants.{Exec}
 use Rattle.report_defs.specs.declared.end.End.{End}
 use Rattle.report_defs.specs.declared.end.End.TheVariants.{AtEnd, Cut, BadSize, Extra}
 use Rattle.report_defs.specs.declared.status.Status.{Status}
 use Rattle.report_defs.specs.declared.status.Status.TheVariants.{Done, SomeRefused, BadWords, NotAStore, CutInput, BadSize as BadSizeStatus, StoreThere, BadGenesis, ExtraInput}
-use Rattle.report_defs.specs.Items.{Limits, Split, split_of, end_offset}
+use Rattle.report_defs.specs.Items.{Limits, Split, split_of, end_offset, whole_limits, end_of_whole}
 use Rattle.report_defs.specs.Text.{line, trial_line, tip_line, genesis_line, bad_spec_line, bad_genesis_line, cut_line, bad_size_line, extra_line, execution_line}
 use Rattle.report_defs.specs.Words.{command_of}
 
@@ -58,12 +64,24 @@ status_of_end whole Extra = ExtraInput
 abbrev pub report_of_end : ℕ → End → Report
 report_of_end offset end = report_without_lines (closing_of_end offset end) (status_of_end Done end)
 
--- where an item is needed, an input that ends between two items is cut
-abbrev pub end_of_needed : End → End
-end_of_needed AtEnd = Cut
-end_of_needed Cut = Cut
-end_of_needed BadSize = BadSize
-end_of_needed Extra = Extra
+-- An input that is read whole is judged where it ends as it should, and told as its end where it does not.
+abbrev pub report_at_end : Report → ℕ → End → Report
+report_at_end judged offset AtEnd = judged
+report_at_end judged offset Cut = report_of_end offset Cut
+report_at_end judged offset BadSize = report_of_end offset BadSize
+report_at_end judged offset Extra = report_of_end offset Extra
+
+-- by the limits of its items, and what is said of them
+abbrev pub report_of_whole : List ℕ → (List (List ℕ) → Report) → Split → Report
+report_of_whole limits judged split = report_at_end (judged split.items) (end_offset split) (end_of_whole (length limits) split)
+
+-- ---- The store
+
+-- what is said over the chain of a store, where there is one
+abbrev pub report_over : Store → (Chain → Report) → Report
+report_over NoLog over = report_without_lines [] NotAStore
+report_over NotALog over = report_without_lines [] NotAStore
+report_over (Keeps chain) over = over chain
 
 -- ---- `init`
 
@@ -75,14 +93,12 @@ item_limit = 2 ^ 20
 unfoldable pub genesis_limit : ℕ
 genesis_limit = 2 ^ 22
 
--- a specification and a genesis, and nothing behind them
-abbrev pub init_item_limit : ℕ → Option ℕ
-init_item_limit zero = Some item_limit
-init_item_limit (suc zero) = Some genesis_limit
-init_item_limit (suc (suc place)) = None
+-- the input is a specification and a genesis
+abbrev pub init_items : List ℕ
+init_items = item_limit ∷ genesis_limit ∷ []
 
 abbrev pub init_limits : Limits
-init_limits = record { item = init_item_limit; input = None }
+init_limits = whole_limits init_items
 
 -- by the first of S1 to S7 that the specification breaks, or else of G1 to G7 that the genesis breaks
 abbrev pub report_of_rules : List ℕ → Option ℕ → Option ℕ → Report
@@ -94,20 +110,14 @@ report_of_rules genesis None None = report_without_lines (genesis_line (decoded 
 abbrev pub report_of_new : List ℕ → List ℕ → Report
 report_of_new specification genesis = report_of_rules genesis (broken_specification_rule specification) (broken_genesis_rule genesis)
 
--- Both are read, and the end of the input, before they are judged.
-abbrev pub report_of_both : List ℕ → List ℕ → ℕ → End → Report
-report_of_both specification genesis offset AtEnd = report_of_new specification genesis
-report_of_both specification genesis offset Cut = report_of_end offset Cut
-report_of_both specification genesis offset BadSize = report_of_end offset BadSize
-report_of_both specification genesis offset Extra = report_of_end offset Extra
-
-abbrev pub report_of_items : List (List ℕ) → ℕ → End → Report
-report_of_items [] offset end = report_of_end offset (end_of_needed end)
-report_of_items (specification ∷ []) offset end = report_of_end offset (end_of_needed end)
-report_of_items (specification ∷ genesis ∷ more) offset end = report_of_both specification genesis offset end
+-- (a whole input has both)
+abbrev pub report_of_items : List (List ℕ) → Report
+report_of_items [] = report_without_lines [] CutInput
+report_of_items (specification ∷ []) = report_without_lines [] CutInput
+report_of_items (specification ∷ genesis ∷ more) = report_of_new specification genesis
 
 abbrev pub report_of_init : Split → Report
-report_of_init split = report_of_items split.items (end_offset split) split.end
+report_of_init split = report_of_whole init_items report_of_items split
 
 -- Nothing is read where there is a log.
 abbrev pub init_report : List ℕ → Store → Report
@@ -138,27 +148,16 @@ report_of_import chain split = record {
   status = status_of_end (status_of_verdicts (verdicts_over chain split.items)) split.end;
 }
 
-abbrev pub import_report : List ℕ → Store → Report
-import_report input NoLog = report_without_lines [] NotAStore
-import_report input NotALog = report_without_lines [] NotAStore
-import_report input (Keeps chain) = report_of_import chain (split_of import_limits input)
+-- ---- Queries
 
--- ---- `tip`
+-- what a query answers over a chain
+abbrev pub answer_to_query : queries.Query → Chain → List ℕ
+answer_to_query Tip chain = tip_line (tip chain.blocks)
 
-abbrev pub tip_report : Store → Report
-tip_report NoLog = report_without_lines [] NotAStore
-tip_report NotALog = report_without_lines [] NotAStore
-tip_report (Keeps chain) = report_without_lines (tip_line (tip chain.blocks)) Done
+abbrev pub report_of_query : queries.Query → Chain → Report
+report_of_query query chain = report_without_lines (answer_to_query query chain) Done
 
--- ---- `check`
-
--- one item, and nothing behind it
-abbrev pub check_item_limit : ℕ → Option ℕ
-check_item_limit zero = Some item_limit
-check_item_limit (suc place) = None
-
-abbrev pub check_limits : Limits
-check_limits = record { item = check_item_limit; input = None }
+-- ---- Questions
 
 -- a refused transaction has the status of a refused block
 abbrev pub status_of_trial : Trial → Status
@@ -168,36 +167,40 @@ status_of_trial (Refused rule) = SomeRefused
 abbrev pub report_of_trial : Trial → Report
 report_of_trial tried = report_without_lines (trial_line tried) (status_of_trial tried)
 
--- The item is read, and the end of the input, before it is judged.
-abbrev pub report_of_one : Chain → List ℕ → ℕ → End → Report
-report_of_one chain item offset AtEnd = report_of_trial (trial chain item)
-report_of_one chain item offset Cut = report_of_end offset Cut
-report_of_one chain item offset BadSize = report_of_end offset BadSize
-report_of_one chain item offset Extra = report_of_end offset Extra
+-- (a whole input has the transaction)
+abbrev pub report_of_check : Chain → List (List ℕ) → Report
+report_of_check chain [] = report_without_lines [] CutInput
+report_of_check chain (item ∷ more) = report_of_trial (trial chain item)
 
-abbrev pub report_of_first : Chain → List (List ℕ) → ℕ → End → Report
-report_of_first chain [] offset end = report_of_end offset (end_of_needed end)
-report_of_first chain (item ∷ more) offset end = report_of_one chain item offset end
+-- the limits of the items that a question is about: `check` takes a transaction
+abbrev pub question_items : questions.Question → List ℕ
+question_items Check = item_limit ∷ []
 
-abbrev pub report_of_check : Chain → Split → Report
-report_of_check chain split = report_of_first chain split.items (end_offset split) split.end
+abbrev pub question_limits : questions.Question → Limits
+question_limits question = whole_limits (question_items question)
 
-abbrev pub check_report : List ℕ → Store → Report
-check_report input NoLog = report_without_lines [] NotAStore
-check_report input NotALog = report_without_lines [] NotAStore
-check_report input (Keeps chain) = report_of_check chain (split_of check_limits input)
+-- what it answers of these items over a chain
+abbrev pub answer_to_question : questions.Question → Chain → List (List ℕ) → Report
+answer_to_question Check chain items = report_of_check chain items
 
--- ---- `exec`
+abbrev pub report_of_question : questions.Question → Chain → Split → Report
+report_of_question question chain split = report_of_whole (question_items question) (answer_to_question question chain) split
+
+-- ---- Without a store
 
 -- a file has at most 1,048,576 bytes
 unfoldable pub file_limit : ℕ
 file_limit = 2 ^ 20
 
--- The input is the file, all of it. One that is too long is not run.
-abbrev pub exec_report : ℕ → List ℕ → Report
-exec_report budget file =
+-- what is said of a file
+abbrev pub answer_of_file : files.Standalone → List ℕ → List ℕ
+answer_of_file (Exec budget) file = execution_line (execution answer_ecall budget file)
+
+-- The input is the file, all of it. Of one that is too long nothing else is said.
+abbrev pub report_of_file : files.Standalone → List ℕ → Report
+report_of_file command file =
     if nat_lt file_limit (length file) then report_without_lines (extra_line file_limit) ExtraInput
-    else report_without_lines (execution_line (execution answer_ecall budget file)) Done
+    else report_without_lines (answer_of_file command file) Done
 
 -- ---- A run
 
@@ -205,10 +208,10 @@ exec_report budget file =
 abbrev pub report_of_command : Option Command → List ℕ → Store → Report
 report_of_command None input store = report_without_lines [] BadWords
 report_of_command (Some Init) input store = init_report input store
-report_of_command (Some Import) input store = import_report input store
-report_of_command (Some Tip) input store = tip_report store
-report_of_command (Some Check) input store = check_report input store
-report_of_command (Some (Exec budget)) input store = exec_report budget input
+report_of_command (Some Import) input store = report_over store (λ chain. report_of_import chain (split_of import_limits input))
+report_of_command (Some (Query query)) input store = report_over store (report_of_query query)
+report_of_command (Some (Question question)) input store = report_over store (λ chain. report_of_question question chain (split_of (question_limits question) input))
+report_of_command (Some (Standalone command)) input store = report_of_file command input
 
 abbrev pub report : List (List ℕ) → List ℕ → Store → Report
 report words input store = report_of_command (command_of words) input store

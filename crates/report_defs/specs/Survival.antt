@@ -4,17 +4,15 @@
 use Rattle.std.specs.Prelude.{◌≡◌, ◌⊎◌, ℕ, ◌≤◌, List, [], ◌∷◌, length, take, Option, Some, None, IsSome}
 use Rattle.std.specs.List.{concat}
 use Rattle.outside.specs.Image.{Image}
-use Rattle.chain_defs.specs.Tip.{tip}
 use Rattle.verdict_defs.specs.Chain.{Chain, chain_of_genesis, chain_over}
 use Rattle.store_defs.specs.Store.{Store, Keeps, store_of, StandsFor, IsSound, new_image}
 use Rattle.report_defs.specs.declared.command.Command.{Command}
-use Rattle.report_defs.specs.declared.command.Command.TheVariants.{Init, Import, Tip, Check, Exec}
+use Rattle.report_defs.specs.declared.command.Command.TheVariants.{Init, Import, Query, Question, Standalone}
 use Rattle.report_defs.specs.declared.status.Status.{Status}
 use Rattle.report_defs.specs.declared.status.Status.TheVariants.{Done, SomeRefused, InputFault, DiskFault, NoMemory, CutInput, BadSize, StoreThere, BadGenesis, ExtraInput}
 use Rattle.report_defs.specs.Status.{IsOneOf}
-use Rattle.report_defs.specs.Text.{tip_line}
 use Rattle.report_defs.specs.Items.{split_of}
-use Rattle.report_defs.specs.Report.{text_of, init_limits, import_limits, check_limits, lines_over, report_of_check, report_of_command}
+use Rattle.report_defs.specs.Report.{text_of, init_limits, import_limits, question_limits, lines_over, answer_to_query, report_of_question, report_of_command}
 use Rattle.report_defs.specs.Promise.{IsPrefix, Finds, MatchesReport, KeepsOrder}
 
 -- ---- A run and what it may keep
@@ -24,9 +22,9 @@ abbrev pub items_of : Option Command → List ℕ → List (List ℕ)
 items_of None given = []
 items_of (Some Init) given = []
 items_of (Some Import) given = (split_of import_limits given).items
-items_of (Some Tip) given = []
-items_of (Some Check) given = []
-items_of (Some (Exec budget)) given = []
+items_of (Some (Query query)) given = []
+items_of (Some (Question question)) given = []
+items_of (Some (Standalone command)) given = []
 
 -- What was taken agrees with a text: it is a front of it, or goes on behind it.
 abbrev pub Agrees : List ℕ → List ℕ → Type 0
@@ -75,6 +73,11 @@ pub record KeepsStore (chain : Chain) (items : List (List ℕ)) (taken : List �
   -- at each moment it is one of the start, or keeps what joined of some items
   pub moments : Each meanwhile (λ image. at_start image ⊎ ((count : ℕ) × (count ≤ length items) × StandsFor (chain_over chain (take count items)) image))
 
+-- Over the chain that the disk read as, where each image at the start is sound.
+abbrev pub KeepsItems : List (List ℕ) → Image → (Image → Type 0) → (Image → Type 0) → (Image → Type 0) → List ℕ → Status → Type 0
+KeepsItems items now at_start at_exit meanwhile taken status = (chain : Chain) → store_of now ≡ Keeps chain → Each at_start IsSound
+    → KeepsStore chain items taken status at_start at_exit meanwhile
+
 -- A new store: the disk has one image, which keeps the genesis alone: its log is that of the two items, with not a byte behind it, and the other
 -- areas are empty.
 pub record IsNewStore (given : List ℕ) (at_exit : Image → Type 0) : Type 0 where
@@ -86,17 +89,15 @@ pub record IsNewStore (given : List ℕ) (at_exit : Image → Type 0) : Type 0 w
   pub one : Each at_exit (λ image. image ≡ only)
   pub stands : StandsFor (chain_of_genesis specification genesis) only
 
--- By the command, where the disk tells what it reads as.
+-- By its class, where the disk tells what it reads as.
 abbrev pub KeepsDisk : Option Command → Image → (Image → Type 0) → (Image → Type 0) → (Image → Type 0) → List ℕ → List ℕ → Status → Type 0
 KeepsDisk None now at_start at_exit meanwhile given taken status = Unit {0}
 KeepsDisk (Some Init) now at_start at_exit meanwhile given taken status = status ≡ Done → IsNewStore given at_exit
-KeepsDisk (Some Import) now at_start at_exit meanwhile given taken status = (chain : Chain) → store_of now ≡ Keeps chain → Each at_start IsSound
-    → KeepsStore chain (split_of import_limits given).items taken status at_start at_exit meanwhile
-KeepsDisk (Some Tip) now at_start at_exit meanwhile given taken status = (chain : Chain) → store_of now ≡ Keeps chain → Each at_start IsSound
-    → KeepsStore chain [] taken status at_start at_exit meanwhile
-KeepsDisk (Some Check) now at_start at_exit meanwhile given taken status = (chain : Chain) → store_of now ≡ Keeps chain → Each at_start IsSound
-    → KeepsStore chain [] taken status at_start at_exit meanwhile
-KeepsDisk (Some (Exec budget)) now at_start at_exit meanwhile given taken status = Unit {0}
+KeepsDisk (Some Import) now at_start at_exit meanwhile given taken status =
+    KeepsItems (split_of import_limits given).items now at_start at_exit meanwhile taken status
+KeepsDisk (Some (Query query)) now at_start at_exit meanwhile given taken status = KeepsItems [] now at_start at_exit meanwhile taken status
+KeepsDisk (Some (Question question)) now at_start at_exit meanwhile given taken status = KeepsItems [] now at_start at_exit meanwhile taken status
+KeepsDisk (Some (Standalone command)) now at_start at_exit meanwhile given taken status = Unit {0}
 
 -- Where each image at the start may be left by a past, each image at the exit may be left by that past and this run.
 abbrev pub Survives : Option Command → (Image → Type 0) → (Image → Type 0) → List ℕ → List ℕ → Type 0
@@ -108,16 +109,16 @@ abbrev pub SurvivesMeanwhile : Option Command → (Image → Type 0) → (Image 
 SurvivesMeanwhile command at_start meanwhile given = (genesis : Chain) (past : List Run) → Each at_start (IsLeftBy genesis past)
     → Each meanwhile (IsLeftBy genesis (record { items = items_of command given; taken = [] } ∷ past))
 
--- What a query answers, over a chain: nothing where the command is none.
+-- What a query or a question answers, over a chain: nothing where the command is neither.
 abbrev pub Answers : Option Command → Chain → List ℕ → List ℕ → Type 0
 Answers None kept given taken = Unit {0}
 Answers (Some Init) kept given taken = Unit {0}
 Answers (Some Import) kept given taken = Unit {0}
-Answers (Some Tip) kept given taken = taken ≡ tip_line (tip kept.blocks)
-Answers (Some Check) kept given taken = taken ≡ text_of (report_of_check kept (split_of check_limits given))
-Answers (Some (Exec budget)) kept given taken = Unit {0}
+Answers (Some (Query query)) kept given taken = taken ≡ answer_to_query query kept
+Answers (Some (Question question)) kept given taken = taken ≡ text_of (report_of_question question kept (split_of (question_limits question) given))
+Answers (Some (Standalone command)) kept given taken = Unit {0}
 
--- Where each image at the start may be left by a past, a query that is done answered as a replay of that past.
+-- Where each image at the start may be left by a past, a query or a question that is done answered as a replay of that past.
 abbrev pub AnswersAsReplay : Option Command → (Image → Type 0) → List ℕ → List ℕ → Status → Type 0
 AnswersAsReplay command at_start given taken status = (genesis : Chain) (past : List Run) → Each at_start (IsLeftBy genesis past)
     → IsOneOf (Done ∷ SomeRefused ∷ []) status → (kept : Chain) × IsKeptBy genesis past kept × Answers command kept given taken
@@ -138,33 +139,33 @@ abbrev pub as_before : Option Command → List Status
 as_before None = []
 as_before (Some Init) = InputFault ∷ CutInput ∷ BadSize ∷ StoreThere ∷ BadGenesis ∷ ExtraInput ∷ []
 as_before (Some Import) = []
-as_before (Some Tip) = []
-as_before (Some Check) = []
-as_before (Some (Exec budget)) = []
+as_before (Some (Query query)) = []
+as_before (Some (Question question)) = []
+as_before (Some (Standalone command)) = []
 
 -- those that do not look at the disk
 abbrev pub CallsNoDisk : Option Command → Type 0
 CallsNoDisk None = Unit {0}
 CallsNoDisk (Some Init) = ⊥
 CallsNoDisk (Some Import) = ⊥
-CallsNoDisk (Some Tip) = ⊥
-CallsNoDisk (Some Check) = ⊥
-CallsNoDisk (Some (Exec budget)) = Unit {0}
+CallsNoDisk (Some (Query query)) = ⊥
+CallsNoDisk (Some (Question question)) = ⊥
+CallsNoDisk (Some (Standalone command)) = Unit {0}
 
--- those that open the store and keep nothing
-abbrev pub IsQuery : Option Command → Type 0
-IsQuery None = ⊥
-IsQuery (Some Init) = ⊥
-IsQuery (Some Import) = ⊥
-IsQuery (Some Tip) = Unit {0}
-IsQuery (Some Check) = Unit {0}
-IsQuery (Some (Exec budget)) = ⊥
+-- queries and questions: they open the store and keep nothing
+abbrev pub AsksStore : Option Command → Type 0
+AsksStore None = ⊥
+AsksStore (Some Init) = ⊥
+AsksStore (Some Import) = ⊥
+AsksStore (Some (Query query)) = Unit {0}
+AsksStore (Some (Question question)) = Unit {0}
+AsksStore (Some (Standalone command)) = ⊥
 
 -- those that open the store
 abbrev pub OpensStore : Option Command → Type 0
 OpensStore None = ⊥
 OpensStore (Some Init) = ⊥
 OpensStore (Some Import) = Unit {0}
-OpensStore (Some Tip) = Unit {0}
-OpensStore (Some Check) = Unit {0}
-OpensStore (Some (Exec budget)) = ⊥
+OpensStore (Some (Query query)) = Unit {0}
+OpensStore (Some (Question question)) = Unit {0}
+OpensStore (Some (Standalone command)) = ⊥

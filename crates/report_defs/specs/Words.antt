@@ -5,7 +5,10 @@ use Rattle.std.specs.Str.{bytes_eq}
 use Rattle.std.specs.Str.Parse.{digits_value}
 use Rattle.std.specs.Fmt.{decimal}
 use Rattle.report_defs.specs.declared.command.Command.{Command}
-use Rattle.report_defs.specs.declared.command.Command.TheVariants.{Init, Import, Tip, Check, Exec}
+use Rattle.report_defs.specs.declared.command.Command.TheVariants.{Init, Import, Query, Question, Standalone}
+use Rattle.report_defs.specs.declared.command.Query.TheVariants.{Tip}
+use Rattle.report_defs.specs.declared.command.Question.TheVariants.{Check}
+use Rattle.report_defs.specs.declared.command.Standalone.TheVariants.{Exec}
 
 -- A number: decimal digits, without a sign or a leading zero but for `0` itself, at most a limit.
 unfoldable pub number_up_to : ℕ → List ℕ → Option ℕ
@@ -27,14 +30,14 @@ abbrev pub command_alone : List ℕ → Option Command
 command_alone name =
     if bytes_eq name (codes "init") then Some Init
     else if bytes_eq name (codes "import") then Some Import
-    else if bytes_eq name (codes "tip") then Some Tip
-    else if bytes_eq name (codes "check") then Some Check
+    else if bytes_eq name (codes "tip") then Some (Query Tip)
+    else if bytes_eq name (codes "check") then Some (Question Check)
     else None
 
 abbrev pub command_named : List (List ℕ) → Option Command
 command_named [] = None
 command_named (name ∷ []) = command_alone name
-command_named (name ∷ argument ∷ []) = if bytes_eq name (codes "exec") then option_map Exec (number_up_to budget_limit argument) else None
+command_named (name ∷ argument ∷ []) = if bytes_eq name (codes "exec") then option_map (λ budget. Standalone (Exec budget)) (number_up_to budget_limit argument) else None
 command_named (name ∷ argument ∷ next ∷ more) = None
 
 abbrev pub command_of : List (List ℕ) → Option Command

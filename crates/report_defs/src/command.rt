@@ -1,14 +1,35 @@
-/// What the words of a run ask for.
+/// What the words of a run ask for, by classes: what a run promises is said once for each of them.
 #[derive(Clone, Copy, Debug, PartialEq, Eq)]
 pub enum Command {
     /// `init`: a specification and a genesis are read from the input, and a store of them is made.
     Init,
     /// `import`: blocks are read from the input, and each is answered.
     Import,
+    /// The store is asked, and nothing is read.
+    Query(Query),
+    /// The store is asked about a whole input.
+    Question(Question),
+    /// A file is read from the input and answered, without a store.
+    Standalone(Standalone),
+}
+
+/// What is asked of the store alone.
+#[derive(Clone, Copy, Debug, PartialEq, Eq)]
+pub enum Query {
     /// `tip`: the tip of the kept blocks is told.
     Tip,
-    /// `check`: a transaction is read from the input and judged alone, behind the tip.
+}
+
+/// What is asked of the store about a whole input.
+#[derive(Clone, Copy, Debug, PartialEq, Eq)]
+pub enum Question {
+    /// `check`: a transaction is judged alone, behind the tip.
     Check,
-    /// `exec`: the program of an ELF file is read from the input and run, within a budget in cycles.
+}
+
+/// What is done with a file, without a store.
+#[derive(Clone, Copy, Debug, PartialEq, Eq)]
+pub enum Standalone {
+    /// `exec`: the program of an ELF file is run, within a budget in cycles.
     Exec { budget: u64 },
 }

@@ -9,7 +9,7 @@ mod items;
 mod status;
 mod words;
 
-pub use command::Command;
+pub use command::{Command, Query, Question, Standalone};
 pub use end::End;
 pub use items::item_laws;
 pub use status::Status;

@@ -1,6 +1,7 @@
 use Rattle.std.proofs.Common.{inl, inr, ◌++◌, [], refl, ap, sym, subst, ◌∙◌, arith}
 use Rattle.std.proofs.lemmas.List.{append-nil}
 use Rattle.std.specs.Prelude.{Err, string_bytes, if◌then◌else◌}
+use Rattle.outside.proofs.Endings.{counts-as, no_fault, no_answer}
 use Rattle.outside.proofs.Streams.{gives_none, takes_none, takes_more}
 use Rattle.report_defs.specs.declared.command.Command.TheVariants.{Import}
 use Rattle.report_defs.specs.declared.status.Status.{Status}
@@ -12,12 +13,12 @@ use Rattle.node_core.specs.Node.{IsOn}
 use Rattle.node_core.proofs.ImportLemmas.{joined_on}
 use Rattle.node_run.specs.Output.{IsToldAnswer}
 use Rattle.node_run.specs.Import.{text_over}
-use Rattle.node_run.proofs.Faults.{then_counts, counts_also, no_fault, IsNoFault, end_no_fault, told_no_fault, no_input_there, no_disk_there, IsMemory}
+use Rattle.node_run.proofs.Faults.{then_counts, IsNoFault, end_no_fault, told_no_fault, no_input_there, no_disk_there, IsMemory}
 use Rattle.node_run.proofs.ImportLemmas.{items_stop_import}
 use Rattle.node_run.proofs.StoreLemmas.{delivers_over, opened_joined_whole, keeps_opened, keeps_unopened, opened_there, unopened, sound_opening, sound_here, by_disk_or_memory, if_told}
 use Rattle.node_run.proofs.ImportReport.{stopped_import, stopped_at_once, stopped_behind, stopped_acknowledges, stopped_take, ended_import, keeps_given, keeps_all_given}
 use Rattle.node_run.proofs.Statuses.{import_opening, import_told, opening_no_input, opening_no_sink}
-use Rattle.node_run.proofs.Exits.{no_error, same_stop}
+use Rattle.node_run.proofs.Exits.{same_stop}
 use Rattle.node_run.proofs.CountLemmas.{opened_in, counted_over}
 use Rattle.node_run.proofs.import.import.Goals as goal
 
@@ -121,15 +122,15 @@ returns-clause-import g c =
     )
 
 pub returns-in-Err-import_items-clause-input_faults : goal.returns-in-Err-import_items-clause-input_faults
-returns-in-Err-import_items-clause-input_faults g c = counts_also _ _ c.in-Err-import_items.ensures.input_faults (λ e. ap Err e) (same_stop _ _)
+returns-in-Err-import_items-clause-input_faults g c = counts-as c.in-Err-import_items.ensures.input_faults (λ e. ap Err e) (same_stop _ _)
 
 pub returns-in-Err-import_items-clause-out_faults : goal.returns-in-Err-import_items-clause-out_faults
-returns-in-Err-import_items-clause-out_faults g c = counts_also _ _ c.in-Err-import_items.ensures.out_faults (λ e. ap Err e) (same_stop _ _)
+returns-in-Err-import_items-clause-out_faults g c = counts-as c.in-Err-import_items.ensures.out_faults (λ e. ap Err e) (same_stop _ _)
 
 pub returns-in-Err-import_items-clause-disk_faults : goal.returns-in-Err-import_items-clause-disk_faults
 returns-in-Err-import_items-clause-disk_faults g c =
     then_counts (g.D.Disk.faults c.args.disk.now) (g.D.Disk.faults c.open.new.disk) (g.D.Disk.faults c.import_items.new.disk)
-    (c.in-Ok.ensures.cause.unchanged (no_error _ _)) c.in-Err-import_items.ensures.disk_faults (λ e. ap Err e) (same_stop _ _)
+    (c.in-Ok.ensures.cause.unchanged (no_answer _ _)) c.in-Err-import_items.ensures.disk_faults (λ e. ap Err e) (same_stop _ _)
 
 pub returns-in-Err-import_items-clause-status : goal.returns-in-Err-import_items-clause-status
 returns-in-Err-import_items-clause-status g c = items_stop_import c.in-Err-import_items.status (c.in-Err-import_items.ensures.status c.in-Err-import_items.status refl)
@@ -147,7 +148,7 @@ pub returns-clause-input_faults : goal.returns-clause-input_faults
 returns-clause-input_faults g c =
     let own : IsNoFault c.in-Ok-answer_to_end.answer.status =
     subst IsNoFault (sym c.in-Ok-answer_to_end.ensures.status) (end_no_fault c.in-Ok-import_items.ended.refused c.in-Ok-import_items.ended.end) in
-    no_fault _ _ (c.in-Ok-import_items.ensures.input_faults.unchanged (no_error _ _))
+    no_fault _ _ (c.in-Ok-import_items.ensures.input_faults.unchanged (no_answer _ _))
     (no_input_there c.tell.result
     (told_no_fault (string_bytes c.in-Ok-answer_to_end.answer.text) c.in-Ok-answer_to_end.answer.status c.tell.result c.tell.ensures.told.0 own c.tell.ensures.told.2))
 
@@ -155,7 +156,7 @@ pub returns-clause-disk_faults : goal.returns-clause-disk_faults
 returns-clause-disk_faults g c =
     let own : IsNoFault c.in-Ok-answer_to_end.answer.status =
     subst IsNoFault (sym c.in-Ok-answer_to_end.ensures.status) (end_no_fault c.in-Ok-import_items.ended.refused c.in-Ok-import_items.ended.end) in
-    no_fault _ _ (c.in-Ok-import_items.ensures.disk_faults.unchanged (no_error _ _) ∙ c.in-Ok.ensures.cause.unchanged (no_error _ _))
+    no_fault _ _ (c.in-Ok-import_items.ensures.disk_faults.unchanged (no_answer _ _) ∙ c.in-Ok.ensures.cause.unchanged (no_answer _ _))
     (no_disk_there c.tell.result
     (told_no_fault (string_bytes c.in-Ok-answer_to_end.answer.text) c.in-Ok-answer_to_end.answer.status c.tell.result c.tell.ensures.told.0 own c.tell.ensures.told.2))
 
@@ -172,20 +173,20 @@ pub returns-in-Err-clause-out_faults : goal.returns-in-Err-clause-out_faults
 returns-in-Err-clause-out_faults g c = no_fault _ _ refl (opening_no_sink c.in-Err.status (c.in-Err.ensures.one_of c.in-Err.status refl))
 
 pub returns-in-Err-clause-disk_faults : goal.returns-in-Err-clause-disk_faults
-returns-in-Err-clause-disk_faults g c = counts_also _ _ c.in-Err.ensures.cause (λ e. ap Err e) (same_stop _ _)
+returns-in-Err-clause-disk_faults g c = counts-as c.in-Err.ensures.cause (λ e. ap Err e) (same_stop _ _)
 
 pub returns-in-Err-answer_to_end-clause-status : goal.returns-in-Err-answer_to_end-clause-status
 returns-in-Err-answer_to_end-clause-status g c = inr (inr (inr (inr (inr (inl refl)))))
 
 pub returns-in-Err-answer_to_end-clause-input_faults : goal.returns-in-Err-answer_to_end-clause-input_faults
-returns-in-Err-answer_to_end-clause-input_faults g c = no_fault _ _ (c.in-Ok-import_items.ensures.input_faults.unchanged (no_error _ _)) (λ e. subst IsMemory e tt)
+returns-in-Err-answer_to_end-clause-input_faults g c = no_fault _ _ (c.in-Ok-import_items.ensures.input_faults.unchanged (no_answer _ _)) (λ e. subst IsMemory e tt)
 
 pub returns-in-Err-answer_to_end-clause-out_faults : goal.returns-in-Err-answer_to_end-clause-out_faults
-returns-in-Err-answer_to_end-clause-out_faults g c = no_fault _ _ (c.in-Ok-import_items.ensures.out_faults.unchanged (no_error _ _)) (λ e. subst IsMemory e tt)
+returns-in-Err-answer_to_end-clause-out_faults g c = no_fault _ _ (c.in-Ok-import_items.ensures.out_faults.unchanged (no_answer _ _)) (λ e. subst IsMemory e tt)
 
 pub returns-in-Err-answer_to_end-clause-disk_faults : goal.returns-in-Err-answer_to_end-clause-disk_faults
 returns-in-Err-answer_to_end-clause-disk_faults g c =
-    no_fault _ _ (c.in-Ok-import_items.ensures.disk_faults.unchanged (no_error _ _) ∙ c.in-Ok.ensures.cause.unchanged (no_error _ _)) (λ e. subst IsMemory e tt)
+    no_fault _ _ (c.in-Ok-import_items.ensures.disk_faults.unchanged (no_answer _ _) ∙ c.in-Ok.ensures.cause.unchanged (no_answer _ _)) (λ e. subst IsMemory e tt)
 
 pub returns-clause-status : goal.returns-clause-status
 returns-clause-status g c =
@@ -195,7 +196,7 @@ returns-clause-status g c =
 pub returns-clause-out_faults : goal.returns-clause-out_faults
 returns-clause-out_faults g c =
     then_counts (g.K.Sink.faults c.args.out.now) (g.K.Sink.faults c.import_items.new.out) (g.K.Sink.faults c.tell.new.out)
-    (c.in-Ok-import_items.ensures.out_faults.unchanged (no_error _ _)) c.tell.ensures.faults (λ e. e) (λ e. e)
+    (c.in-Ok-import_items.ensures.out_faults.unchanged (no_answer _ _)) c.tell.ensures.faults (λ e. e) (λ e. e)
 
 pub returns-in-Err-clause-steps : goal.returns-in-Err-clause-steps
 returns-in-Err-clause-steps g c = (

@@ -1,5 +1,6 @@
 use Rattle.std.proofs.Common.{[], refl, ap, ◌∙◌, subst}
 use Rattle.std.specs.Prelude.{Err}
+use Rattle.outside.proofs.Endings.{no_fault, counts-as, no_answer}
 use Rattle.outside.proofs.Streams.{takes_none}
 use Rattle.verdict_defs.specs.Chain.{verdict_over}
 use Rattle.verdict_defs.specs.declared.verdict.Verdict.{Verdict}
@@ -9,8 +10,7 @@ use Rattle.node_run.specs.Import.{IsCutShort, item_stops}
 use Rattle.node_run.proofs.ImportLemmas.{cut_before_line, item_stopped, line_stopped, line_no_disk_fault}
 use Rattle.node_run.proofs.StoreLemmas.{by_disk_or_memory}
 use Rattle.node_run.proofs.Statuses.{opening_no_sink}
-use Rattle.node_run.proofs.Exits.{no_error, same_stop}
-use Rattle.node_run.proofs.Faults.{no_fault, counts_also}
+use Rattle.node_run.proofs.Exits.{same_stop}
 use Rattle.node_run.proofs.import.import_item.Goals as goal
 
 -- ---- The import was stopped
@@ -54,7 +54,7 @@ returns-in-Err-clause-out_faults g c =
 
 pub returns-in-Err-clause-disk_faults : goal.returns-in-Err-clause-disk_faults
 returns-in-Err-clause-disk_faults g c =
-    counts_also _ _ c.in-Err.ensures.cause
+    counts-as c.in-Err.ensures.cause
     (λ e. ap Err (c.status_of_reading.ensures.fault.0 (same_stop _ _ e)))
     (λ e. ap Err (c.status_of_reading.ensures.fault.1 (same_stop _ _ e)))
 
@@ -78,7 +78,7 @@ returns-in-Ok-write_verdict-clause-written g c =
     )
 
 pub returns-in-Ok-write_verdict-clause-status : goal.returns-in-Ok-write_verdict-clause-status
-returns-in-Ok-write_verdict-clause-status g c = λ status e. absurd (no_error _ _ e)
+returns-in-Ok-write_verdict-clause-status g c = λ status e. absurd (no_answer _ _ e)
 
 pub returns-in-Ok-write_verdict-clause-there : goal.returns-in-Ok-write_verdict-clause-there
 returns-in-Ok-write_verdict-clause-there g c = c.in-Ok.ensures.there
@@ -90,10 +90,10 @@ pub returns-in-Ok-write_verdict-clause-moments : goal.returns-in-Ok-write_verdic
 returns-in-Ok-write_verdict-clause-moments g c = c.in-Ok.ensures.moments
 
 pub returns-in-Ok-write_verdict-clause-out_faults : goal.returns-in-Ok-write_verdict-clause-out_faults
-returns-in-Ok-write_verdict-clause-out_faults g c = no_fault _ _ (c.in-Ok-write_verdict.ensures.faults.unchanged (no_error _ _)) (no_error _ _)
+returns-in-Ok-write_verdict-clause-out_faults g c = no_fault _ _ (c.in-Ok-write_verdict.ensures.faults.unchanged (no_answer _ _)) (no_answer _ _)
 
 pub returns-in-Ok-write_verdict-clause-disk_faults : goal.returns-in-Ok-write_verdict-clause-disk_faults
-returns-in-Ok-write_verdict-clause-disk_faults g c = no_fault _ _ (c.in-Ok.ensures.cause.unchanged (no_error _ _)) (no_error _ _)
+returns-in-Ok-write_verdict-clause-disk_faults g c = no_fault _ _ (c.in-Ok.ensures.cause.unchanged (no_answer _ _)) (no_answer _ _)
 
 -- ---- The line was stopped
 
@@ -129,12 +129,12 @@ returns-in-Err-write_verdict-clause-moments g c = c.in-Ok.ensures.moments
 
 pub returns-in-Err-write_verdict-clause-out_faults : goal.returns-in-Err-write_verdict-clause-out_faults
 returns-in-Err-write_verdict-clause-out_faults g c =
-    counts_also _ _ c.in-Err-write_verdict.ensures.faults (λ e. ap Err (same_stop _ _ e)) (λ e. ap Err (same_stop _ _ e))
+    counts-as c.in-Err-write_verdict.ensures.faults (λ e. ap Err (same_stop _ _ e)) (λ e. ap Err (same_stop _ _ e))
 
 pub returns-in-Err-write_verdict-clause-disk_faults : goal.returns-in-Err-write_verdict-clause-disk_faults
 returns-in-Err-write_verdict-clause-disk_faults g c =
     let never = line_no_disk_fault c.in-Err-write_verdict.status (c.in-Err-write_verdict.ensures.status c.in-Err-write_verdict.status refl) in
-    no_fault _ _ (c.in-Ok.ensures.cause.unchanged (no_error _ _)) (λ e. never (same_stop _ _ e))
+    no_fault _ _ (c.in-Ok.ensures.cause.unchanged (no_answer _ _)) (λ e. never (same_stop _ _ e))
 
 pub returns-in-Err-clause-most : goal.returns-in-Err-clause-most
 returns-in-Err-clause-most g c = c.in-Err.ensures.most

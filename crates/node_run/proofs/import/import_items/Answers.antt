@@ -1,5 +1,6 @@
 use Rattle.std.proofs.Common.{◌≡◌, ◌∷◌, inr, length, ap, sym, ◌∙◌, arith, refl, subst, []}
 use Rattle.std.specs.Prelude.{Ok, Err, Some, ◌||◌}
+use Rattle.outside.proofs.Endings.{no_fault, no_answer}
 use Rattle.outside.proofs.Streams.{gives_none, takes_none}
 use Rattle.outside.specs.Disk.{LeavesOnly}
 use Rattle.outside.proofs.Moments.{leaves_also}
@@ -13,8 +14,8 @@ use Rattle.item_reader.specs.Items.{IsReadingStop, IsItemAt, IsPartial, EndsAt, 
 use Rattle.item_reader.specs.declared.next.Next.{Next}
 use Rattle.report_defs.specs.Status.{IsOneOf}
 use Rattle.node_run.specs.Import.{item_stops}
-use Rattle.node_run.proofs.Exits.{no_error, same_stop}
-use Rattle.node_run.proofs.Faults.{no_fault, then_counts}
+use Rattle.node_run.proofs.Exits.{same_stop}
+use Rattle.node_run.proofs.Faults.{then_counts}
 use Rattle.node_run.proofs.ImportLemmas.{whole_more, imported_to_end, imported_to_fault, imported_to_line, leaves_none, leaves_item, exit_of_item, on_stands, no_input_fault, reading_stopped, keeps_more, or_then, or_else, item_limit-is, input_limit-is}
 use Rattle.node_run.proofs.CountLemmas.{counted_to_part, counted_to_stop, counted_to_item}
 use Rattle.node_run.proofs.import.import_items.Goals as goal
@@ -62,18 +63,18 @@ returns-in-Ok-End-clause-imported g c =
     (on_stands c.items.node c.items.node.chain (g.D.Disk.reads_as c.items.disk) (g.D.Disk.images c.items.disk) refl)
 
 pub returns-in-Ok-End-clause-status : goal.returns-in-Ok-End-clause-status
-returns-in-Ok-End-clause-status g c = λ status e. absurd (no_error _ _ e)
+returns-in-Ok-End-clause-status g c = λ status e. absurd (no_answer _ _ e)
 
 pub returns-in-Ok-End-clause-input_faults : goal.returns-in-Ok-End-clause-input_faults
 returns-in-Ok-End-clause-input_faults g c =
     no_fault (g.S.Source.faults c.args.input.now) (g.S.Source.faults c.next_block.new.input)
-    (c.in-Ok-End.ensures.faults.unchanged (no_error _ _) ∙ c.items.invariant.input_unchanged) (no_error _ _)
+    (c.in-Ok-End.ensures.faults.unchanged (no_answer _ _) ∙ c.items.invariant.input_unchanged) (no_answer _ _)
 
 pub returns-in-Ok-End-clause-out_faults : goal.returns-in-Ok-End-clause-out_faults
-returns-in-Ok-End-clause-out_faults g c = no_fault (g.K.Sink.faults c.args.out.now) (g.K.Sink.faults c.items.out) c.items.invariant.out_unchanged (no_error _ _)
+returns-in-Ok-End-clause-out_faults g c = no_fault (g.K.Sink.faults c.args.out.now) (g.K.Sink.faults c.items.out) c.items.invariant.out_unchanged (no_answer _ _)
 
 pub returns-in-Ok-End-clause-disk_faults : goal.returns-in-Ok-End-clause-disk_faults
-returns-in-Ok-End-clause-disk_faults g c = no_fault (g.D.Disk.faults c.args.disk.now) (g.D.Disk.faults c.items.disk) c.items.invariant.disk_unchanged (no_error _ _)
+returns-in-Ok-End-clause-disk_faults g c = no_fault (g.D.Disk.faults c.args.disk.now) (g.D.Disk.faults c.items.disk) c.items.invariant.disk_unchanged (no_answer _ _)
 
 pub import_item-requires-clause-there : goal.import_item-requires-clause-there
 import_item-requires-clause-there g c = c.items.invariant.there
@@ -132,7 +133,7 @@ returns-in-Err-clause-disk_faults g c =
 pub returns-in-Err-import_item-clause-input_faults : goal.returns-in-Err-import_item-clause-input_faults
 returns-in-Err-import_item-clause-input_faults g c =
     no_fault (g.S.Source.faults c.args.input.now) (g.S.Source.faults c.next_block.new.input)
-    (c.in-Ok-Item.ensures.faults.unchanged (no_error _ _) ∙ c.items.invariant.input_unchanged)
+    (c.in-Ok-Item.ensures.faults.unchanged (no_answer _ _) ∙ c.items.invariant.input_unchanged)
     (λ e. no_input_fault c.in-Err-import_item.status (c.in-Err-import_item.ensures.status c.in-Err-import_item.status refl) (same_stop _ _ e))
 
 pub returns-in-Err-import_item-clause-out_faults : goal.returns-in-Err-import_item-clause-out_faults
@@ -210,9 +211,9 @@ items-preserved g c =
           c.items.node.chain whole.items item (whole.kept_now (joined_on c.args.opened (g.D.Disk.reads_as c.args.disk.now) (g.D.Disk.images c.args.disk.now) was))
           (whole.moments was) (c.in-Ok.ensures.moments (whole.on was))) c.import_item.ensures.most;
       there = c.in-Ok.ensures.there;
-      input_unchanged = c.in-Ok-Item.ensures.faults.unchanged (no_error _ _) ∙ c.items.invariant.input_unchanged;
-      out_unchanged = c.in-Ok.ensures.out_faults.unchanged (no_error _ _) ∙ c.items.invariant.out_unchanged;
-      disk_unchanged = c.in-Ok.ensures.disk_faults.unchanged (no_error _ _) ∙ c.items.invariant.disk_unchanged;
+      input_unchanged = c.in-Ok-Item.ensures.faults.unchanged (no_answer _ _) ∙ c.items.invariant.input_unchanged;
+      out_unchanged = c.in-Ok.ensures.out_faults.unchanged (no_answer _ _) ∙ c.items.invariant.out_unchanged;
+      disk_unchanged = c.in-Ok.ensures.disk_faults.unchanged (no_answer _ _) ∙ c.items.invariant.disk_unchanged;
     }
 
 pub returns-in-Ok-End-clause-steps : goal.returns-in-Ok-End-clause-steps

@@ -1,10 +1,11 @@
 use Rattle.std.proofs.Common.{inl, inr, [], refl, sym, ◌∙◌, subst}
+use Rattle.outside.proofs.Endings.{no_fault}
 use Rattle.outside.proofs.Streams.{takes_none}
 use Rattle.report_defs.specs.declared.status.Status.TheVariants.{NoMemory}
 use Rattle.report_defs.specs.Text.{line}
 use Rattle.node_run.specs.Output.{IsWritten}
 use Rattle.node_run.proofs.Exits.{same_stop}
-use Rattle.node_run.proofs.Faults.{no_fault, IsMemory}
+use Rattle.node_run.proofs.Faults.{IsMemory}
 use Rattle.node_run.proofs.ImportLemmas.{cut_before_line, line_written}
 use Rattle.node_run.proofs.import.write_verdict.Goals as goal
 

@@ -1,9 +1,10 @@
 use Rattle.std.proofs.Common.{inl, inr, [], ◌∷◌, refl, ap, sym, subst}
 use Rattle.std.specs.Prelude.{Err}
+use Rattle.outside.proofs.Endings.{no_fault, counts-as, no_answer}
 use Rattle.report_defs.specs.declared.status.Status.TheVariants.{DiskFault, NoMemory}
 use Rattle.report_defs.specs.Status.{IsOneOf}
-use Rattle.node_run.proofs.Exits.{no_error, same_stop}
-use Rattle.node_run.proofs.Faults.{no_fault, counts_also, IsMemory}
+use Rattle.node_run.proofs.Exits.{same_stop}
+use Rattle.node_run.proofs.Faults.{IsMemory}
 use Rattle.node_run.proofs.InitLemmas.{alone_of}
 use Rattle.node_run.proofs.init.make.Goals as goal
 
@@ -55,17 +56,17 @@ returns-in-Err-create-clause-stop g c = λ status e.
 
 pub returns-in-Err-create-clause-cause : goal.returns-in-Err-create-clause-cause
 returns-in-Err-create-clause-cause g c =
-    counts_also _ _ c.in-Err-create.ensures.cause
+    counts-as c.in-Err-create.ensures.cause
     (λ e. ap Err (c.status_of_writing.ensures.fault.0 (same_stop _ _ e))) (λ e. ap Err (c.status_of_writing.ensures.fault.1 (same_stop _ _ e)))
 
 pub returns-in-Ok-create-clause-one_of : goal.returns-in-Ok-create-clause-one_of
 returns-in-Ok-create-clause-one_of g c = inl refl
 
 pub returns-in-Ok-create-clause-stop : goal.returns-in-Ok-create-clause-stop
-returns-in-Ok-create-clause-stop g c = λ status e. absurd (no_error _ _ e)
+returns-in-Ok-create-clause-stop g c = λ status e. absurd (no_answer _ _ e)
 
 pub returns-in-Ok-create-clause-cause : goal.returns-in-Ok-create-clause-cause
-returns-in-Ok-create-clause-cause g c = no_fault _ _ (c.in-Ok-create.ensures.cause.unchanged (no_error _ _)) (no_error _ _)
+returns-in-Ok-create-clause-cause g c = no_fault _ _ (c.in-Ok-create.ensures.cause.unchanged (no_answer _ _)) (no_answer _ _)
 
 pub returns-in-Ok-create-clause-made : goal.returns-in-Ok-create-clause-made
 returns-in-Ok-create-clause-made g c = λ some done.

@@ -1,12 +1,13 @@
 use Rattle.std.proofs.Common.{inr, [], refl, ap, subst}
 use Rattle.std.specs.Prelude.{Err, string_bytes}
+use Rattle.outside.proofs.Endings.{no_fault, counts-as, no_answer}
 use Rattle.outside.proofs.Streams.{takes_none}
 use Rattle.report_defs.specs.declared.status.Status.TheVariants.{Done, BadGenesis}
 use Rattle.report_defs.specs.Report.{text_of, report_of_new}
-use Rattle.node_run.proofs.Exits.{no_error, same_stop}
-use Rattle.node_run.proofs.Faults.{no_fault, counts_also}
+use Rattle.node_run.proofs.Exits.{same_stop}
 use Rattle.node_run.proofs.Statuses.{disk_stops}
-use Rattle.node_run.proofs.InitLemmas.{told_said, told_new, told_as, told_no_disk_fault, IsMakingStop, making_stop, making_stopped}
+use Rattle.node_run.proofs.WholeReports.{told_said}
+use Rattle.node_run.proofs.InitLemmas.{told_new, told_as, told_no_disk_fault, IsMakingStop, making_stop, making_stopped}
 use Rattle.node_run.proofs.init.make_and_tell.Goals as goal
 
 -- ---- The store was made, or a rule is broken
@@ -40,7 +41,7 @@ returns-in-Ok-clause-out_faults g c = c.tell.ensures.faults
 
 pub returns-in-Ok-clause-disk_faults : goal.returns-in-Ok-clause-disk_faults
 returns-in-Ok-clause-disk_faults g c =
-    no_fault _ _ (c.in-Ok.ensures.cause.unchanged (no_error _ _))
+    no_fault _ _ (c.in-Ok.ensures.cause.unchanged (no_answer _ _))
     (told_no_disk_fault (string_bytes c.in-Ok.answer.text) c.in-Ok.answer.status c.tell.result c.tell.ensures.told.0
     c.in-Ok.ensures.one_of c.tell.ensures.told.2)
 
@@ -73,4 +74,4 @@ returns-in-Err-clause-out_faults g c =
     no_fault _ _ refl (λ e. subst IsMakingStop e (making_stop c.in-Err.status (c.in-Err.ensures.stop c.in-Err.status refl)))
 
 pub returns-in-Err-clause-disk_faults : goal.returns-in-Err-clause-disk_faults
-returns-in-Err-clause-disk_faults g c = counts_also _ _ c.in-Err.ensures.cause (λ e. ap Err e) (same_stop _ _)
+returns-in-Err-clause-disk_faults g c = counts-as c.in-Err.ensures.cause (λ e. ap Err e) (same_stop _ _)

@@ -1,19 +1,19 @@
 use Rattle.std.proofs.Common.{ap, subst}
 use Rattle.std.specs.Prelude.{Err}
+use Rattle.outside.proofs.Endings.{no_fault, counts-as, no_answer}
 use Rattle.report_defs.specs.Status.{IsOneOf}
 use Rattle.node_run.specs.Store.{opening_stops}
-use Rattle.node_run.proofs.Exits.{no_error, same_stop}
-use Rattle.node_run.proofs.Faults.{no_fault, counts_also}
+use Rattle.node_run.proofs.Exits.{same_stop}
 use Rattle.node_run.proofs.store.open.Goals as goal
 
 pub returns-in-Ok-clause-one_of : goal.returns-in-Ok-clause-one_of
-returns-in-Ok-clause-one_of g c = λ status e. absurd (no_error _ _ e)
+returns-in-Ok-clause-one_of g c = λ status e. absurd (no_answer _ _ e)
 
 pub returns-in-Ok-clause-not_a_store : goal.returns-in-Ok-clause-not_a_store
-returns-in-Ok-clause-not_a_store g c = λ e. absurd (no_error _ _ e)
+returns-in-Ok-clause-not_a_store g c = λ e. absurd (no_answer _ _ e)
 
 pub returns-in-Ok-clause-cause : goal.returns-in-Ok-clause-cause
-returns-in-Ok-clause-cause g c = no_fault _ _ (c.in-Ok.ensures.cause.unchanged (no_error _ _)) (no_error _ _)
+returns-in-Ok-clause-cause g c = no_fault _ _ (c.in-Ok.ensures.cause.unchanged (no_answer _ _)) (no_answer _ _)
 
 pub returns-in-Err-clause-one_of : goal.returns-in-Err-clause-one_of
 returns-in-Err-clause-one_of g c = λ status e. subst (λ s. IsOneOf opening_stops s) (same_stop _ _ e) c.status_of_opening.ensures.one_of
@@ -29,7 +29,7 @@ returns-in-Err-clause-on g c = λ _. tt
 
 pub returns-in-Err-clause-cause : goal.returns-in-Err-clause-cause
 returns-in-Err-clause-cause g c =
-    counts_also _ _ c.in-Err.ensures.cause
+    counts-as c.in-Err.ensures.cause
     (λ e. ap Err (c.status_of_opening.ensures.fault.0 (same_stop _ _ e))) (λ e. ap Err (c.status_of_opening.ensures.fault.1 (same_stop _ _ e)))
 
 pub returns-in-Ok-clause-rests : goal.returns-in-Ok-clause-rests

@@ -1,15 +1,15 @@
 use Rattle.std.proofs.Common.{◌∙◌, [], inl, refl, ap, subst, sym}
 use Rattle.std.specs.Prelude.{Option, Some}
+use Rattle.outside.proofs.Endings.{no_fault}
 use Rattle.outside.proofs.Streams.{gives_none, takes_none}
 use Rattle.report_defs.specs.declared.command.Command.{Command}
-use Rattle.report_defs.specs.declared.command.Command.TheVariants.{Init, Import, Tip, Check, Exec}
+use Rattle.report_defs.specs.declared.command.Command.TheVariants.{Init, Import, Query, Question, Standalone}
 use Rattle.report_defs.specs.declared.status.Status.TheVariants.{BadWords}
 use Rattle.report_defs.specs.Status.{IsOneOf}
 use Rattle.report_defs.specs.Promise.{statuses_of}
-use Rattle.report_defs.specs.Survival.{IsPromised, CallsNoDisk, OpensStore, IsQuery, as_before}
-use Rattle.node_run.proofs.Asked.{IsNotInit, IsNotImport, never_bad_words, words_are_good, tip_no_input_fault, exec_no_disk_fault}
-use Rattle.node_run.proofs.Faults.{no_fault}
-use Rattle.node_run.proofs.RunLemmas.{import_promised, tip_promised, check_promised, init_promised, exec_promised, words_promised}
+use Rattle.report_defs.specs.Survival.{IsPromised, CallsNoDisk, OpensStore, AsksStore, as_before}
+use Rattle.node_run.proofs.Asked.{IsNotInit, IsNotImport, never_bad_words, words_are_good, query_no_input_fault, standalone_no_disk_fault}
+use Rattle.node_run.proofs.RunLemmas.{import_promised, query_promised, question_promised, init_promised, standalone_promised, words_promised}
 use Rattle.node_run.proofs.top.run.Goals as goal
 
 pub returns-in-Some-Init-clause-run : goal.returns-in-Some-Init-clause-run
@@ -129,182 +129,182 @@ returns-in-Some-Import-clause-steps g c =
     let is = ap Some (sym c.in-Some-Import.field-0-is) ∙ c.in-Some-Import.ensures.command in
     λ never. absurd (never (subst OpensStore is tt))
 
-pub returns-in-Some-Tip-clause-run : goal.returns-in-Some-Tip-clause-run
-returns-in-Some-Tip-clause-run g c =
-    let is = ap Some (sym c.in-Some-Tip.field-0-is) ∙ c.in-Some-Tip.ensures.command in
-    let told = c.tip.ensures.tip in (
+pub returns-in-Some-Query-clause-run : goal.returns-in-Some-Query-clause-run
+returns-in-Some-Query-clause-run g c =
+    let is = ap Some (sym c.in-Some-Query.field-0-is) ∙ c.in-Some-Query.ensures.command in
+    let told = c.query.ensures.query in (
       [],
       told.0,
       gives_none (g.S.Source.left c.args.input.now),
       told.1,
-      subst (λ (o : Option Command). IsPromised o (g.D.Disk.reads_as c.args.disk.now) (g.D.Disk.images c.args.disk.now) (g.D.Disk.images c.tip.new.disk)
-          (g.D.Disk.left_since c.tip.new.disk (g.D.Disk.moment c.args.disk.now)) (g.S.Source.left c.args.input.now) [] told.0 c.tip.result) is
-          (tip_promised (g.D.Disk.reads_as c.args.disk.now) (g.D.Disk.images c.args.disk.now) (g.D.Disk.images c.tip.new.disk)
-          (g.D.Disk.left_since c.tip.new.disk (g.D.Disk.moment c.args.disk.now)) (g.S.Source.left c.args.input.now) told.0 c.tip.result
+      subst (λ (o : Option Command). IsPromised o (g.D.Disk.reads_as c.args.disk.now) (g.D.Disk.images c.args.disk.now) (g.D.Disk.images c.query.new.disk)
+          (g.D.Disk.left_since c.query.new.disk (g.D.Disk.moment c.args.disk.now)) (g.S.Source.left c.args.input.now) [] told.0 c.query.result) is
+          (query_promised c.in-Some-Query.asked (g.D.Disk.reads_as c.args.disk.now) (g.D.Disk.images c.args.disk.now) (g.D.Disk.images c.query.new.disk)
+          (g.D.Disk.left_since c.query.new.disk (g.D.Disk.moment c.args.disk.now)) (g.S.Source.left c.args.input.now) told.0 c.query.result
           (g.met.D.Disk.reads_image c.args.disk.now) told.2),
     )
 
-pub returns-in-Some-Tip-clause-words : goal.returns-in-Some-Tip-clause-words
-returns-in-Some-Tip-clause-words g c =
-    let is = ap Some (sym c.in-Some-Tip.field-0-is) ∙ c.in-Some-Tip.ensures.command in
-    words_are_good _ Tip c.tip.result is c.tip.ensures.status
+pub returns-in-Some-Query-clause-words : goal.returns-in-Some-Query-clause-words
+returns-in-Some-Query-clause-words g c =
+    let is = ap Some (sym c.in-Some-Query.field-0-is) ∙ c.in-Some-Query.ensures.command in
+    words_are_good _ (Query c.in-Some-Query.asked) c.query.result is c.query.ensures.status
 
-pub returns-in-Some-Tip-clause-silent : goal.returns-in-Some-Tip-clause-silent
-returns-in-Some-Tip-clause-silent g c = λ bad. absurd (never_bad_words Tip c.tip.result c.tip.ensures.status bad)
+pub returns-in-Some-Query-clause-silent : goal.returns-in-Some-Query-clause-silent
+returns-in-Some-Query-clause-silent g c = λ bad. absurd (never_bad_words (Query c.in-Some-Query.asked) c.query.result c.query.ensures.status bad)
 
-pub returns-in-Some-Tip-clause-status : goal.returns-in-Some-Tip-clause-status
-returns-in-Some-Tip-clause-status g c =
-    let is = ap Some (sym c.in-Some-Tip.field-0-is) ∙ c.in-Some-Tip.ensures.command in
-    subst (λ (o : Option Command). IsOneOf (statuses_of o) c.tip.result) is c.tip.ensures.status
+pub returns-in-Some-Query-clause-status : goal.returns-in-Some-Query-clause-status
+returns-in-Some-Query-clause-status g c =
+    let is = ap Some (sym c.in-Some-Query.field-0-is) ∙ c.in-Some-Query.ensures.command in
+    subst (λ (o : Option Command). IsOneOf (statuses_of o) c.query.result) is c.query.ensures.status
 
-pub returns-in-Some-Tip-clause-input_faults : goal.returns-in-Some-Tip-clause-input_faults
-returns-in-Some-Tip-clause-input_faults g c = no_fault _ _ refl (tip_no_input_fault c.tip.result c.tip.ensures.status)
+pub returns-in-Some-Query-clause-input_faults : goal.returns-in-Some-Query-clause-input_faults
+returns-in-Some-Query-clause-input_faults g c = no_fault _ _ refl (query_no_input_fault c.query.result c.query.ensures.status)
 
-pub returns-in-Some-Tip-clause-out_faults : goal.returns-in-Some-Tip-clause-out_faults
-returns-in-Some-Tip-clause-out_faults g c = c.tip.ensures.out_faults
+pub returns-in-Some-Query-clause-out_faults : goal.returns-in-Some-Query-clause-out_faults
+returns-in-Some-Query-clause-out_faults g c = c.query.ensures.out_faults
 
-pub returns-in-Some-Tip-clause-disk_faults : goal.returns-in-Some-Tip-clause-disk_faults
-returns-in-Some-Tip-clause-disk_faults g c = c.tip.ensures.disk_faults
+pub returns-in-Some-Query-clause-disk_faults : goal.returns-in-Some-Query-clause-disk_faults
+returns-in-Some-Query-clause-disk_faults g c = c.query.ensures.disk_faults
 
-pub returns-in-Some-Tip-clause-uncalled : goal.returns-in-Some-Tip-clause-uncalled
-returns-in-Some-Tip-clause-uncalled g c =
-    let is = ap Some (sym c.in-Some-Tip.field-0-is) ∙ c.in-Some-Tip.ensures.command in
+pub returns-in-Some-Query-clause-uncalled : goal.returns-in-Some-Query-clause-uncalled
+returns-in-Some-Query-clause-uncalled g c =
+    let is = ap Some (sym c.in-Some-Query.field-0-is) ∙ c.in-Some-Query.ensures.command in
     λ uncalled. absurd (subst CallsNoDisk (sym is) uncalled)
 
-pub returns-in-Some-Tip-clause-as_before : goal.returns-in-Some-Tip-clause-as_before
-returns-in-Some-Tip-clause-as_before g c =
-    let is = ap Some (sym c.in-Some-Tip.field-0-is) ∙ c.in-Some-Tip.ensures.command in
-    λ told. absurd (subst (λ (o : Option Command). IsOneOf (as_before o) c.tip.result) (sym is) told)
+pub returns-in-Some-Query-clause-as_before : goal.returns-in-Some-Query-clause-as_before
+returns-in-Some-Query-clause-as_before g c =
+    let is = ap Some (sym c.in-Some-Query.field-0-is) ∙ c.in-Some-Query.ensures.command in
+    λ told. absurd (subst (λ (o : Option Command). IsOneOf (as_before o) c.query.result) (sym is) told)
 
-pub returns-in-Some-Tip-clause-log_there : goal.returns-in-Some-Tip-clause-log_there
-returns-in-Some-Tip-clause-log_there g c =
-    let is = ap Some (sym c.in-Some-Tip.field-0-is) ∙ c.in-Some-Tip.ensures.command in
+pub returns-in-Some-Query-clause-log_there : goal.returns-in-Some-Query-clause-log_there
+returns-in-Some-Query-clause-log_there g c =
+    let is = ap Some (sym c.in-Some-Query.field-0-is) ∙ c.in-Some-Query.ensures.command in
     λ now told other init. absurd (subst IsNotInit (is ∙ init) tt)
 
-pub returns-in-Some-Tip-clause-loses_nothing : goal.returns-in-Some-Tip-clause-loses_nothing
-returns-in-Some-Tip-clause-loses_nothing g c = λ now told none opens. c.tip.ensures.no_log now told none
+pub returns-in-Some-Query-clause-loses_nothing : goal.returns-in-Some-Query-clause-loses_nothing
+returns-in-Some-Query-clause-loses_nothing g c = λ now told none opens. c.query.ensures.no_log now told none
 
-pub returns-in-Some-Tip-clause-steps : goal.returns-in-Some-Tip-clause-steps
-returns-in-Some-Tip-clause-steps g c =
-    let is = ap Some (sym c.in-Some-Tip.field-0-is) ∙ c.in-Some-Tip.ensures.command in
+pub returns-in-Some-Query-clause-steps : goal.returns-in-Some-Query-clause-steps
+returns-in-Some-Query-clause-steps g c =
+    let is = ap Some (sym c.in-Some-Query.field-0-is) ∙ c.in-Some-Query.ensures.command in
     λ never. absurd (never (subst OpensStore is tt))
 
-pub returns-in-Some-Check-clause-run : goal.returns-in-Some-Check-clause-run
-returns-in-Some-Check-clause-run g c =
-    let is = ap Some (sym c.in-Some-Check.field-0-is) ∙ c.in-Some-Check.ensures.command in
-    let kept = c.check.ensures.check in (
+pub returns-in-Some-Question-clause-run : goal.returns-in-Some-Question-clause-run
+returns-in-Some-Question-clause-run g c =
+    let is = ap Some (sym c.in-Some-Question.field-0-is) ∙ c.in-Some-Question.ensures.command in
+    let kept = c.question.ensures.question in (
       kept.0,
       kept.1,
       kept.2,
       kept.3,
-      subst (λ (o : Option Command). IsPromised o (g.D.Disk.reads_as c.args.disk.now) (g.D.Disk.images c.args.disk.now) (g.D.Disk.images c.check.new.disk)
-          (g.D.Disk.left_since c.check.new.disk (g.D.Disk.moment c.args.disk.now)) (g.S.Source.left c.check.new.input) kept.0 kept.1 c.check.result) is
-          (check_promised (g.D.Disk.reads_as c.args.disk.now) (g.D.Disk.images c.args.disk.now) (g.D.Disk.images c.check.new.disk)
-          (g.D.Disk.left_since c.check.new.disk (g.D.Disk.moment c.args.disk.now)) (g.S.Source.left c.check.new.input) kept.0 kept.1 c.check.result
+      subst (λ (o : Option Command). IsPromised o (g.D.Disk.reads_as c.args.disk.now) (g.D.Disk.images c.args.disk.now) (g.D.Disk.images c.question.new.disk)
+          (g.D.Disk.left_since c.question.new.disk (g.D.Disk.moment c.args.disk.now)) (g.S.Source.left c.question.new.input) kept.0 kept.1 c.question.result) is
+          (question_promised c.in-Some-Question.asked (g.D.Disk.reads_as c.args.disk.now) (g.D.Disk.images c.args.disk.now) (g.D.Disk.images c.question.new.disk)
+          (g.D.Disk.left_since c.question.new.disk (g.D.Disk.moment c.args.disk.now)) (g.S.Source.left c.question.new.input) kept.0 kept.1 c.question.result
           (g.met.D.Disk.reads_image c.args.disk.now) kept.4),
     )
 
-pub returns-in-Some-Check-clause-words : goal.returns-in-Some-Check-clause-words
-returns-in-Some-Check-clause-words g c =
-    let is = ap Some (sym c.in-Some-Check.field-0-is) ∙ c.in-Some-Check.ensures.command in
-    words_are_good _ Check c.check.result is c.check.ensures.status
+pub returns-in-Some-Question-clause-words : goal.returns-in-Some-Question-clause-words
+returns-in-Some-Question-clause-words g c =
+    let is = ap Some (sym c.in-Some-Question.field-0-is) ∙ c.in-Some-Question.ensures.command in
+    words_are_good _ (Question c.in-Some-Question.asked) c.question.result is c.question.ensures.status
 
-pub returns-in-Some-Check-clause-silent : goal.returns-in-Some-Check-clause-silent
-returns-in-Some-Check-clause-silent g c = λ bad. absurd (never_bad_words Check c.check.result c.check.ensures.status bad)
+pub returns-in-Some-Question-clause-silent : goal.returns-in-Some-Question-clause-silent
+returns-in-Some-Question-clause-silent g c = λ bad. absurd (never_bad_words (Question c.in-Some-Question.asked) c.question.result c.question.ensures.status bad)
 
-pub returns-in-Some-Check-clause-status : goal.returns-in-Some-Check-clause-status
-returns-in-Some-Check-clause-status g c =
-    let is = ap Some (sym c.in-Some-Check.field-0-is) ∙ c.in-Some-Check.ensures.command in
-    subst (λ (o : Option Command). IsOneOf (statuses_of o) c.check.result) is c.check.ensures.status
+pub returns-in-Some-Question-clause-status : goal.returns-in-Some-Question-clause-status
+returns-in-Some-Question-clause-status g c =
+    let is = ap Some (sym c.in-Some-Question.field-0-is) ∙ c.in-Some-Question.ensures.command in
+    subst (λ (o : Option Command). IsOneOf (statuses_of o) c.question.result) is c.question.ensures.status
 
-pub returns-in-Some-Check-clause-input_faults : goal.returns-in-Some-Check-clause-input_faults
-returns-in-Some-Check-clause-input_faults g c = c.check.ensures.input_faults
+pub returns-in-Some-Question-clause-input_faults : goal.returns-in-Some-Question-clause-input_faults
+returns-in-Some-Question-clause-input_faults g c = c.question.ensures.input_faults
 
-pub returns-in-Some-Check-clause-out_faults : goal.returns-in-Some-Check-clause-out_faults
-returns-in-Some-Check-clause-out_faults g c = c.check.ensures.out_faults
+pub returns-in-Some-Question-clause-out_faults : goal.returns-in-Some-Question-clause-out_faults
+returns-in-Some-Question-clause-out_faults g c = c.question.ensures.out_faults
 
-pub returns-in-Some-Check-clause-disk_faults : goal.returns-in-Some-Check-clause-disk_faults
-returns-in-Some-Check-clause-disk_faults g c = c.check.ensures.disk_faults
+pub returns-in-Some-Question-clause-disk_faults : goal.returns-in-Some-Question-clause-disk_faults
+returns-in-Some-Question-clause-disk_faults g c = c.question.ensures.disk_faults
 
-pub returns-in-Some-Check-clause-uncalled : goal.returns-in-Some-Check-clause-uncalled
-returns-in-Some-Check-clause-uncalled g c =
-    let is = ap Some (sym c.in-Some-Check.field-0-is) ∙ c.in-Some-Check.ensures.command in
+pub returns-in-Some-Question-clause-uncalled : goal.returns-in-Some-Question-clause-uncalled
+returns-in-Some-Question-clause-uncalled g c =
+    let is = ap Some (sym c.in-Some-Question.field-0-is) ∙ c.in-Some-Question.ensures.command in
     λ uncalled. absurd (subst CallsNoDisk (sym is) uncalled)
 
-pub returns-in-Some-Check-clause-as_before : goal.returns-in-Some-Check-clause-as_before
-returns-in-Some-Check-clause-as_before g c =
-    let is = ap Some (sym c.in-Some-Check.field-0-is) ∙ c.in-Some-Check.ensures.command in
-    λ told. absurd (subst (λ (o : Option Command). IsOneOf (as_before o) c.check.result) (sym is) told)
+pub returns-in-Some-Question-clause-as_before : goal.returns-in-Some-Question-clause-as_before
+returns-in-Some-Question-clause-as_before g c =
+    let is = ap Some (sym c.in-Some-Question.field-0-is) ∙ c.in-Some-Question.ensures.command in
+    λ told. absurd (subst (λ (o : Option Command). IsOneOf (as_before o) c.question.result) (sym is) told)
 
-pub returns-in-Some-Check-clause-log_there : goal.returns-in-Some-Check-clause-log_there
-returns-in-Some-Check-clause-log_there g c =
-    let is = ap Some (sym c.in-Some-Check.field-0-is) ∙ c.in-Some-Check.ensures.command in
+pub returns-in-Some-Question-clause-log_there : goal.returns-in-Some-Question-clause-log_there
+returns-in-Some-Question-clause-log_there g c =
+    let is = ap Some (sym c.in-Some-Question.field-0-is) ∙ c.in-Some-Question.ensures.command in
     λ now told other init. absurd (subst IsNotInit (is ∙ init) tt)
 
-pub returns-in-Some-Check-clause-loses_nothing : goal.returns-in-Some-Check-clause-loses_nothing
-returns-in-Some-Check-clause-loses_nothing g c = λ now told none opens. c.check.ensures.no_log now told none
+pub returns-in-Some-Question-clause-loses_nothing : goal.returns-in-Some-Question-clause-loses_nothing
+returns-in-Some-Question-clause-loses_nothing g c = λ now told none opens. c.question.ensures.no_log now told none
 
-pub returns-in-Some-Check-clause-steps : goal.returns-in-Some-Check-clause-steps
-returns-in-Some-Check-clause-steps g c =
-    let is = ap Some (sym c.in-Some-Check.field-0-is) ∙ c.in-Some-Check.ensures.command in
+pub returns-in-Some-Question-clause-steps : goal.returns-in-Some-Question-clause-steps
+returns-in-Some-Question-clause-steps g c =
+    let is = ap Some (sym c.in-Some-Question.field-0-is) ∙ c.in-Some-Question.ensures.command in
     λ never. absurd (never (subst OpensStore is tt))
 
-pub returns-in-Some-Exec-clause-run : goal.returns-in-Some-Exec-clause-run
-returns-in-Some-Exec-clause-run g c =
-    let is = ap Some (sym c.in-Some-Exec.field-0-is) ∙ c.in-Some-Exec.ensures.command in
-    let text = c.exec.ensures.text in (
+pub returns-in-Some-Standalone-clause-run : goal.returns-in-Some-Standalone-clause-run
+returns-in-Some-Standalone-clause-run g c =
+    let is = ap Some (sym c.in-Some-Standalone.field-0-is) ∙ c.in-Some-Standalone.ensures.command in
+    let text = c.standalone.ensures.text in (
       text.0,
       text.1,
       text.2,
       text.3,
       subst (λ (o : Option Command). IsPromised o (g.D.Disk.reads_as c.args.disk.now) (g.D.Disk.images c.args.disk.now) (g.D.Disk.images c.args.disk.now)
-          (g.D.Disk.left_since c.args.disk.now (g.D.Disk.moment c.args.disk.now)) (g.S.Source.left c.exec.new.input) text.0 text.1 c.exec.result) is
-          (exec_promised g.D.Disk.reads_as g.D.Disk.images g.D.Disk.moment g.D.Disk.left_since g.met.D.Disk.reads_image g.met.D.Disk.only_now c.in-Some-Exec.budget c.args.disk.now
-          (g.S.Source.left c.exec.new.input) text.0 text.1 c.exec.result text.4),
+          (g.D.Disk.left_since c.args.disk.now (g.D.Disk.moment c.args.disk.now)) (g.S.Source.left c.standalone.new.input) text.0 text.1 c.standalone.result) is
+          (standalone_promised g.D.Disk.reads_as g.D.Disk.images g.D.Disk.moment g.D.Disk.left_since g.met.D.Disk.reads_image g.met.D.Disk.only_now c.in-Some-Standalone.command c.args.disk.now
+          (g.S.Source.left c.standalone.new.input) text.0 text.1 c.standalone.result text.4),
     )
 
-pub returns-in-Some-Exec-clause-words : goal.returns-in-Some-Exec-clause-words
-returns-in-Some-Exec-clause-words g c =
-    let is = ap Some (sym c.in-Some-Exec.field-0-is) ∙ c.in-Some-Exec.ensures.command in
-    words_are_good _ (Exec c.in-Some-Exec.budget) c.exec.result is c.exec.ensures.status
+pub returns-in-Some-Standalone-clause-words : goal.returns-in-Some-Standalone-clause-words
+returns-in-Some-Standalone-clause-words g c =
+    let is = ap Some (sym c.in-Some-Standalone.field-0-is) ∙ c.in-Some-Standalone.ensures.command in
+    words_are_good _ (Standalone c.in-Some-Standalone.command) c.standalone.result is c.standalone.ensures.status
 
-pub returns-in-Some-Exec-clause-silent : goal.returns-in-Some-Exec-clause-silent
-returns-in-Some-Exec-clause-silent g c = λ bad. absurd (never_bad_words (Exec c.in-Some-Exec.budget) c.exec.result c.exec.ensures.status bad)
+pub returns-in-Some-Standalone-clause-silent : goal.returns-in-Some-Standalone-clause-silent
+returns-in-Some-Standalone-clause-silent g c = λ bad. absurd (never_bad_words (Standalone c.in-Some-Standalone.command) c.standalone.result c.standalone.ensures.status bad)
 
-pub returns-in-Some-Exec-clause-status : goal.returns-in-Some-Exec-clause-status
-returns-in-Some-Exec-clause-status g c =
-    let is = ap Some (sym c.in-Some-Exec.field-0-is) ∙ c.in-Some-Exec.ensures.command in
-    subst (λ (o : Option Command). IsOneOf (statuses_of o) c.exec.result) is c.exec.ensures.status
+pub returns-in-Some-Standalone-clause-status : goal.returns-in-Some-Standalone-clause-status
+returns-in-Some-Standalone-clause-status g c =
+    let is = ap Some (sym c.in-Some-Standalone.field-0-is) ∙ c.in-Some-Standalone.ensures.command in
+    subst (λ (o : Option Command). IsOneOf (statuses_of o) c.standalone.result) is c.standalone.ensures.status
 
-pub returns-in-Some-Exec-clause-input_faults : goal.returns-in-Some-Exec-clause-input_faults
-returns-in-Some-Exec-clause-input_faults g c = c.exec.ensures.input_faults
+pub returns-in-Some-Standalone-clause-input_faults : goal.returns-in-Some-Standalone-clause-input_faults
+returns-in-Some-Standalone-clause-input_faults g c = c.standalone.ensures.input_faults
 
-pub returns-in-Some-Exec-clause-out_faults : goal.returns-in-Some-Exec-clause-out_faults
-returns-in-Some-Exec-clause-out_faults g c = c.exec.ensures.out_faults
+pub returns-in-Some-Standalone-clause-out_faults : goal.returns-in-Some-Standalone-clause-out_faults
+returns-in-Some-Standalone-clause-out_faults g c = c.standalone.ensures.out_faults
 
-pub returns-in-Some-Exec-clause-disk_faults : goal.returns-in-Some-Exec-clause-disk_faults
-returns-in-Some-Exec-clause-disk_faults g c = no_fault _ _ refl (exec_no_disk_fault c.exec.result c.exec.ensures.status)
+pub returns-in-Some-Standalone-clause-disk_faults : goal.returns-in-Some-Standalone-clause-disk_faults
+returns-in-Some-Standalone-clause-disk_faults g c = no_fault _ _ refl (standalone_no_disk_fault c.standalone.result c.standalone.ensures.status)
 
-pub returns-in-Some-Exec-clause-uncalled : goal.returns-in-Some-Exec-clause-uncalled
-returns-in-Some-Exec-clause-uncalled g c = λ _. refl
+pub returns-in-Some-Standalone-clause-uncalled : goal.returns-in-Some-Standalone-clause-uncalled
+returns-in-Some-Standalone-clause-uncalled g c = λ _. refl
 
-pub returns-in-Some-Exec-clause-as_before : goal.returns-in-Some-Exec-clause-as_before
-returns-in-Some-Exec-clause-as_before g c =
-    let is = ap Some (sym c.in-Some-Exec.field-0-is) ∙ c.in-Some-Exec.ensures.command in
-    λ told. absurd (subst (λ (o : Option Command). IsOneOf (as_before o) c.exec.result) (sym is) told)
+pub returns-in-Some-Standalone-clause-as_before : goal.returns-in-Some-Standalone-clause-as_before
+returns-in-Some-Standalone-clause-as_before g c =
+    let is = ap Some (sym c.in-Some-Standalone.field-0-is) ∙ c.in-Some-Standalone.ensures.command in
+    λ told. absurd (subst (λ (o : Option Command). IsOneOf (as_before o) c.standalone.result) (sym is) told)
 
-pub returns-in-Some-Exec-clause-log_there : goal.returns-in-Some-Exec-clause-log_there
-returns-in-Some-Exec-clause-log_there g c =
-    let is = ap Some (sym c.in-Some-Exec.field-0-is) ∙ c.in-Some-Exec.ensures.command in
+pub returns-in-Some-Standalone-clause-log_there : goal.returns-in-Some-Standalone-clause-log_there
+returns-in-Some-Standalone-clause-log_there g c =
+    let is = ap Some (sym c.in-Some-Standalone.field-0-is) ∙ c.in-Some-Standalone.ensures.command in
     λ now told other init. absurd (subst IsNotInit (is ∙ init) tt)
 
-pub returns-in-Some-Exec-clause-loses_nothing : goal.returns-in-Some-Exec-clause-loses_nothing
-returns-in-Some-Exec-clause-loses_nothing g c =
-    let is = ap Some (sym c.in-Some-Exec.field-0-is) ∙ c.in-Some-Exec.ensures.command in
+pub returns-in-Some-Standalone-clause-loses_nothing : goal.returns-in-Some-Standalone-clause-loses_nothing
+returns-in-Some-Standalone-clause-loses_nothing g c =
+    let is = ap Some (sym c.in-Some-Standalone.field-0-is) ∙ c.in-Some-Standalone.ensures.command in
     λ now told none opens. absurd (subst OpensStore (sym is) opens)
 
-pub returns-in-Some-Exec-clause-steps : goal.returns-in-Some-Exec-clause-steps
-returns-in-Some-Exec-clause-steps g c = λ _. refl
+pub returns-in-Some-Standalone-clause-steps : goal.returns-in-Some-Standalone-clause-steps
+returns-in-Some-Standalone-clause-steps g c = λ _. refl
 
 pub returns-in-None-clause-run : goal.returns-in-None-clause-run
 returns-in-None-clause-run g c = (
@@ -354,69 +354,69 @@ returns-in-None-clause-steps g c = λ _. refl
 pub returns-in-Some-Init-clause-rests : goal.returns-in-Some-Init-clause-rests
 returns-in-Some-Init-clause-rests g c =
     let is = ap Some (sym c.in-Some-Init.field-0-is) ∙ c.in-Some-Init.ensures.command in
-    λ now told closed query. absurd (subst IsQuery (sym is) query)
+    λ now told closed query. absurd (subst AsksStore (sym is) query)
 
 pub returns-in-Some-Init-clause-query_steps : goal.returns-in-Some-Init-clause-query_steps
 returns-in-Some-Init-clause-query_steps g c =
     let is = ap Some (sym c.in-Some-Init.field-0-is) ∙ c.in-Some-Init.ensures.command in
-    λ now told query. absurd (subst IsQuery (sym is) query)
+    λ now told query. absurd (subst AsksStore (sym is) query)
 
 pub returns-in-Some-Import-clause-rests : goal.returns-in-Some-Import-clause-rests
 returns-in-Some-Import-clause-rests g c =
     let is = ap Some (sym c.in-Some-Import.field-0-is) ∙ c.in-Some-Import.ensures.command in
-    λ now told closed query. absurd (subst IsQuery (sym is) query)
+    λ now told closed query. absurd (subst AsksStore (sym is) query)
 
 pub returns-in-Some-Import-clause-query_steps : goal.returns-in-Some-Import-clause-query_steps
 returns-in-Some-Import-clause-query_steps g c =
     let is = ap Some (sym c.in-Some-Import.field-0-is) ∙ c.in-Some-Import.ensures.command in
-    λ now told query. absurd (subst IsQuery (sym is) query)
+    λ now told query. absurd (subst AsksStore (sym is) query)
 
-pub returns-in-Some-Exec-clause-rests : goal.returns-in-Some-Exec-clause-rests
-returns-in-Some-Exec-clause-rests g c =
-    let is = ap Some (sym c.in-Some-Exec.field-0-is) ∙ c.in-Some-Exec.ensures.command in
-    λ now told closed query. absurd (subst IsQuery (sym is) query)
+pub returns-in-Some-Standalone-clause-rests : goal.returns-in-Some-Standalone-clause-rests
+returns-in-Some-Standalone-clause-rests g c =
+    let is = ap Some (sym c.in-Some-Standalone.field-0-is) ∙ c.in-Some-Standalone.ensures.command in
+    λ now told closed query. absurd (subst AsksStore (sym is) query)
 
-pub returns-in-Some-Exec-clause-query_steps : goal.returns-in-Some-Exec-clause-query_steps
-returns-in-Some-Exec-clause-query_steps g c =
-    let is = ap Some (sym c.in-Some-Exec.field-0-is) ∙ c.in-Some-Exec.ensures.command in
-    λ now told query. absurd (subst IsQuery (sym is) query)
+pub returns-in-Some-Standalone-clause-query_steps : goal.returns-in-Some-Standalone-clause-query_steps
+returns-in-Some-Standalone-clause-query_steps g c =
+    let is = ap Some (sym c.in-Some-Standalone.field-0-is) ∙ c.in-Some-Standalone.ensures.command in
+    λ now told query. absurd (subst AsksStore (sym is) query)
 
-pub returns-in-Some-Tip-clause-rests : goal.returns-in-Some-Tip-clause-rests
-returns-in-Some-Tip-clause-rests g c = λ now told closed _. c.tip.ensures.rests now told closed
+pub returns-in-Some-Query-clause-rests : goal.returns-in-Some-Query-clause-rests
+returns-in-Some-Query-clause-rests g c = λ now told closed _. c.query.ensures.rests now told closed
 
-pub returns-in-Some-Tip-clause-query_steps : goal.returns-in-Some-Tip-clause-query_steps
-returns-in-Some-Tip-clause-query_steps g c = λ now told _. c.tip.ensures.most now told
+pub returns-in-Some-Query-clause-query_steps : goal.returns-in-Some-Query-clause-query_steps
+returns-in-Some-Query-clause-query_steps g c = λ now told _. c.query.ensures.most now told
 
-pub returns-in-Some-Check-clause-rests : goal.returns-in-Some-Check-clause-rests
-returns-in-Some-Check-clause-rests g c = λ now told closed _. c.check.ensures.rests now told closed
+pub returns-in-Some-Question-clause-rests : goal.returns-in-Some-Question-clause-rests
+returns-in-Some-Question-clause-rests g c = λ now told closed _. c.question.ensures.rests now told closed
 
-pub returns-in-Some-Check-clause-query_steps : goal.returns-in-Some-Check-clause-query_steps
-returns-in-Some-Check-clause-query_steps g c = λ now told _. c.check.ensures.most now told
+pub returns-in-Some-Question-clause-query_steps : goal.returns-in-Some-Question-clause-query_steps
+returns-in-Some-Question-clause-query_steps g c = λ now told _. c.question.ensures.most now told
 
 pub returns-in-None-clause-rests : goal.returns-in-None-clause-rests
-returns-in-None-clause-rests g c = λ now told closed query. absurd (subst IsQuery (sym c.in-None.ensures.command) query)
+returns-in-None-clause-rests g c = λ now told closed query. absurd (subst AsksStore (sym c.in-None.ensures.command) query)
 
 pub returns-in-None-clause-query_steps : goal.returns-in-None-clause-query_steps
-returns-in-None-clause-query_steps g c = λ now told query. absurd (subst IsQuery (sym c.in-None.ensures.command) query)
+returns-in-None-clause-query_steps g c = λ now told query. absurd (subst AsksStore (sym c.in-None.ensures.command) query)
 
 pub returns-in-Some-Init-clause-import_steps : goal.returns-in-Some-Init-clause-import_steps
 returns-in-Some-Init-clause-import_steps g c =
     let is = ap Some (sym c.in-Some-Init.field-0-is) ∙ c.in-Some-Init.ensures.command in
     λ asks. absurd (subst IsNotImport (is ∙ asks) tt)
 
-pub returns-in-Some-Tip-clause-import_steps : goal.returns-in-Some-Tip-clause-import_steps
-returns-in-Some-Tip-clause-import_steps g c =
-    let is = ap Some (sym c.in-Some-Tip.field-0-is) ∙ c.in-Some-Tip.ensures.command in
+pub returns-in-Some-Query-clause-import_steps : goal.returns-in-Some-Query-clause-import_steps
+returns-in-Some-Query-clause-import_steps g c =
+    let is = ap Some (sym c.in-Some-Query.field-0-is) ∙ c.in-Some-Query.ensures.command in
     λ asks. absurd (subst IsNotImport (is ∙ asks) tt)
 
-pub returns-in-Some-Check-clause-import_steps : goal.returns-in-Some-Check-clause-import_steps
-returns-in-Some-Check-clause-import_steps g c =
-    let is = ap Some (sym c.in-Some-Check.field-0-is) ∙ c.in-Some-Check.ensures.command in
+pub returns-in-Some-Question-clause-import_steps : goal.returns-in-Some-Question-clause-import_steps
+returns-in-Some-Question-clause-import_steps g c =
+    let is = ap Some (sym c.in-Some-Question.field-0-is) ∙ c.in-Some-Question.ensures.command in
     λ asks. absurd (subst IsNotImport (is ∙ asks) tt)
 
-pub returns-in-Some-Exec-clause-import_steps : goal.returns-in-Some-Exec-clause-import_steps
-returns-in-Some-Exec-clause-import_steps g c =
-    let is = ap Some (sym c.in-Some-Exec.field-0-is) ∙ c.in-Some-Exec.ensures.command in
+pub returns-in-Some-Standalone-clause-import_steps : goal.returns-in-Some-Standalone-clause-import_steps
+returns-in-Some-Standalone-clause-import_steps g c =
+    let is = ap Some (sym c.in-Some-Standalone.field-0-is) ∙ c.in-Some-Standalone.ensures.command in
     λ asks. absurd (subst IsNotImport (is ∙ asks) tt)
 
 pub returns-in-Some-Import-clause-import_steps : goal.returns-in-Some-Import-clause-import_steps

@@ -1,0 +1,74 @@
+// An input that is read whole.
+ghost use Rattle.std.specs.Prelude.{◌≡◌, ◌^◌, ◌≤◌, Err, sum};
+ghost use Rattle.outside.specs.Causes.{CountsFault};
+ghost use Rattle.report_defs.specs.Items as items;
+ghost use Rattle.item_reader.specs.Items.{Gave};
+ghost use Rattle.item_reader.specs.Whole.{IsReadWhole};
+
+use crate::next::{Next, has_more, next_item};
+use outside::Source;
+use report_defs::{End, Status};
+use std::alloc::Global;
+
+/// What an input holds that has so many items and nothing behind them: these, or its reading ends at an offset
+/// where it should not.
+#[derive(Drop)]
+pub enum Whole {
+    Items(Vec<Vec<u8>>),
+    Early { end: End, offset: u64 },
+}
+
+/// Reads an item for each of these limits, and the end of the input, or up to where it ends early. The status is
+/// `InputFault` or `NoMemory`.
+pub fn read_whole<S: Source>(
+    alloc: Global,
+    input: &mut S,
+    limits: &[usize],
+) -> Result<Whole, Status>
+    requires { sum limits.now ≤ 2 ^ 62 }
+    ensures read { Gave (S.left input.old) (S.left input.new) (IsReadWhole limits.now (S.left input.new) result) }
+    ensures faults { CountsFault (S.faults input.old) (S.faults input.new) (result ≡ Err Status.InputFault) }
+{
+    let mut items = Vec::new(alloc);
+    let mut offset = 0u64;
+    'items: for limit in limits {
+        let item = match next_item(alloc, input, *limit, None, offset) {
+            Ok(Next::Item(item)) => item,
+            Ok(Next::End(end)) => {
+                return Ok(Whole::Early {
+                    end: end_of_needed(end),
+                    offset,
+                });
+            }
+            Err(status) => return Err(status),
+        };
+        offset += item.len() as u64;
+        match items.push(item) {
+            Ok(()) => {}
+            Err(_) => return Err(Status::NoMemory),
+        }
+    }
+    let more = match has_more(input) {
+        Ok(more) => more,
+        Err(status) => return Err(status),
+    };
+    if more {
+        return Ok(Whole::Early {
+            end: End::Extra,
+            offset,
+        });
+    }
+    Ok(Whole::Items(items))
+}
+
+/// Where an item is needed, an input that ends between two items is cut.
+fn end_of_needed(end: End) -> End
+    ensures { result ≡ items.end_of_needed end }
+{
+    match end {
+        End::AtEnd => End::Cut,
+        End::Cut => End::Cut,
+        End::BadSize => End::BadSize,
+        End::Extra => End::Extra,
+    }
+}

@@ -1,0 +1,135 @@
+-- What a question read, told and left at each exit.
+use Rattle.std.proofs.Common.{◌≡◌, ◌⊎◌, ℕ, ◌≤◌, List, [], ◌∷◌, length, map, get_or, Vec, Global, refl, ap, sym, ◌∙◌, subst, arith}
+use Rattle.std.specs.Prelude.{Option, Some, IfSome}
+use Rattle.outside.specs.Image.{Image}
+use Rattle.outside.specs.Disk.{LeavesOnly}
+use Rattle.codec_defs.specs.Shape.{decoded}
+use Rattle.codec_defs.specs.Schema.{Transaction, transaction}
+use Rattle.verdict_defs.specs.Chain.{Chain}
+use Rattle.verdict_defs.specs.Trial.{trial, trial_of}
+use Rattle.store_defs.specs.Store.{Keeps, store_of, StandsFor, IsSound, IsJoined}
+use Rattle.store_defs.proofs.JoinedLemmas.{joined_of_image}
+use Rattle.report_defs.specs.declared.command.Command.TheVariants as commands
+use Rattle.report_defs.specs.declared.command.Question.{Question}
+use Rattle.report_defs.specs.declared.command.Question.TheVariants.{Check}
+use Rattle.report_defs.specs.declared.end.End.{End}
+use Rattle.report_defs.specs.declared.status.Status.{Status}
+use Rattle.report_defs.specs.declared.status.Status.TheVariants.{Done, SomeRefused, NotAStore}
+use Rattle.report_defs.specs.Status.{IsOneOf}
+use Rattle.report_defs.specs.Items.{ReadsNoFurther}
+use Rattle.report_defs.specs.Report.{Report, text_of, question_items, question_limits, answer_to_question, report_of_end}
+use Rattle.item_reader.specs.Whole.{IsWhole, EndsEarly}
+use Rattle.item_reader.proofs.FurtherLemmas.{items_no_further}
+use Rattle.node_core.specs.Node.{NodeValue, IsOn}
+use Rattle.node_run.specs.Question.{IsAnswerTo, full, AnswersQuestion, DeliversAnswer}
+use Rattle.node_run.specs.Import.{IsStop}
+use Rattle.node_run.specs.Output.{IsSaid, IsToldAnswer}
+use Rattle.node_run.specs.Store.{opening_stops}
+use Rattle.node_run.proofs.ImportLemmas.{on_stands}
+use Rattle.node_run.proofs.StoreLemmas.{if_told, same_chain, store_of_stands, delivers, keeps_opened, keeps_read, keeps_unopened, unopened, sound_opening, sound_here, by_disk_or_memory}
+use Rattle.node_run.proofs.Statuses.{each_of, IsEarly, opening_not_done}
+use Rattle.node_run.proofs.WholeReports.{IsJudged, stop_not_judged, whole_stopped, whole_early, whole_judged, report_of_all, told_said, all_said, early_not_judged}
+
+-- there is one question so far
+pub only_check : (question : Question) → question ≡ Check
+only_check Check = refl
+
+-- what comes of the bytes of an item is what comes of what they decode to
+pub trial_of_bytes : (chain : Chain) (item : List ℕ) (found : Option Transaction) → found ≡ decoded transaction item → trial_of chain found ≡ trial chain item
+unfolding trial
+trial_of_bytes chain item found is = ap (trial_of chain) is
+
+-- the item in a vector
+pub one_item : (vectors : List (Vec ℕ Global)) (vector : Vec ℕ Global) (item : List ℕ) → length vectors ≡ 1 → vector ≡ get_or vectors 0 vector → item ≡ vector.items
+    → map (λ (v : Vec ℕ Global). v.items) vectors ≡ item ∷ []
+one_item [] vector item count vector_is item_is = absurd (omega (arith, count))
+one_item (a ∷ []) vector item count vector_is item_is = ap (λ (bytes : List ℕ). bytes ∷ []) (sym (item_is ∙ ap (λ (v : Vec ℕ Global). v.items) vector_is))
+one_item (a ∷ b ∷ more) vector item count vector_is item_is = absurd (omega (arith, count))
+
+-- ---- What is said over a chain
+
+-- the statuses of what was judged
+done_judged : (status : Status) → IsOneOf (Done ∷ SomeRefused ∷ []) status → IsJudged status
+done_judged status one = each_of IsJudged (Done ∷ SomeRefused ∷ []) status (tt, (tt, tt)) one
+
+-- they end a run whose text was taken
+done_no_stop : (status : Status) → IsOneOf (Done ∷ SomeRefused ∷ []) status → IsEarly status → ⊥
+done_no_stop status one = each_of (λ s. IsEarly s → ⊥) (Done ∷ SomeRefused ∷ []) status (λ n. n, (λ n. n, tt)) one
+
+-- the run was stopped before the sink
+pub question_stopped : (question : Question) (chain : Chain) (left : Option (List ℕ)) (given : List ℕ) (status : Status) → IsStop status
+    → ReadsNoFurther (question_limits question) given → AnswersQuestion question chain given left [] status
+question_stopped question chain left given status stop no_further =
+    let says = whole_stopped (question_items question) (answer_to_question question chain) (Done ∷ SomeRefused ∷ []) (tt, (tt, tt)) left given status stop no_further in
+    record {
+      text = says.0;
+      order = says.1;
+      answers = λ told. absurd (stop_not_judged status stop (done_judged status told));
+    }
+
+-- the input ends early
+pub question_early : (question : Question) (chain : Chain) (left : Option (List ℕ)) (given taken : List ℕ) (end : End) (offset : ℕ) (status : Status)
+    → EndsEarly (question_items question) left end offset given → IsSaid (report_of_end offset end) status taken → AnswersQuestion question chain given left taken status
+question_early question chain left given taken end offset status here said =
+    let says = whole_early (question_items question) (answer_to_question question chain) (Done ∷ SomeRefused ∷ []) (tt, (tt, tt)) left given taken end offset status here said in
+    record {
+      text = says.0;
+      order = says.1;
+      answers = λ told. absurd (early_not_judged end offset status taken here.early said (done_judged status told));
+    }
+
+-- its items were judged
+pub question_judged : (question : Question) (chain : Chain) (left : Option (List ℕ)) (items : List (List ℕ)) (given taken text : List ℕ) (status result : Status)
+    → IsWhole (question_items question) left items given → IsAnswerTo question chain items text status → IsOneOf (Done ∷ SomeRefused ∷ []) status
+    → IsToldAnswer text status result taken → AnswersQuestion question chain given left taken result
+question_judged question chain left items given taken text status result whole answer one told =
+    let report = answer_to_question question chain items in
+    let said : IsSaid report result taken = told_said report text status result taken answer.text_is answer.status_is told in
+    let never : IsEarly report.status → ⊥ = λ early. done_no_stop status one (subst IsEarly (sym answer.status_is) early) in
+    let says = whole_judged (question_items question) (answer_to_question question chain) (Done ∷ SomeRefused ∷ []) (tt, (tt, tt)) left items given taken result whole said never in
+    record {
+      text = says.0;
+      order = says.1;
+      answers = λ done. all_said report result taken said (done_judged result done)
+          ∙ sym (ap (λ (r : Report). text_of r) (report_of_all (question_items question) (answer_to_question question chain) left items given whole));
+    }
+
+-- ---- What is delivered of a store
+
+module _ {D : Type 0} (reads_as : D → Option Image) (images : D → Image → Type 0) (moment : D → ℕ) (left_since : D → ℕ → Image → Type 0)
+    (counts_now : (disk : D) (t : ℕ) (image : Image) → t ≤ moment disk → images disk image → left_since disk t image) where
+  -- the store was opened
+  pub question_opened : (question : Question) (old new : D) (node : NodeValue) (left : Option (List ℕ)) (given taken : List ℕ) (status : Status)
+      → IfSome (reads_as old) (λ now. store_of now ≡ Keeps node.chain)
+      → (((image : Image) → images old image → IsSound image) → IfSome (reads_as old) (λ _. IsOn node (reads_as new) (images new)))
+      → ((now : Image) (chain : Chain) → reads_as old ≡ Some now → store_of now ≡ Keeps chain → ((image : Image) → images old image → IsSound image)
+      → LeavesOnly moment left_since old new (λ image. images old image ⊎ StandsFor chain image))
+      → (IsJoined node.chain → AnswersQuestion question node.chain given left taken status)
+      → DeliversAnswer question (reads_as old) (images old) (images new) (left_since new (moment old)) left given taken status
+  question_opened question old new node left given taken status kept on moments says = record {
+    delivers = delivers (commands.Question question) (reads_as old) node.chain (images old) (images new) (left_since new (moment old)) left given taken status (λ store found. found) kept
+        (λ joined. ((says joined).text, (says joined).order))
+        (keeps_opened (reads_as old) node.chain [] (images old) (images new) (left_since new (moment old)) taken status kept
+        (λ now told keeps sound. keeps_read images moment left_since counts_now old new node.chain taken status (moments now node.chain told keeps sound)
+        (on_stands node node.chain (reads_as new) (images new) refl
+        (if_told (reads_as old) (λ _. IsOn node (reads_as new) (images new)) now (on sound) told))));
+    answers = λ now chain told stands done.
+        let same : node.chain ≡ chain = same_chain node.chain chain
+        (sym (if_told (reads_as old) (λ image. store_of image ≡ Keeps node.chain) now kept told) ∙ store_of_stands chain now stands) in
+        (says (subst IsJoined (sym same) (joined_of_image chain now stands))).answers done ∙ ap (λ (k : Chain). text_of (full question k given)) same;
+  }
+
+  -- none was opened
+  pub question_unopened : (question : Question) (old new : D) (left : Option (List ℕ)) (status : Status) → IsOneOf opening_stops status
+      → (status ≡ NotAStore → IfSome (reads_as old) (λ now. IsSound now → ⊥)) → IfSome (reads_as old) (images old)
+      → ((now : Image) (chain : Chain) → reads_as old ≡ Some now → store_of now ≡ Keeps chain → ((image : Image) → images old image → IsSound image)
+      → LeavesOnly moment left_since old new (λ image. images old image ⊎ StandsFor chain image))
+      → DeliversAnswer question (reads_as old) (images old) (images new) (left_since new (moment old)) left [] [] status
+  question_unopened question old new left status one none here moments = record {
+    delivers = unopened (commands.Question question) (reads_as old) (images old) (images new) (left_since new (moment old)) left status (λ store found. found) one none
+        (λ input. refl) (λ input. refl) (λ never. never) (λ never. never) (λ chain stop. (question_stopped question chain left [] status stop (items_no_further (question_limits question) [] tt tt [] refl)).order)
+        (λ now told chain keeps sound. keeps_unopened images moment left_since counts_now old new chain [] status
+        (by_disk_or_memory status one (sound_opening (reads_as old) status now none told (sound_here (reads_as old) (images old) now here told sound)))
+        (moments now chain told keeps sound));
+    answers = λ now chain told stands done. absurd (opening_not_done status one done);
+  }

@@ -1,0 +1,48 @@
+use Rattle.std.proofs.Common.{[], ◌∷◌, inl, refl, ap}
+use Rattle.std.specs.Prelude.{Err, string_bytes}
+use Rattle.outside.proofs.Endings.{no_fault}
+use Rattle.outside.proofs.Streams.{takes_none}
+use Rattle.report_defs.specs.declared.status.Status.TheVariants.{Done, SinkFault, DiskFault}
+use Rattle.node_run.specs.Store.{finding_stops}
+use Rattle.node_run.proofs.Tables.{lacks}
+use Rattle.node_run.proofs.StoreLemmas.{query_stopped, query_told}
+use Rattle.node_run.proofs.Statuses as statuses
+use Rattle.node_run.proofs.Statuses.{finding_stop, query_finding, told_one}
+use Rattle.node_run.proofs.query.find_and_tell.Goals as goal
+
+pub returns-in-Err-clause-told : goal.returns-in-Err-clause-told
+returns-in-Err-clause-told g c = (
+  [],
+  takes_none (g.K.Sink.taken c.args.out.now),
+  λ joined left.
+      let status = c.in-Err.status in
+      query_stopped c.args.query c.args.node.now.chain left status
+      (finding_stop status (c.in-Err.ensures.stop status refl) (λ e. c.in-Err.ensures.sound joined (ap Err e))),
+)
+
+pub returns-in-Err-clause-status : goal.returns-in-Err-clause-status
+returns-in-Err-clause-status g c = query_finding c.in-Err.status (c.in-Err.ensures.stop c.in-Err.status refl)
+
+pub returns-in-Err-clause-disk : goal.returns-in-Err-clause-disk
+returns-in-Err-clause-disk g c = lacks finding_stops DiskFault refl c.in-Err.status (c.in-Err.ensures.stop c.in-Err.status refl)
+
+pub returns-in-Err-clause-faults : goal.returns-in-Err-clause-faults
+returns-in-Err-clause-faults g c = no_fault _ _ refl (lacks finding_stops SinkFault refl c.in-Err.status (c.in-Err.ensures.stop c.in-Err.status refl))
+
+pub returns-clause-told : goal.returns-clause-told
+returns-clause-told g c = let told = c.tell.ensures.told in (
+  told.0,
+  told.1,
+  λ joined left. query_told c.args.query c.args.node.now.chain left told.0 (string_bytes c.in-Ok.text) c.tell.result (c.in-Ok.ensures.text joined) told.2,
+)
+
+pub returns-clause-status : goal.returns-clause-status
+returns-clause-status g c =
+    let told = c.tell.ensures.told in
+    statuses.query_told c.tell.result (told_one (Done ∷ []) (string_bytes c.in-Ok.text) Done c.tell.result told.0 (inl refl) told.2)
+
+pub returns-clause-disk : goal.returns-clause-disk
+returns-clause-disk g c = λ e.
+    let told = c.tell.ensures.told in
+    lacks (SinkFault ∷ Done ∷ []) DiskFault refl c.tell.result
+    (told_one (Done ∷ []) (string_bytes c.in-Ok.text) Done c.tell.result told.0 (inl refl) told.2) e

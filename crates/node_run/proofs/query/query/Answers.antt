@@ -1,0 +1,79 @@
+use Rattle.std.proofs.Common.{[], refl, ap}
+use Rattle.std.specs.Prelude.{Err}
+use Rattle.outside.proofs.Endings.{no_fault, counts-as, no_answer}
+use Rattle.outside.proofs.Streams.{takes_none}
+use Rattle.report_defs.specs.declared.command.Command.TheVariants.{Query}
+use Rattle.node_core.specs.Node.{IsOn}
+use Rattle.node_run.proofs.ImportLemmas.{on_stands}
+use Rattle.node_run.proofs.StoreLemmas.{delivers, keeps_opened, keeps_read, keeps_unopened, opened_there, unopened, sound_opening, sound_here, by_disk_or_memory, if_told}
+use Rattle.node_run.proofs.Statuses.{query_opening, opening_no_sink}
+use Rattle.node_run.proofs.Exits.{same_stop}
+use Rattle.node_run.proofs.query.query.Goals as goal
+
+pub returns-in-Err-clause-query : goal.returns-in-Err-clause-query
+returns-in-Err-clause-query g c = (
+  [],
+  takes_none (g.K.Sink.taken c.args.out.now),
+  λ left.
+      let one = c.in-Err.ensures.one_of c.in-Err.status refl in
+      unopened (Query c.args.asked) (g.D.Disk.reads_as c.args.disk.now) (g.D.Disk.images c.args.disk.now) (g.D.Disk.images c.open.new.disk)
+      (g.D.Disk.left_since c.open.new.disk (g.D.Disk.moment c.args.disk.now)) left c.in-Err.status (λ store found. found) one (λ e. c.in-Err.ensures.not_a_store (ap Err e)) (λ input. refl) (λ input. refl)
+      (λ none. none) (λ none. none) (λ chain stop. record { unread = refl; silent = λ early. refl })
+      (λ now told chain keeps sound. keeps_unopened g.D.Disk.images g.D.Disk.moment g.D.Disk.left_since g.met.D.Disk.counts_now c.args.disk.now c.open.new.disk chain [] c.in-Err.status
+      (by_disk_or_memory c.in-Err.status one (sound_opening (g.D.Disk.reads_as c.args.disk.now) c.in-Err.status now (λ e. c.in-Err.ensures.not_a_store (ap Err e)) told
+      (sound_here (g.D.Disk.reads_as c.args.disk.now) (g.D.Disk.images c.args.disk.now) now (g.met.D.Disk.reads_image c.args.disk.now) told sound)))
+      (c.in-Err.ensures.moments now chain told keeps sound)),
+)
+
+pub returns-clause-query : goal.returns-clause-query
+returns-clause-query g c = let told = c.find_and_tell-status.ensures.told in (
+  told.0,
+  told.1,
+  λ left.
+      let chain = c.in-Ok.node.chain in
+      delivers (Query c.args.asked) (g.D.Disk.reads_as c.args.disk.now) chain (g.D.Disk.images c.args.disk.now) (g.D.Disk.images c.open.new.disk)
+      (g.D.Disk.left_since c.open.new.disk (g.D.Disk.moment c.args.disk.now)) left [] told.0 c.find_and_tell-status.result (λ store found. found) c.in-Ok.ensures.kept
+      (λ joined. told.2 joined left)
+      (keeps_opened (g.D.Disk.reads_as c.args.disk.now) chain [] (g.D.Disk.images c.args.disk.now) (g.D.Disk.images c.open.new.disk)
+      (g.D.Disk.left_since c.open.new.disk (g.D.Disk.moment c.args.disk.now)) told.0 c.find_and_tell-status.result c.in-Ok.ensures.kept
+      (λ now known keeps sound. keeps_read g.D.Disk.images g.D.Disk.moment g.D.Disk.left_since g.met.D.Disk.counts_now c.args.disk.now c.open.new.disk chain told.0 c.find_and_tell-status.result
+      (c.in-Ok.ensures.moments now chain known keeps sound)
+      (on_stands c.in-Ok.node chain (g.D.Disk.reads_as c.open.new.disk) (g.D.Disk.images c.open.new.disk) refl
+      (if_told (g.D.Disk.reads_as c.args.disk.now) (λ _. IsOn c.in-Ok.node (g.D.Disk.reads_as c.open.new.disk) (g.D.Disk.images c.open.new.disk)) now (c.in-Ok.ensures.on sound) known)))),
+)
+
+pub returns-in-Err-clause-status : goal.returns-in-Err-clause-status
+returns-in-Err-clause-status g c = query_opening c.in-Err.status (c.in-Err.ensures.one_of c.in-Err.status refl)
+
+pub returns-in-Err-clause-no_log : goal.returns-in-Err-clause-no_log
+returns-in-Err-clause-no_log g c = c.in-Err.ensures.no_log
+
+pub returns-in-Err-clause-out_faults : goal.returns-in-Err-clause-out_faults
+returns-in-Err-clause-out_faults g c = no_fault _ _ refl (opening_no_sink c.in-Err.status (c.in-Err.ensures.one_of c.in-Err.status refl))
+
+pub returns-in-Err-clause-disk_faults : goal.returns-in-Err-clause-disk_faults
+returns-in-Err-clause-disk_faults g c = counts-as c.in-Err.ensures.cause (λ e. ap Err e) (same_stop _ _)
+
+pub returns-clause-status : goal.returns-clause-status
+returns-clause-status g c = c.find_and_tell-status.ensures.status
+
+pub returns-clause-no_log : goal.returns-clause-no_log
+returns-clause-no_log g c = λ now told none. absurd (opened_there (g.D.Disk.reads_as c.args.disk.now) c.in-Ok.node.chain now c.in-Ok.ensures.kept told none)
+
+pub returns-clause-out_faults : goal.returns-clause-out_faults
+returns-clause-out_faults g c = c.find_and_tell-status.ensures.faults
+
+pub returns-clause-disk_faults : goal.returns-clause-disk_faults
+returns-clause-disk_faults g c = no_fault _ _ (c.in-Ok.ensures.cause.unchanged (no_answer _ _)) c.find_and_tell-status.ensures.disk
+
+pub returns-in-Err-clause-rests : goal.returns-in-Err-clause-rests
+returns-in-Err-clause-rests g c = c.in-Err.ensures.rests
+
+pub returns-clause-rests : goal.returns-clause-rests
+returns-clause-rests g c = c.in-Ok.ensures.rests
+
+pub returns-in-Err-clause-most : goal.returns-in-Err-clause-most
+returns-in-Err-clause-most g c = c.in-Err.ensures.most
+
+pub returns-clause-most : goal.returns-clause-most
+returns-clause-most g c = c.in-Ok.ensures.most

@@ -1,0 +1,84 @@
+use Rattle.std.proofs.Common.{◌≡◌, [], refl, ap, ◌∙◌, arith, inl, inr, subst}
+use Rattle.outside.proofs.Endings.{no_fault, counts-as, no_answer}
+use Rattle.outside.proofs.Streams.{takes_none}
+use Rattle.report_defs.specs.declared.status.Status.TheVariants.{NoMemory}
+use Rattle.report_defs.specs.Report.{Report, text_of, report_of_file}
+use Rattle.node_run.proofs.Statuses.{reading_stops}
+use Rattle.node_run.proofs.StandaloneLemmas.{given_most, stopped_at_once, stopped_in_line, answered, standalone_reading}
+use Rattle.std.specs.Prelude.{Err}
+use Rattle.item_reader.specs.Items.{IsReadingStop}
+use Rattle.node_run.proofs.Exits.{same_stop}
+use Rattle.node_run.proofs.Faults.{IsMemory}
+use Rattle.node_run.proofs.standalone.standalone.Goals as goal
+
+pub returns-in-Err-clause-text : goal.returns-in-Err-clause-text
+returns-in-Err-clause-text g c =
+    let read = c.in-Err.ensures.file in (
+      read.0,
+      [],
+      read.1,
+      takes_none (g.K.Sink.taken c.args.out.now),
+      stopped_at_once c.args.command read.0 (g.S.Source.left c.read_file.new.input) c.in-Err.status (reading_stops c.in-Err.status read.2.stop) (omega (arith, read.2.most)),
+    )
+
+pub returns-in-Err-answer_to-clause-text : goal.returns-in-Err-answer_to-clause-text
+returns-in-Err-answer_to-clause-text g c =
+    let read = c.in-Ok.ensures.file in (
+      read.0,
+      [],
+      read.1,
+      takes_none (g.K.Sink.taken c.args.out.now),
+      stopped_at_once c.args.command read.0 (g.S.Source.left c.read_file.new.input) NoMemory tt (given_most (g.S.Source.left c.read_file.new.input) c.in-Ok.file.items read.0 read.2),
+    )
+
+pub returns-in-Ok-write_text-clause-text : goal.returns-in-Ok-write_text-clause-text
+returns-in-Ok-write_text-clause-text g c =
+    let read = c.in-Ok.ensures.file in
+    let written = c.in-Ok-write_text.ensures.written in
+    let file : report_of_file c.args.command c.deref.result.now ≡ report_of_file c.args.command c.in-Ok.file.items = ap (report_of_file c.args.command) c.deref.ensures.value in (
+      read.0,
+      written.0,
+      read.1,
+      written.1,
+      answered c.args.command read.0 (g.S.Source.left c.read_file.new.input) c.in-Ok.file.items written.0 c.in-Ok-answer_to.answer.status read.2
+          (written.2 ∙ c.as_bytes.ensures.value ∙ c.in-Ok-answer_to.ensures.line ∙ ap (λ (r : Report). text_of r) file)
+          (c.in-Ok-answer_to.ensures.status ∙ ap (λ (r : Report). r.status) file),
+    )
+
+pub returns-clause-text : goal.returns-clause-text
+returns-clause-text g c =
+    let read = c.in-Ok.ensures.file in
+    let written = c.in-Err-write_text.ensures.written in
+    let file : report_of_file c.args.command c.deref.result.now ≡ report_of_file c.args.command c.in-Ok.file.items = ap (report_of_file c.args.command) c.deref.ensures.value in (
+      read.0,
+      written.0,
+      read.1,
+      written.1,
+      stopped_in_line c.args.command read.0 (g.S.Source.left c.read_file.new.input) c.in-Ok.file.items c.as_bytes.result.now written.0 c.in-Err-write_text.status read.2
+          (c.as_bytes.ensures.value ∙ c.in-Ok-answer_to.ensures.line ∙ ap (λ (r : Report). text_of r) file) (c.in-Err-write_text.ensures.stop c.in-Err-write_text.status refl) written.2.front,
+    )
+
+pub returns-in-Err-clause-status : goal.returns-in-Err-clause-status
+returns-in-Err-clause-status g c = standalone_reading c.in-Err.status c.in-Err.ensures.file.2.stop
+
+pub returns-in-Err-clause-input_faults : goal.returns-in-Err-clause-input_faults
+returns-in-Err-clause-input_faults g c = counts-as c.in-Err.ensures.faults (λ e. ap Err e) (same_stop _ _)
+
+pub returns-in-Err-clause-out_faults : goal.returns-in-Err-clause-out_faults
+returns-in-Err-clause-out_faults g c = no_fault _ _ refl (λ e. subst IsReadingStop e c.in-Err.ensures.file.2.stop)
+
+pub returns-in-Err-answer_to-clause-status : goal.returns-in-Err-answer_to-clause-status
+returns-in-Err-answer_to-clause-status g c = inr (inr (inr (inl refl)))
+
+pub returns-in-Err-answer_to-clause-input_faults : goal.returns-in-Err-answer_to-clause-input_faults
+returns-in-Err-answer_to-clause-input_faults g c =
+    no_fault _ _ (c.in-Ok.ensures.faults.unchanged (no_answer _ _)) (λ e. subst IsMemory e tt)
+
+pub returns-in-Err-answer_to-clause-out_faults : goal.returns-in-Err-answer_to-clause-out_faults
+returns-in-Err-answer_to-clause-out_faults g c = no_fault _ _ refl (λ e. subst IsMemory e tt)
+
+pub returns-clause-status : goal.returns-clause-status
+returns-clause-status g c = inr (inr (inl (c.in-Err-write_text.ensures.stop c.in-Err-write_text.status refl)))
+
+pub returns-clause-out_faults : goal.returns-clause-out_faults
+returns-clause-out_faults g c = counts-as c.in-Err-write_text.ensures.faults (λ e. ap Err e) (same_stop _ _)

@@ -1,0 +1,166 @@
+// Questions: the store is asked about a whole input.
+ghost use Rattle.std.specs.Prelude.{◌≡◌, ◌≢◌, ◌+◌, ◌≤◌, slice_index, ◌∷◌, [], Err, Some, IfOk, length, map, string_bytes};
+ghost use Rattle.outside.specs.Causes.{CountsFault};
+ghost use Rattle.outside.specs.Image.{Image};
+ghost use Rattle.verdict_defs.specs.Chain.{Chain};
+ghost use Rattle.verdict_defs.specs.Trial as trials;
+ghost use Rattle.log_defs.specs.Log.{end_of_log};
+ghost use Rattle.store_defs.specs.Store.{Keeps, store_of, IsJoined};
+ghost use Rattle.outside.specs.Disk.{IsOnlyRead};
+ghost use Rattle.report_defs.specs.Report as reports;
+ghost use Rattle.report_defs.specs.Text as text;
+ghost use Rattle.report_defs.specs.Status.{IsOneOf};
+ghost use Rattle.report_defs.specs.Promise.{question_statuses};
+ghost use Rattle.item_reader.specs.Items.{Gave};
+ghost use Rattle.item_reader.specs.Whole.{IsReadWhole};
+ghost use Rattle.node_core.specs.Steps.{replays_to_open};
+ghost use Rattle.node_run.specs.Output.{Transfers};
+ghost use Rattle.node_run.specs.Store.{finding_stops};
+ghost use Rattle.node_run.specs.Question.{IsAnswerTo, AnswersQuestion, DeliversAnswer};
+
+use crate::lines::trial_line;
+use crate::output::{Answer, tell, tell_early};
+use crate::store::{open, status_of_reading};
+use item_reader::{Whole, read_whole};
+use mol_schema::TxView;
+use node_core::{Judged, Node};
+use outside::{Disk, NoMemory, Sink, Source, Steps};
+use report_defs::{Question, Status};
+use std::alloc::Global;
+use std::sync::ledger::Ledger;
+use verdict_defs::Trial;
+
+/// The most bytes of a transaction.
+const ITEM_LIMIT: usize = 1 << 20;
+
+/// Reads the items that a question is about.
+fn read_items<S: Source>(alloc: Global, input: &mut S, question: Question) -> Result<Whole, Status>
+    ensures read { Gave (S.left input.old) (S.left input.new) (IsReadWhole (reports.question_items question) (S.left input.new) result) }
+    ensures faults { CountsFault (S.faults input.old) (S.faults input.new) (result ≡ Err Status.InputFault) }
+{
+    match question {
+        Question::Check => read_whole(alloc, input, &[ITEM_LIMIT]),
+    }
+}
+
+/// Finds what a question answers of these items over the kept blocks. Each question has a function of its own.
+fn answer_to(
+    alloc: Global,
+    node: &mut Node,
+    question: Question,
+    items: &[Vec<u8>],
+) -> Result<Answer, Status>
+    requires { length items.now ≡ length (reports.question_items question) }
+    ensures answer { IsJoined node.old.chain → IfOk result (λ answer. IsAnswerTo question node.old.chain (map (λ item. item.items) items.now) (string_bytes answer.text) answer.status) }
+    ensures one_of { IfOk result (λ answer. IsOneOf (Status.Done ∷ Status.SomeRefused ∷ []) answer.status) }
+    ensures stop { (status : Status) → result ≡ Err status → IsOneOf finding_stops status }
+    ensures sound { IsJoined node.old.chain → result ≡ Err Status.NotAStore → ⊥ }
+{
+    match question {
+        Question::Check => check(alloc, node, &items[0]),
+    }
+}
+
+/// Judges a transaction alone, and says what came of it.
+fn check(alloc: Global, node: &mut Node, item: &[u8]) -> Result<Answer, Status>
+    ensures answer { IsJoined node.old.chain → IfOk result (λ answer. IsAnswerTo Question.Check node.old.chain (item.now ∷ []) (string_bytes answer.text) answer.status) }
+    ensures one_of { IfOk result (λ answer. IsOneOf (Status.Done ∷ Status.SomeRefused ∷ []) answer.status) }
+    ensures stop { (status : Status) → result ≡ Err status → IsOneOf finding_stops status }
+    ensures sound { IsJoined node.old.chain → result ≡ Err Status.NotAStore → ⊥ }
+{
+    let tried = match judge_item(alloc, node, item) {
+        Ok(tried) => tried,
+        Err(status) => return Err(status),
+    };
+    match answer_of_trial(alloc, &tried) {
+        Ok(answer) => Ok(answer),
+        Err(_) => Err(Status::NoMemory),
+    }
+}
+
+/// Judges the transaction of an item alone.
+fn judge_item(alloc: Global, node: &mut Node, item: &[u8]) -> Result<Trial, Status>
+    ensures trial { IsJoined node.old.chain → IfOk result (λ tried. tried ≡ trials.trial node.old.chain item.now) }
+    ensures stop { (status : Status) → result ≡ Err status → IsOneOf finding_stops status }
+    ensures sound { IsJoined node.old.chain → result ≡ Err Status.NotAStore → ⊥ }
+{
+    let Some(tx) = TxView::read(item) else {
+        return Ok(Trial::Refused(1));
+    };
+    match node.check(alloc, &tx) {
+        Ok((fee, cycles)) => Ok(Trial::Passes(fee, cycles)),
+        Err(Judged::Broken(rule)) => Ok(Trial::Refused(rule)),
+        Err(Judged::Read(stop)) => Err(status_of_reading(stop)),
+    }
+}
+
+/// What is said of a transaction that was judged, and the status.
+fn answer_of_trial(alloc: Global, tried: &Trial) -> Result<Answer, NoMemory>
+    ensures text { IfOk result (λ answer. string_bytes answer.text ≡ text.trial_line tried.now) }
+    ensures status { IfOk result (λ answer. answer.status ≡ reports.status_of_trial tried.now) }
+    ensures one_of { IfOk result (λ answer. IsOneOf (Status.Done ∷ Status.SomeRefused ∷ []) answer.status) }
+{
+    let text = trial_line(alloc, tried)?;
+    let status = match tried {
+        Trial::Passes(_, _) => Status::Done,
+        Trial::Refused(_) => Status::SomeRefused,
+    };
+    Ok(Answer { text, status })
+}
+
+/// Reads what the question is about, finds the answer, and tells it.
+fn read_and_tell<S: Source, K: Sink>(
+    alloc: Global,
+    input: &mut S,
+    out: &mut K,
+    node: &mut Node,
+    question: Question,
+) -> Status
+    ensures answered { Transfers (S.left input.old) (S.left input.new) (K.taken out.old) (K.taken out.new)
+        (λ given taken. IsJoined node.old.chain → AnswersQuestion question node.old.chain given (S.left input.new) taken result) }
+    ensures status { IsOneOf question_statuses result }
+    ensures disk { result ≡ Status.DiskFault → ⊥ }
+    ensures input_faults { CountsFault (S.faults input.old) (S.faults input.new) (result ≡ Status.InputFault) }
+    ensures out_faults { CountsFault (K.faults out.old) (K.faults out.new) (result ≡ Status.SinkFault) }
+{
+    let items = match read_items(alloc, input, question) {
+        Ok(Whole::Items(items)) => items,
+        Ok(Whole::Early { end, offset }) => return tell_early(alloc, out, end, offset),
+        Err(status) => return status,
+    };
+    match answer_to(alloc, node, question, &items) {
+        Ok(answer) => tell(out, &answer),
+        Err(status) => status,
+    }
+}
+
+/// Asks the store about what the input holds.
+pub fn question<S: Source, K: Sink, D: Disk, L: Ledger>(
+    alloc: Global,
+    input: &mut S,
+    out: &mut K,
+    disk: &mut D,
+    asked: Question,
+    steps: &mut Steps<L>,
+) -> Status
+    ensures question { Transfers (S.left input.old) (S.left input.new) (K.taken out.old) (K.taken out.new)
+        (λ given taken. DeliversAnswer asked (D.reads_as disk.old) (D.images disk.old) (D.images disk.new) (D.left_since disk.new (D.moment disk.old))
+        (S.left input.new) given taken result) }
+    ensures status { IsOneOf question_statuses result }
+    ensures no_log { (now : Image) → D.reads_as disk.old ≡ Some now → ((chain : Chain) → store_of now ≡ Keeps chain → ⊥)
+        → IsOnlyRead D.reads_as D.images D.moment D.left_since disk.old disk.new }
+    ensures input_faults { CountsFault (S.faults input.old) (S.faults input.new) (result ≡ Status.InputFault) }
+    ensures out_faults { CountsFault (K.faults out.old) (K.faults out.new) (result ≡ Status.SinkFault) }
+    ensures disk_faults { CountsFault (D.faults disk.old) (D.faults disk.new) (result ≡ Status.DiskFault) }
+    ensures rests { (now : Image) → D.reads_as disk.old ≡ Some now → slice_index now.log (end_of_log now.log) ≢ 1
+        → IsOnlyRead D.reads_as D.images D.moment D.left_since disk.old disk.new }
+    ensures most { (now : Image) → D.reads_as disk.old ≡ Some now → steps.new ≤ steps.old + replays_to_open (store_of now) }
+{
+    let mut node = match open(alloc, disk, steps) {
+        Ok(node) => node,
+        Err(status) => return status,
+    };
+    let status = read_and_tell(alloc, input, out, &mut node, asked);
+    drop(node);
+    status
+}
