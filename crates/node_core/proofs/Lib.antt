@@ -8,3 +8,4 @@ pub mod OpenLemmas
 pub mod OpeningLemmas
 pub mod ReplayLemmas
 pub mod OwnLemmas
+pub mod KeepingLemmas

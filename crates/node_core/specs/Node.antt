@@ -1,5 +1,5 @@
 -- What contracts see of a node and of a new store, and a disk as a node left it.
-use Rattle.std.specs.Prelude.{◌≡◌, ◌⊎◌, ℕ, ◌+◌, ◌-◌, ◌*◌, ◌^◌, ◌<◌, ◌≤◌, List, [], ◌∷◌, ◌++◌, map, length, slice_get, Option, Some, None}
+use Rattle.std.specs.Prelude.{◌≡◌, ◌⊎◌, Bool, false, true, ℕ, ◌+◌, ◌-◌, ◌*◌, ◌^◌, ◌<◌, ◌≤◌, List, [], ◌∷◌, ◌++◌, map, length, slice_get, Option, Some, None}
 use Rattle.outside.specs.declared.disk.Area.TheVariants.{Log}
 use Rattle.outside.specs.Image.{Image, content}
 use Rattle.outside.specs.Disk.{ComesBy, Follows, AreaKept}
@@ -16,10 +16,13 @@ use Rattle.cell_defs.specs.Row.{Row, live_row}
 use Rattle.chain_tree.specs.Blocks.{AreRated}
 use Rattle.uncle_rules.specs.Embedded.{UnclesValue, IndexesUncles}
 use Rattle.time_defs.specs.Specification.{Specification, broken_specification_rule}
+use Rattle.verdict_defs.specs.declared.verdict.Verdict.{Verdict}
+use Rattle.verdict_defs.specs.Verdict.{joins}
 use Rattle.verdict_defs.specs.Chain.{Chain, chain_of_genesis}
+use Rattle.log_file.specs.Pieces.{block_record}
 use Rattle.genesis_defs.specs.Genesis.{broken_genesis_rule}
-use Rattle.log_defs.specs.Log.{Record}
-use Rattle.log_defs.specs.Rest.{IsAtRest}
+use Rattle.log_defs.specs.Log.{Record, log_of}
+use Rattle.log_defs.specs.Rest.{IsAtRest, IsSettled, HasLog, HasAppended}
 use Rattle.store_defs.specs.Store.{StandsFor, HaveOwnExts, HasNoSnapshots, new_image}
 
 -- the ext beside each kept block
@@ -111,3 +114,24 @@ HasOldLogOrNoSnapshots images image = ComesBy (AreaKept Log) images image ⊎ Ha
 pub record KeepsLog (reads_old reads_new : Option Image) (old new : Image → Type 0) : Type 0 where
   pub reads : option_map (content Log) reads_new ≡ option_map (content Log) reads_old
   pub images : Follows (AreaKept Log) old new
+
+-- What opening leaves of images, over a LOG that reads as these bytes: one of them, or one of them with a log that says what these bytes say.
+abbrev pub IsLeftByOpening : List ℕ → (Image → Type 0) → Image → Type 0
+IsLeftByOpening bytes images image = images image ⊎ HasLog (λ log. log_of log ≡ log_of bytes) images image
+
+-- What an import of an item leaves of images with these records: they, or they and one of that item, with some ext behind it.
+abbrev pub IsLeftByImport : ℕ → List Record → List ℕ → (Image → Type 0) → Image → Type 0
+IsLeftByImport place records item images image = (ext : List ℕ) × HasAppended place records (block_record item ext) images image
+
+-- with the record of an item behind them where it joined, and some ext in it, and else the same
+abbrev pub AreRecordsBehind : List Record → List ℕ → List Record → Bool → Type 0
+AreRecordsBehind records item later false = later ≡ records
+AreRecordsBehind records item later true = (ext : List ℕ) × (later ≡ records ++ block_record item ext ∷ [])
+
+-- The records after an item of this verdict.
+abbrev pub AreRecordsAfter : List Record → List ℕ → Verdict → List Record → Type 0
+AreRecordsAfter records item verdict later = AreRecordsBehind records item later (joins verdict)
+
+-- The log is settled with the records after an item of this verdict.
+abbrev pub IsSettledAfter : List Record → List ℕ → Verdict → ℕ → Option Image → (Image → Type 0) → Type 0
+IsSettledAfter records item verdict place reads images = (later : List Record) × AreRecordsAfter records item verdict later × IsSettled place later reads images

@@ -1,7 +1,7 @@
 // A node: the kept blocks of a store, in memory and on their disk.
-ghost use Rattle.std.specs.Prelude.{◌≡◌, ◌≢◌, ◌⊎◌, ◌<◌, ◌≤◌, ◌+◌, ◌^◌, ℕ, false, Err, List, Some, length, slice_index, IfOk, IfErr, OnOk, OnErr, IfSome, IsTrue};
+ghost use Rattle.std.specs.Prelude.{◌≡◌, ◌≢◌, ◌⊎◌, ◌<◌, ◌≤◌, ◌+◌, ◌^◌, ◌++◌, ◌∷◌, [], ℕ, false, Err, List, Some, length, drop, slice_index, IfOk, IfErr, OnOk, OnErr, IfSome, IsTrue};
 ghost use Rattle.outside.specs.Causes.{CountsFault};
-ghost use Rattle.outside.specs.Disk.{HasOneImage, LeavesOnly, IsOnlyRead};
+ghost use Rattle.outside.specs.Disk.{HasOneImage, OthersRead, LeavesOnly, IsOnlyRead};
 ghost use Rattle.outside.specs.Image.{Image};
 ghost use Rattle.outside.specs.declared.disk.Area.TheVariants.{Log as log_area};
 ghost use Rattle.outside.specs.declared.disk.Damage.{Damage};
@@ -21,10 +21,11 @@ ghost use Rattle.verdict_defs.specs.Chain.{Chain, verdict_over, chain_after};
 ghost use Rattle.verdict_defs.specs.Verdict.{joins};
 ghost use Rattle.verdict_defs.specs.Trial.{trial_on};
 ghost use Rattle.verdict_defs.specs.declared.trial.Trial.TheVariants.{Passes, Refused};
-ghost use Rattle.log_defs.specs.Log.{end_of_log};
+ghost use Rattle.log_defs.specs.Log.{Record, records_of, end_of_log};
+ghost use Rattle.log_defs.specs.Rest.{IsSettled};
 ghost use Rattle.store_defs.specs.Store.{Keeps, store_of, StandsFor, IsSound, IsJoined, HaveOwnExts, AreJoined};
 ghost use Rattle.log_file.specs.Pieces.{behind_gate, block_record};
-ghost use Rattle.node_core.specs.Node.{IsOn};
+ghost use Rattle.node_core.specs.Node.{IsOn, IsLeftByOpening, IsLeftByImport, IsSettledAfter};
 ghost use Rattle.node_core.specs.Steps.{replays_for, replays_to_open};
 ghost use Rattle.node_core.specs.Judging.{IsReadyItem, IsDecided};
 ghost use Rattle.node_core.specs.declared.deciding.Decision.TheVariants.{Joins};
@@ -102,7 +103,8 @@ impl Model for Node {
 
 impl Node {
     /// Opens the store on a disk, and replays the branch of its tip. After `Ok` a crash leaves each area as it reads. Also a
-    /// log whose blocks have not joined may be answered as no store.
+    /// log whose blocks have not joined may be answered as no store. Whatever is answered, a crash leaves what it might
+    /// have left before, or a log that says what it said.
     pub fn open<D: Disk, L: Ledger>(
         alloc: Global,
         disk: &mut D,
@@ -115,6 +117,11 @@ impl Node {
         ensures rests { (now : Image) → D.reads_as disk.old ≡ Some now → slice_index now.log (end_of_log now.log) ≢ 1
             → IsOnlyRead D.reads_as D.images D.moment D.left_since disk.old disk.new }
         ensures there { IfOk result (λ node. IfSome (D.reads_as disk.new) (λ image. node.place < length image.log)) }
+        ensures settled { IfOk result (λ node. IfSome (D.reads_as disk.old) (λ now.
+            IsSettled node.place (records_of (drop 8 now.log)) (D.reads_as disk.new) (D.images disk.new))) }
+        ensures keeps { (now : Image) → D.reads_as disk.old ≡ Some now
+            → LeavesOnly D.moment D.left_since disk.old disk.new (IsLeftByOpening now.log (D.images disk.old)) }
+        ensures others { OthersRead log_area (D.reads_as disk.old) (D.reads_as disk.new) }
         ensures one_image { OnOk result (HasOneImage (D.reads_as disk.new) (D.images disk.new)) }
         ensures on { ((image : Image) → D.images disk.old image → IsSound image)
             → IfOk result (λ node. IfSome (D.reads_as disk.old) (λ _. IsOn node (D.reads_as disk.new) (D.images disk.new))) }
@@ -167,6 +174,11 @@ impl Node {
             → IfOk result (λ node. IsOn node (D.reads_as disk.new) (D.images disk.new)) }
         ensures moments { IsDecided self.chain item.now (Joins joining) → IsOn self (D.reads_as disk.old) (D.images disk.old)
             → LeavesOnly D.moment D.left_since disk.old disk.new (λ image. StandsFor self.chain image ⊎ StandsFor (chain_after self.chain item.now) image) }
+        ensures settled { (records : List Record) → IsSettled self.place records (D.reads_as disk.old) (D.images disk.old)
+            → IfOk result (λ node. IsSettled node.place (records ++ block_record item.now (ext_bytes joining.ext) ∷ []) (D.reads_as disk.new) (D.images disk.new)) }
+        ensures keeps { (records : List Record) → IsSettled self.place records (D.reads_as disk.old) (D.images disk.old)
+            → LeavesOnly D.moment D.left_since disk.old disk.new (IsLeftByImport self.place records item.now (D.images disk.old)) }
+        ensures others { OthersRead log_area (D.reads_as disk.old) (D.reads_as disk.new) }
         ensures untouched { IfErr result (λ stop. stop ≢ DiskFault → disk.new ≡ disk.old) }
         ensures undamaged { IsDecided self.chain item.now (Joins joining) → IsJoined self.chain → (damage : Damage) → result ≡ Err (Damaged damage) → ⊥ }
         ensures damage { (damage : Damage) → result ≡ Err (Damaged damage) → damage.area ≡ log_area }
@@ -219,6 +231,12 @@ impl Node {
         ensures on { IsOn self (D.reads_as disk.old) (D.images disk.old) → IfOk result (λ answer. IsOn answer.0 (D.reads_as disk.new) (D.images disk.new)) }
         ensures moments { IsOn self (D.reads_as disk.old) (D.images disk.old)
             → LeavesOnly D.moment D.left_since disk.old disk.new (λ image. StandsFor self.chain image ⊎ StandsFor (chain_after self.chain item.now) image) }
+        ensures settled { (records : List Record) → IsSettled self.place records (D.reads_as disk.old) (D.images disk.old)
+            → IfOk result (λ answer. IsSettledAfter records item.now answer.1 answer.0.place (D.reads_as disk.new) (D.images disk.new)) }
+        ensures keeps { (records : List Record) → IsSettled self.place records (D.reads_as disk.old) (D.images disk.old)
+            → LeavesOnly D.moment D.left_since disk.old disk.new (IsLeftByImport self.place records item.now (D.images disk.old)) }
+        ensures others { OthersRead log_area (D.reads_as disk.old) (D.reads_as disk.new) }
+        ensures still { AreJoined self.chain self.exts → joins (verdict_over self.chain item.now) ≡ false → disk.new ≡ disk.old }
         ensures unwritten { IfOk result (λ answer. joins answer.1 ≡ false → disk.new ≡ disk.old) }
         ensures untouched { IfErr result (λ stop. stop ≢ DiskFault → disk.new ≡ disk.old) }
         ensures undamaged { AreJoined self.chain self.exts → (damage : Damage) → result ≡ Err (Damaged damage) → ⊥ }

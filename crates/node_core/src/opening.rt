@@ -131,6 +131,9 @@ impl Kept {
         ensures exts { IfOk result (λ kept. kept.exts ≡ contents exts.items) }
         ensures joined { (kept : List Block) → map (decoded schema.block) (contents blocks.items) ≡ map Some kept
             → IsJoined (record { spec = spec; blocks = kept }) → HaveExts (contents blocks.items) (contents exts.items) → result ≢ Err NotAStore }
+        // No want of memory is told for these two:
+        ensures unrated { (AreRated tree.entries → ⊥) → result ≡ Err NotAStore }
+        ensures unfit { (HaveExts (contents blocks.items) (contents exts.items) → ⊥) → result ≡ Err NotAStore }
         ensures reads { result ≢ Err DiskFault }
         ensures most { (kept : List Block) → map (decoded schema.block) (contents blocks.items) ≡ map Some kept → steps.new ≤ steps.old + greatest_number kept }
     {

@@ -152,3 +152,41 @@ returns-in-Err-new-clause-reads g c = memory_not_fault
 
 pub returns-in-Err-new-clause-most : goal.returns-in-Err-new-clause-most
 returns-in-Err-new-clause-most g c = λ _ _. none-replayed _ _
+
+pub returns-then-not-are_rated-clause-unrated : goal.returns-then-not-are_rated-clause-unrated
+returns-then-not-are_rated-clause-unrated g c = λ _. refl
+
+pub returns-then-not-are_rated-clause-unfit : goal.returns-then-not-are_rated-clause-unfit
+returns-then-not-are_rated-clause-unfit g c = λ _. refl
+
+pub returns-in-Err-clause-unrated : goal.returns-in-Err-clause-unrated
+returns-in-Err-clause-unrated g c = λ unrated. absurd (unrated (c.are_rated.ensures.rated c.if-not-are_rated.false))
+
+pub returns-in-Err-clause-unfit : goal.returns-in-Err-clause-unfit
+returns-in-Err-clause-unfit g c = λ unfit.
+    absurd (unfit (exts-in c.args.blocks.items c.deref.result.now c.args.exts.items c.deref-else-not-are_rated.result.now
+    c.deref.ensures.value c.deref-else-not-are_rated.ensures.value (c.have_exts.ensures.have c.if-not-have_exts.false)))
+
+pub returns-in-Err-new-clause-unrated : goal.returns-in-Err-new-clause-unrated
+returns-in-Err-new-clause-unrated g c = λ unrated. absurd (unrated (c.are_rated.ensures.rated c.if-not-are_rated.false))
+
+pub returns-in-Err-new-clause-unfit : goal.returns-in-Err-new-clause-unfit
+returns-in-Err-new-clause-unfit g c = λ unfit.
+    absurd (unfit (exts-in c.args.blocks.items c.deref.result.now c.args.exts.items c.deref-else-not-are_rated.result.now
+    c.deref.ensures.value c.deref-else-not-are_rated.ensures.value (c.have_exts.ensures.have c.if-not-have_exts.false)))
+
+pub returns-in-Err-replay-clause-unrated : goal.returns-in-Err-replay-clause-unrated
+returns-in-Err-replay-clause-unrated g c = λ unrated. absurd (unrated (c.are_rated.ensures.rated c.if-not-are_rated.false))
+
+pub returns-in-Err-replay-clause-unfit : goal.returns-in-Err-replay-clause-unfit
+returns-in-Err-replay-clause-unfit g c = λ unfit.
+    absurd (unfit (exts-in c.args.blocks.items c.deref.result.now c.args.exts.items c.deref-else-not-are_rated.result.now
+    c.deref.ensures.value c.deref-else-not-are_rated.ensures.value (c.have_exts.ensures.have c.if-not-have_exts.false)))
+
+pub returns-in-Ok-replay-clause-unrated : goal.returns-in-Ok-replay-clause-unrated
+returns-in-Ok-replay-clause-unrated g c = λ unrated. absurd (unrated (c.are_rated.ensures.rated c.if-not-are_rated.false))
+
+pub returns-in-Ok-replay-clause-unfit : goal.returns-in-Ok-replay-clause-unfit
+returns-in-Ok-replay-clause-unfit g c = λ unfit.
+    absurd (unfit (exts-in c.args.blocks.items c.deref.result.now c.args.exts.items c.deref-else-not-are_rated.result.now
+    c.deref.ensures.value c.deref-else-not-are_rated.ensures.value (c.have_exts.ensures.have c.if-not-have_exts.false)))

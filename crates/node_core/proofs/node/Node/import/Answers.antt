@@ -2,11 +2,12 @@ use Rattle.std.proofs.Common.{◌≡◌, ◌⊎◌, arith, ap, sym, ◌∙◌, s
 use Rattle.outside.specs.Disk.{LeavesOnly}
 use Rattle.chain_defs.specs.Kept.{place_of, kept_limit}
 use Rattle.chain_defs.specs.Tip.{tip_place}
+use Rattle.verdict_defs.specs.declared.verdict.Verdict.TheVariants.{Joined}
 use Rattle.verdict_defs.specs.Verdict.{joins}
 use Rattle.verdict_defs.specs.Chain.{Chain, chain_after}
 use Rattle.store_defs.specs.Store.{IsJoined, HaveOwnExts, AreJoined, StandsFor}
 use Rattle.store_defs.proofs.JoinedLemmas.{joined_after}
-use Rattle.node_core.specs.Node.{KeptValue, NodeValue, kept_in, node_of, IsOn, IsWithin}
+use Rattle.node_core.specs.Node.{KeptValue, NodeValue, kept_in, node_of, IsOn, IsWithin, IsLeftByImport}
 use Rattle.node_core.specs.Judging.{IsReadyItem, IsDecided}
 use Rattle.node_core.specs.declared.deciding.Decision.TheVariants.{Joins, Stays}
 use Rattle.node_core.proofs.ImportLemmas.{joined_on, joined_stays_not, decided_on, ready_on, verdict_is, stays_so}
@@ -15,6 +16,12 @@ use Rattle.log_file.proofs.Exits.{stop_counts}
 use Rattle.node_core.proofs.OpenLemmas.{ok_err, same_stop}
 use Rattle.node_core.proofs.ReplayLemmas.{replays-of-chain}
 use Rattle.std.specs.Prelude.{IfSome}
+use Rattle.cell_defs.specs.Ext.{ext_bytes}
+use Rattle.outside.specs.declared.disk.Area.TheVariants.{Log}
+use Rattle.outside.proofs.Moments.{leaves_also}
+use Rattle.log_defs.specs.Rest.{IsSettled}
+use Rattle.log_file.proofs.Creating.{others_same}
+use Rattle.node_core.proofs.KeepingLemmas.{started_import, settled_still, settled_grown}
 use Rattle.node_core.proofs.node.Node.import.Goals as goal
 
 pub returns-in-Err-join-clause-moments : goal.returns-in-Err-join-clause-moments
@@ -300,3 +307,88 @@ returns-in-Err-join-clause-stays g c = tt
 
 pub returns-in-Ok-join-clause-stays : goal.returns-in-Ok-join-clause-stays
 returns-in-Ok-join-clause-stays g c = λ e. absurd (joined_stays_not e)
+
+pub returns-in-Err-clause-settled : goal.returns-in-Err-clause-settled
+returns-in-Err-clause-settled g c = λ _ _. tt
+
+pub returns-in-Err-join-clause-settled : goal.returns-in-Err-join-clause-settled
+returns-in-Err-join-clause-settled g c = λ _ _. tt
+
+pub returns-in-Stays-clause-settled : goal.returns-in-Stays-clause-settled
+returns-in-Stays-clause-settled g c = λ records settled.
+    let chain_is : c.node.inside.kept.chain ≡ c.args.self.chain = ap (λ (v : NodeValue). v.chain) c.node.view_is in
+    let at : c.node.inside.log.place ≡ c.args.self.place = ap (λ (v : NodeValue). v.place) c.node.view_is in
+    let left : IsReadyItem c.args.self.chain.blocks c.args.item.now (Stays c.in-Stays.verdict) =
+    ready_on c.node.inside.kept.chain c.args.self.chain c.args.item.now c.in-Ok.decision (Stays c.in-Stays.verdict) chain_is c.in-Stays.is
+    c.in-Ok.ensures.ready in
+    settled_still records c.args.item.now c.in-Stays.verdict c.node.inside.log.place _ _ left
+    (subst (λ (p : ℕ). IsSettled p records (g.D.Disk.reads_as c.args.disk.now) (g.D.Disk.images c.args.disk.now)) (sym at) settled)
+
+pub returns-in-Ok-join-clause-settled : goal.returns-in-Ok-join-clause-settled
+returns-in-Ok-join-clause-settled g c = λ records settled.
+    let at : c.node.inside.log.place ≡ c.args.self.place = ap (λ (v : NodeValue). v.place) c.node.view_is in
+    settled_grown records c.args.item.now (ext_bytes c.in-Joins.joining.ext) (Joined c.in-Joins.joining.entry.number c.in-Joins.joining.entry.hash) _ _ _ refl
+    (c.in-Ok-join.ensures.settled records
+    (subst (λ (p : ℕ). IsSettled p records (g.D.Disk.reads_as c.args.disk.now) (g.D.Disk.images c.args.disk.now)) (sym at) settled))
+
+pub returns-in-Err-clause-keeps : goal.returns-in-Err-clause-keeps
+returns-in-Err-clause-keeps g c = λ records settled.
+    started_import g.D.Disk.moment g.D.Disk.left_since g.D.Disk.images g.met.D.Disk.only_now c.args.self.place records c.args.item.now _ _ settled
+
+pub returns-in-Err-clause-others : goal.returns-in-Err-clause-others
+returns-in-Err-clause-others g c = others_same Log (g.D.Disk.reads_as c.args.disk.now)
+
+pub returns-in-Err-clause-still : goal.returns-in-Err-clause-still
+returns-in-Err-clause-still g c = λ _ _. refl
+
+pub returns-in-Stays-clause-keeps : goal.returns-in-Stays-clause-keeps
+returns-in-Stays-clause-keeps g c = λ records settled.
+    started_import g.D.Disk.moment g.D.Disk.left_since g.D.Disk.images g.met.D.Disk.only_now c.args.self.place records c.args.item.now _ _ settled
+
+pub returns-in-Stays-clause-others : goal.returns-in-Stays-clause-others
+returns-in-Stays-clause-others g c = others_same Log (g.D.Disk.reads_as c.args.disk.now)
+
+pub returns-in-Stays-clause-still : goal.returns-in-Stays-clause-still
+returns-in-Stays-clause-still g c = λ _ _. refl
+
+pub returns-in-Err-join-clause-keeps : goal.returns-in-Err-join-clause-keeps
+returns-in-Err-join-clause-keeps g c = λ records settled.
+    let at : c.node.inside.log.place ≡ c.args.self.place = ap (λ (v : NodeValue). v.place) c.node.view_is in
+    leaves_also g.D.Disk.moment g.D.Disk.left_since _ _ _ _
+    (c.join.ensures.keeps records
+    (subst (λ (p : ℕ). IsSettled p records (g.D.Disk.reads_as c.args.disk.now) (g.D.Disk.images c.args.disk.now)) (sym at) settled))
+    (λ image left. subst (λ (p : ℕ). IsLeftByImport p records c.args.item.now (g.D.Disk.images c.args.disk.now) image) at left)
+
+pub returns-in-Err-join-clause-others : goal.returns-in-Err-join-clause-others
+returns-in-Err-join-clause-others g c = c.join.ensures.others
+
+pub returns-in-Err-join-clause-still : goal.returns-in-Err-join-clause-still
+returns-in-Err-join-clause-still g c = λ joined stays.
+    let chain_is : c.node.inside.kept.chain ≡ c.args.self.chain = ap (λ (v : NodeValue). v.chain) c.node.view_is in
+    let is = verdict_is c.args.self.chain c.args.item.now c.in-Joins.joining
+    (decided_on c.node.inside.kept (kept_in c.args.self) c.args.item.now c.in-Ok.decision (Joins c.in-Joins.joining) (ap kept_in c.node.view_is) c.in-Joins.is
+    c.in-Ok.ensures.decided joined)
+    (ready_on c.node.inside.kept.chain c.args.self.chain c.args.item.now c.in-Ok.decision (Joins c.in-Joins.joining) chain_is c.in-Joins.is
+    c.in-Ok.ensures.ready) in
+    absurd (joined_stays_not (ap joins is ∙ stays))
+
+pub returns-in-Ok-join-clause-keeps : goal.returns-in-Ok-join-clause-keeps
+returns-in-Ok-join-clause-keeps g c = λ records settled.
+    let at : c.node.inside.log.place ≡ c.args.self.place = ap (λ (v : NodeValue). v.place) c.node.view_is in
+    leaves_also g.D.Disk.moment g.D.Disk.left_since _ _ _ _
+    (c.join.ensures.keeps records
+    (subst (λ (p : ℕ). IsSettled p records (g.D.Disk.reads_as c.args.disk.now) (g.D.Disk.images c.args.disk.now)) (sym at) settled))
+    (λ image left. subst (λ (p : ℕ). IsLeftByImport p records c.args.item.now (g.D.Disk.images c.args.disk.now) image) at left)
+
+pub returns-in-Ok-join-clause-others : goal.returns-in-Ok-join-clause-others
+returns-in-Ok-join-clause-others g c = c.join.ensures.others
+
+pub returns-in-Ok-join-clause-still : goal.returns-in-Ok-join-clause-still
+returns-in-Ok-join-clause-still g c = λ joined stays.
+    let chain_is : c.node.inside.kept.chain ≡ c.args.self.chain = ap (λ (v : NodeValue). v.chain) c.node.view_is in
+    let is = verdict_is c.args.self.chain c.args.item.now c.in-Joins.joining
+    (decided_on c.node.inside.kept (kept_in c.args.self) c.args.item.now c.in-Ok.decision (Joins c.in-Joins.joining) (ap kept_in c.node.view_is) c.in-Joins.is
+    c.in-Ok.ensures.decided joined)
+    (ready_on c.node.inside.kept.chain c.args.self.chain c.args.item.now c.in-Ok.decision (Joins c.in-Joins.joining) chain_is c.in-Joins.is
+    c.in-Ok.ensures.ready) in
+    absurd (joined_stays_not (ap joins is ∙ stays))

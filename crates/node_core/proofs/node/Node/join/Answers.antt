@@ -1,4 +1,4 @@
-use Rattle.std.proofs.Common.{◌≡◌, ℕ, ◌<◌, length, refl, ap, sym, ◌∙◌, subst, Err, arith}
+use Rattle.std.proofs.Common.{◌≡◌, ℕ, ◌<◌, List, length, refl, ap, sym, ◌∙◌, subst, Err, arith}
 use Rattle.std.specs.Prelude.{IfSome}
 use Rattle.outside.proofs.Moments.{leaves_also, now_too}
 use Rattle.cell_defs.specs.Ext.{ext_bytes}
@@ -15,6 +15,10 @@ use Rattle.node_core.proofs.ImportLemmas.{can_join, record_is, form_is, is_ext_f
 use Rattle.node_core.proofs.DiskLemmas.{counts_none, settled_on, stands_either, is_on_after, before_calls}
 use Rattle.log_file.proofs.Exits.{fault_counts}
 use Rattle.node_core.proofs.OpenLemmas.{ok_err, same_stop, memory_no_damage, memory_no_fault, fault_no_damage}
+use Rattle.outside.specs.declared.disk.Area.TheVariants.{Log}
+use Rattle.log_defs.specs.Rest.{IsSettled, HasAppended}
+use Rattle.log_file.proofs.Creating.{others_same}
+use Rattle.node_core.proofs.KeepingLemmas.{started_import}
 use Rattle.node_core.proofs.node.Node.join.Goals as goal
 
 pub rec_behind-rec-requires-clause-limit : goal.rec_behind-rec-requires-clause-limit
@@ -216,3 +220,56 @@ returns-in-Ok-append-clause-damage g c = λ _ e. absurd (ok_err _ _ e)
 
 pub returns-in-Ok-append-clause-most : goal.returns-in-Ok-append-clause-most
 returns-in-Ok-append-clause-most g c = c.join.ensures.most
+
+pub returns-in-Err-clause-settled : goal.returns-in-Err-clause-settled
+returns-in-Err-clause-settled g c = λ _ _. tt
+
+pub returns-in-Err-join-clause-settled : goal.returns-in-Err-join-clause-settled
+returns-in-Err-join-clause-settled g c = λ _ _. tt
+
+pub returns-in-Err-append-clause-settled : goal.returns-in-Err-append-clause-settled
+returns-in-Err-append-clause-settled g c = λ _ _. tt
+
+pub returns-in-Ok-append-clause-settled : goal.returns-in-Ok-append-clause-settled
+returns-in-Ok-append-clause-settled g c = λ records settled.
+    let at : c.self.inside.log.place ≡ c.args.self.place = ap (λ (v : NodeValue). v.place) c.self.view_is in
+    c.in-Ok-append.ensures.settled records (block_record c.args.item.now (ext_bytes c.args.joining.ext)) c.in-Ok.ensures.filled
+    (subst (λ (p : ℕ). IsSettled p records (g.D.Disk.reads_as c.args.disk.now) (g.D.Disk.images c.args.disk.now)) (sym at) settled)
+
+pub returns-in-Err-clause-keeps : goal.returns-in-Err-clause-keeps
+returns-in-Err-clause-keeps g c = λ records settled.
+    started_import g.D.Disk.moment g.D.Disk.left_since g.D.Disk.images g.met.D.Disk.only_now c.args.self.place records c.args.item.now _ _ settled
+
+pub returns-in-Err-clause-others : goal.returns-in-Err-clause-others
+returns-in-Err-clause-others g c = others_same Log (g.D.Disk.reads_as c.args.disk.now)
+
+pub returns-in-Err-join-clause-keeps : goal.returns-in-Err-join-clause-keeps
+returns-in-Err-join-clause-keeps g c = λ records settled.
+    started_import g.D.Disk.moment g.D.Disk.left_since g.D.Disk.images g.met.D.Disk.only_now c.args.self.place records c.args.item.now _ _ settled
+
+pub returns-in-Err-join-clause-others : goal.returns-in-Err-join-clause-others
+returns-in-Err-join-clause-others g c = others_same Log (g.D.Disk.reads_as c.args.disk.now)
+
+pub returns-in-Err-append-clause-keeps : goal.returns-in-Err-append-clause-keeps
+returns-in-Err-append-clause-keeps g c = λ records settled.
+    let at : c.self.inside.log.place ≡ c.args.self.place = ap (λ (v : NodeValue). v.place) c.self.view_is in
+    let ext : List ℕ = ext_bytes c.args.joining.ext in
+    leaves_also g.D.Disk.moment g.D.Disk.left_since _ _ _ _
+    (c.append.ensures.moments records (block_record c.args.item.now ext) c.in-Ok.ensures.filled
+    (subst (λ (p : ℕ). IsSettled p records (g.D.Disk.reads_as c.args.disk.now) (g.D.Disk.images c.args.disk.now)) (sym at) settled))
+    (λ image left. (ext, subst (λ (p : ℕ). HasAppended p records (block_record c.args.item.now ext) (g.D.Disk.images c.args.disk.now) image) at left))
+
+pub returns-in-Err-append-clause-others : goal.returns-in-Err-append-clause-others
+returns-in-Err-append-clause-others g c = c.append.ensures.others
+
+pub returns-in-Ok-append-clause-keeps : goal.returns-in-Ok-append-clause-keeps
+returns-in-Ok-append-clause-keeps g c = λ records settled.
+    let at : c.self.inside.log.place ≡ c.args.self.place = ap (λ (v : NodeValue). v.place) c.self.view_is in
+    let ext : List ℕ = ext_bytes c.args.joining.ext in
+    leaves_also g.D.Disk.moment g.D.Disk.left_since _ _ _ _
+    (c.append.ensures.moments records (block_record c.args.item.now ext) c.in-Ok.ensures.filled
+    (subst (λ (p : ℕ). IsSettled p records (g.D.Disk.reads_as c.args.disk.now) (g.D.Disk.images c.args.disk.now)) (sym at) settled))
+    (λ image left. (ext, subst (λ (p : ℕ). HasAppended p records (block_record c.args.item.now ext) (g.D.Disk.images c.args.disk.now) image) at left))
+
+pub returns-in-Ok-append-clause-others : goal.returns-in-Ok-append-clause-others
+returns-in-Ok-append-clause-others g c = c.append.ensures.others

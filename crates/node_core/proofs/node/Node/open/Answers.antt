@@ -5,6 +5,8 @@ use Rattle.log_file.specs.declared.stop.LogStop.TheVariants.{NotAStore}
 use Rattle.node_core.proofs.OpeningLemmas.{as-many-contents}
 use Rattle.node_core.proofs.OpenLemmas.{opened_keeps, opened_own, is_within, no_log_in, none_opened, not_sound, not_joined, only_read-then, stands_while_opened, opened_on, ok_err, was_ok, counts_none, at_some, if_some_also, one_after, same_stop}
 use Rattle.node_core.proofs.NewLemmas.{when_ok}
+use Rattle.node_core.proofs.KeepingLemmas.{left_by_opening, settled_as_read}
+use Rattle.log_file.proofs.Settling.{others_kept, others_on}
 use Rattle.node_core.proofs.ReplayLemmas.{none-replayed, replayed-to-open}
 use Rattle.log_file.proofs.Exits.{fault_not_wrong, stop_counts, counts_on}
 use Rattle.node_core.proofs.node.Node.open.Goals as goal
@@ -203,3 +205,52 @@ pub returns-in-Ok-of-clause-rests : goal.returns-in-Ok-of-clause-rests
 returns-in-Ok-of-clause-rests g c now told closed =
     only_read-then g.D.Disk.reads_as g.D.Disk.images g.D.Disk.moment g.D.Disk.left_since _ _ _ c.sync_snapshots.ensures.same c.sync_snapshots.ensures.images c.sync_snapshots.ensures.moments
     (at_some _ _ now (c.sync_snapshots.ensures.same ∙ told) c.open.ensures.rests closed)
+
+pub returns-then-is_err-clause-settled : goal.returns-then-is_err-clause-settled
+returns-then-is_err-clause-settled g c = tt
+
+pub returns-in-Err-clause-settled : goal.returns-in-Err-clause-settled
+returns-in-Err-clause-settled g c = tt
+
+pub returns-in-Err-of-clause-settled : goal.returns-in-Err-of-clause-settled
+returns-in-Err-of-clause-settled g c = tt
+
+pub returns-in-Ok-of-clause-settled : goal.returns-in-Ok-of-clause-settled
+returns-in-Ok-of-clause-settled g c = settled_as_read _ _ _ c.in-Ok.opened.log.place _ c.sync_snapshots.ensures.same c.in-Ok.ensures.settled
+
+pub returns-then-is_err-clause-keeps : goal.returns-then-is_err-clause-keeps
+returns-then-is_err-clause-keeps g c =
+    λ _ _. leaves_also g.D.Disk.moment g.D.Disk.left_since _ _ _ _ c.sync_snapshots.ensures.moments (λ image left. inl left)
+
+pub returns-in-Err-clause-keeps : goal.returns-in-Err-clause-keeps
+returns-in-Err-clause-keeps g c now told =
+    leaves_then g.D.Disk.moment g.D.Disk.left_since _ _ _ _
+    (leaves_also g.D.Disk.moment g.D.Disk.left_since _ _ _ _ c.sync_snapshots.ensures.moments (λ image left. inl left))
+    (leaves_also g.D.Disk.moment g.D.Disk.left_since _ _ _ _ (at_some _ _ now (c.sync_snapshots.ensures.same ∙ told) c.open.ensures.moments)
+    (left_by_opening now.log _ _ c.sync_snapshots.ensures.images))
+
+pub returns-in-Err-clause-others : goal.returns-in-Err-clause-others
+returns-in-Err-clause-others g c = others_on _ _ _ c.sync_snapshots.ensures.same c.open.ensures.others
+
+pub returns-in-Err-of-clause-keeps : goal.returns-in-Err-of-clause-keeps
+returns-in-Err-of-clause-keeps g c now told =
+    leaves_then g.D.Disk.moment g.D.Disk.left_since _ _ _ _
+    (leaves_also g.D.Disk.moment g.D.Disk.left_since _ _ _ _ c.sync_snapshots.ensures.moments (λ image left. inl left))
+    (leaves_also g.D.Disk.moment g.D.Disk.left_since _ _ _ _ (at_some _ _ now (c.sync_snapshots.ensures.same ∙ told) c.open.ensures.moments)
+    (left_by_opening now.log _ _ c.sync_snapshots.ensures.images))
+
+pub returns-in-Err-of-clause-others : goal.returns-in-Err-of-clause-others
+returns-in-Err-of-clause-others g c = others_on _ _ _ c.sync_snapshots.ensures.same c.open.ensures.others
+
+pub returns-in-Ok-of-clause-keeps : goal.returns-in-Ok-of-clause-keeps
+returns-in-Ok-of-clause-keeps g c now told =
+    leaves_then g.D.Disk.moment g.D.Disk.left_since _ _ _ _
+    (leaves_also g.D.Disk.moment g.D.Disk.left_since _ _ _ _ c.sync_snapshots.ensures.moments (λ image left. inl left))
+    (leaves_also g.D.Disk.moment g.D.Disk.left_since _ _ _ _ (at_some _ _ now (c.sync_snapshots.ensures.same ∙ told) c.open.ensures.moments)
+    (left_by_opening now.log _ _ c.sync_snapshots.ensures.images))
+
+pub returns-in-Ok-of-clause-others : goal.returns-in-Ok-of-clause-others
+returns-in-Ok-of-clause-others g c = others_on _ _ _ c.sync_snapshots.ensures.same c.open.ensures.others
+
+pub returns-then-is_err-clause-others : goal.returns-then-is_err-clause-others
+returns-then-is_err-clause-others g c = others_kept _ _ c.sync_snapshots.ensures.same
