@@ -5,7 +5,7 @@ ghost use Rattle.outside.specs.Disk.{LeavesOnly, IsOnlyRead};
 ghost use Rattle.outside.specs.Image.{Image};
 ghost use Rattle.chain_defs.specs.Tip.{greatest_number};
 ghost use Rattle.verdict_defs.specs.Chain.{Chain, verdict_over, chain_after};
-ghost use Rattle.store_defs.specs.Store.{Keeps, store_of, StandsFor, AreJoined};
+ghost use Rattle.store_defs.specs.Store.{Keeps, store_of, StandsFor, AreJoined, TellsAsBefore};
 ghost use Rattle.report_defs.specs.Items.{split_of};
 ghost use Rattle.report_defs.specs.Report as reports;
 ghost use Rattle.report_defs.specs.Status.{IsOneOf};
@@ -81,6 +81,7 @@ fn import_item<K: Sink, D: Disk, L: Ledger>(
     ensures joined { AreJoined node.chain node.exts → IfOk result (λ answer. AreJoined answer.0.chain answer.0.exts) }
     ensures written { Took (K.taken out.old) (K.taken out.new) (λ taken. AreJoined node.chain node.exts → IsAnswered (line_over node.chain item.now) result taken) }
     ensures status { (status : Status) → result ≡ Err status → IsOneOf item_stops status }
+    ensures told { TellsAsBefore (D.reads_as disk.old) (D.reads_as disk.new) }
     ensures there { IfOk result (λ answer. IfSome (D.reads_as disk.new) (λ image. answer.0.place < length image.log)) }
     ensures on { IsOn node (D.reads_as disk.old) (D.images disk.old) → IfOk result (λ answer. IsOn answer.0 (D.reads_as disk.new) (D.images disk.new)) }
     ensures moments { IsOn node (D.reads_as disk.old) (D.images disk.old)
@@ -115,6 +116,7 @@ fn import_items<S: Source, K: Sink, D: Disk, L: Ledger>(
     ensures imported { Transfers (S.left input.old) (S.left input.new) (K.taken out.old) (K.taken out.new)
         (λ given taken. AreJoined opened.chain opened.exts → AreImported opened.chain (S.left input.new) result (IsOn opened (D.reads_as disk.old) (D.images disk.old))
         (D.images disk.new) (LeavesOnly D.moment D.left_since disk.old disk.new) given taken) }
+    ensures told { TellsAsBefore (D.reads_as disk.old) (D.reads_as disk.new) }
     ensures status { (status : Status) → result ≡ Err status → IsOneOf (Status.InputFault ∷ item_stops) status }
     ensures input_faults { CountsFault (S.faults input.old) (S.faults input.new) (result ≡ Err Status.InputFault) }
     ensures out_faults { CountsFault (K.faults out.old) (K.faults out.new) (result ≡ Err Status.SinkFault) }
@@ -181,6 +183,7 @@ pub fn import<S: Source, K: Sink, D: Disk, L: Ledger>(
         (λ given taken. Delivers Import (D.reads_as disk.old) (D.images disk.old) (D.images disk.new) (D.left_since disk.new (D.moment disk.old))
         (S.left input.new) given taken result) }
     ensures status { IsOneOf import_statuses result }
+    ensures told { TellsAsBefore (D.reads_as disk.old) (D.reads_as disk.new) }
     ensures no_log { (now : Image) → D.reads_as disk.old ≡ Some now → ((chain : Chain) → store_of now ≡ Keeps chain → ⊥)
         → IsOnlyRead D.reads_as D.images D.moment D.left_since disk.old disk.new }
     ensures input_faults { CountsFault (S.faults input.old) (S.faults input.new) (result ≡ Status.InputFault) }

@@ -2,7 +2,7 @@
 ghost use Rattle.std.specs.Prelude.{◌≡◌, ◌≢◌, ◌+◌, ◌≤◌, slice_index, ◌∷◌, List, ℕ, Option, Err, Some, [], IfOk, string_bytes};
 ghost use Rattle.outside.specs.Causes.{CountsFault};
 ghost use Rattle.log_defs.specs.Log.{end_of_log};
-ghost use Rattle.store_defs.specs.Store.{Keeps, store_of, IsJoined};
+ghost use Rattle.store_defs.specs.Store.{Keeps, store_of, IsJoined, TellsAsBefore};
 ghost use Rattle.outside.specs.Disk.{IsOnlyRead};
 ghost use Rattle.verdict_defs.specs.Chain.{Chain};
 ghost use Rattle.outside.specs.Image.{Image};
@@ -75,6 +75,7 @@ pub fn query<K: Sink, D: Disk, L: Ledger>(
     ensures query { Took (K.taken out.old) (K.taken out.new) (λ taken. (left : Option (List ℕ))
         → Delivers (commands.Query asked) (D.reads_as disk.old) (D.images disk.old) (D.images disk.new) (D.left_since disk.new (D.moment disk.old)) left [] taken result) }
     ensures status { IsOneOf query_statuses result }
+    ensures told { TellsAsBefore (D.reads_as disk.old) (D.reads_as disk.new) }
     ensures no_log { (now : Image) → D.reads_as disk.old ≡ Some now → ((chain : Chain) → store_of now ≡ Keeps chain → ⊥)
         → IsOnlyRead D.reads_as D.images D.moment D.left_since disk.old disk.new }
     ensures out_faults { CountsFault (K.faults out.old) (K.faults out.new) (result ≡ Status.SinkFault) }

@@ -5,7 +5,7 @@ ghost use Rattle.outside.specs.Image.{Image};
 ghost use Rattle.verdict_defs.specs.Chain.{Chain};
 ghost use Rattle.verdict_defs.specs.Trial as trials;
 ghost use Rattle.log_defs.specs.Log.{end_of_log};
-ghost use Rattle.store_defs.specs.Store.{Keeps, store_of, IsJoined};
+ghost use Rattle.store_defs.specs.Store.{Keeps, store_of, IsJoined, TellsAsBefore};
 ghost use Rattle.outside.specs.Disk.{IsOnlyRead};
 ghost use Rattle.report_defs.specs.Report as reports;
 ghost use Rattle.report_defs.specs.Text as text;
@@ -147,6 +147,7 @@ pub fn question<S: Source, K: Sink, D: Disk, L: Ledger>(
         (λ given taken. DeliversAnswer asked (D.reads_as disk.old) (D.images disk.old) (D.images disk.new) (D.left_since disk.new (D.moment disk.old))
         (S.left input.new) given taken result) }
     ensures status { IsOneOf question_statuses result }
+    ensures told { TellsAsBefore (D.reads_as disk.old) (D.reads_as disk.new) }
     ensures no_log { (now : Image) → D.reads_as disk.old ≡ Some now → ((chain : Chain) → store_of now ≡ Keeps chain → ⊥)
         → IsOnlyRead D.reads_as D.images D.moment D.left_since disk.old disk.new }
     ensures input_faults { CountsFault (S.faults input.old) (S.faults input.new) (result ≡ Status.InputFault) }

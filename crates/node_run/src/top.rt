@@ -4,7 +4,7 @@ ghost use Rattle.outside.specs.Causes.{CountsFault};
 ghost use Rattle.outside.specs.Disk.{IsAsBefore, IsOnlyRead};
 ghost use Rattle.outside.specs.Image.{Image};
 ghost use Rattle.log_defs.specs.Log.{end_of_log};
-ghost use Rattle.store_defs.specs.Store.{NoLog, Keeps, store_of, StandsFor};
+ghost use Rattle.store_defs.specs.Store.{NoLog, Keeps, store_of, StandsFor, TellsAsBefore};
 ghost use Rattle.chain_defs.specs.Tip.{greatest_number};
 ghost use Rattle.verdict_defs.specs.Chain.{Chain};
 ghost use Rattle.report_defs.specs.Items.{split_of};
@@ -56,6 +56,9 @@ pub fn run<S: Source, K: Sink, D: Disk, L: Ledger>(
     ensures input_faults { CountsFault (S.faults input.old) (S.faults input.new) (result ≡ Status.InputFault) }
     ensures out_faults { CountsFault (K.faults out.old) (K.faults out.new) (result ≡ Status.SinkFault) }
     ensures disk_faults { CountsFault (D.faults disk.old) (D.faults disk.new) (result ≡ Status.DiskFault) }
+
+    // The disk tells what it reads as after the call exactly where it told before, so that the next run finds one that tells.
+    ensures told { TellsAsBefore (D.reads_as disk.old) (D.reads_as disk.new) }
 
     // Where the disk is not called, is as it was, also for an `init` that finds a log, and where it is only read: it has no log, or a query or question finds its log at rest.
     ensures uncalled { CallsNoDisk (grammar.command_of (map string_bytes words.now)) → disk.new ≡ disk.old }

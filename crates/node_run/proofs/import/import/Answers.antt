@@ -231,3 +231,15 @@ returns-clause-steps g c =
       λ now chain told stands. counted_over (g.D.Disk.reads_as c.args.disk.now) c.in-Ok.node.chain chain c.in-Ok.node.exts now (split_of import_limits came.0).items _ _ _
           c.in-Ok.ensures.kept (c.in-Ok.ensures.own now told) told stands (c.open.ensures.most now told) came.2,
     )
+
+pub returns-in-Err-clause-told : goal.returns-in-Err-clause-told
+returns-in-Err-clause-told g c = c.in-Err.ensures.told
+
+pub returns-in-Err-import_items-clause-told : goal.returns-in-Err-import_items-clause-told
+returns-in-Err-import_items-clause-told g c = c.in-Err-import_items.ensures.told ∙ c.in-Ok.ensures.told
+
+pub returns-in-Err-answer_to_end-clause-told : goal.returns-in-Err-answer_to_end-clause-told
+returns-in-Err-answer_to_end-clause-told g c = c.in-Ok-import_items.ensures.told ∙ c.in-Ok.ensures.told
+
+pub returns-clause-told : goal.returns-clause-told
+returns-clause-told g c = c.in-Ok-import_items.ensures.told ∙ c.in-Ok.ensures.told

@@ -1,5 +1,7 @@
 use Rattle.std.proofs.Common.{[], refl, ap, ◌∙◌, subst}
 use Rattle.std.specs.Prelude.{Err}
+use Rattle.outside.specs.declared.disk.Area.TheVariants.{Log}
+use Rattle.node_core.proofs.KeepingLemmas.{tells_as_before}
 use Rattle.outside.proofs.Endings.{no_fault, counts-as, no_answer}
 use Rattle.outside.proofs.Streams.{takes_none}
 use Rattle.verdict_defs.specs.Chain.{verdict_over}
@@ -144,3 +146,12 @@ returns-in-Ok-write_verdict-clause-most g c = c.in-Ok.ensures.most
 
 pub returns-in-Err-write_verdict-clause-most : goal.returns-in-Err-write_verdict-clause-most
 returns-in-Err-write_verdict-clause-most g c = c.in-Ok.ensures.most
+
+pub returns-in-Err-clause-told : goal.returns-in-Err-clause-told
+returns-in-Err-clause-told g c = tells_as_before Log _ _ c.in-Err.ensures.others
+
+pub returns-in-Ok-write_verdict-clause-told : goal.returns-in-Ok-write_verdict-clause-told
+returns-in-Ok-write_verdict-clause-told g c = tells_as_before Log _ _ c.in-Ok.ensures.others
+
+pub returns-in-Err-write_verdict-clause-told : goal.returns-in-Err-write_verdict-clause-told
+returns-in-Err-write_verdict-clause-told g c = tells_as_before Log _ _ c.in-Ok.ensures.others

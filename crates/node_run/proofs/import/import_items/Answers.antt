@@ -41,6 +41,7 @@ items-init g c = record {
     steps = λ joined. omega arith;
   };
   there = c.requires.there;
+  told = refl;
   input_unchanged = refl;
   out_unchanged = refl;
   disk_unchanged = refl;
@@ -211,6 +212,7 @@ items-preserved g c =
           c.items.node.chain whole.items item (whole.kept_now (joined_on c.args.opened (g.D.Disk.reads_as c.args.disk.now) (g.D.Disk.images c.args.disk.now) was))
           (whole.moments was) (c.in-Ok.ensures.moments (whole.on was))) c.import_item.ensures.most;
       there = c.in-Ok.ensures.there;
+      told = c.in-Ok.ensures.told ∙ c.items.invariant.told;
       input_unchanged = c.in-Ok-Item.ensures.faults.unchanged (no_answer _ _) ∙ c.items.invariant.input_unchanged;
       out_unchanged = c.in-Ok.ensures.out_faults.unchanged (no_answer _ _) ∙ c.items.invariant.out_unchanged;
       disk_unchanged = c.in-Ok.ensures.disk_faults.unchanged (no_answer _ _) ∙ c.items.invariant.disk_unchanged;
@@ -249,3 +251,12 @@ returns-in-Err-import_item-clause-steps g c =
     (AreJoined c.args.opened.chain c.args.opened.exts) (AreJoined c.items.node.chain c.items.node.exts)
     (IsOn c.args.opened (g.D.Disk.reads_as c.args.disk.now) (g.D.Disk.images c.args.disk.now)) (IsOn c.items.node (g.D.Disk.reads_as c.items.disk) (g.D.Disk.images c.items.disk))
     (LeavesOnly g.D.Disk.moment g.D.Disk.left_since c.args.disk.now c.items.disk) c.args.steps.now c.items.steps c.items.invariant.whole c.import_item.new.steps c.deref.result.now next.0 at next.1 c.import_item.ensures.most
+
+pub returns-in-Ok-End-clause-told : goal.returns-in-Ok-End-clause-told
+returns-in-Ok-End-clause-told g c = c.items.invariant.told
+
+pub returns-in-Err-clause-told : goal.returns-in-Err-clause-told
+returns-in-Err-clause-told g c = c.items.invariant.told
+
+pub returns-in-Err-import_item-clause-told : goal.returns-in-Err-import_item-clause-told
+returns-in-Err-import_item-clause-told g c = c.in-Err-import_item.ensures.told ∙ c.items.invariant.told

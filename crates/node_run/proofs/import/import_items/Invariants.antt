@@ -2,7 +2,7 @@ use Rattle.std.proofs.Common.{◌≡◌, ◌-◌, ◌<◌, length}
 use Rattle.std.specs.Prelude.{IfSome}
 use Rattle.outside.specs.Disk.{LeavesOnly}
 use Rattle.report_defs.specs.Report.{input_limit}
-use Rattle.store_defs.specs.Store.{AreJoined}
+use Rattle.store_defs.specs.Store.{AreJoined, TellsAsBefore}
 use Rattle.node_core.specs.Node.{IsOn}
 use Rattle.node_run.proofs.ImportLemmas.{Whole}
 use Rattle.node_run.proofs.import.import_items.Given as goal
@@ -14,6 +14,7 @@ invariant-items g l = record {
       (IsOn l.fn.opened (g.D.Disk.reads_as l.fn.disk) (g.D.Disk.images l.fn.disk)) (IsOn l.node (g.D.Disk.reads_as l.disk) (g.D.Disk.images l.disk))
       (LeavesOnly g.D.Disk.moment g.D.Disk.left_since l.fn.disk l.disk) l.fn.steps l.steps;
   there : IfSome (g.D.Disk.reads_as l.disk) (λ image. l.node.place < length image.log);
+  told : TellsAsBefore (g.D.Disk.reads_as l.fn.disk) (g.D.Disk.reads_as l.disk);
   input_unchanged : g.S.Source.faults l.input ≡ g.S.Source.faults l.fn.input;
   out_unchanged : g.K.Sink.faults l.out ≡ g.K.Sink.faults l.fn.out;
   disk_unchanged : g.D.Disk.faults l.disk ≡ g.D.Disk.faults l.fn.disk;

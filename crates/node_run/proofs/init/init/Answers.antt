@@ -1,5 +1,5 @@
 use Rattle.std.proofs.Common.{◌≡◌, inl, inr, [], ◌∷◌, refl, ap, sym, ◌∙◌, subst, arith}
-use Rattle.std.specs.Prelude.{IsSome, Ok, Err}
+use Rattle.std.specs.Prelude.{IsSome, is_some, Ok, Err}
 use Rattle.outside.proofs.Endings.{no_fault, counts-as, no_answer}
 use Rattle.outside.proofs.Streams.{gives_none, takes_none}
 use Rattle.outside.specs.Disk.{IsAsBefore}
@@ -218,3 +218,18 @@ returns-in-Err-read_whole-clause-out_faults g c = no_fault _ _ refl (λ e. subst
 
 pub returns-in-Err-read_whole-clause-disk_faults : goal.returns-in-Err-read_whole-clause-disk_faults
 returns-in-Err-read_whole-clause-disk_faults g c = no_fault _ _ (c.in-Ok.ensures.cause.unchanged refl) (λ e. subst IsReadingStop e c.in-Err-read_whole.ensures.read.2.0)
+
+pub returns-in-Err-clause-told : goal.returns-in-Err-clause-told
+returns-in-Err-clause-told g c = ap is_some c.in-Err.ensures.same
+
+pub returns-then-length-ne0-clause-told : goal.returns-then-length-ne0-clause-told
+returns-then-length-ne0-clause-told g c = ap is_some c.in-Ok.ensures.same
+
+pub returns-in-Ok-Items-clause-told : goal.returns-in-Ok-Items-clause-told
+returns-in-Ok-Items-clause-told g c = c.make_and_tell.ensures.told ∙ ap is_some c.in-Ok.ensures.same
+
+pub returns-in-Ok-Early-clause-told : goal.returns-in-Ok-Early-clause-told
+returns-in-Ok-Early-clause-told g c = ap is_some c.in-Ok.ensures.same
+
+pub returns-in-Err-read_whole-clause-told : goal.returns-in-Err-read_whole-clause-told
+returns-in-Err-read_whole-clause-told g c = ap is_some c.in-Ok.ensures.same

@@ -71,3 +71,15 @@ returns-in-Ok-create-clause-cause g c = no_fault _ _ (c.in-Ok-create.ensures.cau
 pub returns-in-Ok-create-clause-made : goal.returns-in-Ok-create-clause-made
 returns-in-Ok-create-clause-made g c = λ some done.
     alone_of c.args.specification.now c.args.genesis.now _ _ _ _ c.in-Ok.ensures.both (c.in-Ok-create.ensures.made some)
+
+pub returns-in-Err-clause-told : goal.returns-in-Err-clause-told
+returns-in-Err-clause-told g c = refl
+
+pub returns-in-Err-genesis_line-clause-told : goal.returns-in-Err-genesis_line-clause-told
+returns-in-Err-genesis_line-clause-told g c = refl
+
+pub returns-in-Err-create-clause-told : goal.returns-in-Err-create-clause-told
+returns-in-Err-create-clause-told g c = c.in-Err-create.ensures.told
+
+pub returns-in-Ok-create-clause-told : goal.returns-in-Ok-create-clause-told
+returns-in-Ok-create-clause-told g c = c.in-Ok-create.ensures.told

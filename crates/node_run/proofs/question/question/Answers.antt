@@ -46,3 +46,9 @@ returns-in-Err-clause-most g c = c.in-Err.ensures.most
 
 pub returns-clause-most : goal.returns-clause-most
 returns-clause-most g c = c.in-Ok.ensures.most
+
+pub returns-in-Err-clause-told : goal.returns-in-Err-clause-told
+returns-in-Err-clause-told g c = c.in-Err.ensures.told
+
+pub returns-clause-told : goal.returns-clause-told
+returns-clause-told g c = c.in-Ok.ensures.told

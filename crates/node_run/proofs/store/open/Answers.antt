@@ -1,5 +1,7 @@
 use Rattle.std.proofs.Common.{ap, subst}
 use Rattle.std.specs.Prelude.{Err}
+use Rattle.outside.specs.declared.disk.Area.TheVariants.{Log}
+use Rattle.node_core.proofs.KeepingLemmas.{tells_as_before}
 use Rattle.outside.proofs.Endings.{no_fault, counts-as, no_answer}
 use Rattle.report_defs.specs.Status.{IsOneOf}
 use Rattle.node_run.specs.Store.{opening_stops}
@@ -49,3 +51,9 @@ returns-in-Ok-clause-own g c = c.in-Ok.ensures.own
 
 pub returns-in-Err-clause-own : goal.returns-in-Err-clause-own
 returns-in-Err-clause-own g c = λ _ _ _. tt
+
+pub returns-in-Ok-clause-told : goal.returns-in-Ok-clause-told
+returns-in-Ok-clause-told g c = tells_as_before Log _ _ c.in-Ok.ensures.others
+
+pub returns-in-Err-clause-told : goal.returns-in-Err-clause-told
+returns-in-Err-clause-told g c = tells_as_before Log _ _ c.in-Err.ensures.others

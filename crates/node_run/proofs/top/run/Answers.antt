@@ -424,3 +424,21 @@ returns-in-Some-Import-clause-import_steps g c = λ _. c.import.ensures.steps
 
 pub returns-in-None-clause-import_steps : goal.returns-in-None-clause-import_steps
 returns-in-None-clause-import_steps g c = λ asks. absurd (subst IsNotImport (c.in-None.ensures.command ∙ asks) tt)
+
+pub returns-in-Some-Init-clause-told : goal.returns-in-Some-Init-clause-told
+returns-in-Some-Init-clause-told g c = c.init.ensures.told
+
+pub returns-in-Some-Import-clause-told : goal.returns-in-Some-Import-clause-told
+returns-in-Some-Import-clause-told g c = c.import.ensures.told
+
+pub returns-in-Some-Query-clause-told : goal.returns-in-Some-Query-clause-told
+returns-in-Some-Query-clause-told g c = c.query.ensures.told
+
+pub returns-in-Some-Question-clause-told : goal.returns-in-Some-Question-clause-told
+returns-in-Some-Question-clause-told g c = c.question.ensures.told
+
+pub returns-in-Some-Standalone-clause-told : goal.returns-in-Some-Standalone-clause-told
+returns-in-Some-Standalone-clause-told g c = refl
+
+pub returns-in-None-clause-told : goal.returns-in-None-clause-told
+returns-in-None-clause-told g c = refl
