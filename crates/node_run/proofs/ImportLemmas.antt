@@ -198,38 +198,42 @@ pub whole_more : (chain : Chain) (offset : ℕ) (left_old left left_new taken_ol
     → Gives left left_new given → Takes taken taken_new text
     → (are_joined → verdict ≡ verdict_over now item) → (are_joined → new ≡ chain_after now item) → (are_joined → text ≡ line_over now item)
     → (are_joined → joined_new) → (is_on → on_new) → (was_on → leaves_new (KeepsSome chain (whole.items ++ item ∷ []))) → steps_new ≤ steps_now + replays_for now.blocks item + 1
-    → Whole chain (offset + size) left_old left_new taken_old taken_new new any were_joined joined_new was_on on_new leaves_new steps_old steps_new
+    → (more : Whole chain (offset + size) left_old left_new taken_old taken_new new any were_joined joined_new was_on on_new leaves_new steps_old steps_new)
+    × (more.items ≡ whole.items ++ item ∷ [])
 whole_more chain offset left_old left left_new taken_old taken taken_new now new refused were_joined are_joined joined_new was_on is_on on_new leaves leaves_new steps_old steps_now steps_new item given text verdict size any
-    long either whole at gives takes judged kept_is text_is stay goes_on moments most = record {
-      items = whole.items ++ item ∷ [];
-      taken = whole.taken ++ text;
-      gives = rw concat-push (gives_more left_old left left_new (concat whole.items) item whole.gives (subst (Gives left left_new) at.same gives));
-      takes = takes_more taken_old taken taken_new whole.taken text whole.takes takes;
-      all = all-push whole.items item whole.all at.is_item;
-      place = omega (arith, long, whole.place, ap length (concat-push whole.items item), length-append (concat whole.items) item);
-      within = rw long at.within;
-      joined = λ joined. stay (whole.joined joined);
-      lines = λ joined.
-          ap (λ bs. bs ++ text) (whole.lines joined)
-          ∙ ap (λ bs. text_over chain whole.items ++ bs) (text_is (whole.joined joined) ∙ ap (λ (k : Chain). line_over k item) (whole.kept_now joined))
-          ∙ sym (lines-push chain whole.items item);
-      kept_now = λ joined. kept_is (whole.joined joined) ∙ ap (λ (k : Chain). chain_after k item) (whole.kept_now joined) ∙ sym (keep-push chain_after chain whole.items item);
-      any_refused = λ joined.
-          either ∙ ap (λ b. b || rules.refuses verdict) (whole.any_refused joined)
-          ∙ ap (λ (v : Verdict). list_any rules.refuses (verdicts_over chain whole.items) || rules.refuses v)
-          (judged (whole.joined joined) ∙ ap (λ (k : Chain). verdict_over k item) (whole.kept_now joined))
-          ∙ sym (any-push (verdicts_over chain whole.items) (verdict_over (chain_over chain whole.items) item))
-          ∙ sym (ap (list_any rules.refuses) (verdicts-push chain_after verdict_over chain whole.items item));
-      on = λ was. goes_on (whole.on was);
-      moments = moments;
-      steps = λ joined.
-          omega (
-            arith,
-            whole.steps joined,
-            steps-push chain whole.items item,
-            subst (λ (k : Chain). steps_new ≤ steps_now + replays_for k.blocks item + 1) (whole.kept_now joined) most,
-          );
-    }
+    long either whole at gives takes judged kept_is text_is stay goes_on moments most = (
+      record {
+        items = whole.items ++ item ∷ [];
+        taken = whole.taken ++ text;
+        gives = rw concat-push (gives_more left_old left left_new (concat whole.items) item whole.gives (subst (Gives left left_new) at.same gives));
+        takes = takes_more taken_old taken taken_new whole.taken text whole.takes takes;
+        all = all-push whole.items item whole.all at.is_item;
+        place = omega (arith, long, whole.place, ap length (concat-push whole.items item), length-append (concat whole.items) item);
+        within = rw long at.within;
+        joined = λ joined. stay (whole.joined joined);
+        lines = λ joined.
+            ap (λ bs. bs ++ text) (whole.lines joined)
+            ∙ ap (λ bs. text_over chain whole.items ++ bs) (text_is (whole.joined joined) ∙ ap (λ (k : Chain). line_over k item) (whole.kept_now joined))
+            ∙ sym (lines-push chain whole.items item);
+        kept_now = λ joined. kept_is (whole.joined joined) ∙ ap (λ (k : Chain). chain_after k item) (whole.kept_now joined) ∙ sym (keep-push chain_after chain whole.items item);
+        any_refused = λ joined.
+            either ∙ ap (λ b. b || rules.refuses verdict) (whole.any_refused joined)
+            ∙ ap (λ (v : Verdict). list_any rules.refuses (verdicts_over chain whole.items) || rules.refuses v)
+            (judged (whole.joined joined) ∙ ap (λ (k : Chain). verdict_over k item) (whole.kept_now joined))
+            ∙ sym (any-push (verdicts_over chain whole.items) (verdict_over (chain_over chain whole.items) item))
+            ∙ sym (ap (list_any rules.refuses) (verdicts-push chain_after verdict_over chain whole.items item));
+        on = λ was. goes_on (whole.on was);
+        moments = moments;
+        steps = λ joined.
+            omega (
+              arith,
+              whole.steps joined,
+              steps-push chain whole.items item,
+              subst (λ (k : Chain). steps_new ≤ steps_now + replays_for k.blocks item + 1) (whole.kept_now joined) most,
+            );
+      },
+      refl,
+    )
 
 -- ---- The exits
 

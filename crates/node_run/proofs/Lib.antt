@@ -14,3 +14,4 @@ pub mod InitLemmas
 pub mod QuestionLemmas
 pub mod Asked
 pub mod RunLemmas
+pub mod RecordLemmas

@@ -1,9 +1,12 @@
 // The command `import`: blocks, each answered by a line.
-ghost use Rattle.std.specs.Prelude.{◌≡◌, ◌⊎◌, ◌+◌, [], ◌∷◌, ◌<◌, ◌≤◌, ◌^◌, Err, Some, length, string_bytes, IfOk, IfSome, if◌then◌else◌};
+ghost use Rattle.std.specs.Prelude.{List, ◌≡◌, ◌≢◌, ◌⊎◌, ◌+◌, [], ◌∷◌, ◌<◌, ◌≤◌, ◌^◌, false, Err, Some, length, slice_index, string_bytes, IfOk, IfSome, if◌then◌else◌};
 ghost use Rattle.outside.specs.Causes.{CountsFault};
 ghost use Rattle.outside.specs.Disk.{LeavesOnly, IsOnlyRead};
 ghost use Rattle.outside.specs.Image.{Image};
 ghost use Rattle.chain_defs.specs.Tip.{greatest_number};
+ghost use Rattle.log_defs.specs.Log.{Record, end_of_log};
+ghost use Rattle.log_defs.specs.Rest.{IsSettled};
+ghost use Rattle.verdict_defs.specs.Verdict.{joins};
 ghost use Rattle.verdict_defs.specs.Chain.{Chain, verdict_over, chain_after};
 ghost use Rattle.store_defs.specs.Store.{Keeps, store_of, StandsFor, AreJoined, TellsAsBefore};
 ghost use Rattle.report_defs.specs.Items.{split_of};
@@ -11,9 +14,10 @@ ghost use Rattle.report_defs.specs.Report as reports;
 ghost use Rattle.report_defs.specs.Status.{IsOneOf};
 ghost use Rattle.report_defs.specs.Text.{line};
 ghost use Rattle.report_defs.specs.Promise.{import_statuses};
+ghost use Rattle.report_defs.specs.Survival.{NoneJoins, GoesOn, KeepsRecords};
 ghost use Rattle.report_defs.specs.declared.command.Command.TheVariants.{Import};
 ghost use Rattle.item_reader.specs.Items.{Gave, IsNext};
-ghost use Rattle.node_core.specs.Node.{IsOn};
+ghost use Rattle.node_core.specs.Node.{IsOn, IsLeftByImport, IsSettledAfter};
 ghost use Rattle.node_core.specs.Steps.{replays_for, steps_over};
 ghost use Rattle.node_run.specs.Output.{Took, Transfers};
 ghost use Rattle.node_run.specs.Store.{Delivers};
@@ -86,6 +90,11 @@ fn import_item<K: Sink, D: Disk, L: Ledger>(
     ensures on { IsOn node (D.reads_as disk.old) (D.images disk.old) → IfOk result (λ answer. IsOn answer.0 (D.reads_as disk.new) (D.images disk.new)) }
     ensures moments { IsOn node (D.reads_as disk.old) (D.images disk.old)
         → LeavesOnly D.moment D.left_since disk.old disk.new (λ image. StandsFor node.chain image ⊎ StandsFor (chain_after node.chain item.now) image) }
+    ensures settled { (records : List Record) → IsSettled node.place records (D.reads_as disk.old) (D.images disk.old)
+        → IfOk result (λ answer. IsSettledAfter records item.now answer.1 answer.0.place (D.reads_as disk.new) (D.images disk.new)) }
+    ensures keeps { (records : List Record) → IsSettled node.place records (D.reads_as disk.old) (D.images disk.old)
+        → LeavesOnly D.moment D.left_since disk.old disk.new (IsLeftByImport node.place records item.now (D.images disk.old)) }
+    ensures still { AreJoined node.chain node.exts → joins (verdict_over node.chain item.now) ≡ false → disk.new ≡ disk.old }
     ensures out_faults { CountsFault (K.faults out.old) (K.faults out.new) (result ≡ Err Status.SinkFault) }
     ensures disk_faults { CountsFault (D.faults disk.old) (D.faults disk.new) (result ≡ Err Status.DiskFault) }
     ensures most { steps.new ≤ steps.old + replays_for node.chain.blocks item.now + 1 }
@@ -123,6 +132,11 @@ fn import_items<S: Source, K: Sink, D: Disk, L: Ledger>(
     ensures disk_faults { CountsFault (D.faults disk.old) (D.faults disk.new) (result ≡ Err Status.DiskFault) }
     ensures steps { Gave (S.left input.old) (S.left input.new) (λ given. AreJoined opened.chain opened.exts
         → steps.new ≤ steps.old + steps_over opened.chain (split_of reports.import_limits given).items) }
+    ensures records { Gave (S.left input.old) (S.left input.new) (λ given. (records : List Record)
+        → IsSettled opened.place records (D.reads_as disk.old) (D.images disk.old)
+        → LeavesOnly D.moment D.left_since disk.old disk.new (λ image. GoesOn (split_of reports.import_limits given).items records image.log)) }
+    ensures still { Gave (S.left input.old) (S.left input.new) (λ given. AreJoined opened.chain opened.exts
+        → NoneJoins opened.chain (split_of reports.import_limits given).items → disk.new ≡ disk.old) }
 {
     let mut node = opened;
     let mut offset = 0u64;
@@ -191,6 +205,11 @@ pub fn import<S: Source, K: Sink, D: Disk, L: Ledger>(
     ensures disk_faults { CountsFault (D.faults disk.old) (D.faults disk.new) (result ≡ Status.DiskFault) }
     ensures steps { Gave (S.left input.old) (S.left input.new) (λ given. (now : Image) (chain : Chain) → D.reads_as disk.old ≡ Some now → StandsFor chain now
         → steps.new ≤ steps.old + greatest_number chain.blocks + steps_over chain (split_of reports.import_limits given).items) }
+    ensures records { Gave (S.left input.old) (S.left input.new) (λ given. (now : Image) (chain : Chain) → D.reads_as disk.old ≡ Some now → store_of now ≡ Keeps chain
+        → KeepsRecords (split_of reports.import_limits given).items now (D.images disk.old) (D.images disk.new) (D.left_since disk.new (D.moment disk.old))) }
+    ensures still { Gave (S.left input.old) (S.left input.new) (λ given. (now : Image) (chain : Chain) → D.reads_as disk.old ≡ Some now → StandsFor chain now
+        → slice_index now.log (end_of_log now.log) ≢ 1 → NoneJoins chain (split_of reports.import_limits given).items
+        → IsOnlyRead D.reads_as D.images D.moment D.left_since disk.old disk.new) }
 {
     let node = match open(alloc, disk, steps) {
         Ok(node) => node,

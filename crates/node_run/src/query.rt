@@ -9,6 +9,7 @@ ghost use Rattle.outside.specs.Image.{Image};
 ghost use Rattle.report_defs.specs.Report as reports;
 ghost use Rattle.report_defs.specs.Status.{IsOneOf};
 ghost use Rattle.report_defs.specs.Promise.{query_statuses};
+ghost use Rattle.report_defs.specs.Survival.{KeepsRecords};
 ghost use Rattle.report_defs.specs.declared.command.Command.TheVariants as commands;
 ghost use Rattle.node_core.specs.Steps.{replays_to_open};
 ghost use Rattle.node_run.specs.Output.{Took};
@@ -75,6 +76,8 @@ pub fn query<K: Sink, D: Disk, L: Ledger>(
     ensures query { Took (K.taken out.old) (K.taken out.new) (λ taken. (left : Option (List ℕ))
         → Delivers (commands.Query asked) (D.reads_as disk.old) (D.images disk.old) (D.images disk.new) (D.left_since disk.new (D.moment disk.old)) left [] taken result) }
     ensures status { IsOneOf query_statuses result }
+    ensures records { (now : Image) (chain : Chain) → D.reads_as disk.old ≡ Some now → store_of now ≡ Keeps chain
+        → KeepsRecords [] now (D.images disk.old) (D.images disk.new) (D.left_since disk.new (D.moment disk.old)) }
     ensures told { TellsAsBefore (D.reads_as disk.old) (D.reads_as disk.new) }
     ensures no_log { (now : Image) → D.reads_as disk.old ≡ Some now → ((chain : Chain) → store_of now ≡ Keeps chain → ⊥)
         → IsOnlyRead D.reads_as D.images D.moment D.left_since disk.old disk.new }

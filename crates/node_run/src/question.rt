@@ -11,6 +11,7 @@ ghost use Rattle.report_defs.specs.Report as reports;
 ghost use Rattle.report_defs.specs.Text as text;
 ghost use Rattle.report_defs.specs.Status.{IsOneOf};
 ghost use Rattle.report_defs.specs.Promise.{question_statuses};
+ghost use Rattle.report_defs.specs.Survival.{KeepsRecords};
 ghost use Rattle.item_reader.specs.Items.{Gave};
 ghost use Rattle.item_reader.specs.Whole.{IsReadWhole};
 ghost use Rattle.node_core.specs.Steps.{replays_to_open};
@@ -147,6 +148,8 @@ pub fn question<S: Source, K: Sink, D: Disk, L: Ledger>(
         (λ given taken. DeliversAnswer asked (D.reads_as disk.old) (D.images disk.old) (D.images disk.new) (D.left_since disk.new (D.moment disk.old))
         (S.left input.new) given taken result) }
     ensures status { IsOneOf question_statuses result }
+    ensures records { (now : Image) (chain : Chain) → D.reads_as disk.old ≡ Some now → store_of now ≡ Keeps chain
+        → KeepsRecords [] now (D.images disk.old) (D.images disk.new) (D.left_since disk.new (D.moment disk.old)) }
     ensures told { TellsAsBefore (D.reads_as disk.old) (D.reads_as disk.new) }
     ensures no_log { (now : Image) → D.reads_as disk.old ≡ Some now → ((chain : Chain) → store_of now ≡ Keeps chain → ⊥)
         → IsOnlyRead D.reads_as D.images D.moment D.left_since disk.old disk.new }

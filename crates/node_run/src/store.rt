@@ -1,14 +1,15 @@
 // The store that a command works on.
-ghost use Rattle.std.specs.Prelude.{◌≡◌, ◌≢◌, ◌⊎◌, ◌↔◌, ◌+◌, ◌<◌, ◌≤◌, ◌∷◌, [], Err, Some, length, slice_index, IfOk, IfSome};
+ghost use Rattle.std.specs.Prelude.{◌≡◌, ◌≢◌, ◌⊎◌, ◌↔◌, ◌+◌, ◌<◌, ◌≤◌, ◌∷◌, [], Err, Some, length, drop, slice_index, IfOk, IfSome};
 ghost use Rattle.outside.specs.Causes.{CountsFault};
 ghost use Rattle.outside.specs.Disk.{LeavesOnly, IsOnlyRead};
 ghost use Rattle.outside.specs.declared.disk.Damage.{Damage};
 ghost use Rattle.outside.specs.Image.{Image};
 ghost use Rattle.verdict_defs.specs.Chain.{Chain};
-ghost use Rattle.log_defs.specs.Log.{end_of_log};
+ghost use Rattle.log_defs.specs.Log.{records_of, end_of_log};
+ghost use Rattle.log_defs.specs.Rest.{IsSettled};
 ghost use Rattle.store_defs.specs.Store.{Keeps, store_of, StandsFor, IsSound, HaveOwnExts, TellsAsBefore};
 ghost use Rattle.report_defs.specs.Status.{IsOneOf};
-ghost use Rattle.node_core.specs.Node.{IsOn};
+ghost use Rattle.node_core.specs.Node.{IsOn, IsLeftByOpening};
 ghost use Rattle.node_core.specs.Steps.{replays_to_open};
 ghost use Rattle.node_run.specs.Store.{opening_stops};
 
@@ -70,6 +71,10 @@ pub fn open<D: Disk, L: Ledger>(
         → IsOnlyRead D.reads_as D.images D.moment D.left_since disk.old disk.new }
     ensures told { TellsAsBefore (D.reads_as disk.old) (D.reads_as disk.new) }
     ensures there { IfOk result (λ node. IfSome (D.reads_as disk.new) (λ image. node.place < length image.log)) }
+    ensures settled { IfOk result (λ node. IfSome (D.reads_as disk.old) (λ now.
+        IsSettled node.place (records_of (drop 8 now.log)) (D.reads_as disk.new) (D.images disk.new))) }
+    ensures keeps { (now : Image) → D.reads_as disk.old ≡ Some now
+        → LeavesOnly D.moment D.left_since disk.old disk.new (IsLeftByOpening now.log (D.images disk.old)) }
     ensures on { ((image : Image) → D.images disk.old image → IsSound image)
         → IfOk result (λ node. IfSome (D.reads_as disk.old) (λ _. IsOn node (D.reads_as disk.new) (D.images disk.new))) }
     ensures own { (now : Image) → D.reads_as disk.old ≡ Some now → IsSound now → IfOk result (λ node. HaveOwnExts node.chain node.exts) }

@@ -12,7 +12,7 @@ ghost use Rattle.report_defs.specs.Report.{import_limits};
 ghost use Rattle.report_defs.specs.Words as grammar;
 ghost use Rattle.report_defs.specs.Status.{IsOneOf};
 ghost use Rattle.report_defs.specs.Promise.{statuses_of};
-ghost use Rattle.report_defs.specs.Survival.{IsPromised, CallsNoDisk, OpensStore, AsksStore, as_before};
+ghost use Rattle.report_defs.specs.Survival.{IsPromised, CallsNoDisk, OpensStore, AsksStore, KeepsRecords, NoneJoins, items_of, as_before};
 ghost use Rattle.item_reader.specs.Items.{Gave};
 ghost use Rattle.node_core.specs.Steps.{replays_to_open, steps_over};
 ghost use Rattle.node_run.specs.Output.{Transfers};
@@ -70,6 +70,18 @@ pub fn run<S: Source, K: Sink, D: Disk, L: Ledger>(
         → OpensStore (grammar.command_of (map string_bytes words.now)) → IsOnlyRead D.reads_as D.images D.moment D.left_since disk.old disk.new }
     ensures rests { (now : Image) → D.reads_as disk.old ≡ Some now → slice_index now.log (end_of_log now.log) ≢ 1
         → AsksStore (grammar.command_of (map string_bytes words.now)) → IsOnlyRead D.reads_as D.images D.moment D.left_since disk.old disk.new }
+
+    // A command that opens the store keeps the records of LOG, over a log that is sound or not, and whatever status it ends with: an image is one of the
+    // start, or its LOG has the records that it read as, and behind them those of some of the items.
+    ensures records { OpensStore (grammar.command_of (map string_bytes words.now)) → Gave (S.left input.old) (S.left input.new)
+        (λ given. (now : Image) (chain : Chain) → D.reads_as disk.old ≡ Some now → store_of now ≡ Keeps chain
+        → KeepsRecords (items_of (grammar.command_of (map string_bytes words.now)) given) now (D.images disk.old) (D.images disk.new)
+        (D.left_since disk.new (D.moment disk.old))) }
+
+    // Nothing joined, nothing written: over a sound store whose log is at rest an import only reads the disk where none of its items joins.
+    ensures still { grammar.command_of (map string_bytes words.now) ≡ Some Command.Import → Gave (S.left input.old) (S.left input.new)
+        (λ given. (now : Image) (chain : Chain) → D.reads_as disk.old ≡ Some now → StandsFor chain now → slice_index now.log (end_of_log now.log) ≢ 1
+        → NoneJoins chain (split_of import_limits given).items → IsOnlyRead D.reads_as D.images D.moment D.left_since disk.old disk.new) }
 
     // Only a command that opens the store counts steps: a query or question at most one for each block behind the genesis on the branch of the tip, and an import
     // over a store that is sound at most these, and for each item one and those of the branch that is replayed for it.

@@ -1,10 +1,12 @@
 -- What a run promises of the disk, and what follows for any list of runs, each stopped anywhere (docs/PROVED.md, "A run").
 --
 -- A stop at some moment is a run whose source, sink and disk fail from that moment on, so that a list of runs is a list of calls.
-use Rattle.std.specs.Prelude.{◌≡◌, ◌⊎◌, ℕ, ◌≤◌, List, [], ◌∷◌, length, take, Option, Some, None, IsSome}
+use Rattle.std.specs.Prelude.{◌≡◌, ◌⊎◌, false, ℕ, ◌≤◌, List, [], ◌∷◌, ◌++◌, length, take, drop, Option, Some, None, IsSome}
 use Rattle.std.specs.List.{concat}
 use Rattle.outside.specs.Image.{Image}
-use Rattle.verdict_defs.specs.Chain.{Chain, chain_of_genesis, chain_over}
+use Rattle.log_defs.specs.Log.{Record, magic, records_of, body_of_parts}
+use Rattle.verdict_defs.specs.Verdict.{joins}
+use Rattle.verdict_defs.specs.Chain.{Chain, chain_of_genesis, chain_after, chain_over, verdict_over}
 use Rattle.store_defs.specs.Store.{Store, Keeps, store_of, StandsFor, IsSound, new_image}
 use Rattle.report_defs.specs.declared.command.Command.{Command}
 use Rattle.report_defs.specs.declared.command.Command.TheVariants.{Init, Import, Query, Question, Standalone}
@@ -37,6 +39,26 @@ pub record IsFront (chain : Chain) (items : List (List ℕ)) (taken : List ℕ) 
   pub answered : Agrees taken (concat (lines_over chain items))
   pub most : count ≤ length items
   pub acknowledged : (n : ℕ) → n ≤ length items → IsPrefix (concat (lines_over chain (take n items))) taken → n ≤ count
+
+-- No item joins, each over what is kept by then.
+abbrev pub NoneJoins : Chain → List (List ℕ) → Type 0
+NoneJoins chain [] = Unit {0}
+NoneJoins chain (item ∷ items) = (joins (verdict_over chain item) ≡ false) × NoneJoins (chain_after chain item) items
+
+-- ---- The records of LOG
+
+-- records of some of these items, in their order, with some ext behind each item
+abbrev pub AreOfSome : List (List ℕ) → List Record → Type 0
+AreOfSome [] records = records ≡ []
+AreOfSome (item ∷ items) records = AreOfSome items records
+    ⊎ ((ext : List ℕ) × (later : List Record) × (records ≡ record { kind = 3; body = body_of_parts item ext } ∷ later) × AreOfSome items later)
+
+-- The bytes are a log with these records, and behind them those of some of these items.
+pub record GoesOn (items : List (List ℕ)) (records : List Record) (bytes : List ℕ) : Type 0 where
+  pub begins : take 8 bytes ≡ magic
+  pub added : List Record
+  pub some : AreOfSome items added
+  pub holds : records_of (drop 8 bytes) ≡ records ++ added
 
 -- ---- Lists of runs
 
@@ -77,6 +99,12 @@ pub record KeepsStore (chain : Chain) (items : List (List ℕ)) (taken : List �
 abbrev pub KeepsItems : List (List ℕ) → Image → (Image → Type 0) → (Image → Type 0) → (Image → Type 0) → List ℕ → Status → Type 0
 KeepsItems items now at_start at_exit meanwhile taken status = (chain : Chain) → store_of now ≡ Keeps chain → Each at_start IsSound
     → KeepsStore chain items taken status at_start at_exit meanwhile
+
+-- A command that opens the store, over a LOG that reads as a log, sound or not, and whatever status it ends with: each image is one of the start,
+-- or its LOG has the records that it read as at the start, and behind them those of some of the items.
+pub record KeepsRecords (items : List (List ℕ)) (now : Image) (at_start at_exit meanwhile : Image → Type 0) : Type 0 where
+  pub exit : Each at_exit (λ image. at_start image ⊎ GoesOn items (records_of (drop 8 now.log)) image.log)
+  pub moments : Each meanwhile (λ image. at_start image ⊎ GoesOn items (records_of (drop 8 now.log)) image.log)
 
 -- A new store: the disk has one image, which keeps the genesis alone: its log is that of the two items, with not a byte behind it, and the other
 -- areas are empty.

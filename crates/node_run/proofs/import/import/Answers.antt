@@ -1,6 +1,7 @@
-use Rattle.std.proofs.Common.{inl, inr, ◌++◌, [], refl, ap, sym, subst, ◌∙◌, arith}
+use Rattle.std.proofs.Common.{inl, inr, ◌++◌, [], drop, refl, ap, sym, subst, ◌∙◌, arith}
 use Rattle.std.proofs.lemmas.List.{append-nil}
 use Rattle.std.specs.Prelude.{Err, string_bytes, if◌then◌else◌}
+use Rattle.outside.specs.Disk.{IsOnlyRead}
 use Rattle.outside.proofs.Endings.{counts-as, no_fault, no_answer}
 use Rattle.outside.proofs.Streams.{gives_none, takes_none, takes_more}
 use Rattle.report_defs.specs.declared.command.Command.TheVariants.{Import}
@@ -19,7 +20,10 @@ use Rattle.node_run.proofs.StoreLemmas.{delivers_over, opened_joined_whole, keep
 use Rattle.node_run.proofs.ImportReport.{stopped_import, stopped_at_once, stopped_behind, stopped_acknowledges, stopped_take, ended_import, keeps_given, keeps_all_given}
 use Rattle.node_run.proofs.Statuses.{import_opening, import_told, opening_no_input, opening_no_sink}
 use Rattle.node_run.proofs.Exits.{same_stop}
-use Rattle.node_run.proofs.CountLemmas.{opened_in, counted_over}
+use Rattle.log_defs.specs.Log.{records_of}
+use Rattle.log_defs.specs.Rest.{IsSettled}
+use Rattle.node_run.proofs.RecordLemmas.{opening_keeps, imported_keeps}
+use Rattle.node_run.proofs.CountLemmas.{opened_in, counted_over, opened_sound, none_over}
 use Rattle.node_run.proofs.import.import.Goals as goal
 
 pub returns-in-Err-clause-import : goal.returns-in-Err-clause-import
@@ -243,3 +247,84 @@ returns-in-Err-answer_to_end-clause-told g c = c.in-Ok-import_items.ensures.told
 
 pub returns-clause-told : goal.returns-clause-told
 returns-clause-told g c = c.in-Ok-import_items.ensures.told ∙ c.in-Ok.ensures.told
+
+pub returns-in-Err-clause-still : goal.returns-in-Err-clause-still
+returns-in-Err-clause-still g c = ([], gives_none (g.S.Source.left c.args.input.now), λ now chain told stands rests none. c.in-Err.ensures.rests now told rests)
+
+pub returns-in-Err-import_items-clause-still : goal.returns-in-Err-import_items-clause-still
+returns-in-Err-import_items-clause-still g c =
+    let came = c.import_items.ensures.still in (
+      came.0,
+      came.1,
+      λ now chain told stands rests none.
+          let sound = opened_sound (g.D.Disk.reads_as c.args.disk.now) c.in-Ok.node.chain chain c.in-Ok.node.exts now c.in-Ok.ensures.kept (c.in-Ok.ensures.own now told) told stands in
+          subst (λ d. IsOnlyRead g.D.Disk.reads_as g.D.Disk.images g.D.Disk.moment g.D.Disk.left_since c.args.disk.now d)
+          (sym (came.2 sound.1 (none_over c.in-Ok.node.chain chain (split_of import_limits came.0).items sound.0 none))) (c.in-Ok.ensures.rests now told rests),
+    )
+
+pub returns-in-Err-answer_to_end-clause-still : goal.returns-in-Err-answer_to_end-clause-still
+returns-in-Err-answer_to_end-clause-still g c =
+    let came = c.import_items.ensures.still in (
+      came.0,
+      came.1,
+      λ now chain told stands rests none.
+          let sound = opened_sound (g.D.Disk.reads_as c.args.disk.now) c.in-Ok.node.chain chain c.in-Ok.node.exts now c.in-Ok.ensures.kept (c.in-Ok.ensures.own now told) told stands in
+          subst (λ d. IsOnlyRead g.D.Disk.reads_as g.D.Disk.images g.D.Disk.moment g.D.Disk.left_since c.args.disk.now d)
+          (sym (came.2 sound.1 (none_over c.in-Ok.node.chain chain (split_of import_limits came.0).items sound.0 none))) (c.in-Ok.ensures.rests now told rests),
+    )
+
+pub returns-clause-still : goal.returns-clause-still
+returns-clause-still g c =
+    let came = c.import_items.ensures.still in (
+      came.0,
+      came.1,
+      λ now chain told stands rests none.
+          let sound = opened_sound (g.D.Disk.reads_as c.args.disk.now) c.in-Ok.node.chain chain c.in-Ok.node.exts now c.in-Ok.ensures.kept (c.in-Ok.ensures.own now told) told stands in
+          subst (λ d. IsOnlyRead g.D.Disk.reads_as g.D.Disk.images g.D.Disk.moment g.D.Disk.left_since c.args.disk.now d)
+          (sym (came.2 sound.1 (none_over c.in-Ok.node.chain chain (split_of import_limits came.0).items sound.0 none))) (c.in-Ok.ensures.rests now told rests),
+    )
+
+pub returns-in-Err-clause-records : goal.returns-in-Err-clause-records
+returns-in-Err-clause-records g c = (
+  [],
+  gives_none (g.S.Source.left c.args.input.now),
+  λ now chain told keeps.
+      opening_keeps g.D.Disk.images g.D.Disk.moment g.D.Disk.left_since g.met.D.Disk.counts_now c.args.disk.now c.open.new.disk (split_of import_limits []).items now chain keeps
+      (c.in-Err.ensures.keeps now told),
+)
+
+pub returns-in-Err-import_items-clause-records : goal.returns-in-Err-import_items-clause-records
+returns-in-Err-import_items-clause-records g c =
+    let came = c.import_items.ensures.records in (
+      came.0,
+      came.1,
+      λ now chain told keeps.
+          let settled = if_told (g.D.Disk.reads_as c.args.disk.now)
+          (λ image. IsSettled c.in-Ok.node.place (records_of (drop 8 image.log)) (g.D.Disk.reads_as c.open.new.disk) (g.D.Disk.images c.open.new.disk)) now c.in-Ok.ensures.settled told in
+          imported_keeps g.D.Disk.images g.D.Disk.moment g.D.Disk.left_since g.met.D.Disk.counts_now c.args.disk.now c.open.new.disk c.import_items.new.disk
+          (split_of import_limits came.0).items now chain keeps (c.in-Ok.ensures.keeps now told) (came.2 (records_of (drop 8 now.log)) settled),
+    )
+
+pub returns-in-Err-answer_to_end-clause-records : goal.returns-in-Err-answer_to_end-clause-records
+returns-in-Err-answer_to_end-clause-records g c =
+    let came = c.import_items.ensures.records in (
+      came.0,
+      came.1,
+      λ now chain told keeps.
+          let settled = if_told (g.D.Disk.reads_as c.args.disk.now)
+          (λ image. IsSettled c.in-Ok.node.place (records_of (drop 8 image.log)) (g.D.Disk.reads_as c.open.new.disk) (g.D.Disk.images c.open.new.disk)) now c.in-Ok.ensures.settled told in
+          imported_keeps g.D.Disk.images g.D.Disk.moment g.D.Disk.left_since g.met.D.Disk.counts_now c.args.disk.now c.open.new.disk c.import_items.new.disk
+          (split_of import_limits came.0).items now chain keeps (c.in-Ok.ensures.keeps now told) (came.2 (records_of (drop 8 now.log)) settled),
+    )
+
+pub returns-clause-records : goal.returns-clause-records
+returns-clause-records g c =
+    let came = c.import_items.ensures.records in (
+      came.0,
+      came.1,
+      λ now chain told keeps.
+          let settled = if_told (g.D.Disk.reads_as c.args.disk.now)
+          (λ image. IsSettled c.in-Ok.node.place (records_of (drop 8 image.log)) (g.D.Disk.reads_as c.open.new.disk) (g.D.Disk.images c.open.new.disk)) now c.in-Ok.ensures.settled told in
+          imported_keeps g.D.Disk.images g.D.Disk.moment g.D.Disk.left_since g.met.D.Disk.counts_now c.args.disk.now c.open.new.disk c.import_items.new.disk
+          (split_of import_limits came.0).items now chain keeps (c.in-Ok.ensures.keeps now told) (came.2 (records_of (drop 8 now.log)) settled),
+    )

@@ -155,3 +155,30 @@ returns-in-Ok-write_verdict-clause-told g c = tells_as_before Log _ _ c.in-Ok.en
 
 pub returns-in-Err-write_verdict-clause-told : goal.returns-in-Err-write_verdict-clause-told
 returns-in-Err-write_verdict-clause-told g c = tells_as_before Log _ _ c.in-Ok.ensures.others
+
+pub returns-in-Err-clause-still : goal.returns-in-Err-clause-still
+returns-in-Err-clause-still g c = c.in-Err.ensures.still
+
+pub returns-in-Ok-write_verdict-clause-still : goal.returns-in-Ok-write_verdict-clause-still
+returns-in-Ok-write_verdict-clause-still g c = c.in-Ok.ensures.still
+
+pub returns-in-Err-write_verdict-clause-still : goal.returns-in-Err-write_verdict-clause-still
+returns-in-Err-write_verdict-clause-still g c = c.in-Ok.ensures.still
+
+pub returns-in-Err-clause-settled : goal.returns-in-Err-clause-settled
+returns-in-Err-clause-settled g c = λ _ _. tt
+
+pub returns-in-Ok-write_verdict-clause-settled : goal.returns-in-Ok-write_verdict-clause-settled
+returns-in-Ok-write_verdict-clause-settled g c = c.in-Ok.ensures.settled
+
+pub returns-in-Err-write_verdict-clause-settled : goal.returns-in-Err-write_verdict-clause-settled
+returns-in-Err-write_verdict-clause-settled g c = λ _ _. tt
+
+pub returns-in-Err-clause-keeps : goal.returns-in-Err-clause-keeps
+returns-in-Err-clause-keeps g c = c.in-Err.ensures.keeps
+
+pub returns-in-Ok-write_verdict-clause-keeps : goal.returns-in-Ok-write_verdict-clause-keeps
+returns-in-Ok-write_verdict-clause-keeps g c = c.in-Ok.ensures.keeps
+
+pub returns-in-Err-write_verdict-clause-keeps : goal.returns-in-Err-write_verdict-clause-keeps
+returns-in-Err-write_verdict-clause-keeps g c = c.in-Ok.ensures.keeps

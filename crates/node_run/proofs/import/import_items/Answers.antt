@@ -1,14 +1,17 @@
-use Rattle.std.proofs.Common.{◌≡◌, ◌∷◌, inr, length, ap, sym, ◌∙◌, arith, refl, subst, []}
+use Rattle.std.proofs.Common.{◌≡◌, List, ◌∷◌, ◌++◌, inr, length, ap, sym, ◌∙◌, arith, refl, subst, []}
 use Rattle.std.specs.Prelude.{Ok, Err, Some, ◌||◌}
 use Rattle.outside.proofs.Endings.{no_fault, no_answer}
 use Rattle.outside.proofs.Streams.{gives_none, takes_none}
 use Rattle.outside.specs.Disk.{LeavesOnly}
+use Rattle.log_defs.specs.Log.{Record}
+use Rattle.log_defs.specs.Rest.{IsSettled}
 use Rattle.outside.proofs.Moments.{leaves_also}
 use Rattle.store_defs.specs.Store.{AreJoined}
 use Rattle.node_core.specs.Node.{IsOn}
 use Rattle.node_core.proofs.ImportLemmas.{joined_on}
 use Rattle.report_defs.specs.declared.status.Status.TheVariants.{InputFault}
 use Rattle.report_defs.specs.Report.{item_limit, input_limit}
+use Rattle.report_defs.specs.Survival.{NoneJoins, GoesOn}
 use Rattle.verdict_defs.specs.Verdict as rules
 use Rattle.item_reader.specs.Items.{IsReadingStop, IsItemAt, IsPartial, EndsAt, IsNext}
 use Rattle.item_reader.specs.declared.next.Next.{Next}
@@ -17,29 +20,35 @@ use Rattle.node_run.specs.Import.{item_stops}
 use Rattle.node_run.proofs.Exits.{same_stop}
 use Rattle.node_run.proofs.Faults.{then_counts}
 use Rattle.node_run.proofs.ImportLemmas.{whole_more, imported_to_end, imported_to_fault, imported_to_line, leaves_none, leaves_item, exit_of_item, on_stands, no_input_fault, reading_stopped, keeps_more, or_then, or_else, item_limit-is, input_limit-is}
-use Rattle.node_run.proofs.CountLemmas.{counted_to_part, counted_to_stop, counted_to_item}
+use Rattle.node_run.proofs.RecordLemmas.{HasGrown, grown_none, grown_more, grown_moments, goes_more}
+use Rattle.node_run.proofs.CountLemmas.{counted_to_part, counted_to_stop, counted_to_item, part_also, stop_also, item_also, none-push, stays_there}
 use Rattle.node_run.proofs.import.import_items.Goals as goal
 use Rattle.node_run.proofs.import.import_items.Goals.{then-refused, else-refused}
 
 pub items-init : goal.items-init
 items-init g c = record {
-  whole = record {
-    items = [];
-    taken = [];
-    gives = gives_none (g.S.Source.left c.args.input.now);
-    takes = takes_none (g.K.Sink.taken c.args.out.now);
-    all = tt;
-    place = refl;
-    within = omega (arith, input_limit-is);
-    joined = λ joined. joined;
-    lines = λ joined. refl;
-    kept_now = λ joined. refl;
-    any_refused = λ joined. refl;
-    on = λ on. on;
-    moments = λ on. leaves_none g.D.Disk.images g.D.Disk.moment g.D.Disk.left_since g.met.D.Disk.counts_now g.met.D.Disk.only_now c.args.disk.now c.args.opened
-        (g.D.Disk.reads_as c.args.disk.now) on;
-    steps = λ joined. omega arith;
-  };
+  whole = (
+    record {
+      items = [];
+      taken = [];
+      gives = gives_none (g.S.Source.left c.args.input.now);
+      takes = takes_none (g.K.Sink.taken c.args.out.now);
+      all = tt;
+      place = refl;
+      within = omega (arith, input_limit-is);
+      joined = λ joined. joined;
+      lines = λ joined. refl;
+      kept_now = λ joined. refl;
+      any_refused = λ joined. refl;
+      on = λ on. on;
+      moments = λ on. leaves_none g.D.Disk.images g.D.Disk.moment g.D.Disk.left_since g.met.D.Disk.counts_now g.met.D.Disk.only_now c.args.disk.now c.args.opened
+          (g.D.Disk.reads_as c.args.disk.now) on;
+      steps = λ joined. omega arith;
+    },
+    λ joined none. refl,
+    λ records settled. grown_none g.D.Disk.images g.D.Disk.moment g.D.Disk.left_since g.met.D.Disk.counts_now g.met.D.Disk.only_now c.args.disk.now records
+        c.args.opened.place (g.D.Disk.reads_as c.args.disk.now) settled,
+  );
   there = c.requires.there;
   told = refl;
   input_unchanged = refl;
@@ -48,7 +57,7 @@ items-init g c = record {
 }
 
 pub next_block-requires : goal.next_block-requires
-next_block-requires g c = c.items.invariant.whole.within
+next_block-requires g c = c.items.invariant.whole.0.within
 
 pub returns-in-Ok-End-clause-imported : goal.returns-in-Ok-End-clause-imported
 returns-in-Ok-End-clause-imported g c =
@@ -60,7 +69,7 @@ returns-in-Ok-End-clause-imported g c =
     (g.K.Sink.taken c.args.out.now) (g.K.Sink.taken c.items.out) c.items.node.chain (record { end = c.in-Ok-End.end; offset = c.items.offset; refused = c.items.refused })
     (AreJoined c.args.opened.chain c.args.opened.exts) (AreJoined c.items.node.chain c.items.node.exts)
     (IsOn c.args.opened (g.D.Disk.reads_as c.args.disk.now) (g.D.Disk.images c.args.disk.now)) (IsOn c.items.node (g.D.Disk.reads_as c.items.disk) (g.D.Disk.images c.items.disk))
-    (g.D.Disk.images c.items.disk) (LeavesOnly g.D.Disk.moment g.D.Disk.left_since c.args.disk.now c.items.disk) c.args.steps.now c.items.steps next.0 c.items.invariant.whole next.1 ends.0 ends.1 refl
+    (g.D.Disk.images c.items.disk) (LeavesOnly g.D.Disk.moment g.D.Disk.left_since c.args.disk.now c.items.disk) c.args.steps.now c.items.steps next.0 c.items.invariant.whole.0 next.1 ends.0 ends.1 refl
     (on_stands c.items.node c.items.node.chain (g.D.Disk.reads_as c.items.disk) (g.D.Disk.images c.items.disk) refl)
 
 pub returns-in-Ok-End-clause-status : goal.returns-in-Ok-End-clause-status
@@ -83,7 +92,7 @@ import_item-requires-clause-there g c = c.items.invariant.there
 pub returns-in-Err-clause-imported : goal.returns-in-Err-clause-imported
 returns-in-Err-clause-imported g c =
     let next = c.in-Err.ensures.next in
-    let whole = c.items.invariant.whole in
+    let whole = c.items.invariant.whole.0 in
     imported_to_fault c.args.opened.chain c.items.offset (g.S.Source.left c.args.input.now) (g.S.Source.left c.items.input) (g.S.Source.left c.next_block.new.input)
     (g.K.Sink.taken c.args.out.now) (g.K.Sink.taken c.items.out) c.items.node.chain c.items.refused
     (AreJoined c.args.opened.chain c.args.opened.exts) (AreJoined c.items.node.chain c.items.node.exts)
@@ -98,7 +107,7 @@ returns-in-Err-import_item-clause-imported g c =
     let next = c.in-Ok-Item.ensures.next in
     let found : IsItemAt item_limit (Some input_limit) c.items.offset c.in-Ok-Item.item.items next.0 =
     subst (λ (n : Next). IsNext item_limit (Some input_limit) c.items.offset (g.S.Source.left c.next_block.new.input) (Ok n) next.0) c.in-Ok-Item.field-0-is next.2 in
-    let whole = c.items.invariant.whole in
+    let whole = c.items.invariant.whole.0 in
     let written = c.in-Err-import_item.ensures.written in
     let at : IsItemAt item_limit (Some input_limit) c.items.offset c.deref.result.now next.0 =
     subst (λ bytes. IsItemAt item_limit (Some input_limit) c.items.offset bytes next.0) (sym c.deref.ensures.value) found in
@@ -184,7 +193,7 @@ items-preserved g c =
     let next = c.in-Ok-Item.ensures.next in
     let found : IsItemAt item_limit (Some input_limit) c.items.offset c.in-Ok-Item.item.items next.0 =
     subst (λ (n : Next). IsNext item_limit (Some input_limit) c.items.offset (g.S.Source.left c.next_block.new.input) (Ok n) next.0) c.in-Ok-Item.field-0-is next.2 in
-    let whole = c.items.invariant.whole in
+    let whole = c.items.invariant.whole.0 in
     let written = c.in-Ok.ensures.written in
     let item = c.deref.result.now in
     let size : c.len.result ≡ length item = omega (arith, c.len.ensures, c.in-Ok-Item.item.ok, ap length c.deref.ensures.value) in
@@ -200,17 +209,31 @@ items-preserved g c =
           let is = w.refused-is in
           let same : c.if-refused.refused ≡ rules.refuses c.in-Ok.answer.1 = cc in same ∙ sym (or_else c.items.refused (rules.refuses c.in-Ok.answer.1) w.if-refused.false)
     ] in
+    let more = whole_more c.args.opened.chain c.items.offset (g.S.Source.left c.args.input.now) (g.S.Source.left c.items.input) (g.S.Source.left c.next_block.new.input)
+    (g.K.Sink.taken c.args.out.now) (g.K.Sink.taken c.items.out) (g.K.Sink.taken c.import_item.new.out) c.items.node.chain c.in-Ok.answer.0.chain c.items.refused
+    (AreJoined c.args.opened.chain c.args.opened.exts) (AreJoined c.items.node.chain c.items.node.exts) (AreJoined c.in-Ok.answer.0.chain c.in-Ok.answer.0.exts)
+    (IsOn c.args.opened (g.D.Disk.reads_as c.args.disk.now) (g.D.Disk.images c.args.disk.now)) (IsOn c.items.node (g.D.Disk.reads_as c.items.disk) (g.D.Disk.images c.items.disk))
+    (IsOn c.in-Ok.answer.0 (g.D.Disk.reads_as c.import_item.new.disk) (g.D.Disk.images c.import_item.new.disk)) (LeavesOnly g.D.Disk.moment g.D.Disk.left_since c.args.disk.now c.items.disk)
+    (LeavesOnly g.D.Disk.moment g.D.Disk.left_since c.args.disk.now c.import_item.new.disk) c.args.steps.now c.items.steps c.import_item.new.steps item next.0 written.0 c.in-Ok.answer.1 c.len.result c.if-refused.refused size any
+    whole at next.1 written.1 c.in-Ok.ensures.verdict c.in-Ok.ensures.kept written.2 c.in-Ok.ensures.joined c.in-Ok.ensures.on
+    (λ was. leaves_item g.D.Disk.images g.D.Disk.moment g.D.Disk.left_since g.met.D.Disk.counts_now c.args.disk.now c.items.disk c.import_item.new.disk c.args.opened.chain
+    c.items.node.chain whole.items item (whole.kept_now (joined_on c.args.opened (g.D.Disk.reads_as c.args.disk.now) (g.D.Disk.images c.args.disk.now) was))
+    (whole.moments was) (c.in-Ok.ensures.moments (whole.on was))) c.import_item.ensures.most in
     record {
-      whole = whole_more c.args.opened.chain c.items.offset (g.S.Source.left c.args.input.now) (g.S.Source.left c.items.input) (g.S.Source.left c.next_block.new.input)
-          (g.K.Sink.taken c.args.out.now) (g.K.Sink.taken c.items.out) (g.K.Sink.taken c.import_item.new.out) c.items.node.chain c.in-Ok.answer.0.chain c.items.refused
-          (AreJoined c.args.opened.chain c.args.opened.exts) (AreJoined c.items.node.chain c.items.node.exts) (AreJoined c.in-Ok.answer.0.chain c.in-Ok.answer.0.exts)
-          (IsOn c.args.opened (g.D.Disk.reads_as c.args.disk.now) (g.D.Disk.images c.args.disk.now)) (IsOn c.items.node (g.D.Disk.reads_as c.items.disk) (g.D.Disk.images c.items.disk))
-          (IsOn c.in-Ok.answer.0 (g.D.Disk.reads_as c.import_item.new.disk) (g.D.Disk.images c.import_item.new.disk)) (LeavesOnly g.D.Disk.moment g.D.Disk.left_since c.args.disk.now c.items.disk)
-          (LeavesOnly g.D.Disk.moment g.D.Disk.left_since c.args.disk.now c.import_item.new.disk) c.args.steps.now c.items.steps c.import_item.new.steps item next.0 written.0 c.in-Ok.answer.1 c.len.result c.if-refused.refused size any
-          whole at next.1 written.1 c.in-Ok.ensures.verdict c.in-Ok.ensures.kept written.2 c.in-Ok.ensures.joined c.in-Ok.ensures.on
-          (λ was. leaves_item g.D.Disk.images g.D.Disk.moment g.D.Disk.left_since g.met.D.Disk.counts_now c.args.disk.now c.items.disk c.import_item.new.disk c.args.opened.chain
-          c.items.node.chain whole.items item (whole.kept_now (joined_on c.args.opened (g.D.Disk.reads_as c.args.disk.now) (g.D.Disk.images c.args.disk.now) was))
-          (whole.moments was) (c.in-Ok.ensures.moments (whole.on was))) c.import_item.ensures.most;
+      whole = (
+        more.0,
+        λ joined none.
+            let parts = none-push c.args.opened.chain whole.items item (subst (λ xs. NoneJoins c.args.opened.chain xs) more.1 none) in
+            c.in-Ok.ensures.still (whole.joined joined) (stays_there c.args.opened.chain c.items.node.chain whole.items item (whole.kept_now joined) parts.1)
+            ∙ c.items.invariant.whole.1 joined parts.0,
+        λ records settled.
+            let grown = c.items.invariant.whole.2 records settled in
+            subst (λ xs. HasGrown xs records c.in-Ok.answer.0.place (g.D.Disk.reads_as c.import_item.new.disk) (g.D.Disk.images c.import_item.new.disk)
+            (LeavesOnly g.D.Disk.moment g.D.Disk.left_since c.args.disk.now c.import_item.new.disk)) (sym more.1)
+            (grown_more g.D.Disk.images g.D.Disk.moment g.D.Disk.left_since g.met.D.Disk.counts_now c.args.disk.now c.items.disk c.import_item.new.disk whole.items item records
+            c.items.node.place c.in-Ok.answer.0.place (g.D.Disk.reads_as c.items.disk) (g.D.Disk.reads_as c.import_item.new.disk) c.in-Ok.answer.1 grown
+            (c.in-Ok.ensures.keeps (records ++ grown.added) grown.settled) (c.in-Ok.ensures.settled (records ++ grown.added) grown.settled)),
+      );
       there = c.in-Ok.ensures.there;
       told = c.in-Ok.ensures.told ∙ c.items.invariant.told;
       input_unchanged = c.in-Ok-Item.ensures.faults.unchanged (no_answer _ _) ∙ c.items.invariant.input_unchanged;
@@ -228,7 +251,7 @@ returns-in-Ok-End-clause-steps g c =
     (g.K.Sink.taken c.args.out.now) (g.K.Sink.taken c.items.out) c.items.node.chain c.items.refused
     (AreJoined c.args.opened.chain c.args.opened.exts) (AreJoined c.items.node.chain c.items.node.exts)
     (IsOn c.args.opened (g.D.Disk.reads_as c.args.disk.now) (g.D.Disk.images c.args.disk.now)) (IsOn c.items.node (g.D.Disk.reads_as c.items.disk) (g.D.Disk.images c.items.disk))
-    (LeavesOnly g.D.Disk.moment g.D.Disk.left_since c.args.disk.now c.items.disk) c.args.steps.now c.items.steps c.items.invariant.whole next.0 next.1 ends.1
+    (LeavesOnly g.D.Disk.moment g.D.Disk.left_since c.args.disk.now c.items.disk) c.args.steps.now c.items.steps c.items.invariant.whole.0 next.0 next.1 ends.1
 
 pub returns-in-Err-clause-steps : goal.returns-in-Err-clause-steps
 returns-in-Err-clause-steps g c =
@@ -237,7 +260,7 @@ returns-in-Err-clause-steps g c =
     (g.K.Sink.taken c.args.out.now) (g.K.Sink.taken c.items.out) c.items.node.chain c.items.refused
     (AreJoined c.args.opened.chain c.args.opened.exts) (AreJoined c.items.node.chain c.items.node.exts)
     (IsOn c.args.opened (g.D.Disk.reads_as c.args.disk.now) (g.D.Disk.images c.args.disk.now)) (IsOn c.items.node (g.D.Disk.reads_as c.items.disk) (g.D.Disk.images c.items.disk))
-    (LeavesOnly g.D.Disk.moment g.D.Disk.left_since c.args.disk.now c.items.disk) c.args.steps.now c.items.steps c.items.invariant.whole next.0 next.1 next.2.1
+    (LeavesOnly g.D.Disk.moment g.D.Disk.left_since c.args.disk.now c.items.disk) c.args.steps.now c.items.steps c.items.invariant.whole.0 next.0 next.1 next.2.1
 
 pub returns-in-Err-import_item-clause-steps : goal.returns-in-Err-import_item-clause-steps
 returns-in-Err-import_item-clause-steps g c =
@@ -250,7 +273,7 @@ returns-in-Err-import_item-clause-steps g c =
     (g.K.Sink.taken c.args.out.now) (g.K.Sink.taken c.items.out) c.items.node.chain c.items.refused
     (AreJoined c.args.opened.chain c.args.opened.exts) (AreJoined c.items.node.chain c.items.node.exts)
     (IsOn c.args.opened (g.D.Disk.reads_as c.args.disk.now) (g.D.Disk.images c.args.disk.now)) (IsOn c.items.node (g.D.Disk.reads_as c.items.disk) (g.D.Disk.images c.items.disk))
-    (LeavesOnly g.D.Disk.moment g.D.Disk.left_since c.args.disk.now c.items.disk) c.args.steps.now c.items.steps c.items.invariant.whole c.import_item.new.steps c.deref.result.now next.0 at next.1 c.import_item.ensures.most
+    (LeavesOnly g.D.Disk.moment g.D.Disk.left_since c.args.disk.now c.items.disk) c.args.steps.now c.items.steps c.items.invariant.whole.0 c.import_item.new.steps c.deref.result.now next.0 at next.1 c.import_item.ensures.most
 
 pub returns-in-Ok-End-clause-told : goal.returns-in-Ok-End-clause-told
 returns-in-Ok-End-clause-told g c = c.items.invariant.told
@@ -260,3 +283,96 @@ returns-in-Err-clause-told g c = c.items.invariant.told
 
 pub returns-in-Err-import_item-clause-told : goal.returns-in-Err-import_item-clause-told
 returns-in-Err-import_item-clause-told g c = c.in-Err-import_item.ensures.told ∙ c.items.invariant.told
+
+pub returns-in-Ok-End-clause-still : goal.returns-in-Ok-End-clause-still
+returns-in-Ok-End-clause-still g c =
+    let next = c.in-Ok-End.ensures.next in
+    let left = g.S.Source.left c.next_block.new.input in
+    let ends : EndsAt (Some item_limit) (Some input_limit) c.items.offset left c.in-Ok-End.end next.0 × IsPartial item_limit (Some input_limit) c.items.offset next.0 =
+    subst (λ (n : Next). IsNext item_limit (Some input_limit) c.items.offset left (Ok n) next.0) c.in-Ok-End.field-0-is next.2 in
+    part_also c.args.opened.chain c.items.offset (g.S.Source.left c.args.input.now) (g.S.Source.left c.items.input) (g.S.Source.left c.next_block.new.input)
+    (g.K.Sink.taken c.args.out.now) (g.K.Sink.taken c.items.out) c.items.node.chain c.items.refused
+    (AreJoined c.args.opened.chain c.args.opened.exts) (AreJoined c.items.node.chain c.items.node.exts)
+    (IsOn c.args.opened (g.D.Disk.reads_as c.args.disk.now) (g.D.Disk.images c.args.disk.now)) (IsOn c.items.node (g.D.Disk.reads_as c.items.disk) (g.D.Disk.images c.items.disk))
+    (LeavesOnly g.D.Disk.moment g.D.Disk.left_since c.args.disk.now c.items.disk) c.args.steps.now c.items.steps c.items.invariant.whole.0
+    (λ xs. AreJoined c.args.opened.chain c.args.opened.exts → NoneJoins c.args.opened.chain xs → c.items.disk ≡ c.args.disk.now) c.items.invariant.whole.1 next.0 next.1 ends.1
+
+pub returns-in-Err-clause-still : goal.returns-in-Err-clause-still
+returns-in-Err-clause-still g c =
+    let next = c.in-Err.ensures.next in
+    stop_also c.args.opened.chain c.items.offset (g.S.Source.left c.args.input.now) (g.S.Source.left c.items.input) (g.S.Source.left c.next_block.new.input)
+    (g.K.Sink.taken c.args.out.now) (g.K.Sink.taken c.items.out) c.items.node.chain c.items.refused
+    (AreJoined c.args.opened.chain c.args.opened.exts) (AreJoined c.items.node.chain c.items.node.exts)
+    (IsOn c.args.opened (g.D.Disk.reads_as c.args.disk.now) (g.D.Disk.images c.args.disk.now)) (IsOn c.items.node (g.D.Disk.reads_as c.items.disk) (g.D.Disk.images c.items.disk))
+    (LeavesOnly g.D.Disk.moment g.D.Disk.left_since c.args.disk.now c.items.disk) c.args.steps.now c.items.steps c.items.invariant.whole.0
+    (λ xs. AreJoined c.args.opened.chain c.args.opened.exts → NoneJoins c.args.opened.chain xs → c.items.disk ≡ c.args.disk.now) c.items.invariant.whole.1 next.0 next.1
+    (λ joined none. c.items.invariant.whole.1 joined (none-push c.args.opened.chain c.items.invariant.whole.0.items next.0 none).0) next.2.1
+
+pub returns-in-Err-import_item-clause-still : goal.returns-in-Err-import_item-clause-still
+returns-in-Err-import_item-clause-still g c =
+    let next = c.in-Ok-Item.ensures.next in
+    let found : IsItemAt item_limit (Some input_limit) c.items.offset c.in-Ok-Item.item.items next.0 =
+    subst (λ (n : Next). IsNext item_limit (Some input_limit) c.items.offset (g.S.Source.left c.next_block.new.input) (Ok n) next.0) c.in-Ok-Item.field-0-is next.2 in
+    let at : IsItemAt item_limit (Some input_limit) c.items.offset c.deref.result.now next.0 =
+    subst (λ bytes. IsItemAt item_limit (Some input_limit) c.items.offset bytes next.0) (sym c.deref.ensures.value) found in
+    let whole = c.items.invariant.whole.0 in
+    item_also c.args.opened.chain c.items.offset (g.S.Source.left c.args.input.now) (g.S.Source.left c.items.input) (g.S.Source.left c.next_block.new.input)
+    (g.K.Sink.taken c.args.out.now) (g.K.Sink.taken c.items.out) c.items.node.chain c.items.refused
+    (AreJoined c.args.opened.chain c.args.opened.exts) (AreJoined c.items.node.chain c.items.node.exts)
+    (IsOn c.args.opened (g.D.Disk.reads_as c.args.disk.now) (g.D.Disk.images c.args.disk.now)) (IsOn c.items.node (g.D.Disk.reads_as c.items.disk) (g.D.Disk.images c.items.disk))
+    (LeavesOnly g.D.Disk.moment g.D.Disk.left_since c.args.disk.now c.items.disk) c.args.steps.now c.items.steps c.items.invariant.whole.0
+    (λ xs. AreJoined c.args.opened.chain c.args.opened.exts → NoneJoins c.args.opened.chain xs → c.import_item.new.disk ≡ c.args.disk.now) c.deref.result.now next.0 at next.1
+    (λ joined none.
+    let parts = none-push c.args.opened.chain whole.items c.deref.result.now none in
+    c.in-Err-import_item.ensures.still (whole.joined joined) (stays_there c.args.opened.chain c.items.node.chain whole.items c.deref.result.now (whole.kept_now joined) parts.1)
+    ∙ c.items.invariant.whole.1 joined parts.0)
+
+pub returns-in-Ok-End-clause-records : goal.returns-in-Ok-End-clause-records
+returns-in-Ok-End-clause-records g c =
+    let next = c.in-Ok-End.ensures.next in
+    let left = g.S.Source.left c.next_block.new.input in
+    let ends : EndsAt (Some item_limit) (Some input_limit) c.items.offset left c.in-Ok-End.end next.0 × IsPartial item_limit (Some input_limit) c.items.offset next.0 =
+    subst (λ (n : Next). IsNext item_limit (Some input_limit) c.items.offset left (Ok n) next.0) c.in-Ok-End.field-0-is next.2 in
+    part_also c.args.opened.chain c.items.offset (g.S.Source.left c.args.input.now) (g.S.Source.left c.items.input) (g.S.Source.left c.next_block.new.input)
+    (g.K.Sink.taken c.args.out.now) (g.K.Sink.taken c.items.out) c.items.node.chain c.items.refused
+    (AreJoined c.args.opened.chain c.args.opened.exts) (AreJoined c.items.node.chain c.items.node.exts)
+    (IsOn c.args.opened (g.D.Disk.reads_as c.args.disk.now) (g.D.Disk.images c.args.disk.now)) (IsOn c.items.node (g.D.Disk.reads_as c.items.disk) (g.D.Disk.images c.items.disk))
+    (LeavesOnly g.D.Disk.moment g.D.Disk.left_since c.args.disk.now c.items.disk) c.args.steps.now c.items.steps c.items.invariant.whole.0
+    (λ xs. (records : List Record) → IsSettled c.args.opened.place records (g.D.Disk.reads_as c.args.disk.now) (g.D.Disk.images c.args.disk.now)
+    → LeavesOnly g.D.Disk.moment g.D.Disk.left_since c.args.disk.now c.items.disk (λ image. GoesOn xs records image.log))
+    (λ records settled. (c.items.invariant.whole.2 records settled).moments) next.0 next.1 ends.1
+
+pub returns-in-Err-clause-records : goal.returns-in-Err-clause-records
+returns-in-Err-clause-records g c =
+    let next = c.in-Err.ensures.next in
+    stop_also c.args.opened.chain c.items.offset (g.S.Source.left c.args.input.now) (g.S.Source.left c.items.input) (g.S.Source.left c.next_block.new.input)
+    (g.K.Sink.taken c.args.out.now) (g.K.Sink.taken c.items.out) c.items.node.chain c.items.refused
+    (AreJoined c.args.opened.chain c.args.opened.exts) (AreJoined c.items.node.chain c.items.node.exts)
+    (IsOn c.args.opened (g.D.Disk.reads_as c.args.disk.now) (g.D.Disk.images c.args.disk.now)) (IsOn c.items.node (g.D.Disk.reads_as c.items.disk) (g.D.Disk.images c.items.disk))
+    (LeavesOnly g.D.Disk.moment g.D.Disk.left_since c.args.disk.now c.items.disk) c.args.steps.now c.items.steps c.items.invariant.whole.0
+    (λ xs. (records : List Record) → IsSettled c.args.opened.place records (g.D.Disk.reads_as c.args.disk.now) (g.D.Disk.images c.args.disk.now)
+    → LeavesOnly g.D.Disk.moment g.D.Disk.left_since c.args.disk.now c.items.disk (λ image. GoesOn xs records image.log))
+    (λ records settled. (c.items.invariant.whole.2 records settled).moments) next.0 next.1
+    (λ records settled. leaves_also g.D.Disk.moment g.D.Disk.left_since c.args.disk.now c.items.disk (λ image. GoesOn c.items.invariant.whole.0.items records image.log)
+    (λ image. GoesOn (c.items.invariant.whole.0.items ++ next.0 ∷ []) records image.log)
+    (c.items.invariant.whole.2 records settled).moments (λ image goes. goes_more c.items.invariant.whole.0.items next.0 records image.log goes)) next.2.1
+
+pub returns-in-Err-import_item-clause-records : goal.returns-in-Err-import_item-clause-records
+returns-in-Err-import_item-clause-records g c =
+    let next = c.in-Ok-Item.ensures.next in
+    let found : IsItemAt item_limit (Some input_limit) c.items.offset c.in-Ok-Item.item.items next.0 =
+    subst (λ (n : Next). IsNext item_limit (Some input_limit) c.items.offset (g.S.Source.left c.next_block.new.input) (Ok n) next.0) c.in-Ok-Item.field-0-is next.2 in
+    let at : IsItemAt item_limit (Some input_limit) c.items.offset c.deref.result.now next.0 =
+    subst (λ bytes. IsItemAt item_limit (Some input_limit) c.items.offset bytes next.0) (sym c.deref.ensures.value) found in
+    item_also c.args.opened.chain c.items.offset (g.S.Source.left c.args.input.now) (g.S.Source.left c.items.input) (g.S.Source.left c.next_block.new.input)
+    (g.K.Sink.taken c.args.out.now) (g.K.Sink.taken c.items.out) c.items.node.chain c.items.refused
+    (AreJoined c.args.opened.chain c.args.opened.exts) (AreJoined c.items.node.chain c.items.node.exts)
+    (IsOn c.args.opened (g.D.Disk.reads_as c.args.disk.now) (g.D.Disk.images c.args.disk.now)) (IsOn c.items.node (g.D.Disk.reads_as c.items.disk) (g.D.Disk.images c.items.disk))
+    (LeavesOnly g.D.Disk.moment g.D.Disk.left_since c.args.disk.now c.items.disk) c.args.steps.now c.items.steps c.items.invariant.whole.0
+    (λ xs. (records : List Record) → IsSettled c.args.opened.place records (g.D.Disk.reads_as c.args.disk.now) (g.D.Disk.images c.args.disk.now)
+    → LeavesOnly g.D.Disk.moment g.D.Disk.left_since c.args.disk.now c.import_item.new.disk (λ image. GoesOn xs records image.log))
+    c.deref.result.now next.0 at next.1
+    (λ records settled.
+    let grown = c.items.invariant.whole.2 records settled in
+    grown_moments g.D.Disk.images g.D.Disk.moment g.D.Disk.left_since g.met.D.Disk.counts_now c.args.disk.now c.items.disk c.import_item.new.disk c.items.invariant.whole.0.items
+    c.deref.result.now records c.items.node.place (g.D.Disk.reads_as c.items.disk) grown (c.in-Err-import_item.ensures.keeps (records ++ grown.added) grown.settled))

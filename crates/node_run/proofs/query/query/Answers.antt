@@ -8,6 +8,7 @@ use Rattle.node_run.proofs.ImportLemmas.{on_stands}
 use Rattle.node_run.proofs.StoreLemmas.{delivers, keeps_opened, keeps_read, keeps_unopened, opened_there, unopened, sound_opening, sound_here, by_disk_or_memory, if_told}
 use Rattle.node_run.proofs.Statuses.{query_opening, opening_no_sink}
 use Rattle.node_run.proofs.Exits.{same_stop}
+use Rattle.node_run.proofs.RecordLemmas.{opening_keeps}
 use Rattle.node_run.proofs.query.query.Goals as goal
 
 pub returns-in-Err-clause-query : goal.returns-in-Err-clause-query
@@ -83,3 +84,11 @@ returns-in-Err-clause-told g c = c.in-Err.ensures.told
 
 pub returns-clause-told : goal.returns-clause-told
 returns-clause-told g c = c.in-Ok.ensures.told
+
+pub returns-in-Err-clause-records : goal.returns-in-Err-clause-records
+returns-in-Err-clause-records g c = λ now chain told keeps.
+    opening_keeps g.D.Disk.images g.D.Disk.moment g.D.Disk.left_since g.met.D.Disk.counts_now c.args.disk.now c.open.new.disk [] now chain keeps (c.in-Err.ensures.keeps now told)
+
+pub returns-clause-records : goal.returns-clause-records
+returns-clause-records g c = λ now chain told keeps.
+    opening_keeps g.D.Disk.images g.D.Disk.moment g.D.Disk.left_since g.met.D.Disk.counts_now c.args.disk.now c.open.new.disk [] now chain keeps (c.in-Ok.ensures.keeps now told)

@@ -4,6 +4,7 @@ use Rattle.outside.proofs.Endings.{no_fault, no_answer}
 use Rattle.outside.proofs.Streams.{gives_none, takes_none}
 use Rattle.node_run.proofs.QuestionLemmas.{question_opened, question_unopened}
 use Rattle.node_run.proofs.StoreLemmas.{opened_there}
+use Rattle.node_run.proofs.RecordLemmas.{opening_keeps}
 use Rattle.node_run.proofs.question.question.Goals as goal
 
 pub returns-in-Err-clause-question : goal.returns-in-Err-clause-question
@@ -52,3 +53,11 @@ returns-in-Err-clause-told g c = c.in-Err.ensures.told
 
 pub returns-clause-told : goal.returns-clause-told
 returns-clause-told g c = c.in-Ok.ensures.told
+
+pub returns-in-Err-clause-records : goal.returns-in-Err-clause-records
+returns-in-Err-clause-records g c = λ now chain told keeps.
+    opening_keeps g.D.Disk.images g.D.Disk.moment g.D.Disk.left_since g.met.D.Disk.counts_now c.args.disk.now c.open.new.disk [] now chain keeps (c.in-Err.ensures.keeps now told)
+
+pub returns-clause-records : goal.returns-clause-records
+returns-clause-records g c = λ now chain told keeps.
+    opening_keeps g.D.Disk.images g.D.Disk.moment g.D.Disk.left_since g.met.D.Disk.counts_now c.args.disk.now c.open.new.disk [] now chain keeps (c.in-Ok.ensures.keeps now told)

@@ -1,5 +1,9 @@
-use Rattle.std.proofs.Common.{◌∙◌, [], inl, refl, ap, subst, sym}
+use Rattle.std.proofs.Common.{◌≡◌, ◌∙◌, [], inl, refl, ap, subst, sym}
 use Rattle.std.specs.Prelude.{Option, Some}
+use Rattle.outside.specs.Image.{Image}
+use Rattle.verdict_defs.specs.Chain.{Chain}
+use Rattle.store_defs.specs.Store.{Keeps, store_of}
+use Rattle.item_reader.specs.Items.{Gave}
 use Rattle.outside.proofs.Endings.{no_fault}
 use Rattle.outside.proofs.Streams.{gives_none, takes_none}
 use Rattle.report_defs.specs.declared.command.Command.{Command}
@@ -7,7 +11,7 @@ use Rattle.report_defs.specs.declared.command.Command.TheVariants.{Init, Import,
 use Rattle.report_defs.specs.declared.status.Status.TheVariants.{BadWords}
 use Rattle.report_defs.specs.Status.{IsOneOf}
 use Rattle.report_defs.specs.Promise.{statuses_of}
-use Rattle.report_defs.specs.Survival.{IsPromised, CallsNoDisk, OpensStore, AsksStore, as_before}
+use Rattle.report_defs.specs.Survival.{IsPromised, CallsNoDisk, OpensStore, AsksStore, KeepsRecords, items_of, as_before}
 use Rattle.node_run.proofs.Asked.{IsNotInit, IsNotImport, never_bad_words, words_are_good, query_no_input_fault, standalone_no_disk_fault}
 use Rattle.node_run.proofs.RunLemmas.{import_promised, query_promised, question_promised, init_promised, standalone_promised, words_promised}
 use Rattle.node_run.proofs.top.run.Goals as goal
@@ -442,3 +446,66 @@ returns-in-Some-Standalone-clause-told g c = refl
 
 pub returns-in-None-clause-told : goal.returns-in-None-clause-told
 returns-in-None-clause-told g c = refl
+
+pub returns-in-Some-Init-clause-still : goal.returns-in-Some-Init-clause-still
+returns-in-Some-Init-clause-still g c =
+    let is = ap Some (sym c.in-Some-Init.field-0-is) ∙ c.in-Some-Init.ensures.command in
+    λ asks. absurd (subst IsNotImport (is ∙ asks) tt)
+
+pub returns-in-Some-Query-clause-still : goal.returns-in-Some-Query-clause-still
+returns-in-Some-Query-clause-still g c =
+    let is = ap Some (sym c.in-Some-Query.field-0-is) ∙ c.in-Some-Query.ensures.command in
+    λ asks. absurd (subst IsNotImport (is ∙ asks) tt)
+
+pub returns-in-Some-Question-clause-still : goal.returns-in-Some-Question-clause-still
+returns-in-Some-Question-clause-still g c =
+    let is = ap Some (sym c.in-Some-Question.field-0-is) ∙ c.in-Some-Question.ensures.command in
+    λ asks. absurd (subst IsNotImport (is ∙ asks) tt)
+
+pub returns-in-Some-Standalone-clause-still : goal.returns-in-Some-Standalone-clause-still
+returns-in-Some-Standalone-clause-still g c =
+    let is = ap Some (sym c.in-Some-Standalone.field-0-is) ∙ c.in-Some-Standalone.ensures.command in
+    λ asks. absurd (subst IsNotImport (is ∙ asks) tt)
+
+pub returns-in-Some-Import-clause-still : goal.returns-in-Some-Import-clause-still
+returns-in-Some-Import-clause-still g c = λ _. c.import.ensures.still
+
+pub returns-in-None-clause-still : goal.returns-in-None-clause-still
+returns-in-None-clause-still g c = λ asks. absurd (subst IsNotImport (c.in-None.ensures.command ∙ asks) tt)
+
+pub returns-in-Some-Init-clause-records : goal.returns-in-Some-Init-clause-records
+returns-in-Some-Init-clause-records g c =
+    let is = ap Some (sym c.in-Some-Init.field-0-is) ∙ c.in-Some-Init.ensures.command in
+    λ opens. absurd (subst OpensStore (sym is) opens)
+
+pub returns-in-Some-Import-clause-records : goal.returns-in-Some-Import-clause-records
+returns-in-Some-Import-clause-records g c =
+    let is = ap Some (sym c.in-Some-Import.field-0-is) ∙ c.in-Some-Import.ensures.command in
+    λ _. subst (λ (o : Option Command). Gave (g.S.Source.left c.args.input.now) (g.S.Source.left c.import.new.input)
+    (λ given. (now : Image) (chain : Chain) → g.D.Disk.reads_as c.args.disk.now ≡ Some now → store_of now ≡ Keeps chain
+    → KeepsRecords (items_of o given) now (g.D.Disk.images c.args.disk.now) (g.D.Disk.images c.import.new.disk) (g.D.Disk.left_since c.import.new.disk (g.D.Disk.moment c.args.disk.now)))) is
+    c.import.ensures.records
+
+pub returns-in-Some-Query-clause-records : goal.returns-in-Some-Query-clause-records
+returns-in-Some-Query-clause-records g c =
+    let is = ap Some (sym c.in-Some-Query.field-0-is) ∙ c.in-Some-Query.ensures.command in
+    λ _. subst (λ (o : Option Command). Gave (g.S.Source.left c.args.input.now) (g.S.Source.left c.args.input.now)
+    (λ given. (now : Image) (chain : Chain) → g.D.Disk.reads_as c.args.disk.now ≡ Some now → store_of now ≡ Keeps chain
+    → KeepsRecords (items_of o given) now (g.D.Disk.images c.args.disk.now) (g.D.Disk.images c.query.new.disk) (g.D.Disk.left_since c.query.new.disk (g.D.Disk.moment c.args.disk.now)))) is
+    ([], gives_none (g.S.Source.left c.args.input.now), c.query.ensures.records)
+
+pub returns-in-Some-Question-clause-records : goal.returns-in-Some-Question-clause-records
+returns-in-Some-Question-clause-records g c =
+    let is = ap Some (sym c.in-Some-Question.field-0-is) ∙ c.in-Some-Question.ensures.command in
+    λ _. subst (λ (o : Option Command). Gave (g.S.Source.left c.args.input.now) (g.S.Source.left c.question.new.input)
+    (λ given. (now : Image) (chain : Chain) → g.D.Disk.reads_as c.args.disk.now ≡ Some now → store_of now ≡ Keeps chain
+    → KeepsRecords (items_of o given) now (g.D.Disk.images c.args.disk.now) (g.D.Disk.images c.question.new.disk) (g.D.Disk.left_since c.question.new.disk (g.D.Disk.moment c.args.disk.now)))) is
+    (let answered = c.question.ensures.question in (answered.0, answered.2, c.question.ensures.records))
+
+pub returns-in-Some-Standalone-clause-records : goal.returns-in-Some-Standalone-clause-records
+returns-in-Some-Standalone-clause-records g c =
+    let is = ap Some (sym c.in-Some-Standalone.field-0-is) ∙ c.in-Some-Standalone.ensures.command in
+    λ opens. absurd (subst OpensStore (sym is) opens)
+
+pub returns-in-None-clause-records : goal.returns-in-None-clause-records
+returns-in-None-clause-records g c = λ opens. absurd (subst OpensStore (sym c.in-None.ensures.command) opens)
