@@ -16,7 +16,7 @@ use Rattle.outside.proofs.Moments.{started, leaves_also, leaves_then, now_too}
 use Rattle.verdict_defs.specs.declared.verdict.Verdict.{Verdict}
 use Rattle.verdict_defs.specs.Verdict.{joins}
 use Rattle.verdict_defs.specs.Chain.{Chain}
-use Rattle.store_defs.specs.Store.{Store, NoLog, Keeps, store_of, store_of_log}
+use Rattle.store_defs.specs.Store.{NoLog, Keeps, store_of, store_of_log}
 use Rattle.node_core.specs.Node.{IsLeftByOpening, IsLeftByImport, AreRecordsBehind, IsSettledAfter}
 use Rattle.log_defs.specs.Log.{Record, LogContent, magic, records_of, log_of, content_of_records, are_first, blocks_over, record_limit}
 use Rattle.log_defs.specs.Rest.{IsAtRest, IsSettled, HasAppended}
