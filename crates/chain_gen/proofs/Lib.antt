@@ -1,0 +1,6 @@
+pub mod Parts
+pub mod Beginning
+pub mod Headers
+pub mod Numbers
+pub mod Walking
+pub mod Behind

@@ -1,0 +1,6 @@
+-- What a block holds beside what every block has: nothing, or one.
+use Rattle.std.specs.Prelude.{List, [], ◌∷◌, Option, Some, None}
+
+abbrev pub listed : {A : Type 0} → Option A → List A
+listed None = []
+listed (Some a) = a ∷ []
