@@ -4,18 +4,18 @@ use Rattle.std.specs.Prelude.{Option, Some, None, IfSome, IsSome}
 use Rattle.outside.specs.Image.{Image}
 use Rattle.outside.specs.Disk.{IsAsBefore}
 use Rattle.verdict_defs.specs.Chain.{Chain, chain_over}
-use Rattle.store_defs.specs.Store.{Store, NoLog, Keeps, store_of, StandsFor, IsSound}
+use Rattle.store_defs.specs.Store.{Store, NoLog, Keeps, store_of, StandsFor}
 use Rattle.report_defs.specs.declared.command.Command.{Command}
 use Rattle.report_defs.specs.declared.command.Command.TheVariants.{Init, Import, Query, Question, Standalone}
 use Rattle.report_defs.specs.declared.command.Query as queries
 use Rattle.report_defs.specs.declared.command.Question as questions
 use Rattle.report_defs.specs.declared.command.Standalone as files
 use Rattle.report_defs.specs.declared.status.Status.{Status}
-use Rattle.report_defs.specs.declared.status.Status.TheVariants.{Done, SomeRefused, BadWords}
+use Rattle.report_defs.specs.declared.status.Status.TheVariants.{Done, SomeRefused, BadWords, DiskFault, NoMemory}
 use Rattle.report_defs.specs.Status.{IsOneOf}
 use Rattle.report_defs.specs.Report.{report_of_command, answer_to_query, report_of_file}
 use Rattle.report_defs.specs.Promise.{MatchesReport, KeepsOrder, ReadsFileInOrder, Finds, IsReported}
-use Rattle.report_defs.specs.Survival.{Each, Run, IsFront, IsKeptBy, IsLeftBy, KeepsStore, KeepsItems, KeepsDisk, Answers, IsPromised, items_of}
+use Rattle.report_defs.specs.Survival.{Each, Run, IsDone, IsFront, IsKeptBy, IsLeftBy, KeepsStore, KeepsItems, KeepsDisk, Answers, IsPromised, items_of}
 use Rattle.node_run.specs.Store.{Delivers}
 use Rattle.node_run.specs.Question.{DeliversAnswer}
 use Rattle.node_run.proofs.LineLemmas.{front_of_none}
@@ -24,52 +24,75 @@ use Rattle.node_run.proofs.StoreLemmas.{same_chain, store_of_stands}
 -- ---- Runs that keep what was kept
 
 -- a run may have kept no more than what was kept
-keeps_none : (genesis : Chain) (past : List Run) (items : List (List ℕ)) (taken : List ℕ) (image : Image)
-    → ((kept : Chain) → IsFront kept items taken 0) → IsLeftBy genesis past image → IsLeftBy genesis (record { items = items; taken = taken } ∷ past) image
-keeps_none genesis past items taken image front left = (left.0, (left.0, left.1, (0, front left.0, refl)), left.2)
+keeps_none : (genesis : Chain) (past : List Run) (run : Run) (image : Image)
+    → ((kept : Chain) → IsFront kept (items_of run.command run.given) run.taken 0)
+    → ((kept : Chain) → IsDone run.status → Answers run.command kept run.given run.taken)
+    → IsLeftBy genesis past image → IsLeftBy genesis (run ∷ past) image
+keeps_none genesis past run image front answers left =
+    (left.0, (left.0, left.1, record { count = 0; prefix = front left.0; added = refl; answered = answers left.0 }), left.2)
 
 front_of_no_item : (kept : Chain) (taken : List ℕ) → IsFront kept [] taken 0
 front_of_no_item kept taken = record { answered = inr (taken, refl); most = omega arith; acknowledged = λ n most begins. most }
 
-keeps_some : (genesis : Chain) (past : List Run) (items : List (List ℕ)) (taken : List ℕ) (image : Image) (kept : Chain) (count : ℕ)
-    → IsKeptBy genesis past kept → IsFront kept items taken count → StandsFor (chain_over kept (take count items)) image
-    → IsLeftBy genesis (record { items = items; taken = taken } ∷ past) image
-keeps_some genesis past items taken image kept count by front stands = (chain_over kept (take count items), (kept, by, (count, front, refl)), stands)
+front_of_no_items : (items : List (List ℕ)) (kept : Chain) (taken : List ℕ) → items ≡ [] → IsFront kept items taken 0
+front_of_no_items items kept taken none = subst (λ (i : List (List ℕ)). IsFront kept i taken 0) (sym none) (front_of_no_item kept taken)
+
+keeps_some : (genesis : Chain) (past : List Run) (run : Run) (image : Image) (kept : Chain) (count : ℕ)
+    → IsKeptBy genesis past kept → IsFront kept (items_of run.command run.given) run.taken count
+    → (IsDone run.status → Answers run.command kept run.given run.taken)
+    → StandsFor (chain_over kept (take count (items_of run.command run.given))) image → IsLeftBy genesis (run ∷ past) image
+keeps_some genesis past run image kept count by front answers stands =
+    (chain_over kept (take count (items_of run.command run.given)), (kept, by, record { count = count; prefix = front; added = refl; answered = answers }), stands)
+
+-- a run that ended with a fault or without memory is not done
+not_done : (status : Status) → IsOneOf (DiskFault ∷ NoMemory ∷ []) status → IsOneOf (Done ∷ SomeRefused ∷ []) status → ⊥
+not_done status (inl fault) (inl done) = cc
+not_done status (inl fault) (inr (inl refused)) = cc
+not_done status (inl fault) (inr (inr never)) = never
+not_done status (inr (inl memory)) (inl done) = cc
+not_done status (inr (inl memory)) (inr (inl refused)) = cc
+not_done status (inr (inl memory)) (inr (inr never)) = never
+not_done status (inr (inr never)) done = never
 
 -- ---- What a run promises of the disk
 
-module _ (now : Image) (at_start at_exit meanwhile : Image → Type 0) (taken : List ℕ) (status : Status) where
-  -- the store that the disk read as is the one that a past left
-  kept_store : (items : List (List ℕ)) → at_start now
-      → ((chain : Chain) → store_of now ≡ Keeps chain → Each at_start IsSound → KeepsStore chain items taken status at_start at_exit meanwhile)
-      → (genesis : Chain) (past : List Run) → Each at_start (IsLeftBy genesis past)
-      → (kept : Chain) × IsKeptBy genesis past kept × (store_of now ≡ Keeps kept) × KeepsStore kept items taken status at_start at_exit meanwhile
-  kept_store items here keeps genesis past by =
-      let first = by now here in
-      let store : store_of now ≡ Keeps first.0 = store_of_stands first.0 now first.2 in
-      (first.0, first.1, store, keeps first.0 store (λ image left. let one = by image left in (one.0, one.2)))
+-- a run of a command, and one that was stopped at a moment
+abbrev run_of : Option Command → List ℕ → List ℕ → Status → Run
+run_of command given taken status = record { command = command; given = given; taken = taken; status = Some status }
 
-  pub survives_store : (items : List (List ℕ)) → at_start now
-      → ((chain : Chain) → store_of now ≡ Keeps chain → Each at_start IsSound → KeepsStore chain items taken status at_start at_exit meanwhile)
+abbrev stopped_run : Option Command → List ℕ → Run
+stopped_run command given = record { command = command; given = given; taken = []; status = None }
+
+module _ (command : Option Command) (now : Image) (at_start at_exit meanwhile : Image → Type 0) (given taken : List ℕ) (status : Status) where
+  -- the store that the disk read as is the one that a past left
+  kept_store : at_start now → KeepsItems (items_of command given) now at_start at_exit meanwhile taken status
       → (genesis : Chain) (past : List Run) → Each at_start (IsLeftBy genesis past)
-      → Each at_exit (IsLeftBy genesis (record { items = items; taken = taken } ∷ past))
-  survives_store items here keeps genesis past by = λ image left.
-      let kept = kept_store items here keeps genesis past by in
+      → (kept : Chain) × IsKeptBy genesis past kept × StandsFor kept now × KeepsStore kept (items_of command given) taken status at_start at_exit meanwhile
+  kept_store here keeps genesis past by =
+      let first = by now here in
+      (first.0, first.1, first.2, keeps first.0 (store_of_stands first.0 now first.2) (λ image left. let one = by image left in (one.0, one.2)))
+
+  pub survives_store : at_start now → KeepsItems (items_of command given) now at_start at_exit meanwhile taken status
+      → ((kept : Chain) → StandsFor kept now → IsOneOf (Done ∷ SomeRefused ∷ []) status → Answers command kept given taken)
+      → (genesis : Chain) (past : List Run) → Each at_start (IsLeftBy genesis past) → Each at_exit (IsLeftBy genesis (run_of command given taken status ∷ past))
+  survives_store here keeps answers genesis past by = λ image left.
+      let kept = kept_store here keeps genesis past by in
       elim (kept.3.exit image left) [
-        | inl before ↦ keeps_none genesis past items taken image
-            (λ chain. subst (λ bytes. IsFront chain items bytes 0) (sym before.1) (front_of_none chain items 0 (omega arith))) (by image before.2)
-        | inr some ↦ keeps_some genesis past items taken image kept.0 some.0 kept.1 some.1 some.2
+        | inl before ↦ keeps_none genesis past (run_of command given taken status) image
+            (λ chain. subst (λ bytes. IsFront chain (items_of command given) bytes 0) (sym before.1) (front_of_none chain (items_of command given) 0 (omega arith)))
+            (λ chain done. absurd (not_done status before.0 done)) (by image before.2)
+        | inr some ↦ keeps_some genesis past (run_of command given taken status) image kept.0 some.0 kept.1 some.1 (answers kept.0 kept.2) some.2
       ]
 
-  pub survives_store_meanwhile : (items : List (List ℕ)) → at_start now
-      → ((chain : Chain) → store_of now ≡ Keeps chain → Each at_start IsSound → KeepsStore chain items taken status at_start at_exit meanwhile)
-      → (genesis : Chain) (past : List Run) → Each at_start (IsLeftBy genesis past)
-      → Each meanwhile (IsLeftBy genesis (record { items = items; taken = [] } ∷ past))
-  survives_store_meanwhile items here keeps genesis past by = λ image left.
-      let kept = kept_store items here keeps genesis past by in
+  pub survives_store_meanwhile : at_start now → KeepsItems (items_of command given) now at_start at_exit meanwhile taken status
+      → (genesis : Chain) (past : List Run) → Each at_start (IsLeftBy genesis past) → Each meanwhile (IsLeftBy genesis (stopped_run command given ∷ past))
+  survives_store_meanwhile here keeps genesis past by = λ image left.
+      let kept = kept_store here keeps genesis past by in
       elim (kept.3.moments image left) [
-        | inl before ↦ keeps_none genesis past items [] image (λ chain. front_of_none chain items 0 (omega arith)) (by image before)
-        | inr some ↦ keeps_some genesis past items [] image kept.0 some.0 kept.1 (front_of_none kept.0 items some.0 some.1) some.2
+        | inl before ↦ keeps_none genesis past (stopped_run command given) image (λ chain. front_of_none chain (items_of command given) 0 (omega arith))
+            (λ chain done. absurd done) (by image before)
+        | inr some ↦ keeps_some genesis past (stopped_run command given) image kept.0 some.0 kept.1 (front_of_none kept.0 (items_of command given) some.0 some.1)
+            (λ done. absurd done) some.2
       ]
 
 -- the image that a disk reads as, where it tells it
@@ -94,11 +117,11 @@ opening_promised command reads at_start at_exit meanwhile left given taken statu
   disk = kept.disk;
   survives = λ told.
       let now = told_image reads told in
-      survives_store now.0 at_start at_exit meanwhile taken status (items_of (Some command) given)
-      (reads_here reads at_start now.0 here now.1) (keeps now.0 (kept.disk now.0 now.1));
+      survives_store (Some command) now.0 at_start at_exit meanwhile given taken status
+      (reads_here reads at_start now.0 here now.1) (keeps now.0 (kept.disk now.0 now.1)) (λ chain stands done. answers now.0 chain now.1 stands done);
   at_each_moment = λ told.
       let now = told_image reads told in
-      survives_store_meanwhile now.0 at_start at_exit meanwhile taken status (items_of (Some command) given)
+      survives_store_meanwhile (Some command) now.0 at_start at_exit meanwhile given taken status
       (reads_here reads at_start now.0 here now.1) (keeps now.0 (kept.disk now.0 now.1));
   answers = λ told genesis past by done.
       let now = told_image reads told in
@@ -164,10 +187,11 @@ module _ {D : Type 0} (reads_as : D → Option Image) (images : D → Image → 
     disk = kept.disk;
     survives = λ told genesis past by image here.
         let same = init_before old new genesis past told there by in
-        keeps_none genesis past [] taken image (λ chain. front_of_no_item chain taken) (by image ((same.images image).0 here));
+        keeps_none genesis past (run_of (Some Init) given taken status) image (λ chain. front_of_no_item chain taken) (λ chain done. tt)
+        (by image ((same.images image).0 here));
     at_each_moment = λ told genesis past by image here.
         let same = init_before old new genesis past told there by in
-        keeps_none genesis past [] [] image (λ chain. front_of_no_item chain []) (by image (same.moments.each image here));
+        keeps_none genesis past (stopped_run (Some Init) given) image (λ chain. front_of_no_item chain []) (λ chain done. tt) (by image (same.moments.each image here));
     answers = λ told genesis past by done.
         let now = told_image (reads_as old) told in
         let first = by now.0 (reads_here (reads_as old) (images old) now.0 (reads_image old) now.1) in
@@ -184,10 +208,10 @@ module _ {D : Type 0} (reads_as : D → Option Image) (images : D → Image → 
     text = λ store found. (says store found).0;
     order = λ store found. (says store found).1;
     disk = λ now told. disk now;
-    survives = λ told genesis past by image here. subst (λ (items : List (List ℕ)). IsLeftBy genesis (record { items = items; taken = taken } ∷ past) image) (sym none)
-        (keeps_none genesis past [] taken image (λ chain. front_of_no_item chain taken) (by image here));
-    at_each_moment = λ told genesis past by image here. subst (λ (items : List (List ℕ)). IsLeftBy genesis (record { items = items; taken = [] } ∷ past) image) (sym none)
-        (keeps_none genesis past [] [] image (λ chain. front_of_no_item chain []) (by image (only_now old image here)));
+    survives = λ told genesis past by image here. keeps_none genesis past (run_of command given taken status) image
+        (λ chain. front_of_no_items (items_of command given) chain taken none) (λ chain done. answers chain) (by image here);
+    at_each_moment = λ told genesis past by image here. keeps_none genesis past (stopped_run command given) image
+        (λ chain. front_of_no_items (items_of command given) chain [] none) (λ chain done. absurd done) (by image (only_now old image here));
     answers = λ told genesis past by done.
         let now = told_image (reads_as old) told in
         let first = by now.0 (reads_here (reads_as old) (images old) now.0 (reads_image old) now.1) in

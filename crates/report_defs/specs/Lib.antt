@@ -5,3 +5,4 @@ pub mod Words
 pub mod Report
 pub mod Promise
 pub mod Survival
+pub mod Lists

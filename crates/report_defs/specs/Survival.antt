@@ -62,16 +62,39 @@ pub record GoesOn (items : List (List ℕ)) (records : List Record) (bytes : Lis
 
 -- ---- Lists of runs
 
--- A run: the items of its input that its source gave whole, and what its sink took.
+-- A run: what its words asked for, what its source gave, what its sink took, and the status that it ended with, or none where it was stopped at a moment.
 pub record Run : Type 0 where
-  pub items : List (List ℕ)
+  pub command : Option Command
+  pub given : List ℕ
   pub taken : List ℕ
+  pub status : Option Status
 
--- What may be kept after runs from a genesis on, the newest first: each added what joined of a front of its items.
+-- all was read and answered
+abbrev pub IsDone : Option Status → Type 0
+IsDone None = ⊥
+IsDone (Some status) = IsOneOf (Done ∷ SomeRefused ∷ []) status
+
+-- What a query or a question answers, over a chain: nothing where the command is neither.
+abbrev pub Answers : Option Command → Chain → List ℕ → List ℕ → Type 0
+Answers None kept given taken = Unit {0}
+Answers (Some Init) kept given taken = Unit {0}
+Answers (Some Import) kept given taken = Unit {0}
+Answers (Some (Query query)) kept given taken = taken ≡ answer_to_query query kept
+Answers (Some (Question question)) kept given taken = taken ≡ text_of (report_of_question question kept (split_of (question_limits question) given))
+Answers (Some (Standalone command)) kept given taken = Unit {0}
+
+-- What a run may leave of what was kept before it: it added what joined of a prefix of its items, and a query or a question that is done answered
+-- over what was kept.
+pub record IsKeptAfter (before : Chain) (run : Run) (kept : Chain) : Type 0 where
+  pub count : ℕ
+  pub prefix : IsFront before (items_of run.command run.given) run.taken count
+  pub added : kept ≡ chain_over before (take count (items_of run.command run.given))
+  pub answered : IsDone run.status → Answers run.command before run.given run.taken
+
+-- What may be kept after runs from a genesis on, the newest first.
 abbrev pub IsKeptBy : Chain → List Run → Chain → Type 0
 IsKeptBy genesis [] kept = kept ≡ genesis
-IsKeptBy genesis (run ∷ earlier) kept = (before : Chain) × IsKeptBy genesis earlier before
-    × ((count : ℕ) × IsFront before run.items run.taken count × (kept ≡ chain_over before (take count run.items)))
+IsKeptBy genesis (run ∷ earlier) kept = (before : Chain) × IsKeptBy genesis earlier before × IsKeptAfter before run kept
 
 -- Such runs may leave this image: it is sound, and keeps such blocks.
 abbrev pub IsLeftBy : Chain → List Run → Image → Type 0
@@ -128,23 +151,14 @@ KeepsDisk (Some (Question question)) now at_start at_exit meanwhile given taken 
 KeepsDisk (Some (Standalone command)) now at_start at_exit meanwhile given taken status = Unit {0}
 
 -- Where each image at the start may be left by a past, each image at the exit may be left by that past and this run.
-abbrev pub Survives : Option Command → (Image → Type 0) → (Image → Type 0) → List ℕ → List ℕ → Type 0
-Survives command at_start at_exit given taken = (genesis : Chain) (past : List Run) → Each at_start (IsLeftBy genesis past)
-    → Each at_exit (IsLeftBy genesis (record { items = items_of command given; taken = taken } ∷ past))
+abbrev pub Survives : Option Command → (Image → Type 0) → (Image → Type 0) → List ℕ → List ℕ → Status → Type 0
+Survives command at_start at_exit given taken status = (genesis : Chain) (past : List Run) → Each at_start (IsLeftBy genesis past)
+    → Each at_exit (IsLeftBy genesis (record { command = command; given = given; taken = taken; status = Some status } ∷ past))
 
 -- At each moment it may be left by that past and this run, of which no line was taken yet: the disk and the sink share no clock.
 abbrev pub SurvivesMeanwhile : Option Command → (Image → Type 0) → (Image → Type 0) → List ℕ → Type 0
 SurvivesMeanwhile command at_start meanwhile given = (genesis : Chain) (past : List Run) → Each at_start (IsLeftBy genesis past)
-    → Each meanwhile (IsLeftBy genesis (record { items = items_of command given; taken = [] } ∷ past))
-
--- What a query or a question answers, over a chain: nothing where the command is neither.
-abbrev pub Answers : Option Command → Chain → List ℕ → List ℕ → Type 0
-Answers None kept given taken = Unit {0}
-Answers (Some Init) kept given taken = Unit {0}
-Answers (Some Import) kept given taken = Unit {0}
-Answers (Some (Query query)) kept given taken = taken ≡ answer_to_query query kept
-Answers (Some (Question question)) kept given taken = taken ≡ text_of (report_of_question question kept (split_of (question_limits question) given))
-Answers (Some (Standalone command)) kept given taken = Unit {0}
+    → Each meanwhile (IsLeftBy genesis (record { command = command; given = given; taken = []; status = None } ∷ past))
 
 -- Where each image at the start may be left by a past, a query or a question that is done answered as a replay of that past.
 abbrev pub AnswersAsReplay : Option Command → (Image → Type 0) → List ℕ → List ℕ → Status → Type 0
@@ -156,7 +170,7 @@ pub record IsPromised (command : Option Command) (reads : Option Image) (at_star
   pub text : (store : Store) → Finds command reads store → MatchesReport (λ whole. report_of_command command whole store) given left taken status
   pub order : (store : Store) → Finds command reads store → KeepsOrder command store given left taken status
   pub disk : (now : Image) → reads ≡ Some now → KeepsDisk command now at_start at_exit meanwhile given taken status
-  pub survives : IsSome reads → Survives command at_start at_exit given taken
+  pub survives : IsSome reads → Survives command at_start at_exit given taken status
   pub at_each_moment : IsSome reads → SurvivesMeanwhile command at_start meanwhile given
   pub answers : IsSome reads → AnswersAsReplay command at_start given taken status
 
