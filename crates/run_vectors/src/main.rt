@@ -6,7 +6,8 @@
 //! its bytes up to there. Words that begin with a colon are all words, with a comma before each. Behind a row `folder`, or
 //! `failing` with the numbers of the calls of the disk that fail, the runs are over a new folder, and a row `put` puts bytes in
 //! place of LOG, SNAP_A or SNAP_B. A row `streams` has how many bytes a call of the next run's streams moves at most, and which
-//! reads and which writes fail; `left` has how many bytes of its input the last run left. What is wanted was made by
+//! reads and which writes fail; `left` has how many bytes of its input the last run left. Behind a row `list`, with numbers as
+//! `failing` has, the rows of runs up to a row `end` are one list, which is run there in one call. What is wanted was made by
 //! a program that was written from the rules of docs/ alone, and of the last rows of `exec`, and of those behind them, by hand
 //! from the same rules. Four more rows, of two files of 1 MiB that were made to be slow to load, are made here;
 //! bench/hostile.py works out their texts. Each row is run over streams and a disk in memory. The program prints each row that
@@ -15,6 +16,7 @@
 
 mod folder;
 mod hostile;
+mod list;
 mod row;
 mod streams;
 mod trial;

@@ -1,6 +1,7 @@
 // What the rows act on, and what a run over it answers.
 
 use crate::folder::{FILE_LIMIT, is_log, put};
+use crate::list::RunList;
 use crate::row::{Call, area_of, behaviour_of, bytes_of, call_of};
 use crate::streams::{Behaviour, left_of};
 use node_run::run;
@@ -10,13 +11,15 @@ use row_table::Row;
 use std::alloc::{AllocError, Global};
 use std::sync::ledger::Ledger;
 
-/// A folder, the input of the last run and what it left of it, and how the next one's streams behave.
+/// A folder, the input of the last run and what it left of it, how the next one's streams behave, and the list of runs that the rows
+/// belong to, where they belong to one.
 #[derive(Drop)]
 pub struct Trial {
     disk: MemDisk,
     behaviour: Behaviour,
     input: Vec<u8>,
     left: Option<usize>,
+    list: Option<RunList>,
 }
 
 /// The number of the status that a run ends with.
@@ -47,6 +50,7 @@ impl Trial {
             behaviour: Behaviour::plain(alloc),
             input,
             left: None,
+            list: None,
         }
     }
 
@@ -90,6 +94,37 @@ impl Trial {
         Some(true)
     }
 
+    /// A new folder and a list of runs over it, which are the rows up to `end`.
+    fn begin_list(&mut self, alloc: Global, failing: Vec<u64>) -> Option<bool> {
+        self.list = Some(RunList::new(alloc));
+        self.begin_folder(alloc, failing)
+    }
+
+    /// Runs the list in one call.
+    fn runs_list<L: Ledger>(&mut self, alloc: Global, steps: &mut Steps<L>) -> Option<bool> {
+        let mut list = self.list.take()?;
+        let agrees = list.agrees(alloc, &mut self.disk, steps);
+        drop(list);
+        Some(agrees)
+    }
+
+    /// A run of the list that stands, or one by itself, and what it must answer.
+    fn takes<L: Ledger>(
+        &mut self,
+        alloc: Global,
+        steps: &mut Steps<L>,
+        words: &str,
+        call: Call,
+    ) -> Result<bool, AllocError> {
+        let Some(list) = &mut self.list else {
+            let agrees = self.runs_as(alloc, steps, &call);
+            drop(call);
+            return agrees;
+        };
+        list.push(alloc, words, &self.behaviour, &self.input, call)?;
+        Ok(true)
+    }
+
     /// How the streams of the next run behave.
     fn begin_streams(&mut self, alloc: Global, row: &mut Row) -> Option<bool> {
         self.behaviour = behaviour_of(alloc, row)?;
@@ -127,9 +162,7 @@ impl Trial {
         let status = row.word();
         self.take_input(alloc, row.word())?;
         let call = call_of(alloc, words, status, row.word(), row.word())?;
-        let agrees = self.runs_as(alloc, steps, &call);
-        drop(call);
-        agrees.ok()
+        self.takes(alloc, steps, words, call).ok()
     }
 
     /// Whether what the row calls answers as it says; None where it is no row.
@@ -142,6 +175,8 @@ impl Trial {
         match row.word() {
             "folder" => self.begin_folder(alloc, Vec::new(alloc)),
             "failing" => self.begin_folder(alloc, row.numbers(alloc)?),
+            "list" => self.begin_list(alloc, row.numbers(alloc)?),
+            "end" => self.runs_list(alloc, steps),
             "put" => self.puts(alloc, row),
             "streams" => self.begin_streams(alloc, row),
             "left" => self.has_left(row),
