@@ -1,7 +1,9 @@
 -- The events of a block at two heights above 0 differ in the heights of the cells alone, on which no row depends.
 use Rattle.std.proofs.Common.{◌≡◌, ℕ, suc, ◌+◌, ◌<◌, Bool, true, false, List, [], ◌∷◌, ◌++◌, length, map, take, Option, Some, None, slice_get, ◌||◌, ◌==◌, if◌then◌else◌, refl, sym, ap, ◌∙◌, subst, arith}
 use Rattle.std.specs.Option.{option_map}
-use Rattle.std.specs.List.{sum_by}
+use Rattle.std.specs.List.{sum_by, list_any}
+use Rattle.std.proofs.lemmas.List.Folds.{list_any-append}
+use Rattle.cell_laws.specs.Laws.{makes}
 use Rattle.std.proofs.lemmas.List.{map-append, take-map}
 use Rattle.std.proofs.lemmas.List.Sums.{sum_by-cons}
 use Rattle.std.proofs.lemmas.Option.{slice_get-map, same_Some, none-some}
@@ -190,3 +192,39 @@ makes-transactions place (t ∷ later) height =
 pub makes-block : (b : Block) (height : ℕ) → makes_in (events_of_block height b) ≡ outputs_of b
 unfolding events_of_block
 makes-block b height = makes-transactions 0 b.transactions height
+
+-- ---- What a block makes
+
+unspent : (o : OutPoint) (inputs : List CellInput) → list_any (makes o) (map (λ (i : CellInput). Spends i.previous_output) inputs) ≡ false
+unspent o [] = refl
+unspent o (input ∷ inputs) = unspent o inputs
+
+none-spent : (o : OutPoint) (t : Transaction) (cellbase : Bool) → list_any (makes o) (if cellbase then [] else spends_of t) ≡ false
+none-spent o t true = refl
+none-spent o t false = unspent o t.raw.inputs
+
+same-made : (o : OutPoint) (height first : ℕ) (outputs : List CellOutput) (t : Transaction) (place : ℕ)
+    → list_any (makes o) (makes_from first outputs t height place) ≡ list_any (makes o) (makes_from first outputs t 1 place)
+same-made o height first [] t place = refl
+same-made o height first (output ∷ outputs) t place =
+    ap (λ (b : Bool). makes o (make t height place first output) || b) (same-made o height (first + 1) outputs t place)
+
+transaction-makes : (o : OutPoint) (height : ℕ) (t : Transaction) (place : ℕ)
+    → list_any (makes o) (events_of t height place) ≡ list_any (makes o) (makes_from 0 t.raw.outputs t 1 place)
+transaction-makes o height t place =
+    list_any-append (makes o) (if (height == 0) || (place == 0) then [] else spends_of t) (makes_from 0 t.raw.outputs t height place)
+    ∙ ap (λ (b : Bool). b || list_any (makes o) (makes_from 0 t.raw.outputs t height place)) (none-spent o t ((height == 0) || (place == 0)))
+    ∙ same-made o height 0 t.raw.outputs t place
+
+transactions-make : (o : OutPoint) (height place : ℕ) (ts : List Transaction) → list_any (makes o) (events_from place ts height) ≡ list_any (makes o) (events_from place ts 1)
+transactions-make o height place [] = refl
+transactions-make o height place (t ∷ later) =
+    list_any-append (makes o) (events_of t height place) (events_from (place + 1) later height)
+    ∙ ap (λ (b : Bool). b || list_any (makes o) (events_from (place + 1) later height)) (transaction-makes o height t place ∙ sym (transaction-makes o 1 t place))
+    ∙ ap (λ (b : Bool). list_any (makes o) (events_of t 1 place) || b) (transactions-make o height (place + 1) later)
+    ∙ sym (list_any-append (makes o) (events_of t 1 place) (events_from (place + 1) later 1))
+
+-- a block makes the same out-points at every height
+pub block-makes : (o : OutPoint) (height : ℕ) (b : Block) → list_any (makes o) (events_of_block height b) ≡ list_any (makes o) (events_of_block 1 b)
+unfolding events_of_block
+block-makes o height b = transactions-make o height 0 b.transactions

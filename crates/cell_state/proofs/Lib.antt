@@ -6,3 +6,5 @@ pub mod HeightLemmas
 pub mod ApplyLemmas
 pub mod ListLemmas
 pub mod GrowthLemmas
+pub mod UndoLemmas
+pub mod UndoPasses

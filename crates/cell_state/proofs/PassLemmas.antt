@@ -60,7 +60,7 @@ unmarking-none all old = record {
   spare = refl;
 }
 
-unmarked-twice : (slot : Option Slot) → unmarked (unmarked slot) ≡ unmarked slot
+pub unmarked-twice : (slot : Option Slot) → unmarked (unmarked slot) ≡ unmarked slot
 unmarked-twice None = refl
 unmarked-twice (Some (Live row)) = refl
 unmarked-twice (Some (Spent row)) = refl
@@ -198,14 +198,14 @@ marking-none all old = record {
   spare = omega arith;
 }
 
-made_mark-live : (slot : Option Slot) → is_live (made_mark slot) ≡ true
+pub made_mark-live : (slot : Option Slot) → is_live (made_mark slot) ≡ true
 made_mark-live None = refl
 made_mark-live (Some (Live row)) = refl
 made_mark-live (Some (Spent row)) = refl
 made_mark-live (Some Added) = refl
 made_mark-live (Some Gone) = refl
 
-made_mark-before : (slot : Option Slot) → row_before (made_mark slot) ≡ row_before slot
+pub made_mark-before : (slot : Option Slot) → row_before (made_mark slot) ≡ row_before slot
 made_mark-before None = refl
 made_mark-before (Some (Live row)) = refl
 made_mark-before (Some (Spent row)) = refl
@@ -219,7 +219,7 @@ spent_mark-live (Some (Spent row)) = refl
 spent_mark-live (Some Added) = refl
 spent_mark-live (Some Gone) = refl
 
-spent_mark-before : (slot : Option Slot) → row_before (spent_mark slot) ≡ row_before slot
+pub spent_mark-before : (slot : Option Slot) → row_before (spent_mark slot) ≡ row_before slot
 spent_mark-before None = refl
 spent_mark-before (Some (Live row)) = refl
 spent_mark-before (Some (Spent row)) = refl

@@ -3,4 +3,5 @@ pub mod State
 pub mod Slots
 pub mod Walk
 pub mod Passes
+pub mod Undo
 pub mod Listing

@@ -42,7 +42,7 @@ impl Slots {
     }
 
     /// Marks a cell as made, where none with its out-point is live.
-    fn mark_made(&mut self, o: OutPoint) -> Result<(), Odd>
+    pub(crate) fn mark_made(&mut self, o: OutPoint) -> Result<(), Odd>
         requires { 0 < self.old.spare }
         ensures ok { OnOk result (is_live (at self.old o) ≡ false) }
         ensures at { OnOk result ((other : schema.OutPoint) → at self.new other ≡ (if same_out_point o other then made_mark (at self.old o) else at self.old other)) }
@@ -85,7 +85,7 @@ impl Slots {
     }
 
     /// Takes the mark of a slot back.
-    fn unmark(&mut self, o: OutPoint)
+    pub(crate) fn unmark(&mut self, o: OutPoint)
         ensures at { (other : schema.OutPoint) → at self.new other ≡ (if same_out_point o other then unmarked (at self.old o) else at self.old other) }
         ensures spare { self.new.spare ≡ self.old.spare }
     {
@@ -128,7 +128,7 @@ impl Slots {
     }
 
     /// Takes the slot of a spent cell away that is not live in the end.
-    fn settle_spent(&mut self, o: OutPoint)
+    pub(crate) fn settle_spent(&mut self, o: OutPoint)
         ensures at { (other : schema.OutPoint) → at self.new other ≡ (if same_out_point o other then settled_spent (at self.old o) else at self.old other) }
         ensures spare { self.new.spare ≡ self.old.spare }
     {

@@ -1,16 +1,20 @@
 // The live cells of a branch.
 ghost use Rattle.std.specs.Prelude.{◌≡◌, ◌≤◌, ◌<◌, ◌+◌, ◌^◌, ℕ, List, Option, None, Some, length, if◌then◌else◌, IfOk, IfErr, OnOk, OnErr, IsOk};
+ghost use Rattle.std.specs.Option.{option_map};
 ghost use Rattle.codec_defs.specs.Schema as schema;
 ghost use Rattle.cell_defs.specs.Events.{events_of_block, same_out_point};
 ghost use Rattle.cell_defs.specs.Row.{Row, row_after, ListsRows};
 ghost use Rattle.cell_state.specs.Fit.{IsFirstOdd};
 ghost use Rattle.cell_defs.specs.Fit.{are_live, AllFit};
+ghost use Rattle.undo_defs.specs.Undo.{undone, first_clash};
+ghost use Rattle.undo_defs.specs.Laws.{ComesBefore};
+ghost use Rattle.cell_state.specs.declared.odd.Odd.TheVariants.{Live};
 ghost use Rattle.cell_state.specs.State.{Grows, rows, count, outputs_of};
 
 use crate::events::{Events, hash_at};
 use crate::odd::Odd;
 use crate::slots::{Slot, Slots};
-use cell_model::{CellMeta, Cells, LastScript, OutPoint};
+use cell_model::{CellMeta, Cells, Ext, LastScript, OutPoint};
 use mol_schema::BlockView;
 use outside::{NoMemory, Steps};
 use std::alloc::Global;
@@ -109,6 +113,31 @@ impl State {
                 Err(odd)
             }
         }
+    }
+
+    /// Takes a block back that is no genesis: drops the cells that it makes and that are live, and then puts the rows
+    /// of its ext back, in their order. Where one of them finds its out-point live by then, no row changes, and the
+    /// answer is `Live` with the out-point of the first such row. It takes no memory, and is one step either way.
+    pub fn undo<L: Ledger>(
+        &mut self,
+        block: &BlockView<'_>,
+        ext: &Ext,
+        steps: &mut Steps<L>,
+    ) -> Result<(), Odd>
+        requires { length ext.now.spent ≤ self.old.spare }
+        ensures rows { OnOk result ((height : ℕ) (o : schema.OutPoint)
+            → rows self.new o ≡ undone (events_of_block height block.now) ext.now.spent (rows self.old) o) }
+        ensures free { OnOk result ((height : ℕ) → first_clash (events_of_block height block.now) ext.now.spent (rows self.old) ≡ None) }
+        ensures odd { IfErr result (λ odd. (height : ℕ)
+            → option_map Live (first_clash (events_of_block height block.now) ext.now.spent (rows self.old)) ≡ Some odd) }
+        ensures unchanged { OnErr result ((o : schema.OutPoint) → rows self.new o ≡ rows self.old o) }
+        ensures before { (height : ℕ) (before : schema.OutPoint → Option Row) → ComesBefore (events_of_block height block.now) ext.now.spent (rows self.old) before
+            → IsOk result × ((o : schema.OutPoint) → rows self.new o ≡ before o) }
+        ensures spare { self.old.spare ≤ self.new.spare + length ext.now.spent }
+        ensures steps { steps.new ≡ steps.old + 1 }
+    {
+        steps.tick();
+        self.slots.undo(block, &ext.spent)
     }
 
     /// Adds a row. It takes no memory, and is one step.

@@ -1,0 +1,4 @@
+pub mod PutLemmas
+pub mod NamingLemmas
+pub mod BackLaws
+pub mod SpentLaws
