@@ -63,7 +63,7 @@ fitting-rules site left t hold = fitting site t
 -- ---- One transaction after the other
 
 -- one transaction more at the end
-events_from-push : (place : ℕ) (earlier : List Transaction) (t : Transaction) (height : ℕ)
+pub events_from-push : (place : ℕ) (earlier : List Transaction) (t : Transaction) (height : ℕ)
     → events_from place (earlier ++ t ∷ []) height ≡ events_from place earlier height ++ events_of t height (place + length earlier)
 events_from-push place [] t height =
     let at : place ≡ place + 0 = omega arith in append-nil (events_of t height place) ∙ ap (events_of t height) at

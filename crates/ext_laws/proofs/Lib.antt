@@ -1,0 +1,2 @@
+pub mod SpentLemmas
+pub mod ExtLaws
