@@ -23,7 +23,7 @@ use Rattle.cell_defs.specs.Fit.{are_live}
 use Rattle.cell_laws.proofs.EventLemmas.{EachMade, EachMade-append, made-last, last_naming-append}
 use Rattle.cell_laws.proofs.OutputLaws.{cells-are-outputs}
 use Rattle.cell_laws.proofs.FitLemmas.{row-where-cell, all-same}
-use Rattle.cell_laws.proofs.RowLaws.{grows-by-a-block}
+use Rattle.cell_laws.proofs.RowLaws.{live_row-join}
 use Rattle.undo_defs.specs.Undo.{row_at, spent_of}
 use Rattle.tx_defs.specs.Site.{Site, Found, site_at, height_at, find_cell, all_there}
 use Rattle.tx_defs.specs.Rules.{form_rules, cell_rules}
@@ -93,8 +93,8 @@ transaction-rows : (kept : List Block) (parent : ℕ) (site : Site) (rows : OutP
 unfolding input_cells
 transaction-rows kept parent site rows t height place sees spends live = by_once (spends_each_once t) refl live
   where
-    behind : spent_of (events_of t height place) rows ≡ spent_of (spends_of t) rows
-    behind =
+    by_inputs : spent_of (events_of t height place) rows ≡ spent_of (spends_of t) rows
+    by_inputs =
         ap (λ (b : Bool). spent_of ((if b then [] else spends_of t) ++ makes_of t height place) rows) spends
         ∙ spent-append (spends_of t) (makes_of t height place) rows
         ∙ ap (λ (list : List (OutPoint × Row)). spent_of (spends_of t) rows ++ list) (makes-none 0 t.raw.outputs t height place (left (spends_of t) rows))
@@ -112,7 +112,7 @@ transaction-rows kept parent site rows t height place sees spends live = by_once
         ≡ spent_of (events_of t height place) rows
     by_once true distinct some =
         by_found (all_there (map (λ (input : CellInput). find_cell site input.previous_output) t.raw.inputs)) refl some
-        ∙ sym (behind ∙ spent-inputs (encoded out_point) t.raw.inputs rows distinct)
+        ∙ sym (by_inputs ∙ spent-inputs (encoded out_point) t.raw.inputs rows distinct)
     by_once false distinct some = absurd (cc)
 
 -- ---- What a transaction of a block sees
@@ -190,15 +190,15 @@ from-rows : (spec : Specification) (kept : List Block) (parent : ℕ) (b : Block
     → spent_from spec kept parent b place later
     ≡ spent_of (events_from place later (length (branch kept parent))) (left (events_from 0 earlier (length (branch kept parent))) (live_row kept parent))
 unfolding rules_from spent_from
-from-rows spec kept parent b place cycles earlier [] tall behind parts long hold =
+from-rows spec kept parent b place cycles earlier [] tall later_place parts long hold =
     sym (spent-nil (left (events_from 0 earlier (length (branch kept parent))) (live_row kept parent)))
-from-rows spec kept parent b place cycles earlier (t ∷ later) tall behind parts long hold =
+from-rows spec kept parent b place cycles earlier (t ∷ later) tall later_place parts long hold =
     ap (λ (list : List (OutPoint × Row)). list ++ spent_from spec kept parent b (suc place) later)
     (transaction-rows kept parent site rows t height place seen spends
     (live-by-rules site cycles t (holds-front (transaction_rules site cycles t) (rules_from spec (branch kept parent) b (suc place) (left_after site cycles t) later) hold)))
     ∙ ap (λ (list : List (OutPoint × Row)). spent_of (events_of t height place) rows ++ list)
     (ap (λ (n : ℕ). spent_from spec kept parent b n later) next
-    ∙ from-rows spec kept parent b (place + 1) (left_after site cycles t) (earlier ++ t ∷ []) later tall (omega (arith, behind))
+    ∙ from-rows spec kept parent b (place + 1) (left_after site cycles t) (earlier ++ t ∷ []) later tall (omega (arith, later_place))
     (parts ∙ sym (append_assoc earlier (t ∷ []) later)) (length_push earlier t ∙ ap (λ (n : ℕ). n + 1) long)
     (subst (λ (n : ℕ). AllHold (rules_from spec (branch kept parent) b n (left_after site cycles t) later)) next
     (holds-behind (transaction_rules site cycles t) (rules_from spec (branch kept parent) b (suc place) (left_after site cycles t) later) hold))
@@ -228,7 +228,7 @@ from-rows spec kept parent b place cycles earlier (t ∷ later) tall behind part
     spends : ((height == 0) || (place == 0)) ≡ false
     spends =
         ap (λ (x : Bool). x || (place == 0)) (ne_eqb height 0 (λ same. omega (arith, same, tall)))
-        ∙ ne_eqb place 0 (λ same. omega (arith, same, behind))
+        ∙ ne_eqb place 0 (λ same. omega (arith, same, later_place))
 
     more : left (events_from 0 (earlier ++ t ∷ []) height) (live_row kept parent) ≡ left (events_of t height place) rows
     more =
@@ -278,10 +278,10 @@ exts-hold-spent-rows chain b may = by_list b.transactions refl
         ∙ sym (spent-append (events_of first (length on) 0) (events_from 1 later (length on)) rows)
 
 pub exts-take-back : ExtsTakeBack
-exts-take-back chain b may is_kept = record {
+exts-take-back chain b may = record {
   place = length chain.blocks;
   fit = all-same (events_of_block (length (branch chain.blocks may.parent)) b) (are_live (live_cell (branch chain.blocks may.parent))) (are_live (live_row chain.blocks may.parent))
       (λ o. row-where-cell chain.blocks may.parent o) (what-joins-fits chain b may);
   spent_is = exts-hold-spent-rows chain b may;
-  after_is = λ o. grows-by-a-block chain.blocks b may.parent o is_kept may.on_kept;
+  after_is = λ o. live_row-join chain.blocks b may.parent o may.on_kept;
 }

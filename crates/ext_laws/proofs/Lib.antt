@@ -1,2 +1,3 @@
 pub mod SpentLemmas
 pub mod ExtLaws
+pub mod KeptLaws

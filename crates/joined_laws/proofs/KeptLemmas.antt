@@ -13,7 +13,7 @@ use Rattle.verdict_defs.specs.Laws.{MayJoin}
 use Rattle.verdict_defs.proofs.VerdictLaws.{branch-more}
 use Rattle.store_defs.specs.Store.{IsJoined}
 
-parts-at : (kept : List Block) (place : ℕ) (b : Block) → slice_get kept place ≡ Some b → kept ≡ take place kept ++ b ∷ drop (suc place) kept
+pub parts-at : (kept : List Block) (place : ℕ) (b : Block) → slice_get kept place ≡ Some b → kept ≡ take place kept ++ b ∷ drop (suc place) kept
 parts-at [] place b there = absurd (cc)
 parts-at (first ∷ later) zero b there = ap (λ (x : Block). x ∷ later) (same_Some first b there)
 parts-at (first ∷ later) (suc place) b there = ap (λ (xs : List Block). first ∷ xs) (parts-at later place b there)
