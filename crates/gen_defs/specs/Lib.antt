@@ -1,0 +1,5 @@
+pub mod Start
+pub mod Heights
+pub mod Chain
+pub mod Laws
+pub mod Paid
