@@ -1,0 +1,4 @@
+pub mod Known
+pub mod Headers
+pub mod Content
+pub mod Walk
