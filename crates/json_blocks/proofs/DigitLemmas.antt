@@ -7,7 +7,7 @@ use Rattle.std.proofs.lemmas.Bool.{eqb-true}
 use Rattle.std.proofs.lemmas.List.{drop_all, append-nil}
 use Rattle.std.proofs.lemmas.Slice.Eq.{bytes_eq-Decides}
 use Rattle.std.proofs.lemmas.Bool.Decides.{nat_tests}
-use Rattle.json_blocks.specs.Form.{lower_digit}
+use Rattle.json_defs.specs.Form.{lower_digit}
 use Rattle.json_blocks.specs.Digits.{value_of, value_after, pairs_of}
 use Rattle.json_blocks.proofs.Plain.{glyph}
 use Rattle.hex.specs.Hex.{encode_lower, encode_with, lower_digits, IsBytes}

@@ -14,8 +14,8 @@ use Rattle.codec_defs.specs.Shape as shape
 use Rattle.codec_defs.proofs.ShapeLaws.{are_bytes-from}
 use Rattle.codec_defs.proofs.MoleculeLaws.{length-dynvec}
 use Rattle.serde_json.specs.Data.{Data, null, boolean, number, string, array, object, Items, no_items, item}
-use Rattle.json_blocks.specs.Form.{Form, has_digits, is_text, lower_digit, hex_number, byte_string, named_byte, items_read, list}
-use Rattle.json_blocks.specs.Laws.{IsReadOnce}
+use Rattle.json_defs.specs.Form.{Form, has_digits, is_text, lower_digit, hex_number, byte_string, named_byte, items_read, list}
+use Rattle.json_defs.specs.Laws.{IsReadOnce}
 use Rattle.json_blocks.specs.Digits.{value_after, pairs_of}
 use Rattle.json_blocks.specs.Reading.{◌>>=◌, digits_at, bytes_from, number_from, bytes_at, array_at, content_at, number_at, other_byte, named_at, array_items, items_at, fixvec_at, dynvec_at, table_from}
 use Rattle.json_blocks.proofs.DigitLemmas.{value_of-below, value_after-lower, digits-value, digits-length, fits-limit, length-map_lower, found_again, bytes_again}

@@ -11,10 +11,10 @@ use Rattle.codec_defs.specs.Schema as schema
 use Rattle.codec_defs.proofs.ShapeLaws.{AllFit, AllFit-from, all_fit-from}
 use Rattle.codec_defs.proofs.MoleculeLaws.{length-dynvec}
 use Rattle.serde_json.specs.Data.{Data, null, boolean, number, string, array, object, Members, no_members, member}
-use Rattle.json_blocks.specs.Form.{Form, Row, row, members_read, without, is_object, is_null, hex_number, byte_string, named_byte, list, option}
-use Rattle.json_blocks.specs.Blocks as form
-use Rattle.json_blocks.specs.Blocks.{free_key, usual_header_rows, other_header_rows, header_read}
-use Rattle.json_blocks.specs.Laws.{IsReadOnce}
+use Rattle.json_defs.specs.Form.{Form, Row, row, members_read, without, is_object, is_null, hex_number, byte_string, named_byte, list, option}
+use Rattle.json_defs.specs.Blocks as form
+use Rattle.json_defs.specs.Blocks.{free_key, usual_header_rows, other_header_rows, header_read}
+use Rattle.json_defs.specs.Laws.{IsReadOnce}
 use Rattle.json_blocks.specs.Reading.{◌>>=◌, members_at, take_at, end_at, table_from, array_at, content_at, number_at, named_at, fixvec_at, dynvec_at, hash_at, or_else, script_at, type_script_at, out_point_at, cell_input_at, cell_dep_at, cell_output_at, transaction_at, header_with, header_at, uncle_at, block_at}
 use Rattle.json_blocks.proofs.ReadOnce.{is_false, or_cases, bytes-once, array-once, u32-once, u64-once, u128-once, hash_type-once, dep_type-once, no_script, script-once, out_point-once, cell_input-once, cell_dep-once, cell_output-once, transaction-once, header-once, uncle-once, block-once}
 use Rattle.json_blocks.proofs.Exact.{Found, Exact, array-exact, content-exact, number-exact, named-exact, fixvec-exact, dynvec-exact}

@@ -7,8 +7,8 @@ use Rattle.serde_json.specs.Data.{Data}
 use Rattle.serde_json.specs.Read.{read}
 use Rattle.json_blocks.specs.declared.stop.JsonStop.{JsonStop}
 use Rattle.json_blocks.specs.declared.stop.JsonStop.TheVariants as stops
-use Rattle.json_blocks.specs.Blocks as form
-use Rattle.json_blocks.specs.Laws.{IsReadAs}
+use Rattle.json_defs.specs.Blocks as form
+use Rattle.json_defs.specs.Laws.{IsReadAs}
 use Rattle.json_blocks.specs.Reading.{Gives, block_at}
 use Rattle.json_blocks.proofs.Exact.{Exact}
 use Rattle.json_blocks.proofs.ExactObjects.{block-exact}

@@ -5,8 +5,8 @@ use Rattle.std.specs.Str.{bytes_eq}
 use Rattle.serde_json.specs.Data.{Data, Members, member}
 use Rattle.serde_json.specs.View.{view, members_view}
 use Rattle.serde_json.proofs.Views.{Entry}
-use Rattle.json_blocks.specs.Form.{without}
-use Rattle.json_blocks.specs.Blocks.{free_key}
+use Rattle.json_defs.specs.Form.{without}
+use Rattle.json_defs.specs.Blocks.{free_key}
 use Rattle.json_blocks.specs.Reading.{take_at}
 
 not_false : (b : Bool) → not b ≡ false → b ≡ true

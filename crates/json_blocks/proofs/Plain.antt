@@ -10,7 +10,7 @@ use Rattle.json.specs.Print.{escape_byte, escape, quoted}
 use Rattle.hex.specs.Hex.{encode_lower, encode_with, lower_digits, IsBytes}
 use Rattle.serde_json.specs.Data.{Data}
 use Rattle.serde_json.specs.Written.{compact_text}
-use Rattle.json_blocks.specs.Form.{hex_text, hex_number, byte_string, named_byte}
+use Rattle.json_defs.specs.Form.{hex_text, hex_number, byte_string, named_byte}
 use Rattle.json_blocks.specs.Text.{is_plain, key_text, Puts, PutsTree}
 
 -- ---- what is plain is not escaped

@@ -8,9 +8,9 @@ use Rattle.std.proofs.lemmas.Bool.{and_parts, or_left, eqb-true}
 use Rattle.std.proofs.lemmas.Bool.Decides.{nat_tests}
 use Rattle.std.proofs.lemmas.Slice.Eq.{bytes_eq-Decides}
 use Rattle.hex.specs.Hex.{encode_lower, encode_with, lower_digits}
-use Rattle.json_blocks.specs.Form.{Form, lower_digit, lowered, hex_text, hex_number, byte_string, named_byte, items, items_read, list, option}
-use Rattle.json_blocks.specs.Blocks as form
-use Rattle.json_blocks.specs.Laws.{IsReadBack}
+use Rattle.json_defs.specs.Form.{Form, lower_digit, lowered, hex_text, hex_number, byte_string, named_byte, items, items_read, list, option}
+use Rattle.json_defs.specs.Blocks as form
+use Rattle.json_defs.specs.Laws.{IsReadBack}
 
 both : (a b : Bool) → a ≡ true → b ≡ true → (a && b) ≡ true
 both a b first second = ap (λ (x : Bool). x && b) first ∙ second

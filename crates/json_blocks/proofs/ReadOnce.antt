@@ -13,10 +13,10 @@ use Rattle.codec_defs.specs.Shape as shape
 use Rattle.codec_defs.specs.Schema as schema
 use Rattle.codec_defs.proofs.ShapeLaws.{AllFit, AllFit-from}
 use Rattle.serde_json.specs.Data.{Data, null, boolean, number, string, array, object, Items, no_items, item, Members, no_members, member}
-use Rattle.json_blocks.specs.Form.{Form, Row, has_digits, is_text, hex_text, lowered, hex_number, byte_string, named_byte, items_read, list, option, members_read, without, is_object}
-use Rattle.json_blocks.specs.Blocks as form
-use Rattle.json_blocks.specs.Blocks.{free_key, usual_header_rows, other_header_rows, header_read}
-use Rattle.json_blocks.specs.Laws.{IsReadOnce}
+use Rattle.json_defs.specs.Form.{Form, Row, has_digits, is_text, hex_text, lowered, hex_number, byte_string, named_byte, items_read, list, option, members_read, without, is_object}
+use Rattle.json_defs.specs.Blocks as form
+use Rattle.json_defs.specs.Blocks.{free_key, usual_header_rows, other_header_rows, header_read}
+use Rattle.json_defs.specs.Laws.{IsReadOnce}
 
 pub is_false : {P : Type 0} → false ≡ true → P
 is_false h = absurd (cc)

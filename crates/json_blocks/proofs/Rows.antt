@@ -5,7 +5,7 @@ use Rattle.std.proofs.lemmas.Option.{slice_get_within, get_or_from_slice_get}
 use Rattle.std.proofs.lemmas.List.{drop_all}
 use Rattle.serde_json.specs.Data.{Data, array, object, Members, no_members, member}
 use Rattle.serde_json.specs.Written.{compact_text, members_text, items_text, comma_if}
-use Rattle.json_blocks.specs.Form.{items}
+use Rattle.json_defs.specs.Form.{items}
 use Rattle.json_blocks.specs.Text.{key_text, Puts, PutsTree, PutsRow}
 
 -- the members behind another one, with the end of their object

@@ -13,8 +13,8 @@ use Rattle.serde_json.specs.Read.{max_depth, read, of_json, of_items, of_members
 use Rattle.serde_json.specs.Written.{compact_text, outline, items_outline, members_outline}
 use Rattle.serde_json.proofs.Texts.{print-outline}
 use Rattle.codec_defs.specs.Schema as schema
-use Rattle.json_blocks.specs.Form.{Form, items, hex_number, byte_string, named_byte, list, option}
-use Rattle.json_blocks.specs.Blocks as form
+use Rattle.json_defs.specs.Form.{Form, items, hex_number, byte_string, named_byte, list, option}
+use Rattle.json_defs.specs.Blocks as form
 
 -- the tree has no bare number, nests n deep at most, and is what its JSON reads as
 record Sound (n : ℕ) (d : Data) : Type 0 where

@@ -11,8 +11,8 @@ use Rattle.serde_json.specs.Data.{Data, null, string, object, Members, no_member
 use Rattle.json.specs.Print.{quoted}
 use Rattle.serde_json.specs.Written.{compact_text, items_text, members_text, comma_if}
 use Rattle.codec_defs.specs.Schema as schema
-use Rattle.json_blocks.specs.Form.{Form, items, hex_number, byte_string, named_byte, list, option}
-use Rattle.json_blocks.specs.Blocks as form
+use Rattle.json_defs.specs.Form.{Form, items, hex_number, byte_string, named_byte, list, option}
+use Rattle.json_defs.specs.Blocks as form
 
 IsText : Data → Type 0
 IsText d = IsUtf8 (compact_text d)

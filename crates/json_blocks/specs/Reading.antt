@@ -10,8 +10,8 @@ use Rattle.codec_defs.specs.Molecule as molecule
 use Rattle.serde_json.specs.Data.{Data, null, boolean, number, string, array, object, Items, no_items, item, Members, no_members, member}
 use Rattle.json_blocks.specs.declared.stop.JsonStop.{JsonStop}
 use Rattle.json_blocks.specs.declared.stop.JsonStop.TheVariants as stops
-use Rattle.json_blocks.specs.Form.{lower_digit, is_text, without}
-use Rattle.json_blocks.specs.Blocks.{free_key}
+use Rattle.json_defs.specs.Form.{lower_digit, is_text, without}
+use Rattle.json_defs.specs.Blocks.{free_key}
 use Rattle.json_blocks.specs.Digits.{value_after, pairs_of}
 
 infixl 10 ◌>>=◌

@@ -2,7 +2,7 @@
 ghost use Rattle.std.specs.Prelude.{◌≡◌, ◌≤◌, length, map, IfOk};
 ghost use Rattle.std.specs.Str.{bytes_eq};
 ghost use Rattle.hex.specs.Hex.{encode_lower};
-ghost use Rattle.json_blocks.specs.Form.{lower_digit};
+ghost use Rattle.json_defs.specs.Form.{lower_digit};
 ghost use Rattle.json_blocks.specs.Digits.{value_of, value_after, pairs_of};
 ghost use Rattle.json_blocks.specs.Reading.{Gives, number_from, bytes_from};
 

@@ -1,7 +1,7 @@
 // The laws of the tables.
 ghost use Rattle.codec_defs.specs.Schema as schema;
-ghost use Rattle.json_blocks.specs.Blocks as form;
-ghost use Rattle.json_blocks.specs.Laws.{IsReadBack, IsReadOnce, IsTextOfTree, IsTextBack, IsOneOfText};
+ghost use Rattle.json_defs.specs.Blocks as form;
+ghost use Rattle.json_defs.specs.Laws.{IsReadBack, IsReadOnce, IsTextOfTree, IsTextBack, IsOneOfText};
 
 /// States that the text of a block reads as its tree, that a block is read from its own tree, and that at most one
 /// block is read from a tree. It does nothing.

@@ -4,7 +4,7 @@ ghost use Rattle.std.specs.Fmt.{digits};
 ghost use Rattle.json.specs.Print.{quoted};
 ghost use Rattle.hex.specs.Hex.{encode_lower};
 ghost use Rattle.serde_json.specs.Written.{comma_if};
-ghost use Rattle.json_blocks.specs.Form.{hex_number, byte_string, named_byte};
+ghost use Rattle.json_defs.specs.Form.{hex_number, byte_string, named_byte};
 ghost use Rattle.json_blocks.specs.Text.{IsPlain, Puts, PutsRow, PutsTree, key_text};
 
 use outside::NoMemory;

@@ -1,6 +1,6 @@
 //! Blocks as JSON.
 //!
-//! `to_json` writes a block as one compact text: `block.tree` of specs/Blocks.antt is the tree, one row for each key,
+//! `to_json` writes a block as one compact text: `block.tree` of `json_defs` is the tree, one row for each key,
 //! and the text is serde_json's own of that tree. It is written from the block's view, with no tree in memory.
 //! `from_json` reads a text by the same rows: it gives the encoding of the block that the text is read as, and Bad where
 //! there is none. serde_json makes the tree. `form_laws` and `reading_laws` say what is true of the rows and of texts.

@@ -1,7 +1,7 @@
 // Lists, transactions, uncles and blocks.
 ghost use Rattle.std.specs.Prelude.{OnOk};
-ghost use Rattle.json_blocks.specs.Form.{list, byte_string};
-ghost use Rattle.json_blocks.specs.Blocks as form;
+ghost use Rattle.json_defs.specs.Form.{list, byte_string};
+ghost use Rattle.json_defs.specs.Blocks as form;
 ghost use Rattle.json_blocks.specs.Text.{PutsTree};
 
 use crate::leaves::{number_row, put_bytes, put_comma, put_key};

@@ -1,7 +1,7 @@
 // The parts of a transaction, and headers.
 ghost use Rattle.std.specs.Prelude.{OnOk};
-ghost use Rattle.json_blocks.specs.Form.{option};
-ghost use Rattle.json_blocks.specs.Blocks as form;
+ghost use Rattle.json_defs.specs.Form.{option};
+ghost use Rattle.json_defs.specs.Blocks as form;
 ghost use Rattle.json_blocks.specs.Text.{PutsTree};
 
 use crate::leaves::{bytes_row, number_row, put_key, put_named};

@@ -5,8 +5,8 @@ ghost use Rattle.codec_defs.specs.Schema as schema;
 ghost use Rattle.serde_json.specs.Read.{read};
 ghost use Rattle.serde_json.specs.View.{view};
 ghost use Rattle.json_blocks.specs.declared.stop.JsonStop.TheVariants.{Bad};
-ghost use Rattle.json_blocks.specs.Blocks as form;
-ghost use Rattle.json_blocks.specs.Laws.{IsReadAs};
+ghost use Rattle.json_defs.specs.Blocks as form;
+ghost use Rattle.json_defs.specs.Laws.{IsReadAs};
 
 use crate::read_objects::read_block;
 use crate::stop::JsonStop;

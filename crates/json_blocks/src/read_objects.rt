@@ -1,8 +1,8 @@
 // Transactions, headers, uncles and blocks, read from their trees.
 ghost use Rattle.std.specs.Prelude.{Bool};
 ghost use Rattle.serde_json.specs.View.{view, members_view};
-ghost use Rattle.json_blocks.specs.Form.{without};
-ghost use Rattle.json_blocks.specs.Blocks.{free_key};
+ghost use Rattle.json_defs.specs.Form.{without};
+ghost use Rattle.json_defs.specs.Blocks.{free_key};
 ghost use Rattle.json_blocks.specs.Reading.{Gives, hash_at, header_with, header_at, transaction_at, uncle_at, block_at};
 
 use crate::fields::{joined, table};

@@ -1,8 +1,8 @@
 // The parts of a tree that is read: members by their keys, and numbers and bytes of texts.
 ghost use Rattle.std.specs.Int.{w32, w64, w128};
 ghost use Rattle.serde_json.specs.View.{view, members_view, items_view};
-ghost use Rattle.json_blocks.specs.Form.{without};
-ghost use Rattle.json_blocks.specs.Blocks.{free_key};
+ghost use Rattle.json_defs.specs.Form.{without};
+ghost use Rattle.json_defs.specs.Blocks.{free_key};
 ghost use Rattle.json_blocks.specs.Reading.{Gives, digits_at, bytes_at, array_at, content_at, number_at, named_at, members_at, take_at, end_at, array_items};
 
 use crate::digits;

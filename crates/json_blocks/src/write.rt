@@ -1,7 +1,7 @@
 // A block's text.
 ghost use Rattle.std.specs.Prelude.{◌≡◌, IfOk};
-ghost use Rattle.json_blocks.specs.Blocks as form;
-ghost use Rattle.json_blocks.specs.Blocks.{text_of};
+ghost use Rattle.json_defs.specs.Blocks as form;
+ghost use Rattle.json_defs.specs.Blocks.{text_of};
 
 use crate::objects::write_block;
 use mol_schema::BlockView;

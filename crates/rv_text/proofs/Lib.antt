@@ -9,3 +9,6 @@ pub mod ReadBack
 pub mod Likely
 pub mod ListingLaws
 pub mod Lines
+pub mod OneWord
+pub mod OneText
+pub mod OneCode

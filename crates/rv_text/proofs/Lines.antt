@@ -3,7 +3,8 @@ use Rattle.std.proofs.Common.{◌≡◌, ◌≢◌, inl, inr, ℕ, ◌+◌, ◌-
 use Rattle.std.specs.Prelude.{nat_le}
 use Rattle.std.proofs.lemmas.List.{drop-drop, drop_all}
 use Rattle.std.proofs.lemmas.Bool.Decides.{nat_tests}
-use Rattle.rv_text.specs.Assembly.{in_front, lines_of, IsLineOf, IsBad, Assembles, IsFirstBad, TellsOf, TellsOfLine}
+use Rattle.text_defs.specs.Assembly.{in_front, lines_of, IsLineOf, IsBad, Assembles, IsFirstBad}
+use Rattle.rv_text.specs.Stops.{TellsOf, TellsOfLine}
 use Rattle.rv_text.specs.declared.assembly.AssemblyStop.{AssemblyStop}
 use Rattle.rv_text.specs.declared.assembly.AssemblyStop.TheVariants.{BadLine, NoMemory}
 use Rattle.rv_text.specs.Reading.{line_end}

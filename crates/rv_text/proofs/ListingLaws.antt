@@ -10,7 +10,7 @@ use Rattle.isa_defs.specs.Row.{encoded_in}
 use Rattle.isa_defs.specs.Table.{full_forms}
 use Rattle.isa_defs.specs.Compressed.{compressed_forms}
 use Rattle.isa_defs.specs.Decode.{decode, with_length}
-use Rattle.rv_text.specs.Listing.{data_of, hex_byte, front, line, lines_from, dis}
+use Rattle.text_defs.specs.Listing.{data_of, hex_byte, front, line, lines_from, dis}
 
 mapped : (n : ℕ) (o : Option Ins) (d : Ins × ℕ) → 0 < n → option_map (with_length n) o ≡ Some d → 0 < d.1
 mapped n None d some e = absurd (cc)

@@ -4,8 +4,8 @@ use Rattle.std.specs.Str.{bytes_eq}
 use Rattle.std.proofs.lemmas.List.{drop_all}
 use Rattle.std.proofs.Math.Seq.{drop-cons}
 use Rattle.isa_defs.specs.declared.ins.Ins.{Ins}
-use Rattle.rv_text.specs.declared.operands.Operands.{Operands}
-use Rattle.rv_text.specs.Text.{Form, form, form_of}
+use Rattle.text_defs.specs.declared.operands.Operands.{Operands}
+use Rattle.text_defs.specs.Text.{Form, form, form_of}
 use Rattle.rv_text.specs.Reading.{named_in}
 use Rattle.rv_text.proofs.Steps.{named-here, named-later}
 

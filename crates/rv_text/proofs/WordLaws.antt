@@ -6,9 +6,9 @@ use Rattle.isa_defs.specs.declared.ins.Ins.TheVariants.{Lui, Auipc, Jal, Jalr, B
 use Rattle.isa_defs.specs.Instruction.{bits, FitsFormat}
 use Rattle.isa_defs.specs.Table.{rd, rs1, rs2, r_row, i_row, s_row, b_row, u_row, j_row, shift_row, word_shift_row, fence_row, system_row, full_forms}
 use Rattle.isa_defs.proofs.RowLaws.{narrowed, hit}
-use Rattle.rv_text.specs.declared.operands.Operands.TheVariants.{Registers, Immediate, Shift, WordShift, Address, Store, Branch, Jump, Upper, Bare}
+use Rattle.text_defs.specs.declared.operands.Operands.TheVariants.{Registers, Immediate, Shift, WordShift, Address, Store, Branch, Jump, Upper, Bare}
 use Rattle.rv_text.specs.Words.{HasBits, FitsOperands}
-use Rattle.rv_text.specs.Text.{form_of, IsWord, IsZeroWhereUnread}
+use Rattle.text_defs.specs.Text.{form_of, IsWord, IsZeroWhereUnread}
 use Rattle.rv_text.proofs.Formats.{IsFullForm, r_is, i_is, s_is, b_is, u_is, j_is, shift_is, word_shift_is, bare_is}
 
 lui-is : (d : ℕ) (z : ℤ) (bits w : ℕ) → HasBits (Upper d z) bits → w ≡ (0x00000037 + bits) % 4294967296 → IsFullForm (Lui d z) w

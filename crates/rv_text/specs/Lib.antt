@@ -1,6 +1,3 @@
-pub mod Text
 pub mod Words
 pub mod Reading
-pub mod Listing
-pub mod Assembly
-pub mod File
+pub mod Stops

@@ -5,10 +5,10 @@ use Rattle.std.specs.List.{list_any}
 use Rattle.std.specs.Str.{bytes_eq}
 use Rattle.isa_defs.specs.declared.ins.Ins.{Ins}
 use Rattle.isa_defs.specs.Instruction.{sign_extended}
-use Rattle.rv_text.specs.Text.{form_of}
+use Rattle.text_defs.specs.Text.{form_of}
 use Rattle.rv_text.specs.declared.read.Numbers.{Numbers}
-use Rattle.rv_text.specs.declared.operands.Operands.{Operands}
-use Rattle.rv_text.specs.declared.operands.Operands.TheVariants.{Registers, Immediate, Shift, WordShift, Address, Store, Branch, Jump, Upper, Bare}
+use Rattle.text_defs.specs.declared.operands.Operands.{Operands}
+use Rattle.text_defs.specs.declared.operands.Operands.TheVariants.{Registers, Immediate, Shift, WordShift, Address, Store, Branch, Jump, Upper, Bare}
 
 -- the first of these instructions that has the name
 unfoldable pub named_in : List Ins → List ℕ → Option Ins

@@ -2,9 +2,10 @@
 ghost use Rattle.std.specs.Prelude.{◌≡◌, ◌≢◌, ◌≤◌, List, ℕ, ◌++◌, length, IfErr, IfOk, IsTrue, MatchOption, OnOk, ◌↔◌};
 ghost use Rattle.isa_defs.specs.declared.ins.Ins.{Ins};
 ghost use Rattle.isa_defs.specs.Instruction.{FitsFormat};
-ghost use Rattle.rv_text.specs.Text as texts;
-ghost use Rattle.rv_text.specs.Text.{IsWord};
-ghost use Rattle.rv_text.specs.Assembly.{Assembles, IsLineOf, IsSkipped, TellsOf, TellsOfLine, lines_of};
+ghost use Rattle.text_defs.specs.Text as texts;
+ghost use Rattle.text_defs.specs.Text.{IsWord};
+ghost use Rattle.text_defs.specs.Assembly.{Assembles, IsLineOf, IsSkipped, lines_of};
+ghost use Rattle.rv_text.specs.Stops.{TellsOf, TellsOfLine};
 ghost use Rattle.rv_text.specs.Reading.{line_end};
 
 use crate::encode::word;

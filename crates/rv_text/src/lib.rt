@@ -3,17 +3,18 @@
 //! - `word`: the full form that encodes an instruction. `show`: its text.
 //! - `read_line`: the instruction whose text a line is, or none.
 //! - `dis`: the listing of code. `assemble`: the words of a text. `elf_file`: the file of some code.
+//! - `text_laws`: what a text, a word and the lines of a text tell is at most one.
 //!
-//! Each is exact against specs/Text.antt, Listing.antt, Assembly.antt and File.antt, over the instruction table of
-//! `isa_defs`. The commands that read and print are left to the layer above.
+//! Each is exact against the definitions of `text_defs`, over the instruction table of `isa_defs`. The commands that read
+//! and print are left to the layer above.
 #![tactic(auto)]
 
 mod assembly;
 mod encode;
 mod file;
+mod laws;
 mod listing;
 mod names;
-mod operands;
 mod read;
 mod shown;
 mod table;
@@ -23,6 +24,7 @@ pub use assembly::{AssemblyStop, assemble};
 pub use encode::word;
 pub use file::elf_file;
 pub use isa_defs::Ins;
+pub use laws::text_laws;
 pub use listing::dis;
 pub use read::read_line;
 pub use shown::show;

@@ -2,17 +2,17 @@
 ghost use Rattle.std.specs.Prelude.{◌≡◌, ◌*◌, ◌%◌, ◌≤◌, IfSome, MatchOption, Some, drop, length, take};
 ghost use Rattle.isa_defs.specs.Instruction.{FitsFormat, sign_extended};
 ghost use Rattle.isa_defs.specs.declared.ins.Ins.{Ins};
-ghost use Rattle.rv_text.specs.Text as texts;
-ghost use Rattle.rv_text.specs.Text.{IsWord};
+ghost use Rattle.text_defs.specs.Text as texts;
+ghost use Rattle.text_defs.specs.Text.{IsWord};
 ghost use Rattle.rv_text.specs.Reading.{filled, from_digit, has_minus, leading, next_number, numbers_in, signed, space_at};
 
 use crate::encode::bits_of;
 use crate::names::named;
-use crate::operands::Operands;
 use crate::shown::text_of;
 use crate::table::form_of;
 use isa_defs::Ins;
 use rv_decode::decode;
+use text_defs::Operands;
 
 /// The numbers of a line in their order, and whether it has a minus.
 #[derive(Clone, Copy)]

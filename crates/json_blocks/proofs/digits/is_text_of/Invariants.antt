@@ -1,6 +1,6 @@
 use Rattle.std.proofs.Common.{◌≡◌, map, drop}
 use Rattle.std.specs.Str.{bytes_eq}
-use Rattle.json_blocks.specs.Form.{lower_digit}
+use Rattle.json_defs.specs.Form.{lower_digit}
 use Rattle.json_blocks.proofs.digits.is_text_of.Given as goal
 
 -- what is left tells

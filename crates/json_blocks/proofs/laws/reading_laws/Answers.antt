@@ -1,5 +1,5 @@
 use Rattle.std.proofs.Common.{◌≡◌, true, subst}
-use Rattle.json_blocks.specs.Blocks as form
+use Rattle.json_defs.specs.Blocks as form
 use Rattle.json_blocks.proofs.ReadBack.{block-back}
 use Rattle.json_blocks.proofs.ReadOnce.{block-once}
 use Rattle.json_blocks.proofs.TextBack.{block-text-back}

@@ -1,7 +1,7 @@
 use Rattle.std.proofs.Common.{◌<◌, ℕ, slice_index, arith}
 use Rattle.json_blocks.proofs.Plain.{hex_put, byte_string-text}
 use Rattle.hex.specs.Hex.{encode_lower}
-use Rattle.json_blocks.specs.Form.{byte_string}
+use Rattle.json_defs.specs.Form.{byte_string}
 use Rattle.json_blocks.proofs.leaves.put_bytes.Goals as goal
 
 pub returns : goal.returns

@@ -1,7 +1,7 @@
 use Rattle.std.proofs.Common.{◌≡◌, ◌-◌, ◌++◌, List, ℕ, false, ap, ◌∙◌, drop, arith, take_all, length-drop}
 use Rattle.std.specs.Fmt.{digits}
 use Rattle.json_blocks.proofs.Plain.{hex_put, number-text}
-use Rattle.json_blocks.specs.Form.{hex_number}
+use Rattle.json_defs.specs.Form.{hex_number}
 use Rattle.json_blocks.proofs.leaves.put_number.Goals as goal
 
 pub returns : goal.returns

@@ -1,7 +1,7 @@
 use Rattle.std.specs.Prelude.{codes}
 use Rattle.std.proofs.Common.{ap}
-use Rattle.json_blocks.specs.Blocks.{block}
-use Rattle.json_blocks.specs.Blocks as form
+use Rattle.json_defs.specs.Blocks.{block}
+use Rattle.json_defs.specs.Blocks as form
 use Rattle.json_blocks.proofs.Rows.{first_row, keyed, next_row, no_row, same_tree}
 use Rattle.json_blocks.proofs.objects.write_block.Goals as goal
 

@@ -2,8 +2,8 @@ use Rattle.std.proofs.Common.{◌≡◌, ◌++◌, drop}
 use Rattle.std.specs.Prelude.{nat_lt}
 use Rattle.serde_json.specs.Data.{array}
 use Rattle.serde_json.specs.Written.{compact_text, items_text}
-use Rattle.json_blocks.specs.Form.{items}
-use Rattle.json_blocks.specs.Blocks as form
+use Rattle.json_defs.specs.Form.{items}
+use Rattle.json_defs.specs.Blocks as form
 use Rattle.json_blocks.proofs.objects.write_outputs.Given as goal
 
 -- what is written, and the text of the items that are left

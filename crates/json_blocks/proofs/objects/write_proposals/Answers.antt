@@ -1,6 +1,6 @@
 use Rattle.std.proofs.Common.{arith}
 use Rattle.std.specs.Prelude.{nat_lt}
-use Rattle.json_blocks.specs.Form.{byte_string}
+use Rattle.json_defs.specs.Form.{byte_string}
 use Rattle.json_blocks.proofs.Rows.{list_begins, list_goes_on, list_ends}
 use Rattle.json_blocks.proofs.objects.write_proposals.Goals as goal
 

@@ -1,8 +1,8 @@
 use Rattle.std.specs.Prelude.{codes}
 use Rattle.std.proofs.Common.{ap, ◌∙◌}
-use Rattle.json_blocks.specs.Form.{byte_string, hex_number, list}
-use Rattle.json_blocks.specs.Blocks.{transaction}
-use Rattle.json_blocks.specs.Blocks as form
+use Rattle.json_defs.specs.Form.{byte_string, hex_number, list}
+use Rattle.json_defs.specs.Blocks.{transaction}
+use Rattle.json_defs.specs.Blocks as form
 use Rattle.json_blocks.proofs.Rows.{first_row, keyed, next_row, no_row, same_row, same_tree}
 use Rattle.json_blocks.proofs.objects.write_transaction.Goals as goal
 

@@ -2,7 +2,7 @@ use Rattle.std.proofs.Common.{◌≡◌, ◌++◌, drop}
 use Rattle.std.specs.Prelude.{nat_lt}
 use Rattle.serde_json.specs.Data.{array}
 use Rattle.serde_json.specs.Written.{compact_text, items_text}
-use Rattle.json_blocks.specs.Form.{items, byte_string}
+use Rattle.json_defs.specs.Form.{items, byte_string}
 use Rattle.json_blocks.proofs.objects.write_uncle_proposals.Given as goal
 
 -- what is written, and the text of the items that are left

@@ -1,8 +1,8 @@
 use Rattle.std.specs.Prelude.{codes}
 use Rattle.std.proofs.Common.{ap}
-use Rattle.json_blocks.specs.Form.{named_byte}
-use Rattle.json_blocks.specs.Blocks.{cell_dep}
-use Rattle.json_blocks.specs.Blocks as form
+use Rattle.json_defs.specs.Form.{named_byte}
+use Rattle.json_defs.specs.Blocks.{cell_dep}
+use Rattle.json_defs.specs.Blocks as form
 use Rattle.json_blocks.proofs.Rows.{first_row, keyed, next_row, no_row, same_tree}
 use Rattle.json_blocks.proofs.parts.write_dep.Goals as goal
 

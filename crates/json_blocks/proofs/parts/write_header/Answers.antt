@@ -1,6 +1,6 @@
 use Rattle.std.proofs.Common.{ap, ◌∙◌}
-use Rattle.json_blocks.specs.Form.{byte_string, hex_number}
-use Rattle.json_blocks.specs.Blocks.{header}
+use Rattle.json_defs.specs.Form.{byte_string, hex_number}
+use Rattle.json_defs.specs.Blocks.{header}
 use Rattle.json_blocks.proofs.Rows.{first_row, next_row, no_row, same_row}
 use Rattle.json_blocks.proofs.parts.write_header.Goals as goal
 

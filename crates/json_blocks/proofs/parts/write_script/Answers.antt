@@ -1,7 +1,7 @@
 use Rattle.std.specs.Prelude.{codes}
 use Rattle.std.proofs.Common.{ap}
-use Rattle.json_blocks.specs.Form.{byte_string, named_byte}
-use Rattle.json_blocks.specs.Blocks.{script}
+use Rattle.json_defs.specs.Form.{byte_string, named_byte}
+use Rattle.json_defs.specs.Blocks.{script}
 use Rattle.json_blocks.proofs.Rows.{first_row, keyed, next_row, no_row, same_row, same_tree}
 use Rattle.json_blocks.proofs.parts.write_script.Goals as goal
 

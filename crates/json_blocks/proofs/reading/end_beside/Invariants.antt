@@ -1,7 +1,7 @@
 use Rattle.std.proofs.Common.{◌≡◌}
 use Rattle.serde_json.specs.View.{members_view}
-use Rattle.json_blocks.specs.Form.{without}
-use Rattle.json_blocks.specs.Blocks.{free_key}
+use Rattle.json_defs.specs.Form.{without}
+use Rattle.json_defs.specs.Blocks.{free_key}
 use Rattle.json_blocks.proofs.reading.end_beside.Given as goal
 
 -- those passed over are of the free key

@@ -1,7 +1,7 @@
 use Rattle.std.proofs.Common.{sym, ap, ◌∙◌}
 use Rattle.serde_json.specs.View.{members_view}
-use Rattle.json_blocks.specs.Form.{without}
-use Rattle.json_blocks.specs.Blocks.{free_key}
+use Rattle.json_defs.specs.Form.{without}
+use Rattle.json_defs.specs.Blocks.{free_key}
 use Rattle.json_blocks.specs.Reading.{take_at}
 use Rattle.json_blocks.proofs.Members.{passed_over}
 use Rattle.json_blocks.proofs.reading.take_beside.Goals as goal

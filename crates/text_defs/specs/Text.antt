@@ -8,8 +8,8 @@ use Rattle.isa_defs.specs.declared.ins.Ins.TheVariants.{Lui, Auipc, Jal, Jalr, B
 use Rattle.isa_defs.specs.Instruction.{bits}
 use Rattle.isa_defs.specs.Alu.{bits_of}
 use Rattle.isa_defs.specs.Decode.{decode}
-use Rattle.rv_text.specs.declared.operands.Operands.{Operands}
-use Rattle.rv_text.specs.declared.operands.Operands.TheVariants.{Registers, Immediate, Shift, WordShift, Address, Store, Branch, Jump, Upper, Bare}
+use Rattle.text_defs.specs.declared.operands.Operands.{Operands}
+use Rattle.text_defs.specs.declared.operands.Operands.TheVariants.{Registers, Immediate, Shift, WordShift, Address, Store, Branch, Jump, Upper, Bare}
 
 pub record Form : Type 0 where
   pub name : List ℕ

@@ -3,9 +3,7 @@ use Rattle.std.specs.Prelude.{◌≡◌, ◌≢◌, ◌⊎◌, ℕ, ◌+◌, ◌
 use Rattle.std.specs.Int.{w32, to_le_bytes}
 use Rattle.isa_defs.specs.declared.ins.Ins.{Ins}
 use Rattle.isa_defs.specs.Instruction.{FitsFormat}
-use Rattle.rv_text.specs.declared.assembly.AssemblyStop.{AssemblyStop}
-use Rattle.rv_text.specs.declared.assembly.AssemblyStop.TheVariants.{BadLine, NoMemory}
-use Rattle.rv_text.specs.Text.{show, IsWord}
+use Rattle.text_defs.specs.Text.{show, IsWord}
 
 -- The lines of a text: each ends with a line feed, and the last one with the text.
 abbrev pub in_front : ℕ → List (List ℕ) → List (List ℕ)
@@ -43,13 +41,3 @@ IsFirstBad [] number = ⊥
 IsFirstBad (line ∷ lines) number =
     ((number ≡ 1) × IsBad line)
     ⊎ ((here : List ℕ) × (after : ℕ) × IsLineOf line here × IsFirstBad lines after × (number ≡ 1 + after))
-
--- what a stop tells of a text
-abbrev pub TellsOf : List (List ℕ) → AssemblyStop → Type 0
-TellsOf lines (BadLine number) = IsFirstBad lines number
-TellsOf lines NoMemory = Unit {0}
-
--- the same of one line with a number
-abbrev pub TellsOfLine : ℕ → List ℕ → AssemblyStop → Type 0
-TellsOfLine own line (BadLine number) = (number ≡ own) × IsBad line
-TellsOfLine own line NoMemory = Unit {0}

@@ -4,7 +4,7 @@ use Rattle.std.specs.Prelude.{ℕ, List, [], ◌∷◌, ◌++◌, codes, Bool, �
 use Rattle.codec_defs.specs.Schema as schema
 use Rattle.serde_json.specs.Data.{object as tree_object, Members}
 use Rattle.serde_json.specs.Written.{compact_text}
-use Rattle.json_blocks.specs.Form.{Form, Row, hex_number, byte_string, named_byte, list, option, row, members, members_read, without, is_object}
+use Rattle.json_defs.specs.Form.{Form, Row, hex_number, byte_string, named_byte, list, option, row, members, members_read, without, is_object}
 
 -- an object of these rows alone
 abbrev pub object : {V : Type 0} → (V → List Row) → Form V

@@ -1,6 +1,6 @@
 /// The operands of an instruction, in the order of its fields, by the form that its text has.
 #[derive(Clone, Copy)]
-pub(crate) enum Operands {
+pub enum Operands {
     /// `rd,rs1,rs2`
     Registers(u8, u8, u8),
     /// `rd,rs1,n`

@@ -4,8 +4,8 @@ use Rattle.codec_defs.specs.Shape.{Shape}
 use Rattle.serde_json.specs.Data.{Data}
 use Rattle.serde_json.specs.Read.{read}
 use Rattle.serde_json.specs.Written.{compact_text}
-use Rattle.json_blocks.specs.Form.{Form}
-use Rattle.json_blocks.specs.Blocks.{text_of}
+use Rattle.json_defs.specs.Form.{Form}
+use Rattle.json_defs.specs.Blocks.{text_of}
 
 -- a value is read from its own tree
 abbrev pub IsReadBack : {V : Type 0} → Form V → Type 0

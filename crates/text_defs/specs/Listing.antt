@@ -3,7 +3,7 @@ use Rattle.std.specs.Prelude.{ℕ, zero, suc, ◌+◌, ◌*◌, ◌/◌, ◌%◌
 use Rattle.std.specs.Fmt.{decimal, digit_glyph}
 use Rattle.isa_defs.specs.declared.ins.Ins.{Ins}
 use Rattle.isa_defs.specs.Decode.{decode}
-use Rattle.rv_text.specs.Text.{show}
+use Rattle.text_defs.specs.Text.{show}
 
 -- The four bytes in front as a number, lowest first. What stands past the end counts as zero: it tells nothing of an
 -- instruction that lies inside the code.

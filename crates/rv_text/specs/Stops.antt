@@ -1,0 +1,15 @@
+-- What a stop of the assembler tells.
+use Rattle.std.specs.Prelude.{◌≡◌, ℕ, List}
+use Rattle.text_defs.specs.Assembly.{IsBad, IsFirstBad}
+use Rattle.rv_text.specs.declared.assembly.AssemblyStop.{AssemblyStop}
+use Rattle.rv_text.specs.declared.assembly.AssemblyStop.TheVariants.{BadLine, NoMemory}
+
+-- what a stop tells of a text
+abbrev pub TellsOf : List (List ℕ) → AssemblyStop → Type 0
+TellsOf lines (BadLine number) = IsFirstBad lines number
+TellsOf lines NoMemory = Unit {0}
+
+-- the same of one line with a number
+abbrev pub TellsOfLine : ℕ → List ℕ → AssemblyStop → Type 0
+TellsOfLine own line (BadLine number) = (number ≡ own) × IsBad line
+TellsOfLine own line NoMemory = Unit {0}

@@ -1,0 +1,5 @@
+pub mod Text
+pub mod Listing
+pub mod Assembly
+pub mod File
+pub mod Laws
