@@ -3,11 +3,26 @@ use Rattle.std.proofs.Common.{◌≡◌, Option, Some, None, refl, ◌∙◌, su
 use Rattle.std.specs.Prelude.{◌↔◌}
 use Rattle.report_defs.specs.declared.command.Command.{Command}
 use Rattle.report_defs.specs.declared.command.Command.TheVariants.{Init, Import, Query, Question, Standalone}
+use Rattle.report_defs.specs.declared.command.Standalone as files
+use Rattle.report_defs.specs.declared.command.Standalone.TheVariants.{Exec, Asm, Dis, Unjson}
 use Rattle.report_defs.specs.declared.status.Status.{Status}
 use Rattle.report_defs.specs.declared.status.Status.TheVariants.{BadWords, InputFault, DiskFault}
 use Rattle.report_defs.specs.Status.{IsOneOf}
-use Rattle.report_defs.specs.Promise.{init_statuses, import_statuses, query_statuses, question_statuses, standalone_statuses, statuses_of}
+use Rattle.report_defs.specs.Promise.{init_statuses, import_statuses, query_statuses, question_statuses, answering_statuses, refusing_statuses, standalone_statuses, statuses_of}
 use Rattle.node_run.proofs.Tables.{lacks}
+
+-- what no command without a store answers
+lacks_bad_words : (command : files.Standalone) (status : Status) → IsOneOf (standalone_statuses command) status → status ≡ BadWords → ⊥
+lacks_bad_words (Exec budget) = lacks answering_statuses BadWords refl
+lacks_bad_words Asm = lacks refusing_statuses BadWords refl
+lacks_bad_words Dis = lacks answering_statuses BadWords refl
+lacks_bad_words Unjson = lacks refusing_statuses BadWords refl
+
+pub standalone_no_disk_fault : (command : files.Standalone) (status : Status) → IsOneOf (standalone_statuses command) status → status ≡ DiskFault → ⊥
+standalone_no_disk_fault (Exec budget) = lacks answering_statuses DiskFault refl
+standalone_no_disk_fault Asm = lacks refusing_statuses DiskFault refl
+standalone_no_disk_fault Dis = lacks answering_statuses DiskFault refl
+standalone_no_disk_fault Unjson = lacks refusing_statuses DiskFault refl
 
 -- no command answers that the words are bad
 pub never_bad_words : (command : Command) (status : Status) → IsOneOf (statuses_of (Some command)) status → status ≡ BadWords → ⊥
@@ -15,7 +30,7 @@ never_bad_words Init = lacks init_statuses BadWords refl
 never_bad_words Import = lacks import_statuses BadWords refl
 never_bad_words (Query query) = lacks query_statuses BadWords refl
 never_bad_words (Question question) = lacks question_statuses BadWords refl
-never_bad_words (Standalone command) = lacks standalone_statuses BadWords refl
+never_bad_words (Standalone command) = lacks_bad_words command
 
 abbrev IsAsked : Option Command → Type 0
 IsAsked None = ⊥
@@ -40,6 +55,3 @@ IsNotImport _ = Unit {0}
 
 pub query_no_input_fault : (status : Status) → IsOneOf query_statuses status → status ≡ InputFault → ⊥
 query_no_input_fault = lacks query_statuses InputFault refl
-
-pub standalone_no_disk_fault : (status : Status) → IsOneOf standalone_statuses status → status ≡ DiskFault → ⊥
-standalone_no_disk_fault = lacks standalone_statuses DiskFault refl

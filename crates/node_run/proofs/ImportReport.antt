@@ -12,11 +12,11 @@ use Rattle.report_defs.specs.declared.status.Status.TheVariants.{Done, SomeRefus
 use Rattle.report_defs.specs.Status.{IsOneOf}
 use Rattle.report_defs.specs.Items.{Split, split_of, end_offset}
 use Rattle.report_defs.specs.Report.{Report, text_of, item_limit, import_limits, lines_over, closing_of_end, status_of_end, status_of_verdicts, report_of_import}
-use Rattle.report_defs.specs.Promise.{IsPrefix, MatchesReport, WritesInOrder, AreWholeLines, ImportsInOrder, IsStoppedBeforeTheSink, all_but_last}
+use Rattle.report_defs.specs.Promise.{IsPrefix, WritesInOrder, AreWholeLines, ImportsInOrder, IsStoppedBeforeTheSink, all_but_last}
 use Rattle.report_defs.specs.Survival.{Each, IsFront, KeepsStore}
 use Rattle.report_defs.proofs.ItemLemmas.{split_of-is, split_of-append}
 use Rattle.item_reader.proofs.Reading.{few_partial}
-use Rattle.node_run.specs.Output.{IsPartOf, IsToldAnswer}
+use Rattle.node_run.specs.Output.{MatchesReportOf, IsPartOf, IsToldAnswer}
 use Rattle.node_run.specs.Import.{AreGiven, KeepsSome, IsEnded, IsStopped, IsStop, line_over, text_over}
 use Rattle.node_run.specs.declared.import.Ended.{Ended}
 use Rattle.node_run.proofs.LineLemmas.{prefix_refl, prefix_trans, prefix_front, prefix_behind, lines-push, lines-append, lines_front, but_the_last, take_all, take_front, front_of_all, front_of_part}
@@ -102,7 +102,7 @@ module _ (chain : Chain) (status : Status) (items before : List (List ℕ)) (res
 
 pub stopped_import : (chain : Chain) (items before : List (List ℕ)) (rest given taken : List ℕ) (left : Option (List ℕ)) (status : Status)
     → AreGiven items rest given → IsStopped chain status items before rest taken
-    → MatchesReport (report_on chain) given left taken status × ImportsInOrder chain given left taken status
+    → MatchesReportOf (report_on chain) given left taken status × ImportsInOrder chain given left taken status
 stopped_import chain items before rest given taken left status are stopped =
     let split = split_is items rest given are in (
       record {
@@ -182,7 +182,7 @@ module _ (chain : Chain) (left : Option (List ℕ)) (ended : Ended) (items : Lis
   at_end told = end.ends.to_end (only_at_end ended.refused ended.end told)
 
   pub ended_import : (written : List ℕ) (status : Status) → IsToldAnswer (closing_of_end ended.offset ended.end) last_status status written
-      → MatchesReport (report_on chain) given left (taken ++ written) status × ImportsInOrder chain given left (taken ++ written) status
+      → MatchesReportOf (report_on chain) given left (taken ++ written) status × ImportsInOrder chain given left (taken ++ written) status
   ended_import written status (inl told) =
       let split = split_is items rest given are in (
         record {

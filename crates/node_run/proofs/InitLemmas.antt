@@ -14,7 +14,7 @@ use Rattle.report_defs.specs.declared.status.Status.TheVariants.{Done, InputFaul
 use Rattle.report_defs.specs.declared.end.End.{End}
 use Rattle.report_defs.specs.Status.{IsOneOf}
 use Rattle.report_defs.specs.Items.{Split, ReadsNoFurther}
-use Rattle.report_defs.specs.Report.{Report, item_limit, genesis_limit, init_items, init_limits, report_of_rules, report_of_items, report_of_end, report_of_new, report_of_command}
+use Rattle.report_defs.specs.Report.{Report, item_limit, genesis_limit, init_items, init_limits, report_of_rules, report_of_items, report_of_end, report_of_new, report_without_lines, IsReport}
 use Rattle.report_defs.specs.Promise.{MatchesReport, ReadsWhole, IsStoreOf, ended_early, init_statuses}
 use Rattle.report_defs.specs.Survival.{IsNewStore, as_before}
 use Rattle.node_core.specs.Node.{IsNew}
@@ -26,9 +26,9 @@ use Rattle.item_reader.proofs.FurtherLemmas.{items_no_further}
 use Rattle.node_run.specs.Store.{Delivers}
 use Rattle.node_run.specs.Import.{IsStop}
 use Rattle.node_run.specs.Init.{StandsAlone, new_statuses}
-use Rattle.node_run.specs.Output.{IsSaid, IsToldAnswer, early_ends}
+use Rattle.node_run.specs.Output.{MatchesReportOf, IsSaid, IsToldAnswer, early_ends}
 use Rattle.node_run.proofs.ImportLemmas.{item_limit-is}
-use Rattle.node_run.proofs.StoreLemmas.{if_told, stop_says}
+use Rattle.node_run.proofs.StoreLemmas.{if_told, stop_says, by_function}
 use Rattle.node_run.proofs.Tables.{held, lacks, among}
 use Rattle.node_run.proofs.Statuses.{each_of, IsEarly}
 use Rattle.node_run.proofs.WholeReports.{whole_report, whole_split, IsJudged, early_not_judged, whole_stopped, whole_early, whole_judged}
@@ -105,14 +105,14 @@ full whole = whole_report init_items report_of_items whole
 
 -- what is told of it, and how far was read and written
 abbrev pub Tells : Option (List ℕ) → List ℕ → List ℕ → Status → Type 0
-Tells left given taken status = MatchesReport full given left taken status × ReadsWhole init_limits (Done ∷ BadGenesis ∷ []) given left taken status
+Tells left given taken status = MatchesReportOf full given left taken status × ReadsWhole init_limits (Done ∷ BadGenesis ∷ []) given left taken status
 
 unread : (left : Option (List ℕ)) (status : Status) → IsStop status → Tells left [] [] status
 unread left status stop = whole_stopped init_items report_of_items (Done ∷ BadGenesis ∷ []) (tt, (tt, tt)) left [] status stop (items_no_further init_limits [] tt tt [] refl)
 
 pub fault_at_once : (reads : Option Image) (at_start at_exit meanwhile : Image → Type 0) (left : Option (List ℕ)) → Delivers Init reads at_start at_exit meanwhile left [] [] DiskFault
 fault_at_once reads at_start at_exit meanwhile left = record {
-  text = λ store found. stop_says (λ whole. report_of_command (Some Init) whole store) left DiskFault tt;
+  text = λ store found. stop_says (λ whole said. IsReport (Some Init) whole store said) [] left DiskFault tt;
   order = λ store found. record {
     there = λ other. record { unread = refl; unwritten = refl };
     whole = (unread left DiskFault tt).1;
@@ -120,10 +120,10 @@ fault_at_once reads at_start at_exit meanwhile left = record {
   disk = λ now told done. absurd (cc);
 }
 
-there_text : (left : Option (List ℕ)) (store : Store) → (store ≡ NoLog → ⊥) → MatchesReport (λ whole. report_of_command (Some Init) whole store) [] left [] StoreThere
+there_text : (left : Option (List ℕ)) (store : Store) → (store ≡ NoLog → ⊥) → MatchesReport (λ whole said. IsReport (Some Init) whole store said) [] left [] StoreThere
 there_text left NoLog other = absurd (other refl)
-there_text left NotALog other = record { front = λ more is. ([], refl); whole_text = λ more is told. refl; same_status = λ more is told. refl }
-there_text left (Keeps chain) other = record { front = λ more is. ([], refl); whole_text = λ more is told. refl; same_status = λ more is told. refl }
+there_text left NotALog other = record { prefix = λ more is. inl refl; whole = λ more is told. (report_without_lines [] StoreThere, refl, refl, refl) }
+there_text left (Keeps chain) other = record { prefix = λ more is. inl refl; whole = λ more is told. (report_without_lines [] StoreThere, refl, refl, refl) }
 
 pub there_at_once : (reads : Option Image) (at_start at_exit meanwhile : Image → Type 0) (left : Option (List ℕ))
     → ((store : Store) → IsStoreOf reads store → store ≡ NoLog → ⊥) → Delivers Init reads at_start at_exit meanwhile left [] [] StoreThere
@@ -149,7 +149,8 @@ delivers_new : (reads : Option Image) (at_start at_exit meanwhile : Image → Ty
     → ((now : Image) → reads ≡ Some now → status ≡ Done → IsNewStore given at_exit)
     → Delivers Init reads at_start at_exit meanwhile left given taken status
 delivers_new reads at_start at_exit meanwhile left given taken status none tells disk = record {
-  text = λ store found. subst (λ (s : Store). MatchesReport (λ whole. report_of_command (Some Init) whole s) given left taken status) (sym (none store found)) tells.0;
+  text = λ store found. subst (λ (s : Store). MatchesReport (λ whole said. IsReport (Some Init) whole s said) given left taken status) (sym (none store found))
+      (by_function full (λ whole said. IsReport (Some Init) whole NoLog said) given left taken status (λ whole. refl) tells.0);
   order = λ store found. record { there = λ other. absurd (other (none store found)); whole = tells.1 };
   disk = disk;
 }

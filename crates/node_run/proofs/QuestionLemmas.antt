@@ -108,7 +108,7 @@ module _ {D : Type 0} (reads_as : D → Option Image) (images : D → Image → 
       → DeliversAnswer question (reads_as old) (images old) (images new) (left_since new (moment old)) left given taken status
   question_opened question old new node left given taken status kept on moments says = record {
     delivers = delivers (commands.Question question) (reads_as old) node.chain (images old) (images new) (left_since new (moment old)) left given taken status (λ store found. found) kept
-        (λ joined. ((says joined).text, (says joined).order))
+        (full question node.chain) (λ whole. refl) (λ joined. ((says joined).text, (says joined).order))
         (keeps_opened (reads_as old) node.chain [] (images old) (images new) (left_since new (moment old)) taken status kept
         (λ now told keeps sound. keeps_read images moment left_since counts_now old new node.chain taken status (moments now node.chain told keeps sound)
         (on_stands node node.chain (reads_as new) (images new) refl

@@ -1,5 +1,5 @@
 -- What a run promises of the disk for any list of runs before it.
-use Rattle.std.proofs.Common.{◌≡◌, inl, inr, ℕ, List, [], ◌∷◌, take, refl, sym, ◌∙◌, subst, arith}
+use Rattle.std.proofs.Common.{◌≡◌, inl, inr, ℕ, List, [], ◌∷◌, take, refl, ap, sym, ◌∙◌, subst, arith}
 use Rattle.std.specs.Prelude.{Option, Some, None, IfSome, IsSome}
 use Rattle.outside.specs.Image.{Image}
 use Rattle.outside.specs.Disk.{IsAsBefore}
@@ -13,7 +13,7 @@ use Rattle.report_defs.specs.declared.command.Standalone as files
 use Rattle.report_defs.specs.declared.status.Status.{Status}
 use Rattle.report_defs.specs.declared.status.Status.TheVariants.{Done, SomeRefused, BadWords, DiskFault, NoMemory}
 use Rattle.report_defs.specs.Status.{IsOneOf}
-use Rattle.report_defs.specs.Report.{report_of_command, answer_to_query, report_of_file}
+use Rattle.report_defs.specs.Report.{Report, text_of, report_without_lines, file_limit, IsReport, IsReportOfFile, answer_to_query}
 use Rattle.report_defs.specs.Promise.{MatchesReport, KeepsOrder, ReadsFileInOrder, Finds, IsReported}
 use Rattle.report_defs.specs.Survival.{Each, Run, IsDone, IsFront, IsKeptBy, IsLeftBy, KeepsStore, KeepsItems, KeepsDisk, Answers, IsPromised, items_of}
 use Rattle.node_run.specs.Store.{Delivers}
@@ -146,8 +146,9 @@ query_answers : (query : queries.Query) (reads : Option Image) (at_start at_exit
     → Delivers (Query query) reads at_start at_exit meanwhile (Some []) [] taken status → reads ≡ Some now → StandsFor kept now → IsOneOf (Done ∷ SomeRefused ∷ []) status
     → taken ≡ answer_to_query query kept
 query_answers query reads at_start at_exit meanwhile taken status now kept delivers told stands done =
-    (delivers.text (Keeps kept) (now, told, sym (store_of_stands kept now stands), λ chain same. subst (λ (k : Chain). StandsFor k now) (same_chain kept chain same) stands)).whole_text
-    [] refl (reported status done)
+    let said = (delivers.text (Keeps kept) (now, told, sym (store_of_stands kept now stands), λ chain same. subst (λ (k : Chain). StandsFor k now) (same_chain kept chain same) stands)).whole
+    [] refl (reported status done) in
+    said.2 ∙ ap (λ (r : Report). text_of r) said.1
 
 pub query_promised : (query : queries.Query) (reads : Option Image) (at_start at_exit meanwhile : Image → Type 0) (left : Option (List ℕ)) (taken : List ℕ) (status : Status)
     → IfSome reads at_start → ((left : Option (List ℕ)) → Delivers (Query query) reads at_start at_exit meanwhile left [] taken status)
@@ -200,7 +201,7 @@ module _ {D : Type 0} (reads_as : D → Option Image) (images : D → Image → 
 
   -- the disk was not called
   pub uncalled_promised : (command : Option Command) (old : D) (left : Option (List ℕ)) (given taken : List ℕ) (status : Status) → items_of command given ≡ []
-      → ((store : Store) → Finds command (reads_as old) store → MatchesReport (λ whole. report_of_command command whole store) given left taken status × KeepsOrder command store given left taken status)
+      → ((store : Store) → Finds command (reads_as old) store → MatchesReport (λ whole said. IsReport command whole store said) given left taken status × KeepsOrder command store given left taken status)
       → ((now : Image) → KeepsDisk command now (images old) (images old) (left_since old (moment old)) given taken status)
       → ((kept : Chain) → Answers command kept given taken)
       → IsPromised command (reads_as old) (images old) (images old) (left_since old (moment old)) left given taken status
@@ -219,7 +220,7 @@ module _ {D : Type 0} (reads_as : D → Option Image) (images : D → Image → 
   }
 
   pub standalone_promised : (command : files.Standalone) (old : D) (left : Option (List ℕ)) (given taken : List ℕ) (status : Status)
-      → MatchesReport (report_of_file command) given left taken status × ReadsFileInOrder given left taken status
+      → MatchesReport (IsReportOfFile command) given left taken status × ReadsFileInOrder (file_limit command) given left taken status
       → IsPromised (Some (Standalone command)) (reads_as old) (images old) (images old) (left_since old (moment old)) left given taken status
   standalone_promised command old left given taken status says =
       uncalled_promised (Some (Standalone command)) old left given taken status refl (λ store found. says) (λ now. tt) (λ kept. tt)
@@ -227,6 +228,6 @@ module _ {D : Type 0} (reads_as : D → Option Image) (images : D → Image → 
   pub words_promised : (old : D) (left : Option (List ℕ)) → IsPromised None (reads_as old) (images old) (images old) (left_since old (moment old)) left [] [] BadWords
   words_promised old left = uncalled_promised None old left [] [] BadWords refl
       (λ store found. (
-        record { front = λ more is. ([], refl); whole_text = λ more is told. refl; same_status = λ more is told. refl },
+        record { prefix = λ more is. inl refl; whole = λ more is told. (report_without_lines [] BadWords, refl, refl, refl) },
         record { unread = refl; unwritten = refl },
       )) (λ now. tt) (λ kept. tt)

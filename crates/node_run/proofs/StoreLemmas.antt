@@ -1,5 +1,5 @@
 -- What a command delivers of a store, whether it was opened or not.
-use Rattle.std.proofs.Common.{◌≡◌, ◌⊎◌, inl, inr, ℕ, ◌≤◌, false, List, [], ◌∷◌, length, take, refl, ap, sym, ◌∙◌, subst, arith, append-nil}
+use Rattle.std.proofs.Common.{◌≡◌, ◌⊎◌, inl, inr, ℕ, ◌≤◌, false, List, [], ◌∷◌, ◌++◌, length, take, refl, ap, sym, ◌∙◌, subst, arith, append-nil}
 use Rattle.std.specs.Prelude.{Option, Some, None, IfSome, ◌==◌}
 use Rattle.std.proofs.lemmas.Bool.Decides.{nat_tests}
 use Rattle.outside.specs.Image.{Image}
@@ -17,11 +17,11 @@ use Rattle.report_defs.specs.declared.status.Status.{Status}
 use Rattle.report_defs.specs.declared.status.Status.TheVariants.{Done, DiskFault, NoMemory, NotAStore}
 use Rattle.report_defs.specs.Status.{IsOneOf}
 use Rattle.report_defs.specs.Text.{tip_line, tip_line_of}
-use Rattle.report_defs.specs.Report.{Report, report_without_lines, text_of, report_of_command, answer_to_query, report_of_query}
+use Rattle.report_defs.specs.Report.{Report, report_without_lines, text_of, IsReport, answer_to_query, report_of_query}
 use Rattle.report_defs.specs.Promise.{IsPrefix, MatchesReport, KeepsOrder, IsSoundStoreOf, Finds, FindsNoStore, IsStoppedBeforeTheSink}
 use Rattle.report_defs.specs.Survival.{Each, IsFront, KeepsStore, KeepsDisk}
 use Rattle.node_run.specs.Import.{IsStop, KeepsSome}
-use Rattle.node_run.specs.Output.{IsToldAnswer}
+use Rattle.node_run.specs.Output.{MatchesReportOf, IsToldAnswer}
 use Rattle.node_run.specs.Store.{Delivers, IsQueryTold, opening_stops}
 use Rattle.node_run.proofs.LineLemmas.{front_of_all, front_of_none, take_all}
 use Rattle.node_run.proofs.Statuses.{stop_not_reported, opening_reported, opening_stop, is_early, not_early}
@@ -74,20 +74,29 @@ store_of_stands chain image stands =
 
 -- ---- Where a store was opened
 
+-- a report that is a function of the input
+pub by_function : (report : List ℕ → Report) (IsReportOf : List ℕ → Report → Type 0) (given : List ℕ) (left : Option (List ℕ)) (taken : List ℕ) (status : Status)
+    → ((whole : List ℕ) → IsReportOf whole (report whole)) → MatchesReportOf report given left taken status → MatchesReport IsReportOf given left taken status
+by_function report IsReportOf given left taken status is says = record {
+  prefix = λ more at. inr (report (given ++ more), is (given ++ more), says.front more at);
+  whole = λ more at told. (report (given ++ more), is (given ++ more), says.whole_text more at told, says.same_status more at told);
+}
+
 -- What is said is said of what has joined, as what a sound store keeps has.
 pub delivers_over : (has_joined : Type 0) (command : Command) (reads : Option Image) (chain : Chain) (at_start at_exit meanwhile : Image → Type 0)
     (left : Option (List ℕ)) (given taken : List ℕ) (status : Status)
     → ((store : Store) → Finds (Some command) reads store → IsSoundStoreOf reads store)
     → IfSome reads (λ now. store_of now ≡ Keeps chain)
     → ((store : Store) → IsSoundStoreOf reads store → has_joined)
-    → (has_joined → MatchesReport (λ whole. report_of_command (Some command) whole (Keeps chain)) given left taken status × KeepsOrder (Some command) (Keeps chain) given left taken status)
+    → (report : List ℕ → Report) → ((whole : List ℕ) → IsReport (Some command) whole (Keeps chain) (report whole))
+    → (has_joined → MatchesReportOf report given left taken status × KeepsOrder (Some command) (Keeps chain) given left taken status)
     → ((now : Image) → reads ≡ Some now → KeepsDisk (Some command) now at_start at_exit meanwhile given taken status)
     → Delivers command reads at_start at_exit meanwhile left given taken status
-delivers_over has_joined command reads chain at_start at_exit meanwhile left given taken status sound kept joined says disk = record {
+delivers_over has_joined command reads chain at_start at_exit meanwhile left given taken status sound kept joined report is says disk = record {
   text = λ store finds.
       let found = sound store finds in
-      subst (λ (s : Store). MatchesReport (λ whole. report_of_command (Some command) whole s) given left taken status) (sym (opened_store reads chain store kept found))
-      (says (joined store found)).0;
+      subst (λ (s : Store). MatchesReport (λ whole said. IsReport (Some command) whole s said) given left taken status) (sym (opened_store reads chain store kept found))
+      (by_function report (λ whole said. IsReport (Some command) whole (Keeps chain) said) given left taken status is (says (joined store found)).0);
   order = λ store finds.
       let found = sound store finds in
       subst (λ (s : Store). KeepsOrder (Some command) s given left taken status) (sym (opened_store reads chain store kept found))
@@ -99,7 +108,8 @@ delivers_over has_joined command reads chain at_start at_exit meanwhile left giv
 pub delivers : (command : Command) (reads : Option Image) (chain : Chain) (at_start at_exit meanwhile : Image → Type 0) (left : Option (List ℕ)) (given taken : List ℕ) (status : Status)
     → ((store : Store) → Finds (Some command) reads store → IsSoundStoreOf reads store)
     → IfSome reads (λ now. store_of now ≡ Keeps chain)
-    → (IsJoined chain → MatchesReport (λ whole. report_of_command (Some command) whole (Keeps chain)) given left taken status × KeepsOrder (Some command) (Keeps chain) given left taken status)
+    → (report : List ℕ → Report) → ((whole : List ℕ) → IsReport (Some command) whole (Keeps chain) (report whole))
+    → (IsJoined chain → MatchesReportOf report given left taken status × KeepsOrder (Some command) (Keeps chain) given left taken status)
     → ((now : Image) → reads ≡ Some now → KeepsDisk (Some command) now at_start at_exit meanwhile given taken status)
     → Delivers command reads at_start at_exit meanwhile left given taken status
 delivers command reads chain at_start at_exit meanwhile left given taken status sound kept =
@@ -162,20 +172,19 @@ module _ {D : Type 0} (images : D → Image → Type 0) (moment : D → ℕ) (le
 -- ---- Where none was opened
 
 -- the report says so
-pub none_says : (full : List ℕ → Report) (left : Option (List ℕ)) (status : Status) → IsOneOf opening_stops status
-    → ((input : List ℕ) → full input ≡ report_without_lines [] NotAStore) → MatchesReport full [] left [] status
-none_says full left status one says = record {
-  front = λ more is. (text_of (full more), refl);
-  whole_text = λ more is told. sym (ap (λ (r : Report). text_of r) (says more));
-  same_status = λ more is told. opening_reported status one told ∙ sym (ap (λ (r : Report). r.status) (says more));
+pub none_says : (IsReportOf : List ℕ → Report → Type 0) (left : Option (List ℕ)) (status : Status) → IsOneOf opening_stops status
+    → ((input : List ℕ) → IsReportOf input (report_without_lines [] NotAStore)) → MatchesReport IsReportOf [] left [] status
+none_says IsReportOf left status one says = record {
+  prefix = λ more is. inl refl;
+  whole = λ more is told. (report_without_lines [] NotAStore, says more, refl, opening_reported status one told);
 }
 
--- the run was stopped before a byte was read or written
-pub stop_says : (full : List ℕ → Report) (left : Option (List ℕ)) (status : Status) → IsStop status → MatchesReport full [] left [] status
-stop_says full left status stop = record {
-  front = λ more is. (text_of (full more), refl);
-  whole_text = λ more is told. absurd (stop_not_reported status stop told);
-  same_status = λ more is told. absurd (stop_not_reported status stop told);
+-- the run was stopped before a byte was written
+pub stop_says : (IsReportOf : List ℕ → Report → Type 0) (given : List ℕ) (left : Option (List ℕ)) (status : Status) → IsStop status
+    → MatchesReport IsReportOf given left [] status
+stop_says IsReportOf given left status stop = record {
+  prefix = λ more is. inl refl;
+  whole = λ more is told. absurd (stop_not_reported status stop told);
 }
 
 finds_none : (status : Status) → IsOneOf opening_stops status → FindsNoStore [] [] status
@@ -203,8 +212,8 @@ pub unopened : (command : Command) (reads : Option Image) (at_start at_exit mean
     → ((store : Store) → Finds (Some command) reads store → IsSoundStoreOf reads store)
     → IsOneOf opening_stops status
     → (status ≡ NotAStore → IfSome reads (λ now. IsSound now → ⊥))
-    → ((input : List ℕ) → report_of_command (Some command) input NoLog ≡ report_without_lines [] NotAStore)
-    → ((input : List ℕ) → report_of_command (Some command) input NotALog ≡ report_without_lines [] NotAStore)
+    → ((input : List ℕ) → IsReport (Some command) input NoLog (report_without_lines [] NotAStore))
+    → ((input : List ℕ) → IsReport (Some command) input NotALog (report_without_lines [] NotAStore))
     → (FindsNoStore [] [] status → KeepsOrder (Some command) NoLog [] left [] status)
     → (FindsNoStore [] [] status → KeepsOrder (Some command) NotALog [] left [] status)
     → ((chain : Chain) → IsStop status → KeepsOrder (Some command) (Keeps chain) [] left [] status)
@@ -216,11 +225,11 @@ unopened command reads at_start at_exit meanwhile left status sound one none no_
   disk = disk;
 }
   where
-    text : (store : Store) → IsSoundStoreOf reads store → MatchesReport (λ whole. report_of_command (Some command) whole store) [] left [] status
-    text NoLog found = none_says (λ whole. report_of_command (Some command) whole NoLog) left status one no_log
-    text NotALog found = none_says (λ whole. report_of_command (Some command) whole NotALog) left status one not_a_log
+    text : (store : Store) → IsSoundStoreOf reads store → MatchesReport (λ whole said. IsReport (Some command) whole store said) [] left [] status
+    text NoLog found = none_says (λ whole said. IsReport (Some command) whole NoLog said) left status one no_log
+    text NotALog found = none_says (λ whole said. IsReport (Some command) whole NotALog said) left status one not_a_log
     text (Keeps chain) found =
-        stop_says (λ whole. report_of_command (Some command) whole (Keeps chain)) left status (opening_stop status one (stopped_opening reads status chain none found))
+        stop_says (λ whole said. IsReport (Some command) whole (Keeps chain) said) [] left status (opening_stop status one (stopped_opening reads status chain none found))
 
     order : (store : Store) → IsSoundStoreOf reads store → KeepsOrder (Some command) store [] left [] status
     order NoLog found = order_none (finds_none status one)
@@ -236,7 +245,14 @@ tip_line_is found block number hash line is number_is hash_is line_is =
 
 -- no answer was found
 pub query_stopped : (query : Query) (chain : Chain) (left : Option (List ℕ)) (status : Status) → IsStop status → IsQueryTold query chain left [] status
-query_stopped query chain left status stop = (stop_says (λ whole. report_of_query query chain) left status stop, record { unread = refl; silent = λ early. refl })
+query_stopped query chain left status stop = (
+  record {
+    front = λ more at. (text_of (report_of_query query chain), refl);
+    whole_text = λ more at told. absurd (stop_not_reported status stop told);
+    same_status = λ more at told. absurd (stop_not_reported status stop told);
+  },
+  record { unread = refl; silent = λ early. refl },
+)
 
 -- it was told, or a part of it
 pub query_told : (query : Query) (chain : Chain) (left : Option (List ℕ)) (taken text : List ℕ) (result : Status) → text ≡ answer_to_query query chain

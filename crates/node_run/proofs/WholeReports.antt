@@ -11,13 +11,13 @@ use Rattle.report_defs.specs.declared.end.End.TheVariants as ends
 use Rattle.report_defs.specs.Status.{IsOneOf}
 use Rattle.report_defs.specs.Items.{split_of, end_offset, whole_limits, ReadsNoFurther}
 use Rattle.report_defs.specs.Report.{Report, text_of, status_of_end, report_of_end, report_at_end, report_of_whole}
-use Rattle.report_defs.specs.Promise.{IsPrefix, MatchesReport, ReadsWhole, IsStoppedBeforeTheSink}
+use Rattle.report_defs.specs.Promise.{IsPrefix, ReadsWhole, IsStoppedBeforeTheSink}
 use Rattle.report_defs.proofs.ItemLemmas.{split_of-is, end_at-nothing}
 use Rattle.item_reader.specs.Whole.{IsWhole, EndsEarly}
 use Rattle.item_reader.proofs.Reading.{left_nothing}
 use Rattle.item_reader.proofs.FurtherLemmas.{items_no_further}
 use Rattle.node_run.specs.Import.{IsStop}
-use Rattle.node_run.specs.Output.{IsSaid, IsToldAnswer, IsWritingStop}
+use Rattle.node_run.specs.Output.{MatchesReportOf, IsSaid, IsToldAnswer, IsWritingStop}
 use Rattle.node_run.proofs.Statuses.{Have, each_of, IsEarly, is_early, not_early, stop_not_reported, stop_not_ended, writing_stops}
 
 -- ---- The report
@@ -105,7 +105,7 @@ told_said report text status result taken text_is status_is (inr failed) =
     })
 
 pub said_text : (full : List ℕ → Report) (report : Report) (left : Option (List ℕ)) (given taken : List ℕ) (status : Status) → IsSaid report status taken
-    → ((more : List ℕ) → left ≡ Some more → full (given ++ more) ≡ report) → MatchesReport full given left taken status
+    → ((more : List ℕ) → left ≡ Some more → full (given ++ more) ≡ report) → MatchesReportOf full given left taken status
 said_text full report left given taken status (inl said) says = record {
   front = λ more is. subst (IsPrefix taken) (said.0 ∙ sym (ap (λ (r : Report). text_of r) (says more is))) ([], sym (append-nil taken));
   whole_text = λ more is told. said.0 ∙ sym (ap (λ (r : Report). text_of r) (says more is));
@@ -139,7 +139,7 @@ module _ (limits : List ℕ) (judged : List (List ℕ) → Report) (statuses : L
 
   -- the run was stopped before the sink
   pub whole_stopped : (left : Option (List ℕ)) (given : List ℕ) (status : Status) → IsStop status → ReadsNoFurther (whole_limits limits) given
-      → MatchesReport (whole_report limits judged) given left [] status × ReadsWhole (whole_limits limits) statuses given left [] status
+      → MatchesReportOf (whole_report limits judged) given left [] status × ReadsWhole (whole_limits limits) statuses given left [] status
   whole_stopped left given status stop no_further = (
     record {
       front = λ more is. (text_of (whole_report limits judged (given ++ more)), refl);
@@ -157,7 +157,7 @@ module _ (limits : List ℕ) (judged : List (List ℕ) → Report) (statuses : L
   -- the input ends early
   pub whole_early : (left : Option (List ℕ)) (given taken : List ℕ) (end : End) (offset : ℕ) (status : Status)
       → EndsEarly limits left end offset given → IsSaid (report_of_end offset end) status taken
-      → MatchesReport (whole_report limits judged) given left taken status × ReadsWhole (whole_limits limits) statuses given left taken status
+      → MatchesReportOf (whole_report limits judged) given left taken status × ReadsWhole (whole_limits limits) statuses given left taken status
   whole_early left given taken end offset status here said = (
     said_text (whole_report limits judged) (report_of_end offset end) left given taken status said (report_of_early limits judged left end offset given here),
     record {
@@ -171,7 +171,7 @@ module _ (limits : List ℕ) (judged : List (List ℕ) → Report) (statuses : L
   -- its items were judged
   pub whole_judged : (left : Option (List ℕ)) (items : List (List ℕ)) (given taken : List ℕ) (status : Status)
       → IsWhole limits left items given → IsSaid (judged items) status taken → (IsEarly (judged items).status → ⊥)
-      → MatchesReport (whole_report limits judged) given left taken status × ReadsWhole (whole_limits limits) statuses given left taken status
+      → MatchesReportOf (whole_report limits judged) given left taken status × ReadsWhole (whole_limits limits) statuses given left taken status
   whole_judged left items given taken status whole said never = (
     said_text (whole_report limits judged) (judged items) left given taken status said
         (λ more is. ap (whole_report limits judged) (all_given left given more whole.to_end is) ∙ report_of_all limits judged left items given whole),

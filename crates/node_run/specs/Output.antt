@@ -1,10 +1,10 @@
 -- What the sink took of a text.
-use Rattle.std.specs.Prelude.{◌≡◌, ◌⊎◌, ◌<◌, ℕ, List, [], ◌∷◌, length, Option, Result, Ok, Err}
+use Rattle.std.specs.Prelude.{◌≡◌, ◌⊎◌, ◌<◌, ℕ, List, [], ◌∷◌, ◌++◌, length, Option, Some, Result, Ok, Err}
 use Rattle.outside.specs.Streams.{Gives, Takes}
 use Rattle.report_defs.specs.declared.status.Status.{Status}
 use Rattle.report_defs.specs.declared.status.Status.TheVariants.{SinkFault, DiskFault, NoMemory, CutInput, BadSize, ExtraInput}
 use Rattle.report_defs.specs.Report.{Report, text_of}
-use Rattle.report_defs.specs.Promise.{IsPrefix, IsStoppedBeforeTheSink}
+use Rattle.report_defs.specs.Promise.{IsPrefix, IsReported, IsStoppedBeforeTheSink}
 
 -- the sink took some bytes, and P holds of them
 abbrev pub Took : Option (List ℕ) → Option (List ℕ) → (List ℕ → Type 0) → Type 0
@@ -14,6 +14,12 @@ Took taken_old taken_new P = (taken : List ℕ) × Takes taken_old taken_new tak
 abbrev pub Transfers : Option (List ℕ) → Option (List ℕ) → Option (List ℕ) → Option (List ℕ) → (List ℕ → List ℕ → Type 0) → Type 0
 Transfers left_old left_new taken_old taken_new P =
     (given : List ℕ) × (taken : List ℕ) × Gives left_old left_new given × Takes taken_old taken_new taken × P given taken
+
+-- What was taken, where the report of an input is a function of it.
+pub record MatchesReportOf (report : List ℕ → Report) (given : List ℕ) (left : Option (List ℕ)) (taken : List ℕ) (status : Status) : Type 0 where
+  pub front : (more : List ℕ) → left ≡ Some more → IsPrefix taken (text_of (report (given ++ more)))
+  pub whole_text : (more : List ℕ) → left ≡ Some more → IsReported status → taken ≡ text_of (report (given ++ more))
+  pub same_status : (more : List ℕ) → left ≡ Some more → IsReported status → status ≡ (report (given ++ more)).status
 
 -- a part of a text, and not all of it
 pub record IsPartOf (text taken : List ℕ) : Type 0 where

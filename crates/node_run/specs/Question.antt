@@ -10,7 +10,8 @@ use Rattle.report_defs.specs.declared.status.Status.TheVariants.{Done, SomeRefus
 use Rattle.report_defs.specs.Status.{IsOneOf}
 use Rattle.report_defs.specs.Items.{split_of}
 use Rattle.report_defs.specs.Report.{Report, text_of, question_limits, answer_to_question, report_of_question}
-use Rattle.report_defs.specs.Promise.{MatchesReport, AnswersInOrder}
+use Rattle.report_defs.specs.Promise.{AnswersInOrder}
+use Rattle.node_run.specs.Output.{MatchesReportOf}
 use Rattle.node_run.specs.Store.{Delivers}
 
 -- what is said of items over a chain, and the status
@@ -24,7 +25,7 @@ full question chain whole = report_of_question question chain (split_of (questio
 
 -- What is said over a chain that has joined: the text, how far was read and written, and what was answered.
 pub record AnswersQuestion (question : Question) (chain : Chain) (given : List ℕ) (left : Option (List ℕ)) (taken : List ℕ) (status : Status) : Type 0 where
-  pub text : MatchesReport (full question chain) given left taken status
+  pub text : MatchesReportOf (full question chain) given left taken status
   pub order : AnswersInOrder question given left taken status
   pub answers : IsOneOf (Done ∷ SomeRefused ∷ []) status → taken ≡ text_of (full question chain given)
 

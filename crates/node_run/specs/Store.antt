@@ -7,16 +7,17 @@ use Rattle.report_defs.specs.declared.command.Command.{Command}
 use Rattle.report_defs.specs.declared.command.Query.{Query}
 use Rattle.report_defs.specs.declared.status.Status.{Status}
 use Rattle.report_defs.specs.declared.status.Status.TheVariants.{DiskFault, NoMemory, NotAStore}
-use Rattle.report_defs.specs.Report.{report_of_command, report_of_query}
+use Rattle.report_defs.specs.Report.{IsReport, report_of_query}
 use Rattle.report_defs.specs.Promise.{MatchesReport, TellsInOrder, KeepsOrder, Finds}
 use Rattle.report_defs.specs.Survival.{KeepsDisk}
+use Rattle.node_run.specs.Output.{MatchesReportOf}
 
 abbrev pub opening_stops : List Status
 opening_stops = NotAStore ∷ DiskFault ∷ NoMemory ∷ []
 
 -- A command over the store of what the disk reads as: its text, how far it read and wrote, and what it leaves of the disk.
 pub record Delivers (command : Command) (reads : Option Image) (at_start at_exit meanwhile : Image → Type 0) (left : Option (List ℕ)) (given taken : List ℕ) (status : Status) : Type 0 where
-  pub text : (store : Store) → Finds (Some command) reads store → MatchesReport (λ whole. report_of_command (Some command) whole store) given left taken status
+  pub text : (store : Store) → Finds (Some command) reads store → MatchesReport (λ whole said. IsReport (Some command) whole store said) given left taken status
   pub order : (store : Store) → Finds (Some command) reads store → KeepsOrder (Some command) store given left taken status
   pub disk : (now : Image) → reads ≡ Some now → KeepsDisk (Some command) now at_start at_exit meanwhile given taken status
 
@@ -26,4 +27,4 @@ finding_stops = NotAStore ∷ NoMemory ∷ []
 
 -- what a query answers over a chain was told, or a part of it
 abbrev pub IsQueryTold : Query → Chain → Option (List ℕ) → List ℕ → Status → Type 0
-IsQueryTold query chain left taken status = MatchesReport (λ whole. report_of_query query chain) [] left taken status × TellsInOrder [] taken status
+IsQueryTold query chain left taken status = MatchesReportOf (λ whole. report_of_query query chain) [] left taken status × TellsInOrder [] taken status

@@ -3,11 +3,14 @@ use Rattle.std.specs.Prelude.{ℕ, ◌^◌, ◌≤◌, ◌==◌, nat_lt, ◌&&�
 use Rattle.report_defs.specs.declared.command.Command.{Command}
 use Rattle.report_defs.specs.declared.command.Command.TheVariants.{Init, Import, Query, Question, Standalone}
 use Rattle.report_defs.specs.declared.command.Standalone as files
-use Rattle.report_defs.specs.declared.command.Standalone.TheVariants.{Exec}
+use Rattle.report_defs.specs.declared.command.Standalone.TheVariants.{Exec, Asm, Dis, Unjson}
 
--- a budget is within its limit
+-- a budget, where there is one, is within its limit
 abbrev pub IsWithinBudget : files.Standalone → Type 0
 IsWithinBudget (Exec budget) = budget ≤ 2 ^ 40
+IsWithinBudget Asm = Unit {0}
+IsWithinBudget Dis = Unit {0}
+IsWithinBudget Unjson = Unit {0}
 
 abbrev pub IsWithinLimit : Command → Type 0
 IsWithinLimit Init = Unit {0}

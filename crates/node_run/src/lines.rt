@@ -142,6 +142,20 @@ pub fn closing_of_end(alloc: Global, offset: u64, end: End) -> Result<String, Al
     }
 }
 
+/// The line of a text whose first bad line has this number.
+pub fn bad_line(alloc: Global, number: u64) -> Result<String, AllocError>
+    ensures { IfOk result (λ line. string_bytes line ≡ text.bad_line number) }
+{
+    number_line(alloc, "bad line ", number)
+}
+
+/// The line of a text that is read as no block.
+pub fn bad_json(alloc: Global) -> Result<String, AllocError>
+    ensures { IfOk result (λ line. string_bytes line ≡ text.bad_json) }
+{
+    String::from_str(alloc, "bad json\n")
+}
+
 /// Adds an exit code in decimal digits, behind a sign where it is negative.
 fn push_code(alloc: Global, line: &mut String, code: i8) -> Result<(), AllocError>
     ensures { OnOk result (string_bytes line.new ≡ string_bytes line.old ++ signed_decimal code) }

@@ -1,7 +1,7 @@
 // Commands without a store: a file is read, and answered.
-ghost use Rattle.std.specs.Prelude.{◌≡◌, ◌^◌, ◌≤◌, string_bytes, Err, IfOk, MatchResult};
+ghost use Rattle.std.specs.Prelude.{◌≡◌, ◌^◌, ◌≤◌, Err, IfOk, MatchResult, string_bytes};
 ghost use Rattle.outside.specs.Causes.{CountsFault};
-ghost use Rattle.report_defs.specs.Report.{text_of, report_of_file, answer_of_file};
+ghost use Rattle.report_defs.specs.Report.{IsAnswerToFile, IsReportOfFile, file_limit, report_without_lines};
 ghost use Rattle.report_defs.specs.Status.{IsOneOf};
 ghost use Rattle.report_defs.specs.Promise.{MatchesReport, ReadsFileInOrder, standalone_statuses};
 ghost use Rattle.item_reader.specs.Items.{Gave};
@@ -9,23 +9,55 @@ ghost use Rattle.node_run.specs.Output.{Transfers};
 ghost use Rattle.node_run.specs.Standalone.{IsFile, IsUnread};
 ghost use Rattle.node_run.specs.Words.{IsWithinBudget};
 
-use crate::lines::{closing_of_end, execution_line};
-use crate::output::{Answer, write_text};
+use crate::lines::{bad_json, bad_line, closing_of_end, execution_line};
+use crate::output::write_text;
+use json_blocks::{JsonStop, from_json};
 use outside::{NoMemory, Sink, Source, read_full};
 use program_run::execute;
 use report_defs::{End, Standalone, Status};
+use rv_text::{AssemblyStop, assemble, elf_file};
 use std::alloc::Global;
 
-/// The most bytes of a file.
-const FILE_LIMIT: usize = 1 << 20;
+/// What is said of a file: bytes, which may be no text, and the status behind them.
+#[derive(Drop)]
+struct FileAnswer {
+    bytes: Vec<u8>,
+    status: Status,
+}
 
-/// Reads a file: all of the input, or of one that is too long a byte more than a file has.
-fn read_file<S: Source>(alloc: Global, input: &mut S) -> Result<Vec<u8>, Status>
+/// A file was refused by this line.
+fn refused(line: String) -> FileAnswer
+    ensures bytes { result.bytes.items ≡ string_bytes line }
+    ensures status { result.status ≡ Status.SomeRefused }
+{
+    FileAnswer {
+        bytes: line.into_bytes(),
+        status: Status::SomeRefused,
+    }
+}
+
+/// The most bytes of a command's file.
+#[tactic(auto, unfolding(report_defs::specs::Report::file_limit))]
+fn limit_of(command: Standalone) -> usize
+    ensures limit { result ≡ file_limit command }
+    ensures most { result ≤ 2 ^ 24 }
+{
+    match command {
+        Standalone::Exec { .. } => 1 << 20,
+        Standalone::Asm => 1 << 20,
+        Standalone::Dis => 1 << 20,
+        Standalone::Unjson => 1 << 24,
+    }
+}
+
+/// Reads a file: all of the input, or of one that is too long a byte more than the limit.
+fn read_file<S: Source>(alloc: Global, input: &mut S, limit: usize) -> Result<Vec<u8>, Status>
+    requires { limit ≤ 2 ^ 24 }
     ensures file { Gave (S.left input.old) (S.left input.new)
-        (λ given. MatchResult result (λ file. IsFile (S.left input.new) file.items given) (λ status. IsUnread status given)) }
+        (λ given. MatchResult result (λ file. IsFile limit (S.left input.new) file.items given) (λ status. IsUnread limit status given)) }
     ensures faults { CountsFault (S.faults input.old) (S.faults input.new) (result ≡ Err Status.InputFault) }
 {
-    let mut file = match vec![in alloc; 0u8; FILE_LIMIT + 1] {
+    let mut file = match vec![in alloc; 0u8; limit + 1] {
         Ok(file) => file,
         Err(_) => return Err(Status::NoMemory),
     };
@@ -37,47 +69,91 @@ fn read_file<S: Source>(alloc: Global, input: &mut S) -> Result<Vec<u8>, Status>
     Ok(file)
 }
 
-/// What is said of a file. Each command has a function of its own.
-fn text_of_file(alloc: Global, file: &[u8], command: Standalone) -> Result<String, NoMemory>
-    requires { IsWithinBudget command }
-    ensures { IfOk result (λ text. string_bytes text ≡ answer_of_file command file.now) }
-{
-    match command {
-        Standalone::Exec { budget } => exec(alloc, file, budget),
-    }
-}
-
 /// Runs the program of a file to its end, within a budget in cycles.
-fn exec(alloc: Global, file: &[u8], budget: u64) -> Result<String, NoMemory>
+fn exec(alloc: Global, file: &[u8], budget: u64) -> Result<FileAnswer, NoMemory>
     requires { budget ≤ 2 ^ 40 }
-    ensures { IfOk result (λ text. string_bytes text ≡ answer_of_file (Standalone.Exec budget) file.now) }
+    ensures { IfOk result (λ answer. IsAnswerToFile (Standalone.Exec budget) file.now (report_without_lines answer.bytes.items answer.status)) }
 {
     let came = match execute(alloc, file, budget) {
         Ok(came) => came,
         Err(_) => return Err(NoMemory),
     };
-    let text = execution_line(alloc, &came)?;
-    Ok(text)
+    let line = execution_line(alloc, &came)?;
+    Ok(FileAnswer {
+        bytes: line.into_bytes(),
+        status: Status::Done,
+    })
+}
+
+/// The ELF file of a text's words, or the number of its first bad line.
+fn asm(alloc: Global, file: &[u8]) -> Result<FileAnswer, NoMemory>
+    ensures { IfOk result (λ answer. IsAnswerToFile Standalone.Asm file.now (report_without_lines answer.bytes.items answer.status)) }
+{
+    let code = match assemble(alloc, file) {
+        Ok(code) => code,
+        Err(AssemblyStop::BadLine(number)) => return Ok(refused(bad_line(alloc, number)?)),
+        Err(AssemblyStop::NoMemory) => return Err(NoMemory),
+    };
+    let bytes = elf_file(alloc, &code)?;
+    Ok(FileAnswer {
+        bytes,
+        status: Status::Done,
+    })
+}
+
+/// The listing of code.
+fn dis(alloc: Global, file: &[u8]) -> Result<FileAnswer, NoMemory>
+    ensures { IfOk result (λ answer. IsAnswerToFile Standalone.Dis file.now (report_without_lines answer.bytes.items answer.status)) }
+{
+    let bytes = rv_text::dis(alloc, file)?;
+    Ok(FileAnswer {
+        bytes,
+        status: Status::Done,
+    })
+}
+
+/// The bytes of the block that a text is read as.
+fn unjson(alloc: Global, file: &[u8]) -> Result<FileAnswer, NoMemory>
+    ensures { IfOk result (λ answer. IsAnswerToFile Standalone.Unjson file.now (report_without_lines answer.bytes.items answer.status)) }
+{
+    let bytes = match from_json(alloc, file) {
+        Ok(bytes) => bytes,
+        Err(JsonStop::Bad) => return Ok(refused(bad_json(alloc)?)),
+        Err(JsonStop::NoMemory) => return Err(NoMemory),
+    };
+    Ok(FileAnswer {
+        bytes,
+        status: Status::Done,
+    })
+}
+
+/// What is said of a file within the limit. Each command has a function of its own.
+fn answer_within(alloc: Global, file: &[u8], command: Standalone) -> Result<FileAnswer, NoMemory>
+    requires { IsWithinBudget command }
+    ensures { IfOk result (λ answer. IsAnswerToFile command file.now (report_without_lines answer.bytes.items answer.status)) }
+{
+    match command {
+        Standalone::Exec { budget } => exec(alloc, file, budget),
+        Standalone::Asm => asm(alloc, file),
+        Standalone::Dis => dis(alloc, file),
+        Standalone::Unjson => unjson(alloc, file),
+    }
 }
 
 /// What is said of a file, unless it is too long.
-fn answer_to(alloc: Global, file: &[u8], command: Standalone) -> Result<Answer, NoMemory>
+fn answer_to(alloc: Global, file: &[u8], command: Standalone) -> Result<FileAnswer, NoMemory>
     requires { IsWithinBudget command }
-    ensures line { IfOk result (λ answer. string_bytes answer.text ≡ text_of (report_of_file command file.now)) }
-    ensures status { IfOk result (λ answer. answer.status ≡ (report_of_file command file.now).status) }
+    ensures { IfOk result (λ answer. IsReportOfFile command file.now (report_without_lines answer.bytes.items answer.status)) }
 {
-    if file.len() > FILE_LIMIT {
-        let text = closing_of_end(alloc, FILE_LIMIT as u64, End::Extra)?;
-        return Ok(Answer {
-            text,
+    let limit = limit_of(command);
+    if file.len() > limit {
+        let line = closing_of_end(alloc, limit as u64, End::Extra)?;
+        return Ok(FileAnswer {
+            bytes: line.into_bytes(),
             status: Status::ExtraInput,
         });
     }
-    let text = text_of_file(alloc, file, command)?;
-    Ok(Answer {
-        text,
-        status: Status::Done,
-    })
+    answer_within(alloc, file, command)
 }
 
 /// Reads a file and answers it.
@@ -89,12 +165,14 @@ pub fn standalone<S: Source, K: Sink>(
 ) -> Status
     requires { IsWithinBudget command }
     ensures text { Transfers (S.left input.old) (S.left input.new) (K.taken out.old) (K.taken out.new)
-        (λ given taken. MatchesReport (report_of_file command) given (S.left input.new) taken result × ReadsFileInOrder given (S.left input.new) taken result) }
-    ensures status { IsOneOf standalone_statuses result }
+        (λ given taken. MatchesReport (IsReportOfFile command) given (S.left input.new) taken result
+        × ReadsFileInOrder (file_limit command) given (S.left input.new) taken result) }
+    ensures status { IsOneOf (standalone_statuses command) result }
     ensures input_faults { CountsFault (S.faults input.old) (S.faults input.new) (result ≡ Status.InputFault) }
     ensures out_faults { CountsFault (K.faults out.old) (K.faults out.new) (result ≡ Status.SinkFault) }
 {
-    let file = match read_file(alloc, input) {
+    let limit = limit_of(command);
+    let file = match read_file(alloc, input, limit) {
         Ok(file) => file,
         Err(status) => return status,
     };
@@ -102,7 +180,7 @@ pub fn standalone<S: Source, K: Sink>(
         Ok(answer) => answer,
         Err(_) => return Status::NoMemory,
     };
-    match write_text(out, answer.text.as_bytes()) {
+    match write_text(out, &answer.bytes) {
         Ok(()) => answer.status,
         Err(status) => status,
     }

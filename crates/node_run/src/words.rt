@@ -52,6 +52,15 @@ fn command_alone(name: &[u8]) -> Option<Command>
     if name == b"check".as_slice() {
         return Some(Command::Question(Question::Check));
     }
+    if name == b"asm".as_slice() {
+        return Some(Command::Standalone(Standalone::Asm));
+    }
+    if name == b"dis".as_slice() {
+        return Some(Command::Standalone(Standalone::Dis));
+    }
+    if name == b"unjson".as_slice() {
+        return Some(Command::Standalone(Standalone::Unjson));
+    }
     None
 }
 

@@ -6,3 +6,4 @@ pub mod Report
 pub mod Promise
 pub mod Survival
 pub mod Lists
+pub mod Laws

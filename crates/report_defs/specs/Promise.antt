@@ -9,6 +9,8 @@ use Rattle.store_defs.specs.Store.{Store, NoLog, NotALog, Keeps, store_of, Stand
 use Rattle.report_defs.specs.declared.command.Command.{Command}
 use Rattle.report_defs.specs.declared.command.Command.TheVariants.{Init, Import, Query, Question, Standalone}
 use Rattle.report_defs.specs.declared.command.Question as questions
+use Rattle.report_defs.specs.declared.command.Standalone as files
+use Rattle.report_defs.specs.declared.command.Standalone.TheVariants.{Exec, Asm, Dis, Unjson}
 use Rattle.report_defs.specs.declared.status.Status.{Status}
 use Rattle.report_defs.specs.declared.status.Status.TheVariants.{Done, SomeRefused, BadWords, InputFault, SinkFault, DiskFault, NoMemory, NotAStore, CutInput, BadSize, StoreThere, BadGenesis, ExtraInput}
 use Rattle.report_defs.specs.Status.{IsOneOf}
@@ -41,8 +43,18 @@ query_statuses = Done ∷ SinkFault ∷ DiskFault ∷ NoMemory ∷ NotAStore ∷
 abbrev pub question_statuses : List Status
 question_statuses = Done ∷ SomeRefused ∷ InputFault ∷ SinkFault ∷ DiskFault ∷ NoMemory ∷ NotAStore ∷ CutInput ∷ BadSize ∷ ExtraInput ∷ []
 
-abbrev pub standalone_statuses : List Status
-standalone_statuses = Done ∷ InputFault ∷ SinkFault ∷ NoMemory ∷ ExtraInput ∷ []
+-- a command without a store answers each file, or refuses some
+abbrev pub answering_statuses : List Status
+answering_statuses = Done ∷ InputFault ∷ SinkFault ∷ NoMemory ∷ ExtraInput ∷ []
+
+abbrev pub refusing_statuses : List Status
+refusing_statuses = Done ∷ SomeRefused ∷ InputFault ∷ SinkFault ∷ NoMemory ∷ ExtraInput ∷ []
+
+abbrev pub standalone_statuses : files.Standalone → List Status
+standalone_statuses (Exec budget) = answering_statuses
+standalone_statuses Asm = refusing_statuses
+standalone_statuses Dis = answering_statuses
+standalone_statuses Unjson = refusing_statuses
 
 abbrev pub statuses_of : Option Command → List Status
 statuses_of None = BadWords ∷ []
@@ -50,7 +62,7 @@ statuses_of (Some Init) = init_statuses
 statuses_of (Some Import) = import_statuses
 statuses_of (Some (Query query)) = query_statuses
 statuses_of (Some (Question question)) = question_statuses
-statuses_of (Some (Standalone command)) = standalone_statuses
+statuses_of (Some (Standalone command)) = standalone_statuses command
 
 -- The run was stopped, and not by the sink.
 abbrev pub IsStoppedBeforeTheSink : Status → Type 0
@@ -62,11 +74,12 @@ IsStoppedBeforeTheSink status = IsOneOf (InputFault ∷ DiskFault ∷ NoMemory �
 abbrev pub IsPrefix : List ℕ → List ℕ → Type 0
 IsPrefix front whole = (rest : List ℕ) × (whole ≡ front ++ rest)
 
--- The text is the report's as far as it was written, and all of it where nothing stopped the run.
-pub record MatchesReport (full : List ℕ → Report) (given : List ℕ) (left : Option (List ℕ)) (taken : List ℕ) (status : Status) : Type 0 where
-  pub front : (more : List ℕ) → left ≡ Some more → IsPrefix taken (text_of (full (given ++ more)))
-  pub whole_text : (more : List ℕ) → left ≡ Some more → IsReported status → taken ≡ text_of (full (given ++ more))
-  pub same_status : (more : List ℕ) → left ≡ Some more → IsReported status → status ≡ (full (given ++ more)).status
+-- What was taken is the text of a report of the whole input as far as it was written, and all of it, with the report's status, where nothing
+-- stopped the run. The relation says which reports an input has.
+pub record MatchesReport (IsReportOf : List ℕ → Report → Type 0) (given : List ℕ) (left : Option (List ℕ)) (taken : List ℕ) (status : Status) : Type 0 where
+  pub prefix : (more : List ℕ) → left ≡ Some more → (taken ≡ []) ⊎ ((said : Report) × IsReportOf (given ++ more) said × IsPrefix taken (text_of said))
+  pub whole : (more : List ℕ) → left ≡ Some more → IsReported status
+      → (said : Report) × IsReportOf (given ++ more) said × (taken ≡ text_of said) × (status ≡ said.status)
 
 -- ---- How far a run has read and written
 
@@ -140,14 +153,14 @@ pub record TellsInOrder (given taken : List ℕ) (status : Status) : Type 0 wher
 abbrev pub AnswersInOrder : questions.Question → List ℕ → Option (List ℕ) → List ℕ → Status → Type 0
 AnswersInOrder question given left taken status = ReadsWhole (question_limits question) (Done ∷ SomeRefused ∷ []) given left taken status
 
--- a command without a store
-pub record ReadsFileInOrder (given : List ℕ) (left : Option (List ℕ)) (taken : List ℕ) (status : Status) : Type 0 where
-  pub to_end : status ≡ Done → IsAtEnd left
-  pub to_extra : status ≡ ExtraInput → file_limit < length given
+-- a command without a store, whose file has at most so many bytes
+pub record ReadsFileInOrder (limit : ℕ) (given : List ℕ) (left : Option (List ℕ)) (taken : List ℕ) (status : Status) : Type 0 where
+  pub to_end : IsOneOf (Done ∷ SomeRefused ∷ []) status → IsAtEnd left
+  pub to_extra : status ≡ ExtraInput → limit < length given
   -- of an input that is too long one byte more than a file has is read
-  pub most : length given ≤ file_limit + 1
+  pub most : length given ≤ limit + 1
   -- nothing is written before the file was read
-  pub read_first : 0 < length taken → IsAtEnd left ⊎ (file_limit < length given)
+  pub read_first : 0 < length taken → IsAtEnd left ⊎ (limit < length given)
   -- nothing is written where the run was stopped otherwise than by the sink
   pub silent : IsStoppedBeforeTheSink status → taken ≡ []
 
@@ -175,4 +188,4 @@ KeepsOrder (Some Init) store given left taken status = InitsInOrder store given 
 KeepsOrder (Some Import) store given left taken status = OverStore store (λ chain. ImportsInOrder chain given left taken status) given taken status
 KeepsOrder (Some (Query query)) store given left taken status = OverStore store (λ chain. TellsInOrder given taken status) given taken status
 KeepsOrder (Some (Question question)) store given left taken status = OverStore store (λ chain. AnswersInOrder question given left taken status) given taken status
-KeepsOrder (Some (Standalone command)) store given left taken status = ReadsFileInOrder given left taken status
+KeepsOrder (Some (Standalone command)) store given left taken status = ReadsFileInOrder (file_limit command) given left taken status

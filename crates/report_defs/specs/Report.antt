@@ -1,8 +1,8 @@
 -- The report of a run that meets no fault and has memory enough: what it prints and how it ends (docs/COMMANDS.md).
-use Rattle.std.specs.Prelude.{ℕ, ◌^◌, nat_lt, List, [], ◌∷◌, ◌++◌, map, length, Option, Some, None, if◌then◌else◌}
+use Rattle.std.specs.Prelude.{◌≡◌, ◌⊎◌, ℕ, ◌^◌, ◌<◌, ◌≤◌, List, [], ◌∷◌, ◌++◌, map, length, Option, Some, None, if◌then◌else◌}
 use Rattle.std.specs.List.{concat, list_any}
-use Rattle.codec_defs.specs.Shape.{decoded}
-use Rattle.codec_defs.specs.Schema.{block}
+use Rattle.codec_defs.specs.Shape.{decoded, IsA}
+use Rattle.codec_defs.specs.Schema.{block, Block}
 use Rattle.chain_defs.specs.Tip.{tip}
 use Rattle.time_defs.specs.Specification.{broken_specification_rule}
 use Rattle.verdict_defs.specs.declared.verdict.Verdict.{Verdict}
@@ -15,6 +15,11 @@ use Rattle.genesis_defs.specs.Genesis.{broken_genesis_rule}
 use Rattle.store_defs.specs.Store.{Store, NoLog, NotALog, Keeps}
 use Rattle.vm_defs.specs.Alone.{answer_ecall}
 use Rattle.vm_defs.specs.Program.{execution}
+use Rattle.text_defs.specs.Assembly.{lines_of, Assembles, IsFirstBad}
+use Rattle.text_defs.specs.File.{elf_file}
+use Rattle.text_defs.specs.Listing.{dis}
+use Rattle.json_defs.specs.Blocks as blocks
+use Rattle.json_defs.specs.Laws.{IsReadAs}
 use Rattle.report_defs.specs.declared.command.Command.{Command}
 use Rattle.report_defs.specs.declared.command.Command.TheVariants.{Init, Import, Query, Question, Standalone}
 use Rattle.report_defs.specs.declared.command.Query as queries
@@ -22,14 +27,13 @@ use Rattle.report_defs.specs.declared.command.Query.TheVariants.{Tip}
 use Rattle.report_defs.specs.declared.command.Question as questions
 use Rattle.report_defs.specs.declared.command.Question.TheVariants.{Check}
 use Rattle.report_defs.specs.declared.command.Standalone as files
-use Rattle.report_defs.specs.declared.command.Standalone.TheVariants.{Exec}
+use Rattle.report_defs.specs.declared.command.Standalone.TheVariants.{Exec, Asm, Dis, Unjson}
 use Rattle.report_defs.specs.declared.end.End.{End}
 use Rattle.report_defs.specs.declared.end.End.TheVariants.{AtEnd, Cut, BadSize, Extra}
 use Rattle.report_defs.specs.declared.status.Status.{Status}
 use Rattle.report_defs.specs.declared.status.Status.TheVariants.{Done, SomeRefused, BadWords, NotAStore, CutInput, BadSize as BadSizeStatus, StoreThere, BadGenesis, ExtraInput}
 use Rattle.report_defs.specs.Items.{Limits, Split, split_of, end_offset, whole_limits, end_of_whole}
-use Rattle.report_defs.specs.Text.{line, trial_line, tip_line, genesis_line, bad_spec_line, bad_genesis_line, cut_line, bad_size_line, extra_line, execution_line}
-use Rattle.report_defs.specs.Words.{command_of}
+use Rattle.report_defs.specs.Text.{line, trial_line, tip_line, genesis_line, bad_spec_line, bad_genesis_line, cut_line, bad_size_line, extra_line, execution_line, bad_line, bad_json}
 
 pub record Report : Type 0 where
   -- a line for each item that is answered
@@ -188,30 +192,41 @@ report_of_question question chain split = report_of_whole (question_items questi
 
 -- ---- Without a store
 
--- a file has at most 1,048,576 bytes
-unfoldable pub file_limit : ℕ
-file_limit = 2 ^ 20
+-- the most bytes of a command's file
+unfoldable pub file_limit : files.Standalone → ℕ
+file_limit (Exec budget) = 2 ^ 20
+file_limit Asm = 2 ^ 20
+file_limit Dis = 2 ^ 20
+file_limit Unjson = 2 ^ 24
 
--- what is said of a file
-abbrev pub answer_of_file : files.Standalone → List ℕ → List ℕ
-answer_of_file (Exec budget) file = execution_line (execution answer_ecall budget file)
+-- a text is read as a block that these bytes encode
+abbrev pub IsBlockOf : List ℕ → List ℕ → Type 0
+IsBlockOf text encoding = (v : Block) × IsA block encoding v × IsReadAs blocks.block text v
+
+-- The report of a file within the limit. It is a relation, as the code of a text and the block of a text are. Of a file there is at most one.
+abbrev pub IsAnswerToFile : files.Standalone → List ℕ → Report → Type 0
+IsAnswerToFile (Exec budget) file said = said ≡ report_without_lines (execution_line (execution answer_ecall budget file)) Done
+IsAnswerToFile Asm file said =
+    ((code : List ℕ) × Assembles (lines_of file) code × (said ≡ report_without_lines (elf_file code) Done))
+    ⊎ ((number : ℕ) × IsFirstBad (lines_of file) number × (said ≡ report_without_lines (bad_line number) SomeRefused))
+IsAnswerToFile Dis file said = said ≡ report_without_lines (dis file) Done
+IsAnswerToFile Unjson file said =
+    ((encoding : List ℕ) × IsBlockOf file encoding × (said ≡ report_without_lines encoding Done))
+    ⊎ (((encoding : List ℕ) → ¬ IsBlockOf file encoding) × (said ≡ report_without_lines bad_json SomeRefused))
 
 -- The input is the file, all of it. Of one that is too long nothing else is said.
-abbrev pub report_of_file : files.Standalone → List ℕ → Report
-report_of_file command file =
-    if nat_lt file_limit (length file) then report_without_lines (extra_line file_limit) ExtraInput
-    else report_without_lines (answer_of_file command file) Done
+abbrev pub IsReportOfFile : files.Standalone → List ℕ → Report → Type 0
+IsReportOfFile command file said =
+    ((file_limit command < length file) × (said ≡ report_without_lines (extra_line (file_limit command)) ExtraInput))
+    ⊎ ((length file ≤ file_limit command) × IsAnswerToFile command file said)
 
 -- ---- A run
 
--- The report by the words, the input, and what stands in the folder.
-abbrev pub report_of_command : Option Command → List ℕ → Store → Report
-report_of_command None input store = report_without_lines [] BadWords
-report_of_command (Some Init) input store = init_report input store
-report_of_command (Some Import) input store = report_over store (λ chain. report_of_import chain (split_of import_limits input))
-report_of_command (Some (Query query)) input store = report_over store (report_of_query query)
-report_of_command (Some (Question question)) input store = report_over store (λ chain. report_of_question question chain (split_of (question_limits question) input))
-report_of_command (Some (Standalone command)) input store = report_of_file command input
-
-abbrev pub report : List (List ℕ) → List ℕ → Store → Report
-report words input store = report_of_command (command_of words) input store
+-- The report by what the words ask for, the input, and what stands in the folder. There is at most one.
+abbrev pub IsReport : Option Command → List ℕ → Store → Report → Type 0
+IsReport None input store said = said ≡ report_without_lines [] BadWords
+IsReport (Some Init) input store said = said ≡ init_report input store
+IsReport (Some Import) input store said = said ≡ report_over store (λ chain. report_of_import chain (split_of import_limits input))
+IsReport (Some (Query query)) input store said = said ≡ report_over store (report_of_query query)
+IsReport (Some (Question question)) input store said = said ≡ report_over store (λ chain. report_of_question question chain (split_of (question_limits question) input))
+IsReport (Some (Standalone command)) input store said = IsReportOfFile command input said

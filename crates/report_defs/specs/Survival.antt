@@ -14,7 +14,7 @@ use Rattle.report_defs.specs.declared.status.Status.{Status}
 use Rattle.report_defs.specs.declared.status.Status.TheVariants.{Done, SomeRefused, InputFault, DiskFault, NoMemory, CutInput, BadSize, StoreThere, BadGenesis, ExtraInput}
 use Rattle.report_defs.specs.Status.{IsOneOf}
 use Rattle.report_defs.specs.Items.{split_of}
-use Rattle.report_defs.specs.Report.{text_of, init_limits, import_limits, question_limits, lines_over, answer_to_query, report_of_question, report_of_command}
+use Rattle.report_defs.specs.Report.{text_of, init_limits, import_limits, question_limits, lines_over, answer_to_query, report_of_question, IsReport}
 use Rattle.report_defs.specs.Promise.{IsPrefix, Finds, MatchesReport, KeepsOrder}
 
 -- ---- A run and what it may keep
@@ -167,7 +167,7 @@ AnswersAsReplay command at_start given taken status = (genesis : Chain) (past : 
 
 -- What a run promises, all of the bytes that its source gave and its sink took: the disk counts where it tells what it reads as.
 pub record IsPromised (command : Option Command) (reads : Option Image) (at_start at_exit meanwhile : Image → Type 0) (left : Option (List ℕ)) (given taken : List ℕ) (status : Status) : Type 0 where
-  pub text : (store : Store) → Finds command reads store → MatchesReport (λ whole. report_of_command command whole store) given left taken status
+  pub text : (store : Store) → Finds command reads store → MatchesReport (λ whole said. IsReport command whole store said) given left taken status
   pub order : (store : Store) → Finds command reads store → KeepsOrder command store given left taken status
   pub disk : (now : Image) → reads ≡ Some now → KeepsDisk command now at_start at_exit meanwhile given taken status
   pub survives : IsSome reads → Survives command at_start at_exit given taken status

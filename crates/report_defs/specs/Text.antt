@@ -74,3 +74,13 @@ outcome_line Spent cycles = codes "spent" ++ line_feed
 abbrev pub execution_line : Execution → List ℕ
 execution_line (Ok ended) = outcome_line ended.0 ended.1
 execution_line (Err condition) = codes "bad elf " ++ decimal condition ++ line_feed
+
+-- ---- `asm` and `unjson`
+
+-- the line of a text whose first bad line has this number, counted from 1
+abbrev pub bad_line : ℕ → List ℕ
+bad_line number = codes "bad line " ++ decimal number ++ line_feed
+
+-- the line of a text that is read as no block
+abbrev pub bad_json : List ℕ
+bad_json = codes "bad json" ++ line_feed

@@ -8,7 +8,7 @@ use Rattle.report_defs.specs.declared.command.Command.{Command}
 use Rattle.report_defs.specs.declared.command.Command.TheVariants.{Init, Import, Query, Question, Standalone}
 use Rattle.report_defs.specs.declared.command.Query.TheVariants.{Tip}
 use Rattle.report_defs.specs.declared.command.Question.TheVariants.{Check}
-use Rattle.report_defs.specs.declared.command.Standalone.TheVariants.{Exec}
+use Rattle.report_defs.specs.declared.command.Standalone.TheVariants.{Exec, Asm, Dis, Unjson}
 
 -- A number: decimal digits, without a sign or a leading zero but for `0` itself, at most a limit.
 unfoldable pub number_up_to : ℕ → List ℕ → Option ℕ
@@ -32,6 +32,9 @@ command_alone name =
     else if bytes_eq name (codes "import") then Some Import
     else if bytes_eq name (codes "tip") then Some (Query Tip)
     else if bytes_eq name (codes "check") then Some (Question Check)
+    else if bytes_eq name (codes "asm") then Some (Standalone Asm)
+    else if bytes_eq name (codes "dis") then Some (Standalone Dis)
+    else if bytes_eq name (codes "unjson") then Some (Standalone Unjson)
     else None
 
 abbrev pub command_named : List (List ℕ) → Option Command

@@ -32,4 +32,10 @@ pub enum Question {
 pub enum Standalone {
     /// `exec`: the program of an ELF file is run, within a budget in cycles.
     Exec { budget: u64 },
+    /// `asm`: the words of a text of the assembler are made a file.
+    Asm,
+    /// `dis`: code is listed.
+    Dis,
+    /// `unjson`: the text of a block is made the block's bytes.
+    Unjson,
 }

@@ -6,11 +6,13 @@
 mod command;
 mod end;
 mod items;
+mod reports;
 mod status;
 mod words;
 
 pub use command::{Command, Query, Question, Standalone};
 pub use end::End;
 pub use items::item_laws;
+pub use reports::status_laws;
 pub use status::Status;
 pub use words::word_laws;

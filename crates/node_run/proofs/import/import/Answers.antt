@@ -17,7 +17,7 @@ use Rattle.node_run.specs.Import.{text_over}
 use Rattle.node_run.proofs.Faults.{then_counts, IsNoFault, end_no_fault, told_no_fault, no_input_there, no_disk_there, IsMemory}
 use Rattle.node_run.proofs.ImportLemmas.{items_stop_import}
 use Rattle.node_run.proofs.StoreLemmas.{delivers_over, opened_joined_whole, keeps_opened, keeps_unopened, opened_there, unopened, sound_opening, sound_here, by_disk_or_memory, if_told}
-use Rattle.node_run.proofs.ImportReport.{stopped_import, stopped_at_once, stopped_behind, stopped_acknowledges, stopped_take, ended_import, keeps_given, keeps_all_given}
+use Rattle.node_run.proofs.ImportReport.{report_on, stopped_import, stopped_at_once, stopped_behind, stopped_acknowledges, stopped_take, ended_import, keeps_given, keeps_all_given}
 use Rattle.node_run.proofs.Statuses.{import_opening, import_told, opening_no_input, opening_no_sink}
 use Rattle.node_run.proofs.Exits.{same_stop}
 use Rattle.log_defs.specs.Log.{records_of}
@@ -58,6 +58,7 @@ returns-in-Err-import_items-clause-import g c =
       delivers_over (AreJoined chain c.in-Ok.node.exts) Import reads chain (g.D.Disk.images c.args.disk.now) (g.D.Disk.images c.import_items.new.disk)
           (g.D.Disk.left_since c.import_items.new.disk (g.D.Disk.moment c.args.disk.now)) (g.S.Source.left c.import_items.new.input) came.0 came.1 status (λ store found. found) c.in-Ok.ensures.kept
           (λ store found. opened_joined_whole reads chain c.in-Ok.node.exts store c.in-Ok.ensures.kept c.in-Ok.ensures.own found)
+          (report_on chain) (λ whole. refl)
           (λ joined. let are = came.4 joined in stopped_import chain are.items are.before are.rest came.0 came.1 (g.S.Source.left c.import_items.new.input) status are.are_given are.came)
           (keeps_opened reads chain (split_of import_limits came.0).items (g.D.Disk.images c.args.disk.now) (g.D.Disk.images c.import_items.new.disk)
           (g.D.Disk.left_since c.import_items.new.disk (g.D.Disk.moment c.args.disk.now)) came.1 status c.in-Ok.ensures.kept
@@ -83,6 +84,7 @@ returns-in-Err-answer_to_end-clause-import g c =
       delivers_over (AreJoined chain c.in-Ok.node.exts) Import reads chain (g.D.Disk.images c.args.disk.now) (g.D.Disk.images c.import_items.new.disk)
           (g.D.Disk.left_since c.import_items.new.disk (g.D.Disk.moment c.args.disk.now)) left came.0 came.1 NoMemory (λ store found. found) c.in-Ok.ensures.kept
           (λ store found. opened_joined_whole reads chain c.in-Ok.node.exts store c.in-Ok.ensures.kept c.in-Ok.ensures.own found)
+          (report_on chain) (λ whole. refl)
           (λ joined. let are = came.4 joined in stopped_import chain are.items are.items are.rest came.0 came.1 left NoMemory are.are_given
           (stopped_behind chain left c.in-Ok-import_items.ended are.items are.rest came.0 came.1 are.are_given are.came.1 NoMemory tt))
           (keeps_opened reads chain (split_of import_limits came.0).items (g.D.Disk.images c.args.disk.now) (g.D.Disk.images c.import_items.new.disk)
@@ -114,6 +116,7 @@ returns-clause-import g c =
       delivers_over (AreJoined chain c.in-Ok.node.exts) Import reads chain (g.D.Disk.images c.args.disk.now) (g.D.Disk.images c.import_items.new.disk)
           (g.D.Disk.left_since c.import_items.new.disk (g.D.Disk.moment c.args.disk.now)) left came.0 (came.1 ++ told.0) c.tell.result (λ store found. found) c.in-Ok.ensures.kept
           (λ store found. opened_joined_whole reads chain c.in-Ok.node.exts store c.in-Ok.ensures.kept c.in-Ok.ensures.own found)
+          (report_on chain) (λ whole. refl)
           (λ joined. let are = came.4 joined in ended_import chain left ended are.items are.rest came.0 came.1 are.are_given are.came.1 told.0 c.tell.result last)
           (keeps_opened reads chain (split_of import_limits came.0).items (g.D.Disk.images c.args.disk.now) (g.D.Disk.images c.import_items.new.disk)
           (g.D.Disk.left_since c.import_items.new.disk (g.D.Disk.moment c.args.disk.now)) (came.1 ++ told.0) c.tell.result c.in-Ok.ensures.kept

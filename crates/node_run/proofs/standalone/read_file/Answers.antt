@@ -2,7 +2,6 @@ use Rattle.std.proofs.Common.{◌≡◌, length, take, refl, sym, ap, arith, len
 use Rattle.outside.proofs.Endings.{no_fault}
 use Rattle.node_run.proofs.Faults.{failed_counts}
 use Rattle.item_reader.proofs.Reading.{written_whole}
-use Rattle.node_run.proofs.StandaloneLemmas.{limit_is}
 use Rattle.node_run.proofs.standalone.read_file.Goals as goal
 
 pub returns-in-Err-read_full-clause-faults : goal.returns-in-Err-read_full-clause-faults
@@ -20,8 +19,8 @@ returns-clause-file g c =
       c.in-Ok-read_full.ensures.given,
       record {
         same = sym same;
-        most = omega (arith, limit_is, size, ap length same, length-take-le c.in-Ok-read_full.n c.read_full.new.into c.in-Ok-read_full.ensures.fits, c.in-Ok.ensures.len, c.in-Ok-read_full.ensures.fits);
-        to_end = λ fits. c.in-Ok-read_full.ensures.end (omega (arith, limit_is, fits, size, ap length same, length-take-le c.in-Ok-read_full.n c.read_full.new.into c.in-Ok-read_full.ensures.fits, c.in-Ok.ensures.len));
+        most = omega (arith, size, ap length same, length-take-le c.in-Ok-read_full.n c.read_full.new.into c.in-Ok-read_full.ensures.fits, c.in-Ok.ensures.len, c.in-Ok-read_full.ensures.fits);
+        to_end = λ fits. c.in-Ok-read_full.ensures.end (omega (arith, fits, size, ap length same, length-take-le c.in-Ok-read_full.n c.read_full.new.into c.in-Ok-read_full.ensures.fits, c.in-Ok.ensures.len));
       },
     )
 
@@ -33,6 +32,6 @@ returns-in-Err-read_full-clause-file g c =
       before.2,
       record {
         stop = tt;
-        most = omega (arith, limit_is, size, before.1, c.in-Ok.ensures.len);
+        most = omega (arith, size, before.1, c.in-Ok.ensures.len);
       },
     )

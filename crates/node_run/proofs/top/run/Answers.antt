@@ -287,7 +287,7 @@ pub returns-in-Some-Standalone-clause-out_faults : goal.returns-in-Some-Standalo
 returns-in-Some-Standalone-clause-out_faults g c = c.standalone.ensures.out_faults
 
 pub returns-in-Some-Standalone-clause-disk_faults : goal.returns-in-Some-Standalone-clause-disk_faults
-returns-in-Some-Standalone-clause-disk_faults g c = no_fault _ _ refl (standalone_no_disk_fault c.standalone.result c.standalone.ensures.status)
+returns-in-Some-Standalone-clause-disk_faults g c = no_fault _ _ refl (standalone_no_disk_fault c.in-Some-Standalone.command c.standalone.result c.standalone.ensures.status)
 
 pub returns-in-Some-Standalone-clause-uncalled : goal.returns-in-Some-Standalone-clause-uncalled
 returns-in-Some-Standalone-clause-uncalled g c = λ _. refl
