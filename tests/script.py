@@ -228,7 +228,7 @@ def check_script_tells_words_without_a_build(_):
         usages = [it.run(words=[word]) for word in ('--help', '-h')]
         must_be(usages[0], usages[1], '--help and -h')
         must_be((usages[0][0], usages[0][2]), (0, b''), '--help')
-        for command in ('init', 'import', 'check', 'tip', 'exec N'):
+        for command in ('init', 'import', 'check', 'tip', 'exec N', 'asm', 'dis', 'unjson'):
             lines = [line for line in usages[0][1].splitlines() if b'ckbdev FOLDER %s ' % command.encode() in line]
             must_be(len(lines), 1, 'lines of --help on ' + command)
         status, out, err = it.run(words=['--version'])
@@ -378,6 +378,10 @@ def check_readme(_):
         './ckbdev chain import < examples/first-blocks.bin': (1, text),
         './ckbdev chain tip': (0, (first.tip(tip) + '\n').encode()),
         './ckbdev chain exec 1000000 < examples/primes.elf': (0, b'exit 25 8337\n'),
+        'tail -c +177 examples/primes.elf | head -c 64 | ./ckbdev chain dis | tail -n 5':
+            (0, b'50 addi x17,x0,93\n54 ecall\n58 addiw x10,x10,1\n60 addiw x14,x14,1\n62 jal x0,-52\n'),
+        "printf 'addi x17,x0,93\\naddi x10,x0,0\\necall\\n' | ./ckbdev chain asm > exit0.elf": (0, b''),
+        './ckbdev chain exec 505 < exit0.elf': (0, b'exit 0 505\n'),
     }
     makes = ('python3 examples/make_store.py --window 2 11 --output 23100000000 '
              '"$(od -An -v -tx1 examples/scripts/exit.elf)"')

@@ -28,6 +28,8 @@ BAD_WORDS = [
     ['any', 'check', ''], ['any', 'check', '0'], ['any', 'check', 'check'], ['any', 'exec'], ['any', 'exec', ''],
     ['any', 'exec', '01'], ['any', 'exec', '-1'], ['any', 'exec', '+1'], ['any', 'exec', '0x1'],
     ['any', 'exec', '1 '], ['any', 'exec', '1099511627777'], ['any', 'exec', '5', '6'],
+    ['asm'], ['', 'asm'], ['any', 'asm', ''], ['any', 'Asm'], ['any', 'dis', '0'], ['any', 'diss'],
+    ['any', 'unjson', '0'], ['any', 'json'],
     [b'\xff', 'import'], ['any', b'\xff'],
 ]
 
@@ -369,6 +371,33 @@ def check_statuses_of_exec(program):
             must_answer(Ran([program, '/no/such/folder', 'exec', budget], stdin, piped), status, wanted, what)
     ran = Ran([program, 'any', 'exec', '1'], bytes(1 << 21))
     must(ran.read <= (1 << 20) + 1, 'more is read than a byte behind the longest file')
+
+
+# ------------------------------------------------------------ asm, dis, unjson
+
+def check_statuses_of_texts(program):
+    exit0 = elf(addi(A7, 93), addi(A0, 0), ECALL)
+    text = b'addi x17,x0,93\naddi x10,x0,0\necall\n'
+    listing = b'0 addi x17,x0,93\n4 addi x10,x0,0\n8 ecall\n'
+    cases = [
+        ('a program that exits', 'asm', text, 0, exit0),
+        ('no text', 'asm', b'', 0, elf()),
+        ('a bad line behind two skipped ones', 'asm', b'# a note\n\nnop\n', 1, b'bad line 3\n'),
+        ('the longest text', 'asm', b'\n' * (1 << 20), 0, elf()),
+        ('a longer text', 'asm', b'\n' * ((1 << 20) + 2), 12, b'extra 1048576\n'),
+        ('its code', 'dis', exit0[-12:], 0, listing),
+        ('no code', 'dis', b'', 0, b''),
+        ('longer code', 'dis', bytes((1 << 20) + 2), 12, b'extra 1048576\n'),
+        ('no text', 'unjson', b'', 1, b'bad json\n'),
+        ('spaces alone', 'unjson', b' ' * (1 << 24), 1, b'bad json\n'),
+        ('a longer text', 'unjson', b' ' * ((1 << 24) + 2), 12, b'extra 16777216\n'),
+    ]
+    # the folder is not looked at, and need not be there
+    for what, word, stdin, status, wanted in cases:
+        for piped in (False, True):
+            must_answer(Ran([program, '/no/such/folder', word], stdin, piped), status, wanted, '%s: %s' % (word, what))
+    ran = Ran([program, 'any', 'unjson'], b' ' * (1 << 25))
+    must(ran.read <= (1 << 24) + 1, 'more is read than a byte past the longest text')
 
 
 # --------------------------------------------------------------------- faults
