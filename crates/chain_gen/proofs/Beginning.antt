@@ -4,7 +4,7 @@ use Rattle.codec_defs.specs.Molecule as molecule
 use Rattle.codec_defs.specs.Shape.{encoded, bytes}
 use Rattle.codec_defs.specs.Schema as schema
 use Rattle.hash_defs.specs.CkbHash.{ckbhash}
-use Rattle.rv_text.specs.File.{elf_file, head}
+use Rattle.text_defs.specs.File.{elf_file, head}
 use Rattle.mol_rows.specs.Rows.{HasLists, HasParts}
 use Rattle.gen_defs.specs.Start as start
 use Rattle.chain_gen.proofs.Parts.{no_items, no_parts}

@@ -8,7 +8,7 @@ use Rattle.time_defs.specs.Dao.{DaoField, field_bytes}
 use Rattle.chain_defs.specs.Hashes.{transaction_hash, transactions_root, proposals_hash, uncles_hash}
 use Rattle.cell_defs.specs.Cell.{by_data}
 use Rattle.family_defs.specs.Cellbase.{null_index}
-use Rattle.rv_text.specs.File.{elf_file}
+use Rattle.text_defs.specs.File.{elf_file}
 
 -- ---- The specification
 
