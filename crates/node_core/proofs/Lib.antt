@@ -9,3 +9,4 @@ pub mod OpeningLemmas
 pub mod ReplayLemmas
 pub mod OwnLemmas
 pub mod KeepingLemmas
+pub mod QueryLemmas

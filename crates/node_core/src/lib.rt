@@ -3,7 +3,8 @@
 //! [`Node`] is the contract of use. Its clauses see a `Chain` of `verdict_defs`, and where the records of its log end:
 //! `open` answers the chain that a store keeps; `import` answers the verdict on an item, and where it joins keeps it and
 //! puts its record on the disk, so that at each moment a crash leaves the chain before the item or after it; `check` judges
-//! a transaction alone; `tip`, `tree` and `state` tell what is kept. [`judge`] accepts a specification and a genesis, and
+//! a transaction alone; `tip`, `tree` and `state` tell what is kept, and `header`, `live`, `fetch` and
+//! `counted` what queries ask of the best branch. [`judge`] accepts a specification and a genesis, and
 //! [`NewStore`] makes a store of them. The kept blocks in memory are apart from the disk, in kept.rt. By which rules a
 //! block is judged is left to `block_judge`, how records lie in the log to `log_file`, what an item is cut from, and the
 //! lines that tell of verdicts, to `node_run`.
@@ -16,8 +17,10 @@ mod kept;
 mod new_store;
 mod node;
 mod opening;
+mod queries;
 
 pub use block_judge::Judged;
 pub use log_file::LogStop;
 pub use new_store::{NewStop, NewStore, judge};
 pub use node::Node;
+pub use queries::{Fetched, HeaderAt, Live};

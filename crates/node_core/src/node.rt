@@ -1,5 +1,5 @@
 // A node: the kept blocks of a store, in memory and on their disk.
-ghost use Rattle.std.specs.Prelude.{◌≡◌, ◌≢◌, ◌⊎◌, ◌<◌, ◌≤◌, ◌+◌, ◌^◌, ◌++◌, ◌∷◌, [], ℕ, false, Err, List, Some, length, drop, slice_index, IfOk, IfErr, OnOk, OnErr, IfSome, IsTrue};
+ghost use Rattle.std.specs.Prelude.{◌≡◌, ◌≢◌, ◌⊎◌, ◌<◌, ◌≤◌, ◌+◌, ◌^◌, ◌++◌, ◌∷◌, [], ℕ, false, Err, List, Some, length, drop, slice_index, IfOk, IfErr, OnOk, OnErr, IfSome, IsTrue, pos};
 ghost use Rattle.outside.specs.Causes.{CountsFault};
 ghost use Rattle.outside.specs.Disk.{HasOneImage, OthersRead, LeavesOnly, IsOnlyRead};
 ghost use Rattle.outside.specs.Image.{Image};
@@ -9,7 +9,9 @@ ghost use Rattle.outside.specs.declared.disk.ReadStop.TheVariants.{DiskFault, Da
 ghost use Rattle.codec_defs.specs.Shape.{decoded};
 ghost use Rattle.codec_defs.specs.Schema as schema;
 ghost use Rattle.codec_defs.specs.Schema.{Block, OutPoint};
-ghost use Rattle.chain_defs.specs.Kept.{place_of};
+ghost use Rattle.time_defs.specs.Dao.{as_u64, counted_capacity};
+ghost use Rattle.chain_defs.specs.Kept.{place_of, block_at};
+ghost use Rattle.tx_defs.specs.Capacity.{rate_of};
 ghost use Rattle.chain_defs.specs.Tip as tips;
 ghost use Rattle.chain_defs.specs.Tip.{tip_place, best_branch};
 ghost use Rattle.cell_defs.specs.Ext.{ext_bytes, is_ext, count_at};
@@ -28,13 +30,15 @@ ghost use Rattle.log_file.specs.Pieces.{behind_gate, block_record};
 ghost use Rattle.node_core.specs.Node.{IsOn, IsLeftByOpening, IsLeftByImport, IsSettledAfter};
 ghost use Rattle.node_core.specs.Steps.{replays_for, replays_to_open};
 ghost use Rattle.node_core.specs.Judging.{IsReadyItem, IsDecided};
+ghost use Rattle.node_core.specs.Queries.{IsHeaderAt, IsLiveCell, IsFetched};
 ghost use Rattle.node_core.specs.declared.deciding.Decision.TheVariants.{Joins};
 
 use crate::area::sync_snapshots;
 use crate::deciding::{Decision, Joining};
 use crate::kept::Kept;
+use crate::queries::{Fetched, HeaderAt, Live};
 use block_judge::Judged;
-use cell_model::Ext;
+use cell_model::{Ext, OutPoint};
 use cell_state::State;
 use chain_tree::{Entry, Tree};
 use epochs::Spec;
@@ -278,6 +282,60 @@ impl Node {
         ensures reads { result ≢ Err (Read DiskFault) }
     {
         self.kept.check(alloc, tx)
+    }
+
+    /// The height of the tip.
+    pub fn height(&self) -> u64
+        ensures { result + 1 ≡ length (best_branch self.now.chain.blocks) }
+    {
+        self.kept.height()
+    }
+
+    /// The header at a height of the best branch.
+    pub fn header(&mut self, height: u64) -> Result<Option<HeaderAt>, ReadStop>
+        ensures same { self.new ≡ self.old }
+        ensures header { IfOk result (IsHeaderAt self.old.chain.blocks height) }
+        ensures undamaged { (damage : Damage) → result ≡ Err (Damaged damage) → ⊥ }
+        ensures reads { result ≢ Err DiskFault }
+    {
+        self.kept.header(height)
+    }
+
+    /// The live cell with an out-point.
+    pub fn live(&self, o: &OutPoint) -> Option<Live>
+        ensures { IsLiveCell self.now.chain.blocks o.now result }
+    {
+        self.kept.live(o)
+    }
+
+    /// The live cell with an out-point, with a copy of its bytes.
+    pub fn fetch(&mut self, alloc: Global, o: OutPoint) -> Result<Option<Fetched>, ReadStop>
+        ensures same { self.new ≡ self.old }
+        ensures fetched { IfOk result (IsFetched self.old.chain.blocks o) }
+        ensures undamaged { (damage : Damage) → result ≡ Err (Damaged damage) → ⊥ }
+        ensures reads { result ≢ Err DiskFault }
+    {
+        self.kept.fetch(alloc, o)
+    }
+
+    /// What a cell of this capacity and occupied capacity counts, in shannons, that was deposited at a height of the best
+    /// branch and whose withdrawing cell was made at another; none above the greatest u64. Damaged where the branch has
+    /// not these heights, or the cell does not hold what it occupies.
+    pub fn counted(
+        &self,
+        capacity: u64,
+        occupied: u64,
+        made: u64,
+        deposit: u64,
+    ) -> Result<Option<u64>, ReadStop>
+        ensures counted { IfOk result (λ amount. amount ≡ as_u64 (pos (counted_capacity capacity occupied
+            (rate_of (block_at (best_branch self.now.chain.blocks) made)) (rate_of (block_at (best_branch self.now.chain.blocks) deposit))))) }
+        ensures undamaged { occupied ≤ capacity → made < length (best_branch self.now.chain.blocks) → deposit < length (best_branch self.now.chain.blocks)
+            → (damage : Damage) → result ≡ Err (Damaged damage) → ⊥ }
+        ensures damage { (damage : Damage) → result ≡ Err (Damaged damage) → damage.area ≡ log_area }
+        ensures reads { result ≢ Err DiskFault }
+    {
+        self.kept.counted(capacity, occupied, made, deposit)
     }
 
     /// What is kept of the tip.

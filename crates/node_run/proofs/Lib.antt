@@ -15,3 +15,4 @@ pub mod QuestionLemmas
 pub mod Asked
 pub mod RunLemmas
 pub mod RecordLemmas
+pub mod QueryLemmas

@@ -7,6 +7,7 @@
 //! program `ckbdev`.
 #![tactic(auto)]
 
+mod dao;
 mod import;
 mod init;
 mod lines;

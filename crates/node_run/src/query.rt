@@ -1,5 +1,9 @@
 // Queries: the store is asked, and nothing is read.
-ghost use Rattle.std.specs.Prelude.{◌≡◌, ◌≢◌, ◌+◌, ◌≤◌, slice_index, ◌∷◌, List, ℕ, Option, Err, Some, [], IfOk, string_bytes};
+ghost use Rattle.std.specs.Prelude.{◌≡◌, ◌≢◌, ◌+◌, ◌≤◌, slice_index, ◌∷◌, List, ℕ, Option, Err, Some, None, [], IfOk, string_bytes, nat_lt, if◌then◌else◌};
+ghost use Rattle.codec_defs.specs.Schema.{Block};
+ghost use Rattle.chain_defs.specs.Kept.{block_at};
+ghost use Rattle.chain_defs.specs.Tip.{best_branch};
+ghost use Rattle.cell_defs.specs.Cell.{Cell};
 ghost use Rattle.outside.specs.Causes.{CountsFault};
 ghost use Rattle.log_defs.specs.Log.{end_of_log};
 ghost use Rattle.store_defs.specs.Store.{Keeps, store_of, IsJoined, TellsAsBefore};
@@ -7,31 +11,42 @@ ghost use Rattle.outside.specs.Disk.{IsOnlyRead};
 ghost use Rattle.verdict_defs.specs.Chain.{Chain};
 ghost use Rattle.outside.specs.Image.{Image};
 ghost use Rattle.report_defs.specs.Report as reports;
+ghost use Rattle.report_defs.specs.Queries.{header_of, cell_of, cell_at_tip, index_bound};
+ghost use Rattle.report_defs.specs.declared.command.Query.TheVariants as queries;
 ghost use Rattle.report_defs.specs.Status.{IsOneOf};
 ghost use Rattle.report_defs.specs.Promise.{query_statuses};
 ghost use Rattle.report_defs.specs.Survival.{KeepsRecords};
 ghost use Rattle.report_defs.specs.declared.command.Command.TheVariants as commands;
 ghost use Rattle.node_core.specs.Steps.{replays_to_open};
+ghost use Rattle.node_core.specs.Queries.{IsHeaderAt};
 ghost use Rattle.node_run.specs.Output.{Took};
+ghost use Rattle.node_run.specs.Queries.{IsCellFound};
 ghost use Rattle.node_run.specs.Store.{Delivers, IsQueryTold, finding_stops};
 
-use crate::lines::tip_line;
+use crate::dao::dao;
+use crate::lines::{epoch_line, header_line, live_line, none_line, tip_line};
 use crate::output::{Answer, tell};
-use crate::store::open;
-use node_core::Node;
+use crate::store::{open, status_of_reading};
+use cell_model::OutPoint;
+use epochs::epoch_of;
+use node_core::{HeaderAt, Live, Node};
 use outside::{Disk, Sink, Steps};
 use report_defs::{Query, Status};
-use std::alloc::Global;
+use std::alloc::{AllocError, Global};
 use std::sync::ledger::Ledger;
 
 /// Finds what a query answers over the kept blocks. Each query has a function of its own.
-fn answer_to(alloc: Global, node: &Node, query: Query) -> Result<String, Status>
-    ensures text { IsJoined node.now.chain → IfOk result (λ text. string_bytes text ≡ reports.answer_to_query query node.now.chain) }
+fn answer_to(alloc: Global, node: &mut Node, query: Query) -> Result<String, Status>
+    ensures text { IsJoined node.old.chain → IfOk result (λ text. string_bytes text ≡ reports.answer_to_query query node.old.chain) }
     ensures stop { (status : Status) → result ≡ Err status → IsOneOf finding_stops status }
-    ensures sound { IsJoined node.now.chain → result ≡ Err Status.NotAStore → ⊥ }
+    ensures sound { IsJoined node.old.chain → result ≡ Err Status.NotAStore → ⊥ }
 {
     match query {
         Query::Tip => tip(alloc, node),
+        Query::Header { height } => header(alloc, node, height),
+        Query::Epoch => epoch(alloc, node),
+        Query::Cell { tx_hash, index } => cell(alloc, node, tx_hash, index),
+        Query::Dao { tx_hash, index } => dao(alloc, node, tx_hash, index),
     }
 }
 
@@ -41,15 +56,100 @@ fn tip(alloc: Global, node: &Node) -> Result<String, Status>
     ensures memory { (status : Status) → result ≡ Err status → status ≡ Status.NoMemory }
 {
     let tip = node.tip();
-    match tip_line(alloc, tip.number, &tip.hash) {
+    line_or_stop(tip_line(alloc, tip.number, &tip.hash))
+}
+
+/// A line, or that memory ran out.
+pub fn line_or_stop(line: Result<String, AllocError>) -> Result<String, Status>
+    ensures text { (bytes : List ℕ) → IfOk line (λ text. string_bytes text ≡ bytes) → IfOk result (λ text. string_bytes text ≡ bytes) }
+    ensures memory { (status : Status) → result ≡ Err status → status ≡ Status.NoMemory }
+{
+    match line {
         Ok(line) => Ok(line),
         Err(_) => Err(Status::NoMemory),
     }
 }
 
+/// The line of the header at a height of the best branch.
+fn header(alloc: Global, node: &mut Node, height: u64) -> Result<String, Status>
+    ensures text { IfOk result (λ text. string_bytes text ≡ reports.answer_to_query (queries.Header height) node.old.chain) }
+    ensures stop { (status : Status) → result ≡ Err status → IsOneOf finding_stops status }
+    ensures sound { result ≡ Err Status.NotAStore → ⊥ }
+{
+    let found = match node.header(height) {
+        Ok(found) => found,
+        Err(stop) => return Err(status_of_reading(stop)),
+    };
+    line_or_stop(header_line_of(alloc, height, &found))
+}
+
+/// The line of what was found at a height.
+fn header_line_of(
+    alloc: Global,
+    height: u64,
+    found: &Option<HeaderAt>,
+) -> Result<String, AllocError>
+    ensures { (kept : List Block) → IsHeaderAt kept height found.now
+        → IfOk result (λ text. string_bytes text ≡ header_of height (block_at (best_branch kept) height)) }
+{
+    match found {
+        None => none_line(alloc),
+        Some(it) => header_line(alloc, height, &it.hash, &it.bytes),
+    }
+}
+
+/// The line of the epoch of the tip.
+fn epoch(alloc: Global, node: &Node) -> Result<String, Status>
+    ensures text { IfOk result (λ text. string_bytes text ≡ reports.answer_to_query queries.Epoch node.now.chain) }
+    ensures memory { (status : Status) → result ≡ Err status → status ≡ Status.NoMemory }
+{
+    let epoch = epoch_of(node.spec().epoch_length, node.tip().number);
+    line_or_stop(epoch_line(alloc, &epoch))
+}
+
+/// An out-point of an index, if its four bytes hold it.
+#[tactic(auto, unfolding(report_defs::specs::Queries::index_bound))]
+pub fn out_point(tx_hash: [u8; 32], index: u64) -> Option<OutPoint>
+    ensures { result ≡ (if nat_lt index index_bound then Some (record { tx_hash = tx_hash; index = index }) else None) }
+{
+    match u32::try_from(index) {
+        Ok(index) => Some(OutPoint { tx_hash, index }),
+        Err(_) => None,
+    }
+}
+
+/// The line of the live cell with an out-point.
+fn cell(alloc: Global, node: &Node, tx_hash: [u8; 32], index: u64) -> Result<String, Status>
+    ensures text { IfOk result (λ text. string_bytes text ≡ reports.answer_to_query (queries.Cell tx_hash index) node.now.chain) }
+    ensures memory { (status : Status) → result ≡ Err status → status ≡ Status.NoMemory }
+{
+    let found = find_cell(node, tx_hash, index);
+    line_or_stop(cell_line_of(alloc, &found))
+}
+
+/// The live cell with an out-point, as its row.
+fn find_cell(node: &Node, tx_hash: [u8; 32], index: u64) -> Option<Live>
+    ensures { IsCellFound (cell_at_tip node.now.chain tx_hash index) result }
+{
+    match out_point(tx_hash, index) {
+        None => None,
+        Some(o) => node.live(&o),
+    }
+}
+
+/// The line of what was found with an out-point.
+fn cell_line_of(alloc: Global, found: &Option<Live>) -> Result<String, AllocError>
+    ensures { (live : Option Cell) → IsCellFound live found.now → IfOk result (λ text. string_bytes text ≡ cell_of live) }
+{
+    match found {
+        None => none_line(alloc),
+        Some(live) => live_line(alloc, &live.meta, live.height),
+    }
+}
+
 /// Finds the answer and writes it.
-fn find_and_tell<K: Sink>(alloc: Global, out: &mut K, node: &Node, query: Query) -> Status
-    ensures told { Took (K.taken out.old) (K.taken out.new) (λ taken. IsJoined node.now.chain → (left : Option (List ℕ)) → IsQueryTold query node.now.chain left taken result) }
+fn find_and_tell<K: Sink>(alloc: Global, out: &mut K, node: &mut Node, query: Query) -> Status
+    ensures told { Took (K.taken out.old) (K.taken out.new) (λ taken. IsJoined node.old.chain → (left : Option (List ℕ)) → IsQueryTold query node.old.chain left taken result) }
     ensures status { IsOneOf query_statuses result }
     ensures disk { result ≡ Status.DiskFault → ⊥ }
     ensures faults { CountsFault (K.faults out.old) (K.faults out.new) (result ≡ Status.SinkFault) }
@@ -87,11 +187,11 @@ pub fn query<K: Sink, D: Disk, L: Ledger>(
         → IsOnlyRead D.reads_as D.images D.moment D.left_since disk.old disk.new }
     ensures most { (now : Image) → D.reads_as disk.old ≡ Some now → steps.new ≤ steps.old + replays_to_open (store_of now) }
 {
-    let node = match open(alloc, disk, steps) {
+    let mut node = match open(alloc, disk, steps) {
         Ok(node) => node,
         Err(status) => return status,
     };
-    let status = find_and_tell(alloc, out, &node, asked);
+    let status = find_and_tell(alloc, out, &mut node, asked);
     drop(node);
     status
 }

@@ -29,8 +29,9 @@ use std::alloc::Global;
 use std::sync::ledger::Ledger;
 
 /// Does what the words ask for: reads the input, writes its text, and answers how it ended.
-/// The words are a folder, which is any word that is not empty, and a command: `init`, `import`, `tip`, `check`, `asm`, `dis`,
-/// `unjson`, or `exec` and a budget in cycles, at most 2^40.
+/// The words are a folder, which is any word that is not empty, and a command: `init`, `import`, `tip`, `epoch`, `check`,
+/// `header` and a height, `cell` or `dao` with the hash of a transaction and an index, `asm`, `dis`, `unjson`, or `exec` and a
+/// budget in cycles, at most 2^40.
 pub fn run<S: Source, K: Sink, D: Disk, L: Ledger>(
     alloc: Global,
     words: &[String],

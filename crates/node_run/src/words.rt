@@ -1,6 +1,12 @@
 // The grammar of a run's words.
 ghost use Rattle.std.specs.Prelude.{◌≡◌, ◌^◌, ◌≤◌, ◌↔◌, ℕ, [], ◌∷◌, map, string_bytes, Some, IfSome};
+ghost use Rattle.std.specs.Option.{option_map};
+ghost use Rattle.std.specs.Str.{bytes_eq};
 ghost use Rattle.std.specs.Fmt.{decimal};
+ghost use Rattle.report_defs.specs.Text as text;
+ghost use Rattle.report_defs.specs.declared.command.Command.TheVariants as commands;
+ghost use Rattle.report_defs.specs.declared.command.Query.TheVariants as queries;
+ghost use Rattle.report_defs.specs.declared.command.Standalone.TheVariants as files;
 ghost use Rattle.report_defs.specs.Words as grammar;
 ghost use Rattle.node_run.specs.Words as parts;
 ghost use Rattle.node_run.specs.Words.{IsWithinLimit};
@@ -31,7 +37,8 @@ fn command_named(name: &[u8], arguments: &[String]) -> Option<Command>
     match arguments {
         [] => command_alone(name),
         [argument] => command_with(name, argument.as_str()),
-        [_, _, ..] => None,
+        [hash, index] => command_at(name, hash.as_str(), index.as_str()),
+        [_, _, _, ..] => None,
     }
 }
 
@@ -49,6 +56,9 @@ fn command_alone(name: &[u8]) -> Option<Command>
     if name == b"tip".as_slice() {
         return Some(Command::Query(Query::Tip));
     }
+    if name == b"epoch".as_slice() {
+        return Some(Command::Query(Query::Epoch));
+    }
     if name == b"check".as_slice() {
         return Some(Command::Question(Question::Check));
     }
@@ -65,16 +75,100 @@ fn command_alone(name: &[u8]) -> Option<Command>
 }
 
 /// The command of this name that takes one argument.
-#[tactic(auto, unfolding(report_defs::specs::Words::budget_limit))]
 fn command_with(name: &[u8], argument: &str) -> Option<Command>
-    ensures command { result ≡ grammar.command_named (name.now ∷ argument.now ∷ []) }
+    ensures command { result ≡ grammar.command_with name.now argument.now }
     ensures within { IfSome result IsWithinLimit }
 {
-    if name != b"exec".as_slice() {
-        return None;
+    if name == b"exec".as_slice() {
+        return exec_command(argument);
     }
+    if name == b"header".as_slice() {
+        return header_command(argument);
+    }
+    None
+}
+
+/// `exec` and its budget.
+#[tactic(auto, unfolding(report_defs::specs::Words::budget_limit))]
+fn exec_command(argument: &str) -> Option<Command>
+    ensures command { result ≡ option_map (λ budget. commands.Standalone (files.Exec budget)) (grammar.number_up_to grammar.budget_limit argument.now) }
+    ensures within { IfSome result IsWithinLimit }
+{
     let budget = number_up_to(BUDGET_LIMIT, argument)?;
     Some(Command::Standalone(Standalone::Exec { budget }))
+}
+
+/// `header` and a height.
+fn header_command(argument: &str) -> Option<Command>
+    ensures command { result ≡ option_map (λ height. commands.Query (queries.Header height)) (grammar.number_up_to grammar.number_limit argument.now) }
+    ensures within { IfSome result IsWithinLimit }
+{
+    let height = number_of(argument)?;
+    Some(Command::Query(Query::Header { height }))
+}
+
+/// The command of this name that takes an out-point in two arguments.
+fn command_at(name: &[u8], hash: &str, index: &str) -> Option<Command>
+    ensures command { result ≡ grammar.command_at name.now hash.now index.now }
+    ensures within { IfSome result IsWithinLimit }
+{
+    if name == b"cell".as_slice() {
+        let (tx_hash, index) = out_point_of(hash, index)?;
+        return Some(Command::Query(Query::Cell { tx_hash, index }));
+    }
+    if name == b"dao".as_slice() {
+        let (tx_hash, index) = out_point_of(hash, index)?;
+        return Some(Command::Query(Query::Dao { tx_hash, index }));
+    }
+    None
+}
+
+/// The hash of a transaction and an index.
+fn out_point_of(hash: &str, index: &str) -> Option<([u8; 32], u64)>
+    ensures { result ≡ grammar.out_point_of hash.now index.now }
+{
+    let tx_hash = hash_of_word(hash)?;
+    let number = number_of(index)?;
+    Some((tx_hash, number))
+}
+
+/// The hash that a word spells. Only digits in lower case do, though both cases are read.
+#[tactic(auto, unfolding(report_defs::specs::Words::hash_of_word))]
+fn hash_of_word(word: &str) -> Option<[u8; 32]>
+    ensures { result ≡ grammar.hash_of_word word.now }
+{
+    let bytes = word.as_bytes();
+    let digits = if bytes.len() < 2 { &[] } else { &bytes[2..] };
+    let mut hash = [0u8; 32];
+    if hex::decode_to_slice(digits, &mut hash).is_err() {
+        return None;
+    }
+    if is_text_of(bytes, &hash) {
+        Some(hash)
+    } else {
+        None
+    }
+}
+
+/// Whether a word is the text of a hash.
+fn is_text_of(word: &[u8], hash: &[u8; 32]) -> bool
+    ensures { result ≡ bytes_eq word.now (text.hash_text hash.now) }
+{
+    let mut digits = [0u8; 64];
+    let encoded: Result<_, _> = hex::encode_to_slice(hash, &mut digits);
+    encoded.unwrap();
+    match word {
+        [b'0', b'x', rest @ ..] => rest == digits.as_slice(),
+        _ => false,
+    }
+}
+
+/// The number of eight bytes that a word spells.
+#[tactic(auto, unfolding(report_defs::specs::Words::number_limit))]
+fn number_of(word: &str) -> Option<u64>
+    ensures { result ≡ grammar.number_up_to grammar.number_limit word.now }
+{
+    number_up_to(u64::MAX, word)
 }
 
 /// The number that a word spells, if it is within the limit.

@@ -2,6 +2,7 @@ pub mod Status
 pub mod Items
 pub mod Text
 pub mod Words
+pub mod Queries
 pub mod Report
 pub mod Promise
 pub mod Survival

@@ -15,9 +15,13 @@ use Rattle.vm_defs.specs.Program.{Execution}
 abbrev pub line_feed : List ℕ
 line_feed = 10 ∷ []
 
--- a hash: `0x` and its 32 bytes in lower-case hex digits
+-- bytes: `0x` and two lower-case hex digits a byte
+abbrev pub hex_text : List ℕ → List ℕ
+hex_text bytes = codes "0x" ++ encode_lower bytes
+
+-- a hash: its 32 bytes
 abbrev pub hash_text : List ℕ → List ℕ
-hash_text hash = codes "0x" ++ encode_lower hash
+hash_text hash = hex_text hash
 
 -- the line of an item that was imported
 abbrev pub line : Verdict → List ℕ
@@ -39,6 +43,49 @@ abbrev pub tip_line : Option Block → List ℕ
 tip_line None = []
 tip_line (Some block) = tip_line_of block.header.number (block_hash block)
 
+-- ---- Queries
+
+-- where there is nothing to tell
+abbrev pub none_line : List ℕ
+none_line = codes "none" ++ line_feed
+
+-- a header at a height: the hash of its block, and its bytes
+abbrev pub header_line : ℕ → List ℕ → List ℕ → List ℕ
+header_line height hash bytes = codes "header " ++ decimal height ++ codes " " ++ hash_text hash ++ codes " " ++ hex_text bytes ++ line_feed
+
+abbrev pub epoch_line : ℕ → ℕ → ℕ → List ℕ
+epoch_line number index length = codes "epoch " ++ decimal number ++ codes " " ++ decimal index ++ codes " " ++ decimal length ++ line_feed
+
+-- the hash of a type script, where there is one
+abbrev pub type_text : Option (List ℕ) → List ℕ
+type_text None = codes "-"
+type_text (Some hash) = hash_text hash
+
+-- a live cell: its capacity and what it occupies, in shannons, the height at which it was made, its hashes, the bytes of its data
+abbrev pub cell_line : ℕ → ℕ → ℕ → List ℕ → Option (List ℕ) → List ℕ → ℕ → List ℕ
+cell_line capacity occupied height lock_hash type_hash data_hash data_len =
+    codes "live " ++ decimal capacity ++ codes " " ++ decimal occupied ++ codes " " ++ decimal height ++ codes " " ++ hash_text lock_hash
+    ++ codes " " ++ type_text type_hash ++ codes " " ++ hash_text data_hash ++ codes " " ++ decimal data_len ++ line_feed
+
+-- a deposit of this height, and what it counts
+abbrev pub deposit_line : ℕ → ℕ → List ℕ
+deposit_line deposit amount = codes "deposit " ++ decimal deposit ++ codes " " ++ decimal amount ++ line_feed
+
+-- a withdrawing cell of a deposit of this height, made at this height, and what it counts
+abbrev pub withdrawing_line : ℕ → ℕ → ℕ → List ℕ
+withdrawing_line deposit made amount =
+    codes "withdrawing " ++ decimal deposit ++ codes " " ++ decimal made ++ codes " " ++ decimal amount ++ line_feed
+
+-- an amount that no u64 holds
+abbrev pub overflow_line : List ℕ
+overflow_line = codes "overflow" ++ line_feed
+
+-- a live cell that is neither
+abbrev pub not_dao_line : List ℕ
+not_dao_line = codes "not dao" ++ line_feed
+
+-- ---- `init`
+
 -- the line of the genesis of a new store
 abbrev pub genesis_line : Option Block → List ℕ
 genesis_line None = []
@@ -50,6 +97,8 @@ bad_spec_line rule = codes "bad spec S" ++ decimal rule ++ line_feed
 
 abbrev pub bad_genesis_line : ℕ → List ℕ
 bad_genesis_line rule = codes "bad genesis G" ++ decimal rule ++ line_feed
+
+-- ---- The end of an input
 
 -- the line of an input that ends before or inside an item at this offset, and of an item there whose size is outside its limits
 abbrev pub cut_line : ℕ → List ℕ

@@ -1,12 +1,15 @@
 -- The grammar of a run's words: a folder, which is any word that is not empty, and a command (docs/COMMANDS.md, "Words").
-use Rattle.std.specs.Prelude.{◌≡◌, ◌↔◌, ℕ, ◌^◌, ◌<◌, ◌≤◌, ◌==◌, nat_le, ◌&&◌, List, [], ◌∷◌, length, codes, Option, Some, None, if◌then◌else◌}
-use Rattle.std.specs.Option.{option_map}
+use Rattle.std.specs.Prelude.{◌≡◌, ◌↔◌, ℕ, ◌-◌, ◌^◌, ◌<◌, ◌≤◌, ◌==◌, nat_le, ◌&&◌, List, [], ◌∷◌, length, drop, codes, Option, Some, None, Result, Ok, Err, if◌then◌else◌}
+use Rattle.std.specs.Option.{option_map, option_and_then}
 use Rattle.std.specs.Str.{bytes_eq}
 use Rattle.std.specs.Str.Parse.{digits_value}
 use Rattle.std.specs.Fmt.{decimal}
+use Rattle.hex.specs.Hex.{IsBytes, decode_sized}
+use Rattle.hex.specs.declared.error.FromHexError.{FromHexError}
+use Rattle.report_defs.specs.Text.{hash_text}
 use Rattle.report_defs.specs.declared.command.Command.{Command}
 use Rattle.report_defs.specs.declared.command.Command.TheVariants.{Init, Import, Query, Question, Standalone}
-use Rattle.report_defs.specs.declared.command.Query.TheVariants.{Tip}
+use Rattle.report_defs.specs.declared.command.Query.TheVariants.{Tip, Header, Epoch, Cell, Dao}
 use Rattle.report_defs.specs.declared.command.Question.TheVariants.{Check}
 use Rattle.report_defs.specs.declared.command.Standalone.TheVariants.{Exec, Asm, Dis, Unjson}
 
@@ -21,6 +24,27 @@ abbrev pub SpellsNumbers : Type 0
 SpellsNumbers = (limit : ℕ) (word : List ℕ) (number : ℕ) → limit < 2 ^ 64
     → (number_up_to limit word ≡ Some number) ↔ ((word ≡ decimal number) × (number ≤ limit))
 
+-- the bytes of hex digits that were read, if they were
+abbrev pub found_bytes : Result (List ℕ) FromHexError → Option (List ℕ)
+found_bytes (Ok bytes) = Some bytes
+found_bytes (Err error) = None
+
+abbrev pub hash_spelled : List ℕ → Option (List ℕ) → Option (List ℕ)
+hash_spelled word None = None
+hash_spelled word (Some hash) = if bytes_eq word (hash_text hash) then Some hash else None
+
+-- A hash: `0x` and the 64 lower-case hex digits of 32 bytes, and nothing else.
+unfoldable pub hash_of_word : List ℕ → Option (List ℕ)
+hash_of_word word = hash_spelled word (found_bytes (decode_sized (drop 2 word) 32))
+
+-- Law: a word gives a hash exactly where it is the text of these 32 bytes.
+abbrev pub SpellsHashes : Type 0
+SpellsHashes = (word hash : List ℕ) → IsBytes hash → (hash_of_word word ≡ Some hash) ↔ ((word ≡ hash_text hash) × (length hash ≡ 32))
+
+-- a number of eight bytes, at most 2^64 - 1
+unfoldable pub number_limit : ℕ
+number_limit = 2 ^ 64 - 1
+
 -- the most cycles of a budget
 unfoldable pub budget_limit : ℕ
 budget_limit = 2 ^ 40
@@ -31,17 +55,37 @@ command_alone name =
     if bytes_eq name (codes "init") then Some Init
     else if bytes_eq name (codes "import") then Some Import
     else if bytes_eq name (codes "tip") then Some (Query Tip)
+    else if bytes_eq name (codes "epoch") then Some (Query Epoch)
     else if bytes_eq name (codes "check") then Some (Question Check)
     else if bytes_eq name (codes "asm") then Some (Standalone Asm)
     else if bytes_eq name (codes "dis") then Some (Standalone Dis)
     else if bytes_eq name (codes "unjson") then Some (Standalone Unjson)
     else None
 
+-- those that take one
+abbrev pub command_with : List ℕ → List ℕ → Option Command
+command_with name argument =
+    if bytes_eq name (codes "exec") then option_map (λ budget. Standalone (Exec budget)) (number_up_to budget_limit argument)
+    else if bytes_eq name (codes "header") then option_map (λ height. Query (Header height)) (number_up_to number_limit argument)
+    else None
+
+-- an out-point of two words: the hash of a transaction, and an index
+abbrev pub out_point_of : List ℕ → List ℕ → Option (List ℕ × ℕ)
+out_point_of hash index = option_and_then (λ tx_hash. option_map (λ number. (tx_hash, number)) (number_up_to number_limit index)) (hash_of_word hash)
+
+-- those that take two
+abbrev pub command_at : List ℕ → List ℕ → List ℕ → Option Command
+command_at name hash index =
+    if bytes_eq name (codes "cell") then option_map (λ o. Query (Cell o.0 o.1)) (out_point_of hash index)
+    else if bytes_eq name (codes "dao") then option_map (λ o. Query (Dao o.0 o.1)) (out_point_of hash index)
+    else None
+
 abbrev pub command_named : List (List ℕ) → Option Command
 command_named [] = None
 command_named (name ∷ []) = command_alone name
-command_named (name ∷ argument ∷ []) = if bytes_eq name (codes "exec") then option_map (λ budget. Standalone (Exec budget)) (number_up_to budget_limit argument) else None
-command_named (name ∷ argument ∷ next ∷ more) = None
+command_named (name ∷ argument ∷ []) = command_with name argument
+command_named (name ∷ hash ∷ index ∷ []) = command_at name hash index
+command_named (name ∷ hash ∷ index ∷ next ∷ more) = None
 
 abbrev pub command_of : List (List ℕ) → Option Command
 command_of [] = None

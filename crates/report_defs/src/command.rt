@@ -18,6 +18,14 @@ pub enum Command {
 pub enum Query {
     /// `tip`: the tip of the kept blocks is told.
     Tip,
+    /// `header`: the header of the block at a height of the best branch is told.
+    Header { height: u64 },
+    /// `epoch`: the epoch of the tip is told.
+    Epoch,
+    /// `cell`: the live cell with an out-point is told.
+    Cell { tx_hash: [u8; 32], index: u64 },
+    /// `dao`: what a live cell of the Nervos DAO counts is told.
+    Dao { tx_hash: [u8; 32], index: u64 },
 }
 
 /// What is asked of the store about a whole input.

@@ -4,6 +4,7 @@
 #![tactic(auto)]
 
 mod command;
+mod dao;
 mod end;
 mod items;
 mod reports;
@@ -11,6 +12,7 @@ mod status;
 mod words;
 
 pub use command::{Command, Query, Question, Standalone};
+pub use dao::DaoState;
 pub use end::End;
 pub use items::item_laws;
 pub use reports::status_laws;

@@ -1,0 +1,180 @@
+-- What queries ask of a node: the block at a height of the best branch, and the live cell with an out-point there.
+use Rattle.std.proofs.Common.{◌≡◌, ℕ, ◌+◌, ◌<◌, List, [], ◌∷◌, length, Option, Some, None, refl, sym, ap, ◌∙◌, subst, arith}
+use Rattle.std.specs.Prelude.{Bool, slice_get, slice_index, IfSome, IsSomeAnd, if◌then◌else◌}
+use Rattle.std.proofs.lemmas.Bool.{lt-ltb}
+use Rattle.std.specs.Option.{option_map, option_and_then}
+use Rattle.std.proofs.lemmas.Option.{slice_get_within, slice_get_past, slice_get-map, same_Some}
+use Rattle.codec_defs.specs.Schema.{OutPoint, Block}
+use Rattle.chain_defs.specs.Kept.{block_at}
+use Rattle.chain_defs.specs.Branch.{branch, branch_places}
+use Rattle.chain_defs.specs.Tip.{tip_place, best_branch}
+use Rattle.chain_tree.specs.declared.entry.Entry.{Entry}
+use Rattle.chain_defs.proofs.KeptLaws.{slice_get-below}
+use Rattle.chain_defs.proofs.TipLaws.{tip_place-there, tip_place-below}
+use Rattle.chain_tree.specs.Entries.{entry_at, IsTree}
+use Rattle.chain_tree.specs.Blocks.{IndexesBlocks}
+use Rattle.chain_tree.specs.Told.{Stored, blocks_of}
+use Rattle.chain_tree.proofs.BlockLemmas.{len-same}
+use Rattle.cell_defs.specs.Cell.{Cell}
+use Rattle.cell_defs.specs.Events.{live_cell}
+use Rattle.cell_defs.specs.Row.{Row, row_of, row_on, live_row, IsOutputOf}
+use Rattle.cell_laws.proofs.OutputLaws.{cells-are-outputs}
+use Rattle.cell_model.specs.Copies.{NamesOutput}
+use Rattle.cell_model.specs.ListBlocks.{ListBlocksValue, place_in_hand}
+use Rattle.tx_rules.proofs.BranchLemmas.{PlaceOfHeight, place-of-height, branch-long, branch-block, number-on-branch}
+use Rattle.uncle_rules.specs.Embedded.{UnclesValue}
+use Rattle.node_core.specs.Node.{AreKept}
+use Rattle.node_core.specs.Queries.{IsLiveRow}
+
+abbrev branch_at : List Block → Option ℕ → List Block
+branch_at kept None = []
+branch_at kept (Some place) = branch kept place
+
+-- the best branch is that of the tip
+pub best-is : (kept : List Block) (tip : ℕ) → tip_place kept ≡ Some tip → best_branch kept ≡ branch kept tip
+best-is kept tip is = ap (branch_at kept) is
+
+-- ---- Heights
+
+module _ (kept : List Block) (entries : List Entry) (tip : ℕ) (indexed : IndexesBlocks kept entries) (is : tip_place kept ≡ Some tip) where
+  -- how long it is
+  pub best-long : (entry : Entry) → entry_at entries tip ≡ Some entry → entry.number + 1 ≡ length (best_branch kept)
+  best-long entry there = branch-long kept entries tip entry indexed there ∙ ap length (sym (best-is kept tip is))
+
+  -- above the tip it has no block
+  pub none-above : (entry : Entry) (height : ℕ) → entry_at entries tip ≡ Some entry → entry.number < height → None ≡ block_at (best_branch kept) height
+  none-above entry height there above = sym (slice_get_past (best_branch kept) height (omega (arith, best-long entry there, above)))
+
+  -- and up to it the block of the place there
+  pub block-at : (height place : ℕ) → tip < length entries → slice_get (branch_places kept tip) height ≡ Some place
+      → block_at kept place ≡ block_at (best_branch kept) height
+  block-at height place below on_branch =
+      sym (branch-block kept tip height (omega (arith, below, len-same kept entries indexed)) ∙ ap (option_and_then (block_at kept)) on_branch)
+      ∙ ap (λ (blocks : List Block). block_at blocks height) (sym (best-is kept tip is))
+
+-- where it has one there is one
+pub no-block : (blocks : List Block) (height : ℕ) → height < length blocks → block_at blocks height ≡ None → ⊥
+no-block blocks height below none = let there = slice_get-below blocks height below in absurd (cc (sym none ∙ there.1))
+
+-- the block in hand of a list of blocks, once that of a place was taken
+pub block-told : (it : ListBlocksValue) (stored : List Stored) (place : ℕ) (b : Block) → it ≡ record { stored = stored; hand = Some place }
+    → place < length stored → IfSome (place_in_hand it) (λ e. IfSome (slice_get it.stored e) (λ told. b ≡ told.block))
+    → block_at (blocks_of stored) place ≡ Some b
+block-told it stored place b is below told =
+    let at = slice_get-below stored place below in
+    let here : IfSome (slice_get stored place) (λ told. b ≡ told.block) =
+    subst (λ (test : Bool). IfSome (if test then Some place else None) (λ e. IfSome (slice_get stored e) (λ told. b ≡ told.block)))
+    (lt-ltb place (length stored) below)
+    (subst (λ (v : ListBlocksValue). IfSome (place_in_hand v) (λ e. IfSome (slice_get v.stored e) (λ told. b ≡ told.block))) is told) in
+    let same : b ≡ at.0.block = subst (λ (found : Option Stored). IfSome found (λ told. b ≡ told.block)) at.1 here in
+    slice_get-map (λ (told : Stored). told.block) stored place ∙ ap (option_map (λ (told : Stored). told.block)) at.1 ∙ ap Some (sym same)
+
+-- A tree has a tip.
+pub record HasTip (kept : List Block) (entries : List Entry) : Type 0 where
+  pub tip : ℕ
+  pub is : tip_place kept ≡ Some tip
+  pub below : tip < length entries
+
+some-first : (entries : List Entry) (P : Entry → Type 0) → IsSomeAnd (entry_at entries 0) P → 0 < length entries
+some-first [] P some = absurd some
+some-first (entry ∷ entries) P some = omega arith
+
+pub has-tip : (kept : List Block) (entries : List Entry) → IndexesBlocks kept entries → IsTree entries → HasTip kept entries
+has-tip kept entries indexed tree =
+    let long : length entries ≡ length kept = len-same kept entries indexed in
+    let some : 0 < length entries = some-first entries (λ entry. entry.number ≡ 0) tree.genesis in
+    let tip = tip_place-there kept (omega (arith, some, long)) in
+    record { tip = tip.0; is = tip.1; below = omega (arith, long, tip_place-below kept tip.0 tip.1) }
+
+-- ---- Cells
+
+-- Where the block of a live cell is kept, and what its row names.
+pub record IsMadeAt (stored : List Stored) (entries : List Entry) (o : OutPoint) (cell : Cell) (row : Row) : Type 0 where
+  pub below : row.block < length entries
+  pub number : (entry : Entry) → entry_at entries row.block ≡ Some entry → entry.number ≡ cell.height
+  pub names : NamesOutput stored o row cell
+
+stored-at : (stored : List Stored) (place : ℕ) (b : Block) → block_at (blocks_of stored) place ≡ Some b
+    → (made : Stored) × (slice_get stored place ≡ Some made) × (made.block ≡ b)
+stored-at stored place b there = by_stored (slice_get stored place) refl (sym (slice_get-map (λ (it : Stored). it.block) stored place) ∙ there)
+  where
+    by_stored : (found : Option Stored) → slice_get stored place ≡ found → option_map (λ (it : Stored). it.block) found ≡ Some b
+        → (made : Stored) × (slice_get stored place ≡ Some made) × (made.block ≡ b)
+    by_stored None is at = absurd (cc)
+    by_stored (Some made) is at = (made, is, cc)
+
+pub made-at : (stored : List Stored) (entries : List Entry) (tip : ℕ) (o : OutPoint) (cell : Cell) (row : Row) → IndexesBlocks (blocks_of stored) entries
+    → tip < length entries → live_cell (branch (blocks_of stored) tip) o ≡ Some cell → row ≡ row_on (blocks_of stored) tip cell
+    → IsMadeAt stored entries o cell row
+made-at stored entries tip o cell row indexed below live its_row =
+    record {
+      below = omega (arith, long, slice_get_within (blocks_of stored) row.block made.0 there);
+      number = λ entry at. number-on-branch (blocks_of stored) entries tip cell.height row.block entry indexed within
+          (place.place ∙ ap Some (sym same)) at;
+      names = record {
+        made = kept.0;
+        there = kept.1;
+        output = subst (λ (b : Block). IsOutputOf b o cell) (sym kept.2) made.2;
+        its_row = its_row ∙ ap (λ (block : ℕ). row_of block cell) (sym same);
+      };
+    }
+  where
+    long : length entries ≡ length (blocks_of stored)
+    long = len-same (blocks_of stored) entries indexed
+
+    within : tip < length (blocks_of stored)
+    within = omega (arith, below, long)
+
+    made : (b : Block) × (block_at (branch (blocks_of stored) tip) cell.height ≡ Some b) × IsOutputOf b o cell
+    made = cells-are-outputs (branch (blocks_of stored) tip) o cell live
+
+    place : PlaceOfHeight (blocks_of stored) tip cell.height made.0
+    place = place-of-height (blocks_of stored) tip cell.height made.0 within made.1
+
+    same : row.block ≡ slice_index (branch_places (blocks_of stored) tip) cell.height
+    same = ap (λ (r : Row). r.block) its_row
+
+    there : block_at (blocks_of stored) row.block ≡ Some made.0
+    there = ap (block_at (blocks_of stored)) same ∙ place.there
+
+    kept : (it : Stored) × (slice_get stored row.block ≡ Some it) × (it.block ≡ made.0)
+    kept = stored-at stored row.block made.0 there
+
+module _ (stored : List Stored) (entries : List Entry) (index : UnclesValue) (found : OutPoint → Option Row) (tip : ℕ)
+    (are : AreKept stored entries index found) (is : tip_place (blocks_of stored) ≡ Some tip) (o : OutPoint) where
+  by-cell : (live : Option Cell) → live_cell (branch (blocks_of stored) tip) o ≡ live → found o ≡ option_map (row_on (blocks_of stored) tip) live
+  unfolding live_row
+  by-cell live at = are.live tip is o ∙ ap (option_map (row_on (blocks_of stored) tip)) at
+
+  -- where there is no row, no cell is live
+  pub no-cell : found o ≡ None → live_cell (best_branch (blocks_of stored)) o ≡ None
+  no-cell none = ap (λ (blocks : List Block). live_cell blocks o) (best-is (blocks_of stored) tip is)
+      ∙ by_live (live_cell (branch (blocks_of stored) tip) o) refl
+    where
+      by_live : (live : Option Cell) → live_cell (branch (blocks_of stored) tip) o ≡ live → live_cell (branch (blocks_of stored) tip) o ≡ None
+      by_live None at = at
+      by_live (Some cell) at = let row = by-cell (Some cell) at in absurd (cc)
+
+  -- and where there is one, it is the row of a cell that is live
+  pub row-cell : (row : Row) → found o ≡ Some row → (cell : Cell) × IsLiveRow (blocks_of stored) o cell row
+  row-cell row some = by_live (live_cell (branch (blocks_of stored) tip) o) refl
+    where
+      by_live : (live : Option Cell) → live_cell (branch (blocks_of stored) tip) o ≡ live → (cell : Cell) × IsLiveRow (blocks_of stored) o cell row
+      by_live None at = let row = by-cell None at in absurd (cc)
+      by_live (Some cell) at = (
+        cell,
+        record {
+          tip = tip;
+          is_tip = is;
+          live = ap (λ (blocks : List Block). live_cell blocks o) (best-is (blocks_of stored) tip is) ∙ at;
+          its_row = same_Some row (row_on (blocks_of stored) tip cell) (sym some ∙ by-cell (Some cell) at);
+        },
+      )
+
+-- the block of a live row
+pub made-of : (stored : List Stored) (entries : List Entry) (o : OutPoint) (cell : Cell) (row : Row) → IndexesBlocks (blocks_of stored) entries
+    → IsLiveRow (blocks_of stored) o cell row → IsMadeAt stored entries o cell row
+made-of stored entries o cell row indexed of_row =
+    made-at stored entries of_row.tip o cell row indexed
+    (omega (arith, len-same (blocks_of stored) entries indexed, tip_place-below (blocks_of stored) of_row.tip of_row.is_tip))
+    (ap (λ (blocks : List Block). live_cell blocks o) (sym (best-is (blocks_of stored) of_row.tip of_row.is_tip)) ∙ of_row.live) of_row.its_row

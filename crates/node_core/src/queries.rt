@@ -1,0 +1,207 @@
+// What queries ask of the kept blocks and of the live cells of the tip.
+ghost use Rattle.std.specs.Prelude.{◌≡◌, ◌≢◌, ◌≤◌, ◌<◌, ◌+◌, List, length, None, Some, Err, IfOk, IfSome, IsSome, pos};
+ghost use Rattle.std.specs.Option.{option_and_then};
+ghost use Rattle.codec_defs.specs.Shape.{encoded};
+ghost use Rattle.codec_defs.specs.Schema as schema;
+ghost use Rattle.codec_defs.specs.Schema.{Block};
+ghost use Rattle.time_defs.specs.Dao.{as_u64, counted_capacity};
+ghost use Rattle.chain_defs.specs.Kept.{block_at};
+ghost use Rattle.chain_defs.specs.Tip.{best_branch};
+ghost use Rattle.tx_defs.specs.Capacity.{rate_of};
+ghost use Rattle.outside.specs.declared.disk.Area.TheVariants.{Log};
+ghost use Rattle.outside.specs.declared.disk.Damage.{Damage as a_damage};
+ghost use Rattle.outside.specs.declared.disk.ReadStop.TheVariants.{DiskFault, Damaged};
+ghost use Rattle.node_core.specs.Queries.{IsHeaderAt, IsLiveCell, IsFetched};
+
+use crate::kept::Kept;
+use cell_model::{CellMeta, Cells, OutPoint, Resolved, fetch};
+use chain_tree::Blocks;
+use dao_math::{Dao, max_withdraw};
+use mol_schema::BlockView;
+use outside::{Area, Damage, ReadStop};
+use std::alloc::Global;
+use std::marker::Model;
+
+/// The header of a kept block, and the hash of the block.
+#[derive(Drop)]
+pub struct HeaderAt {
+    pub hash: [u8; 32],
+    /// As the schema's `Header` encodes it.
+    pub bytes: [u8; 208],
+}
+
+impl Model for HeaderAt {
+    ghost use Rattle.node_core.specs.Queries.{HeaderValue};
+
+    ghost Value = { HeaderValue };
+
+    ghost view = { λ it. record { hash = it.hash; bytes = it.bytes } };
+}
+
+/// A live cell, as its row.
+#[derive(Drop)]
+pub struct Live {
+    pub meta: CellMeta,
+    /// The height of the block that made it.
+    pub height: u64,
+}
+
+impl Model for Live {
+    ghost use Rattle.node_core.specs.Queries.{LiveValue};
+
+    ghost Value = { LiveValue };
+
+    ghost view = { λ it. record { row = it.meta; height = it.height } };
+}
+
+/// A live cell with a copy of its bytes.
+#[derive(Drop)]
+pub struct Fetched {
+    pub copy: Resolved,
+    /// The height of the block that made it.
+    pub height: u64,
+}
+
+impl Model for Fetched {
+    ghost use Rattle.node_core.specs.Queries.{FetchedValue};
+
+    ghost Value = { FetchedValue };
+
+    ghost view = { λ it. record { copy = it.copy; height = it.height } };
+}
+
+/// What stands in LOG is not what the tree or the rows say.
+fn damaged() -> ReadStop
+    ensures { result ≡ Damaged (record { area = Log; at = 0 }) }
+{
+    ReadStop::Damaged(Damage {
+        area: Area::Log,
+        at: 0,
+    })
+}
+
+/// The bytes of a block's header.
+fn header_of(block: &BlockView<'_>) -> [u8; 208]
+    ensures { result ≡ encoded schema.header block.now.header }
+{
+    let mut bytes = [0u8; 208];
+    bytes.copy_from_slice(block.header().bytes());
+    bytes
+}
+
+impl Kept {
+    /// The place of the block at a height of the best branch.
+    fn place_at(&self, height: u64) -> Option<u32>
+        ensures within { IfSome result (λ place. place < length self.now.chain.blocks) }
+        ensures block { option_and_then (block_at self.now.chain.blocks) result ≡ block_at (best_branch self.now.chain.blocks) height }
+    {
+        let tip = self.tree.tip();
+        if height > self.tree.entry(tip).number {
+            return None;
+        }
+        Some(self.tree.ancestor(tip, height))
+    }
+
+    /// The accumulated rate of the DAO at a height of the best branch.
+    fn rate_at(&self, height: u64) -> Option<u64>
+        ensures rate { IfSome result (λ rate. rate ≡ rate_of (block_at (best_branch self.now.chain.blocks) height)) }
+        ensures rated { IfSome result (λ rate. 0 < rate) }
+        ensures there { height < length (best_branch self.now.chain.blocks) → IsSome result }
+    {
+        match self.place_at(height) {
+            None => None,
+            Some(place) => Some(Dao::read(&self.tree.entry(place).dao).ar),
+        }
+    }
+
+    /// The height of the tip.
+    pub(crate) fn height(&self) -> u64
+        ensures { result + 1 ≡ length (best_branch self.now.chain.blocks) }
+    {
+        self.tree.entry(self.tree.tip()).number
+    }
+
+    /// The header at a height of the best branch.
+    pub(crate) fn header(&mut self, height: u64) -> Result<Option<HeaderAt>, ReadStop>
+        ensures same { self.new ≡ self.old }
+        ensures header { IfOk result (IsHeaderAt self.old.chain.blocks height) }
+        ensures undamaged { (damage : a_damage) → result ≡ Err (Damaged damage) → ⊥ }
+        ensures reads { result ≢ Err DiskFault }
+    {
+        let Some(place) = self.place_at(height) else {
+            return Ok(None);
+        };
+        match self.blocks.bring(place) {
+            Ok(()) => {}
+            Err(stop) => return Err(stop),
+        }
+        Ok(Some(HeaderAt {
+            hash: self.tree.entry(place).hash,
+            bytes: header_of(&self.blocks.block()),
+        }))
+    }
+
+    /// The live cell with an out-point.
+    pub(crate) fn live(&self, o: &OutPoint) -> Option<Live>
+        ensures live { IsLiveCell self.now.chain.blocks o.now result }
+        ensures within { IfSome result (λ live. live.row.block < length self.now.chain.blocks) }
+    {
+        let kept = self.tree.len();
+        let Some(meta) = self.state.get(o) else {
+            return None;
+        };
+        // (the block of each row is kept)
+        if meta.block >= kept {
+            return None;
+        }
+        let height = self.tree.entry(meta.block).number;
+        Some(Live { meta, height })
+    }
+
+    /// The live cell with an out-point, with a copy of its bytes.
+    pub(crate) fn fetch(&mut self, alloc: Global, o: OutPoint) -> Result<Option<Fetched>, ReadStop>
+        ensures same { self.new ≡ self.old }
+        ensures fetched { IfOk result (IsFetched self.old.chain.blocks o) }
+        ensures undamaged { (damage : a_damage) → result ≡ Err (Damaged damage) → ⊥ }
+        ensures reads { result ≢ Err DiskFault }
+    {
+        let Some(live) = self.live(&o) else {
+            return Ok(None);
+        };
+        let Live { meta, height } = live;
+        let copy = match fetch(alloc, &mut self.blocks, o, meta) {
+            Ok(copy) => copy,
+            Err(stop) => return Err(stop),
+        };
+        Ok(Some(Fetched { copy, height }))
+    }
+
+    /// What a cell of this capacity and occupied capacity counts, in shannons, that was deposited at a height of the best
+    /// branch and whose withdrawing cell was made at another; none above the greatest u64. Damaged where the branch has
+    /// not these heights, or the cell does not hold what it occupies.
+    pub(crate) fn counted(
+        &self,
+        capacity: u64,
+        occupied: u64,
+        made: u64,
+        deposit: u64,
+    ) -> Result<Option<u64>, ReadStop>
+        ensures counted { IfOk result (λ amount. amount ≡ as_u64 (pos (counted_capacity capacity occupied
+            (rate_of (block_at (best_branch self.now.chain.blocks) made)) (rate_of (block_at (best_branch self.now.chain.blocks) deposit))))) }
+        ensures undamaged { occupied ≤ capacity → made < length (best_branch self.now.chain.blocks) → deposit < length (best_branch self.now.chain.blocks)
+            → (damage : a_damage) → result ≡ Err (Damaged damage) → ⊥ }
+        ensures damage { (damage : a_damage) → result ≡ Err (Damaged damage) → damage.area ≡ Log }
+        ensures reads { result ≢ Err DiskFault }
+    {
+        if occupied > capacity {
+            return Err(damaged());
+        }
+        let Some(made_rate) = self.rate_at(made) else {
+            return Err(damaged());
+        };
+        let Some(deposit_rate) = self.rate_at(deposit) else {
+            return Err(damaged());
+        };
+        Ok(max_withdraw(capacity, occupied, made_rate, deposit_rate))
+    }
+}
