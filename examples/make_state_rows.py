@@ -14,6 +14,8 @@ A row is `state`, what is wanted, and bytes in hex, with a tab between two:
     load COUNT          so many made-up rows are added
     rows COUNT HASH     how many rows there are, and the hash of all in order
     row HASH, none      an out-point: the hash of its row
+    undone PLACE, live PLACE OUTPOINT
+                        a Block and an ext: what taking it back is answered
 
 A row is hashed as docs/STORE.md has its bytes. The cells are kept in a dict, as
 docs/RULES.md ("Cells") and docs/STORE.md say; nothing is taken from the program.
@@ -126,6 +128,33 @@ class Cells:
         print('state\t%s\t%s' % (odd or 'ok %d' % place, block(transactions, number).hex()))
         self.all()
 
+    def spent(self, transactions):
+        """The rows of the live cells that transactions spend, in the order of spending."""
+        left, spent = dict(self.rows), []
+        for tx, (_, (tx_hash, spends, outputs, _)) in enumerate(transactions):
+            for o in (spends if tx > 0 else []):
+                if o in left:
+                    spent.append(left.pop(o))
+            for i in range(len(outputs)):
+                left.pop(tx_hash + uint(i, 4), None)
+        return spent
+
+    def undo(self, place, transactions, spent):
+        rows, odd = dict(self.rows), None
+        for _, (tx_hash, _, outputs, _) in transactions:
+            for i in range(len(outputs)):
+                rows.pop(tx_hash + uint(i, 4), None)
+        for row in spent:
+            if row[:36] in rows:
+                odd = 'live %d %s' % (place, named(row[:36]))
+                break
+            rows[row[:36]] = row
+        if not odd:
+            self.rows = rows
+        fees = fixvec([uint(0, 8) for _ in transactions[1:]])
+        print('state\t%s\t%s\t%s' % (odd or 'undone %d' % place, block(transactions).hex(), (fees + fixvec(spent)).hex()))
+        self.all()
+
     def all(self):
         rows = [self.rows[o] for o in sorted(self.rows, key=order)]
         print('state\trows %d %s\t' % (len(rows), ckbhash(b''.join(rows)).hex()))
@@ -144,6 +173,56 @@ class Cells:
 
 
 # --------------------------------------------------------------------- rows
+
+def taken_back(first, second):
+    cells = Cells()
+    cells.genesis([first, second])
+    base = cellbase(30, [Output(70 * BYTE, b'base')])
+    made = transaction([out_point(first, 0)], [Output(10 ** 10, b'x'), Output(2 * 10 ** 10, b'y')])
+    free = transaction([], [Output(6 * BYTE, b'f'), Output(7 * BYTE, b'g')])
+    blocks = [
+        [base],
+        [],
+        # made and spent in the block
+        [cellbase(31), made, transaction([out_point(made, 1), out_point(first, 1)], [Output(BYTE, b'z')])],
+        [cellbase(32), free],
+        # spent and made again
+        [cellbase(33), transaction([out_point(free, 0), out_point(base, 0)], [Output(BYTE, b'1')]),
+         transaction([out_point(free, 1)], []), free],
+        # spent, made again and spent again
+        [cellbase(34), transaction([out_point(free, 1), out_point(free, 0)], [Output(BYTE, b'2')]), free,
+         transaction([out_point(free, 0)], [Output(BYTE, b'3')])],
+        # made again over two blocks
+        [cellbase(35), transaction([out_point(free, 1)], [Output(BYTE, b'4')])],
+        [base, free],
+    ]
+    exts = []
+    for place, transactions in enumerate(blocks, 1):
+        exts.append(cells.spent(transactions))
+        cells.apply(place, transactions)
+    for place in range(len(blocks), 0, -1):
+        cells.undo(place, blocks[place - 1], exts[place - 1])
+        for o in (out_point(first, 0), out_point(free, 0), out_point(free, 1)):
+            cells.row(o)
+
+    # rows that find their out-point live: the first of two, one that stands twice, one behind a row that fits
+    rows = [cells.rows[o] for o in sorted(cells.rows, key=order)]
+    gone = cells.rows[out_point(first, 0)]
+    cells.apply(1, [cellbase(36), transaction([out_point(first, 0)], [Output(BYTE, b'5')])])
+    there = [row for row in rows if row != gone]
+    for spent in ([there[1], there[0]], [there[0], there[1]], [gone, gone], [gone, there[0], gone]):
+        cells.undo(1, [cellbase(36), transaction([out_point(first, 0)], [Output(BYTE, b'5')])], spent)
+    cells.row(out_point(first, 0))
+    # a row of what the block makes is put back: that is dropped before
+    again = cellbase(37, [Output(BYTE, b'6')])
+    cells.apply(2, [again])
+    own = cells.rows[out_point(again, 0)]
+    cells.undo(2, [again], [own, own])
+    cells.undo(2, [again], [own[:36] + uint(9, 4) + own[40:]])
+    cells.row(out_point(again, 0))
+    # no rows for what it spends
+    cells.undo(1, [cellbase(36), transaction([out_point(first, 0)], [Output(BYTE, b'5')])], [])
+
 
 def main():
     cells = Cells()
@@ -232,6 +311,8 @@ def main():
     # a block of number 0 that is no genesis spends all the same
     cells.apply(15, [cellbase(19), transaction([out_point(other, 0)], [])], 0)
     cells.row(out_point(other, 0))
+
+    taken_back(first, second)
 
     # many rows
     cells.genesis([])

@@ -4,7 +4,7 @@ use crate::cells::{bytes_of, is_text};
 use crate::kept::out_point_in;
 use crate::rows::{hash_on, made_up};
 use blake2b_ckb::Hasher;
-use cell_model::Cells;
+use cell_model::{Cells, Ext};
 use cell_state::{Odd, State, outputs_in};
 use mol_schema::BlockView;
 use outside::{NoMemory, Steps};
@@ -20,6 +20,10 @@ pub(crate) fn agrees<L: Ledger>(
     columns: &str,
 ) -> Option<bool> {
     let (wanted, digits) = columns.split_once('\t')?;
+    if let Some((block, ext)) = digits.split_once('\t') {
+        let (block, ext) = (bytes_of(alloc, block)?, bytes_of(alloc, ext)?);
+        return is_undone(alloc, state.as_mut()?, steps, wanted, &block, &ext);
+    }
     let bytes = bytes_of(alloc, digits)?;
     if wanted == "genesis" {
         return begins(alloc, state, &bytes);
@@ -103,6 +107,40 @@ fn applied<L: Ledger>(
     state.reserve(outputs_in(&block)).ok()?;
     match state.apply(&block, place, steps) {
         Ok(()) => format!(in alloc; "ok {place}").ok(),
+        Err(odd) => odd_text(alloc, place, odd),
+    }
+}
+
+/// Whether a block that is taken back with an ext is answered what is wanted.
+fn is_undone<L: Ledger>(
+    alloc: Global,
+    state: &mut State,
+    steps: &mut Steps<L>,
+    wanted: &str,
+    block: &[u8],
+    ext: &[u8],
+) -> Option<bool> {
+    let (_, rest) = wanted.split_once(' ')?;
+    is_text(
+        undone(alloc, state, steps, place_of(rest)?, block, ext),
+        wanted,
+    )
+}
+
+/// What a block at a place that is taken back with an ext is answered.
+fn undone<L: Ledger>(
+    alloc: Global,
+    state: &mut State,
+    steps: &mut Steps<L>,
+    place: u32,
+    block: &[u8],
+    ext: &[u8],
+) -> Option<String> {
+    let block = BlockView::read(block)?;
+    let ext = Ext::read(alloc, ext).ok()??;
+    state.reserve(ext.spent.len() as u64).ok()?;
+    match state.undo(&block, &ext, steps) {
+        Ok(()) => format!(in alloc; "undone {place}").ok(),
         Err(odd) => odd_text(alloc, place, odd),
     }
 }
