@@ -194,6 +194,12 @@ def lacking(size, txs, ids=()):
     return max(0, size - len(block(0, 0, 0, ZERO, DAO, 0, txs, list(ids))[0]))
 
 
+def genesis_transaction(data=b'', pairs=0):
+    """The program, the coin with some data, and pairs of cells."""
+    return transaction([], [le(0, 8) + NULL], [output(17_300_000_000), output(COIN)] + [output(PAIRED)] * (2 * pairs),
+                       [FILE, data] + [b''] * (2 * pairs), [])
+
+
 def make(seed, n, plain=False, block_bytes=0, genesis_bytes=0, pairs=0, row=False, far=W_FAR):
     """(specification, genesis, blocks, [(number, hash)] of genesis and blocks,
     the tip's place).  The genesis, by data of a cell, and each block, by the
@@ -203,12 +209,7 @@ def make(seed, n, plain=False, block_bytes=0, genesis_bytes=0, pairs=0, row=Fals
     some have a sibling that a later one stands on.  The proposal window reaches
     so far back."""
 
-    def first_with(data):
-        return transaction([], [le(0, 8) + NULL],
-                           [output(17_300_000_000), output(COIN)] + [output(PAIRED)] * (2 * pairs),
-                           [FILE, data] + [b''] * (2 * pairs), [])
-
-    first = first_with(bytes(lacking(genesis_bytes, [first_with(b'')])))
+    first = genesis_transaction(bytes(lacking(genesis_bytes, [genesis_transaction(b'', pairs)])), pairs)
     heights = Heights(first, plain, block_bytes, pairs, far)
     genesis, top = block(0, 0, 1000, ZERO, heights.dao[0], 0, [first], [])
     kept = [(0, top)]

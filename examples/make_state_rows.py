@@ -205,7 +205,7 @@ def taken_back(first, second):
         for o in (out_point(first, 0), out_point(free, 0), out_point(free, 1)):
             cells.row(o)
 
-    # rows that find their out-point live: the first of two, one that stands twice, one behind a row that fits
+    # rows that find their out-point live: the first of two, one that stands twice, one after a row that fits
     rows = [cells.rows[o] for o in sorted(cells.rows, key=order)]
     gone = cells.rows[out_point(first, 0)]
     cells.apply(1, [cellbase(36), transaction([out_point(first, 0)], [Output(BYTE, b'5')])])

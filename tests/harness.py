@@ -20,6 +20,8 @@ import make_first_blocks as first  # noqa: E402
 
 SCRIPT = os.path.join(TOP, 'ckbdev')
 PRIMES = os.path.join(TOP, 'examples', 'primes.elf')
+# the folder of the sample scripts
+SCRIPTS = os.path.join(TOP, 'examples', 'scripts')
 ITEM_LIMIT, GENESIS_LIMIT = 1 << 20, 4 << 20
 SECONDS = 120
 # the sizes in which a pipe is fed, in turn

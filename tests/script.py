@@ -8,6 +8,7 @@ import subprocess
 import sys
 import time
 
+import script_scene as scene
 from harness import (CONTRACT_INIT, CONTRACT_LINE, FIRST_INIT, FIRST_LINE, SCRIPT, SECONDS, TOP, Ran, chain_of,
                      contract, first, line_of, must, must_answer, must_be, must_have_tip, new_folder, new_store,
                      started, status_of)
@@ -228,7 +229,8 @@ def check_script_tells_words_without_a_build(_):
         usages = [it.run(words=[word]) for word in ('--help', '-h')]
         must_be(usages[0], usages[1], '--help and -h')
         must_be((usages[0][0], usages[0][2]), (0, b''), '--help')
-        for command in ('init', 'import', 'check', 'tip', 'header N', 'epoch', 'cell HASH N', 'dao HASH N', 'exec N', 'asm', 'dis', 'unjson'):
+        for command in ('init', 'import', 'check', 'tip', 'header N', 'epoch', 'cell HASH N', 'dao HASH N', 'exec N',
+                        'asm', 'dis', 'unjson'):
             lines = [line for line in usages[0][1].splitlines() if b'ckbdev FOLDER %s ' % command.encode() in line]
             must_be(len(lines), 1, 'lines of --help on ' + command)
         status, out, err = it.run(words=['--version'])
@@ -367,44 +369,54 @@ def check_examples(_):
         must_answer(ran, 0, b'genesis 0x%s\n' % first.store.ckbhash(given[120:328]).hex().encode(), repr(words))
 
 
+def live_line(cell, height):
+    """What `cell` tells of a live cell without a type script, made at this height."""
+    return ('live %d %d %d 0x%s - 0x%s %d\n' % (cell.capacity, cell.occupied(), height, cell.lock.hash().hex(),
+                                              scene.data_hash(cell.content).hex(), len(cell.content))).encode()
+
+
 def check_readme(_):
     """What the README shows is what comes."""
     with open(os.path.join(TOP, 'README.md'), encoding='utf-8') as f:
         readme = f.read()
     items, tip = first.first_blocks()
     _, text = first.input_and_text(items)
-    shown = {
-        'cat examples/spec.bin examples/genesis.bin | ./ckbdev chain init': (0, FIRST_LINE),
-        './ckbdev chain import < examples/first-blocks.bin': (1, text),
-        './ckbdev chain tip': (0, (first.tip(tip) + '\n').encode()),
-        './ckbdev chain exec 1000000 < examples/primes.elf': (0, b'exit 25 8337\n'),
-        'tail -c +177 examples/primes.elf | head -c 64 | ./ckbdev chain dis | tail -n 5':
-            (0, b'50 addi x17,x0,93\n54 ecall\n58 addiw x10,x10,1\n60 addiw x14,x14,1\n62 jal x0,-52\n'),
-        "printf 'addi x17,x0,93\\naddi x10,x0,0\\necall\\n' | ./ckbdev chain asm > exit0.elf": (0, b''),
-        './ckbdev chain exec 505 < exit0.elf': (0, b'exit 0 505\n'),
-    }
+    of_chain = [
+        ('cat examples/spec.bin examples/genesis.bin | ./ckbdev chain init', 0, FIRST_LINE),
+        ('./ckbdev chain import < examples/first-blocks.bin', 1, text),
+        ('./ckbdev chain tip', 0, (first.tip(tip) + '\n').encode()),
+    ]
+    of_program = [
+        ('./ckbdev chain exec 1000000 < examples/primes.elf', 0, b'exit 25 8337\n'),
+        ('tail -c +177 examples/primes.elf | head -c 64 | ./ckbdev chain dis | tail -n 5', 0,
+         b'50 addi x17,x0,93\n54 ecall\n58 addiw x10,x10,1\n60 addiw x14,x14,1\n62 jal x0,-52\n'),
+        ("printf 'addi x17,x0,93\\naddi x10,x0,0\\necall\\n' | ./ckbdev chain asm > exit0.elf", 0, b''),
+        ('./ckbdev chain exec 505 < exit0.elf', 0, b'exit 0 505\n'),
+    ]
     makes = ('python3 examples/make_store.py --window 2 11 --output 23100000000 '
              '"$(od -An -v -tx1 examples/scripts/exit.elf)"')
-    of_contract = {
-        makes + ' | ./ckbdev contract init': (0, CONTRACT_LINE),
-        './ckbdev contract import < examples/contract-chain.bin':
-            (1, first.input_and_text(contract.contract_chain()[0])[1]),
-        './ckbdev contract check < examples/transfer.bin': (0, (contract.transfer()[1] + '\n').encode()),
-        './ckbdev contract check < examples/refused.bin': (1, (contract.refused()[1] + '\n').encode()),
-    }
+    coin = './ckbdev contract cell 0x%s 1' % contract.First.hash.hex()
+    of_contract = [
+        (makes + ' | ./ckbdev contract init', 0, CONTRACT_LINE),
+        (coin, 0, live_line(contract.First.outputs[1], 0)),
+        ('./ckbdev contract import < examples/contract-chain.bin', 1,
+         first.input_and_text(contract.contract_chain()[0])[1]),
+        (coin, 0, b'none\n'),
+        ('./ckbdev contract check < examples/transfer.bin', 0, (contract.transfer()[1] + '\n').encode()),
+        ('./ckbdev contract check < examples/refused.bin', 1, (contract.refused()[1] + '\n').encode()),
+    ]
     with new_folder() as away:
         for folder in ('chain', 'contract'):
             must('mkdir %s\n' % folder in readme, 'the README does not make the folder %s' % folder)
             os.mkdir(os.path.join(away, folder))
         for name in ('ckbdev', 'examples'):
             os.symlink(os.path.join(TOP, name), os.path.join(away, name))
-        for line, (status, wanted) in {**shown, **of_contract}.items():
-            must(line in readme, 'the README lacks the line %s' % line)
-            must(wanted.decode() in readme, 'the README does not show what %s prints' % line)
+        for line, status, wanted in of_chain + of_contract + of_program:
+            must('\n%s\n%s' % (line, wanted.decode()) in readme, 'the README does not show %s with what it prints' % line)
             must_answer(Ran(['sh', '-c', line], cwd=away), status, wanted, line)
         ran = Ran(['sh', os.path.join(TOP, 'examples', 'first-chain.sh'), 'new'], cwd=away)
         must_be((ran.status, ran.err), (0, b''), 'first-chain.sh')
-        for status, wanted in shown.values():
-            must(wanted in ran.out or b'exit' in wanted, 'first-chain.sh does not show %r' % wanted)
+        for _, _, wanted in of_chain:
+            must(wanted in ran.out, 'first-chain.sh does not show %r' % wanted)
         must_be(sorted(os.listdir(os.path.join(away, 'new'))), ['log.bin', 'snap_a.bin', 'snap_b.bin'],
                 'what first-chain.sh leaves in its folder')

@@ -3,9 +3,10 @@
 import os
 import resource
 import subprocess
+from random import Random
 
-from harness import (CONTRACT_INIT, CONTRACT_LINE, FIRST_INIT, FIRST_LINE, GENESIS_LIMIT, ITEM_LIMIT, PRIMES, Ran,
-                     chain_of, chaingen, contract, contract_store, file_with, first, line_of, log_of, must,
+from harness import (CONTRACT_INIT, CONTRACT_LINE, FIRST_INIT, FIRST_LINE, GENESIS_LIMIT, ITEM_LIMIT, PRIMES, SCRIPTS,
+                     Ran, chain_of, chaingen, contract, contract_store, file_with, first, line_of, log_of, must,
                      must_answer, must_be, must_have_tip, new_folder, new_store, size_word, started, status_of, write)
 
 SPEC, GENESIS = first.SPEC.item(), first.GENESIS.item()
@@ -382,7 +383,7 @@ def check_statuses_of_texts(program):
     cases = [
         ('a program that exits', 'asm', text, 0, exit0),
         ('no text', 'asm', b'', 0, elf()),
-        ('a bad line behind two skipped ones', 'asm', b'# a note\n\nnop\n', 1, b'bad line 3\n'),
+        ('a bad line after two skipped ones', 'asm', b'# a note\n\nnop\n', 1, b'bad line 3\n'),
         ('the longest text', 'asm', b'\n' * (1 << 20), 0, elf()),
         ('a longer text', 'asm', b'\n' * ((1 << 20) + 2), 12, b'extra 1048576\n'),
         ('its code', 'dis', exit0[-12:], 0, listing),
@@ -398,6 +399,50 @@ def check_statuses_of_texts(program):
             must_answer(Ran([program, '/no/such/folder', word], stdin, piped), status, wanted, '%s: %s' % (word, what))
     ran = Ran([program, 'any', 'unjson'], b' ' * (1 << 25))
     must(ran.read <= (1 << 24) + 1, 'more is read than a byte past the longest text')
+
+
+def instructions_of(program, code):
+    """The texts of the instructions in a listing of code, without what is none, each with its offset."""
+    lines = [line.split(b' ', 1) for line in Ran([program, 'any', 'dis'], code).out.splitlines()]
+    return [(int(offset), text) for offset, text in lines if not text.startswith(b'.')]
+
+
+def check_listings_assemble(program):
+    """Each instruction that `dis` lists goes back through `asm`, to a word of four bytes that is listed so again."""
+    random = Random(1)
+    codes = [random.randbytes(1 << 20) for _ in range(1)] + [
+        b''.join(random.getrandbits(32).to_bytes(4, 'little') for _ in range(50000)) for _ in range(2)]
+    for name in sorted(os.listdir(SCRIPTS)):
+        if name.endswith('.elf'):
+            with open(os.path.join(SCRIPTS, name), 'rb') as f:
+                codes.append(f.read())
+    with open(PRIMES, 'rb') as f:
+        codes.append(f.read())
+    some = 0
+    for code in codes:
+        texts = [text for _, text in instructions_of(program, code)]
+        some += len(texts)
+        # a text of `asm` has at most 1,048,576 bytes, and a line of `dis` is shorter than 40
+        for at in range(0, len(texts), 25000):
+            part = texts[at:at + 25000]
+            ran = Ran([program, 'any', 'asm'], b''.join(text + b'\n' for text in part))
+            must_be((ran.status, len(ran.out)), (0, 120 + 4 * len(part)), 'asm of a listing')
+            must_be(instructions_of(program, ran.out[120:]), [(4 * i, text) for i, text in enumerate(part)],
+                    'the listing of what asm makes of a listing')
+    must(some > 100000, 'only %d instructions were listed' % some)
+
+
+def check_no_other_line_assembles(program):
+    for line in ('addi x1,x1,2048', 'addi x1,x1,-2049', 'addi x32,x0,0', 'addi x1, x1,1', 'addi  x1,x1,1', ' ecall', 'ecall ',
+                 'addi\tx1,x1,1', 'ADDI x1,x1,1', 'addi X1,x1,1', 'addi x1,x1,+1', 'addi x1,x1,-0', 'addi x1,x1,007',
+                 'addi x01,x1,1', 'ecall\r', 'nop', 'beq x1,x2,1', 'beq x1,x2,4096', 'jal x1,1048576', 'lui x1,1048576',
+                 'lui x1,-1', 'slli x1,x1,64', 'slliw x1,x1,32', 'sw x1,x2', 'lw x1,(x2)', 'lw x1,0(x2)#', 'addi x1,x1,0x1'):
+        must_answer(Ran([program, 'any', 'asm'], b'ecall\n' + line.encode() + b'\n'), 1, b'bad line 2\n', repr(line))
+    for line in ('addi x1,x1,2047', 'addi x1,x1,-2048', 'beq x1,x2,-4096', 'beq x1,x2,4094', 'jal x1,-1048576',
+                 'jal x1,1048574', 'lui x31,1048575', 'lui x0,0', 'slli x1,x1,63', 'slliw x1,x1,31', 'sd x31,-2048(x30)',
+                 'lw x1,2047(x2)', 'fence', 'fence.i', 'ebreak'):
+        ran = Ran([program, 'any', 'asm'], line.encode())
+        must_be((ran.status, instructions_of(program, ran.out[120:])), (0, [(0, line.encode())]), repr(line))
 
 
 # --------------------------------------------------------------------- faults
