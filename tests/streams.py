@@ -244,6 +244,21 @@ def check_out_of_memory(program):
         must_answer(ran, 6, b'', 'check, where memory does not hold the blocks')
 
 
+def check_size_words(program):
+    """What a size word alone asks for takes no more memory than an item may have, whatever it says."""
+    def limit():
+        resource.setrlimit(resource.RLIMIT_AS, (14 << 20, 14 << 20))
+
+    chain = chain_of(1)
+    with chain.store(program) as folder:
+        for words in ('import', 'check'):
+            for size in (2 ** 20 + 1, 2 ** 31, 2 ** 32 - 1):
+                ran = Ran([program, folder, words], size_word(size), preexec_fn=limit)
+                must_answer(ran, 9, b'bad size 0\n', '%s, a size of %d' % (words, size))
+            ran = Ran([program, folder, words], size_word(2 ** 20), preexec_fn=limit)
+            must_answer(ran, 8, b'cut 0\n', '%s, a size of the most, cut' % words)
+
+
 # ---------------------------------------------------------------------- check
 
 def tried_transactions():

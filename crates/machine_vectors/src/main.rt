@@ -20,7 +20,7 @@
 //! written from the RISC-V manual alone.
 //!
 //! `syscall` has the registers a0 to a5 and a7 in hex, the budget, what the world answers, memory before the call, its pages
-//! of code, and the answer. Behind `done` are a0, the cycles, what the call changed in memory, and its pages of code; at any
+//! of code, and the answer. After `done` are a0, the cycles, what the call changed in memory, and its pages of code; at any
 //! other answer these are not looked at. The answers are those of a program that was written from RFC 0009 and
 //! docs/MACHINE.md alone.
 //!

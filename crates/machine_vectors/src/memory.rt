@@ -62,7 +62,7 @@ fn agrees_on_fetch(memory: &Memory, row: &mut Row) -> Option<bool> {
     Some(is_number(found, row.word()))
 }
 
-/// The instruction as an assembler's text, and behind a space its length.
+/// The instruction as an assembler's text, and after a space its length.
 fn is_instruction(alloc: Global, ins: Ins, length: u8, wanted: &str) -> Option<bool> {
     let text = show(alloc, &ins).ok()?;
     let (named, digits) = wanted.rsplit_once(' ')?;

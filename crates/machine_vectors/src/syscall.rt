@@ -25,7 +25,7 @@ impl<'a> Numbers<'a> {
     }
 }
 
-/// Writes a run of bytes, which stand behind their address.
+/// Writes a run of bytes, which stand after their address.
 fn write_run(alloc: Global, memory: &mut Memory, run: &str) -> Option<()> {
     let (at, digits) = run.split_once(':')?;
     let at = u64::from_str_radix(at, 16).ok()?;

@@ -1,6 +1,6 @@
 //! A table of tests on standard input: its rows, and how many of them agree.
 //!
-//! A row is a line: a word, and behind it a column for each argument and for what is wanted, with a tab between two.
+//! A row is a line: a word, and after it a column for each argument and for what is wanted, with a tab between two.
 //! A line that begins with `#` tells what follows.
 #![tactic(auto)]
 

@@ -25,7 +25,7 @@ impl<'a> Row<'a> {
         self.rest
     }
 
-    /// A number in decimal, or in hex behind `0x`.
+    /// A number in decimal, or in hex after `0x`.
     pub fn wide(&mut self) -> Option<u128> {
         let word = self.word();
         match word.strip_prefix("0x") {
@@ -49,7 +49,7 @@ impl<'a> Row<'a> {
         i128::from_str_radix(self.word(), 10).ok()
     }
 
-    /// A number in hex, with nothing in front of it.
+    /// A number in hex, with nothing before it.
     pub fn digits(&mut self) -> Option<u64> {
         u64::from_str_radix(self.word(), 16).ok()
     }

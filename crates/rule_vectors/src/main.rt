@@ -1,8 +1,8 @@
 //! Time, money, and the rules on a block apart from its transactions: tries each row of its standard input, and prints the
 //! rows that differ.
 //!
-//! A row is a word and its columns, with a tab between two, bytes in hex. Behind `time` stands what is called of epochs, sinces
-//! and the DAO's numbers, then its arguments and its answer; numbers are in decimal, or in hex behind `0x`. These answers come
+//! A row is a word and its columns, with a tab between two, bytes in hex. After `time` stands what is called of epochs, sinces
+//! and the DAO's numbers, then its arguments and its answer; numbers are in decimal, or in hex after `0x`. These answers come
 //! from the rules and were worked by hand.
 //!
 //! The other rows are about a chain. `spec` and `genesis` begin a chain, and a `block`

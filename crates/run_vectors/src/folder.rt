@@ -1,6 +1,6 @@
 // A folder as a disk in memory.
 
-use crate::row::LogFront;
+use crate::row::LogPrefix;
 use outside::{Area, Disk, Failed, write_durably};
 use outside_mem::MemDisk;
 use sha2::{Digest, Sha256};
@@ -19,11 +19,11 @@ pub fn put(disk: &mut MemDisk, area: Area, bytes: &[u8]) -> Result<(), Failed> {
 }
 
 /// Whether LOG is as it must be up to its end.
-pub fn is_log(disk: &mut MemDisk, bytes: &mut [u8], front: &LogFront) -> bool {
+pub fn is_log(disk: &mut MemDisk, bytes: &mut [u8], prefix: &LogPrefix) -> bool {
     let Ok(n) = disk.read(Area::Log, 0, bytes) else {
         return false;
     };
-    let end = (front.end as usize).min(n);
+    let end = (prefix.end as usize).min(n);
     let digest: [u8; 32] = Sha256::digest(&bytes[..end]);
-    digest.as_slice() == front.digest.as_slice()
+    digest.as_slice() == prefix.digest.as_slice()
 }

@@ -12,7 +12,7 @@ const HEADERS: u64 = 18_723;
 // how many program headers of `zeros` have a byte in the file, and go to a page each
 const WRITERS: u64 = 1_023;
 
-// the file's header: the program begins at 0, and the table right behind the header
+// the file's header: the program begins at 0, and the table right after the header
 const HEADER: [u8; 64] = [
     0x7f, b'E', b'L', b'F', 2, 1, 1, 0, 0, 0, 0, 0, 0, 0, 0, 0, //
     2, 0, 243, 0, 1, 0, 0, 0, 0, 0, 0, 0, 0, 0, 0, 0, //

@@ -1,17 +1,18 @@
 //! Runs the program on each row of its standard input.
 //!
-//! A row of a run has five or six columns, with a tab between two: a name, the words behind the folder, the number of the
-//! status that is wanted, the input and the text that is wanted, both in hex (`-` for no bytes, `+N` behind them for N zero
+//! A row of a run has five or six columns, with a tab between two: a name, the words after the folder, the number of the
+//! status that is wanted, the input and the text that is wanted, both in hex (`-` for no bytes, `+N` after them for N zero
 //! bytes more, `=` for the input of the row before), and what LOG must be afterwards: an offset, a colon, and the SHA-256 of
-//! its bytes up to there. Words that begin with a colon are all words, with a comma before each. Behind a row `folder`, or
+//! its bytes up to there. Words that begin with a colon are all words, with a comma before each. After a row `folder`, or
 //! `failing` with the numbers of the calls of the disk that fail, the runs are over a new folder, and a row `put` puts bytes in
 //! place of LOG, SNAP_A or SNAP_B. A row `streams` has how many bytes a call of the next run's streams moves at most, and which
-//! reads and which writes fail; `left` has how many bytes of its input the last run left. Behind a row `list`, with numbers as
-//! `failing` has, the rows of runs up to a row `end` are one list, which is run there in one call. What is wanted was made by
-//! a program that was written from the rules of docs/ alone, and of the last rows of `exec`, and of those behind them, by hand
-//! from the same rules. Four more rows, of two files of 1 MiB that were made to be slow to load, are made here;
-//! bench/hostile.py works out their texts. Each row is run over streams and a disk in memory. The program prints each row that
-//! differs, and how many agree; its status is 1 where one differs.
+//! reads and which writes fail; `left` has how many bytes of its input the last run left. After a row `list`, with numbers as
+//! `failing` has, the rows of runs up to a row `end` are one list, which is run there in one call; they say nothing of LOG.
+//!
+//! What is wanted was made by programs that were written from the rules of docs/ alone, or by hand from the same rules. Four
+//! more rows, of two files of 1 MiB that were made to be slow to load, are made here; bench/hostile.py works out their texts.
+//! Each row is run over streams and a disk in memory. The program prints each row that differs, and how many agree; its status
+//! is 1 where one differs, or a list has no end.
 #![tactic(auto)]
 
 mod folder;
@@ -99,8 +100,9 @@ fn all_rows_agree<L: Ledger>(rt: HostRuntime, steps: &mut Steps<L>) -> io::Resul
         trial: Trial::new(rt.alloc(), Vec::new(rt.alloc())),
     };
     let all = all_agree(rt, &mut runs);
+    let ended = runs.trial.is_ended();
     drop(runs);
-    all
+    Ok(all? && ended)
 }
 
 fn run_rows<L: Ledger>(rt: HostRuntime, blank: Blank) -> io::Result<ExitCode>

@@ -7,7 +7,7 @@ use std::alloc::{AllocError, Global};
 
 /// What LOG must be up to an offset: the SHA-256 of its bytes there.
 #[derive(Drop)]
-pub struct LogFront {
+pub struct LogPrefix {
     pub end: u64,
     pub digest: Vec<u8>,
 }
@@ -18,10 +18,10 @@ pub struct Call {
     pub words: Vec<String>,
     pub status: u8,
     pub text: Vec<u8>,
-    pub log: Option<LogFront>,
+    pub log: Option<LogPrefix>,
 }
 
-/// Bytes in hex, and behind a `+` how many zero bytes follow.
+/// Bytes in hex, and after a `+` how many zero bytes follow.
 pub fn bytes_of(alloc: Global, column: &str) -> Option<Vec<u8>> {
     let (digits, zeros) = column.split_once('+').unwrap_or((column, "0"));
     let zeros: usize = zeros.parse().ok()?;
@@ -34,7 +34,7 @@ pub fn bytes_of(alloc: Global, column: &str) -> Option<Vec<u8>> {
     Some(bytes)
 }
 
-/// Behind a colon all words, with a comma before each; else a folder, and the words behind it.
+/// After a colon all words, with a comma before each; else a folder, and the words after it.
 pub fn words_of(alloc: Global, words: &str) -> Result<Vec<String>, AllocError> {
     let mut owned = Vec::new(alloc);
     if let Some(all) = words.strip_prefix(':') {
@@ -50,9 +50,9 @@ pub fn words_of(alloc: Global, words: &str) -> Result<Vec<String>, AllocError> {
     Ok(owned)
 }
 
-fn log_front_of(alloc: Global, column: &str) -> Option<LogFront> {
+fn log_prefix_of(alloc: Global, column: &str) -> Option<LogPrefix> {
     let (end, digest) = column.split_once(':')?;
-    Some(LogFront {
+    Some(LogPrefix {
         end: end.parse().ok()?,
         digest: bytes_of(alloc, digest)?,
     })
@@ -67,11 +67,11 @@ pub fn area_of(name: &str) -> Option<Area> {
     }
 }
 
-fn log_of(alloc: Global, column: &str) -> Option<Option<LogFront>> {
+fn log_of(alloc: Global, column: &str) -> Option<Option<LogPrefix>> {
     if column.is_empty() {
         return Some(None);
     }
-    Some(Some(log_front_of(alloc, column)?))
+    Some(Some(log_prefix_of(alloc, column)?))
 }
 
 /// A call by its words, the number of its status, its text, and what LOG must be.

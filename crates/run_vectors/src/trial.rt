@@ -36,11 +36,16 @@ fn status_of<S: Source, K: Sink, D: Disk, L: Ledger>(
 
 /// Whether LOG is the row's.
 fn has_log(alloc: Global, disk: &mut MemDisk, call: &Call) -> Result<bool, AllocError> {
-    let Some(front) = &call.log else {
+    let Some(wanted) = &call.log else {
         return Ok(true);
     };
     let mut log = vec![in alloc; 0u8; FILE_LIMIT]?;
-    Ok(is_log(disk, &mut log, front))
+    Ok(is_log(disk, &mut log, wanted))
+}
+
+/// Whether a row of this name acts on the folder or asks of the last run, which no row of a list may.
+fn is_of_folder(name: &str) -> bool {
+    matches!(name, "folder" | "failing" | "list" | "put" | "left")
 }
 
 impl Trial {
@@ -88,7 +93,7 @@ impl Trial {
         Ok(answers && has_log(alloc, &mut self.disk, call)?)
     }
 
-    /// A new folder, which is empty, for the rows behind it. The calls of its disk with these numbers fail.
+    /// A new folder, which is empty, for the rows after it. The calls of its disk with these numbers fail.
     fn begin_folder(&mut self, alloc: Global, failing: Vec<u64>) -> Option<bool> {
         self.disk = MemDisk::new(alloc, failing);
         Some(true)
@@ -100,6 +105,11 @@ impl Trial {
         self.begin_folder(alloc, failing)
     }
 
+    /// Whether the last list has its `end`.
+    pub fn is_ended(&self) -> bool {
+        self.list.is_none()
+    }
+
     /// Runs the list in one call.
     fn runs_list<L: Ledger>(&mut self, alloc: Global, steps: &mut Steps<L>) -> Option<bool> {
         let mut list = self.list.take()?;
@@ -108,7 +118,8 @@ impl Trial {
         Some(agrees)
     }
 
-    /// A run of the list that stands, or one by itself, and what it must answer.
+    /// A run of the list that stands, where nothing is said of LOG, or one by itself, and what it must answer. The streams of
+    /// the next run are plain again.
     fn takes<L: Ledger>(
         &mut self,
         alloc: Global,
@@ -121,8 +132,10 @@ impl Trial {
             drop(call);
             return agrees;
         };
+        let is_run = call.log.is_none();
         list.push(alloc, words, &self.behaviour, &self.input, call)?;
-        Ok(true)
+        self.behaviour = Behaviour::plain(alloc);
+        Ok(is_run)
     }
 
     /// How the streams of the next run behave.
@@ -172,7 +185,11 @@ impl Trial {
         steps: &mut Steps<L>,
         row: &mut Row,
     ) -> Option<bool> {
-        match row.word() {
+        let name = row.word();
+        if !self.is_ended() && is_of_folder(name) {
+            return None;
+        }
+        match name {
             "folder" => self.begin_folder(alloc, Vec::new(alloc)),
             "failing" => self.begin_folder(alloc, row.numbers(alloc)?),
             "list" => self.begin_list(alloc, row.numbers(alloc)?),

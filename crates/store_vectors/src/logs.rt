@@ -31,7 +31,7 @@ pub(crate) fn agrees_on_create(alloc: Global, disk: &mut MemDisk, row: &mut Row)
     }
 }
 
-/// A block and its ext, behind a new log of `spec` and `genesis`: where the records end, the kind, the place and the length
+/// A block and its ext, after a new log of `spec` and `genesis`: where the records end, the kind, the place and the length
 /// of the body.
 pub(crate) fn agrees_on_append(alloc: Global, disk: &mut MemDisk, row: &mut Row) -> Option<bool> {
     let block = row.bytes(alloc)?;

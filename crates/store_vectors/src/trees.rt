@@ -71,7 +71,7 @@ fn place_at(tree: &Tree, place: u32, number: u64) -> Option<u32> {
     Some(tree.ancestor(place, number))
 }
 
-/// A place: the ancestors from one number up to another stand one behind the other, from this place on.
+/// A place: the ancestors from one number up to another stand one after the other, from this place on.
 pub(crate) fn agrees_on_ancestors(tree: &Tree, row: &mut Row) -> Option<bool> {
     let place: u32 = row.word().parse().ok()?;
     let from = row.number()?;

@@ -1,4 +1,4 @@
-//! What a transaction is answered, alone behind the last block or in the next one.
+//! What a transaction is answered, alone after the last block or in the next one.
 
 use crate::kept::{Chain, is_placed};
 use cell_model::{ListBlocks, Resolved};
@@ -10,7 +10,7 @@ use std::string::String;
 use std::sync::ledger::Ledger;
 use tx_rules::{TxAt, TxOk, TxStop, resolve};
 
-/// Adds a word, behind a comma but for the first.
+/// Adds a word, after a comma but for the first.
 fn add_word(text: &mut String, word: &str) -> Option<()> {
     if !text.is_empty() {
         text.push(',').ok()?;
@@ -73,7 +73,7 @@ fn answer(
     text_of(alloc, &resolve(alloc, tx, at, true, state, blocks))
 }
 
-/// What a transaction is answered alone, behind the last block.
+/// What a transaction is answered alone, after the last block.
 pub(crate) fn alone(alloc: Global, chain: &mut Chain, bytes: &[u8]) -> Option<String> {
     let tx = TxView::read(bytes)?;
     let at = TxAt {
@@ -85,7 +85,7 @@ pub(crate) fn alone(alloc: Global, chain: &mut Chain, bytes: &[u8]) -> Option<St
     answer(alloc, &tx, &at, &chain.state, &mut chain.blocks)
 }
 
-/// What the transaction at a place of the next block is answered, over the live cells in front of it.
+/// What the transaction at a place of the next block is answered, over the live cells before it.
 fn answer_at(
     alloc: Global,
     chain: &mut Chain,
@@ -107,7 +107,7 @@ fn answer_at(
     answer(alloc, &tx, &at, state, &mut chain.blocks)
 }
 
-/// What the transaction of the next block behind those of its front is answered.
+/// What the transaction of the next block after those of its front is answered.
 pub(crate) fn within<L: Ledger>(
     alloc: Global,
     steps: &mut Steps<L>,

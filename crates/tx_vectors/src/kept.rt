@@ -1,4 +1,4 @@
-//! A chain in memory: its tree, its blocks with their exts, and the live cells behind the last.
+//! A chain in memory: its tree, its blocks with their exts, and the live cells after the last.
 
 ghost use Rattle.std.specs.Prelude.{◌≡◌, ◌<◌, true, false};
 ghost use Rattle.cell_model.specs.ListBlocks.{IsCanonical, IsExtFor};
@@ -20,7 +20,7 @@ use tx_rules::TxAt;
 /// The most blocks of a chain.
 const MOST: u32 = 1_000_000;
 
-/// A chain, the bytes of its blocks, and the live cells behind them, where they stand in a row.
+/// A chain, the bytes of its blocks, and the live cells after them, where they stand in a row.
 #[derive(Drop)]
 pub(crate) struct Chain {
     pub(crate) spec: Spec,
@@ -189,13 +189,13 @@ impl Chain {
         load_row(&mut self.state, steps, new, row)
     }
 
-    /// The live cells behind the genesis.
+    /// The live cells after the genesis.
     pub(crate) fn first_state(&self, alloc: Global) -> Option<State> {
         let genesis = BlockView::read(self.items.first()?)?;
         State::genesis(alloc, &genesis).ok()
     }
 
-    /// Applies the blocks behind the genesis, which stand in a row, and one more.
+    /// Applies the blocks after the genesis, which stand in a row, and one more.
     pub(crate) fn apply_all<L: Ledger>(
         &self,
         state: &mut State,

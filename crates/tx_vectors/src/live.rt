@@ -1,4 +1,4 @@
-//! The live cells behind blocks, one after the other.
+//! The live cells after blocks, one after the other.
 
 use crate::cells::{bytes_of, is_text};
 use crate::kept::out_point_in;
@@ -31,7 +31,7 @@ pub(crate) fn agrees<L: Ledger>(
     is_answered(alloc, state.as_mut()?, steps, wanted, &bytes)
 }
 
-/// The live cells behind a genesis alone.
+/// The live cells after a genesis alone.
 fn begins(alloc: Global, state: &mut Option<State>, bytes: &[u8]) -> Option<bool> {
     *state = State::genesis(alloc, &BlockView::read(bytes)?).ok();
     Some(state.is_some())
@@ -54,7 +54,7 @@ fn is_answered<L: Ledger>(
     }
 }
 
-/// The number in front of a word.
+/// The number before a word.
 fn place_of(text: &str) -> Option<u32> {
     let (place, _) = text.split_once(' ').unwrap_or((text, ""));
     place.parse().ok()

@@ -43,7 +43,7 @@ fn occupied_by(alloc: Global, columns: &str) -> Option<String> {
     format!(in alloc; "{shannons}").ok()
 }
 
-/// Adds a column with the bytes, and a comma behind it.
+/// Adds a column with the bytes, and a comma after it.
 fn put_bytes(alloc: Global, text: &mut String, bytes: &[u8]) -> Result<(), AllocError> {
     text.push_str(text_of(alloc, bytes)?.as_str())?;
     text.push(',')
@@ -97,7 +97,7 @@ fn ext(alloc: Global, bytes: &[u8]) -> Option<String> {
     text_of(alloc, &ext.write(alloc).ok()?).ok()
 }
 
-/// The fees of an ext, with a comma behind each.
+/// The fees of an ext, with a comma after each.
 fn fees(alloc: Global, bytes: &[u8]) -> Option<String> {
     let mut text = String::new(alloc);
     for fee in Ext::read(alloc, bytes).ok()??.fees {

@@ -23,7 +23,7 @@ fn failure(word: &str, numbers: &str) -> Option<Failure> {
     }
 }
 
-/// One with a number behind that place.
+/// One with a number after that place.
 fn failure_with(word: &str, numbers: &str) -> Option<Failure> {
     let (group, number) = numbers.split_once(' ')?;
     let group = group.parse().ok()?;
