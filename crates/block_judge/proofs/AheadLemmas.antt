@@ -23,6 +23,8 @@ use Rattle.block_defs.specs.Rules.{all_rules, first_broken}
 use Rattle.family_defs.specs.Rules.{family_rules}
 use Rattle.outside.specs.declared.disk.ReadStop.{ReadStop}
 use Rattle.outside.specs.declared.disk.ReadStop.TheVariants.{DiskFault, NoMemory, Damaged}
+use Rattle.rule_names.specs.Number.{rule_number}
+use Rattle.rule_names.specs.declared.rule.Rule.{Rule}
 use Rattle.block_judge.specs.declared.stop.Judged.{Judged}
 use Rattle.block_judge.specs.declared.stop.Judged.TheVariants.{Broken, Read}
 use Rattle.block_judge.specs.Ahead.{ahead, StopsAhead}
@@ -146,7 +148,7 @@ at-end spec on b kept judged =
 -- ---- Answers over any source of blocks
 
 -- a stop ahead of the transactions
-pub stops-ahead : (first : Option ℕ) (stop : Judged) → ((rule : ℕ) → stop ≡ Broken rule → first ≡ Some rule)
+pub stops-ahead : (first : Option ℕ) (stop : Judged) → ((rule : Rule) → stop ≡ Broken rule → first ≡ Some (rule_number rule))
     → ((why : ReadStop) → stop ≡ Read why → why ≡ NoMemory) → StopsAhead first stop
 stops-ahead first (Broken rule) broken memory = inl (broken rule refl)
 stops-ahead first (Read NoMemory) broken memory = tt
@@ -154,7 +156,7 @@ stops-ahead first (Read DiskFault) broken memory = absurd (not_fault (memory Dis
 stops-ahead first (Read (Damaged damage)) broken memory = absurd (not_damage (memory (Damaged damage) refl))
 
 -- one behind them, where none is broken
-pub stops-behind : (first : Option ℕ) (stop : Judged) → first ≡ None → ((rule : ℕ) → stop ≡ Broken rule → 17 < rule) → StopsAhead first stop
+pub stops-behind : (first : Option ℕ) (stop : Judged) → first ≡ None → ((rule : Rule) → stop ≡ Broken rule → 17 < rule_number rule) → StopsAhead first stop
 stops-behind first (Broken rule) none later = inr (later rule refl, none)
 stops-behind first (Read NoMemory) none later = tt
 stops-behind first (Read DiskFault) none later = none

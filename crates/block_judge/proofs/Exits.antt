@@ -5,6 +5,8 @@ use Rattle.outside.specs.Causes.{CountsFault}
 use Rattle.outside.specs.declared.disk.Damage.{Damage}
 use Rattle.outside.specs.declared.disk.ReadStop.{ReadStop}
 use Rattle.outside.specs.declared.disk.ReadStop.TheVariants.{DiskFault, NoMemory, Damaged}
+use Rattle.rule_names.specs.Number.{rule_number}
+use Rattle.rule_names.specs.declared.rule.Rule.{Rule}
 use Rattle.block_judge.specs.declared.stop.Judged.{Judged}
 use Rattle.block_judge.specs.declared.stop.Judged.TheVariants.{Broken, Read}
 
@@ -18,15 +20,15 @@ abbrev read_or : ReadStop → Judged → ReadStop
 read_or other (Broken rule) = other
 read_or other (Read stop) = stop
 
-abbrev rule_or : ℕ → Judged → ℕ
-rule_or other (Broken rule) = rule
-rule_or other (Read stop) = other
+abbrev number_or : ℕ → Judged → ℕ
+number_or other (Broken rule) = rule_number rule
+number_or other (Read stop) = other
 
 pub same_stop : {T E : Type 0} {stop given : E} → ◌≡◌ {A = Result T E} (Err stop) (Err given) → stop ≡ given
 same_stop {stop = stop} same = ap (stop_or stop) same
 
-pub same_rule : {T : Type 0} {rule given : ℕ} → ◌≡◌ {A = Result T Judged} (Err (Broken rule)) (Err (Broken given)) → rule ≡ given
-same_rule {rule = rule} same = ap (rule_or rule) (same_stop same)
+pub same_rule : {T : Type 0} {rule given : Rule} → ◌≡◌ {A = Result T Judged} (Err (Broken rule)) (Err (Broken given)) → rule_number rule ≡ rule_number given
+same_rule {rule = rule} same = ap (number_or (rule_number rule)) (same_stop same)
 
 pub same_read : {T : Type 0} {stop given : ReadStop} → ◌≡◌ {A = Result T Judged} (Err (Read stop)) (Err (Read given)) → stop ≡ given
 same_read {stop = stop} same = ap (read_or stop) (same_stop same)
@@ -74,10 +76,10 @@ pub no_error : {T E : Type 0} {value : T} {stop : E} → ◌≡◌ {A = Result T
 no_error {T = T} {E = E} same = subst (λ (it : Result T E). IsFine it) same tt
 
 -- what could not be read breaks no rule
-pub no_rule : {T : Type 0} {stop : ReadStop} {rule : ℕ} → ◌≡◌ {A = Result T Judged} (Err (Read stop)) (Err (Broken rule)) → ⊥
+pub no_rule : {T : Type 0} {stop : ReadStop} {rule : Rule} → ◌≡◌ {A = Result T Judged} (Err (Read stop)) (Err (Broken rule)) → ⊥
 no_rule same = subst IsRead (same_stop same) tt
 
-pub no_read : {T : Type 0} {rule : ℕ} {stop : ReadStop} → ◌≡◌ {A = Result T Judged} (Err (Broken rule)) (Err (Read stop)) → ⊥
+pub no_read : {T : Type 0} {rule : Rule} {stop : ReadStop} → ◌≡◌ {A = Result T Judged} (Err (Broken rule)) (Err (Read stop)) → ⊥
 no_read same = subst IsRead (sym (same_stop same)) tt
 
 -- want of memory is neither damage nor a fault

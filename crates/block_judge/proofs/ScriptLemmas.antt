@@ -10,9 +10,12 @@ use Rattle.script_defs.specs.Rules.{rule_of, keeps, script_rules, cycles_in, cyc
 use Rattle.script_run.specs.declared.stop.ScriptStop.{ScriptStop}
 use Rattle.script_run.specs.declared.stop.ScriptStop.TheVariants as running
 use Rattle.script_run.specs.Running.{IsOutcome}
+use Rattle.rule_names.specs.Number.{rule_number}
+use Rattle.rule_names.specs.declared.rule.Rule.{Rule}
+use Rattle.block_judge.specs.declared.stop.Judged.{Judged}
 use Rattle.block_judge.specs.declared.stop.Judged.TheVariants.{Broken, Read}
 use Rattle.block_judge.specs.Standing.{IsScriptRule}
-use Rattle.block_judge.specs.Stops.{of_running}
+use Rattle.block_judge.specs.Stops.{AnswersRunning}
 
 -- the rules of an outcome
 abbrev rules_of : Result ℕ Failure → List (ℕ × Bool)
@@ -38,18 +41,15 @@ scripts-keep scene left cycles is =
     (ap (λ (outcome : Result ℕ Failure). first_failing (rules_of outcome)) is ∙ none-fails cycles, sym (ap cycles_in is))
 
 -- those that fail break the rule of their failure first
-pub scripts-break : (scene : Scene) (left rule : ℕ) (stop : ScriptStop) → IsOutcome (outcome_of scene left) (Err stop)
-    → of_running stop ≡ Broken rule → first_failing (script_rules scene left) ≡ Some rule
-scripts-break scene left rule (running.Failed f) is same =
-    ap (λ (outcome : Result ℕ Failure). first_failing (rules_of outcome)) is ∙ its-rule-fails f ∙ ap Some (by_rule same)
-  where
-    by_rule : Broken (rule_of f) ≡ Broken rule → rule_of f ≡ rule
-    by_rule e = cc
-scripts-break scene left rule (running.Read stop) is same = absurd (cc)
+pub scripts-break : (scene : Scene) (left : ℕ) (rule : Rule) (stop : ScriptStop) → IsOutcome (outcome_of scene left) (Err stop)
+    → AnswersRunning stop (Broken rule) → first_failing (script_rules scene left) ≡ Some (rule_number rule)
+scripts-break scene left rule (running.Failed f) is answers =
+    ap (λ (outcome : Result ℕ Failure). first_failing (rules_of outcome)) is ∙ its-rule-fails f ∙ ap Some (sym answers)
+scripts-break scene left rule (running.Read stop) is answers = absurd (cc)
 
 -- the rules that are tried
-pub script-rule : (stop : ScriptStop) (rule : ℕ) → of_running stop ≡ Broken rule → IsScriptRule rule
-script-rule (running.Failed f) rule same = let is : rule_of f ≡ rule = cc in let its = one_of f in (omega (arith, is, its.0), omega (arith, is, its.1))
+pub script-rule : (stop : ScriptStop) (rule : Rule) → AnswersRunning stop (Broken rule) → IsScriptRule (rule_number rule)
+script-rule (running.Failed f) rule is = let its = one_of f in (omega (arith, is, its.0), omega (arith, is, its.1))
   where
     one_of : (failure : Failure) → (28 ≤ rule_of failure) × (rule_of failure ≤ 30)
     one_of (NoCode group) = (omega arith, omega arith)
@@ -58,9 +58,12 @@ script-rule (running.Failed f) rule same = let is : rule_of f ≡ rule = cc in l
     one_of (MachineFault group number) = (omega arith, omega arith)
     one_of (ExitNot0 group code) = (omega arith, omega arith)
     one_of Spent = (omega arith, omega arith)
-script-rule (running.Read stop) rule same = absurd (cc)
+script-rule (running.Read stop) rule is = absurd (cc)
 
 -- what could not be read is handed on, and comes of that alone
-pub reads-running : (stop : ScriptStop) (given : ReadStop) → of_running stop ≡ Read given → stop ≡ running.Read given
-reads-running (running.Failed f) given same = absurd (cc)
-reads-running (running.Read stop) given same = cc
+pub reads-running : (stop : ScriptStop) (given : ReadStop) → AnswersRunning stop (Read given) → stop ≡ running.Read given
+reads-running (running.Failed f) given answers = absurd answers
+reads-running (running.Read stop) given answers = cc
+
+pub running-reads : (given : ReadStop) (judged : Judged) → AnswersRunning (running.Read given) judged → judged ≡ Read given
+running-reads given judged answers = answers

@@ -16,6 +16,8 @@ use Rattle.tx_rules.specs.Copying.{row_in}
 use Rattle.tx_rules.specs.Outcome.{Copies, IsResolved, IsTried, rules_to_27}
 use Rattle.tx_rules.specs.declared.resolving.TxStop.{TxStop}
 use Rattle.tx_rules.specs.declared.resolving.TxStop.TheVariants as resolving
+use Rattle.rule_names.specs.Number.{rule_number}
+use Rattle.rule_names.specs.declared.rule.Rule.{Rule}
 use Rattle.block_judge.specs.declared.stop.Judged.{Judged}
 use Rattle.block_judge.specs.declared.stop.Judged.TheVariants.{Broken, Read}
 use Rattle.block_judge.specs.Standing.{IsTriedAlone, IsTriedOnTransaction}
@@ -25,46 +27,46 @@ use Rattle.block_judge.proofs.Exits.{not_both}
 -- ---- Up to J27, and the scripts behind
 
 -- what a stop of resolving is answered as
-pub stops-resolving : (site : Site) (t : Transaction) (scripts : List (ℕ × Bool)) (proposed : Bool) (stop : TxStop) (rule : ℕ)
-    → ((number : ℕ) → stop ≡ resolving.Broken number → first_failing (rules_to_27 proposed site t) ≡ Some number) → of_resolving stop ≡ Broken rule
-    → first_failing (form_rules t ++ (19, proposed) ∷ cell_rules site t ++ scripts) ≡ Some rule
-stops-resolving site t scripts proposed (resolving.Broken number) rule broken same =
-    first_failing-append-fails number (rules_to_27 proposed site t) scripts (broken number refl) ∙ by_rule same
+pub stops-resolving : (site : Site) (t : Transaction) (scripts : List (ℕ × Bool)) (proposed : Bool) (stop : TxStop) (rule : Rule)
+    → ((its : Rule) → stop ≡ resolving.Broken its → first_failing (rules_to_27 proposed site t) ≡ Some (rule_number its)) → of_resolving stop ≡ Broken rule
+    → first_failing (form_rules t ++ (19, proposed) ∷ cell_rules site t ++ scripts) ≡ Some (rule_number rule)
+stops-resolving site t scripts proposed (resolving.Broken its) rule broken same =
+    first_failing-append-fails (rule_number its) (rules_to_27 proposed site t) scripts (broken its refl) ∙ by_rule same
   where
-    by_rule : Broken number ≡ Broken rule → Some number ≡ Some rule
+    by_rule : Broken its ≡ Broken rule → Some (rule_number its) ≡ Some (rule_number rule)
     by_rule e = cc
 stops-resolving site t scripts proposed (resolving.Read stop) rule broken same = absurd (cc)
 
 pub reads-resolving : (stop : TxStop) (given : ReadStop) → of_resolving stop ≡ Read given → stop ≡ resolving.Read given
-reads-resolving (resolving.Broken number) given same = absurd (cc)
+reads-resolving (resolving.Broken rule) given same = absurd (cc)
 reads-resolving (resolving.Read stop) given same = cc
 
 -- the rules that are tried
-pub tried-resolving : (proposed : Bool) (stop : TxStop) (rule : ℕ) → ((number : ℕ) → stop ≡ resolving.Broken number → IsTried proposed number)
-    → of_resolving stop ≡ Broken rule → IsTriedOnTransaction rule
+pub tried-resolving : (proposed : Bool) (stop : TxStop) (rule : Rule) → ((its : Rule) → stop ≡ resolving.Broken its → IsTried proposed (rule_number its))
+    → of_resolving stop ≡ Broken rule → IsTriedOnTransaction (rule_number rule)
 tried-resolving proposed (resolving.Read stop) rule tried same = absurd (cc)
-tried-resolving proposed (resolving.Broken number) rule tried same = by_tried by_rule (tried number refl)
+tried-resolving proposed (resolving.Broken its) rule tried same = by_tried by_rule (tried its refl)
   where
-    by_rule : number ≡ rule
+    by_rule : rule_number its ≡ rule_number rule
     by_rule = cc
 
-    by_tried : number ≡ rule → IsTried proposed number → IsTriedOnTransaction rule
-    by_tried is (inl its) = (omega (arith, is, its), omega (arith, is, its))
-    by_tried is (inr (inl its)) = let at = its.0 in (omega (arith, is, at), omega (arith, is, at))
-    by_tried is (inr (inr its)) = (omega (arith, is, its.0), omega (arith, is, its.1))
+    by_tried : rule_number its ≡ rule_number rule → IsTried proposed (rule_number its) → IsTriedOnTransaction (rule_number rule)
+    by_tried is (inl at) = (omega (arith, is, at), omega (arith, is, at))
+    by_tried is (inr (inl at)) = let here = at.0 in (omega (arith, is, here), omega (arith, is, here))
+    by_tried is (inr (inr at)) = (omega (arith, is, at.0), omega (arith, is, at.1))
 
-pub alone-resolving : (proposed : Bool) (stop : TxStop) (rule : ℕ) → proposed ≡ true
-    → ((number : ℕ) → stop ≡ resolving.Broken number → IsTried proposed number) → of_resolving stop ≡ Broken rule → IsTriedAlone rule
+pub alone-resolving : (proposed : Bool) (stop : TxStop) (rule : Rule) → proposed ≡ true
+    → ((its : Rule) → stop ≡ resolving.Broken its → IsTried proposed (rule_number its)) → of_resolving stop ≡ Broken rule → IsTriedAlone (rule_number rule)
 alone-resolving proposed (resolving.Read stop) rule alone tried same = absurd (cc)
-alone-resolving proposed (resolving.Broken number) rule alone tried same = by_tried by_rule (tried number refl)
+alone-resolving proposed (resolving.Broken its) rule alone tried same = by_tried by_rule (tried its refl)
   where
-    by_rule : number ≡ rule
+    by_rule : rule_number its ≡ rule_number rule
     by_rule = cc
 
-    by_tried : number ≡ rule → IsTried proposed number → IsTriedAlone rule
-    by_tried is (inl its) = inl (omega (arith, is, its))
-    by_tried is (inr (inl its)) = let bad = its.1 in absurd (not_both alone bad)
-    by_tried is (inr (inr its)) = inr (omega (arith, is, its.0), omega (arith, is, its.1))
+    by_tried : rule_number its ≡ rule_number rule → IsTried proposed (rule_number its) → IsTriedAlone (rule_number rule)
+    by_tried is (inl at) = inl (omega (arith, is, at))
+    by_tried is (inr (inl at)) = let bad = at.1 in absurd (not_both alone bad)
+    by_tried is (inr (inr at)) = inr (omega (arith, is, at.0), omega (arith, is, at.1))
 
 -- One that keeps them is judged by its scripts.
 pub leaves-scripts : (site : Site) (t : Transaction) (scripts : List (ℕ × Bool)) (proposed : Bool) → first_failing (rules_to_27 proposed site t) ≡ None

@@ -4,6 +4,7 @@ use Rattle.outside.specs.declared.disk.ReadStop.TheVariants.{DiskFault, NoMemory
 use Rattle.codec_defs.specs.Schema.{Block}
 use Rattle.time_defs.specs.Specification.{Specification}
 use Rattle.rule_defs.specs.Header.{header_rules}
+use Rattle.rule_names.specs.Number.{rule_number}
 use Rattle.rule_defs.specs.Body.{body_rules}
 use Rattle.family_defs.specs.Rules.{family_rules}
 use Rattle.block_judge.specs.declared.stop.Judged.{Judged}
@@ -16,7 +17,7 @@ ahead spec branch b = header_rules spec branch b ++ (body_rules spec b ++ family
 -- Why a block is not taken, beside the first of these that it breaks: this one or, where it breaks none, anything behind them. Memory may be
 -- wanted before that is known.
 abbrev pub StopsAhead : Option ℕ → Judged → Type 0
-StopsAhead first (Broken rule) = (first ≡ Some rule) ⊎ ((17 < rule) × (first ≡ None))
+StopsAhead first (Broken rule) = (first ≡ Some (rule_number rule)) ⊎ ((17 < rule_number rule) × (first ≡ None))
 StopsAhead first (Read NoMemory) = ⊤
 StopsAhead first (Read DiskFault) = first ≡ None
 StopsAhead first (Read (Damaged damage)) = first ≡ None

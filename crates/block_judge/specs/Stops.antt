@@ -1,4 +1,6 @@
 -- What the stops of the steps on a transaction are answered as.
+use Rattle.std.specs.Prelude.{◌≡◌}
+use Rattle.rule_names.specs.Number.{rule_number}
 use Rattle.tx_rules.specs.declared.resolving.TxStop.{TxStop}
 use Rattle.tx_rules.specs.declared.resolving.TxStop.TheVariants as resolving
 use Rattle.script_defs.specs.Rules.{rule_of}
@@ -11,6 +13,8 @@ abbrev pub of_resolving : TxStop → Judged
 of_resolving (resolving.Broken rule) = Broken rule
 of_resolving (resolving.Read stop) = Read stop
 
-abbrev pub of_running : ScriptStop → Judged
-of_running (running.Failed failure) = Broken (rule_of failure)
-of_running (running.Read stop) = Read stop
+-- a failure as the rule that it breaks
+abbrev pub AnswersRunning : ScriptStop → Judged → Type 0
+AnswersRunning (running.Failed failure) (Broken rule) = rule_number rule ≡ rule_of failure
+AnswersRunning (running.Failed failure) (Read stop) = ⊥
+AnswersRunning (running.Read stop) judged = judged ≡ Read stop

@@ -12,6 +12,7 @@ ghost use Rattle.rule_defs.specs.Header.{header_rules as rules_on_header};
 ghost use Rattle.rule_defs.specs.Body.{body_rules};
 ghost use Rattle.uncle_rules.specs.Embedded.{IndexesUncles};
 ghost use Rattle.family_defs.specs.Rules.{family_rules};
+ghost use Rattle.rule_names.specs.Number.{rule_number};
 ghost use Rattle.block_judge.specs.declared.stop.Judged.TheVariants.{Broken, Read};
 ghost use Rattle.block_judge.specs.Standing.{Stands};
 
@@ -23,6 +24,7 @@ use chain_tree::Tree;
 use epochs::Spec;
 use mol_schema::BlockView;
 use outside::ReadStop;
+use rule_names::Rule;
 use std::alloc::Global;
 use uncle_rules::{Uncles, uncles_ok};
 
@@ -39,12 +41,12 @@ fn judge_family<C: Cells>(
 ) -> Result<(), Judged>
     requires parent { parent < length tree.now.entries }
     requires hashes { hashes.now ≡ map transaction_hash block.now.transactions }
-    ensures tried { (rule : ℕ) → result ≡ Err (Broken rule) → (15 ≤ rule) × (rule ≤ 17) }
+    ensures tried { (rule : Rule) → result ≡ Err (Broken rule) → (15 ≤ rule_number rule) × (rule_number rule ≤ 17) }
     ensures memory { (stop : a_stop) → result ≡ Err (Read stop) → stop ≡ no_memory }
     ensures some { IfOk result (λ _. 0 < length block.now.transactions) }
     ensures broken { (stored : List Stored) → Stands stored tree.now.entries parent (C.rows cells.now) → IndexesUncles (blocks_of stored) uncles.now
-        → (rule : ℕ) → result ≡ Err (Broken rule)
-        → first_failing (family_rules spec.now (branch (blocks_of stored) parent) block.now) ≡ Some rule }
+        → (rule : Rule) → result ≡ Err (Broken rule)
+        → first_failing (family_rules spec.now (branch (blocks_of stored) parent) block.now) ≡ Some (rule_number rule) }
     ensures unbroken { (stored : List Stored) → Stands stored tree.now.entries parent (C.rows cells.now) → IndexesUncles (blocks_of stored) uncles.now
         → IfOk result (λ _. first_failing (family_rules spec.now (branch (blocks_of stored) parent) block.now) ≡ None) }
 {
@@ -53,17 +55,17 @@ fn judge_family<C: Cells>(
         Err(_) => return Err(Judged::Read(ReadStop::NoMemory)),
     };
     if !has_uncles {
-        return Err(Judged::Broken(15));
+        return Err(Judged::Broken(Rule::Uncles));
     }
     let begins = match has_cellbase(alloc, block, hashes) {
         Ok(has) => has,
         Err(_) => return Err(Judged::Read(ReadStop::NoMemory)),
     };
     if !begins {
-        return Err(Judged::Broken(16));
+        return Err(Judged::Broken(Rule::Cellbase));
     }
     if !forms_cellbase(cells, block, hashes) {
-        return Err(Judged::Broken(17));
+        return Err(Judged::Broken(Rule::CellbaseForm));
     }
     Ok(())
 }
@@ -81,15 +83,15 @@ pub(crate) fn judge_ahead<C: Cells>(
 ) -> Result<Vec<[u8; 32]>, Judged>
     requires parent { parent < length tree.now.entries }
     ensures hashes { IfOk result (λ hashes. hashes.items ≡ map transaction_hash block.now.transactions) }
-    ensures tried { (rule : ℕ) → result ≡ Err (Broken rule) → (4 ≤ rule) × (rule ≤ 17) }
+    ensures tried { (rule : Rule) → result ≡ Err (Broken rule) → (4 ≤ rule_number rule) × (rule_number rule ≤ 17) }
     ensures memory { (stop : a_stop) → result ≡ Err (Read stop) → stop ≡ no_memory }
     ensures some { IfOk result (λ _. 0 < length block.now.transactions) }
     ensures header { (kept : List Block) → IndexesBlocks kept tree.now.entries
         → IfOk result (λ _. first_failing (rules_on_header spec.now (branch kept parent) block.now) ≡ None) }
     ensures broken { (stored : List Stored) → Stands stored tree.now.entries parent (C.rows cells.now) → IndexesUncles (blocks_of stored) uncles.now
-        → (rule : ℕ) → result ≡ Err (Broken rule)
+        → (rule : Rule) → result ≡ Err (Broken rule)
         → first_failing (rules_on_header spec.now (branch (blocks_of stored) parent) block.now ++ (body_rules spec.now block.now
-        ++ family_rules spec.now (branch (blocks_of stored) parent) block.now)) ≡ Some rule }
+        ++ family_rules spec.now (branch (blocks_of stored) parent) block.now)) ≡ Some (rule_number rule) }
     ensures unbroken { (stored : List Stored) → Stands stored tree.now.entries parent (C.rows cells.now) → IndexesUncles (blocks_of stored) uncles.now
         → IfOk result (λ _. first_failing (rules_on_header spec.now (branch (blocks_of stored) parent) block.now ++ (body_rules spec.now block.now
         ++ family_rules spec.now (branch (blocks_of stored) parent) block.now)) ≡ None) }

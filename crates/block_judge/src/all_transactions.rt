@@ -20,6 +20,8 @@ ghost use Rattle.tx_rules.specs.Copying.{row_in};
 ghost use Rattle.block_defs.specs.Transactions.{transaction_rules, left_after, rules_of_transactions};
 ghost use Rattle.block_defs.specs.Ext.{ext_of, rows_spent};
 ghost use Rattle.reward_defs.specs.Field.{freed_by, freed_from, interest_from};
+ghost use Rattle.rule_names.specs.Number.{rule_number};
+ghost use Rattle.rule_names.specs.declared.rule.Rule.{Rule};
 ghost use Rattle.block_judge.specs.declared.stop.Judged.TheVariants.{Broken, Read};
 ghost use Rattle.block_judge.specs.Changes.{with_changes};
 ghost use Rattle.block_judge.specs.Progress.{AreProposed, CanMove};
@@ -157,7 +159,7 @@ impl<'a, C: Cells> Progress<'a, C> {
         ensures told { B.told blocks.new ≡ B.told blocks.old }
         ensures count { B.count blocks.new ≡ B.count blocks.old }
         ensures loans { B.loans_of blocks.new ≡ B.loans_of blocks.old }
-        ensures rule { (rule : ℕ) → result ≡ Err (Broken rule) → IsTriedOnTransaction rule }
+        ensures rule { (rule : Rule) → result ≡ Err (Broken rule) → IsTriedOnTransaction (rule_number rule) }
         ensures within { self.new.left ≤ self.old.left }
         ensures moved { OnOk result (CanMove (place + 1) self.new.interest self.new.freed) }
         ensures fees { OnOk result (length self.new.ext.fees ≡ length self.old.ext.fees + 1) }
@@ -168,7 +170,7 @@ impl<'a, C: Cells> Progress<'a, C> {
         // At the site that its cells make.
         ensures broken { (stored : List Stored) (site : Site) → B.told blocks.old ≡ Some stored
             → IsSiteOf stored at.now (with_changes self.old.cells.changed (C.rows self.old.cells.base.now)) site → AreProposed site.spec site.branch proposed.now
-            → (rule : ℕ) → result ≡ Err (Broken rule) → first_failing (transaction_rules site self.old.left tx.now) ≡ Some rule }
+            → (rule : Rule) → result ≡ Err (Broken rule) → first_failing (transaction_rules site self.old.left tx.now) ≡ Some (rule_number rule) }
         ensures unbroken { (stored : List Stored) (site : Site) → B.told blocks.old ≡ Some stored
             → IsSiteOf stored at.now (with_changes self.old.cells.changed (C.rows self.old.cells.base.now)) site → AreProposed site.spec site.branch proposed.now
             → OnOk result (first_failing (transaction_rules site self.old.left tx.now) ≡ None) }
@@ -234,10 +236,10 @@ pub(crate) fn judge_transactions<C: Cells, B: Blocks>(
     ensures told { B.told blocks.new ≡ B.told blocks.old }
     ensures count { B.count blocks.new ≡ B.count blocks.old }
     ensures loans { B.loans_of blocks.new ≡ B.loans_of blocks.old }
-    ensures rule { (rule : ℕ) → result ≡ Err (Broken rule) → IsTriedOnTransaction rule }
+    ensures rule { (rule : Rule) → result ≡ Err (Broken rule) → IsTriedOnTransaction (rule_number rule) }
     ensures fees { IfOk result (λ it. length it.ext.fees ≡ length block.now.transactions - 1) }
     ensures broken { (stored : List Stored) → B.told blocks.old ≡ Some stored → Stands stored tree.now.entries parent (C.rows cells.now)
-        → (rule : ℕ) → result ≡ Err (Broken rule) → first_failing (rules_of_transactions spec.now (branch (blocks_of stored) parent) block.now) ≡ Some rule }
+        → (rule : Rule) → result ≡ Err (Broken rule) → first_failing (rules_of_transactions spec.now (branch (blocks_of stored) parent) block.now) ≡ Some (rule_number rule) }
     ensures unbroken { (stored : List Stored) → B.told blocks.old ≡ Some stored → Stands stored tree.now.entries parent (C.rows cells.now)
         → IfOk result (λ _. first_failing (rules_of_transactions spec.now (branch (blocks_of stored) parent) block.now) ≡ None) }
     ensures ext { (stored : List Stored) → B.told blocks.old ≡ Some stored → Stands stored tree.now.entries parent (C.rows cells.now)

@@ -17,6 +17,7 @@ ghost use Rattle.reward_defs.specs.Payment as payment;
 ghost use Rattle.reward_defs.specs.Field as field;
 ghost use Rattle.reward_defs.specs.Rules as rules;
 ghost use Rattle.rewards.specs.Own.{HaveOwnFees};
+ghost use Rattle.rule_names.specs.Number.{rule_number};
 ghost use Rattle.block_judge.specs.declared.stop.Judged.TheVariants.{Broken, Read};
 ghost use Rattle.block_judge.specs.Progress.{AreMoved};
 
@@ -29,6 +30,7 @@ use epochs::{Spec, primary, share};
 use mol_schema::{BlockView, CellbaseWitnessView, OutputView, RawTxView, ScriptView, TxView};
 use outside::ReadStop;
 use rewards::reward;
+use rule_names::Rule;
 use std::alloc::Global;
 
 /// The lock in the first witness of a block's cellbase.
@@ -234,11 +236,11 @@ pub(crate) fn judge_end<B: Blocks>(
     ensures told { B.told blocks.new ≡ B.told blocks.old }
     ensures count { B.count blocks.new ≡ B.count blocks.old }
     ensures loans { B.loans_of blocks.new ≡ B.loans_of blocks.old }
-    ensures tried { (rule : ℕ) → result ≡ Err (Broken rule) → (31 ≤ rule) × (rule ≤ 32) }
+    ensures tried { (rule : Rule) → result ≡ Err (Broken rule) → (31 ≤ rule_number rule) × (rule_number rule ≤ 32) }
     ensures rated { IfOk result (λ _. IsTrue (is_rated block.now.header.dao)) }
     ensures broken { (stored : List Stored) → B.told blocks.old ≡ Some stored → IndexesBlocks (blocks_of stored) tree.now.entries → HaveOwnFees spec.now stored
-        → AreMoved spec.now (branch (blocks_of stored) parent) block.now outcome.now.interest outcome.now.freed → (rule : ℕ) → result ≡ Err (Broken rule)
-        → first_failing (rules.end_rules spec.now (branch (blocks_of stored) parent) block.now) ≡ Some rule }
+        → AreMoved spec.now (branch (blocks_of stored) parent) block.now outcome.now.interest outcome.now.freed → (rule : Rule) → result ≡ Err (Broken rule)
+        → first_failing (rules.end_rules spec.now (branch (blocks_of stored) parent) block.now) ≡ Some (rule_number rule) }
     ensures unbroken { (stored : List Stored) → B.told blocks.old ≡ Some stored → IndexesBlocks (blocks_of stored) tree.now.entries → HaveOwnFees spec.now stored
         → AreMoved spec.now (branch (blocks_of stored) parent) block.now outcome.now.interest outcome.now.freed
         → IfOk result (λ _. first_failing (rules.end_rules spec.now (branch (blocks_of stored) parent) block.now) ≡ None) }
@@ -249,11 +251,11 @@ pub(crate) fn judge_end<B: Blocks>(
 {
     match pays_reward(alloc, spec, tree, blocks, parent, block) {
         Ok(true) => {}
-        Ok(false) => return Err(Judged::Broken(31)),
+        Ok(false) => return Err(Judged::Broken(Rule::Reward)),
         Err(stop) => return Err(Judged::Read(stop)),
     }
     if !has_next_dao(spec, tree, parent, block, outcome) {
-        return Err(Judged::Broken(32));
+        return Err(Judged::Broken(Rule::DaoField));
     }
     Ok(())
 }

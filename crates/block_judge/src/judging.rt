@@ -21,6 +21,8 @@ ghost use Rattle.block_defs.specs.Ext.{ext_of};
 ghost use Rattle.time_defs.specs.Dao.{is_rated};
 ghost use Rattle.block_defs.specs.Rules.{first_broken, broken_in_dry_run};
 ghost use Rattle.tx_defs.specs.Site.{site_after};
+ghost use Rattle.rule_names.specs.Number.{rule_number};
+ghost use Rattle.rule_names.specs.declared.rule.Rule.{Rule};
 ghost use Rattle.block_judge.specs.declared.stop.Judged.TheVariants.{Broken, Read};
 ghost use Rattle.block_judge.specs.Ahead.{SaysAhead, ahead as rules_ahead};
 ghost use Rattle.block_judge.specs.ByRows.{SaysByRows};
@@ -59,7 +61,7 @@ pub fn judge<C: Cells, B: Blocks>(
     ensures told { B.told blocks.new ≡ B.told blocks.old }
     ensures count { B.count blocks.new ≡ B.count blocks.old }
     ensures loans { B.loans_of blocks.new ≡ B.loans_of blocks.old }
-    ensures tried { (rule : ℕ) → result ≡ Err (Broken rule) → IsTried rule }
+    ensures tried { (rule : Rule) → result ≡ Err (Broken rule) → IsTried (rule_number rule) }
 
     // Over any source of blocks: the rules on the header, and those ahead of the transactions; a fee for each transaction after the
     // cellbase; and a DAO field that later ones can be reckoned by.
@@ -72,8 +74,8 @@ pub fn judge<C: Cells, B: Blocks>(
 
     // Over kept blocks that are told with their own fees, with the cells of the parent's branch.
     ensures broken { (stored : List Stored) → B.told blocks.old ≡ Some stored
-        → StandsWhole spec.now stored tree.now.entries parent (C.rows cells.now) uncles.now → (rule : ℕ) → result ≡ Err (Broken rule)
-        → first_broken spec.now (branch (blocks_of stored) parent) block.now ≡ Some rule }
+        → StandsWhole spec.now stored tree.now.entries parent (C.rows cells.now) uncles.now → (rule : Rule) → result ≡ Err (Broken rule)
+        → first_broken spec.now (branch (blocks_of stored) parent) block.now ≡ Some (rule_number rule) }
     ensures unbroken { (stored : List Stored) → B.told blocks.old ≡ Some stored
         → StandsWhole spec.now stored tree.now.entries parent (C.rows cells.now) uncles.now
         → IfOk result (λ _. first_broken spec.now (branch (blocks_of stored) parent) block.now ≡ None) }
@@ -122,14 +124,14 @@ pub fn dry_run<'a, C: Cells, B: Blocks>(
     ensures told { B.told blocks.new ≡ B.told blocks.old }
     ensures count { B.count blocks.new ≡ B.count blocks.old }
     ensures loans { B.loans_of blocks.new ≡ B.loans_of blocks.old }
-    ensures tried { (rule : ℕ) → result ≡ Err (Broken rule) → IsTriedAlone rule }
+    ensures tried { (rule : Rule) → result ≡ Err (Broken rule) → IsTriedAlone (rule_number rule) }
 
     // Over any source of blocks: J18 and J20.
     ensures by_rows { SaysByRows (has_form tx.now) (spends_rows (C.rows cells.now) tx.now) result }
 
     // Over kept blocks that are told, with the cells of the parent's branch.
     ensures broken { (stored : List Stored) → B.told blocks.old ≡ Some stored → Stands stored tree.now.entries parent (C.rows cells.now)
-        → (rule : ℕ) → result ≡ Err (Broken rule) → broken_in_dry_run spec.now (branch (blocks_of stored) parent) tx.now ≡ Some rule }
+        → (rule : Rule) → result ≡ Err (Broken rule) → broken_in_dry_run spec.now (branch (blocks_of stored) parent) tx.now ≡ Some (rule_number rule) }
     ensures unbroken { (stored : List Stored) → B.told blocks.old ≡ Some stored → Stands stored tree.now.entries parent (C.rows cells.now)
         → IfOk result (λ _. broken_in_dry_run spec.now (branch (blocks_of stored) parent) tx.now ≡ None) }
     ensures fee { (stored : List Stored) → B.told blocks.old ≡ Some stored → Stands stored tree.now.entries parent (C.rows cells.now)

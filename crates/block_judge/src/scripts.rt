@@ -14,32 +14,35 @@ ghost use Rattle.tx_rules.specs.Outcome.{IsFormed, IsResolved};
 ghost use Rattle.script_defs.specs.Scene.{scene_of};
 ghost use Rattle.script_defs.specs.Rules.{script_rules, cycles_of};
 ghost use Rattle.script_defs.specs.Rules as rules;
+ghost use Rattle.rule_names.specs.Number.{rule_number};
 ghost use Rattle.block_judge.specs.declared.stop.Judged.TheVariants.{Broken, Read};
 ghost use Rattle.block_judge.specs.Standing.{IsScriptRule};
-ghost use Rattle.block_judge.specs.Stops.{of_running};
+ghost use Rattle.block_judge.specs.Stops.{AnswersRunning};
 
 use crate::stop::Judged;
 use cell_model::ResolvedTx;
 use chain_tree::Blocks;
+use rule_names::Rule;
 use script_defs::Failure;
 use script_run::{ScriptStop, run_groups};
 use std::alloc::Global;
 use tx_rules::TxAt;
 
 /// The rule that a failure breaks.
-fn rule_of(failure: Failure) -> u8
-    ensures { result ≡ rules.rule_of failure }
+fn rule_of(failure: Failure) -> Rule
+    ensures { rule_number result ≡ rules.rule_of failure }
 {
     match failure {
-        Failure::NoCode(_) | Failure::ManyCodes(_) => 28,
-        Failure::BadElf(_, _) | Failure::MachineFault(_, _) | Failure::ExitNot0(_, _) => 29,
-        Failure::Spent => 30,
+        Failure::NoCode(_) | Failure::ManyCodes(_) => Rule::ScriptCode,
+        Failure::BadElf(_, _) | Failure::MachineFault(_, _) | Failure::ExitNot0(_, _) =>
+            Rule::ScriptExit,
+        Failure::Spent => Rule::Cycles,
     }
 }
 
 /// What a stop of the scripts is answered as.
 fn stopped(stop: ScriptStop) -> Judged
-    ensures { result ≡ of_running stop }
+    ensures { AnswersRunning stop result }
 {
     match stop {
         ScriptStop::Failed(failure) => Judged::Broken(rule_of(failure)),
@@ -62,10 +65,10 @@ pub(crate) fn run_scripts<B: Blocks>(
     ensures count { B.count blocks.new ≡ B.count blocks.old }
     ensures loans { B.loans_of blocks.new ≡ B.loans_of blocks.old }
     ensures within { IfOk result (λ cycles. cycles ≤ left) }
-    ensures rule { (rule : ℕ) → result ≡ Err (Broken rule) → IsScriptRule rule }
+    ensures rule { (rule : Rule) → result ≡ Err (Broken rule) → IsScriptRule (rule_number rule) }
     ensures broken { (stored : List Stored) (rows : OutPoint → Option Row) (site : Site) → B.told blocks.old ≡ Some stored → IsSiteOf stored at.now rows site
-        → IsResolved (blocks_of stored) at.now.parent site resolved.now.tx resolved.now → (rule : ℕ) → result ≡ Err (Broken rule)
-        → first_failing (script_rules (scene_of site resolved.now.tx) left) ≡ Some rule }
+        → IsResolved (blocks_of stored) at.now.parent site resolved.now.tx resolved.now → (rule : Rule) → result ≡ Err (Broken rule)
+        → first_failing (script_rules (scene_of site resolved.now.tx) left) ≡ Some (rule_number rule) }
     ensures unbroken { (stored : List Stored) (rows : OutPoint → Option Row) (site : Site) → B.told blocks.old ≡ Some stored → IsSiteOf stored at.now rows site
         → IsResolved (blocks_of stored) at.now.parent site resolved.now.tx resolved.now
         → IfOk result (λ cycles. (first_failing (script_rules (scene_of site resolved.now.tx) left) ≡ None) × (cycles ≡ cycles_of (scene_of site resolved.now.tx) left)) }

@@ -4,12 +4,13 @@ ghost use Rattle.outside.specs.declared.disk.ReadStop.TheVariants.{Damaged, NoMe
 ghost use Rattle.block_judge.specs.declared.stop.Judged.TheVariants.{Read};
 
 use outside::{Damage, NoMemory, ReadStop};
+use rule_names::Rule;
 
 /// Why a block or a transaction is not taken.
 #[derive(Clone, Copy)]
 pub enum Judged {
     /// The first rule that it breaks.
-    Broken(u8),
+    Broken(Rule),
     /// The kept blocks could not be read, or there was no memory.
     Read(ReadStop),
 }

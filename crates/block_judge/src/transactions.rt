@@ -17,6 +17,8 @@ ghost use Rattle.tx_rules.specs.Copying.{row_in};
 ghost use Rattle.reward_defs.specs.Field.{freed_by};
 ghost use Rattle.script_defs.specs.Scene.{scene_of};
 ghost use Rattle.script_defs.specs.Rules.{script_rules, cycles_of};
+ghost use Rattle.rule_names.specs.Number.{rule_number};
+ghost use Rattle.rule_names.specs.declared.rule.Rule.{Rule};
 ghost use Rattle.block_judge.specs.declared.stop.Judged.TheVariants.{Broken, Read};
 ghost use Rattle.block_judge.specs.ByRows.{SaysByRows};
 ghost use Rattle.block_judge.specs.Standing.{IsTriedAlone, IsTriedOnTransaction};
@@ -87,13 +89,13 @@ pub(crate) fn judge_transaction<C: Cells, B: Blocks>(
     ensures within { IfOk result (λ taken. taken.cycles ≤ left) }
     ensures interest_fits { IfOk result (λ taken. nat_abs taken.interest < 2 ^ 96) }
     ensures freed_fits { IfOk result (λ taken. taken.freed < 2 ^ 96) }
-    ensures rule { (rule : ℕ) → result ≡ Err (Broken rule) → IsTriedOnTransaction rule }
+    ensures rule { (rule : Rule) → result ≡ Err (Broken rule) → IsTriedOnTransaction (rule_number rule) }
     // J18 and J20 over any source of blocks.
     ensures by_rows { proposed ≡ true → SaysByRows (has_form tx.now) (spends_rows (C.rows cells.now) tx.now) result }
-    ensures alone { proposed ≡ true → (rule : ℕ) → result ≡ Err (Broken rule) → IsTriedAlone rule }
+    ensures alone { proposed ≡ true → (rule : Rule) → result ≡ Err (Broken rule) → IsTriedAlone (rule_number rule) }
     ensures broken { (stored : List Stored) (site : Site) → B.told blocks.old ≡ Some stored → IsSiteOf stored at.now (C.rows cells.now) site
-        → (rule : ℕ) → result ≡ Err (Broken rule)
-        → first_failing (form_rules tx.now ++ (19, proposed) ∷ cell_rules site tx.now ++ script_rules (scene_of site tx.now) left) ≡ Some rule }
+        → (rule : Rule) → result ≡ Err (Broken rule)
+        → first_failing (form_rules tx.now ++ (19, proposed) ∷ cell_rules site tx.now ++ script_rules (scene_of site tx.now) left) ≡ Some (rule_number rule) }
     ensures unbroken { (stored : List Stored) (site : Site) → B.told blocks.old ≡ Some stored → IsSiteOf stored at.now (C.rows cells.now) site
         → IfOk result (λ _. first_failing (form_rules tx.now ++ (19, proposed) ∷ cell_rules site tx.now ++ script_rules (scene_of site tx.now) left) ≡ None) }
     ensures fee { (stored : List Stored) (site : Site) → B.told blocks.old ≡ Some stored → IsSiteOf stored at.now (C.rows cells.now) site

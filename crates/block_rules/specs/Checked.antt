@@ -2,12 +2,13 @@
 use Rattle.std.specs.Prelude.{◌≡◌, ℕ, map, Option, Some, None}
 use Rattle.codec_defs.specs.Schema.{Block}
 use Rattle.chain_defs.specs.Hashes.{transaction_hash}
+use Rattle.rule_names.specs.Number.{rule_number}
 use Rattle.block_rules.specs.declared.checked.Checked.{Checked}
 use Rattle.block_rules.specs.declared.checked.Checked.TheVariants.{Broken, Kept}
 
 -- the first of them that is broken
 abbrev pub broken_in : Checked → Option ℕ
-broken_in (Broken rule) = Some rule
+broken_in (Broken rule) = Some (rule_number rule)
 broken_in (Kept hashes) = None
 
 -- those of a block that is kept are the hashes of its transactions

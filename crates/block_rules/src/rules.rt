@@ -10,6 +10,7 @@ use crate::commitments::{proposals_hash, root_over, transaction_hashes, uncles_h
 use epochs::Spec;
 use mol_schema::BlockView;
 use outside::NoMemory;
+use rule_names::Rule;
 use std::alloc::Global;
 use std::collections::HashSet;
 
@@ -106,23 +107,23 @@ pub fn check(alloc: Global, spec: &Spec, block: &BlockView<'_>) -> Result<Checke
     ensures hashes { IfOk result (HasHashes block.now) }
 {
     if !fits_length(spec, block) {
-        return Ok(Checked::Broken(9));
+        return Ok(Checked::Broken(Rule::Length));
     }
     if !has_proposals(alloc, spec, block)? {
-        return Ok(Checked::Broken(10));
+        return Ok(Checked::Broken(Rule::Proposals));
     }
     if !commits_to_proposals(block) {
-        return Ok(Checked::Broken(11));
+        return Ok(Checked::Broken(Rule::ProposalsHash));
     }
     let known = transaction_hashes(alloc, block)?;
     if !commits_to_transactions(alloc, block, &known)? {
-        return Ok(Checked::Broken(12));
+        return Ok(Checked::Broken(Rule::TransactionsRoot));
     }
     if !has_few_uncles(block) {
-        return Ok(Checked::Broken(13));
+        return Ok(Checked::Broken(Rule::UncleCount));
     }
     if !commits_to_uncles(block) {
-        return Ok(Checked::Broken(14));
+        return Ok(Checked::Broken(Rule::UnclesHash));
     }
     Ok(Checked::Kept(known))
 }

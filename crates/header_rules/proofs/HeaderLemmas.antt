@@ -1,18 +1,19 @@
 -- The parent of a block, and the first rule on its header that is broken.
-use Rattle.std.proofs.Common.{◌≡◌, ℕ, ◌+◌, ◌<◌, Bool, true, false, eqb, List, [], ◌∷◌, Option, Some, None, refl, sym, ap, ◌∙◌, arith}
-use Rattle.std.specs.Prelude.{IsSomeAnd}
+use Rattle.std.proofs.Common.{◌≡◌, ℕ, ◌+◌, ◌<◌, Bool, true, false, eqb, List, [], ◌∷◌, Option, Some, None, refl, sym, ap, ◌∙◌, subst, arith}
+use Rattle.std.specs.Prelude.{◌≤◌, IsSomeAnd, IfSome, option_map}
 use Rattle.std.specs.Option.{SomeIff, option_eq}
 use Rattle.std.proofs.lemmas.Bool.{ne_eqb}
 use Rattle.std.proofs.lemmas.Option.{slice_get_within}
 use Rattle.codec_defs.specs.Schema.{Block}
 use Rattle.fold_defs.specs.First.{first_failing}
-use Rattle.fold_defs.proofs.FirstLemmas.{first_failing-fails, first_failing-holds, first_failing-none}
 use Rattle.chain_defs.specs.Kept.{block_at, follows}
 use Rattle.chain_defs.specs.Branch.{branch}
 use Rattle.chain_defs.proofs.BranchLaws.{branch-last}
 use Rattle.chain_tree.specs.declared.entry.Entry.{Entry}
 use Rattle.chain_tree.specs.Blocks.{Describes}
 use Rattle.rule_defs.specs.Header.{parent_of}
+use Rattle.rule_names.specs.Number.{rule_number}
+use Rattle.rule_names.specs.declared.rule.Rule.{Rule}
 
 -- a number is the one after another, where that one has one after it
 next-is : (sum : Option ℕ) (parent own most : ℕ) → own < most → SomeIff sum (parent + 1 < most) (parent + 1)
@@ -52,24 +53,25 @@ follows-there kept parent number own most b sum is fits next there = by_block (b
 abbrev pub rows : Bool → Bool → Bool → Bool → Bool → List (ℕ × Bool)
 rows a b d e f = (4, a) ∷ (5, b) ∷ (6, d) ∷ (7, e) ∷ (8, f) ∷ []
 
-pub first-4 : (a b d e f : Bool) → a ≡ false → first_failing (rows a b d e f) ≡ Some 4
-first-4 a b d e f broken = first_failing-fails 4 a _ broken
+pub same-rows : {a b d e f a' b' d' e' f' : Bool} → a ≡ a' → b ≡ b' → d ≡ d' → e ≡ e' → f ≡ f'
+    → first_failing (rows a b d e f) ≡ first_failing (rows a' b' d' e' f')
+same-rows one two three four five = cc
 
-pub first-5 : (a b d e f : Bool) → a ≡ true → b ≡ false → first_failing (rows a b d e f) ≡ Some 5
-first-5 a b d e f kept broken = first_failing-holds 4 a _ kept ∙ first_failing-fails 5 b _ broken
+within : (a b d e f : Bool) → IfSome (first_failing (rows a b d e f)) (λ number. (4 ≤ number) × (number ≤ 8))
+unfolding first_failing
+within false b d e f = (omega arith, omega arith)
+within true false d e f = (omega arith, omega arith)
+within true true false e f = (omega arith, omega arith)
+within true true true false f = (omega arith, omega arith)
+within true true true true false = (omega arith, omega arith)
+within true true true true true = tt
 
-pub first-6 : (a b d e f : Bool) → a ≡ true → b ≡ true → d ≡ false → first_failing (rows a b d e f) ≡ Some 6
-first-6 a b d e f one two broken = first_failing-holds 4 a _ one ∙ first_failing-holds 5 b _ two ∙ first_failing-fails 6 d _ broken
-
-pub first-7 : (a b d e f : Bool) → a ≡ true → b ≡ true → d ≡ true → e ≡ false → first_failing (rows a b d e f) ≡ Some 7
-first-7 a b d e f one two three broken =
-    first_failing-holds 4 a _ one ∙ first_failing-holds 5 b _ two ∙ first_failing-holds 6 d _ three ∙ first_failing-fails 7 e _ broken
-
-pub first-8 : (a b d e f : Bool) → a ≡ true → b ≡ true → d ≡ true → e ≡ true → f ≡ false → first_failing (rows a b d e f) ≡ Some 8
-first-8 a b d e f one two three four broken =
-    first_failing-holds 4 a _ one ∙ first_failing-holds 5 b _ two ∙ first_failing-holds 6 d _ three ∙ first_failing-holds 7 e _ four ∙ first_failing-fails 8 f _ broken
-
-pub first-none : (a b d e f : Bool) → a ≡ true → b ≡ true → d ≡ true → e ≡ true → f ≡ true → first_failing (rows a b d e f) ≡ None
-first-none a b d e f one two three four five =
-    first_failing-holds 4 a _ one ∙ first_failing-holds 5 b _ two ∙ first_failing-holds 6 d _ three ∙ first_failing-holds 7 e _ four
-    ∙ first_failing-holds 8 f _ five ∙ first_failing-none
+-- it is one of them
+pub within-rows : (a b d e f : Bool) (found : Option Rule) → option_map rule_number found ≡ first_failing (rows a b d e f)
+    → IfSome found (λ rule. (4 ≤ rule_number rule) × (rule_number rule ≤ 8))
+within-rows a b d e f found is = by_rule found (subst (λ (o : Option ℕ). IfSome o (λ number. (4 ≤ number) × (number ≤ 8))) (sym is) (within a b d e f))
+  where
+    by_rule : (rule : Option Rule) → IfSome (option_map rule_number rule) (λ number. (4 ≤ number) × (number ≤ 8))
+        → IfSome rule (λ it. (4 ≤ rule_number it) × (rule_number it ≤ 8))
+    by_rule None tried = tt
+    by_rule (Some rule) tried = tried

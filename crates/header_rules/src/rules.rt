@@ -1,15 +1,18 @@
 //! J4 to J8, one function a rule.
 ghost use Rattle.std.specs.Prelude.{◌≡◌, ◌<◌, ◌≤◌, IfSome, List, length};
+ghost use Rattle.std.specs.Option.{option_map};
 ghost use Rattle.codec_defs.specs.Schema.{Block};
 ghost use Rattle.fold_defs.specs.First.{first_failing};
 ghost use Rattle.chain_defs.specs.Branch.{branch};
 ghost use Rattle.chain_tree.specs.Blocks.{IndexesBlocks};
 ghost use Rattle.chain_defs.specs.Kept as chain;
 ghost use Rattle.rule_defs.specs.Header as rules;
+ghost use Rattle.rule_names.specs.Number.{rule_number};
 
 use chain_tree::Tree;
 use epochs::{Spec, epoch_of};
 use mol_schema::HeaderView;
+use rule_names::{Rule, first_broken};
 
 /// J4: its version is 0.
 fn has_version(header: &HeaderView<'_>) -> bool
@@ -53,26 +56,17 @@ fn is_later(tree: &Tree, parent: u32, header: &HeaderView<'_>) -> bool
 }
 
 /// The least of J4 to J8 that a header breaks, on the kept block at a place.
-pub fn check(spec: &Spec, tree: &Tree, parent: u32, header: &HeaderView<'_>) -> Option<u8>
+pub fn check(spec: &Spec, tree: &Tree, parent: u32, header: &HeaderView<'_>) -> Option<Rule>
     requires { parent < length tree.now.entries }
     ensures of_blocks { (kept : List Block) (b : Block) → IndexesBlocks kept tree.now.entries → header.now ≡ b.header
-        → result ≡ first_failing (rules.header_rules spec.now (branch kept parent) b) }
-    ensures tried { IfSome result (λ rule. (4 ≤ rule) × (rule ≤ 8)) }
+        → option_map rule_number result ≡ first_failing (rules.header_rules spec.now (branch kept parent) b) }
+    ensures tried { IfSome result (λ rule. (4 ≤ rule_number rule) × (rule_number rule ≤ 8)) }
 {
-    if !has_version(header) {
-        return Some(4);
-    }
-    if !follows(tree, parent, header) {
-        return Some(5);
-    }
-    if !has_epoch(spec, header) {
-        return Some(6);
-    }
-    if !has_target(spec, header) {
-        return Some(7);
-    }
-    if !is_later(tree, parent, header) {
-        return Some(8);
-    }
-    None
+    first_broken(&[
+        (Rule::Version, has_version(header)),
+        (Rule::Number, follows(tree, parent, header)),
+        (Rule::Epoch, has_epoch(spec, header)),
+        (Rule::CompactTarget, has_target(spec, header)),
+        (Rule::Timestamp, is_later(tree, parent, header)),
+    ])
 }

@@ -8,6 +8,8 @@ ghost use Rattle.chain_defs.specs.Tip.{tip_place, best_branch};
 ghost use Rattle.outside.specs.declared.disk.Area.TheVariants.{Log};
 ghost use Rattle.outside.specs.declared.disk.Damage.{Damage};
 ghost use Rattle.outside.specs.declared.disk.ReadStop.TheVariants.{DiskFault, Damaged};
+ghost use Rattle.rule_names.specs.Number.{rule_number};
+ghost use Rattle.rule_names.specs.declared.rule.Rule.{Rule};
 ghost use Rattle.block_judge.specs.declared.stop.Judged.TheVariants.{Broken, Read};
 ghost use Rattle.verdict_defs.specs.Trial.{trial_on};
 ghost use Rattle.verdict_defs.specs.declared.trial.Trial.TheVariants.{Passes, Refused};
@@ -128,7 +130,7 @@ impl Kept {
             parent,
             block,
         ) {
-            Err(Judged::Broken(rule)) => Ok(Decision::Stays(Verdict::Refused(rule))),
+            Err(Judged::Broken(rule)) => Ok(Decision::Stays(Verdict::Refused(rule.number()))),
             Err(Judged::Read(stop)) => Err(stop),
             Ok(ext) => {
                 if has_room(self.tree.len()) {
@@ -194,8 +196,8 @@ impl Kept {
     pub(crate) fn check(&mut self, alloc: Global, tx: &TxView<'_>) -> Result<(u64, u64), Judged>
         ensures same { self.new ≡ self.old }
         ensures passes { IsJoined self.old.chain → IfOk result (λ it. trial_on self.old.chain.spec (best_branch self.old.chain.blocks) tx.now ≡ Passes it.0 it.1) }
-        ensures broken { IsJoined self.old.chain → (rule : ℕ) → result ≡ Err (Broken rule)
-            → trial_on self.old.chain.spec (best_branch self.old.chain.blocks) tx.now ≡ Refused rule }
+        ensures broken { IsJoined self.old.chain → (rule : Rule) → result ≡ Err (Broken rule)
+            → trial_on self.old.chain.spec (best_branch self.old.chain.blocks) tx.now ≡ Refused (rule_number rule) }
         ensures undamaged { IsJoined self.old.chain → (damage : Damage) → result ≡ Err (Read (Damaged damage)) → ⊥ }
         ensures damage { (damage : Damage) → result ≡ Err (Read (Damaged damage)) → damage.area ≡ Log }
         ensures reads { result ≢ Err (Read DiskFault) }

@@ -18,6 +18,8 @@ ghost use Rattle.cell_defs.specs.Ext.{ext_bytes, is_ext, count_at};
 ghost use Rattle.cell_defs.specs.Row.{live_row};
 ghost use Rattle.cell_state.specs.State.{rows};
 ghost use Rattle.chain_tree.specs.Blocks.{Describes, IndexesBlocks};
+ghost use Rattle.rule_names.specs.Number.{rule_number};
+ghost use Rattle.rule_names.specs.declared.rule.Rule.{Rule};
 ghost use Rattle.block_judge.specs.declared.stop.Judged.TheVariants.{Broken, Read};
 ghost use Rattle.verdict_defs.specs.Chain.{Chain, verdict_over, chain_after};
 ghost use Rattle.verdict_defs.specs.Verdict.{joins};
@@ -275,8 +277,8 @@ impl Node {
     pub fn check(&mut self, alloc: Global, tx: &TxView<'_>) -> Result<(u64, u64), Judged>
         ensures same { self.new ≡ self.old }
         ensures passes { IsJoined self.old.chain → IfOk result (λ it. trial_on self.old.chain.spec (best_branch self.old.chain.blocks) tx.now ≡ Passes it.0 it.1) }
-        ensures broken { IsJoined self.old.chain → (rule : ℕ) → result ≡ Err (Broken rule)
-            → trial_on self.old.chain.spec (best_branch self.old.chain.blocks) tx.now ≡ Refused rule }
+        ensures broken { IsJoined self.old.chain → (rule : Rule) → result ≡ Err (Broken rule)
+            → trial_on self.old.chain.spec (best_branch self.old.chain.blocks) tx.now ≡ Refused (rule_number rule) }
         ensures undamaged { IsJoined self.old.chain → (damage : Damage) → result ≡ Err (Read (Damaged damage)) → ⊥ }
         ensures damage { (damage : Damage) → result ≡ Err (Read (Damaged damage)) → damage.area ≡ log_area }
         ensures reads { result ≢ Err (Read DiskFault) }

@@ -90,7 +90,7 @@ fn judge_item(alloc: Global, node: &mut Node, item: &[u8]) -> Result<Trial, Stat
     };
     match node.check(alloc, &tx) {
         Ok((fee, cycles)) => Ok(Trial::Passes(fee, cycles)),
-        Err(Judged::Broken(rule)) => Ok(Trial::Refused(rule)),
+        Err(Judged::Broken(rule)) => Ok(Trial::Refused(rule.number())),
         Err(Judged::Read(stop)) => Err(status_of_reading(stop)),
     }
 }

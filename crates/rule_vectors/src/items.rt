@@ -4,13 +4,14 @@ use crate::chain::{Chain, ext_of, join, parent_of};
 use blake2b_ckb::ckbhash;
 use block_rules::Checked;
 use mol_schema::BlockView;
+use rule_names::Rule;
 use std::alloc::Global;
 
 /// The first rule that a block breaks which is not kept: its parent is kept, J4 to J8, or J9 to J14.
-fn broken(alloc: Global, chain: &Chain, block: &BlockView<'_>) -> Option<Option<u8>> {
+fn broken(alloc: Global, chain: &Chain, block: &BlockView<'_>) -> Option<Option<Rule>> {
     let header = block.header();
     let Some(parent) = parent_of(&chain.tree, &header) else {
-        return Some(Some(3));
+        return Some(Some(Rule::Parent));
     };
     if let Some(rule) = header_rules::check(&chain.spec, &chain.tree, parent, &header) {
         return Some(Some(rule));
@@ -36,12 +37,8 @@ pub(crate) fn is_answered(
         return Some(wanted == "known");
     }
     if let Some(rule) = broken(alloc, chain, &block)? {
-        return is_rule(rule, wanted);
+        return Some(format!(in alloc; "refused {rule}").ok()?.as_str() == wanted);
     }
     join(alloc, chain, &block, ext_of(alloc, &block)?)?;
     Some(wanted == "joined")
-}
-
-fn is_rule(rule: u8, wanted: &str) -> Option<bool> {
-    Some(wanted.strip_prefix("refused J")?.parse() == Ok(rule))
 }

@@ -5,6 +5,7 @@ use Rattle.outside.specs.declared.disk.Damage.{Damage}
 use Rattle.outside.specs.declared.disk.ReadStop.{ReadStop}
 use Rattle.outside.specs.declared.disk.ReadStop.TheVariants.{DiskFault, NoMemory, Damaged}
 use Rattle.outside.proofs.Endings.{counts-as}
+use Rattle.rule_names.specs.declared.rule.Rule.{Rule}
 use Rattle.tx_rules.specs.declared.resolving.TxStop.{TxStop}
 use Rattle.tx_rules.specs.declared.resolving.TxStop.TheVariants.{Broken, Read}
 
@@ -19,8 +20,8 @@ pub counts-read : {T U : Type 0} {before now : ℕ} (stop : ReadStop) → Counts
     → CountsFault before now (◌≡◌ {A = Result U TxStop} (Err (Read stop)) (Err (Read DiskFault)))
 counts-read stop counts = counts-as counts (fault_read stop) (read_fault stop)
 
-pub broken_unread : {T : Type 0} (rule : ℕ) (stop : ReadStop) → ◌≡◌ {A = Result T TxStop} (Err (Broken rule)) (Err (Read stop)) → ⊥
-broken_unread rule stop same = absurd (cc)
+pub broken_unread : {T : Type 0} {rule : Rule} (stop : ReadStop) → ◌≡◌ {A = Result T TxStop} (Err (Broken rule)) (Err (Read stop)) → ⊥
+broken_unread stop same = absurd (cc)
 
 pub memory_unread : {T : Type 0} → ◌≡◌ {A = Result T TxStop} (Err (Read NoMemory)) (Err (Read DiskFault)) → ⊥
 memory_unread same = absurd (cc)

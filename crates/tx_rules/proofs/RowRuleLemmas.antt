@@ -7,6 +7,9 @@ use Rattle.outside.specs.declared.disk.Damage.{Damage}
 use Rattle.outside.specs.declared.disk.ReadStop.{ReadStop}
 use Rattle.outside.specs.declared.disk.ReadStop.TheVariants.{DiskFault, NoMemory, Damaged}
 use Rattle.cell_defs.specs.Row.{Row}
+use Rattle.rule_names.specs.Number.{rule_number}
+use Rattle.rule_names.specs.declared.rule.Rule.{Rule}
+use Rattle.rule_names.specs.declared.rule.Rule.TheVariants.{TransactionForm, Proposed, Inputs, CellDeps, HeaderDeps, Maturity, Since, Outputs, Withdrawals, Capacity}
 use Rattle.tx_defs.specs.Resolving.{spends_each_once}
 use Rattle.tx_defs.specs.Rules.{has_form}
 use Rattle.tx_rules.specs.At.{named_rows, input_rows, spends_rows}
@@ -28,29 +31,29 @@ once-named rows t found once named = ap (λ (b : Bool). cond b (named_rows rows 
 -- ---- What stops later
 
 -- the rules behind J20
-pub later-21 : IsLater (Broken 21)
+pub later-21 : IsLater (Broken CellDeps)
 later-21 = (omega arith, omega arith)
 
-pub later-22 : IsLater (Broken 22)
+pub later-22 : IsLater (Broken HeaderDeps)
 later-22 = (omega arith, omega arith)
 
-pub later-23 : IsLater (Broken 23)
+pub later-23 : IsLater (Broken Maturity)
 later-23 = (omega arith, omega arith)
 
-pub later-24 : IsLater (Broken 24)
+pub later-24 : IsLater (Broken Since)
 later-24 = (omega arith, omega arith)
 
-pub later-25 : IsLater (Broken 25)
+pub later-25 : IsLater (Broken Outputs)
 later-25 = (omega arith, omega arith)
 
-pub later-26 : IsLater (Broken 26)
+pub later-26 : IsLater (Broken Withdrawals)
 later-26 = (omega arith, omega arith)
 
-pub later-27 : IsLater (Broken 27)
+pub later-27 : IsLater (Broken Capacity)
 later-27 = (omega arith, omega arith)
 
-later-rule : {T : Type 0} (result : Result T TxStop) (rule : ℕ) → StopsLater result → result ≡ Err (Broken rule) → 20 < rule
-later-rule {T = T} result rule later same = let high : (20 < rule) × (rule ≤ 27) = subst (λ (r : Result T TxStop). StopsLater r) same later in high.0
+later-rule : {T : Type 0} (result : Result T TxStop) (rule : Rule) → StopsLater result → result ≡ Err (Broken rule) → 20 < rule_number rule
+later-rule {T = T} result rule later same = let high : (20 < rule_number rule) × (rule_number rule ≤ 27) = subst (λ (r : Result T TxStop). StopsLater r) same later in high.0
 
 -- at what could not be read
 pub later-read : (stop : ReadStop) → ((damage : Damage) → stop ≡ Damaged damage → damage.area ≡ Log) → IsLater (Read stop)
@@ -87,7 +90,7 @@ follows-memory proposed rows t = record {
 }
 
 pub follows-form : {T : Type 0} (proposed : Bool) (rows : OutPoint → Option Row) (t : Transaction) → has_form t ≡ false
-    → FollowsRows {T = T} proposed rows t (Err (Broken 18))
+    → FollowsRows {T = T} proposed rows t (Err (Broken TransactionForm))
 follows-form proposed rows t bad = record {
   formless = λ again. inl refl;
   unproposed = λ form again. absurd (cc);
@@ -98,7 +101,7 @@ follows-form proposed rows t bad = record {
 }
 
 pub follows-unproposed : {T : Type 0} (proposed : Bool) (rows : OutPoint → Option Row) (t : Transaction) → has_form t ≡ true → proposed ≡ false
-    → FollowsRows {T = T} proposed rows t (Err (Broken 19))
+    → FollowsRows {T = T} proposed rows t (Err (Broken Proposed))
 follows-unproposed proposed rows t form bad = record {
   formless = λ other. absurd (cc);
   unproposed = λ same again. inl refl;
@@ -109,7 +112,7 @@ follows-unproposed proposed rows t form bad = record {
 }
 
 pub follows-lost : {T : Type 0} (proposed : Bool) (rows : OutPoint → Option Row) (t : Transaction) → has_form t ≡ true → proposed ≡ true
-    → spends_rows rows t ≡ false → FollowsRows {T = T} proposed rows t (Err (Broken 20))
+    → spends_rows rows t ≡ false → FollowsRows {T = T} proposed rows t (Err (Broken Inputs))
 follows-lost proposed rows t form named bad = record {
   formless = λ other. absurd (cc);
   unproposed = λ same other. absurd (cc);
@@ -126,9 +129,9 @@ follows-kept proposed rows t result form named spends later = record {
   formless = λ other. absurd (cc);
   unproposed = λ same other. absurd (cc);
   lost = λ same again other. absurd (cc);
-  form = λ same. absurd (let high = later-rule result 18 later same in omega (arith, high));
-  named = λ same. absurd (let high = later-rule result 19 later same in omega (arith, high));
-  live = λ same. absurd (let high = later-rule result 20 later same in omega (arith, high));
+  form = λ same. absurd (let high = later-rule result TransactionForm later same in omega (arith, high));
+  named = λ same. absurd (let high = later-rule result Proposed later same in omega (arith, high));
+  live = λ same. absurd (let high = later-rule result Inputs later same in omega (arith, high));
 }
 
 -- ---- Handed on

@@ -16,6 +16,8 @@ use Rattle.cell_defs.specs.Cell.{Cell}
 use Rattle.cell_defs.specs.Row.{Row, row_of}
 use Rattle.chain_tree.specs.Told.{Stored, blocks_of}
 use Rattle.cell_model.specs.Copies.{ResolvedValue}
+use Rattle.rule_names.specs.Number.{rule_number}
+use Rattle.rule_names.specs.declared.rule.Rule.{Rule}
 use Rattle.tx_defs.specs.Site.{Site}
 use Rattle.tx_defs.specs.Resolving.{input_cells, spends_each_once, spends_live_cells, has_cell_deps, has_header_deps, inputs, deps}
 use Rattle.tx_defs.specs.Age.{is_mature, uses_mature_cells, meets_each_since}
@@ -167,7 +169,7 @@ pays-well site t named good =
 
 -- a stop in the first group
 pub stops-front : (front back : List (ℕ × Bool)) (stop : TxStop) → StopsAt front stop → StopsAt (front ++ back) stop
-stops-front front back (Broken rule) is = first_failing-append-fails rule front back is
+stops-front front back (Broken rule) is = first_failing-append-fails (rule_number rule) front back is
 stops-front front back (Read DiskFault) is = tt
 stops-front front back (Read NoMemory) is = tt
 stops-front front back (Read (Damaged damage)) is = is
@@ -197,17 +199,17 @@ spent-inputs stored at rows site t spent is some =
 
 -- ---- What the whole answers
 
-pub tried-of : {T : Type 0} (proposed : Bool) (result : Result T TxStop) (rule : ℕ) → Stops proposed result → result ≡ Err (Broken rule)
-    → IsTried proposed rule
+pub tried-of : {T : Type 0} (proposed : Bool) (result : Result T TxStop) (rule : Rule) → Stops proposed result → result ≡ Err (Broken rule)
+    → IsTried proposed (rule_number rule)
 tried-of {T = T} proposed result rule stops same = subst (λ (r : Result T TxStop). Stops proposed r) same stops
 
 pub damage-of : {T : Type 0} (proposed : Bool) (result : Result T TxStop) (damage : Damage) → Stops proposed result
     → result ≡ Err (Read (Damaged damage)) → damage.area ≡ Log
 damage-of {T = T} proposed result damage stops same = subst (λ (r : Result T TxStop). Stops proposed r) same stops
 
-pub broken-of : {T : Type 0} (proposed : Bool) (site : Site) (t : Transaction) (result : Result T TxStop) (rule : ℕ)
+pub broken-of : {T : Type 0} (proposed : Bool) (site : Site) (t : Transaction) (result : Result T TxStop) (rule : Rule)
     → Tells (finding_rules proposed site t ++ paying_rules site t) result → result ≡ Err (Broken rule)
-    → first_failing (rules_to_27 proposed site t) ≡ Some rule
+    → first_failing (rules_to_27 proposed site t) ≡ Some (rule_number rule)
 broken-of {T = T} proposed site t result rule tells same =
     all-rules proposed site t ∙ subst (λ (r : Result T TxStop). Tells (finding_rules proposed site t ++ paying_rules site t) r) same tells
 

@@ -10,6 +10,8 @@ use Rattle.chain_tree.specs.declared.entry.Entry.{Entry}
 use Rattle.chain_tree.specs.Entries.{place_of_hash}
 use Rattle.cell_defs.specs.Row.{Row}
 use Rattle.cell_model.specs.Copies.{ResolvedValue, ResolvedTxValue, IsCopyOf}
+use Rattle.rule_names.specs.declared.rule.Rule.{Rule}
+use Rattle.rule_names.specs.declared.rule.Rule.TheVariants.{TransactionForm, Proposed, Inputs}
 use Rattle.tx_defs.specs.Site.{Site, Found}
 use Rattle.tx_defs.specs.Resolving.{inputs, deps, heights}
 use Rattle.tx_defs.specs.Rules.{has_form, form_rules, cell_rules}
@@ -41,18 +43,18 @@ pub record IsResolved (kept : List Block) (parent : ℕ) (site : Site) (t : Tran
   pub headers_are : resolved.headers ≡ map (slice_index (branch_places kept parent)) (heights site t)
 
 -- a stop at a rule, or out of memory before it
-abbrev pub IsStopAt : ℕ → TxStop → Type 0
+abbrev pub IsStopAt : Rule → TxStop → Type 0
 IsStopAt rule stop = (stop ≡ Broken rule) ⊎ (stop ≡ Read NoMemory)
 
 -- J18 to J20 over any source of blocks: an answer says of them what the transaction, its proposal and the rows do.
 pub record FollowsRows {T : Type 0} (proposed : Bool) (rows : OutPoint → Option Row) (t : Transaction) (result : Result T TxStop) : Type 0 where
-  pub formless : has_form t ≡ false → IsErrAnd result (IsStopAt 18)
-  pub unproposed : IsTrue (has_form t) → proposed ≡ false → IsErrAnd result (IsStopAt 19)
-  pub lost : IsTrue (has_form t) → IsTrue proposed → spends_rows rows t ≡ false → IsErrAnd result (IsStopAt 20)
+  pub formless : has_form t ≡ false → IsErrAnd result (IsStopAt TransactionForm)
+  pub unproposed : IsTrue (has_form t) → proposed ≡ false → IsErrAnd result (IsStopAt Proposed)
+  pub lost : IsTrue (has_form t) → IsTrue proposed → spends_rows rows t ≡ false → IsErrAnd result (IsStopAt Inputs)
   -- and the other way
-  pub form : result ≡ Err (Broken 18) → has_form t ≡ false
-  pub named : result ≡ Err (Broken 19) → IsTrue (has_form t) × (proposed ≡ false)
-  pub live : result ≡ Err (Broken 20) → IsTrue (has_form t) × (IsTrue proposed × (spends_rows rows t ≡ false))
+  pub form : result ≡ Err (Broken TransactionForm) → has_form t ≡ false
+  pub named : result ≡ Err (Broken Proposed) → IsTrue (has_form t) × (proposed ≡ false)
+  pub live : result ≡ Err (Broken Inputs) → IsTrue (has_form t) × (IsTrue proposed × (spends_rows rows t ≡ false))
 
 -- the rules that are tried: J19 is broken only where it is not proposed
 abbrev pub IsTried : Bool → ℕ → Type 0

@@ -6,6 +6,7 @@ use Rattle.outside.specs.declared.disk.Area.TheVariants.{Log}
 use Rattle.outside.specs.declared.disk.ReadStop.TheVariants.{DiskFault, NoMemory, Damaged}
 use Rattle.chain_defs.specs.Branch.{branch_places}
 use Rattle.cell_defs.specs.Row.{Row}
+use Rattle.rule_names.specs.Number.{rule_number}
 use Rattle.tx_defs.specs.Site.{Site}
 use Rattle.tx_defs.specs.Resolving.{spends_live_cells, has_cell_deps, has_header_deps, inputs, deps, heights}
 use Rattle.tx_defs.specs.Age.{uses_mature_cells, meets_each_since}
@@ -46,7 +47,7 @@ paying_rules site t = (26, names_deposits site t) ∷ (27, balances site t) ∷ 
 
 -- why a step of some rules stopped: at the first of them that is broken, or out of memory or at a fault of the disk, but at no damage
 abbrev pub StopsAt : List (ℕ × Bool) → TxStop → Type 0
-StopsAt rules (Broken rule) = first_failing rules ≡ Some rule
+StopsAt rules (Broken rule) = first_failing rules ≡ Some (rule_number rule)
 StopsAt rules (Read DiskFault) = Unit {0}
 StopsAt rules (Read NoMemory) = Unit {0}
 StopsAt rules (Read (Damaged damage)) = ⊥
@@ -58,7 +59,7 @@ Tells rules (Err stop) = StopsAt rules stop
 
 -- why a step stops, whatever is told: at a rule that is tried, and what is damaged stands in LOG
 abbrev pub IsStop : Bool → TxStop → Type 0
-IsStop proposed (Broken rule) = IsTried proposed rule
+IsStop proposed (Broken rule) = IsTried proposed (rule_number rule)
 IsStop proposed (Read DiskFault) = Unit {0}
 IsStop proposed (Read NoMemory) = Unit {0}
 IsStop proposed (Read (Damaged damage)) = damage.area ≡ Log
@@ -69,7 +70,7 @@ Stops proposed (Err stop) = IsStop proposed stop
 
 -- behind J18 to J20 a step stops at a later rule
 abbrev pub IsLater : TxStop → Type 0
-IsLater (Broken rule) = (20 < rule) × (rule ≤ 27)
+IsLater (Broken rule) = (20 < rule_number rule) × (rule_number rule ≤ 27)
 IsLater (Read DiskFault) = Unit {0}
 IsLater (Read NoMemory) = Unit {0}
 IsLater (Read (Damaged damage)) = damage.area ≡ Log

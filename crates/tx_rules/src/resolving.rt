@@ -1,5 +1,5 @@
 // All rules on one transaction, in their order.
-ghost use Rattle.std.specs.Prelude.{◌≡◌, ◌<◌, ◌^◌, nat_abs, ◌++◌, List, length, map, Ok, Err, Some, None, IfOk, IsTrue, Option, slice_index, ℕ};
+ghost use Rattle.std.specs.Prelude.{◌≡◌, ◌<◌, ◌^◌, nat_abs, ◌++◌, List, length, map, Ok, Err, Some, None, IfOk, IsTrue, Option, slice_index};
 ghost use Rattle.std.specs.List.{All, AllZip};
 ghost use Rattle.outside.specs.Causes.{CountsFault};
 ghost use Rattle.outside.specs.declared.disk.Area.TheVariants.{Log};
@@ -13,6 +13,7 @@ ghost use Rattle.chain_tree.specs.Entries.{place_of_hash};
 ghost use Rattle.chain_tree.specs.Told.{Stored, blocks_of};
 ghost use Rattle.tx_defs.specs.Site.{Site};
 ghost use Rattle.fold_defs.specs.First.{first_failing};
+ghost use Rattle.rule_names.specs.Number.{rule_number};
 ghost use Rattle.tx_defs.specs.Rules as defs;
 ghost use Rattle.tx_defs.specs.Capacity as rules;
 ghost use Rattle.tx_defs.specs.Resolving.{inputs, deps, heights};
@@ -37,6 +38,7 @@ use cell_model::{CellMeta, Cells, OutPoint, Resolved, ResolvedTx, tx_hash};
 use chain_tree::Blocks;
 use mol_schema::TxView;
 use outside::{Damage, NoMemory, ReadStop};
+use rule_names::Rule;
 use std::alloc::Global;
 
 /// A transaction that keeps J18 to J27.
@@ -53,8 +55,8 @@ pub struct TxOk<'a> {
 /// Why a transaction was not resolved.
 #[derive(Clone, Copy)]
 pub enum TxStop {
-    /// The first rule that it breaks: one of 18 to 27.
-    Broken(u8),
+    /// The first rule that it breaks, one of J18 to J27.
+    Broken(Rule),
     /// The kept blocks could not be read, or there was no memory.
     Read(ReadStop),
 }
@@ -93,20 +95,20 @@ fn spent_rows<C: Cells>(
 {
     match has_form(alloc, tx) {
         Ok(true) => {}
-        Ok(false) => return Err(TxStop::Broken(18)),
+        Ok(false) => return Err(TxStop::Broken(Rule::TransactionForm)),
         Err(NoMemory) => return Err(TxStop::Read(ReadStop::NoMemory)),
     }
     if !proposed {
-        return Err(TxStop::Broken(19));
+        return Err(TxStop::Broken(Rule::Proposed));
     }
     match are_inputs_distinct(alloc, tx) {
         Ok(true) => {}
-        Ok(false) => return Err(TxStop::Broken(20)),
+        Ok(false) => return Err(TxStop::Broken(Rule::Inputs)),
         Err(NoMemory) => return Err(TxStop::Read(ReadStop::NoMemory)),
     }
     match live_inputs(alloc, tx, cells) {
         Ok(Some(rows)) => Ok(rows),
-        Ok(None) => Err(TxStop::Broken(20)),
+        Ok(None) => Err(TxStop::Broken(Rule::Inputs)),
         Err(NoMemory) => Err(TxStop::Read(ReadStop::NoMemory)),
     }
 }
@@ -134,12 +136,12 @@ fn named_rows<C: Cells, B: Blocks>(
 {
     let rows = match resolved_deps(alloc, tx, at, cells, blocks) {
         Ok(Some(rows)) => rows,
-        Ok(None) => return Err(TxStop::Broken(21)),
+        Ok(None) => return Err(TxStop::Broken(Rule::CellDeps)),
         Err(stop) => return Err(TxStop::Read(stop)),
     };
     match header_places(alloc, tx, at) {
         Ok(Some(places)) => Ok((rows, places)),
-        Ok(None) => Err(TxStop::Broken(22)),
+        Ok(None) => Err(TxStop::Broken(Rule::HeaderDeps)),
         Err(NoMemory) => Err(TxStop::Read(ReadStop::NoMemory)),
     }
 }
@@ -164,21 +166,21 @@ fn try_cells<C: Cells>(
 {
     match are_mature(at, spent) {
         Ok(true) => {}
-        Ok(false) => return Err(TxStop::Broken(23)),
+        Ok(false) => return Err(TxStop::Broken(Rule::Maturity)),
         Err(damage) => return Err(TxStop::Read(ReadStop::Damaged(damage))),
     }
     match are_mature(at, named) {
         Ok(true) => {}
-        Ok(false) => return Err(TxStop::Broken(23)),
+        Ok(false) => return Err(TxStop::Broken(Rule::Maturity)),
         Err(damage) => return Err(TxStop::Read(ReadStop::Damaged(damage))),
     }
     match meets_each_since(tx, at, spent) {
         Ok(true) => {}
-        Ok(false) => return Err(TxStop::Broken(24)),
+        Ok(false) => return Err(TxStop::Broken(Rule::Since)),
         Err(damage) => return Err(TxStop::Read(ReadStop::Damaged(damage))),
     }
     if !makes_good_cells(tx, hash, cells) {
-        return Err(TxStop::Broken(25));
+        return Err(TxStop::Broken(Rule::Outputs));
     }
     Ok(())
 }
@@ -205,12 +207,12 @@ fn paid_by(
 {
     match names_deposits(alloc, tx, at, copies, places) {
         Ok(true) => {}
-        Ok(false) => return Err(TxStop::Broken(26)),
+        Ok(false) => return Err(TxStop::Broken(Rule::Withdrawals)),
         Err(stop) => return Err(TxStop::Read(stop)),
     }
     match balance_of(tx, at, copies, places) {
         Ok(Some(balance)) => Ok(balance),
-        Ok(None) => Err(TxStop::Broken(27)),
+        Ok(None) => Err(TxStop::Broken(Rule::Capacity)),
         Err(damage) => Err(TxStop::Read(ReadStop::Damaged(damage))),
     }
 }
@@ -325,7 +327,7 @@ pub fn resolve<'a, C: Cells, B: Blocks>(
     ensures loans { B.loans_of blocks.new ≡ B.loans_of blocks.old }
     ensures formed { IfOk result (λ ok. IsFormed at.now.entries tx.now ok.resolved) }
     ensures of_rows { IfOk result (λ ok. All (CopiesItsRow (B.told blocks.old) at.now) (ok.resolved.inputs ++ ok.resolved.deps)) }
-    ensures tried { (rule : ℕ) → result ≡ Err (TxStop.Broken rule) → IsTried proposed rule }
+    ensures tried { (rule : Rule) → result ≡ Err (TxStop.Broken rule) → IsTried proposed (rule_number rule) }
     ensures by_rows { FollowsRows proposed (C.rows cells.now) tx.now result }
 
     // It has below 2^32 inputs, each of which counts and holds below 2^64 shannons.
@@ -333,7 +335,7 @@ pub fn resolve<'a, C: Cells, B: Blocks>(
 
     // Over kept blocks that are told, at the site of the transaction: the first rule that is broken, or none.
     ensures broken { (stored : List Stored) (site : Site) → B.told blocks.old ≡ Some stored → IsSiteOf stored at.now (C.rows cells.now) site
-        → (rule : ℕ) → result ≡ Err (TxStop.Broken rule) → first_failing (rules_to_27 proposed site tx.now) ≡ Some rule }
+        → (rule : Rule) → result ≡ Err (TxStop.Broken rule) → first_failing (rules_to_27 proposed site tx.now) ≡ Some (rule_number rule) }
     ensures unbroken { (stored : List Stored) (site : Site) → B.told blocks.old ≡ Some stored → IsSiteOf stored at.now (C.rows cells.now) site
         → IfOk result (λ _. first_failing (rules_to_27 proposed site tx.now) ≡ None) }
     ensures resolved { (stored : List Stored) (site : Site) → B.told blocks.old ≡ Some stored → IsSiteOf stored at.now (C.rows cells.now) site

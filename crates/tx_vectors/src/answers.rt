@@ -54,7 +54,10 @@ fn ok_text(alloc: Global, ok: &TxOk<'_>) -> Option<String> {
 fn text_of(alloc: Global, answer: &Result<TxOk<'_>, TxStop>) -> Option<String> {
     match answer {
         Ok(ok) => ok_text(alloc, ok),
-        Err(TxStop::Broken(rule)) => format!(in alloc; "broken {rule}").ok(),
+        Err(TxStop::Broken(rule)) => {
+            let number = rule.number();
+            format!(in alloc; "broken {number}").ok()
+        }
         Err(TxStop::Read(_)) => None,
     }
 }

@@ -1,6 +1,7 @@
 use Rattle.std.proofs.Common.{◌≡◌, Some, sym, ap, ◌∙◌, arith}
 use Rattle.chain_defs.specs.Branch.{branch}
 use Rattle.chain_tree.specs.Told.{blocks_of}
+use Rattle.rule_names.specs.Number.{rule_number}
 use Rattle.block_judge.proofs.Exits.{same_rule, same_read, as_step, no_error, no_rule, no_read}
 use Rattle.block_judge.proofs.AheadLemmas.{breaks-header, breaks-body, leaves-family, body-rule}
 use Rattle.block_judge.proofs.ahead.judge_ahead.Goals as goal
@@ -12,12 +13,12 @@ pub returns-in-Some : goal.returns-in-Some
 returns-in-Some g c = record {
   hashes = tt;
   tried = λ rule same.
-      let its = c.in-Some.ensures.tried in let is : c.in-Some.rule ≡ rule = same_rule same in (omega (arith, its.0, is), omega (arith, its.1, is));
+      let its = c.in-Some.ensures.tried in let is : rule_number c.in-Some.rule ≡ rule_number rule = same_rule same in (omega (arith, its.0, is), omega (arith, its.1, is));
   memory = λ stop same. absurd (no_read same);
   some = tt;
   header = λ kept indexes. tt;
   broken = λ stored stands uncles rule same.
-      breaks-header c.args.spec.now (branch (blocks_of stored) c.args.parent) c.args.block.now c.in-Some.rule
+      breaks-header c.args.spec.now (branch (blocks_of stored) c.args.parent) c.args.block.now (rule_number c.in-Some.rule)
       (c.in-Some.ensures.of_blocks (blocks_of stored) c.args.block.now stands.indexed c.header.ensures) ∙ ap Some (same_rule same);
   unbroken = λ stored stands uncles. tt;
 }
@@ -26,13 +27,13 @@ pub returns-in-Ok-Broken : goal.returns-in-Ok-Broken
 returns-in-Ok-Broken g c = record {
   hashes = tt;
   tried = λ rule same.
-      let its = body-rule c.args.spec.now c.args.block.now c.in-Ok-Broken.rule (sym (rw c.in-Ok-Broken.field-0-is at c.in-Ok-Broken.ensures.broken)) in
-      let is : c.in-Ok-Broken.rule ≡ rule = same_rule same in (omega (arith, its.0, is), omega (arith, its.1, is));
+      let its = body-rule c.args.spec.now c.args.block.now (rule_number c.in-Ok-Broken.rule) (sym (rw c.in-Ok-Broken.field-0-is at c.in-Ok-Broken.ensures.broken)) in
+      let is : rule_number c.in-Ok-Broken.rule ≡ rule_number rule = same_rule same in (omega (arith, its.0, is), omega (arith, its.1, is));
   memory = λ stop same. absurd (no_read same);
   some = tt;
   header = λ kept indexes. tt;
   broken = λ stored stands uncles rule same.
-      breaks-body c.args.spec.now (branch (blocks_of stored) c.args.parent) c.args.block.now c.in-Ok-Broken.rule
+      breaks-body c.args.spec.now (branch (blocks_of stored) c.args.parent) c.args.block.now (rule_number c.in-Ok-Broken.rule)
       (c.in_default.ensures.of_blocks (blocks_of stored) c.args.block.now stands.indexed c.header.ensures) (rw c.in-Ok-Broken.field-0-is at c.in-Ok-Broken.ensures.broken)
       ∙ ap Some (same_rule same);
   unbroken = λ stored stands uncles. tt;

@@ -2,6 +2,7 @@ use Rattle.std.proofs.Common.{◌≡◌, Some, sym, ap, ◌∙◌, arith}
 use Rattle.chain_defs.specs.Branch.{branch}
 use Rattle.chain_tree.specs.Told.{blocks_of}
 use Rattle.cell_defs.specs.Events.{live_cell}
+use Rattle.rule_names.specs.Number.{rule_number}
 use Rattle.block_judge.proofs.Exits.{same_rule, same_read, no_error, no_rule, no_read}
 use Rattle.block_judge.proofs.AheadLemmas.{breaks-15, breaks-16, breaks-17, keeps-family, has-first, live-there}
 use Rattle.block_judge.proofs.ahead.judge_family.Goals as goal
@@ -17,7 +18,7 @@ returns-in-Err g c = record {
 
 pub returns-then-not-has_uncles : goal.returns-then-not-has_uncles
 returns-then-not-has_uncles g c = record {
-  tried = λ rule same. let is : 15 ≡ rule = same_rule same in (omega (arith, is), omega (arith, is));
+  tried = λ rule same. let is : 15 ≡ rule_number rule = same_rule same in (omega (arith, is), omega (arith, is));
   memory = λ stop same. absurd (no_read same);
   some = tt;
   broken = λ stored stands uncles rule same.
@@ -37,7 +38,7 @@ returns-in-Err-has_cellbase g c = record {
 
 pub returns-then-not-begins : goal.returns-then-not-begins
 returns-then-not-begins g c = record {
-  tried = λ rule same. let is : 16 ≡ rule = same_rule same in (omega (arith, is), omega (arith, is));
+  tried = λ rule same. let is : 16 ≡ rule_number rule = same_rule same in (omega (arith, is), omega (arith, is));
   memory = λ stop same. absurd (no_read same);
   some = tt;
   broken = λ stored stands uncles rule same.
@@ -49,7 +50,7 @@ returns-then-not-begins g c = record {
 
 pub returns-then-not-forms_cellbase : goal.returns-then-not-forms_cellbase
 returns-then-not-forms_cellbase g c = record {
-  tried = λ rule same. let is : 17 ≡ rule = same_rule same in (omega (arith, is), omega (arith, is));
+  tried = λ rule same. let is : 17 ≡ rule_number rule = same_rule same in (omega (arith, is), omega (arith, is));
   memory = λ stop same. absurd (no_read same);
   some = tt;
   broken = λ stored stands uncles rule same.

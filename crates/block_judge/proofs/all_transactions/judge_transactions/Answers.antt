@@ -6,6 +6,7 @@ use Rattle.codec_defs.specs.Schema.{Block}
 use Rattle.chain_tree.specs.Told.{Stored, blocks_of}
 use Rattle.tx_defs.specs.Site.{Site, site_at}
 use Rattle.tx_rules.specs.At.{AtValue}
+use Rattle.rule_names.specs.Number.{rule_number}
 use Rattle.block_judge.specs.Changes.{with_changes}
 use Rattle.block_judge.specs.Standing.{Stands}
 use Rattle.block_judge.proofs.MovedLemmas.{can-move-none, moved-none, moved-more, moved-all}
@@ -152,7 +153,7 @@ returns-in-Err-judge_next g c =
           let proposed = proposed-here c.args.spec.now (branch (blocks_of stored) c.args.parent) c.in-Ok.proposed c.height.result
           (c.in-Ok.ensures.proposed stored tells stands.indexed) (c.height.ensures.height stored _ site is) in
           judged-breaks c.args.spec.now (blocks_of stored) c.args.parent c.args.block.now c.later.place c.later.progress.left c.later.progress.ext
-          c.transactions_item-tx.result rule (c.later.invariant.judged stored tells stands) c.transactions_item-tx.ensures
+          c.transactions_item-tx.result (rule_number rule) (c.later.invariant.judged stored tells stands) c.transactions_item-tx.ensures
           (c.in-Err-judge_next.ensures.broken stored site (c.later.invariant.told ∙ tells) is proposed rule (as_step same));
       unbroken = λ stored tells stands. tt;
       ext = λ stored tells stands. tt;

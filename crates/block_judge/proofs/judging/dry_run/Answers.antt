@@ -6,6 +6,7 @@ use Rattle.tx_rules.specs.At.{AtValue}
 use Rattle.script_defs.specs.Rules.{cycles_of}
 use Rattle.script_defs.specs.Scene.{scene_of}
 use Rattle.tx_defs.specs.Site.{site_after}
+use Rattle.rule_names.specs.Number.{rule_number}
 use Rattle.block_judge.proofs.Exits.{as_step, no_error, counts-on, counts-none}
 use Rattle.block_judge.proofs.SiteLemmas.{site-alone}
 use Rattle.block_judge.proofs.NextLemmas.{alone-judged}
@@ -20,7 +21,7 @@ returns-in-Err g c =
       tried = λ rule same. c.in-Err.ensures.alone refl rule (as_step same);
       by_rows = c.in-Err.ensures.by_rows refl;
       broken = λ stored tells stands rule same.
-          alone-judged c.args.spec.now (branch (blocks_of stored) c.args.parent) c.args.tx.now _ (Some rule) (ap (λ (s : Specification). s.max_cycles) c.spec.view_is)
+          alone-judged c.args.spec.now (branch (blocks_of stored) c.args.parent) c.args.tx.now _ (Some (rule_number rule)) (ap (λ (s : Specification). s.max_cycles) c.spec.view_is)
           (c.in-Err.ensures.broken stored _ tells (site-alone stored at (g.C.Cells.rows c.args.cells.now) stands) rule (as_step same));
       unbroken = λ stored tells stands. tt;
       fee = λ stored tells stands. tt;

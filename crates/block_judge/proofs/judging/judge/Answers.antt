@@ -18,7 +18,7 @@ returns-in-Err g c = record {
       (λ why same. c.in-Err.ensures.memory why (ap Err same));
   rated = tt;
   broken = λ stored tells whole rule same.
-      first-ahead c.args.spec.now (branch (blocks_of stored) c.args.parent) c.args.block.now rule
+      first-ahead c.args.spec.now (branch (blocks_of stored) c.args.parent) c.args.block.now _
       (c.in-Err.ensures.broken stored whole.stands whole.uncles rule (as_step same));
   unbroken = λ stored tells whole. tt;
   ext = λ stored tells whole. tt;
@@ -40,7 +40,7 @@ returns-in-Err-judge_transactions g c = record {
       (λ rule same. let its = c.in-Err-judge_transactions.ensures.rule rule (ap Err same) in omega (arith, its.0));
   rated = tt;
   broken = λ stored tells whole rule same.
-      first-transaction c.args.spec.now (branch (blocks_of stored) c.args.parent) c.args.block.now rule
+      first-transaction c.args.spec.now (branch (blocks_of stored) c.args.parent) c.args.block.now _
       (c.in-Ok.ensures.unbroken stored whole.stands whole.uncles) (c.in-Err-judge_transactions.ensures.broken stored tells whole.stands rule (as_step same));
   unbroken = λ stored tells whole. tt;
   ext = λ stored tells whole. tt;

@@ -1,11 +1,12 @@
-use Rattle.std.proofs.Common.{Err, sym, ap, ◌∙◌}
+use Rattle.std.proofs.Common.{Err, ap, subst}
 use Rattle.outside.specs.declared.disk.ReadStop.TheVariants.{DiskFault, Damaged}
 use Rattle.tx_rules.specs.At.{AtValue}
+use Rattle.script_run.specs.declared.stop.ScriptStop.{ScriptStop}
 use Rattle.script_defs.specs.Scene.{scene_of}
-use Rattle.block_judge.specs.Stops.{of_running}
+use Rattle.block_judge.specs.Stops.{AnswersRunning}
 use Rattle.block_judge.proofs.Exits.{same_stop, no_error, counts-on, counts-none}
 use Rattle.block_judge.proofs.SceneLemmas.{scene-told}
-use Rattle.block_judge.proofs.ScriptLemmas.{scripts-keep, scripts-break, script-rule, reads-running}
+use Rattle.block_judge.proofs.ScriptLemmas.{scripts-keep, scripts-break, script-rule, reads-running, running-reads}
 use Rattle.block_judge.proofs.scripts.run_scripts.Goals as goal
 
 pub returns-in-Ok : goal.returns-in-Ok
@@ -30,17 +31,17 @@ returns-in-Err g c = record {
   count = c.run_groups.ensures.count;
   loans = c.run_groups.ensures.loans;
   within = tt;
-  rule = λ rule same. script-rule c.in-Err.stop rule (sym c.stopped.ensures ∙ same_stop same);
+  rule = λ rule same. script-rule c.in-Err.stop rule (subst (AnswersRunning c.in-Err.stop) (same_stop same) c.stopped.ensures);
   broken = λ stored rows site told is resolves rule same.
       scripts-break (scene_of site c.args.resolved.now.tx) c.args.left rule c.in-Err.stop (c.in-Err.ensures.exact stored (scene_of site c.args.resolved.now.tx) told
       (scene-told stored c.args.at.now rows site c.at.inside.spec.now c.args.resolved.now is c.requires.formed resolves (ap (λ (at : AtValue). at.spec) c.at.view_is)))
-      (sym c.stopped.ensures ∙ same_stop same);
+      (subst (AnswersRunning c.in-Err.stop) (same_stop same) c.stopped.ensures);
   unbroken = λ stored rows site told is resolves. tt;
   undamaged = λ stored rows site told is resolves damage same.
       c.in-Err.ensures.undamaged stored (scene_of site c.args.resolved.now.tx) told
       (scene-told stored c.args.at.now rows site c.at.inside.spec.now c.args.resolved.now is c.requires.formed resolves (ap (λ (at : AtValue). at.spec) c.at.view_is))
-      damage (ap Err (reads-running c.in-Err.stop (Damaged damage) (sym c.stopped.ensures ∙ same_stop same)));
-  damage = λ damage same. c.in-Err.ensures.damage damage (ap Err (reads-running c.in-Err.stop (Damaged damage) (sym c.stopped.ensures ∙ same_stop same)));
-  cause = counts-on (λ fault. ap Err (c.stopped.ensures ∙ ap of_running (same_stop fault)))
-      (λ fault. ap Err (reads-running c.in-Err.stop DiskFault (sym c.stopped.ensures ∙ same_stop fault))) c.in-Err.ensures.cause;
+      damage (ap Err (reads-running c.in-Err.stop (Damaged damage) (subst (AnswersRunning c.in-Err.stop) (same_stop same) c.stopped.ensures)));
+  damage = λ damage same. c.in-Err.ensures.damage damage (ap Err (reads-running c.in-Err.stop (Damaged damage) (subst (AnswersRunning c.in-Err.stop) (same_stop same) c.stopped.ensures)));
+  cause = counts-on (λ fault. ap Err (running-reads DiskFault _ (subst (λ (it : ScriptStop). AnswersRunning it c.stopped.result) (same_stop fault) c.stopped.ensures)))
+      (λ fault. ap Err (reads-running c.in-Err.stop DiskFault (subst (AnswersRunning c.in-Err.stop) (same_stop fault) c.stopped.ensures))) c.in-Err.ensures.cause;
 }

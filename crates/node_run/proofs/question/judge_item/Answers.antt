@@ -1,5 +1,6 @@
 use Rattle.std.proofs.Common.{ap, sym, ◌∙◌}
 use Rattle.std.specs.Prelude.{Some, None, Err}
+use Rattle.verdict_defs.specs.declared.trial.Trial.TheVariants.{Refused}
 use Rattle.node_run.proofs.QuestionLemmas.{trial_of_bytes}
 use Rattle.node_run.proofs.question.judge_item.Goals as goal
 
@@ -12,5 +13,5 @@ returns-in-Ok-clause-trial c = λ joined.
 
 pub returns-in-Err-Broken-clause-trial : goal.returns-in-Err-Broken-clause-trial
 returns-in-Err-Broken-clause-trial c = λ joined.
-    sym (c.in-Err-Broken.ensures.broken joined c.in-Err-Broken.rule (ap Err c.in-Err-Broken.field-0-is))
+    ap Refused c.number.ensures ∙ sym (c.in-Err-Broken.ensures.broken joined c.in-Err-Broken.rule (ap Err c.in-Err-Broken.field-0-is))
     ∙ trial_of_bytes c.args.node.now.chain c.args.item.now (Some c.in-Some.tx) (sym c.in-Some.is ∙ c.read.ensures.value)

@@ -24,7 +24,7 @@ returns-in-Ok-None g c = record {
   cells = λ stored site tells is. tt;
   places = λ stored site tells is. tt;
   headers = tt;
-  cause = no_fault _ _ (c.in-Ok-None.ensures.cause.unchanged (no_answer _ _)) (broken_unread 21 DiskFault);
+  cause = no_fault _ _ (c.in-Ok-None.ensures.cause.unchanged (no_answer _ _)) (broken_unread DiskFault);
 }
 
 pub returns-in-Err : goal.returns-in-Err
@@ -76,7 +76,7 @@ returns-in-Ok-None-header_places g c = record {
   cells = λ stored site tells is. tt;
   places = λ stored site tells is. tt;
   headers = tt;
-  cause = no_fault _ _ (c.in-Ok-Some.ensures.cause.unchanged (no_answer _ _)) (broken_unread 22 DiskFault);
+  cause = no_fault _ _ (c.in-Ok-Some.ensures.cause.unchanged (no_answer _ _)) (broken_unread DiskFault);
 }
 
 pub returns-in-Err-header_places : goal.returns-in-Err-header_places

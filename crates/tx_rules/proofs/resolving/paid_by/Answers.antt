@@ -12,7 +12,7 @@ pub returns-in-Ok-false : goal.returns-in-Ok-false
 returns-in-Ok-false c = record {
   fits = tt;
   later = later-26;
-  unread = broken_unread 26 DiskFault;
+  unread = broken_unread DiskFault;
   tells = λ stored rows site is copies places.
       names-badly site c.args.tx.now (sym (c.in-Ok-false.ensures.named stored rows site is copies places) ∙ c.in-Ok-false.field-0-test);
   paid = λ stored rows site is copies places. tt;
@@ -47,7 +47,7 @@ pub returns-in-Ok-None : goal.returns-in-Ok-None
 returns-in-Ok-None c = record {
   fits = tt;
   later = later-27;
-  unread = broken_unread 27 DiskFault;
+  unread = broken_unread DiskFault;
   tells = λ stored rows site is copies places.
       let named : names_deposits site c.args.tx.now ≡ true = sym (c.in-Ok-true.ensures.named stored rows site is copies places) ∙ c.in-Ok-true.field-0-test in
       pays-badly site c.args.tx.now named (rw c.in-Ok-None.field-0-is at (c.in-Ok-None.ensures.balance stored rows site is copies places named));

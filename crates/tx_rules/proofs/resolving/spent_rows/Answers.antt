@@ -16,7 +16,7 @@ returns-in-Ok-false g c =
     record {
       stops = tried-18 c.args.proposed;
       by_rows = follows-form c.args.proposed (g.C.Cells.rows c.args.cells.now) c.args.tx.now form;
-      unread = broken_unread 18 DiskFault;
+      unread = broken_unread DiskFault;
       tells = λ stored at site is. no-form c.args.proposed site c.args.tx.now form;
       form = tt;
       rows = tt;
@@ -38,7 +38,7 @@ returns-then-not-proposed g c =
     record {
       stops = tried-19 c.args.proposed c.if-not-proposed.true;
       by_rows = follows-unproposed c.args.proposed (g.C.Cells.rows c.args.cells.now) c.args.tx.now form c.if-not-proposed.true;
-      unread = broken_unread 19 DiskFault;
+      unread = broken_unread DiskFault;
       tells = λ stored at site is. not-proposed c.args.proposed site c.args.tx.now form c.if-not-proposed.true;
       form = tt;
       rows = tt;
@@ -52,7 +52,7 @@ returns-in-Ok-false-are_inputs_distinct g c =
     record {
       stops = tried-20 c.args.proposed;
       by_rows = follows-lost c.args.proposed (g.C.Cells.rows c.args.cells.now) c.args.tx.now form c.if-not-proposed.false lost;
-      unread = broken_unread 20 DiskFault;
+      unread = broken_unread DiskFault;
       tells = λ stored at site is. spends-badly c.args.proposed site c.args.tx.now form c.if-not-proposed.false (spends-by-rows stored at (g.C.Cells.rows c.args.cells.now) site c.args.tx.now is ∙ lost);
       form = tt;
       rows = tt;
@@ -93,7 +93,7 @@ returns-in-Ok-None g c =
     record {
       stops = tried-20 c.args.proposed;
       by_rows = follows-lost c.args.proposed (g.C.Cells.rows c.args.cells.now) c.args.tx.now form c.if-not-proposed.false lost;
-      unread = broken_unread 20 DiskFault;
+      unread = broken_unread DiskFault;
       tells = λ stored at site is. spends-badly c.args.proposed site c.args.tx.now form c.if-not-proposed.false (spends-by-rows stored at (g.C.Cells.rows c.args.cells.now) site c.args.tx.now is ∙ lost);
       form = tt;
       rows = tt;

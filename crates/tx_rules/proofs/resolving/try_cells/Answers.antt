@@ -13,7 +13,7 @@ use Rattle.tx_rules.proofs.resolving.try_cells.Goals as goal
 pub returns-in-Ok-false : goal.returns-in-Ok-false
 returns-in-Ok-false g c = record {
   later = later-23;
-  unread = broken_unread 23 DiskFault;
+  unread = broken_unread DiskFault;
   tells = λ stored site is spent named.
       let young : list_all (is_mature site) (inputs site c.args.tx.now) ≡ false =
       sym (c.in-Ok-false.ensures.mature stored (g.C.Cells.rows c.args.cells.now) site (inputs site c.args.tx.now) is (inputs-seen site c.args.tx.now) spent)
@@ -32,7 +32,7 @@ returns-in-Err g c = record {
 pub returns-in-Ok-false-are_mature : goal.returns-in-Ok-false-are_mature
 returns-in-Ok-false-are_mature g c = record {
   later = later-23;
-  unread = broken_unread 23 DiskFault;
+  unread = broken_unread DiskFault;
   tells = λ stored site is spent named.
       let mature : list_all (is_mature site) (inputs site c.args.tx.now) ≡ true =
       sym (c.in-Ok-true.ensures.mature stored (g.C.Cells.rows c.args.cells.now) site (inputs site c.args.tx.now) is (inputs-seen site c.args.tx.now) spent)
@@ -55,7 +55,7 @@ returns-in-Err-are_mature g c = record {
 pub returns-in-Ok-false-meets_each_since : goal.returns-in-Ok-false-meets_each_since
 returns-in-Ok-false-meets_each_since g c = record {
   later = later-24;
-  unread = broken_unread 24 DiskFault;
+  unread = broken_unread DiskFault;
   tells = λ stored site is spent named.
       let mature : list_all (is_mature site) (inputs site c.args.tx.now) ≡ true =
       sym (c.in-Ok-true.ensures.mature stored (g.C.Cells.rows c.args.cells.now) site (inputs site c.args.tx.now) is (inputs-seen site c.args.tx.now) spent)
@@ -81,7 +81,7 @@ returns-in-Err-meets_each_since g c = record {
 pub returns-then-not-makes_good_cells : goal.returns-then-not-makes_good_cells
 returns-then-not-makes_good_cells g c = record {
   later = later-25;
-  unread = broken_unread 25 DiskFault;
+  unread = broken_unread DiskFault;
   tells = λ stored site is spent named.
       let mature : list_all (is_mature site) (inputs site c.args.tx.now) ≡ true =
       sym (c.in-Ok-true.ensures.mature stored (g.C.Cells.rows c.args.cells.now) site (inputs site c.args.tx.now) is (inputs-seen site c.args.tx.now) spent)

@@ -1,5 +1,6 @@
 use Rattle.std.proofs.Common.{ℕ, ◌+◌, ◌-◌, ℤ, ◌+ℤ◌, [], ◌∷◌, ◌++◌, Some, None, length, refl, ap, ◌∙◌, arith, rules}
 use Rattle.std.proofs.lemmas.List.{length_push}
+use Rattle.rule_names.specs.Number.{rule_number}
 use Rattle.block_judge.proofs.Exits.{as_step, no_error, no_rule, no_damage, no_fault, counts-on, counts-none}
 use Rattle.block_judge.proofs.MovedLemmas.{can-move-one}
 use Rattle.block_judge.proofs.NextLemmas.{by-proposed, spent-next}
@@ -19,7 +20,7 @@ returns-in-Err g c = record {
   fees = tt;
   rows = tt;
   broken = λ stored site told is proposed rule same.
-      by-proposed site _ c.args.tx.now c.contains-is_proposed.result c.args.proposed.now c.proposal_id.result c.args.hash.now (Some rule)
+      by-proposed site _ c.args.tx.now c.contains-is_proposed.result c.args.proposed.now c.proposal_id.result c.args.hash.now (Some (rule_number rule))
       c.requires.hash c.proposal_id.ensures c.contains-is_proposed.ensures proposed (c.in-Err.ensures.broken stored site told is rule (as_step same));
   unbroken = λ stored site told is proposed. tt;
   cycles = λ stored site told is. tt;

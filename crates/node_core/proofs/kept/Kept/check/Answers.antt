@@ -6,6 +6,7 @@ use Rattle.cell_state.specs.State.{rows}
 use Rattle.verdict_defs.specs.Trial.{trial_on}
 use Rattle.verdict_defs.specs.declared.trial.Trial.TheVariants.{Passes, Refused}
 use Rattle.store_defs.specs.Store.{IsJoined}
+use Rattle.rule_names.specs.Number.{rule_number}
 use Rattle.node_core.specs.Node.{KeptValue}
 use Rattle.node_core.proofs.DecidingLemmas.{as-many, few-entries, stands-tip, trial-refused, trial-passes-else}
 use Rattle.node_core.proofs.kept.Kept.check.Goals as goal
@@ -33,8 +34,8 @@ returns-clause-broken c joined rule broken =
     let is = c.tip-tip.ensures.of_blocks (blocks_of c.self.inside.blocks.stored) c.self.invariant.indexed in
     let stands = stands-tip c.self.inside.spec c.self.inside.blocks.stored c.self.inside.tree.entries c.self.inside.uncles (rows c.self.inside.state)
     c.tip-tip.result c.self.invariant (subst (λ (v : KeptValue). IsJoined v.chain) (sym c.self.view_is) joined) is c.tip-tip.ensures.within in
-    subst (λ (v : KeptValue). trial_on v.chain.spec (best_branch v.chain.blocks) c.args.tx.now ≡ Refused rule) c.self.view_is
-    (trial-refused c.self.inside.spec (blocks_of c.self.inside.blocks.stored) c.args.tx.now c.tip-tip.result is rule
+    subst (λ (v : KeptValue). trial_on v.chain.spec (best_branch v.chain.blocks) c.args.tx.now ≡ Refused (rule_number rule)) c.self.view_is
+    (trial-refused c.self.inside.spec (blocks_of c.self.inside.blocks.stored) c.args.tx.now c.tip-tip.result is (rule_number rule)
     (c.dry_run.ensures.broken c.self.inside.blocks.stored refl stands rule broken))
 
 pub returns-clause-undamaged : goal.returns-clause-undamaged

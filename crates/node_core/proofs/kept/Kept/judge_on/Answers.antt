@@ -11,6 +11,7 @@ use Rattle.block_defs.specs.Ext.{ext_of}
 use Rattle.block_defs.specs.Rules.{first_broken}
 use Rattle.verdict_defs.specs.Chain.{Chain}
 use Rattle.verdict_defs.specs.declared.verdict.Verdict.TheVariants.{Refused}
+use Rattle.rule_names.specs.Number.{rule_number}
 use Rattle.node_core.proofs.DecidingLemmas.{as-many, few-entries, within-entries, whole-at-hand, room-for, is-ready, is-judged, verdict-refused, verdict-full}
 use Rattle.node_core.proofs.OpenLemmas.{ok_err, same_stop}
 use Rattle.node_core.specs.Node.{KeptValue, kept_of, AreKept}
@@ -40,9 +41,9 @@ returns-in-Err-Broken-clause-decided g c joined =
     let stands = whole-at-hand c.self.inside.spec c.self.inside.blocks.stored c.self.inside.tree.entries c.self.inside.uncles c.self.inside.state
     c.cells_or-state.result.now c.args.self.now c.args.block.now c.args.entry c.in-Ok.cells (c.self.view_is ∙ c.replayed.ensures.same) c.self.invariant c.requires joined
     c.in-Ok.ensures.cells c.cells_or-state.ensures.given c.cells_or-state.ensures.tip in
-    ap Refused c.in-Err-Broken.rule-is
-    ∙ verdict-refused c.args.self.now.chain.spec c.args.self.now.chain.blocks c.args.block.now c.args.entry c.requires c.in-Err-Broken.rule
-    (subst (λ (v : Chain). first_broken v.spec (branch v.blocks c.args.entry.parent) c.args.block.now ≡ Some c.in-Err-Broken.rule) whole
+    ap Refused (c.number.ensures ∙ ap rule_number c.in-Err-Broken.rule-is)
+    ∙ verdict-refused c.args.self.now.chain.spec c.args.self.now.chain.blocks c.args.block.now c.args.entry c.requires (rule_number c.in-Err-Broken.rule)
+    (subst (λ (v : Chain). first_broken v.spec (branch v.blocks c.args.entry.parent) c.args.block.now ≡ Some (rule_number c.in-Err-Broken.rule)) whole
     (c.in-Err-Broken.ensures.broken c.self.inside.blocks.stored refl stands c.in-Err-Broken.rule (ap Err c.in-Err-Broken.field-0-is)))
 
 pub returns-in-Err-Read-clause-undamaged : goal.returns-in-Err-Read-clause-undamaged
