@@ -2,6 +2,7 @@
 
 import fcntl
 import os
+import re
 import shutil
 import signal
 import subprocess
@@ -373,6 +374,18 @@ def live_line(cell, height):
     """What `cell` tells of a live cell without a type script, made at this height."""
     return ('live %d %d %d 0x%s - 0x%s %d\n' % (cell.capacity, cell.occupied(), height, cell.lock.hash().hex(),
                                               scene.data_hash(cell.content).hex(), len(cell.content))).encode()
+
+
+def check_lines_of_the_rules(_):
+    """The line of each rule in docs/RULES.md is the one that the program has: rule_vectors has it in a row, and fails
+    where the program has another."""
+    with open(os.path.join(TOP, 'docs', 'RULES.md')) as f:
+        rules = f.read().split('\n## A block\n')[1].split('\n`import` tries')[0]
+    lines = re.findall(r'^\| (J\d+) \| ([^|]*) \|$', rules, re.MULTILINE)
+    must_be([name for name, _ in lines], ['J%d' % n for n in range(1, 33)], 'the rules of docs/RULES.md')
+    with open(os.path.join(TOP, 'crates', 'rule_vectors', 'stdin')) as f:
+        rows = [tuple(row.rstrip('\n').split('\t')[1:]) for row in f if row.startswith('rule\t')]
+    must_be(rows, lines, 'the rows of rules in crates/rule_vectors/stdin')
 
 
 def check_readme(_):

@@ -5,6 +5,8 @@
 //! and the DAO's numbers, then its arguments and its answer; numbers are in decimal, or in hex after `0x`. These answers come
 //! from the rules and were worked by hand.
 //!
+//! Behind `rule` stands a rule as it is printed, and its line in docs/RULES.md.
+//!
 //! The other rows are about a chain. `spec` and `genesis` begin a chain, and a `block`
 //! joins it whatever rules it breaks; a `kept` block has its ext beside it. `earliest` asks for the earliest proposer of an
 //! id, `uncles` for J15 and `reward` for a reward, each of the blocks that joined so far: examples/make_window_rows.py,
@@ -18,6 +20,7 @@ mod dao;
 mod epoch;
 mod given;
 mod items;
+mod names;
 mod since;
 mod time;
 mod uncles;
@@ -125,6 +128,7 @@ impl Subject for Table {
     fn agrees(&mut self, alloc: Global, row: &mut Row<'_>) -> Option<bool> {
         match row.word() {
             "time" => time::agrees(alloc, row),
+            "rule" => names::agrees(alloc, row),
             "spec" => self.begin_spec(alloc, row),
             "genesis" => self.begin_chain(alloc, row),
             word => agrees_on_chain(alloc, self.chain.as_mut()?, word, row),
