@@ -1,6 +1,7 @@
 -- Slots that are right for a memory, and stay right.
-use Rattle.std.proofs.Common.{◌≡◌, ◌⊎◌, inl, inr, ℕ, ◌==◌, Bool, true, false, if◌then◌else◌, ◌%◌, ◌^◌, ◌<◌, List, length, set, replicate, get_or, Option, Some, None, Result, Ok, Err, refl, sym, ap, ◌∙◌, subst, arith, length-set, OnOk, OnErr, IfSome}
+use Rattle.std.proofs.Common.{◌≡◌, ◌⊎◌, inl, inr, ℕ, ◌==◌, Bool, true, false, if◌then◌else◌, ◌%◌, ◌-◌, ◌+◌, ◌/◌, ◌^◌, ◌<◌, ◌≤◌, List, length, set, replicate, get_or, Option, Some, None, Result, Ok, Err, refl, sym, ap, ◌∙◌, subst, arith, length-set, OnOk, OnErr, IfSome}
 use Rattle.std.proofs.lemmas.Bool.{cases_eq}
+use Rattle.std.proofs.lemmas.Nat.{and_comm, and_le_r, and_mask}
 use Rattle.std.proofs.lemmas.List.{get_or-replicate, get_or-set_other, get_or-set_same, length-replicate}
 use Rattle.isa_defs.specs.declared.ins.Ins.{Ins}
 use Rattle.vm_defs.specs.declared.memory.MemFault.{MemFault}
@@ -19,43 +20,53 @@ use Rattle.vm_mem.specs.declared.stop.MemStop.{MemStop}
 use Rattle.vm_mem.specs.declared.stop.MemStop.TheVariants.{Fault, NoMemory}
 use Rattle.vm_mem.specs.Paged.{PagedMemory, Stores}
 use Rattle.vm_mem.specs.Kept.{instruction_of}
-use Rattle.vm_mem.specs.Slots.{slot_count, slot_of, AreEmpty, Holds, Holding, IsKept}
+use Rattle.vm_mem.specs.Slots.{Table, slot_of, AreEmpty, Holds, Holding, IsKept}
 
 -- ---- a new memory
 
-pub empty-holding : (memory : Memory) (slots : List Slot) → memory ≡ new_memory → AreEmpty slots → Holding memory slots
-empty-holding memory slots new empty = record {
-  whole = rw new new-whole;
+pub empty-holding : (memory : Memory) (table : Table) → IsWhole memory → AreEmpty table → Holding memory table
+empty-holding memory table whole empty = record {
+  whole = whole;
   held = record { count = empty.count; each = λ i other below same. absurd (empty.each i other below same) };
 }
 
+pub new-holding : (memory : Memory) (table : Table) → memory ≡ new_memory → AreEmpty table → Holding memory table
+new-holding memory table new empty = empty-holding memory table (rw new new-whole) empty
+
+-- the second of slots falls to itself where they are even in number
+second-apart : (count : ℕ) → 1 ≤ count → count % 2 ≡ 0 → slot_of (count - 1) 2 ≡ 1
+second-apart count some even =
+    let odd : (count - 1) % 2 ≡ 1 = omega (arith, some, even) in
+    and_comm 1 (count - 1) ∙ and_mask (count - 1) 1 ∙ odd
+
 -- all the same, and the one that they all fall to is another
-pub are-empty : (slots : List Slot) (empty first : Slot) → slots ≡ set (replicate slot_count empty) 0 first → empty.at ≡ 0 → first.at ≡ 2
-    → AreEmpty slots
-are-empty slots empty first is at-0 at-2 =
-    let size : length (replicate slot_count empty) ≡ slot_count = length-replicate slot_count empty in
+pub are-empty : (count : ℕ) (slots : List Slot) (empty first : Slot) → 1 ≤ count → count % 2 ≡ 0 → slots ≡ set (replicate count empty) 0 first
+    → empty.at ≡ 0 → first.at ≡ 2 → AreEmpty (record { slots = slots; mask = count - 1 })
+are-empty count slots empty first some even is at-0 at-2 =
+    let size : length (replicate count empty) ≡ count = length-replicate count empty in
+    let fits : count ≡ count - 1 + 1 = omega (arith, some) in
     record {
-      count = ap length is ∙ length-set (replicate slot_count empty) 0 first ∙ size;
+      count = ap length is ∙ length-set (replicate count empty) 0 first ∙ size ∙ fits;
       each = λ i other below. elim (cases_eq i 0) [
         | inl same ↦
             let at : get_or slots i other ≡ first =
-            ap (λ xs. get_or xs i other) is ∙ ap (λ n. get_or (set (replicate slot_count empty) 0 first) n other) same
-            ∙ get_or-set_same (replicate slot_count empty) 0 first other (rw size (omega arith)) in
-            λ falls. absurd (omega (arith, ap slot_of (ap (λ (s : Slot). s.at) at ∙ at-2), falls, same))
+            ap (λ xs. get_or xs i other) is ∙ ap (λ n. get_or (set (replicate count empty) 0 first) n other) same
+            ∙ get_or-set_same (replicate count empty) 0 first other (rw size (omega (arith, some))) in
+            λ falls. absurd (omega (arith, ap (slot_of (count - 1)) (ap (λ (s : Slot). s.at) at ∙ at-2), second-apart count some even, falls, same))
         | inr apart ↦
             let at : get_or slots i other ≡ empty =
             ap (λ xs. get_or xs i other) is
-            ∙ get_or-set_other (replicate slot_count empty) 0 i first other apart
-            ∙ get_or-replicate slot_count i empty other below in
-            λ falls. absurd (apart (sym falls ∙ ap slot_of (ap (λ (s : Slot). s.at) at ∙ at-0)))
+            ∙ get_or-set_other (replicate count empty) 0 i first other apart
+            ∙ get_or-replicate count i empty other (omega (arith, below, some)) in
+            λ falls. absurd (apart (sym falls ∙ ap (slot_of (count - 1)) (ap (λ (s : Slot). s.at) at ∙ at-0)))
       ];
     }
 
 -- ---- a memory that changed
 
-pub kept : (old new : Memory) (slots : List Slot) → IsWhole new → ((at word : ℕ) → fetch old at ≡ Ok word → fetch new at ≡ Ok word)
-    → Holding old slots → Holding new slots
-kept old new slots whole keeps holding = record {
+pub kept : (old new : Memory) (table : Table) → IsWhole new → ((at word : ℕ) → fetch old at ≡ Ok word → fetch new at ≡ Ok word)
+    → Holding old table → Holding new table
+kept old new table whole keeps holding = record {
   whole = whole;
   held = record {
     count = holding.held.count;
@@ -70,36 +81,36 @@ kept old new slots whole keeps holding = record {
   };
 }
 
-stored : (old new : Memory) (at : ℕ) (bytes : List ℕ) (slots : List Slot) → store old at bytes ≡ Ok new → Holding old slots → Holding new slots
-stored old new at bytes slots is holding =
-    kept old new slots (store-whole old new at bytes holding.whole is)
+stored : (old new : Memory) (at : ℕ) (bytes : List ℕ) (table : Table) → store old at bytes ≡ Ok new → Holding old table → Holding new table
+stored old new at bytes table is holding =
+    kept old new table (store-whole old new at bytes holding.whole is)
     (λ place word fetched. store-keeps-code old new place word at bytes holding.whole fetched is) holding
 
-after-store : (expected : Result Memory MemFault) (old new : Memory) (at : ℕ) (bytes : List ℕ) (slots : List Slot) (result : Result (Unit {0}) MemStop)
-    → store old at bytes ≡ expected → Stores expected old new result → Holding old slots → Holding new slots
-after-store (Ok changed) old new at bytes slots (Ok done) is stores holding = stored old new at bytes slots (is ∙ ap Ok (sym stores)) holding
-after-store (Ok changed) old new at bytes slots (Err NoMemory) is stores holding = rw stores holding
-after-store (Ok changed) old new at bytes slots (Err (Fault fault)) is stores holding = absurd stores
-after-store (Err expected) old new at bytes slots (Ok done) is stores holding = absurd stores
-after-store (Err expected) old new at bytes slots (Err NoMemory) is stores holding = absurd stores
-after-store (Err expected) old new at bytes slots (Err (Fault fault)) is stores holding = rw stores.1 holding
+after-store : (expected : Result Memory MemFault) (old new : Memory) (at : ℕ) (bytes : List ℕ) (table : Table) (result : Result (Unit {0}) MemStop)
+    → store old at bytes ≡ expected → Stores expected old new result → Holding old table → Holding new table
+after-store (Ok changed) old new at bytes table (Ok done) is stores holding = stored old new at bytes table (is ∙ ap Ok (sym stores)) holding
+after-store (Ok changed) old new at bytes table (Err NoMemory) is stores holding = rw stores holding
+after-store (Ok changed) old new at bytes table (Err (Fault fault)) is stores holding = absurd stores
+after-store (Err expected) old new at bytes table (Ok done) is stores holding = absurd stores
+after-store (Err expected) old new at bytes table (Err NoMemory) is stores holding = absurd stores
+after-store (Err expected) old new at bytes table (Err (Fault fault)) is stores holding = rw stores.1 holding
 
-pub stores-holding : (old new : Memory) (at : ℕ) (bytes : List ℕ) (slots : List Slot) (result : Result (Unit {0}) MemStop)
-    → Stores (store old at bytes) old new result → Holding old slots → Holding new slots
-stores-holding old new at bytes slots result stores holding = after-store (store old at bytes) old new at bytes slots result refl stores holding
+pub stores-holding : (old new : Memory) (at : ℕ) (bytes : List ℕ) (table : Table) (result : Result (Unit {0}) MemStop)
+    → Stores (store old at bytes) old new result → Holding old table → Holding new table
+stores-holding old new at bytes table result stores holding = after-store (store old at bytes) old new at bytes table result refl stores holding
 
-pub changed-holding : (expected : Result Memory MemFault) (old new : PagedMemory) (slots : List Slot) (result : Result (Unit {0}) MemFault)
+pub changed-holding : (expected : Result Memory MemFault) (old new : PagedMemory) (table : Table) (result : Result (Unit {0}) MemFault)
     → OnOk result (Ok new.memory ≡ expected) → OnErr result (new ≡ old)
-    → (expected ≡ Ok new.memory → Holding old.memory slots → Holding new.memory slots) → Holding old.memory slots → Holding new.memory slots
-changed-holding expected old new slots (Ok done) changed same keeps holding = keeps (sym changed) holding
-changed-holding expected old new slots (Err fault) changed same keeps holding = rw same holding
+    → (expected ≡ Ok new.memory → Holding old.memory table → Holding new.memory table) → Holding old.memory table → Holding new.memory table
+changed-holding expected old new table (Ok done) changed same keeps holding = keeps (sym changed) holding
+changed-holding expected old new table (Err fault) changed same keeps holding = rw same holding
 
-pub clear-holding : (old new : Memory) (at : ℕ) (bytes : List ℕ) (slots : List Slot) → store old at bytes ≡ Ok new → Holding old slots → Holding new slots
+pub clear-holding : (old new : Memory) (at : ℕ) (bytes : List ℕ) (table : Table) → store old at bytes ≡ Ok new → Holding old table → Holding new table
 clear-holding = stored
 
-pub set_code-holding : (old new : Memory) (at pages : ℕ) (slots : List Slot) → set_code old at pages ≡ Ok new → Holding old slots → Holding new slots
-set_code-holding old new at pages slots is holding =
-    kept old new slots (set_code-whole old new at pages holding.whole is)
+pub set_code-holding : (old new : Memory) (at pages : ℕ) (table : Table) → set_code old at pages ≡ Ok new → Holding old table → Holding new table
+set_code-holding old new at pages table is holding =
+    kept old new table (set_code-whole old new at pages holding.whole is)
     (λ place word fetched. set_code-keeps-code old new place word at pages holding.whole fetched is) holding
 
 -- ---- what is decoded
@@ -121,30 +132,31 @@ unfolding memory_size
 cast-fits memory at word fetched is done = let inside = fetch-inside memory at word (sym is ∙ done) in omega (arith, inside)
 
 -- a slot that is filled with what is at its address
-pub filled : (memory : Memory) (slots : List Slot) (i : ℕ) (slot : Slot) → Holding memory slots → IsKept memory slot
-    → Holding memory (set slots i slot)
-filled memory slots i slot holding is-kept = record {
+pub filled : (memory : Memory) (table : Table) (i : ℕ) (slot : Slot) → Holding memory table → IsKept memory slot
+    → Holding memory (record table { slots = set table.slots i slot })
+filled memory table i slot holding is-kept = record {
   whole = holding.whole;
   held = record {
-    count = length-set slots i slot ∙ holding.held.count;
+    count = length-set table.slots i slot ∙ holding.held.count;
     each = λ k other below. elim (cases_eq k i) [
       | inl same ↦
-          let here : get_or (set slots i slot) k other ≡ slot =
-          ap (λ n. get_or (set slots i slot) n other) same
-          ∙ get_or-set_same slots i slot other (omega (arith, holding.held.count, below, same)) in
+          let here : get_or (set table.slots i slot) k other ≡ slot =
+          ap (λ n. get_or (set table.slots i slot) n other) same
+          ∙ get_or-set_same table.slots i slot other (omega (arith, holding.held.count, below, same)) in
           rw here (λ falls. is-kept)
-      | inr apart ↦ rw (get_or-set_other slots i k slot other apart) (holding.held.each k other below)
+      | inr apart ↦ rw (get_or-set_other table.slots i k slot other apart) (holding.held.each k other below)
     ];
   };
 }
 
 -- ---- what a slot holds
 
-pub slot-holds : (memory : Memory) (slots : List Slot) (at i : ℕ) (slot : Slot) → Holding memory slots → i ≡ slot_of at → i < slot_count
-    → slot ≡ get_or slots i slot → slot.at ≡ at → IsKept memory slot
-slot-holds memory slots at i slot holding i-is below is same =
-    let there : Holds memory i slot = subst (Holds memory i) (sym is) (holding.held.each i slot below) in
-    there (ap slot_of same ∙ sym i-is)
+pub slot-holds : (memory : Memory) (table : Table) (at i : ℕ) (slot : Slot) → Holding memory table → i ≡ slot_of table.mask at
+    → slot ≡ get_or table.slots i slot → slot.at ≡ at → IsKept memory slot
+slot-holds memory table at i slot holding i-is is same =
+    let below : i ≤ table.mask = rw i-is (and_le_r (at / 2) table.mask) in
+    let there : Holds memory table.mask i slot = subst (Holds memory table.mask i) (sym is) (holding.held.each i slot below) in
+    there (ap (slot_of table.mask) same ∙ sym i-is)
 
 decoded-registers : (word : Result ℕ MemFault) (found : Ins × ℕ) → decoded word ≡ Ok (Some found) → HasRegisters found.0
 decoded-registers (Ok word) found is =

@@ -9,7 +9,7 @@ ghost use Rattle.vm_mem.specs.Slots.{IsKept};
 
 use super::kept::kept_form;
 use super::paged::Paged;
-use super::slot::{Slot, empty_slots, slot_of};
+use super::slot::{Slot, Slots};
 use super::stop::MemStop;
 use outside::NoMemory;
 use rv_decode::{Ins, decode};
@@ -23,7 +23,7 @@ use vm_defs::{MemFault, Width};
 #[derive(Drop)]
 pub struct Memory {
     paged: Paged,
-    slots: Vec<Slot>,
+    slots: Slots,
 }
 
 impl Model for Memory {
@@ -34,7 +34,7 @@ impl Model for Memory {
 
     ghost view = { λ m. m.paged };
 
-    ghost invariant = { λ m. Holding m.paged.memory m.slots.items };
+    ghost invariant = { λ m. Holding m.paged.memory m.slots };
 }
 
 impl Memory {
@@ -44,7 +44,7 @@ impl Memory {
         ensures allocated { IfOk result (λ memory. memory.allocated ≡ replicate page_count false) }
     {
         let paged = Paged::new(alloc)?;
-        let slots = empty_slots(alloc)?;
+        let slots = Slots::new(alloc)?;
         Ok(Memory { paged, slots })
     }
 
@@ -119,11 +119,11 @@ impl Memory {
             None => return Ok(None),
         };
         if at % 2 == 0 {
-            self.slots[slot_of(at)] = Slot {
+            self.slots.keep(Slot {
                 at: at as u32,
                 length,
                 kept: kept_form(ins),
-            };
+            });
         }
         Ok(Some((ins, length)))
     }
@@ -133,7 +133,7 @@ impl Memory {
     pub fn slot(&self, at: u64) -> Slot
         ensures { result.at ≡ at → IsKept self.now.memory result }
     {
-        self.slots[slot_of(at)]
+        self.slots.slot(at)
     }
 
     /// Makes whole pages code that are data.

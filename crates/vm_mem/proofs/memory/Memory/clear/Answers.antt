@@ -7,9 +7,9 @@ pub invariant_of-self : goal.invariant_of-self
 invariant_of-self c =
     let old = c.self.inside.paged in
     let zeros = replicate c.args.count 0 in
-    changed-holding (store old.memory c.args.at zeros) old c.clear.new.self c.self.inside.slots.items c.clear.result
+    changed-holding (store old.memory c.args.at zeros) old c.clear.new.self c.self.inside.slots c.clear.result
     c.clear.ensures.cleared c.clear.ensures.kept
-    (λ is holding. clear-holding old.memory c.clear.new.self.memory c.args.at zeros c.self.inside.slots.items is holding)
+    (λ is holding. clear-holding old.memory c.clear.new.self.memory c.args.at zeros c.self.inside.slots is holding)
     c.self.invariant
 
 pub returns-clause-fault : goal.returns-clause-fault

@@ -1,5 +1,5 @@
 use Rattle.std.proofs.Common.{None, Some, refl, rules}
-use Rattle.vm_mem.proofs.Slotted.{cast-fits, fault-is, filled, instruction-is, is-kept}
+use Rattle.vm_mem.proofs.Slotted.{cast-fits, fault-is, instruction-is, is-kept}
 use Rattle.vm_mem.proofs.memory.Memory.instruction.Goals as goal
 
 pub returns-in-Err-clause-exact : goal.returns-in-Err-clause-exact
@@ -16,8 +16,7 @@ overflow_cast-at c =
 pub invariant_of-self : goal.invariant_of-self
 invariant_of-self c =
     let right = instruction-is _ _ _ (Some c.in-Some.decoded) _ _ c.fetch.ensures c.in-Ok.is c.decode.ensures.exact c.in-Some.is in
-    filled _ _ c.slot_of.result _ c.self.invariant
-    (is-kept _ c.args.at c.in-Some.decoded _ c.if-at-eq0.true refl refl c.kept_form.ensures right)
+    c.keep.ensures _ (is-kept _ c.args.at c.in-Some.decoded _ c.if-at-eq0.true refl refl c.kept_form.ensures right) c.self.invariant
 
 pub returns-then-at-eq0-clause-exact : goal.returns-then-at-eq0-clause-exact
 returns-then-at-eq0-clause-exact c =
