@@ -1,14 +1,19 @@
 -- The fees and the rows of an ext, one behind the other.
-use Rattle.std.proofs.Common.{◌≡◌, ℕ, zero, suc, ◌+◌, ◌-◌, ◌*◌, ◌<◌, ◌≤◌, Bool, true, false, List, [], ◌∷◌, ◌++◌, length, map, take, drop, get_or, Some, None, refl, sym, ap, ◌∙◌, append_assoc, ◌^◌, arith, add-one, eqb}
-use Rattle.std.specs.Prelude.{◌&&◌, nat_le, if◌then◌else◌}
-use Rattle.std.specs.List.{slice_range, concat}
+use Rattle.std.proofs.Common.{◌≡◌, ℕ, zero, suc, ◌+◌, ◌-◌, ◌*◌, ◌<◌, ◌≤◌, Bool, true, false, List, [], ◌∷◌, ◌++◌, length, map, take, drop, get_or, Option, Some, None, refl, sym, ap, ◌∙◌, append_assoc, ◌^◌, arith, add-one, eqb}
+use Rattle.std.specs.Prelude.{◌&&◌, nat_le, if◌then◌else◌, is_some, IfSome}
+use Rattle.std.specs.List.{All, slice_range, concat}
 use Rattle.std.specs.Int.{w32, w64, to_le_bytes, from_le_bytes}
 use Rattle.std.proofs.Math.Seq.{take-add}
-use Rattle.std.proofs.lemmas.Bool.{and_parts, and_from, and_left, eqb-true, ne_eqb, eq-eqb, le-leb}
+use Rattle.std.proofs.lemmas.Bool.{false≢true, and_parts, and_from, and_left, eqb-true, ne_eqb, eq-eqb, le-leb}
 use Rattle.std.proofs.lemmas.Nat.{from_le_bytes-to_le_bytes_4}
 use Rattle.std.proofs.lemmas.List.{append-nil, map_push, take_more, drop-drop, take-append-le, drop-append-le, take_all, take_at, drop_at, nil_from_length, length-append, length-drop}
+use Rattle.std.proofs.lemmas.List.Elements.{All-head, All-tail}
+use Rattle.codec_defs.specs.Schema.{OutPoint}
+use Rattle.cell_defs.specs.Row.{Row}
 use Rattle.cell_defs.specs.Ext.{Ext, row_bytes, ext_bytes, count_at, row_size, is_row, are_rows, is_ext, fee_of}
-use Rattle.cell_model.proofs.RowLemmas.{next, whole}
+use Rattle.ext_defs.specs.Fits.{FitsRow, FitsExt}
+use Rattle.ext_defs.proofs.TellLaws.{length-row, bytes-tell-exts}
+use Rattle.cell_model.proofs.RowLemmas.{next, whole, row-form}
 
 -- ---- Pieces
 
@@ -192,3 +197,29 @@ pub fee-found : (ext : List ℕ) (transaction value : ℕ) → 1 ≤ transaction
 fee-found ext transaction value paying within is =
     ap (λ (fee : ℕ). Some fee) (fee_here ext transaction value paying is)
     ∙ sym (ap (λ (b : Bool). if b then Some (fee_of ext transaction) else None) (le-leb transaction (count_at ext 0) within))
+
+-- ---- Of the exts that fit their bytes one has these
+
+rows-form : (rows : List (OutPoint × Row)) → All FitsRow rows
+    → (length (concat (map row_bytes rows)) ≡ 161 * length rows) × (are_rows (length rows) (concat (map row_bytes rows)) ≡ true)
+unfolding row_size
+rows-form [] fits = (refl, refl)
+rows-form (row ∷ rows) fits =
+    let rest = rows-form rows (All-tail FitsRow row rows fits) in
+    let long : length (row_bytes row) ≡ 161 = length-row row (All-head FitsRow row rows fits) in
+    let behind : List ℕ = concat (map row_bytes rows) in (
+      length-append (row_bytes row) behind ∙ omega (arith, long, rest.0),
+      and_from (is_row (take 161 (row_bytes row ++ behind))) (are_rows (length rows) (drop 161 (row_bytes row ++ behind)))
+          (ap is_row (take_at (row_bytes row) behind 161 long) ∙ row-form row (All-head FitsRow row rows fits))
+          (ap (are_rows (length rows)) (drop_at (row_bytes row) behind 161 long) ∙ rest.1),
+    )
+
+fits-form : (ext : Ext) → FitsExt ext → is_ext (ext_bytes ext) ≡ true
+fits-form ext fits =
+    let rows = rows-form ext.spent fits.rows in
+    written_form ext fits.few_fees fits.few_rows rows.0 rows.1
+
+pub exact : (found : Option Ext) (bytes : List ℕ) → is_some found ≡ is_ext bytes → IfSome found (λ it. ext_bytes it ≡ bytes) → IfSome found FitsExt
+    → (it : Ext) → FitsExt it → ext_bytes it ≡ bytes → found ≡ Some it
+exact None bytes found here fits it as_fits same = absurd (false≢true (found ∙ ap is_ext (sym same) ∙ fits-form it as_fits))
+exact (Some one) bytes found here fits it as_fits same = ap (λ (x : Ext). Some x) (bytes-tell-exts one it fits as_fits (here ∙ sym same))

@@ -5,7 +5,11 @@ use Rattle.std.specs.List.{slice_range, list_all}
 use Rattle.std.proofs.Math.Seq.{take-add}
 use Rattle.std.proofs.lemmas.List.{drop_more, drop-drop, take_at, take_all, drop_at, get_or_at, length-append, length-drop, length-take-le}
 use Rattle.std.proofs.lemmas.Bool.{and_parts}
-use Rattle.cell_defs.specs.Ext.{type_bytes, type_flag, is_row}
+use Rattle.std.specs.Int.{w32, w64, to_le_bytes}
+use Rattle.codec_defs.specs.Schema.{OutPoint}
+use Rattle.cell_defs.specs.Row.{Row}
+use Rattle.cell_defs.specs.Ext.{type_bytes, row_bytes, type_flag, is_row}
+use Rattle.ext_defs.specs.Fits.{FitsRow}
 
 -- what stands between two places, and from there to a third
 joined : (xs : List ℕ) (i j k : ℕ) → i ≤ j → j ≤ k → slice_range xs i j ++ slice_range xs j k ≡ slice_range xs i k
@@ -67,3 +71,10 @@ has_form front data_hash len (Some hash) long =
     ∙ (λ t. (flag_is front (hash ++ (data_hash ++ len)) 1 long t == 1)
     || ((flag_is front (hash ++ (data_hash ++ len)) 1 long t == 0)
     && list_all (λ b. b == 0) (slice_range (front ++ 1 ∷ (hash ++ (data_hash ++ len))) 93 125)))
+
+pub row-form : (it : OutPoint × Row) → FitsRow it → is_row (row_bytes it) ≡ true
+row-form (o, row) fits =
+    has_form
+    (o.tx_hash ++ to_le_bytes w32 o.index ++ to_le_bytes w32 row.block ++ to_le_bytes w32 row.transaction
+    ++ to_le_bytes w64 row.capacity ++ to_le_bytes w64 row.occupied ++ row.lock_hash)
+    row.data_hash (to_le_bytes w32 row.data_len) row.type_hash (simp length-append (omega (arith, fits.tx_hash, fits.lock_hash)))

@@ -1,8 +1,10 @@
 // The ext of a block: the fees of its transactions, and the rows of the cells that it spends.
 ghost use Rattle.std.specs.Prelude.{◌≡◌, ◌+◌, ◌*◌, ◌^◌, ◌<◌, ◌≤◌, ◌++◌, Some, None, if◌then◌else◌, nat_le, length, map, is_some, IfOk, IfSome, IsTrue, OnOk};
-ghost use Rattle.std.specs.List.{concat};
+ghost use Rattle.std.specs.List.{All, concat};
 ghost use Rattle.std.specs.Int.{w32, w64, to_le_bytes};
+ghost use Rattle.cell_defs.specs.Ext as exts;
 ghost use Rattle.cell_defs.specs.Ext.{count_at, row_bytes, are_rows, ext_bytes, is_ext, fee_of};
+ghost use Rattle.ext_defs.specs.Fits.{FitsRow, FitsExt};
 
 use crate::cells::{CellMeta, OutPoint};
 use crate::row::{ROW_SIZE, put_row, read_row, u32_at, u64_at};
@@ -28,10 +30,12 @@ impl Model for Ext {
 }
 
 impl Ext {
-    /// The ext that the bytes hold. None where they are not of its form.
+    /// The ext that the bytes hold: of those that fit their bytes the one that has these. None where they are not of its form.
     pub fn read(alloc: Global, b: &[u8]) -> Result<Option<Ext>, NoMemory>
         ensures found { IfOk result (λ ext. is_some ext ≡ is_ext b.now) }
         ensures bytes { IfOk result (λ ext. IfSome ext (λ it. ext_bytes it ≡ b.now)) }
+        ensures fits { IfOk result (λ ext. IfSome ext FitsExt) }
+        ensures exact { IfOk result (λ ext. (it : exts.Ext) → FitsExt it → ext_bytes it ≡ b.now → ext ≡ Some it) }
         ensures fees { IfOk result (λ ext. IfSome ext (λ it. length it.fees ≡ count_at b.now 0)) }
         ensures spent { IfOk result (λ ext. IfSome ext (λ it. length it.spent ≡ count_at b.now (4 + 8 * count_at b.now 0))) }
     {
@@ -89,6 +93,7 @@ fn read_fees(alloc: Global, bytes: &[u8], count: usize) -> Result<Vec<u64>, NoMe
     requires { length bytes.now ≡ 8 * count }
     ensures bytes { IfOk result (λ fees. concat (map (to_le_bytes w64) fees.items) ≡ bytes.now) }
     ensures count { IfOk result (λ fees. length fees.items ≡ count) }
+    ensures fits { IfOk result (λ fees. All (λ fee. fee < 2 ^ 64) fees.items) }
 {
     let mut fees = Vec::with_capacity(alloc, count)?;
     'fees: for i in 0..count {
@@ -107,6 +112,7 @@ fn read_rows(
     ensures found { IfOk result (λ rows. is_some rows ≡ are_rows count bytes.now) }
     ensures bytes { IfOk result (λ rows. IfSome rows (λ them. concat (map row_bytes them.items) ≡ bytes.now)) }
     ensures count { IfOk result (λ rows. IfSome rows (λ them. length them.items ≡ count)) }
+    ensures fits { IfOk result (λ rows. IfSome rows (λ them. All FitsRow them.items)) }
 {
     let mut rows = Vec::with_capacity(alloc, count)?;
     'rows: for i in 0..count {

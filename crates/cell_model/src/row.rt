@@ -3,6 +3,7 @@ ghost use Rattle.std.specs.Prelude.{◌≡◌, ◌+◌, ◌≤◌, ◌==◌, ◌
 ghost use Rattle.std.specs.List.{list_all, slice_range};
 ghost use Rattle.std.specs.Int.{w32, w64, to_le_bytes, from_le_bytes};
 ghost use Rattle.cell_defs.specs.Ext as exts;
+ghost use Rattle.ext_defs.specs.Fits.{FitsRow};
 
 use crate::cells::{CellMeta, OutPoint};
 use outside::NoMemory;
@@ -73,6 +74,7 @@ pub(crate) fn read_row(row: &[u8]) -> Option<(OutPoint, CellMeta)>
     requires { length row.now ≡ 161 }
     ensures found { is_some result ≡ exts.is_row row.now }
     ensures bytes { IfSome result (λ it. exts.row_bytes it ≡ row.now) }
+    ensures fits { IfSome result FitsRow }
 {
     let type_hash = type_hash_in(row)?;
     Some((

@@ -1,9 +1,11 @@
 use Rattle.std.proofs.Common.{◌≡◌, ◌∷◌, [], ◌++◌, ◌*◌, ◌+◌, List, ℕ, ap, sym, ◌∙◌, length, map, arith}
 use Rattle.std.specs.List.{concat}
 use Rattle.std.proofs.lemmas.List.{length_push}
+use Rattle.std.proofs.lemmas.List.Elements.{All-same, All-push}
 use Rattle.codec_defs.specs.Schema.{OutPoint}
 use Rattle.cell_defs.specs.Row.{Row}
 use Rattle.cell_defs.specs.Ext.{row_bytes}
+use Rattle.ext_defs.specs.Fits.{FitsRow}
 use Rattle.cell_model.proofs.ExtLemmas.{one_read_more, one_row_more, no_row}
 use Rattle.cell_model.proofs.ext.read_rows.Goals as goal
 
@@ -20,4 +22,5 @@ rows-preserved c =
       bytes = ap (λ (l : List (OutPoint × Row)). concat (map row_bytes l)) grown
           ∙ one_read_more row_bytes c.rows.rows.items c.in-Some.row c.args.bytes.now (161 * i) 161 (161 * (i + 1)) (omega arith) c.rows.invariant.bytes c.in-Some.ensures.bytes;
       form = c.rows.invariant.form ∙ one_row_more c.args.count i c.args.bytes.now c.rows-test.true (sym c.in-Some.ensures.found);
+      fits = All-same FitsRow _ _ grown (All-push FitsRow c.rows.rows.items c.in-Some.row c.rows.invariant.fits c.in-Some.ensures.fits);
     }

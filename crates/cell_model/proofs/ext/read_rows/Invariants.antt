@@ -1,6 +1,7 @@
 use Rattle.std.proofs.Common.{◌≡◌, ◌-◌, ◌*◌, length, map, take, drop}
-use Rattle.std.specs.List.{concat}
+use Rattle.std.specs.List.{All, concat}
 use Rattle.cell_defs.specs.Ext.{row_bytes, are_rows}
+use Rattle.ext_defs.specs.Fits.{FitsRow}
 use Rattle.cell_model.proofs.ext.read_rows.Given as goal
 
 abbrev pub invariant-rows : goal.invariant-rows
@@ -8,4 +9,5 @@ invariant-rows l = record {
   count : length l.rows.items ≡ l.i;
   bytes : concat (map row_bytes l.rows.items) ≡ take (161 * l.i) l.bytes;
   form : are_rows l.count l.bytes ≡ are_rows (l.count - l.i) (drop (161 * l.i) l.bytes);
+  fits : All FitsRow l.rows.items;
 }

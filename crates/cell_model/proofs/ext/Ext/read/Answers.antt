@@ -1,9 +1,9 @@
-use Rattle.std.proofs.Common.{◌≡◌, ℕ, ◌+◌, ◌*◌, List, length, map, refl, ap, sym, ◌∙◌, arith, rules}
+use Rattle.std.proofs.Common.{◌≡◌, ℕ, ◌+◌, ◌*◌, ◌<◌, ◌^◌, List, length, map, refl, ap, sym, ◌∙◌, arith, rules}
 use Rattle.std.specs.Prelude.{is_some}
 use Rattle.std.specs.List.{slice_range, concat}
 use Rattle.std.proofs.lemmas.List.{take_rest}
 use Rattle.cell_defs.specs.Ext.{count_at, row_bytes}
-use Rattle.cell_model.proofs.ExtLemmas.{no_ext, by_rows, bytes_of_read}
+use Rattle.cell_model.proofs.ExtLemmas.{no_ext, by_rows, bytes_of_read, exact}
 use Rattle.cell_model.proofs.ext.Ext.read.Goals as goal
 
 pub returns-then-b-lt4-clause-found : goal.returns-then-b-lt4-clause-found
@@ -49,3 +49,24 @@ returns-in-Ok-clause-bytes c =
     rows
     refl
     c.if-b-rows_at.false
+
+pub returns-in-Ok-clause-fits : goal.returns-in-Ok-clause-fits
+returns-in-Ok-clause-fits c =
+    let many : length c.in-Ok-Some.spent.items ≡ c.u32_at-rows.result = search rules in
+    let as_many = c.in-Ok.ensures.count in
+    record { few_fees = omega (arith, as_many); fees = c.in-Ok.ensures.fits; few_rows = omega (arith, many); rows = search rules }
+
+pub returns-then-b-lt4-clause-exact : goal.returns-then-b-lt4-clause-exact
+returns-then-b-lt4-clause-exact c = exact _ _ (returns-then-b-lt4-clause-found c) tt tt
+
+pub returns-then-b-rows_at-clause-exact : goal.returns-then-b-rows_at-clause-exact
+returns-then-b-rows_at-clause-exact c = exact _ _ (returns-then-b-rows_at-clause-found c) tt tt
+
+pub returns-then-b-rows_at-2-clause-exact : goal.returns-then-b-rows_at-2-clause-exact
+returns-then-b-rows_at-2-clause-exact c = exact _ _ (returns-then-b-rows_at-2-clause-found c) tt tt
+
+pub returns-in-Ok-None-clause-exact : goal.returns-in-Ok-None-clause-exact
+returns-in-Ok-None-clause-exact c = exact _ _ (returns-in-Ok-None-clause-found c) tt tt
+
+pub returns-in-Ok-clause-exact : goal.returns-in-Ok-clause-exact
+returns-in-Ok-clause-exact c = exact _ _ (returns-in-Ok-clause-found c) (returns-in-Ok-clause-bytes c) (returns-in-Ok-clause-fits c)

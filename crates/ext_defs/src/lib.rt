@@ -1,0 +1,12 @@
+//! Which exts bytes hold: those whose hashes and numbers fit their places. Definitions, and as contracts of functions
+//! that do nothing the laws that the bytes of an ext, and of a row, tell it.
+#![tactic(auto)]
+
+ghost use Rattle.ext_defs.specs.Fits.{BytesTellRows, BytesTellExts};
+
+/// States that of rows that fit their bytes, with their out-points, no two have the same bytes, and neither have two
+/// exts of such rows. It does nothing.
+pub fn bytes_of_exts()
+    ensures tell_rows { BytesTellRows }
+    ensures tell_exts { BytesTellExts }
+{}
