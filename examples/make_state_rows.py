@@ -324,4 +324,5 @@ def main():
     cells.apply(1000, [cellbase(20), transaction(many, [Output(BYTE, bytes([i])) for i in range(30)])])
 
 
-main()
+if __name__ == '__main__':
+    main()

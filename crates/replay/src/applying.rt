@@ -20,7 +20,7 @@ use std::alloc::Global;
 use std::sync::ledger::Ledger;
 
 /// Damage at the record of a kept block.
-fn damage_at(tree: &Tree, place: u32) -> Damage
+pub fn damage_at(tree: &Tree, place: u32) -> Damage
     requires { place < length tree.now.entries }
     ensures { result.area ≡ Log }
 {
@@ -60,7 +60,7 @@ pub(crate) fn genesis_cells<B: Blocks>(
 
 /// Takes the events of the kept block at a place, which is not the genesis. Damaged where the source finds it damaged, or
 /// its events do not fit.
-pub(crate) fn apply_at<B: Blocks, L: Ledger>(
+pub fn apply_at<B: Blocks, L: Ledger>(
     state: &mut State,
     tree: &Tree,
     blocks: &mut B,

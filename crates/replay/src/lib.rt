@@ -10,4 +10,5 @@
 mod applying;
 mod replaying;
 
+pub use applying::{apply_at, damage_at};
 pub use replaying::replay;

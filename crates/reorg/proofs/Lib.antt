@@ -1,0 +1,4 @@
+pub mod DistanceLemmas
+pub mod PathLemmas
+pub mod ToldLemmas
+pub mod WayLemmas

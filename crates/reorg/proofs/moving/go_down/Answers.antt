@@ -1,0 +1,98 @@
+use Rattle.std.proofs.Common.{◌≡◌, ◌+◌, length, refl, sym, ap, ◌∙◌, arith}
+use Rattle.std.proofs.lemmas.List.{length_push}
+use Rattle.chain_defs.specs.Branch.{distance}
+use Rattle.chain_tree.specs.Told.{blocks_of}
+use Rattle.chain_tree.proofs.BlockLemmas.{len-same}
+use Rattle.cell_defs.specs.Row.{live_row}
+use Rattle.cell_state.specs.State.{rows}
+use Rattle.outside.proofs.Endings.{handed}
+use Rattle.reorg.proofs.DistanceLemmas.{none-away, high-nearer, low-nearer}
+use Rattle.reorg.proofs.PathLemmas.{path-none, path-more}
+use Rattle.reorg.proofs.WayLemmas.{within-none, within-more, stored-there, taken-here, parent-there}
+use Rattle.reorg.proofs.moving.go_down.Goals as goal
+
+pub down-init : goal.down-init
+down-init g c =
+    let none = c.new-up.ensures.items in
+    let long : length c.new-up.result.items ≡ 0 = ap length none in
+    record {
+      told = refl;
+      count = refl;
+      loans = refl;
+      faults = refl;
+      low = c.requires.from;
+      high = c.requires.to;
+      within = within-none c.args.tree.now.entries c.new-up.result.items none;
+      path = λ kept indexes. path-none kept c.args.to c.new-up.result.items none;
+      rows = λ stored tells indexes each are. are;
+      steps = λ kept indexes. omega (arith, long);
+    }
+
+pub down-preserved-in-Some : goal.down-preserved-in-Some
+down-preserved-in-Some g c =
+    let grown = c.in-Ok.ensures.items in
+    let more : length c.push.new.self.items ≡ length c.down.up.items + 1 = ap length grown ∙ length_push c.down.up.items c.down.high in
+    record {
+      told = c.down.invariant.told;
+      count = c.down.invariant.count;
+      loans = c.down.invariant.loans;
+      faults = c.down.invariant.faults;
+      low = c.down.invariant.low;
+      high = c.in-Some.ensures.within;
+      within = within-more c.args.tree.now.entries c.down.up.items c.push.new.self.items c.down.high grown c.down.invariant.high c.down.invariant.within;
+      path = λ kept indexes.
+          let same = len-same kept c.args.tree.now.entries indexes in
+          let to = c.requires.to in
+          path-more kept c.args.to c.down.up.items c.push.new.self.items c.down.high c.in-Some.parent indexes.is_kept (omega (arith, same, to))
+          (c.down.invariant.path kept indexes) grown (sym (c.in-Some.ensures.of_blocks kept indexes));
+      rows = c.down.invariant.rows;
+      steps = λ kept indexes.
+          let before = c.down.invariant.steps kept indexes in
+          let nearer = high-nearer kept c.down.low c.down.high c.in-Some.parent c.if-low-high.true (sym (c.in-Some.ensures.of_blocks kept indexes)) in
+          omega (arith, more, before, nearer);
+    }
+
+pub returns-in-Err-undo_at-clause-undamaged : goal.returns-in-Err-undo_at-clause-undamaged
+returns-in-Err-undo_at-clause-undamaged g c stored tells indexes each are damage same =
+    let it = stored-there stored c.args.tree.now.entries c.down.low indexes c.down.invariant.low in
+    let parent = parent-there (blocks_of stored) c.args.tree.now.entries c.down.low indexes c.down.invariant.low (omega arith) in
+    c.in-Err-undo_at.ensures.undamaged stored it.0 (live_row (blocks_of stored) parent.0) (c.down.invariant.told ∙ tells) it.1
+    (taken-here stored c.down.low parent.0 it.0 (rows c.down.state) each it.1 parent.1 (c.down.invariant.rows stored tells indexes each are))
+    damage (handed c.in-Err-undo_at.stop _ same)
+
+pub returns-in-Err-undo_at-clause-most : goal.returns-in-Err-undo_at-clause-most
+returns-in-Err-undo_at-clause-most g c kept indexes =
+    let before = c.down.invariant.steps kept indexes in
+    let parent = parent-there kept c.args.tree.now.entries c.down.low indexes c.down.invariant.low (omega arith) in
+    let nearer = low-nearer kept c.down.low c.down.high parent.0 (omega arith) parent.1 in
+    let one = c.in-Err-undo_at.ensures.most in
+    omega (arith, before, nearer, one)
+
+pub down-preserved : goal.down-preserved
+down-preserved g c = record {
+  told = c.in-Ok-undo_at.ensures.told ∙ c.down.invariant.told;
+  count = c.in-Ok-undo_at.ensures.count ∙ c.down.invariant.count;
+  loans = c.in-Ok-undo_at.ensures.loans ∙ c.down.invariant.loans;
+  faults = c.in-Ok-undo_at.ensures.cause.unchanged (λ fault. cc) ∙ c.down.invariant.faults;
+  low = c.in-Some-parent_in.ensures.within;
+  high = c.down.invariant.high;
+  within = c.down.invariant.within;
+  path = c.down.invariant.path;
+  rows = λ stored tells indexes each are.
+      let it = stored-there stored c.args.tree.now.entries c.down.low indexes c.down.invariant.low in
+      c.in-Ok-undo_at.ensures.rows stored it.0 (live_row (blocks_of stored) c.in-Some-parent_in.parent) (c.down.invariant.told ∙ tells) it.1
+      (taken-here stored c.down.low c.in-Some-parent_in.parent it.0 (rows c.down.state) each it.1
+      (sym (c.in-Some-parent_in.ensures.of_blocks (blocks_of stored) indexes)) (c.down.invariant.rows stored tells indexes each are));
+  steps = λ kept indexes.
+      let before = c.down.invariant.steps kept indexes in
+      let nearer = low-nearer kept c.down.low c.down.high c.in-Some-parent_in.parent (omega arith) (sym (c.in-Some-parent_in.ensures.of_blocks kept indexes)) in
+      let one = c.in-Ok-undo_at.ensures.steps in
+      omega (arith, before, nearer, one);
+}
+
+pub returns-clause-steps : goal.returns-clause-steps
+returns-clause-steps g c kept indexes =
+    let before = c.down.invariant.steps kept indexes in
+    let same : c.down.low ≡ c.down.high = c.down-test.false in
+    let none : distance kept c.down.low c.down.high ≡ 0 = ap (distance kept c.down.low) (sym same) ∙ none-away kept c.down.low in
+    omega (arith, before, none)

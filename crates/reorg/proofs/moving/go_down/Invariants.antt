@@ -1,0 +1,30 @@
+use Rattle.std.proofs.Common.{◌≡◌, ◌+◌, ◌<◌, ℕ, List, Some, length}
+use Rattle.std.specs.Prelude.{slice_get}
+use Rattle.codec_defs.specs.Schema.{Block}
+use Rattle.chain_defs.specs.Branch.{distance}
+use Rattle.chain_tree.specs.Blocks.{IndexesBlocks}
+use Rattle.chain_tree.specs.Told.{Stored, blocks_of}
+use Rattle.cell_state.specs.State.{rows}
+use Rattle.reorg.specs.Moves.{EachCanBeTakenBack, AreOf, IsPathUp}
+use Rattle.reorg.proofs.moving.go_down.Given as goal
+
+-- The rows are those of the branch of the lower place, and the higher one is below those that were gone down from. What was taken back, with
+-- the places to go up and what the two are apart, is what was to go.
+abbrev pub invariant-down : goal.invariant-down
+invariant-down g l = record {
+  told : g.B.Blocks.told l.blocks ≡ g.B.Blocks.told l.fn.blocks;
+  count : g.B.Blocks.count l.blocks ≡ g.B.Blocks.count l.fn.blocks;
+  loans : g.B.Blocks.loans_of l.blocks ≡ g.B.Blocks.loans_of l.fn.blocks;
+  faults : g.B.Blocks.faults l.blocks ≡ g.B.Blocks.faults l.fn.blocks;
+  low : l.low < length l.tree.entries;
+  high : l.high < length l.tree.entries;
+  within : (i place : ℕ) → slice_get l.up.items i ≡ Some place → place < length l.tree.entries;
+  path : (kept : List Block) → IndexesBlocks kept l.tree.entries → IsPathUp kept l.to l.up.items l.high;
+  rows : (stored : List Stored) → g.B.Blocks.told l.fn.blocks ≡ Some stored → IndexesBlocks (blocks_of stored) l.tree.entries → EachCanBeTakenBack stored
+      → AreOf (blocks_of stored) l.from (rows l.fn.state) → AreOf (blocks_of stored) l.low (rows l.state);
+  steps : (kept : List Block) → IndexesBlocks kept l.tree.entries
+      → l.steps + length l.up.items + distance kept l.low l.high ≡ l.fn.steps + distance kept l.from l.to;
+}
+
+abbrev pub decreases-down : goal.decreases-down
+decreases-down g l = l.low + l.high

@@ -1,0 +1,35 @@
+-- What it takes to go from one place's branch to another's.
+use Rattle.std.specs.Prelude.{◌≡◌, ℕ, ◌-◌, ◌<◌, List, length, Option, Some, slice_get}
+use Rattle.codec_defs.specs.Schema.{OutPoint, Block}
+use Rattle.chain_defs.specs.Kept.{parent_place}
+use Rattle.chain_defs.specs.Branch.{branch_places}
+use Rattle.chain_tree.specs.Told.{Stored, blocks_of}
+use Rattle.cell_defs.specs.Events.{events_of_block}
+use Rattle.cell_defs.specs.Row.{Row, live_row}
+use Rattle.cell_defs.specs.Ext.{Ext, ext_bytes}
+use Rattle.ext_defs.specs.Fits.{FitsExt}
+use Rattle.undo_defs.specs.Laws.{ComesBefore}
+
+-- A block can be taken back with the bytes beside it: they are those of an ext that fits them, and its rows are what the block spends of the
+-- rows before it.
+pub record CanBeTakenBack (b : Block) (bytes : List ℕ) (after before : OutPoint → Option Row) : Type 0 where
+  pub height : ℕ
+  pub ext : Ext
+  pub fits : FitsExt ext
+  pub bytes_are : ext_bytes ext ≡ bytes
+  pub comes_before : ComesBefore (events_of_block height b) ext.spent after before
+
+-- So can each kept block that has a parent, from the rows of its branch to those of its parent's.
+abbrev pub EachCanBeTakenBack : List Stored → Type 0
+EachCanBeTakenBack stored = (place parent : ℕ) (it : Stored) → slice_get stored place ≡ Some it → parent_place (blocks_of stored) place ≡ Some parent
+    → CanBeTakenBack it.block it.ext (live_row (blocks_of stored) place) (live_row (blocks_of stored) parent)
+
+-- rows are those of the branch of a place
+abbrev pub AreOf : List Block → ℕ → (OutPoint → Option Row) → Type 0
+AreOf kept place rows = (o : OutPoint) → rows o ≡ live_row kept place o
+
+-- The last places of a branch, its end first, and below them the next.
+pub record IsPathUp (kept : List Block) (end : ℕ) (places : List ℕ) (next : ℕ) : Type 0 where
+  pub some : length places < length (branch_places kept end)
+  pub each : (i place : ℕ) → slice_get places i ≡ Some place → slice_get (branch_places kept end) (length (branch_places kept end) - 1 - i) ≡ Some place
+  pub below : slice_get (branch_places kept end) (length (branch_places kept end) - 1 - length places) ≡ Some next

@@ -1,0 +1,124 @@
+// From the rows of one place's branch to those of another's.
+ghost use Rattle.std.specs.Prelude.{◌≡◌, ◌≤◌, ◌<◌, ◌+◌, ℕ, List, length, Some, Err, IfOk, OnOk, slice_get};
+ghost use Rattle.codec_defs.specs.Schema.{Block};
+ghost use Rattle.outside.specs.Causes.{CountsFault};
+ghost use Rattle.outside.specs.declared.disk.Area.TheVariants.{Log};
+ghost use Rattle.outside.specs.declared.disk.Damage.{Damage};
+ghost use Rattle.outside.specs.declared.disk.ReadStop.TheVariants.{DiskFault, Damaged};
+ghost use Rattle.chain_defs.specs.Branch.{distance};
+ghost use Rattle.chain_tree.specs.Blocks.{IndexesBlocks};
+ghost use Rattle.chain_tree.specs.Told.{Stored, blocks_of};
+ghost use Rattle.cell_defs.specs.Fit.{BranchFits};
+ghost use Rattle.cell_state.specs.State.{rows};
+ghost use Rattle.reorg.specs.Moves.{EachCanBeTakenBack, AreOf, IsPathUp};
+
+use crate::parent::parent_in;
+use crate::undoing::undo_at;
+use cell_state::State;
+use chain_tree::{Blocks, Tree};
+use outside::{ReadStop, Steps};
+use replay::apply_at;
+use std::alloc::Global;
+use std::sync::ledger::Ledger;
+
+/// Takes blocks back from one place down to the fork with another. Answers the fork, and the places after it on the
+/// branch of the other, the last first. The later of two places is not on the branch of the earlier one, so it is always
+/// the later one that goes down to its parent.
+fn go_down<B: Blocks, L: Ledger>(
+    alloc: Global,
+    state: &mut State,
+    tree: &Tree,
+    blocks: &mut B,
+    from: u32,
+    to: u32,
+    steps: &mut Steps<L>,
+) -> Result<(u32, Vec<u32>), ReadStop>
+    requires from { from < length tree.now.entries }
+    requires to { to < length tree.now.entries }
+    requires counts { B.count blocks.old ≡ length tree.now.entries }
+    ensures told { B.told blocks.new ≡ B.told blocks.old }
+    ensures count { B.count blocks.new ≡ B.count blocks.old }
+    ensures loans { B.loans_of blocks.new ≡ B.loans_of blocks.old }
+    ensures within { IfOk result (λ it. (i place : ℕ) → slice_get it.1.items i ≡ Some place → place < length tree.now.entries) }
+    ensures path { (kept : List Block) → IndexesBlocks kept tree.now.entries → IfOk result (λ it. IsPathUp kept to it.1.items it.0) }
+    ensures rows { (stored : List Stored) → B.told blocks.old ≡ Some stored → IndexesBlocks (blocks_of stored) tree.now.entries
+        → EachCanBeTakenBack stored → AreOf (blocks_of stored) from (rows state.old) → IfOk result (λ it. AreOf (blocks_of stored) it.0 (rows state.new)) }
+    ensures undamaged { (stored : List Stored) → B.told blocks.old ≡ Some stored → IndexesBlocks (blocks_of stored) tree.now.entries
+        → EachCanBeTakenBack stored → AreOf (blocks_of stored) from (rows state.old) → (damage : Damage) → result ≡ Err (Damaged damage) → ⊥ }
+    ensures damage { (damage : Damage) → result ≡ Err (Damaged damage) → damage.area ≡ Log }
+    ensures cause { CountsFault (B.faults blocks.old) (B.faults blocks.new) (result ≡ Err DiskFault) }
+    ensures steps { (kept : List Block) → IndexesBlocks kept tree.now.entries
+        → IfOk result (λ it. steps.new + length it.1.items ≡ steps.old + distance kept from to) }
+    ensures most { (kept : List Block) → IndexesBlocks kept tree.now.entries → steps.new ≤ steps.old + distance kept from to }
+{
+    let mut up = Vec::new(alloc);
+    let mut low = from;
+    let mut high = to;
+    'down: while low != high {
+        if low < high {
+            match up.push(high) {
+                Ok(()) => {}
+                Err(_) => return Err(ReadStop::NoMemory),
+            }
+            match parent_in(tree, high) {
+                Some(parent) => high = parent,
+                None => unreachable!(),
+            }
+        } else {
+            match undo_at(alloc, state, tree, blocks, low, steps) {
+                Ok(()) => {}
+                Err(stop) => return Err(stop),
+            }
+            match parent_in(tree, low) {
+                Some(parent) => low = parent,
+                None => unreachable!(),
+            }
+        }
+    }
+    Ok((low, up))
+}
+
+/// Goes from the live cells of the branch of one place to those of another's: down to their fork, a block taken back each
+/// step, and up from there, a block applied each step. Damaged where the source finds a block on the way damaged, or its
+/// ext or its events do not fit the cells. After an error the cells are gone.
+pub fn go_to<B: Blocks, L: Ledger>(
+    alloc: Global,
+    state: State,
+    tree: &Tree,
+    blocks: &mut B,
+    from: u32,
+    to: u32,
+    steps: &mut Steps<L>,
+) -> Result<State, ReadStop>
+    requires from { from < length tree.now.entries }
+    requires to { to < length tree.now.entries }
+    requires counts { B.count blocks.old ≡ length tree.now.entries }
+    ensures told { B.told blocks.new ≡ B.told blocks.old }
+    ensures count { B.count blocks.new ≡ B.count blocks.old }
+    ensures loans { B.loans_of blocks.new ≡ B.loans_of blocks.old }
+    ensures rows { (stored : List Stored) → B.told blocks.old ≡ Some stored → IndexesBlocks (blocks_of stored) tree.now.entries
+        → EachCanBeTakenBack stored → AreOf (blocks_of stored) from (rows state) → IfOk result (λ there. AreOf (blocks_of stored) to (rows there)) }
+    ensures undamaged { (stored : List Stored) → B.told blocks.old ≡ Some stored → IndexesBlocks (blocks_of stored) tree.now.entries
+        → EachCanBeTakenBack stored → AreOf (blocks_of stored) from (rows state) → BranchFits (blocks_of stored) to
+        → (damage : Damage) → result ≡ Err (Damaged damage) → ⊥ }
+    ensures damage { (damage : Damage) → result ≡ Err (Damaged damage) → damage.area ≡ Log }
+    ensures cause { CountsFault (B.faults blocks.old) (B.faults blocks.new) (result ≡ Err DiskFault) }
+    ensures steps { (kept : List Block) → IndexesBlocks kept tree.now.entries
+        → OnOk result (steps.new ≡ steps.old + distance kept from to) }
+    ensures most { (kept : List Block) → IndexesBlocks kept tree.now.entries → steps.new ≤ steps.old + distance kept from to }
+{
+    let mut state = state;
+    let (_, up) = match go_down(alloc, &mut state, tree, blocks, from, to, steps) {
+        Ok(down) => down,
+        Err(stop) => return Err(stop),
+    };
+    let count = up.len();
+    'up: for i in 0..count {
+        let place = up[count - i - 1];
+        match apply_at(&mut state, tree, blocks, place, steps) {
+            Ok(()) => {}
+            Err(stop) => return Err(stop),
+        }
+    }
+    Ok(state)
+}

@@ -1,0 +1,64 @@
+// One kept block that is taken back.
+ghost use Rattle.std.specs.Prelude.{◌≡◌, ◌≤◌, ◌<◌, ◌+◌, List, length, Option, Some, Err, OnOk, slice_get};
+ghost use Rattle.codec_defs.specs.Schema.{OutPoint};
+ghost use Rattle.outside.specs.Causes.{CountsFault};
+ghost use Rattle.outside.specs.declared.disk.Area.TheVariants.{Log};
+ghost use Rattle.outside.specs.declared.disk.Damage.{Damage};
+ghost use Rattle.outside.specs.declared.disk.ReadStop.TheVariants.{DiskFault, Damaged};
+ghost use Rattle.chain_tree.specs.Told.{Stored};
+ghost use Rattle.cell_defs.specs.Row.{Row};
+ghost use Rattle.cell_state.specs.State.{rows};
+ghost use Rattle.reorg.specs.Moves.{CanBeTakenBack};
+
+use cell_model::Ext;
+use cell_state::State;
+use chain_tree::{Blocks, Tree};
+use outside::{ReadStop, Steps};
+use replay::damage_at;
+use std::alloc::Global;
+use std::sync::ledger::Ledger;
+
+/// Takes the kept block at a place back, which is not the genesis, with its ext. Damaged where the source finds it
+/// damaged, or a row of the ext cannot be put back.
+pub(crate) fn undo_at<B: Blocks, L: Ledger>(
+    alloc: Global,
+    state: &mut State,
+    tree: &Tree,
+    blocks: &mut B,
+    place: u32,
+    steps: &mut Steps<L>,
+) -> Result<(), ReadStop>
+    requires later { 0 < place }
+    requires within { place < length tree.now.entries }
+    requires counts { B.count blocks.old ≡ length tree.now.entries }
+    ensures told { B.told blocks.new ≡ B.told blocks.old }
+    ensures count { B.count blocks.new ≡ B.count blocks.old }
+    ensures loans { B.loans_of blocks.new ≡ B.loans_of blocks.old }
+    ensures rows { (stored : List Stored) (it : Stored) (before : OutPoint → Option Row) → B.told blocks.old ≡ Some stored → slice_get stored place ≡ Some it
+        → CanBeTakenBack it.block it.ext (rows state.old) before → OnOk result ((o : OutPoint) → rows state.new o ≡ before o) }
+    ensures undamaged { (stored : List Stored) (it : Stored) (before : OutPoint → Option Row) → B.told blocks.old ≡ Some stored → slice_get stored place ≡ Some it
+        → CanBeTakenBack it.block it.ext (rows state.old) before → (damage : Damage) → result ≡ Err (Damaged damage) → ⊥ }
+    ensures damage { (damage : Damage) → result ≡ Err (Damaged damage) → damage.area ≡ Log }
+    ensures cause { CountsFault (B.faults blocks.old) (B.faults blocks.new) (result ≡ Err DiskFault) }
+    ensures steps { OnOk result (steps.new ≡ steps.old + 1) }
+    ensures most { steps.new ≤ steps.old + 1 }
+{
+    match blocks.bring(place) {
+        Ok(()) => {}
+        Err(stop) => return Err(stop),
+    }
+    let ext = match Ext::read(alloc, blocks.spent()) {
+        Ok(Some(ext)) => ext,
+        Ok(None) => unreachable!(),
+        Err(_) => return Err(ReadStop::NoMemory),
+    };
+    match state.reserve(ext.spent.len() as u64) {
+        Ok(()) => {}
+        Err(_) => return Err(ReadStop::NoMemory),
+    }
+    let block = blocks.block();
+    match state.undo(&block, &ext, steps) {
+        Ok(()) => Ok(()),
+        Err(_) => Err(ReadStop::Damaged(damage_at(tree, place))),
+    }
+}

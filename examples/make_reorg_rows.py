@@ -1,0 +1,172 @@
+#!/usr/bin/env python3
+"""Rows of crates/reorg_vectors: live cells that are gone to over a tree of blocks.
+
+    examples/make_reorg_rows.py > crates/reorg_vectors/stdin
+
+crates/reorg_vectors/src/main.rt says what the columns are. The cells of each
+place are made by a replay of its branch from the genesis, in a dict, as
+docs/RULES.md ("Cells") and docs/STORE.md say; nothing is taken from the program,
+and nothing is taken back here.
+"""
+
+import random
+
+from make_state_rows import BYTE, Cells, NULL, Output, cellbase, out_point, transaction
+from make_store import ZERO_HASH, ckbhash, fixvec, table, uint
+
+
+def header(parent_hash, number, nonce):
+    return uint(0, 4) + uint(7, 4) + uint(9, 8) + uint(number, 8) + uint(0, 8) + parent_hash + 4 * ZERO_HASH + uint(nonce, 16)
+
+
+class Tree:
+    def __init__(self, rows):
+        self.rows, self.blocks = rows, []
+
+    def genesis(self, transactions):
+        self.blocks = [(None, 0, ckbhash(header(ZERO_HASH, 0, 0)), transactions)]
+        self.put('genesis', header(ZERO_HASH, 0, 0), transactions, None)
+
+    def put(self, word, head, transactions, ext):
+        block = table([head, table([]), table([t[0] for t in transactions]), fixvec([])])
+        self.rows.append('\t'.join([word, block.hex()] + ([] if ext is None else [ext.hex()])))
+
+    def replayed(self, place):
+        """The cells at a place, from the genesis on."""
+        branch, at = [], place
+        while at is not None:
+            branch.append(at)
+            at = self.blocks[at][0]
+        cells = Cells()
+        for at in reversed(branch):
+            transactions = self.blocks[at][3]
+            if at == 0:
+                for tx, (_, (tx_hash, _, outputs, datas)) in enumerate(transactions):
+                    cells.make(0, tx, tx_hash, outputs, datas, False)
+            else:
+                assert cells.tried(at, transactions) is None, at
+        return cells
+
+    def block(self, parent, transactions, ext=None, cells=None):
+        """Keeps a block on a parent with its own ext, or with one that is not its own, and answers its place."""
+        _, number, parent_hash, _ = self.blocks[parent]
+        head = header(parent_hash, number + 1, len(self.blocks))
+        if ext is None:
+            ext = (cells or self.replayed(parent)).spent(transactions)
+        place = len(self.blocks)
+        self.blocks.append((parent, number + 1, ckbhash(head), transactions))
+        self.put('block', head, transactions, fixvec([uint(0, 8) for _ in transactions[1:]]) + fixvec(ext))
+        return place
+
+    def at(self, place):
+        rows = self.replayed(place).rows
+        order = sorted(rows, key=lambda o: (o[:32], int.from_bytes(o[32:], 'little')))
+        self.rows.append('at\t%d\t%d\t%s' % (place, len(order), ckbhash(b''.join(rows[o] for o in order)).hex()))
+
+    def damaged(self, first, other):
+        self.rows.append('damaged\t%d\t%d' % (first, other))
+
+
+def small(tree):
+    """Branches that spend one cell differently, spend and make an out-point again, and make a cell and spend it in one block."""
+    first = transaction([NULL], [Output(500 * BYTE, b'a', None, b'12345'), Output(1000 * BYTE, b'', b'type', b'')])
+    free = transaction([], [Output(6 * BYTE, b'f'), Output(7 * BYTE, b'g')])
+    tree.genesis([first])
+    tree.at(0)
+    root = tree.block(0, [cellbase(1, [Output(70 * BYTE, b'base')])])
+    # the same cell, to different ends
+    left = tree.block(root, [cellbase(2), transaction([out_point(first, 0)], [Output(BYTE, b'l')])])
+    right = tree.block(root, [cellbase(3), transaction([out_point(first, 0)], [Output(BYTE, b'r'), Output(2 * BYTE, b'r')])])
+    # the same transaction on both branches: one out-point, two rows
+    same = transaction([out_point(first, 1)], [Output(3 * BYTE, b's')])
+    left_same = tree.block(left, [cellbase(4), same])
+    right_more = tree.block(right, [])
+    right_same = tree.block(right_more, [cellbase(5), same])
+    # a cell is made and spent in one block
+    inner = transaction([out_point(same, 0)], [Output(BYTE, b'x'), Output(BYTE, b'y')])
+    within = tree.block(left_same, [cellbase(6), inner, transaction([out_point(inner, 1)], [Output(BYTE, b'z')])])
+    # cells without inputs are made, spent and made again in one block, and over blocks
+    made = tree.block(right_same, [cellbase(7), free])
+    again = tree.block(made, [cellbase(8), transaction([out_point(free, 0), out_point(free, 1)], [Output(BYTE, b'1')]), free])
+    spent = tree.block(again, [cellbase(9), transaction([out_point(free, 1)], [Output(BYTE, b'2')]),
+                               transaction([out_point(free, 0)], [Output(BYTE, b'3')])])
+    over = tree.block(spent, [cellbase(10), free])
+    twice = tree.block(over, [cellbase(11), transaction([out_point(free, 0)], []), transaction([out_point(free, 1)], []), free,
+                              transaction([out_point(free, 0)], [Output(BYTE, b'4')])])
+    # siblings of one parent, and of the genesis
+    sibling = tree.block(within, [cellbase(12, [Output(9 * BYTE, b'i')])])
+    other = tree.block(within, [cellbase(12, [Output(9 * BYTE, b'i')])])
+    low = tree.block(0, [cellbase(13, [Output(8 * BYTE, b'o')])])
+    places = [0, root, left, right, left_same, right_more, right_same, within, made, again, spent, over, twice, sibling, other, low]
+    for one in places:
+        for two in places:
+            tree.at(one)
+            tree.at(two)
+    # a block whose events do not fit, which stands beside rows that it does not spend, and exts that are not their block's
+    odd = tree.block(left, [cellbase(14), transaction([out_point(first, 0)], [Output(BYTE, b'q')])], ext=[])
+    tree.damaged(root, odd)
+    tree.damaged(twice, odd)
+    tree.at(within)
+    live = tree.replayed(within).rows
+    kept = sorted(live)[0]
+    wrong = tree.block(within, [cellbase(15)], ext=[live[kept]])
+    tree.at(wrong)
+    tree.damaged(wrong, within)
+    tree.at(wrong)
+    tree.damaged(wrong, other)
+
+
+def large(tree):
+    """A tree of 200 blocks in three branches, between which the cells go 500 times."""
+    random.seed(3)
+    first = transaction([NULL], [Output((100 + i) * BYTE, bytes([i])) for i in range(40)])
+    tree.genesis([first])
+    ends = [tree.block(0, [cellbase(100)])] * 3
+    free = [transaction([], [Output((6 + i) * BYTE, b'f'), Output(7 * BYTE, bytes([i]))], version=i) for i in range(4)]
+    branches = [[0, ends[0]] for _ in ends]
+    while len(tree.blocks) < 200:
+        which = random.randrange(3)
+        parent = ends[which]
+        cells = tree.replayed(parent)
+        before = cells.rows
+        transactions = [cellbase(1000 + len(tree.blocks) * random.randrange(2), [Output(random.randrange(1, 99) * BYTE, b'c')])]
+        rows = dict(before)
+        if transactions[0][1][0] + uint(0, 4) in rows:
+            transactions = [cellbase(5000 + len(tree.blocks))]
+        live = sorted(rows)
+        for _ in range(random.randrange(4)):
+            kind = random.randrange(3)
+            if kind == 0 and live:
+                o = live.pop(random.randrange(len(live)))
+                made = transaction([o], [Output(random.randrange(1, 9) * BYTE, bytes([which])) for _ in range(random.randrange(1, 4))])
+                here = [out_point(made, i) for i in range(len(made[1][2]))]
+                if not any(o in live for o in here):
+                    transactions.append(made)
+                    live += here
+            elif kind == 1:
+                made = random.choice(free)
+                here = [out_point(made, i) for i in range(2)]
+                if not any(o in live for o in here):
+                    transactions.append(made)
+                    live += here
+            elif live:
+                o = live.pop(random.randrange(len(live)))
+                transactions.append(transaction([o], [], version=9))
+        place = tree.block(parent, transactions, cells=cells)
+        ends[which] = place
+        branches[which].append(place)
+    assert all(len(branch) > 40 for branch in branches)
+    for i in range(500):
+        branch = branches[i % 3]
+        tree.at(branch[-1] if i % 5 else random.choice(branch))
+
+
+def main():
+    rows = []
+    small(Tree(rows))
+    large(Tree(rows))
+    print('\n'.join(rows))
+
+
+if __name__ == '__main__':
+    main()
