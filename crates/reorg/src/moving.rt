@@ -1,5 +1,5 @@
 // From the rows of one place's branch to those of another's.
-ghost use Rattle.std.specs.Prelude.{◌≡◌, ◌≤◌, ◌<◌, ◌+◌, ℕ, List, length, Some, Err, IfOk, OnOk, slice_get};
+ghost use Rattle.std.specs.Prelude.{◌≡◌, ◌≤◌, ◌<◌, ◌+◌, ℕ, List, length, Some, Err, IfOk, OnOk, IsSome, slice_get};
 ghost use Rattle.codec_defs.specs.Schema.{Block};
 ghost use Rattle.outside.specs.Causes.{CountsFault};
 ghost use Rattle.outside.specs.declared.disk.Area.TheVariants.{Log};
@@ -10,6 +10,7 @@ ghost use Rattle.chain_tree.specs.Blocks.{IndexesBlocks};
 ghost use Rattle.chain_tree.specs.Told.{Stored, blocks_of};
 ghost use Rattle.cell_defs.specs.Fit.{BranchFits};
 ghost use Rattle.cell_state.specs.State.{rows};
+ghost use Rattle.replay.specs.Damages.{IsAtRecord};
 ghost use Rattle.reorg.specs.Moves.{EachCanBeTakenBack, AreOf, IsPathUp};
 
 use crate::parent::parent_in;
@@ -46,6 +47,8 @@ fn go_down<B: Blocks, L: Ledger>(
     ensures undamaged { (stored : List Stored) → B.told blocks.old ≡ Some stored → IndexesBlocks (blocks_of stored) tree.now.entries
         → EachCanBeTakenBack stored → AreOf (blocks_of stored) from (rows state.old) → (damage : Damage) → result ≡ Err (Damaged damage) → ⊥ }
     ensures damage { (damage : Damage) → result ≡ Err (Damaged damage) → damage.area ≡ Log }
+    ensures at_record { IsSome (B.told blocks.old) → (damage : Damage) → result ≡ Err (Damaged damage)
+        → (place : ℕ) × IsAtRecord tree.now.entries place damage }
     ensures cause { CountsFault (B.faults blocks.old) (B.faults blocks.new) (result ≡ Err DiskFault) }
     ensures steps { (kept : List Block) → IndexesBlocks kept tree.now.entries
         → IfOk result (λ it. steps.new + length it.1.items ≡ steps.old + distance kept from to) }
@@ -102,6 +105,8 @@ pub fn go_to<B: Blocks, L: Ledger>(
         → EachCanBeTakenBack stored → AreOf (blocks_of stored) from (rows state) → BranchFits (blocks_of stored) to
         → (damage : Damage) → result ≡ Err (Damaged damage) → ⊥ }
     ensures damage { (damage : Damage) → result ≡ Err (Damaged damage) → damage.area ≡ Log }
+    ensures at_record { IsSome (B.told blocks.old) → (damage : Damage) → result ≡ Err (Damaged damage)
+        → (place : ℕ) × IsAtRecord tree.now.entries place damage }
     ensures cause { CountsFault (B.faults blocks.old) (B.faults blocks.new) (result ≡ Err DiskFault) }
     ensures steps { (kept : List Block) → IndexesBlocks kept tree.now.entries
         → OnOk result (steps.new ≡ steps.old + distance kept from to) }

@@ -1,5 +1,5 @@
 // One kept block that is taken back.
-ghost use Rattle.std.specs.Prelude.{◌≡◌, ◌≤◌, ◌<◌, ◌+◌, List, length, Option, Some, Err, OnOk, slice_get};
+ghost use Rattle.std.specs.Prelude.{◌≡◌, ◌≤◌, ◌<◌, ◌+◌, List, length, Option, Some, Err, OnOk, IsSome, slice_get};
 ghost use Rattle.codec_defs.specs.Schema.{OutPoint};
 ghost use Rattle.outside.specs.Causes.{CountsFault};
 ghost use Rattle.outside.specs.declared.disk.Area.TheVariants.{Log};
@@ -8,6 +8,7 @@ ghost use Rattle.outside.specs.declared.disk.ReadStop.TheVariants.{DiskFault, Da
 ghost use Rattle.chain_tree.specs.Told.{Stored};
 ghost use Rattle.cell_defs.specs.Row.{Row};
 ghost use Rattle.cell_state.specs.State.{rows};
+ghost use Rattle.replay.specs.Damages.{IsAtRecord};
 ghost use Rattle.reorg.specs.Moves.{CanBeTakenBack};
 
 use cell_model::Ext;
@@ -39,6 +40,7 @@ pub(crate) fn undo_at<B: Blocks, L: Ledger>(
     ensures undamaged { (stored : List Stored) (it : Stored) (before : OutPoint → Option Row) → B.told blocks.old ≡ Some stored → slice_get stored place ≡ Some it
         → CanBeTakenBack it.block it.ext (rows state.old) before → (damage : Damage) → result ≡ Err (Damaged damage) → ⊥ }
     ensures damage { (damage : Damage) → result ≡ Err (Damaged damage) → damage.area ≡ Log }
+    ensures at_record { IsSome (B.told blocks.old) → (damage : Damage) → result ≡ Err (Damaged damage) → IsAtRecord tree.now.entries place damage }
     ensures cause { CountsFault (B.faults blocks.old) (B.faults blocks.new) (result ≡ Err DiskFault) }
     ensures steps { OnOk result (steps.new ≡ steps.old + 1) }
     ensures most { steps.new ≤ steps.old + 1 }

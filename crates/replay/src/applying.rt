@@ -1,5 +1,5 @@
 // One kept block at a time: the cells of the genesis, and the events of a block behind it.
-ghost use Rattle.std.specs.Prelude.{◌≡◌, ◌≤◌, ◌<◌, ◌+◌, ℕ, List, length, Some, None, Err, IfOk, OnOk};
+ghost use Rattle.std.specs.Prelude.{◌≡◌, ◌≤◌, ◌<◌, ◌+◌, ℕ, List, length, Some, None, Err, IfOk, OnOk, IsSome};
 ghost use Rattle.codec_defs.specs.Schema.{OutPoint, Block};
 ghost use Rattle.outside.specs.Causes.{CountsFault};
 ghost use Rattle.outside.specs.declared.disk.Area.TheVariants.{Log};
@@ -11,6 +11,7 @@ ghost use Rattle.cell_defs.specs.Events.{events_of_block};
 ghost use Rattle.cell_defs.specs.Row.{row_after};
 ghost use Rattle.cell_defs.specs.Fit.{are_live, AllFit};
 ghost use Rattle.cell_state.specs.State.{rows};
+ghost use Rattle.replay.specs.Damages.{IsAtRecord};
 
 use cell_state::{State, outputs_in};
 use chain_tree::{Blocks, Tree};
@@ -22,7 +23,8 @@ use std::sync::ledger::Ledger;
 /// Damage at the record of a kept block.
 pub fn damage_at(tree: &Tree, place: u32) -> Damage
     requires { place < length tree.now.entries }
-    ensures { result.area ≡ Log }
+    ensures area { result.area ≡ Log }
+    ensures at { IsAtRecord tree.now.entries place result }
 {
     Damage {
         area: Area::Log,
@@ -79,6 +81,7 @@ pub fn apply_at<B: Blocks, L: Ledger>(
     ensures undamaged { (stored : List Stored) (b : Block) (height : ℕ) → B.told blocks.old ≡ Some stored → block_at (blocks_of stored) place ≡ Some b
         → 0 < height → AllFit (events_of_block height b) (are_live (rows state.old)) → (damage : disk.Damage) → result ≡ Err (Damaged damage) → ⊥ }
     ensures damage { (damage : disk.Damage) → result ≡ Err (Damaged damage) → damage.area ≡ Log }
+    ensures at_record { IsSome (B.told blocks.old) → (damage : disk.Damage) → result ≡ Err (Damaged damage) → IsAtRecord tree.now.entries place damage }
     ensures cause { CountsFault (B.faults blocks.old) (B.faults blocks.new) (result ≡ Err DiskFault) }
     ensures steps { OnOk result (steps.new ≡ steps.old + 1) }
     ensures most { steps.new ≤ steps.old + 1 }

@@ -1,7 +1,8 @@
-use Rattle.std.proofs.Common.{◌≡◌, ◌+◌, length, refl, sym, ap, ◌∙◌, arith}
+use Rattle.std.proofs.Common.{◌≡◌, ◌+◌, List, Option, length, refl, sym, ap, ◌∙◌, subst, arith}
 use Rattle.std.proofs.lemmas.List.{length_push}
+use Rattle.std.specs.Prelude.{IsSome}
 use Rattle.chain_defs.specs.Branch.{distance}
-use Rattle.chain_tree.specs.Told.{blocks_of}
+use Rattle.chain_tree.specs.Told.{Stored, blocks_of}
 use Rattle.chain_tree.proofs.BlockLemmas.{len-same}
 use Rattle.cell_defs.specs.Row.{live_row}
 use Rattle.cell_state.specs.State.{rows}
@@ -96,3 +97,7 @@ returns-clause-steps g c kept indexes =
     let same : c.down.low ≡ c.down.high = c.down-test.false in
     let none : distance kept c.down.low c.down.high ≡ 0 = ap (distance kept c.down.low) (sym same) ∙ none-away kept c.down.low in
     omega (arith, before, none)
+
+pub returns-in-Err-undo_at-clause-at_record : goal.returns-in-Err-undo_at-clause-at_record
+returns-in-Err-undo_at-clause-at_record g c tells damage same =
+    (c.down.low, c.in-Err-undo_at.ensures.at_record (subst (λ (told : Option (List Stored)). IsSome told) (sym c.down.invariant.told) tells) damage (handed c.in-Err-undo_at.stop _ same))

@@ -1,7 +1,7 @@
-use Rattle.std.proofs.Common.{◌≡◌, ◌+◌, ◌-◌, ◌<◌, ℕ, length, get_or, sym, ap, ◌∙◌, subst, arith, rules}
-use Rattle.std.specs.Prelude.{slice_get}
+use Rattle.std.proofs.Common.{◌≡◌, ◌+◌, ◌-◌, ◌<◌, ℕ, List, Option, length, get_or, sym, ap, ◌∙◌, subst, arith, rules}
+use Rattle.std.specs.Prelude.{slice_get, IsSome}
 use Rattle.chain_defs.specs.Branch.{branch_places}
-use Rattle.chain_tree.specs.Told.{blocks_of}
+use Rattle.chain_tree.specs.Told.{Stored, blocks_of}
 use Rattle.cell_state.specs.State.{rows}
 use Rattle.outside.proofs.Endings.{handed}
 use Rattle.replay.proofs.StepLemmas.{AreRowsAt, block-there, rows-next, fits-here}
@@ -58,3 +58,7 @@ returns-clause-rows g c stored tells indexes each are =
     c.up.invariant.rows stored tells indexes each are c.args.to
     (ap (λ (n : ℕ). slice_get (branch_places (blocks_of stored) c.args.to) (height_after (blocks_of stored) c.args.to c.in-Ok.down.1.items n)) (sym last)
     ∙ path-top (blocks_of stored) c.args.to c.in-Ok.down.1.items _ (c.in-Ok.ensures.path (blocks_of stored) indexes))
+
+pub returns-in-Err-apply_at-clause-at_record : goal.returns-in-Err-apply_at-clause-at_record
+returns-in-Err-apply_at-clause-at_record g c tells damage same =
+    (c.index-place.result.now, c.in-Err-apply_at.ensures.at_record (subst (λ (told : Option (List Stored)). IsSome told) (sym c.up.invariant.told) tells) damage (handed c.in-Err-apply_at.stop _ same))

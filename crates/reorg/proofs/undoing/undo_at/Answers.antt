@@ -2,6 +2,7 @@ use Rattle.std.proofs.Common.{◌≡◌, sym, ◌∙◌}
 use Rattle.std.proofs.lemmas.Bool.{false≢true}
 use Rattle.chain_tree.specs.Told.{Stored}
 use Rattle.cell_state.specs.State.{rows}
+use Rattle.replay.proofs.FitLemmas.{at-record}
 use Rattle.reorg.proofs.ToldLemmas.{told-it, comes-back}
 use Rattle.reorg.proofs.undoing.undo_at.Goals as goal
 
@@ -24,3 +25,6 @@ returns-clause-undamaged g c stored it before tells there can damage same =
     let own = sym c.in-Ok-Some.field-0-is ∙ c.in-Ok-Some.ensures.exact can.ext can.fits (can.bytes_are ∙ sym bytes) in
     false≢true ((c.in-Err-undo.ensures.before can.height before
     (comes-back it.block c.block-block.result it.ext (rows c.args.state.now) (rows c.reserve.new.self) before can _ block own c.in-Ok-reserve.ensures.rows)).0)
+
+pub returns-clause-at_record : goal.returns-clause-at_record
+returns-clause-at_record g c tells damage same = at-record c.args.tree.now.entries c.args.place c.damage_at.result damage c.damage_at.ensures.at same

@@ -7,7 +7,7 @@ use Rattle.cell_laws.proofs.FitLemmas.{found-same}
 use Rattle.cell_state.specs.State.{rows}
 use Rattle.outside.proofs.Endings.{no_fault, handed, counts-handed, no_answer, no_memory, no_damage, memory_undamaged, in_log, is_told}
 use Rattle.replay.proofs.RowLemmas.{row_after-same}
-use Rattle.replay.proofs.FitLemmas.{told-block, none-odd}
+use Rattle.replay.proofs.FitLemmas.{told-block, none-odd, at-record}
 use Rattle.replay.proofs.applying.apply_at.Goals as goal
 
 pub returns-in-Err : goal.returns-in-Err
@@ -19,6 +19,7 @@ returns-in-Err g c = record {
   fit = λ stored b tells there. tt;
   undamaged = λ stored b height tells there above fit damage same. c.in-Err.ensures.cause.undamaged (is_told _ stored tells) damage (handed c.in-Err.stop _ same);
   damage = λ damage same. c.in-Err.ensures.damage damage (handed c.in-Err.stop _ same);
+  at_record = λ tells damage same. absurd (c.in-Err.ensures.cause.undamaged tells damage (handed c.in-Err.stop _ same));
   cause = counts-handed c.in-Err.stop _ c.in-Err.ensures.cause.counts;
   steps = tt;
   most = omega arith;
@@ -33,6 +34,7 @@ returns-in-Err-reserve g c = record {
   fit = λ stored b tells there. tt;
   undamaged = λ stored b height tells there above fit damage same. memory_undamaged damage same;
   damage = λ damage same. absurd (memory_undamaged damage same);
+  at_record = λ tells damage same. absurd (memory_undamaged damage same);
   cause = no_fault _ _ (c.in-Ok.ensures.cause.counts.unchanged (no_answer _ _)) no_memory;
   steps = tt;
   most = omega arith;
@@ -57,6 +59,7 @@ returns-in-Ok-apply g c = record {
       (c.in-Ok-apply.ensures.fit height above));
   undamaged = λ stored b height tells there above fit damage same. no_answer _ _ same;
   damage = λ damage same. absurd (no_answer _ _ same);
+  at_record = λ tells damage same. absurd (no_answer _ _ same);
   cause = no_fault _ _ (c.in-Ok.ensures.cause.counts.unchanged (no_answer _ _)) (no_answer _ _);
   steps = c.in-Ok-apply.ensures.steps;
   most = let one = c.in-Ok-apply.ensures.steps in omega (arith, one);
@@ -76,7 +79,8 @@ returns-in-Err-apply g c = record {
       (found-same (events_of_block height c.block-block.result) (rows c.args.state.now) (rows c.reserve.new.self) c.in-Ok-reserve.ensures.rows
       (subst (λ (x : Block). AllFit (events_of_block height x) (are_live (rows c.args.state.now))) (sym is) fit))
       (c.in-Err-apply.ensures.odd height above);
-  damage = λ damage same. in_log c.damage_at.result damage c.damage_at.ensures same;
+  damage = λ damage same. in_log c.damage_at.result damage c.damage_at.ensures.area same;
+  at_record = λ tells damage same. at-record c.args.tree.now.entries c.args.place c.damage_at.result damage c.damage_at.ensures.at same;
   cause = no_fault _ _ (c.in-Ok.ensures.cause.counts.unchanged (no_answer _ _)) (no_damage _);
   steps = tt;
   most = let one = c.in-Err-apply.ensures.steps in omega (arith, one);

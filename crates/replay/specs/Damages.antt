@@ -1,0 +1,9 @@
+-- Where a kept block is damaged.
+use Rattle.std.specs.Prelude.{◌≡◌, ℕ, List, IsSomeAnd}
+use Rattle.outside.specs.declared.disk.Damage.{Damage}
+use Rattle.chain_tree.specs.declared.entry.Entry.{Entry}
+use Rattle.chain_tree.specs.Entries.{entry_at}
+
+-- Damage at the record of the block at a place: where its bytes lie.
+abbrev pub IsAtRecord : List Entry → ℕ → Damage → Type 0
+IsAtRecord entries place damage = IsSomeAnd (entry_at entries place) (λ entry. damage.at ≡ entry.at)
