@@ -1,0 +1,20 @@
+-- What a move over a chain that has joined may suppose, in words.
+use Rattle.std.specs.Prelude.{◌≡◌, ℕ, List, map, take, Some}
+use Rattle.codec_defs.specs.Schema.{Block}
+use Rattle.chain_defs.specs.Kept.{block_at, parent_place}
+use Rattle.chain_tree.specs.Told.{Stored, blocks_of}
+use Rattle.ext_defs.specs.Fits.{FitsExt}
+use Rattle.block_defs.specs.Ext.{ext_of}
+use Rattle.verdict_defs.specs.Chain.{Chain}
+use Rattle.store_defs.specs.Store.{AreJoined}
+use Rattle.reorg.specs.Moves.{EachCanBeTakenBack}
+
+-- The own ext of each block behind the genesis fits its bytes.
+abbrev pub OwnExtsFit : Chain → Type 0
+OwnExtsFit chain = (place parent : ℕ) (b : Block) → block_at chain.blocks place ≡ Some b → parent_place chain.blocks place ≡ Some parent
+    → FitsExt (ext_of chain.spec (take place chain.blocks) parent b)
+
+-- Law: where a chain has joined, its own exts stand beside its blocks and fit their bytes, each block that has a parent can be taken back.
+abbrev pub JoinedCanBeTakenBack : Type 0
+JoinedCanBeTakenBack = (chain : Chain) (stored : List Stored) → blocks_of stored ≡ chain.blocks → AreJoined chain (map (λ it. it.ext) stored) → OwnExtsFit chain
+    → EachCanBeTakenBack stored
