@@ -1,4 +1,4 @@
--- What a block of a generated chain holds. It depends on its height alone, so that both sides of a fork are one text. Capacities are in shannons.
+-- What a block of a generated chain holds beside its parent, its nonce and its time: it depends on its height alone, on both sides of a fork. Capacities are in shannons.
 use Rattle.std.specs.Prelude.{ℕ, zero, suc, ◌+◌, ◌-◌, ◌*◌, ◌%◌, pos, Bool, ◌&&◌, ◌==◌, nat_le, List, [], ◌∷◌, unwrap_or, map, if◌then◌else◌}
 use Rattle.codec_defs.specs.Shape.{encoded}
 use Rattle.codec_defs.specs.Schema.{OutPoint, CellOutput, cellbase_witness, Transaction}

@@ -23,7 +23,8 @@ pub fn field_laws()
     ensures { FieldsAreNext }
 {}
 
-/// States that the reward of a height is what the rules give to its block, on a branch whose hashes differ. It does nothing.
+/// States that the reward of a height is what the rules give to its block, on a branch that has the fields of its heights and
+/// pays its transfers, which is a premise. It does nothing.
 pub fn reward_laws()
     ensures { PaysWhatIsGiven }
 {}

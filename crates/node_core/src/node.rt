@@ -1,5 +1,5 @@
 // A node: the kept blocks of a store, in memory and on their disk.
-ghost use Rattle.std.specs.Prelude.{◌≡◌, ◌≢◌, ◌⊎◌, ◌<◌, ◌≤◌, ◌+◌, ◌^◌, ◌++◌, ◌∷◌, [], ℕ, false, Err, List, Some, length, drop, slice_index, IfOk, IfErr, OnOk, OnErr, IfSome, IsTrue, pos};
+ghost use Rattle.std.specs.Prelude.{◌≡◌, ◌≢◌, ◌⊎◌, ◌<◌, ◌≤◌, ◌+◌, ◌^◌, ◌++◌, ◌∷◌, [], ℕ, false, Err, List, Some, length, drop, slice_index, IfOk, IsOk, IfErr, OnOk, OnErr, IfSome, IsTrue, pos};
 ghost use Rattle.outside.specs.Causes.{CountsFault};
 ghost use Rattle.outside.specs.Disk.{HasOneImage, OthersRead, LeavesOnly, IsOnlyRead};
 ghost use Rattle.outside.specs.Image.{Image};
@@ -297,6 +297,7 @@ impl Node {
     pub fn header(&mut self, height: u64) -> Result<Option<HeaderAt>, ReadStop>
         ensures same { self.new ≡ self.old }
         ensures header { IfOk result (IsHeaderAt self.old.chain.blocks height) }
+        ensures always { IsOk result }
         ensures undamaged { (damage : Damage) → result ≡ Err (Damaged damage) → ⊥ }
         ensures reads { result ≢ Err DiskFault }
     {
@@ -336,6 +337,7 @@ impl Node {
             → (damage : Damage) → result ≡ Err (Damaged damage) → ⊥ }
         ensures damage { (damage : Damage) → result ≡ Err (Damaged damage) → damage.area ≡ log_area }
         ensures reads { result ≢ Err DiskFault }
+        ensures memory { result ≢ Err ReadStop.NoMemory }
     {
         self.kept.counted(capacity, occupied, made, deposit)
     }

@@ -1,5 +1,5 @@
 // What queries ask of the kept blocks and of the live cells of the tip.
-ghost use Rattle.std.specs.Prelude.{◌≡◌, ◌≢◌, ◌≤◌, ◌<◌, ◌+◌, List, length, None, Some, Err, IfOk, IfSome, IsSome, pos};
+ghost use Rattle.std.specs.Prelude.{◌≡◌, ◌≢◌, ◌≤◌, ◌<◌, ◌+◌, List, length, None, Some, Err, IfOk, IsOk, IfSome, IsSome, pos};
 ghost use Rattle.std.specs.Option.{option_and_then};
 ghost use Rattle.codec_defs.specs.Shape.{encoded};
 ghost use Rattle.codec_defs.specs.Schema as schema;
@@ -125,6 +125,7 @@ impl Kept {
     pub(crate) fn header(&mut self, height: u64) -> Result<Option<HeaderAt>, ReadStop>
         ensures same { self.new ≡ self.old }
         ensures header { IfOk result (IsHeaderAt self.old.chain.blocks height) }
+        ensures always { IsOk result }
         ensures undamaged { (damage : a_damage) → result ≡ Err (Damaged damage) → ⊥ }
         ensures reads { result ≢ Err DiskFault }
     {
@@ -192,6 +193,7 @@ impl Kept {
             → (damage : a_damage) → result ≡ Err (Damaged damage) → ⊥ }
         ensures damage { (damage : a_damage) → result ≡ Err (Damaged damage) → damage.area ≡ Log }
         ensures reads { result ≢ Err DiskFault }
+        ensures memory { result ≢ Err ReadStop.NoMemory }
     {
         if occupied > capacity {
             return Err(damaged());

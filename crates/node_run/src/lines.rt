@@ -241,7 +241,7 @@ pub fn withdrawing_line(
     }
 }
 
-/// The line of a live cell that is neither.
+/// The line of a live cell that is neither a deposit nor a withdrawing cell that names one.
 pub fn not_dao_line(alloc: Global) -> Result<String, AllocError>
     ensures { IfOk result (λ line. string_bytes line ≡ text.not_dao_line) }
 {

@@ -18,7 +18,7 @@ use report_defs::{End, Standalone, Status};
 use rv_text::{AssemblyStop, assemble, elf_file};
 use std::alloc::Global;
 
-/// What is said of a file: bytes, which may be no text, and the status behind them.
+/// What is said of a file: bytes, which may be no text, and the status of the run.
 #[derive(Drop)]
 struct FileAnswer {
     bytes: Vec<u8>,
