@@ -1,7 +1,7 @@
 -- What queries are told of a node's chain.
 use Rattle.std.specs.Prelude.{◌≡◌, ℕ, List, Option, Some, None}
-use Rattle.codec_defs.specs.Shape.{encoded}
-use Rattle.codec_defs.specs.Schema.{OutPoint, Block, header}
+use Rattle.codec_defs.specs.Shape.{encoded, IsA}
+use Rattle.codec_defs.specs.Schema.{OutPoint, Block, block, header}
 use Rattle.chain_defs.specs.Kept.{block_at, block_hash}
 use Rattle.chain_defs.specs.Tip.{tip_place, best_branch}
 use Rattle.cell_defs.specs.Cell.{Cell}
@@ -29,6 +29,11 @@ abbrev pub IsHeaderAt : List Block → ℕ → Option HeaderValue → Type 0
 IsHeaderAt kept height None = block_at (best_branch kept) height ≡ None
 IsHeaderAt kept height (Some told) =
     (b : Block) × (block_at (best_branch kept) height ≡ Some b) × (told.hash ≡ block_hash b) × (told.bytes ≡ encoded header b.header)
+
+-- what is told of the block there: its encoding
+abbrev pub IsBlockAt : List Block → ℕ → Option (List ℕ) → Type 0
+IsBlockAt kept height None = block_at (best_branch kept) height ≡ None
+IsBlockAt kept height (Some bytes) = (b : Block) × (block_at (best_branch kept) height ≡ Some b) × IsA block bytes b
 
 -- A cell is live with an out-point on the best branch, and this is its row there.
 pub record IsLiveRow (kept : List Block) (o : OutPoint) (cell : Cell) (row : Row) : Type 0 where

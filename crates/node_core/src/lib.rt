@@ -3,7 +3,7 @@
 //! [`Node`] is the contract of use. Its clauses see a `Chain` of `verdict_defs`, and where the records of its log end:
 //! `open` answers the chain that a store keeps; `import` answers the verdict on an item, and where it joins keeps it and
 //! puts its record on the disk, so that at each moment a crash leaves the chain before the item or after it; `check` judges
-//! a transaction alone; `tip`, `tree` and `state` tell what is kept, and `header`, `live`, `fetch` and
+//! a transaction alone; `tip`, `tree` and `state` tell what is kept, and `header`, `block`, `live`, `fetch` and
 //! `counted` what queries ask of the best branch. [`judge`] accepts a specification and a genesis, and
 //! [`NewStore`] makes a store of them. The kept blocks in memory are apart from the disk, in kept.rt. By which rules a
 //! block is judged is left to `block_judge`, how records lie in the log to `log_file`, what an item is cut from, and the

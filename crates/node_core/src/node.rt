@@ -1,5 +1,6 @@
 // A node: the kept blocks of a store, in memory and on their disk.
 ghost use Rattle.std.specs.Prelude.{◌≡◌, ◌≢◌, ◌⊎◌, ◌<◌, ◌≤◌, ◌+◌, ◌^◌, ◌++◌, ◌∷◌, [], ℕ, false, Err, List, Some, length, drop, slice_index, IfOk, IsOk, IfErr, OnOk, OnErr, IfSome, IsTrue, pos};
+ghost use Rattle.std.specs.Option.{option_map};
 ghost use Rattle.outside.specs.Causes.{CountsFault};
 ghost use Rattle.outside.specs.Disk.{HasOneImage, OthersRead, LeavesOnly, IsOnlyRead};
 ghost use Rattle.outside.specs.Image.{Image};
@@ -32,7 +33,7 @@ ghost use Rattle.log_file.specs.Pieces.{behind_gate, block_record};
 ghost use Rattle.node_core.specs.Node.{IsOn, IsLeftByOpening, IsLeftByImport, IsSettledAfter};
 ghost use Rattle.node_core.specs.Steps.{replays_for, replays_to_open};
 ghost use Rattle.node_core.specs.Judging.{IsReadyItem, IsDecided};
-ghost use Rattle.node_core.specs.Queries.{IsHeaderAt, IsLiveCell, IsFetched};
+ghost use Rattle.node_core.specs.Queries.{IsHeaderAt, IsBlockAt, IsLiveCell, IsFetched};
 ghost use Rattle.node_core.specs.declared.deciding.Decision.TheVariants.{Joins};
 
 use crate::area::sync_snapshots;
@@ -302,6 +303,16 @@ impl Node {
         ensures reads { result ≢ Err DiskFault }
     {
         self.kept.header(height)
+    }
+
+    /// The bytes of the block at a height of the best branch.
+    pub fn block(&mut self, alloc: Global, height: u64) -> Result<Option<Vec<u8>>, ReadStop>
+        ensures same { self.new ≡ self.old }
+        ensures block { IfOk result (λ found. IsBlockAt self.old.chain.blocks height (option_map (λ bytes. bytes.items) found)) }
+        ensures undamaged { (damage : Damage) → result ≡ Err (Damaged damage) → ⊥ }
+        ensures reads { result ≢ Err DiskFault }
+    {
+        self.kept.block(alloc, height)
     }
 
     /// The live cell with an out-point.

@@ -1,6 +1,6 @@
 // What queries ask of the kept blocks and of the live cells of the tip.
 ghost use Rattle.std.specs.Prelude.{◌≡◌, ◌≢◌, ◌≤◌, ◌<◌, ◌+◌, List, length, None, Some, Err, IfOk, IsOk, IfSome, IsSome, pos};
-ghost use Rattle.std.specs.Option.{option_and_then};
+ghost use Rattle.std.specs.Option.{option_map, option_and_then};
 ghost use Rattle.codec_defs.specs.Shape.{encoded};
 ghost use Rattle.codec_defs.specs.Schema as schema;
 ghost use Rattle.codec_defs.specs.Schema.{Block};
@@ -11,7 +11,7 @@ ghost use Rattle.tx_defs.specs.Capacity.{rate_of};
 ghost use Rattle.outside.specs.declared.disk.Area.TheVariants.{Log};
 ghost use Rattle.outside.specs.declared.disk.Damage.{Damage as a_damage};
 ghost use Rattle.outside.specs.declared.disk.ReadStop.TheVariants.{DiskFault, Damaged};
-ghost use Rattle.node_core.specs.Queries.{IsHeaderAt, IsLiveCell, IsFetched};
+ghost use Rattle.node_core.specs.Queries.{IsHeaderAt, IsBlockAt, IsLiveCell, IsFetched};
 
 use crate::kept::Kept;
 use cell_model::{CellMeta, Cells, OutPoint, Resolved, fetch};
@@ -140,6 +140,26 @@ impl Kept {
             hash: self.tree.entry(place).hash,
             bytes: header_of(&self.blocks.block()),
         }))
+    }
+
+    /// The bytes of the block at a height of the best branch.
+    pub(crate) fn block(&mut self, alloc: Global, height: u64) -> Result<Option<Vec<u8>>, ReadStop>
+        ensures same { self.new ≡ self.old }
+        ensures block { IfOk result (λ found. IsBlockAt self.old.chain.blocks height (option_map (λ bytes. bytes.items) found)) }
+        ensures undamaged { (damage : a_damage) → result ≡ Err (Damaged damage) → ⊥ }
+        ensures reads { result ≢ Err DiskFault }
+    {
+        let Some(place) = self.place_at(height) else {
+            return Ok(None);
+        };
+        match self.blocks.bring(place) {
+            Ok(()) => {}
+            Err(stop) => return Err(stop),
+        }
+        let Ok(bytes) = self.blocks.block().bytes().to_vec(alloc) else {
+            return Err(ReadStop::NoMemory);
+        };
+        Ok(Some(bytes))
     }
 
     /// The live cell with an out-point.
