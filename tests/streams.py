@@ -30,7 +30,8 @@ BAD_WORDS = [
     ['any', 'exec', '01'], ['any', 'exec', '-1'], ['any', 'exec', '+1'], ['any', 'exec', '0x1'],
     ['any', 'exec', '1 '], ['any', 'exec', '1099511627777'], ['any', 'exec', '5', '6'],
     ['asm'], ['', 'asm'], ['any', 'asm', ''], ['any', 'Asm'], ['any', 'dis', '0'], ['any', 'diss'],
-    ['any', 'unjson', '0'], ['any', 'json'],
+    ['any', 'unjson', '0'], ['any', 'json'], ['any', 'json', '07'], ['any', 'json', '18446744073709551616'],
+    ['any', 'json', '0', '0'], ['any', 'Json', '0'], ['json', '0'], ['', 'json', '0'],
     [b'\xff', 'import'], ['any', b'\xff'],
 ]
 

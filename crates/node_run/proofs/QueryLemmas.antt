@@ -1,9 +1,12 @@
 -- What queries find: the epoch of the tip, and what a live cell is to the DAO.
-use Rattle.std.proofs.Common.{◌≡◌, ℕ, ◌<◌, Bool, true, false, cond, List, [], length, Option, Some, None, refl, sym, ap, ◌∙◌, arith}
+use Rattle.std.proofs.Common.{◌≡◌, ℕ, ◌<◌, Bool, true, false, cond, List, [], length, Option, Some, None, Vec, Global, refl, sym, ap, ◌∙◌, subst, arith}
 use Rattle.std.specs.Prelude.{nat_lt, ◌&&◌, if◌then◌else◌, IsTrue, IsSome}
 use Rattle.std.proofs.lemmas.Bool.{ltb-true}
 use Rattle.std.proofs.lemmas.Option.{slice_get_within}
-use Rattle.codec_defs.specs.Schema.{Script, Block}
+use Rattle.std.specs.Option.{option_map}
+use Rattle.codec_defs.specs.Shape.{IsA}
+use Rattle.codec_defs.specs.Schema.{Script, Block, block}
+use Rattle.chain_defs.specs.Kept.{block_at}
 use Rattle.time_defs.specs.Specification.{Specification}
 use Rattle.chain_defs.specs.Branch.{branch}
 use Rattle.chain_defs.specs.Tip.{tip_place, best_branch}
@@ -15,12 +18,28 @@ use Rattle.tx_defs.specs.Withdrawals.{is_dao_script, is_withdrawing, has_withdra
 use Rattle.verdict_defs.specs.Chain.{Chain}
 use Rattle.store_defs.specs.Store.{IsJoined}
 use Rattle.joined_laws.proofs.TypedLaws.{typed-cells-hold-their-own}
+use Rattle.node_core.specs.Queries.{IsBlockAt}
 use Rattle.report_defs.specs.declared.dao.DaoState.{DaoState}
 use Rattle.report_defs.specs.declared.dao.DaoState.TheVariants.{NotDao, Deposit, Withdrawing}
 use Rattle.time_defs.specs.Epochs.{epoch_number, epoch_index}
 use Rattle.report_defs.specs.Text.{epoch_line}
 use Rattle.report_defs.specs.Queries.{epoch_of, dao_state, is_deposit, has_deposit_data, height_in}
 use Rattle.node_run.specs.Queries.{IsLiveIn}
+
+-- ---- The block at a height
+
+-- a block that was found, by its bytes
+pub block-found : (kept : List Block) (height : ℕ) (found : Option (Vec ℕ Global)) (v : Vec ℕ Global) (bytes : List ℕ) → found ≡ Some v → bytes ≡ v.items
+    → IsBlockAt kept height (option_map (λ (v : Vec ℕ Global). v.items) found) → (b : Block) × (block_at (best_branch kept) height ≡ Some b) × IsA block bytes b
+block-found kept height found v bytes is same there =
+    subst (λ (bytes : List ℕ). IsBlockAt kept height (Some bytes)) (sym same)
+    (subst (λ (found : Option (Vec ℕ Global)). IsBlockAt kept height (option_map (λ (v : Vec ℕ Global). v.items) found)) is there)
+
+-- and none
+pub none-found : (kept : List Block) (height : ℕ) (found : Option (Vec ℕ Global)) → found ≡ None
+    → IsBlockAt kept height (option_map (λ (v : Vec ℕ Global). v.items) found) → block_at (best_branch kept) height ≡ None
+none-found kept height found is there =
+    subst (λ (found : Option (Vec ℕ Global)). IsBlockAt kept height (option_map (λ (v : Vec ℕ Global). v.items) found)) is there
 
 -- ---- The epoch of the tip
 

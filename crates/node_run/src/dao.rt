@@ -33,8 +33,8 @@ use std::alloc::{AllocError, Global};
 const BY_TYPE: u8 = 1;
 
 /// The line of what the live cell with an out-point counts.
-pub fn dao(alloc: Global, node: &mut Node, tx_hash: [u8; 32], index: u64) -> Result<String, Status>
-    ensures text { IsJoined node.old.chain → IfOk result (λ text. string_bytes text ≡ reports.answer_to_query (queries.Dao tx_hash index) node.old.chain) }
+pub fn dao(alloc: Global, node: &mut Node, tx_hash: [u8; 32], index: u64) -> Result<Vec<u8>, Status>
+    ensures text { IsJoined node.old.chain → IfOk result (λ text. text.items ≡ reports.answer_to_query (queries.Dao tx_hash index) node.old.chain) }
     ensures stop { (status : Status) → result ≡ Err status → IsOneOf finding_stops status }
     ensures sound { IsJoined node.old.chain → result ≡ Err Status.NotAStore → ⊥ }
 {
@@ -69,9 +69,9 @@ fn fetch_cell(
 }
 
 /// The line of a live cell.
-fn line_of(alloc: Global, node: &Node, found: &Fetched) -> Result<String, Status>
+fn line_of(alloc: Global, node: &Node, found: &Fetched) -> Result<Vec<u8>, Status>
     ensures text { (cell : Cell) → IsJoined node.now.chain → IsLiveIn node.now.chain cell → IsCopied cell found.now
-        → IfOk result (λ text. string_bytes text ≡ answers.dao_line node.now.chain.spec (best_branch node.now.chain.blocks) cell) }
+        → IfOk result (λ text. text.items ≡ answers.dao_line node.now.chain.spec (best_branch node.now.chain.blocks) cell) }
     ensures stop { (status : Status) → result ≡ Err status → IsOneOf finding_stops status }
     ensures sound { (cell : Cell) → IsJoined node.now.chain → IsLiveIn node.now.chain cell → IsCopied cell found.now → result ≡ Err Status.NotAStore → ⊥ }
 {

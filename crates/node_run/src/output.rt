@@ -29,16 +29,25 @@ pub fn write_text<K: Sink>(out: &mut K, text: &[u8]) -> Result<(), Status>
     }
 }
 
+/// Writes bytes, and answers this status.
+pub fn tell_bytes<K: Sink>(out: &mut K, bytes: &[u8], status: Status) -> Status
+    requires { status ≡ Status.SinkFault → ⊥ }
+    ensures told { Took (K.taken out.old) (K.taken out.new) (IsToldAnswer bytes.now status result) }
+    ensures faults { CountsFault (K.faults out.old) (K.faults out.new) (result ≡ Status.SinkFault) }
+{
+    match write_text(out, bytes) {
+        Ok(()) => status,
+        Err(stop) => stop,
+    }
+}
+
 /// Writes an answer's text, and answers its status.
 pub fn tell<K: Sink>(out: &mut K, answer: &Answer) -> Status
     requires { answer.now.status ≡ Status.SinkFault → ⊥ }
     ensures told { Took (K.taken out.old) (K.taken out.new) (IsToldAnswer (string_bytes answer.now.text) answer.now.status result) }
     ensures faults { CountsFault (K.faults out.old) (K.faults out.new) (result ≡ Status.SinkFault) }
 {
-    match write_text(out, answer.text.as_bytes()) {
-        Ok(()) => answer.status,
-        Err(status) => status,
-    }
+    tell_bytes(out, answer.text.as_bytes(), answer.status)
 }
 
 /// The status of an input whose reading ends so, which is another's where it ends between two items.

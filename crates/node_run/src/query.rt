@@ -1,5 +1,7 @@
 // Queries: the store is asked, and nothing is read.
 ghost use Rattle.std.specs.Prelude.{◌≡◌, ◌≢◌, ◌+◌, ◌≤◌, slice_index, ◌∷◌, List, ℕ, Option, Err, Some, None, [], IfOk, string_bytes, nat_lt, if◌then◌else◌};
+ghost use Rattle.codec_defs.specs.Shape.{IsA};
+ghost use Rattle.codec_defs.specs.Schema as schema;
 ghost use Rattle.codec_defs.specs.Schema.{Block};
 ghost use Rattle.chain_defs.specs.Kept.{block_at};
 ghost use Rattle.chain_defs.specs.Tip.{best_branch};
@@ -11,7 +13,7 @@ ghost use Rattle.outside.specs.Disk.{IsOnlyRead};
 ghost use Rattle.verdict_defs.specs.Chain.{Chain};
 ghost use Rattle.outside.specs.Image.{Image};
 ghost use Rattle.report_defs.specs.Report as reports;
-ghost use Rattle.report_defs.specs.Queries.{header_of, cell_of, cell_at_tip, index_bound};
+ghost use Rattle.report_defs.specs.Queries.{header_of, json_of, cell_of, cell_at_tip, index_bound};
 ghost use Rattle.report_defs.specs.declared.command.Query.TheVariants as queries;
 ghost use Rattle.report_defs.specs.Status.{IsOneOf};
 ghost use Rattle.report_defs.specs.Promise.{query_statuses};
@@ -25,25 +27,28 @@ ghost use Rattle.node_run.specs.Store.{Delivers, IsQueryTold, finding_stops};
 
 use crate::dao::dao;
 use crate::lines::{epoch_line, header_line, live_line, none_line, tip_line};
-use crate::output::{Answer, tell};
+use crate::output::tell_bytes;
 use crate::store::{open, status_of_reading};
 use cell_model::OutPoint;
 use epochs::epoch_of;
+use json_blocks::to_json;
+use mol_schema::BlockView;
 use node_core::{HeaderAt, Live, Node};
-use outside::{Disk, Sink, Steps};
+use outside::{Disk, NoMemory, Sink, Steps};
 use report_defs::{Query, Status};
 use std::alloc::{AllocError, Global};
 use std::sync::ledger::Ledger;
 
 /// Finds what a query answers over the kept blocks. Each query has a function of its own.
-fn answer_to(alloc: Global, node: &mut Node, query: Query) -> Result<String, Status>
-    ensures text { IsJoined node.old.chain → IfOk result (λ text. string_bytes text ≡ reports.answer_to_query query node.old.chain) }
+fn answer_to(alloc: Global, node: &mut Node, query: Query) -> Result<Vec<u8>, Status>
+    ensures text { IsJoined node.old.chain → IfOk result (λ text. text.items ≡ reports.answer_to_query query node.old.chain) }
     ensures stop { (status : Status) → result ≡ Err status → IsOneOf finding_stops status }
     ensures sound { IsJoined node.old.chain → result ≡ Err Status.NotAStore → ⊥ }
 {
     match query {
         Query::Tip => tip(alloc, node),
         Query::Header { height } => header(alloc, node, height),
+        Query::Json { height } => json(alloc, node, height),
         Query::Epoch => epoch(alloc, node),
         Query::Cell { tx_hash, index } => cell(alloc, node, tx_hash, index),
         Query::Dao { tx_hash, index } => dao(alloc, node, tx_hash, index),
@@ -51,28 +56,28 @@ fn answer_to(alloc: Global, node: &mut Node, query: Query) -> Result<String, Sta
 }
 
 /// The line of the tip.
-fn tip(alloc: Global, node: &Node) -> Result<String, Status>
-    ensures text { IfOk result (λ text. string_bytes text ≡ reports.answer_to_query Query.Tip node.now.chain) }
+fn tip(alloc: Global, node: &Node) -> Result<Vec<u8>, Status>
+    ensures text { IfOk result (λ text. text.items ≡ reports.answer_to_query Query.Tip node.now.chain) }
     ensures memory { (status : Status) → result ≡ Err status → status ≡ Status.NoMemory }
 {
     let tip = node.tip();
     line_or_stop(tip_line(alloc, tip.number, &tip.hash))
 }
 
-/// A line, or that memory ran out.
-pub fn line_or_stop(line: Result<String, AllocError>) -> Result<String, Status>
-    ensures text { (bytes : List ℕ) → IfOk line (λ text. string_bytes text ≡ bytes) → IfOk result (λ text. string_bytes text ≡ bytes) }
+/// The bytes of a line, or that memory ran out.
+pub fn line_or_stop(line: Result<String, AllocError>) -> Result<Vec<u8>, Status>
+    ensures text { (bytes : List ℕ) → IfOk line (λ text. string_bytes text ≡ bytes) → IfOk result (λ text. text.items ≡ bytes) }
     ensures memory { (status : Status) → result ≡ Err status → status ≡ Status.NoMemory }
 {
     match line {
-        Ok(line) => Ok(line),
+        Ok(line) => Ok(line.into_bytes()),
         Err(_) => Err(Status::NoMemory),
     }
 }
 
 /// The line of the header at a height of the best branch.
-fn header(alloc: Global, node: &mut Node, height: u64) -> Result<String, Status>
-    ensures text { IfOk result (λ text. string_bytes text ≡ reports.answer_to_query (queries.Header height) node.old.chain) }
+fn header(alloc: Global, node: &mut Node, height: u64) -> Result<Vec<u8>, Status>
+    ensures text { IfOk result (λ text. text.items ≡ reports.answer_to_query (queries.Header height) node.old.chain) }
     ensures stop { (status : Status) → result ≡ Err status → IsOneOf finding_stops status }
     ensures sound { result ≡ Err Status.NotAStore → ⊥ }
 {
@@ -98,9 +103,39 @@ fn header_line_of(
     }
 }
 
+/// The line of the block at a height of the best branch, as JSON.
+fn json(alloc: Global, node: &mut Node, height: u64) -> Result<Vec<u8>, Status>
+    ensures text { IfOk result (λ text. text.items ≡ reports.answer_to_query (queries.Json height) node.old.chain) }
+    ensures stop { (status : Status) → result ≡ Err status → IsOneOf finding_stops status }
+    ensures sound { result ≡ Err Status.NotAStore → ⊥ }
+{
+    let found = match node.block(alloc, height) {
+        Ok(found) => found,
+        Err(stop) => return Err(status_of_reading(stop)),
+    };
+    let bytes = match found {
+        None => return line_or_stop(none_line(alloc)),
+        Some(bytes) => bytes,
+    };
+    let Ok(line) = json_line(alloc, &bytes) else {
+        return Err(Status::NoMemory);
+    };
+    Ok(line)
+}
+
+/// The line of a block in JSON.
+fn json_line(alloc: Global, bytes: &[u8]) -> Result<Vec<u8>, NoMemory>
+    requires { (b : Block) × IsA schema.block bytes.now b }
+    ensures { (b : Block) → IsA schema.block bytes.now b → IfOk result (λ line. line.items ≡ json_of (Some b)) }
+{
+    let mut line = to_json(alloc, &BlockView::from_encoding(bytes))?;
+    line.push(b'\n')?;
+    Ok(line)
+}
+
 /// The line of the epoch of the tip.
-fn epoch(alloc: Global, node: &Node) -> Result<String, Status>
-    ensures text { IfOk result (λ text. string_bytes text ≡ reports.answer_to_query queries.Epoch node.now.chain) }
+fn epoch(alloc: Global, node: &Node) -> Result<Vec<u8>, Status>
+    ensures text { IfOk result (λ text. text.items ≡ reports.answer_to_query queries.Epoch node.now.chain) }
     ensures memory { (status : Status) → result ≡ Err status → status ≡ Status.NoMemory }
 {
     let epoch = epoch_of(node.spec().epoch_length, node.tip().number);
@@ -119,8 +154,8 @@ pub fn out_point(tx_hash: [u8; 32], index: u64) -> Option<OutPoint>
 }
 
 /// The line of the live cell with an out-point.
-fn cell(alloc: Global, node: &Node, tx_hash: [u8; 32], index: u64) -> Result<String, Status>
-    ensures text { IfOk result (λ text. string_bytes text ≡ reports.answer_to_query (queries.Cell tx_hash index) node.now.chain) }
+fn cell(alloc: Global, node: &Node, tx_hash: [u8; 32], index: u64) -> Result<Vec<u8>, Status>
+    ensures text { IfOk result (λ text. text.items ≡ reports.answer_to_query (queries.Cell tx_hash index) node.now.chain) }
     ensures memory { (status : Status) → result ≡ Err status → status ≡ Status.NoMemory }
 {
     let found = find_cell(node, tx_hash, index);
@@ -158,11 +193,7 @@ fn find_and_tell<K: Sink>(alloc: Global, out: &mut K, node: &mut Node, query: Qu
         Ok(text) => text,
         Err(status) => return status,
     };
-    let answer = Answer {
-        text,
-        status: Status::Done,
-    };
-    tell(out, &answer)
+    tell_bytes(out, &text, Status::Done)
 }
 
 /// Asks the store.

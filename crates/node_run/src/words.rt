@@ -85,6 +85,9 @@ fn command_with(name: &[u8], argument: &str) -> Option<Command>
     if name == b"header".as_slice() {
         return header_command(argument);
     }
+    if name == b"json".as_slice() {
+        return json_command(argument);
+    }
     None
 }
 
@@ -105,6 +108,15 @@ fn header_command(argument: &str) -> Option<Command>
 {
     let height = number_of(argument)?;
     Some(Command::Query(Query::Header { height }))
+}
+
+/// `json` and a height.
+fn json_command(argument: &str) -> Option<Command>
+    ensures command { result ≡ option_map (λ height. commands.Query (queries.Json height)) (grammar.number_up_to grammar.number_limit argument.now) }
+    ensures within { IfSome result IsWithinLimit }
+{
+    let height = number_of(argument)?;
+    Some(Command::Query(Query::Json { height }))
 }
 
 /// The command of this name that takes an out-point in two arguments.

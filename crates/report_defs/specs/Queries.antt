@@ -1,5 +1,5 @@
 -- What queries tell of a chain: each is answered from the best branch, genesis to tip (docs/COMMANDS.md).
-use Rattle.std.specs.Prelude.{ℕ, ◌-◌, ◌^◌, Bool, ◌&&◌, ◌==◌, nat_lt, List, [], length, Option, Some, None, pos, if◌then◌else◌}
+use Rattle.std.specs.Prelude.{ℕ, ◌-◌, ◌^◌, Bool, ◌&&◌, ◌==◌, nat_lt, List, [], ◌++◌, length, Option, Some, None, pos, if◌then◌else◌}
 use Rattle.std.specs.Option.{option_map}
 use Rattle.std.specs.List.{list_all}
 use Rattle.std.specs.Int.{w64, from_le_bytes}
@@ -18,7 +18,8 @@ use Rattle.tx_defs.specs.Capacity.{withdrawn}
 use Rattle.verdict_defs.specs.Chain.{Chain}
 use Rattle.report_defs.specs.declared.dao.DaoState.{DaoState}
 use Rattle.report_defs.specs.declared.dao.DaoState.TheVariants.{NotDao, Deposit, Withdrawing}
-use Rattle.report_defs.specs.Text.{header_line, epoch_line, cell_line, deposit_line, withdrawing_line, none_line, overflow_line, not_dao_line}
+use Rattle.json_defs.specs.Blocks as json
+use Rattle.report_defs.specs.Text.{line_feed, header_line, epoch_line, cell_line, deposit_line, withdrawing_line, none_line, overflow_line, not_dao_line}
 
 -- ---- `header`
 
@@ -30,6 +31,17 @@ header_of height (Some block) = header_line height (block_hash block) (encoded h
 -- The header at a height of the best branch.
 abbrev pub header_answer : ℕ → Chain → List ℕ
 header_answer height chain = header_of height (block_at (best_branch chain.blocks) height)
+
+-- ---- `json`
+
+-- a block at this height, where there is one: its compact text, as one line
+abbrev pub json_of : Option Block → List ℕ
+json_of None = none_line
+json_of (Some block) = json.text_of json.block block ++ line_feed
+
+-- The block at a height of the best branch, as JSON.
+abbrev pub json_answer : ℕ → Chain → List ℕ
+json_answer height chain = json_of (block_at (best_branch chain.blocks) height)
 
 -- ---- `epoch`
 

@@ -23,7 +23,7 @@ use Rattle.json_defs.specs.Laws.{IsReadAs}
 use Rattle.report_defs.specs.declared.command.Command.{Command}
 use Rattle.report_defs.specs.declared.command.Command.TheVariants.{Init, Import, Query, Question, Standalone}
 use Rattle.report_defs.specs.declared.command.Query as queries
-use Rattle.report_defs.specs.declared.command.Query.TheVariants.{Tip, Header, Epoch, Cell, Dao}
+use Rattle.report_defs.specs.declared.command.Query.TheVariants.{Tip, Header, Json, Epoch, Cell, Dao}
 use Rattle.report_defs.specs.declared.command.Question as questions
 use Rattle.report_defs.specs.declared.command.Question.TheVariants.{Check}
 use Rattle.report_defs.specs.declared.command.Standalone as files
@@ -34,7 +34,7 @@ use Rattle.report_defs.specs.declared.status.Status.{Status}
 use Rattle.report_defs.specs.declared.status.Status.TheVariants.{Done, SomeRefused, BadWords, NotAStore, CutInput, BadSize as BadSizeStatus, StoreThere, BadGenesis, ExtraInput}
 use Rattle.report_defs.specs.Items.{Limits, Split, split_of, end_offset, whole_limits, end_of_whole}
 use Rattle.report_defs.specs.Text.{line, trial_line, tip_line, genesis_line, bad_spec_line, bad_genesis_line, cut_line, bad_size_line, extra_line, execution_line, bad_line, bad_json}
-use Rattle.report_defs.specs.Queries.{header_answer, epoch_answer, cell_answer, dao_answer}
+use Rattle.report_defs.specs.Queries.{header_answer, json_answer, epoch_answer, cell_answer, dao_answer}
 
 pub record Report : Type 0 where
   -- a line for each item that is answered
@@ -159,6 +159,7 @@ report_of_import chain split = record {
 abbrev pub answer_to_query : queries.Query → Chain → List ℕ
 answer_to_query Tip chain = tip_line (tip chain.blocks)
 answer_to_query (Header height) chain = header_answer height chain
+answer_to_query (Json height) chain = json_answer height chain
 answer_to_query Epoch chain = epoch_answer chain
 answer_to_query (Cell tx_hash index) chain = cell_answer tx_hash index chain
 answer_to_query (Dao tx_hash index) chain = dao_answer tx_hash index chain

@@ -9,7 +9,7 @@ use Rattle.hex.specs.declared.error.FromHexError.{FromHexError}
 use Rattle.report_defs.specs.Text.{hash_text}
 use Rattle.report_defs.specs.declared.command.Command.{Command}
 use Rattle.report_defs.specs.declared.command.Command.TheVariants.{Init, Import, Query, Question, Standalone}
-use Rattle.report_defs.specs.declared.command.Query.TheVariants.{Tip, Header, Epoch, Cell, Dao}
+use Rattle.report_defs.specs.declared.command.Query.TheVariants.{Tip, Header, Json, Epoch, Cell, Dao}
 use Rattle.report_defs.specs.declared.command.Question.TheVariants.{Check}
 use Rattle.report_defs.specs.declared.command.Standalone.TheVariants.{Exec, Asm, Dis, Unjson}
 
@@ -67,6 +67,7 @@ abbrev pub command_with : List ℕ → List ℕ → Option Command
 command_with name argument =
     if bytes_eq name (codes "exec") then option_map (λ budget. Standalone (Exec budget)) (number_up_to budget_limit argument)
     else if bytes_eq name (codes "header") then option_map (λ height. Query (Header height)) (number_up_to number_limit argument)
+    else if bytes_eq name (codes "json") then option_map (λ height. Query (Json height)) (number_up_to number_limit argument)
     else None
 
 -- an out-point of two words: the hash of a transaction, and an index

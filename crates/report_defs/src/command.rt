@@ -20,6 +20,8 @@ pub enum Query {
     Tip,
     /// `header`: the header of the block at a height of the best branch is told.
     Header { height: u64 },
+    /// `json`: the block at a height of the best branch is told as JSON.
+    Json { height: u64 },
     /// `epoch`: the epoch of the tip is told.
     Epoch,
     /// `cell`: the live cell with an out-point is told.

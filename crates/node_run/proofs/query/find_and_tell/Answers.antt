@@ -1,5 +1,5 @@
-use Rattle.std.proofs.Common.{[], ◌∷◌, inl, refl, ap}
-use Rattle.std.specs.Prelude.{Err, string_bytes}
+use Rattle.std.proofs.Common.{[], ◌∷◌, inl, refl, ap, ◌∙◌}
+use Rattle.std.specs.Prelude.{Err}
 use Rattle.outside.proofs.Endings.{no_fault}
 use Rattle.outside.proofs.Streams.{takes_none}
 use Rattle.report_defs.specs.declared.status.Status.TheVariants.{Done, SinkFault, DiskFault}
@@ -30,19 +30,19 @@ pub returns-in-Err-clause-faults : goal.returns-in-Err-clause-faults
 returns-in-Err-clause-faults g c = no_fault _ _ refl (lacks finding_stops SinkFault refl c.in-Err.status (c.in-Err.ensures.stop c.in-Err.status refl))
 
 pub returns-clause-told : goal.returns-clause-told
-returns-clause-told g c = let told = c.tell.ensures.told in (
+returns-clause-told g c = let told = c.tell_bytes.ensures.told in (
   told.0,
   told.1,
-  λ joined left. query_told c.args.query c.args.node.now.chain left told.0 (string_bytes c.in-Ok.text) c.tell.result (c.in-Ok.ensures.text joined) told.2,
+  λ joined left. query_told c.args.query c.args.node.now.chain left told.0 c.deref.result.now c.tell_bytes.result (c.deref.ensures.value ∙ c.in-Ok.ensures.text joined) told.2,
 )
 
 pub returns-clause-status : goal.returns-clause-status
 returns-clause-status g c =
-    let told = c.tell.ensures.told in
-    statuses.query_told c.tell.result (told_one (Done ∷ []) (string_bytes c.in-Ok.text) Done c.tell.result told.0 (inl refl) told.2)
+    let told = c.tell_bytes.ensures.told in
+    statuses.query_told c.tell_bytes.result (told_one (Done ∷ []) c.deref.result.now Done c.tell_bytes.result told.0 (inl refl) told.2)
 
 pub returns-clause-disk : goal.returns-clause-disk
 returns-clause-disk g c = λ e.
-    let told = c.tell.ensures.told in
-    lacks (SinkFault ∷ Done ∷ []) DiskFault refl c.tell.result
-    (told_one (Done ∷ []) (string_bytes c.in-Ok.text) Done c.tell.result told.0 (inl refl) told.2) e
+    let told = c.tell_bytes.ensures.told in
+    lacks (SinkFault ∷ Done ∷ []) DiskFault refl c.tell_bytes.result
+    (told_one (Done ∷ []) c.deref.result.now Done c.tell_bytes.result told.0 (inl refl) told.2) e
