@@ -10,21 +10,25 @@ processor time of each for one text, and the ratio: for a block of many small
 transactions, and for one whose bytes are nearly all in one witness. Where the
 ratio of the first is above --most, the status is 1.
 
-Then the program reads texts of 4 and 16 MiB. Four times the bytes are to take
+Then the program reads texts of 4 and 16 MiB: blocks of one witness, and lists of
+one number again and again, which are no blocks. Four times the bytes are to take
 at most five times the processor time above that of no row, and five times the
 peak of resident memory; else the status is 1. The process that starts the
 program is smaller than either peak.
 """
 
 import argparse
-import json
 import os
 import subprocess
 import sys
 import time
 
 sys.dont_write_bytecode = True
-PROGRAM = os.path.join(os.path.dirname(os.path.abspath(__file__)), '..', 'crates', 'format_vectors', 'out', 'format_vectors')
+TOP = os.path.dirname(os.path.dirname(os.path.abspath(__file__)))
+sys.path.append(os.path.join(TOP, 'examples'))
+from block_json import of_block  # noqa: E402
+
+PROGRAM = os.path.join(TOP, 'crates', 'format_vectors', 'out', 'format_vectors')
 SIZE, OFTEN = 597000, 40
 RUNNER = ('import resource, subprocess, sys\n'
           'p = subprocess.run(sys.argv[1:])\n'
@@ -35,10 +39,6 @@ RUNNER = ('import resource, subprocess, sys\n'
 
 def le(n, width):
     return n.to_bytes(width, 'little')
-
-
-def number(b):
-    return int.from_bytes(b, 'little')
 
 
 # ------------------------------------------------------------------ encoding
@@ -83,74 +83,6 @@ def plain(size):
     return block([transaction(0, bytes(i % 256 for i in range(rest)))])
 
 
-# ------------------------------------------------------------------ the baseline
-
-def parts(b):
-    if len(b) == 4:
-        return []
-    first = number(b[4:8])
-    offsets = [number(b[i:i + 4]) for i in range(4, first, 4)] + [len(b)]
-    return [b[s:e] for s, e in zip(offsets, offsets[1:])]
-
-
-def items(b, size):
-    return [b[4 + i * size:4 + (i + 1) * size] for i in range(number(b[:4]))]
-
-
-def text(b):
-    return '0x' + b.hex()
-
-
-def of_number(b):
-    return hex(number(b))
-
-
-def script(b):
-    code_hash, hash_type, args = parts(b)
-    return {'args': text(args[4:]), 'code_hash': text(code_hash), 'hash_type': {0: 'data', 1: 'type'}.get(hash_type[0]) or text(hash_type)}
-
-
-def out_point(b):
-    return {'index': of_number(b[32:36]), 'tx_hash': text(b[:32])}
-
-
-def output(b):
-    capacity, lock, type_script = parts(b)
-    return {'capacity': of_number(capacity), 'lock': script(lock), 'type': script(type_script) if type_script else None}
-
-
-def of_transaction(b):
-    raw, witnesses = parts(b)
-    version, deps, header_deps, inputs, outputs, data = parts(raw)
-    return {
-        'cell_deps': [{'dep_type': {0: 'code', 1: 'dep_group'}.get(d[36]) or text(d[36:]), 'out_point': out_point(d[:36])} for d in items(deps, 37)],
-        'header_deps': [text(h) for h in items(header_deps, 32)],
-        'inputs': [{'previous_output': out_point(i[8:]), 'since': of_number(i[:8])} for i in items(inputs, 44)],
-        'outputs': [output(o) for o in parts(outputs)],
-        'outputs_data': [text(d[4:]) for d in parts(data)],
-        'version': of_number(version),
-        'witnesses': [text(w[4:]) for w in parts(witnesses)],
-    }
-
-
-def header(b):
-    return {
-        'compact_target': of_number(b[4:8]), 'dao': text(b[160:192]), 'epoch': of_number(b[24:32]), 'nonce': of_number(b[192:208]),
-        'number': of_number(b[16:24]), 'parent_hash': text(b[32:64]), 'proposals_hash': text(b[96:128]), 'timestamp': of_number(b[8:16]),
-        'transactions_root': text(b[64:96]), 'uncles_hash': text(b[128:160]), 'version': of_number(b[:4]),
-    }
-
-
-def of_block(b):
-    head, uncles, transactions, proposals = parts(b)
-    return json.dumps({
-        'header': header(head),
-        'proposals': [text(p) for p in items(proposals, 10)],
-        'transactions': [of_transaction(t) for t in parts(transactions)],
-        'uncles': [{'header': header(parts(u)[0]), 'proposals': [text(p) for p in items(parts(u)[1], 10)]} for u in parts(uncles)],
-    }, separators=(',', ':'))
-
-
 # ------------------------------------------------------------------ the program
 
 def run(rows):
@@ -177,14 +109,32 @@ def text_ratio(name, b):
     return min(ours) / min(theirs)
 
 
-def reading(mib):
-    """The time above that of no row, and the peak, for a text of so many MiB."""
+def witness_row(mib):
+    """A text of so many MiB of which nearly all is one witness, and its block."""
     b = plain((mib << 19) - 1200)
-    row = 'unjson\t%s\t%s\n' % (of_block(b).encode().hex(), b.hex())
+    return 'unjson\t%s\t%s\n' % (of_block(b).encode().hex(), b.hex())
+
+
+def token_row(mib):
+    """A text of so many MiB that is one list of the number 0, which is no block."""
+    return 'unjson\t%s\tbad\n' % (b'[' + b'0,' * ((mib << 19) - 1) + b'0]').hex()
+
+
+def reading(name, row_of, mib):
+    """The time above that of no row, and the peak, for a text of so many MiB."""
+    row = row_of(mib)
     seconds, peak = min(run([row]) for _ in range(3))
     seconds -= run([])[0]
-    print('a text of %2d MiB: %.3f s, peak %.1f MiB' % (mib, seconds, peak / 2 ** 20))
+    print('%-17s a text of %2d MiB: %.3f s, peak %.1f MiB' % (name, mib, seconds, peak / 2 ** 20))
     return seconds, peak
+
+
+def growth(name, row_of):
+    """The most of how many times the time, and the memory, a text of four times the bytes takes."""
+    small, large = reading(name, row_of, 4), reading(name, row_of, 16)
+    times = [y / x for x, y in zip(small, large)]
+    print('%-17s four times the bytes: %.2f times the time, %.2f times the memory' % (name, *times))
+    return max(times)
 
 
 def main():
@@ -193,10 +143,8 @@ def main():
     a = a.parse_args()
     ratio = text_ratio('many transactions', busy())
     text_ratio('one witness', plain(SIZE))
-    small, large = reading(4), reading(16)
-    growth = [y / x for x, y in zip(small, large)]
-    print('four times the bytes: %.2f times the time, %.2f times the memory' % tuple(growth))
-    sys.exit(1 if ratio > a.most or max(growth) > 5 else 0)
+    most = max(growth('one witness', witness_row), growth('many numbers', token_row))
+    sys.exit(1 if ratio > a.most or most > 5 else 0)
 
 
 main()

@@ -1,0 +1,91 @@
+#!/usr/bin/env python3
+"""A block as JSON, from its bytes, in plain Python (docs/FORMATS.md, "Blocks as JSON").
+
+    python3 examples/block_json.py < BLOCK > TEXT
+
+writes the text with a line for each key, as genesis.json beside this file; as a
+module it gives the compact text, which the program is compared with. It owes
+nothing to the program.
+"""
+
+import json
+import sys
+
+
+def number(b):
+    return int.from_bytes(b, 'little')
+
+
+def parts(b):
+    if len(b) == 4:
+        return []
+    first = number(b[4:8])
+    offsets = [number(b[i:i + 4]) for i in range(4, first, 4)] + [len(b)]
+    return [b[s:e] for s, e in zip(offsets, offsets[1:])]
+
+
+def items(b, size):
+    return [b[4 + i * size:4 + (i + 1) * size] for i in range(number(b[:4]))]
+
+
+def text(b):
+    return '0x' + b.hex()
+
+
+def of_number(b):
+    return hex(number(b))
+
+
+def script(b):
+    code_hash, hash_type, args = parts(b)
+    return {'args': text(args[4:]), 'code_hash': text(code_hash), 'hash_type': {0: 'data', 1: 'type'}.get(hash_type[0]) or text(hash_type)}
+
+
+def out_point(b):
+    return {'index': of_number(b[32:36]), 'tx_hash': text(b[:32])}
+
+
+def output(b):
+    capacity, lock, type_script = parts(b)
+    return {'capacity': of_number(capacity), 'lock': script(lock), 'type': script(type_script) if type_script else None}
+
+
+def of_transaction(b):
+    raw, witnesses = parts(b)
+    version, deps, header_deps, inputs, outputs, data = parts(raw)
+    return {
+        'cell_deps': [{'dep_type': {0: 'code', 1: 'dep_group'}.get(d[36]) or text(d[36:]), 'out_point': out_point(d[:36])} for d in items(deps, 37)],
+        'header_deps': [text(h) for h in items(header_deps, 32)],
+        'inputs': [{'previous_output': out_point(i[8:]), 'since': of_number(i[:8])} for i in items(inputs, 44)],
+        'outputs': [output(o) for o in parts(outputs)],
+        'outputs_data': [text(d[4:]) for d in parts(data)],
+        'version': of_number(version),
+        'witnesses': [text(w[4:]) for w in parts(witnesses)],
+    }
+
+
+def header(b):
+    return {
+        'compact_target': of_number(b[4:8]), 'dao': text(b[160:192]), 'epoch': of_number(b[24:32]), 'nonce': of_number(b[192:208]),
+        'number': of_number(b[16:24]), 'parent_hash': text(b[32:64]), 'proposals_hash': text(b[96:128]), 'timestamp': of_number(b[8:16]),
+        'transactions_root': text(b[64:96]), 'uncles_hash': text(b[128:160]), 'version': of_number(b[:4]),
+    }
+
+
+def tree_of(b):
+    head, uncles, transactions, proposals = parts(b)
+    return {
+        'header': header(head),
+        'proposals': [text(p) for p in items(proposals, 10)],
+        'transactions': [of_transaction(t) for t in parts(transactions)],
+        'uncles': [{'header': header(parts(u)[0]), 'proposals': [text(p) for p in items(parts(u)[1], 10)]} for u in parts(uncles)],
+    }
+
+
+def of_block(b):
+    """The compact text."""
+    return json.dumps(tree_of(b), separators=(',', ':'))
+
+
+if __name__ == '__main__':
+    print(json.dumps(tree_of(sys.stdin.buffer.read()), indent=2))
