@@ -3,7 +3,6 @@
 
     python3 examples/make_first_blocks.py
         spec.bin            the specification
-        genesis.bin         the genesis
         first-blocks.bin    an input of `import`: six items on that genesis
         first-blocks.txt    the lines that they must be answered with
 
@@ -134,8 +133,7 @@ def input_and_text(items):
 
 def main():
     given, text = input_and_text(first_blocks()[0])
-    for name, content in (('spec.bin', SPEC.item()), ('genesis.bin', GENESIS.item()),
-                          ('first-blocks.bin', given), ('first-blocks.txt', text)):
+    for name, content in (('spec.bin', SPEC.item()), ('first-blocks.bin', given), ('first-blocks.txt', text)):
         store.write(os.path.join(HERE, name), content)
 
 

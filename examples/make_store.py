@@ -5,10 +5,10 @@
     ./ckbdev FOLDER init < store.bin
 
 Each option sets a field of the specification or of the genesis; without one the
-chain is that of spec.bin and genesis.bin beside this file, which --samples
-writes anew. The genesis has one transaction. Its first output keeps a program
-that exits with 0, whose hash is the lock of all outputs: anyone may spend them.
-Its second output has 10,000,000 CKB. Each --output adds another.
+chain is that of spec.bin and genesis.bin beside this file. The genesis has one
+transaction. Its first output keeps a program that exits with 0, whose hash is
+the lock of all outputs: anyone may spend them. Its second output has 10,000,000
+CKB. Each --output adds another.
 
 What is written keeps S1 to S7 and G1 to G7 (docs/RULES.md), or this script
 says which of them does not allow it. It owes nothing to the program: the
@@ -229,7 +229,6 @@ def arguments():
     p.add_argument('--timestamp', type=number, default=1000, help='of the genesis, in milliseconds')
     p.add_argument('--output', nargs=2, action='append', default=[], metavar=('CAPACITY', 'HEX'),
                    help='adds a cell of so many shannons with this data, as --output 4300000000 0a0b')
-    p.add_argument('--samples', action='store_true', help='writes spec.bin and genesis.bin beside this script')
     return p, p.parse_args()
 
 
@@ -260,10 +259,7 @@ def main():
         spec, first = made_of(a)
     except (ValueError, OverflowError) as error:
         p.error(str(error))
-    if a.samples:
-        write(os.path.join(HERE, 'spec.bin'), spec)
-        write(os.path.join(HERE, 'genesis.bin'), first)
-    elif sys.stdout.isatty():
+    if sys.stdout.isatty():
         p.error('the bytes go to a file or a pipe')
     else:
         sys.stdout.buffer.write(spec + first)

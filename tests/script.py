@@ -1,6 +1,7 @@
 """The script that builds and runs the program, and what the README shows."""
 
 import fcntl
+import json
 import os
 import re
 import shutil
@@ -9,6 +10,7 @@ import subprocess
 import sys
 import time
 
+import block_json
 import script_scene as scene
 from harness import (CONTRACT_INIT, CONTRACT_LINE, FIRST_INIT, FIRST_LINE, SCRIPT, SECONDS, TOP, Ran, chain_of,
                      contract, first, line_of, must, must_answer, must_be, must_have_tip, new_folder, new_store,
@@ -347,7 +349,8 @@ def check_script_takes_the_build_of_the_gate(_):
 
 def check_examples(_):
     """examples/ has what its scripts make, and they make what they say."""
-    files = {'spec.bin': first.SPEC.item(), 'genesis.bin': first.GENESIS.item()}
+    files = {'spec.bin': first.SPEC.item(), 'genesis.bin': first.GENESIS.item(),
+             'genesis.json': json.dumps(block_json.tree_of(first.GENESIS.item()), indent=2).encode() + b'\n'}
     for name, items in (('first-blocks', first.first_blocks()[0]), ('contract-chain', contract.contract_chain()[0]),
                         ('transfer', [contract.transfer()]), ('refused', [contract.refused()])):
         files[name + '.bin'], files[name + '.txt'] = first.input_and_text(items)
@@ -368,6 +371,31 @@ def check_examples(_):
     with new_folder() as folder:
         ran = Ran([SCRIPT, folder, 'init'], given)
         must_answer(ran, 0, b'genesis 0x%s\n' % first.store.ckbhash(given[120:328]).hex().encode(), repr(words))
+
+
+def check_documents(_):
+    """What docs/ shows of JSON is what comes."""
+    text = block_json.of_block(first.GENESIS.item())
+    header = text[:text.index('},"proposals"') + 1]
+    shown = [
+        ('FORMATS.md', './ckbdev chain json 0 | cut -c 1-%d' % len(header), header + '\n'),
+        ('COMMANDS.md', './ckbdev chain json 0 > block.json', ''),
+        ('COMMANDS.md', './ckbdev chain unjson < block.json | cmp - examples/genesis.bin', ''),
+        ('COMMANDS.md', './ckbdev chain json 3', 'none\n'),
+    ]
+    with new_folder() as away:
+        os.mkdir(os.path.join(away, 'chain'))
+        for name in ('ckbdev', 'examples'):
+            os.symlink(os.path.join(TOP, name), os.path.join(away, name))
+        must_answer(Ran([SCRIPT, 'chain', 'init'], FIRST_INIT, cwd=away), 0, FIRST_LINE, 'init')
+        given, text = first.input_and_text(first.first_blocks()[0])
+        must_answer(Ran([SCRIPT, 'chain', 'import'], given, cwd=away), 1, text, 'import')
+        for name, line, wanted in shown:
+            with open(os.path.join(TOP, 'docs', name), encoding='utf-8') as f:
+                document = f.read()
+            lines = [line.removeprefix('./')] + wanted.splitlines()
+            must(''.join('    %s\n' % it for it in lines) in document, 'docs/%s does not show %s with what it prints' % (name, line))
+            must_answer(Ran(['sh', '-c', line], cwd=away), 0, wanted.encode(), line)
 
 
 def live_line(cell, height):
@@ -399,6 +427,13 @@ def check_readme(_):
         ('./ckbdev chain import < examples/first-blocks.bin', 1, text),
         ('./ckbdev chain tip', 0, (first.tip(tip) + '\n').encode()),
     ]
+    own = first.changed(first.GENESIS, timestamp=1767225600000)
+    of_own_chain = [
+        ('./ckbdev chain json 0 | sed \'s/"timestamp":"0x3e8"/"timestamp":"0x19b76daa800"/\' > own.json', 0, b''),
+        ('./ckbdev chain unjson < own.json > own.bin', 0, b''),
+        ('cat examples/spec.bin own.bin | ./ckbdev own init', 0, (first.genesis_line(own) + '\n').encode()),
+        ('./ckbdev own json 1', 0, b'none\n'),
+    ]
     of_program = [
         ('./ckbdev chain exec 1000000 < examples/primes.elf', 0, b'exit 25 8337\n'),
         ('tail -c +177 examples/primes.elf | head -c 64 | ./ckbdev chain dis | tail -n 5', 0,
@@ -419,12 +454,12 @@ def check_readme(_):
         ('./ckbdev contract check < examples/refused.bin', 1, (contract.refused()[1] + '\n').encode()),
     ]
     with new_folder() as away:
-        for folder in ('chain', 'contract'):
+        for folder in ('chain', 'own', 'contract'):
             must('mkdir %s\n' % folder in readme, 'the README does not make the folder %s' % folder)
             os.mkdir(os.path.join(away, folder))
         for name in ('ckbdev', 'examples'):
             os.symlink(os.path.join(TOP, name), os.path.join(away, name))
-        for line, status, wanted in of_chain + of_contract + of_program:
+        for line, status, wanted in of_chain + of_own_chain + of_contract + of_program:
             must('\n%s\n%s' % (line, wanted.decode()) in readme, 'the README does not show %s with what it prints' % line)
             must_answer(Ran(['sh', '-c', line], cwd=away), status, wanted, line)
         ran = Ran(['sh', os.path.join(TOP, 'examples', 'first-chain.sh'), 'new'], cwd=away)
