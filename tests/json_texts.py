@@ -4,20 +4,11 @@ import json
 import os
 
 import block_json
-from harness import (CONTRACT_INIT, CONTRACT_LINE, FIRST_INIT, FIRST_LINE, TOP, Chain, Ran, chaingen, contract, first,
-                     must, must_answer, must_be, new_store)
+from harness import (CONTRACT_INIT, CONTRACT_LINE, FIRST_INIT, FIRST_LINE, TOP, Ran, chaingen, contract, first, must_answer,
+                     must_be, new_store)
 
 MAX_NUMBER = 2 ** 64 - 1
 TEXT_LIMIT = 1 << 24
-
-
-def items_in(given):
-    """The items of an input of `import`."""
-    at = 0
-    while at < len(given):
-        size = int.from_bytes(given[at:at + 4], 'little')
-        yield given[at:at + size]
-        at += size
 
 
 def parent_of(block):
@@ -49,15 +40,14 @@ def must_come_back(program, block, what):
     """`unjson` of a block's text is the block: of the line of `json`, and of a text with spaces and line feeds."""
     must_answer(Ran([program, '/no/such/folder', 'unjson'], line_of(block)), 0, block, 'unjson of ' + what)
     spread = json.dumps(block_json.tree_of(block), indent=1).encode()
-    must_answer(Ran([program, '/no/such/folder', 'unjson'], spread, True), 0, block, 'unjson of %s, spread' % what)
+    must_answer(Ran([program, '/no/such/folder', 'unjson'], spread), 0, block, 'unjson of %s, spread' % what)
 
 
 def must_tell_branch(program, folder, branch, what):
-    """`json` tells each block of the best branch, and none above it. `unjson` makes the block of that line."""
+    """`json` tells each block of the best branch, and none above it."""
     for height, block in enumerate(branch):
         told = Ran([program, folder, 'json', str(height)])
         must_answer(told, 0, line_of(block), '%s: json %d' % (what, height))
-        must_come_back(program, block, '%s, block %d' % (what, height))
     for height in (len(branch), len(branch) + 1, MAX_NUMBER):
         must_answer(Ran([program, folder, 'json', str(height)]), 0, b'none\n', '%s: json %d' % (what, height))
 
@@ -75,7 +65,9 @@ def check_json_of_the_samples(program):
         with new_store(program, init, line) as folder:
             must_tell_branch(program, folder, [genesis], what + ' at its beginning')
             must_answer(Ran([program, folder, 'import'], given), 1, text, what)
-            must_tell_branch(program, folder, branch_of([genesis, *items_in(given)], hash_of(tip.item())), what)
+            kept = [item for item, line in items if line.startswith('joined')]
+            must_tell_branch(program, folder, branch_of([genesis, *kept], hash_of(tip.item())), what)
+        must_come_back(program, genesis, what + ', its genesis')
         for item, line in items:
             if not line.endswith(' J1'):
                 must_come_back(program, item, '%s, an item that is answered %s' % (what, line))
@@ -92,7 +84,7 @@ def check_json_of_generated_chains(program):
             for part in (before, after):
                 must_be(Ran([program, folder, 'import'], b''.join(part)).status, 0, what)
             must_tell_branch(program, folder, branch_of([genesis, *blocks], kept[tip][1]), what)
-        for block in blocks:
+        for block in (genesis, *blocks):
             must_come_back(program, block, what)
 
 
