@@ -1,0 +1,25 @@
+-- What of canonical values fits the bytes of a row, in words.
+use Rattle.std.specs.Prelude.{◌≡◌, ℕ, ◌^◌, ◌<◌, List, length, Some, slice_get, IsTrue}
+use Rattle.codec_defs.specs.Schema.{Block, block, Transaction, CellInput, OutPoint}
+use Rattle.hash_defs.specs.CkbHash.{ckbhash}
+use Rattle.cell_defs.specs.Cell.{Cell}
+use Rattle.cell_defs.specs.Row.{row_of, IsOutputOf}
+use Rattle.ext_defs.specs.Fits.{FitsRow}
+
+-- A block is one of the schema: some bytes encode it.
+abbrev pub IsCanonical : Block → Type 0
+IsCanonical b = IsTrue (block.encoding b).fits
+
+-- Law: a hash has 32 bytes.
+abbrev pub HashesHave32 : Type 0
+HashesHave32 = (message : List ℕ) → length (ckbhash message) ≡ 32
+
+-- Law: an output of a canonical block, with an out-point that fits, has a row that fits, where the place of the block does.
+abbrev pub RowsOfOutputsFit : Type 0
+RowsOfOutputsFit = (b : Block) (place : ℕ) (o : OutPoint) (cell : Cell) → IsCanonical b → place < 2 ^ 32 → length o.tx_hash ≡ 32 → o.index < 2 ^ 32
+    → IsOutputOf b o cell → FitsRow (o, row_of place cell)
+
+-- Law: so fits each out-point that an input of a canonical block names.
+abbrev pub InputsFit : Type 0
+InputsFit = (b : Block) (place index : ℕ) (t : Transaction) (input : CellInput) → IsCanonical b → slice_get b.transactions place ≡ Some t
+    → slice_get t.raw.inputs index ≡ Some input → (length input.previous_output.tx_hash ≡ 32) × (input.previous_output.index < 2 ^ 32)
