@@ -17,18 +17,18 @@ use Rattle.fork_laws.specs.Laws.{IsForkAt, AnyTwoForkOnce}
 
 -- a list that is not empty, as the places before the last and the last
 record HasLast (xs : List ℕ) : Type 0 where
-  front : List ℕ
+  before : List ℕ
   last : ℕ
-  is : xs ≡ front ++ last ∷ []
+  is : xs ≡ before ++ last ∷ []
 
 has-last : (x : ℕ) (xs : List ℕ) → HasLast (x ∷ xs)
-has-last x [] = record { front = []; last = x; is = refl }
+has-last x [] = record { before = []; last = x; is = refl }
 has-last x (y ∷ ys) =
     let rest = has-last y ys in
-    record { front = x ∷ rest.front; last = rest.last; is = ap (λ (l : List ℕ). x ∷ l) rest.is }
+    record { before = x ∷ rest.before; last = rest.last; is = ap (λ (l : List ℕ). x ∷ l) rest.is }
 
-same-front : (xs ys : List ℕ) (x y : ℕ) → xs ++ x ∷ [] ≡ ys ++ y ∷ [] → xs ≡ ys
-same-front xs ys x y same =
+same-before : (xs ys : List ℕ) (x y : ℕ) → xs ++ x ∷ [] ≡ ys ++ y ∷ [] → xs ≡ ys
+same-before xs ys x y same =
     let one = length_push xs x in
     let other = length_push ys y in
     let long : length (xs ++ x ∷ []) ≡ length (ys ++ y ∷ []) = ap length same in
@@ -37,7 +37,7 @@ same-front xs ys x y same =
 same-last : (xs ys : List ℕ) (x y : ℕ) → xs ++ x ∷ [] ≡ ys ++ y ∷ [] → x ≡ y
 same-last xs ys x y same =
     same_Some x y (sym (slice_get-push xs x) ∙ ap (λ (l : List ℕ). slice_get l (length xs)) same
-    ∙ ap (λ (l : List ℕ). slice_get (ys ++ y ∷ []) (length l)) (same-front xs ys x y same) ∙ slice_get-push ys y)
+    ∙ ap (λ (l : List ℕ). slice_get (ys ++ y ∷ []) (length l)) (same-before xs ys x y same) ∙ slice_get-push ys y)
 
 slice_get-after : (xs ys : List ℕ) (i : ℕ) → slice_get (xs ++ ys) (length xs + i) ≡ slice_get ys i
 slice_get-after [] ys i = ap (slice_get ys) (let at : 0 + i ≡ i = omega arith in at)
@@ -59,43 +59,43 @@ places-first : (kept : List Block) (place : ℕ) → parent_place kept place ≡
 unfolding branch_places
 places-first kept place is = ap (places_on place kept place) is
 
-ends : (kept : List Block) (place : ℕ) → (front : List ℕ) × (branch_places kept place ≡ front ++ place ∷ [])
+ends : (kept : List Block) (place : ℕ) → (before : List ℕ) × (branch_places kept place ≡ before ++ place ∷ [])
 ends kept place = by_parent (parent_place kept place) refl
   where
-    by_parent : (found : Option ℕ) → parent_place kept place ≡ found → (front : List ℕ) × (branch_places kept place ≡ front ++ place ∷ [])
+    by_parent : (found : Option ℕ) → parent_place kept place ≡ found → (before : List ℕ) × (branch_places kept place ≡ before ++ place ∷ [])
     by_parent None is = ([], places-first kept place is)
     by_parent (Some parent) is = (branch_places kept parent, places-step kept place parent is)
 
 -- The first places of a branch, up to one of them, are the branch of that one.
-first-places : (most : ℕ) (kept : List Block) (place : ℕ) (front : List ℕ) (last : ℕ) (later : List ℕ) → place < most
-    → branch_places kept place ≡ (front ++ last ∷ []) ++ later → branch_places kept last ≡ front ++ last ∷ []
-first-places zero kept place front last later few is = absurd (omega (arith, few))
-first-places (suc most) kept place front last [] few is =
+first-places : (most : ℕ) (kept : List Block) (place : ℕ) (before : List ℕ) (last : ℕ) (later : List ℕ) → place < most
+    → branch_places kept place ≡ (before ++ last ∷ []) ++ later → branch_places kept last ≡ before ++ last ∷ []
+first-places zero kept place before last later few is = absurd (omega (arith, few))
+first-places (suc most) kept place before last [] few is =
     let own = ends kept place in
-    let whole : branch_places kept place ≡ front ++ last ∷ [] = is ∙ append-nil (front ++ last ∷ []) in
-    let same : place ≡ last = same-last own.0 front place last (sym own.1 ∙ whole) in
+    let whole : branch_places kept place ≡ before ++ last ∷ [] = is ∙ append-nil (before ++ last ∷ []) in
+    let same : place ≡ last = same-last own.0 before place last (sym own.1 ∙ whole) in
     ap (branch_places kept) (sym same) ∙ whole
-first-places (suc most) kept place front last (next ∷ later) few is = by_parent (parent_place kept place) refl (first-places most kept)
+first-places (suc most) kept place before last (next ∷ later) few is = by_parent (parent_place kept place) refl (first-places most kept)
   where
     more : HasLast (next ∷ later)
     more = has-last next later
 
-    whole : branch_places kept place ≡ ((front ++ last ∷ []) ++ more.front) ++ more.last ∷ []
-    whole = is ∙ ap (λ (l : List ℕ). (front ++ last ∷ []) ++ l) more.is ∙ sym (append_assoc (front ++ last ∷ []) more.front (more.last ∷ []))
+    whole : branch_places kept place ≡ ((before ++ last ∷ []) ++ more.before) ++ more.last ∷ []
+    whole = is ∙ ap (λ (l : List ℕ). (before ++ last ∷ []) ++ l) more.is ∙ sym (append_assoc (before ++ last ∷ []) more.before (more.last ∷ []))
 
     by_parent : (found : Option ℕ) → parent_place kept place ≡ found
         → ((p : ℕ) (f : List ℕ) (l : ℕ) (rest : List ℕ) → p < most → branch_places kept p ≡ (f ++ l ∷ []) ++ rest → branch_places kept l ≡ f ++ l ∷ [])
-        → branch_places kept last ≡ front ++ last ∷ []
+        → branch_places kept last ≡ before ++ last ∷ []
     by_parent None alone rest =
         let one : length (branch_places kept place) ≡ 1 = ap length (places-first kept place alone) in
-        let two : length (branch_places kept place) ≡ length (front ++ last ∷ []) + length (next ∷ later) =
-        ap length is ∙ length-append (front ++ last ∷ []) (next ∷ later) in
-        let some = length_push front last in
+        let two : length (branch_places kept place) ≡ length (before ++ last ∷ []) + length (next ∷ later) =
+        ap length is ∙ length-append (before ++ last ∷ []) (next ∷ later) in
+        let some = length_push before last in
         absurd (omega (arith, one, two, some))
     by_parent (Some parent) on rest =
         let below : parent < place = parent_place-below kept place parent on in
-        rest parent front last more.front (omega (arith, below, few))
-        (same-front (branch_places kept parent) ((front ++ last ∷ []) ++ more.front) place more.last (sym (places-step kept place parent on) ∙ whole))
+        rest parent before last more.before (omega (arith, below, few))
+        (same-before (branch_places kept parent) ((before ++ last ∷ []) ++ more.before) place more.last (sym (places-step kept place parent on) ∙ whole))
 
 -- ---- It begins with the genesis
 
@@ -132,8 +132,8 @@ fork-there kept from to is_kept below there =
         (ap (λ (places : List ℕ). slice_get places 0) (sym fork.of_to) ∙ first-within (suc to) kept to is_kept (omega arith) there))
     by_common (x ∷ xs) only_from only_to fork =
         let end = has-last x xs in
-        let own : branch_places kept end.last ≡ end.front ++ end.last ∷ [] =
-        first-places (suc from) kept from end.front end.last only_from (omega arith) (fork.of_from ∙ ap (λ (l : List ℕ). l ++ only_from) end.is) in (
+        let own : branch_places kept end.last ≡ end.before ++ end.last ∷ [] =
+        first-places (suc from) kept from end.before end.last only_from (omega arith) (fork.of_from ∙ ap (λ (l : List ℕ). l ++ only_from) end.is) in (
           end.last,
           record {
             only_from = only_from;

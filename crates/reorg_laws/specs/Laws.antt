@@ -9,7 +9,7 @@ use Rattle.verdict_defs.specs.Chain.{Chain}
 use Rattle.store_defs.specs.Store.{AreJoined}
 use Rattle.reorg.specs.Moves.{EachCanBeTakenBack}
 
--- The own ext of each block behind the genesis fits its bytes.
+-- The own ext of each block after the genesis fits its bytes.
 abbrev pub OwnExtsFit : Chain → Type 0
 OwnExtsFit chain = (place parent : ℕ) (b : Block) → block_at chain.blocks place ≡ Some b → parent_place chain.blocks place ≡ Some parent
     → FitsExt (ext_of chain.spec (take place chain.blocks) parent b)
