@@ -71,7 +71,7 @@ FailsInPart step old new = (new ≡ old) ⊎ ((made : Step) × (new ≡ made ∷
 
 -- the record that the code keeps, oldest first
 abbrev pub step_of : Recorded → Step
-step_of (Write area at piece lost) = Wrote area at piece.items lost
+step_of (Write area at piece lost) = Wrote area at piece.value.items lost
 step_of (CutShort area len left) = Shortened area len left
 step_of (Sync area) = Synced area
 

@@ -7,12 +7,13 @@ use crate::areas::Areas;
 use outside::{Area, NoMemory};
 use std::alloc::Global;
 use std::marker::Model;
+use std::snapshot::Snapshot;
 
-/// A call that changed the areas.
+/// A call that changed the areas. What it wrote lies in them, and here for clauses alone.
 #[derive(Drop)]
 pub(crate) enum Recorded {
     /// Where it wrote, what, and how many bytes behind it that it did not come to.
-    Write(Area, u64, Vec<u8>, usize),
+    Write(Area, u64, Snapshot<Vec<u8>>, usize),
     /// The length that it cut to, and how many bytes behind it that it left.
     Cut(Area, u64, u64),
     Sync(Area),
@@ -67,10 +68,10 @@ impl History {
         ensures kept { OnErr result (self.new ≡ self.old) }
     {
         self.recorded.reserve(1)?;
-        let kept = piece.to_vec(self.alloc)?;
+        let written = Snapshot::of(&piece.to_vec(self.alloc)?);
         self.areas.write(area, at as usize, piece)?;
         self.recorded
-            .push_reserved(Recorded::Write(area, at, kept, lost));
+            .push_reserved(Recorded::Write(area, at, written, lost));
         Ok(())
     }
 

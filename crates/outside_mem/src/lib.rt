@@ -1,7 +1,7 @@
 //! Forms of `Source`, `Sink` and `Disk` in memory, which fail at the calls that they are told to, and `NoDisk`.
 //!
 //! They are for programs of vectors and for chains that are made in memory; what they say shows that what the traits
-//! of `outside` say can be met. The program `ckbdev` is built without them.
+//! of `outside` say can be met. Of the program's crates only `made_chain` uses them.
 #![tactic(auto)]
 
 mod areas;
