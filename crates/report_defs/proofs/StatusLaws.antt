@@ -11,7 +11,7 @@ use Rattle.time_defs.specs.Specification.{broken_specification_rule}
 use Rattle.genesis_defs.specs.Genesis.{broken_genesis_rule}
 use Rattle.store_defs.specs.Store.{Store, NoLog, NotALog, Keeps}
 use Rattle.report_defs.specs.declared.command.Command.{Command}
-use Rattle.report_defs.specs.declared.command.Command.TheVariants.{Init, Import, Query, Question, Standalone}
+use Rattle.report_defs.specs.declared.command.Command.TheVariants.{Init, Import, Query, Question, Standalone, Simulation}
 use Rattle.report_defs.specs.declared.command.Question as questions
 use Rattle.report_defs.specs.declared.command.Question.TheVariants.{Check}
 use Rattle.report_defs.specs.declared.command.Standalone as files
@@ -125,3 +125,4 @@ own-status (Some (Question Check)) input (Keeps chain) said is =
     let split = split_of (question_limits Check) input in
     told question_statuses said _ is (question-end (answer_to_question Check chain split.items) (end_offset split) (end_of_whole 1 split) (of-question Check chain split.items))
 own-status (Some (Standalone command)) input store said is = of-file command input said is
+own-status (Some (Simulation simulation)) input store said is = inl (ap (λ (r : Report). r.status) is)

@@ -3,6 +3,7 @@ pub mod Items
 pub mod Text
 pub mod Words
 pub mod Queries
+pub mod Simulation
 pub mod Report
 pub mod Promise
 pub mod Survival

@@ -7,7 +7,7 @@ use Rattle.outside.specs.Image.{Image}
 use Rattle.verdict_defs.specs.Chain.{Chain}
 use Rattle.store_defs.specs.Store.{Store, NoLog, NotALog, Keeps, store_of, StandsFor}
 use Rattle.report_defs.specs.declared.command.Command.{Command}
-use Rattle.report_defs.specs.declared.command.Command.TheVariants.{Init, Import, Query, Question, Standalone}
+use Rattle.report_defs.specs.declared.command.Command.TheVariants.{Init, Import, Query, Question, Standalone, Simulation}
 use Rattle.report_defs.specs.declared.command.Question as questions
 use Rattle.report_defs.specs.declared.command.Standalone as files
 use Rattle.report_defs.specs.declared.command.Standalone.TheVariants.{Exec, Asm, Dis, Unjson}
@@ -56,6 +56,10 @@ standalone_statuses Asm = refusing_statuses
 standalone_statuses Dis = answering_statuses
 standalone_statuses Unjson = refusing_statuses
 
+-- a simulation is told, or stopped
+abbrev pub simulation_statuses : List Status
+simulation_statuses = Done ∷ SinkFault ∷ NoMemory ∷ []
+
 abbrev pub statuses_of : Option Command → List Status
 statuses_of None = BadWords ∷ []
 statuses_of (Some Init) = init_statuses
@@ -63,6 +67,7 @@ statuses_of (Some Import) = import_statuses
 statuses_of (Some (Query query)) = query_statuses
 statuses_of (Some (Question question)) = question_statuses
 statuses_of (Some (Standalone command)) = standalone_statuses command
+statuses_of (Some (Simulation simulation)) = simulation_statuses
 
 -- The run was stopped, and not by the sink.
 abbrev pub IsStoppedBeforeTheSink : Status → Type 0
@@ -144,7 +149,7 @@ OverStore NoLog P given taken status = FindsNoStore given taken status
 OverStore NotALog P given taken status = FindsNoStore given taken status
 OverStore (Keeps chain) P given taken status = P chain
 
--- a query: nothing is read, and nothing written where the run was stopped before the sink
+-- a query or a simulation: nothing is read, and nothing written where the run was stopped before the sink
 pub record TellsInOrder (given taken : List ℕ) (status : Status) : Type 0 where
   pub unread : given ≡ []
   pub silent : IsStoppedBeforeTheSink status → taken ≡ []
@@ -180,6 +185,7 @@ Finds (Some Import) reads store = IsSoundStoreOf reads store
 Finds (Some (Query query)) reads store = IsSoundStoreOf reads store
 Finds (Some (Question question)) reads store = IsSoundStoreOf reads store
 Finds (Some (Standalone command)) reads store = Unit {0}
+Finds (Some (Simulation simulation)) reads store = Unit {0}
 
 -- By what the words ask for, over what stands in the folder.
 abbrev pub KeepsOrder : Option Command → Store → List ℕ → Option (List ℕ) → List ℕ → Status → Type 0
@@ -189,3 +195,4 @@ KeepsOrder (Some Import) store given left taken status = OverStore store (λ cha
 KeepsOrder (Some (Query query)) store given left taken status = OverStore store (λ chain. TellsInOrder given taken status) given taken status
 KeepsOrder (Some (Question question)) store given left taken status = OverStore store (λ chain. AnswersInOrder question given left taken status) given taken status
 KeepsOrder (Some (Standalone command)) store given left taken status = ReadsFileInOrder (file_limit command) given left taken status
+KeepsOrder (Some (Simulation simulation)) store given left taken status = TellsInOrder given taken status

@@ -21,20 +21,23 @@ use Rattle.text_defs.specs.Listing.{dis}
 use Rattle.json_defs.specs.Blocks as blocks
 use Rattle.json_defs.specs.Laws.{IsReadAs}
 use Rattle.report_defs.specs.declared.command.Command.{Command}
-use Rattle.report_defs.specs.declared.command.Command.TheVariants.{Init, Import, Query, Question, Standalone}
+use Rattle.report_defs.specs.declared.command.Command.TheVariants.{Init, Import, Query, Question, Standalone, Simulation}
 use Rattle.report_defs.specs.declared.command.Query as queries
 use Rattle.report_defs.specs.declared.command.Query.TheVariants.{Tip, Header, Json, Epoch, Cell, Dao}
 use Rattle.report_defs.specs.declared.command.Question as questions
 use Rattle.report_defs.specs.declared.command.Question.TheVariants.{Check}
 use Rattle.report_defs.specs.declared.command.Standalone as files
 use Rattle.report_defs.specs.declared.command.Standalone.TheVariants.{Exec, Asm, Dis, Unjson}
+use Rattle.report_defs.specs.declared.command.Simulation as simulations
+use Rattle.report_defs.specs.declared.command.Simulation.TheVariants.{Make}
 use Rattle.report_defs.specs.declared.end.End.{End}
 use Rattle.report_defs.specs.declared.end.End.TheVariants.{AtEnd, Cut, BadSize, Extra}
 use Rattle.report_defs.specs.declared.status.Status.{Status}
 use Rattle.report_defs.specs.declared.status.Status.TheVariants.{Done, SomeRefused, BadWords, NotAStore, CutInput, BadSize as BadSizeStatus, StoreThere, BadGenesis, ExtraInput}
 use Rattle.report_defs.specs.Items.{Limits, Split, split_of, end_offset, whole_limits, end_of_whole}
-use Rattle.report_defs.specs.Text.{line, trial_line, tip_line, genesis_line, bad_spec_line, bad_genesis_line, cut_line, bad_size_line, extra_line, execution_line, bad_line, bad_json}
+use Rattle.report_defs.specs.Text.{line, trial_line, tip_line, genesis_line, bad_spec_line, bad_genesis_line, cut_line, bad_size_line, extra_line, execution_line, bad_line, bad_json, made_line}
 use Rattle.report_defs.specs.Queries.{header_answer, json_answer, epoch_answer, cell_answer, dao_answer}
+use Rattle.report_defs.specs.Simulation.{generated_counts}
 
 pub record Report : Type 0 where
   -- a line for each item that is answered
@@ -226,6 +229,15 @@ IsReportOfFile command file said =
     ((file_limit command < length file) × (said ≡ report_without_lines (extra_line (file_limit command)) ExtraInput))
     ⊎ ((length file ≤ file_limit command) × IsAnswerToFile command file said)
 
+-- ---- Generated chains
+
+-- what is told of one that is put through a store in memory
+abbrev pub answer_to_simulation : simulations.Simulation → List ℕ
+answer_to_simulation (Make seed count) = made_line count (generated_counts seed count)
+
+abbrev pub report_of_simulation : simulations.Simulation → Report
+report_of_simulation simulation = report_without_lines (answer_to_simulation simulation) Done
+
 -- ---- A run
 
 -- The report by what the words ask for, the input, and what stands in the folder. There is at most one.
@@ -236,3 +248,4 @@ IsReport (Some Import) input store said = said ≡ report_over store (λ chain. 
 IsReport (Some (Query query)) input store said = said ≡ report_over store (report_of_query query)
 IsReport (Some (Question question)) input store said = said ≡ report_over store (λ chain. report_of_question question chain (split_of (question_limits question) input))
 IsReport (Some (Standalone command)) input store said = IsReportOfFile command input said
+IsReport (Some (Simulation simulation)) input store said = said ≡ report_of_simulation simulation

@@ -9,7 +9,7 @@ use Rattle.verdict_defs.specs.Verdict.{joins}
 use Rattle.verdict_defs.specs.Chain.{Chain, chain_of_genesis, chain_after, chain_over, verdict_over}
 use Rattle.store_defs.specs.Store.{Store, Keeps, store_of, StandsFor, IsSound, new_image}
 use Rattle.report_defs.specs.declared.command.Command.{Command}
-use Rattle.report_defs.specs.declared.command.Command.TheVariants.{Init, Import, Query, Question, Standalone}
+use Rattle.report_defs.specs.declared.command.Command.TheVariants.{Init, Import, Query, Question, Standalone, Simulation}
 use Rattle.report_defs.specs.declared.status.Status.{Status}
 use Rattle.report_defs.specs.declared.status.Status.TheVariants.{Done, SomeRefused, InputFault, DiskFault, NoMemory, CutInput, BadSize, StoreThere, BadGenesis, ExtraInput}
 use Rattle.report_defs.specs.Status.{IsOneOf}
@@ -27,6 +27,7 @@ items_of (Some Import) given = (split_of import_limits given).items
 items_of (Some (Query query)) given = []
 items_of (Some (Question question)) given = []
 items_of (Some (Standalone command)) given = []
+items_of (Some (Simulation simulation)) given = []
 
 -- What was taken agrees with a text: it is a front of it, or goes on behind it.
 abbrev pub Agrees : List ℕ → List ℕ → Type 0
@@ -82,6 +83,7 @@ Answers (Some Import) kept given taken = Unit {0}
 Answers (Some (Query query)) kept given taken = taken ≡ answer_to_query query kept
 Answers (Some (Question question)) kept given taken = taken ≡ text_of (report_of_question question kept (split_of (question_limits question) given))
 Answers (Some (Standalone command)) kept given taken = Unit {0}
+Answers (Some (Simulation simulation)) kept given taken = Unit {0}
 
 -- What a run may leave of what was kept before it: it added what joined of a prefix of its items, and a query or a question that is done answered
 -- over what was kept.
@@ -149,6 +151,7 @@ KeepsDisk (Some Import) now at_start at_exit meanwhile given taken status =
 KeepsDisk (Some (Query query)) now at_start at_exit meanwhile given taken status = KeepsItems [] now at_start at_exit meanwhile taken status
 KeepsDisk (Some (Question question)) now at_start at_exit meanwhile given taken status = KeepsItems [] now at_start at_exit meanwhile taken status
 KeepsDisk (Some (Standalone command)) now at_start at_exit meanwhile given taken status = Unit {0}
+KeepsDisk (Some (Simulation simulation)) now at_start at_exit meanwhile given taken status = Unit {0}
 
 -- Where each image at the start may be left by a past, each image at the exit may be left by that past and this run.
 abbrev pub Survives : Option Command → (Image → Type 0) → (Image → Type 0) → List ℕ → List ℕ → Status → Type 0
@@ -184,6 +187,7 @@ as_before (Some Import) = []
 as_before (Some (Query query)) = []
 as_before (Some (Question question)) = []
 as_before (Some (Standalone command)) = []
+as_before (Some (Simulation simulation)) = []
 
 -- those that do not look at the disk
 abbrev pub CallsNoDisk : Option Command → Type 0
@@ -193,6 +197,7 @@ CallsNoDisk (Some Import) = ⊥
 CallsNoDisk (Some (Query query)) = ⊥
 CallsNoDisk (Some (Question question)) = ⊥
 CallsNoDisk (Some (Standalone command)) = Unit {0}
+CallsNoDisk (Some (Simulation simulation)) = Unit {0}
 
 -- queries and questions: they open the store and keep nothing
 abbrev pub AsksStore : Option Command → Type 0
@@ -202,6 +207,7 @@ AsksStore (Some Import) = ⊥
 AsksStore (Some (Query query)) = Unit {0}
 AsksStore (Some (Question question)) = Unit {0}
 AsksStore (Some (Standalone command)) = ⊥
+AsksStore (Some (Simulation simulation)) = ⊥
 
 -- those that open the store
 abbrev pub OpensStore : Option Command → Type 0
@@ -211,3 +217,4 @@ OpensStore (Some Import) = Unit {0}
 OpensStore (Some (Query query)) = Unit {0}
 OpensStore (Some (Question question)) = Unit {0}
 OpensStore (Some (Standalone command)) = ⊥
+OpensStore (Some (Simulation simulation)) = ⊥

@@ -11,6 +11,7 @@ use Rattle.verdict_defs.specs.declared.trial.Trial.TheVariants as trials
 use Rattle.vm_defs.specs.declared.outcome.Outcome.{Outcome}
 use Rattle.vm_defs.specs.declared.outcome.Outcome.TheVariants.{Exit, Fault, Spent}
 use Rattle.vm_defs.specs.Program.{Execution}
+use Rattle.report_defs.specs.declared.counts.Counts.{Counts}
 
 abbrev pub line_feed : List ℕ
 line_feed = 10 ∷ []
@@ -133,3 +134,11 @@ bad_line number = codes "bad line " ++ decimal number ++ line_feed
 -- the line of a text that is read as no block
 abbrev pub bad_json : List ℕ
 bad_json = codes "bad json" ++ line_feed
+
+-- ---- `make`
+
+-- the line of so many generated blocks, by what is counted of them
+abbrev pub made_line : ℕ → Counts → List ℕ
+made_line count counted =
+    codes "made " ++ decimal count ++ codes " joined " ++ decimal counted.joined ++ codes " height " ++ decimal counted.height
+    ++ codes " cells " ++ decimal counted.cells ++ line_feed

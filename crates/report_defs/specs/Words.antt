@@ -8,10 +8,11 @@ use Rattle.hex.specs.Hex.{IsBytes, decode_sized}
 use Rattle.hex.specs.declared.error.FromHexError.{FromHexError}
 use Rattle.report_defs.specs.Text.{hash_text}
 use Rattle.report_defs.specs.declared.command.Command.{Command}
-use Rattle.report_defs.specs.declared.command.Command.TheVariants.{Init, Import, Query, Question, Standalone}
+use Rattle.report_defs.specs.declared.command.Command.TheVariants.{Init, Import, Query, Question, Standalone, Simulation}
 use Rattle.report_defs.specs.declared.command.Query.TheVariants.{Tip, Header, Json, Epoch, Cell, Dao}
 use Rattle.report_defs.specs.declared.command.Question.TheVariants.{Check}
 use Rattle.report_defs.specs.declared.command.Standalone.TheVariants.{Exec, Asm, Dis, Unjson}
+use Rattle.report_defs.specs.declared.command.Simulation.TheVariants.{Make}
 
 -- A number: decimal digits, without a sign or a leading zero but for `0` itself, at most a limit.
 unfoldable pub number_up_to : ℕ → List ℕ → Option ℕ
@@ -49,6 +50,10 @@ number_limit = 2 ^ 64 - 1
 unfoldable pub budget_limit : ℕ
 budget_limit = 2 ^ 40
 
+-- the most generated blocks
+unfoldable pub made_limit : ℕ
+made_limit = 20000
+
 -- the commands that take no argument
 abbrev pub command_alone : List ℕ → Option Command
 command_alone name =
@@ -74,19 +79,24 @@ command_with name argument =
 abbrev pub out_point_of : List ℕ → List ℕ → Option (List ℕ × ℕ)
 out_point_of hash index = option_and_then (λ tx_hash. option_map (λ number. (tx_hash, number)) (number_up_to number_limit index)) (hash_of_word hash)
 
+-- a seed and a count of generated blocks
+abbrev pub made_of : List ℕ → List ℕ → Option (ℕ × ℕ)
+made_of seed count = option_and_then (λ from. option_map (λ number. (from, number)) (number_up_to made_limit count)) (number_up_to number_limit seed)
+
 -- those that take two
 abbrev pub command_at : List ℕ → List ℕ → List ℕ → Option Command
-command_at name hash index =
-    if bytes_eq name (codes "cell") then option_map (λ o. Query (Cell o.0 o.1)) (out_point_of hash index)
-    else if bytes_eq name (codes "dao") then option_map (λ o. Query (Dao o.0 o.1)) (out_point_of hash index)
+command_at name first second =
+    if bytes_eq name (codes "cell") then option_map (λ o. Query (Cell o.0 o.1)) (out_point_of first second)
+    else if bytes_eq name (codes "dao") then option_map (λ o. Query (Dao o.0 o.1)) (out_point_of first second)
+    else if bytes_eq name (codes "make") then option_map (λ made. Simulation (Make made.0 made.1)) (made_of first second)
     else None
 
 abbrev pub command_named : List (List ℕ) → Option Command
 command_named [] = None
 command_named (name ∷ []) = command_alone name
 command_named (name ∷ argument ∷ []) = command_with name argument
-command_named (name ∷ hash ∷ index ∷ []) = command_at name hash index
-command_named (name ∷ hash ∷ index ∷ next ∷ more) = None
+command_named (name ∷ first ∷ second ∷ []) = command_at name first second
+command_named (name ∷ first ∷ second ∷ next ∷ more) = None
 
 abbrev pub command_of : List (List ℕ) → Option Command
 command_of [] = None

@@ -11,6 +11,8 @@ pub enum Command {
     Question(Question),
     /// A file is read from the input and answered, without a store.
     Standalone(Standalone),
+    /// A chain that is generated is put through a store in memory: neither the input nor the disk is looked at.
+    Simulation(Simulation),
 }
 
 /// What is asked of the store alone.
@@ -48,4 +50,11 @@ pub enum Standalone {
     Dis,
     /// `unjson`: the text of a block is made the block's bytes.
     Unjson,
+}
+
+/// What is done with a generated chain.
+#[derive(Clone, Copy, Debug, PartialEq, Eq)]
+pub enum Simulation {
+    /// `make`: the blocks of a seed, so many of them, are imported one after the other, and counted.
+    Make { seed: u64, count: u32 },
 }

@@ -4,6 +4,7 @@
 #![tactic(auto)]
 
 mod command;
+mod counts;
 mod dao;
 mod end;
 mod items;
@@ -11,7 +12,8 @@ mod reports;
 mod status;
 mod words;
 
-pub use command::{Command, Query, Question, Standalone};
+pub use command::{Command, Query, Question, Simulation, Standalone};
+pub use counts::Counts;
 pub use dao::DaoState;
 pub use end::End;
 pub use items::item_laws;

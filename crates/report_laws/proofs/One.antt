@@ -10,7 +10,7 @@ use Rattle.json_defs.specs.Blocks as form
 use Rattle.json_defs.specs.Laws.{IsOneOfText}
 use Rattle.store_defs.specs.Store.{Store}
 use Rattle.report_defs.specs.declared.command.Command.{Command}
-use Rattle.report_defs.specs.declared.command.Command.TheVariants.{Init, Import, Query, Question, Standalone}
+use Rattle.report_defs.specs.declared.command.Command.TheVariants.{Init, Import, Query, Question, Standalone, Simulation}
 use Rattle.report_defs.specs.declared.command.Standalone as files
 use Rattle.report_defs.specs.declared.command.Standalone.TheVariants.{Exec, Asm, Dis, Unjson}
 use Rattle.report_defs.specs.declared.status.Status.TheVariants.{Done, SomeRefused}
@@ -55,3 +55,4 @@ module _ (one_code : OneCodeAssembles) (one_bad_line : OneLineIsFirstBad) (none_
   one-report (Some (Query query)) input store one other a b = a ∙ sym b
   one-report (Some (Question question)) input store one other a b = a ∙ sym b
   one-report (Some (Standalone command)) input store one other a b = one-of-file command input one other a b
+  one-report (Some (Simulation simulation)) input store one other a b = a ∙ sym b

@@ -1,0 +1,47 @@
+-- What is counted where the blocks of a generated chain are imported (docs/COMMANDS.md, "make").
+use Rattle.std.specs.Prelude.{ℕ, List, [], ◌∷◌, map, length, Option, Some, None}
+use Rattle.std.specs.List.{filter}
+use Rattle.codec_defs.specs.Shape.{encoded}
+use Rattle.codec_defs.specs.Schema.{OutPoint, Block, block}
+use Rattle.chain_defs.specs.Tip.{tip, best_branch}
+use Rattle.cell_defs.specs.Cell.{Cell}
+use Rattle.cell_defs.specs.Events.{Event, Makes, Spends, events, last_naming}
+use Rattle.verdict_defs.specs.Verdict.{joins}
+use Rattle.verdict_defs.specs.Chain.{Chain, chain_of_genesis, verdicts_over, chain_over}
+use Rattle.gen_defs.specs.Start.{specification, specification_bytes, genesis}
+use Rattle.gen_defs.specs.Chain.{blocks_made}
+use Rattle.report_defs.specs.declared.counts.Counts.{Counts}
+
+-- The live cells after events, as a list: each make that no later event names.
+unfoldable pub live_cells : List Event → List (OutPoint × Cell)
+live_cells [] = []
+live_cells (Makes o cell ∷ later) = elim (last_naming o later) [
+  | None ↦ (o, cell) ∷ live_cells later
+  | Some last ↦ live_cells later
+]
+live_cells (Spends o ∷ later) = live_cells later
+
+-- the height of a tip
+abbrev pub height_of : Option Block → ℕ
+height_of None = 0
+height_of (Some b) = b.header.number
+
+-- What is counted of items over a chain: those that join it, and the height and the live cells of the tip after them.
+abbrev pub counts_over : Chain → List (List ℕ) → Counts
+counts_over chain items = record {
+  joined = length (filter joins (verdicts_over chain items));
+  height = height_of (tip (chain_over chain items).blocks);
+  cells = length (live_cells (events (best_branch (chain_over chain items).blocks)));
+}
+
+-- the chain of a generated genesis, which stands alone
+abbrev pub generated_start : Chain
+generated_start = chain_of_genesis (specification_bytes specification) (encoded block genesis)
+
+-- the blocks of a seed, so many of them, as items
+abbrev pub generated_items : ℕ → ℕ → List (List ℕ)
+generated_items seed count = map (encoded block) (blocks_made seed count)
+
+-- What is counted where they are imported over it.
+unfoldable pub generated_counts : ℕ → ℕ → Counts
+generated_counts seed count = counts_over generated_start (generated_items seed count)
