@@ -1,0 +1,2 @@
+pub mod LiveCells
+pub mod ImportLemmas

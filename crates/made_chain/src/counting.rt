@@ -1,0 +1,176 @@
+// The blocks of a generated chain are imported, one after the other, and counted.
+ghost use Rattle.std.specs.Prelude.{◌≡◌, ◌<◌, ◌≤◌, ◌^◌, length, map, IfOk, IfSome, IsSome, if◌then◌else◌};
+ghost use Rattle.std.specs.List.{filter};
+ghost use Rattle.chain_defs.specs.Tip as tips;
+ghost use Rattle.cell_defs.specs.Events.{events};
+ghost use Rattle.verdict_defs.specs.Verdict as rules;
+ghost use Rattle.verdict_defs.specs.Chain.{verdict_over, chain_after, verdicts_over, chain_over, chain_of_genesis};
+ghost use Rattle.store_defs.specs.Store.{AreJoined};
+ghost use Rattle.report_defs.specs.Simulation.{live_cells, height_of, counts_over, generated_counts};
+
+use chain_gen::{Made, make};
+use node_core::{Node, judge};
+use outside::{Disk, NoMemory, Steps};
+use outside_mem::MemDisk;
+use report_defs::Counts;
+use std::alloc::Global;
+use std::marker::Brand;
+use std::sync::ledger::{Blank, Ledger};
+use verdict_defs::Verdict;
+
+/// More bytes than an item of a node has. No generated item comes near it.
+const SIZE_BOUND: usize = 1 << 31;
+
+/// One for an item that joined, and none for any other.
+fn one_if_joined(verdict: &Verdict) -> u64
+    ensures { result ≡ (if rules.joins verdict.now then 1 else 0) }
+{
+    match verdict {
+        Verdict::Joined(_, _) => 1,
+        Verdict::Known(_) => 0,
+        Verdict::Refused(_) => 0,
+        Verdict::Full => 0,
+    }
+}
+
+/// Opens a new store of a specification and a genesis, which are those of a generated chain, and so keep their rules.
+fn open_new<D: Disk, L: Ledger>(
+    alloc: Global,
+    disk: &mut D,
+    spec: &[u8],
+    genesis: &[u8],
+    steps: &mut Steps<L>,
+) -> Result<Node, NoMemory>
+    requires told { IsSome (D.reads_as disk.old) }
+    ensures chain { IfOk result (λ node. node.chain ≡ chain_of_genesis spec.now genesis.now) }
+    ensures joined { IfOk result (λ node. AreJoined node.chain node.exts) }
+    ensures there { IfOk result (λ node. IfSome (D.reads_as disk.new) (λ image. node.place < length image.log)) }
+{
+    if spec.len() >= SIZE_BOUND || genesis.len() >= SIZE_BOUND {
+        return Err(NoMemory);
+    }
+    let new = match judge(alloc, spec, genesis) {
+        Ok(new) => new,
+        Err(_) => return Err(NoMemory),
+    };
+    match new.create(alloc, disk) {
+        Ok(()) => {}
+        Err(_) => return Err(NoMemory),
+    }
+    match Node::open(alloc, disk, steps) {
+        Ok(node) => Ok(node),
+        Err(_) => Err(NoMemory),
+    }
+}
+
+/// Imports an item.
+fn import_item<D: Disk, L: Ledger>(
+    alloc: Global,
+    disk: &mut D,
+    node: Node,
+    item: &[u8],
+    steps: &mut Steps<L>,
+) -> Result<(Node, Verdict), NoMemory>
+    requires joined { AreJoined node.chain node.exts }
+    requires there { IfSome (D.reads_as disk.old) (λ image. node.place < length image.log) }
+    ensures verdict { IfOk result (λ answer. answer.1 ≡ verdict_over node.chain item.now) }
+    ensures kept { IfOk result (λ answer. answer.0.chain ≡ chain_after node.chain item.now) }
+    ensures joined { IfOk result (λ answer. AreJoined answer.0.chain answer.0.exts) }
+    ensures there { IfOk result (λ answer. IfSome (D.reads_as disk.new) (λ image. answer.0.place < length image.log)) }
+{
+    if item.len() >= SIZE_BOUND {
+        drop(node);
+        return Err(NoMemory);
+    }
+    match node.import(alloc, disk, item, steps) {
+        Ok(answer) => Ok(answer),
+        Err(_) => Err(NoMemory),
+    }
+}
+
+/// Imports items one after the other, and counts those that join.
+fn import_all<D: Disk, L: Ledger>(
+    alloc: Global,
+    disk: &mut D,
+    opened: Node,
+    items: &[Vec<u8>],
+    steps: &mut Steps<L>,
+) -> Result<(Node, u64), NoMemory>
+    requires joined { AreJoined opened.chain opened.exts }
+    requires there { IfSome (D.reads_as disk.old) (λ image. opened.place < length image.log) }
+    ensures kept { IfOk result (λ came. came.0.chain ≡ chain_over opened.chain (map (λ bytes. bytes.items) items.now)) }
+    ensures count { IfOk result (λ came. came.1 ≡ length (filter rules.joins (verdicts_over opened.chain (map (λ bytes. bytes.items) items.now)))) }
+{
+    let mut node = opened;
+    let mut joined = 0u64;
+    'importing: for i in 0..items.len() {
+        let (next, verdict) = match import_item(alloc, disk, node, &items[i], steps) {
+            Ok(answer) => answer,
+            Err(stop) => return Err(stop),
+        };
+        node = next;
+        joined += one_if_joined(&verdict);
+    }
+    Ok((node, joined))
+}
+
+/// What is counted of a node, where so many items joined. The live cells are listed to be counted: the list has each once.
+fn counted(alloc: Global, node: &Node, joined: u64) -> Result<Counts, NoMemory>
+    ensures { IfOk result (λ counts. counts ≡ record {
+      joined = joined;
+      height = height_of (tips.tip node.now.chain.blocks);
+      cells = length (live_cells (events (tips.best_branch node.now.chain.blocks)));
+    }) }
+{
+    let tip = node.tip();
+    let cells = node.state().sorted(alloc)?;
+    Ok(Counts {
+        joined,
+        height: tip.number,
+        cells: cells.len() as u64,
+    })
+}
+
+/// Imports a chain into a new store on this disk, and counts.
+fn count_on<D: Disk, L: Ledger>(
+    alloc: Global,
+    disk: &mut D,
+    made: &Made,
+    steps: &mut Steps<L>,
+) -> Result<Counts, NoMemory>
+    requires told { IsSome (D.reads_as disk.old) }
+    ensures { IfOk result (λ counts. counts
+        ≡ counts_over (chain_of_genesis made.now.spec.items made.now.genesis.items) (map (λ bytes. bytes.items) made.now.blocks.items)) }
+{
+    let opened = open_new(alloc, disk, &made.spec, &made.genesis, steps)?;
+    let (node, joined) = import_all(alloc, disk, opened, &made.blocks, steps)?;
+    counted(alloc, &node, joined)
+}
+
+/// Makes a chain, and counts it on a disk of its own.
+fn count_made<L: Ledger>(
+    alloc: Global,
+    seed: u64,
+    count: u32,
+    blank: Blank,
+) -> Result<Counts, NoMemory>
+    requires name { blank.name ≡ L.name }
+    requires parts { blank.parts ≡ L.parts }
+    requires some { 0 < L.parts }
+    requires count { count ≤ 20000 }
+    ensures { IfOk result (λ counts. counts ≡ generated_counts seed count) }
+{
+    let made = make(alloc, seed, count)?;
+    let mut disk = MemDisk::new(alloc, Vec::new(alloc));
+    let mut steps = Steps::<L>::new(blank);
+    count_on(alloc, &mut disk, &made, &mut steps)
+}
+
+/// What is counted where the blocks of a seed, so many of them, at most 20,000, are imported one after the other over their genesis.
+/// They are kept on a disk in memory, and steps are counted for no one. `Err` is want of memory, also where the disk meets it.
+pub fn counts_of(alloc: Global, seed: u64, count: u32) -> Result<Counts, NoMemory>
+    requires { count ≤ 20000 }
+    ensures { IfOk result (λ counts. counts ≡ generated_counts seed count) }
+{
+    count_made::<Brand>(alloc, seed, count, Blank::new(1))
+}
