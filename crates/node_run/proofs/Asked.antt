@@ -2,13 +2,13 @@
 use Rattle.std.proofs.Common.{◌≡◌, Option, Some, None, refl, ◌∙◌, subst}
 use Rattle.std.specs.Prelude.{◌↔◌}
 use Rattle.report_defs.specs.declared.command.Command.{Command}
-use Rattle.report_defs.specs.declared.command.Command.TheVariants.{Init, Import, Query, Question, Standalone}
+use Rattle.report_defs.specs.declared.command.Command.TheVariants.{Init, Import, Query, Question, Standalone, Simulation}
 use Rattle.report_defs.specs.declared.command.Standalone as files
 use Rattle.report_defs.specs.declared.command.Standalone.TheVariants.{Exec, Asm, Dis, Unjson}
 use Rattle.report_defs.specs.declared.status.Status.{Status}
 use Rattle.report_defs.specs.declared.status.Status.TheVariants.{BadWords, InputFault, DiskFault}
 use Rattle.report_defs.specs.Status.{IsOneOf}
-use Rattle.report_defs.specs.Promise.{init_statuses, import_statuses, query_statuses, question_statuses, answering_statuses, refusing_statuses, standalone_statuses, statuses_of}
+use Rattle.report_defs.specs.Promise.{init_statuses, import_statuses, query_statuses, question_statuses, answering_statuses, refusing_statuses, standalone_statuses, simulation_statuses, statuses_of}
 use Rattle.node_run.proofs.Tables.{lacks}
 
 -- what no command without a store answers
@@ -31,6 +31,7 @@ never_bad_words Import = lacks import_statuses BadWords refl
 never_bad_words (Query query) = lacks query_statuses BadWords refl
 never_bad_words (Question question) = lacks question_statuses BadWords refl
 never_bad_words (Standalone command) = lacks_bad_words command
+never_bad_words (Simulation simulation) = lacks simulation_statuses BadWords refl
 
 abbrev IsAsked : Option Command → Type 0
 IsAsked None = ⊥
@@ -52,6 +53,12 @@ IsNotInit _ = Unit {0}
 abbrev pub IsNotImport : Option Command → Type 0
 IsNotImport (Some Import) = ⊥
 IsNotImport _ = Unit {0}
+
+pub simulation_no_input_fault : (status : Status) → IsOneOf simulation_statuses status → status ≡ InputFault → ⊥
+simulation_no_input_fault = lacks simulation_statuses InputFault refl
+
+pub simulation_no_disk_fault : (status : Status) → IsOneOf simulation_statuses status → status ≡ DiskFault → ⊥
+simulation_no_disk_fault = lacks simulation_statuses DiskFault refl
 
 pub query_no_input_fault : (status : Status) → IsOneOf query_statuses status → status ≡ InputFault → ⊥
 query_no_input_fault = lacks query_statuses InputFault refl

@@ -16,3 +16,4 @@ pub mod Asked
 pub mod RunLemmas
 pub mod RecordLemmas
 pub mod QueryLemmas
+pub mod SimulationLemmas

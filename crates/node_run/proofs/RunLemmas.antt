@@ -6,10 +6,11 @@ use Rattle.outside.specs.Disk.{IsAsBefore}
 use Rattle.verdict_defs.specs.Chain.{Chain, chain_over}
 use Rattle.store_defs.specs.Store.{Store, NoLog, Keeps, store_of, StandsFor}
 use Rattle.report_defs.specs.declared.command.Command.{Command}
-use Rattle.report_defs.specs.declared.command.Command.TheVariants.{Init, Import, Query, Question, Standalone}
+use Rattle.report_defs.specs.declared.command.Command.TheVariants.{Init, Import, Query, Question, Standalone, Simulation}
 use Rattle.report_defs.specs.declared.command.Query as queries
 use Rattle.report_defs.specs.declared.command.Question as questions
 use Rattle.report_defs.specs.declared.command.Standalone as files
+use Rattle.report_defs.specs.declared.command.Simulation as simulations
 use Rattle.report_defs.specs.declared.status.Status.{Status}
 use Rattle.report_defs.specs.declared.status.Status.TheVariants.{Done, SomeRefused, BadWords, DiskFault, NoMemory}
 use Rattle.report_defs.specs.Status.{IsOneOf}
@@ -18,6 +19,7 @@ use Rattle.report_defs.specs.Promise.{MatchesReport, KeepsOrder, ReadsFileInOrde
 use Rattle.report_defs.specs.Survival.{Each, Run, IsDone, IsFront, IsKeptBy, IsLeftBy, KeepsStore, KeepsItems, KeepsDisk, Answers, IsPromised, items_of}
 use Rattle.node_run.specs.Store.{Delivers}
 use Rattle.node_run.specs.Question.{DeliversAnswer}
+use Rattle.node_run.specs.Simulation.{IsSimulationTold}
 use Rattle.node_run.proofs.LineLemmas.{front_of_none}
 use Rattle.node_run.proofs.StoreLemmas.{same_chain, store_of_stands}
 
@@ -224,6 +226,12 @@ module _ {D : Type 0} (reads_as : D → Option Image) (images : D → Image → 
       → IsPromised (Some (Standalone command)) (reads_as old) (images old) (images old) (left_since old (moment old)) left given taken status
   standalone_promised command old left given taken status says =
       uncalled_promised (Some (Standalone command)) old left given taken status refl (λ store found. says) (λ now. tt) (λ kept. tt)
+
+  pub simulation_promised : (simulation : simulations.Simulation) (old : D) (left : Option (List ℕ)) (taken : List ℕ) (status : Status)
+      → IsSimulationTold simulation left taken status
+      → IsPromised (Some (Simulation simulation)) (reads_as old) (images old) (images old) (left_since old (moment old)) left [] taken status
+  simulation_promised simulation old left taken status says =
+      uncalled_promised (Some (Simulation simulation)) old left [] taken status refl (λ store found. says) (λ now. tt) (λ kept. tt)
 
   pub words_promised : (old : D) (left : Option (List ℕ)) → IsPromised None (reads_as old) (images old) (images old) (left_since old (moment old)) left [] [] BadWords
   words_promised old left = uncalled_promised None old left [] [] BadWords refl

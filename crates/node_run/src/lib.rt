@@ -14,6 +14,7 @@ mod lines;
 mod output;
 mod query;
 mod question;
+mod simulation;
 mod standalone;
 mod store;
 mod top;

@@ -10,7 +10,7 @@ ghost use Rattle.node_run.specs.Queries.{row_line};
 use cell_model::CellMeta;
 use epochs::Epoch;
 use program_run::Execution;
-use report_defs::End;
+use report_defs::{Counts, End};
 use std::alloc::{AllocError, Global};
 use verdict_defs::{Trial, Verdict};
 use vm_defs::Outcome;
@@ -293,6 +293,22 @@ pub fn bad_json(alloc: Global) -> Result<String, AllocError>
     ensures { IfOk result (λ line. string_bytes line ≡ text.bad_json) }
 {
     String::from_str(alloc, "bad json\n")
+}
+
+/// The line of so many generated blocks, by what is counted of them.
+pub fn made_line(alloc: Global, count: u32, counted: &Counts) -> Result<String, AllocError>
+    ensures { IfOk result (λ line. string_bytes line ≡ text.made_line count counted.now) }
+{
+    let mut line = String::from_str(alloc, "made ")?;
+    push_number(alloc, &mut line, u64::from(count))?;
+    line.push_str(" joined ")?;
+    push_number(alloc, &mut line, counted.joined)?;
+    line.push_str(" height ")?;
+    push_number(alloc, &mut line, counted.height)?;
+    line.push_str(" cells ")?;
+    push_number(alloc, &mut line, counted.cells)?;
+    line.push_str("\n")?;
+    Ok(line)
 }
 
 /// Adds an exit code in decimal digits, behind a sign where it is negative.

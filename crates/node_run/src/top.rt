@@ -21,6 +21,7 @@ use crate::import::import;
 use crate::init::init;
 use crate::query::query;
 use crate::question::question;
+use crate::simulation::simulate;
 use crate::standalone::standalone;
 use crate::words::command_of;
 use outside::{Disk, Sink, Source, Steps};
@@ -30,8 +31,8 @@ use std::sync::ledger::Ledger;
 
 /// Does what the words ask for: reads the input, writes its text, and answers how it ended.
 /// The words are a folder, which is any word that is not empty, and a command: `init`, `import`, `tip`, `epoch`, `check`,
-/// `header` and a height, `cell` or `dao` with the hash of a transaction and an index, `asm`, `dis`, `unjson`, or `exec` and a
-/// budget in cycles, at most 2^40.
+/// `header` and a height, `cell` or `dao` with the hash of a transaction and an index, `asm`, `dis`, `unjson`, `exec` and a
+/// budget in cycles, at most 2^40, or `make` with a seed and a count of blocks, at most 20,000.
 pub fn run<S: Source, K: Sink, D: Disk, L: Ledger>(
     alloc: Global,
     words: &[String],
@@ -99,6 +100,7 @@ pub fn run<S: Source, K: Sink, D: Disk, L: Ledger>(
         Some(Command::Query(asked)) => query(alloc, out, disk, asked, steps),
         Some(Command::Question(asked)) => question(alloc, input, out, disk, asked, steps),
         Some(Command::Standalone(command)) => standalone(alloc, input, out, command),
+        Some(Command::Simulation(simulation)) => simulate(alloc, out, simulation),
         None => Status::BadWords,
     }
 }

@@ -7,14 +7,18 @@ ghost use Rattle.report_defs.specs.Text as text;
 ghost use Rattle.report_defs.specs.declared.command.Command.TheVariants as commands;
 ghost use Rattle.report_defs.specs.declared.command.Query.TheVariants as queries;
 ghost use Rattle.report_defs.specs.declared.command.Standalone.TheVariants as files;
+ghost use Rattle.report_defs.specs.declared.command.Simulation.TheVariants as simulations;
 ghost use Rattle.report_defs.specs.Words as grammar;
 ghost use Rattle.node_run.specs.Words as parts;
 ghost use Rattle.node_run.specs.Words.{IsWithinLimit};
 
-use report_defs::{Command, Query, Question, Standalone};
+use report_defs::{Command, Query, Question, Simulation, Standalone};
 
 /// The most cycles of a budget.
 const BUDGET_LIMIT: u64 = 1 << 40;
+
+/// The most generated blocks.
+const MADE_LIMIT: u64 = 20_000;
 
 /// What the words ask for, if they are in the grammar.
 pub fn command_of(words: &[String]) -> Option<Command>
@@ -37,7 +41,7 @@ fn command_named(name: &[u8], arguments: &[String]) -> Option<Command>
     match arguments {
         [] => command_alone(name),
         [argument] => command_with(name, argument.as_str()),
-        [hash, index] => command_at(name, hash.as_str(), index.as_str()),
+        [first, second] => command_at(name, first.as_str(), second.as_str()),
         [_, _, _, ..] => None,
     }
 }
@@ -119,20 +123,37 @@ fn json_command(argument: &str) -> Option<Command>
     Some(Command::Query(Query::Json { height }))
 }
 
-/// The command of this name that takes an out-point in two arguments.
-fn command_at(name: &[u8], hash: &str, index: &str) -> Option<Command>
-    ensures command { result ≡ grammar.command_at name.now hash.now index.now }
+/// The command of this name that takes two arguments.
+fn command_at(name: &[u8], first: &str, second: &str) -> Option<Command>
+    ensures command { result ≡ grammar.command_at name.now first.now second.now }
     ensures within { IfSome result IsWithinLimit }
 {
     if name == b"cell".as_slice() {
-        let (tx_hash, index) = out_point_of(hash, index)?;
+        let (tx_hash, index) = out_point_of(first, second)?;
         return Some(Command::Query(Query::Cell { tx_hash, index }));
     }
     if name == b"dao".as_slice() {
-        let (tx_hash, index) = out_point_of(hash, index)?;
+        let (tx_hash, index) = out_point_of(first, second)?;
         return Some(Command::Query(Query::Dao { tx_hash, index }));
     }
+    if name == b"make".as_slice() {
+        return make_command(first, second);
+    }
     None
+}
+
+/// `make`, a seed and a count.
+#[tactic(auto, unfolding(report_defs::specs::Words::made_limit))]
+fn make_command(seed: &str, count: &str) -> Option<Command>
+    ensures command { result ≡ option_map (λ made. commands.Simulation (simulations.Make made.0 made.1)) (grammar.made_of seed.now count.now) }
+    ensures within { IfSome result IsWithinLimit }
+{
+    let seed = number_of(seed)?;
+    let count = number_up_to(MADE_LIMIT, count)?;
+    Some(Command::Simulation(Simulation::Make {
+        seed,
+        count: count as u32,
+    }))
 }
 
 /// The hash of a transaction and an index.

@@ -7,13 +7,13 @@ use Rattle.item_reader.specs.Items.{Gave}
 use Rattle.outside.proofs.Endings.{no_fault}
 use Rattle.outside.proofs.Streams.{gives_none, takes_none}
 use Rattle.report_defs.specs.declared.command.Command.{Command}
-use Rattle.report_defs.specs.declared.command.Command.TheVariants.{Init, Import, Query, Question, Standalone}
+use Rattle.report_defs.specs.declared.command.Command.TheVariants.{Init, Import, Query, Question, Standalone, Simulation}
 use Rattle.report_defs.specs.declared.status.Status.TheVariants.{BadWords}
 use Rattle.report_defs.specs.Status.{IsOneOf}
 use Rattle.report_defs.specs.Promise.{statuses_of}
 use Rattle.report_defs.specs.Survival.{IsPromised, CallsNoDisk, OpensStore, AsksStore, KeepsRecords, items_of, as_before}
-use Rattle.node_run.proofs.Asked.{IsNotInit, IsNotImport, never_bad_words, words_are_good, query_no_input_fault, standalone_no_disk_fault}
-use Rattle.node_run.proofs.RunLemmas.{import_promised, query_promised, question_promised, init_promised, standalone_promised, words_promised}
+use Rattle.node_run.proofs.Asked.{IsNotInit, IsNotImport, never_bad_words, words_are_good, query_no_input_fault, standalone_no_disk_fault, simulation_no_input_fault, simulation_no_disk_fault}
+use Rattle.node_run.proofs.RunLemmas.{import_promised, query_promised, question_promised, init_promised, standalone_promised, simulation_promised, words_promised}
 use Rattle.node_run.proofs.top.run.Goals as goal
 
 pub returns-in-Some-Init-clause-run : goal.returns-in-Some-Init-clause-run
@@ -309,6 +309,63 @@ returns-in-Some-Standalone-clause-loses_nothing g c =
 
 pub returns-in-Some-Standalone-clause-steps : goal.returns-in-Some-Standalone-clause-steps
 returns-in-Some-Standalone-clause-steps g c = λ _. refl
+
+pub returns-in-Some-Simulation-clause-run : goal.returns-in-Some-Simulation-clause-run
+returns-in-Some-Simulation-clause-run g c =
+    let is = ap Some (sym c.in-Some-Simulation.field-0-is) ∙ c.in-Some-Simulation.ensures.command in
+    let text = c.simulate.ensures.text in (
+      [],
+      text.0,
+      gives_none (g.S.Source.left c.args.input.now),
+      text.1,
+      subst (λ (o : Option Command). IsPromised o (g.D.Disk.reads_as c.args.disk.now) (g.D.Disk.images c.args.disk.now) (g.D.Disk.images c.args.disk.now)
+          (g.D.Disk.left_since c.args.disk.now (g.D.Disk.moment c.args.disk.now)) (g.S.Source.left c.args.input.now) [] text.0 c.simulate.result) is
+          (simulation_promised g.D.Disk.reads_as g.D.Disk.images g.D.Disk.moment g.D.Disk.left_since g.met.D.Disk.reads_image g.met.D.Disk.only_now c.in-Some-Simulation.simulation c.args.disk.now
+          (g.S.Source.left c.args.input.now) text.0 c.simulate.result (text.2 (g.S.Source.left c.args.input.now))),
+    )
+
+pub returns-in-Some-Simulation-clause-words : goal.returns-in-Some-Simulation-clause-words
+returns-in-Some-Simulation-clause-words g c =
+    let is = ap Some (sym c.in-Some-Simulation.field-0-is) ∙ c.in-Some-Simulation.ensures.command in
+    words_are_good _ (Simulation c.in-Some-Simulation.simulation) c.simulate.result is c.simulate.ensures.status
+
+pub returns-in-Some-Simulation-clause-silent : goal.returns-in-Some-Simulation-clause-silent
+returns-in-Some-Simulation-clause-silent g c = λ bad. absurd (never_bad_words (Simulation c.in-Some-Simulation.simulation) c.simulate.result c.simulate.ensures.status bad)
+
+pub returns-in-Some-Simulation-clause-status : goal.returns-in-Some-Simulation-clause-status
+returns-in-Some-Simulation-clause-status g c =
+    let is = ap Some (sym c.in-Some-Simulation.field-0-is) ∙ c.in-Some-Simulation.ensures.command in
+    subst (λ (o : Option Command). IsOneOf (statuses_of o) c.simulate.result) is c.simulate.ensures.status
+
+pub returns-in-Some-Simulation-clause-input_faults : goal.returns-in-Some-Simulation-clause-input_faults
+returns-in-Some-Simulation-clause-input_faults g c = no_fault _ _ refl (simulation_no_input_fault c.simulate.result c.simulate.ensures.status)
+
+pub returns-in-Some-Simulation-clause-out_faults : goal.returns-in-Some-Simulation-clause-out_faults
+returns-in-Some-Simulation-clause-out_faults g c = c.simulate.ensures.faults
+
+pub returns-in-Some-Simulation-clause-disk_faults : goal.returns-in-Some-Simulation-clause-disk_faults
+returns-in-Some-Simulation-clause-disk_faults g c = no_fault _ _ refl (simulation_no_disk_fault c.simulate.result c.simulate.ensures.status)
+
+pub returns-in-Some-Simulation-clause-uncalled : goal.returns-in-Some-Simulation-clause-uncalled
+returns-in-Some-Simulation-clause-uncalled g c = λ _. refl
+
+pub returns-in-Some-Simulation-clause-as_before : goal.returns-in-Some-Simulation-clause-as_before
+returns-in-Some-Simulation-clause-as_before g c =
+    let is = ap Some (sym c.in-Some-Simulation.field-0-is) ∙ c.in-Some-Simulation.ensures.command in
+    λ told. absurd (subst (λ (o : Option Command). IsOneOf (as_before o) c.simulate.result) (sym is) told)
+
+pub returns-in-Some-Simulation-clause-log_there : goal.returns-in-Some-Simulation-clause-log_there
+returns-in-Some-Simulation-clause-log_there g c =
+    let is = ap Some (sym c.in-Some-Simulation.field-0-is) ∙ c.in-Some-Simulation.ensures.command in
+    λ now told other init. absurd (subst IsNotInit (is ∙ init) tt)
+
+pub returns-in-Some-Simulation-clause-loses_nothing : goal.returns-in-Some-Simulation-clause-loses_nothing
+returns-in-Some-Simulation-clause-loses_nothing g c =
+    let is = ap Some (sym c.in-Some-Simulation.field-0-is) ∙ c.in-Some-Simulation.ensures.command in
+    λ now told none opens. absurd (subst OpensStore (sym is) opens)
+
+pub returns-in-Some-Simulation-clause-steps : goal.returns-in-Some-Simulation-clause-steps
+returns-in-Some-Simulation-clause-steps g c = λ _. refl
 
 pub returns-in-None-clause-run : goal.returns-in-None-clause-run
 returns-in-None-clause-run g c = (
