@@ -9,9 +9,9 @@ import stat
 import subprocess
 import time
 
-from harness import (CONTRACT_INIT, FIRST_INIT, FIRST_LINE, Ran, chain_of, contract, contract_store, file_with,
-                     first, line_of, log_of, must, must_answer, must_be, must_have_tip, new_folder, size_word, started,
-                     status_of, write)
+from harness import (CONTRACT_INIT, FIRST_INIT, FIRST_LINE, Ran, chain_of, contract, contract_store, developer,
+                     file_with, first, line_of, log_of, must, must_answer, must_be, must_have_tip, new_folder,
+                     size_word, started, status_of, write)
 
 KILLS, MOST_LINES = 200, 10
 NOBODY = 65534
@@ -66,6 +66,21 @@ def check_exts_of_the_log(program):
     with contract_store(program) as folder:
         wanted = log_with(CONTRACT_INIT, blocks, [exts.get(height, bytes(8)) for height in range(1, 13)])
         must_be(log_of(folder), wanted + b'\0', 'the log')
+
+
+def check_developer_chain(program):
+    """300 blocks over a genesis with a cell of 1 MiB: transfers, a deposit, uncles, locks through a dep group."""
+    chain, moved = developer.developer_chain()
+    given, text = first.input_and_text(chain.items)
+    must_be(text.count(b'joined '), 300, 'blocks that join')
+    with new_folder() as folder:
+        made = Ran([program, folder, 'init'], chain.spec.item() + chain.genesis.item())
+        must_answer(made, 0, (first.genesis_line(chain.genesis) + '\n').encode(), 'init')
+        must_answer(Ran([program, folder, 'import'], given), 0, text, 'import of 300 blocks')
+        for words, line in developer.answers(chain, moved):
+            must_answer(Ran([program, folder, *words.split()]), 0, (line + '\n').encode(), words)
+        transfer, line = developer.last_transfer(moved)
+        must_answer(Ran([program, folder, 'check'], transfer), 0, (line + '\n').encode(), 'check')
 
 
 def check_what_is_no_store(program):

@@ -16,6 +16,7 @@ TOP = os.path.dirname(os.path.dirname(os.path.abspath(__file__)))
 sys.path[:0] = [os.path.join(TOP, 'bench'), os.path.join(TOP, 'examples')]
 import chaingen  # noqa: E402
 import make_contract_chain as contract  # noqa: E402
+import make_developer_chain as developer  # noqa: E402
 import make_first_blocks as first  # noqa: E402
 
 SCRIPT = os.path.join(TOP, 'ckbdev')

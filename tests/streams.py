@@ -32,6 +32,8 @@ BAD_WORDS = [
     ['asm'], ['', 'asm'], ['any', 'asm', ''], ['any', 'Asm'], ['any', 'dis', '0'], ['any', 'diss'],
     ['any', 'unjson', '0'], ['any', 'json'], ['any', 'json', '07'], ['any', 'json', '18446744073709551616'],
     ['any', 'json', '0', '0'], ['any', 'Json', '0'], ['json', '0'], ['', 'json', '0'],
+    ['any', 'make'], ['any', 'make', '0'], ['any', 'make', '0', '20001'], ['any', 'make', '00', '1'],
+    ['any', 'make', '18446744073709551616', '1'], ['any', 'make', '0', '1', '2'],
     [b'\xff', 'import'], ['any', b'\xff'],
 ]
 
@@ -415,6 +417,16 @@ def check_statuses_of_texts(program):
             must_answer(Ran([program, '/no/such/folder', word], stdin, piped), status, wanted, '%s: %s' % (word, what))
     ran = Ran([program, 'any', 'unjson'], b' ' * (1 << 25))
     must(ran.read <= (1 << 24) + 1, 'more is read than a byte past the longest text')
+
+
+def check_generated_blocks(program):
+    """Nothing is read, and no folder is looked at."""
+    for words, line in (('0 0', b'made 0 joined 0 height 0 cells 2\n'),
+                        ('0 20', b'made 20 joined 20 height 18 cells 9\n'),
+                        ('5 2000', b'made 2000 joined 2000 height 1714 cells 1705\n')):
+        ran = Ran([program, '/no/such/folder', 'make', *words.split()], FIRST_INIT)
+        must_answer(ran, 0, line, 'make ' + words)
+        must_be(ran.read, 0, 'make %s: bytes read' % words)
 
 
 def instructions_of(program, code):
