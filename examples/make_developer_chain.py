@@ -6,7 +6,7 @@ and a cell of 1 MiB in the genesis.
         store.bin     an input of `init`
         blocks.bin    an input of `import`: 300 items
         blocks.txt    the lines that they must be answered with
-        transfer.bin  an input of `check` behind them: it spends the coin
+        transfer.bin  an input of `check` after them: it spends the coin
         words.txt     lines of words and the text that they must be answered with, with a tab between
 
 The lines are written down here and owe nothing to the program: what blocks pay, their
