@@ -14,7 +14,7 @@ use Rattle.block_judge.specs.declared.stop.Judged.TheVariants.{Broken, Read}
 abbrev pub ahead : Specification → List Block → Block → List (ℕ × Bool)
 ahead spec branch b = header_rules spec branch b ++ (body_rules spec b ++ family_rules spec branch b)
 
--- Why a block is not taken, beside the first of these that it breaks: this one or, where it breaks none, anything behind them. Memory may be
+-- Why a block is not taken, beside the first of these that it breaks: this one or, where it breaks none, anything after them. Memory may be
 -- wanted before that is known.
 abbrev pub StopsAhead : Option ℕ → Judged → Type 0
 StopsAhead first (Broken rule) = (first ≡ Some (rule_number rule)) ⊎ ((17 < rule_number rule) × (first ≡ None))

@@ -7,7 +7,7 @@ use Rattle.time_defs.specs.Specification.{Specification}
 use Rattle.window_defs.specs.Window.{earliest}
 use Rattle.reward_defs.specs.Field.{freed_from, interest_from}
 
--- The ids are those that are proposed for the block behind the last of a branch.
+-- The ids are those that are proposed for the block after the last of a branch.
 abbrev pub AreProposed : Specification → List Block → List (List ℕ) → Type 0
 AreProposed spec branch ids = (id : List ℕ) → list_any (bytes_eq id) ids ≡ is_some (earliest spec branch id (length branch))
 

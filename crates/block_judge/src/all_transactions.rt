@@ -60,7 +60,7 @@ struct Progress<'a, C: Cells> {
     freed: u128,
 }
 
-/// Puts a fee behind those that are there.
+/// Puts a fee after those that are there.
 fn push_fee(fees: &mut Vec<u64>, fee: u64) -> Result<(), NoMemory>
     ensures { OnOk result (fees.new.items ≡ fees.old.items ++ fee ∷ []) }
 {
@@ -68,7 +68,7 @@ fn push_fee(fees: &mut Vec<u64>, fee: u64) -> Result<(), NoMemory>
     Ok(())
 }
 
-/// Puts what an ext has of a transaction behind what is there: its fee, and the rows of its inputs that kept blocks made,
+/// Puts what an ext has of a transaction after what is there: its fee, and the rows of its inputs that kept blocks made,
 /// of which there are `e`.
 fn push_ext(ext: &mut Ext, taken: &Taken, e: u32) -> Result<(), NoMemory>
     ensures fees { OnOk result (ext.new.fees ≡ ext.old.fees ++ taken.now.fee ∷ []) }
@@ -113,7 +113,7 @@ impl<'a, C: Cells> Progress<'a, C> {
         })
     }
 
-    /// Takes what a transaction at a place behind the cellbase does, which keeps its rules.
+    /// Takes what a transaction at a place after the cellbase does, which keeps its rules.
     fn take(&mut self, tx: &TxView<'_>, taken: &Taken, place: u32, e: u32) -> Result<(), NoMemory>
         requires hash { taken.now.hash ≡ transaction_hash tx.now }
         requires cycles { taken.now.cycles ≤ self.old.left }
@@ -139,7 +139,7 @@ impl<'a, C: Cells> Progress<'a, C> {
         Ok(())
     }
 
-    /// Judges the next transaction, which is at a place behind the cellbase and comes with its hash, and takes what it does.
+    /// Judges the next transaction, which is at a place after the cellbase and comes with its hash, and takes what it does.
     fn judge_next<B: Blocks>(
         &mut self,
         alloc: Global,
@@ -215,7 +215,7 @@ impl<'a, C: Cells> Progress<'a, C> {
     }
 }
 
-/// Judges the transactions of a block behind its cellbase, by J18 to J30: the first rule that one of them breaks, or the
+/// Judges the transactions of a block after its cellbase, by J18 to J30: the first rule that one of them breaks, or the
 /// block's ext. Where there are any, the proposal window is read once.
 pub(crate) fn judge_transactions<C: Cells, B: Blocks>(
     alloc: Global,

@@ -35,7 +35,7 @@ fn is_cellbase(tx: &TxView<'_>) -> bool
     is_null(&raw.inputs_item(0).previous_output())
 }
 
-/// Whether a transaction behind the first is a cellbase.
+/// Whether a transaction after the first is a cellbase.
 fn has_later_cellbase(block: &BlockView<'_>) -> bool
     ensures { result ≡ list_any rules.is_cellbase (drop 1 block.now.transactions) }
 {

@@ -6,7 +6,7 @@ ghost use Rattle.tx_rules.specs.Copying.{row_in};
 use cell_model::{CellMeta, OutPoint, Resolved};
 use outside::NoMemory;
 
-/// Puts the row of an input behind those that are there, if a kept block made it, of which there are `e`.
+/// Puts the row of an input after those that are there, if a kept block made it, of which there are `e`.
 fn push_row(spent: &mut Vec<(OutPoint, CellMeta)>, input: &Resolved, e: u32) -> Result<(), NoMemory>
     ensures { OnOk result (spent.new.items ≡ spent.old.items ++ (if nat_lt input.now.row.block e then row_in input.now ∷ [] else [])) }
 {
@@ -16,7 +16,7 @@ fn push_row(spent: &mut Vec<(OutPoint, CellMeta)>, input: &Resolved, e: u32) -> 
     Ok(())
 }
 
-/// Puts the rows of the inputs that kept blocks made, of which there are `e`, behind those that are there.
+/// Puts the rows of the inputs that kept blocks made, of which there are `e`, after those that are there.
 pub(crate) fn push_spent(
     spent: &mut Vec<(OutPoint, CellMeta)>,
     inputs: &[Resolved],

@@ -124,7 +124,7 @@ fn read_rows(
     Ok(Some(rows))
 }
 
-/// Puts a count of fees and the fees behind what is there.
+/// Puts a count of fees and the fees after what is there.
 fn put_fees(bytes: &mut Vec<u8>, fees: &[u64]) -> Result<(), NoMemory>
     requires { length fees.now < 2 ^ 32 }
     ensures { OnOk result (bytes.new.items ≡ bytes.old.items ++ to_le_bytes w32 (length fees.now) ++ concat (map (to_le_bytes w64) fees.now)) }
@@ -136,7 +136,7 @@ fn put_fees(bytes: &mut Vec<u8>, fees: &[u64]) -> Result<(), NoMemory>
     Ok(())
 }
 
-/// Puts a count of rows and the rows behind what is there.
+/// Puts a count of rows and the rows after what is there.
 fn put_rows(bytes: &mut Vec<u8>, rows: &[(OutPoint, CellMeta)]) -> Result<(), NoMemory>
     requires { length rows.now < 2 ^ 32 }
     ensures written { OnOk result (bytes.new.items ≡ bytes.old.items ++ to_le_bytes w32 (length rows.now) ++ concat (map row_bytes rows.now)) }

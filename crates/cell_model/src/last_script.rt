@@ -30,7 +30,7 @@ impl Model for LastScript {
     ghost invariant = { λ last. (last.len ≤ 128) × (last.hash ≡ ckbhash (take last.len last.bytes)) };
 }
 
-/// Bytes with zeros behind them.
+/// Bytes with zeros after them.
 fn padded(bytes: &[u8]) -> [u8; LIMIT]
     requires { length bytes.now ≤ 128 }
     ensures { take (length bytes.now) result ≡ bytes.now }

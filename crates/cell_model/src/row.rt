@@ -95,7 +95,7 @@ pub(crate) fn read_row(row: &[u8]) -> Option<(OutPoint, CellMeta)>
     ))
 }
 
-/// Puts a type hash, or that there is none, behind what is there.
+/// Puts a type hash, or that there is none, after what is there.
 fn put_type_hash(bytes: &mut Vec<u8>, hash: &Option<[u8; 32]>) -> Result<(), NoMemory>
     ensures written { OnOk result (bytes.new.items ≡ bytes.old.items ++ exts.type_bytes hash.now) }
     ensures size { OnOk result (length (exts.type_bytes hash.now) ≡ 33) }
@@ -110,7 +110,7 @@ fn put_type_hash(bytes: &mut Vec<u8>, hash: &Option<[u8; 32]>) -> Result<(), NoM
     Ok(())
 }
 
-/// Puts what a row with its out-point begins with, up to its lock hash, behind what is there.
+/// Puts what a row with its out-point begins with, up to its lock hash, after what is there.
 fn put_front(bytes: &mut Vec<u8>, o: &OutPoint, meta: &CellMeta) -> Result<(), NoMemory>
     ensures written { OnOk result (bytes.new.items ≡ bytes.old.items ++ (o.now.tx_hash ++ to_le_bytes w32 o.now.index ++ to_le_bytes w32 meta.now.block
         ++ to_le_bytes w32 meta.now.transaction ++ to_le_bytes w64 meta.now.capacity ++ to_le_bytes w64 meta.now.occupied)) }
@@ -125,7 +125,7 @@ fn put_front(bytes: &mut Vec<u8>, o: &OutPoint, meta: &CellMeta) -> Result<(), N
     Ok(())
 }
 
-/// Puts a row with its out-point behind what is there.
+/// Puts a row with its out-point after what is there.
 pub(crate) fn put_row(bytes: &mut Vec<u8>, o: &OutPoint, meta: &CellMeta) -> Result<(), NoMemory>
     ensures written { OnOk result (bytes.new.items ≡ bytes.old.items ++ exts.row_bytes (o.now, meta.now)) }
     ensures size { OnOk result (length (exts.row_bytes (o.now, meta.now)) ≡ 161) }

@@ -22,7 +22,7 @@ abbrev pub value_of : ℕ → walked.Event → Event
 value_of height (variants.Makes o made) = Makes o (made_cell height made)
 value_of height (variants.Spends o) = Spends o
 
--- the events of a transaction from an index on, and those of the transactions behind it
+-- the events of a transaction from an index on, and those of the transactions after it
 abbrev pub left_at : Option Transaction → List Transaction → ℕ → ℕ → ℕ → List Event
 left_at None later height place index = []
 left_at (Some t) later height place index = drop index (events_of t height place) ++ events_from (place + 1) later height

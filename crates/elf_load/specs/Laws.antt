@@ -8,7 +8,7 @@ use Rattle.vm_defs.specs.Elf.{Program, Segment, load_elf, segments}
 abbrev pub covers : ℕ → Segment → Bool
 covers at segment = nat_le segment.address at && nat_lt at (segment.address + segment.memory_size)
 
--- that byte: one of the file, or zero behind those
+-- that byte: one of the file, or zero after those
 abbrev pub byte_of : List ℕ → ℕ → Segment → ℕ
 byte_of file at segment =
     if nat_lt (at - segment.address) segment.file_size then slice_index_or file (segment.offset + (at - segment.address)) 0 else 0

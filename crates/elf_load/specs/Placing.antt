@@ -20,7 +20,7 @@ with_contents file memory segment =
 abbrev pub with_code : Memory → Segment → Memory
 with_code memory segment = record memory { kinds = kinds_with memory.kinds segment }
 
--- bytes of the file go to the page with one of the segments; the zeros behind them do not count
+-- bytes of the file go to the page with one of the segments; the zeros after them do not count
 abbrev pub HoldsBytes : ℕ → List Segment → Type 0
 HoldsBytes page [] = ⊥
 HoldsBytes page (segment ∷ later) = IsUnder page segment.address segment.file_size ⊎ HoldsBytes page later

@@ -104,7 +104,7 @@ fn judge_segments(file: &[u8]) -> Result<u64, u8>
     Ok(file_bytes)
 }
 
-// Judges one segment behind earlier ones.
+// Judges one segment after earlier ones.
 fn judge_segment(file: &[u8], segment: &Segment, touched: &mut Touched) -> Result<(), u8>
     requires { (earlier : List elf.Segment) × Marks touched.old.kinds earlier }
     ensures { (earlier : List elf.Segment) → Marks touched.old.kinds earlier → JudgesSegment file.now earlier segment.now touched.new.kinds result }
@@ -116,7 +116,7 @@ fn judge_segment(file: &[u8], segment: &Segment, touched: &mut Touched) -> Resul
     Ok(())
 }
 
-// The first of E 5 to E 8 that a segment meets behind earlier ones.
+// The first of E 5 to E 8 that a segment meets after earlier ones.
 #[tactic(auto, unfolding(vm_defs::specs::Elf::broken_segment))]
 fn broken_segment(file: &[u8], segment: &Segment, touched: &Touched) -> Option<u8>
     ensures { (earlier : List elf.Segment) → Marks touched.now.kinds earlier → result ≡ broken_segment file.now earlier segment.now }

@@ -51,7 +51,7 @@ fn place(file: &[u8], segment: &Segment, memory: &mut Memory) -> Result<(), NoMe
     Ok(())
 }
 
-// Writes the bytes of a segment, and zeros behind them.
+// Writes the bytes of a segment, and zeros after them.
 #[tactic(auto, unfolding(vm_defs::specs::Memory::is_out_of_range, vm_defs::specs::Memory::memory_size))]
 fn write_contents(file: &[u8], segment: &Segment, memory: &mut Memory) -> Result<(), NoMemory>
     requires in_file { is_inside file.now segment.now.offset segment.now.file_size ≡ true }

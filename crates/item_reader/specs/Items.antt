@@ -26,7 +26,7 @@ pub record IsItemAt (limit : ℕ) (input : Option ℕ) (offset : ℕ) (item give
   pub is_item : IsItem limit item
   pub within : IsWithin input (offset + length item)
 
--- the reading ends at this offset, whatever is left behind the bytes that were given there
+-- the reading ends at this offset, whatever is left after the bytes that were given there
 pub record EndsAt (limit input : Option ℕ) (offset : ℕ) (left : Option (List ℕ)) (end : End) (given : List ℕ) : Type 0 where
   pub ends : (more : List ℕ) → left ≡ Some more → end_at limit input offset (given ++ more) ≡ Some end
   pub nothing : end ≡ AtEnd → given ≡ []

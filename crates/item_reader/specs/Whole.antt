@@ -10,7 +10,7 @@ use Rattle.item_reader.specs.Items.{IsReadingStop}
 use Rattle.item_reader.specs.declared.whole.Whole.{Whole}
 use Rattle.item_reader.specs.declared.whole.Whole.TheVariants as wholes
 
--- An item for each limit was given, and nothing behind them.
+-- An item for each limit was given, and nothing after them.
 pub record IsWhole (limits : List ℕ) (left : Option (List ℕ)) (items : List (List ℕ)) (given : List ℕ) : Type 0 where
   pub same : given ≡ concat items
   pub all : AreItems (whole_limits limits) 0 items

@@ -92,7 +92,7 @@ fn item_of_size<S: Source>(
     Ok(Next::Item(item))
 }
 
-/// Puts the size word at the front of an item and reads what is behind it.
+/// Puts the size word at the start of an item and reads what is after it.
 fn fill<S: Source>(input: &mut S, word: &[u8; 4], item: &mut [u8]) -> Result<usize, Failed>
     requires { 4 ≤ length item.old }
     ensures read { IfOk result (λ n. n + 4 ≤ length item.old) }

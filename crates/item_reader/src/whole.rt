@@ -10,7 +10,7 @@ use outside::Source;
 use report_defs::{End, Status};
 use std::alloc::Global;
 
-/// What an input holds that has so many items and nothing behind them: these, or its reading ends at an offset
+/// What an input holds that has so many items and nothing after them: these, or its reading ends at an offset
 /// where it should not.
 #[derive(Drop)]
 pub enum Whole {

@@ -119,11 +119,11 @@ pub record KeepsLog (reads_old reads_new : Option Image) (old new : Image → Ty
 abbrev pub IsLeftByOpening : List ℕ → (Image → Type 0) → Image → Type 0
 IsLeftByOpening bytes images image = images image ⊎ HasLog (λ log. log_of log ≡ log_of bytes) images image
 
--- What an import of an item leaves of images with these records: they, or they and one of that item, with some ext behind it.
+-- What an import of an item leaves of images with these records: they, or they and one of that item, with some ext after it.
 abbrev pub IsLeftByImport : ℕ → List Record → List ℕ → (Image → Type 0) → Image → Type 0
 IsLeftByImport place records item images image = (ext : List ℕ) × HasAppended place records (block_record item ext) images image
 
--- with the record of an item behind them where it joined, and some ext in it, and else the same
+-- with the record of an item after them where it joined, and some ext in it, and else the same
 abbrev pub AreRecordsBehind : List Record → List ℕ → List Record → Bool → Type 0
 AreRecordsBehind records item later false = later ≡ records
 AreRecordsBehind records item later true = (ext : List ℕ) × (later ≡ records ++ block_record item ext ∷ [])

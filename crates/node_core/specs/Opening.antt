@@ -7,6 +7,6 @@ use Rattle.cell_model.specs.ListBlocks.{IsCanonical, IsExtFor}
 abbrev pub HaveBlocks : List (List ℕ) → Type 0
 HaveBlocks blocks = All IsCanonical blocks
 
--- Each block behind the genesis has an ext beside it.
+-- Each block after the genesis has an ext beside it.
 abbrev pub HaveExts : List (List ℕ) → List (List ℕ) → Type 0
 HaveExts blocks exts = (place : ℕ) → 0 < place → place < length blocks → IsExtFor (slice_index_or blocks place []) (slice_index_or exts place [])

@@ -15,7 +15,7 @@ abbrev pub is_at : Option ℕ → ℕ → Bool
 is_at None place = false
 is_at (Some other) place = other == place
 
--- for the live cells of the branch of a place: its blocks behind the genesis, or none where it is the tip's, whose cells are at hand
+-- for the live cells of the branch of a place: its blocks after the genesis, or none where it is the tip's, whose cells are at hand
 abbrev pub replays_at : List Block → ℕ → ℕ
 replays_at kept place = if is_at (tip_place kept) place then 0 else number_of (block_at kept place)
 

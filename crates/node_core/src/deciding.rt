@@ -192,7 +192,7 @@ impl Kept {
         }
     }
 
-    /// Judges a transaction alone behind the tip: its fee in shannons, and the cycles of its scripts.
+    /// Judges a transaction alone after the tip: its fee in shannons, and the cycles of its scripts.
     pub(crate) fn check(&mut self, alloc: Global, tx: &TxView<'_>) -> Result<(u64, u64), Judged>
         ensures same { self.new ≡ self.old }
         ensures passes { IsJoined self.old.chain → IfOk result (λ it. trial_on self.old.chain.spec (best_branch self.old.chain.blocks) tx.now ≡ Passes it.0 it.1) }

@@ -59,7 +59,7 @@ impl Model for Kept {
     ghost invariant = { λ kept. AreKept kept.blocks.stored kept.tree.entries kept.uncles (rows kept.state) };
 }
 
-/// The cells with those of a block at a place behind its parent's branch. Damaged where its events do not fit.
+/// The cells with those of a block at a place after its parent's branch. Damaged where its events do not fit.
 fn grown<L: Ledger>(
     cells: State,
     block: &BlockView<'_>,
@@ -219,7 +219,7 @@ impl Kept {
     }
 }
 
-/// Takes the uncles of the block at a place behind those of the blocks before it.
+/// Takes the uncles of the block at a place after those of the blocks before it.
 pub(crate) fn take_uncles(
     uncles: &mut Uncles,
     block: &BlockView<'_>,
@@ -232,7 +232,7 @@ pub(crate) fn take_uncles(
     Ok(())
 }
 
-/// Puts an item with its ext behind the others, and its block's entry and uncles.
+/// Puts an item with its ext after the others, and its block's entry and uncles.
 fn put(
     alloc: Global,
     blocks: &mut ListBlocks,

@@ -92,7 +92,7 @@ fn fill(alloc: Global, body: &mut Body, item: &[u8], ext: &Ext) -> Result<Vec<u8
 pub struct Node {
     kept: Kept,
     log: Log,
-    /// The record that is put behind the others next.
+    /// The record that is put after the others next.
     body: Body,
 }
 
@@ -162,7 +162,7 @@ impl Node {
         }
     }
 
-    /// Keeps an item that can join, and puts its record on the disk behind the others.
+    /// Keeps an item that can join, and puts its record on the disk after the others.
     fn join<D: Disk, L: Ledger>(
         self,
         alloc: Global,
@@ -219,7 +219,7 @@ impl Node {
     }
 
     /// Judges an item over the kept blocks (docs/COMMANDS.md, "The text"), and where it joins keeps it and puts its record on
-    /// the disk. After an `Err` the disk has the record or not. Damaged where a kept block is not what those behind it say,
+    /// the disk. After an `Err` the disk has the record or not. Damaged where a kept block is not what those after it say,
     /// which never comes over a chain that has joined. A block on the tip takes one step, and one on another branch those of
     /// that branch before; an item that is answered at sight, as one that is known, takes none.
     pub fn import<D: Disk, L: Ledger>(
@@ -274,7 +274,7 @@ impl Node {
         }
     }
 
-    /// Judges a transaction alone behind the tip: its fee in shannons, and the cycles of its scripts.
+    /// Judges a transaction alone after the tip: its fee in shannons, and the cycles of its scripts.
     pub fn check(&mut self, alloc: Global, tx: &TxView<'_>) -> Result<(u64, u64), Judged>
         ensures same { self.new ≡ self.old }
         ensures passes { IsJoined self.old.chain → IfOk result (λ it. trial_on self.old.chain.spec (best_branch self.old.chain.blocks) tx.now ≡ Passes it.0 it.1) }

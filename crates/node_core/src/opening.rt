@@ -70,7 +70,7 @@ fn is_ext_for(block: &[u8], ext: &[u8]) -> bool
     ext_form(ext) && fees_in(ext) as usize == view.transactions_count().saturating_sub(1)
 }
 
-/// Whether each block behind the genesis has an ext beside it.
+/// Whether each block after the genesis has an ext beside it.
 fn have_exts(blocks: &[Vec<u8>], exts: &[Vec<u8>]) -> bool
     requires beside { length exts.now ≡ length blocks.now }
     requires canonical { HaveBlocks (contents blocks.now) }

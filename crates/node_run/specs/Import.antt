@@ -49,21 +49,21 @@ IsAnswered text (Err status) taken = IsCutShort text status taken
 abbrev pub KeepsSome : Chain → List (List ℕ) → Image → Type 0
 KeepsSome chain items image = (count : ℕ) × (count ≤ length items) × StandsFor (chain_over chain (take count items)) image
 
--- Whole items were given, and behind them bytes that hold no whole one.
+-- Whole items were given, and after them bytes that hold no whole one.
 pub record AreGiven (items : List (List ℕ)) (rest given : List ℕ) : Type 0 where
   pub whole : given ≡ concat items ++ rest
   pub all : AreItems import_limits 0 items
   pub within : length (concat items) ≤ input_limit
   pub partial : IsPartial item_limit (Some input_limit) (length (concat items)) rest
 
--- All items were answered, and the reading ended behind them.
+-- All items were answered, and the reading ended after them.
 pub record IsEnded (chain : Chain) (left : Option (List ℕ)) (ended : Ended) (items : List (List ℕ)) (rest taken : List ℕ) : Type 0 where
   pub lines : taken ≡ text_over chain items
   pub refused : ended.refused ≡ list_any rules.refuses (verdicts_over chain items)
   pub offset : ended.offset ≡ length (concat items)
   pub ends : EndsAt (Some item_limit) (Some input_limit) (length (concat items)) left ended.end rest
 
--- The import was stopped when some items were answered: at the reading behind them, or at one item more, of whose line a part was taken.
+-- The import was stopped when some items were answered: at the reading after them, or at one item more, of whose line a part was taken.
 pub record IsStopped (chain : Chain) (status : Status) (items before : List (List ℕ)) (rest taken : List ℕ) : Type 0 where
   pub stop : IsStop status
   pub part : List ℕ

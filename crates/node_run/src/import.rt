@@ -167,7 +167,7 @@ fn import_items<S: Source, K: Sink, D: Disk, L: Ledger>(
     }
 }
 
-/// What is said behind the lines, and the status.
+/// What is said after the lines, and the status.
 fn answer_to_end(alloc: Global, ended: &Ended) -> Result<Answer, NoMemory>
     ensures text { IfOk result (λ answer. string_bytes answer.text ≡ reports.closing_of_end ended.now.offset ended.now.end) }
     ensures status { IfOk result (λ answer. answer.status

@@ -311,7 +311,7 @@ pub fn made_line(alloc: Global, count: u32, counted: &Counts) -> Result<String, 
     Ok(line)
 }
 
-/// Adds an exit code in decimal digits, behind a sign where it is negative.
+/// Adds an exit code in decimal digits, after a sign where it is negative.
 fn push_code(alloc: Global, line: &mut String, code: i8) -> Result<(), AllocError>
     ensures { OnOk result (string_bytes line.new ≡ string_bytes line.old ++ signed_decimal code) }
 {

@@ -10,7 +10,7 @@ use outside::{Sink, write_all};
 use report_defs::{End, Status};
 use std::alloc::Global;
 
-/// A text, and the status behind it.
+/// A text, and the status after it.
 #[derive(Drop)]
 pub struct Answer {
     pub text: String,

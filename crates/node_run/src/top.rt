@@ -74,7 +74,7 @@ pub fn run<S: Source, K: Sink, D: Disk, L: Ledger>(
         → AsksStore (grammar.command_of (map string_bytes words.now)) → IsOnlyRead D.reads_as D.images D.moment D.left_since disk.old disk.new }
 
     // A command that opens the store keeps the records of LOG, over a log that is sound or not, and whatever status it ends with: an image is one of the
-    // start, or its LOG has the records that it read as, and behind them those of some of the items.
+    // start, or its LOG has the records that it read as, and after them those of some of the items.
     ensures records { OpensStore (grammar.command_of (map string_bytes words.now)) → Gave (S.left input.old) (S.left input.new)
         (λ given. (now : Image) (chain : Chain) → D.reads_as disk.old ≡ Some now → store_of now ≡ Keeps chain
         → KeepsRecords (items_of (grammar.command_of (map string_bytes words.now)) given) now (D.images disk.old) (D.images disk.new)
@@ -85,7 +85,7 @@ pub fn run<S: Source, K: Sink, D: Disk, L: Ledger>(
         (λ given. (now : Image) (chain : Chain) → D.reads_as disk.old ≡ Some now → StandsFor chain now → slice_index now.log (end_of_log now.log) ≢ 1
         → NoneJoins chain (split_of import_limits given).items → IsOnlyRead D.reads_as D.images D.moment D.left_since disk.old disk.new) }
 
-    // Only a command that opens the store counts steps: a query or question at most one for each block behind the genesis on the branch of the tip, and an import
+    // Only a command that opens the store counts steps: a query or question at most one for each block after the genesis on the branch of the tip, and an import
     // over a store that is sound at most these, and for each item one and those of the branch that is replayed for it.
     ensures steps { (OpensStore (grammar.command_of (map string_bytes words.now)) → ⊥) → steps.new ≡ steps.old }
     ensures query_steps { (now : Image) → D.reads_as disk.old ≡ Some now → AsksStore (grammar.command_of (map string_bytes words.now))

@@ -12,7 +12,7 @@ use Rattle.outside_mem.specs.Memory.{Plan}
 
 -- A call that changed the disk, or what a crash may leave of it.
 pub data Step : Type 0 where
-  -- a write of this piece, and of so many bytes behind it that a failed call did not come to
+  -- a write of this piece, and of so many bytes after it that a failed call did not come to
   Wrote : (area : Area) (at : ℕ) (piece : List ℕ) (lost : ℕ) → Step
   -- a cut to `len`, of which a failed call left so many bytes
   Shortened : (area : Area) (len left : ℕ) → Step
@@ -32,7 +32,7 @@ abbrev pub reads : List Step → Image
 reads [] = empty
 reads (step ∷ earlier) = read_after step (reads earlier)
 
--- An image that the steps leave: each write torn, each cut in part, and behind a sync only what was read.
+-- An image that the steps leave: each write torn, each cut in part, and after a sync only what was read.
 abbrev pub Leaves : List Step → Image → Type 0
 Leaves [] image = image ≡ empty
 Leaves (Wrote area at piece lost ∷ earlier) image = ComesBy (InArea area (Torn at (length piece + lost))) (Leaves earlier) image

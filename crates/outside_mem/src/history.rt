@@ -12,9 +12,9 @@ use std::snapshot::Snapshot;
 /// A call that changed the areas. What it wrote lies in them, and here for clauses alone.
 #[derive(Drop)]
 pub(crate) enum Recorded {
-    /// Where it wrote, what, and how many bytes behind it that it did not come to.
+    /// Where it wrote, what, and how many bytes after it that it did not come to.
     Write(Area, u64, Snapshot<Vec<u8>>, usize),
-    /// The length that it cut to, and how many bytes behind it that it left.
+    /// The length that it cut to, and how many bytes after it that it left.
     Cut(Area, u64, u64),
     Sync(Area),
 }

@@ -1,4 +1,4 @@
-// One kept block at a time: the cells of the genesis, and the events of a block behind it.
+// One kept block at a time: the cells of the genesis, and the events of a block after it.
 ghost use Rattle.std.specs.Prelude.{◌≡◌, ◌≤◌, ◌<◌, ◌+◌, ℕ, List, length, Some, None, Err, IfOk, OnOk, IsSome};
 ghost use Rattle.codec_defs.specs.Schema.{OutPoint, Block};
 ghost use Rattle.outside.specs.Causes.{CountsFault};

@@ -20,7 +20,7 @@ use outside::{NoMemory, ReadStop, Steps};
 use std::alloc::Global;
 use std::sync::ledger::Ledger;
 
-/// The places behind the genesis of the branch that ends with a place of this number, the last first. Each is found from
+/// The places after the genesis of the branch that ends with a place of this number, the last first. Each is found from
 /// the one before it, so that a whole branch takes a step a place.
 fn places_down(alloc: Global, tree: &Tree, e: u32, last: u64) -> Result<Vec<u32>, NoMemory>
     requires { IsSomeAnd (entry_at tree.now.entries e) (λ entry. entry.number ≡ last) }
@@ -36,7 +36,7 @@ fn places_down(alloc: Global, tree: &Tree, e: u32, last: u64) -> Result<Vec<u32>
     Ok(places)
 }
 
-/// The live cells of the branch that ends with a place, replayed from the genesis: a step for each block behind it.
+/// The live cells of the branch that ends with a place, replayed from the genesis: a step for each block after it.
 /// Damaged where the source finds one of the branch's blocks damaged, or its events do not fit the cells before it.
 pub fn replay<B: Blocks, L: Ledger>(
     alloc: Global,

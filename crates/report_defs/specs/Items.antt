@@ -77,7 +77,7 @@ pub record IsSplit (limits : Limits) (input : List ℕ) (split : Split) : Type 0
 
 -- ---- A whole input
 
--- An input that is read whole has an item for each of these limits, and nothing behind them.
+-- An input that is read whole has an item for each of these limits, and nothing after them.
 abbrev pub whole_limits : List ℕ → Limits
 whole_limits limits = record { item = slice_get limits; input = None }
 
@@ -122,7 +122,7 @@ bytes_to_tell (Some limit) = 4
 abbrev pub EndsTheReading : Limits → Split → Type 0
 EndsTheReading limits split = IsAtWord split.end → length split.rest ≡ bytes_to_tell (limits.item (length split.items))
 
--- nothing is read behind the size word, or the first byte too many, at which the reading ends
+-- nothing is read after the size word, or the first byte too many, at which the reading ends
 abbrev pub ReadsNoFurther : Limits → List ℕ → Type 0
 ReadsNoFurther limits given = EndsTheReading limits (split_of limits given)
 

@@ -75,7 +75,7 @@ IsStoppedBeforeTheSink status = IsOneOf (InputFault ∷ DiskFault ∷ NoMemory �
 
 -- ---- Text
 
--- the first is the front of the second
+-- the first is a prefix of the second
 abbrev pub IsPrefix : List ℕ → List ℕ → Type 0
 IsPrefix front whole = (rest : List ℕ) × (whole ≡ front ++ rest)
 
@@ -92,7 +92,7 @@ pub record MatchesReport (IsReportOf : List ℕ → Report → Type 0) (given : 
 abbrev pub all_but_last : List (List ℕ) → List (List ℕ)
 all_but_last items = take (length items - 1) items
 
--- How the lines keep up with items that the source gave whole, over the chain at the start. The rest is what it gave behind them.
+-- How the lines keep up with items that the source gave whole, over the chain at the start. The rest is what it gave after them.
 pub record WritesInOrder (chain : Chain) (items : List (List ℕ)) (rest taken : List ℕ) : Type 0 where
   -- each item but the last has its whole line
   pub lines : IsPrefix (concat (lines_over chain (all_but_last items))) taken
@@ -131,11 +131,11 @@ pub record InitsInOrder (store : Store) (given : List ℕ) (left : Option (List 
 -- `import`, over the chain of a store
 pub record ImportsInOrder (chain : Chain) (given : List ℕ) (left : Option (List ℕ)) (taken : List ℕ) (status : Status) : Type 0 where
   pub written : WritesInOrder chain (split_of import_limits given).items (split_of import_limits given).rest taken
-  -- only the sink leaves a part of a line, or of the text behind the lines
+  -- only the sink leaves a part of a line, or of the text after the lines
   pub whole_lines : IsStoppedBeforeTheSink status → AreWholeLines chain (split_of import_limits given).items taken
   pub to_end : IsOneOf (Done ∷ SomeRefused ∷ []) status → IsAtEnd left
   pub to_early_end : ReadsToTheEnd import_limits given left status
-  -- nothing is read behind a size word at which the reading ends
+  -- nothing is read after a size word at which the reading ends
   pub no_further : IsAtWord (split_of import_limits given).end → length (split_of import_limits given).rest ≡ 4
 
 -- where there is no store, nothing is read and nothing written

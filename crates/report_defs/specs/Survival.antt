@@ -29,12 +29,12 @@ items_of (Some (Question question)) given = []
 items_of (Some (Standalone command)) given = []
 items_of (Some (Simulation simulation)) given = []
 
--- What was taken agrees with a text: it is a front of it, or goes on behind it.
+-- What was taken agrees with a text: it is a prefix of it, or goes on after it.
 abbrev pub Agrees : List ℕ → List ℕ → Type 0
 Agrees taken text = IsPrefix taken text ⊎ IsPrefix text taken
 
--- A front of a run's items: at most those that its source gave whole, and at least those whose whole line its sink took. What is
--- written behind the lines counts for none.
+-- A prefix of a run's items: at most those that its source gave whole, and at least those whose whole line its sink took. What is
+-- written after the lines counts for none.
 pub record IsFront (chain : Chain) (items : List (List ℕ)) (taken : List ℕ) (count : ℕ) : Type 0 where
   -- it is this chain over which the items were answered
   pub answered : Agrees taken (concat (lines_over chain items))
@@ -48,13 +48,13 @@ NoneJoins chain (item ∷ items) = (joins (verdict_over chain item) ≡ false) �
 
 -- ---- The records of LOG
 
--- records of some of these items, in their order, with some ext behind each item
+-- records of some of these items, in their order, with some ext after each item
 abbrev pub AreOfSome : List (List ℕ) → List Record → Type 0
 AreOfSome [] records = records ≡ []
 AreOfSome (item ∷ items) records = AreOfSome items records
     ⊎ ((ext : List ℕ) × (later : List Record) × (records ≡ record { kind = 3; body = body_of_parts item ext } ∷ later) × AreOfSome items later)
 
--- The bytes are a log with these records, and behind them those of some of these items.
+-- The bytes are a log with these records, and after them those of some of these items.
 pub record GoesOn (items : List (List ℕ)) (records : List Record) (bytes : List ℕ) : Type 0 where
   pub begins : take 8 bytes ≡ magic
   pub added : List Record
@@ -113,7 +113,7 @@ Each images P = (image : Image) → images image → P image
 
 -- A command that opens the store, over sound images and the chain that the disk read as.
 pub record KeepsStore (chain : Chain) (items : List (List ℕ)) (taken : List ℕ) (status : Status) (at_start at_exit meanwhile : Image → Type 0) : Type 0 where
-  -- At the exit each image keeps what joined of a front of the items. Where the disk failed or memory ran out before a line was
+  -- At the exit each image keeps what joined of a prefix of the items. Where the disk failed or memory ran out before a line was
   -- taken, it may be an image of the start instead.
   pub exit : Each at_exit (λ image. (IsOneOf (DiskFault ∷ NoMemory ∷ []) status × (taken ≡ []) × at_start image)
       ⊎ ((count : ℕ) × IsFront chain items taken count × StandsFor (chain_over chain (take count items)) image))
@@ -126,12 +126,12 @@ KeepsItems items now at_start at_exit meanwhile taken status = (chain : Chain) �
     → KeepsStore chain items taken status at_start at_exit meanwhile
 
 -- A command that opens the store, over a LOG that reads as a log, sound or not, and whatever status it ends with: each image is one of the start,
--- or its LOG has the records that it read as at the start, and behind them those of some of the items.
+-- or its LOG has the records that it read as at the start, and after them those of some of the items.
 pub record KeepsRecords (items : List (List ℕ)) (now : Image) (at_start at_exit meanwhile : Image → Type 0) : Type 0 where
   pub exit : Each at_exit (λ image. at_start image ⊎ GoesOn items (records_of (drop 8 now.log)) image.log)
   pub moments : Each meanwhile (λ image. at_start image ⊎ GoesOn items (records_of (drop 8 now.log)) image.log)
 
--- A new store: the disk has one image, which keeps the genesis alone: its log is that of the two items, with not a byte behind it, and the other
+-- A new store: the disk has one image, which keeps the genesis alone: its log is that of the two items, with not a byte after it, and the other
 -- areas are empty.
 pub record IsNewStore (given : List ℕ) (at_exit : Image → Type 0) : Type 0 where
   pub specification : List ℕ

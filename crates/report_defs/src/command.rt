@@ -35,7 +35,7 @@ pub enum Query {
 /// What is asked of the store about a whole input.
 #[derive(Clone, Copy, Debug, PartialEq, Eq)]
 pub enum Question {
-    /// `check`: a transaction is judged alone, behind the tip.
+    /// `check`: a transaction is judged alone, after the tip.
     Check,
 }
 

@@ -287,7 +287,7 @@ fn type_groups<'a>(alloc: Global, tx: &'a ShownTx<'a>) -> Result<Vec<Group<'a>>,
     }
 }
 
-/// Two lists of groups, one behind the other. More than a `u32` counts are taken for want of memory.
+/// Two lists of groups, one after the other. More than a `u32` counts are taken for want of memory.
 fn both<'a>(
     mut first: Vec<Group<'a>>,
     mut second: Vec<Group<'a>>,

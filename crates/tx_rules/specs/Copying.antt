@@ -26,7 +26,7 @@ abbrev pub IsBlockAt : Option (List Stored) → ℕ → Block → Type 0
 IsBlockAt told place block = IfSome told (λ stored. IfSome (slice_get stored place) (λ it. it.block ≡ block))
 
 -- A copy is that of the output which its row names, whatever row that is: of the block at the row's place among those that are told, or of the
--- block that is judged. No block stands behind these.
+-- block that is judged. No block stands after these.
 pub record CopiesItsRow (told : Option (List Stored)) (at : AtValue) (copy : ResolvedValue) : Type 0 where
   pub block : copy.row.block ≤ length at.entries
   pub kept : (stored : List Stored) (made : Stored) → told ≡ Some stored → slice_get stored copy.row.block ≡ Some made

@@ -68,7 +68,7 @@ abbrev pub Stops : {T : Type 0} → Bool → Result T TxStop → Type 0
 Stops proposed (Ok v) = Unit {0}
 Stops proposed (Err stop) = IsStop proposed stop
 
--- behind J18 to J20 a step stops at a later rule
+-- after J18 to J20 a step stops at a later rule
 abbrev pub IsLater : TxStop → Type 0
 IsLater (Broken rule) = (20 < rule_number rule) × (rule_number rule ≤ 27)
 IsLater (Read DiskFault) = Unit {0}

@@ -1,4 +1,4 @@
-//! The rules on one transaction behind the cellbase, J18 to J27 (docs/RULES.md, "A block").
+//! The rules on one transaction after the cellbase, J18 to J27 (docs/RULES.md, "A block").
 //!
 //! [`resolve`] is the contract of use: over a tree, the live cells that the transaction sees and a source of kept
 //! blocks it answers the least of these rules that is broken, exactly by `tx_defs`, and otherwise the transaction with

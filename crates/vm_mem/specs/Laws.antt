@@ -7,7 +7,7 @@ abbrev pub LoadsWhatWasStored : Type 0
 LoadsWhatWasStored = (old new : Memory) (at count number : ℕ) → length old.bytes ≡ memory_size
     → store old at (bytes_of count number) ≡ Ok new → load new at count ≡ Ok (number % 256 ^ count)
 
--- A load elsewhere, before the bytes that were stored or behind them, gives what it gave.
+-- A load elsewhere, before the bytes that were stored or after them, gives what it gave.
 abbrev pub StoreLeavesTheRest : Type 0
 StoreLeavesTheRest = (old new : Memory) (at : ℕ) (bytes : List ℕ) (place count : ℕ) → length old.bytes ≡ memory_size
     → store old at bytes ≡ Ok new → (place + count ≤ at) ⊎ (at + length bytes ≤ place) → load new place count ≡ load old place count

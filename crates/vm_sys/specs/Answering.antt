@@ -71,7 +71,7 @@ PartTouches machine item page = IsUnder page (argument machine 1) 8
     ⊎ ((word : ℕ) × (load machine.memory (argument machine 1) 8 ≡ Ok word)
     × IsUnder page (argument machine 0) (length (take word (drop (argument machine 2) item))))
 
--- One of the content that is loaded as code does. The zeros behind it take no memory.
+-- One of the content that is loaded as code does. The zeros after it take no memory.
 abbrev pub ContentTouches : Machine → ℕ → Type 0
 ContentTouches machine page = IsUnder page (argument machine 0) (argument machine 3)
 

@@ -176,7 +176,7 @@ fn is_unaligned(at: u64, size: u64) -> bool
     at % PAGE_SIZE != 0 || size % PAGE_SIZE != 0
 }
 
-// Writes content, and zeros behind it up to the size, to pages of data, which become code.
+// Writes content, and zeros after it up to the size, to pages of data, which become code.
 #[tactic(auto, unfolding(vm_defs::specs::Memory::is_out_of_range, vm_defs::specs::Memory::memory_size))]
 fn place_code(memory: &mut Memory, at: u64, content: &[u8], size: u64) -> Result<(), MemStop>
     requires aligned { at % page_size ≡ 0 }
