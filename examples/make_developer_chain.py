@@ -28,7 +28,7 @@ HERE = os.path.dirname(os.path.abspath(__file__))
 LAST = 300
 LARGE = bytes(i * 7 & 255 for i in range(1 << 20))
 FEE = 1000
-CYCLES = 505
+CYCLES = 505        # of PROGRAM: 3 for its 12 bytes, 1 and 1 for two ADDI, 500 for ECALL
 
 
 def plan():

@@ -9,9 +9,9 @@ import stat
 import subprocess
 import time
 
-from harness import (CONTRACT_INIT, FIRST_INIT, FIRST_LINE, Ran, chain_of, contract, contract_store, developer,
-                     file_with, first, line_of, log_of, must, must_answer, must_be, must_have_tip, new_folder,
-                     size_word, started, status_of, write)
+from harness import (CONTRACT_INIT, FIRST_INIT, FIRST_LINE, Ran, chain_of, chaingen, contract, contract_store,
+                     developer, file_with, first, line_of, log_of, must, must_answer, must_be, must_have_tip,
+                     new_folder, new_store, size_word, started, status_of, write)
 
 KILLS, MOST_LINES = 200, 10
 NOBODY = 65534
@@ -81,6 +81,24 @@ def check_developer_chain(program):
             must_answer(Ran([program, folder, *words.split()]), 0, (line + '\n').encode(), words)
         transfer, line = developer.last_transfer(moved)
         must_answer(Ran([program, folder, 'check'], transfer), 0, (line + '\n').encode(), 'check')
+
+
+def check_queries_over_generated_blocks(program):
+    """20 blocks of which two are siblings: `epoch` by the height of the tip, and a header on its branch alone."""
+    spec, genesis, blocks, kept, tip = chaingen.make(0, 20)
+    must_be(kept[tip][0], 18, 'the height of the tip')
+
+    def header_of(block):
+        at = int.from_bytes(block[4:8], 'little')
+        return block[at:at + 208].hex()
+
+    with new_store(program, spec + genesis, b'genesis 0x%s\n' % kept[0][1].hex().encode()) as folder:
+        must_be(Ran([program, folder, 'import'], b''.join(blocks)).status, 0, 'import: status')
+        for words, text in (('epoch', 'epoch 1 8 10'),
+                            ('header 0', 'header 0 0x%s 0x%s' % (kept[0][1].hex(), header_of(genesis))),
+                            ('header 18', 'header 18 0x%s 0x%s' % (kept[tip][1].hex(), header_of(blocks[tip - 1]))),
+                            ('header 19', 'none')):
+            must_answer(Ran([program, folder, *words.split()]), 0, text.encode() + b'\n', words)
 
 
 def check_what_is_no_store(program):

@@ -232,7 +232,7 @@ def check_script_tells_words_without_a_build(_):
         usages = [it.run(words=[word]) for word in ('--help', '-h')]
         must_be(usages[0], usages[1], '--help and -h')
         must_be((usages[0][0], usages[0][2]), (0, b''), '--help')
-        for command in ('init', 'import', 'check', 'tip', 'header N', 'epoch', 'cell HASH N', 'dao HASH N', 'exec N',
+        for command in ('init', 'import', 'check', 'tip', 'header N', 'json N', 'epoch', 'cell HASH N', 'dao HASH N', 'exec N',
                         'asm', 'dis', 'unjson', 'make N M'):
             lines = [line for line in usages[0][1].splitlines() if b'ckbdev FOLDER %s ' % command.encode() in line]
             must_be(len(lines), 1, 'lines of --help on ' + command)

@@ -33,7 +33,8 @@ fn one_if_joined(verdict: &Verdict) -> u64
     }
 }
 
-/// Opens a new store of a specification and a genesis, which are those of a generated chain, and so keep their rules.
+/// Opens a new store of a specification and a genesis. `Err` is want of memory, or a rule that they break: those of a generated
+/// chain break none.
 fn open_new<D: Disk, L: Ledger>(
     alloc: Global,
     disk: &mut D,
@@ -168,6 +169,7 @@ fn count_made<L: Ledger>(
 
 /// What is counted where the blocks of a seed, so many of them, at most 20,000, are imported one after the other over their genesis.
 /// They are kept on a disk in memory, and steps are counted for no one. `Err` is want of memory, also where the disk meets it.
+/// That nothing else gives it rests on the generated genesis keeping its rules, which is tested.
 pub fn counts_of(alloc: Global, seed: u64, count: u32) -> Result<Counts, NoMemory>
     requires { count ≤ 20000 }
     ensures { IfOk result (λ counts. counts ≡ generated_counts seed count) }

@@ -1,5 +1,5 @@
-//! What `go_to` of reorg asks of kept blocks holds of a chain that has joined with its own exts beside it. A law as the
-//! contract of a function that does nothing.
+//! What `go_to` of reorg asks of kept blocks holds of a chain that has joined with its own exts beside it, where these fit
+//! their bytes. A law as the contract of a function that does nothing.
 #![tactic(auto)]
 
 ghost use Rattle.reorg_laws.specs.Laws.{JoinedCanBeTakenBack};

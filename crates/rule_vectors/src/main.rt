@@ -5,7 +5,7 @@
 //! and the DAO's numbers, then its arguments and its answer; numbers are in decimal, or in hex after `0x`. These answers come
 //! from the rules and were worked by hand.
 //!
-//! Behind `rule` stands a rule as it is printed, and its line in docs/RULES.md.
+//! After `rule` stands a rule as it is printed, and its line in docs/RULES.md.
 //!
 //! The other rows are about a chain. `spec` and `genesis` begin a chain, and a `block`
 //! joins it whatever rules it breaks; a `kept` block has its ext beside it. `earliest` asks for the earliest proposer of an
