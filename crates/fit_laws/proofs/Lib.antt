@@ -1,2 +1,3 @@
 pub mod HashLemmas
 pub mod ShapeLemmas
+pub mod CountLemmas

@@ -1,5 +1,5 @@
 -- What is in canonical values, field by field.
-use Rattle.std.proofs.Common.{◌≡◌, ℕ, zero, suc, ◌+◌, ◌*◌, ◌<◌, ◌^◌, Bool, true, false, List, [], ◌∷◌, ◌++◌, length, map, Option, Some, None, refl, ap, ◌∙◌, subst, arith}
+use Rattle.std.proofs.Common.{◌≡◌, ℕ, zero, suc, ◌+◌, ◌*◌, ◌<◌, ◌^◌, Bool, true, false, List, [], ◌∷◌, ◌++◌, length, map, Option, Some, None, refl, sym, ap, ◌∙◌, subst, arith}
 use Rattle.std.specs.Prelude.{nat_lt, ◌==◌, slice_get, unwrap_or, IfSome, replicate, if◌then◌else◌}
 use Rattle.std.specs.Option.{option_map}
 use Rattle.std.specs.List.{concat}
@@ -12,8 +12,9 @@ use Rattle.codec_defs.specs.Shape.{Shape, Encoding, parts, all_fit, are_bytes, u
 use Rattle.codec_defs.specs.Schema.{byte32, proposal_short_id, header, uncle_block, cell_dep, Script, script, OutPoint, out_point, cell_input, CellOutput, cell_output, RawTransaction, raw_transaction, Transaction, transaction, Block, block}
 use Rattle.time_defs.specs.Dao.{occupied_capacity}
 use Rattle.hash_defs.specs.CkbHash.{ckbhash}
+use Rattle.chain_defs.specs.Hashes.{transaction_hash}
 use Rattle.cell_defs.specs.Cell.{script_hash, data_hash}
-use Rattle.fit_laws.specs.Laws.{IsCanonical, RowsOfOutputsFit, InputsFit}
+use Rattle.fit_laws.specs.Laws.{IsCanonical, RowsOfOutputsFit, InputsFit, TransactionsAreFew}
 use Rattle.fit_laws.proofs.HashLemmas.{hashes-have-32}
 
 -- one of values that all fit does
@@ -34,7 +35,7 @@ fit-at (first ∷ fields) zero e all there =
 fit-at (first ∷ fields) (suc i) e all there = fit-at fields i e (and_parts first.fits (all_fit fields) all).1 there
 
 -- a table is short, and its fields fit
-table-parts : (fields : List Encoding) → (table fields).fits ≡ true → (length (molecule.dynvec (parts fields)) < 2 ^ 32) × (all_fit fields ≡ true)
+pub table-parts : (fields : List Encoding) → (table fields).fits ≡ true → (length (molecule.dynvec (parts fields)) < 2 ^ 32) × (all_fit fields ≡ true)
 table-parts fields fits =
     let both = and_parts (nat_lt (length (molecule.dynvec (parts fields))) (2 ^ 32)) (all_fit fields) fits in
     (ltb-true (length (molecule.dynvec (parts fields))) (2 ^ 32) both.0, both.1)
@@ -71,16 +72,16 @@ abbrev block_fields : Block → List Encoding
 block_fields b = header.encoding b.header ∷ (dynvec uncle_block).encoding b.uncles ∷ (dynvec transaction).encoding b.transactions
     ∷ (fixvec 10 proposal_short_id).encoding b.proposals ∷ []
 
-vec-fits : (b : Block) → IsCanonical b → (table (map transaction.encoding b.transactions)).fits ≡ true
+pub vec-fits : (b : Block) → IsCanonical b → (table (map transaction.encoding b.transactions)).fits ≡ true
 unfolding block
 vec-fits b canonical = fit-at (block_fields b) 2 ((dynvec transaction).encoding b.transactions) (table-parts (block_fields b) canonical).1 refl
 
-few-transactions : (b : Block) → IsCanonical b → length b.transactions < 2 ^ 32
+pub few-transactions : TransactionsAreFew
 few-transactions b canonical =
     let few = few-items (parts (map transaction.encoding b.transactions)) (table-parts (map transaction.encoding b.transactions) (vec-fits b canonical)).0 in
     let many = count-parts transaction b.transactions in omega (arith, few, many)
 
-abbrev raw_fields : RawTransaction → List Encoding
+abbrev pub raw_fields : RawTransaction → List Encoding
 raw_fields raw = u32.encoding raw.version ∷ (fixvec 37 cell_dep).encoding raw.cell_deps ∷ (fixvec 32 byte32).encoding raw.header_deps
     ∷ (fixvec 44 cell_input).encoding raw.inputs ∷ (dynvec cell_output).encoding raw.outputs ∷ (dynvec bytes).encoding raw.outputs_data ∷ []
 
@@ -164,9 +165,13 @@ data-hash-32 content = by_test (length content == 0)
     by_test true = refl
     by_test false = hashes-have-32 content
 
+transaction-hash-32 : (t : Transaction) → length (transaction_hash t) ≡ 32
+unfolding transaction_hash
+transaction-hash-32 t = hashes-have-32 _
+
 pub rows-of-outputs-fit : RowsOfOutputsFit
-rows-of-outputs-fit b place o cell canonical few hash index is = record {
-  tx_hash = hash;
+rows-of-outputs-fit b place o cell canonical few is = record {
+  tx_hash = sym (ap length is.hash) ∙ transaction-hash-32 is.t;
   index = index;
   block = few;
   transaction = let within = slice_get_within b.transactions cell.transaction is.t is.there in let most = few-transactions b canonical in omega (arith, within, most);
@@ -182,10 +187,19 @@ rows-of-outputs-fit b place o cell canonical few hash index is = record {
     all : all_fit (raw_fields is.t.raw) ≡ true
     all = raw-fits b cell.transaction is.t canonical is.there
 
+    vec_outputs : (table (map cell_output.encoding is.t.raw.outputs)).fits ≡ true
+    vec_outputs = fit-at (raw_fields is.t.raw) 4 ((dynvec cell_output).encoding is.t.raw.outputs) all refl
+
+    index : o.index < 2 ^ 32
+    index =
+        let few = few-items (parts (map cell_output.encoding is.t.raw.outputs)) (table-parts (map cell_output.encoding is.t.raw.outputs) vec_outputs).0 in
+        let many = count-parts cell_output is.t.raw.outputs in
+        let within = slice_get_within is.t.raw.outputs o.index cell.output is.output in
+        omega (arith, few, many, within)
+
     output : FitsOutput cell.output
     output =
-        let vec = fit-at (raw_fields is.t.raw) 4 ((dynvec cell_output).encoding is.t.raw.outputs) all refl in
-        output-fits cell.output (fits-at cell_output is.t.raw.outputs o.index cell.output (table-parts (map cell_output.encoding is.t.raw.outputs) vec).1 is.output)
+        output-fits cell.output (fits-at cell_output is.t.raw.outputs o.index cell.output (table-parts (map cell_output.encoding is.t.raw.outputs) vec_outputs).1 is.output)
 
     data_few : length cell.content < 2 ^ 32
     data_few =

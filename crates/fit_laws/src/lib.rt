@@ -1,12 +1,15 @@
-//! What of canonical blocks fits the bytes of rows. Laws as contracts of a function that does nothing.
+//! What of canonical blocks fits the bytes of rows and of exts. Laws as contracts of a function that does nothing.
 #![tactic(auto)]
 
-ghost use Rattle.fit_laws.specs.Laws.{HashesHave32, RowsOfOutputsFit, InputsFit};
+ghost use Rattle.fit_laws.specs.Laws.{HashesHave32, RowsOfOutputsFit, InputsFit, TransactionsAreFew, InputsAreFew};
 
-/// States that a hash has 32 bytes, that the outputs of a canonical block have rows that fit their bytes, and that so do
-/// the out-points that its inputs name. It does nothing.
+/// States that a hash has 32 bytes, that the outputs of a canonical block have rows that fit their bytes, that so do the
+/// out-points that its inputs name, and that four bytes count its transactions, and the inputs of all of them. It does
+/// nothing.
 pub fn canonical()
     ensures hashes { HashesHave32 }
     ensures outputs { RowsOfOutputsFit }
     ensures inputs { InputsFit }
+    ensures few_transactions { TransactionsAreFew }
+    ensures few_inputs { InputsAreFew }
 {}
