@@ -1,1 +1,4 @@
+pub mod BranchLemmas
+pub mod SpentLemmas
+pub mod FitLaws
 pub mod WayLaws

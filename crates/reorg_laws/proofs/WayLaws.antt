@@ -15,13 +15,14 @@ use Rattle.store_defs.specs.Store.{first_of, own_ext, ext_on}
 use Rattle.ext_laws.proofs.KeptLaws.{kept-exts-take-back}
 use Rattle.reorg.specs.Moves.{CanBeTakenBack}
 use Rattle.reorg_laws.specs.Laws.{JoinedCanBeTakenBack}
+use Rattle.reorg_laws.proofs.FitLaws.{joined-exts-fit}
 
 pub joined-can-be-taken-back : JoinedCanBeTakenBack
-joined-can-be-taken-back chain stored same are fit place parent it found named =
+joined-can-be-taken-back chain stored same are canonical place parent it found named =
     subst (λ (kept : List Block). CanBeTakenBack it.block it.ext (live_row kept place) (live_row kept parent)) (sym same) (record {
       height = length (branch chain.blocks parent);
       ext = own;
-      fits = fit place parent it.block there on;
+      fits = joined-exts-fit chain are.joined canonical place parent it.block there on;
       bytes_are = bytes;
       comes_before = kept-exts-take-back chain place parent it.block are.joined there on;
     })

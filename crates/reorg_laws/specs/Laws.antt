@@ -4,9 +4,11 @@ use Rattle.codec_defs.specs.Schema.{Block}
 use Rattle.chain_defs.specs.Kept.{block_at, parent_place}
 use Rattle.chain_tree.specs.Told.{Stored, blocks_of}
 use Rattle.ext_defs.specs.Fits.{FitsExt}
+use Rattle.fit_laws.specs.Laws.{IsCanonical, AreCanonical}
 use Rattle.block_defs.specs.Ext.{ext_of}
 use Rattle.verdict_defs.specs.Chain.{Chain}
-use Rattle.store_defs.specs.Store.{AreJoined}
+use Rattle.verdict_defs.specs.Laws.{MayJoin}
+use Rattle.store_defs.specs.Store.{IsJoined, AreJoined}
 use Rattle.reorg.specs.Moves.{EachCanBeTakenBack}
 
 -- The own ext of each block after the genesis fits its bytes.
@@ -14,7 +16,16 @@ abbrev pub OwnExtsFit : Chain → Type 0
 OwnExtsFit chain = (place parent : ℕ) (b : Block) → block_at chain.blocks place ≡ Some b → parent_place chain.blocks place ≡ Some parent
     → FitsExt (ext_of chain.spec (take place chain.blocks) parent b)
 
--- Law: where a chain has joined, its own exts stand beside its blocks and fit their bytes, each block that has a parent can be taken back.
+-- Law: over canonical blocks the ext of a canonical block that may join fits its bytes.
+abbrev pub ExtsFit : Type 0
+ExtsFit = (chain : Chain) (b : Block) (may : MayJoin chain.spec chain.blocks b) → AreCanonical chain.blocks → IsCanonical b
+    → FitsExt (ext_of chain.spec chain.blocks may.parent b)
+
+-- Law: so do the own exts of a chain that has joined.
+abbrev pub JoinedExtsFit : Type 0
+JoinedExtsFit = (chain : Chain) → IsJoined chain → AreCanonical chain.blocks → OwnExtsFit chain
+
+-- Law: where a chain of canonical blocks has joined, and its own exts stand beside its blocks, each block that has a parent can be taken back.
 abbrev pub JoinedCanBeTakenBack : Type 0
-JoinedCanBeTakenBack = (chain : Chain) (stored : List Stored) → blocks_of stored ≡ chain.blocks → AreJoined chain (map (λ it. it.ext) stored) → OwnExtsFit chain
-    → EachCanBeTakenBack stored
+JoinedCanBeTakenBack = (chain : Chain) (stored : List Stored) → blocks_of stored ≡ chain.blocks → AreJoined chain (map (λ it. it.ext) stored)
+    → AreCanonical chain.blocks → EachCanBeTakenBack stored

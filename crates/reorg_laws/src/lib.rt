@@ -1,11 +1,18 @@
-//! What `go_to` of reorg asks of kept blocks holds of a chain that has joined with its own exts beside it, where these fit
-//! their bytes. A law as the contract of a function that does nothing.
+//! What `go_to` of reorg asks of kept blocks holds of a chain of canonical blocks that has joined with its own exts beside
+//! it. Laws as contracts of functions that do nothing.
 #![tactic(auto)]
 
-ghost use Rattle.reorg_laws.specs.Laws.{JoinedCanBeTakenBack};
+ghost use Rattle.reorg_laws.specs.Laws.{ExtsFit, JoinedExtsFit, JoinedCanBeTakenBack};
 
-/// States that each block of a chain that has joined can be taken back with its own ext, where that fits its bytes. It
-/// does nothing.
+/// States that over canonical blocks the ext of a canonical block that may join fits its bytes, and so do the own exts of
+/// a chain that has joined. It does nothing.
+pub fn own_exts()
+    ensures fit { ExtsFit }
+    ensures of_joined_fit { JoinedExtsFit }
+{}
+
+/// States that each block of a chain of canonical blocks that has joined can be taken back with its own ext. It does
+/// nothing.
 pub fn way_of_joined()
     ensures can_be_taken_back { JoinedCanBeTakenBack }
 {}
