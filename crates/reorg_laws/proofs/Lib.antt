@@ -1,3 +1,4 @@
+pub mod CanonicalLaws
 pub mod BranchLemmas
 pub mod SpentLemmas
 pub mod FitLaws

@@ -6,10 +6,24 @@ use Rattle.chain_tree.specs.Told.{Stored, blocks_of}
 use Rattle.ext_defs.specs.Fits.{FitsExt}
 use Rattle.fit_laws.specs.Laws.{IsCanonical, AreCanonical}
 use Rattle.block_defs.specs.Ext.{ext_of}
-use Rattle.verdict_defs.specs.Chain.{Chain}
+use Rattle.verdict_defs.specs.Chain.{Chain, chain_of_genesis, chain_after}
 use Rattle.verdict_defs.specs.Laws.{MayJoin}
-use Rattle.store_defs.specs.Store.{IsJoined, AreJoined}
+use Rattle.store_defs.specs.Store.{IsJoined, AreJoined, StandsFor}
+use Rattle.outside.specs.Image.{Image}
 use Rattle.reorg.specs.Moves.{EachCanBeTakenBack}
+
+-- ---- Canonical blocks
+
+-- Law: the blocks of a chain are canonical with the genesis alone, and where they are so, they are after any item.
+abbrev pub KeptAreCanonical : Type 0
+KeptAreCanonical = ((specification genesis : List ℕ) → AreCanonical (chain_of_genesis specification genesis).blocks)
+    × ((chain : Chain) (item : List ℕ) → AreCanonical chain.blocks → AreCanonical (chain_after chain item).blocks)
+
+-- Law: those of a chain for which an image stands are.
+abbrev pub StoredAreCanonical : Type 0
+StoredAreCanonical = (chain : Chain) (image : Image) → StandsFor chain image → AreCanonical chain.blocks
+
+-- ---- Exts
 
 -- The own ext of each block after the genesis fits its bytes.
 abbrev pub OwnExtsFit : Chain → Type 0

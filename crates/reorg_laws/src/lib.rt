@@ -2,7 +2,14 @@
 //! it. Laws as contracts of functions that do nothing.
 #![tactic(auto)]
 
-ghost use Rattle.reorg_laws.specs.Laws.{ExtsFit, JoinedExtsFit, JoinedCanBeTakenBack};
+ghost use Rattle.reorg_laws.specs.Laws.{KeptAreCanonical, StoredAreCanonical, ExtsFit, JoinedExtsFit, JoinedCanBeTakenBack};
+
+/// States that the blocks of a chain are canonical: with the genesis alone, after any item, and where an image stands for
+/// it. It does nothing.
+pub fn kept_blocks()
+    ensures canonical { KeptAreCanonical }
+    ensures canonical_in_store { StoredAreCanonical }
+{}
 
 /// States that over canonical blocks the ext of a canonical block that may join fits its bytes, and so do the own exts of
 /// a chain that has joined. It does nothing.
