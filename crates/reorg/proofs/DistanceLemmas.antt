@@ -12,7 +12,7 @@ use Rattle.chain_defs.specs.Branch.{branch_places, count_outside, distance}
 use Rattle.chain_defs.proofs.BranchLaws.{places_on, places_within-enough, parent_place-below}
 
 -- a place is among these
-abbrev has : List ℕ → ℕ → Bool
+abbrev pub has : List ℕ → ℕ → Bool
 has places place = list_any (λ other. other == place) places
 
 -- ---- The places of a branch by those of its parent's
@@ -64,7 +64,7 @@ within-own (suc most) kept place other few e = by_parent (parent_place kept plac
             let under : other < suc parent = rest parent other (omega (arith, below, few)) before in omega (arith, under, below)
         by_side (inr own) = omega (arith, own)
 
-not-later : (kept : List Block) (low high : ℕ) → low < high → has (branch_places kept low) high ≡ false
+pub not-later : (kept : List Block) (low high : ℕ) → low < high → has (branch_places kept low) high ≡ false
 not-later kept low high less =
     false_from_ne_true (has (branch_places kept low) high)
     (λ there. let under = within-own (suc low) kept low high (omega arith) there in omega (arith, under, less))

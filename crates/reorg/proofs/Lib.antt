@@ -2,3 +2,4 @@ pub mod DistanceLemmas
 pub mod PathLemmas
 pub mod ToldLemmas
 pub mod WayLemmas
+pub mod OnWayLemmas

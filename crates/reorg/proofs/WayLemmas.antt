@@ -21,15 +21,15 @@ pub parent-earlier : (entries : List Entry) (place : ℕ) (entry : Entry) → Is
 parent-earlier entries zero entry tree above there = absurd (omega (arith, above))
 parent-earlier entries (suc place) entry tree above there = tree.earlier place entry there
 
--- one more place that is there
-pub within-more : (entries : List Entry) (places more : List ℕ) (next : ℕ) → more ≡ places ++ next ∷ [] → next < length entries
-    → ((i place : ℕ) → slice_get places i ≡ Some place → place < length entries) → (i place : ℕ) → slice_get more i ≡ Some place → place < length entries
-within-more entries places more next grown within each i place there =
+-- what holds of each place, with one more
+pub each-more : (P : ℕ → Type 0) (places more : List ℕ) (next : ℕ) → more ≡ places ++ next ∷ [] → P next
+    → ((i place : ℕ) → slice_get places i ≡ Some place → P place) → (i place : ℕ) → slice_get more i ≡ Some place → P place
+each-more P places more next grown holds each i place there =
     by_end (slice_get-pushed places next i place (ap (λ (l : List ℕ). slice_get l i) (sym grown) ∙ there))
   where
-    by_end : ((i < length places) × (slice_get places i ≡ Some place)) ⊎ ((i ≡ length places) × (next ≡ place)) → place < length entries
+    by_end : ((i < length places) × (slice_get places i ≡ Some place)) ⊎ ((i ≡ length places) × (next ≡ place)) → P place
     by_end (inl before) = each i place before.1
-    by_end (inr last) = let same = last.1 in omega (arith, same, within)
+    by_end (inr last) = subst P last.1 holds
 
 -- what is kept at a place of the tree
 pub stored-there : (stored : List Stored) (entries : List Entry) (place : ℕ) → IndexesBlocks (blocks_of stored) entries → place < length entries
@@ -72,8 +72,8 @@ parent-there kept entries place indexes within above =
     let entry = slice_get-below entries place within in
     (entry.0.parent, indexes.parents place entry.0 above entry.1)
 
-pub within-none : (entries : List Entry) (places : List ℕ) → places ≡ [] → (i place : ℕ) → slice_get places i ≡ Some place → place < length entries
-within-none entries places none i place there = absurd (never i (ap (λ (l : List ℕ). slice_get l i) (sym none) ∙ there))
+pub each-none : (P : ℕ → Type 0) (places : List ℕ) → places ≡ [] → (i place : ℕ) → slice_get places i ≡ Some place → P place
+each-none P places none i place there = absurd (never i (ap (λ (l : List ℕ). slice_get l i) (sym none) ∙ there))
   where
     never : (i : ℕ) → slice_get (drop 1 (0 ∷ [])) i ≡ Some place → ⊥
     never i there = cc

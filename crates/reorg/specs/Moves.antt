@@ -1,5 +1,6 @@
 -- What it takes to go from one place's branch to another's.
-use Rattle.std.specs.Prelude.{◌≡◌, ℕ, ◌-◌, ◌<◌, List, length, Option, Some, slice_get}
+use Rattle.std.specs.Prelude.{◌≡◌, ℕ, ◌-◌, ◌<◌, ◌==◌, Bool, not, List, length, Option, Some, slice_get}
+use Rattle.std.specs.List.{list_any}
 use Rattle.codec_defs.specs.Schema.{OutPoint, Block}
 use Rattle.chain_defs.specs.Kept.{parent_place}
 use Rattle.chain_defs.specs.Branch.{branch_places}
@@ -27,6 +28,18 @@ EachCanBeTakenBack stored = (place parent : ℕ) (it : Stored) → slice_get sto
 -- rows are those of the branch of a place
 abbrev pub AreOf : List Block → ℕ → (OutPoint → Option Row) → Type 0
 AreOf kept place rows = (o : OutPoint) → rows o ≡ live_row kept place o
+
+-- whether a place is on the branch of another
+abbrev pub is_on_branch : List Block → ℕ → ℕ → Bool
+is_on_branch kept end place = list_any (λ other. other == place) (branch_places kept end)
+
+-- A place is on the way from one place to another where it is on just one of their branches: it is one of those that distance counts.
+abbrev pub IsOnTheWay : List Block → ℕ → ℕ → ℕ → Type 0
+IsOnTheWay kept from to place = is_on_branch kept from place ≡ not (is_on_branch kept to place)
+
+-- so is each of these
+abbrev pub AreOnTheWay : List Block → ℕ → ℕ → List ℕ → Type 0
+AreOnTheWay kept from to places = (i place : ℕ) → slice_get places i ≡ Some place → IsOnTheWay kept from to place
 
 -- The last places of a branch, its end first, and below them the next.
 pub record IsPathUp (kept : List Block) (end : ℕ) (places : List ℕ) (next : ℕ) : Type 0 where

@@ -11,7 +11,7 @@ ghost use Rattle.chain_tree.specs.Told.{Stored, blocks_of};
 ghost use Rattle.cell_defs.specs.Fit.{BranchFits};
 ghost use Rattle.cell_state.specs.State.{rows};
 ghost use Rattle.replay.specs.Damages.{IsAtRecord};
-ghost use Rattle.reorg.specs.Moves.{EachCanBeTakenBack, AreOf, IsPathUp};
+ghost use Rattle.reorg.specs.Moves.{EachCanBeTakenBack, AreOf, IsPathUp, IsOnTheWay, AreOnTheWay};
 
 use crate::parent::parent_in;
 use crate::undoing::undo_at;
@@ -41,14 +41,15 @@ fn go_down<B: Blocks, L: Ledger>(
     ensures count { B.count blocks.new ≡ B.count blocks.old }
     ensures loans { B.loans_of blocks.new ≡ B.loans_of blocks.old }
     ensures within { IfOk result (λ it. (i place : ℕ) → slice_get it.1.items i ≡ Some place → place < length tree.now.entries) }
+    ensures on_way { (kept : List Block) → IndexesBlocks kept tree.now.entries → IfOk result (λ it. AreOnTheWay kept from to it.1.items) }
     ensures path { (kept : List Block) → IndexesBlocks kept tree.now.entries → IfOk result (λ it. IsPathUp kept to it.1.items it.0) }
     ensures rows { (stored : List Stored) → B.told blocks.old ≡ Some stored → IndexesBlocks (blocks_of stored) tree.now.entries
         → EachCanBeTakenBack stored → AreOf (blocks_of stored) from (rows state.old) → IfOk result (λ it. AreOf (blocks_of stored) it.0 (rows state.new)) }
     ensures undamaged { (stored : List Stored) → B.told blocks.old ≡ Some stored → IndexesBlocks (blocks_of stored) tree.now.entries
         → EachCanBeTakenBack stored → AreOf (blocks_of stored) from (rows state.old) → (damage : Damage) → result ≡ Err (Damaged damage) → ⊥ }
     ensures damage { (damage : Damage) → result ≡ Err (Damaged damage) → damage.area ≡ Log }
-    ensures at_record { IsSome (B.told blocks.old) → (damage : Damage) → result ≡ Err (Damaged damage)
-        → (place : ℕ) × IsAtRecord tree.now.entries place damage }
+    ensures at_record { (kept : List Block) → IndexesBlocks kept tree.now.entries → IsSome (B.told blocks.old) → (damage : Damage) → result ≡ Err (Damaged damage)
+        → (place : ℕ) × (IsOnTheWay kept from to place × IsAtRecord tree.now.entries place damage) }
     ensures cause { CountsFault (B.faults blocks.old) (B.faults blocks.new) (result ≡ Err DiskFault) }
     ensures steps { (kept : List Block) → IndexesBlocks kept tree.now.entries
         → IfOk result (λ it. steps.new + length it.1.items ≡ steps.old + distance kept from to) }
@@ -82,8 +83,8 @@ fn go_down<B: Blocks, L: Ledger>(
 }
 
 /// Goes from the live cells of the branch of one place to those of another's: down to their fork, a block taken back each
-/// step, and up from there, a block applied each step. Damaged where the source finds a block on the way damaged, or its
-/// ext or its events do not fit the cells. After an error the cells are gone.
+/// step, and up from there, a block applied each step. Damaged, at its record, where the source finds a block on the way
+/// damaged, or its ext or its events do not fit the cells. After an error the cells are gone.
 pub fn go_to<B: Blocks, L: Ledger>(
     alloc: Global,
     state: State,
@@ -105,8 +106,8 @@ pub fn go_to<B: Blocks, L: Ledger>(
         → EachCanBeTakenBack stored → AreOf (blocks_of stored) from (rows state) → BranchFits (blocks_of stored) to
         → (damage : Damage) → result ≡ Err (Damaged damage) → ⊥ }
     ensures damage { (damage : Damage) → result ≡ Err (Damaged damage) → damage.area ≡ Log }
-    ensures at_record { IsSome (B.told blocks.old) → (damage : Damage) → result ≡ Err (Damaged damage)
-        → (place : ℕ) × IsAtRecord tree.now.entries place damage }
+    ensures at_record { (kept : List Block) → IndexesBlocks kept tree.now.entries → IsSome (B.told blocks.old) → (damage : Damage) → result ≡ Err (Damaged damage)
+        → (place : ℕ) × (IsOnTheWay kept from to place × IsAtRecord tree.now.entries place damage) }
     ensures cause { CountsFault (B.faults blocks.old) (B.faults blocks.new) (result ≡ Err DiskFault) }
     ensures steps { (kept : List Block) → IndexesBlocks kept tree.now.entries
         → OnOk result (steps.new ≡ steps.old + distance kept from to) }

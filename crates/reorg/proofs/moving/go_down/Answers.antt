@@ -1,4 +1,4 @@
-use Rattle.std.proofs.Common.{◌≡◌, ◌+◌, List, Option, length, refl, sym, ap, ◌∙◌, subst, arith}
+use Rattle.std.proofs.Common.{◌≡◌, ◌+◌, ◌<◌, ℕ, List, Option, length, refl, sym, ap, ◌∙◌, subst, arith}
 use Rattle.std.proofs.lemmas.List.{length_push}
 use Rattle.std.specs.Prelude.{IsSome}
 use Rattle.chain_defs.specs.Branch.{distance}
@@ -9,7 +9,9 @@ use Rattle.cell_state.specs.State.{rows}
 use Rattle.outside.proofs.Endings.{handed}
 use Rattle.reorg.proofs.DistanceLemmas.{none-away, high-nearer, low-nearer}
 use Rattle.reorg.proofs.PathLemmas.{path-none, path-more}
-use Rattle.reorg.proofs.WayLemmas.{within-none, within-more, stored-there, taken-here, parent-there}
+use Rattle.reorg.proofs.WayLemmas.{each-none, each-more, stored-there, taken-here, parent-there}
+use Rattle.reorg.proofs.OnWayLemmas.{high-on-way, low-on-way, way-by-high, way-by-low}
+use Rattle.reorg.specs.Moves.{IsOnTheWay}
 use Rattle.reorg.proofs.moving.go_down.Goals as goal
 
 pub down-init : goal.down-init
@@ -23,8 +25,10 @@ down-init g c =
       faults = refl;
       low = c.requires.from;
       high = c.requires.to;
-      within = within-none c.args.tree.now.entries c.new-up.result.items none;
+      within = each-none (λ place. place < length c.args.tree.now.entries) c.new-up.result.items none;
       path = λ kept indexes. path-none kept c.args.to c.new-up.result.items none;
+      way = λ kept indexes place way. way;
+      on_way = λ kept indexes. each-none (IsOnTheWay kept c.args.from c.args.to) c.new-up.result.items none;
       rows = λ stored tells indexes each are. are;
       steps = λ kept indexes. omega (arith, long);
     }
@@ -40,12 +44,18 @@ down-preserved-in-Some g c =
       faults = c.down.invariant.faults;
       low = c.down.invariant.low;
       high = c.in-Some.ensures.within;
-      within = within-more c.args.tree.now.entries c.down.up.items c.push.new.self.items c.down.high grown c.down.invariant.high c.down.invariant.within;
+      within = each-more (λ place. place < length c.args.tree.now.entries) c.down.up.items c.push.new.self.items c.down.high grown c.down.invariant.high c.down.invariant.within;
       path = λ kept indexes.
           let same = len-same kept c.args.tree.now.entries indexes in
           let to = c.requires.to in
           path-more kept c.args.to c.down.up.items c.push.new.self.items c.down.high c.in-Some.parent indexes.is_kept (omega (arith, same, to))
           (c.down.invariant.path kept indexes) grown (sym (c.in-Some.ensures.of_blocks kept indexes));
+      way = λ kept indexes place way. c.down.invariant.way kept indexes place
+          (way-by-high kept c.down.low c.down.high c.in-Some.parent place c.if-low-high.true (sym (c.in-Some.ensures.of_blocks kept indexes)) way);
+      on_way = λ kept indexes.
+          each-more (IsOnTheWay kept c.args.from c.args.to) c.down.up.items c.push.new.self.items c.down.high grown
+          (c.down.invariant.way kept indexes c.down.high (high-on-way kept c.down.low c.down.high c.if-low-high.true))
+          (c.down.invariant.on_way kept indexes);
       rows = c.down.invariant.rows;
       steps = λ kept indexes.
           let before = c.down.invariant.steps kept indexes in
@@ -79,6 +89,9 @@ down-preserved g c = record {
   high = c.down.invariant.high;
   within = c.down.invariant.within;
   path = c.down.invariant.path;
+  way = λ kept indexes place way. c.down.invariant.way kept indexes place
+      (way-by-low kept c.down.low c.down.high c.in-Some-parent_in.parent place (omega arith) (sym (c.in-Some-parent_in.ensures.of_blocks kept indexes)) way);
+  on_way = c.down.invariant.on_way;
   rows = λ stored tells indexes each are.
       let it = stored-there stored c.args.tree.now.entries c.down.low indexes c.down.invariant.low in
       c.in-Ok-undo_at.ensures.rows stored it.0 (live_row (blocks_of stored) c.in-Some-parent_in.parent) (c.down.invariant.told ∙ tells) it.1
@@ -99,5 +112,10 @@ returns-clause-steps g c kept indexes =
     omega (arith, before, none)
 
 pub returns-in-Err-undo_at-clause-at_record : goal.returns-in-Err-undo_at-clause-at_record
-returns-in-Err-undo_at-clause-at_record g c tells damage same =
-    (c.down.low, c.in-Err-undo_at.ensures.at_record (subst (λ (told : Option (List Stored)). IsSome told) (sym c.down.invariant.told) tells) damage (handed c.in-Err-undo_at.stop _ same))
+returns-in-Err-undo_at-clause-at_record g c kept indexes tells damage same = (
+  c.down.low,
+  (
+    c.down.invariant.way kept indexes c.down.low (low-on-way kept c.down.low c.down.high (omega arith)),
+    c.in-Err-undo_at.ensures.at_record (subst (λ (told : Option (List Stored)). IsSome told) (sym c.down.invariant.told) tells) damage (handed c.in-Err-undo_at.stop _ same)
+  )
+)

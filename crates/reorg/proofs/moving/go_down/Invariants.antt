@@ -5,11 +5,12 @@ use Rattle.chain_defs.specs.Branch.{distance}
 use Rattle.chain_tree.specs.Blocks.{IndexesBlocks}
 use Rattle.chain_tree.specs.Told.{Stored, blocks_of}
 use Rattle.cell_state.specs.State.{rows}
-use Rattle.reorg.specs.Moves.{EachCanBeTakenBack, AreOf, IsPathUp}
+use Rattle.reorg.specs.Moves.{EachCanBeTakenBack, AreOf, IsPathUp, IsOnTheWay, AreOnTheWay}
 use Rattle.reorg.proofs.moving.go_down.Given as goal
 
 -- The rows are those of the branch of the lower place, and the higher one is below those that were gone down from. What was taken back, with
 -- the places to go up and what the two are apart, is what was to go.
+-- What is on the way between the two was so at first.
 abbrev pub invariant-down : goal.invariant-down
 invariant-down g l = record {
   told : g.B.Blocks.told l.blocks ≡ g.B.Blocks.told l.fn.blocks;
@@ -20,6 +21,8 @@ invariant-down g l = record {
   high : l.high < length l.tree.entries;
   within : (i place : ℕ) → slice_get l.up.items i ≡ Some place → place < length l.tree.entries;
   path : (kept : List Block) → IndexesBlocks kept l.tree.entries → IsPathUp kept l.to l.up.items l.high;
+  way : (kept : List Block) → IndexesBlocks kept l.tree.entries → (place : ℕ) → IsOnTheWay kept l.low l.high place → IsOnTheWay kept l.from l.to place;
+  on_way : (kept : List Block) → IndexesBlocks kept l.tree.entries → AreOnTheWay kept l.from l.to l.up.items;
   rows : (stored : List Stored) → g.B.Blocks.told l.fn.blocks ≡ Some stored → IndexesBlocks (blocks_of stored) l.tree.entries → EachCanBeTakenBack stored
       → AreOf (blocks_of stored) l.from (rows l.fn.state) → AreOf (blocks_of stored) l.low (rows l.state);
   steps : (kept : List Block) → IndexesBlocks kept l.tree.entries

@@ -60,5 +60,16 @@ returns-clause-rows g c stored tells indexes each are =
     ∙ path-top (blocks_of stored) c.args.to c.in-Ok.down.1.items _ (c.in-Ok.ensures.path (blocks_of stored) indexes))
 
 pub returns-in-Err-apply_at-clause-at_record : goal.returns-in-Err-apply_at-clause-at_record
-returns-in-Err-apply_at-clause-at_record g c tells damage same =
-    (c.index-place.result.now, c.in-Err-apply_at.ensures.at_record (subst (λ (told : Option (List Stored)). IsSome told) (sym c.up.invariant.told) tells) damage (handed c.in-Err-apply_at.stop _ same))
+returns-in-Err-apply_at-clause-at_record g c kept indexes tells damage same =
+    let long : c.len-count.result ≡ length c.in-Ok.down.1.items = search rules in
+    let more = c.up-test.true in
+    let below : c.up.i < length c.in-Ok.down.1.items = omega (arith, more, long) in
+    let there = read-at c.in-Ok.down.1.items c.up.i c.index-place.result.now below
+    (c.index-place.ensures ∙ ap (λ (n : ℕ). get_or c.in-Ok.down.1.items (n - c.up.i - 1) c.index-place.result.now) long) in
+    (
+      c.index-place.result.now,
+      (
+        c.in-Ok.ensures.on_way kept indexes _ _ there,
+        c.in-Err-apply_at.ensures.at_record (subst (λ (told : Option (List Stored)). IsSome told) (sym c.up.invariant.told) tells) damage (handed c.in-Err-apply_at.stop _ same)
+      )
+    )
