@@ -116,6 +116,6 @@ returns-in-Err-undo_at-clause-at_record g c kept indexes tells damage same = (
   c.down.low,
   (
     c.down.invariant.way kept indexes c.down.low (low-on-way kept c.down.low c.down.high (omega arith)),
-    c.in-Err-undo_at.ensures.at_record (subst (λ (told : Option (List Stored)). IsSome told) (sym c.down.invariant.told) tells) damage (handed c.in-Err-undo_at.stop _ same)
-  )
+    c.in-Err-undo_at.ensures.at_record (subst (λ (told : Option (List Stored)). IsSome told) (sym c.down.invariant.told) tells) damage (handed c.in-Err-undo_at.stop _ same),
+  ),
 )

@@ -65,11 +65,10 @@ returns-in-Err-apply_at-clause-at_record g c kept indexes tells damage same =
     let more = c.up-test.true in
     let below : c.up.i < length c.in-Ok.down.1.items = omega (arith, more, long) in
     let there = read-at c.in-Ok.down.1.items c.up.i c.index-place.result.now below
-    (c.index-place.ensures ∙ ap (λ (n : ℕ). get_or c.in-Ok.down.1.items (n - c.up.i - 1) c.index-place.result.now) long) in
-    (
+    (c.index-place.ensures ∙ ap (λ (n : ℕ). get_or c.in-Ok.down.1.items (n - c.up.i - 1) c.index-place.result.now) long) in (
       c.index-place.result.now,
       (
         c.in-Ok.ensures.on_way kept indexes _ _ there,
-        c.in-Err-apply_at.ensures.at_record (subst (λ (told : Option (List Stored)). IsSome told) (sym c.up.invariant.told) tells) damage (handed c.in-Err-apply_at.stop _ same)
-      )
+        c.in-Err-apply_at.ensures.at_record (subst (λ (told : Option (List Stored)). IsSome told) (sym c.up.invariant.told) tells) damage (handed c.in-Err-apply_at.stop _ same),
+      ),
     )
