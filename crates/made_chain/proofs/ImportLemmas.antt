@@ -1,5 +1,5 @@
 -- A new store of a generated chain, its items one after the other, and its tip.
-use Rattle.std.proofs.Common.{◌≡◌, ℕ, ◌+◌, ◌≤◌, ◌<◌, Bool, true, false, List, [], ◌∷◌, ◌++◌, length, map, take, get_or, Vec, Global, Option, Some, None, refl, sym, ap, ◌∙◌, subst, arith}
+use Rattle.std.proofs.Common.{◌≡◌, ℕ, ◌+◌, ◌≤◌, ◌<◌, ◌^◌, Bool, true, false, List, [], ◌∷◌, ◌++◌, length, map, take, get_or, Vec, Global, Option, Some, None, refl, sym, ap, ◌∙◌, subst, arith}
 use Rattle.std.specs.Prelude.{IfSome, cond, ◌==◌}
 use Rattle.std.specs.List.{filter}
 use Rattle.std.specs.Option.{option_and_then}
@@ -21,7 +21,11 @@ use Rattle.store_defs.specs.Store.{Keeps, store_of, store_of_log, StandsFor, IsS
 use Rattle.node_core.specs.Node.{IsNew}
 use Rattle.codec_defs.specs.Shape.{encoded}
 use Rattle.codec_defs.specs.Schema as schema
+use Rattle.time_defs.specs.Specification.{broken_specification_rule}
+use Rattle.genesis_defs.specs.Genesis.{broken_genesis_rule}
 use Rattle.gen_defs.specs.Start as start
+use Rattle.gen_defs.proofs.StartLemmas.{is-read-back}
+use Rattle.gen_laws.proofs.StartLemmas.{keeps-genesis-rules, are-of-sizes}
 use Rattle.report_defs.specs.Simulation.{live_cells, height_of, counts_over, generated_items, generated_counts}
 use Rattle.made_chain.proofs.LiveCells.{as-many-as-rows}
 
@@ -63,6 +67,28 @@ pub new-is-sound : (spec genesis : List ℕ) (reads : Option Image) (images : Im
     → (image : Image) → images image → IsSound image
 new-is-sound spec genesis reads images new image left =
     (chain_of_genesis spec genesis, subst (λ (i : Image). StandsFor (chain_of_genesis spec genesis) i) (sym (new.one image left)) new.stands)
+
+-- nor is it answered as no store
+pub is-a-store : (spec genesis : List ℕ) (reads : Option Image) (images : Image → Type 0) → IsNew spec genesis reads images
+    → IfSome reads (λ now. IsSound now → ⊥) → ⊥
+is-a-store spec genesis reads images new unsound =
+    subst (λ (r : Option Image). IfSome r (λ now. IsSound now → ⊥)) new.told unsound (chain_of_genesis spec genesis, new.stands)
+
+-- ---- The specification and the genesis of a generated chain
+
+pub short-spec : (spec : List ℕ) → spec ≡ start.specification_bytes start.specification → length spec < 2 ^ 32
+short-spec spec is = let size : length spec ≡ 100 = ap length is ∙ are-of-sizes.0 in omega (arith, size)
+
+pub short-genesis : (genesis : List ℕ) → genesis ≡ encoded schema.block start.genesis → length genesis < 2 ^ 32
+short-genesis genesis is = let size : length genesis ≡ 666 = ap length is ∙ are-of-sizes.1 in omega (arith, size)
+
+pub good-spec : (spec : List ℕ) (rule : ℕ) → spec ≡ start.specification_bytes start.specification → broken_specification_rule spec ≡ Some rule → ⊥
+good-spec spec rule is broken =
+    let never : None ≡ Some rule = sym is-read-back.0 ∙ ap broken_specification_rule (sym is) ∙ broken in cc
+
+pub good-genesis : (genesis : List ℕ) (rule : ℕ) → genesis ≡ encoded schema.block start.genesis → broken_genesis_rule genesis ≡ Some rule → ⊥
+good-genesis genesis rule is broken =
+    let never : None ≡ Some rule = sym keeps-genesis-rules ∙ ap broken_genesis_rule (sym is) ∙ broken in cc
 
 pub of-told : (reads : Option Image) (Q : Type 0) (now : Image) → reads ≡ Some now → IfSome reads (λ image. Q) → Q
 of-told reads Q now told is = subst (λ (r : Option Image). IfSome r (λ image. Q)) told is

@@ -1,16 +1,19 @@
 // The blocks of a generated chain are imported, one after the other, and counted.
 ghost use Rattle.std.specs.Prelude.{◌≡◌, ◌<◌, ◌≤◌, ◌^◌, length, map, IfOk, IfSome, IsSome, if◌then◌else◌};
 ghost use Rattle.std.specs.List.{filter};
+ghost use Rattle.codec_defs.specs.Shape.{encoded};
+ghost use Rattle.codec_defs.specs.Schema as schema;
 ghost use Rattle.chain_defs.specs.Tip as tips;
 ghost use Rattle.cell_defs.specs.Events.{events};
 ghost use Rattle.verdict_defs.specs.Verdict as rules;
 ghost use Rattle.verdict_defs.specs.Chain.{verdict_over, chain_after, verdicts_over, chain_over, chain_of_genesis};
 ghost use Rattle.store_defs.specs.Store.{AreJoined};
+ghost use Rattle.gen_defs.specs.Start as start;
 ghost use Rattle.report_defs.specs.Simulation.{live_cells, height_of, counts_over, generated_counts};
 
 use chain_gen::{Made, make};
-use node_core::{Node, judge};
-use outside::{Disk, NoMemory, Steps};
+use node_core::{LogStop, NewStop, NewStore, Node, judge};
+use outside::{Disk, NoMemory, ReadStop, Steps};
 use outside_mem::MemDisk;
 use report_defs::Counts;
 use std::alloc::Global;
@@ -33,8 +36,25 @@ fn one_if_joined(verdict: &Verdict) -> u64
     }
 }
 
-/// Opens a new store of a specification and a genesis. `Err` is want of memory, or a rule that they break: those of a generated
-/// chain break none.
+/// Judges the specification and the genesis of a generated chain. They keep their rules, so `Err` is want of memory alone.
+fn judge_generated<'a>(
+    alloc: Global,
+    spec: &'a [u8],
+    genesis: &'a [u8],
+) -> Result<NewStore<'a>, NoMemory>
+    requires spec { spec.now ≡ start.specification_bytes start.specification }
+    requires genesis { genesis.now ≡ encoded schema.block start.genesis }
+    ensures { IfOk result (λ new. (new.specification ≡ spec.now) × (new.genesis ≡ genesis.now)) }
+{
+    match judge(alloc, spec, genesis) {
+        Ok(new) => Ok(new),
+        Err(NewStop::BadSpec(_)) => unreachable!(),
+        Err(NewStop::BadGenesis(_)) => unreachable!(),
+        Err(NewStop::NoMemory) => Err(NoMemory),
+    }
+}
+
+/// Opens a new store of the specification and the genesis of a generated chain. `Err` is want of memory, or a fault of the disk.
 fn open_new<D: Disk, L: Ledger>(
     alloc: Global,
     disk: &mut D,
@@ -43,16 +63,15 @@ fn open_new<D: Disk, L: Ledger>(
     steps: &mut Steps<L>,
 ) -> Result<Node, NoMemory>
     requires told { IsSome (D.reads_as disk.old) }
+    requires spec { spec.now ≡ start.specification_bytes start.specification }
+    requires genesis { genesis.now ≡ encoded schema.block start.genesis }
     ensures chain { IfOk result (λ node. node.chain ≡ chain_of_genesis spec.now genesis.now) }
     ensures joined { IfOk result (λ node. AreJoined node.chain node.exts) }
     ensures there { IfOk result (λ node. IfSome (D.reads_as disk.new) (λ image. node.place < length image.log)) }
 {
-    if spec.len() >= SIZE_BOUND || genesis.len() >= SIZE_BOUND {
-        return Err(NoMemory);
-    }
-    let new = match judge(alloc, spec, genesis) {
+    let new = match judge_generated(alloc, spec, genesis) {
         Ok(new) => new,
-        Err(_) => return Err(NoMemory),
+        Err(stop) => return Err(stop),
     };
     match new.create(alloc, disk) {
         Ok(()) => {}
@@ -60,7 +79,9 @@ fn open_new<D: Disk, L: Ledger>(
     }
     match Node::open(alloc, disk, steps) {
         Ok(node) => Ok(node),
-        Err(_) => Err(NoMemory),
+        Err(LogStop::NotAStore) => unreachable!(),
+        Err(LogStop::DiskFault) => Err(NoMemory),
+        Err(LogStop::NoMemory) => Err(NoMemory),
     }
 }
 
@@ -85,7 +106,9 @@ fn import_item<D: Disk, L: Ledger>(
     }
     match node.import(alloc, disk, item, steps) {
         Ok(answer) => Ok(answer),
-        Err(_) => Err(NoMemory),
+        Err(ReadStop::Damaged(_)) => unreachable!(),
+        Err(ReadStop::DiskFault) => Err(NoMemory),
+        Err(ReadStop::NoMemory) => Err(NoMemory),
     }
 }
 
@@ -140,6 +163,8 @@ fn count_on<D: Disk, L: Ledger>(
     steps: &mut Steps<L>,
 ) -> Result<Counts, NoMemory>
     requires told { IsSome (D.reads_as disk.old) }
+    requires spec { made.now.spec.items ≡ start.specification_bytes start.specification }
+    requires genesis { made.now.genesis.items ≡ encoded schema.block start.genesis }
     ensures { IfOk result (λ counts. counts
         ≡ counts_over (chain_of_genesis made.now.spec.items made.now.genesis.items) (map (λ bytes. bytes.items) made.now.blocks.items)) }
 {
@@ -169,7 +194,7 @@ fn count_made<L: Ledger>(
 
 /// What is counted where the blocks of a seed, so many of them, at most 20,000, are imported one after the other over their genesis.
 /// They are kept on a disk in memory, and steps are counted for no one. `Err` is want of memory, also where the disk meets it.
-/// That nothing else gives it rests on the generated genesis keeping its rules, which is tested.
+/// The generated specification and genesis keep their rules, and no kept block is damaged.
 pub fn counts_of(alloc: Global, seed: u64, count: u32) -> Result<Counts, NoMemory>
     requires { count ≤ 20000 }
     ensures { IfOk result (λ counts. counts ≡ generated_counts seed count) }

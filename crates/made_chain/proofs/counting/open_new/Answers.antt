@@ -1,16 +1,22 @@
+use Rattle.std.proofs.Common.{Err, ap, ◌∙◌}
 use Rattle.node_core.specs.Node.{IsOn}
 use Rattle.node_core.proofs.ImportLemmas.{joined_on}
-use Rattle.made_chain.proofs.ImportLemmas.{is-new, opened-chain, new-is-sound, of-told}
+use Rattle.made_chain.proofs.ImportLemmas.{is-new, opened-chain, new-is-sound, is-a-store, of-told}
 use Rattle.made_chain.proofs.counting.open_new.Goals as goal
 
 pub returns-in-Ok-open-clause-chain : goal.returns-in-Ok-open-clause-chain
 returns-in-Ok-open-clause-chain g c =
-    let new = is-new c.args.spec.now c.args.genesis.now c.in-Ok.new.specification c.in-Ok.new.genesis _ _ c.in-Ok.ensures.both (c.in-Ok-create.ensures.made c.requires.told) in
+    let new = is-new c.args.spec.now c.args.genesis.now c.in-Ok.new.specification c.in-Ok.new.genesis _ _ c.in-Ok.ensures (c.in-Ok-create.ensures.made c.requires.told) in
     opened-chain c.args.spec.now c.args.genesis.now _ _ c.in-Ok-open.node.chain new c.in-Ok-open.ensures.kept
 
 pub returns-in-Ok-open-clause-joined : goal.returns-in-Ok-open-clause-joined
 returns-in-Ok-open-clause-joined g c =
-    let new = is-new c.args.spec.now c.args.genesis.now c.in-Ok.new.specification c.in-Ok.new.genesis _ _ c.in-Ok.ensures.both (c.in-Ok-create.ensures.made c.requires.told) in
+    let new = is-new c.args.spec.now c.args.genesis.now c.in-Ok.new.specification c.in-Ok.new.genesis _ _ c.in-Ok.ensures (c.in-Ok-create.ensures.made c.requires.told) in
     joined_on c.in-Ok-open.node (g.D.Disk.reads_as c.open.new.disk) (g.D.Disk.images c.open.new.disk)
     (of-told (g.D.Disk.reads_as c.create.new.disk) (IsOn c.in-Ok-open.node (g.D.Disk.reads_as c.open.new.disk) (g.D.Disk.images c.open.new.disk)) _ new.told
     (c.in-Ok-open.ensures.on (new-is-sound c.args.spec.now c.args.genesis.now _ _ new)))
+
+pub unreachable-requires : goal.unreachable-requires
+unreachable-requires g c =
+    let new = is-new c.args.spec.now c.args.genesis.now c.in-Ok.new.specification c.in-Ok.new.genesis _ _ c.in-Ok.ensures (c.in-Ok-create.ensures.made c.requires.told) in
+    is-a-store c.args.spec.now c.args.genesis.now _ _ new (c.open.ensures.not_a_store (c.in-Err-NotAStore.is ∙ ap Err c.in-Err-NotAStore.field-0-is))
