@@ -11,6 +11,7 @@ use Rattle.cell_defs.specs.Events.{live_cell}
 use Rattle.cell_defs.specs.Row.{Row, live_row}
 use Rattle.uncle_rules.specs.Embedded.{UnclesValue, IndexesUncles}
 use Rattle.rewards.specs.Own.{HaveOwnFees}
+use Rattle.block_judge.specs.declared.context.Context.{Context}
 
 -- Over kept blocks that are told the tree indexes them, and the rows are those of the live cells of the parent's branch, of which those with a
 -- type script hold what they occupy.
@@ -26,6 +27,32 @@ pub record StandsWhole (spec : Specification) (stored : List Stored) (entries : 
   pub stands : Stands stored entries parent rows
   pub uncles : IndexesUncles (blocks_of stored) index
   pub fees : HaveOwnFees spec stored
+
+-- What is judged on: the specification, the kept blocks as the tree and the index of uncles have them, the rows of the cells, and the place of
+-- the parent.
+pub record ContextValue : Type 0 where
+  pub spec : Specification
+  pub entries : List Entry
+  pub uncles : UnclesValue
+  pub rows : OutPoint → Option Row
+  pub parent : ℕ
+
+-- a context by what its cells have as rows
+abbrev pub seen : {C : Type 0} → (C → OutPoint → Option Row) → Context C → ContextValue
+seen rows context = record {
+  spec = context.spec.now;
+  entries = context.tree.now.entries;
+  uncles = context.uncles.now;
+  rows = rows context.cells.now;
+  parent = context.parent;
+}
+
+-- The kept blocks for which a context stands, of a transaction and of a whole block.
+abbrev pub StandsFor : List Stored → ContextValue → Type 0
+StandsFor stored on = Stands stored on.entries on.parent on.rows
+
+abbrev pub StandsForAll : List Stored → ContextValue → Type 0
+StandsForAll stored on = StandsWhole on.spec stored on.entries on.parent on.rows on.uncles
 
 -- the rules that are tried on a block
 abbrev pub IsTried : ℕ → Type 0

@@ -14,43 +14,45 @@ ghost use Rattle.uncle_rules.specs.Embedded.{IndexesUncles};
 ghost use Rattle.family_defs.specs.Rules.{family_rules};
 ghost use Rattle.rule_names.specs.Number.{rule_number};
 ghost use Rattle.block_judge.specs.declared.stop.Judged.TheVariants.{Broken, Read};
-ghost use Rattle.block_judge.specs.Standing.{Stands};
+ghost use Rattle.block_judge.specs.Standing.{StandsFor, seen};
 
 use crate::cellbase::{forms_cellbase, has_cellbase};
+use crate::context::Context;
 use crate::stop::Judged;
 use block_rules::Checked;
 use cell_model::Cells;
-use chain_tree::Tree;
-use epochs::Spec;
 use mol_schema::BlockView;
 use outside::ReadStop;
 use rule_names::Rule;
 use std::alloc::Global;
-use uncle_rules::{Uncles, uncles_ok};
+use uncle_rules::uncles_ok;
 
 /// J15 to J17: the uncles of a block, and its cellbase.
 fn judge_family<C: Cells>(
     alloc: Global,
-    spec: &Spec,
-    tree: &Tree,
-    uncles: &Uncles,
-    cells: &C,
-    parent: u32,
+    context: &Context<'_, C>,
     block: &BlockView<'_>,
     hashes: &[[u8; 32]],
 ) -> Result<(), Judged>
-    requires parent { parent < length tree.now.entries }
+    requires parent { context.now.parent < length context.now.tree.now.entries }
     requires hashes { hashes.now ≡ map transaction_hash block.now.transactions }
     ensures tried { (rule : Rule) → result ≡ Err (Broken rule) → (15 ≤ rule_number rule) × (rule_number rule ≤ 17) }
     ensures memory { (stop : a_stop) → result ≡ Err (Read stop) → stop ≡ no_memory }
     ensures some { IfOk result (λ _. 0 < length block.now.transactions) }
-    ensures broken { (stored : List Stored) → Stands stored tree.now.entries parent (C.rows cells.now) → IndexesUncles (blocks_of stored) uncles.now
+    ensures broken { (stored : List Stored) → StandsFor stored (seen C.rows context.now) → IndexesUncles (blocks_of stored) context.now.uncles.now
         → (rule : Rule) → result ≡ Err (Broken rule)
-        → first_failing (family_rules spec.now (branch (blocks_of stored) parent) block.now) ≡ Some (rule_number rule) }
-    ensures unbroken { (stored : List Stored) → Stands stored tree.now.entries parent (C.rows cells.now) → IndexesUncles (blocks_of stored) uncles.now
-        → IfOk result (λ _. first_failing (family_rules spec.now (branch (blocks_of stored) parent) block.now) ≡ None) }
+        → first_failing (family_rules context.now.spec.now (branch (blocks_of stored) context.now.parent) block.now) ≡ Some (rule_number rule) }
+    ensures unbroken { (stored : List Stored) → StandsFor stored (seen C.rows context.now) → IndexesUncles (blocks_of stored) context.now.uncles.now
+        → IfOk result (λ _. first_failing (family_rules context.now.spec.now (branch (blocks_of stored) context.now.parent) block.now) ≡ None) }
 {
-    let has_uncles = match uncles_ok(alloc, spec, tree, uncles, parent, block) {
+    let has_uncles = match uncles_ok(
+        alloc,
+        context.spec,
+        context.tree,
+        context.uncles,
+        context.parent,
+        block,
+    ) {
         Ok(has) => has,
         Err(_) => return Err(Judged::Read(ReadStop::NoMemory)),
     };
@@ -64,7 +66,7 @@ fn judge_family<C: Cells>(
     if !begins {
         return Err(Judged::Broken(Rule::Cellbase));
     }
-    if !forms_cellbase(cells, block, hashes) {
+    if !forms_cellbase(context.cells, block, hashes) {
         return Err(Judged::Broken(Rule::CellbaseForm));
     }
     Ok(())
@@ -74,37 +76,38 @@ fn judge_family<C: Cells>(
 /// block's transactions, in their order.
 pub(crate) fn judge_ahead<C: Cells>(
     alloc: Global,
-    spec: &Spec,
-    tree: &Tree,
-    uncles: &Uncles,
-    cells: &C,
-    parent: u32,
+    context: &Context<'_, C>,
     block: &BlockView<'_>,
 ) -> Result<Vec<[u8; 32]>, Judged>
-    requires parent { parent < length tree.now.entries }
+    requires parent { context.now.parent < length context.now.tree.now.entries }
     ensures hashes { IfOk result (λ hashes. hashes.items ≡ map transaction_hash block.now.transactions) }
     ensures tried { (rule : Rule) → result ≡ Err (Broken rule) → (4 ≤ rule_number rule) × (rule_number rule ≤ 17) }
     ensures memory { (stop : a_stop) → result ≡ Err (Read stop) → stop ≡ no_memory }
     ensures some { IfOk result (λ _. 0 < length block.now.transactions) }
-    ensures header { (kept : List Block) → IndexesBlocks kept tree.now.entries
-        → IfOk result (λ _. first_failing (rules_on_header spec.now (branch kept parent) block.now) ≡ None) }
-    ensures broken { (stored : List Stored) → Stands stored tree.now.entries parent (C.rows cells.now) → IndexesUncles (blocks_of stored) uncles.now
+    ensures header { (kept : List Block) → IndexesBlocks kept context.now.tree.now.entries
+        → IfOk result (λ _. first_failing (rules_on_header context.now.spec.now (branch kept context.now.parent) block.now) ≡ None) }
+    ensures broken { (stored : List Stored) → StandsFor stored (seen C.rows context.now) → IndexesUncles (blocks_of stored) context.now.uncles.now
         → (rule : Rule) → result ≡ Err (Broken rule)
-        → first_failing (rules_on_header spec.now (branch (blocks_of stored) parent) block.now ++ (body_rules spec.now block.now
-        ++ family_rules spec.now (branch (blocks_of stored) parent) block.now)) ≡ Some (rule_number rule) }
-    ensures unbroken { (stored : List Stored) → Stands stored tree.now.entries parent (C.rows cells.now) → IndexesUncles (blocks_of stored) uncles.now
-        → IfOk result (λ _. first_failing (rules_on_header spec.now (branch (blocks_of stored) parent) block.now ++ (body_rules spec.now block.now
-        ++ family_rules spec.now (branch (blocks_of stored) parent) block.now)) ≡ None) }
+        → first_failing (rules_on_header context.now.spec.now (branch (blocks_of stored) context.now.parent) block.now ++ (body_rules context.now.spec.now block.now
+        ++ family_rules context.now.spec.now (branch (blocks_of stored) context.now.parent) block.now)) ≡ Some (rule_number rule) }
+    ensures unbroken { (stored : List Stored) → StandsFor stored (seen C.rows context.now) → IndexesUncles (blocks_of stored) context.now.uncles.now
+        → IfOk result (λ _. first_failing (rules_on_header context.now.spec.now (branch (blocks_of stored) context.now.parent) block.now ++ (body_rules context.now.spec.now block.now
+        ++ family_rules context.now.spec.now (branch (blocks_of stored) context.now.parent) block.now)) ≡ None) }
 {
-    if let Some(rule) = header_rules::check(spec, tree, parent, &block.header()) {
+    if let Some(rule) = header_rules::check(
+        context.spec,
+        context.tree,
+        context.parent,
+        &block.header(),
+    ) {
         return Err(Judged::Broken(rule));
     }
-    let hashes = match block_rules::check(alloc, spec, block) {
+    let hashes = match block_rules::check(alloc, context.spec, block) {
         Ok(Checked::Kept(hashes)) => hashes,
         Ok(Checked::Broken(rule)) => return Err(Judged::Broken(rule)),
         Err(_) => return Err(Judged::Read(ReadStop::NoMemory)),
     };
-    match judge_family(alloc, spec, tree, uncles, cells, parent, block, &hashes) {
+    match judge_family(alloc, context, block, &hashes) {
         Ok(()) => Ok(hashes),
         Err(stop) => Err(stop),
     }

@@ -25,16 +25,16 @@ ghost use Rattle.rule_names.specs.declared.rule.Rule.{Rule};
 ghost use Rattle.block_judge.specs.declared.stop.Judged.TheVariants.{Broken, Read};
 ghost use Rattle.block_judge.specs.Changes.{with_changes};
 ghost use Rattle.block_judge.specs.Progress.{AreProposed, CanMove};
-ghost use Rattle.block_judge.specs.Standing.{IsTriedOnTransaction, Stands};
+ghost use Rattle.block_judge.specs.Standing.{IsTriedOnTransaction, StandsFor, seen};
 
 use crate::block_cells::BlockCells;
+use crate::context::Context;
 use crate::known::hash_of;
 use crate::spent::push_spent;
 use crate::stop::Judged;
 use crate::transactions::{Taken, judge_transaction};
 use cell_model::{Cells, Ext, proposal_id};
-use chain_tree::{Blocks, Tree};
-use epochs::Spec;
+use chain_tree::Blocks;
 use mol_schema::{BlockView, TxView};
 use outside::{NoMemory, ReadStop};
 use proposal_window::Proposed;
@@ -219,18 +219,15 @@ impl<'a, C: Cells> Progress<'a, C> {
 /// block's ext. Where there are any, the proposal window is read once.
 pub(crate) fn judge_transactions<C: Cells, B: Blocks>(
     alloc: Global,
-    spec: &Spec,
-    tree: &Tree,
-    cells: &C,
+    context: &Context<'_, C>,
     blocks: &mut B,
-    parent: u32,
     block: &BlockView<'_>,
     hashes: &[[u8; 32]],
 ) -> Result<Outcome, Judged>
-    requires parent { parent < length tree.now.entries }
-    requires few { length tree.now.entries < 2 ^ 24 }
-    requires rated { AreRated tree.now.entries }
-    requires counts { B.count blocks.old ≡ length tree.now.entries }
+    requires parent { context.now.parent < length context.now.tree.now.entries }
+    requires few { length context.now.tree.now.entries < 2 ^ 24 }
+    requires rated { AreRated context.now.tree.now.entries }
+    requires counts { B.count blocks.old ≡ length context.now.tree.now.entries }
     requires some { 0 < length block.now.transactions }
     requires hashes { hashes.now ≡ map transaction_hash block.now.transactions }
     ensures told { B.told blocks.new ≡ B.told blocks.old }
@@ -238,17 +235,17 @@ pub(crate) fn judge_transactions<C: Cells, B: Blocks>(
     ensures loans { B.loans_of blocks.new ≡ B.loans_of blocks.old }
     ensures rule { (rule : Rule) → result ≡ Err (Broken rule) → IsTriedOnTransaction (rule_number rule) }
     ensures fees { IfOk result (λ it. length it.ext.fees ≡ length block.now.transactions - 1) }
-    ensures broken { (stored : List Stored) → B.told blocks.old ≡ Some stored → Stands stored tree.now.entries parent (C.rows cells.now)
-        → (rule : Rule) → result ≡ Err (Broken rule) → first_failing (rules_of_transactions spec.now (branch (blocks_of stored) parent) block.now) ≡ Some (rule_number rule) }
-    ensures unbroken { (stored : List Stored) → B.told blocks.old ≡ Some stored → Stands stored tree.now.entries parent (C.rows cells.now)
-        → IfOk result (λ _. first_failing (rules_of_transactions spec.now (branch (blocks_of stored) parent) block.now) ≡ None) }
-    ensures ext { (stored : List Stored) → B.told blocks.old ≡ Some stored → Stands stored tree.now.entries parent (C.rows cells.now)
-        → IfOk result (λ it. it.ext ≡ ext_of spec.now (blocks_of stored) parent block.now) }
-    ensures interest { (stored : List Stored) → B.told blocks.old ≡ Some stored → Stands stored tree.now.entries parent (C.rows cells.now)
-        → IfOk result (λ it. it.interest ≡ interest_from spec.now (branch (blocks_of stored) parent) block.now 1 (drop 1 block.now.transactions)) }
-    ensures freed { (stored : List Stored) → B.told blocks.old ≡ Some stored → Stands stored tree.now.entries parent (C.rows cells.now)
-        → IfOk result (λ it. it.freed ≡ freed_from spec.now (branch (blocks_of stored) parent) block.now 1 (drop 1 block.now.transactions)) }
-    ensures undamaged { (stored : List Stored) → B.told blocks.old ≡ Some stored → Stands stored tree.now.entries parent (C.rows cells.now)
+    ensures broken { (stored : List Stored) → B.told blocks.old ≡ Some stored → StandsFor stored (seen C.rows context.now)
+        → (rule : Rule) → result ≡ Err (Broken rule) → first_failing (rules_of_transactions context.now.spec.now (branch (blocks_of stored) context.now.parent) block.now) ≡ Some (rule_number rule) }
+    ensures unbroken { (stored : List Stored) → B.told blocks.old ≡ Some stored → StandsFor stored (seen C.rows context.now)
+        → IfOk result (λ _. first_failing (rules_of_transactions context.now.spec.now (branch (blocks_of stored) context.now.parent) block.now) ≡ None) }
+    ensures ext { (stored : List Stored) → B.told blocks.old ≡ Some stored → StandsFor stored (seen C.rows context.now)
+        → IfOk result (λ it. it.ext ≡ ext_of context.now.spec.now (blocks_of stored) context.now.parent block.now) }
+    ensures interest { (stored : List Stored) → B.told blocks.old ≡ Some stored → StandsFor stored (seen C.rows context.now)
+        → IfOk result (λ it. it.interest ≡ interest_from context.now.spec.now (branch (blocks_of stored) context.now.parent) block.now 1 (drop 1 block.now.transactions)) }
+    ensures freed { (stored : List Stored) → B.told blocks.old ≡ Some stored → StandsFor stored (seen C.rows context.now)
+        → IfOk result (λ it. it.freed ≡ freed_from context.now.spec.now (branch (blocks_of stored) context.now.parent) block.now 1 (drop 1 block.now.transactions)) }
+    ensures undamaged { (stored : List Stored) → B.told blocks.old ≡ Some stored → StandsFor stored (seen C.rows context.now)
         → (damage : Damage) → result ≡ Err (Read (Damaged damage)) → ⊥ }
     ensures damage { (damage : Damage) → result ≡ Err (Read (Damaged damage)) → damage.area ≡ Log }
     ensures cause { CountsFault (B.faults blocks.old) (B.faults blocks.new) (result ≡ Err (Read DiskFault)) }
@@ -265,18 +262,25 @@ pub(crate) fn judge_transactions<C: Cells, B: Blocks>(
         });
     }
     let at = TxAt {
-        spec,
-        tree,
-        parent,
+        spec: context.spec,
+        tree: context.tree,
+        parent: context.parent,
         block: Some(BlockView::from_encoding(block.bytes())),
     };
-    let proposed = match Proposed::of(alloc, spec, tree, blocks, parent, at.height()) {
+    let proposed = match Proposed::of(
+        alloc,
+        context.spec,
+        context.tree,
+        blocks,
+        context.parent,
+        at.height(),
+    ) {
         Ok(proposed) => proposed,
         Err(stop) => return Err(Judged::Read(stop)),
     };
     let cellbase = block.transactions_item(0);
     let hash = hash_of(block, hashes, &cellbase, 0);
-    let mut progress = match Progress::behind(alloc, &cellbase, &hash, &at, cells) {
+    let mut progress = match Progress::behind(alloc, &cellbase, &hash, &at, context.cells) {
         Ok(progress) => progress,
         Err(_) => return Err(Judged::Read(ReadStop::NoMemory)),
     };

@@ -22,8 +22,9 @@ ghost use Rattle.block_judge.specs.declared.stop.Judged.TheVariants.{Broken, Rea
 ghost use Rattle.block_judge.specs.Progress.{AreMoved};
 
 use crate::all_transactions::Outcome;
+use crate::context::Context;
 use crate::stop::Judged;
-use cell_model::{data_at, occupied};
+use cell_model::{Cells, data_at, occupied};
 use chain_tree::{Blocks, Tree};
 use dao_math::{Dao, DaoMove, next_field};
 use epochs::{Spec, primary, share};
@@ -219,42 +220,47 @@ fn has_next_dao(
 }
 
 /// J31 and J32 on a block whose transactions come to this.
-pub(crate) fn judge_end<B: Blocks>(
+pub(crate) fn judge_end<C: Cells, B: Blocks>(
     alloc: Global,
-    spec: &Spec,
-    tree: &Tree,
+    context: &Context<'_, C>,
     blocks: &mut B,
-    parent: u32,
     block: &BlockView<'_>,
     outcome: &Outcome,
 ) -> Result<(), Judged>
-    requires parent { parent < length tree.now.entries }
-    requires few { length tree.now.entries < 2 ^ 24 }
-    requires rated { AreRated tree.now.entries }
-    requires counts { B.count blocks.old ≡ length tree.now.entries }
+    requires parent { context.now.parent < length context.now.tree.now.entries }
+    requires few { length context.now.tree.now.entries < 2 ^ 24 }
+    requires rated { AreRated context.now.tree.now.entries }
+    requires counts { B.count blocks.old ≡ length context.now.tree.now.entries }
     requires some { 0 < length block.now.transactions }
     ensures told { B.told blocks.new ≡ B.told blocks.old }
     ensures count { B.count blocks.new ≡ B.count blocks.old }
     ensures loans { B.loans_of blocks.new ≡ B.loans_of blocks.old }
     ensures tried { (rule : Rule) → result ≡ Err (Broken rule) → (31 ≤ rule_number rule) × (rule_number rule ≤ 32) }
     ensures rated { IfOk result (λ _. IsTrue (is_rated block.now.header.dao)) }
-    ensures broken { (stored : List Stored) → B.told blocks.old ≡ Some stored → IndexesBlocks (blocks_of stored) tree.now.entries → HaveOwnFees spec.now stored
-        → AreMoved spec.now (branch (blocks_of stored) parent) block.now outcome.now.interest outcome.now.freed → (rule : Rule) → result ≡ Err (Broken rule)
-        → first_failing (rules.end_rules spec.now (branch (blocks_of stored) parent) block.now) ≡ Some (rule_number rule) }
-    ensures unbroken { (stored : List Stored) → B.told blocks.old ≡ Some stored → IndexesBlocks (blocks_of stored) tree.now.entries → HaveOwnFees spec.now stored
-        → AreMoved spec.now (branch (blocks_of stored) parent) block.now outcome.now.interest outcome.now.freed
-        → IfOk result (λ _. first_failing (rules.end_rules spec.now (branch (blocks_of stored) parent) block.now) ≡ None) }
-    ensures undamaged { (stored : List Stored) → B.told blocks.old ≡ Some stored → IndexesBlocks (blocks_of stored) tree.now.entries → HaveOwnFees spec.now stored
+    ensures broken { (stored : List Stored) → B.told blocks.old ≡ Some stored → IndexesBlocks (blocks_of stored) context.now.tree.now.entries → HaveOwnFees context.now.spec.now stored
+        → AreMoved context.now.spec.now (branch (blocks_of stored) context.now.parent) block.now outcome.now.interest outcome.now.freed → (rule : Rule) → result ≡ Err (Broken rule)
+        → first_failing (rules.end_rules context.now.spec.now (branch (blocks_of stored) context.now.parent) block.now) ≡ Some (rule_number rule) }
+    ensures unbroken { (stored : List Stored) → B.told blocks.old ≡ Some stored → IndexesBlocks (blocks_of stored) context.now.tree.now.entries → HaveOwnFees context.now.spec.now stored
+        → AreMoved context.now.spec.now (branch (blocks_of stored) context.now.parent) block.now outcome.now.interest outcome.now.freed
+        → IfOk result (λ _. first_failing (rules.end_rules context.now.spec.now (branch (blocks_of stored) context.now.parent) block.now) ≡ None) }
+    ensures undamaged { (stored : List Stored) → B.told blocks.old ≡ Some stored → IndexesBlocks (blocks_of stored) context.now.tree.now.entries → HaveOwnFees context.now.spec.now stored
         → (damage : Damage) → result ≡ Err (Read (Damaged damage)) → ⊥ }
     ensures damage { (damage : Damage) → result ≡ Err (Read (Damaged damage)) → damage.area ≡ Log }
     ensures cause { CountsFault (B.faults blocks.old) (B.faults blocks.new) (result ≡ Err (Read DiskFault)) }
 {
-    match pays_reward(alloc, spec, tree, blocks, parent, block) {
+    match pays_reward(
+        alloc,
+        context.spec,
+        context.tree,
+        blocks,
+        context.parent,
+        block,
+    ) {
         Ok(true) => {}
         Ok(false) => return Err(Judged::Broken(Rule::Reward)),
         Err(stop) => return Err(Judged::Read(stop)),
     }
-    if !has_next_dao(spec, tree, parent, block, outcome) {
+    if !has_next_dao(context.spec, context.tree, context.parent, block, outcome) {
         return Err(Judged::Broken(Rule::DaoField));
     }
     Ok(())

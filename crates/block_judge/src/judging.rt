@@ -26,38 +26,33 @@ ghost use Rattle.rule_names.specs.declared.rule.Rule.{Rule};
 ghost use Rattle.block_judge.specs.declared.stop.Judged.TheVariants.{Broken, Read};
 ghost use Rattle.block_judge.specs.Ahead.{SaysAhead, ahead as rules_ahead};
 ghost use Rattle.block_judge.specs.ByRows.{SaysByRows};
-ghost use Rattle.block_judge.specs.Standing.{IsTried, IsTriedAlone, Stands, StandsWhole};
+ghost use Rattle.block_judge.specs.Standing.{IsTried, IsTriedAlone, StandsFor, StandsForAll, seen};
 
 use crate::ahead::judge_ahead;
 use crate::all_transactions::judge_transactions;
+use crate::context::Context;
 use crate::ending::judge_end;
 use crate::stop::Judged;
 use crate::transactions::judge_transaction;
 use cell_model::{Cells, Ext};
-use chain_tree::{Blocks, Tree};
-use epochs::Spec;
+use chain_tree::Blocks;
 use mol_schema::{BlockView, TxView};
 use std::alloc::Global;
 use tx_rules::TxAt;
-use uncle_rules::Uncles;
 
 /// Judges a block on a parent in the tree, by J4 to J32: the first rule that it breaks, or its ext. The cells are those of
 /// the parent's branch, whichever the tip is on. Damaged where a kept block, or a row of the cells, is not what the tree
 /// and the branch say, which never comes over blocks that tell them.
 pub fn judge<C: Cells, B: Blocks>(
     alloc: Global,
-    spec: &Spec,
-    tree: &Tree,
-    uncles: &Uncles,
-    cells: &C,
+    context: &Context<'_, C>,
     blocks: &mut B,
-    parent: u32,
     block: &BlockView<'_>,
 ) -> Result<Ext, Judged>
-    requires parent { parent < length tree.now.entries }
-    requires few { length tree.now.entries < 2 ^ 24 }
-    requires rated { AreRated tree.now.entries }
-    requires counts { B.count blocks.old ≡ length tree.now.entries }
+    requires parent { context.now.parent < length context.now.tree.now.entries }
+    requires few { length context.now.tree.now.entries < 2 ^ 24 }
+    requires rated { AreRated context.now.tree.now.entries }
+    requires counts { B.count blocks.old ≡ length context.now.tree.now.entries }
     ensures told { B.told blocks.new ≡ B.told blocks.old }
     ensures count { B.count blocks.new ≡ B.count blocks.old }
     ensures loans { B.loans_of blocks.new ≡ B.loans_of blocks.old }
@@ -65,39 +60,37 @@ pub fn judge<C: Cells, B: Blocks>(
 
     // Over any source of blocks: the rules on the header, and those ahead of the transactions; a fee for each transaction after the
     // cellbase; and a DAO field that later ones can be reckoned by.
-    ensures header { (kept : List Block) → IndexesBlocks kept tree.now.entries
-        → IfOk result (λ _. first_failing (header_rules spec.now (branch kept parent) block.now) ≡ None) }
+    ensures header { (kept : List Block) → IndexesBlocks kept context.now.tree.now.entries
+        → IfOk result (λ _. first_failing (header_rules context.now.spec.now (branch kept context.now.parent) block.now) ≡ None) }
     ensures fees { IfOk result (λ ext. length ext.fees ≡ length block.now.transactions - 1) }
-    ensures ahead { (stored : List Stored) → Stands stored tree.now.entries parent (C.rows cells.now) → IndexesUncles (blocks_of stored) uncles.now
-        → SaysAhead (first_failing (rules_ahead spec.now (branch (blocks_of stored) parent) block.now)) result }
+    ensures ahead { (stored : List Stored) → StandsFor stored (seen C.rows context.now) → IndexesUncles (blocks_of stored) context.now.uncles.now
+        → SaysAhead (first_failing (rules_ahead context.now.spec.now (branch (blocks_of stored) context.now.parent) block.now)) result }
     ensures rated { IfOk result (λ _. IsTrue (is_rated block.now.header.dao)) }
 
     // Over kept blocks that are told with their own fees, with the cells of the parent's branch.
     ensures broken { (stored : List Stored) → B.told blocks.old ≡ Some stored
-        → StandsWhole spec.now stored tree.now.entries parent (C.rows cells.now) uncles.now → (rule : Rule) → result ≡ Err (Broken rule)
-        → first_broken spec.now (branch (blocks_of stored) parent) block.now ≡ Some (rule_number rule) }
+        → StandsForAll stored (seen C.rows context.now) → (rule : Rule) → result ≡ Err (Broken rule)
+        → first_broken context.now.spec.now (branch (blocks_of stored) context.now.parent) block.now ≡ Some (rule_number rule) }
     ensures unbroken { (stored : List Stored) → B.told blocks.old ≡ Some stored
-        → StandsWhole spec.now stored tree.now.entries parent (C.rows cells.now) uncles.now
-        → IfOk result (λ _. first_broken spec.now (branch (blocks_of stored) parent) block.now ≡ None) }
+        → StandsForAll stored (seen C.rows context.now)
+        → IfOk result (λ _. first_broken context.now.spec.now (branch (blocks_of stored) context.now.parent) block.now ≡ None) }
     ensures ext { (stored : List Stored) → B.told blocks.old ≡ Some stored
-        → StandsWhole spec.now stored tree.now.entries parent (C.rows cells.now) uncles.now
-        → IfOk result (λ ext. ext ≡ ext_of spec.now (blocks_of stored) parent block.now) }
+        → StandsForAll stored (seen C.rows context.now)
+        → IfOk result (λ ext. ext ≡ ext_of context.now.spec.now (blocks_of stored) context.now.parent block.now) }
     ensures undamaged { (stored : List Stored) → B.told blocks.old ≡ Some stored
-        → StandsWhole spec.now stored tree.now.entries parent (C.rows cells.now) uncles.now → (damage : Damage) → result ≡ Err (Read (Damaged damage)) → ⊥ }
+        → StandsForAll stored (seen C.rows context.now) → (damage : Damage) → result ≡ Err (Read (Damaged damage)) → ⊥ }
     ensures damage { (damage : Damage) → result ≡ Err (Read (Damaged damage)) → damage.area ≡ Log }
     ensures cause { CountsFault (B.faults blocks.old) (B.faults blocks.new) (result ≡ Err (Read DiskFault)) }
 {
-    let hashes = match judge_ahead(alloc, spec, tree, uncles, cells, parent, block) {
+    let hashes = match judge_ahead(alloc, context, block) {
         Ok(hashes) => hashes,
         Err(stop) => return Err(stop),
     };
-    let outcome = match judge_transactions(
-        alloc, spec, tree, cells, blocks, parent, block, &hashes,
-    ) {
+    let outcome = match judge_transactions(alloc, context, blocks, block, &hashes) {
         Ok(outcome) => outcome,
         Err(stop) => return Err(stop),
     };
-    match judge_end(alloc, spec, tree, blocks, parent, block, &outcome) {
+    match judge_end(alloc, context, blocks, block, &outcome) {
         Ok(()) => Ok(outcome.ext),
         Err(stop) => {
             drop(outcome);
@@ -108,48 +101,46 @@ pub fn judge<C: Cells, B: Blocks>(
 
 /// Judges a transaction alone, at the height after the parent, by J18 and J20 to J30 with all cycles of a block: its fee
 /// in shannons and the cycles that its scripts take. Damaged as `judge` is.
-pub fn dry_run<'a, C: Cells, B: Blocks>(
+pub fn dry_run<C: Cells, B: Blocks>(
     alloc: Global,
-    spec: &'a Spec,
-    tree: &'a Tree,
-    cells: &C,
+    context: &Context<'_, C>,
     blocks: &mut B,
-    parent: u32,
     tx: &TxView<'_>,
 ) -> Result<(u64, u64), Judged>
-    requires parent { parent < length tree.now.entries }
-    requires few { length tree.now.entries < 2 ^ 24 }
-    requires rated { AreRated tree.now.entries }
-    requires counts { B.count blocks.old ≡ length tree.now.entries }
+    requires parent { context.now.parent < length context.now.tree.now.entries }
+    requires few { length context.now.tree.now.entries < 2 ^ 24 }
+    requires rated { AreRated context.now.tree.now.entries }
+    requires counts { B.count blocks.old ≡ length context.now.tree.now.entries }
     ensures told { B.told blocks.new ≡ B.told blocks.old }
     ensures count { B.count blocks.new ≡ B.count blocks.old }
     ensures loans { B.loans_of blocks.new ≡ B.loans_of blocks.old }
     ensures tried { (rule : Rule) → result ≡ Err (Broken rule) → IsTriedAlone (rule_number rule) }
 
     // Over any source of blocks: J18 and J20.
-    ensures by_rows { SaysByRows (has_form tx.now) (spends_rows (C.rows cells.now) tx.now) result }
+    ensures by_rows { SaysByRows (has_form tx.now) (spends_rows (C.rows context.now.cells.now) tx.now) result }
 
     // Over kept blocks that are told, with the cells of the parent's branch.
-    ensures broken { (stored : List Stored) → B.told blocks.old ≡ Some stored → Stands stored tree.now.entries parent (C.rows cells.now)
-        → (rule : Rule) → result ≡ Err (Broken rule) → broken_in_dry_run spec.now (branch (blocks_of stored) parent) tx.now ≡ Some (rule_number rule) }
-    ensures unbroken { (stored : List Stored) → B.told blocks.old ≡ Some stored → Stands stored tree.now.entries parent (C.rows cells.now)
-        → IfOk result (λ _. broken_in_dry_run spec.now (branch (blocks_of stored) parent) tx.now ≡ None) }
-    ensures fee { (stored : List Stored) → B.told blocks.old ≡ Some stored → Stands stored tree.now.entries parent (C.rows cells.now)
-        → IfOk result (λ it. it.0 ≡ capacity.fee (site_after spec.now (branch (blocks_of stored) parent)) tx.now) }
-    ensures cycles { (stored : List Stored) → B.told blocks.old ≡ Some stored → Stands stored tree.now.entries parent (C.rows cells.now)
-        → IfOk result (λ it. it.1 ≡ cycles_of (scene_of (site_after spec.now (branch (blocks_of stored) parent)) tx.now) spec.now.max_cycles) }
-    ensures undamaged { (stored : List Stored) → B.told blocks.old ≡ Some stored → Stands stored tree.now.entries parent (C.rows cells.now)
+    ensures broken { (stored : List Stored) → B.told blocks.old ≡ Some stored → StandsFor stored (seen C.rows context.now)
+        → (rule : Rule) → result ≡ Err (Broken rule) → broken_in_dry_run context.now.spec.now (branch (blocks_of stored) context.now.parent) tx.now ≡ Some (rule_number rule) }
+    ensures unbroken { (stored : List Stored) → B.told blocks.old ≡ Some stored → StandsFor stored (seen C.rows context.now)
+        → IfOk result (λ _. broken_in_dry_run context.now.spec.now (branch (blocks_of stored) context.now.parent) tx.now ≡ None) }
+    ensures fee { (stored : List Stored) → B.told blocks.old ≡ Some stored → StandsFor stored (seen C.rows context.now)
+        → IfOk result (λ it. it.0 ≡ capacity.fee (site_after context.now.spec.now (branch (blocks_of stored) context.now.parent)) tx.now) }
+    ensures cycles { (stored : List Stored) → B.told blocks.old ≡ Some stored → StandsFor stored (seen C.rows context.now)
+        → IfOk result (λ it. it.1 ≡ cycles_of (scene_of (site_after context.now.spec.now (branch (blocks_of stored) context.now.parent)) tx.now) context.now.spec.now.max_cycles) }
+    ensures undamaged { (stored : List Stored) → B.told blocks.old ≡ Some stored → StandsFor stored (seen C.rows context.now)
         → (damage : Damage) → result ≡ Err (Read (Damaged damage)) → ⊥ }
     ensures damage { (damage : Damage) → result ≡ Err (Read (Damaged damage)) → damage.area ≡ Log }
     ensures cause { CountsFault (B.faults blocks.old) (B.faults blocks.new) (result ≡ Err (Read DiskFault)) }
 {
+    let spec = context.spec;
     let at = TxAt {
         spec,
-        tree,
-        parent,
+        tree: context.tree,
+        parent: context.parent,
         block: None,
     };
-    match judge_transaction(alloc, tx, &at, true, cells, blocks, spec.max_cycles) {
+    match judge_transaction(alloc, tx, &at, true, context.cells, blocks, spec.max_cycles) {
         Ok(taken) => Ok((taken.fee, taken.cycles)),
         Err(stop) => Err(stop),
     }

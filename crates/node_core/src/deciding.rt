@@ -19,7 +19,7 @@ ghost use Rattle.node_core.specs.Judging.{AreCellsOn, IsEntryOn, IsDecidedBlock,
 
 use crate::entry::{entry_on, hash_of, parent_hash};
 use crate::kept::Kept;
-use block_judge::{Judged, dry_run, judge};
+use block_judge::{Context, Judged, dry_run, judge};
 use cell_model::Ext;
 use cell_state::State;
 use chain_tree::Entry;
@@ -120,16 +120,14 @@ impl Kept {
             Err(stop) => return Err(stop),
         };
         let state = cells_or(&cells, &self.state);
-        match judge(
-            alloc,
-            &self.spec,
-            &self.tree,
-            &self.uncles,
-            state,
-            &mut self.blocks,
+        let context = Context {
+            spec: &self.spec,
+            tree: &self.tree,
+            uncles: &self.uncles,
+            cells: state,
             parent,
-            block,
-        ) {
+        };
+        match judge(alloc, &context, &mut self.blocks, block) {
             Err(Judged::Broken(rule)) => Ok(Decision::Stays(Verdict::Refused(rule.number()))),
             Err(Judged::Read(stop)) => Err(stop),
             Ok(ext) => {
@@ -202,15 +200,13 @@ impl Kept {
         ensures damage { (damage : Damage) → result ≡ Err (Read (Damaged damage)) → damage.area ≡ Log }
         ensures reads { result ≢ Err (Read DiskFault) }
     {
-        let tip = self.tree.tip();
-        dry_run(
-            alloc,
-            &self.spec,
-            &self.tree,
-            &self.state,
-            &mut self.blocks,
-            tip,
-            tx,
-        )
+        let context = Context {
+            spec: &self.spec,
+            tree: &self.tree,
+            uncles: &self.uncles,
+            cells: &self.state,
+            parent: self.tree.tip(),
+        };
+        dry_run(alloc, &context, &mut self.blocks, tx)
     }
 }

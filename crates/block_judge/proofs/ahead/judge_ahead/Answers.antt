@@ -18,7 +18,7 @@ returns-in-Some g c = record {
   some = tt;
   header = λ kept indexes. tt;
   broken = λ stored stands uncles rule same.
-      breaks-header c.args.spec.now (branch (blocks_of stored) c.args.parent) c.args.block.now (rule_number c.in-Some.rule)
+      breaks-header c.args.context.now.spec.now (branch (blocks_of stored) c.args.context.now.parent) c.args.block.now (rule_number c.in-Some.rule)
       (c.in-Some.ensures.of_blocks (blocks_of stored) c.args.block.now stands.indexed c.header.ensures) ∙ ap Some (same_rule same);
   unbroken = λ stored stands uncles. tt;
 }
@@ -27,13 +27,13 @@ pub returns-in-Ok-Broken : goal.returns-in-Ok-Broken
 returns-in-Ok-Broken g c = record {
   hashes = tt;
   tried = λ rule same.
-      let its = body-rule c.args.spec.now c.args.block.now (rule_number c.in-Ok-Broken.rule) (sym (rw c.in-Ok-Broken.field-0-is at c.in-Ok-Broken.ensures.broken)) in
+      let its = body-rule c.args.context.now.spec.now c.args.block.now (rule_number c.in-Ok-Broken.rule) (sym (rw c.in-Ok-Broken.field-0-is at c.in-Ok-Broken.ensures.broken)) in
       let is : rule_number c.in-Ok-Broken.rule ≡ rule_number rule = same_rule same in (omega (arith, its.0, is), omega (arith, its.1, is));
   memory = λ stop same. absurd (no_read same);
   some = tt;
   header = λ kept indexes. tt;
   broken = λ stored stands uncles rule same.
-      breaks-body c.args.spec.now (branch (blocks_of stored) c.args.parent) c.args.block.now (rule_number c.in-Ok-Broken.rule)
+      breaks-body c.args.context.now.spec.now (branch (blocks_of stored) c.args.context.now.parent) c.args.block.now (rule_number c.in-Ok-Broken.rule)
       (c.in_default.ensures.of_blocks (blocks_of stored) c.args.block.now stands.indexed c.header.ensures) (rw c.in-Ok-Broken.field-0-is at c.in-Ok-Broken.ensures.broken)
       ∙ ap Some (same_rule same);
   unbroken = λ stored stands uncles. tt;
@@ -58,7 +58,7 @@ returns-in-Err-judge_family g c = record {
   some = tt;
   header = λ kept indexes. tt;
   broken = λ stored stands uncles rule same.
-      leaves-family c.args.spec.now (branch (blocks_of stored) c.args.parent) c.args.block.now
+      leaves-family c.args.context.now.spec.now (branch (blocks_of stored) c.args.context.now.parent) c.args.block.now
       (c.in_default.ensures.of_blocks (blocks_of stored) c.args.block.now stands.indexed c.header.ensures) (rw c.in-Ok-Kept.field-0-is at c.in-Ok-Kept.ensures.broken)
       ∙ c.in-Err-judge_family.ensures.broken stored stands uncles rule (as_step same);
   unbroken = λ stored stands uncles. tt;
@@ -73,7 +73,7 @@ returns-in-Ok g c = record {
   header = λ kept indexes. sym (c.in_default.ensures.of_blocks kept c.args.block.now indexes c.header.ensures);
   broken = λ stored stands uncles rule same. absurd (no_error same);
   unbroken = λ stored stands uncles.
-      leaves-family c.args.spec.now (branch (blocks_of stored) c.args.parent) c.args.block.now
+      leaves-family c.args.context.now.spec.now (branch (blocks_of stored) c.args.context.now.parent) c.args.block.now
       (c.in_default.ensures.of_blocks (blocks_of stored) c.args.block.now stands.indexed c.header.ensures) (rw c.in-Ok-Kept.field-0-is at c.in-Ok-Kept.ensures.broken)
       ∙ c.in-Ok.ensures.unbroken stored stands uncles;
 }

@@ -22,7 +22,7 @@ returns-then-not-has_uncles g c = record {
   memory = λ stop same. absurd (no_read same);
   some = tt;
   broken = λ stored stands uncles rule same.
-      breaks-15 c.args.spec.now (branch (blocks_of stored) c.args.parent) c.args.block.now
+      breaks-15 c.args.context.now.spec.now (branch (blocks_of stored) c.args.context.now.parent) c.args.block.now
       (sym (c.in-Ok.ensures (blocks_of stored) stands.indexed uncles) ∙ c.if-not-has_uncles.true) ∙ ap Some (same_rule same);
   unbroken = λ stored stands uncles. tt;
 }
@@ -42,7 +42,7 @@ returns-then-not-begins g c = record {
   memory = λ stop same. absurd (no_read same);
   some = tt;
   broken = λ stored stands uncles rule same.
-      breaks-16 c.args.spec.now (branch (blocks_of stored) c.args.parent) c.args.block.now
+      breaks-16 c.args.context.now.spec.now (branch (blocks_of stored) c.args.context.now.parent) c.args.block.now
       (sym (c.in-Ok.ensures (blocks_of stored) stands.indexed uncles) ∙ c.if-not-has_uncles.false)
       (sym c.in-Ok-has_cellbase.ensures ∙ c.if-not-begins.true) ∙ ap Some (same_rule same);
   unbroken = λ stored stands uncles. tt;
@@ -54,11 +54,11 @@ returns-then-not-forms_cellbase g c = record {
   memory = λ stop same. absurd (no_read same);
   some = tt;
   broken = λ stored stands uncles rule same.
-      breaks-17 c.args.spec.now (branch (blocks_of stored) c.args.parent) c.args.block.now
+      breaks-17 c.args.context.now.spec.now (branch (blocks_of stored) c.args.context.now.parent) c.args.block.now
       (sym (c.in-Ok.ensures (blocks_of stored) stands.indexed uncles) ∙ c.if-not-has_uncles.false)
       (sym c.in-Ok-has_cellbase.ensures ∙ c.if-not-begins.false)
-      (sym (c.if-not-forms_cellbase.ensures (live_cell (branch (blocks_of stored) c.args.parent))
-      (λ o. live-there (blocks_of stored) c.args.parent o _ (stands.live o)))) ∙ ap Some (same_rule same);
+      (sym (c.if-not-forms_cellbase.ensures (live_cell (branch (blocks_of stored) c.args.context.now.parent))
+      (λ o. live-there (blocks_of stored) c.args.context.now.parent o _ (stands.live o)))) ∙ ap Some (same_rule same);
   unbroken = λ stored stands uncles. tt;
 }
 
@@ -69,9 +69,9 @@ returns g c = record {
   some = has-first c.args.block.now (sym c.in-Ok-has_cellbase.ensures ∙ c.if-not-begins.false);
   broken = λ stored stands uncles rule same. absurd (no_error same);
   unbroken = λ stored stands uncles.
-      keeps-family c.args.spec.now (branch (blocks_of stored) c.args.parent) c.args.block.now
+      keeps-family c.args.context.now.spec.now (branch (blocks_of stored) c.args.context.now.parent) c.args.block.now
       (sym (c.in-Ok.ensures (blocks_of stored) stands.indexed uncles) ∙ c.if-not-has_uncles.false)
       (sym c.in-Ok-has_cellbase.ensures ∙ c.if-not-begins.false)
-      (sym (c.if-not-forms_cellbase.ensures (live_cell (branch (blocks_of stored) c.args.parent))
-      (λ o. live-there (blocks_of stored) c.args.parent o _ (stands.live o))));
+      (sym (c.if-not-forms_cellbase.ensures (live_cell (branch (blocks_of stored) c.args.context.now.parent))
+      (λ o. live-there (blocks_of stored) c.args.context.now.parent o _ (stands.live o))));
 }

@@ -19,7 +19,7 @@ pub returns-then-count-eq1 : goal.returns-then-count-eq1
 returns-then-count-eq1 g c =
     let alone : 1 ≡ length c.args.block.now.transactions = omega (arith, c.if-count-eq1.true, c.transactions_count-count.ensures.value) in
     let moved = λ (on : List Block).
-    moved-all c.args.spec.now on c.args.block.now 1 (pos 0) 0 (moved-none c.args.spec.now on c.args.block.now (pos 0) 0 refl refl) (omega (arith, alone)) in record {
+    moved-all c.args.context.now.spec.now on c.args.block.now 1 (pos 0) 0 (moved-none c.args.context.now.spec.now on c.args.block.now (pos 0) 0 refl refl) (omega (arith, alone)) in record {
       told = refl;
       count = refl;
       loans = refl;
@@ -27,17 +27,17 @@ returns-then-count-eq1 g c =
       fees = ap length c.new.ensures.items ∙ ap (λ (n : ℕ). n - 1) alone;
       broken = λ stored tells stands rule same. absurd (no_error same);
       unbroken = λ stored tells stands.
-          judged-all c.args.spec.now (blocks_of stored) c.args.parent c.args.block.now 1 c.args.spec.now.max_cycles (record { fees = []; spent = [] })
-          (judged-none c.args.spec.now (blocks_of stored) c.args.parent c.args.block.now c.args.spec.now.max_cycles (record { fees = []; spent = [] }) refl refl refl)
+          judged-all c.args.context.now.spec.now (blocks_of stored) c.args.context.now.parent c.args.block.now 1 c.args.context.now.spec.now.max_cycles (record { fees = []; spent = [] })
+          (judged-none c.args.context.now.spec.now (blocks_of stored) c.args.context.now.parent c.args.block.now c.args.context.now.spec.now.max_cycles (record { fees = []; spent = [] }) refl refl refl)
           (omega (arith, alone));
       ext = λ stored tells stands.
-          judged-ext c.args.spec.now (blocks_of stored) c.args.parent c.args.block.now 1 c.args.spec.now.max_cycles
+          judged-ext c.args.context.now.spec.now (blocks_of stored) c.args.context.now.parent c.args.block.now 1 c.args.context.now.spec.now.max_cycles
           (record { fees = c.new.result.items; spent = c.new-then-count-eq1.result.items })
-          (judged-none c.args.spec.now (blocks_of stored) c.args.parent c.args.block.now c.args.spec.now.max_cycles
+          (judged-none c.args.context.now.spec.now (blocks_of stored) c.args.context.now.parent c.args.block.now c.args.context.now.spec.now.max_cycles
           (record { fees = c.new.result.items; spent = c.new-then-count-eq1.result.items }) refl c.new.ensures.items c.new-then-count-eq1.ensures.items)
           (omega (arith, alone));
-      interest = λ stored tells stands. (moved (branch (blocks_of stored) c.args.parent)).interest_is;
-      freed = λ stored tells stands. (moved (branch (blocks_of stored) c.args.parent)).freed_is;
+      interest = λ stored tells stands. (moved (branch (blocks_of stored) c.args.context.now.parent)).interest_is;
+      freed = λ stored tells stands. (moved (branch (blocks_of stored) c.args.context.now.parent)).freed_is;
       undamaged = λ stored tells stands damage same. no_error same;
       damage = λ damage same. absurd (no_error same);
       cause = counts-still (λ fault. no_error fault);
@@ -87,14 +87,14 @@ later-init g c = record {
   within = omega (arith, c.requires.some);
   moves = can-move-none 1 c.in-Ok-behind.progress.interest c.in-Ok-behind.progress.freed c.in-Ok-behind.ensures.interest c.in-Ok-behind.ensures.freed;
   fees = omega (arith, ap length c.in-Ok-behind.ensures.fees);
-  rows = rows-after_more _ c.args.block.now 0 c.transactions_item-cellbase.result (g.C.Cells.rows c.args.cells.now) (g.C.Cells.rows c.args.cells.now) _
-      (rows-after_none _ c.args.block.now (g.C.Cells.rows c.args.cells.now) (g.C.Cells.rows c.args.cells.now) (λ o. refl)) c.transactions_item-cellbase.ensures
+  rows = rows-after_more _ c.args.block.now 0 c.transactions_item-cellbase.result (g.C.Cells.rows c.args.context.now.cells.now) (g.C.Cells.rows c.args.context.now.cells.now) _
+      (rows-after_none _ c.args.block.now (g.C.Cells.rows c.args.context.now.cells.now) (g.C.Cells.rows c.args.context.now.cells.now) (λ o. refl)) c.transactions_item-cellbase.ensures
       (λ height o above. c.in-Ok-behind.ensures.rows height o above);
   judged = λ stored tells stands.
-      judged-none c.args.spec.now (blocks_of stored) c.args.parent c.args.block.now c.in-Ok-behind.progress.left c.in-Ok-behind.progress.ext
+      judged-none c.args.context.now.spec.now (blocks_of stored) c.args.context.now.parent c.args.block.now c.in-Ok-behind.progress.left c.in-Ok-behind.progress.ext
       c.in-Ok-behind.ensures.left c.in-Ok-behind.ensures.fees c.in-Ok-behind.ensures.spent;
   moved = λ stored tells stands.
-      moved-none c.args.spec.now (branch (blocks_of stored) c.args.parent) c.args.block.now c.in-Ok-behind.progress.interest c.in-Ok-behind.progress.freed
+      moved-none c.args.context.now.spec.now (branch (blocks_of stored) c.args.context.now.parent) c.args.block.now c.in-Ok-behind.progress.interest c.in-Ok-behind.progress.freed
       c.in-Ok-behind.ensures.interest c.in-Ok-behind.ensures.freed;
 }
 
@@ -108,30 +108,30 @@ later-preserved g c = record {
   within = omega (arith, c.later-test.true, c.transactions_count-count.ensures.value);
   moves = c.in-Ok-judge_next.ensures.moved;
   fees = omega (arith, c.in-Ok-judge_next.ensures.fees, c.later.invariant.fees);
-  rows = rows-after_more _ c.args.block.now c.later.place c.transactions_item-tx.result (g.C.Cells.rows c.args.cells.now)
+  rows = rows-after_more _ c.args.block.now c.later.place c.transactions_item-tx.result (g.C.Cells.rows c.args.context.now.cells.now)
       (with_changes c.later.progress.cells.changed (g.C.Cells.rows c.later.progress.cells.base.now)) _
       c.later.invariant.rows c.transactions_item-tx.ensures (λ height o above. c.in-Ok-judge_next.ensures.rows height o above);
   judged = λ stored tells stands.
-      let at : AtValue = record { spec = c.args.spec.now; entries = c.args.tree.now.entries; parent = c.args.parent; block = Some c.from_encoding.result } in
-      let site : Site = site_at c.args.spec.now (branch (blocks_of stored) c.args.parent) c.args.block.now c.later.place in
-      let is = site-in_block stored at c.args.block.now c.later.place (g.C.Cells.rows c.args.cells.now)
+      let at : AtValue = record { spec = c.args.context.now.spec.now; entries = c.args.context.now.tree.now.entries; parent = c.args.context.now.parent; block = Some c.from_encoding.result } in
+      let site : Site = site_at c.args.context.now.spec.now (branch (blocks_of stored) c.args.context.now.parent) c.args.block.now c.later.place in
+      let is = site-in_block stored at c.args.block.now c.later.place (g.C.Cells.rows c.args.context.now.cells.now)
       (with_changes c.later.progress.cells.changed (g.C.Cells.rows c.later.progress.cells.base.now))
       (ap Some (c.from_encoding.ensures c.args.block.now c.bytes.ensures)) c.requires.parent stands c.later.invariant.rows in
-      let proposed = proposed-here c.args.spec.now (branch (blocks_of stored) c.args.parent) c.in-Ok.proposed c.height.result
+      let proposed = proposed-here c.args.context.now.spec.now (branch (blocks_of stored) c.args.context.now.parent) c.in-Ok.proposed c.height.result
       (c.in-Ok.ensures.proposed stored tells stands.indexed) (c.height.ensures.height stored _ site is) in
-      judged-more c.args.spec.now (blocks_of stored) c.args.parent c.args.block.now c.later.place c.later.progress.left c.judge_next.new.self.left
+      judged-more c.args.context.now.spec.now (blocks_of stored) c.args.context.now.parent c.args.block.now c.later.place c.later.progress.left c.judge_next.new.self.left
       c.later.progress.ext c.judge_next.new.self.ext c.transactions_item-tx.result (c.later.invariant.judged stored tells stands) c.transactions_item-tx.ensures
       (c.in-Ok-judge_next.ensures.unbroken stored site (c.later.invariant.told ∙ tells) is proposed)
       (c.in-Ok-judge_next.ensures.cycles stored site (c.later.invariant.told ∙ tells) is)
       (c.in-Ok-judge_next.ensures.fee stored site (c.later.invariant.told ∙ tells) is)
       (c.in-Ok-judge_next.ensures.spends stored site (c.later.invariant.told ∙ tells) is);
   moved = λ stored tells stands.
-      let at : AtValue = record { spec = c.args.spec.now; entries = c.args.tree.now.entries; parent = c.args.parent; block = Some c.from_encoding.result } in
-      let site : Site = site_at c.args.spec.now (branch (blocks_of stored) c.args.parent) c.args.block.now c.later.place in
-      let is = site-in_block stored at c.args.block.now c.later.place (g.C.Cells.rows c.args.cells.now)
+      let at : AtValue = record { spec = c.args.context.now.spec.now; entries = c.args.context.now.tree.now.entries; parent = c.args.context.now.parent; block = Some c.from_encoding.result } in
+      let site : Site = site_at c.args.context.now.spec.now (branch (blocks_of stored) c.args.context.now.parent) c.args.block.now c.later.place in
+      let is = site-in_block stored at c.args.block.now c.later.place (g.C.Cells.rows c.args.context.now.cells.now)
       (with_changes c.later.progress.cells.changed (g.C.Cells.rows c.later.progress.cells.base.now))
       (ap Some (c.from_encoding.ensures c.args.block.now c.bytes.ensures)) c.requires.parent stands c.later.invariant.rows in
-      moved-more c.args.spec.now (branch (blocks_of stored) c.args.parent) c.args.block.now c.later.place c.transactions_item-tx.result
+      moved-more c.args.context.now.spec.now (branch (blocks_of stored) c.args.context.now.parent) c.args.block.now c.later.place c.transactions_item-tx.result
       c.later.progress.interest c.judge_next.new.self.interest c.later.progress.freed c.judge_next.new.self.freed (c.later.invariant.moved stored tells stands)
       c.transactions_item-tx.ensures (c.in-Ok-judge_next.ensures.interest stored site (c.later.invariant.told ∙ tells) is)
       (c.in-Ok-judge_next.ensures.freed stored site (c.later.invariant.told ∙ tells) is);
@@ -139,20 +139,20 @@ later-preserved g c = record {
 
 pub returns-in-Err-judge_next : goal.returns-in-Err-judge_next
 returns-in-Err-judge_next g c =
-    let at : AtValue = record { spec = c.args.spec.now; entries = c.args.tree.now.entries; parent = c.args.parent; block = Some c.from_encoding.result } in record {
+    let at : AtValue = record { spec = c.args.context.now.spec.now; entries = c.args.context.now.tree.now.entries; parent = c.args.context.now.parent; block = Some c.from_encoding.result } in record {
       told = c.judge_next.ensures.told ∙ c.later.invariant.told;
       count = c.judge_next.ensures.count ∙ c.later.invariant.count;
       loans = c.judge_next.ensures.loans ∙ c.later.invariant.loans;
       rule = λ rule same. c.in-Err-judge_next.ensures.rule rule (as_step same);
       fees = tt;
       broken = λ stored tells stands rule same.
-          let site : Site = site_at c.args.spec.now (branch (blocks_of stored) c.args.parent) c.args.block.now c.later.place in
-          let is = site-in_block stored at c.args.block.now c.later.place (g.C.Cells.rows c.args.cells.now)
+          let site : Site = site_at c.args.context.now.spec.now (branch (blocks_of stored) c.args.context.now.parent) c.args.block.now c.later.place in
+          let is = site-in_block stored at c.args.block.now c.later.place (g.C.Cells.rows c.args.context.now.cells.now)
           (with_changes c.later.progress.cells.changed (g.C.Cells.rows c.later.progress.cells.base.now))
           (ap Some (c.from_encoding.ensures c.args.block.now c.bytes.ensures)) c.requires.parent stands c.later.invariant.rows in
-          let proposed = proposed-here c.args.spec.now (branch (blocks_of stored) c.args.parent) c.in-Ok.proposed c.height.result
+          let proposed = proposed-here c.args.context.now.spec.now (branch (blocks_of stored) c.args.context.now.parent) c.in-Ok.proposed c.height.result
           (c.in-Ok.ensures.proposed stored tells stands.indexed) (c.height.ensures.height stored _ site is) in
-          judged-breaks c.args.spec.now (blocks_of stored) c.args.parent c.args.block.now c.later.place c.later.progress.left c.later.progress.ext
+          judged-breaks c.args.context.now.spec.now (blocks_of stored) c.args.context.now.parent c.args.block.now c.later.place c.later.progress.left c.later.progress.ext
           c.transactions_item-tx.result (rule_number rule) (c.later.invariant.judged stored tells stands) c.transactions_item-tx.ensures
           (c.in-Err-judge_next.ensures.broken stored site (c.later.invariant.told ∙ tells) is proposed rule (as_step same));
       unbroken = λ stored tells stands. tt;
@@ -160,8 +160,8 @@ returns-in-Err-judge_next g c =
       interest = λ stored tells stands. tt;
       freed = λ stored tells stands. tt;
       undamaged = λ stored tells stands damage same.
-          let site : Site = site_at c.args.spec.now (branch (blocks_of stored) c.args.parent) c.args.block.now c.later.place in
-          let is = site-in_block stored at c.args.block.now c.later.place (g.C.Cells.rows c.args.cells.now)
+          let site : Site = site_at c.args.context.now.spec.now (branch (blocks_of stored) c.args.context.now.parent) c.args.block.now c.later.place in
+          let is = site-in_block stored at c.args.block.now c.later.place (g.C.Cells.rows c.args.context.now.cells.now)
           (with_changes c.later.progress.cells.changed (g.C.Cells.rows c.later.progress.cells.base.now))
           (ap Some (c.from_encoding.ensures c.args.block.now c.bytes.ensures)) c.requires.parent stands c.later.invariant.rows in
           c.in-Err-judge_next.ensures.undamaged stored site (c.later.invariant.told ∙ tells) is damage (as_step same);
@@ -173,8 +173,8 @@ pub returns : goal.returns
 returns g c =
     let past : length c.args.block.now.transactions ≤ c.later.place = omega (arith, c.later-test.false, c.transactions_count-count.ensures.value) in
     let moved = λ (stored : List Stored) (tells : g.B.Blocks.told c.args.blocks.now ≡ Some stored)
-    (stands : Stands stored c.args.tree.now.entries c.args.parent (g.C.Cells.rows c.args.cells.now)).
-    moved-all c.args.spec.now (branch (blocks_of stored) c.args.parent) c.args.block.now c.later.place c.later.progress.interest c.later.progress.freed
+    (stands : Stands stored c.args.context.now.tree.now.entries c.args.context.now.parent (g.C.Cells.rows c.args.context.now.cells.now)).
+    moved-all c.args.context.now.spec.now (branch (blocks_of stored) c.args.context.now.parent) c.args.block.now c.later.place c.later.progress.interest c.later.progress.freed
     (c.later.invariant.moved stored tells stands) past in record {
       told = c.later.invariant.told;
       count = c.later.invariant.count;
@@ -183,10 +183,10 @@ returns g c =
       fees = omega (arith, c.later.invariant.fees, c.later.invariant.within, past);
       broken = λ stored tells stands rule same. absurd (no_error same);
       unbroken = λ stored tells stands.
-          judged-all c.args.spec.now (blocks_of stored) c.args.parent c.args.block.now c.later.place c.later.progress.left c.later.progress.ext
+          judged-all c.args.context.now.spec.now (blocks_of stored) c.args.context.now.parent c.args.block.now c.later.place c.later.progress.left c.later.progress.ext
           (c.later.invariant.judged stored tells stands) past;
       ext = λ stored tells stands.
-          judged-ext c.args.spec.now (blocks_of stored) c.args.parent c.args.block.now c.later.place c.later.progress.left c.later.progress.ext
+          judged-ext c.args.context.now.spec.now (blocks_of stored) c.args.context.now.parent c.args.block.now c.later.place c.later.progress.left c.later.progress.ext
           (c.later.invariant.judged stored tells stands) past;
       interest = λ stored tells stands. to_z-of_z w128 c.later.progress.interest (search rules) ∙ (moved stored tells stands).interest_is;
       freed = λ stored tells stands. (moved stored tells stands).freed_is;

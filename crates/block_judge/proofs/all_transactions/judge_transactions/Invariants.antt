@@ -21,10 +21,10 @@ invariant-later g l = record {
   moves : CanMove l.place l.progress.interest l.progress.freed;
   within : l.place ≤ length l.block.transactions;
   fees : length l.progress.ext.fees + 1 ≡ l.place;
-  rows : AreRowsAfter (length l.tree.entries) l.block l.place (g.C.Cells.rows l.cells)
+  rows : AreRowsAfter (length l.context.tree.now.entries) l.block l.place (g.C.Cells.rows l.context.cells.now)
       (with_changes l.progress.cells.changed (g.C.Cells.rows l.progress.cells.base.now));
-  judged : (stored : List Stored) → g.B.Blocks.told l.fn.blocks ≡ Some stored → Stands stored l.tree.entries l.parent (g.C.Cells.rows l.cells)
-      → IsJudgedTo l.spec (blocks_of stored) l.parent l.block l.place l.progress.left l.progress.ext;
-  moved : (stored : List Stored) → g.B.Blocks.told l.fn.blocks ≡ Some stored → Stands stored l.tree.entries l.parent (g.C.Cells.rows l.cells)
-      → IsMovedTo l.spec (branch (blocks_of stored) l.parent) l.block l.place l.progress.interest l.progress.freed;
+  judged : (stored : List Stored) → g.B.Blocks.told l.fn.blocks ≡ Some stored → Stands stored l.context.tree.now.entries l.context.parent (g.C.Cells.rows l.context.cells.now)
+      → IsJudgedTo l.context.spec.now (blocks_of stored) l.context.parent l.block l.place l.progress.left l.progress.ext;
+  moved : (stored : List Stored) → g.B.Blocks.told l.fn.blocks ≡ Some stored → Stands stored l.context.tree.now.entries l.context.parent (g.C.Cells.rows l.context.cells.now)
+      → IsMovedTo l.context.spec.now (branch (blocks_of stored) l.context.parent) l.block l.place l.progress.interest l.progress.freed;
 }

@@ -7,17 +7,17 @@ use Rattle.block_judge.proofs.ending.judge_end.Goals as goal
 
 pub returns-in-Ok-false-clause-broken : goal.returns-in-Ok-false-clause-broken
 returns-in-Ok-false-clause-broken g c stored tells indexes own moved rule same =
-    breaks-31 c.args.spec.now (branch (blocks_of stored) c.args.parent) c.args.block.now
+    breaks-31 c.args.context.now.spec.now (branch (blocks_of stored) c.args.context.now.parent) c.args.block.now
     (sym (c.in-Ok-false.ensures.pays stored tells indexes own) ∙ c.in-Ok-false.field-0-test) ∙ ap Some (same_rule same)
 
 pub returns-then-not-has_next_dao-clause-broken : goal.returns-then-not-has_next_dao-clause-broken
 returns-then-not-has_next_dao-clause-broken g c stored tells indexes own moved rule same =
-    breaks-32 c.args.spec.now (branch (blocks_of stored) c.args.parent) c.args.block.now
+    breaks-32 c.args.context.now.spec.now (branch (blocks_of stored) c.args.context.now.parent) c.args.block.now
     (sym (c.in-Ok-true.ensures.pays stored tells indexes own) ∙ c.in-Ok-true.field-0-test)
     (sym (c.has_next_dao.ensures.next (blocks_of stored) indexes moved) ∙ c.if-not-has_next_dao.true) ∙ ap Some (same_rule same)
 
 pub returns-clause-unbroken : goal.returns-clause-unbroken
 returns-clause-unbroken g c stored tells indexes own moved =
-    keeps-end c.args.spec.now (branch (blocks_of stored) c.args.parent) c.args.block.now
+    keeps-end c.args.context.now.spec.now (branch (blocks_of stored) c.args.context.now.parent) c.args.block.now
     (sym (c.in-Ok-true.ensures.pays stored tells indexes own) ∙ c.in-Ok-true.field-0-test)
     (sym (c.has_next_dao.ensures.next (blocks_of stored) indexes moved) ∙ c.if-not-has_next_dao.false)

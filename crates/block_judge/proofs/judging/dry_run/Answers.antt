@@ -14,27 +14,27 @@ use Rattle.block_judge.proofs.judging.dry_run.Goals as goal
 
 pub returns-in-Err : goal.returns-in-Err
 returns-in-Err g c =
-    let at : AtValue = record { spec = c.args.spec.now; entries = c.args.tree.now.entries; parent = c.args.parent; block = None } in record {
+    let at : AtValue = record { spec = c.args.context.now.spec.now; entries = c.args.context.now.tree.now.entries; parent = c.args.context.now.parent; block = None } in record {
       told = c.judge_transaction.ensures.told;
       count = c.judge_transaction.ensures.count;
       loans = c.judge_transaction.ensures.loans;
       tried = λ rule same. c.in-Err.ensures.alone refl rule (as_step same);
       by_rows = c.in-Err.ensures.by_rows refl;
       broken = λ stored tells stands rule same.
-          alone-judged c.args.spec.now (branch (blocks_of stored) c.args.parent) c.args.tx.now _ (Some (rule_number rule)) (ap (λ (s : Specification). s.max_cycles) c.spec.view_is)
-          (c.in-Err.ensures.broken stored _ tells (site-alone stored at (g.C.Cells.rows c.args.cells.now) stands) rule (as_step same));
+          alone-judged c.args.context.now.spec.now (branch (blocks_of stored) c.args.context.now.parent) c.args.tx.now _ (Some (rule_number rule)) (ap (λ (s : Specification). s.max_cycles) c.spec.view_is)
+          (c.in-Err.ensures.broken stored _ tells (site-alone stored at (g.C.Cells.rows c.args.context.now.cells.now) stands) rule (as_step same));
       unbroken = λ stored tells stands. tt;
       fee = λ stored tells stands. tt;
       cycles = λ stored tells stands. tt;
       undamaged = λ stored tells stands damage same.
-          c.in-Err.ensures.undamaged stored _ tells (site-alone stored at (g.C.Cells.rows c.args.cells.now) stands) damage (as_step same);
+          c.in-Err.ensures.undamaged stored _ tells (site-alone stored at (g.C.Cells.rows c.args.context.now.cells.now) stands) damage (as_step same);
       damage = λ damage same. c.in-Err.ensures.damage damage (as_step same);
       cause = counts-on as_step as_step c.in-Err.ensures.cause;
     }
 
 pub returns-in-Ok : goal.returns-in-Ok
 returns-in-Ok g c =
-    let at : AtValue = record { spec = c.args.spec.now; entries = c.args.tree.now.entries; parent = c.args.parent; block = None } in record {
+    let at : AtValue = record { spec = c.args.context.now.spec.now; entries = c.args.context.now.tree.now.entries; parent = c.args.context.now.parent; block = None } in record {
       told = c.judge_transaction.ensures.told;
       count = c.judge_transaction.ensures.count;
       loans = c.judge_transaction.ensures.loans;
@@ -42,12 +42,12 @@ returns-in-Ok g c =
       by_rows = c.in-Ok.ensures.by_rows refl;
       broken = λ stored tells stands rule same. absurd (no_error same);
       unbroken = λ stored tells stands.
-          alone-judged c.args.spec.now (branch (blocks_of stored) c.args.parent) c.args.tx.now _ None (ap (λ (s : Specification). s.max_cycles) c.spec.view_is)
-          (c.in-Ok.ensures.unbroken stored _ tells (site-alone stored at (g.C.Cells.rows c.args.cells.now) stands));
-      fee = λ stored tells stands. c.in-Ok.ensures.fee stored _ tells (site-alone stored at (g.C.Cells.rows c.args.cells.now) stands);
+          alone-judged c.args.context.now.spec.now (branch (blocks_of stored) c.args.context.now.parent) c.args.tx.now _ None (ap (λ (s : Specification). s.max_cycles) c.spec.view_is)
+          (c.in-Ok.ensures.unbroken stored _ tells (site-alone stored at (g.C.Cells.rows c.args.context.now.cells.now) stands));
+      fee = λ stored tells stands. c.in-Ok.ensures.fee stored _ tells (site-alone stored at (g.C.Cells.rows c.args.context.now.cells.now) stands);
       cycles = λ stored tells stands.
-          c.in-Ok.ensures.cycles stored _ tells (site-alone stored at (g.C.Cells.rows c.args.cells.now) stands)
-          ∙ ap (λ (s : Specification). cycles_of (scene_of (site_after c.args.spec.now (branch (blocks_of stored) c.args.parent)) c.args.tx.now) s.max_cycles)
+          c.in-Ok.ensures.cycles stored _ tells (site-alone stored at (g.C.Cells.rows c.args.context.now.cells.now) stands)
+          ∙ ap (λ (s : Specification). cycles_of (scene_of (site_after c.args.context.now.spec.now (branch (blocks_of stored) c.args.context.now.parent)) c.args.tx.now) s.max_cycles)
           c.spec.view_is;
       undamaged = λ stored tells stands damage same. no_error same;
       damage = λ damage same. absurd (no_error same);

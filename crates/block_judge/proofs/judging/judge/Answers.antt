@@ -18,7 +18,7 @@ returns-in-Err g c = record {
       (λ why same. c.in-Err.ensures.memory why (ap Err same));
   rated = tt;
   broken = λ stored tells whole rule same.
-      first-ahead c.args.spec.now (branch (blocks_of stored) c.args.parent) c.args.block.now _
+      first-ahead c.args.context.now.spec.now (branch (blocks_of stored) c.args.context.now.parent) c.args.block.now _
       (c.in-Err.ensures.broken stored whole.stands whole.uncles rule (as_step same));
   unbroken = λ stored tells whole. tt;
   ext = λ stored tells whole. tt;
@@ -40,7 +40,7 @@ returns-in-Err-judge_transactions g c = record {
       (λ rule same. let its = c.in-Err-judge_transactions.ensures.rule rule (ap Err same) in omega (arith, its.0));
   rated = tt;
   broken = λ stored tells whole rule same.
-      first-transaction c.args.spec.now (branch (blocks_of stored) c.args.parent) c.args.block.now _
+      first-transaction c.args.context.now.spec.now (branch (blocks_of stored) c.args.context.now.parent) c.args.block.now _
       (c.in-Ok.ensures.unbroken stored whole.stands whole.uncles) (c.in-Err-judge_transactions.ensures.broken stored tells whole.stands rule (as_step same));
   unbroken = λ stored tells whole. tt;
   ext = λ stored tells whole. tt;
@@ -62,7 +62,7 @@ returns g c = record {
       (λ rule same. let its = c.in-Err-judge_end.ensures.tried rule (ap Err same) in omega (arith, its.0));
   rated = tt;
   broken = λ stored tells whole rule same.
-      at-end c.args.spec.now (branch (blocks_of stored) c.args.parent) c.args.block.now (c.in-Ok.ensures.unbroken stored whole.stands whole.uncles)
+      at-end c.args.context.now.spec.now (branch (blocks_of stored) c.args.context.now.parent) c.args.block.now (c.in-Ok.ensures.unbroken stored whole.stands whole.uncles)
       (c.in-Ok-judge_transactions.ensures.unbroken stored tells whole.stands)
       ∙ c.in-Err-judge_end.ensures.broken stored (c.judge_transactions.ensures.told ∙ tells) whole.stands.indexed whole.fees
       (record {
@@ -89,7 +89,7 @@ returns-in-Ok-judge_end g c = record {
   rated = c.in-Ok-judge_end.ensures.rated;
   broken = λ stored tells whole rule same. absurd (no_error same);
   unbroken = λ stored tells whole.
-      at-end c.args.spec.now (branch (blocks_of stored) c.args.parent) c.args.block.now (c.in-Ok.ensures.unbroken stored whole.stands whole.uncles)
+      at-end c.args.context.now.spec.now (branch (blocks_of stored) c.args.context.now.parent) c.args.block.now (c.in-Ok.ensures.unbroken stored whole.stands whole.uncles)
       (c.in-Ok-judge_transactions.ensures.unbroken stored tells whole.stands)
       ∙ c.in-Ok-judge_end.ensures.unbroken stored (c.judge_transactions.ensures.told ∙ tells) whole.stands.indexed whole.fees
       (record {

@@ -21,26 +21,26 @@ dry_run-requires-clause-counts c =
 
 pub returns-clause-passes : goal.returns-clause-passes
 returns-clause-passes c joined =
-    let is = c.tip-tip.ensures.of_blocks (blocks_of c.self.inside.blocks.stored) c.self.invariant.indexed in
+    let is = c.tip.ensures.of_blocks (blocks_of c.self.inside.blocks.stored) c.self.invariant.indexed in
     let stands = stands-tip c.self.inside.spec c.self.inside.blocks.stored c.self.inside.tree.entries c.self.inside.uncles (rows c.self.inside.state)
-    c.tip-tip.result c.self.invariant (subst (λ (v : KeptValue). IsJoined v.chain) (sym c.self.view_is) joined) is c.tip-tip.ensures.within in
+    c.tip.result c.self.invariant (subst (λ (v : KeptValue). IsJoined v.chain) (sym c.self.view_is) joined) is c.tip.ensures.within in
     subst (λ (v : KeptValue). IfOk c.dry_run.result (λ it. trial_on v.chain.spec (best_branch v.chain.blocks) c.args.tx.now ≡ Passes it.0 it.1)) c.self.view_is
-    (trial-passes-else c.self.inside.spec (blocks_of c.self.inside.blocks.stored) c.args.tx.now c.tip-tip.result c.dry_run.result is
+    (trial-passes-else c.self.inside.spec (blocks_of c.self.inside.blocks.stored) c.args.tx.now c.tip.result c.dry_run.result is
     (c.dry_run.ensures.unbroken c.self.inside.blocks.stored refl stands) (c.dry_run.ensures.fee c.self.inside.blocks.stored refl stands)
     (c.dry_run.ensures.cycles c.self.inside.blocks.stored refl stands))
 
 pub returns-clause-broken : goal.returns-clause-broken
 returns-clause-broken c joined rule broken =
-    let is = c.tip-tip.ensures.of_blocks (blocks_of c.self.inside.blocks.stored) c.self.invariant.indexed in
+    let is = c.tip.ensures.of_blocks (blocks_of c.self.inside.blocks.stored) c.self.invariant.indexed in
     let stands = stands-tip c.self.inside.spec c.self.inside.blocks.stored c.self.inside.tree.entries c.self.inside.uncles (rows c.self.inside.state)
-    c.tip-tip.result c.self.invariant (subst (λ (v : KeptValue). IsJoined v.chain) (sym c.self.view_is) joined) is c.tip-tip.ensures.within in
+    c.tip.result c.self.invariant (subst (λ (v : KeptValue). IsJoined v.chain) (sym c.self.view_is) joined) is c.tip.ensures.within in
     subst (λ (v : KeptValue). trial_on v.chain.spec (best_branch v.chain.blocks) c.args.tx.now ≡ Refused (rule_number rule)) c.self.view_is
-    (trial-refused c.self.inside.spec (blocks_of c.self.inside.blocks.stored) c.args.tx.now c.tip-tip.result is (rule_number rule)
+    (trial-refused c.self.inside.spec (blocks_of c.self.inside.blocks.stored) c.args.tx.now c.tip.result is (rule_number rule)
     (c.dry_run.ensures.broken c.self.inside.blocks.stored refl stands rule broken))
 
 pub returns-clause-undamaged : goal.returns-clause-undamaged
 returns-clause-undamaged c joined damage =
-    let is = c.tip-tip.ensures.of_blocks (blocks_of c.self.inside.blocks.stored) c.self.invariant.indexed in
+    let is = c.tip.ensures.of_blocks (blocks_of c.self.inside.blocks.stored) c.self.invariant.indexed in
     let stands = stands-tip c.self.inside.spec c.self.inside.blocks.stored c.self.inside.tree.entries c.self.inside.uncles (rows c.self.inside.state)
-    c.tip-tip.result c.self.invariant (subst (λ (v : KeptValue). IsJoined v.chain) (sym c.self.view_is) joined) is c.tip-tip.ensures.within in
+    c.tip.result c.self.invariant (subst (λ (v : KeptValue). IsJoined v.chain) (sym c.self.view_is) joined) is c.tip.ensures.within in
     c.dry_run.ensures.undamaged c.self.inside.blocks.stored refl stands damage
