@@ -99,6 +99,7 @@ fn import_all<D: Disk, L: Ledger>(
 ) -> Result<(Node, u64), NoMemory>
     requires joined { AreJoined opened.chain opened.exts }
     requires there { IfSome (D.reads_as disk.old) (λ image. opened.place < length image.log) }
+    ensures joined { IfOk result (λ came. AreJoined came.0.chain came.0.exts) }
     ensures kept { IfOk result (λ came. came.0.chain ≡ chain_over opened.chain (map (λ bytes. bytes.items) items.now)) }
     ensures count { IfOk result (λ came. came.1 ≡ length (filter rules.joins (verdicts_over opened.chain (map (λ bytes. bytes.items) items.now)))) }
 {
@@ -117,6 +118,7 @@ fn import_all<D: Disk, L: Ledger>(
 
 /// What is counted of a node, where so many items joined. The live cells are listed to be counted: the list has each once.
 fn counted(alloc: Global, node: &Node, joined: u64) -> Result<Counts, NoMemory>
+    requires { AreJoined node.now.chain node.now.exts }
     ensures { IfOk result (λ counts. counts ≡ record {
       joined = joined;
       height = height_of (tips.tip node.now.chain.blocks);

@@ -44,10 +44,11 @@ use Rattle.joined_laws.proofs.BranchFitLaws.{branches-fit}
 use Rattle.node_core.specs.declared.deciding.Joining.{Joining}
 use Rattle.node_core.specs.declared.deciding.Decision.{Decision}
 use Rattle.node_core.specs.declared.deciding.Decision.TheVariants.{Joins, Stays}
-use Rattle.node_core.specs.Node.{KeptValue, kept_of, AreKept}
+use Rattle.reorg.specs.Moves.{AreOf}
+use Rattle.node_core.specs.Node.{KeptValue, kept_of, AreKept, AreOfTip}
 use Rattle.node_core.proofs.JoiningLemmas.{few-heights}
 use Rattle.node_core.proofs.OwnLemmas.{have-own-fees}
-use Rattle.node_core.specs.Judging.{AreCellsOn, IsEntryOn, IsJudged, IsDecidedBlock, IsDecided, IsReady, IsReadyBlock, IsReadyItem}
+use Rattle.node_core.specs.Judging.{IsEntryOn, IsJudged, IsDecidedBlock, IsDecided, IsReady, IsReadyBlock, IsReadyItem}
 
 pub none-there : {T : Type 0} (o : Option T) → is_some o ≡ false → o ≡ None
 none-there None is = refl
@@ -68,55 +69,36 @@ stands-on spec stored entries parent found joined indexed below live = record {
 
 -- those of the tip
 pub stands-tip : (spec : Specification) (stored : List Stored) (entries : List Entry) (index : UnclesValue) (found : OutPoint → Option Row) (tip : ℕ)
-    → AreKept stored entries index found → IsJoined (record { spec = spec; blocks = blocks_of stored }) → tip_place (blocks_of stored) ≡ Some tip
-    → tip < length entries → Stands stored entries tip found
-stands-tip spec stored entries index found tip are joined is below = stands-on spec stored entries tip found joined are.indexed below (are.live tip is)
+    → AreKept stored entries index → AreOfTip (blocks_of stored) found → IsJoined (record { spec = spec; blocks = blocks_of stored })
+    → tip_place (blocks_of stored) ≡ Some tip → tip < length entries → Stands stored entries tip found
+stands-tip spec stored entries index found tip are live joined is below = stands-on spec stored entries tip found joined are.indexed below (live tip is)
 
 -- as many entries as blocks, and how many there may be
-pub as-many : (stored : List Stored) (entries : List Entry) (index : UnclesValue) (found : OutPoint → Option Row) → AreKept stored entries index found
-    → length stored ≡ length entries
-as-many stored entries index found are =
+pub as-many : (stored : List Stored) (entries : List Entry) (index : UnclesValue) → AreKept stored entries index → length stored ≡ length entries
+as-many stored entries index are =
     omega (arith, len-same (blocks_of stored) entries are.indexed, length-map stored (λ (it : Stored). it.block))
 
-pub few-entries : (stored : List Stored) (entries : List Entry) (index : UnclesValue) (found : OutPoint → Option Row) → AreKept stored entries index found
-    → length entries < 2 ^ 24
-few-entries stored entries index found are =
-    omega (arith, few-heights (length stored) are.few, as-many stored entries index found are)
-
--- the rows of the cells that are at hand
-pub cells-at-hand : (kept : List Block) (parent : ℕ) (given : Option StateValue) (tip state : StateValue) → AreCellsOn kept parent given
-    → ((at : ℕ) → tip_place kept ≡ Some at → (o : OutPoint) → rows tip o ≡ live_row kept at o) → IfSome given (λ cells. state ≡ cells)
-    → (given ≡ None → state ≡ tip) → (o : OutPoint) → rows state o ≡ live_row kept parent o
-cells-at-hand kept parent None tip state on live some none o = ap (λ (s : StateValue). rows s o) (none refl) ∙ live parent on o
-cells-at-hand kept parent (Some cells) tip state on live some none o = ap (λ (s : StateValue). rows s o) some ∙ on o
+pub few-entries : (stored : List Stored) (entries : List Entry) (index : UnclesValue) → AreKept stored entries index → length entries < 2 ^ 24
+few-entries stored entries index are =
+    omega (arith, few-heights (length stored) are.few, as-many stored entries index are)
 
 -- a place of a block
 pub within-entries : (kept blocks : List Block) (entries : List Entry) (place : ℕ) → kept ≡ blocks → IndexesBlocks kept entries → place < length blocks
     → place < length entries
 within-entries kept blocks entries place seen indexed below = omega (arith, below, ap length seen, len-same kept entries indexed)
 
--- those of its parent's branch
-stands-at-hand : (spec : Specification) (stored : List Stored) (entries : List Entry) (index : UnclesValue) (tip state : StateValue) (chain : Chain) (b : Block)
-    (entry : Entry) (given : Option StateValue) → record { spec = spec; blocks = blocks_of stored } ≡ chain → AreKept stored entries index (rows tip)
-    → IsEntryOn chain.blocks b entry → IsJoined chain → AreCellsOn chain.blocks entry.parent given → IfSome given (λ cells. state ≡ cells)
-    → (given ≡ None → state ≡ tip) → Stands stored entries entry.parent (rows state)
-stands-at-hand spec stored entries index tip state chain b entry given whole are on joined have some none =
-    let seen : blocks_of stored ≡ chain.blocks = ap (λ (v : Chain). v.blocks) whole in
-    stands-on spec stored entries entry.parent (rows state) (subst IsJoined (sym whole) joined) are.indexed
-    (within-entries (blocks_of stored) chain.blocks entries entry.parent seen are.indexed
-    (place_of-below chain.blocks b.header.parent_hash entry.parent on.on_kept))
-    (cells-at-hand (blocks_of stored) entry.parent given tip state
-    (subst (λ (kept : List Block). AreCellsOn kept entry.parent given) (sym seen) have) are.live some none)
-
--- and all that a block is judged over
-pub whole-at-hand : (spec : Specification) (stored : List Stored) (entries : List Entry) (index : UnclesValue) (tip state : StateValue) (kept : KeptValue) (b : Block)
-    (entry : Entry) (given : Option StateValue) → kept_of spec stored ≡ kept → AreKept stored entries index (rows tip)
-    → IsEntryOn kept.chain.blocks b entry → AreJoined kept.chain kept.exts → AreCellsOn kept.chain.blocks entry.parent given
-    → IfSome given (λ cells. state ≡ cells) → (given ≡ None → state ≡ tip) → StandsWhole spec stored entries entry.parent (rows state) index
-whole-at-hand spec stored entries index tip state kept b entry given whole are on joined have some none =
+-- all that a block is judged over, where the rows are those of its parent's branch
+pub whole-at-hand : (spec : Specification) (stored : List Stored) (entries : List Entry) (index : UnclesValue) (state : StateValue) (kept : KeptValue) (b : Block)
+    (entry : Entry) → kept_of spec stored ≡ kept → AreKept stored entries index → IsEntryOn kept.chain.blocks b entry → AreJoined kept.chain kept.exts
+    → AreOf kept.chain.blocks entry.parent (rows state) → StandsWhole spec stored entries entry.parent (rows state) index
+whole-at-hand spec stored entries index state kept b entry whole are on joined live =
+    let seen : blocks_of stored ≡ kept.chain.blocks = ap (λ (k : KeptValue). k.chain.blocks) whole in
     let before : AreJoined (kept_of spec stored).chain (kept_of spec stored).exts = subst (λ (k : KeptValue). AreJoined k.chain k.exts) (sym whole) joined in
     record {
-      stands = stands-at-hand spec stored entries index tip state kept.chain b entry given (ap (λ (k : KeptValue). k.chain) whole) are on joined.joined have some none;
+      stands = stands-on spec stored entries entry.parent (rows state) before.joined are.indexed
+          (within-entries (blocks_of stored) kept.chain.blocks entries entry.parent seen are.indexed
+          (place_of-below kept.chain.blocks b.header.parent_hash entry.parent on.on_kept))
+          (subst (λ (blocks : List Block). AreOf blocks entry.parent (rows state)) (sym seen) live);
       uncles = are.uncles;
       fees = have-own-fees spec stored before.joined before.own are.counted;
     }
@@ -139,16 +121,15 @@ follows-by-header spec on b unbroken =
 pub room-for : (count number : ℕ) (room : Bool) → room ≡ nat_lt count kept_limit → room ≡ true → count ≡ number → number < kept_limit
 room-for count number room is so same = omega (arith, (Decides-ltb count kept_limit).0 (sym is ∙ so), same)
 
-pub is-ready : (spec : Specification) (kept : List Block) (b : Block) (entry : Entry) (ext : Ext) (cells : Option StateValue) → IsEntryOn kept b entry
+pub is-ready : (spec : Specification) (kept : List Block) (b : Block) (entry : Entry) (ext : Ext) → IsEntryOn kept b entry
     → first_failing (header_rules spec (branch kept entry.parent) b) ≡ None → length kept < kept_limit → is_rated b.header.dao ≡ true
-    → length ext.fees ≡ length b.transactions - 1 → AreCellsOn kept entry.parent cells → IsReady kept b (record { entry = entry; ext = ext; cells = cells })
-is-ready spec kept b entry ext cells on unbroken room rated fees have = record {
+    → length ext.fees ≡ length b.transactions - 1 → IsReady kept b (record { entry = entry; ext = ext })
+is-ready spec kept b entry ext on unbroken room rated fees = record {
   entry = on;
   next = follows-by-header spec (branch kept entry.parent) b unbroken;
   room = room;
   rated = rated;
   fees = fees;
-  cells = have;
 }
 
 -- ---- The verdict on a block
@@ -199,18 +180,18 @@ unfolding verdict
 decided-item chain item b (Joins joining) is here = (b, is, here)
 decided-item chain item b (Stays answer) is here = here ∙ ap (verdict_of chain.spec chain.blocks) (sym is)
 
-pub decided-else : {E : Type 0} (chain : Chain) (item : List ℕ) (b : Block) (result : Result Decision E) → decoded block item ≡ Some b
-    → IfOk result (IsDecidedBlock chain b) → IfOk result (IsDecided chain item)
-decided-else chain item b (Ok decision) is here = decided-item chain item b decision is here
+pub decided-else : {S E : Type 0} (chain : Chain) (item : List ℕ) (b : Block) (result : Result (S × Decision) E) → decoded block item ≡ Some b
+    → IfOk result (λ it. IsDecidedBlock chain b it.1) → IfOk result (λ it. IsDecided chain item it.1)
+decided-else chain item b (Ok it) is here = decided-item chain item b it.1 is here
 decided-else chain item b (Err stop) is here = tt
 
 ready-item : (kept : List Block) (item : List ℕ) (b : Block) (decision : Decision) → decoded block item ≡ Some b → IsReadyBlock kept b decision → IsReadyItem kept item decision
 ready-item kept item b (Joins joining) is here = (b, is, here)
 ready-item kept item b (Stays answer) is here = here
 
-pub ready-else : {E : Type 0} (kept : List Block) (item : List ℕ) (b : Block) (result : Result Decision E) → decoded block item ≡ Some b
-    → IfOk result (IsReadyBlock kept b) → IfOk result (IsReadyItem kept item)
-ready-else kept item b (Ok decision) is here = ready-item kept item b decision is here
+pub ready-else : {S E : Type 0} (kept : List Block) (item : List ℕ) (b : Block) (result : Result (S × Decision) E) → decoded block item ≡ Some b
+    → IfOk result (λ it. IsReadyBlock kept b it.1) → IfOk result (λ it. IsReadyItem kept item it.1)
+ready-else kept item b (Ok it) is here = ready-item kept item b it.1 is here
 ready-else kept item b (Err stop) is here = tt
 
 -- ---- A transaction alone

@@ -9,10 +9,11 @@ use Rattle.codec_defs.specs.Schema.{OutPoint, Block, block}
 use Rattle.time_defs.specs.Specification.{Specification}
 use Rattle.chain_defs.specs.Kept.{block_hash, block_at, StandsOn, IsKept, follows, kept_limit}
 use Rattle.chain_defs.specs.Branch.{branch}
-use Rattle.chain_defs.specs.Tip.{tip_place}
+use Rattle.std.specs.Option.{option_and_then}
+use Rattle.chain_defs.specs.Tip.{tip, tip_place}
 use Rattle.chain_defs.proofs.KeptLaws.{slice_get-below, slice_get-pushed, place_of-below, place_of-there, IsKept-push}
 use Rattle.chain_defs.proofs.BranchLaws.{branch-last}
-use Rattle.chain_defs.proofs.TipLaws.{tip_place-below, tip_place-push}
+use Rattle.chain_defs.proofs.TipLaws.{tip_place-there, tip_place-below, tip_place-push}
 use Rattle.time_defs.specs.Dao.{is_rated}
 use Rattle.rule_defs.specs.Header.{parent_of}
 use Rattle.cell_defs.specs.Ext.{count_at}
@@ -36,8 +37,13 @@ use Rattle.verdict_defs.specs.Laws.{MayJoin}
 use Rattle.verdict_defs.proofs.VerdictLaws.{parent_of-branch}
 use Rattle.joined_laws.proofs.FitLaws.{what-joins-fits}
 use Rattle.node_core.specs.declared.deciding.Joining.{Joining}
-use Rattle.node_core.specs.Node.{exts_of, KeptValue, kept_of, kept_with, CountFees, AreKept}
-use Rattle.node_core.specs.Judging.{AreCellsOn, IsReady}
+use Rattle.fit_laws.specs.Laws.{AreCanonical}
+use Rattle.reorg.specs.Moves.{AreOf}
+use Rattle.node_core.specs.declared.deciding.Decision.TheVariants.{Joins, Stays}
+use Rattle.node_core.specs.declared.deciding.Decision.{Decision}
+use Rattle.node_core.proofs.MovingLemmas.{canonical-push}
+use Rattle.node_core.specs.Node.{exts_of, KeptValue, kept_of, kept_with, CountFees, AreKept, AreOfFound, AreOfTip}
+use Rattle.node_core.specs.Judging.{IsReady, IsOnParent, is_above, becomes_tip, parent_of_joining, place_for}
 
 -- ---- A block that is ready
 
@@ -65,15 +71,32 @@ stands-ready kept b joining ready =
 pub is_kept-ready : (kept : List Block) (b : Block) (joining : Joining) → IsKept kept → IsReady kept b joining → IsKept (kept ++ b ∷ [])
 is_kept-ready kept b joining is_kept ready = IsKept-push kept b is_kept (stands-ready kept b joining ready) ready.entry.new
 
--- the rows of its parent's branch, by what is handed along
-pub given-cells : (kept : List Block) (b : Block) (joining : Joining) (cells : StateValue) → IsReady kept b joining → joining.cells ≡ Some cells
-    → (o : OutPoint) → rows cells o ≡ live_row kept joining.entry.parent o
-given-cells kept b joining cells ready is = subst (AreCellsOn kept joining.entry.parent) is ready.cells
+-- the rows that it goes on from, where it becomes the tip
+pub joining-cells : (kept : List Block) (joining : Joining) (found : OutPoint → Option Row) → becomes_tip kept (Joins joining) ≡ true
+    → AreOfFound kept (place_for kept (Joins joining)) found → AreOf kept joining.entry.parent found
+joining-cells kept joining found high live =
+    live joining.entry.parent (ap (λ (t : Bool). cond t (Some joining.entry.parent) (tip_place kept)) high)
 
-pub tip-cells : (kept : List Block) (b : Block) (joining : Joining) (state : StateValue) → IsReady kept b joining → joining.cells ≡ None
-    → ((tip : ℕ) → tip_place kept ≡ Some tip → (o : OutPoint) → rows state o ≡ live_row kept tip o)
-    → (o : OutPoint) → rows state o ≡ live_row kept joining.entry.parent o
-tip-cells kept b joining state ready is live = live joining.entry.parent (subst (AreCellsOn kept joining.entry.parent) is ready.cells)
+-- and where it does not
+pub staying-cells : (kept : List Block) (joining : Joining) (found : OutPoint → Option Row) → becomes_tip kept (Joins joining) ≡ false
+    → AreOfFound kept (place_for kept (Joins joining)) found → AreOfTip kept found
+staying-cells kept joining found low live tip is =
+    live tip (ap (λ (t : Bool). cond t (Some joining.entry.parent) (tip_place kept)) low ∙ is)
+
+-- where the cells stand once a decision is made: at the parent of a block that becomes the tip
+pub at-parent : (kept : List Block) (parent : ℕ) (decision : Decision) (found : OutPoint → Option Row) → IsOnParent parent decision
+    → becomes_tip kept decision ≡ true → AreOf kept parent found → AreOfFound kept (place_for kept decision) found
+at-parent kept parent (Joins joining) found on high live place is =
+    let there : Some joining.entry.parent ≡ Some place = sym (ap (λ (t : Bool). cond t (Some joining.entry.parent) (tip_place kept)) high) ∙ is in
+    subst (λ (p : ℕ). AreOf kept p found) (sym on ∙ same_Some joining.entry.parent place there) live
+at-parent kept parent (Stays verdict) found on high live place is = absurd (cc)
+
+-- and at the tip else
+pub at-tip : (kept : List Block) (at : ℕ) (decision : Decision) (found : OutPoint → Option Row) → tip_place kept ≡ Some at
+    → becomes_tip kept decision ≡ false → AreOf kept at found → AreOfFound kept (place_for kept decision) found
+at-tip kept at decision found tip_is low live place is =
+    let there : tip_place kept ≡ Some place = sym (ap (λ (t : Bool). cond t (parent_of_joining decision) (tip_place kept)) low) ∙ is in
+    subst (λ (p : ℕ). AreOf kept p found) (same_Some at place (sym tip_is ∙ there)) live
 
 -- its events fit other rows that are the same
 pub fits-parent : (kept : List Block) (height : ℕ) (b : Block) (parent : ℕ) (cells : StateValue)
@@ -89,56 +112,59 @@ some_block : (found : Option Block) (P : Block → Type 0) → IsSomeAnd found P
 some_block None P here = absurd here
 some_block (Some b) P here = (b, refl, here)
 
-low-test : (top number : ℕ) → number ≤ top → ltb top number ≡ false
-low-test top number low = grind (arith, nat_tests)
+-- an entry's number above the tip's
+pub above-tip : (kept : List Block) (at : ℕ) (top entry : Entry) → tip_place kept ≡ Some at
+    → IsSomeAnd (block_at kept at) (λ block. Describes block top) → ltb top.number entry.number ≡ is_above (tip kept) entry
+above-tip kept at top entry found here =
+    let block = some_block (block_at kept at) (λ block. Describes block top) here in
+    let is_top : tip kept ≡ Some block.0 = ap (option_and_then (block_at kept)) found ∙ block.1 in
+    ap (λ (n : ℕ). ltb n entry.number) block.2.number ∙ ap (λ (o : Option Block). is_above o entry) (sym is_top)
 
-high-test : (top number : ℕ) → top < number → ltb top number ≡ true
-high-test top number high = (Decides-ltb top number).1 high
-
-module _ (kept : List Block) (b : Block) (at : ℕ) (entry : Entry) (found : tip_place kept ≡ Some at)
-    (here : IsSomeAnd (block_at kept at) (λ block. Describes block entry)) where
-  top : (x : Block) × (block_at kept at ≡ Some x) × Describes x entry
-  top = some_block (block_at kept at) (λ block. Describes block entry) here
-
-  by_test : (t : Bool) → ltb top.0.header.number b.header.number ≡ t → tip_place (kept ++ b ∷ []) ≡ Some (cond t (length kept) at)
-  by_test t test = tip_place-push kept b at top.0 found top.1 ∙ ap (λ (x : Bool). Some (cond x (length kept) at)) test
-
-  stays_at : (number : ℕ) → number ≡ b.header.number → number ≤ entry.number → tip_place (kept ++ b ∷ []) ≡ Some at
-  stays_at number is low =
-      let same = top.2.number in
-      by_test false (low-test top.0.header.number b.header.number (omega (arith, is, low, same)))
-
-  moves_to : (number : ℕ) → number ≡ b.header.number → entry.number < number → tip_place (kept ++ b ∷ []) ≡ Some (length kept)
-  moves_to number is high =
-      let same = top.2.number in
-      by_test true (high-test top.0.header.number b.header.number (omega (arith, is, high, same)))
+module _ (kept : List Block) (b : Block) (at : ℕ) (top : Block) (found : tip_place kept ≡ Some at) (there : block_at kept at ≡ Some top)
+    (joining : Joining) (ready : IsReady kept b joining) where
+  next_tip : (t : Bool) → becomes_tip kept (Joins joining) ≡ t → tip_place (kept ++ b ∷ []) ≡ Some (cond t (length kept) at)
+  next_tip t is =
+      let is_top : tip kept ≡ Some top = ap (option_and_then (block_at kept)) found ∙ there in
+      let test : ltb top.header.number b.header.number ≡ t =
+      ap (ltb top.header.number) (sym ready.entry.describes.number) ∙ ap (λ (o : Option Block). is_above o joining.entry) (sym is_top) ∙ is in
+      tip_place-push kept b at top found there ∙ ap (λ (x : Bool). Some (cond x (length kept) at)) test
 
   -- the rows of a tip that stays
-  pub rows-stay : (state : StateValue) (number : ℕ) → number ≡ b.header.number → number ≤ entry.number
-      → ((tip : ℕ) → tip_place kept ≡ Some tip → (o : OutPoint) → rows state o ≡ live_row kept tip o)
-      → (tip : ℕ) → tip_place (kept ++ b ∷ []) ≡ Some tip → (o : OutPoint) → rows state o ≡ live_row (kept ++ b ∷ []) tip o
-  rows-stay state number is low live tip now o =
-      let same : at ≡ tip = same_Some at tip (sym (stays_at number is low) ∙ now) in
-      subst (λ (p : ℕ). rows state o ≡ live_row (kept ++ b ∷ []) p o) same
+  stays_at : (cells : OutPoint → Option Row) → becomes_tip kept (Joins joining) ≡ false → AreOfTip kept cells → AreOfTip (kept ++ b ∷ []) cells
+  stays_at cells low live place now o =
+      let same : at ≡ place = same_Some at place (sym (next_tip false low) ∙ now) in
+      subst (λ (p : ℕ). cells o ≡ live_row (kept ++ b ∷ []) p o) same
       (live at found o ∙ sym (live_row-front kept (b ∷ []) at o (tip_place-below kept at found)))
 
   -- those of a block that becomes the tip
-  pub rows-move : (joining : Joining) (place : ℕ) (cells next : StateValue) → IsKept kept → IsReady kept b joining → place ≡ length kept
-      → entry.number < joining.entry.number → ((o : OutPoint) → rows cells o ≡ live_row kept joining.entry.parent o) → Grows b place cells next
-      → (tip : ℕ) → tip_place (kept ++ b ∷ []) ≡ Some tip → (o : OutPoint) → rows next o ≡ live_row (kept ++ b ∷ []) tip o
-  rows-move joining place cells next is_kept ready long high same grows tip now o =
-      let is : place ≡ tip = long ∙ same_Some (length kept) tip (sym (moves_to joining.entry.number ready.entry.describes.number high) ∙ now) in
+  moves_to : (place : ℕ) (cells next : StateValue) → IsKept kept → place ≡ length kept → becomes_tip kept (Joins joining) ≡ true
+      → AreOf kept joining.entry.parent (rows cells) → Grows b place cells next → AreOfTip (kept ++ b ∷ []) (rows next)
+  moves_to place cells next is_kept long high same grows other now o =
+      let is : place ≡ other = long ∙ same_Some (length kept) other (sym (next_tip true high) ∙ now) in
       subst (λ (p : ℕ). rows next o ≡ live_row (kept ++ b ∷ []) p o) is
       (grows kept joining.entry.parent (is_kept-ready kept b joining is_kept ready) ready.entry.on_kept (sym long) same o)
 
-pub move-else : {E : Type 0} (kept : List Block) (b : Block) (at : ℕ) (entry : Entry) → tip_place kept ≡ Some at
-    → IsSomeAnd (block_at kept at) (λ block. Describes block entry) → (joining : Joining) (place : ℕ) (cells : StateValue) (result : Result StateValue E)
-    → IsKept kept → IsReady kept b joining → place ≡ length kept → entry.number < joining.entry.number
-    → ((o : OutPoint) → rows cells o ≡ live_row kept joining.entry.parent o) → IfOk result (λ next. Grows b place cells next)
-    → IfOk result (λ next. (tip : ℕ) → tip_place (kept ++ b ∷ []) ≡ Some tip → (o : OutPoint) → rows next o ≡ live_row (kept ++ b ∷ []) tip o)
-move-else kept b at entry found here joining place cells (Ok next) is_kept ready long high same grows =
-    rows-move kept b at entry found here joining place cells next is_kept ready long high same grows
-move-else kept b at entry found here joining place cells (Err stop) is_kept ready long high same grows = tt
+some-tip : (kept : List Block) (b : Block) (joining : Joining) → IsReady kept b joining
+    → (at : ℕ) × (top : Block) × (tip_place kept ≡ Some at) × (block_at kept at ≡ Some top)
+some-tip kept b joining ready =
+    let below = place_of-below kept b.header.parent_hash joining.entry.parent ready.entry.on_kept in
+    let at = tip_place-there kept (omega (arith, below)) in
+    let top = slice_get-below kept at.0 (tip_place-below kept at.0 at.1) in
+    (at.0, top.0, at.1, top.1)
+
+pub rows-stay : (kept : List Block) (b : Block) (joining : Joining) (cells : OutPoint → Option Row) → IsReady kept b joining
+    → becomes_tip kept (Joins joining) ≡ false → AreOfTip kept cells → AreOfTip (kept ++ b ∷ []) cells
+rows-stay kept b joining cells ready low live =
+    let top = some-tip kept b joining ready in
+    stays_at kept b top.0 top.1 top.2 top.3 joining ready cells low live
+
+pub move-else : {E : Type 0} (kept : List Block) (b : Block) (joining : Joining) (place : ℕ) (cells : StateValue) (result : Result StateValue E)
+    → IsKept kept → IsReady kept b joining → place ≡ length kept → becomes_tip kept (Joins joining) ≡ true → AreOf kept joining.entry.parent (rows cells)
+    → IfOk result (λ next. Grows b place cells next) → IfOk result (λ next. AreOfTip (kept ++ b ∷ []) (rows next))
+move-else kept b joining place cells (Ok next) is_kept ready long high same grows =
+    let top = some-tip kept b joining ready in
+    moves_to kept b top.0 top.1 top.2 top.3 joining ready place cells next is_kept long high same grows
+move-else kept b joining place cells (Err stop) is_kept ready long high same grows = tt
 
 -- ---- The index with one more block
 
@@ -238,7 +264,7 @@ describes-named b entry named is hash number timestamp dao = record {
   dao = dao ∙ is.dao;
 }
 
-blocks-push : (stored after : List Stored) (b : Block) (ext : List ℕ) → after ≡ stored ++ record { block = b; ext = ext } ∷ []
+pub blocks-push : (stored after : List Stored) (b : Block) (ext : List ℕ) → after ≡ stored ++ record { block = b; ext = ext } ∷ []
     → blocks_of after ≡ blocks_of stored ++ b ∷ []
 blocks-push stored after b ext is = ap blocks_of is ∙ map-append (λ (it : Stored). it.block) stored (record { block = b; ext = ext } ∷ [])
 
@@ -269,19 +295,18 @@ counted-push stored after b ext item counted is for grown place it above there =
     by_place (inr last) = subst (λ (x : Stored). count_at x.ext 0 ≡ length x.block.transactions - 1) last.1 own
 
 pub are-kept-push : (stored after : List Stored) (entries later : List Entry) (index next : UnclesValue) (b : Block) (ext item : List ℕ) (joining : Joining)
-    (entry : Entry) (place : ℕ) (old new : OutPoint → Option Row) → AreKept stored entries index old → IsReady (blocks_of stored) b joining
+    (entry : Entry) (place : ℕ) → AreKept stored entries index → IsReady (blocks_of stored) b joining
     → decoded block item ≡ Some b → IsExtFor item ext
     → after ≡ stored ++ record { block = b; ext = ext } ∷ [] → later ≡ entries ++ entry ∷ [] → Describes b entry → IndexesBlocks (blocks_of stored ++ b ∷ []) later
     → place ≡ length (blocks_of stored) → next.embedded ≡ index.embedded ++ embedded_in place b
-    → ((tip : ℕ) → tip_place (blocks_of stored ++ b ∷ []) ≡ Some tip → (o : OutPoint) → new o ≡ live_row (blocks_of stored ++ b ∷ []) tip o)
-    → AreKept after later next new
-are-kept-push stored after entries later index next b ext item joining entry place old new are ready is for grown entered describes indexed at uncles live =
+    → AreKept after later next
+are-kept-push stored after entries later index next b ext item joining entry place are ready is for grown entered describes indexed at uncles =
     let blocks : blocks_of after ≡ blocks_of stored ++ b ∷ [] = blocks-push stored after b ext grown in
     record {
       indexed = subst (λ (bs : List Block). IndexesBlocks bs later) (sym blocks) indexed;
       uncles = uncles-push (blocks_of stored) b place index.embedded next.embedded at are.uncles uncles
           ∙ ap (embedded_from 0) (sym blocks);
-      live = subst (λ (bs : List Block). (tip : ℕ) → tip_place bs ≡ Some tip → (o : OutPoint) → new o ≡ live_row bs tip o) (sym blocks) live;
+      canonical = subst AreCanonical (sym blocks) (canonical-push (blocks_of stored) b item are.canonical is);
       rated = subst AreRated (sym entered) (rated-push entries b entry are.rated describes ready.rated);
       counted = counted-push stored after b ext item are.counted is for grown;
       few = omega (arith, ready.room, ap length grown, length_push stored (record { block = b; ext = ext }), length-map stored (λ (it : Stored). it.block));

@@ -1,3 +1,4 @@
+pub mod MovingLemmas
 pub mod DecidingLemmas
 pub mod JoiningLemmas
 pub mod WritingLemmas

@@ -35,6 +35,7 @@ use Rattle.joined_laws.proofs.FitLaws.{what-joins-fits}
 use Rattle.joined_laws.proofs.BranchFitLaws.{branches-fit}
 use Rattle.log_file.specs.Grammar.{AreBlocks}
 use Rattle.node_core.specs.Node.{exts_of, CountFees, AreKept}
+use Rattle.node_core.proofs.MovingLemmas.{canonical-read}
 use Rattle.node_core.specs.Opening.{HaveExts}
 
 -- ---- Ratings
@@ -165,15 +166,14 @@ counts-fees items exts stored have decode beside place it above there =
     (decoded-at items (blocks_of stored) place it.block decode here) (have place above within).fees
 
 -- With the rows of the tip's branch all is kept.
-pub are-kept : (items exts : List (List ℕ)) (entries : List Entry) (before stored : List Stored) (index : UnclesValue) (rows : OutPoint → Option Row) (tip : ℕ)
+pub are-kept : (items exts : List (List ℕ)) (entries : List Entry) (before stored : List Stored) (index : UnclesValue)
     → AreBlocks items entries → length items ≤ kept_limit → map (decoded block) items ≡ map Some (blocks_of before) → Some stored ≡ Some before
-    → HaveExts items exts → exts_of before ≡ exts → AreRated entries → IndexesUncles (blocks_of before) index → tip_place (blocks_of before) ≡ Some tip
-    → ((o : OutPoint) → rows o ≡ live_row (blocks_of before) tip o) → AreKept stored entries index rows
-are-kept items exts entries before stored index rows tip are few decode told have beside rated uncles at_tip live =
-    subst (λ (s : List Stored). AreKept s entries index rows) (sym (same_Some stored before told)) (record {
+    → HaveExts items exts → exts_of before ≡ exts → AreRated entries → IndexesUncles (blocks_of before) index → AreKept stored entries index
+are-kept items exts entries before stored index are few decode told have beside rated uncles =
+    subst (λ (s : List Stored). AreKept s entries index) (sym (same_Some stored before told)) (record {
       indexed = indexed-by items entries (blocks_of before) are decode;
       uncles = uncles;
-      live = λ place there o. live o ∙ ap (λ (p : ℕ). live_row (blocks_of before) p o) (same_Some tip place (sym at_tip ∙ there));
+      canonical = λ place b there. canonical-read (slice_index_or items place []) b (decoded-at items (blocks_of before) place b decode there);
       rated = rated;
       counted = counts-fees items exts before have decode beside;
       few = omega (arith, few, as-many items (blocks_of before) decode, length-map before (λ (it : Stored). it.block));

@@ -22,8 +22,7 @@ use Rattle.cell_laws.proofs.OutputLaws.{cells-are-outputs}
 use Rattle.cell_model.specs.Copies.{NamesOutput}
 use Rattle.cell_model.specs.ListBlocks.{ListBlocksValue, place_in_hand}
 use Rattle.tx_rules.proofs.BranchLemmas.{PlaceOfHeight, place-of-height, branch-long, branch-block, number-on-branch}
-use Rattle.uncle_rules.specs.Embedded.{UnclesValue}
-use Rattle.node_core.specs.Node.{AreKept}
+use Rattle.node_core.specs.Node.{AreOfTip}
 use Rattle.node_core.specs.Queries.{IsLiveRow}
 
 abbrev branch_at : List Block → Option ℕ → List Block
@@ -140,11 +139,11 @@ made-at stored entries tip o cell row indexed below live its_row =
     kept : (it : Stored) × (slice_get stored row.block ≡ Some it) × (it.block ≡ made.0)
     kept = stored-at stored row.block made.0 there
 
-module _ (stored : List Stored) (entries : List Entry) (index : UnclesValue) (found : OutPoint → Option Row) (tip : ℕ)
-    (are : AreKept stored entries index found) (is : tip_place (blocks_of stored) ≡ Some tip) (o : OutPoint) where
-  by-cell : (live : Option Cell) → live_cell (branch (blocks_of stored) tip) o ≡ live → found o ≡ option_map (row_on (blocks_of stored) tip) live
+module _ (stored : List Stored) (found : OutPoint → Option Row) (tip : ℕ)
+    (live : AreOfTip (blocks_of stored) found) (is : tip_place (blocks_of stored) ≡ Some tip) (o : OutPoint) where
+  by-cell : (cell : Option Cell) → live_cell (branch (blocks_of stored) tip) o ≡ cell → found o ≡ option_map (row_on (blocks_of stored) tip) cell
   unfolding live_row
-  by-cell live at = are.live tip is o ∙ ap (option_map (row_on (blocks_of stored) tip)) at
+  by-cell cell at = live tip is o ∙ ap (option_map (row_on (blocks_of stored) tip)) at
 
   -- where there is no row, no cell is live
   pub no-cell : found o ≡ None → live_cell (best_branch (blocks_of stored)) o ≡ None

@@ -1,7 +1,6 @@
 -- How many blocks are replayed, for an item and to open a store.
-use Rattle.std.proofs.Common.{◌≡◌, ℕ, zero, suc, ◌+◌, ◌<◌, ◌≤◌, Bool, cond, List, [], ◌∷◌, length, map, Option, Some, None, sym, ap, ◌∙◌, subst, arith}
+use Rattle.std.proofs.Common.{◌≡◌, ℕ, zero, suc, ◌+◌, ◌*◌, ◌<◌, ◌≤◌, Bool, true, false, cond, refl, List, [], ◌∷◌, length, map, Option, Some, None, sym, ap, ◌∙◌, subst, arith}
 use Rattle.std.specs.Prelude.{IfSome, is_some}
-use Rattle.std.proofs.lemmas.Bool.{ne_eqb}
 use Rattle.std.proofs.lemmas.Option.{same_Some}
 use Rattle.outside.specs.Image.{Image}
 use Rattle.codec_defs.specs.Shape.{decoded}
@@ -17,17 +16,56 @@ use Rattle.time_defs.specs.Specification.{Specification}
 use Rattle.verdict_defs.specs.Chain.{Chain}
 use Rattle.store_defs.specs.Store.{Store, store_of}
 use Rattle.node_core.proofs.OpenLemmas.{Opened, store_keeps}
-use Rattle.node_core.specs.Steps.{is_at, number_of, replays_at, replays_on, replays_of, replays_of_block, replays_for, replays_to_open}
+use Rattle.chain_defs.specs.Branch.{branch_places, count_outside, distance}
+use Rattle.reorg.proofs.DistanceLemmas.{none-away}
+use Rattle.node_core.specs.Steps.{distance_from, moves_at, moves_on, moves_of, moves_of_block, moves_for, replays_to_open}
 
 pub none-replayed : (before most : ℕ) → before ≤ before + most
 none-replayed before most = omega arith
 
 -- ---- For an item
 
-off-tip : (kept : List Block) (tip place : ℕ) → tip_place kept ≡ Some tip → (place ≡ tip → ⊥) → replays_at kept place ≡ number_of (block_at kept place)
-off-tip kept tip place is other =
-    ap (λ (o : Option ℕ). cond (is_at o place) 0 (number_of (block_at kept place))) is
-    ∙ ap (λ (b : Bool). cond b 0 (number_of (block_at kept place))) (ne_eqb tip place (λ same. other (sym same)))
+-- a way and back are within what is counted for it
+pub moves-both : (kept : List Block) (tip place before between now : ℕ) → tip_place kept ≡ Some tip → between ≤ before + distance kept tip place
+    → now ≤ between + distance kept place tip → now ≤ before + moves_at kept place
+moves-both kept tip place before between now is there back =
+    let way : distance_from kept (tip_place kept) place ≡ distance kept tip place = ap (λ (o : Option ℕ). distance_from kept o place) is in
+    let same : distance kept tip place ≡ distance kept place tip = sym-add (count_outside (branch_places kept tip) (branch_places kept place)) _ in
+    omega (arith, way, same, there, back)
+  where
+    sym-add : (one other : ℕ) → one + other ≡ other + one
+    sym-add one other = omega arith
+
+-- a block that is not kept, on a kept parent
+pub moves-on-parent : (kept : List Block) (b : Block) (parent : ℕ) → place_of kept (block_hash b) ≡ None → place_of kept b.header.parent_hash ≡ Some parent
+    → moves_at kept parent ≡ moves_of_block kept b
+moves-on-parent kept b parent new on =
+    sym (ap (λ (o : Option ℕ). cond (is_some o) 0 (moves_on kept (place_of kept b.header.parent_hash))) new ∙ ap (moves_on kept) on)
+
+pub moves-of-item : (kept : List Block) (item : List ℕ) (b : Block) (before now : ℕ) → decoded block item ≡ Some b → now ≤ before + moves_of_block kept b
+    → now ≤ before + moves_for kept item
+moves-of-item kept item b before now is most = subst (λ (o : Option Block). now ≤ before + moves_of kept o) (sym is) most
+
+pub moves-of-chain : (inside chain : Chain) (item : List ℕ) (before now : ℕ) → inside ≡ chain → now ≤ before + moves_for inside.blocks item
+    → now ≤ before + moves_for chain.blocks item
+moves-of-chain inside chain item before now seen most = subst (λ (k : Chain). now ≤ before + moves_for k.blocks item) seen most
+
+-- on the tip it takes none
+pub moves-on-tip : (kept : List Block) (item : List ℕ) (b : Block) → decoded block item ≡ Some b → place_of kept b.header.parent_hash ≡ tip_place kept
+    → moves_for kept item ≡ 0
+moves-on-tip kept item b is on = ap (moves_of kept) is ∙ by_known (is_some (place_of kept (block_hash b)))
+  where
+    by_parent : (found : Option ℕ) → tip_place kept ≡ found → moves_on kept found ≡ 0
+    by_parent None at = refl
+    by_parent (Some tip) at =
+        let none : distance_from kept (tip_place kept) tip ≡ 0 = ap (λ (o : Option ℕ). distance_from kept o tip) at ∙ none-away kept tip in
+        ap (λ (n : ℕ). 2 * n) none
+
+    by_known : (known : Bool) → cond known 0 (moves_on kept (place_of kept b.header.parent_hash)) ≡ 0
+    by_known true = refl
+    by_known false = ap (moves_on kept) on ∙ by_parent (tip_place kept) refl
+
+-- ---- An entry's number
 
 -- the block at a place, as its entry has it
 number-there : (kept : List Block) (entries : List Entry) (place before now : ℕ) → IndexesBlocks kept entries → place < length entries
@@ -38,28 +76,6 @@ number-there kept entries place before now indexed within most =
     let at = described kept entries place found.0 indexed.each found.1 in
     let replayed : now ≤ before + found.0.number = subst (λ (o : Option Entry). IfSome o (λ entry. now ≤ before + entry.number)) found.1 most in
     (at.block, at.there, omega (arith, replayed, at.is.number))
-
-pub replayed-off-tip : (inside kept : List Block) (entries : List Entry) (tip place before now : ℕ) → inside ≡ kept → IndexesBlocks inside entries
-    → tip_place inside ≡ Some tip → (place ≡ tip → ⊥) → place < length entries → IfSome (entry_at entries place) (λ entry. now ≤ before + entry.number)
-    → now ≤ before + replays_at kept place
-replayed-off-tip inside kept entries tip place before now seen indexed is other within most =
-    let here = number-there inside entries place before now indexed within most in
-    let number : replays_at inside place ≡ here.0.header.number = off-tip inside tip place is other ∙ ap number_of here.1 in
-    subst (λ (blocks : List Block). now ≤ before + replays_at blocks place) seen (omega (arith, here.2, number))
-
--- a block that is not kept, on a kept parent
-pub replays-on-parent : (kept : List Block) (b : Block) (parent : ℕ) → place_of kept (block_hash b) ≡ None → place_of kept b.header.parent_hash ≡ Some parent
-    → replays_at kept parent ≡ replays_of_block kept b
-replays-on-parent kept b parent new on =
-    sym (ap (λ (o : Option ℕ). cond (is_some o) 0 (replays_on kept (place_of kept b.header.parent_hash))) new ∙ ap (replays_on kept) on)
-
-pub replays-of-item : (kept : List Block) (item : List ℕ) (b : Block) (before now : ℕ) → decoded block item ≡ Some b → now ≤ before + replays_of_block kept b
-    → now ≤ before + replays_for kept item
-replays-of-item kept item b before now is most = subst (λ (o : Option Block). now ≤ before + replays_of kept o) (sym is) most
-
-pub replays-of-chain : (inside chain : Chain) (item : List ℕ) (before now : ℕ) → inside ≡ chain → now ≤ before + replays_for inside.blocks item
-    → now ≤ before + replays_for chain.blocks item
-replays-of-chain inside chain item before now seen most = subst (λ (k : Chain). now ≤ before + replays_for k.blocks item) seen most
 
 -- ---- To open a store
 

@@ -1,14 +1,12 @@
 -- What is to become of a block and of an item.
-use Rattle.std.specs.Prelude.{◌≡◌, ℕ, ◌-◌, ◌<◌, false, List, length, Option, Some, None, IsTrue}
+use Rattle.std.specs.Prelude.{◌≡◌, ℕ, ◌-◌, ◌<◌, nat_lt, Bool, true, false, List, length, Option, Some, None, if◌then◌else◌, IsTrue}
 use Rattle.codec_defs.specs.Shape.{decoded}
-use Rattle.codec_defs.specs.Schema.{OutPoint, Block, block}
+use Rattle.codec_defs.specs.Schema.{Block, block}
 use Rattle.chain_defs.specs.Kept.{block_hash, place_of, follows, kept_limit}
 use Rattle.chain_defs.specs.Branch.{branch}
-use Rattle.chain_defs.specs.Tip.{tip_place}
+use Rattle.chain_defs.specs.Tip.{tip, tip_place}
 use Rattle.chain_tree.specs.declared.entry.Entry.{Entry}
 use Rattle.chain_tree.specs.Blocks.{Describes}
-use Rattle.cell_defs.specs.Row.{live_row}
-use Rattle.cell_state.specs.State.{StateValue, rows}
 use Rattle.rule_defs.specs.Header.{parent_of}
 use Rattle.time_defs.specs.Dao.{is_rated}
 use Rattle.block_defs.specs.Ext.{ext_of}
@@ -25,11 +23,6 @@ pub record IsEntryOn (kept : List Block) (b : Block) (entry : Entry) : Type 0 wh
   pub on_kept : place_of kept b.header.parent_hash ≡ Some entry.parent
   pub describes : Describes b entry
 
--- the rows are those of the branch of the block's parent: of that branch where they are given, and else of the tip's
-abbrev pub AreCellsOn : List Block → ℕ → Option StateValue → Type 0
-AreCellsOn kept parent None = tip_place kept ≡ Some parent
-AreCellsOn kept parent (Some cells) = (o : OutPoint) → rows cells o ≡ live_row kept parent o
-
 -- All that is asked of a block to be kept, whether or not those before it joined.
 pub record IsReady (kept : List Block) (b : Block) (joining : Joining) : Type 0 where
   pub entry : IsEntryOn kept b joining.entry
@@ -37,7 +30,6 @@ pub record IsReady (kept : List Block) (b : Block) (joining : Joining) : Type 0 
   pub room : length kept < kept_limit
   pub rated : IsTrue (is_rated b.header.dao)
   pub fees : length joining.ext.fees ≡ length b.transactions - 1
-  pub cells : AreCellsOn kept joining.entry.parent joining.cells
 
 abbrev pub IsReadyBlock : List Block → Block → Decision → Type 0
 IsReadyBlock kept b (Joins joining) = IsReady kept b joining
@@ -46,6 +38,11 @@ IsReadyBlock kept b (Stays verdict) = joins verdict ≡ false
 abbrev pub IsReadyItem : List Block → List ℕ → Decision → Type 0
 IsReadyItem kept item (Joins joining) = (b : Block) × (decoded block item ≡ Some b) × IsReady kept b joining
 IsReadyItem kept item (Stays verdict) = joins verdict ≡ false
+
+-- A block that joins does so on this parent.
+abbrev pub IsOnParent : ℕ → Decision → Type 0
+IsOnParent parent (Joins joining) = joining.entry.parent ≡ parent
+IsOnParent parent (Stays verdict) = Unit {0}
 
 -- It breaks no rule, and its ext is its own.
 pub record IsJudged (chain : Chain) (b : Block) (joining : Joining) : Type 0 where
@@ -62,3 +59,23 @@ IsDecidedBlock chain b (Stays verdict) = verdict ≡ verdict_of_block chain.spec
 abbrev pub IsDecided : Chain → List ℕ → Decision → Type 0
 IsDecided chain item (Joins joining) = (b : Block) × (decoded block item ≡ Some b) × IsJudged chain b joining
 IsDecided chain item (Stays verdict) = verdict ≡ verdict_over chain item
+
+-- ---- Where the live cells stand
+
+abbrev pub is_above : Option Block → Entry → Bool
+is_above None entry = true
+is_above (Some top) entry = nat_lt top.header.number entry.number
+
+-- a block that joins becomes the tip where its number is above the tip's
+abbrev pub becomes_tip : List Block → Decision → Bool
+becomes_tip kept (Joins joining) = is_above (tip kept) joining.entry
+becomes_tip kept (Stays verdict) = false
+
+-- the place whose branch's live cells a block that joins goes on from
+abbrev pub parent_of_joining : Decision → Option ℕ
+parent_of_joining (Joins joining) = Some joining.entry.parent
+parent_of_joining (Stays verdict) = None
+
+-- once a decision is made: on its parent's branch where the block becomes the tip, and else on the tip's
+abbrev pub place_for : List Block → Decision → Option ℕ
+place_for kept decision = if becomes_tip kept decision then parent_of_joining decision else tip_place kept

@@ -12,7 +12,7 @@ use Rattle.chain_tree.specs.declared.entry.Entry.{Entry}
 use Rattle.chain_tree.specs.Blocks.{IndexesBlocks}
 use Rattle.chain_tree.specs.Told.{Stored, blocks_of}
 use Rattle.cell_defs.specs.Ext.{count_at}
-use Rattle.cell_defs.specs.Row.{Row, live_row}
+use Rattle.cell_defs.specs.Row.{Row}
 use Rattle.chain_tree.specs.Blocks.{AreRated}
 use Rattle.uncle_rules.specs.Embedded.{UnclesValue, IndexesUncles}
 use Rattle.time_defs.specs.Specification.{Specification, broken_specification_rule}
@@ -23,6 +23,8 @@ use Rattle.log_file.specs.Pieces.{block_record}
 use Rattle.genesis_defs.specs.Genesis.{broken_genesis_rule}
 use Rattle.log_defs.specs.Log.{Record, log_of}
 use Rattle.log_defs.specs.Rest.{IsAtRest, IsSettled, HasLog, HasAppended}
+use Rattle.fit_laws.specs.Laws.{AreCanonical}
+use Rattle.reorg.specs.Moves.{AreOf}
 use Rattle.store_defs.specs.Store.{StandsFor, HaveOwnExts, HasNoSnapshots, new_image}
 
 -- the ext beside each kept block
@@ -69,15 +71,23 @@ pub record IsOn (node : NodeValue) (reads : Option Image) (images : Image → Ty
 abbrev pub CountFees : List Stored → Type 0
 CountFees stored = (place : ℕ) (it : Stored) → 0 < place → slice_get stored place ≡ Some it → count_at it.ext 0 ≡ length it.block.transactions - 1
 
--- What is kept in memory: the tree indexes the blocks, and the other index their uncles; the rows are those of the live cells of the tip; the C
--- and the AR of each block's DAO field are above 0; the exts count their fees; and no more blocks are kept than may be.
-pub record AreKept (stored : List Stored) (entries : List Entry) (index : UnclesValue) (rows : OutPoint → Option Row) : Type 0 where
+-- What is kept in memory: canonical blocks; the tree indexes them, and the other index their uncles; the C and the AR of each block's DAO field
+-- are above 0; the exts count their fees; and no more blocks are kept than may be.
+pub record AreKept (stored : List Stored) (entries : List Entry) (index : UnclesValue) : Type 0 where
+  pub canonical : AreCanonical (blocks_of stored)
   pub indexed : IndexesBlocks (blocks_of stored) entries
   pub uncles : IndexesUncles (blocks_of stored) index
-  pub live : (tip : ℕ) → tip_place (blocks_of stored) ≡ Some tip → (o : OutPoint) → rows o ≡ live_row (blocks_of stored) tip o
   pub rated : AreRated entries
   pub counted : CountFees stored
   pub few : length stored ≤ kept_limit
+
+-- the rows are those of the branch of a place that was found
+abbrev pub AreOfFound : List Block → Option ℕ → (OutPoint → Option Row) → Type 0
+AreOfFound kept found rows = (place : ℕ) → found ≡ Some place → AreOf kept place rows
+
+-- of the tip's branch
+abbrev pub AreOfTip : List Block → (OutPoint → Option Row) → Type 0
+AreOfTip kept rows = AreOfFound kept (tip_place kept) rows
 
 -- A log is no longer than the records of so many blocks may make it.
 abbrev pub IsWithin : ℕ → ℕ → Type 0

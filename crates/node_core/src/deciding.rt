@@ -1,10 +1,8 @@
 // What is to become of an item, over the kept blocks.
-ghost use Rattle.std.specs.Prelude.{◌≡◌, ◌≢◌, ◌≤◌, ◌+◌, ◌<◌, ◌^◌, nat_lt, ℕ, List, length, None, Some, Err, IfOk, IfSome};
-ghost use Rattle.codec_defs.specs.Shape.{decoded};
-ghost use Rattle.codec_defs.specs.Schema as schema;
-ghost use Rattle.codec_defs.specs.Schema.{Block};
-ghost use Rattle.chain_defs.specs.Kept.{place_of, kept_limit};
-ghost use Rattle.chain_defs.specs.Tip.{tip_place, best_branch};
+ghost use Rattle.std.specs.Prelude.{◌≡◌, ◌≢◌, ◌≤◌, ◌+◌, ◌<◌, ◌^◌, nat_lt, ℕ, length, Err, IfOk, OnOk};
+ghost use Rattle.chain_defs.specs.Kept.{kept_limit};
+ghost use Rattle.chain_defs.specs.Branch.{distance};
+ghost use Rattle.chain_defs.specs.Tip.{best_branch};
 ghost use Rattle.outside.specs.declared.disk.Area.TheVariants.{Log};
 ghost use Rattle.outside.specs.declared.disk.Damage.{Damage};
 ghost use Rattle.outside.specs.declared.disk.ReadStop.TheVariants.{DiskFault, Damaged};
@@ -14,18 +12,21 @@ ghost use Rattle.block_judge.specs.declared.stop.Judged.TheVariants.{Broken, Rea
 ghost use Rattle.verdict_defs.specs.Trial.{trial_on};
 ghost use Rattle.verdict_defs.specs.declared.trial.Trial.TheVariants.{Passes, Refused};
 ghost use Rattle.store_defs.specs.Store.{IsJoined, AreJoined};
-ghost use Rattle.node_core.specs.Steps.{replays_at, replays_of_block, replays_for};
-ghost use Rattle.node_core.specs.Judging.{AreCellsOn, IsEntryOn, IsDecidedBlock, IsDecided, IsReadyBlock, IsReadyItem};
+ghost use Rattle.node_core.specs.Steps.{moves_at, moves_of_block, moves_for};
+ghost use Rattle.cell_state.specs.State.{rows};
+ghost use Rattle.reorg.specs.Moves.{AreOf};
+ghost use Rattle.node_core.specs.Node.{AreOfFound, AreOfTip};
+ghost use Rattle.node_core.specs.Judging.{IsEntryOn, IsOnParent, IsDecidedBlock, IsDecided, IsReadyBlock, IsReadyItem, becomes_tip, place_for};
 
 use crate::entry::{entry_on, hash_of, parent_hash};
-use crate::kept::Kept;
+use crate::kept::{Kept, is_above_tip};
 use block_judge::{Context, Judged, dry_run, judge};
 use cell_model::Ext;
 use cell_state::State;
 use chain_tree::Entry;
 use mol_schema::{BlockView, TxView};
 use outside::{ReadStop, Steps};
-use replay::replay;
+use reorg::go_to;
 use std::alloc::Global;
 use std::sync::ledger::Ledger;
 use verdict_defs::Verdict;
@@ -41,12 +42,11 @@ fn has_room(count: u32) -> bool
     count < KEPT_LIMIT
 }
 
-/// A block that can join: its entry, its ext, and the live cells of its parent's branch where that is not the tip's.
+/// A block that can join: its entry and its ext.
 #[derive(Drop)]
 pub(crate) struct Joining {
     pub(crate) entry: Entry,
     pub(crate) ext: Ext,
-    pub(crate) cells: Option<State>,
 }
 
 /// What is to become of an item.
@@ -58,68 +58,51 @@ pub(crate) enum Decision {
     Stays(Verdict),
 }
 
-/// The cells that are given, or else those of the tip.
-fn cells_or<'a>(given: &'a Option<State>, tip: &'a State) -> &'a State
-    ensures given { IfSome given.now (λ cells. result.now ≡ cells) }
-    ensures tip { given.now ≡ None → result.now ≡ tip.now }
-{
-    match given {
-        Some(cells) => cells,
-        None => tip,
-    }
-}
-
 impl Kept {
-    /// The live cells of the branch of a place, which are made by replay where that is not the tip's.
-    fn replayed<L: Ledger>(
+    /// Leads the live cells of the branch of one place to those of another's: a step for each block of their distance.
+    fn moved<L: Ledger>(
         &mut self,
         alloc: Global,
-        place: u32,
+        state: State,
+        from: u32,
+        to: u32,
         steps: &mut Steps<L>,
-    ) -> Result<Option<State>, ReadStop>
-        requires { place < length self.old.chain.blocks }
+    ) -> Result<State, ReadStop>
+        requires from { from < length self.old.chain.blocks }
+        requires to { to < length self.old.chain.blocks }
         ensures same { self.new ≡ self.old }
-        ensures cells { IfOk result (AreCellsOn self.old.chain.blocks place) }
-        ensures undamaged { IsJoined self.old.chain → (damage : Damage) → result ≡ Err (Damaged damage) → ⊥ }
+        ensures cells { AreJoined self.old.chain self.old.exts → AreOf self.old.chain.blocks from (rows state)
+            → IfOk result (λ there. AreOf self.old.chain.blocks to (rows there)) }
+        ensures undamaged { AreJoined self.old.chain self.old.exts → AreOf self.old.chain.blocks from (rows state)
+            → (damage : Damage) → result ≡ Err (Damaged damage) → ⊥ }
         ensures damage { (damage : Damage) → result ≡ Err (Damaged damage) → damage.area ≡ Log }
         ensures reads { result ≢ Err DiskFault }
-        ensures steps { tip_place self.old.chain.blocks ≡ Some place → steps.new ≡ steps.old }
-        ensures most { steps.new ≤ steps.old + replays_at self.old.chain.blocks place }
+        ensures steps { OnOk result (steps.new ≡ steps.old + distance self.old.chain.blocks from to) }
+        ensures most { steps.new ≤ steps.old + distance self.old.chain.blocks from to }
     {
-        if place == self.tree.tip() {
-            return Ok(None);
-        }
-        let cells = match replay(alloc, &self.tree, &mut self.blocks, place, steps) {
-            Ok(cells) => cells,
-            Err(stop) => return Err(stop),
-        };
-        Ok(Some(cells))
+        go_to(alloc, state, &self.tree, &mut self.blocks, from, to, steps)
     }
 
     /// Judges a block on a kept parent, by the live cells of its parent's branch.
-    fn judge_on<L: Ledger>(
+    fn judge_on(
         &mut self,
         alloc: Global,
+        state: &State,
         block: &BlockView<'_>,
         entry: Entry,
-        steps: &mut Steps<L>,
     ) -> Result<Decision, ReadStop>
         requires { IsEntryOn self.old.chain.blocks block.now entry }
         ensures same { self.new ≡ self.old }
         ensures ready { IfOk result (IsReadyBlock self.old.chain.blocks block.now) }
-        ensures decided { AreJoined self.old.chain self.old.exts → IfOk result (IsDecidedBlock self.old.chain block.now) }
-        ensures undamaged { AreJoined self.old.chain self.old.exts → (damage : Damage) → result ≡ Err (Damaged damage) → ⊥ }
+        ensures on { IfOk result (IsOnParent entry.parent) }
+        ensures decided { AreJoined self.old.chain self.old.exts → AreOf self.old.chain.blocks entry.parent (rows state.now)
+            → IfOk result (IsDecidedBlock self.old.chain block.now) }
+        ensures undamaged { AreJoined self.old.chain self.old.exts → AreOf self.old.chain.blocks entry.parent (rows state.now)
+            → (damage : Damage) → result ≡ Err (Damaged damage) → ⊥ }
         ensures damage { (damage : Damage) → result ≡ Err (Damaged damage) → damage.area ≡ Log }
         ensures reads { result ≢ Err DiskFault }
-        ensures steps { tip_place self.old.chain.blocks ≡ Some entry.parent → steps.new ≡ steps.old }
-        ensures most { steps.new ≤ steps.old + replays_at self.old.chain.blocks entry.parent }
     {
         let parent = entry.parent;
-        let cells = match self.replayed(alloc, parent, steps) {
-            Ok(cells) => cells,
-            Err(stop) => return Err(stop),
-        };
-        let state = cells_or(&cells, &self.state);
         let context = Context {
             spec: &self.spec,
             tree: &self.tree,
@@ -132,10 +115,68 @@ impl Kept {
             Err(Judged::Read(stop)) => Err(stop),
             Ok(ext) => {
                 if has_room(self.tree.len()) {
-                    Ok(Decision::Joins(Joining { entry, ext, cells }))
+                    Ok(Decision::Joins(Joining { entry, ext }))
                 } else {
                     Ok(Decision::Stays(Verdict::Full))
                 }
+            }
+        }
+    }
+
+    /// Whether a decision makes a block the tip.
+    fn is_tip_next(&self, decision: &Decision) -> bool
+        ensures { result ≡ becomes_tip self.now.chain.blocks decision.now }
+    {
+        match decision {
+            Decision::Joins(joining) => is_above_tip(&self.tree, &joining.entry),
+            Decision::Stays(_) => false,
+        }
+    }
+
+    /// What is to become of a block on a kept parent. The live cells go from the tip's branch to its parent's, where it is
+    /// judged, and back unless it becomes the tip.
+    fn decide_on<L: Ledger>(
+        &mut self,
+        alloc: Global,
+        state: State,
+        block: &BlockView<'_>,
+        entry: Entry,
+        steps: &mut Steps<L>,
+    ) -> Result<(State, Decision), ReadStop>
+        requires { IsEntryOn self.old.chain.blocks block.now entry }
+        ensures same { self.new ≡ self.old }
+        ensures ready { IfOk result (λ it. IsReadyBlock self.old.chain.blocks block.now it.1) }
+        ensures cells { AreJoined self.old.chain self.old.exts → AreOfTip self.old.chain.blocks (rows state)
+            → IfOk result (λ it. AreOfFound self.old.chain.blocks (place_for self.old.chain.blocks it.1) (rows it.0)) }
+        ensures decided { AreJoined self.old.chain self.old.exts → AreOfTip self.old.chain.blocks (rows state)
+            → IfOk result (λ it. IsDecidedBlock self.old.chain block.now it.1) }
+        ensures undamaged { AreJoined self.old.chain self.old.exts → AreOfTip self.old.chain.blocks (rows state)
+            → (damage : Damage) → result ≡ Err (Damaged damage) → ⊥ }
+        ensures damage { (damage : Damage) → result ≡ Err (Damaged damage) → damage.area ≡ Log }
+        ensures reads { result ≢ Err DiskFault }
+        ensures most { steps.new ≤ steps.old + moves_at self.old.chain.blocks entry.parent }
+    {
+        let parent = entry.parent;
+        let from = self.tree.tip();
+        let there = match self.moved(alloc, state, from, parent, steps) {
+            Ok(there) => there,
+            Err(stop) => return Err(stop),
+        };
+        let decision = match self.judge_on(alloc, &there, block, entry) {
+            Ok(decision) => decision,
+            Err(stop) => {
+                drop(there);
+                return Err(stop);
+            }
+        };
+        if self.is_tip_next(&decision) {
+            return Ok((there, decision));
+        }
+        match self.moved(alloc, there, parent, from, steps) {
+            Ok(back) => Ok((back, decision)),
+            Err(stop) => {
+                drop(decision);
+                Err(stop)
             }
         }
     }
@@ -144,59 +185,72 @@ impl Kept {
     fn decide_block<L: Ledger>(
         &mut self,
         alloc: Global,
+        state: State,
         block: &BlockView<'_>,
         steps: &mut Steps<L>,
-    ) -> Result<Decision, ReadStop>
+    ) -> Result<(State, Decision), ReadStop>
         ensures same { self.new ≡ self.old }
-        ensures ready { IfOk result (IsReadyBlock self.old.chain.blocks block.now) }
-        ensures decided { AreJoined self.old.chain self.old.exts → IfOk result (IsDecidedBlock self.old.chain block.now) }
-        ensures undamaged { AreJoined self.old.chain self.old.exts → (damage : Damage) → result ≡ Err (Damaged damage) → ⊥ }
+        ensures ready { IfOk result (λ it. IsReadyBlock self.old.chain.blocks block.now it.1) }
+        ensures cells { AreJoined self.old.chain self.old.exts → AreOfTip self.old.chain.blocks (rows state)
+            → IfOk result (λ it. AreOfFound self.old.chain.blocks (place_for self.old.chain.blocks it.1) (rows it.0)) }
+        ensures decided { AreJoined self.old.chain self.old.exts → AreOfTip self.old.chain.blocks (rows state)
+            → IfOk result (λ it. IsDecidedBlock self.old.chain block.now it.1) }
+        ensures undamaged { AreJoined self.old.chain self.old.exts → AreOfTip self.old.chain.blocks (rows state)
+            → (damage : Damage) → result ≡ Err (Damaged damage) → ⊥ }
         ensures damage { (damage : Damage) → result ≡ Err (Damaged damage) → damage.area ≡ Log }
         ensures reads { result ≢ Err DiskFault }
-        ensures steps { place_of self.old.chain.blocks block.now.header.parent_hash ≡ tip_place self.old.chain.blocks → steps.new ≡ steps.old }
-        ensures most { steps.new ≤ steps.old + replays_of_block self.old.chain.blocks block.now }
+        ensures most { steps.new ≤ steps.old + moves_of_block self.old.chain.blocks block.now }
     {
         let hash = hash_of(block);
         if self.tree.find(&hash).is_some() {
-            return Ok(Decision::Stays(Verdict::Known(hash)));
+            return Ok((state, Decision::Stays(Verdict::Known(hash))));
         }
         let Some(parent) = self.tree.find(&parent_hash(block)) else {
-            return Ok(Decision::Stays(Verdict::Refused(3)));
+            return Ok((state, Decision::Stays(Verdict::Refused(3))));
         };
         let entry = entry_on(block, hash, parent);
-        self.judge_on(alloc, block, entry, steps)
+        self.decide_on(alloc, state, block, entry, steps)
     }
 
-    /// What is to become of an item.
+    /// What is to become of an item, and the live cells where they then stand: on the parent's branch of a block that
+    /// becomes the tip, and else on the tip's. After an error they are gone.
     pub(crate) fn decide<L: Ledger>(
         &mut self,
         alloc: Global,
+        state: State,
         item: &[u8],
         steps: &mut Steps<L>,
-    ) -> Result<Decision, ReadStop>
+    ) -> Result<(State, Decision), ReadStop>
         ensures same { self.new ≡ self.old }
-        ensures ready { IfOk result (IsReadyItem self.old.chain.blocks item.now) }
-        ensures decided { AreJoined self.old.chain self.old.exts → IfOk result (IsDecided self.old.chain item.now) }
-        ensures undamaged { AreJoined self.old.chain self.old.exts → (damage : Damage) → result ≡ Err (Damaged damage) → ⊥ }
+        ensures ready { IfOk result (λ it. IsReadyItem self.old.chain.blocks item.now it.1) }
+        ensures cells { AreJoined self.old.chain self.old.exts → AreOfTip self.old.chain.blocks (rows state)
+            → IfOk result (λ it. AreOfFound self.old.chain.blocks (place_for self.old.chain.blocks it.1) (rows it.0)) }
+        ensures decided { AreJoined self.old.chain self.old.exts → AreOfTip self.old.chain.blocks (rows state)
+            → IfOk result (λ it. IsDecided self.old.chain item.now it.1) }
+        ensures undamaged { AreJoined self.old.chain self.old.exts → AreOfTip self.old.chain.blocks (rows state)
+            → (damage : Damage) → result ≡ Err (Damaged damage) → ⊥ }
         ensures damage { (damage : Damage) → result ≡ Err (Damaged damage) → damage.area ≡ Log }
         ensures reads { result ≢ Err DiskFault }
-        ensures steps { (b : Block) → decoded schema.block item.now ≡ Some b
-            → place_of self.old.chain.blocks b.header.parent_hash ≡ tip_place self.old.chain.blocks → steps.new ≡ steps.old }
-        ensures most { steps.new ≤ steps.old + replays_for self.old.chain.blocks item.now }
+        ensures most { steps.new ≤ steps.old + moves_for self.old.chain.blocks item.now }
     {
         match BlockView::read(item) {
-            None => Ok(Decision::Stays(Verdict::Refused(1))),
-            Some(block) => self.decide_block(alloc, &block, steps),
+            None => Ok((state, Decision::Stays(Verdict::Refused(1)))),
+            Some(block) => self.decide_block(alloc, state, &block, steps),
         }
     }
 
-    /// Judges a transaction alone after the tip: its fee in shannons, and the cycles of its scripts.
-    pub(crate) fn check(&mut self, alloc: Global, tx: &TxView<'_>) -> Result<(u64, u64), Judged>
+    /// Judges a transaction alone after the tip, by its live cells: its fee in shannons, and the cycles of its scripts.
+    pub(crate) fn check(
+        &mut self,
+        alloc: Global,
+        state: &State,
+        tx: &TxView<'_>,
+    ) -> Result<(u64, u64), Judged>
         ensures same { self.new ≡ self.old }
-        ensures passes { IsJoined self.old.chain → IfOk result (λ it. trial_on self.old.chain.spec (best_branch self.old.chain.blocks) tx.now ≡ Passes it.0 it.1) }
-        ensures broken { IsJoined self.old.chain → (rule : Rule) → result ≡ Err (Broken rule)
+        ensures passes { IsJoined self.old.chain → AreOfTip self.old.chain.blocks (rows state.now) → IfOk result (λ it. trial_on self.old.chain.spec (best_branch self.old.chain.blocks) tx.now ≡ Passes it.0 it.1) }
+        ensures broken { IsJoined self.old.chain → AreOfTip self.old.chain.blocks (rows state.now) → (rule : Rule) → result ≡ Err (Broken rule)
             → trial_on self.old.chain.spec (best_branch self.old.chain.blocks) tx.now ≡ Refused (rule_number rule) }
-        ensures undamaged { IsJoined self.old.chain → (damage : Damage) → result ≡ Err (Read (Damaged damage)) → ⊥ }
+        ensures undamaged { IsJoined self.old.chain → AreOfTip self.old.chain.blocks (rows state.now) → (damage : Damage) → result ≡ Err (Read (Damaged damage)) → ⊥ }
         ensures damage { (damage : Damage) → result ≡ Err (Read (Damaged damage)) → damage.area ≡ Log }
         ensures reads { result ≢ Err (Read DiskFault) }
     {
@@ -204,7 +258,7 @@ impl Kept {
             spec: &self.spec,
             tree: &self.tree,
             uncles: &self.uncles,
-            cells: &self.state,
+            cells: state,
             parent: self.tree.tip(),
         };
         dry_run(alloc, &context, &mut self.blocks, tx)

@@ -1,16 +1,14 @@
-// The kept blocks in memory, and the live cells of the tip.
+// The kept blocks in memory, and how the live cells of the tip grow.
 ghost use Rattle.std.specs.Prelude.{◌≡◌, ◌≢◌, ◌≤◌, ◌<◌, ◌+◌, ◌++◌, ◌∷◌, ◌^◌, [], ℕ, List, length, Some, None, Err, IfOk, OnOk};
 ghost use Rattle.codec_defs.specs.Shape.{decoded};
 ghost use Rattle.codec_defs.specs.Schema as schema;
-ghost use Rattle.codec_defs.specs.Schema.{Block, OutPoint};
+ghost use Rattle.codec_defs.specs.Schema.{Block};
 ghost use Rattle.chain_defs.specs.Kept.{place_of};
 ghost use Rattle.chain_tree.specs.Entries.{place_of_hash, FollowsParent};
 ghost use Rattle.uncle_rules.specs.Embedded.{embedded_in};
 ghost use Rattle.chain_defs.specs.Tip as tips;
-ghost use Rattle.chain_defs.specs.Tip.{tip_place};
 ghost use Rattle.cell_defs.specs.Events.{events_of_block, live_cell};
 ghost use Rattle.chain_defs.specs.Branch.{branch};
-ghost use Rattle.cell_defs.specs.Row.{live_row};
 ghost use Rattle.cell_defs.specs.Fit.{are_live, AllFit};
 ghost use Rattle.cell_state.specs.State.{rows, Grows};
 ghost use Rattle.cell_model.specs.ListBlocks.{IsCanonical, IsExtFor};
@@ -20,8 +18,9 @@ ghost use Rattle.outside.specs.declared.disk.Damage.{Damage as a_damage};
 ghost use Rattle.outside.specs.declared.disk.ReadStop.TheVariants.{DiskFault, Damaged};
 ghost use Rattle.verdict_defs.specs.Laws.{MayJoin};
 ghost use Rattle.store_defs.specs.Store.{IsJoined};
-ghost use Rattle.node_core.specs.Node.{kept_with};
-ghost use Rattle.node_core.specs.Judging.{IsReady};
+ghost use Rattle.node_core.specs.Node.{kept_with, AreOfFound, AreOfTip};
+ghost use Rattle.node_core.specs.Judging.{IsReady, is_above, place_for};
+ghost use Rattle.node_core.specs.declared.deciding.Decision.TheVariants.{Joins};
 
 use crate::deciding::Joining;
 use cell_model::ListBlocks;
@@ -36,8 +35,7 @@ use std::marker::Model;
 use std::sync::ledger::Ledger;
 use uncle_rules::Uncles;
 
-/// The kept blocks with their exts, all that is looked up in them, and the live cells of the tip. Clauses see the chain and
-/// the exts.
+/// The kept blocks with their exts, and all that is looked up in them. Clauses see the chain and the exts.
 // At an exit it is dropped by a call, which is one step of the proof; else each of its fields, and theirs, is one.
 #[derive(Drop)]
 pub(crate) struct Kept {
@@ -45,18 +43,23 @@ pub(crate) struct Kept {
     pub(crate) blocks: ListBlocks,
     pub(crate) tree: Tree,
     pub(crate) uncles: Uncles,
-    pub(crate) state: State,
 }
 
 impl Model for Kept {
-    ghost use Rattle.cell_state.specs.State.{rows};
     ghost use Rattle.node_core.specs.Node.{KeptValue, kept_of, AreKept};
 
     ghost Value = { KeptValue };
 
     ghost view = { λ kept. kept_of kept.spec kept.blocks.stored };
 
-    ghost invariant = { λ kept. AreKept kept.blocks.stored kept.tree.entries kept.uncles (rows kept.state) };
+    ghost invariant = { λ kept. AreKept kept.blocks.stored kept.tree.entries kept.uncles };
+}
+
+/// Whether an entry's number is above that of the tip, so that its block becomes the tip where it joins.
+pub(crate) fn is_above_tip(tree: &Tree, entry: &Entry) -> bool
+    ensures { (kept : List Block) → IndexesBlocks kept tree.now.entries → result ≡ is_above (tips.tip kept) entry.now }
+{
+    tree.entry(tree.tip()).number < entry.number
 }
 
 /// The cells with those of a block at a place after its parent's branch. Damaged where its events do not fit.
@@ -94,7 +97,8 @@ fn grown<L: Ledger>(
 }
 
 impl Kept {
-    /// The live cells of the tip once a block at the end is kept: with its own where it becomes the tip.
+    /// The live cells of the tip once a block at the end is kept. They stand on its parent's branch where it becomes the
+    /// tip, and take its events; else they are the tip's and stay.
     fn state_with<L: Ledger>(
         state: State,
         tree: &Tree,
@@ -104,54 +108,48 @@ impl Kept {
     ) -> Result<State, ReadStop>
         requires few { length tree.now.entries < 2 ^ 32 }
         ensures live { (kept : List Block) → IndexesBlocks kept tree.now.entries → IsReady kept block.now joining
-            → ((tip : ℕ) → tip_place kept ≡ Some tip → (o : OutPoint) → rows state o ≡ live_row kept tip o)
-            → IfOk result (λ next. (tip : ℕ) → tip_place (kept ++ block.now ∷ []) ≡ Some tip → (o : OutPoint)
-            → rows next o ≡ live_row (kept ++ block.now ∷ []) tip o) }
+            → AreOfFound kept (place_for kept (Joins joining)) (rows state) → IfOk result (λ next. AreOfTip (kept ++ block.now ∷ []) (rows next)) }
         ensures undamaged { (kept : List Block) (height : ℕ) → IndexesBlocks kept tree.now.entries → IsReady kept block.now joining
-            → ((tip : ℕ) → tip_place kept ≡ Some tip → (o : OutPoint) → rows state o ≡ live_row kept tip o)
+            → AreOfFound kept (place_for kept (Joins joining)) (rows state)
             → 0 < height → AllFit (events_of_block height block.now) (are_live (live_cell (branch kept joining.entry.parent)))
             → (damage : a_damage) → result ≡ Err (Damaged damage) → ⊥ }
         ensures damage { (damage : a_damage) → result ≡ Err (Damaged damage) → damage.area ≡ Log }
         ensures reads { result ≢ Err DiskFault }
         ensures most { steps.new ≤ steps.old + 1 }
     {
-        let Joining {
-            entry,
-            ext: _ext,
-            cells,
-        } = joining;
-        let place = tree.len();
-        if entry.number <= tree.entry(tree.tip()).number {
+        if !is_above_tip(tree, &joining.entry) {
             return Ok(state);
         }
-        match cells {
-            Some(cells) => grown(cells, block, place, steps),
-            None => grown(state, block, place, steps),
-        }
+        grown(state, block, tree.len(), steps)
     }
 
-    /// Keeps the block of an item that was judged, with its ext; its record will have this name. Out of memory nothing is
-    /// kept at all. Damaged where its events do not fit its parent's branch, which never comes over a chain that has joined.
+    /// Keeps the block of an item that was judged, with its ext, and answers the live cells of the tip; its record will have
+    /// this name. Out of memory nothing is kept at all. Damaged where its events do not fit its parent's branch, which never
+    /// comes over a chain that has joined.
     pub(crate) fn join<L: Ledger>(
         self,
         alloc: Global,
+        state: State,
         item: &[u8],
         ext: Vec<u8>,
         rec: Rec,
         joining: Joining,
         steps: &mut Steps<L>,
-    ) -> Result<Kept, ReadStop>
+    ) -> Result<(Kept, State), ReadStop>
         requires canonical { (b : Block) × (decoded schema.block item.now ≡ Some b) × IsReady self.chain.blocks b joining }
         requires ext { IsExtFor item.now ext.items }
-        ensures kept { (b : Block) → decoded schema.block item.now ≡ Some b → IfOk result (λ kept. kept ≡ kept_with self b ext.items) }
+        ensures kept { (b : Block) → decoded schema.block item.now ≡ Some b → IfOk result (λ it. it.0 ≡ kept_with self b ext.items) }
+        ensures live { AreOfFound self.chain.blocks (place_for self.chain.blocks (Joins joining)) (rows state)
+            → IfOk result (λ it. AreOfTip it.0.chain.blocks (rows it.1)) }
         ensures undamaged { (b : Block) → decoded schema.block item.now ≡ Some b → IsJoined self.chain → MayJoin self.chain.spec self.chain.blocks b
+            → AreOfFound self.chain.blocks (place_for self.chain.blocks (Joins joining)) (rows state)
             → (damage : a_damage) → result ≡ Err (Damaged damage) → ⊥ }
         ensures damage { (damage : a_damage) → result ≡ Err (Damaged damage) → damage.area ≡ Log }
         ensures reads { result ≢ Err DiskFault }
         ensures most { steps.new ≤ steps.old + 1 }
     {
         let Some(block) = BlockView::read(item) else {
-            drop(self);
+            drop((self, state));
             return Err(ReadStop::NoMemory);
         };
         let Kept {
@@ -159,7 +157,6 @@ impl Kept {
             mut blocks,
             mut tree,
             mut uncles,
-            state,
         } = self;
         let entry = Entry {
             at: rec.at,
@@ -183,13 +180,15 @@ impl Kept {
             ext,
             entry,
         ) {
-            Ok(()) => Ok(Kept {
-                spec,
-                blocks,
-                tree,
-                uncles,
-                state,
-            }),
+            Ok(()) => {
+                let kept = Kept {
+                    spec,
+                    blocks,
+                    tree,
+                    uncles,
+                };
+                Ok((kept, state))
+            }
             Err(_) => {
                 drop((blocks, tree, uncles, state));
                 Err(ReadStop::NoMemory)
@@ -209,13 +208,6 @@ impl Kept {
         ensures { IndexesBlocks self.now.chain.blocks result.now.entries }
     {
         &self.tree
-    }
-
-    /// The live cells of the tip.
-    pub(crate) fn state(&self) -> &State
-        ensures { (tip : ℕ) → tip_place self.now.chain.blocks ≡ Some tip → (o : OutPoint) → rows result.now o ≡ live_row self.now.chain.blocks tip o }
-    {
-        &self.state
     }
 }
 

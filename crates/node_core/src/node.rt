@@ -9,14 +9,13 @@ ghost use Rattle.outside.specs.declared.disk.Damage.{Damage};
 ghost use Rattle.outside.specs.declared.disk.ReadStop.TheVariants.{DiskFault, Damaged};
 ghost use Rattle.codec_defs.specs.Shape.{decoded};
 ghost use Rattle.codec_defs.specs.Schema as schema;
-ghost use Rattle.codec_defs.specs.Schema.{Block, OutPoint};
+ghost use Rattle.codec_defs.specs.Schema.{Block};
 ghost use Rattle.time_defs.specs.Dao.{as_u64, counted_capacity};
 ghost use Rattle.chain_defs.specs.Kept.{place_of, block_at};
 ghost use Rattle.tx_defs.specs.Capacity.{rate_of};
 ghost use Rattle.chain_defs.specs.Tip as tips;
 ghost use Rattle.chain_defs.specs.Tip.{tip_place, best_branch};
 ghost use Rattle.cell_defs.specs.Ext.{ext_bytes, is_ext, count_at};
-ghost use Rattle.cell_defs.specs.Row.{live_row};
 ghost use Rattle.cell_state.specs.State.{rows};
 ghost use Rattle.chain_tree.specs.Blocks.{Describes, IndexesBlocks};
 ghost use Rattle.rule_names.specs.Number.{rule_number};
@@ -30,9 +29,9 @@ ghost use Rattle.log_defs.specs.Log.{Record, records_of, end_of_log};
 ghost use Rattle.log_defs.specs.Rest.{IsSettled};
 ghost use Rattle.store_defs.specs.Store.{Keeps, store_of, StandsFor, IsSound, IsJoined, HaveOwnExts, AreJoined};
 ghost use Rattle.log_file.specs.Pieces.{behind_gate, block_record};
-ghost use Rattle.node_core.specs.Node.{IsOn, IsLeftByOpening, IsLeftByImport, IsSettledAfter};
-ghost use Rattle.node_core.specs.Steps.{replays_for, replays_to_open};
-ghost use Rattle.node_core.specs.Judging.{IsReadyItem, IsDecided};
+ghost use Rattle.node_core.specs.Node.{IsOn, IsLeftByOpening, IsLeftByImport, IsSettledAfter, IsWithin, AreOfFound, AreOfTip, node_of};
+ghost use Rattle.node_core.specs.Steps.{moves_for, replays_to_open};
+ghost use Rattle.node_core.specs.Judging.{IsReadyItem, IsDecided, place_for};
 ghost use Rattle.node_core.specs.Queries.{IsHeaderAt, IsBlockAt, IsLiveCell, IsFetched};
 ghost use Rattle.node_core.specs.declared.deciding.Decision.TheVariants.{Joins};
 
@@ -87,10 +86,12 @@ fn fill(alloc: Global, body: &mut Body, item: &[u8], ext: &Ext) -> Result<Vec<u8
     Ok(bytes)
 }
 
-/// The kept blocks of a store. Clauses see their chain, their exts, and where the records of its log end.
+/// The kept blocks of a store, and the live cells of the tip. Clauses see their chain, their exts, and where the records of
+/// its log end. The cells are the tip's where all that is kept has joined, each block with its own ext beside it.
 #[derive(Drop)]
 pub struct Node {
     kept: Kept,
+    state: State,
     log: Log,
     /// The record that is put after the others next.
     body: Body,
@@ -99,13 +100,78 @@ pub struct Node {
 impl Model for Node {
     ghost use Rattle.std.specs.Prelude.{◌≤◌, length};
     ghost use Rattle.chain_defs.specs.Kept.{kept_limit};
-    ghost use Rattle.node_core.specs.Node.{NodeValue, node_of, IsWithin};
+    ghost use Rattle.cell_state.specs.State.{rows};
+    ghost use Rattle.store_defs.specs.Store.{AreJoined};
+    ghost use Rattle.node_core.specs.Node.{NodeValue, node_of, IsWithin, AreOfTip};
 
     ghost Value = { NodeValue };
 
     ghost view = { λ node. node_of node.kept node.log.place };
 
-    ghost invariant = { λ node. (length node.kept.chain.blocks ≤ kept_limit) × IsWithin (length node.kept.chain.blocks) node.log.place };
+    ghost invariant = { λ node. (length node.kept.chain.blocks ≤ kept_limit) × IsWithin (length node.kept.chain.blocks) node.log.place
+        × (AreJoined node.kept.chain node.kept.exts → AreOfTip node.kept.chain.blocks (rows node.state)) };
+}
+
+/// Keeps an item that can join, and puts its record on the disk after the others: a node of these kept blocks, live cells,
+/// log and body. The cells stand where they were left when it was judged.
+fn join<D: Disk, L: Ledger>(
+    alloc: Global,
+    disk: &mut D,
+    kept: Kept,
+    state: State,
+    log: Log,
+    mut body: Body,
+    item: &[u8],
+    joining: Joining,
+    steps: &mut Steps<L>,
+) -> Result<Node, ReadStop>
+    requires size { length item.now < 2 ^ 31 }
+    requires there { IfSome (D.reads_as disk.old) (λ image. log.place < length image.log) }
+    requires within { IsWithin (length kept.chain.blocks) log.place }
+    requires ready { IsReadyItem kept.chain.blocks item.now (Joins joining) }
+    requires cells { AreJoined kept.chain kept.exts → AreOfFound kept.chain.blocks (place_for kept.chain.blocks (Joins joining)) (rows state) }
+    ensures kept { IsDecided kept.chain item.now (Joins joining) → IfOk result (λ node. node.chain ≡ chain_after kept.chain item.now) }
+    ensures there { IfOk result (λ node. IfSome (D.reads_as disk.new) (λ image. node.place < length image.log)) }
+    ensures own { IsDecided kept.chain item.now (Joins joining) → HaveOwnExts kept.chain kept.exts → IfOk result (λ node. HaveOwnExts node.chain node.exts) }
+    ensures on { IsDecided kept.chain item.now (Joins joining) → IsOn (node_of kept log.place) (D.reads_as disk.old) (D.images disk.old)
+        → IfOk result (λ node. IsOn node (D.reads_as disk.new) (D.images disk.new)) }
+    ensures moments { IsDecided kept.chain item.now (Joins joining) → IsOn (node_of kept log.place) (D.reads_as disk.old) (D.images disk.old)
+        → LeavesOnly D.moment D.left_since disk.old disk.new (λ image. StandsFor kept.chain image ⊎ StandsFor (chain_after kept.chain item.now) image) }
+    ensures settled { (records : List Record) → IsSettled log.place records (D.reads_as disk.old) (D.images disk.old)
+        → IfOk result (λ node. IsSettled node.place (records ++ block_record item.now (ext_bytes joining.ext) ∷ []) (D.reads_as disk.new) (D.images disk.new)) }
+    ensures keeps { (records : List Record) → IsSettled log.place records (D.reads_as disk.old) (D.images disk.old)
+        → LeavesOnly D.moment D.left_since disk.old disk.new (IsLeftByImport log.place records item.now (D.images disk.old)) }
+    ensures others { OthersRead log_area (D.reads_as disk.old) (D.reads_as disk.new) }
+    ensures untouched { IfErr result (λ stop. stop ≢ DiskFault → disk.new ≡ disk.old) }
+    ensures undamaged { IsDecided kept.chain item.now (Joins joining) → AreJoined kept.chain kept.exts → (damage : Damage) → result ≡ Err (Damaged damage) → ⊥ }
+    ensures damage { (damage : Damage) → result ≡ Err (Damaged damage) → damage.area ≡ log_area }
+    ensures cause { CountsFault (D.faults disk.old) (D.faults disk.new) (result ≡ Err DiskFault) }
+    ensures most { steps.new ≤ steps.old + 1 }
+{
+    let ext = match fill(alloc, &mut body, item, &joining.ext) {
+        Ok(ext) => ext,
+        Err(_) => {
+            drop((kept, state));
+            return Err(ReadStop::NoMemory);
+        }
+    };
+    let rec = rec_behind(&log, &body);
+    let (kept, state) = match kept.join(alloc, state, item, ext, rec, joining, steps) {
+        Ok(joined) => joined,
+        Err(stop) => return Err(stop),
+    };
+    match append(log, disk, &body) {
+        Err(_) => {
+            drop((kept, state));
+            Err(ReadStop::DiskFault)
+        }
+        Ok((log, _)) => Ok(Node {
+            kept,
+            state,
+            log,
+            body,
+        }),
+    }
 }
 
 impl Node {
@@ -154,74 +220,20 @@ impl Node {
             steps,
         ) {
             Err(stop) => Err(stop),
-            Ok(kept) => Ok(Node {
+            Ok((kept, state)) => Ok(Node {
                 kept,
+                state,
                 log: opened.log,
                 body: Body::new(alloc),
             }),
         }
     }
 
-    /// Keeps an item that can join, and puts its record on the disk after the others.
-    fn join<D: Disk, L: Ledger>(
-        self,
-        alloc: Global,
-        disk: &mut D,
-        item: &[u8],
-        joining: Joining,
-        steps: &mut Steps<L>,
-    ) -> Result<Node, ReadStop>
-        requires size { length item.now < 2 ^ 31 }
-        requires there { IfSome (D.reads_as disk.old) (λ image. self.place < length image.log) }
-        requires ready { IsReadyItem self.chain.blocks item.now (Joins joining) }
-        ensures kept { IsDecided self.chain item.now (Joins joining) → IfOk result (λ node. node.chain ≡ chain_after self.chain item.now) }
-        ensures there { IfOk result (λ node. IfSome (D.reads_as disk.new) (λ image. node.place < length image.log)) }
-        ensures own { IsDecided self.chain item.now (Joins joining) → HaveOwnExts self.chain self.exts → IfOk result (λ node. HaveOwnExts node.chain node.exts) }
-        ensures on { IsDecided self.chain item.now (Joins joining) → IsOn self (D.reads_as disk.old) (D.images disk.old)
-            → IfOk result (λ node. IsOn node (D.reads_as disk.new) (D.images disk.new)) }
-        ensures moments { IsDecided self.chain item.now (Joins joining) → IsOn self (D.reads_as disk.old) (D.images disk.old)
-            → LeavesOnly D.moment D.left_since disk.old disk.new (λ image. StandsFor self.chain image ⊎ StandsFor (chain_after self.chain item.now) image) }
-        ensures settled { (records : List Record) → IsSettled self.place records (D.reads_as disk.old) (D.images disk.old)
-            → IfOk result (λ node. IsSettled node.place (records ++ block_record item.now (ext_bytes joining.ext) ∷ []) (D.reads_as disk.new) (D.images disk.new)) }
-        ensures keeps { (records : List Record) → IsSettled self.place records (D.reads_as disk.old) (D.images disk.old)
-            → LeavesOnly D.moment D.left_since disk.old disk.new (IsLeftByImport self.place records item.now (D.images disk.old)) }
-        ensures others { OthersRead log_area (D.reads_as disk.old) (D.reads_as disk.new) }
-        ensures untouched { IfErr result (λ stop. stop ≢ DiskFault → disk.new ≡ disk.old) }
-        ensures undamaged { IsDecided self.chain item.now (Joins joining) → IsJoined self.chain → (damage : Damage) → result ≡ Err (Damaged damage) → ⊥ }
-        ensures damage { (damage : Damage) → result ≡ Err (Damaged damage) → damage.area ≡ log_area }
-        ensures cause { CountsFault (D.faults disk.old) (D.faults disk.new) (result ≡ Err DiskFault) }
-        ensures most { steps.new ≤ steps.old + 1 }
-    {
-        let Node {
-            kept,
-            log,
-            mut body,
-        } = self;
-        let ext = match fill(alloc, &mut body, item, &joining.ext) {
-            Ok(ext) => ext,
-            Err(_) => {
-                drop(kept);
-                return Err(ReadStop::NoMemory);
-            }
-        };
-        let rec = rec_behind(&log, &body);
-        let kept = match kept.join(alloc, item, ext, rec, joining, steps) {
-            Ok(kept) => kept,
-            Err(stop) => return Err(stop),
-        };
-        match append(log, disk, &body) {
-            Err(_) => {
-                drop(kept);
-                Err(ReadStop::DiskFault)
-            }
-            Ok((log, _)) => Ok(Node { kept, log, body }),
-        }
-    }
-
     /// Judges an item over the kept blocks (docs/COMMANDS.md, "The text"), and where it joins keeps it and puts its record on
     /// the disk. After an `Err` the disk has the record or not. Damaged where a kept block is not what those after it say,
-    /// which never comes over a chain that has joined. A block on the tip takes one step, and one on another branch those of
-    /// that branch before; an item that is answered at sight, as one that is known, takes none.
+    /// which never comes over a chain that has joined. The live cells go to the block's parent, are judged by there, and go
+    /// back unless the block becomes the tip: with its own events at most twice the distance from the tip to the parent, and
+    /// one. An item that is answered at sight, as one that is known, takes no step.
     pub fn import<D: Disk, L: Ledger>(
         self,
         alloc: Global,
@@ -251,22 +263,35 @@ impl Node {
         ensures cause { CountsFault (D.faults disk.old) (D.faults disk.new) (result ≡ Err DiskFault) }
         ensures steps { (b : Block) → decoded schema.block item.now ≡ Some b
             → place_of self.chain.blocks b.header.parent_hash ≡ tip_place self.chain.blocks → steps.new ≤ steps.old + 1 }
-        ensures most { steps.new ≤ steps.old + replays_for self.chain.blocks item.now + 1 }
-        ensures stays { IfOk result (λ answer. joins answer.1 ≡ false → steps.new ≤ steps.old + replays_for self.chain.blocks item.now) }
+        ensures most { steps.new ≤ steps.old + moves_for self.chain.blocks item.now + 1 }
+        ensures stays { IfOk result (λ answer. joins answer.1 ≡ false → steps.new ≤ steps.old + moves_for self.chain.blocks item.now) }
     {
-        let mut node = self;
-        let decision = match node.kept.decide(alloc, item, steps) {
-            Ok(decision) => decision,
+        let Node {
+            mut kept,
+            state,
+            log,
+            body,
+        } = self;
+        let (state, decision) = match kept.decide(alloc, state, item, steps) {
+            Ok(decided) => decided,
             Err(stop) => {
-                drop(node);
+                drop((kept, log, body));
                 return Err(stop);
             }
         };
         match decision {
-            Decision::Stays(verdict) => Ok((node, verdict)),
+            Decision::Stays(verdict) => {
+                let node = Node {
+                    kept,
+                    state,
+                    log,
+                    body,
+                };
+                Ok((node, verdict))
+            }
             Decision::Joins(joining) => {
                 let verdict = Verdict::Joined(joining.entry.number, joining.entry.hash);
-                match node.join(alloc, disk, item, joining, steps) {
+                match join(alloc, disk, kept, state, log, body, item, joining, steps) {
                     Ok(next) => Ok((next, verdict)),
                     Err(stop) => Err(stop),
                 }
@@ -277,14 +302,14 @@ impl Node {
     /// Judges a transaction alone after the tip: its fee in shannons, and the cycles of its scripts.
     pub fn check(&mut self, alloc: Global, tx: &TxView<'_>) -> Result<(u64, u64), Judged>
         ensures same { self.new ≡ self.old }
-        ensures passes { IsJoined self.old.chain → IfOk result (λ it. trial_on self.old.chain.spec (best_branch self.old.chain.blocks) tx.now ≡ Passes it.0 it.1) }
-        ensures broken { IsJoined self.old.chain → (rule : Rule) → result ≡ Err (Broken rule)
+        ensures passes { AreJoined self.old.chain self.old.exts → IfOk result (λ it. trial_on self.old.chain.spec (best_branch self.old.chain.blocks) tx.now ≡ Passes it.0 it.1) }
+        ensures broken { AreJoined self.old.chain self.old.exts → (rule : Rule) → result ≡ Err (Broken rule)
             → trial_on self.old.chain.spec (best_branch self.old.chain.blocks) tx.now ≡ Refused (rule_number rule) }
-        ensures undamaged { IsJoined self.old.chain → (damage : Damage) → result ≡ Err (Read (Damaged damage)) → ⊥ }
+        ensures undamaged { AreJoined self.old.chain self.old.exts → (damage : Damage) → result ≡ Err (Read (Damaged damage)) → ⊥ }
         ensures damage { (damage : Damage) → result ≡ Err (Read (Damaged damage)) → damage.area ≡ log_area }
         ensures reads { result ≢ Err (Read DiskFault) }
     {
-        self.kept.check(alloc, tx)
+        self.kept.check(alloc, &self.state, tx)
     }
 
     /// The height of the tip.
@@ -317,19 +342,19 @@ impl Node {
 
     /// The live cell with an out-point.
     pub fn live(&self, o: &OutPoint) -> Option<Live>
-        ensures { IsLiveCell self.now.chain.blocks o.now result }
+        ensures { AreJoined self.now.chain self.now.exts → IsLiveCell self.now.chain.blocks o.now result }
     {
-        self.kept.live(o)
+        self.kept.live(&self.state, o)
     }
 
     /// The live cell with an out-point, with a copy of its bytes.
     pub fn fetch(&mut self, alloc: Global, o: OutPoint) -> Result<Option<Fetched>, ReadStop>
         ensures same { self.new ≡ self.old }
-        ensures fetched { IfOk result (IsFetched self.old.chain.blocks o) }
-        ensures undamaged { (damage : Damage) → result ≡ Err (Damaged damage) → ⊥ }
+        ensures fetched { AreJoined self.old.chain self.old.exts → IfOk result (IsFetched self.old.chain.blocks o) }
+        ensures undamaged { AreJoined self.old.chain self.old.exts → (damage : Damage) → result ≡ Err (Damaged damage) → ⊥ }
         ensures reads { result ≢ Err DiskFault }
     {
-        self.kept.fetch(alloc, o)
+        self.kept.fetch(alloc, &self.state, o)
     }
 
     /// What a cell of this capacity and occupied capacity counts, in shannons, that was deposited at a height of the best
@@ -369,9 +394,9 @@ impl Node {
 
     /// The live cells of the tip.
     pub fn state(&self) -> &State
-        ensures { (tip : ℕ) → tip_place self.now.chain.blocks ≡ Some tip → (o : OutPoint) → rows result.now o ≡ live_row self.now.chain.blocks tip o }
+        ensures { AreJoined self.now.chain self.now.exts → AreOfTip self.now.chain.blocks (rows result.now) }
     {
-        self.kept.state()
+        &self.state
     }
 
     /// The specification of the chain.

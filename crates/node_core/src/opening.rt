@@ -14,10 +14,13 @@ ghost use Rattle.log_file.specs.Grammar.{AreBlocks};
 ghost use Rattle.log_file.specs.declared.stop.LogStop.TheVariants.{DiskFault, NotAStore};
 ghost use Rattle.outside.specs.declared.disk.Damage.{Damage};
 ghost use Rattle.outside.specs.declared.disk.ReadStop.TheVariants.{Damaged};
+ghost use Rattle.cell_state.specs.State.{rows};
+ghost use Rattle.node_core.specs.Node.{AreOfTip};
 ghost use Rattle.node_core.specs.Opening.{HaveBlocks, HaveExts};
 
 use crate::kept::{Kept, take_uncles};
 use cell_model::ListBlocks;
+use cell_state::State;
 use chain_tree::Tree;
 use dao_math::is_rated;
 use epochs::Spec;
@@ -113,7 +116,7 @@ fn stop_of_replay(stop: ReadStop) -> LogStop
 }
 
 impl Kept {
-    /// The kept blocks of a log. Where a block's C or AR is 0, what stands beside it is no ext for it, or the events along
+    /// The kept blocks of a log, and the live cells of the tip. Where a block's C or AR is 0, what stands beside it is no ext for it, or the events along
     /// the tip's branch do not fit, they have not joined, and the log is none of a store.
     pub(crate) fn of<L: Ledger>(
         alloc: Global,
@@ -122,13 +125,14 @@ impl Kept {
         exts: Vec<Vec<u8>>,
         tree: Tree,
         steps: &mut Steps<L>,
-    ) -> Result<Kept, LogStop>
+    ) -> Result<(Kept, State), LogStop>
         requires blocks { AreBlocks (contents blocks.items) tree.entries }
         requires beside { length exts.items ≡ length blocks.items }
         requires few { length blocks.items ≤ kept_limit }
-        ensures spec { IfOk result (λ kept. kept.chain.spec ≡ spec) }
-        ensures blocks { IfOk result (λ kept. map (decoded schema.block) (contents blocks.items) ≡ map Some kept.chain.blocks) }
-        ensures exts { IfOk result (λ kept. kept.exts ≡ contents exts.items) }
+        ensures spec { IfOk result (λ it. it.0.chain.spec ≡ spec) }
+        ensures blocks { IfOk result (λ it. map (decoded schema.block) (contents blocks.items) ≡ map Some it.0.chain.blocks) }
+        ensures exts { IfOk result (λ it. it.0.exts ≡ contents exts.items) }
+        ensures live { IfOk result (λ it. AreOfTip it.0.chain.blocks (rows it.1)) }
         ensures joined { (kept : List Block) → map (decoded schema.block) (contents blocks.items) ≡ map Some kept
             → IsJoined (record { spec = spec; blocks = kept }) → HaveExts (contents blocks.items) (contents exts.items) → result ≢ Err NotAStore }
         // No want of memory is told for these two:
@@ -156,13 +160,15 @@ impl Kept {
             }
         };
         match replay(alloc, &tree, &mut blocks, tree.tip(), steps) {
-            Ok(state) => Ok(Kept {
-                spec,
-                blocks,
-                tree,
-                uncles,
-                state,
-            }),
+            Ok(state) => {
+                let kept = Kept {
+                    spec,
+                    blocks,
+                    tree,
+                    uncles,
+                };
+                Ok((kept, state))
+            }
             Err(stop) => {
                 drop((blocks, tree, uncles));
                 Err(stop_of_replay(stop))

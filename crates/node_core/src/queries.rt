@@ -11,10 +11,13 @@ ghost use Rattle.tx_defs.specs.Capacity.{rate_of};
 ghost use Rattle.outside.specs.declared.disk.Area.TheVariants.{Log};
 ghost use Rattle.outside.specs.declared.disk.Damage.{Damage as a_damage};
 ghost use Rattle.outside.specs.declared.disk.ReadStop.TheVariants.{DiskFault, Damaged};
+ghost use Rattle.cell_state.specs.State.{rows};
+ghost use Rattle.node_core.specs.Node.{AreOfTip};
 ghost use Rattle.node_core.specs.Queries.{IsHeaderAt, IsBlockAt, IsLiveCell, IsFetched};
 
 use crate::kept::Kept;
 use cell_model::{CellMeta, Cells, OutPoint, Resolved, fetch};
+use cell_state::State;
 use chain_tree::Blocks;
 use dao_math::{Dao, max_withdraw};
 use mol_schema::BlockView;
@@ -162,13 +165,13 @@ impl Kept {
         Ok(Some(bytes))
     }
 
-    /// The live cell with an out-point.
-    pub(crate) fn live(&self, o: &OutPoint) -> Option<Live>
-        ensures live { IsLiveCell self.now.chain.blocks o.now result }
+    /// The live cell with an out-point, by the live cells of the tip.
+    pub(crate) fn live(&self, state: &State, o: &OutPoint) -> Option<Live>
+        ensures live { AreOfTip self.now.chain.blocks (rows state.now) → IsLiveCell self.now.chain.blocks o.now result }
         ensures within { IfSome result (λ live. live.row.block < length self.now.chain.blocks) }
     {
         let kept = self.tree.len();
-        let Some(meta) = self.state.get(o) else {
+        let Some(meta) = state.get(o) else {
             return None;
         };
         // (the block of each row is kept)
@@ -179,14 +182,19 @@ impl Kept {
         Some(Live { meta, height })
     }
 
-    /// The live cell with an out-point, with a copy of its bytes.
-    pub(crate) fn fetch(&mut self, alloc: Global, o: OutPoint) -> Result<Option<Fetched>, ReadStop>
+    /// The live cell with an out-point, by the live cells of the tip, with a copy of its bytes.
+    pub(crate) fn fetch(
+        &mut self,
+        alloc: Global,
+        state: &State,
+        o: OutPoint,
+    ) -> Result<Option<Fetched>, ReadStop>
         ensures same { self.new ≡ self.old }
-        ensures fetched { IfOk result (IsFetched self.old.chain.blocks o) }
-        ensures undamaged { (damage : a_damage) → result ≡ Err (Damaged damage) → ⊥ }
+        ensures fetched { AreOfTip self.old.chain.blocks (rows state.now) → IfOk result (IsFetched self.old.chain.blocks o) }
+        ensures undamaged { AreOfTip self.old.chain.blocks (rows state.now) → (damage : a_damage) → result ≡ Err (Damaged damage) → ⊥ }
         ensures reads { result ≢ Err DiskFault }
     {
-        let Some(live) = self.live(&o) else {
+        let Some(live) = self.live(state, &o) else {
             return Ok(None);
         };
         let Live { meta, height } = live;

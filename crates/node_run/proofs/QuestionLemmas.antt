@@ -7,7 +7,7 @@ use Rattle.codec_defs.specs.Shape.{decoded}
 use Rattle.codec_defs.specs.Schema.{Transaction, transaction}
 use Rattle.verdict_defs.specs.Chain.{Chain}
 use Rattle.verdict_defs.specs.Trial.{trial, trial_of}
-use Rattle.store_defs.specs.Store.{Keeps, store_of, StandsFor, IsSound, IsJoined}
+use Rattle.store_defs.specs.Store.{Keeps, store_of, StandsFor, IsSound, IsJoined, HaveOwnExts, AreJoined}
 use Rattle.store_defs.proofs.JoinedLemmas.{joined_of_image}
 use Rattle.report_defs.specs.declared.command.Command.TheVariants as commands
 use Rattle.report_defs.specs.declared.command.Question.{Question}
@@ -26,7 +26,7 @@ use Rattle.node_run.specs.Import.{IsStop}
 use Rattle.node_run.specs.Output.{IsSaid, IsToldAnswer}
 use Rattle.node_run.specs.Store.{opening_stops}
 use Rattle.node_run.proofs.ImportLemmas.{on_stands}
-use Rattle.node_run.proofs.StoreLemmas.{if_told, same_chain, store_of_stands, delivers, keeps_opened, keeps_read, keeps_unopened, unopened, sound_opening, sound_here, by_disk_or_memory}
+use Rattle.node_run.proofs.StoreLemmas.{if_told, same_chain, store_of_stands, delivers_over, opened_joined_whole, keeps_opened, keeps_read, keeps_unopened, unopened, sound_opening, sound_here, by_disk_or_memory}
 use Rattle.node_run.proofs.Statuses.{each_of, IsEarly, opening_not_done}
 use Rattle.node_run.proofs.WholeReports.{IsJudged, stop_not_judged, whole_stopped, whole_early, whole_judged, report_of_all, told_said, all_said, early_not_judged}
 
@@ -104,10 +104,12 @@ module _ {D : Type 0} (reads_as : D → Option Image) (images : D → Image → 
       → (((image : Image) → images old image → IsSound image) → IfSome (reads_as old) (λ _. IsOn node (reads_as new) (images new)))
       → ((now : Image) (chain : Chain) → reads_as old ≡ Some now → store_of now ≡ Keeps chain → ((image : Image) → images old image → IsSound image)
       → LeavesOnly moment left_since old new (λ image. images old image ⊎ StandsFor chain image))
-      → (IsJoined node.chain → AnswersQuestion question node.chain given left taken status)
+      → ((now : Image) → reads_as old ≡ Some now → IsSound now → HaveOwnExts node.chain node.exts)
+      → (AreJoined node.chain node.exts → AnswersQuestion question node.chain given left taken status)
       → DeliversAnswer question (reads_as old) (images old) (images new) (left_since new (moment old)) left given taken status
-  question_opened question old new node left given taken status kept on moments says = record {
-    delivers = delivers (commands.Question question) (reads_as old) node.chain (images old) (images new) (left_since new (moment old)) left given taken status (λ store found. found) kept
+  question_opened question old new node left given taken status kept on moments own says = record {
+    delivers = delivers_over (AreJoined node.chain node.exts) (commands.Question question) (reads_as old) node.chain (images old) (images new) (left_since new (moment old)) left given taken status (λ store found. found) kept
+        (λ store found. opened_joined_whole (reads_as old) node.chain node.exts store kept own found)
         (full question node.chain) (λ whole. refl) (λ joined. ((says joined).text, (says joined).order))
         (keeps_opened (reads_as old) node.chain [] (images old) (images new) (left_since new (moment old)) taken status kept
         (λ now told keeps sound. keeps_read images moment left_since counts_now old new node.chain taken status (moments now node.chain told keeps sound)
@@ -116,7 +118,7 @@ module _ {D : Type 0} (reads_as : D → Option Image) (images : D → Image → 
     answers = λ now chain told stands done.
         let same : node.chain ≡ chain = same_chain node.chain chain
         (sym (if_told (reads_as old) (λ image. store_of image ≡ Keeps node.chain) now kept told) ∙ store_of_stands chain now stands) in
-        (says (subst IsJoined (sym same) (joined_of_image chain now stands))).answers done ∙ ap (λ (k : Chain). text_of (full question k given)) same;
+        (says (record { joined = subst IsJoined (sym same) (joined_of_image chain now stands); own = own now told (chain, stands) })).answers done ∙ ap (λ (k : Chain). text_of (full question k given)) same;
   }
 
   -- none was opened

@@ -7,7 +7,7 @@ ghost use Rattle.tx_defs.specs.Withdrawals as rules;
 ghost use Rattle.cell_model.specs.Copies.{IsCopyOf};
 ghost use Rattle.outside.specs.declared.disk.Damage.{Damage};
 ghost use Rattle.outside.specs.declared.disk.ReadStop.TheVariants.{DiskFault, Damaged};
-ghost use Rattle.store_defs.specs.Store.{IsJoined};
+ghost use Rattle.store_defs.specs.Store.{IsJoined, AreJoined};
 ghost use Rattle.report_defs.specs.Report as reports;
 ghost use Rattle.report_defs.specs.Queries as answers;
 ghost use Rattle.report_defs.specs.Queries.{cell_at_tip};
@@ -34,9 +34,9 @@ const BY_TYPE: u8 = 1;
 
 /// The line of what the live cell with an out-point counts.
 pub fn dao(alloc: Global, node: &mut Node, tx_hash: [u8; 32], index: u64) -> Result<Vec<u8>, Status>
-    ensures text { IsJoined node.old.chain → IfOk result (λ text. text.items ≡ reports.answer_to_query (queries.Dao tx_hash index) node.old.chain) }
+    ensures text { AreJoined node.old.chain node.old.exts → IfOk result (λ text. text.items ≡ reports.answer_to_query (queries.Dao tx_hash index) node.old.chain) }
     ensures stop { (status : Status) → result ≡ Err status → IsOneOf finding_stops status }
-    ensures sound { IsJoined node.old.chain → result ≡ Err Status.NotAStore → ⊥ }
+    ensures sound { AreJoined node.old.chain node.old.exts → result ≡ Err Status.NotAStore → ⊥ }
 {
     let found = match fetch_cell(alloc, node, tx_hash, index) {
         Ok(found) => found,
@@ -56,7 +56,7 @@ fn fetch_cell(
     index: u64,
 ) -> Result<Option<Fetched>, Status>
     ensures same { node.new ≡ node.old }
-    ensures found { IfOk result (IsCopyFound (cell_at_tip node.old.chain tx_hash index)) }
+    ensures found { AreJoined node.old.chain node.old.exts → IfOk result (IsCopyFound (cell_at_tip node.old.chain tx_hash index)) }
     ensures memory { (status : Status) → result ≡ Err status → status ≡ Status.NoMemory }
 {
     let Some(o) = out_point(tx_hash, index) else {

@@ -18,7 +18,7 @@ ghost use Rattle.report_defs.specs.Survival.{NoneJoins, GoesOn, KeepsRecords};
 ghost use Rattle.report_defs.specs.declared.command.Command.TheVariants.{Import};
 ghost use Rattle.item_reader.specs.Items.{Gave, IsNext};
 ghost use Rattle.node_core.specs.Node.{IsOn, IsLeftByImport, IsSettledAfter};
-ghost use Rattle.node_core.specs.Steps.{replays_for, steps_over};
+ghost use Rattle.node_core.specs.Steps.{moves_for, steps_over};
 ghost use Rattle.node_run.specs.Output.{Took, Transfers};
 ghost use Rattle.node_run.specs.Store.{Delivers};
 ghost use Rattle.node_run.specs.Import.{IsAnswered, AreImported, line_over, item_stops};
@@ -97,7 +97,7 @@ fn import_item<K: Sink, D: Disk, L: Ledger>(
     ensures still { AreJoined node.chain node.exts → joins (verdict_over node.chain item.now) ≡ false → disk.new ≡ disk.old }
     ensures out_faults { CountsFault (K.faults out.old) (K.faults out.new) (result ≡ Err Status.SinkFault) }
     ensures disk_faults { CountsFault (D.faults disk.old) (D.faults disk.new) (result ≡ Err Status.DiskFault) }
-    ensures most { steps.new ≤ steps.old + replays_for node.chain.blocks item.now + 1 }
+    ensures most { steps.new ≤ steps.old + moves_for node.chain.blocks item.now + 1 }
 {
     let (next, verdict) = match node.import(alloc, disk, item, steps) {
         Ok(answer) => answer,

@@ -8,7 +8,7 @@ ghost use Rattle.chain_defs.specs.Tip.{best_branch};
 ghost use Rattle.cell_defs.specs.Cell.{Cell};
 ghost use Rattle.outside.specs.Causes.{CountsFault};
 ghost use Rattle.log_defs.specs.Log.{end_of_log};
-ghost use Rattle.store_defs.specs.Store.{Keeps, store_of, IsJoined, TellsAsBefore};
+ghost use Rattle.store_defs.specs.Store.{Keeps, store_of, AreJoined, TellsAsBefore};
 ghost use Rattle.outside.specs.Disk.{IsOnlyRead};
 ghost use Rattle.verdict_defs.specs.Chain.{Chain};
 ghost use Rattle.outside.specs.Image.{Image};
@@ -41,9 +41,9 @@ use std::sync::ledger::Ledger;
 
 /// Finds what a query answers over the kept blocks. Each query has a function of its own.
 fn answer_to(alloc: Global, node: &mut Node, query: Query) -> Result<Vec<u8>, Status>
-    ensures text { IsJoined node.old.chain → IfOk result (λ text. text.items ≡ reports.answer_to_query query node.old.chain) }
+    ensures text { AreJoined node.old.chain node.old.exts → IfOk result (λ text. text.items ≡ reports.answer_to_query query node.old.chain) }
     ensures stop { (status : Status) → result ≡ Err status → IsOneOf finding_stops status }
-    ensures sound { IsJoined node.old.chain → result ≡ Err Status.NotAStore → ⊥ }
+    ensures sound { AreJoined node.old.chain node.old.exts → result ≡ Err Status.NotAStore → ⊥ }
 {
     match query {
         Query::Tip => tip(alloc, node),
@@ -155,7 +155,7 @@ pub fn out_point(tx_hash: [u8; 32], index: u64) -> Option<OutPoint>
 
 /// The line of the live cell with an out-point.
 fn cell(alloc: Global, node: &Node, tx_hash: [u8; 32], index: u64) -> Result<Vec<u8>, Status>
-    ensures text { IfOk result (λ text. text.items ≡ reports.answer_to_query (queries.Cell tx_hash index) node.now.chain) }
+    ensures text { AreJoined node.now.chain node.now.exts → IfOk result (λ text. text.items ≡ reports.answer_to_query (queries.Cell tx_hash index) node.now.chain) }
     ensures memory { (status : Status) → result ≡ Err status → status ≡ Status.NoMemory }
 {
     let found = find_cell(node, tx_hash, index);
@@ -164,7 +164,7 @@ fn cell(alloc: Global, node: &Node, tx_hash: [u8; 32], index: u64) -> Result<Vec
 
 /// The live cell with an out-point, as its row.
 fn find_cell(node: &Node, tx_hash: [u8; 32], index: u64) -> Option<Live>
-    ensures { IsCellFound (cell_at_tip node.now.chain tx_hash index) result }
+    ensures { AreJoined node.now.chain node.now.exts → IsCellFound (cell_at_tip node.now.chain tx_hash index) result }
 {
     match out_point(tx_hash, index) {
         None => None,
@@ -184,7 +184,7 @@ fn cell_line_of(alloc: Global, found: &Option<Live>) -> Result<String, AllocErro
 
 /// Finds the answer and writes it.
 fn find_and_tell<K: Sink>(alloc: Global, out: &mut K, node: &mut Node, query: Query) -> Status
-    ensures told { Took (K.taken out.old) (K.taken out.new) (λ taken. IsJoined node.old.chain → (left : Option (List ℕ)) → IsQueryTold query node.old.chain left taken result) }
+    ensures told { Took (K.taken out.old) (K.taken out.new) (λ taken. AreJoined node.old.chain node.old.exts → (left : Option (List ℕ)) → IsQueryTold query node.old.chain left taken result) }
     ensures status { IsOneOf query_statuses result }
     ensures disk { result ≡ Status.DiskFault → ⊥ }
     ensures faults { CountsFault (K.faults out.old) (K.faults out.new) (result ≡ Status.SinkFault) }

@@ -5,7 +5,7 @@ ghost use Rattle.outside.specs.Image.{Image};
 ghost use Rattle.verdict_defs.specs.Chain.{Chain};
 ghost use Rattle.verdict_defs.specs.Trial as trials;
 ghost use Rattle.log_defs.specs.Log.{end_of_log};
-ghost use Rattle.store_defs.specs.Store.{Keeps, store_of, IsJoined, TellsAsBefore};
+ghost use Rattle.store_defs.specs.Store.{Keeps, store_of, AreJoined, TellsAsBefore};
 ghost use Rattle.outside.specs.Disk.{IsOnlyRead};
 ghost use Rattle.report_defs.specs.Report as reports;
 ghost use Rattle.report_defs.specs.Text as text;
@@ -52,10 +52,10 @@ fn answer_to(
     items: &[Vec<u8>],
 ) -> Result<Answer, Status>
     requires { length items.now ≡ length (reports.question_items question) }
-    ensures answer { IsJoined node.old.chain → IfOk result (λ answer. IsAnswerTo question node.old.chain (map (λ item. item.items) items.now) (string_bytes answer.text) answer.status) }
+    ensures answer { AreJoined node.old.chain node.old.exts → IfOk result (λ answer. IsAnswerTo question node.old.chain (map (λ item. item.items) items.now) (string_bytes answer.text) answer.status) }
     ensures one_of { IfOk result (λ answer. IsOneOf (Status.Done ∷ Status.SomeRefused ∷ []) answer.status) }
     ensures stop { (status : Status) → result ≡ Err status → IsOneOf finding_stops status }
-    ensures sound { IsJoined node.old.chain → result ≡ Err Status.NotAStore → ⊥ }
+    ensures sound { AreJoined node.old.chain node.old.exts → result ≡ Err Status.NotAStore → ⊥ }
 {
     match question {
         Question::Check => check(alloc, node, &items[0]),
@@ -64,10 +64,10 @@ fn answer_to(
 
 /// Judges a transaction alone, and says what came of it.
 fn check(alloc: Global, node: &mut Node, item: &[u8]) -> Result<Answer, Status>
-    ensures answer { IsJoined node.old.chain → IfOk result (λ answer. IsAnswerTo Question.Check node.old.chain (item.now ∷ []) (string_bytes answer.text) answer.status) }
+    ensures answer { AreJoined node.old.chain node.old.exts → IfOk result (λ answer. IsAnswerTo Question.Check node.old.chain (item.now ∷ []) (string_bytes answer.text) answer.status) }
     ensures one_of { IfOk result (λ answer. IsOneOf (Status.Done ∷ Status.SomeRefused ∷ []) answer.status) }
     ensures stop { (status : Status) → result ≡ Err status → IsOneOf finding_stops status }
-    ensures sound { IsJoined node.old.chain → result ≡ Err Status.NotAStore → ⊥ }
+    ensures sound { AreJoined node.old.chain node.old.exts → result ≡ Err Status.NotAStore → ⊥ }
 {
     let tried = match judge_item(alloc, node, item) {
         Ok(tried) => tried,
@@ -81,9 +81,9 @@ fn check(alloc: Global, node: &mut Node, item: &[u8]) -> Result<Answer, Status>
 
 /// Judges the transaction of an item alone.
 fn judge_item(alloc: Global, node: &mut Node, item: &[u8]) -> Result<Trial, Status>
-    ensures trial { IsJoined node.old.chain → IfOk result (λ tried. tried ≡ trials.trial node.old.chain item.now) }
+    ensures trial { AreJoined node.old.chain node.old.exts → IfOk result (λ tried. tried ≡ trials.trial node.old.chain item.now) }
     ensures stop { (status : Status) → result ≡ Err status → IsOneOf finding_stops status }
-    ensures sound { IsJoined node.old.chain → result ≡ Err Status.NotAStore → ⊥ }
+    ensures sound { AreJoined node.old.chain node.old.exts → result ≡ Err Status.NotAStore → ⊥ }
 {
     let Some(tx) = TxView::read(item) else {
         return Ok(Trial::Refused(1));
@@ -118,7 +118,7 @@ fn read_and_tell<S: Source, K: Sink>(
     question: Question,
 ) -> Status
     ensures answered { Transfers (S.left input.old) (S.left input.new) (K.taken out.old) (K.taken out.new)
-        (λ given taken. IsJoined node.old.chain → AnswersQuestion question node.old.chain given (S.left input.new) taken result) }
+        (λ given taken. AreJoined node.old.chain node.old.exts → AnswersQuestion question node.old.chain given (S.left input.new) taken result) }
     ensures status { IsOneOf question_statuses result }
     ensures disk { result ≡ Status.DiskFault → ⊥ }
     ensures input_faults { CountsFault (S.faults input.old) (S.faults input.new) (result ≡ Status.InputFault) }

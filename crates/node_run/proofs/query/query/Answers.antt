@@ -3,10 +3,11 @@ use Rattle.std.specs.Prelude.{Err}
 use Rattle.outside.proofs.Endings.{no_fault, counts-as, no_answer}
 use Rattle.outside.proofs.Streams.{takes_none}
 use Rattle.report_defs.specs.declared.command.Command.TheVariants.{Query}
+use Rattle.store_defs.specs.Store.{AreJoined}
 use Rattle.node_core.specs.Node.{IsOn}
 use Rattle.node_run.proofs.ImportLemmas.{on_stands}
 use Rattle.report_defs.specs.Report.{report_of_query}
-use Rattle.node_run.proofs.StoreLemmas.{delivers, keeps_opened, keeps_read, keeps_unopened, opened_there, unopened, sound_opening, sound_here, by_disk_or_memory, if_told}
+use Rattle.node_run.proofs.StoreLemmas.{delivers_over, opened_joined_whole, keeps_opened, keeps_read, keeps_unopened, opened_there, unopened, sound_opening, sound_here, by_disk_or_memory, if_told}
 use Rattle.node_run.proofs.Statuses.{query_opening, opening_no_sink}
 use Rattle.node_run.proofs.Exits.{same_stop}
 use Rattle.node_run.proofs.RecordLemmas.{opening_keeps}
@@ -33,8 +34,9 @@ returns-clause-query g c = let told = c.find_and_tell-status.ensures.told in (
   told.1,
   λ left.
       let chain = c.in-Ok.node.chain in
-      delivers (Query c.args.asked) (g.D.Disk.reads_as c.args.disk.now) chain (g.D.Disk.images c.args.disk.now) (g.D.Disk.images c.open.new.disk)
+      delivers_over (AreJoined chain c.in-Ok.node.exts) (Query c.args.asked) (g.D.Disk.reads_as c.args.disk.now) chain (g.D.Disk.images c.args.disk.now) (g.D.Disk.images c.open.new.disk)
       (g.D.Disk.left_since c.open.new.disk (g.D.Disk.moment c.args.disk.now)) left [] told.0 c.find_and_tell-status.result (λ store found. found) c.in-Ok.ensures.kept
+      (λ store found. opened_joined_whole (g.D.Disk.reads_as c.args.disk.now) chain c.in-Ok.node.exts store c.in-Ok.ensures.kept c.in-Ok.ensures.own found)
       (λ whole. report_of_query c.args.asked chain) (λ whole. refl) (λ joined. told.2 joined left)
       (keeps_opened (g.D.Disk.reads_as c.args.disk.now) chain [] (g.D.Disk.images c.args.disk.now) (g.D.Disk.images c.open.new.disk)
       (g.D.Disk.left_since c.open.new.disk (g.D.Disk.moment c.args.disk.now)) told.0 c.find_and_tell-status.result c.in-Ok.ensures.kept

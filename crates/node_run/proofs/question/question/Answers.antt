@@ -27,7 +27,7 @@ returns-clause-question g c =
       said.2,
       said.3,
       question_opened g.D.Disk.reads_as g.D.Disk.images g.D.Disk.moment g.D.Disk.left_since g.met.D.Disk.counts_now c.args.asked c.args.disk.now c.open.new.disk
-          c.in-Ok.node left said.0 said.1 c.read_and_tell-status.result c.in-Ok.ensures.kept c.in-Ok.ensures.on c.in-Ok.ensures.moments said.4,
+          c.in-Ok.node left said.0 said.1 c.read_and_tell-status.result c.in-Ok.ensures.kept c.in-Ok.ensures.on c.in-Ok.ensures.moments c.in-Ok.ensures.own said.4,
     )
 
 pub returns-clause-disk_faults : goal.returns-clause-disk_faults

@@ -7,40 +7,43 @@ use Rattle.verdict_defs.specs.Trial.{trial_on}
 use Rattle.verdict_defs.specs.declared.trial.Trial.TheVariants.{Passes, Refused}
 use Rattle.store_defs.specs.Store.{IsJoined}
 use Rattle.rule_names.specs.Number.{rule_number}
-use Rattle.node_core.specs.Node.{KeptValue}
+use Rattle.node_core.specs.Node.{KeptValue, AreOfTip}
 use Rattle.node_core.proofs.DecidingLemmas.{as-many, few-entries, stands-tip, trial-refused, trial-passes-else}
 use Rattle.node_core.proofs.kept.Kept.check.Goals as goal
 
 pub dry_run-requires-clause-few : goal.dry_run-requires-clause-few
 dry_run-requires-clause-few c =
-    few-entries c.self.inside.blocks.stored c.self.inside.tree.entries c.self.inside.uncles (rows c.self.inside.state) c.self.invariant
+    few-entries c.self.inside.blocks.stored c.self.inside.tree.entries c.self.inside.uncles c.self.invariant
 
 pub dry_run-requires-clause-counts : goal.dry_run-requires-clause-counts
 dry_run-requires-clause-counts c =
-    as-many c.self.inside.blocks.stored c.self.inside.tree.entries c.self.inside.uncles (rows c.self.inside.state) c.self.invariant
+    as-many c.self.inside.blocks.stored c.self.inside.tree.entries c.self.inside.uncles c.self.invariant
 
 pub returns-clause-passes : goal.returns-clause-passes
-returns-clause-passes c joined =
+returns-clause-passes c joined live =
     let is = c.tip.ensures.of_blocks (blocks_of c.self.inside.blocks.stored) c.self.invariant.indexed in
-    let stands = stands-tip c.self.inside.spec c.self.inside.blocks.stored c.self.inside.tree.entries c.self.inside.uncles (rows c.self.inside.state)
-    c.tip.result c.self.invariant (subst (λ (v : KeptValue). IsJoined v.chain) (sym c.self.view_is) joined) is c.tip.ensures.within in
+    let stands = stands-tip c.self.inside.spec c.self.inside.blocks.stored c.self.inside.tree.entries c.self.inside.uncles (rows c.args.state.now)
+    c.tip.result c.self.invariant (subst (λ (v : KeptValue). AreOfTip v.chain.blocks (rows c.args.state.now)) (sym c.self.view_is) live)
+    (subst (λ (v : KeptValue). IsJoined v.chain) (sym c.self.view_is) joined) is c.tip.ensures.within in
     subst (λ (v : KeptValue). IfOk c.dry_run.result (λ it. trial_on v.chain.spec (best_branch v.chain.blocks) c.args.tx.now ≡ Passes it.0 it.1)) c.self.view_is
     (trial-passes-else c.self.inside.spec (blocks_of c.self.inside.blocks.stored) c.args.tx.now c.tip.result c.dry_run.result is
     (c.dry_run.ensures.unbroken c.self.inside.blocks.stored refl stands) (c.dry_run.ensures.fee c.self.inside.blocks.stored refl stands)
     (c.dry_run.ensures.cycles c.self.inside.blocks.stored refl stands))
 
 pub returns-clause-broken : goal.returns-clause-broken
-returns-clause-broken c joined rule broken =
+returns-clause-broken c joined live rule broken =
     let is = c.tip.ensures.of_blocks (blocks_of c.self.inside.blocks.stored) c.self.invariant.indexed in
-    let stands = stands-tip c.self.inside.spec c.self.inside.blocks.stored c.self.inside.tree.entries c.self.inside.uncles (rows c.self.inside.state)
-    c.tip.result c.self.invariant (subst (λ (v : KeptValue). IsJoined v.chain) (sym c.self.view_is) joined) is c.tip.ensures.within in
+    let stands = stands-tip c.self.inside.spec c.self.inside.blocks.stored c.self.inside.tree.entries c.self.inside.uncles (rows c.args.state.now)
+    c.tip.result c.self.invariant (subst (λ (v : KeptValue). AreOfTip v.chain.blocks (rows c.args.state.now)) (sym c.self.view_is) live)
+    (subst (λ (v : KeptValue). IsJoined v.chain) (sym c.self.view_is) joined) is c.tip.ensures.within in
     subst (λ (v : KeptValue). trial_on v.chain.spec (best_branch v.chain.blocks) c.args.tx.now ≡ Refused (rule_number rule)) c.self.view_is
     (trial-refused c.self.inside.spec (blocks_of c.self.inside.blocks.stored) c.args.tx.now c.tip.result is (rule_number rule)
     (c.dry_run.ensures.broken c.self.inside.blocks.stored refl stands rule broken))
 
 pub returns-clause-undamaged : goal.returns-clause-undamaged
-returns-clause-undamaged c joined damage =
+returns-clause-undamaged c joined live damage =
     let is = c.tip.ensures.of_blocks (blocks_of c.self.inside.blocks.stored) c.self.invariant.indexed in
-    let stands = stands-tip c.self.inside.spec c.self.inside.blocks.stored c.self.inside.tree.entries c.self.inside.uncles (rows c.self.inside.state)
-    c.tip.result c.self.invariant (subst (λ (v : KeptValue). IsJoined v.chain) (sym c.self.view_is) joined) is c.tip.ensures.within in
+    let stands = stands-tip c.self.inside.spec c.self.inside.blocks.stored c.self.inside.tree.entries c.self.inside.uncles (rows c.args.state.now)
+    c.tip.result c.self.invariant (subst (λ (v : KeptValue). AreOfTip v.chain.blocks (rows c.args.state.now)) (sym c.self.view_is) live)
+    (subst (λ (v : KeptValue). IsJoined v.chain) (sym c.self.view_is) joined) is c.tip.ensures.within in
     c.dry_run.ensures.undamaged c.self.inside.blocks.stored refl stands damage

@@ -1,22 +1,18 @@
 use Rattle.std.proofs.Common.{sym, refl, ◌≡◌, ◌∙◌, subst}
 use Rattle.node_core.proofs.DecidingLemmas.{verdict-no-block, decided-else, ready-else}
 use Rattle.node_core.proofs.OpenLemmas.{ok_err}
-use Rattle.node_core.proofs.ReplayLemmas.{none-replayed, replays-of-item}
-use Rattle.std.proofs.lemmas.Option.{same_Some}
-use Rattle.codec_defs.specs.Schema.{Block}
-use Rattle.chain_defs.specs.Kept.{place_of}
-use Rattle.chain_defs.specs.Tip.{tip_place}
+use Rattle.node_core.proofs.ReplayLemmas.{none-replayed, moves-of-item}
 use Rattle.node_core.proofs.kept.Kept.decide.Goals as goal
 
 pub returns-in-None-clause-decided : goal.returns-in-None-clause-decided
-returns-in-None-clause-decided g c joined = verdict-no-block c.args.self.now.chain c.args.item.now (sym c.in-None.ensures.value)
+returns-in-None-clause-decided g c joined live = verdict-no-block c.args.self.now.chain c.args.item.now (sym c.in-None.ensures.value)
 
 pub returns-in-Some-clause-decided : goal.returns-in-Some-clause-decided
-returns-in-Some-clause-decided g c joined =
-    decided-else c.args.self.now.chain c.args.item.now c.in-Some.block c.decide_block.result (sym c.in-Some.ensures.value) (c.decide_block.ensures.decided joined)
+returns-in-Some-clause-decided g c joined live =
+    decided-else c.args.self.now.chain c.args.item.now c.in-Some.block c.decide_block.result (sym c.in-Some.ensures.value) (c.decide_block.ensures.decided joined live)
 
 pub returns-in-None-clause-undamaged : goal.returns-in-None-clause-undamaged
-returns-in-None-clause-undamaged g c = λ _ _ e. ok_err _ _ e
+returns-in-None-clause-undamaged g c = λ _ _ _ e. ok_err _ _ e
 
 pub returns-in-None-clause-damage : goal.returns-in-None-clause-damage
 returns-in-None-clause-damage g c = λ _ e. absurd (ok_err _ _ e)
@@ -29,9 +25,6 @@ returns-in-None-clause-same g c = refl
 
 pub returns-in-None-clause-ready : goal.returns-in-None-clause-ready
 returns-in-None-clause-ready g c = refl
-
-pub returns-in-None-clause-steps : goal.returns-in-None-clause-steps
-returns-in-None-clause-steps g c = λ _ _ _. refl
 
 pub returns-in-Some-clause-same : goal.returns-in-Some-clause-same
 returns-in-Some-clause-same g c = c.decide_block.ensures.same
@@ -49,14 +42,15 @@ pub returns-in-Some-clause-ready : goal.returns-in-Some-clause-ready
 returns-in-Some-clause-ready g c =
     ready-else c.args.self.now.chain.blocks c.args.item.now c.in-Some.block c.decide_block.result (sym c.in-Some.ensures.value) c.decide_block.ensures.ready
 
-pub returns-in-Some-clause-steps : goal.returns-in-Some-clause-steps
-returns-in-Some-clause-steps g c = λ b is on_tip.
-    let same : b ≡ c.in-Some.block = sym (same_Some c.in-Some.block b (c.in-Some.ensures.value ∙ is)) in
-    c.decide_block.ensures.steps (subst (λ (x : Block). place_of c.args.self.now.chain.blocks x.header.parent_hash ≡ tip_place c.args.self.now.chain.blocks) same on_tip)
-
 pub returns-in-None-clause-most : goal.returns-in-None-clause-most
 returns-in-None-clause-most g c = none-replayed _ _
 
 pub returns-in-Some-clause-most : goal.returns-in-Some-clause-most
 returns-in-Some-clause-most g c =
-    replays-of-item c.args.self.now.chain.blocks c.args.item.now c.in-Some.block _ _ (sym c.in-Some.ensures.value) c.decide_block.ensures.most
+    moves-of-item c.args.self.now.chain.blocks c.args.item.now c.in-Some.block _ _ (sym c.in-Some.ensures.value) c.decide_block.ensures.most
+
+pub returns-in-None-clause-cells : goal.returns-in-None-clause-cells
+returns-in-None-clause-cells g c = λ _ live. live
+
+pub returns-in-Some-clause-cells : goal.returns-in-Some-clause-cells
+returns-in-Some-clause-cells g c = c.decide_block.ensures.cells

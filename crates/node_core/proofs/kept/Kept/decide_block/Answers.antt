@@ -9,7 +9,7 @@ use Rattle.node_core.proofs.ReplayLemmas.{none-replayed}
 use Rattle.node_core.proofs.kept.Kept.decide_block.Goals as goal
 
 pub returns-then-is_some-clause-undamaged : goal.returns-then-is_some-clause-undamaged
-returns-then-is_some-clause-undamaged g c = λ _ _ e. ok_err _ _ e
+returns-then-is_some-clause-undamaged g c = λ _ _ _ e. ok_err _ _ e
 
 pub returns-then-is_some-clause-damage : goal.returns-then-is_some-clause-damage
 returns-then-is_some-clause-damage g c = λ _ e. absurd (ok_err _ _ e)
@@ -17,20 +17,14 @@ returns-then-is_some-clause-damage g c = λ _ e. absurd (ok_err _ _ e)
 pub returns-then-is_some-clause-reads : goal.returns-then-is_some-clause-reads
 returns-then-is_some-clause-reads g c = λ e. ok_err _ _ e
 
-pub returns-then-is_some-clause-steps : goal.returns-then-is_some-clause-steps
-returns-then-is_some-clause-steps g c = λ _. refl
-
 pub returns-in_default-clause-undamaged : goal.returns-in_default-clause-undamaged
-returns-in_default-clause-undamaged g c = λ _ _ e. ok_err _ _ e
+returns-in_default-clause-undamaged g c = λ _ _ _ e. ok_err _ _ e
 
 pub returns-in_default-clause-damage : goal.returns-in_default-clause-damage
 returns-in_default-clause-damage g c = λ _ e. absurd (ok_err _ _ e)
 
 pub returns-in_default-clause-reads : goal.returns-in_default-clause-reads
 returns-in_default-clause-reads g c = λ e. ok_err _ _ e
-
-pub returns-in_default-clause-steps : goal.returns-in_default-clause-steps
-returns-in_default-clause-steps g c = λ _. refl
 
 pub returns-then-is_some-clause-ready : goal.returns-then-is_some-clause-ready
 returns-then-is_some-clause-ready g c = refl
@@ -39,22 +33,22 @@ pub returns-in_default-clause-ready : goal.returns-in_default-clause-ready
 returns-in_default-clause-ready g c = refl
 
 pub returns-clause-same : goal.returns-clause-same
-returns-clause-same g c = c.judge_on.ensures.same
+returns-clause-same g c = c.decide_on.ensures.same
 
 pub returns-clause-ready : goal.returns-clause-ready
-returns-clause-ready g c = c.judge_on.ensures.ready
+returns-clause-ready g c = c.decide_on.ensures.ready
 
 pub returns-clause-decided : goal.returns-clause-decided
-returns-clause-decided g c = c.judge_on.ensures.decided
+returns-clause-decided g c = c.decide_on.ensures.decided
 
 pub returns-clause-undamaged : goal.returns-clause-undamaged
-returns-clause-undamaged g c = c.judge_on.ensures.undamaged
+returns-clause-undamaged g c = c.decide_on.ensures.undamaged
 
 pub returns-clause-damage : goal.returns-clause-damage
-returns-clause-damage g c = c.judge_on.ensures.damage
+returns-clause-damage g c = c.decide_on.ensures.damage
 
 pub returns-clause-reads : goal.returns-clause-reads
-returns-clause-reads g c = c.judge_on.ensures.reads
+returns-clause-reads g c = c.decide_on.ensures.reads
 
 pub returns-then-is_some-clause-most : goal.returns-then-is_some-clause-most
 returns-then-is_some-clause-most g c = none-replayed _ _
@@ -80,11 +74,20 @@ returns-in_default-clause-same g c = refl
 pub entry_on-entry-requires : goal.entry_on-entry-requires
 entry_on-entry-requires g c = c.hash_of-hash.ensures
 
-pub judge_on-requires : goal.judge_on-requires
-judge_on-requires g c =
+pub decide_on-requires : goal.decide_on-requires
+decide_on-requires g c =
     let kept = blocks_of c.self.inside.blocks.stored in
     subst (λ (v : KeptValue). IsEntryOn v.chain.blocks c.args.block.now c.entry_on-entry.result) c.self.view_is (record {
       new = sym (c.find.ensures.of_blocks kept c.self.invariant.indexed ∙ ap (place_of kept) c.hash_of-hash.ensures) ∙ none-there c.find.result (sym c.is_some.ensures ∙ c.if-is_some.false);
       on_kept = sym (c.in-Some.ensures.of_blocks kept c.self.invariant.indexed ∙ ap (place_of kept) c.parent_hash.ensures) ∙ ap Some (sym c.entry_on-entry.ensures.parent);
       describes = c.entry_on-entry.ensures.describes;
     })
+
+pub returns-then-is_some-clause-cells : goal.returns-then-is_some-clause-cells
+returns-then-is_some-clause-cells g c = λ _ live. live
+
+pub returns-in_default-clause-cells : goal.returns-in_default-clause-cells
+returns-in_default-clause-cells g c = λ _ live. live
+
+pub returns-clause-cells : goal.returns-clause-cells
+returns-clause-cells g c = c.decide_on.ensures.cells

@@ -8,8 +8,8 @@ use Rattle.node_core.proofs.QueryLemmas.{made-of}
 use Rattle.node_core.proofs.kept.Kept.fetch.Goals as goal
 
 pub returns-clause-fetched : goal.returns-clause-fetched
-returns-clause-fetched c =
-    let live = c.in-Some.ensures.live in
+returns-clause-fetched c at_tip =
+    let live = c.in-Some.ensures.live at_tip in
     let meta : c.live-2.inside.meta ≡ c.in-Some.live.row = ap (λ (l : LiveValue). l.row) c.live-2.view_is in
     let made = made-of c.self.inside.blocks.stored c.self.inside.tree.entries c.args.o live.0 c.live-2.inside.meta c.self.invariant.indexed
     (subst (λ (row : Row). IsLiveRow (blocks_of c.self.inside.blocks.stored) c.args.o live.0 row) (sym meta)
@@ -21,8 +21,8 @@ returns-clause-fetched c =
     )
 
 pub returns-in-Err-clause-undamaged : goal.returns-in-Err-clause-undamaged
-returns-in-Err-clause-undamaged c = λ damage is.
-    let live = c.in-Some.ensures.live in
+returns-in-Err-clause-undamaged c = λ at_tip damage is.
+    let live = c.in-Some.ensures.live at_tip in
     let meta : c.live-2.inside.meta ≡ c.in-Some.live.row = ap (λ (l : LiveValue). l.row) c.live-2.view_is in
     let made = made-of c.self.inside.blocks.stored c.self.inside.tree.entries c.args.o live.0 c.live-2.inside.meta c.self.invariant.indexed
     (subst (λ (row : Row). IsLiveRow (blocks_of c.self.inside.blocks.stored) c.args.o live.0 row) (sym meta)

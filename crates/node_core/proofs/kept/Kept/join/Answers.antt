@@ -1,17 +1,18 @@
-use Rattle.std.proofs.Common.{◌≡◌, List, length, refl, sym, ap, ◌∙◌, subst, arith, Err}
+use Rattle.std.proofs.Common.{◌≡◌, ◌++◌, ◌∷◌, [], List, length, refl, sym, ap, ◌∙◌, subst, arith, Err}
 use Rattle.std.proofs.lemmas.Option.{same_Some}
 use Rattle.codec_defs.specs.Schema.{Block}
 use Rattle.chain_tree.specs.Told.{blocks_of}
 use Rattle.cell_state.specs.State.{rows}
-use Rattle.node_core.specs.Node.{KeptValue}
-use Rattle.node_core.specs.Judging.{IsReady}
+use Rattle.node_core.specs.Node.{KeptValue, AreOfFound, AreOfTip}
+use Rattle.node_core.specs.Judging.{IsReady, place_for}
+use Rattle.node_core.specs.declared.deciding.Decision.TheVariants.{Joins}
 use Rattle.node_core.proofs.DecidingLemmas.{few-entries}
-use Rattle.node_core.proofs.JoiningLemmas.{few-kept, follows-parent, hash-new, FitsOn, fits-on, ready-for, describes-named, kept-push, are-kept-push}
+use Rattle.node_core.proofs.JoiningLemmas.{few-kept, follows-parent, hash-new, FitsOn, fits-on, ready-for, describes-named, kept-push, blocks-push, are-kept-push}
 use Rattle.node_core.proofs.OpenLemmas.{ok_err, same_stop, memory_no_damage, memory_no_fault}
 use Rattle.node_core.proofs.kept.Kept.join.Goals as goal
 
 pub returns-in-Err-clause-undamaged : goal.returns-in-Err-clause-undamaged
-returns-in-Err-clause-undamaged g c b is joined may damage was =
+returns-in-Err-clause-undamaged g c b is joined may live damage was =
     let kept = blocks_of c.self.inside.blocks.stored in
     let seen : kept ≡ c.args.self.chain.blocks = ap (λ (v : KeptValue). v.chain.blocks) c.self.view_is in
     let same : c.in-Some.block ≡ b = same_Some c.in-Some.block b (c.in-Some.ensures.value ∙ is) in
@@ -21,7 +22,8 @@ returns-in-Err-clause-undamaged g c b is joined may damage was =
     let fits : FitsOn kept c.in-Some.block c.args.joining.entry.parent =
     subst (λ (bs : List Block). FitsOn bs c.in-Some.block c.args.joining.entry.parent) (sym seen)
     (subst (λ (x : Block). FitsOn c.args.self.chain.blocks x c.args.joining.entry.parent) (sym same) own) in
-    let no = c.in-Err.ensures.undamaged kept fits.height c.self.invariant.indexed ready c.self.invariant.live fits.above fits.fits damage in
+    let no = c.in-Err.ensures.undamaged kept fits.height c.self.invariant.indexed ready
+    (subst (λ (bs : List Block). AreOfFound bs (place_for bs (Joins c.args.joining)) (rows c.args.state)) (sym seen) live) fits.above fits.fits damage in
     no (ap Err (same_stop _ _ was))
 
 pub put-requires-clause-few : goal.put-requires-clause-few
@@ -29,7 +31,7 @@ put-requires-clause-few g c = few-kept (length c.self.inside.blocks.stored) c.se
 
 pub put-requires-clause-fewer : goal.put-requires-clause-fewer
 put-requires-clause-fewer g c =
-    let few = few-entries c.self.inside.blocks.stored c.self.inside.tree.entries c.self.inside.uncles (rows c.self.inside.state) c.self.invariant in
+    let few = few-entries c.self.inside.blocks.stored c.self.inside.tree.entries c.self.inside.uncles c.self.invariant in
     omega (arith, few)
 
 pub put-requires-clause-parent : goal.put-requires-clause-parent
@@ -57,8 +59,8 @@ put-requires-clause-new g c =
     (ready-for c.args.self.chain.blocks c.args.item.now c.in-Some.block c.args.joining c.requires.canonical (sym c.in-Some.ensures.value)) in
     hash-new kept c.self.inside.tree.entries c.in-Some.block c.args.joining c.self.invariant.indexed ready
 
-pub invariant_of-result : goal.invariant_of-result
-invariant_of-result g c =
+pub invariant_of-kept : goal.invariant_of-kept
+invariant_of-kept g c =
     let kept = blocks_of c.self.inside.blocks.stored in
     let seen : kept ≡ c.args.self.chain.blocks = ap (λ (v : KeptValue). v.chain.blocks) c.self.view_is in
     let is = sym c.in-Some.ensures.value in
@@ -75,11 +77,10 @@ invariant_of-result g c =
       len = c.args.rec.len;
     }) ready.entry.describes refl refl refl refl in
     are-kept-push c.self.inside.blocks.stored c.put.new.blocks.stored c.self.inside.tree.entries c.put.new.tree.entries c.self.inside.uncles c.put.new.uncles
-    c.in-Some.block c.args.ext.items c.args.item.now c.args.joining _ (length kept) (rows c.self.inside.state) (rows c.in-Ok.state) c.self.invariant ready is c.requires.ext
+    c.in-Some.block c.args.ext.items c.args.item.now c.args.joining _ (length kept) c.self.invariant ready is c.requires.ext
     (c.in-Ok-put.ensures.blocks c.in-Some.block is) c.in-Ok-put.ensures.entries describes
     (c.in-Ok-put.ensures.indexed kept c.in-Some.block c.self.invariant.indexed describes ready.entry.on_kept)
     refl (c.in-Ok-put.ensures.uncles kept c.self.invariant.indexed)
-    (c.in-Ok.ensures.live kept c.self.invariant.indexed ready c.self.invariant.live)
 
 pub returns-in-Ok-put-clause-kept : goal.returns-in-Ok-put-clause-kept
 returns-in-Ok-put-clause-kept g c b is =
@@ -95,7 +96,7 @@ pub returns-in-Err-put-clause-kept : goal.returns-in-Err-put-clause-kept
 returns-in-Err-put-clause-kept g c = λ _ _. tt
 
 pub returns-in-Ok-put-clause-undamaged : goal.returns-in-Ok-put-clause-undamaged
-returns-in-Ok-put-clause-undamaged g c = λ _ _ _ _ _ e. ok_err _ _ e
+returns-in-Ok-put-clause-undamaged g c = λ _ _ _ _ _ _ e. ok_err _ _ e
 
 pub returns-in-Ok-put-clause-damage : goal.returns-in-Ok-put-clause-damage
 returns-in-Ok-put-clause-damage g c = λ _ e. absurd (ok_err _ _ e)
@@ -105,11 +106,11 @@ returns-in-Ok-put-clause-reads g c = λ e. ok_err _ _ e
 
 pub state_with-requires : goal.state_with-requires
 state_with-requires g c = record {
-  few = omega (arith, few-entries c.self.inside.blocks.stored c.self.inside.tree.entries c.self.inside.uncles (rows c.self.inside.state) c.self.invariant);
+  few = omega (arith, few-entries c.self.inside.blocks.stored c.self.inside.tree.entries c.self.inside.uncles c.self.invariant);
 }
 
 pub returns-in_default-clause-undamaged : goal.returns-in_default-clause-undamaged
-returns-in_default-clause-undamaged g c = λ _ _ _ _ damage e. memory_no_damage damage e
+returns-in_default-clause-undamaged g c = λ _ _ _ _ _ damage e. memory_no_damage damage e
 
 pub returns-in_default-clause-damage : goal.returns-in_default-clause-damage
 returns-in_default-clause-damage g c = λ damage e. absurd (memory_no_damage damage e)
@@ -118,7 +119,7 @@ pub returns-in_default-clause-reads : goal.returns-in_default-clause-reads
 returns-in_default-clause-reads g c = memory_no_fault
 
 pub returns-in-Err-put-clause-undamaged : goal.returns-in-Err-put-clause-undamaged
-returns-in-Err-put-clause-undamaged g c = λ _ _ _ _ damage e. memory_no_damage damage e
+returns-in-Err-put-clause-undamaged g c = λ _ _ _ _ _ damage e. memory_no_damage damage e
 
 pub returns-in-Err-put-clause-damage : goal.returns-in-Err-put-clause-damage
 returns-in-Err-put-clause-damage g c = λ damage e. absurd (memory_no_damage damage e)
@@ -143,3 +144,25 @@ returns-in-Err-clause-damage g c = λ damage e. c.in-Err.ensures.damage damage (
 
 pub returns-in-Err-clause-reads : goal.returns-in-Err-clause-reads
 returns-in-Err-clause-reads g c = λ e. c.in-Err.ensures.reads (ap Err (same_stop _ _ e))
+
+pub returns-in-Ok-put-clause-live : goal.returns-in-Ok-put-clause-live
+returns-in-Ok-put-clause-live g c live =
+    let kept = blocks_of c.self.inside.blocks.stored in
+    let seen : kept ≡ c.args.self.chain.blocks = ap (λ (v : KeptValue). v.chain.blocks) c.self.view_is in
+    let is = sym c.in-Some.ensures.value in
+    let ready = subst (λ (bs : List Block). IsReady bs c.in-Some.block c.args.joining) (sym seen)
+    (ready-for c.args.self.chain.blocks c.args.item.now c.in-Some.block c.args.joining c.requires.canonical is) in
+    let grown : blocks_of c.put.new.blocks.stored ≡ kept ++ c.in-Some.block ∷ [] =
+    blocks-push c.self.inside.blocks.stored c.put.new.blocks.stored c.in-Some.block c.args.ext.items (c.in-Ok-put.ensures.blocks c.in-Some.block is) in
+    subst (λ (bs : List Block). AreOfTip bs (rows c.in-Ok.state)) (sym grown)
+    (c.in-Ok.ensures.live kept c.self.invariant.indexed ready
+    (subst (λ (bs : List Block). AreOfFound bs (place_for bs (Joins c.args.joining)) (rows c.args.state)) (sym seen) live))
+
+pub returns-in_default-clause-live : goal.returns-in_default-clause-live
+returns-in_default-clause-live g c = λ _. tt
+
+pub returns-in-Err-clause-live : goal.returns-in-Err-clause-live
+returns-in-Err-clause-live g c = λ _. tt
+
+pub returns-in-Err-put-clause-live : goal.returns-in-Err-put-clause-live
+returns-in-Err-put-clause-live g c = λ _. tt

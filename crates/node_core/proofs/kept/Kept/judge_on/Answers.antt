@@ -18,81 +18,74 @@ use Rattle.node_core.specs.Node.{KeptValue, kept_of, AreKept}
 use Rattle.std.proofs.lemmas.Option.{same_Some}
 use Rattle.node_core.proofs.kept.Kept.judge_on.Goals as goal
 
-pub replayed-requires : goal.replayed-requires
-replayed-requires g c = place_of-below c.args.self.now.chain.blocks c.args.block.now.header.parent_hash c.args.entry.parent c.requires.on_kept
-
 pub judge-requires-clause-parent : goal.judge-requires-clause-parent
 judge-requires-clause-parent g c =
     within-entries (blocks_of c.self.inside.blocks.stored) c.args.self.now.chain.blocks c.self.inside.tree.entries c.args.entry.parent
-    (ap (λ (v : KeptValue). v.chain.blocks) (c.self.view_is ∙ c.replayed.ensures.same)) c.self.invariant.indexed
+    (ap (λ (v : KeptValue). v.chain.blocks) c.self.view_is) c.self.invariant.indexed
     (place_of-below c.args.self.now.chain.blocks c.args.block.now.header.parent_hash c.args.entry.parent c.requires.on_kept)
 
 pub judge-requires-clause-few : goal.judge-requires-clause-few
 judge-requires-clause-few g c =
-    few-entries c.self.inside.blocks.stored c.self.inside.tree.entries c.self.inside.uncles (rows c.self.inside.state) c.self.invariant
+    few-entries c.self.inside.blocks.stored c.self.inside.tree.entries c.self.inside.uncles c.self.invariant
 
 pub judge-requires-clause-counts : goal.judge-requires-clause-counts
 judge-requires-clause-counts g c =
-    as-many c.self.inside.blocks.stored c.self.inside.tree.entries c.self.inside.uncles (rows c.self.inside.state) c.self.invariant
+    as-many c.self.inside.blocks.stored c.self.inside.tree.entries c.self.inside.uncles c.self.invariant
 
 pub returns-in-Err-Broken-clause-decided : goal.returns-in-Err-Broken-clause-decided
-returns-in-Err-Broken-clause-decided g c joined =
-    let whole = ap (λ (v : KeptValue). v.chain) (c.self.view_is ∙ c.replayed.ensures.same) in
-    let stands = whole-at-hand c.self.inside.spec c.self.inside.blocks.stored c.self.inside.tree.entries c.self.inside.uncles c.self.inside.state
-    c.cells_or-state.result.now c.args.self.now c.args.block.now c.args.entry c.in-Ok.cells (c.self.view_is ∙ c.replayed.ensures.same) c.self.invariant c.requires joined
-    c.in-Ok.ensures.cells c.cells_or-state.ensures.given c.cells_or-state.ensures.tip in
+returns-in-Err-Broken-clause-decided g c joined live =
+    let whole = ap (λ (v : KeptValue). v.chain) c.self.view_is in
+    let stands = whole-at-hand c.self.inside.spec c.self.inside.blocks.stored c.self.inside.tree.entries c.self.inside.uncles
+    c.args.state.now c.args.self.now c.args.block.now c.args.entry c.self.view_is c.self.invariant c.requires joined live in
     ap Refused (c.number.ensures ∙ ap rule_number c.in-Err-Broken.rule-is)
     ∙ verdict-refused c.args.self.now.chain.spec c.args.self.now.chain.blocks c.args.block.now c.args.entry c.requires (rule_number c.in-Err-Broken.rule)
     (subst (λ (v : Chain). first_broken v.spec (branch v.blocks c.args.entry.parent) c.args.block.now ≡ Some (rule_number c.in-Err-Broken.rule)) whole
     (c.in-Err-Broken.ensures.broken c.self.inside.blocks.stored refl stands c.in-Err-Broken.rule (ap Err c.in-Err-Broken.field-0-is)))
 
 pub returns-in-Err-Read-clause-undamaged : goal.returns-in-Err-Read-clause-undamaged
-returns-in-Err-Read-clause-undamaged g c joined damage was =
-    let whole = ap (λ (v : KeptValue). v.chain) (c.self.view_is ∙ c.replayed.ensures.same) in
-    let stands = whole-at-hand c.self.inside.spec c.self.inside.blocks.stored c.self.inside.tree.entries c.self.inside.uncles c.self.inside.state
-    c.cells_or-state.result.now c.args.self.now c.args.block.now c.args.entry c.in-Ok.cells (c.self.view_is ∙ c.replayed.ensures.same) c.self.invariant c.requires joined
-    c.in-Ok.ensures.cells c.cells_or-state.ensures.given c.cells_or-state.ensures.tip in
+returns-in-Err-Read-clause-undamaged g c joined live damage was =
+    let whole = ap (λ (v : KeptValue). v.chain) c.self.view_is in
+    let stands = whole-at-hand c.self.inside.spec c.self.inside.blocks.stored c.self.inside.tree.entries c.self.inside.uncles
+    c.args.state.now c.args.self.now c.args.block.now c.args.entry c.self.view_is c.self.invariant c.requires joined live in
     c.in-Err-Read.ensures.undamaged c.self.inside.blocks.stored refl stands damage
     (ap Err (c.in-Err-Read.field-0-is ∙ ap Read (sym c.in-Err-Read.stop-is ∙ same_stop _ _ was)))
 
 pub returns-then-has_room-clause-ready : goal.returns-then-has_room-clause-ready
 returns-then-has_room-clause-ready g c =
-    let whole = ap (λ (v : KeptValue). v.chain) (c.self.view_is ∙ c.replayed.ensures.same) in
-    is-ready c.args.self.now.chain.spec c.args.self.now.chain.blocks c.args.block.now c.args.entry c.in-Ok-judge.ext c.in-Ok.cells c.requires
+    let whole = ap (λ (v : KeptValue). v.chain) c.self.view_is in
+    is-ready c.args.self.now.chain.spec c.args.self.now.chain.blocks c.args.block.now c.args.entry c.in-Ok.ext c.requires
     (subst (λ (v : Chain). first_failing (header_rules v.spec (branch v.blocks c.args.entry.parent) c.args.block.now) ≡ None) whole
-    (c.in-Ok-judge.ensures.header (blocks_of c.self.inside.blocks.stored) c.self.invariant.indexed))
+    (c.in-Ok.ensures.header (blocks_of c.self.inside.blocks.stored) c.self.invariant.indexed))
     (room-for c.len.result _ c.has_room.result c.has_room.ensures c.if-has_room.true
     (c.len.ensures.of_blocks (blocks_of c.self.inside.blocks.stored) c.self.invariant.indexed ∙ ap (λ (v : Chain). length v.blocks) whole))
-    c.in-Ok-judge.ensures.rated c.in-Ok-judge.ensures.fees c.in-Ok.ensures.cells
+    c.in-Ok.ensures.rated c.in-Ok.ensures.fees
 
 pub returns-then-has_room-clause-decided : goal.returns-then-has_room-clause-decided
-returns-then-has_room-clause-decided g c joined =
-    let whole = ap (λ (v : KeptValue). v.chain) (c.self.view_is ∙ c.replayed.ensures.same) in
-    let stands = whole-at-hand c.self.inside.spec c.self.inside.blocks.stored c.self.inside.tree.entries c.self.inside.uncles c.self.inside.state
-    c.cells_or-state.result.now c.args.self.now c.args.block.now c.args.entry c.in-Ok.cells (c.self.view_is ∙ c.replayed.ensures.same) c.self.invariant c.requires joined
-    c.in-Ok.ensures.cells c.cells_or-state.ensures.given c.cells_or-state.ensures.tip in
-    is-judged c.args.self.now.chain c.args.block.now (record { entry = c.args.entry; ext = c.in-Ok-judge.ext; cells = c.in-Ok.cells }) c.requires
+returns-then-has_room-clause-decided g c joined live =
+    let whole = ap (λ (v : KeptValue). v.chain) c.self.view_is in
+    let stands = whole-at-hand c.self.inside.spec c.self.inside.blocks.stored c.self.inside.tree.entries c.self.inside.uncles
+    c.args.state.now c.args.self.now c.args.block.now c.args.entry c.self.view_is c.self.invariant c.requires joined live in
+    is-judged c.args.self.now.chain c.args.block.now (record { entry = c.args.entry; ext = c.in-Ok.ext }) c.requires
     (subst (λ (v : Chain). first_broken v.spec (branch v.blocks c.args.entry.parent) c.args.block.now ≡ None) whole
-    (c.in-Ok-judge.ensures.unbroken c.self.inside.blocks.stored refl stands))
+    (c.in-Ok.ensures.unbroken c.self.inside.blocks.stored refl stands))
     (room-for c.len.result _ c.has_room.result c.has_room.ensures c.if-has_room.true
     (c.len.ensures.of_blocks (blocks_of c.self.inside.blocks.stored) c.self.invariant.indexed ∙ ap (λ (v : Chain). length v.blocks) whole))
-    (subst (λ (v : Chain). c.in-Ok-judge.ext ≡ ext_of v.spec v.blocks c.args.entry.parent c.args.block.now) whole
-    (c.in-Ok-judge.ensures.ext c.self.inside.blocks.stored refl stands))
+    (subst (λ (v : Chain). c.in-Ok.ext ≡ ext_of v.spec v.blocks c.args.entry.parent c.args.block.now) whole
+    (c.in-Ok.ensures.ext c.self.inside.blocks.stored refl stands))
 
 pub returns-clause-decided : goal.returns-clause-decided
-returns-clause-decided g c joined =
-    let whole = ap (λ (v : KeptValue). v.chain) (c.self.view_is ∙ c.replayed.ensures.same) in
-    let stands = whole-at-hand c.self.inside.spec c.self.inside.blocks.stored c.self.inside.tree.entries c.self.inside.uncles c.self.inside.state
-    c.cells_or-state.result.now c.args.self.now c.args.block.now c.args.entry c.in-Ok.cells (c.self.view_is ∙ c.replayed.ensures.same) c.self.invariant c.requires joined
-    c.in-Ok.ensures.cells c.cells_or-state.ensures.given c.cells_or-state.ensures.tip in
+returns-clause-decided g c joined live =
+    let whole = ap (λ (v : KeptValue). v.chain) c.self.view_is in
+    let stands = whole-at-hand c.self.inside.spec c.self.inside.blocks.stored c.self.inside.tree.entries c.self.inside.uncles
+    c.args.state.now c.args.self.now c.args.block.now c.args.entry c.self.view_is c.self.invariant c.requires joined live in
     verdict-full c.args.self.now.chain.spec c.args.self.now.chain.blocks c.args.block.now c.args.entry c.requires c.len.result c.has_room.result
     (subst (λ (v : Chain). first_broken v.spec (branch v.blocks c.args.entry.parent) c.args.block.now ≡ None) whole
-    (c.in-Ok-judge.ensures.unbroken c.self.inside.blocks.stored refl stands))
+    (c.in-Ok.ensures.unbroken c.self.inside.blocks.stored refl stands))
     c.has_room.ensures c.if-has_room.false
     (c.len.ensures.of_blocks (blocks_of c.self.inside.blocks.stored) c.self.invariant.indexed ∙ ap (λ (v : Chain). length v.blocks) whole)
 
 pub returns-in-Err-Broken-clause-undamaged : goal.returns-in-Err-Broken-clause-undamaged
-returns-in-Err-Broken-clause-undamaged g c = λ _ _ e. ok_err _ _ e
+returns-in-Err-Broken-clause-undamaged g c = λ _ _ _ e. ok_err _ _ e
 
 pub returns-in-Err-Broken-clause-damage : goal.returns-in-Err-Broken-clause-damage
 returns-in-Err-Broken-clause-damage g c = λ _ e. absurd (ok_err _ _ e)
@@ -101,7 +94,7 @@ pub returns-in-Err-Broken-clause-reads : goal.returns-in-Err-Broken-clause-reads
 returns-in-Err-Broken-clause-reads g c = λ e. ok_err _ _ e
 
 pub returns-then-has_room-clause-undamaged : goal.returns-then-has_room-clause-undamaged
-returns-then-has_room-clause-undamaged g c = λ _ _ e. ok_err _ _ e
+returns-then-has_room-clause-undamaged g c = λ _ _ _ e. ok_err _ _ e
 
 pub returns-then-has_room-clause-damage : goal.returns-then-has_room-clause-damage
 returns-then-has_room-clause-damage g c = λ _ e. absurd (ok_err _ _ e)
@@ -110,7 +103,7 @@ pub returns-then-has_room-clause-reads : goal.returns-then-has_room-clause-reads
 returns-then-has_room-clause-reads g c = λ e. ok_err _ _ e
 
 pub returns-clause-undamaged : goal.returns-clause-undamaged
-returns-clause-undamaged g c = λ _ _ e. ok_err _ _ e
+returns-clause-undamaged g c = λ _ _ _ e. ok_err _ _ e
 
 pub returns-clause-damage : goal.returns-clause-damage
 returns-clause-damage g c = λ _ e. absurd (ok_err _ _ e)
@@ -122,25 +115,7 @@ pub returns-in-Err-Read-clause-ready : goal.returns-in-Err-Read-clause-ready
 returns-in-Err-Read-clause-ready g c = tt
 
 pub returns-in-Err-Read-clause-decided : goal.returns-in-Err-Read-clause-decided
-returns-in-Err-Read-clause-decided g c = λ _. tt
-
-pub returns-in-Err-clause-ready : goal.returns-in-Err-clause-ready
-returns-in-Err-clause-ready g c = tt
-
-pub returns-in-Err-clause-decided : goal.returns-in-Err-clause-decided
-returns-in-Err-clause-decided g c = λ _. tt
-
-pub returns-in-Err-clause-same : goal.returns-in-Err-clause-same
-returns-in-Err-clause-same g c = c.replayed.ensures.same
-
-pub returns-in-Err-clause-undamaged : goal.returns-in-Err-clause-undamaged
-returns-in-Err-clause-undamaged g c = λ joined damage e. c.in-Err.ensures.undamaged joined.joined damage (ap Err (same_stop _ _ e))
-
-pub returns-in-Err-clause-damage : goal.returns-in-Err-clause-damage
-returns-in-Err-clause-damage g c = λ damage e. c.in-Err.ensures.damage damage (ap Err (same_stop _ _ e))
-
-pub returns-in-Err-clause-reads : goal.returns-in-Err-clause-reads
-returns-in-Err-clause-reads g c = λ e. c.in-Err.ensures.reads (ap Err (same_stop _ _ e))
+returns-in-Err-Read-clause-decided g c = λ _ _. tt
 
 pub returns-in-Err-Broken-clause-ready : goal.returns-in-Err-Broken-clause-ready
 returns-in-Err-Broken-clause-ready g c = refl
@@ -148,55 +123,25 @@ returns-in-Err-Broken-clause-ready g c = refl
 pub returns-clause-ready : goal.returns-clause-ready
 returns-clause-ready g c = refl
 
-pub returns-in-Err-clause-steps : goal.returns-in-Err-clause-steps
-returns-in-Err-clause-steps g c = c.replayed.ensures.steps
-
-pub returns-in-Err-Broken-clause-steps : goal.returns-in-Err-Broken-clause-steps
-returns-in-Err-Broken-clause-steps g c = c.replayed.ensures.steps
-
-pub returns-in-Err-Read-clause-steps : goal.returns-in-Err-Read-clause-steps
-returns-in-Err-Read-clause-steps g c = c.replayed.ensures.steps
-
-pub returns-then-has_room-clause-steps : goal.returns-then-has_room-clause-steps
-returns-then-has_room-clause-steps g c = c.replayed.ensures.steps
-
-pub returns-clause-steps : goal.returns-clause-steps
-returns-clause-steps g c = c.replayed.ensures.steps
-
 pub returns-in-Err-Broken-clause-same : goal.returns-in-Err-Broken-clause-same
 returns-in-Err-Broken-clause-same g c =
-    ap (kept_of c.self.inside.spec) (same_Some _ _ c.judge.ensures.told) ∙ c.self.view_is ∙ c.replayed.ensures.same
+    ap (kept_of c.self.inside.spec) (same_Some _ _ c.judge.ensures.told) ∙ c.self.view_is
 
 pub returns-in-Err-Read-clause-same : goal.returns-in-Err-Read-clause-same
 returns-in-Err-Read-clause-same g c =
-    ap (kept_of c.self.inside.spec) (same_Some _ _ c.judge.ensures.told) ∙ c.self.view_is ∙ c.replayed.ensures.same
+    ap (kept_of c.self.inside.spec) (same_Some _ _ c.judge.ensures.told) ∙ c.self.view_is
 
 pub returns-then-has_room-clause-same : goal.returns-then-has_room-clause-same
 returns-then-has_room-clause-same g c =
-    ap (kept_of c.self.inside.spec) (same_Some _ _ c.judge.ensures.told) ∙ c.self.view_is ∙ c.replayed.ensures.same
+    ap (kept_of c.self.inside.spec) (same_Some _ _ c.judge.ensures.told) ∙ c.self.view_is
 
 pub returns-clause-same : goal.returns-clause-same
 returns-clause-same g c =
-    ap (kept_of c.self.inside.spec) (same_Some _ _ c.judge.ensures.told) ∙ c.self.view_is ∙ c.replayed.ensures.same
+    ap (kept_of c.self.inside.spec) (same_Some _ _ c.judge.ensures.told) ∙ c.self.view_is
 
 pub invariant_of-self : goal.invariant_of-self
 invariant_of-self g c =
-    subst (λ (l : List Stored). AreKept l c.self.inside.tree.entries c.self.inside.uncles (rows c.self.inside.state)) (sym (same_Some _ _ c.judge.ensures.told)) c.self.invariant
-
-pub returns-in-Err-clause-most : goal.returns-in-Err-clause-most
-returns-in-Err-clause-most g c = c.replayed.ensures.most
-
-pub returns-in-Err-Broken-clause-most : goal.returns-in-Err-Broken-clause-most
-returns-in-Err-Broken-clause-most g c = c.replayed.ensures.most
-
-pub returns-in-Err-Read-clause-most : goal.returns-in-Err-Read-clause-most
-returns-in-Err-Read-clause-most g c = c.replayed.ensures.most
-
-pub returns-then-has_room-clause-most : goal.returns-then-has_room-clause-most
-returns-then-has_room-clause-most g c = c.replayed.ensures.most
-
-pub returns-clause-most : goal.returns-clause-most
-returns-clause-most g c = c.replayed.ensures.most
+    subst (λ (l : List Stored). AreKept l c.self.inside.tree.entries c.self.inside.uncles) (sym (same_Some _ _ c.judge.ensures.told)) c.self.invariant
 
 pub judge-requires-clause-rated : goal.judge-requires-clause-rated
 judge-requires-clause-rated g c = c.self.invariant.rated
@@ -207,12 +152,12 @@ returns-in-Err-Read-clause-damage g c damage was =
 
 pub invariant_of-self-in-Err-Read : goal.invariant_of-self-in-Err-Read
 invariant_of-self-in-Err-Read g c =
-    subst (λ (stored : List Stored). AreKept stored c.self.inside.tree.entries c.self.inside.uncles (rows c.self.inside.state)) (sym (same_Some _ _ c.judge.ensures.told)) c.self.invariant
+    subst (λ (stored : List Stored). AreKept stored c.self.inside.tree.entries c.self.inside.uncles) (sym (same_Some _ _ c.judge.ensures.told)) c.self.invariant
 
 pub invariant_of-self-then-has_room : goal.invariant_of-self-then-has_room
 invariant_of-self-then-has_room g c =
-    subst (λ (stored : List Stored). AreKept stored c.self.inside.tree.entries c.self.inside.uncles (rows c.self.inside.state)) (sym (same_Some _ _ c.judge.ensures.told)) c.self.invariant
+    subst (λ (stored : List Stored). AreKept stored c.self.inside.tree.entries c.self.inside.uncles) (sym (same_Some _ _ c.judge.ensures.told)) c.self.invariant
 
 pub invariant_of-self-2 : goal.invariant_of-self-2
 invariant_of-self-2 g c =
-    subst (λ (stored : List Stored). AreKept stored c.self.inside.tree.entries c.self.inside.uncles (rows c.self.inside.state)) (sym (same_Some _ _ c.judge.ensures.told)) c.self.invariant
+    subst (λ (stored : List Stored). AreKept stored c.self.inside.tree.entries c.self.inside.uncles) (sym (same_Some _ _ c.judge.ensures.told)) c.self.invariant

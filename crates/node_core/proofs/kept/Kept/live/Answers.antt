@@ -5,30 +5,33 @@ use Rattle.cell_state.specs.State.{rows}
 use Rattle.chain_defs.specs.Tip.{best_branch}
 use Rattle.chain_tree.specs.Entries.{entry_at}
 use Rattle.chain_tree.specs.Told.{blocks_of}
-use Rattle.node_core.specs.Node.{KeptValue}
+use Rattle.node_core.specs.Node.{KeptValue, AreOfTip}
 use Rattle.node_core.specs.Queries.{IsLiveRow}
 use Rattle.node_core.proofs.QueryLemmas.{has-tip, no-cell, row-cell, made-of}
 use Rattle.node_core.proofs.kept.Kept.live.Goals as goal
 
 pub returns-in_default-clause-live : goal.returns-in_default-clause-live
-returns-in_default-clause-live c =
+returns-in_default-clause-live c live =
     let tip = has-tip (blocks_of c.self.inside.blocks.stored) c.self.inside.tree.entries c.self.invariant.indexed c.len-kept.ensures.tree in
     subst (λ (v : KeptValue). live_cell (best_branch v.chain.blocks) c.args.o.now ≡ None) c.self.view_is
-    (no-cell c.self.inside.blocks.stored c.self.inside.tree.entries c.self.inside.uncles (rows c.self.inside.state) tip.tip c.self.invariant tip.is
+    (no-cell c.self.inside.blocks.stored (rows c.args.state.now) tip.tip
+    (subst (λ (v : KeptValue). AreOfTip v.chain.blocks (rows c.args.state.now)) (sym c.self.view_is) live) tip.is
     c.args.o.now (sym c.get.ensures ∙ c.in_default.is))
 
 pub returns-then-meta-kept-clause-live : goal.returns-then-meta-kept-clause-live
-returns-then-meta-kept-clause-live c =
+returns-then-meta-kept-clause-live c live =
     let tip = has-tip (blocks_of c.self.inside.blocks.stored) c.self.inside.tree.entries c.self.invariant.indexed c.len-kept.ensures.tree in
-    let row = row-cell c.self.inside.blocks.stored c.self.inside.tree.entries c.self.inside.uncles (rows c.self.inside.state) tip.tip c.self.invariant tip.is
+    let row = row-cell c.self.inside.blocks.stored (rows c.args.state.now) tip.tip
+    (subst (λ (v : KeptValue). AreOfTip v.chain.blocks (rows c.args.state.now)) (sym c.self.view_is) live) tip.is
     c.args.o.now c.in-Some.meta (sym c.get.ensures ∙ c.in-Some.is) in
     let made = made-of c.self.inside.blocks.stored c.self.inside.tree.entries c.args.o.now row.0 c.in-Some.meta c.self.invariant.indexed row.1 in
     absurd (omega (arith, made.below, c.len-kept.ensures.len, c.if-meta-kept.true, ap (λ (row : Row). row.block) c.meta.view_is))
 
 pub returns-clause-live : goal.returns-clause-live
-returns-clause-live c =
+returns-clause-live c live =
     let tip = has-tip (blocks_of c.self.inside.blocks.stored) c.self.inside.tree.entries c.self.invariant.indexed c.len-kept.ensures.tree in
-    let row = row-cell c.self.inside.blocks.stored c.self.inside.tree.entries c.self.inside.uncles (rows c.self.inside.state) tip.tip c.self.invariant tip.is
+    let row = row-cell c.self.inside.blocks.stored (rows c.args.state.now) tip.tip
+    (subst (λ (v : KeptValue). AreOfTip v.chain.blocks (rows c.args.state.now)) (sym c.self.view_is) live) tip.is
     c.args.o.now c.in-Some.meta (sym c.get.ensures ∙ c.in-Some.is) in
     let made = made-of c.self.inside.blocks.stored c.self.inside.tree.entries c.args.o.now row.0 c.in-Some.meta c.self.invariant.indexed row.1 in (
       row.0,

@@ -1,8 +1,10 @@
-use Rattle.std.proofs.Common.{ℕ, List, Vec, Global, Err, map, length, refl, sym, ap, ◌∙◌, arith}
+use Rattle.std.proofs.Common.{◌≡◌, ℕ, List, Vec, Global, Some, Err, subst, map, length, refl, sym, ap, ◌∙◌, arith}
 use Rattle.std.proofs.lemmas.Option.{same_Some}
 use Rattle.codec_defs.specs.Shape.{decoded}
 use Rattle.codec_defs.specs.Schema.{block}
-use Rattle.chain_tree.specs.Told.{blocks_of}
+use Rattle.chain_defs.specs.Tip.{tip_place}
+use Rattle.cell_defs.specs.Row.{live_row}
+use Rattle.chain_tree.specs.Told.{Stored, blocks_of}
 use Rattle.cell_state.specs.State.{rows}
 use Rattle.cell_model.specs.ListBlocks.{contents}
 use Rattle.node_core.specs.Node.{exts_of}
@@ -45,11 +47,11 @@ pub replay-requires-clause-counts : goal.replay-requires-clause-counts
 replay-requires-clause-counts g c =
     counts-entries (contents c.args.blocks.items) c.args.tree.entries c.in-Ok-new.blocks.stored c.requires.blocks c.in-Ok-new.ensures.blocks
 
-pub invariant_of-result : goal.invariant_of-result
-invariant_of-result g c =
+pub invariant_of-kept : goal.invariant_of-kept
+invariant_of-kept g c =
     let stored = c.in-Ok-new.blocks.stored in
     let indexed = indexed-by (contents c.args.blocks.items) c.args.tree.entries (blocks_of stored) c.requires.blocks c.in-Ok-new.ensures.blocks in
-    are-kept (contents c.args.blocks.items) (contents c.args.exts.items) c.args.tree.entries stored c.replay.new.blocks.stored c.in-Ok.uncles (rows c.in-Ok-replay.state) c.tip.result
+    are-kept (contents c.args.blocks.items) (contents c.args.exts.items) c.args.tree.entries stored c.replay.new.blocks.stored c.in-Ok.uncles
     c.requires.blocks (omega (arith, c.requires.few, as-many-contents c.args.blocks.items)) c.in-Ok-new.ensures.blocks c.replay.ensures.told
     (exts-in c.args.blocks.items c.deref.result.now c.args.exts.items c.deref-else-not-are_rated.result.now
     c.deref.ensures.value c.deref-else-not-are_rated.ensures.value (c.have_exts.ensures.have c.if-not-have_exts.false))
@@ -57,7 +59,6 @@ invariant_of-result g c =
     (c.are_rated.ensures.rated c.if-not-are_rated.false)
     (c.in-Ok.ensures (blocks_of stored)
     (ap (λ (v : List (Vec ℕ Global)). map (decoded block) (contents v)) c.deref-2.ensures.value ∙ c.in-Ok-new.ensures.blocks))
-    (c.tip.ensures.of_blocks (blocks_of stored) indexed) (c.in-Ok-replay.ensures.rows stored refl indexed)
 
 pub returns-in-Err-replay-clause-joined : goal.returns-in-Err-replay-clause-joined
 returns-in-Err-replay-clause-joined g c = λ kept decode joined exts none.
@@ -190,3 +191,25 @@ pub returns-in-Ok-replay-clause-unfit : goal.returns-in-Ok-replay-clause-unfit
 returns-in-Ok-replay-clause-unfit g c = λ unfit.
     absurd (unfit (exts-in c.args.blocks.items c.deref.result.now c.args.exts.items c.deref-else-not-are_rated.result.now
     c.deref.ensures.value c.deref-else-not-are_rated.ensures.value (c.have_exts.ensures.have c.if-not-have_exts.false)))
+
+pub returns-in-Ok-replay-clause-live : goal.returns-in-Ok-replay-clause-live
+returns-in-Ok-replay-clause-live g c place at o =
+    let stored = c.in-Ok-new.blocks.stored in
+    let same : c.replay.new.blocks.stored ≡ stored = same_Some _ _ c.replay.ensures.told in
+    let indexed = indexed-by (contents c.args.blocks.items) c.args.tree.entries (blocks_of stored) c.requires.blocks c.in-Ok-new.ensures.blocks in
+    let there : tip_place (blocks_of stored) ≡ Some place = sym (ap (λ (s : List Stored). tip_place (blocks_of s)) same) ∙ at in
+    let is : c.tip.result ≡ place = same_Some _ _ (sym (c.tip.ensures.of_blocks (blocks_of stored) indexed) ∙ there) in
+    subst (λ (s : List Stored). rows c.in-Ok-replay.state o ≡ live_row (blocks_of s) place o) (sym same)
+    (subst (λ (p : ℕ). rows c.in-Ok-replay.state o ≡ live_row (blocks_of stored) p o) is (c.in-Ok-replay.ensures.rows stored refl indexed o))
+
+pub returns-then-not-are_rated-clause-live : goal.returns-then-not-are_rated-clause-live
+returns-then-not-are_rated-clause-live g c = tt
+
+pub returns-in-Err-clause-live : goal.returns-in-Err-clause-live
+returns-in-Err-clause-live g c = tt
+
+pub returns-in-Err-new-clause-live : goal.returns-in-Err-new-clause-live
+returns-in-Err-new-clause-live g c = tt
+
+pub returns-in-Err-replay-clause-live : goal.returns-in-Err-replay-clause-live
+returns-in-Err-replay-clause-live g c = tt

@@ -7,9 +7,11 @@ use Rattle.verdict_defs.specs.Laws.{MayJoin}
 use Rattle.store_defs.specs.JoinLaws.{record_over}
 use Rattle.store_defs.specs.Store.{IsJoined, HaveOwnExts}
 use Rattle.log_file.specs.Pieces.{behind_gate, block_record}
-use Rattle.node_core.specs.Node.{NodeValue, IsOn}
+use Rattle.node_core.specs.Node.{node_of, IsOn}
 use Rattle.node_core.specs.Judging.{IsReadyItem}
 use Rattle.node_core.specs.declared.deciding.Decision.TheVariants.{Joins}
+use Rattle.chain_defs.proofs.KeptLaws.{place_of-below}
+use Rattle.node_core.proofs.MovingLemmas.{are_joined_before}
 use Rattle.node_core.proofs.WritingLemmas.{piece_long}
 use Rattle.node_core.proofs.ImportLemmas.{can_join, record_is, form_is, is_ext_for, place_limit, is_after, own_after, few_after, within_after}
 use Rattle.node_core.proofs.DiskLemmas.{counts_none, settled_on, stands_either, is_on_after, before_calls}
@@ -19,11 +21,11 @@ use Rattle.outside.specs.declared.disk.Area.TheVariants.{Log}
 use Rattle.log_defs.specs.Rest.{IsSettled, HasAppended}
 use Rattle.log_file.proofs.Creating.{others_same}
 use Rattle.node_core.proofs.KeepingLemmas.{started_import}
-use Rattle.node_core.proofs.node.Node.join.Goals as goal
+use Rattle.node_core.proofs.node.join.Goals as goal
 
 pub rec_behind-rec-requires-clause-limit : goal.rec_behind-rec-requires-clause-limit
 rec_behind-rec-requires-clause-limit g c =
-    place_limit (length c.self.inside.kept.chain.blocks) c.self.inside.log.place c.self.invariant.0 c.self.invariant.1
+    place_limit (length c.args.kept.chain.blocks) c.args.log.place (omega (arith, c.requires.ready.2.room)) c.requires.within
 
 pub rec_behind-rec-requires-clause-filled : goal.rec_behind-rec-requires-clause-filled
 rec_behind-rec-requires-clause-filled g c =
@@ -31,20 +33,20 @@ rec_behind-rec-requires-clause-filled g c =
 
 pub join-requires-clause-canonical : goal.join-requires-clause-canonical
 join-requires-clause-canonical g c =
-    subst (λ (k : Chain). IsReadyItem k.blocks c.args.item.now (Joins c.args.joining)) (sym (ap (λ (v : NodeValue). v.chain) c.self.view_is)) c.requires.ready
+    c.requires.ready
 
 pub join-requires-clause-ext : goal.join-requires-clause-ext
 join-requires-clause-ext g c =
-    is_ext_for c.args.self.chain.blocks c.args.item.now c.in-Ok.ext.items c.args.joining c.requires.ready c.in-Ok.ensures.form c.in-Ok.ensures.fees
+    is_ext_for c.args.kept.chain.blocks c.args.item.now c.in-Ok.ext.items c.args.joining c.requires.ready c.in-Ok.ensures.form c.in-Ok.ensures.fees
 
 pub append-requires-clause-limit : goal.append-requires-clause-limit
 append-requires-clause-limit g c =
-    place_limit (length c.self.inside.kept.chain.blocks) c.self.inside.log.place c.self.invariant.0 c.self.invariant.1
+    place_limit (length c.args.kept.chain.blocks) c.args.log.place (omega (arith, c.requires.ready.2.room)) c.requires.within
 
 pub append-requires-clause-there : goal.append-requires-clause-there
 append-requires-clause-there g c =
     subst (λ (place : ℕ). IfSome (g.D.Disk.reads_as c.args.disk.now) (λ image. place < length image.log))
-    (sym (ap (λ (v : NodeValue). v.place) c.self.view_is)) c.requires.there
+    (sym refl) c.requires.there
 
 pub append-requires-clause-filled : goal.append-requires-clause-filled
 append-requires-clause-filled g c =
@@ -52,42 +54,43 @@ append-requires-clause-filled g c =
 
 pub invariant_of-result : goal.invariant_of-result
 invariant_of-result g c =
-    let seen : c.self.inside.kept.chain ≡ c.args.self.chain = ap (λ (v : NodeValue). v.chain) c.self.view_is in (
-      few_after c.self.inside.kept c.in-Ok-join.kept c.args.self.chain c.args.item.now c.in-Ok.ext.items c.args.joining seen c.in-Ok-join.ensures.kept c.requires.ready,
-      within_after c.self.inside.kept c.in-Ok-join.kept c.args.self.chain c.args.item.now c.in-Ok.ext.items c.args.joining seen c.in-Ok-join.ensures.kept c.requires.ready
-          c.self.inside.log.place c.in-Ok-append.log.place (length c.fill.new.body) c.self.invariant.1 c.in-Ok-append.ensures.place c.in-Ok.ensures.short,
+    let ready = c.requires.ready in
+    let below = place_of-below c.args.kept.chain.blocks ready.0.header.parent_hash c.args.joining.entry.parent ready.2.entry.on_kept in (
+      few_after c.args.kept c.in-Ok-join.joined.0 c.args.kept.chain c.args.item.now c.in-Ok.ext.items c.args.joining refl c.in-Ok-join.ensures.kept ready,
+      within_after c.args.kept c.in-Ok-join.joined.0 c.args.kept.chain c.args.item.now c.in-Ok.ext.items c.args.joining refl c.in-Ok-join.ensures.kept ready
+          c.args.log.place c.in-Ok-append.log.place (length c.fill.new.body) c.requires.within c.in-Ok-append.ensures.place c.in-Ok.ensures.short,
+      λ after. c.in-Ok-join.ensures.live (c.requires.cells (are_joined_before c.args.kept c.in-Ok-join.joined.0 ready.0 c.in-Ok.ext.items
+          (omega (arith, below)) (c.in-Ok-join.ensures.kept ready.0 ready.1) after)),
     )
 
 pub returns-in-Err-join-clause-undamaged : goal.returns-in-Err-join-clause-undamaged
 returns-in-Err-join-clause-undamaged g c decided joined damage same =
-    let seen : c.self.inside.kept.chain ≡ c.args.self.chain = ap (λ (v : NodeValue). v.chain) c.self.view_is in
-    c.join.ensures.undamaged decided.0 decided.1 (subst IsJoined (sym seen) joined)
-    (subst (λ (k : Chain). MayJoin k.spec k.blocks decided.0) (sym seen) decided.2.may) damage (c.in-Err-join.is ∙ ap Err (same_stop _ _ same))
+    c.join.ensures.undamaged decided.0 decided.1 joined.joined decided.2.may (c.requires.cells joined) damage (c.in-Err-join.is ∙ ap Err (same_stop _ _ same))
 
 pub returns-in-Ok-append-clause-cause : goal.returns-in-Ok-append-clause-cause
 returns-in-Ok-append-clause-cause g c = counts_none _ _ (c.in-Ok-append.ensures.cause.unchanged refl) (λ e. ok_err _ _ e)
 
 pub returns-in-Err-append-clause-moments : goal.returns-in-Err-append-clause-moments
 returns-in-Err-append-clause-moments g c = λ decided on.
-    let at : c.self.inside.log.place ≡ c.args.self.place = ap (λ (v : NodeValue). v.place) c.self.view_is in
-    let can = can_join c.args.self.chain c.args.item.now c.args.joining decided in
-    let form = form_is c.args.self.chain c.args.item.now c.in-Ok.ext.items c.args.joining decided c.in-Ok.ensures.bytes c.in-Ok.ensures.form in
-    let filled : c.fill.new.body ≡ behind_gate (record_over c.args.self.chain c.args.item.now) =
-    c.in-Ok.ensures.filled ∙ ap behind_gate (record_is c.args.self.chain c.args.item.now c.args.joining decided) in
+    let at : c.args.log.place ≡ c.args.log.place = refl in
+    let can = can_join c.args.kept.chain c.args.item.now c.args.joining decided in
+    let form = form_is c.args.kept.chain c.args.item.now c.in-Ok.ext.items c.args.joining decided c.in-Ok.ensures.bytes c.in-Ok.ensures.form in
+    let filled : c.fill.new.body ≡ behind_gate (record_over c.args.kept.chain c.args.item.now) =
+    c.in-Ok.ensures.filled ∙ ap behind_gate (record_is c.args.kept.chain c.args.item.now c.args.joining decided) in
     leaves_also g.D.Disk.moment g.D.Disk.left_since _ _ _ _
-    (c.append.ensures.moments on.records (record_over c.args.self.chain c.args.item.now) filled (settled_on c.args.self _ _ on c.self.inside.log.place at))
-    (stands_either c.args.self _ _ on c.self.inside.log.place at c.args.item.now can c.requires.size form)
+    (c.append.ensures.moments on.records (record_over c.args.kept.chain c.args.item.now) filled (settled_on (node_of c.args.kept c.args.log.place) _ _ on c.args.log.place at))
+    (stands_either (node_of c.args.kept c.args.log.place) _ _ on c.args.log.place at c.args.item.now can c.requires.size form)
 
 pub returns-in-Ok-append-clause-kept : goal.returns-in-Ok-append-clause-kept
 returns-in-Ok-append-clause-kept g c =
-    is_after c.self.inside.kept c.in-Ok-join.kept c.args.self.chain c.args.item.now c.in-Ok.ext.items c.args.joining
-    (ap (λ (v : NodeValue). v.chain) c.self.view_is) c.in-Ok-join.ensures.kept
+    is_after c.args.kept c.in-Ok-join.joined.0 c.args.kept.chain c.args.item.now c.in-Ok.ext.items c.args.joining
+    refl c.in-Ok-join.ensures.kept
 
 pub returns-in-Ok-append-clause-own : goal.returns-in-Ok-append-clause-own
 returns-in-Ok-append-clause-own g c = λ decided have.
-    own_after c.self.inside.kept c.in-Ok-join.kept c.args.self.chain c.args.item.now c.in-Ok.ext.items c.args.joining
-    (ap (λ (v : NodeValue). v.chain) c.self.view_is) c.in-Ok-join.ensures.kept decided c.in-Ok.ensures.bytes c.args.self.exts
-    (ap (λ (v : NodeValue). v.exts) c.self.view_is) have
+    own_after c.args.kept c.in-Ok-join.joined.0 c.args.kept.chain c.args.item.now c.in-Ok.ext.items c.args.joining
+    refl c.in-Ok-join.ensures.kept decided c.in-Ok.ensures.bytes c.args.kept.exts
+    refl have
 
 pub returns-in-Err-clause-own : goal.returns-in-Err-clause-own
 returns-in-Err-clause-own g c = λ _ _. tt
@@ -100,36 +103,36 @@ returns-in-Err-append-clause-own g c = λ _ _. tt
 
 pub returns-in-Ok-append-clause-on : goal.returns-in-Ok-append-clause-on
 returns-in-Ok-append-clause-on g c = λ decided on.
-    let at : c.self.inside.log.place ≡ c.args.self.place = ap (λ (v : NodeValue). v.place) c.self.view_is in
-    let can = can_join c.args.self.chain c.args.item.now c.args.joining decided in
-    let form = form_is c.args.self.chain c.args.item.now c.in-Ok.ext.items c.args.joining decided c.in-Ok.ensures.bytes c.in-Ok.ensures.form in
-    let filled : c.fill.new.body ≡ behind_gate (record_over c.args.self.chain c.args.item.now) =
-    c.in-Ok.ensures.filled ∙ ap behind_gate (record_is c.args.self.chain c.args.item.now c.args.joining decided) in
-    let settled = settled_on c.args.self _ _ on c.self.inside.log.place at in
-    let kept : c.in-Ok-join.kept.chain ≡ chain_after c.args.self.chain c.args.item.now =
-    is_after c.self.inside.kept c.in-Ok-join.kept c.args.self.chain c.args.item.now c.in-Ok.ext.items c.args.joining
-    (ap (λ (v : NodeValue). v.chain) c.self.view_is) c.in-Ok-join.ensures.kept decided in
-    let own : HaveOwnExts c.in-Ok-join.kept.chain c.in-Ok-join.kept.exts =
-    own_after c.self.inside.kept c.in-Ok-join.kept c.args.self.chain c.args.item.now c.in-Ok.ext.items c.args.joining
-    (ap (λ (v : NodeValue). v.chain) c.self.view_is) c.in-Ok-join.ensures.kept decided c.in-Ok.ensures.bytes c.args.self.exts
-    (ap (λ (v : NodeValue). v.exts) c.self.view_is) on.own in
-    subst (λ (chain : Chain). IsOn (record { chain = chain; exts = c.in-Ok-join.kept.exts; place = c.in-Ok-append.log.place }) (g.D.Disk.reads_as c.append.new.disk) (g.D.Disk.images c.append.new.disk)) (sym kept)
-    (is_on_after c.args.self _ _ on c.self.inside.log.place at c.args.item.now can c.requires.size form c.in-Ok-append.log.place _ _
-    (c.in-Ok-append.ensures.settled on.records (record_over c.args.self.chain c.args.item.now) filled settled)
-    c.append.ensures.others c.in-Ok-join.kept.exts (subst (λ (chain : Chain). HaveOwnExts chain c.in-Ok-join.kept.exts) kept own)
+    let at : c.args.log.place ≡ c.args.log.place = refl in
+    let can = can_join c.args.kept.chain c.args.item.now c.args.joining decided in
+    let form = form_is c.args.kept.chain c.args.item.now c.in-Ok.ext.items c.args.joining decided c.in-Ok.ensures.bytes c.in-Ok.ensures.form in
+    let filled : c.fill.new.body ≡ behind_gate (record_over c.args.kept.chain c.args.item.now) =
+    c.in-Ok.ensures.filled ∙ ap behind_gate (record_is c.args.kept.chain c.args.item.now c.args.joining decided) in
+    let settled = settled_on (node_of c.args.kept c.args.log.place) _ _ on c.args.log.place at in
+    let kept : c.in-Ok-join.joined.0.chain ≡ chain_after c.args.kept.chain c.args.item.now =
+    is_after c.args.kept c.in-Ok-join.joined.0 c.args.kept.chain c.args.item.now c.in-Ok.ext.items c.args.joining
+    refl c.in-Ok-join.ensures.kept decided in
+    let own : HaveOwnExts c.in-Ok-join.joined.0.chain c.in-Ok-join.joined.0.exts =
+    own_after c.args.kept c.in-Ok-join.joined.0 c.args.kept.chain c.args.item.now c.in-Ok.ext.items c.args.joining
+    refl c.in-Ok-join.ensures.kept decided c.in-Ok.ensures.bytes c.args.kept.exts
+    refl on.own in
+    subst (λ (chain : Chain). IsOn (record { chain = chain; exts = c.in-Ok-join.joined.0.exts; place = c.in-Ok-append.log.place }) (g.D.Disk.reads_as c.append.new.disk) (g.D.Disk.images c.append.new.disk)) (sym kept)
+    (is_on_after (node_of c.args.kept c.args.log.place) _ _ on c.args.log.place at c.args.item.now can c.requires.size form c.in-Ok-append.log.place _ _
+    (c.in-Ok-append.ensures.settled on.records (record_over c.args.kept.chain c.args.item.now) filled settled)
+    c.append.ensures.others c.in-Ok-join.joined.0.exts (subst (λ (chain : Chain). HaveOwnExts chain c.in-Ok-join.joined.0.exts) kept own)
     (now_too g.D.Disk.moment g.D.Disk.left_since g.D.Disk.images g.met.D.Disk.counts_now _ _ _
-    (c.append.ensures.moments on.records (record_over c.args.self.chain c.args.item.now) filled settled)))
+    (c.append.ensures.moments on.records (record_over c.args.kept.chain c.args.item.now) filled settled)))
 
 pub returns-in-Ok-append-clause-moments : goal.returns-in-Ok-append-clause-moments
 returns-in-Ok-append-clause-moments g c = λ decided on.
-    let at : c.self.inside.log.place ≡ c.args.self.place = ap (λ (v : NodeValue). v.place) c.self.view_is in
-    let can = can_join c.args.self.chain c.args.item.now c.args.joining decided in
-    let form = form_is c.args.self.chain c.args.item.now c.in-Ok.ext.items c.args.joining decided c.in-Ok.ensures.bytes c.in-Ok.ensures.form in
-    let filled : c.fill.new.body ≡ behind_gate (record_over c.args.self.chain c.args.item.now) =
-    c.in-Ok.ensures.filled ∙ ap behind_gate (record_is c.args.self.chain c.args.item.now c.args.joining decided) in
+    let at : c.args.log.place ≡ c.args.log.place = refl in
+    let can = can_join c.args.kept.chain c.args.item.now c.args.joining decided in
+    let form = form_is c.args.kept.chain c.args.item.now c.in-Ok.ext.items c.args.joining decided c.in-Ok.ensures.bytes c.in-Ok.ensures.form in
+    let filled : c.fill.new.body ≡ behind_gate (record_over c.args.kept.chain c.args.item.now) =
+    c.in-Ok.ensures.filled ∙ ap behind_gate (record_is c.args.kept.chain c.args.item.now c.args.joining decided) in
     leaves_also g.D.Disk.moment g.D.Disk.left_since _ _ _ _
-    (c.append.ensures.moments on.records (record_over c.args.self.chain c.args.item.now) filled (settled_on c.args.self _ _ on c.self.inside.log.place at))
-    (stands_either c.args.self _ _ on c.self.inside.log.place at c.args.item.now can c.requires.size form)
+    (c.append.ensures.moments on.records (record_over c.args.kept.chain c.args.item.now) filled (settled_on (node_of c.args.kept c.args.log.place) _ _ on c.args.log.place at))
+    (stands_either (node_of c.args.kept c.args.log.place) _ _ on c.args.log.place at c.args.item.now can c.requires.size form)
 
 pub returns-in-Err-clause-kept : goal.returns-in-Err-clause-kept
 returns-in-Err-clause-kept g c = λ _. tt
@@ -232,27 +235,27 @@ returns-in-Err-append-clause-settled g c = λ _ _. tt
 
 pub returns-in-Ok-append-clause-settled : goal.returns-in-Ok-append-clause-settled
 returns-in-Ok-append-clause-settled g c = λ records settled.
-    let at : c.self.inside.log.place ≡ c.args.self.place = ap (λ (v : NodeValue). v.place) c.self.view_is in
+    let at : c.args.log.place ≡ c.args.log.place = refl in
     c.in-Ok-append.ensures.settled records (block_record c.args.item.now (ext_bytes c.args.joining.ext)) c.in-Ok.ensures.filled
     (subst (λ (p : ℕ). IsSettled p records (g.D.Disk.reads_as c.args.disk.now) (g.D.Disk.images c.args.disk.now)) (sym at) settled)
 
 pub returns-in-Err-clause-keeps : goal.returns-in-Err-clause-keeps
 returns-in-Err-clause-keeps g c = λ records settled.
-    started_import g.D.Disk.moment g.D.Disk.left_since g.D.Disk.images g.met.D.Disk.only_now c.args.self.place records c.args.item.now _ _ settled
+    started_import g.D.Disk.moment g.D.Disk.left_since g.D.Disk.images g.met.D.Disk.only_now c.args.log.place records c.args.item.now _ _ settled
 
 pub returns-in-Err-clause-others : goal.returns-in-Err-clause-others
 returns-in-Err-clause-others g c = others_same Log (g.D.Disk.reads_as c.args.disk.now)
 
 pub returns-in-Err-join-clause-keeps : goal.returns-in-Err-join-clause-keeps
 returns-in-Err-join-clause-keeps g c = λ records settled.
-    started_import g.D.Disk.moment g.D.Disk.left_since g.D.Disk.images g.met.D.Disk.only_now c.args.self.place records c.args.item.now _ _ settled
+    started_import g.D.Disk.moment g.D.Disk.left_since g.D.Disk.images g.met.D.Disk.only_now c.args.log.place records c.args.item.now _ _ settled
 
 pub returns-in-Err-join-clause-others : goal.returns-in-Err-join-clause-others
 returns-in-Err-join-clause-others g c = others_same Log (g.D.Disk.reads_as c.args.disk.now)
 
 pub returns-in-Err-append-clause-keeps : goal.returns-in-Err-append-clause-keeps
 returns-in-Err-append-clause-keeps g c = λ records settled.
-    let at : c.self.inside.log.place ≡ c.args.self.place = ap (λ (v : NodeValue). v.place) c.self.view_is in
+    let at : c.args.log.place ≡ c.args.log.place = refl in
     let ext : List ℕ = ext_bytes c.args.joining.ext in
     leaves_also g.D.Disk.moment g.D.Disk.left_since _ _ _ _
     (c.append.ensures.moments records (block_record c.args.item.now ext) c.in-Ok.ensures.filled
@@ -264,7 +267,7 @@ returns-in-Err-append-clause-others g c = c.append.ensures.others
 
 pub returns-in-Ok-append-clause-keeps : goal.returns-in-Ok-append-clause-keeps
 returns-in-Ok-append-clause-keeps g c = λ records settled.
-    let at : c.self.inside.log.place ≡ c.args.self.place = ap (λ (v : NodeValue). v.place) c.self.view_is in
+    let at : c.args.log.place ≡ c.args.log.place = refl in
     let ext : List ℕ = ext_bytes c.args.joining.ext in
     leaves_also g.D.Disk.moment g.D.Disk.left_since _ _ _ _
     (c.append.ensures.moments records (block_record c.args.item.now ext) c.in-Ok.ensures.filled
