@@ -1,4 +1,3 @@
-pub mod Ahead
 pub mod Standing
 pub mod Stops
 pub mod ByRows

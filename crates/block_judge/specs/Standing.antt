@@ -1,8 +1,9 @@
 -- What a block is judged over, and what that stands for.
-use Rattle.std.specs.Prelude.{◌≡◌, ◌⊎◌, ℕ, ◌≤◌, List, Option, Some, IsTrue, IsSome}
-use Rattle.codec_defs.specs.Schema.{OutPoint}
+use Rattle.std.specs.Prelude.{◌≡◌, ◌⊎◌, ℕ, ◌≤◌, List, Option, Some, None, IsTrue, IsSome}
+use Rattle.codec_defs.specs.Schema.{OutPoint, Block}
 use Rattle.time_defs.specs.Specification.{Specification}
 use Rattle.chain_defs.specs.Branch.{branch}
+use Rattle.block_defs.specs.Rules.{broken_at_sight}
 use Rattle.chain_tree.specs.declared.entry.Entry.{Entry}
 use Rattle.chain_tree.specs.Blocks.{IndexesBlocks}
 use Rattle.chain_tree.specs.Told.{Stored, blocks_of}
@@ -54,9 +55,13 @@ StandsFor stored on = Stands stored on.entries on.parent on.rows
 abbrev pub StandsForAll : List Stored → ContextValue → Type 0
 StandsForAll stored on = StandsWhole on.spec stored on.entries on.parent on.rows on.uncles
 
--- the rules that are tried on a block
+-- A block has passed at sight: over these kept blocks it breaks none of the rules that ask for no live cell.
+abbrev pub PassesAtSight : List Block → ContextValue → Block → Type 0
+PassesAtSight kept on b = broken_at_sight on.spec (branch kept on.parent) b ≡ None
+
+-- the rules that are tried on a block that has passed at sight
 abbrev pub IsTried : ℕ → Type 0
-IsTried rule = (4 ≤ rule) × (rule ≤ 32)
+IsTried rule = (17 ≤ rule) × (rule ≤ 32)
 
 -- those that are tried on a transaction alone
 abbrev pub IsTriedAlone : ℕ → Type 0

@@ -1,5 +1,9 @@
 // What a block or a transaction is judged on.
+ghost use Rattle.std.specs.Prelude.{◌≡◌, Option, None};
+ghost use Rattle.codec_defs.specs.Schema as schema;
+ghost use Rattle.cell_defs.specs.Row.{Row};
 
+use cell_model::{CellMeta, Cells, OutPoint};
 use chain_tree::Tree;
 use epochs::Spec;
 use uncle_rules::Uncles;
@@ -14,4 +18,15 @@ pub struct Context<'a, C> {
     pub uncles: &'a Uncles,
     pub cells: &'a C,
     pub parent: u32,
+}
+
+/// In the place of live cells where none is looked at.
+pub struct NoCells;
+
+impl Cells for NoCells {
+    ghost rows = { λ _ o. None };
+
+    fn get(&self, o: &OutPoint) -> Option<CellMeta> {
+        None
+    }
 }

@@ -1,5 +1,5 @@
 // A block judged by all rules, and a transaction judged alone.
-ghost use Rattle.std.specs.Prelude.{◌≡◌, ◌-◌, ◌<◌, ◌^◌, ◌≤◌, ℕ, List, None, Some, Err, IfOk, IsTrue, length};
+ghost use Rattle.std.specs.Prelude.{◌≡◌, ◌-◌, ◌<◌, ◌^◌, ◌≤◌, ℕ, List, None, Some, Err, IfOk, IsTrue, length, map};
 ghost use Rattle.fold_defs.specs.First.{first_failing};
 ghost use Rattle.outside.specs.Causes.{CountsFault};
 ghost use Rattle.outside.specs.declared.disk.Area.TheVariants.{Log};
@@ -7,8 +7,7 @@ ghost use Rattle.outside.specs.declared.disk.Damage.{Damage};
 ghost use Rattle.outside.specs.declared.disk.ReadStop.TheVariants.{DiskFault, Damaged};
 ghost use Rattle.codec_defs.specs.Schema.{Block};
 ghost use Rattle.chain_defs.specs.Branch.{branch};
-ghost use Rattle.rule_defs.specs.Header.{header_rules};
-ghost use Rattle.chain_tree.specs.Blocks.{IndexesBlocks};
+ghost use Rattle.chain_defs.specs.Hashes.{transaction_hash};
 ghost use Rattle.chain_tree.specs.Told.{Stored, blocks_of};
 ghost use Rattle.tx_defs.specs.Capacity as capacity;
 ghost use Rattle.script_defs.specs.Rules.{cycles_of};
@@ -16,20 +15,17 @@ ghost use Rattle.script_defs.specs.Scene.{scene_of};
 ghost use Rattle.tx_defs.specs.Rules.{has_form};
 ghost use Rattle.tx_rules.specs.At.{spends_rows};
 ghost use Rattle.chain_tree.specs.Blocks.{AreRated};
-ghost use Rattle.uncle_rules.specs.Embedded.{IndexesUncles};
 ghost use Rattle.block_defs.specs.Ext.{ext_of};
 ghost use Rattle.time_defs.specs.Dao.{is_rated};
 ghost use Rattle.block_defs.specs.Rules.{first_broken, broken_in_dry_run};
 ghost use Rattle.tx_defs.specs.Site.{site_after};
 ghost use Rattle.rule_names.specs.Number.{rule_number};
-ghost use Rattle.rule_names.specs.declared.rule.Rule.{Rule};
 ghost use Rattle.block_judge.specs.declared.stop.Judged.TheVariants.{Broken, Read};
-ghost use Rattle.block_judge.specs.Ahead.{SaysAhead, ahead as rules_ahead};
 ghost use Rattle.block_judge.specs.ByRows.{SaysByRows};
-ghost use Rattle.block_judge.specs.Standing.{IsTried, IsTriedAlone, StandsFor, StandsForAll, seen};
+ghost use Rattle.block_judge.specs.Standing.{PassesAtSight, IsTried, IsTriedAlone, StandsFor, StandsForAll, seen};
 
-use crate::ahead::judge_ahead;
 use crate::all_transactions::judge_transactions;
+use crate::cellbase::forms_cellbase;
 use crate::context::Context;
 use crate::ending::judge_end;
 use crate::stop::Judged;
@@ -37,42 +33,42 @@ use crate::transactions::judge_transaction;
 use cell_model::{Cells, Ext};
 use chain_tree::Blocks;
 use mol_schema::{BlockView, TxView};
+use rule_names::Rule;
 use std::alloc::Global;
 use tx_rules::TxAt;
 
-/// Judges a block on a parent in the tree, by J4 to J32: the first rule that it breaks, or its ext. The cells are those of
-/// the parent's branch, whichever the tip is on. Damaged where a kept block, or a row of the cells, is not what the tree
-/// and the branch say, which never comes over blocks that tell them.
+/// Judges a block that has passed at sight, with the hashes of its transactions, by what is left of J17 and by J18 to J32:
+/// the first rule that it breaks, or its ext. Damaged where a kept block, or a row of the cells, is not what the tree and the
+/// branch say, which never comes over blocks that tell them.
 pub fn judge<C: Cells, B: Blocks>(
     alloc: Global,
     context: &Context<'_, C>,
     blocks: &mut B,
     block: &BlockView<'_>,
+    hashes: &[[u8; 32]],
 ) -> Result<Ext, Judged>
     requires parent { context.now.parent < length context.now.tree.now.entries }
     requires few { length context.now.tree.now.entries < 2 ^ 24 }
     requires rated { AreRated context.now.tree.now.entries }
     requires counts { B.count blocks.old ≡ length context.now.tree.now.entries }
+    requires hashes { hashes.now ≡ map transaction_hash block.now.transactions }
+    requires some { 0 < length block.now.transactions }
     ensures told { B.told blocks.new ≡ B.told blocks.old }
     ensures count { B.count blocks.new ≡ B.count blocks.old }
     ensures loans { B.loans_of blocks.new ≡ B.loans_of blocks.old }
     ensures tried { (rule : Rule) → result ≡ Err (Broken rule) → IsTried (rule_number rule) }
 
-    // Over any source of blocks: the rules on the header, and those ahead of the transactions; a fee for each transaction after the
-    // cellbase; and a DAO field that later ones can be reckoned by.
-    ensures header { (kept : List Block) → IndexesBlocks kept context.now.tree.now.entries
-        → IfOk result (λ _. first_failing (header_rules context.now.spec.now (branch kept context.now.parent) block.now) ≡ None) }
+    // Over any source of blocks: a fee for each transaction after the cellbase, and a DAO field that later ones can be reckoned by.
     ensures fees { IfOk result (λ ext. length ext.fees ≡ length block.now.transactions - 1) }
-    ensures ahead { (stored : List Stored) → StandsFor stored (seen C.rows context.now) → IndexesUncles (blocks_of stored) context.now.uncles.now
-        → SaysAhead (first_failing (rules_ahead context.now.spec.now (branch (blocks_of stored) context.now.parent) block.now)) result }
     ensures rated { IfOk result (λ _. IsTrue (is_rated block.now.header.dao)) }
 
     // Over kept blocks that are told with their own fees, with the cells of the parent's branch.
     ensures broken { (stored : List Stored) → B.told blocks.old ≡ Some stored
-        → StandsForAll stored (seen C.rows context.now) → (rule : Rule) → result ≡ Err (Broken rule)
+        → StandsForAll stored (seen C.rows context.now) → PassesAtSight (blocks_of stored) (seen C.rows context.now) block.now
+        → (rule : Rule) → result ≡ Err (Broken rule)
         → first_broken context.now.spec.now (branch (blocks_of stored) context.now.parent) block.now ≡ Some (rule_number rule) }
     ensures unbroken { (stored : List Stored) → B.told blocks.old ≡ Some stored
-        → StandsForAll stored (seen C.rows context.now)
+        → StandsForAll stored (seen C.rows context.now) → PassesAtSight (blocks_of stored) (seen C.rows context.now) block.now
         → IfOk result (λ _. first_broken context.now.spec.now (branch (blocks_of stored) context.now.parent) block.now ≡ None) }
     ensures ext { (stored : List Stored) → B.told blocks.old ≡ Some stored
         → StandsForAll stored (seen C.rows context.now)
@@ -82,11 +78,10 @@ pub fn judge<C: Cells, B: Blocks>(
     ensures damage { (damage : Damage) → result ≡ Err (Read (Damaged damage)) → damage.area ≡ Log }
     ensures cause { CountsFault (B.faults blocks.old) (B.faults blocks.new) (result ≡ Err (Read DiskFault)) }
 {
-    let hashes = match judge_ahead(alloc, context, block) {
-        Ok(hashes) => hashes,
-        Err(stop) => return Err(stop),
-    };
-    let outcome = match judge_transactions(alloc, context, blocks, block, &hashes) {
+    if !forms_cellbase(context.cells, block, hashes) {
+        return Err(Judged::Broken(Rule::CellbaseForm));
+    }
+    let outcome = match judge_transactions(alloc, context, blocks, block, hashes) {
         Ok(outcome) => outcome,
         Err(stop) => return Err(stop),
     };

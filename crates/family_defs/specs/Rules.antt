@@ -1,12 +1,20 @@
 -- The rules on a block's uncles and on its cellbase, J15 to J17, as rows of a list (docs/RULES.md, "A block"). A row has the rule's number
 -- and whether the block keeps it.
-use Rattle.std.specs.Prelude.{ℕ, Bool, List, [], ◌∷◌}
-use Rattle.codec_defs.specs.Schema.{Block}
+use Rattle.std.specs.Prelude.{ℕ, Bool, List, [], ◌∷◌, Option, None}
+use Rattle.codec_defs.specs.Schema.{OutPoint, Block}
 use Rattle.time_defs.specs.Specification.{Specification}
+use Rattle.cell_defs.specs.Cell.{Cell}
 use Rattle.cell_defs.specs.Events.{live_cell}
 use Rattle.family_defs.specs.Uncles.{has_uncles}
 use Rattle.family_defs.specs.Cellbase.{has_cellbase, forms_cellbase}
 
--- on a block that stands on this branch, genesis to its parent, under the specification of its chain
+-- over live cells, on a block that stands on this branch, genesis to its parent, under the specification of its chain
+abbrev pub family_rules_over : (OutPoint → Option Cell) → Specification → List Block → Block → List (ℕ × Bool)
+family_rules_over live spec branch b = (15, has_uncles spec branch b) ∷ (16, has_cellbase b) ∷ (17, forms_cellbase live b) ∷ []
+
 abbrev pub family_rules : Specification → List Block → Block → List (ℕ × Bool)
-family_rules spec branch b = (15, has_uncles spec branch b) ∷ (16, has_cellbase b) ∷ (17, forms_cellbase (live_cell branch) b) ∷ []
+family_rules spec branch b = family_rules_over (live_cell branch) spec branch b
+
+-- where no cell is live
+abbrev pub no_cell : OutPoint → Option Cell
+no_cell o = None

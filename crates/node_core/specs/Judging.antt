@@ -1,5 +1,5 @@
 -- What is to become of a block and of an item.
-use Rattle.std.specs.Prelude.{◌≡◌, ℕ, ◌-◌, ◌<◌, nat_lt, Bool, true, false, List, length, Option, Some, None, if◌then◌else◌, IsTrue}
+use Rattle.std.specs.Prelude.{◌≡◌, ℕ, ◌-◌, ◌<◌, nat_lt, Bool, true, false, List, map, length, Option, Some, None, if◌then◌else◌, IsTrue}
 use Rattle.codec_defs.specs.Shape.{decoded}
 use Rattle.codec_defs.specs.Schema.{Block, block}
 use Rattle.chain_defs.specs.Kept.{block_hash, place_of, follows, kept_limit}
@@ -9,6 +9,8 @@ use Rattle.chain_tree.specs.declared.entry.Entry.{Entry}
 use Rattle.chain_tree.specs.Blocks.{Describes}
 use Rattle.rule_defs.specs.Header.{parent_of}
 use Rattle.time_defs.specs.Dao.{is_rated}
+use Rattle.chain_defs.specs.Hashes.{transaction_hash}
+use Rattle.block_defs.specs.Rules.{broken_at_sight}
 use Rattle.block_defs.specs.Ext.{ext_of}
 use Rattle.verdict_defs.specs.Verdict.{joins, verdict_of_block}
 use Rattle.verdict_defs.specs.Chain.{Chain, verdict_over}
@@ -22,6 +24,13 @@ pub record IsEntryOn (kept : List Block) (b : Block) (entry : Entry) : Type 0 wh
   pub new : place_of kept (block_hash b) ≡ None
   pub on_kept : place_of kept b.header.parent_hash ≡ Some entry.parent
   pub describes : Describes b entry
+
+-- A block has passed at sight after a chain, on a kept parent: these are the hashes of its transactions, of which it has one, and it breaks none of
+-- the rules that ask for no live cell.
+pub record HasPassed (chain : Chain) (parent : ℕ) (b : Block) (hashes : List (List ℕ)) : Type 0 where
+  pub hashes_are : hashes ≡ map transaction_hash b.transactions
+  pub some : 0 < length b.transactions
+  pub sight : broken_at_sight chain.spec (branch chain.blocks parent) b ≡ None
 
 -- All that is asked of a block to be kept, whether or not those before it joined.
 pub record IsReady (kept : List Block) (b : Block) (joining : Joining) : Type 0 where

@@ -12,15 +12,15 @@ ghost use Rattle.block_judge.specs.declared.stop.Judged.TheVariants.{Broken, Rea
 ghost use Rattle.verdict_defs.specs.Trial.{trial_on};
 ghost use Rattle.verdict_defs.specs.declared.trial.Trial.TheVariants.{Passes, Refused};
 ghost use Rattle.store_defs.specs.Store.{IsJoined, AreJoined};
-ghost use Rattle.node_core.specs.Steps.{moves_at, moves_of_block, moves_for};
+ghost use Rattle.node_core.specs.Steps.{moves_on, moves_of_block, moves_for};
 ghost use Rattle.cell_state.specs.State.{rows};
 ghost use Rattle.reorg.specs.Moves.{AreOf};
 ghost use Rattle.node_core.specs.Node.{AreOfFound, AreOfTip};
-ghost use Rattle.node_core.specs.Judging.{IsEntryOn, IsOnParent, IsDecidedBlock, IsDecided, IsReadyBlock, IsReadyItem, becomes_tip, place_for};
+ghost use Rattle.node_core.specs.Judging.{IsEntryOn, IsOnParent, HasPassed, IsDecidedBlock, IsDecided, IsReadyBlock, IsReadyItem, becomes_tip, place_for};
 
 use crate::entry::{entry_on, hash_of, parent_hash};
 use crate::kept::{Kept, is_above_tip};
-use block_judge::{Context, Judged, dry_run, judge};
+use block_judge::{Context, Judged, NoCells, dry_run, judge, judge_at_sight};
 use cell_model::Ext;
 use cell_state::State;
 use chain_tree::Entry;
@@ -83,15 +83,39 @@ impl Kept {
         go_to(alloc, state, &self.tree, &mut self.blocks, from, to, steps)
     }
 
-    /// Judges a block on a kept parent, by the live cells of its parent's branch.
+    /// Judges a block at sight on a kept parent: the hashes of its transactions where it passes.
+    fn at_sight(
+        &self,
+        alloc: Global,
+        block: &BlockView<'_>,
+        parent: u32,
+    ) -> Result<Vec<[u8; 32]>, Judged>
+        requires { place_of self.now.chain.blocks block.now.header.parent_hash ≡ Some parent }
+        ensures passed { IfOk result (λ hashes. HasPassed self.now.chain parent block.now hashes.items) }
+        ensures broken { (rule : Rule) → result ≡ Err (Broken rule) → broken_at_sight self.now.chain.spec (branch self.now.chain.blocks parent) block.now ≡ Some (rule_number rule) }
+        ensures memory { (stop : a_stop) → result ≡ Err (Read stop) → stop ≡ NoMemory }
+    {
+        let context = Context {
+            spec: &self.spec,
+            tree: &self.tree,
+            uncles: &self.uncles,
+            cells: &NoCells,
+            parent,
+        };
+        judge_at_sight(alloc, &context, block)
+    }
+
+    /// Judges a block that has passed at sight on a kept parent, by the live cells of its parent's branch.
     fn judge_on(
         &mut self,
         alloc: Global,
         state: &State,
         block: &BlockView<'_>,
+        hashes: &[[u8; 32]],
         entry: Entry,
     ) -> Result<Decision, ReadStop>
-        requires { IsEntryOn self.old.chain.blocks block.now entry }
+        requires entry { IsEntryOn self.old.chain.blocks block.now entry }
+        requires passed { HasPassed self.old.chain entry.parent block.now hashes.now }
         ensures same { self.new ≡ self.old }
         ensures ready { IfOk result (IsReadyBlock self.old.chain.blocks block.now) }
         ensures on { IfOk result (IsOnParent entry.parent) }
@@ -110,7 +134,7 @@ impl Kept {
             cells: state,
             parent,
         };
-        match judge(alloc, &context, &mut self.blocks, block) {
+        match judge(alloc, &context, &mut self.blocks, block, hashes) {
             Err(Judged::Broken(rule)) => Ok(Decision::Stays(Verdict::Refused(rule.number()))),
             Err(Judged::Read(stop)) => Err(stop),
             Ok(ext) => {
@@ -133,8 +157,8 @@ impl Kept {
         }
     }
 
-    /// What is to become of a block on a kept parent. The live cells go from the tip's branch to its parent's, where it is
-    /// judged, and back unless it becomes the tip.
+    /// What is to become of a block on a kept parent. Where it passes at sight, the live cells go from the tip's branch to its
+    /// parent's, where it is judged, and back unless it becomes the tip.
     fn decide_on<L: Ledger>(
         &mut self,
         alloc: Global,
@@ -154,15 +178,25 @@ impl Kept {
             → (damage : Damage) → result ≡ Err (Damaged damage) → ⊥ }
         ensures damage { (damage : Damage) → result ≡ Err (Damaged damage) → damage.area ≡ Log }
         ensures reads { result ≢ Err DiskFault }
-        ensures most { steps.new ≤ steps.old + moves_at self.old.chain.blocks entry.parent }
+        ensures most { steps.new ≤ steps.old + moves_on self.old.chain block.now (Some entry.parent) }
     {
         let parent = entry.parent;
+        let hashes = match self.at_sight(alloc, block, parent) {
+            Ok(hashes) => hashes,
+            Err(Judged::Broken(rule)) => {
+                return Ok((state, Decision::Stays(Verdict::Refused(rule.number()))));
+            }
+            Err(Judged::Read(stop)) => {
+                drop(state);
+                return Err(stop);
+            }
+        };
         let from = self.tree.tip();
         let there = match self.moved(alloc, state, from, parent, steps) {
             Ok(there) => there,
             Err(stop) => return Err(stop),
         };
-        let decision = match self.judge_on(alloc, &there, block, entry) {
+        let decision = match self.judge_on(alloc, &there, block, &hashes, entry) {
             Ok(decision) => decision,
             Err(stop) => {
                 drop(there);
@@ -199,7 +233,7 @@ impl Kept {
             → (damage : Damage) → result ≡ Err (Damaged damage) → ⊥ }
         ensures damage { (damage : Damage) → result ≡ Err (Damaged damage) → damage.area ≡ Log }
         ensures reads { result ≢ Err DiskFault }
-        ensures most { steps.new ≤ steps.old + moves_of_block self.old.chain.blocks block.now }
+        ensures most { steps.new ≤ steps.old + moves_of_block self.old.chain block.now }
     {
         let hash = hash_of(block);
         if self.tree.find(&hash).is_some() {
@@ -231,7 +265,7 @@ impl Kept {
             → (damage : Damage) → result ≡ Err (Damaged damage) → ⊥ }
         ensures damage { (damage : Damage) → result ≡ Err (Damaged damage) → damage.area ≡ Log }
         ensures reads { result ≢ Err DiskFault }
-        ensures most { steps.new ≤ steps.old + moves_for self.old.chain.blocks item.now }
+        ensures most { steps.new ≤ steps.old + moves_for self.old.chain item.now }
     {
         match BlockView::read(item) {
             None => Ok((state, Decision::Stays(Verdict::Refused(1)))),

@@ -263,8 +263,8 @@ impl Node {
         ensures cause { CountsFault (D.faults disk.old) (D.faults disk.new) (result ≡ Err DiskFault) }
         ensures steps { (b : Block) → decoded schema.block item.now ≡ Some b
             → place_of self.chain.blocks b.header.parent_hash ≡ tip_place self.chain.blocks → steps.new ≤ steps.old + 1 }
-        ensures most { steps.new ≤ steps.old + moves_for self.chain.blocks item.now + 1 }
-        ensures stays { IfOk result (λ answer. joins answer.1 ≡ false → steps.new ≤ steps.old + moves_for self.chain.blocks item.now) }
+        ensures most { steps.new ≤ steps.old + moves_for self.chain item.now + 1 }
+        ensures stays { IfOk result (λ answer. joins answer.1 ≡ false → steps.new ≤ steps.old + moves_for self.chain item.now) }
     {
         let Node {
             mut kept,
