@@ -200,14 +200,15 @@ def genesis_transaction(data=b'', pairs=0):
                        [FILE, data] + [b''] * (2 * pairs), [])
 
 
-def make(seed, n, plain=False, block_bytes=0, genesis_bytes=0, pairs=0, row=False, far=W_FAR):
+def make(seed, n, plain=False, block_bytes=0, genesis_bytes=0, pairs=0, row=False, far=W_FAR, stands_on=None):
     """(specification, genesis, blocks, [(number, hash)] of genesis and blocks,
     the tip's place).  The genesis, by data of a cell, and each block, by the
     message of its cellbase, is made as long as is asked, if it is not longer.
     With pairs each block from the third on commits so many transactions, and
     none of the others.  In a row each block stands on the one before it; else
-    some have a sibling that a later one stands on.  The proposal window reaches
-    so far back."""
+    some have a sibling that a later one stands on, or each stands on the place
+    that `stands_on` has for it, which counts from 1.  The proposal window
+    reaches so far back."""
 
     first = genesis_transaction(bytes(lacking(genesis_bytes, [genesis_transaction(b'', pairs)])), pairs)
     heights = Heights(first, plain, block_bytes, pairs, far)
@@ -217,7 +218,9 @@ def make(seed, n, plain=False, block_bytes=0, genesis_bytes=0, pairs=0, row=Fals
     blocks = []
     tip, sibling = 0, False
     for i in range(1, n + 1):
-        if sibling:
+        if stands_on:
+            parent = stands_on[i - 1]
+        elif sibling:
             parent, sibling = i - 1, False
         elif not row and i >= 2 and (seed + 3 * i) % 7 == 0:
             parent, sibling = parents[tip], True

@@ -5,8 +5,8 @@
 
 crates/reorg_vectors/src/main.rt says what the columns are. The cells of each
 place are made by a replay of its branch from the genesis, in a dict, as
-docs/RULES.md ("Cells") and docs/STORE.md say; nothing is taken from the program,
-and nothing is taken back here.
+docs/RULES.md ("Cells") and docs/STORE.md say; nothing is taken from the program.
+Blocks are taken back only to find which of them a move stops at.
 """
 
 import random
@@ -24,21 +24,22 @@ class Tree:
         self.rows, self.blocks = rows, []
 
     def genesis(self, transactions):
-        self.blocks = [(None, 0, ckbhash(header(ZERO_HASH, 0, 0)), transactions)]
+        self.blocks = [(None, 0, ckbhash(header(ZERO_HASH, 0, 0)), transactions, None)]
         self.put('genesis', header(ZERO_HASH, 0, 0), transactions, None)
 
     def put(self, word, head, transactions, ext):
         block = table([head, table([]), table([t[0] for t in transactions]), fixvec([])])
         self.rows.append('\t'.join([word, block.hex()] + ([] if ext is None else [ext.hex()])))
 
+    def branch(self, place):
+        """The places from the genesis to this one."""
+        parent = self.blocks[place][0]
+        return ([] if parent is None else self.branch(parent)) + [place]
+
     def replayed(self, place):
         """The cells at a place, from the genesis on."""
-        branch, at = [], place
-        while at is not None:
-            branch.append(at)
-            at = self.blocks[at][0]
         cells = Cells()
-        for at in reversed(branch):
+        for at in self.branch(place):
             transactions = self.blocks[at][3]
             if at == 0:
                 for tx, (_, (tx_hash, _, outputs, datas)) in enumerate(transactions):
@@ -49,12 +50,12 @@ class Tree:
 
     def block(self, parent, transactions, ext=None, cells=None):
         """Keeps a block on a parent with its own ext, or with one that is not its own, and answers its place."""
-        _, number, parent_hash, _ = self.blocks[parent]
+        _, number, parent_hash, _, _ = self.blocks[parent]
         head = header(parent_hash, number + 1, len(self.blocks))
         if ext is None:
             ext = (cells or self.replayed(parent)).spent(transactions)
         place = len(self.blocks)
-        self.blocks.append((parent, number + 1, ckbhash(head), transactions))
+        self.blocks.append((parent, number + 1, ckbhash(head), transactions, ext))
         self.put('block', head, transactions, fixvec([uint(0, 8) for _ in transactions[1:]]) + fixvec(ext))
         return place
 
@@ -63,8 +64,25 @@ class Tree:
         order = sorted(rows, key=lambda o: (o[:32], int.from_bytes(o[32:], 'little')))
         self.rows.append('at\t%d\t%d\t%s' % (place, len(order), ckbhash(b''.join(rows[o] for o in order)).hex()))
 
+    def stops_at(self, first, other):
+        """The first block that cannot be taken back from the first place down, or that does not fit from there up to the other."""
+        before, after = self.branch(first), self.branch(other)
+        cells = self.replayed(first)
+        for place in reversed([place for place in before if place not in after]):
+            _, _, _, transactions, ext = self.blocks[place]
+            for _, (tx_hash, _, outputs, _) in transactions:
+                for i in range(len(outputs)):
+                    cells.rows.pop(tx_hash + uint(i, 4), None)
+            for row in ext:
+                if row[:36] in cells.rows:
+                    return place
+                cells.rows[row[:36]] = row
+        for place in after:
+            if place not in before and cells.tried(place, self.blocks[place][3]) is not None:
+                return place
+
     def damaged(self, first, other):
-        self.rows.append('damaged\t%d\t%d' % (first, other))
+        self.rows.append('damaged\t%d\t%d\t%d' % (first, other, self.stops_at(first, other)))
 
 
 def small(tree):
@@ -106,6 +124,11 @@ def small(tree):
     odd = tree.block(left, [cellbase(14), transaction([out_point(first, 0)], [Output(BYTE, b'q')])], ext=[])
     tree.damaged(root, odd)
     tree.damaged(twice, odd)
+    # the odd block in the middle of the way up
+    beyond = tree.block(odd, [cellbase(16)], ext=[])
+    last = tree.block(beyond, [cellbase(17)], ext=[])
+    tree.damaged(twice, last)
+    tree.damaged(left, beyond)
     tree.at(within)
     live = tree.replayed(within).rows
     kept = sorted(live)[0]
@@ -114,6 +137,12 @@ def small(tree):
     tree.damaged(wrong, within)
     tree.at(wrong)
     tree.damaged(wrong, other)
+    # the one with the wrong ext in the middle of the way down, and above an odd one
+    later = tree.block(tree.block(wrong, [cellbase(18)]), [cellbase(19)])
+    tree.at(later)
+    tree.damaged(later, other)
+    tree.damaged(later, last)
+    tree.damaged(later, root)
 
 
 def large(tree):

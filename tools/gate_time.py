@@ -8,7 +8,7 @@ and looks four times a second at what the processes below it have used. Then it
 prints a table: of each crate the seconds of the processor that its check, its tests
 and its must-fail edits took. What an earlier run on this machine has passed is kept
 and takes no time: `--anew` as a word proves all. With --write the table takes the
-place of the one in docs/ARCHITECTURE.md. The status is that of `rt ci`.
+place of the one in docs/PROVING.md. The status is that of `rt ci`.
 """
 
 import argparse
@@ -20,7 +20,7 @@ import threading
 import time
 
 TOP = os.path.dirname(os.path.dirname(os.path.abspath(__file__)))
-PAGE = os.path.join(TOP, 'docs', 'ARCHITECTURE.md')
+PAGE = os.path.join(TOP, 'docs', 'PROVING.md')
 BEGIN, END = '<!-- the gate\'s time: made by tools/gate_time.py -->\n', '<!-- end -->\n'
 KINDS = ('check', 'tests', 'edits')
 TICKS = os.sysconf('SC_CLK_TCK')

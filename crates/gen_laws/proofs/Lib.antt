@@ -1,2 +1,4 @@
 pub mod OwedLemmas
 pub mod NextLemmas
+pub mod SizeLemmas
+pub mod StartLemmas

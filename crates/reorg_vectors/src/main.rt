@@ -7,8 +7,9 @@
 //! - `block`, a `Block` and its ext: it is kept on the block whose hash it names, at the next place
 //! - `at`, a place, a count and a hash: how many cells are live there, and the hash of all their rows in order, as
 //!   docs/STORE.md has a row
-//! - `damaged`, a place and another: between the two a block cannot be taken back or applied; the cells are then those
-//!   of the first place again, made anew from the genesis
+//! - `damaged`, a place and another, and a third: from the first to the second the block at the third is the first that
+//!   cannot be taken back or applied, and its record is damaged; the cells are then those of the first place again, made
+//!   anew from the genesis
 //!
 //! examples/make_reorg_rows.py makes the rows.
 #![tactic(auto)]
@@ -18,14 +19,14 @@ mod tree;
 ghost use Rattle.std.specs.Prelude.{◌≡◌, ◌<◌};
 
 use cell_state::State;
-use outside::{ReadStop, Steps};
+use outside::{Area, ReadStop, Steps};
 use row_table::{Row, Subject, all_agree};
 use std::alloc::Global;
 use std::io;
 use std::marker::Brand;
 use std::process::ExitCode;
 use std::sync::ledger::{Blank, Ledger};
-use tree::{Kept, digest, of_genesis};
+use tree::{Kept, digest, of_genesis, record_at};
 
 /// The kept blocks, and the live cells with the place where they stand.
 #[derive(Drop)]
@@ -75,10 +76,10 @@ impl<'s, L: Ledger> Table<'s, L> {
     }
 
     fn is_damaged(&mut self, alloc: Global, row: &mut Row) -> Option<bool> {
-        let (from, to) = (row.short()?, row.short()?);
+        let (from, to, place) = (row.short()?, row.short()?, row.short()?);
         self.go(alloc, from)?.ok()?;
         let damaged = match self.go(alloc, to)? {
-            Err(ReadStop::Damaged(_)) => true,
+            Err(ReadStop::Damaged(damage)) => damage.area == Area::Log && damage.at == record_at(place),
             _ => false,
         };
         self.state = self.kept.as_ref()?.first_state(alloc);

@@ -25,7 +25,12 @@ pub(crate) struct Kept {
     genesis: Vec<u8>,
 }
 
-fn entry_of(header: &HeaderView<'_>, parent: u32) -> Entry {
+/// Where the tree has the record of the block at a place; no two places share one.
+pub(crate) fn record_at(place: u32) -> u64 {
+    1_000 * (u64::from(place) + 1)
+}
+
+fn entry_of(header: &HeaderView<'_>, place: u32, parent: u32) -> Entry {
     let mut dao = [0; 32];
     dao.copy_from_slice(header.dao());
     Entry {
@@ -34,7 +39,7 @@ fn entry_of(header: &HeaderView<'_>, parent: u32) -> Entry {
         number: header.number(),
         timestamp: header.timestamp(),
         dao,
-        at: 0,
+        at: record_at(place),
         len: 0,
     }
 }
@@ -85,7 +90,7 @@ fn join(tree: &mut Tree, entry: Entry) -> Option<()> {
 
 /// A genesis alone; None where it is none.
 pub(crate) fn of_genesis(alloc: Global, bytes: &[u8]) -> Option<Kept> {
-    let entry = entry_of(&BlockView::read(bytes)?.header(), 0);
+    let entry = entry_of(&BlockView::read(bytes)?.header(), 0, 0);
     if entry.number != 0 {
         return None;
     }
@@ -105,7 +110,8 @@ impl Kept {
         let mut parent_hash = [0; 32];
         parent_hash.copy_from_slice(header.parent_hash());
         let parent = self.tree.find(&parent_hash)?;
-        join(&mut self.tree, entry_of(&header, parent))?;
+        let place = self.tree.len();
+        join(&mut self.tree, entry_of(&header, place, parent))?;
         put(alloc, &mut self.blocks, bytes, ext)
     }
 
