@@ -22,7 +22,7 @@ use Rattle.cell_defs.specs.Row.{Row, live_row}
 use Rattle.cell_defs.specs.Fit.{are_live, AllFit}
 use Rattle.cell_model.specs.ListBlocks.{IsExtFor}
 use Rattle.cell_state.specs.State.{StateValue, rows, Grows}
-use Rattle.replay.proofs.RowLemmas.{live_row-front}
+use Rattle.reorg.proofs.RowLemmas.{live_row-front}
 use Rattle.cell_laws.proofs.FitLemmas.{row-where-cell, all-same}
 use Rattle.chain_tree.specs.declared.entry.Entry.{Entry}
 use Rattle.chain_tree.specs.Entries.{entry_at, place_of_hash, FollowsParent}

@@ -27,7 +27,7 @@ use epochs::Spec;
 use log_file::{LogStop, ext_form};
 use mol_schema::BlockView;
 use outside::{NoMemory, ReadStop, Steps};
-use replay::replay;
+use crate::applying::replay;
 use std::alloc::Global;
 use std::sync::ledger::Ledger;
 use uncle_rules::Uncles;

@@ -1,3 +1,7 @@
+pub mod PlaceLemmas
+pub mod RowLemmas
+pub mod FitLemmas
+pub mod StepLemmas
 pub mod DistanceLemmas
 pub mod PathLemmas
 pub mod ToldLemmas

@@ -9,7 +9,7 @@ use Rattle.chain_defs.specs.Kept.{parent_place, IsKept}
 use Rattle.chain_defs.specs.Branch.{branch_places}
 use Rattle.chain_defs.proofs.KeptLaws.{slice_get-below, slice_get-push, slice_get-pushed}
 use Rattle.chain_defs.proofs.BranchLaws.{parent_place-below}
-use Rattle.replay.proofs.PlaceLemmas.{branch-first, branch-linked}
+use Rattle.reorg.proofs.PlaceLemmas.{branch-first, branch-linked}
 use Rattle.reorg.specs.Moves.{IsPathUp}
 use Rattle.reorg.proofs.DistanceLemmas.{places-step, places-first}
 

@@ -7,6 +7,7 @@
 //! stands beside it is a premise on what the source tells; that kept blocks are so is left to the layers above.
 #![tactic(auto)]
 
+mod applying;
 mod moving;
 mod parent;
 mod undoing;

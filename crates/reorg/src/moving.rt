@@ -10,7 +10,7 @@ ghost use Rattle.chain_tree.specs.Blocks.{IndexesBlocks};
 ghost use Rattle.chain_tree.specs.Told.{Stored, blocks_of};
 ghost use Rattle.cell_defs.specs.Fit.{BranchFits};
 ghost use Rattle.cell_state.specs.State.{rows};
-ghost use Rattle.replay.specs.Damages.{IsAtRecord};
+ghost use Rattle.reorg.specs.Damages.{IsAtRecord};
 ghost use Rattle.reorg.specs.Moves.{EachCanBeTakenBack, AreOf, IsPathUp, IsOnTheWay, AreOnTheWay};
 
 use crate::parent::parent_in;
@@ -18,7 +18,7 @@ use crate::undoing::undo_at;
 use cell_state::State;
 use chain_tree::{Blocks, Tree};
 use outside::{ReadStop, Steps};
-use replay::apply_at;
+use crate::applying::apply_at;
 use std::alloc::Global;
 use std::sync::ledger::Ledger;
 

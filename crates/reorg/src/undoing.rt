@@ -8,14 +8,14 @@ ghost use Rattle.outside.specs.declared.disk.ReadStop.TheVariants.{DiskFault, Da
 ghost use Rattle.chain_tree.specs.Told.{Stored};
 ghost use Rattle.cell_defs.specs.Row.{Row};
 ghost use Rattle.cell_state.specs.State.{rows};
-ghost use Rattle.replay.specs.Damages.{IsAtRecord};
+ghost use Rattle.reorg.specs.Damages.{IsAtRecord};
 ghost use Rattle.reorg.specs.Moves.{CanBeTakenBack};
 
 use cell_model::Ext;
 use cell_state::State;
 use chain_tree::{Blocks, Tree};
 use outside::{ReadStop, Steps};
-use replay::damage_at;
+use crate::applying::damage_at;
 use std::alloc::Global;
 use std::sync::ledger::Ledger;
 

@@ -3,7 +3,7 @@ use Rattle.cell_defs.specs.Events.{events_of_block}
 use Rattle.cell_state.specs.State.{rows}
 use Rattle.cell_defs.specs.Fit.{are_live}
 use Rattle.cell_laws.proofs.FitLemmas.{found-same}
-use Rattle.replay.proofs.FitLemmas.{none-odd}
+use Rattle.reorg.proofs.FitLemmas.{none-odd}
 use Rattle.node_core.proofs.OpenLemmas.{ok_err, memory_no_damage, memory_no_fault, damage_no_fault}
 use Rattle.node_core.proofs.kept.grown.Goals as goal
 

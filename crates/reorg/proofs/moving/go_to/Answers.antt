@@ -4,7 +4,7 @@ use Rattle.chain_defs.specs.Branch.{branch_places}
 use Rattle.chain_tree.specs.Told.{Stored, blocks_of}
 use Rattle.cell_state.specs.State.{rows}
 use Rattle.outside.proofs.Endings.{handed}
-use Rattle.replay.proofs.StepLemmas.{AreRowsAt, block-there, rows-next, fits-here}
+use Rattle.reorg.proofs.StepLemmas.{AreRowsAt, block-there, rows-next, fits-here}
 use Rattle.reorg.proofs.PathLemmas.{height_after, read-at, on-path, path-top}
 use Rattle.reorg.proofs.moving.go_to.Goals as goal
 

@@ -2,7 +2,7 @@ use Rattle.std.proofs.Common.{◌≡◌, sym, ◌∙◌}
 use Rattle.std.proofs.lemmas.Bool.{false≢true}
 use Rattle.chain_tree.specs.Told.{Stored}
 use Rattle.cell_state.specs.State.{rows}
-use Rattle.replay.proofs.FitLemmas.{at-record}
+use Rattle.reorg.proofs.FitLemmas.{at-record}
 use Rattle.reorg.proofs.ToldLemmas.{told-it, comes-back}
 use Rattle.reorg.proofs.undoing.undo_at.Goals as goal
 

@@ -6,9 +6,9 @@ use Rattle.cell_defs.specs.Fit.{are_live, AllFit}
 use Rattle.cell_laws.proofs.FitLemmas.{found-same}
 use Rattle.cell_state.specs.State.{rows}
 use Rattle.outside.proofs.Endings.{no_fault, handed, counts-handed, no_answer, no_memory, no_damage, memory_undamaged, in_log, is_told}
-use Rattle.replay.proofs.RowLemmas.{row_after-same}
-use Rattle.replay.proofs.FitLemmas.{told-block, none-odd, at-record}
-use Rattle.replay.proofs.applying.apply_at.Goals as goal
+use Rattle.reorg.proofs.RowLemmas.{row_after-same}
+use Rattle.reorg.proofs.FitLemmas.{told-block, none-odd, at-record}
+use Rattle.reorg.proofs.applying.apply_at.Goals as goal
 
 pub returns-in-Err : goal.returns-in-Err
 returns-in-Err g c = record {

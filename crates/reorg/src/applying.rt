@@ -11,7 +11,7 @@ ghost use Rattle.cell_defs.specs.Events.{events_of_block};
 ghost use Rattle.cell_defs.specs.Row.{row_after};
 ghost use Rattle.cell_defs.specs.Fit.{are_live, AllFit};
 ghost use Rattle.cell_state.specs.State.{rows};
-ghost use Rattle.replay.specs.Damages.{IsAtRecord};
+ghost use Rattle.reorg.specs.Damages.{IsAtRecord};
 
 use cell_state::{State, outputs_in};
 use chain_tree::{Blocks, Tree};

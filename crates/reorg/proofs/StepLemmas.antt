@@ -16,8 +16,8 @@ use Rattle.cell_defs.specs.Events.{events_of_block, live_cell}
 use Rattle.cell_defs.specs.Row.{Row, row_after, live_row}
 use Rattle.cell_laws.proofs.JoinLemmas.{length-branch}
 use Rattle.cell_defs.specs.Fit.{are_live, AllFit, BranchFits}
-use Rattle.replay.proofs.PlaceLemmas.{branch-first, branch-linked}
-use Rattle.replay.proofs.RowLemmas.{row_after-same, live_row-step, live_row-genesis}
+use Rattle.reorg.proofs.PlaceLemmas.{branch-first, branch-linked}
+use Rattle.reorg.proofs.RowLemmas.{row_after-same, live_row-step, live_row-genesis}
 use Rattle.cell_laws.proofs.FitLemmas.{row-where-cell, all-same}
 
 -- The rows are those of the branch that ends with the place of a height.

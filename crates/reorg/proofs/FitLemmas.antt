@@ -16,7 +16,7 @@ use Rattle.outside.specs.declared.disk.ReadStop.{ReadStop}
 use Rattle.outside.specs.declared.disk.ReadStop.TheVariants.{Damaged}
 use Rattle.outside.specs.declared.disk.Damage.{Damage}
 use Rattle.chain_tree.specs.declared.entry.Entry.{Entry}
-use Rattle.replay.specs.Damages.{IsAtRecord}
+use Rattle.reorg.specs.Damages.{IsAtRecord}
 
 -- the block in hand is the one at its place
 pub told-block : (stored : List Stored) (view : Block) (place : ℕ) (b : Block) (told : Option (List Stored)) (hand : Option ℕ) → told ≡ Some stored

@@ -3,8 +3,8 @@ use Rattle.codec_defs.specs.Schema.{Block}
 use Rattle.cell_defs.specs.Events.{events_of_block}
 use Rattle.cell_defs.specs.Row.{row_after}
 use Rattle.outside.proofs.Endings.{no_fault, handed, counts-handed, no_answer, no_memory, memory_undamaged, is_told}
-use Rattle.replay.proofs.FitLemmas.{told-block}
-use Rattle.replay.proofs.applying.genesis_cells.Goals as goal
+use Rattle.reorg.proofs.FitLemmas.{told-block}
+use Rattle.reorg.proofs.applying.genesis_cells.Goals as goal
 
 pub returns-in-Err : goal.returns-in-Err
 returns-in-Err g c = record {

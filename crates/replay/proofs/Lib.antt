@@ -1,5 +1,0 @@
-pub mod DownLemmas
-pub mod PlaceLemmas
-pub mod RowLemmas
-pub mod FitLemmas
-pub mod StepLemmas

@@ -1,2 +1,0 @@
-pub mod Down
-pub mod Damages
