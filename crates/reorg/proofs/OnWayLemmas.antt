@@ -15,7 +15,7 @@ by-parent kept end parent place is =
     ap (λ (places : List ℕ). has places place) (places-step kept end parent is)
     ∙ list_any-append (λ (other : ℕ). other == place) (branch_places kept parent) (end ∷ [])
 
-own : (kept : List Block) (end : ℕ) → is_on_branch kept end end ≡ true
+pub own : (kept : List Block) (end : ℕ) → is_on_branch kept end end ≡ true
 own kept end = by_found (parent_place kept end) refl
   where
     itself : ((end == end) || false) ≡ true
@@ -28,6 +28,11 @@ own kept end = by_found (parent_place kept end) refl
     by_found : (found : Option ℕ) → parent_place kept end ≡ found → is_on_branch kept end end ≡ true
     by_found None is = ap (λ (places : List ℕ). has places end) (places-first kept end is) ∙ itself
     by_found (Some parent) is = by-parent kept end parent end is ∙ last (is_on_branch kept parent end)
+
+-- What is on the branch of a parent is on its child's.
+pub on-branch-of-child : (kept : List Block) (end parent place : ℕ) → parent_place kept end ≡ Some parent → is_on_branch kept parent place ≡ true
+    → is_on_branch kept end place ≡ true
+on-branch-of-child kept end parent place is on = by-parent kept end parent place is ∙ ap (λ (b : Bool). b || ((end == place) || false)) on
 
 -- The way back is the way.
 turned : (kept : List Block) (from to place : ℕ) → IsOnTheWay kept from to place → IsOnTheWay kept to from place

@@ -1,6 +1,6 @@
 -- Steps of a way down and up.
-use Rattle.std.proofs.Common.{◌≡◌, ℕ, zero, suc, ◌<◌, List, [], ◌∷◌, ◌++◌, length, drop, Option, Some, None, refl, sym, ap, ◌∙◌, subst, inl, inr, ◌⊎◌, arith}
-use Rattle.std.specs.Prelude.{slice_get}
+use Rattle.std.proofs.Common.{◌≡◌, ℕ, zero, suc, ◌<◌, Bool, true, false, List, [], ◌∷◌, ◌++◌, length, drop, Option, Some, None, refl, sym, ap, ◌∙◌, subst, inl, inr, ◌⊎◌, arith}
+use Rattle.std.specs.Prelude.{slice_get, not}
 use Rattle.std.specs.Option.{option_map}
 use Rattle.std.proofs.lemmas.Option.{slice_get-map}
 use Rattle.chain_defs.proofs.KeptLaws.{slice_get-below, slice_get-pushed}
@@ -14,7 +14,9 @@ use Rattle.chain_tree.proofs.BlockLemmas.{len-same}
 use Rattle.cell_defs.specs.Row.{Row, live_row}
 use Rattle.cell_defs.specs.Events.{events_of_block}
 use Rattle.undo_defs.specs.Laws.{ComesBefore}
-use Rattle.reorg.specs.Moves.{CanBeTakenBack, EachCanBeTakenBack, AreOf}
+use Rattle.chain_defs.proofs.BranchLaws.{parent_place-below}
+use Rattle.reorg.specs.Moves.{CanBeTakenBack, CanGoDown, AreOf, is_on_branch, IsOnTheWay}
+use Rattle.reorg.proofs.DistanceLemmas.{not-later}
 
 pub parent-earlier : (entries : List Entry) (place : ℕ) (entry : Entry) → IsTree entries → 0 < place → entry_at entries place ≡ Some entry
     → entry.parent < place
@@ -59,11 +61,28 @@ taken-same b bytes one other before same can = record {
 }
 
 -- the block at a place can be taken back from the rows of its branch, as they stand
-pub taken-here : (stored : List Stored) (place parent : ℕ) (it : Stored) (rows : OutPoint → Option Row) → EachCanBeTakenBack stored
+pub taken-here : (stored : List Stored) (from to place parent : ℕ) (it : Stored) (rows : OutPoint → Option Row) → CanGoDown stored from to
+    → is_on_branch (blocks_of stored) from place ≡ true → IsOnTheWay (blocks_of stored) from to place
     → slice_get stored place ≡ Some it → parent_place (blocks_of stored) place ≡ Some parent → AreOf (blocks_of stored) place rows
     → CanBeTakenBack it.block it.ext rows (live_row (blocks_of stored) parent)
-taken-here stored place parent it rows each there is are =
-    taken-same it.block it.ext (live_row (blocks_of stored) place) rows (live_row (blocks_of stored) parent) (λ o. sym (are o)) (each place parent it there is)
+taken-here stored from to place parent it rows can on way there is are =
+    taken-same it.block it.ext (live_row (blocks_of stored) place) rows (live_row (blocks_of stored) parent) (λ o. sym (are o))
+    (can place parent it on (off (is_on_branch (blocks_of stored) to place) (sym on ∙ way)) there is)
+  where
+    off : (b : Bool) → true ≡ not b → b ≡ false
+    off true e = e
+    off false e = refl
+
+-- From the genesis nothing is taken back.
+pub down-from-genesis : (stored : List Stored) (to : ℕ) → CanGoDown stored 0 to
+down-from-genesis stored to zero parent it on off there is = absurd (never (parent_place-below (blocks_of stored) 0 parent is))
+  where
+    never : parent < 0 → ⊥
+    never below = omega (arith, below)
+down-from-genesis stored to (suc place) parent it on off there is = absurd (clash (sym on ∙ not-later (blocks_of stored) 0 (suc place) (omega arith)))
+  where
+    clash : true ≡ false → ⊥
+    clash e = cc
 
 -- A kept block that is not the genesis has a parent.
 pub parent-there : (kept : List Block) (entries : List Entry) (place : ℕ) → IndexesBlocks kept entries → place < length entries → 0 < place

@@ -1,5 +1,5 @@
 -- What it takes to go from one place's branch to another's.
-use Rattle.std.specs.Prelude.{◌≡◌, ℕ, ◌-◌, ◌<◌, ◌==◌, Bool, not, List, length, Option, Some, slice_get}
+use Rattle.std.specs.Prelude.{◌≡◌, ℕ, ◌-◌, ◌<◌, ◌==◌, Bool, true, false, not, List, length, Option, Some, slice_get}
 use Rattle.std.specs.List.{list_any}
 use Rattle.codec_defs.specs.Schema.{OutPoint, Block}
 use Rattle.chain_defs.specs.Kept.{parent_place}
@@ -32,6 +32,12 @@ AreOf kept place rows = (o : OutPoint) → rows o ≡ live_row kept place o
 -- whether a place is on the branch of another
 abbrev pub is_on_branch : List Block → ℕ → ℕ → Bool
 is_on_branch kept end place = list_any (λ other. other == place) (branch_places kept end)
+
+-- Each block that is taken back on the way from one place to another can be: those on the branch of the first that are not on the other's.
+abbrev pub CanGoDown : List Stored → ℕ → ℕ → Type 0
+CanGoDown stored from to = (place parent : ℕ) (it : Stored) → is_on_branch (blocks_of stored) from place ≡ true → is_on_branch (blocks_of stored) to place ≡ false
+    → slice_get stored place ≡ Some it → parent_place (blocks_of stored) place ≡ Some parent
+    → CanBeTakenBack it.block it.ext (live_row (blocks_of stored) place) (live_row (blocks_of stored) parent)
 
 -- A place is on the way from one place to another where it is on just one of their branches: it is one of those that distance counts.
 abbrev pub IsOnTheWay : List Block → ℕ → ℕ → ℕ → Type 0

@@ -6,12 +6,14 @@ ghost use Rattle.outside.specs.declared.disk.Area.TheVariants.{Log};
 ghost use Rattle.outside.specs.declared.disk.Damage as disk;
 ghost use Rattle.outside.specs.declared.disk.ReadStop.TheVariants.{DiskFault, Damaged};
 ghost use Rattle.chain_defs.specs.Kept.{block_at};
+ghost use Rattle.chain_tree.specs.Blocks.{IndexesBlocks};
 ghost use Rattle.chain_tree.specs.Told.{Stored, blocks_of};
 ghost use Rattle.cell_defs.specs.Events.{events_of_block};
 ghost use Rattle.cell_defs.specs.Row.{row_after};
 ghost use Rattle.cell_defs.specs.Fit.{are_live, AllFit};
 ghost use Rattle.cell_state.specs.State.{rows};
 ghost use Rattle.reorg.specs.Damages.{IsAtRecord};
+ghost use Rattle.reorg.specs.Moves.{AreOf};
 
 use cell_state::{State, outputs_in};
 use chain_tree::{Blocks, Tree};
@@ -21,7 +23,7 @@ use std::alloc::Global;
 use std::sync::ledger::Ledger;
 
 /// Damage at the record of a kept block.
-pub fn damage_at(tree: &Tree, place: u32) -> Damage
+pub(crate) fn damage_at(tree: &Tree, place: u32) -> Damage
     requires { place < length tree.now.entries }
     ensures area { result.area ≡ Log }
     ensures at { IsAtRecord tree.now.entries place result }
@@ -32,8 +34,9 @@ pub fn damage_at(tree: &Tree, place: u32) -> Damage
     }
 }
 
-/// The cells that the genesis leaves. Damaged where the source finds it damaged.
-pub(crate) fn genesis_cells<B: Blocks>(
+/// The cells that the genesis leaves, from which the branch of any other place can be gone to. Damaged where the source finds
+/// it damaged.
+pub fn genesis_cells<B: Blocks>(
     alloc: Global,
     tree: &Tree,
     blocks: &mut B,
@@ -43,8 +46,8 @@ pub(crate) fn genesis_cells<B: Blocks>(
     ensures told { B.told blocks.new ≡ B.told blocks.old }
     ensures count { B.count blocks.new ≡ B.count blocks.old }
     ensures loans { B.loans_of blocks.new ≡ B.loans_of blocks.old }
-    ensures rows { (stored : List Stored) (b : Block) → B.told blocks.old ≡ Some stored → block_at (blocks_of stored) 0 ≡ Some b
-        → IfOk result (λ state. (o : OutPoint) → rows state o ≡ row_after 0 (events_of_block 0 b) (λ _. None) o) }
+    ensures rows { (stored : List Stored) → B.told blocks.old ≡ Some stored → IndexesBlocks (blocks_of stored) tree.now.entries
+        → IfOk result (λ state. AreOf (blocks_of stored) 0 (rows state)) }
     ensures undamaged { (stored : List Stored) → B.told blocks.old ≡ Some stored → (damage : disk.Damage) → result ≡ Err (Damaged damage) → ⊥ }
     ensures damage { (damage : disk.Damage) → result ≡ Err (Damaged damage) → damage.area ≡ Log }
     ensures cause { CountsFault (B.faults blocks.old) (B.faults blocks.new) (result ≡ Err DiskFault) }
@@ -62,7 +65,7 @@ pub(crate) fn genesis_cells<B: Blocks>(
 
 /// Takes the events of the kept block at a place, which is not the genesis. Damaged where the source finds it damaged, or
 /// its events do not fit.
-pub fn apply_at<B: Blocks, L: Ledger>(
+pub(crate) fn apply_at<B: Blocks, L: Ledger>(
     state: &mut State,
     tree: &Tree,
     blocks: &mut B,

@@ -11,14 +11,14 @@ ghost use Rattle.chain_tree.specs.Told.{Stored, blocks_of};
 ghost use Rattle.cell_defs.specs.Fit.{BranchFits};
 ghost use Rattle.cell_state.specs.State.{rows};
 ghost use Rattle.reorg.specs.Damages.{IsAtRecord};
-ghost use Rattle.reorg.specs.Moves.{EachCanBeTakenBack, AreOf, IsPathUp, IsOnTheWay, AreOnTheWay};
+ghost use Rattle.reorg.specs.Moves.{CanGoDown, AreOf, IsPathUp, IsOnTheWay, AreOnTheWay};
 
+use crate::applying::apply_at;
 use crate::parent::parent_in;
 use crate::undoing::undo_at;
 use cell_state::State;
 use chain_tree::{Blocks, Tree};
 use outside::{ReadStop, Steps};
-use crate::applying::apply_at;
 use std::alloc::Global;
 use std::sync::ledger::Ledger;
 
@@ -44,9 +44,9 @@ fn go_down<B: Blocks, L: Ledger>(
     ensures on_way { (kept : List Block) → IndexesBlocks kept tree.now.entries → IfOk result (λ it. AreOnTheWay kept from to it.1.items) }
     ensures path { (kept : List Block) → IndexesBlocks kept tree.now.entries → IfOk result (λ it. IsPathUp kept to it.1.items it.0) }
     ensures rows { (stored : List Stored) → B.told blocks.old ≡ Some stored → IndexesBlocks (blocks_of stored) tree.now.entries
-        → EachCanBeTakenBack stored → AreOf (blocks_of stored) from (rows state.old) → IfOk result (λ it. AreOf (blocks_of stored) it.0 (rows state.new)) }
+        → CanGoDown stored from to → AreOf (blocks_of stored) from (rows state.old) → IfOk result (λ it. AreOf (blocks_of stored) it.0 (rows state.new)) }
     ensures undamaged { (stored : List Stored) → B.told blocks.old ≡ Some stored → IndexesBlocks (blocks_of stored) tree.now.entries
-        → EachCanBeTakenBack stored → AreOf (blocks_of stored) from (rows state.old) → (damage : Damage) → result ≡ Err (Damaged damage) → ⊥ }
+        → CanGoDown stored from to → AreOf (blocks_of stored) from (rows state.old) → (damage : Damage) → result ≡ Err (Damaged damage) → ⊥ }
     ensures damage { (damage : Damage) → result ≡ Err (Damaged damage) → damage.area ≡ Log }
     ensures at_record { (kept : List Block) → IndexesBlocks kept tree.now.entries → IsSome (B.told blocks.old) → (damage : Damage) → result ≡ Err (Damaged damage)
         → (place : ℕ) × (IsOnTheWay kept from to place × IsAtRecord tree.now.entries place damage) }
@@ -101,9 +101,9 @@ pub fn go_to<B: Blocks, L: Ledger>(
     ensures count { B.count blocks.new ≡ B.count blocks.old }
     ensures loans { B.loans_of blocks.new ≡ B.loans_of blocks.old }
     ensures rows { (stored : List Stored) → B.told blocks.old ≡ Some stored → IndexesBlocks (blocks_of stored) tree.now.entries
-        → EachCanBeTakenBack stored → AreOf (blocks_of stored) from (rows state) → IfOk result (λ there. AreOf (blocks_of stored) to (rows there)) }
+        → CanGoDown stored from to → AreOf (blocks_of stored) from (rows state) → IfOk result (λ there. AreOf (blocks_of stored) to (rows there)) }
     ensures undamaged { (stored : List Stored) → B.told blocks.old ≡ Some stored → IndexesBlocks (blocks_of stored) tree.now.entries
-        → EachCanBeTakenBack stored → AreOf (blocks_of stored) from (rows state) → BranchFits (blocks_of stored) to
+        → CanGoDown stored from to → AreOf (blocks_of stored) from (rows state) → BranchFits (blocks_of stored) to
         → (damage : Damage) → result ≡ Err (Damaged damage) → ⊥ }
     ensures damage { (damage : Damage) → result ≡ Err (Damaged damage) → damage.area ≡ Log }
     ensures at_record { (kept : List Block) → IndexesBlocks kept tree.now.entries → IsSome (B.told blocks.old) → (damage : Damage) → result ≡ Err (Damaged damage)

@@ -11,11 +11,11 @@ ghost use Rattle.cell_state.specs.State.{rows};
 ghost use Rattle.reorg.specs.Damages.{IsAtRecord};
 ghost use Rattle.reorg.specs.Moves.{CanBeTakenBack};
 
+use crate::applying::damage_at;
 use cell_model::Ext;
 use cell_state::State;
 use chain_tree::{Blocks, Tree};
 use outside::{ReadStop, Steps};
-use crate::applying::damage_at;
 use std::alloc::Global;
 use std::sync::ledger::Ledger;
 

@@ -1,4 +1,4 @@
-use Rattle.std.proofs.Common.{◌≡◌, ◌+◌, ◌<◌, ℕ, List, Option, length, refl, sym, ap, ◌∙◌, subst, arith}
+use Rattle.std.proofs.Common.{◌≡◌, ◌+◌, ◌<◌, List, Option, length, refl, sym, ap, ◌∙◌, subst, arith}
 use Rattle.std.proofs.lemmas.List.{length_push}
 use Rattle.std.specs.Prelude.{IsSome}
 use Rattle.chain_defs.specs.Branch.{distance}
@@ -10,7 +10,7 @@ use Rattle.outside.proofs.Endings.{handed}
 use Rattle.reorg.proofs.DistanceLemmas.{none-away, high-nearer, low-nearer}
 use Rattle.reorg.proofs.PathLemmas.{path-none, path-more}
 use Rattle.reorg.proofs.WayLemmas.{each-none, each-more, stored-there, taken-here, parent-there}
-use Rattle.reorg.proofs.OnWayLemmas.{high-on-way, low-on-way, way-by-high, way-by-low}
+use Rattle.reorg.proofs.OnWayLemmas.{high-on-way, low-on-way, on-branch-of-child, own, way-by-high, way-by-low}
 use Rattle.reorg.specs.Moves.{IsOnTheWay}
 use Rattle.reorg.proofs.moving.go_down.Goals as goal
 
@@ -28,8 +28,9 @@ down-init g c =
       within = each-none (λ place. place < length c.args.tree.now.entries) c.new-up.result.items none;
       path = λ kept indexes. path-none kept c.args.to c.new-up.result.items none;
       way = λ kept indexes place way. way;
+      down = λ kept indexes place on. on;
       on_way = λ kept indexes. each-none (IsOnTheWay kept c.args.from c.args.to) c.new-up.result.items none;
-      rows = λ stored tells indexes each are. are;
+      rows = λ stored tells indexes can are. are;
       steps = λ kept indexes. omega (arith, long);
     }
 
@@ -52,6 +53,7 @@ down-preserved-in-Some g c =
           (c.down.invariant.path kept indexes) grown (sym (c.in-Some.ensures.of_blocks kept indexes));
       way = λ kept indexes place way. c.down.invariant.way kept indexes place
           (way-by-high kept c.down.low c.down.high c.in-Some.parent place c.if-low-high.true (sym (c.in-Some.ensures.of_blocks kept indexes)) way);
+      down = c.down.invariant.down;
       on_way = λ kept indexes.
           each-more (IsOnTheWay kept c.args.from c.args.to) c.down.up.items c.push.new.self.items c.down.high grown
           (c.down.invariant.way kept indexes c.down.high (high-on-way kept c.down.low c.down.high c.if-low-high.true))
@@ -64,11 +66,13 @@ down-preserved-in-Some g c =
     }
 
 pub returns-in-Err-undo_at-clause-undamaged : goal.returns-in-Err-undo_at-clause-undamaged
-returns-in-Err-undo_at-clause-undamaged g c stored tells indexes each are damage same =
+returns-in-Err-undo_at-clause-undamaged g c stored tells indexes can are damage same =
     let it = stored-there stored c.args.tree.now.entries c.down.low indexes c.down.invariant.low in
     let parent = parent-there (blocks_of stored) c.args.tree.now.entries c.down.low indexes c.down.invariant.low (omega arith) in
     c.in-Err-undo_at.ensures.undamaged stored it.0 (live_row (blocks_of stored) parent.0) (c.down.invariant.told ∙ tells) it.1
-    (taken-here stored c.down.low parent.0 it.0 (rows c.down.state) each it.1 parent.1 (c.down.invariant.rows stored tells indexes each are))
+    (taken-here stored c.args.from c.args.to c.down.low parent.0 it.0 (rows c.down.state) can
+    (c.down.invariant.down (blocks_of stored) indexes c.down.low (own (blocks_of stored) c.down.low))
+    (c.down.invariant.way (blocks_of stored) indexes c.down.low (low-on-way (blocks_of stored) c.down.low c.down.high (omega arith))) it.1 parent.1 (c.down.invariant.rows stored tells indexes can are))
     damage (handed c.in-Err-undo_at.stop _ same)
 
 pub returns-in-Err-undo_at-clause-most : goal.returns-in-Err-undo_at-clause-most
@@ -91,12 +95,16 @@ down-preserved g c = record {
   path = c.down.invariant.path;
   way = λ kept indexes place way. c.down.invariant.way kept indexes place
       (way-by-low kept c.down.low c.down.high c.in-Some-parent_in.parent place (omega arith) (sym (c.in-Some-parent_in.ensures.of_blocks kept indexes)) way);
+  down = λ kept indexes place on. c.down.invariant.down kept indexes place
+      (on-branch-of-child kept c.down.low c.in-Some-parent_in.parent place (sym (c.in-Some-parent_in.ensures.of_blocks kept indexes)) on);
   on_way = c.down.invariant.on_way;
-  rows = λ stored tells indexes each are.
+  rows = λ stored tells indexes can are.
       let it = stored-there stored c.args.tree.now.entries c.down.low indexes c.down.invariant.low in
       c.in-Ok-undo_at.ensures.rows stored it.0 (live_row (blocks_of stored) c.in-Some-parent_in.parent) (c.down.invariant.told ∙ tells) it.1
-      (taken-here stored c.down.low c.in-Some-parent_in.parent it.0 (rows c.down.state) each it.1
-      (sym (c.in-Some-parent_in.ensures.of_blocks (blocks_of stored) indexes)) (c.down.invariant.rows stored tells indexes each are));
+      (taken-here stored c.args.from c.args.to c.down.low c.in-Some-parent_in.parent it.0 (rows c.down.state) can
+      (c.down.invariant.down (blocks_of stored) indexes c.down.low (own (blocks_of stored) c.down.low))
+      (c.down.invariant.way (blocks_of stored) indexes c.down.low (low-on-way (blocks_of stored) c.down.low c.down.high (omega arith))) it.1
+      (sym (c.in-Some-parent_in.ensures.of_blocks (blocks_of stored) indexes)) (c.down.invariant.rows stored tells indexes can are));
   steps = λ kept indexes.
       let before = c.down.invariant.steps kept indexes in
       let nearer = low-nearer kept c.down.low c.down.high c.in-Some-parent_in.parent (omega arith) (sym (c.in-Some-parent_in.ensures.of_blocks kept indexes)) in

@@ -9,7 +9,7 @@ use Rattle.reorg.proofs.PathLemmas.{height_after, read-at, on-path, path-top}
 use Rattle.reorg.proofs.moving.go_to.Goals as goal
 
 pub returns-in-Err-apply_at-clause-undamaged : goal.returns-in-Err-apply_at-clause-undamaged
-returns-in-Err-apply_at-clause-undamaged g c stored tells indexes each are fits damage same =
+returns-in-Err-apply_at-clause-undamaged g c stored tells indexes can are fits damage same =
     let long : c.len-count.result ≡ length c.in-Ok.down.1.items = search rules in
     let more = c.up-test.true in
     let below : c.up.i < length c.in-Ok.down.1.items = omega (arith, more, long) in
@@ -19,7 +19,7 @@ returns-in-Err-apply_at-clause-undamaged g c stored tells indexes each are fits 
     let height = height_after (blocks_of stored) c.args.to c.in-Ok.down.1.items c.up.i in
     let on = on-path (blocks_of stored) c.args.to c.in-Ok.down.1.items _ c.up.i c.index-place.result.now (c.in-Ok.ensures.path (blocks_of stored) indexes) below there in
     c.in-Err-apply_at.ensures.undamaged stored here.0 (height + 1) (c.up.invariant.told ∙ tells) here.1 (omega arith)
-    (fits-here (blocks_of stored) c.args.to height c.index-place.result.now here.0 (rows c.up.state) fits on here.1 (c.up.invariant.rows stored tells indexes each are))
+    (fits-here (blocks_of stored) c.args.to height c.index-place.result.now here.0 (rows c.up.state) fits on here.1 (c.up.invariant.rows stored tells indexes can are))
     damage (handed c.in-Err-apply_at.stop _ same)
 
 pub up-preserved : goal.up-preserved
@@ -35,14 +35,14 @@ up-preserved g c =
       loans = c.in-Ok-apply_at.ensures.loans ∙ c.up.invariant.loans;
       faults = c.in-Ok-apply_at.ensures.cause.unchanged (λ fault. cc) ∙ c.up.invariant.faults;
       most = omega (arith, below);
-      rows = λ stored tells indexes each are.
+      rows = λ stored tells indexes can are.
           let here = block-there (blocks_of stored) c.args.tree.now.entries c.index-place.result.now indexes (c.in-Ok.ensures.within _ _ there) in
           let height = height_after (blocks_of stored) c.args.to c.in-Ok.down.1.items c.up.i in
           let on = on-path (blocks_of stored) c.args.to c.in-Ok.down.1.items _ c.up.i c.index-place.result.now (c.in-Ok.ensures.path (blocks_of stored) indexes) below there in
           let next : height + 1 ≡ height_after (blocks_of stored) c.args.to c.in-Ok.down.1.items (c.up.i + 1) = omega arith in
           subst (λ (n : ℕ). AreRowsAt (blocks_of stored) c.args.to n (rows c.apply_at.new.state)) next
           (rows-next (blocks_of stored) c.args.to height c.index-place.result.now here.0 (rows c.up.state) (rows c.apply_at.new.state) on here.1
-          (c.up.invariant.rows stored tells indexes each are)
+          (c.up.invariant.rows stored tells indexes can are)
           (c.in-Ok-apply_at.ensures.rows stored here.0 (c.up.invariant.told ∙ tells) here.1));
       steps = λ kept indexes.
           let before = c.up.invariant.steps kept indexes in
@@ -51,11 +51,11 @@ up-preserved g c =
     }
 
 pub returns-clause-rows : goal.returns-clause-rows
-returns-clause-rows g c stored tells indexes each are =
+returns-clause-rows g c stored tells indexes can are =
     let past = c.up-test.false in
     let most = c.up.invariant.most in
     let last : length c.in-Ok.down.1.items ≡ c.up.i = omega (arith, past, most) in
-    c.up.invariant.rows stored tells indexes each are c.args.to
+    c.up.invariant.rows stored tells indexes can are c.args.to
     (ap (λ (n : ℕ). slice_get (branch_places (blocks_of stored) c.args.to) (height_after (blocks_of stored) c.args.to c.in-Ok.down.1.items n)) (sym last)
     ∙ path-top (blocks_of stored) c.args.to c.in-Ok.down.1.items _ (c.in-Ok.ensures.path (blocks_of stored) indexes))
 

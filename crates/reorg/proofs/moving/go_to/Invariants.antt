@@ -6,7 +6,7 @@ use Rattle.chain_tree.specs.Blocks.{IndexesBlocks}
 use Rattle.chain_tree.specs.Told.{Stored, blocks_of}
 use Rattle.cell_defs.specs.Row.{live_row}
 use Rattle.cell_state.specs.State.{rows}
-use Rattle.reorg.specs.Moves.{EachCanBeTakenBack, AreOf}
+use Rattle.reorg.specs.Moves.{CanGoDown, AreOf}
 use Rattle.reorg.proofs.PathLemmas.{height_after}
 use Rattle.reorg.proofs.moving.go_to.Given as goal
 
@@ -18,7 +18,7 @@ invariant-up g l = record {
   loans : g.B.Blocks.loans_of l.blocks ≡ g.B.Blocks.loans_of l.fn.blocks;
   faults : g.B.Blocks.faults l.blocks ≡ g.B.Blocks.faults l.fn.blocks;
   most : l.i ≤ length l.up.items;
-  rows : (stored : List Stored) → g.B.Blocks.told l.fn.blocks ≡ Some stored → IndexesBlocks (blocks_of stored) l.tree.entries → EachCanBeTakenBack stored
+  rows : (stored : List Stored) → g.B.Blocks.told l.fn.blocks ≡ Some stored → IndexesBlocks (blocks_of stored) l.tree.entries → CanGoDown stored l.from l.to
       → AreOf (blocks_of stored) l.from (rows l.fn.state) → (place : ℕ)
       → slice_get (branch_places (blocks_of stored) l.to) (height_after (blocks_of stored) l.to l.up.items l.i) ≡ Some place
       → (o : OutPoint) → rows l.state o ≡ live_row (blocks_of stored) place o;
