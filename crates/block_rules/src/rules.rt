@@ -1,5 +1,5 @@
 //! J9 to J14, one function a rule.
-ghost use Rattle.std.specs.Prelude.{◌≡◌, ◌<◌, Some, length, map, slice_get, IfOk};
+ghost use Rattle.std.specs.Prelude.{◌≡◌, ◌<◌, nat_le, true, Some, length, map, slice_get, IfOk, IsErr};
 ghost use Rattle.fold_defs.specs.First.{first_failing};
 ghost use Rattle.chain_defs.specs.Hashes.{are_distinct, transaction_hash};
 ghost use Rattle.rule_defs.specs.Body as rules;
@@ -57,7 +57,8 @@ fn are_ids_distinct(alloc: Global, block: &BlockView<'_>) -> Result<bool, NoMemo
 
 /// J10: it has at most so many proposal ids, all distinct.
 fn has_proposals(alloc: Global, spec: &Spec, block: &BlockView<'_>) -> Result<bool, NoMemory>
-    ensures { IfOk result (λ has. has ≡ rules.has_proposals spec.now block.now) }
+    ensures has { IfOk result (λ has. has ≡ rules.has_proposals spec.now block.now) }
+    ensures asked { IsErr result → nat_le (length block.now.proposals) spec.now.max_proposals ≡ true }
 {
     if block.proposals_count() > spec.max_proposals as usize {
         return Ok(false);
@@ -100,11 +101,12 @@ fn commits_to_uncles(block: &BlockView<'_>) -> bool
 }
 
 /// The least of J9 to J14 that a block breaks, or the hashes of its transactions where it breaks none: J12 asks for
-/// them, and so do later rules.
+/// them, and so do later rules. It asks for memory only where J9 is kept and the proposals are few enough.
 #[tactic(auto, unfolding(fold_defs::specs::First::first_failing))]
 pub fn check(alloc: Global, spec: &Spec, block: &BlockView<'_>) -> Result<Checked, NoMemory>
     ensures broken { IfOk result (λ checked. broken_in checked ≡ first_failing (rules.body_rules spec.now block.now)) }
     ensures hashes { IfOk result (HasHashes block.now) }
+    ensures asked { IsErr result → (rules.fits_length spec.now block.now ≡ true) × (nat_le (length block.now.proposals) spec.now.max_proposals ≡ true) }
 {
     if !fits_length(spec, block) {
         return Ok(Checked::Broken(Rule::Length));
