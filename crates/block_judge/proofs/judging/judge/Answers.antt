@@ -50,8 +50,8 @@ returns-in-Err g c = record {
   cause = counts-on as_step as_step c.in-Err.ensures.cause;
 }
 
-pub returns : goal.returns
-returns g c = record {
+pub returns-in-Err-judge_end : goal.returns-in-Err-judge_end
+returns-in-Err-judge_end g c = record {
   told = c.judge_end.ensures.told ∙ c.judge_transactions.ensures.told;
   count = c.judge_end.ensures.count ∙ c.judge_transactions.ensures.count;
   loans = c.judge_end.ensures.loans ∙ c.judge_transactions.ensures.loans;
