@@ -26,11 +26,11 @@ first_broken spec branch b = first_failing (all_rules spec branch b)
 
 -- ---- At sight
 
--- The rules that ask for no live cell, J4 to J17: of J17 all but that the output of the cellbase is not live.
+-- The rules that ask for no live cell, J4 to J17. Of J17 this is all but that the output of the cellbase is not live.
 abbrev pub sight_rules : Specification → List Block → Block → List (ℕ × Bool)
 sight_rules spec branch b = header_rules spec branch b ++ (body_rules spec b ++ family_rules_over no_cell spec branch b)
 
--- The first of them that it breaks.
+-- The first of these that it breaks.
 unfoldable pub broken_at_sight : Specification → List Block → Block → Option ℕ
 broken_at_sight spec branch b = first_failing (sight_rules spec branch b)
 

@@ -6,7 +6,7 @@ pub mod SiteLemmas
 pub mod ExtLemmas
 pub mod RestLemmas
 pub mod CellbaseLemmas
-pub mod AheadLemmas
+pub mod SightLemmas
 pub mod NextLemmas
 pub mod RowsLemmas
 pub mod MovedLemmas

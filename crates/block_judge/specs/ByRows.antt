@@ -1,10 +1,29 @@
--- What an answer on a transaction alone says of J18 and J20, whatever is told of kept blocks: of its form, and whether the rows have a cell of
--- its own for each input.
-use Rattle.std.specs.Prelude.{◌≡◌, ◌⊎◌, ⊤, ◌<◌, Bool, true, false, Result, Ok, Err}
+-- What an answer says whatever is told of kept blocks: on a block, of J17; and on a transaction alone, of J18 and J20.
+use Rattle.std.specs.Prelude.{◌≡◌, ◌⊎◌, ⊤, ◌<◌, Bool, true, false, Option, is_some, Result, Ok, Err}
 use Rattle.outside.specs.declared.disk.ReadStop.TheVariants.{DiskFault, NoMemory, Damaged}
+use Rattle.codec_defs.specs.Schema.{OutPoint}
+use Rattle.cell_defs.specs.Cell.{Cell}
+use Rattle.cell_defs.specs.Row.{Row}
 use Rattle.rule_names.specs.Number.{rule_number}
 use Rattle.block_judge.specs.declared.stop.Judged.{Judged}
 use Rattle.block_judge.specs.declared.stop.Judged.TheVariants.{Broken, Read}
+
+-- The rows have one just for each cell that is live.
+abbrev pub TellLive : (OutPoint → Option Row) → (OutPoint → Option Cell) → Type 0
+TellLive rows live = (o : OutPoint) → is_some (rows o) ≡ is_some (live o)
+
+-- ---- On a block that has passed at sight, by the form of its cellbase over the live cells
+
+-- J17 is answered just where the cellbase does not have this form, and anything else only where it has it, want of memory too.
+abbrev pub StopsByForm : Bool → Judged → Type 0
+StopsByForm form (Broken rule) = ((rule_number rule ≡ 17) × (form ≡ false)) ⊎ ((17 < rule_number rule) × (form ≡ true))
+StopsByForm form (Read stop) = form ≡ true
+
+abbrev pub SaysByForm : {T : Type 0} → Bool → Result T Judged → Type 0
+SaysByForm form (Ok it) = form ≡ true
+SaysByForm form (Err stop) = StopsByForm form stop
+
+-- ---- On a transaction alone, by its form and by whether the rows have a cell of its own for each input
 
 -- Each of the two is answered just where it is the first that is broken. Memory may be wanted before that is known.
 abbrev pub StopsByRows : Bool → Bool → Judged → Type 0

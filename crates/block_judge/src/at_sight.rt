@@ -1,4 +1,4 @@
-// What of a block is judged at sight, J4 to J17: all that asks for no live cell.
+// What is judged of a block at sight, J4 to J17: all that asks for no live cell.
 ghost use Rattle.std.specs.Prelude.{◌≡◌, ◌<◌, ◌≤◌, ℕ, List, None, Some, Err, IfOk, length, map};
 ghost use Rattle.fold_defs.specs.First.{first_failing};
 ghost use Rattle.outside.specs.declared.disk.ReadStop.{ReadStop as a_stop};
@@ -24,7 +24,7 @@ use rule_names::Rule;
 use std::alloc::Global;
 use uncle_rules::uncles_ok;
 
-/// J15 to J17: the uncles of a block, and its cellbase but for its output, which may be live.
+/// J15 to J17: the uncles of a block, and its cellbase, whose output is taken not to be live.
 fn judge_family(
     alloc: Global,
     context: &Context<'_, NoCells>,
@@ -69,9 +69,9 @@ fn judge_family(
     Ok(())
 }
 
-/// Judges a block at sight on a parent in the tree: the first rule that it breaks of J4 to J17, of which it looks at no live
-/// cell, or the hashes of its transactions, in their order. `judge` goes on from there. It reads no kept block, so that it
-/// stops only for want of memory, and not where J4 to J8 tell it already.
+/// Judges a block at sight on a parent in the tree: the first of J4 to J17 that it breaks, or the hashes of its transactions,
+/// in their order. It looks at no live cell: that the output of the cellbase is not live is left to `judge`, which goes on
+/// from here. It reads no kept block, so that it stops for want of memory alone, and never where one of J4 to J8 is broken.
 pub fn judge_at_sight(
     alloc: Global,
     context: &Context<'_, NoCells>,
@@ -86,6 +86,8 @@ pub fn judge_at_sight(
         → broken_at_sight context.now.spec.now (branch kept context.now.parent) block.now ≡ Some (rule_number rule) }
     ensures unbroken { (kept : List Block) → IndexesBlocks kept context.now.tree.now.entries → IndexesUncles kept context.now.uncles.now
         → IfOk result (λ _. broken_at_sight context.now.spec.now (branch kept context.now.parent) block.now ≡ None) }
+    ensures header { (kept : List Block) → IndexesBlocks kept context.now.tree.now.entries
+        → IfOk result (λ _. first_failing (rules_on_header context.now.spec.now (branch kept context.now.parent) block.now) ≡ None) }
     ensures memory { (stop : a_stop) → result ≡ Err (Read stop) → stop ≡ no_memory }
     ensures asked { (kept : List Block) → IndexesBlocks kept context.now.tree.now.entries → (stop : a_stop) → result ≡ Err (Read stop)
         → first_failing (rules_on_header context.now.spec.now (branch kept context.now.parent) block.now) ≡ None }

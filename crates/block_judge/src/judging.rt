@@ -1,14 +1,16 @@
 // A block judged by all rules, and a transaction judged alone.
-ghost use Rattle.std.specs.Prelude.{◌≡◌, ◌-◌, ◌<◌, ◌^◌, ◌≤◌, ℕ, List, None, Some, Err, IfOk, IsTrue, length, map};
+ghost use Rattle.std.specs.Prelude.{◌≡◌, ◌-◌, ◌<◌, ◌^◌, ◌≤◌, ℕ, List, Option, None, Some, Err, IfOk, IsTrue, length, map};
 ghost use Rattle.fold_defs.specs.First.{first_failing};
 ghost use Rattle.outside.specs.Causes.{CountsFault};
 ghost use Rattle.outside.specs.declared.disk.Area.TheVariants.{Log};
 ghost use Rattle.outside.specs.declared.disk.Damage.{Damage};
 ghost use Rattle.outside.specs.declared.disk.ReadStop.TheVariants.{DiskFault, Damaged};
-ghost use Rattle.codec_defs.specs.Schema.{Block};
+ghost use Rattle.codec_defs.specs.Schema.{OutPoint, Block};
 ghost use Rattle.chain_defs.specs.Branch.{branch};
 ghost use Rattle.chain_defs.specs.Hashes.{transaction_hash};
 ghost use Rattle.chain_tree.specs.Told.{Stored, blocks_of};
+ghost use Rattle.cell_defs.specs.Cell.{Cell};
+ghost use Rattle.family_defs.specs.Cellbase as rules;
 ghost use Rattle.tx_defs.specs.Capacity as capacity;
 ghost use Rattle.script_defs.specs.Rules.{cycles_of};
 ghost use Rattle.script_defs.specs.Scene.{scene_of};
@@ -21,7 +23,7 @@ ghost use Rattle.block_defs.specs.Rules.{first_broken, broken_in_dry_run};
 ghost use Rattle.tx_defs.specs.Site.{site_after};
 ghost use Rattle.rule_names.specs.Number.{rule_number};
 ghost use Rattle.block_judge.specs.declared.stop.Judged.TheVariants.{Broken, Read};
-ghost use Rattle.block_judge.specs.ByRows.{SaysByRows};
+ghost use Rattle.block_judge.specs.ByRows.{SaysByForm, SaysByRows, TellLive};
 ghost use Rattle.block_judge.specs.Standing.{PassesAtSight, IsTried, IsTriedAlone, StandsFor, StandsForAll, seen};
 
 use crate::all_transactions::judge_transactions;
@@ -37,9 +39,10 @@ use rule_names::Rule;
 use std::alloc::Global;
 use tx_rules::TxAt;
 
-/// Judges a block that has passed at sight, with the hashes of its transactions, by what is left of J17 and by J18 to J32:
-/// the first rule that it breaks, or its ext. Damaged where a kept block, or a row of the cells, is not what the tree and the
-/// branch say, which never comes over blocks that tell them.
+/// Judges a block that has passed at sight, by J17 over the live cells and by J18 to J32: the first rule that it breaks, or
+/// its ext. The hashes are those of its transactions, as `judge_at_sight` answers them. The cells are those of the parent's
+/// branch, whichever the tip is on. Damaged where a kept block, or a row of the cells, is not what the tree and the branch
+/// say, which never comes over blocks that tell them.
 pub fn judge<C: Cells, B: Blocks>(
     alloc: Global,
     context: &Context<'_, C>,
@@ -58,7 +61,9 @@ pub fn judge<C: Cells, B: Blocks>(
     ensures loans { B.loans_of blocks.new ≡ B.loans_of blocks.old }
     ensures tried { (rule : Rule) → result ≡ Err (Broken rule) → IsTried (rule_number rule) }
 
-    // Over any source of blocks: a fee for each transaction after the cellbase, and a DAO field that later ones can be reckoned by.
+    // Over any source of blocks: J17; a fee for each transaction after the cellbase; and a DAO field that later ones can be reckoned by.
+    ensures by_rows { (live : OutPoint → Option Cell) → TellLive (C.rows context.now.cells.now) live
+        → SaysByForm (rules.forms_cellbase live block.now) result }
     ensures fees { IfOk result (λ ext. length ext.fees ≡ length block.now.transactions - 1) }
     ensures rated { IfOk result (λ _. IsTrue (is_rated block.now.header.dao)) }
 

@@ -1,11 +1,11 @@
 //! A block judged over its ancestors, by J4 to J32, and a transaction judged alone (docs/RULES.md, "A block").
 //!
-//! On a [`Context`], [`judge_at_sight`] answers the first rule that a block breaks of those that ask for no live cell, exactly
-//! by `broken_at_sight` of `block_defs`; and [`judge`], over a source of kept blocks with their fees, that of all rules,
-//! exactly by `first_broken`, and otherwise the block's ext. The cells that the block makes and spends stand beside those of
-//! the branch, which it neither copies nor changes. [`dry_run`] judges a transaction
-//! after the parent and answers its fee and its cycles. That an item is a block, new, and on a kept parent (J1 to J3), and
-//! what becomes of it, is left to the layer above.
+//! All is judged on a [`Context`]. [`judge_at_sight`] answers the first rule that a block breaks of those that ask for no
+//! live cell, exactly by `broken_at_sight` of `block_defs`. Of a block that breaks none of them, [`judge`], over a source of
+//! kept blocks with their fees, answers the first of all rules that it breaks, exactly by `first_broken`, or its ext. The
+//! cells that the block makes and spends stand beside those of the branch, which it neither copies nor changes. [`dry_run`]
+//! judges a transaction after the parent and answers its fee and its cycles. That an item is a block, new, and on a kept
+//! parent (J1 to J3), and what becomes of it, is left to the layer above.
 #![tactic(auto)]
 
 mod all_transactions;

@@ -8,13 +8,14 @@ use Rattle.cell_defs.specs.Events.{live_cell}
 use Rattle.family_defs.specs.Uncles.{has_uncles}
 use Rattle.family_defs.specs.Cellbase.{has_cellbase, forms_cellbase}
 
--- over live cells, on a block that stands on this branch, genesis to its parent, under the specification of its chain
+-- The rules on a block that stands on this branch, genesis to its parent, under the specification of its chain, where these cells are live.
 abbrev pub family_rules_over : (OutPoint → Option Cell) → Specification → List Block → Block → List (ℕ × Bool)
 family_rules_over live spec branch b = (15, has_uncles spec branch b) ∷ (16, has_cellbase b) ∷ (17, forms_cellbase live b) ∷ []
 
+-- The same over the live cells of the branch.
 abbrev pub family_rules : Specification → List Block → Block → List (ℕ × Bool)
 family_rules spec branch b = family_rules_over (live_cell branch) spec branch b
 
--- where no cell is live
+-- no cell is live
 abbrev pub no_cell : OutPoint → Option Cell
 no_cell o = None

@@ -1,30 +1,30 @@
 use Rattle.std.proofs.Common.{◌≡◌, Some, sym, ap, ◌∙◌, arith}
 use Rattle.chain_defs.specs.Branch.{branch}
-use Rattle.chain_tree.specs.Told.{blocks_of}
 use Rattle.rule_names.specs.Number.{rule_number}
 use Rattle.block_judge.proofs.Exits.{same_rule, same_read, as_step, no_error, no_rule, no_read}
-use Rattle.block_judge.proofs.AheadLemmas.{breaks-header, breaks-body, leaves-family, body-rule}
-use Rattle.block_judge.proofs.ahead.judge_ahead.Goals as goal
+use Rattle.block_judge.proofs.SightLemmas.{breaks-header, breaks-body, leaves-family, body-rule}
+use Rattle.block_judge.proofs.at_sight.judge_at_sight.Goals as goal
 
 pub judge_family-requires-clause-hashes : goal.judge_family-requires-clause-hashes
-judge_family-requires-clause-hashes g c = c.deref.ensures.value ∙ (rw c.in-Ok-Kept.field-0-is at c.in-Ok-Kept.ensures.hashes)
+judge_family-requires-clause-hashes c = c.deref.ensures.value ∙ (rw c.in-Ok-Kept.field-0-is at c.in-Ok-Kept.ensures.hashes)
 
 pub returns-in-Some : goal.returns-in-Some
-returns-in-Some g c = record {
+returns-in-Some c = record {
   hashes = tt;
   tried = λ rule same.
       let its = c.in-Some.ensures.tried in let is : rule_number c.in-Some.rule ≡ rule_number rule = same_rule same in (omega (arith, its.0, is), omega (arith, its.1, is));
   memory = λ stop same. absurd (no_read same);
   some = tt;
   header = λ kept indexes. tt;
-  broken = λ stored stands uncles rule same.
-      breaks-header c.args.context.now.spec.now (branch (blocks_of stored) c.args.context.now.parent) c.args.block.now (rule_number c.in-Some.rule)
-      (c.in-Some.ensures.of_blocks (blocks_of stored) c.args.block.now stands.indexed c.header.ensures) ∙ ap Some (same_rule same);
-  unbroken = λ stored stands uncles. tt;
+  asked = λ kept indexes stop same. absurd (no_read same);
+  broken = λ kept indexes uncles rule same.
+      breaks-header c.args.context.now.spec.now (branch kept c.args.context.now.parent) c.args.block.now (rule_number c.in-Some.rule)
+      (c.in-Some.ensures.of_blocks kept c.args.block.now indexes c.header.ensures) ∙ ap Some (same_rule same);
+  unbroken = λ kept indexes uncles. tt;
 }
 
 pub returns-in-Ok-Broken : goal.returns-in-Ok-Broken
-returns-in-Ok-Broken g c = record {
+returns-in-Ok-Broken c = record {
   hashes = tt;
   tried = λ rule same.
       let its = body-rule c.args.context.now.spec.now c.args.block.now (rule_number c.in-Ok-Broken.rule) (sym (rw c.in-Ok-Broken.field-0-is at c.in-Ok-Broken.ensures.broken)) in
@@ -32,48 +32,52 @@ returns-in-Ok-Broken g c = record {
   memory = λ stop same. absurd (no_read same);
   some = tt;
   header = λ kept indexes. tt;
-  broken = λ stored stands uncles rule same.
-      breaks-body c.args.context.now.spec.now (branch (blocks_of stored) c.args.context.now.parent) c.args.block.now (rule_number c.in-Ok-Broken.rule)
-      (c.in_default.ensures.of_blocks (blocks_of stored) c.args.block.now stands.indexed c.header.ensures) (rw c.in-Ok-Broken.field-0-is at c.in-Ok-Broken.ensures.broken)
+  asked = λ kept indexes stop same. absurd (no_read same);
+  broken = λ kept indexes uncles rule same.
+      breaks-body c.args.context.now.spec.now (branch kept c.args.context.now.parent) c.args.block.now (rule_number c.in-Ok-Broken.rule)
+      (c.in_default.ensures.of_blocks kept c.args.block.now indexes c.header.ensures) (rw c.in-Ok-Broken.field-0-is at c.in-Ok-Broken.ensures.broken)
       ∙ ap Some (same_rule same);
-  unbroken = λ stored stands uncles. tt;
+  unbroken = λ kept indexes uncles. tt;
 }
 
 pub returns-in-Err : goal.returns-in-Err
-returns-in-Err g c = record {
+returns-in-Err c = record {
   hashes = tt;
   tried = λ rule same. absurd (no_rule same);
   memory = λ stop same. sym (same_read same);
   some = tt;
   header = λ kept indexes. tt;
-  broken = λ stored stands uncles rule same. absurd (no_rule same);
-  unbroken = λ stored stands uncles. tt;
+  asked = λ kept indexes stop same. sym (c.in_default.ensures.of_blocks kept c.args.block.now indexes c.header.ensures);
+  broken = λ kept indexes uncles rule same. absurd (no_rule same);
+  unbroken = λ kept indexes uncles. tt;
 }
 
 pub returns-in-Err-judge_family : goal.returns-in-Err-judge_family
-returns-in-Err-judge_family g c = record {
+returns-in-Err-judge_family c = record {
   hashes = tt;
   tried = λ rule same. let its = c.in-Err-judge_family.ensures.tried rule (as_step same) in (omega (arith, its.0), its.1);
   memory = λ stop same. c.in-Err-judge_family.ensures.memory stop (as_step same);
   some = tt;
   header = λ kept indexes. tt;
-  broken = λ stored stands uncles rule same.
-      leaves-family c.args.context.now.spec.now (branch (blocks_of stored) c.args.context.now.parent) c.args.block.now
-      (c.in_default.ensures.of_blocks (blocks_of stored) c.args.block.now stands.indexed c.header.ensures) (rw c.in-Ok-Kept.field-0-is at c.in-Ok-Kept.ensures.broken)
-      ∙ c.in-Err-judge_family.ensures.broken stored stands uncles rule (as_step same);
-  unbroken = λ stored stands uncles. tt;
+  asked = λ kept indexes stop same. sym (c.in_default.ensures.of_blocks kept c.args.block.now indexes c.header.ensures);
+  broken = λ kept indexes uncles rule same.
+      leaves-family c.args.context.now.spec.now (branch kept c.args.context.now.parent) c.args.block.now
+      (c.in_default.ensures.of_blocks kept c.args.block.now indexes c.header.ensures) (rw c.in-Ok-Kept.field-0-is at c.in-Ok-Kept.ensures.broken)
+      ∙ c.in-Err-judge_family.ensures.broken kept indexes uncles rule (as_step same);
+  unbroken = λ kept indexes uncles. tt;
 }
 
 pub returns-in-Ok : goal.returns-in-Ok
-returns-in-Ok g c = record {
+returns-in-Ok c = record {
   hashes = rw c.in-Ok-Kept.field-0-is at c.in-Ok-Kept.ensures.hashes;
   tried = λ rule same. absurd (no_error same);
   memory = λ stop same. absurd (no_error same);
+  asked = λ kept indexes stop same. absurd (no_error same);
   some = c.in-Ok.ensures.some;
   header = λ kept indexes. sym (c.in_default.ensures.of_blocks kept c.args.block.now indexes c.header.ensures);
-  broken = λ stored stands uncles rule same. absurd (no_error same);
-  unbroken = λ stored stands uncles.
-      leaves-family c.args.context.now.spec.now (branch (blocks_of stored) c.args.context.now.parent) c.args.block.now
-      (c.in_default.ensures.of_blocks (blocks_of stored) c.args.block.now stands.indexed c.header.ensures) (rw c.in-Ok-Kept.field-0-is at c.in-Ok-Kept.ensures.broken)
-      ∙ c.in-Ok.ensures.unbroken stored stands uncles;
+  broken = λ kept indexes uncles rule same. absurd (no_error same);
+  unbroken = λ kept indexes uncles.
+      leaves-family c.args.context.now.spec.now (branch kept c.args.context.now.parent) c.args.block.now
+      (c.in_default.ensures.of_blocks kept c.args.block.now indexes c.header.ensures) (rw c.in-Ok-Kept.field-0-is at c.in-Ok-Kept.ensures.broken)
+      ∙ c.in-Ok.ensures.unbroken kept indexes uncles;
 }
