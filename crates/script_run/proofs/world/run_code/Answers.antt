@@ -18,7 +18,7 @@ returns-in-Ok-clause-came g c = λ stored scene tells shown hash.
 pub returns-in-Err-Running-clause-read : goal.returns-in-Err-Running-clause-read
 returns-in-Err-Running-clause-read g c =
     let stop = c.in-Err-Running.stop in
-    let is : c.execute_in-came.result ≡ Err (Running stop) = c.in-Err-Running.is ∙ ap Err c.in-Err-Running.field-0-is in
+    let is : c.execute_in-came.result ≡ Err (Running stop) = search rules in
     record {
       told = search rules;
       count = search rules;
@@ -26,6 +26,6 @@ returns-in-Err-Running-clause-read g c =
       damage = λ damage same. c.execute_in-came.ensures.damage damage (is ∙ ap (λ (it : ReadStop). Err (Running it)) (some-stop _ _ same));
       cause = search rules;
       found = λ none.
-          ap g.B.Blocks.damages c.give_back.ensures
-          ∙ c.execute_in-came.ensures.answered (λ damage same. none damage (running-stop stop _ (sym is ∙ same)));
+          let answered = c.execute_in-came.ensures.answered (λ damage same. none damage (running-stop stop _ (sym is ∙ same))) in
+          search (rules, answered);
     }
