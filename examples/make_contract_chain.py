@@ -68,18 +68,18 @@ def cell_of(output):
 
 
 class Transaction(Scene):
-    """Spends outputs, each an earlier transaction and a place among its outputs, and makes cells. It has no witness.
+    """Spends outputs, each an earlier transaction and a place among its outputs, and makes cells.
 
     As a scene it says what its scripts are shown, and which cycles they take.
     """
 
-    def __init__(self, spent, made, deps=DEPS, since=0, version=0):
-        super().__init__(None, map(cell_of, spent), made, map(cell_of, deps))
+    def __init__(self, spent, made, deps=DEPS, since=0, version=0, witnesses=()):
+        super().__init__(None, map(cell_of, spent), made, map(cell_of, deps), witnesses=witnesses)
         self.cell_inputs = [uint(since, 8) + out_point(it) for it in spent]
         self.raw = table([
             uint(version, 4), fixvec([out_point(it) + b'\0' for it in deps]), fixvec([]), fixvec(self.cell_inputs),
             table([it.item() for it in self.outputs]), table([as_bytes(it.content) for it in self.outputs])])
-        self.item = table([self.raw, table([])])
+        self.item = table([self.raw, table([as_bytes(it) for it in self.witnesses])])
         self.hash = ckbhash(self.raw)
         self.proposal_id = self.hash[:10]
 

@@ -13,8 +13,9 @@ import time
 
 sys.dont_write_bytecode = True
 TOP = os.path.dirname(os.path.dirname(os.path.abspath(__file__)))
-sys.path[:0] = [os.path.join(TOP, 'bench'), os.path.join(TOP, 'examples')]
+sys.path[:0] = [os.path.join(TOP, it) for it in ('bench', 'examples', 'examples/signature')]
 import chaingen  # noqa: E402
+import make_chain as signature  # noqa: E402
 import make_contract_chain as contract  # noqa: E402
 import make_developer_chain as developer  # noqa: E402
 import make_first_blocks as first  # noqa: E402

@@ -7,7 +7,7 @@ from random import Random
 
 from harness import (CONTRACT_INIT, CONTRACT_LINE, FIRST_INIT, FIRST_LINE, GENESIS_LIMIT, ITEM_LIMIT, PRIMES, SCRIPTS,
                      Ran, chain_of, chaingen, contract, contract_store, file_with, first, line_of, log_of, must,
-                     must_answer, must_be, must_have_tip, new_folder, new_store, size_word, started, status_of, write)
+                     must_answer, must_be, must_have_tip, new_folder, new_store, signature, size_word, started, status_of, write)
 
 SPEC, GENESIS = first.SPEC.item(), first.GENESIS.item()
 
@@ -390,6 +390,39 @@ def check_statuses_of_exec(program):
             must_answer(Ran([program, '/no/such/folder', 'exec', budget], stdin, piped), status, wanted, what)
     ran = Ran([program, 'any', 'exec', '1'], bytes(1 << 21))
     must(ran.read <= (1 << 20) + 1, 'more is read than a byte behind the longest file')
+
+
+# each file of examples/scripts with its line; what it exits with is worked out from its source, and the cycles are those
+# of bench/rvref.c. One that loads its script goes no further: `exec` shows it none
+SAMPLES = {
+    'calls.elf': 'fault 5 1315',
+    'checks.elf': 'fault 5 763', 'code.elf': 'fault 5 669', 'count.elf': 'fault 5 530', 'exit.elf': 'fault 5 543',
+    'global.elf': 'exit 42 703', 'table.elf': 'exit 19 2096',
+}
+
+
+def check_samples(program):
+    must_be(sorted(it for it in os.listdir(SCRIPTS) if it.endswith('.elf')), sorted(SAMPLES), 'the files of examples/scripts')
+    for name, line in SAMPLES.items():
+        with open(os.path.join(SCRIPTS, name), 'rb') as f:
+            given = f.read()
+        cycles = int(line.split()[-1])
+        for budget, wanted in ((10 ** 6, line), (cycles, line), (cycles - 1, 'spent')):
+            must_answer(Ran([program, 'any', 'exec', str(budget)], given), 0, wanted.encode() + b'\n',
+                        '%s with %d cycles' % (name, budget))
+
+
+def check_calls_of_a_lock(program):
+    """The lock that makes each call of examples/scripts/ckb.h, on a chain that has it in place of one for signatures."""
+    with open(os.path.join(SCRIPTS, 'calls.elf'), 'rb') as f:
+        scenery = signature.Scenery(f.read())
+    init, line = signature.SPEC.item() + scenery.genesis.item(), first.genesis_line(scenery.genesis) + '\n'
+    given, text = first.input_and_text(scenery.blocks()[0])
+    with new_store(program, init, line.encode()) as folder:
+        must_answer(Ran([program, folder, 'import'], given), 0, text, 'the blocks with the lock')
+        # the cycles are those of examples/script_machine.py: 14,318 of the lock, and 505 of the program that exits with 0
+        must_answer(Ran([program, folder, 'check'], scenery.spends([b'']).item), 0, b'ok 10000 14823\n', 'each call')
+        must_answer(Ran([program, folder, 'check'], scenery.spends([]).item), 1, b'refused J29\n', 'without a witness')
 
 
 # ------------------------------------------------------------ asm, dis, unjson
