@@ -14,7 +14,8 @@ import dataclasses
 import os
 
 import make_store as store
-from make_store import Spec, child, fixvec, table, uint
+from encoding import block, fields_of, fixvec, number_of, table, uint
+from make_store import Spec, child
 
 HERE = os.path.dirname(os.path.abspath(__file__))
 UNKNOWN_HASH = b'\x11' * 32
@@ -58,7 +59,7 @@ def numbered(block, number):
 def first_blocks():
     a = child(SPEC, GENESIS)
     b = child(SPEC, a)
-    fifth_field = table(a.fields() + [fixvec([])])
+    fifth_field = table(fields_of(a.item()) + [fixvec([])])
     return [
         (a.item(), joined(a)),
         (a.item(), known(a)),
@@ -77,13 +78,13 @@ def no_blocks(a):
     yield uint(size + 1, 4) + a[4:] + b'\0'
     # a gap of four bytes between the offsets and the header
     yield uint(size + 4, 4) + b''.join(
-        uint(int.from_bytes(a[i:i + 4], 'little') + 4, 4) for i in range(4, 20, 4)
+        uint(number_of(a[i:i + 4]) + 4, 4) for i in range(4, 20, 4)
     ) + bytes(4) + a[20:]
     # the second offset is below the first
     yield a[:8] + uint(19, 4) + a[12:]
     # the full size of the transactions is one too low
-    at = int.from_bytes(a[12:16], 'little')
-    yield a[:at] + uint(int.from_bytes(a[at:at + 4], 'little') - 1, 4) + a[at + 4:]
+    at = number_of(a[12:16])
+    yield a[:at] + uint(number_of(a[at:at + 4]) - 1, 4) + a[at + 4:]
     # a proposal is announced and is not there
     yield a[:-4] + uint(1, 4)
 
@@ -111,7 +112,7 @@ def each_verdict():
         # the parent comes later
         (b2.item(), 'refused J3'),
         # a hash that is kept, and other transactions under it
-        (table([a1.header(), table([]), table([]), fixvec([])]), known(a1)),
+        (block(a1.header()), known(a1)),
         # the tip stays at equal height, and moves to a greater one
         (b1.item(), joined(b1)),
         (b2.item(), joined(b2)),
@@ -119,8 +120,8 @@ def each_verdict():
     ]
     items += [(item, 'refused J1') for item in no_blocks(a1.item())]
     items += [
-        (table(next_b.fields() + [fixvec([])]), 'refused J1'),
-        (table(next_b.fields()[:3]), 'refused J1'),
+        (table(fields_of(next_b.item()) + [fixvec([])]), 'refused J1'),
+        (table(fields_of(next_b.item())[:3]), 'refused J1'),
         (b3.item(), joined(b3)),
     ]
     return items, b3
