@@ -8,12 +8,14 @@ from random import Random
 from harness import (CONTRACT_INIT, CONTRACT_LINE, FIRST_INIT, FIRST_LINE, GENESIS_LIMIT, ITEM_LIMIT, PRIMES, SCRIPTS,
                      Ran, chain_of, chaingen, contract, contract_store, file_with, first, line_of, log_of, must,
                      must_answer, must_be, must_have_tip, new_folder, new_store, size_word, started, status_of, write)
+import encoding
+from encoding import fields_of, fixvec, table
 
 SPEC, GENESIS = first.SPEC.item(), first.GENESIS.item()
 
 
 def elf(*words):
-    return chaingen.elf(b''.join(word.to_bytes(4, 'little') for word in words))
+    return chaingen.program(words)
 
 
 def addi(register, value):
@@ -79,16 +81,15 @@ def bad_geneses():
     """A genesis for each of G1 to G7, and in each the first rule that it breaks."""
     good = first.GENESIS
     only, = good.transactions
-    head, _, transactions, _ = good.fields()
-    uncle = first.table([head, first.fixvec([])])
-    yield 1, first.table(good.fields() + [first.fixvec([])])
+    head, transactions = good.header(), [only.item()]
+    yield 1, table(fields_of(good.item()) + [fixvec([])])
     yield 1, size_word(4)
     yield 2, first.changed(good, number=1, dao=(0, 1, 0, 0)).item()
-    yield 3, first.table([head, first.table([uncle]), transactions, first.fixvec([])])
-    yield 3, first.table([head, first.table([]), transactions, first.fixvec([bytes(10)])])
+    yield 3, encoding.block(head, transactions, uncles=[encoding.uncle(head)])
+    yield 3, encoding.block(head, transactions, ids=[bytes(10)])
     for dao in ((0, 1, 0, 0), (1, 0, 0, 0)):
         yield 4, first.changed(good, dao=dao).item()
-    yield 5, first.table([head, first.table([]), first.table([]), first.fixvec([])])
+    yield 5, encoding.block(head)
     yield 5, first.changed(good, transactions=(only, only)).item()
     yield 6, data_left_out(good)
     program, (_, data) = only.outputs
@@ -98,12 +99,10 @@ def bad_geneses():
 
 def data_left_out(block):
     """The block with one `outputs_data` fewer than outputs."""
-    raw = block.transactions[0].raw()
-    offsets = [int.from_bytes(raw[at:at + 4], 'little') for at in range(4, 28, 4)] + [len(raw)]
-    parts = [raw[a:b] for a, b in zip(offsets, offsets[1:])]
-    parts[5] = first.table([first.store.as_bytes(block.transactions[0].outputs[0][1])])
-    whole = first.table([first.table(parts), first.table([])])
-    return first.table([block.header(), first.table([]), first.table([whole]), first.fixvec([])])
+    only, = block.transactions
+    parts = fields_of(only.raw())
+    parts[5] = table([encoding.as_bytes(only.outputs[0][1])])
+    return encoding.block(block.header(), [encoding.transaction(table(parts))])
 
 
 def inputs_of_init():
@@ -301,12 +300,12 @@ def no_transactions(transaction):
     size = len(transaction)
     yield size_word(4)
     yield size_word(8) + size_word(8)
-    # a byte behind the witnesses
+    # a byte after the witnesses
     yield size_word(size + 1) + transaction[4:] + b'\0'
     # a third field
-    parts = transaction[12:int.from_bytes(transaction[8:12], 'little')], first.table([])
-    yield first.table([*parts, first.fixvec([])])
-    yield first.table(list(parts[:1]))
+    raw, witnesses = fields_of(transaction)
+    yield table([raw, witnesses, fixvec([])])
+    yield table([raw])
     yield first.GENESIS.item()
     yield size_word(ITEM_LIMIT) + bytes(ITEM_LIMIT - 4)
 
@@ -439,7 +438,7 @@ def check_listings_assemble(program):
     """Each instruction that `dis` lists goes back through `asm`, to a word of four bytes that is listed so again."""
     random = Random(1)
     codes = [random.randbytes(1 << 20) for _ in range(1)] + [
-        b''.join(random.getrandbits(32).to_bytes(4, 'little') for _ in range(50000)) for _ in range(2)]
+        b''.join(encoding.uint(random.getrandbits(32), 4) for _ in range(50000)) for _ in range(2)]
     for name in sorted(os.listdir(SCRIPTS)):
         if name.endswith('.elf'):
             with open(os.path.join(SCRIPTS, name), 'rb') as f:

@@ -31,10 +31,9 @@ from common import EXAMPLES, row_of
 
 import encoding
 from encoding import ZERO_HASH, ckbhash, data_hash, uint
-from make_store import PROGRAM, SHANNONS, Spec
-from script_machine import MISSING, NO_INDEX, UNKNOWN
-from script_scene import BY_TYPE, CELL_DEPS, FIELDS, GROUP, HEADER_DEPS, INPUTS, LOADS_FIELD, OUTPUTS, TYPE_ID, Cell, \
-    Scene, Script
+from make_store import PROGRAM, Spec
+from script_machine import MISSING, NO_INDEX
+from script_scene import BY_TYPE, CELL_DEPS, FIELDS, GROUP, HEADER_DEPS, INPUTS, OUTPUTS, TYPE_ID, Cell, Scene, Script
 
 AMPLE = 10 ** 8
 BLOBS, LINES = {}, []
@@ -92,7 +91,7 @@ def row(scene, wanted=None, budget=AMPLE, rounds=None):
         raise AssertionError('%s, not %s' % (answer, wanted))
     cells = [joined(map(cell_text, it)) for it in (scene.inputs, scene.deps)]
     word = ['groups'] if rounds is None else ['rounds', str(rounds)]
-    LINES.append('\t'.join([*word, answer, str(budget), scene.item.hex(), *cells, joined(scene.headers)]))
+    LINES.append(row_of(*word, answer, budget, scene.item, *cells, joined(scene.headers)))
     return int(answer[3:]) if answer.startswith('ok') else None
 
 
@@ -109,7 +108,7 @@ class Chain:
 
     def __init__(self, length, parents):
         self.length, self.headers, heights = length, [], []
-        LINES.append('spec\t' + Spec(epoch_length=length).item().hex())
+        LINES.append(row_of('spec', Spec(epoch_length=length).item()))
         for place, parent in enumerate([None, *parents]):
             height = 0 if parent is None else heights[parent] + 1
             # an epoch field that is not the one of the height: it is not looked at
@@ -119,7 +118,7 @@ class Chain:
             heights.append(height)
             self.headers.append(header)
             item = encoding.block(header)
-            LINES.append('genesis\t' + item.hex() if parent is None else 'block\t%s\t%s' % (item.hex(), bytes(8).hex()))
+            LINES.append(row_of('genesis', item) if parent is None else row_of('block', item, bytes(8)))
 
 
 # ------------------------------------------------------- the table of checks
