@@ -12,7 +12,7 @@ It judges a block by J1 to J14, J16, J17, J31 and J32. That is all there is to a
 a block of a cellbase alone, where no fee is committed that its cellbase may pay. Two
 kinds of runs it cannot judge, and counts.
 
-Left out is a run whose disk or streams fail, and behind one of `init` or `import`
+Left out is a run whose disk or streams fail, and after one of `init` or `import`
 each later run over the same folder, until a LOG is put there: what is kept is not
 known.
 
@@ -500,7 +500,7 @@ UNKNOWN = 'unknown'
 
 
 def bytes_of(column):
-    """Bytes in hex, and behind a `+` how many zero bytes follow."""
+    """Bytes in hex, and after a `+` how many zero bytes follow."""
     digits, _, zeros = column.partition('+')
     return bytes.fromhex(digits.strip('-')) + bytes(int(zeros or 0))
 
@@ -514,15 +514,15 @@ class Trial:
         self.counts = {name: collections.Counter() for name in RUNS}
 
     def row(self, name, columns):
-        if name in ('folder', 'failing'):
-            self.store, self.put, self.disk_fails = None, b'', name == 'failing'
+        if name in ('folder', 'failing', 'list'):
+            self.store, self.put, self.disk_fails = None, b'', name != 'folder'
         elif name == 'put':
             if columns[0] == 'log':
                 self.put = bytes_of(columns[1])
                 self.store = kept_in(self.put)
         elif name == 'streams':
             self.streams_fail = columns[1:] != ['-', '-']
-        elif name != 'left':
+        elif name not in ('left', 'end') and not name.startswith('#'):
             self.call(name, *columns)
 
     def call(self, name, words, status, given, text, log=None):

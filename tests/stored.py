@@ -84,6 +84,13 @@ def check_stored_rows(_):
             must_have_parts(crate, parts, rows_of)
 
 
+def check_import_lines(_):
+    """A second reading of the rules has the lines of the stored runs of `import` and `tip`."""
+    ran = subprocess.run([sys.executable, os.path.join(TOP, 'tests', 'import_lines.py')], stdin=subprocess.DEVNULL,
+                         capture_output=True)
+    must(ran.returncode == 0, 'tests/import_lines.py: %s' % (ran.stdout + ran.stderr).decode())
+
+
 def check_stored_samples(_):
     """The files of examples/ that its scripts make."""
     files = {'spec.bin': first.SPEC.item(), 'genesis.bin': first.GENESIS.item(),
@@ -97,7 +104,7 @@ def check_stored_samples(_):
 
 def main():
     failed = 0
-    for check in (check_stored_rows, check_stored_samples):
+    for check in (check_stored_rows, check_stored_samples, check_import_lines):
         try:
             check(None)
         except (Wrong, OSError) as error:

@@ -11,7 +11,7 @@
 //!   cannot be taken back or applied, and its record is damaged; the cells are then those of the first place again, made
 //!   anew from the genesis
 //!
-//! examples/make_reorg_rows.py makes the rows.
+//! tests/rows/moves.py makes the rows.
 #![tactic(auto)]
 
 mod tree;
