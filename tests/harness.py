@@ -12,6 +12,7 @@ import threading
 import time
 
 sys.dont_write_bytecode = True
+os.environ['PYTHONDONTWRITEBYTECODE'] = '1'
 TOP = os.path.dirname(os.path.dirname(os.path.abspath(__file__)))
 sys.path[:0] = [os.path.join(TOP, 'bench'), os.path.join(TOP, 'examples')]
 import chaingen  # noqa: E402 (beside the path above)

@@ -79,7 +79,8 @@ impl<'s, L: Ledger> Table<'s, L> {
         let (from, to, place) = (row.short()?, row.short()?, row.short()?);
         self.go(alloc, from)?.ok()?;
         let damaged = match self.go(alloc, to)? {
-            Err(ReadStop::Damaged(damage)) => damage.area == Area::Log && damage.at == record_at(place),
+            Err(ReadStop::Damaged(damage)) => damage.area == Area::Log
+                && damage.at == record_at(place),
             _ => false,
         };
         self.state = self.kept.as_ref()?.first_state(alloc);
