@@ -16,12 +16,12 @@ Left out is a run whose disk or streams fail, and after one of `init` or `import
 each later run over the same folder, until a LOG is put there: what is kept is not
 known.
 
-Judged in part is a run that reads a block of another form: one that keeps J1 to J14
-and has an uncle, one that keeps J1 to J17 and has more transactions than its cellbase,
-or one that keeps J1 to J17 after such a block on its branch. The line of such a block is taken at its word, where it is `joined` with the block's
-number and hash, or names a rule that was not looked at. All other lines must agree.
-What joins so is kept; but LOG is not compared from there on, since its ext is not
-worked out.
+Judged in part is a run that reads a block of another form: one that keeps J1 to J14 and
+has an uncle, one that keeps J1 to J17 and has more transactions than its cellbase, or
+one that keeps J1 to J17 after such a block on its branch. The line of such a block is
+taken at its word, where it is `joined` with the block's number and hash, or names a
+rule that was not looked at. All other lines must agree. What joins so is kept; but LOG
+is not compared from there on, since its ext is not worked out.
 """
 
 import collections

@@ -3,8 +3,9 @@
 
     python3 tests/rows/cells.py
 
-They are the first of that file. A row is `cell`, a word and its columns, with a tab between two, bytes in hex and
-`-` for no bytes. The last column is the answer that is wanted:
+They are the first of that file. A row is `cell`, a word and its columns, with a tab
+between two, bytes in hex and `-` for no bytes. The last column is the answer that is
+wanted:
 
     occupied          lock args, type args or `-`, data, all as lengths: shannons
     data hash         data: its hash

@@ -1,4 +1,5 @@
-"""What the scripts of this folder share: it finds the modules of examples/ for them, and writes rows."""
+"""What the scripts of this folder share: it finds the modules of examples/ for them,
+and writes rows."""
 
 import os
 import sys

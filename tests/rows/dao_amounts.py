@@ -1,12 +1,14 @@
 #!/usr/bin/env python3
-"""Rows of crates/run_vectors/stdin on a chain where what cells of the Nervos DAO count reaches the greatest u64 and leaves it.
+"""Rows of crates/run_vectors/stdin on a chain where what cells of the Nervos DAO count
+reaches the greatest u64 and leaves it.
 
     python3 tests/rows/dao_amounts.py
 
-They are the last of that file. The genesis has little issued beside the reward of a block, so that the accumulated rate
-rises by about a hundredth with the first block, and a deposit of 2^64 - 1 shannons. A
-transfer at height 3 makes a withdrawing cell of as many, which names height 1. What they
-count is computed here by docs/RULES.md, "Capacity and the DAO field".
+They are the last of that file. The genesis has little issued beside the reward of a
+block, so that the accumulated rate rises by about a hundredth with the first block, and
+a deposit of 2^64 - 1 shannons. A transfer at height 3 makes a withdrawing cell of as
+many, which names height 1. What they count is computed here by docs/RULES.md, "Capacity
+and the DAO field".
 """
 
 from common import emit

@@ -3,9 +3,9 @@
 
     python3 tests/rows/moves.py
 
-They are all of that file. crates/reorg_vectors/src/main.rt says what the columns are. The cells of each
-place are made by a replay of its branch from the genesis, in a dict, as
-docs/RULES.md ("Cells") and docs/STORE.md say; nothing is taken from the program.
+They are all of that file. crates/reorg_vectors/src/main.rt says what the columns are.
+The cells of each place are made by a replay of its branch from the genesis, in a dict,
+as docs/RULES.md ("Cells") and docs/STORE.md say; nothing is taken from the program.
 Blocks are taken back only to find which of them a move stops at.
 """
 

@@ -1,12 +1,14 @@
 #!/usr/bin/env python3
-"""Rows of crates/run_vectors/stdin over chains whose cellbases pay rewards: J31 and J32 as imports.
+"""Rows of crates/run_vectors/stdin over chains whose cellbases pay rewards: J31 and J32
+as imports.
 
     python3 tests/rows/reward_runs.py
 
-They stand there after rows that no script here makes. Each chain is a store of its own, and its items are one input of `import`. A block
-that joins pays what is worked out here, in plain Python, by docs/RULES.md, "The
-reward" and "Capacity and the DAO field"; one that is refused differs from it in what
-its line says. Nothing is taken from the program.
+They stand there after rows that no script here makes. Each chain is a store of its own,
+and its items are one input of `import`. A block that joins pays what is worked out
+here, in plain Python, by docs/RULES.md, "The reward" and "Capacity and the DAO field";
+one that is refused differs from it in what its line says. Nothing is taken from the
+program.
 """
 
 from common import emit

@@ -3,7 +3,8 @@
 
     python3 tests/rows/rewards.py
 
-They are the last of that file. A row is a word and its columns, with a tab between two, bytes in hex:
+They are the last of that file. A row is a word and its columns, with a tab between two,
+bytes in hex:
 
     spec     a specification
     genesis  a Block that begins a chain

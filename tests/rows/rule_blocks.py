@@ -4,12 +4,12 @@ each with the line that it must be answered with.
 
     python3 tests/rows/rule_blocks.py
 
-They stand after those of that file that no script here makes. A row is a word or words, a tab, and bytes in hex. `spec` and `genesis` begin a
-chain. Each other row is an item, tried in its order on the blocks that joined
-before it: `joined` or `refused J` and a number. Only J1, J3 and J4 to J14 are
-looked at, so that a block with uncles or with no transaction may join. Where
-nothing else is asked for, a block has a cellbase and a DAO field that keep the
-later rules too.
+They stand after those of that file that no script here makes. A row is a word or words,
+a tab, and bytes in hex. `spec` and `genesis` begin a chain. Each other row is an item,
+tried in its order on the blocks that joined before it: `joined` or `refused J` and a
+number. Only J1, J3 and J4 to J14 are looked at, so that a block with uncles or with no
+transaction may join. Where nothing else is asked for, a block has a cellbase and a DAO
+field that keep the later rules too.
 
 The lines are written down here, item by item. Hashes are Python's own Blake2b,
 roots and medians are computed as docs/RULES.md says, and nothing is taken from

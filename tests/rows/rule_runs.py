@@ -1,13 +1,13 @@
 #!/usr/bin/env python3
-"""Rows of crates/run_vectors/stdin over blocks that break J4 to J14, J16, J17 or J32, and over two that break G4.
+"""Rows of crates/run_vectors/stdin over blocks that break J4 to J14, J16, J17 or J32,
+and over two that break G4.
 
     python3 tests/rows/rule_runs.py
 
-They stand after those of stopped_logs.py there. The blocks are those of
-rule_blocks.py and of the chain below, where
-each chain is a store of its own and its items are one input of `import`. The lines
-are the ones that stand beside the blocks, for chains whose blocks keep the other
-rules up to J32 too. They owe nothing to the program.
+They stand after those of stopped_logs.py there. The blocks are those of rule_blocks.py
+and of the chain below, where each chain is a store of its own and its items are one
+input of `import`. The lines are the ones that stand beside the blocks, for chains whose
+blocks keep the other rules up to J32 too. They owe nothing to the program.
 """
 
 from common import emit

@@ -1,5 +1,6 @@
 #!/usr/bin/env python3
-"""Rows of crates/format_vectors/stdin: the blocks of examples/ that go out as JSON and come back.
+"""Rows of crates/format_vectors/stdin: the blocks of examples/ that go out as JSON and
+come back.
 
     python3 tests/rows/sample_blocks.py
 

@@ -3,7 +3,8 @@
 
     python3 tests/rows/script_groups.py
 
-They are the last of that file. A row is a word and its columns, with a tab between two, bytes in hex:
+They are the last of that file. A row is a word and its columns, with a tab between two,
+bytes in hex:
 
     blob    bytes, which later rows name by their place, from 0 on
     spec    a specification: a new chain begins
@@ -19,9 +20,9 @@ place of the block that made it, that of its transaction there, and its
 CellOutput and its data as blobs, with commas between; cells and places have a
 blank between two, and where there is none stands `-`.
 
-All rows were worked out here: transactions by docs/FORMATS.md, groups and items
-by docs/RULES.md and docs/MACHINE.md (examples/script_scene.py), cycles by a plain
-machine (examples/script_machine.py). Where a row's answer is plain it is written down, and the
+All rows were worked out here: transactions by docs/FORMATS.md, groups and items by
+docs/RULES.md and docs/MACHINE.md (examples/script_scene.py), cycles by a plain machine
+(examples/script_machine.py). Where a row's answer is plain it is written down, and the
 machine must agree. Nothing is taken from the program.
 """
 

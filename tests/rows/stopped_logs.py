@@ -3,11 +3,11 @@
 
     python3 tests/rows/stopped_logs.py
 
-They stand there after rows that no script here makes. A log of a genesis and three blocks is stopped at each record: before its first
-write, in it, between the two, and in the second, with what a crash may have left
-of what was not synced. Each is opened, told its tip, and given all three blocks
-again. The rows say by docs/STORE.md which blocks each log has. They owe nothing
-to the program: the bytes of a log are put together here.
+They stand there after rows that no script here makes. A log of a genesis and three
+blocks is stopped at each record: before its first write, in it, between the two, and in
+the second, with what a crash may have left of what was not synced. Each is opened, told
+its tip, and given all three blocks again. The rows say by docs/STORE.md which blocks
+each log has. They owe nothing to the program: the bytes of a log are put together here.
 """
 
 import hashlib

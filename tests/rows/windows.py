@@ -3,7 +3,8 @@
 
     python3 tests/rows/windows.py
 
-They stand after those of rule_blocks.py there. A row is a word and its columns, with a tab between two, bytes in hex:
+They stand after those of rule_blocks.py there. A row is a word and its columns, with a
+tab between two, bytes in hex:
 
     spec      a specification
     genesis   a Block that begins a chain
