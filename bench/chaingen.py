@@ -14,10 +14,11 @@ valid under all rules in each case.
 import os
 import sys
 
-sys.path.append(os.path.join(os.path.dirname(os.path.abspath(__file__)), '..', 'examples'))
+sys.path.insert(0, os.path.join(os.path.dirname(os.path.abspath(__file__)), '..', 'examples'))
 import encoding  # noqa: E402 (beside the path above)
 from encoding import (NULL_OUT_POINT, ZERO_HASH, as_bytes, cell_input, cell_output, ckbhash, hash_of_all,  # noqa: E402
                       out_point, raw_transaction, root, script, table, uint)
+from make_store import Spec  # noqa: E402
 
 COIN, FEE, OCCUPIED = 10 ** 15, 1000, 41 * 10 ** 8
 PAIRED = 10 ** 12       # what each cell of a pair has in the genesis
@@ -80,9 +81,7 @@ def primary(h):
 
 def specification(far):
     """That of a proposal window from 2 blocks to so many."""
-    return (uint(100, 4) + uint(0x20000000, 4) + uint(L, 4) + uint(2, 4) + uint(far, 4)
-            + uint(597000, 4) + uint(1500, 4) + uint(10 ** 9, 8) + uint(0, 8) + uint(PRIMARY, 8)
-            + uint(SECONDARY, 8) + uint(HALVING, 8) + b'\xda' * 32)
+    return Spec(epoch_length=L, w_far=far, primary_reward=PRIMARY, secondary_reward=SECONDARY, halving_interval=HALVING).item()
 
 
 class Heights:

@@ -25,7 +25,7 @@ import time
 
 sys.dont_write_bytecode = True
 TOP = os.path.dirname(os.path.dirname(os.path.abspath(__file__)))
-sys.path.append(os.path.join(TOP, 'examples'))
+sys.path.insert(0, os.path.join(TOP, 'examples'))
 import encoding  # noqa: E402 (beside the path above)
 from block_json import of_block  # noqa: E402
 from encoding import cell_input, cell_output, out_point, raw_transaction, script  # noqa: E402

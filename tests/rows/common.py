@@ -6,7 +6,7 @@ import sys
 
 sys.dont_write_bytecode = True
 EXAMPLES = os.path.join(os.path.dirname(os.path.abspath(__file__)), '..', '..', 'examples')
-sys.path.append(EXAMPLES)
+sys.path.insert(0, EXAMPLES)
 
 
 def hexed(content):
