@@ -17,6 +17,8 @@ import subprocess
 import sys
 
 sys.dont_write_bytecode = True
+from chaingen import encoding  # noqa: E402
+
 PROGRAM = os.path.join(os.path.dirname(os.path.abspath(__file__)), '..', 'crates', 'tx_vectors', 'out', 'tx_vectors')
 # 9 rows on average fill a group of the table, and the groups are a power of 2
 COUNTS = (9 << 16, (9 << 16) + 1, 1000000, 9 << 17, (9 << 17) + 1)
@@ -24,13 +26,7 @@ COUNTS = (9 << 16, (9 << 16) + 1, 1000000, 9 << 17, (9 << 17) + 1)
 
 def genesis():
     """A block without transactions, in hex."""
-    header = bytes(208)
-    fields = (header, (4).to_bytes(4, 'little'), (4).to_bytes(4, 'little'), bytes(4))
-    at, heads = 20, b''
-    for field in fields:
-        heads += at.to_bytes(4, 'little')
-        at += len(field)
-    return (at.to_bytes(4, 'little') + heads + b''.join(fields)).hex()
+    return encoding.block(encoding.header()).hex()
 
 
 def peak(count):

@@ -11,56 +11,37 @@ commits as many transactions as the genesis has pairs of cells.  The chain is
 valid under all rules in each case.
 """
 
-import hashlib
+import os
 import sys
+
+sys.path.insert(0, os.path.join(os.path.dirname(os.path.abspath(__file__)), '..', 'examples'))
+import encoding  # noqa: E402 (beside the path above)
+from encoding import (NULL_OUT_POINT, ZERO_HASH, as_bytes, cell_input, cell_output, ckbhash, hash_of_all,  # noqa: E402
+                      out_point, raw_transaction, root, script, table, uint)
+from make_store import Spec  # noqa: E402
 
 COIN, FEE, OCCUPIED = 10 ** 15, 1000, 41 * 10 ** 8
 PAIRED = 10 ** 12       # what each cell of a pair has in the genesis
 L, W_FAR, PRIMARY, SECONDARY, HALVING = 10, 10, 10 ** 12, 10 ** 11, 1000
-NULL = bytes(32) + b'\xff' * 4
-ZERO = bytes(32)
 CODE = bytes.fromhex('9308d0051305000073000000')       # exits with 0
 
 
-def ckbhash(b):
-    return hashlib.blake2b(b, digest_size=32, person=b'ckb-default-hash').digest()
-
-
-def le(v, n):
-    return v.to_bytes(n, 'little')
-
-
-# ------------------------------------------------------------------ encoding
-
-def table(fields):
-    """A table, or a dynvec."""
-    at = 4 + 4 * len(fields)
-    heads = []
-    for f in fields:
-        heads.append(le(at, 4))
-        at += len(f)
-    return le(at, 4) + b''.join(heads) + b''.join(fields)
-
-
-def fixvec(items):
-    return le(len(items), 4) + b''.join(items)
-
-
-def as_bytes(b):
-    return le(len(b), 4) + b
-
-
 def elf(code):
-    n = le(len(code), 8)
+    n = uint(len(code), 8)
     return bytes.fromhex(
         '7f454c460201010000000000000000000200f300010000007800010000000000'
         '4000000000000000000000000000000000000000400038000100000000000000'
         '0100000005000000780000000000000078000100000000007800010000000000'
-    ) + n + n + le(4096, 8) + code
+    ) + n + n + uint(4096, 8) + code
+
+
+def program(words):
+    """The file of these instructions, four bytes each."""
+    return elf(b''.join(uint(it, 4) for it in words))
 
 
 FILE = elf(CODE)
-LOCK = table([ckbhash(FILE), b'\0', as_bytes(b'')])
+LOCK = script(ckbhash(FILE))
 DAO = (1_000_017_300_000_000, 10 ** 16, 0, 21_400_000_000)
 
 
@@ -70,32 +51,22 @@ def witness(message=b''):
 
 
 def output(capacity):
-    return table([le(capacity, 8), LOCK, b''])
+    return cell_output(capacity, LOCK)
 
 
 def transaction(deps, inputs, outputs, data, witnesses):
     """(bytes, hash, witness hash)"""
-    raw = table([le(0, 4), fixvec(deps), fixvec([]), fixvec(inputs), table(outputs),
-                 table([as_bytes(d) for d in data])])
-    whole = table([raw, table([as_bytes(w) for w in witnesses])])
+    raw = raw_transaction(inputs, outputs, data, deps)
+    whole = encoding.transaction(raw, witnesses)
     return whole, ckbhash(raw), ckbhash(whole)
-
-
-def root(items):
-    heap = [b''] * (len(items) - 1) + items
-    for j in range(len(items) - 2, -1, -1):
-        heap[j] = ckbhash(heap[2 * j + 1] + heap[2 * j + 2])
-    return heap[0]
 
 
 def block(number, epoch, timestamp, parent, dao, nonce, txs, ids):
     """(bytes, hash)"""
     roots = root([root([t[1] for t in txs]), root([t[2] for t in txs])])
-    header = (le(0, 4) + le(0x20000000, 4) + le(timestamp, 8) + le(number, 8)
-              + le(epoch, 8) + parent + roots
-              + (ckbhash(b''.join(ids)) if ids else ZERO) + ZERO
-              + b''.join(le(x, 8) for x in dao) + le(nonce, 16))
-    return table([header, le(4, 4), table([t[0] for t in txs]), fixvec(ids)]), ckbhash(header)
+    header = encoding.header(number, parent, compact_target=0x20000000, timestamp=timestamp, epoch=epoch,
+                             transactions_root=roots, proposals_hash=hash_of_all(ids), dao=dao, nonce=nonce)
+    return encoding.block(header, [t[0] for t in txs], ids), ckbhash(header)
 
 
 # --------------------------------------------------------------------- rules
@@ -110,9 +81,7 @@ def primary(h):
 
 def specification(far):
     """That of a proposal window from 2 blocks to so many."""
-    return (le(100, 4) + le(0x20000000, 4) + le(L, 4) + le(2, 4) + le(far, 4)
-            + le(597000, 4) + le(1500, 4) + le(10 ** 9, 8) + le(0, 8) + le(PRIMARY, 8)
-            + le(SECONDARY, 8) + le(HALVING, 8) + b'\xda' * 32)
+    return Spec(epoch_length=L, w_far=far, primary_reward=PRIMARY, secondary_reward=SECONDARY, halving_interval=HALVING).item()
 
 
 class Heights:
@@ -121,10 +90,10 @@ class Heights:
 
     def __init__(self, genesis_tx, plain, block_bytes, pairs, far):
         self.plain, self.block_bytes, self.far = plain, block_bytes, far
-        self.dep = genesis_tx[1] + le(0, 4) + b'\0'
-        self.coin, self.capacity = genesis_tx[1] + le(1, 4), COIN
+        self.dep = out_point(genesis_tx[1], 0) + b'\0'
+        self.coin, self.capacity = out_point(genesis_tx[1], 1), COIN
         # the cells of each pair, and what the first of them has: each fee is taken from it
-        self.pairs = [(genesis_tx[1] + le(k, 4), genesis_tx[1] + le(k + 1, 4))
+        self.pairs = [(out_point(genesis_tx[1], k), out_point(genesis_tx[1], k + 1))
                       for k in range(2, 2 + 2 * pairs, 2)]
         self.first_of_pair = PAIRED
         c, ar, s, u = DAO
@@ -146,18 +115,18 @@ class Heights:
 
     def of_the_coin(self):
         self.capacity -= FEE
-        tx = transaction([self.dep], [le(0, 8) + self.coin], [output(self.capacity)],
+        tx = transaction([self.dep], [cell_input(self.coin)], [output(self.capacity)],
                          [b''], [])
-        self.coin = tx[1] + le(0, 4)
+        self.coin = out_point(tx[1], 0)
         return tx
 
     def of_pairs(self):
         """One for each pair, which spends its cells and makes the next: two cells with one lock, one script group."""
         self.first_of_pair -= FEE
         outputs = [output(self.first_of_pair), output(PAIRED)]
-        txs = [transaction([self.dep], [le(0, 8) + a, le(0, 8) + b], outputs, [b'', b''], [])
+        txs = [transaction([self.dep], [cell_input(a), cell_input(b)], outputs, [b'', b''], [])
                for a, b in self.pairs]
-        self.pairs = [(tx[1] + le(0, 4), tx[1] + le(1, 4)) for tx in txs]
+        self.pairs = [(out_point(tx[1], 0), out_point(tx[1], 1)) for tx in txs]
         return txs
 
     def reward(self, t):
@@ -177,7 +146,7 @@ class Heights:
         ids = [tx[1][:10] for tx in self.commit_at(h + 2)] if self.count_at(h + 2) else []
 
         def with_cellbase(message):
-            return [transaction([], [le(h, 8) + NULL], outputs, [b''] * len(outputs),
+            return [transaction([], [cell_input(NULL_OUT_POINT, h)], outputs, [b''] * len(outputs),
                                 [witness(message)])] + others
 
         txs = with_cellbase(bytes(lacking(self.block_bytes, with_cellbase(b''), ids)))
@@ -191,12 +160,12 @@ class Heights:
 
 def lacking(size, txs, ids=()):
     """How many bytes a block of these lacks to be as long as `size`."""
-    return max(0, size - len(block(0, 0, 0, ZERO, DAO, 0, txs, list(ids))[0]))
+    return max(0, size - len(block(0, 0, 0, ZERO_HASH, DAO, 0, txs, list(ids))[0]))
 
 
 def genesis_transaction(data=b'', pairs=0):
     """The program, the coin with some data, and pairs of cells."""
-    return transaction([], [le(0, 8) + NULL], [output(17_300_000_000), output(COIN)] + [output(PAIRED)] * (2 * pairs),
+    return transaction([], [cell_input(NULL_OUT_POINT)], [output(17_300_000_000), output(COIN)] + [output(PAIRED)] * (2 * pairs),
                        [FILE, data] + [b''] * (2 * pairs), [])
 
 
@@ -212,7 +181,7 @@ def make(seed, n, plain=False, block_bytes=0, genesis_bytes=0, pairs=0, row=Fals
 
     first = genesis_transaction(bytes(lacking(genesis_bytes, [genesis_transaction(b'', pairs)])), pairs)
     heights = Heights(first, plain, block_bytes, pairs, far)
-    genesis, top = block(0, 0, 1000, ZERO, heights.dao[0], 0, [first], [])
+    genesis, top = block(0, 0, 1000, ZERO_HASH, heights.dao[0], 0, [first], [])
     kept = [(0, top)]
     parents = [0]
     blocks = []

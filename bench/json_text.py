@@ -25,8 +25,10 @@ import time
 
 sys.dont_write_bytecode = True
 TOP = os.path.dirname(os.path.dirname(os.path.abspath(__file__)))
-sys.path.append(os.path.join(TOP, 'examples'))
+sys.path.insert(0, os.path.join(TOP, 'examples'))
+import encoding  # noqa: E402 (beside the path above)
 from block_json import of_block  # noqa: E402
+from encoding import cell_input, cell_output, out_point, raw_transaction, script  # noqa: E402
 
 PROGRAM = os.path.join(TOP, 'crates', 'format_vectors', 'out', 'format_vectors')
 SIZE, OFTEN = 597000, 40
@@ -37,35 +39,15 @@ RUNNER = ('import resource, subprocess, sys\n'
           'sys.exit(p.returncode)\n')
 
 
-def le(n, width):
-    return n.to_bytes(width, 'little')
-
-
-# ------------------------------------------------------------------ encoding
-
-def table(fields):
-    """A table, or a dynvec."""
-    at, heads = 4 + 4 * len(fields), []
-    for f in fields:
-        heads.append(le(at, 4))
-        at += len(f)
-    return le(at, 4) + b''.join(heads) + b''.join(fields)
-
-
-def as_bytes(b):
-    return le(len(b), 4) + b
-
-
 def transaction(i, witness):
-    lock = table([bytes([i % 251]) * 32, b'\x01', as_bytes(bytes(20))])
-    outputs = table([table([le(10 ** 10 + i, 8), lock, b'']) for _ in range(2)])
-    raw = table([le(0, 4), le(1, 4) + bytes(32) + le(i, 4) + b'\0', le(0, 4), le(1, 4) + le(0, 8) + bytes([i % 13]) * 32 + le(i, 4),
-                 outputs, table([as_bytes(b'')] * 2)])
-    return table([raw, table([as_bytes(witness)])])
+    lock = script(bytes([i % 251]) * 32, 1, bytes(20))
+    raw = raw_transaction([cell_input(out_point(bytes([i % 13]) * 32, i))], [cell_output(10 ** 10 + i, lock)] * 2, [b'', b''],
+                          [out_point(bytes(32), i) + b'\0'])
+    return encoding.transaction(raw, [witness])
 
 
 def block(transactions):
-    return table([bytes(range(208)), table([]), table(transactions), le(0, 4)])
+    return encoding.block(bytes(range(208)), transactions)
 
 
 def busy():

@@ -41,7 +41,7 @@ def write_store(folder, count):
     # the coin of the genesis, which no block spends
     coin = ['0x' + chaingen.genesis_transaction()[1].hex(), '1']
     live = 'live %d %d 0 0x%s - 0x%s 0\n' % (chaingen.COIN, chaingen.OCCUPIED, chaingen.ckbhash(chaingen.LOCK).hex(),
-                                            chaingen.ZERO.hex())
+                                            chaingen.ZERO_HASH.hex())
     return [
         (['tip'], 'tip %d 0x%s\n' % (height, hash_of_tip.hex())),
         (['header', str(height)], 'header %d 0x%s 0x%s\n' % (height, hash_of_tip.hex(), header.hex())),

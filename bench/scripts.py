@@ -20,36 +20,29 @@ import subprocess
 import sys
 import tempfile
 
-import chaingen
-from chaingen import NULL, SPEC, as_bytes, ckbhash, fixvec, le, table
+from chaingen import NULL_OUT_POINT, W_FAR, cell_input, cell_output, ckbhash, encoding, out_point, program, raw_transaction, \
+    script, specification
 from exec import BUDGET, FLAGS, HERE, run
 from start import addi
 
 LOOPS = 125         # of 4 cycles: an ADDI and a branch
 
 
-def elf(words):
-    return chaingen.elf(b''.join(word.to_bytes(4, 'little') for word in words))
-
-
 ENDS = [addi(17, 93), addi(10, 0), 0x73]
 COUNTS = [addi(5, LOOPS), -1 << 20 & 0xfff00000 | 5 << 15 | addi(5, 0), 0xfe029ee3]     # x5 -= 1; bne x5, x0, -4
 
 # name: the file, its cycles (a cycle for four bytes that are loaded, and 500 of ECALL), the most microseconds
-FILES = {'start': (elf(ENDS), 3 + 2 + 500, 25.0),
-         'loop': (elf(COUNTS + ENDS), 6 + 1 + 4 * LOOPS + 2 + 500, 50.0)}
+FILES = {'start': (program(ENDS), 3 + 2 + 500, 25.0),
+         'loop': (program(COUNTS + ENDS), 6 + 1 + 4 * LOOPS + 2 + 500, 50.0)}
 
 
 def rows(code, cycles, calls):
     """What `tx_vectors` reads: a transaction with one input, whose lock is the code, and a dep that holds it, many times."""
-    lock = table([ckbhash(code), b'\0', as_bytes(b'')])
-    output = table([le(10 ** 12, 8), lock, b''])
-    null_input = le(0, 8) + NULL
-    raw = table([le(0, 4), fixvec([ckbhash(b'dep') + le(0, 4) + b'\0']), fixvec([]), fixvec([null_input]), table([output]),
-                 table([as_bytes(b'')])])
-    genesis = table([bytes(208), table([]), table([]), fixvec([])])
-    lines = [('spec', SPEC), ('genesis', genesis), ('blob', output), ('blob', b''), ('blob', code),
-             ('rounds', str(calls), 'ok %d' % cycles, BUDGET, table([raw, table([])]), '0,0,0,1', '0,0,0,2', '-')]
+    output = cell_output(10 ** 12, script(ckbhash(code)))
+    raw = raw_transaction([cell_input(NULL_OUT_POINT)], [output], [b''], [out_point(ckbhash(b'dep'), 0) + b'\0'])
+    genesis = encoding.block(encoding.header())
+    lines = [('spec', specification(W_FAR)), ('genesis', genesis), ('blob', output), ('blob', b''), ('blob', code),
+             ('rounds', str(calls), 'ok %d' % cycles, BUDGET, encoding.transaction(raw), '0,0,0,1', '0,0,0,2', '-')]
     return ''.join('\t'.join(it if isinstance(it, str) else it.hex() for it in line) + '\n' for line in lines)
 
 

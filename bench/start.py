@@ -29,7 +29,7 @@ def addi(register, value):
     return (value & 0xfff) << 20 | register << 7 | 0x13
 
 
-FILE = chaingen.elf(b''.join(word.to_bytes(4, 'little') for word in (addi(17, 93), addi(10, 0), 0x73)))
+FILE = chaingen.program([addi(17, 93), addi(10, 0), 0x73])
 
 
 def main():

@@ -11,21 +11,7 @@ nothing to the program.
 import json
 import sys
 
-
-def number(b):
-    return int.from_bytes(b, 'little')
-
-
-def parts(b):
-    if len(b) == 4:
-        return []
-    first = number(b[4:8])
-    offsets = [number(b[i:i + 4]) for i in range(4, first, 4)] + [len(b)]
-    return [b[s:e] for s, e in zip(offsets, offsets[1:])]
-
-
-def items(b, size):
-    return [b[4 + i * size:4 + (i + 1) * size] for i in range(number(b[:4]))]
+from encoding import fields_of, items_of, number_of
 
 
 def text(b):
@@ -33,11 +19,11 @@ def text(b):
 
 
 def of_number(b):
-    return hex(number(b))
+    return hex(number_of(b))
 
 
 def script(b):
-    code_hash, hash_type, args = parts(b)
+    code_hash, hash_type, args = fields_of(b)
     return {'args': text(args[4:]), 'code_hash': text(code_hash), 'hash_type': {0: 'data', 1: 'type'}.get(hash_type[0]) or text(hash_type)}
 
 
@@ -46,21 +32,21 @@ def out_point(b):
 
 
 def output(b):
-    capacity, lock, type_script = parts(b)
+    capacity, lock, type_script = fields_of(b)
     return {'capacity': of_number(capacity), 'lock': script(lock), 'type': script(type_script) if type_script else None}
 
 
 def of_transaction(b):
-    raw, witnesses = parts(b)
-    version, deps, header_deps, inputs, outputs, data = parts(raw)
+    raw, witnesses = fields_of(b)
+    version, deps, header_deps, inputs, outputs, data = fields_of(raw)
     return {
-        'cell_deps': [{'dep_type': {0: 'code', 1: 'dep_group'}.get(d[36]) or text(d[36:]), 'out_point': out_point(d[:36])} for d in items(deps, 37)],
-        'header_deps': [text(h) for h in items(header_deps, 32)],
-        'inputs': [{'previous_output': out_point(i[8:]), 'since': of_number(i[:8])} for i in items(inputs, 44)],
-        'outputs': [output(o) for o in parts(outputs)],
-        'outputs_data': [text(d[4:]) for d in parts(data)],
+        'cell_deps': [{'dep_type': {0: 'code', 1: 'dep_group'}.get(d[36]) or text(d[36:]), 'out_point': out_point(d[:36])} for d in items_of(deps, 37)],
+        'header_deps': [text(h) for h in items_of(header_deps, 32)],
+        'inputs': [{'previous_output': out_point(i[8:]), 'since': of_number(i[:8])} for i in items_of(inputs, 44)],
+        'outputs': [output(o) for o in fields_of(outputs)],
+        'outputs_data': [text(d[4:]) for d in fields_of(data)],
         'version': of_number(version),
-        'witnesses': [text(w[4:]) for w in parts(witnesses)],
+        'witnesses': [text(w[4:]) for w in fields_of(witnesses)],
     }
 
 
@@ -73,12 +59,12 @@ def header(b):
 
 
 def tree_of(b):
-    head, uncles, transactions, proposals = parts(b)
+    head, uncles, transactions, proposals = fields_of(b)
     return {
         'header': header(head),
-        'proposals': [text(p) for p in items(proposals, 10)],
-        'transactions': [of_transaction(t) for t in parts(transactions)],
-        'uncles': [{'header': header(parts(u)[0]), 'proposals': [text(p) for p in items(parts(u)[1], 10)]} for u in parts(uncles)],
+        'proposals': [text(p) for p in items_of(proposals, 10)],
+        'transactions': [of_transaction(t) for t in fields_of(transactions)],
+        'uncles': [{'header': header(fields_of(u)[0]), 'proposals': [text(p) for p in items_of(fields_of(u)[1], 10)]} for u in fields_of(uncles)],
     }
 
 

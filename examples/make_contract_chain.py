@@ -22,9 +22,11 @@ the hashes are computed, by Python's own Blake2b, and the cycles, by script_mach
 
 import os
 
+import encoding
 import make_store as store
+from encoding import cell_input, ckbhash, hash_of_all, out_point, raw_transaction, transactions_root
 from make_first_blocks import input_and_text, joined
-from make_store import COIN, PROGRAM, SHANNONS, ZERO_HASH, Spec, as_bytes, ckbhash, fixvec, root, table, uint
+from make_store import COIN, PROGRAM, SHANNONS, Spec
 from script_scene import Cell, Scene, Script
 
 HERE = os.path.dirname(os.path.abspath(__file__))
@@ -57,9 +59,9 @@ class First:
 DEPS = (First, 0), (First, 2)
 
 
-def out_point(output):
+def point_of(output):
     transaction, place = output
-    return transaction.hash + uint(place, 4)
+    return out_point(transaction.hash, place)
 
 
 def cell_of(output):
@@ -75,11 +77,11 @@ class Transaction(Scene):
 
     def __init__(self, spent, made, deps=DEPS, since=0, version=0, witnesses=()):
         super().__init__(None, map(cell_of, spent), made, map(cell_of, deps), witnesses=witnesses)
-        self.cell_inputs = [uint(since, 8) + out_point(it) for it in spent]
-        self.raw = table([
-            uint(version, 4), fixvec([out_point(it) + b'\0' for it in deps]), fixvec([]), fixvec(self.cell_inputs),
-            table([it.item() for it in self.outputs]), table([as_bytes(it.content) for it in self.outputs])])
-        self.item = table([self.raw, table([as_bytes(it) for it in self.witnesses])])
+        self.cell_inputs = [cell_input(point_of(it), since) for it in spent]
+        self.raw = raw_transaction(
+            self.cell_inputs, [it.item() for it in self.outputs], [it.content for it in self.outputs],
+            [point_of(it) + b'\0' for it in deps], version=version)
+        self.item = encoding.transaction(self.raw, self.witnesses)
         self.hash = ckbhash(self.raw)
         self.proposal_id = self.hash[:10]
 
@@ -105,10 +107,6 @@ TRANSFER = Transaction([(SPENDS_ON, 0), (SPENDS, 1)], [Cell(ANYONE, capacity=ckb
 
 # ------------------------------------------------------------------ blocks
 
-def hash_of_all(parts):
-    return ckbhash(b''.join(parts)) if parts else ZERO_HASH
-
-
 class Block:
     """The next block on a parent: a cellbase and these transactions, the ids of those proposed, and uncles."""
 
@@ -128,19 +126,17 @@ class Block:
         return [self.cellbase.item()] + [it.item for it in self.commits]
 
     def header(self):
-        roots = [root([ckbhash(self.cellbase.raw())] + [it.hash for it in self.commits]),
-                 root(list(map(ckbhash, self.transactions())))]
-        return (uint(0, 4) + uint(SPEC.compact_target, 4) + uint(self.timestamp, 8) + uint(self.number, 8)
-                + uint(SPEC.epoch_field(self.number), 8) + self.parent + root(roots) + hash_of_all(self.proposals)
-                + hash_of_all([it.hash() for it in self.uncles]) + b''.join(uint(it, 8) for it in self.dao)
-                + uint(self.nonce, 16))
+        return encoding.header(
+            self.number, self.parent, compact_target=SPEC.compact_target, timestamp=self.timestamp,
+            epoch=SPEC.epoch_field(self.number), transactions_root=transactions_root(self.transactions()),
+            proposals_hash=hash_of_all(self.proposals), uncles_hash=hash_of_all([it.hash() for it in self.uncles]), dao=self.dao,
+            nonce=self.nonce)
 
     def as_uncle(self):
-        return table([self.header(), fixvec(self.proposals)])
+        return encoding.uncle(self.header(), self.proposals)
 
     def item(self):
-        return table([self.header(), table([it.as_uncle() for it in self.uncles]), table(self.transactions()),
-                      fixvec(self.proposals)])
+        return encoding.block(self.header(), self.transactions(), self.proposals, [it.as_uncle() for it in self.uncles])
 
     def hash(self):
         return ckbhash(self.header())

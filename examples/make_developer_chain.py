@@ -17,10 +17,12 @@ import dataclasses
 import os
 import sys
 
+import encoding
 import make_store as store
+from encoding import NULL_OUT_POINT, cell_input, ckbhash, fixvec, out_point, raw_transaction
 from make_contract_chain import ANYONE, ckb
 from make_first_blocks import input_and_text
-from make_store import COIN, NULL_OUT_POINT, PROGRAM, as_bytes, ckbhash, fixvec, table, uint
+from make_store import COIN, PROGRAM
 from paying_chain import CODE_NAME, Chain, dao_cell
 from script_scene import Cell, Scene
 
@@ -59,16 +61,15 @@ class Made:
 
     def __init__(self, place, outputs):
         self.outputs = outputs
-        self.raw_bytes = table([
-            uint(0, 4), fixvec([]), fixvec([]), fixvec([uint(place, 8) + NULL_OUT_POINT]),
-            table([it.item() for it in outputs]), table([as_bytes(it.content) for it in outputs])])
+        self.raw_bytes = raw_transaction([cell_input(NULL_OUT_POINT, place)], [it.item() for it in outputs],
+                                         [it.content for it in outputs])
         self.hash = ckbhash(self.raw_bytes)
 
     def raw(self):
         return self.raw_bytes
 
     def item(self):
-        return table([self.raw_bytes, table([])])
+        return encoding.transaction(self.raw_bytes)
 
 
 def holding(content, **parts):
@@ -80,12 +81,8 @@ def holding(content, **parts):
 PROGRAMS = Made(0, [holding(PROGRAM), Cell(ANYONE, capacity=COIN), holding(LARGE), holding(PROGRAM, type_script=CODE_NAME)])
 
 
-def out_point(source, place):
-    return source.hash + uint(place, 4)
-
-
 # the codes of all locks and of the DAO
-GROUP = Made(1, [holding(fixvec([out_point(PROGRAMS, 0), out_point(PROGRAMS, 3)]))])
+GROUP = Made(1, [holding(fixvec([out_point(PROGRAMS.hash, 0), out_point(PROGRAMS.hash, 3)]))])
 
 
 class Transfer(Scene):
@@ -93,11 +90,9 @@ class Transfer(Scene):
 
     def __init__(self, source, place, made):
         super().__init__(None, [source.outputs[place]], made, [PROGRAMS.outputs[0], PROGRAMS.outputs[3]])
-        raw = table([
-            uint(0, 4), fixvec([out_point(GROUP, 0) + b'\1']), fixvec([]),
-            fixvec([uint(0, 8) + out_point(source, place)]),
-            table([it.item() for it in made]), table([as_bytes(it.content) for it in made])])
-        self.item = table([raw, table([])])
+        raw = raw_transaction([cell_input(out_point(source.hash, place))], [it.item() for it in made],
+                              [it.content for it in made], [out_point(GROUP.hash, 0) + b'\1'])
+        self.item = encoding.transaction(raw)
         self.hash = ckbhash(raw)
         self.proposal_id = self.hash[:10]
 

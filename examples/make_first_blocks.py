@@ -14,7 +14,8 @@ import dataclasses
 import os
 
 import make_store as store
-from make_store import Spec, child, fixvec, table, uint
+from encoding import fields_of, fixvec, table
+from make_store import Spec, child
 
 HERE = os.path.dirname(os.path.abspath(__file__))
 UNKNOWN_HASH = b'\x11' * 32
@@ -52,13 +53,13 @@ def numbered(block, number):
                    transactions=(store.cellbase(number),))
 
 
-# ----------------------------------------------------------------- inputs
-# Each gives the items with their lines, and the block that is the tip behind them.
+# ------------------------------------------------------------------ input
 
 def first_blocks():
+    """The items with their lines, and the block that is the tip after them."""
     a = child(SPEC, GENESIS)
     b = child(SPEC, a)
-    fifth_field = table(a.fields() + [fixvec([])])
+    fifth_field = table(fields_of(a.item()) + [fixvec([])])
     return [
         (a.item(), joined(a)),
         (a.item(), known(a)),
@@ -67,63 +68,6 @@ def first_blocks():
         (fifth_field, 'refused J1'),
         (b.item(), joined(b)),
     ], b
-
-
-def no_blocks(a):
-    """Items that are no canonical `Block`. They have the header of a block that is kept."""
-    size = len(a)
-    yield uint(4, 4)
-    # a byte behind the proposals
-    yield uint(size + 1, 4) + a[4:] + b'\0'
-    # a gap of four bytes between the offsets and the header
-    yield uint(size + 4, 4) + b''.join(
-        uint(int.from_bytes(a[i:i + 4], 'little') + 4, 4) for i in range(4, 20, 4)
-    ) + bytes(4) + a[20:]
-    # the second offset is below the first
-    yield a[:8] + uint(19, 4) + a[12:]
-    # the full size of the transactions is one too low
-    at = int.from_bytes(a[12:16], 'little')
-    yield a[:at] + uint(int.from_bytes(a[at:at + 4], 'little') - 1, 4) + a[at + 4:]
-    # a proposal is announced and is not there
-    yield a[:-4] + uint(1, 4)
-
-
-def each_verdict():
-    a1 = child(SPEC, GENESIS, nonce=1)
-    a2 = child(SPEC, a1)
-    b1 = child(SPEC, GENESIS, nonce=2)
-    b2 = child(SPEC, b1)
-    b3 = child(SPEC, b2)
-    next_a, next_b = child(SPEC, a1, nonce=9), child(SPEC, b2, nonce=9)
-    items = [
-        (a1.item(), joined(a1)),
-        (a1.item(), known(a1)),
-        (GENESIS.item(), known(GENESIS)),
-        # the number: two too high, the parent's own, and 0
-        (numbered(a1, 3).item(), 'refused J5'),
-        (numbered(next_a, 1).item(), 'refused J5'),
-        (numbered(next_a, 0).item(), 'refused J5'),
-        # the greatest number
-        (numbered(next_a, 2 ** 64 - 1).item(), 'refused J5'),
-        (changed(a1, parent=UNKNOWN_HASH).item(), 'refused J3'),
-        # an unknown parent comes before a wrong number
-        (changed(numbered(a1, 7), parent=UNKNOWN_HASH).item(), 'refused J3'),
-        # the parent comes later
-        (b2.item(), 'refused J3'),
-        # a hash that is kept, and other transactions under it
-        (table([a1.header(), table([]), table([]), fixvec([])]), known(a1)),
-        # the tip stays at equal height, and moves to a greater one
-        (b1.item(), joined(b1)),
-        (b2.item(), joined(b2)),
-        (a2.item(), joined(a2)),
-    ]
-    items += [(item, 'refused J1') for item in no_blocks(a1.item())]
-    items += [
-        (table(next_b.fields() + [fixvec([])]), 'refused J1'),
-        (table(next_b.fields()[:3]), 'refused J1'),
-        (b3.item(), joined(b3)),
-    ]
-    return items, b3
 
 
 def input_and_text(items):

@@ -17,54 +17,17 @@ hashes are computed by Python's own Blake2b.
 
 import argparse
 import dataclasses
-import hashlib
 import os
 import sys
 
+import encoding
+from encoding import NULL_OUT_POINT, ZERO_HASH, as_bytes, cell_input, cell_output, ckbhash, raw_transaction, script, table, \
+    transactions_root, uint
+
 HERE = os.path.dirname(os.path.abspath(__file__))
-ZERO_HASH = bytes(32)
-NULL_OUT_POINT = ZERO_HASH + b'\xff' * 4
 SHANNONS = 10 ** 8
 COIN = 10_000_000 * SHANNONS
 GENESIS_LIMIT = 4 << 20
-
-
-# ---------------------------------------------------------------- encoding
-
-def uint(value, size):
-    return value.to_bytes(size, 'little')
-
-
-def table(fields):
-    """A table of these fields, or a dynvec of these items."""
-    offset = 4 + 4 * len(fields)
-    offsets = []
-    for field in fields:
-        offsets.append(uint(offset, 4))
-        offset += len(field)
-    return uint(offset, 4) + b''.join(offsets) + b''.join(fields)
-
-
-def fixvec(items):
-    return uint(len(items), 4) + b''.join(items)
-
-
-def as_bytes(content):
-    return uint(len(content), 4) + content
-
-
-# ------------------------------------------------------------------ hashes
-
-def ckbhash(message):
-    return hashlib.blake2b(message, digest_size=32, person=b'ckb-default-hash').digest()
-
-
-def root(items):
-    """The Merkle root of RFC 0006, of at least one item."""
-    nodes = [b''] * (len(items) - 1) + list(items)
-    for i in range(len(items) - 2, -1, -1):
-        nodes[i] = ckbhash(nodes[2 * i + 1] + nodes[2 * i + 2])
-    return nodes[0]
 
 
 # --------------------------------------------------------- the specification
@@ -130,7 +93,7 @@ PROGRAM = bytes.fromhex(
     '0100000005000000780000000000000078000100000000007800010000000000'
     '0c000000000000000c0000000000000000100000000000009308d00513050000'
     '73000000')
-LOCK = table([ckbhash(PROGRAM), b'\0', as_bytes(b'')])
+LOCK = script(ckbhash(PROGRAM))
 
 
 def occupied(data):
@@ -147,12 +110,11 @@ class Transaction:
     witnesses: tuple = ()
 
     def raw(self):
-        outputs = [table([uint(capacity, 8), LOCK, b'']) for capacity, _ in self.outputs]
-        return table([uint(0, 4), fixvec([]), fixvec([]), fixvec([uint(self.since, 8) + NULL_OUT_POINT]),
-                      table(outputs), table([as_bytes(data) for _, data in self.outputs])])
+        outputs = [cell_output(capacity, LOCK) for capacity, _ in self.outputs]
+        return raw_transaction([cell_input(NULL_OUT_POINT, self.since)], outputs, [data for _, data in self.outputs])
 
     def item(self):
-        return table([self.raw(), table([as_bytes(it) for it in self.witnesses])])
+        return encoding.transaction(self.raw(), self.witnesses)
 
 
 def cellbase(number):
@@ -176,17 +138,12 @@ class Block:
     nonce: int = 0
 
     def header(self):
-        whole = [it.item() for it in self.transactions]
-        hashes = [root([ckbhash(it.raw()) for it in self.transactions]), root(list(map(ckbhash, whole)))]
-        return (uint(0, 4) + uint(self.compact_target, 4) + uint(self.timestamp, 8) + uint(self.number, 8)
-                + uint(self.epoch, 8) + self.parent + root(hashes) + ZERO_HASH + ZERO_HASH
-                + b''.join(uint(it, 8) for it in self.dao) + uint(self.nonce, 16))
-
-    def fields(self):
-        return [self.header(), table([]), table([it.item() for it in self.transactions]), fixvec([])]
+        return encoding.header(
+            self.number, self.parent, compact_target=self.compact_target, timestamp=self.timestamp, epoch=self.epoch,
+            transactions_root=transactions_root([it.item() for it in self.transactions]), dao=self.dao, nonce=self.nonce)
 
     def item(self):
-        return table(self.fields())
+        return encoding.block(self.header(), [it.item() for it in self.transactions])
 
     def hash(self):
         return ckbhash(self.header())

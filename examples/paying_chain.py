@@ -7,22 +7,25 @@ What a block pays and its DAO field are worked out here, in plain Python, by doc
 import dataclasses
 import functools
 
+import encoding
 import make_contract_chain as contract
 import make_store as store
-from make_contract_chain import ANYONE, hash_of_all
+from encoding import NULL_OUT_POINT, ZERO_HASH, as_bytes, cell_input, cell_output, ckbhash, fields_of, hash_of_all, \
+    raw_transaction, script, table, transactions_root
+from make_contract_chain import ANYONE
 from make_first_blocks import joined
-from make_store import LOCK, NULL_OUT_POINT, SHANNONS, Spec, as_bytes, ckbhash, fixvec, root, table, uint
+from make_store import LOCK, SHANNONS, Spec
 from script_scene import Cell, Script
 
 # what a cellbase's output with the lock of all occupies
 LEAST = 41 * SHANNONS
 # 20 bytes of args: its outputs occupy 61 CKB
-LONG_LOCK = table([ckbhash(store.PROGRAM), b'\0', as_bytes(bytes(20))])
+LONG_LOCK = script(ckbhash(store.PROGRAM), args=bytes(20))
 
 
 def occupied_with(lock):
     """What a cellbase's output with this lock occupies."""
-    args = lock[int.from_bytes(lock[12:16], 'little') + 4:]
+    args = fields_of(lock)[2][4:]
     return LEAST + len(args) * SHANNONS
 
 
@@ -50,27 +53,26 @@ class Block:
         return self.parent.timestamp + 1000
 
     def cellbase(self):
-        outputs = [table([uint(capacity, 8), lock, b'']) for capacity, lock in self.pays]
-        raw = table([uint(0, 4), fixvec([]), fixvec([]), fixvec([uint(self.number, 8) + NULL_OUT_POINT]),
-                     table(outputs), table([as_bytes(b'')] * len(outputs))])
-        return raw, table([raw, table([as_bytes(table([self.lock, as_bytes(b'')]))])])
+        outputs = [cell_output(capacity, lock) for capacity, lock in self.pays]
+        raw = raw_transaction([cell_input(NULL_OUT_POINT, self.number)], outputs, [b''] * len(outputs))
+        return encoding.transaction(raw, [table([self.lock, as_bytes(b'')])])
 
-    def header(self):
-        raw, whole = self.cellbase()
-        roots = [root([ckbhash(raw)] + [it.hash for it in self.commits]),
-                 root(list(map(ckbhash, [whole] + [it.item for it in self.commits])))]
-        return (uint(0, 4) + uint(self.spec.compact_target, 4) + uint(self.timestamp, 8) + uint(self.number, 8)
-                + uint(self.spec.epoch_field(self.number), 8) + self.parent.hash() + root(roots)
-                + hash_of_all([it.proposal_id for it in self.proposes])
-                + hash_of_all([it.hash() for it in self.uncles]) + b''.join(uint(it, 8) for it in self.dao)
-                + uint(self.nonce, 16))
+    def transactions(self):
+        return [self.cellbase()] + [it.item for it in self.commits]
 
     def ids(self):
-        return fixvec([it.proposal_id for it in self.proposes])
+        return [it.proposal_id for it in self.proposes]
+
+    def header(self):
+        return encoding.header(
+            self.number, self.parent.hash(), compact_target=self.spec.compact_target, timestamp=self.timestamp,
+            epoch=self.spec.epoch_field(self.number), transactions_root=transactions_root(self.transactions()),
+            proposals_hash=hash_of_all(self.ids()), uncles_hash=hash_of_all([it.hash() for it in self.uncles]), dao=self.dao,
+            nonce=self.nonce)
 
     def item(self):
-        uncles = [table([it.header(), it.ids()]) for it in self.uncles]
-        return table([self.header(), table(uncles), table([self.cellbase()[1]] + [it.item for it in self.commits]), self.ids()])
+        uncles = [encoding.uncle(it.header(), it.ids()) for it in self.uncles]
+        return encoding.block(self.header(), self.transactions(), self.ids(), uncles)
 
     @functools.cached_property
     def header_hash(self):
@@ -170,7 +172,7 @@ class Chain:
 
 
 # the type script of the cell that has the DAO's code, and the one that names that code
-CODE_NAME = Script(store.ZERO_HASH, args=b'code')
+CODE_NAME = Script(ZERO_HASH, args=b'code')
 DAO = Script(CODE_NAME.hash(), hash_type=1)
 
 

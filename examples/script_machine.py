@@ -246,11 +246,16 @@ def cost(instruction):
 
 # ------------------------------------------------------------------ machine
 
+def kept(rd):
+    """Where a result goes: what goes to x0, which stays 0, is put where no instruction reads it."""
+    return rd or 32
+
+
 class Machine:
     def __init__(self, budget, items):
         self.memory = bytearray(MEMORY)
         self.code = bytearray(MEMORY // PAGE)
-        self.x = [0] * 32
+        self.x = [0] * 33
         self.x[2] = STACK
         self.pc = self.cycles = 0
         self.budget, self.items = budget, items
@@ -284,7 +289,7 @@ class Machine:
         return int.from_bytes(self.memory[at:at + 2], 'little')
 
     def instruction(self):
-        """The instruction at the program counter, its cost, and the address behind it."""
+        """The instruction at the program counter, its cost, and the address after it."""
         if self.pc % 2:
             raise Fault(4)
         w = self.fetch_pair(self.pc)
@@ -297,55 +302,80 @@ class Machine:
             raise Fault(4)
         return found, cost(found), self.pc + size & MASK
 
-    def effect(self, it, behind):
+    def effect(self, it, after):
         """What an instruction at the program counter does, as a function that answers the next program counter."""
-        pc, x, kind = self.pc, self.x, it[0]
+        pc, x, memory, kind = self.pc, self.x, self.memory, it[0]
 
-        def put(rd, value, target=behind):
-            if rd:
-                x[rd] = value
+        def alu(of, rd, rs1, rs2):
+            def do():
+                x[rd] = of(x[rs1], x[rs2])
+                return after
+            return do
+
+        def alu_immediate(of, rd, rs1, value):
+            def do():
+                x[rd] = of(x[rs1], value)
+                return after
+            return do
+
+        def load(width, is_signed, rd, rs1, offset):
+            def do():
+                at = x[rs1] + offset & MASK
+                if at + width > MEMORY:
+                    raise Fault(1)
+                x[rd] = int.from_bytes(memory[at:at + width], 'little', signed=is_signed) & MASK
+                return after
+            return do
+
+        def store(width, rs1, rs2, offset):
+            part = (1 << 8 * width) - 1
+
+            def do():
+                self.store(x[rs1] + offset & MASK, (x[rs2] & part).to_bytes(width, 'little'))
+                return after
+            return do
+
+        def put(rd, value, target=after):
+            x[rd] = value
             return target
 
         if kind == 'immediate':
-            of, rd, rs1, value = ALU[it[1]], it[2], it[3], it[4] & MASK
-            return lambda: put(rd, of(x[rs1], value))
+            return alu_immediate(ALU[it[1]], kept(it[2]), it[3], it[4] & MASK)
         if kind == 'op':
-            of, rd, rs1, rs2 = ALU[it[1]], *it[2:]
-            return lambda: put(rd, of(x[rs1], x[rs2]))
+            return alu(ALU[it[1]], kept(it[2]), *it[3:])
         if kind == 'load':
-            _, width, is_signed, rd, rs1, offset = it
-            bits = 8 * width if is_signed else 65
-            return lambda: put(rd, signed(int.from_bytes(self.load(x[rs1] + offset & MASK, width), 'little'), bits) & MASK)
+            return load(it[1], it[2], kept(it[3]), *it[4:])
         if kind == 'store':
-            _, width, rs1, rs2, offset = it
-            part = (1 << 8 * width) - 1
-
-            def store():
-                self.store(x[rs1] + offset & MASK, (x[rs2] & part).to_bytes(width, 'little'))
-                return behind
-            return store
+            return store(*it[1:])
         if kind == 'branch':
             of, rs1, rs2, target = BRANCH[it[1]], it[2], it[3], pc + it[4] & MASK
-            return lambda: target if of(x[rs1], x[rs2]) else behind
+            return lambda: target if of(x[rs1], x[rs2]) else after
         if kind == 'jal':
-            return lambda: put(it[1], behind, pc + it[2] & MASK)
+            return lambda: put(kept(it[1]), after, pc + it[2] & MASK)
         if kind == 'jalr':
-            return lambda: put(it[1], behind, x[it[2]] + it[3] & MASK & ~1)
+            return lambda: put(kept(it[1]), after, x[it[2]] + it[3] & MASK & ~1)
         if kind == 'upper':
-            return lambda: put(it[1], it[2] & MASK)
+            return lambda: put(kept(it[1]), it[2] & MASK)
         if kind == 'upper from pc':
-            return lambda: put(it[1], pc + it[2] & MASK)
+            return lambda: put(kept(it[1]), pc + it[2] & MASK)
         if kind == 'ecall':
-            return lambda: self.syscall() or behind
-        return lambda: behind
+            return lambda: self.syscall() or after
+        return lambda: after
 
-    def step(self):
-        found = self.decoded.get(self.pc)
-        if not found:
-            it, cycles, behind = self.instruction()
-            found = self.decoded[self.pc] = cycles, self.effect(it, behind)
-        self.charge(found[0])
-        self.pc = found[1]()
+    def decode(self):
+        it, cycles, after = self.instruction()
+        found = self.decoded[self.pc] = cycles, self.effect(it, after)
+        return found
+
+    def go(self):
+        """Steps until one of them ends the run."""
+        decoded = self.decoded
+        while True:
+            cycles, effect = decoded.get(self.pc) or self.decode()
+            self.cycles += cycles
+            if self.cycles > self.budget:
+                raise Spent
+            self.pc = effect()
 
     # ------------------------------------------------------------- syscalls
 
@@ -451,8 +481,7 @@ def run(code, budget, items):
             if runs and size:
                 for page in range(at // PAGE, (at + size - 1) // PAGE + 1):
                     machine.code[page] = 1
-        while True:
-            machine.step()
+        machine.go()
     except Exit as end:
         return 'exit', end.args[0], machine.cycles
     except Fault as end:

@@ -6,7 +6,9 @@ script is shown") alone, and shares nothing with the program.
 
 from dataclasses import dataclass
 
-from make_store import SHANNONS, ZERO_HASH, as_bytes, ckbhash, fixvec, table, uint
+import encoding
+from encoding import cell_input, cell_output, ckbhash, data_hash, number_of, out_point, raw_transaction, uint
+from make_store import SHANNONS
 from script_machine import LOADS_FIELD, MISSING, NO_INDEX, UNKNOWN, run
 
 INPUTS, OUTPUTS, CELL_DEPS, HEADER_DEPS = 1, 2, 3, 4
@@ -21,10 +23,6 @@ TYPE_ID = bytes(25) + b'TYPE_ID'
 TYPE_ID_CYCLES = 10 ** 6
 
 
-def data_hash(content):
-    return ckbhash(content) if content else ZERO_HASH
-
-
 @dataclass(frozen=True)
 class Script:
     code_hash: bytes
@@ -32,7 +30,7 @@ class Script:
     args: bytes = b''
 
     def item(self):
-        return table([self.code_hash, uint(self.hash_type, 1), as_bytes(self.args)])
+        return encoding.script(self.code_hash, self.hash_type, self.args)
 
     def hash(self):
         return ckbhash(self.item())
@@ -50,7 +48,7 @@ class Cell:
     tx: int = 0
 
     def item(self):
-        return table([uint(self.capacity, 8), self.lock.item(), self.type_script.item() if self.type_script else b''])
+        return cell_output(self.capacity, self.lock.item(), self.type_script.item() if self.type_script else b'')
 
     def occupied(self):
         size = 8 + 33 + len(self.lock.args) + len(self.content)
@@ -86,16 +84,16 @@ class Scene:
             cell.content = contents[place] if place < len(contents) else b''
         self.headers, self.witnesses = list(headers), list(witnesses)
         sinces = list(sinces) + [0] * (len(self.inputs) - len(sinces))
-        self.cell_inputs = [uint(since, 8) + ckbhash(b'input %d' % place) + uint(place, 4)
+        self.cell_inputs = [cell_input(out_point(ckbhash(b'input %d' % place), place), since)
                             for place, since in enumerate(sinces)]
         # the last `grouped` of the resolved deps are the members of one dep group
         direct = len(self.deps) - grouped
         points = [(place, 0) for place in range(direct)] + [(direct, 1)] * bool(grouped)
-        self.raw = table([
-            uint(0, 4), fixvec([ckbhash(b'dep %d' % place) + uint(place, 4) + uint(kind, 1) for place, kind in points]),
-            fixvec([ckbhash(chain.headers[place]) for place in self.headers]), fixvec(self.cell_inputs),
-            table([it.item() for it in self.outputs]), table([as_bytes(it) for it in contents])])
-        self.item = table([self.raw, table([as_bytes(it) for it in self.witnesses])])
+        self.raw = raw_transaction(
+            self.cell_inputs, [it.item() for it in self.outputs], contents,
+            [out_point(ckbhash(b'dep %d' % place), place) + uint(kind, 1) for place, kind in points],
+            [ckbhash(chain.headers[place]) for place in self.headers])
+        self.item = encoding.transaction(self.raw, self.witnesses)
 
     # ------------------------------------------------------------- groups
 
@@ -161,7 +159,7 @@ class Scene:
         return None
 
     def header_field(self, header, number):
-        length, height = self.chain.length, int.from_bytes(header[16:24], 'little')
+        length, height = self.chain.length, number_of(header[16:24])
         return uint([height // length, height // length * length, length][number], 8)
 
     def items(self, group):

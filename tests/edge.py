@@ -1,6 +1,7 @@
 #!/usr/bin/env python3
 """What no contract pins: the built program on real folders, files and pipes, the
-script that builds and runs it, and what the README says that they print.
+script that builds and runs it, what the README says that they print, and whether the
+stored files that scripts make are what those make.
 
     sh tests/edge.sh [--program PROGRAM] [WORD ..]
 
@@ -17,9 +18,10 @@ import subprocess
 import sys
 
 sys.dont_write_bytecode = True
-import folders  # noqa: E402
+import folders  # noqa: E402 (beside the line above)
 import json_texts  # noqa: E402
 import script  # noqa: E402
+import stored  # noqa: E402
 import streams  # noqa: E402
 from harness import TOP, Wrong  # noqa: E402
 
@@ -33,7 +35,7 @@ def main():
     a.add_argument('--program')
     a.add_argument('words', nargs='*')
     a = a.parse_args()
-    checks = [it for module in (streams, json_texts, folders, script) for it in checks_of(module)]
+    checks = [it for module in (streams, json_texts, folders, script, stored) for it in checks_of(module)]
     checks = [it for it in checks if not a.words or any(word in it[0] for word in a.words)]
     program = a.program and os.path.abspath(a.program)
     if not program:

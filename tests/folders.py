@@ -12,6 +12,7 @@ import time
 from harness import (CONTRACT_INIT, FIRST_INIT, FIRST_LINE, Ran, chain_of, chaingen, contract, contract_store,
                      developer, file_with, first, line_of, log_of, must, must_answer, must_be, must_have_tip,
                      new_folder, new_store, size_word, started, status_of, write)
+from encoding import as_bytes, fields_of, fixvec, uint
 
 KILLS, MOST_LINES = 200, 10
 NOBODY = 65534
@@ -19,12 +20,12 @@ NOBODY = 65534
 
 def record(kind, body):
     """A record of a log, from its open gate on."""
-    return b'\1' + bytes([kind]) + size_word(len(body)) + body
+    return b'\1' + bytes([kind]) + as_bytes(body)
 
 
 def log_with(init, blocks, exts=None):
     """The log of a store with these blocks, up to its end. Without `exts` each tells of no fee and no cell."""
-    bodies = [size_word(len(block)) + block + ext for block, ext in zip(blocks, exts or [bytes(8)] * len(blocks))]
+    bodies = [as_bytes(block) + ext for block, ext in zip(blocks, exts or [bytes(8)] * len(blocks))]
     return (b'CKBDEV01' + record(1, init[:100]) + record(2, init[100:])
             + b''.join(record(3, body) for body in bodies))
 
@@ -51,16 +52,16 @@ def check_bytes_of_the_log(program):
 def row(output, block, transaction):
     """A row of an output, which a transaction of a block made: both by their places. It has no type script."""
     cell = contract.cell_of(output)
-    return (contract.out_point(output) + size_word(block) + size_word(transaction) + contract.uint(cell.capacity, 8)
-            + contract.uint(cell.occupied(), 8) + cell.lock.hash() + bytes(33 + 32) + size_word(0))
+    return (contract.point_of(output) + size_word(block) + size_word(transaction) + uint(cell.capacity, 8)
+            + uint(cell.occupied(), 8) + cell.lock.hash() + bytes(33 + 32) + size_word(0))
 
 
 def check_exts_of_the_log(program):
     """Behind the blocks of the chain with a contract stand the fees that they take and the cells that they spend."""
     exts = {
-        3: first.fixvec([contract.uint(1000, 8)]) + first.fixvec([row((contract.First, 1), 0, 0)]),
-        5: first.fixvec([contract.uint(2000, 8)]) + first.fixvec([row((contract.FUNDS, 0), 3, 1)]),
-        9: first.fixvec([contract.uint(3000, 8)]) + first.fixvec([row((contract.SPENDS, 0), 5, 1)]),
+        3: fixvec([uint(1000, 8)]) + fixvec([row((contract.First, 1), 0, 0)]),
+        5: fixvec([uint(2000, 8)]) + fixvec([row((contract.FUNDS, 0), 3, 1)]),
+        9: fixvec([uint(3000, 8)]) + fixvec([row((contract.SPENDS, 0), 5, 1)]),
     }
     blocks = [item for item, line in contract.contract_chain()[0] if line.startswith('joined')]
     with contract_store(program) as folder:
@@ -89,8 +90,7 @@ def check_queries_over_generated_blocks(program):
     must_be(kept[tip][0], 18, 'the height of the tip')
 
     def header_of(block):
-        at = int.from_bytes(block[4:8], 'little')
-        return block[at:at + 208].hex()
+        return fields_of(block)[0].hex()
 
     with new_store(program, spec + genesis, b'genesis 0x%s\n' % kept[0][1].hex().encode()) as folder:
         must_be(Ran([program, folder, 'import'], b''.join(blocks)).status, 0, 'import: status')

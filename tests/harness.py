@@ -12,13 +12,15 @@ import threading
 import time
 
 sys.dont_write_bytecode = True
+os.environ['PYTHONDONTWRITEBYTECODE'] = '1'
 TOP = os.path.dirname(os.path.dirname(os.path.abspath(__file__)))
 sys.path[:0] = [os.path.join(TOP, it) for it in ('bench', 'examples', 'examples/signature')]
-import chaingen  # noqa: E402
+import chaingen  # noqa: E402 (beside the path above)
 import make_chain as signature  # noqa: E402
 import make_contract_chain as contract  # noqa: E402
 import make_developer_chain as developer  # noqa: E402
 import make_first_blocks as first  # noqa: E402
+from encoding import uint  # noqa: E402
 
 SCRIPT = os.path.join(TOP, 'ckbdev')
 PRIMES = os.path.join(TOP, 'examples', 'primes.elf')
@@ -197,7 +199,7 @@ def log_of(folder):
 
 
 def size_word(size):
-    return size.to_bytes(4, 'little')
+    return uint(size, 4)
 
 
 def write(path, content):

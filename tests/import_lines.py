@@ -12,16 +12,16 @@ It judges a block by J1 to J14, J16, J17, J31 and J32. That is all there is to a
 a block of a cellbase alone, where no fee is committed that its cellbase may pay. Two
 kinds of runs it cannot judge, and counts.
 
-Left out is a run whose disk or streams fail, and behind one of `init` or `import`
+Left out is a run whose disk or streams fail, and after one of `init` or `import`
 each later run over the same folder, until a LOG is put there: what is kept is not
 known.
 
-Judged in part is a run that reads a block of another form: one that keeps J1 to J14
-and has an uncle, one that keeps J1 to J17 and has more transactions than its cellbase,
-or one that keeps J1 to J17 after such a block on its branch. The line of such a block is taken at its word, where it is `joined` with the block's
-number and hash, or names a rule that was not looked at. All other lines must agree.
-What joins so is kept; but LOG is not compared from there on, since its ext is not
-worked out.
+Judged in part is a run that reads a block of another form: one that keeps J1 to J14 and
+has an uncle, one that keeps J1 to J17 and has more transactions than its cellbase, or
+one that keeps J1 to J17 after such a block on its branch. The line of such a block is
+taken at its word, where it is `joined` with the block's number and hash, or names a
+rule that was not looked at. All other lines must agree. What joins so is kept; but LOG
+is not compared from there on, since its ext is not worked out.
 """
 
 import collections
@@ -500,7 +500,7 @@ UNKNOWN = 'unknown'
 
 
 def bytes_of(column):
-    """Bytes in hex, and behind a `+` how many zero bytes follow."""
+    """Bytes in hex, and after a `+` how many zero bytes follow."""
     digits, _, zeros = column.partition('+')
     return bytes.fromhex(digits.strip('-')) + bytes(int(zeros or 0))
 
@@ -514,15 +514,15 @@ class Trial:
         self.counts = {name: collections.Counter() for name in RUNS}
 
     def row(self, name, columns):
-        if name in ('folder', 'failing'):
-            self.store, self.put, self.disk_fails = None, b'', name == 'failing'
+        if name in ('folder', 'failing', 'list'):
+            self.store, self.put, self.disk_fails = None, b'', name != 'folder'
         elif name == 'put':
             if columns[0] == 'log':
                 self.put = bytes_of(columns[1])
                 self.store = kept_in(self.put)
         elif name == 'streams':
             self.streams_fail = columns[1:] != ['-', '-']
-        elif name != 'left':
+        elif name not in ('left', 'end') and not name.startswith('#'):
             self.call(name, *columns)
 
     def call(self, name, words, status, given, text, log=None):

@@ -6,6 +6,8 @@ import os
 import block_json
 from harness import (CONTRACT_INIT, CONTRACT_LINE, FIRST_INIT, FIRST_LINE, TOP, Ran, chaingen, contract, first, must_answer,
                      must_be, new_store)
+from encoding import block as block_of
+from encoding import ckbhash, fields_of
 
 MAX_NUMBER = 2 ** 64 - 1
 TEXT_LIMIT = 1 << 24
@@ -13,13 +15,11 @@ TEXT_LIMIT = 1 << 24
 
 def parent_of(block):
     """The hash of a block's parent, in its header."""
-    head = int.from_bytes(block[4:8], 'little')
-    return block[head + 32:head + 64]
+    return fields_of(block)[0][32:64]
 
 
 def hash_of(block):
-    head = int.from_bytes(block[4:8], 'little')
-    return first.store.ckbhash(block[head:head + 208])
+    return ckbhash(fields_of(block)[0])
 
 
 def branch_of(blocks, tip):
@@ -129,13 +129,12 @@ def check_longest_texts(program):
     head, rest = line.split(b'"witnesses":[]')
     digits = TEXT_LIMIT - len(line) - len(b'"0x"')
     witnessed = head + b'"witnesses":["0x' + b'5a' * (digits // 2) + b'"]' + rest + b' ' * (digits % 2)
-    whole = first.changed(first.GENESIS, transactions=(
-        first.changed(first.GENESIS.transactions[0], witnesses=(b'\x5a' * (digits // 2),)),))
+    only, = first.GENESIS.transactions
     # the roots are the first ones still: only the witness is another
-    fields = [first.GENESIS.header(), *whole.fields()[1:]]
+    whole = block_of(first.GENESIS.header(), [first.changed(only, witnesses=(b'\x5a' * (digits // 2),)).item()])
     for what, text, status, wanted in (
             ('one string', b'"' + b'a' * (TEXT_LIMIT - 2) + b'"', 1, b'bad json\n'),
-            ('one witness', witnessed, 0, first.table(fields)),
+            ('one witness', witnessed, 0, whole),
             ('spaces after a block', line + b' ' * (TEXT_LIMIT - len(line)), 0, genesis)):
         must_be(len(text), TEXT_LIMIT, 'the length of a text')
         for piped in (False, True):

@@ -1,7 +1,6 @@
 """The script that builds and runs the program, and what the README shows."""
 
 import fcntl
-import json
 import os
 import re
 import shutil
@@ -11,10 +10,10 @@ import sys
 import time
 
 import block_json
-import script_scene as scene
 from harness import (CONTRACT_INIT, CONTRACT_LINE, FIRST_INIT, FIRST_LINE, SCRIPT, SECONDS, TOP, Ran, chain_of,
                      contract, first, line_of, must, must_answer, must_be, must_have_tip, new_folder, new_store,
                      started, status_of)
+from encoding import ckbhash, data_hash
 from streams import BAD_WORDS
 
 
@@ -347,16 +346,8 @@ def check_script_takes_the_build_of_the_gate(_):
 
 # ------------------------------------------------------------ what is shown
 
-def check_examples(_):
-    """examples/ has what its scripts make, and they make what they say."""
-    files = {'spec.bin': first.SPEC.item(), 'genesis.bin': first.GENESIS.item(),
-             'genesis.json': json.dumps(block_json.tree_of(first.GENESIS.item()), indent=2).encode() + b'\n'}
-    for name, items in (('first-blocks', first.first_blocks()[0]), ('contract-chain', contract.contract_chain()[0]),
-                        ('transfer', [contract.transfer()]), ('refused', [contract.refused()])):
-        files[name + '.bin'], files[name + '.txt'] = first.input_and_text(items)
-    for name, wanted in files.items():
-        with open(os.path.join(TOP, 'examples', name), 'rb') as f:
-            must_be(f.read(), wanted, 'examples/' + name)
+def check_make_store(_):
+    """make_store.py makes what its words ask for."""
     makes = [sys.executable, os.path.join(TOP, 'examples', 'make_store.py')]
     must_answer(Ran(makes), 0, FIRST_INIT, 'make_store.py without options')
     words = ['--window', '2', '11', '--output', '23100000000', contract.CONTRACT.hex()]
@@ -370,7 +361,7 @@ def check_examples(_):
     given = Ran(makes + words).out
     with new_folder() as folder:
         ran = Ran([SCRIPT, folder, 'init'], given)
-        must_answer(ran, 0, b'genesis 0x%s\n' % first.store.ckbhash(given[120:328]).hex().encode(), repr(words))
+        must_answer(ran, 0, b'genesis 0x%s\n' % ckbhash(given[120:328]).hex().encode(), repr(words))
 
 
 def check_documents(_):
@@ -401,7 +392,7 @@ def check_documents(_):
 def live_line(cell, height):
     """What `cell` tells of a live cell without a type script, made at this height."""
     return ('live %d %d %d 0x%s - 0x%s %d\n' % (cell.capacity, cell.occupied(), height, cell.lock.hash().hex(),
-                                              scene.data_hash(cell.content).hex(), len(cell.content))).encode()
+                                              data_hash(cell.content).hex(), len(cell.content))).encode()
 
 
 def check_lines_of_the_rules(_):

@@ -8,12 +8,16 @@ from random import Random
 from harness import (CONTRACT_INIT, CONTRACT_LINE, FIRST_INIT, FIRST_LINE, GENESIS_LIMIT, ITEM_LIMIT, PRIMES, SCRIPTS,
                      Ran, chain_of, chaingen, contract, contract_store, file_with, first, line_of, log_of, must,
                      must_answer, must_be, must_have_tip, new_folder, new_store, signature, size_word, started, status_of, write)
+import encoding
+from encoding import fields_of, fixvec, number_of, table, uint
+from make_first_blocks import UNKNOWN_HASH, changed, joined, known, numbered
+from make_store import child
 
 SPEC, GENESIS = first.SPEC.item(), first.GENESIS.item()
 
 
 def elf(*words):
-    return chaingen.elf(b''.join(word.to_bytes(4, 'little') for word in words))
+    return chaingen.program(words)
 
 
 def addi(register, value):
@@ -79,16 +83,15 @@ def bad_geneses():
     """A genesis for each of G1 to G7, and in each the first rule that it breaks."""
     good = first.GENESIS
     only, = good.transactions
-    head, _, transactions, _ = good.fields()
-    uncle = first.table([head, first.fixvec([])])
-    yield 1, first.table(good.fields() + [first.fixvec([])])
+    head, transactions = good.header(), [only.item()]
+    yield 1, table(fields_of(good.item()) + [fixvec([])])
     yield 1, size_word(4)
     yield 2, first.changed(good, number=1, dao=(0, 1, 0, 0)).item()
-    yield 3, first.table([head, first.table([uncle]), transactions, first.fixvec([])])
-    yield 3, first.table([head, first.table([]), transactions, first.fixvec([bytes(10)])])
+    yield 3, encoding.block(head, transactions, uncles=[encoding.uncle(head)])
+    yield 3, encoding.block(head, transactions, ids=[bytes(10)])
     for dao in ((0, 1, 0, 0), (1, 0, 0, 0)):
         yield 4, first.changed(good, dao=dao).item()
-    yield 5, first.table([head, first.table([]), first.table([]), first.fixvec([])])
+    yield 5, encoding.block(head)
     yield 5, first.changed(good, transactions=(only, only)).item()
     yield 6, data_left_out(good)
     program, (_, data) = only.outputs
@@ -98,12 +101,10 @@ def bad_geneses():
 
 def data_left_out(block):
     """The block with one `outputs_data` fewer than outputs."""
-    raw = block.transactions[0].raw()
-    offsets = [int.from_bytes(raw[at:at + 4], 'little') for at in range(4, 28, 4)] + [len(raw)]
-    parts = [raw[a:b] for a, b in zip(offsets, offsets[1:])]
-    parts[5] = first.table([first.store.as_bytes(block.transactions[0].outputs[0][1])])
-    whole = first.table([first.table(parts), first.table([])])
-    return first.table([block.header(), first.table([]), first.table([whole]), first.fixvec([])])
+    only, = block.transactions
+    parts = fields_of(only.raw())
+    parts[5] = table([encoding.as_bytes(only.outputs[0][1])])
+    return encoding.block(block.header(), [encoding.transaction(table(parts))])
 
 
 def inputs_of_init():
@@ -164,8 +165,65 @@ def check_longest_genesis(program):
 
 # ------------------------------------------------------------- import and tip
 
+def no_blocks(a):
+    """Items that are no canonical `Block`. They have the header of a block that is kept."""
+    size = len(a)
+    yield uint(4, 4)
+    # a byte after the proposals
+    yield uint(size + 1, 4) + a[4:] + b'\0'
+    # a gap of four bytes between the offsets and the header
+    yield uint(size + 4, 4) + b''.join(
+        uint(number_of(a[i:i + 4]) + 4, 4) for i in range(4, 20, 4)
+    ) + bytes(4) + a[20:]
+    # the second offset is below the first
+    yield a[:8] + uint(19, 4) + a[12:]
+    # the full size of the transactions is one too low
+    at = number_of(a[12:16])
+    yield a[:at] + uint(number_of(a[at:at + 4]) - 1, 4) + a[at + 4:]
+    # a proposal is announced and is not there
+    yield a[:-4] + uint(1, 4)
+
+
+def each_verdict():
+    """Items that are answered in each way, with their lines, and the block that is the tip after them."""
+    genesis = first.GENESIS
+    a1, b1 = (child(first.SPEC, genesis, nonce) for nonce in (1, 2))
+    a2, b2 = (child(first.SPEC, it) for it in (a1, b1))
+    b3 = child(first.SPEC, b2)
+    next_a, next_b = (child(first.SPEC, it, nonce=9) for it in (a1, b2))
+    items = [
+        (a1.item(), joined(a1)),
+        (a1.item(), known(a1)),
+        (genesis.item(), known(genesis)),
+        # the number: two too high, the parent's own, and 0
+        (numbered(a1, 3).item(), 'refused J5'),
+        (numbered(next_a, 1).item(), 'refused J5'),
+        (numbered(next_a, 0).item(), 'refused J5'),
+        # the greatest number
+        (numbered(next_a, 2 ** 64 - 1).item(), 'refused J5'),
+        (changed(a1, parent=UNKNOWN_HASH).item(), 'refused J3'),
+        # an unknown parent comes before a wrong number
+        (changed(numbered(a1, 7), parent=UNKNOWN_HASH).item(), 'refused J3'),
+        # the parent comes later
+        (b2.item(), 'refused J3'),
+        # a hash that is kept, and other transactions under it
+        (encoding.block(a1.header()), known(a1)),
+        # the tip stays at equal height, and moves to a greater one
+        (b1.item(), joined(b1)),
+        (b2.item(), joined(b2)),
+        (a2.item(), joined(a2)),
+    ]
+    items += [(item, 'refused J1') for item in no_blocks(a1.item())]
+    items += [
+        (table(fields_of(next_b.item()) + [fixvec([])]), 'refused J1'),
+        (table(fields_of(next_b.item())[:3]), 'refused J1'),
+        (b3.item(), joined(b3)),
+    ]
+    return items, b3
+
+
 def check_statuses_of_import(program):
-    items, tip = first.each_verdict()
+    items, tip = each_verdict()
     given, text = first.input_and_text(items)
     (block, line), again = items[0], items[1][1]
     line, again = (line + '\n').encode(), (again + '\n').encode()
@@ -301,12 +359,12 @@ def no_transactions(transaction):
     size = len(transaction)
     yield size_word(4)
     yield size_word(8) + size_word(8)
-    # a byte behind the witnesses
+    # a byte after the witnesses
     yield size_word(size + 1) + transaction[4:] + b'\0'
     # a third field
-    parts = transaction[12:int.from_bytes(transaction[8:12], 'little')], first.table([])
-    yield first.table([*parts, first.fixvec([])])
-    yield first.table(list(parts[:1]))
+    raw, witnesses = fields_of(transaction)
+    yield table([raw, witnesses, fixvec([])])
+    yield table([raw])
     yield first.GENESIS.item()
     yield size_word(ITEM_LIMIT) + bytes(ITEM_LIMIT - 4)
 
@@ -472,7 +530,7 @@ def check_listings_assemble(program):
     """Each instruction that `dis` lists goes back through `asm`, to a word of four bytes that is listed so again."""
     random = Random(1)
     codes = [random.randbytes(1 << 20) for _ in range(1)] + [
-        b''.join(random.getrandbits(32).to_bytes(4, 'little') for _ in range(50000)) for _ in range(2)]
+        b''.join(uint(random.getrandbits(32), 4) for _ in range(50000)) for _ in range(2)]
     for name in sorted(os.listdir(SCRIPTS)):
         if name.endswith('.elf'):
             with open(os.path.join(SCRIPTS, name), 'rb') as f:

@@ -21,9 +21,10 @@ HERE = os.path.dirname(os.path.abspath(__file__))
 sys.path[:0] = [HERE, os.path.dirname(HERE)]
 import secp256k1  # noqa: E402
 import make_store as store  # noqa: E402
+from encoding import as_bytes, ckbhash, table, uint  # noqa: E402
 from make_contract_chain import ANYONE, SPEC, Block, Transaction, ckb  # noqa: E402
 from make_first_blocks import genesis_line, input_and_text, joined  # noqa: E402
-from make_store import COIN, as_bytes, ckbhash, table, uint  # noqa: E402
+from make_store import COIN  # noqa: E402
 from script_scene import Cell, Script  # noqa: E402
 
 KEY, OTHER_KEY = (int.from_bytes(ckbhash(it), 'big') % secp256k1.ORDER

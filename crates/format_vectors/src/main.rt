@@ -19,7 +19,7 @@
 //! The rows on encodings were made by programs that were written from RFC 0008 and the schema alone, or by hand from them.
 //! Those on hashes, roots and JSON come from outside. So do the last 18 of `unjson`; the others were made by a program that
 //! was written from docs/FORMATS.md alone, and agrees with 393 texts from outside. Those of `back` are the blocks of
-//! examples/.
+//! examples/, which tests/rows/sample_blocks.py writes.
 #![tactic(auto)]
 
 mod builder;

@@ -11,7 +11,7 @@
 //!   cannot be taken back or applied, and its record is damaged; the cells are then those of the first place again, made
 //!   anew from the genesis
 //!
-//! examples/make_reorg_rows.py makes the rows.
+//! tests/rows/moves.py makes the rows.
 #![tactic(auto)]
 
 mod tree;
@@ -79,7 +79,8 @@ impl<'s, L: Ledger> Table<'s, L> {
         let (from, to, place) = (row.short()?, row.short()?, row.short()?);
         self.go(alloc, from)?.ok()?;
         let damaged = match self.go(alloc, to)? {
-            Err(ReadStop::Damaged(damage)) => damage.area == Area::Log && damage.at == record_at(place),
+            Err(ReadStop::Damaged(damage)) => damage.area == Area::Log
+                && damage.at == record_at(place),
             _ => false,
         };
         self.state = self.kept.as_ref()?.first_state(alloc);

@@ -9,8 +9,9 @@
 //! reads and which writes fail; `left` has how many bytes of its input the last run left. After a row `list`, with numbers as
 //! `failing` has, the rows of runs up to a row `end` are one list, which is run there in one call; they say nothing of LOG.
 //!
-//! What is wanted was made by programs that were written from the rules of docs/ alone, or by hand from the same rules. Four
-//! more rows, of two files of 1 MiB that were made to be slow to load, are made here; bench/hostile.py works out their texts.
+//! What is wanted was made by programs that were written from the rules of docs/ alone, or by hand from the same rules;
+//! tests/README.md says which rows scripts of tests/rows/ make. Four more rows, of two files of 1 MiB that were made to be slow
+//! to load, are made here; bench/hostile.py works out their texts.
 //! Each row is run over streams and a disk in memory. The program prints each row that differs, and how many agree; its status
 //! is 1 where one differs, or a list has no end.
 #![tactic(auto)]

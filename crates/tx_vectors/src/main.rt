@@ -1,14 +1,14 @@
 //! Cells, transactions and their scripts: tries each row of its standard input, and prints the rows that differ.
 //!
 //! A row is a word and its columns, with a tab between two, bytes in hex. After `cell` stands what is asked of cells, their
-//! rows and the exts of blocks; blocks are kept, one after the other, and copied from: examples/make_cell_rows.py makes these
+//! rows and the exts of blocks; blocks are kept, one after the other, and copied from: tests/rows/cells.py makes these
 //! rows. After `state` stands what blocks are answered that are applied to live cells, one after the other, and which rows are
-//! live then: examples/make_state_rows.py. Both files say what the columns are.
+//! live then: tests/rows/live_cells.py. Both files say what the columns are.
 //!
 //! The other rows are about a chain. `spec` and `genesis` begin a chain, and `block` puts
 //! a block with its ext on it. `shadow`, `transaction` and `within` stand after the last block, where all blocks stand in a
-//! row: tests/transactions.py makes them, and says what their columns are. `groups` and `rounds` are about a transaction's
-//! script groups, and name by their places the bytes of the rows `blob`: examples/make_script_rows.py makes them, and says
+//! row: tests/rows/transactions.py makes them, and says what their columns are. `groups` and `rounds` are about a transaction's
+//! script groups, and name by their places the bytes of the rows `blob`: tests/rows/script_groups.py makes them, and says
 //! what theirs are. bench/scripts.py makes rows `rounds` too, to measure how long they take.
 #![tactic(auto)]
 

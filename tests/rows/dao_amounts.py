@@ -1,18 +1,24 @@
 #!/usr/bin/env python3
-"""Makes chains on which what a cell of the Nervos DAO counts reaches the greatest u64 and leaves it.
+"""Rows of crates/run_vectors/stdin on a chain where what cells of the Nervos DAO count
+reaches the greatest u64 and leaves it.
 
-    python3 examples/make_dao_rows.py    # prints rows that crates/run_vectors reads
+    python3 tests/rows/dao_amounts.py
 
-The genesis has little issued beside the reward of a block, so that the accumulated rate
-rises by about a hundredth with the first block, and a deposit of 2^64 - 1 shannons. A
-transfer at height 3 makes a withdrawing cell of as many, which names height 1. What they
-count is computed here by docs/RULES.md, "Capacity and the DAO field".
+They are the last of that file. The genesis has little issued beside the reward of a
+block, so that the accumulated rate rises by about a hundredth with the first block, and
+a deposit of 2^64 - 1 shannons. A transfer at height 3 makes a withdrawing cell of as
+many, which names height 1. What they count is computed here by docs/RULES.md, "Capacity
+and the DAO field".
 """
 
+from common import emit
+
+import encoding
 import make_contract_chain as chain
 import make_store as store
+from encoding import NULL_OUT_POINT, cell_input, ckbhash, raw_transaction, transactions_root, uint
 from make_first_blocks import joined
-from make_store import PROGRAM, ZERO_HASH, Spec, as_bytes, ckbhash, fixvec, table, uint
+from make_store import PROGRAM, Spec
 from script_scene import BY_TYPE, Cell, Script
 
 GREATEST = 2 ** 64 - 1
@@ -29,9 +35,8 @@ class First:
 
     outputs = [Cell(ANYONE, content=PROGRAM, capacity=store.occupied(PROGRAM)), Cell(ANYONE, capacity=GREATEST),
                Cell(ANYONE, DAO, content=bytes(8), capacity=GREATEST), Cell(ANYONE, CODE, content=PROGRAM)]
-    raw = table([uint(0, 4), fixvec([]), fixvec([]), fixvec([uint(0, 8) + store.NULL_OUT_POINT]),
-                 table([it.item() for it in outputs]), table([as_bytes(it.content) for it in outputs])])
-    item = table([raw, table([])])
+    raw = raw_transaction([cell_input(NULL_OUT_POINT)], [it.item() for it in outputs], [it.content for it in outputs])
+    item = encoding.transaction(raw)
     hash = ckbhash(raw)
 
 
@@ -40,12 +45,11 @@ class Genesis:
     dao = (ISSUED, RATE, 0, sum(it.occupied() for it in First.outputs))
 
     def header(self):
-        roots = [First.hash, ckbhash(First.item)]
-        return (uint(0, 4) + uint(SPEC.compact_target, 4) + uint(1000, 8) + uint(0, 8) + uint(0, 8) + ZERO_HASH
-                + store.root(roots) + ZERO_HASH + ZERO_HASH + b''.join(uint(it, 8) for it in self.dao) + uint(0, 16))
+        return encoding.header(compact_target=SPEC.compact_target, timestamp=self.timestamp,
+                               transactions_root=transactions_root([First.item]), dao=self.dao)
 
     def item(self):
-        return table([self.header(), table([]), table([First.item]), fixvec([])])
+        return encoding.block(self.header(), [First.item])
 
     def hash(self):
         return ckbhash(self.header())
@@ -89,9 +93,9 @@ def rows():
 
 
 def main():
-    print('folder')
+    emit('folder')
     for words, given, line in rows():
-        print('\t'.join(['greatest amounts of the DAO', words, '0', given.hex() or '-', (line + '\n').encode().hex()]))
+        emit('greatest amounts of the DAO', words, 0, given, (line + '\n').encode())
 
 
 if __name__ == '__main__':

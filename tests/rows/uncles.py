@@ -1,10 +1,10 @@
 #!/usr/bin/env python3
-"""Makes the rows on the rule on uncles that crates/rule_vectors reads.
+"""Rows of crates/rule_vectors/stdin on the rule on uncles.
 
-    python3 make_uncle_rows.py
-        these rows on standard output; they stand behind those of make_window_rows.py
+    python3 tests/rows/uncles.py
 
-A row is a word and its columns, with a tab between two, bytes in hex:
+They stand after those of windows.py there. A row is a word and its columns, with a tab
+between two, bytes in hex:
 
     spec      a specification
     genesis   a Block that begins a chain
@@ -20,15 +20,15 @@ row states its answer by hand besides.
 
 import dataclasses
 
-from make_store import Spec, ckbhash, fixvec, table, uint
+from common import emit
+
+import encoding
+from encoding import ZERO_HASH as ZERO
+from encoding import ckbhash, hash_of_all, header, number_of
+from make_store import Spec
 
 MAX_PROPOSALS = 3
 LAST = 2 ** 64 - 1
-ZERO = bytes(32)
-
-
-def emit(*columns):
-    print('\t'.join(c.hex() if isinstance(c, bytes) else str(c) for c in columns))
 
 
 @dataclasses.dataclass
@@ -42,26 +42,32 @@ class Head:
     ids: tuple = ()
     commitment: bytes = None
     version: int = 0
-    rest: bytes = bytes(32)
+    # what stands for the root, the hash of uncles and the DAO field
+    rest: bytes = ZERO
 
     def proposals_hash(self):
-        return ckbhash(b''.join(self.ids)) if self.ids else ZERO
+        return hash_of_all(self.ids)
 
     def bytes(self):
         commitment = self.proposals_hash() if self.commitment is None else self.commitment
-        return (uint(self.version, 4) + uint(self.target, 4) + uint(0, 8) + uint(self.number, 8) + uint(self.epoch, 8) + self.parent
-                + self.rest + commitment + self.rest + self.rest + uint(self.nonce, 16))
+        return header(self.number, self.parent, version=self.version, compact_target=self.target, epoch=self.epoch,
+                      transactions_root=self.rest, proposals_hash=commitment, uncles_hash=self.rest,
+                      dao=4 * [number_of(self.rest[:8])], nonce=self.nonce)
 
     def hash(self):
         return ckbhash(self.bytes())
 
     def uncle(self):
-        return table([self.bytes(), fixvec(list(self.ids))])
+        return encoding.uncle(self.bytes(), self.ids)
 
     def on(self, **fields):
         """A header on this one."""
         fields.setdefault('number', (self.number + 1) % 2 ** 64)
         return Head(parent=self.hash(), **fields)
+
+
+def block_of(head, uncles):
+    return encoding.block(head.bytes(), uncles=[it.uncle() for it in uncles])
 
 
 class Chain:
@@ -73,7 +79,7 @@ class Chain:
         self.join('genesis', -1, Head(ZERO, 0), [])
 
     def join(self, word, parent, head, uncles):
-        emit(word, table([head.bytes(), table([u.uncle() for u in uncles]), table([]), fixvec([])]))
+        emit(word, block_of(head, uncles))
         self.heads.append(head)
         self.parents.append(parent)
         self.uncles.append(uncles)
@@ -106,7 +112,7 @@ class Chain:
         block = self.heads[parent].on(nonce=999, **fields)
         answer = 'yes' if self.holds(parent, block, uncles) else 'no'
         assert answer == wanted, (answer, wanted)
-        emit('uncles', parent, table([block.bytes(), table([u.uncle() for u in uncles]), table([]), fixvec([])]), answer)
+        emit('uncles', parent, block_of(block, uncles), answer)
 
 
 def on_places():
@@ -124,7 +130,7 @@ def on_places():
     # A kept block of another branch, on an ancestor; not on a block of the other branch.
     chain.ask('yes', three, [chain.heads[other_two]])
     chain.ask('no', three, [chain.heads[other_three]])
-    # With its parent before it in the list, not behind it.
+    # With its parent before it in the list, not after it.
     chain.ask('yes', three, [chain.heads[other_two], chain.heads[other_three]])
     chain.ask('no', three, [chain.heads[other_three], chain.heads[other_two]])
     # An ancestor, the parent and the genesis are none.

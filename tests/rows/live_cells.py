@@ -1,12 +1,11 @@
 #!/usr/bin/env python3
-"""Makes blocks that fit the live cells or do not, each with the line that it
-must be answered with, and the rows that are then live.
+"""Rows of crates/tx_vectors/stdin on live cells: blocks that fit them or do not, each
+with the line that it must be answered with, and the rows that are then live.
 
-    python3 make_state_rows.py
-        rows that crates/tx_vectors reads, on standard output; they stand behind
-        those of make_cell_rows.py
+    python3 tests/rows/live_cells.py
 
-A row is `state`, what is wanted, and bytes in hex, with a tab between two:
+They stand after those of cells.py there. A row is `state`, what is wanted, and bytes in
+hex, with a tab between two:
 
     genesis             a Block: live cells begin with its cells
     ok PLACE, not_live PLACE OUTPOINT, live PLACE OUTPOINT
@@ -21,19 +20,19 @@ A row is hashed as docs/STORE.md has its bytes. The cells are kept in a dict, as
 docs/RULES.md ("Cells") and docs/STORE.md say; nothing is taken from the program.
 """
 
-from make_store import ZERO_HASH, ckbhash, fixvec, table, uint
+import common  # noqa: F401 (finds encoding)
+
+import encoding
+from encoding import NULL_OUT_POINT as NULL
+from encoding import ZERO_HASH, cell_input, cell_output, ckbhash, data_hash, fixvec, header, number_of, raw_transaction, uint
 
 BYTE = 10 ** 8
 
 
 # ------------------------------------------------------------------- values
 
-def as_bytes(b):
-    return uint(len(b), 4) + b
-
-
 def script(args, code=b'\x11' * 32, hash_type=0):
-    return table([code, bytes([hash_type]), as_bytes(args)])
+    return encoding.script(code, hash_type, args)
 
 
 class Output:
@@ -45,25 +44,18 @@ class Output:
         self.occupied = (8 + 33 + len(lock_args) + (0 if type_args is None else 33 + len(type_args)) + len(content)) * BYTE
 
     def bytes(self):
-        return table([uint(self.capacity, 8), self.lock, self.type or b''])
+        return cell_output(self.capacity, self.lock, self.type or b'')
 
 
 def transaction(spends, outputs, datas=None, version=0, witness=b''):
     """The bytes of a transaction, and what it does."""
-    inputs = [uint(0, 8) + o for o in spends]
     datas = [o.content for o in outputs] if datas is None else datas
-    raw = table([uint(version, 4), fixvec([]), fixvec([]), fixvec(inputs), table([o.bytes() for o in outputs]),
-                 table([as_bytes(d) for d in datas])])
-    witnesses = [as_bytes(witness)] if witness else []
-    return table([raw, table(witnesses)]), (ckbhash(raw), spends, outputs, datas)
+    raw = raw_transaction(list(map(cell_input, spends)), [o.bytes() for o in outputs], datas, version=version)
+    return encoding.transaction(raw, [witness] if witness else []), (ckbhash(raw), spends, outputs, datas)
 
 
 def block(transactions, number=7):
-    header = uint(0, 4) + uint(7, 4) + uint(9, 8) + uint(number, 8) + uint(0, 8) + 5 * ZERO_HASH + uint(0, 16)
-    return table([header, table([]), table([t[0] for t in transactions]), fixvec([])])
-
-
-NULL = ZERO_HASH + uint(0xffffffff, 4)
+    return encoding.block(header(number, compact_target=7, timestamp=9), [t[0] for t in transactions])
 
 
 def cellbase(n, outputs=(), spends=(NULL,)):
@@ -71,7 +63,7 @@ def cellbase(n, outputs=(), spends=(NULL,)):
 
 
 def out_point(t, index):
-    return t[1][0] + uint(index, 4)
+    return encoding.out_point(t[1][0], index)
 
 
 # -------------------------------------------------------------------- state
@@ -80,15 +72,15 @@ def row(o, place, tx, output, content):
     type_bytes = b'\0' + ZERO_HASH if output.type is None else b'\1' + ckbhash(output.type)
     occupied = output.occupied + (len(content) - len(output.content)) * BYTE
     return (o + uint(place, 4) + uint(tx, 4) + uint(output.capacity, 8) + uint(occupied, 8) + ckbhash(output.lock)
-            + type_bytes + (ckbhash(content) if content else ZERO_HASH) + uint(len(content), 4))
+            + type_bytes + data_hash(content) + uint(len(content), 4))
 
 
 def order(o):
-    return o[:32], int.from_bytes(o[32:], 'little')
+    return o[:32], number_of(o[32:])
 
 
 def named(o):
-    return '%s:%d' % (o[:32].hex(), int.from_bytes(o[32:], 'little'))
+    return '%s:%d' % (o[:32].hex(), number_of(o[32:]))
 
 
 class Cells:
@@ -253,7 +245,7 @@ def main():
     for o in (out_point(first, 0), out_point(spend, 0), out_point(spend, 1), out_point(again, 0)):
         cells.row(o)
 
-    # the same the other way round: it spends what is made behind it
+    # the same the other way round: it spends what is made after it
     late = transaction([out_point(spend, 0)], [Output(10 ** 10, b'late')])
     early = transaction([out_point(late, 0)], [Output(10 ** 10, b'early')])
     cells.apply(4, [cellbase(3), early, late])
@@ -268,11 +260,11 @@ def main():
     cells.apply(4, [cellbase(3), transaction([again[1][0] + uint(1, 4)], [])])
     cells.apply(4, [cellbase(3), transaction([again[1][0] + uint(65536, 4)], [])])
 
-    # a transaction again whose cell was spent, and one whose cell is live: at once, and behind events that fit
+    # a transaction again whose cell was spent, and one whose cell is live: at once, and after events that fit
     cells.apply(4, [base])
     cells.apply(5, [base])
     cells.apply(5, [cellbase(4), late, transaction([out_point(late, 0)], []), base])
-    # the null input is a spend behind the first transaction
+    # the null input is a spend after the first transaction
     cells.apply(5, [cellbase(4), late, transaction([NULL], [Output(1)])])
     cells.row(out_point(base, 0))
 

@@ -1,10 +1,9 @@
 #!/usr/bin/env python3
 """Rows of crates/tx_vectors/stdin: transactions on small chains, each with its answer.
 
-    python3 tests/transactions.py
+    python3 tests/rows/transactions.py
 
-In that file they stand behind those of examples/make_cell_rows.py and
-make_state_rows.py, and before those of make_script_rows.py there.
+They stand after those of live_cells.py there.
 
 For each way to break one of J18 and J20 to J27 there is a transaction that breaks
 it, and one that just keeps it. The answers are written down here, case by case,
@@ -16,23 +15,21 @@ A row is a word and its columns, with a tab between two, bytes in hex:
     genesis      its genesis
     block        the next block, and its ext
     shadow       an out-point that gets the row of another
-    transaction  the answer, and a transaction alone behind the last block
+    transaction  the answer, and a transaction alone after the last block
     within       the answer, the first transactions of the next block, and the whole
-                 block: the one behind them is tried
+                 block: the one after them is tried
 
 The answer is `ok FEE INTEREST DEPS HEADERS`, or `broken N`. DEPS has for each
 resolved dep its index and the length of its data, HEADERS the places of the header
 deps; each is - where there is none.
 """
 
-import os
-import sys
+from common import row_of
 
-HERE = os.path.dirname(os.path.abspath(__file__))
-sys.path.insert(0, os.path.join(os.path.dirname(HERE), 'examples'))
-sys.dont_write_bytecode = True
-
-from make_store import NULL_OUT_POINT, SHANNONS, ZERO_HASH, Spec, as_bytes, ckbhash, fixvec, root, table, uint  # noqa: E402
+import encoding
+from encoding import NULL_OUT_POINT, ZERO_HASH, as_bytes, cell_input, ckbhash, fixvec, header, out_point, raw_transaction, \
+    table, transactions_root, uint
+from make_store import SHANNONS, Spec
 
 DAO_CODE = Spec.dao_code_hash
 GREATEST = (1 << 64) - 1
@@ -41,18 +38,14 @@ GREATEST = (1 << 64) - 1
 # ---------------------------------------------------------------- encoding
 
 def script(args=b'', code=b'\x11' * 32, hash_type=0):
-    return table([code, bytes([hash_type]), as_bytes(args)])
+    return encoding.script(code, hash_type, args)
 
 
 DAO = script(code=DAO_CODE, hash_type=1)
 
 
 def output(capacity, lock=None, type_script=b''):
-    return table([uint(capacity, 8), lock or script(), type_script])
-
-
-def out_point(tx_hash, index):
-    return tx_hash + uint(index, 4)
+    return encoding.cell_output(capacity, lock or script(), type_script)
 
 
 def since_of(relative, metric, value):
@@ -69,14 +62,10 @@ class Tx:
     def __init__(self, inputs, outputs=None, data=None, deps=(), headers=(), witnesses=(), version=0):
         self.outputs = [output(61 * SHANNONS)] if outputs is None else outputs
         data = [b''] * len(self.outputs) if data is None else data
-        self.raw = table([
-            uint(version, 4),
-            fixvec([point + bytes([kind]) for point, kind in deps]),
-            fixvec(list(headers)),
-            fixvec([uint(since, 8) + point for since, point in inputs]),
-            table(self.outputs),
-            table([as_bytes(it) for it in data])])
-        self.item = table([self.raw, table([as_bytes(it) for it in witnesses])])
+        self.raw = raw_transaction(
+            [cell_input(point, since) for since, point in inputs], self.outputs, data,
+            [point + bytes([kind]) for point, kind in deps], headers, version)
+        self.item = encoding.transaction(self.raw, witnesses)
         self.hash = ckbhash(self.raw)
 
     def point(self, index):
@@ -106,16 +95,16 @@ class Chain:
         self.put('genesis', [self.first], timestamp, 10 ** 16)
 
     def row(self, *columns):
-        self.rows.append('\t'.join(it if isinstance(it, str) else it.hex() for it in columns))
+        self.rows.append(row_of(*columns))
 
     def block(self, txs, timestamp, rate=10 ** 16):
         number = len(self.blocks)
         parent = ckbhash(self.heads[-1]) if self.heads else ZERO_HASH
-        roots = [root([it.hash for it in txs]), root([ckbhash(it.item) for it in txs])]
-        head = (uint(0, 4) + uint(self.spec.compact_target, 4) + uint(timestamp, 8) + uint(number, 8)
-                + uint(self.spec.epoch_field(number), 8) + parent + root(roots) + ZERO_HASH + ZERO_HASH
-                + uint(10 ** 15, 8) + uint(rate, 8) + uint(0, 16) + uint(number, 16))
-        return head, table([head, table([]), table([it.item for it in txs]), fixvec([])])
+        items = [it.item for it in txs]
+        head = header(number, parent, compact_target=self.spec.compact_target, timestamp=timestamp,
+                      epoch=self.spec.epoch_field(number), transactions_root=transactions_root(items),
+                      dao=(10 ** 15, rate, 0, 0), nonce=number)
+        return head, encoding.block(head, items)
 
     def put(self, word, txs, timestamp, rate):
         head, item = self.block(txs, timestamp, rate)

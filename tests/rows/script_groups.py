@@ -1,10 +1,10 @@
 #!/usr/bin/env python3
-"""Makes the rows on the script groups of transactions that crates/tx_vectors reads.
+"""Rows of crates/tx_vectors/stdin on the script groups of transactions.
 
-    python3 make_script_rows.py
-        the rows, on standard output; they stand behind those of tests/transactions.py
+    python3 tests/rows/script_groups.py
 
-A row is a word and its columns, with a tab between two, bytes in hex:
+They are the last of that file. A row is a word and its columns, with a tab between two,
+bytes in hex:
 
     blob    bytes, which later rows name by their place, from 0 on
     spec    a specification: a new chain begins
@@ -20,25 +20,28 @@ place of the block that made it, that of its transaction there, and its
 CellOutput and its data as blobs, with commas between; cells and places have a
 blank between two, and where there is none stands `-`.
 
-All rows were worked out here: transactions by docs/FORMATS.md, groups and items
-by docs/RULES.md and docs/MACHINE.md (script_scene.py), cycles by a plain machine
-(script_machine.py). Where a row's answer is plain it is written down, and the
+All rows were worked out here: transactions by docs/FORMATS.md, groups and items by
+docs/RULES.md and docs/MACHINE.md (examples/script_scene.py), cycles by a plain machine
+(examples/script_machine.py). Where a row's answer is plain it is written down, and the
 machine must agree. Nothing is taken from the program.
 """
 
 import os
 
-from make_store import HERE, PROGRAM, SHANNONS, Spec, ckbhash, fixvec, table, uint
-from script_machine import MISSING, NO_INDEX, UNKNOWN
-from script_scene import BY_TYPE, CELL_DEPS, FIELDS, GROUP, HEADER_DEPS, INPUTS, LOADS_FIELD, OUTPUTS, TYPE_ID, Cell, \
-    Scene, Script, data_hash
+from common import EXAMPLES, row_of
+
+import encoding
+from encoding import ZERO_HASH, ckbhash, data_hash, uint
+from make_store import PROGRAM, Spec
+from script_machine import MISSING, NO_INDEX
+from script_scene import BY_TYPE, CELL_DEPS, FIELDS, GROUP, HEADER_DEPS, INPUTS, OUTPUTS, TYPE_ID, Cell, Scene, Script
 
 AMPLE = 10 ** 8
 BLOBS, LINES = {}, []
 
 
 def program(name):
-    with open(os.path.join(HERE, 'scripts', name + '.elf'), 'rb') as f:
+    with open(os.path.join(EXAMPLES, 'scripts', name + '.elf'), 'rb') as f:
         return f.read()
 
 
@@ -89,7 +92,7 @@ def row(scene, wanted=None, budget=AMPLE, rounds=None):
         raise AssertionError('%s, not %s' % (answer, wanted))
     cells = [joined(map(cell_text, it)) for it in (scene.inputs, scene.deps)]
     word = ['groups'] if rounds is None else ['rounds', str(rounds)]
-    LINES.append('\t'.join([*word, answer, str(budget), scene.item.hex(), *cells, joined(scene.headers)]))
+    LINES.append(row_of(*word, answer, budget, scene.item, *cells, joined(scene.headers)))
     return int(answer[3:]) if answer.startswith('ok') else None
 
 
@@ -106,17 +109,17 @@ class Chain:
 
     def __init__(self, length, parents):
         self.length, self.headers, heights = length, [], []
-        LINES.append('spec\t' + Spec(epoch_length=length).item().hex())
+        LINES.append(row_of('spec', Spec(epoch_length=length).item()))
         for place, parent in enumerate([None, *parents]):
             height = 0 if parent is None else heights[parent] + 1
             # an epoch field that is not the one of the height: it is not looked at
-            header = (uint(0, 4) + uint(1, 4) + uint(1000 + place, 8) + uint(height, 8) + uint(0x0102030405060708, 8)
-                      + (bytes(32) if parent is None else ckbhash(self.headers[parent])) + bytes(96)
-                      + uint(10 ** 16, 8) * 4 + uint(place, 16))
+            header = encoding.header(
+                height, ZERO_HASH if parent is None else ckbhash(self.headers[parent]), compact_target=1,
+                timestamp=1000 + place, epoch=0x0102030405060708, dao=4 * (10 ** 16,), nonce=place)
             heights.append(height)
             self.headers.append(header)
-            item = table([header, table([]), table([]), fixvec([])])
-            LINES.append('genesis\t' + item.hex() if parent is None else 'block\t%s\t%s' % (item.hex(), bytes(8).hex()))
+            item = encoding.block(header)
+            LINES.append(row_of('genesis', item) if parent is None else row_of('block', item, bytes(8)))
 
 
 # ------------------------------------------------------- the table of checks

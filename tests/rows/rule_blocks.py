@@ -1,70 +1,51 @@
 #!/usr/bin/env python3
-"""Makes blocks that keep or break the rules J4 to J14, each with the line that
-it must be answered with.
+"""Rows of crates/rule_vectors/stdin on blocks that keep or break the rules J4 to J14,
+each with the line that it must be answered with.
 
-    python3 make_rule_blocks.py
-        rows that crates/rule_vectors reads, on standard output: those from the 236th
-        on, up to the ones of make_window_rows.py
+    python3 tests/rows/rule_blocks.py
 
-A row is a word or words, a tab, and bytes in hex. `spec` and `genesis` begin a
-chain. Each other row is an item, tried in its order on the blocks that joined
-before it: `joined` or `refused J` and a number. Only J1, J3 and J4 to J14 are
-looked at, so that a block with uncles or with no transaction may join. Where
-nothing else is asked for, a block has a cellbase and a DAO field that keep the
-later rules too.
+They stand after those of that file that no script here makes. A row is a word or words,
+a tab, and bytes in hex. `spec` and `genesis` begin a chain. Each other row is an item,
+tried in its order on the blocks that joined before it: `joined` or `refused J` and a
+number. Only J1, J3 and J4 to J14 are looked at, so that a block with uncles or with no
+transaction may join. Where nothing else is asked for, a block has a cellbase and a DAO
+field that keep the later rules too.
 
 The lines are written down here, item by item. Hashes are Python's own Blake2b,
 roots and medians are computed as docs/RULES.md says, and nothing is taken from
 the program.
 """
 
-from make_store import ZERO_HASH, as_bytes, ckbhash, fixvec, table, uint
+import common  # noqa: F401 (finds encoding)
+
+import encoding
+from encoding import NULL_OUT_POINT, ZERO_HASH, as_bytes, cell_input, ckbhash, fields_of, fixvec, hash_of_all, number_of, \
+    raw_transaction, root, script, table, transactions_root
+from make_store import Spec
 
 GREATEST = 2 ** 64 - 1
 
 # C, AR, S and U: the specification gives no rewards, so they are those of each block
-DAO = uint(10 ** 15, 8) + uint(10 ** 16, 8) + uint(0, 16)
+DAO = (10 ** 15, 10 ** 16, 0, 0)
 
 
 # ------------------------------------------------------------------- values
 
-def root(items):
-    """The root of docs/RULES.md, "Hashes and roots": a heap, node 0 is the root."""
-    if not items:
-        return ZERO_HASH
-    n = len(items)
-    nodes = [b''] * (n - 1) + list(items)
-    for j in range(n - 2, -1, -1):
-        nodes[j] = ckbhash(nodes[2 * j + 1] + nodes[2 * j + 2])
-    return nodes[0]
-
-
 def raw(since, version=0):
-    null_input = uint(since, 8) + ZERO_HASH + uint(0xffffffff, 4)
-    return table([uint(version, 4), fixvec([]), fixvec([]), fixvec([null_input]), table([]), table([])])
+    return raw_transaction([cell_input(NULL_OUT_POINT, since)], version=version)
 
 
 def transaction(raw_bytes, witness=b''):
-    return table([raw_bytes, table([as_bytes(witness)] if witness else [])])
+    return encoding.transaction(raw_bytes, [witness] if witness else [])
 
 
 def cellbase(number, message=b''):
     """A cellbase without an output; its witness names a lock, and has a message."""
-    lock = table([ZERO_HASH, b'\0', as_bytes(b'')])
-    return transaction(raw(number), table([lock, as_bytes(message)]))
+    return transaction(raw(number), table([script(ZERO_HASH), as_bytes(message)]))
 
 
 def raw_of(transaction_bytes):
-    start, end = (int.from_bytes(transaction_bytes[i:i + 4], 'little') for i in (4, 8))
-    return transaction_bytes[start:end]
-
-
-def transactions_root(transactions):
-    return root([root([ckbhash(raw_of(t)) for t in transactions]), root([ckbhash(t) for t in transactions])])
-
-
-def hash_of_all(values):
-    return ckbhash(b''.join(values)) if values else ZERO_HASH
+    return fields_of(transaction_bytes)[0]
 
 
 def flipped(hash_bytes):
@@ -76,14 +57,13 @@ def ids(count, first=0):
 
 
 def uncle(nonce, proposals=()):
-    head = uint(0, 4) + uint(7, 4) + uint(9, 8) + uint(1, 8) + uint(0, 8) + 5 * ZERO_HASH + uint(nonce, 16)
-    return table([head, fixvec(list(proposals))])
+    return encoding.uncle(encoding.header(1, compact_target=7, timestamp=9, nonce=nonce), proposals)
 
 
 # -------------------------------------------------------------------- chains
 
 class Chain:
-    """A specification, a genesis and what joined behind it."""
+    """A specification, a genesis and what joined after it."""
 
     def __init__(self, epoch_length=10, max_block_bytes=4000, max_proposals=3, timestamp=1000):
         self.target = 0x20010000
@@ -92,9 +72,9 @@ class Chain:
         self.max_proposals = max_proposals
         self.rows = []
         self.blocks = []
-        self.row('spec', uint(100, 4) + uint(self.target, 4) + uint(epoch_length, 4) + uint(2, 4) + uint(10, 4)
-                 + uint(max_block_bytes, 4) + uint(max_proposals, 4) + uint(10 ** 9, 8) + uint(0, 8)
-                 + uint(0, 8) + uint(0, 8) + uint(4, 8) + bytes(range(32)))
+        self.row('spec', Spec(
+            self.target, epoch_length, max_block_bytes=max_block_bytes, max_proposals=max_proposals, primary_reward=0,
+            secondary_reward=0, halving_interval=4, dao_code_hash=bytes(range(32))).item())
         genesis = self.block(number=0, parent_hash=ZERO_HASH, timestamp=timestamp)
         self.row('genesis', genesis)
         self.keep(genesis)
@@ -110,7 +90,7 @@ class Chain:
         return self.blocks[at][20:228]
 
     def timestamps(self):
-        return [int.from_bytes(self.head(at)[8:16], 'little') for at in range(len(self.blocks))]
+        return [number_of(self.head(at)[8:16]) for at in range(len(self.blocks))]
 
     def median(self):
         last = sorted(self.timestamps()[-37:])
@@ -130,17 +110,14 @@ class Chain:
             'epoch': number // length + (number % length << 24) + (length << 40),
             'parent_hash': ckbhash(self.head(-1)) if self.blocks else ZERO_HASH,
             'transactions_root': transactions_root(transactions),
-            'proposals_hash': hash_of_all(list(proposals)),
+            'proposals_hash': hash_of_all(proposals),
             'uncles_hash': hash_of_all([ckbhash(u[12:220]) for u in uncles]),
             'dao': DAO,
             'nonce': 0,
         }
         assert set(changes) <= set(fields)
         fields.update(changes)
-        sizes = {'version': 4, 'compact_target': 4, 'timestamp': 8, 'number': 8, 'epoch': 8, 'nonce': 16}
-        head = b''.join(uint(v, sizes[k]) if k in sizes else v for k, v in fields.items())
-        assert len(head) == 208
-        return table([head, table(list(uncles)), table(transactions), fixvec(list(proposals))])
+        return encoding.block(encoding.header(**fields), transactions, proposals, uncles)
 
     def joins(self, **parts):
         item = self.block(**parts)

@@ -1,22 +1,25 @@
 #!/usr/bin/env python3
-"""Rows of crates/reorg_vectors: live cells that are gone to over a tree of blocks.
+"""Rows of crates/reorg_vectors/stdin: the live cells, which are gone to over a tree of blocks.
 
-    examples/make_reorg_rows.py > crates/reorg_vectors/stdin
+    python3 tests/rows/moves.py
 
-crates/reorg_vectors/src/main.rt says what the columns are. The cells of each
-place are made by a replay of its branch from the genesis, in a dict, as
-docs/RULES.md ("Cells") and docs/STORE.md say; nothing is taken from the program.
+They are all of that file. crates/reorg_vectors/src/main.rt says what the columns are.
+The cells of each place are made by a replay of its branch from the genesis, in a dict,
+as docs/RULES.md ("Cells") and docs/STORE.md say; nothing is taken from the program.
 Blocks are taken back only to find which of them a move stops at.
 """
 
 import random
 
-from make_state_rows import BYTE, Cells, NULL, Output, cellbase, out_point, transaction
-from make_store import ZERO_HASH, ckbhash, fixvec, table, uint
+import common  # noqa: F401 (finds encoding)
+
+import encoding
+from encoding import ZERO_HASH, ckbhash, fixvec, uint
+from live_cells import BYTE, NULL, Cells, Output, cellbase, order, out_point, transaction
 
 
 def header(parent_hash, number, nonce):
-    return uint(0, 4) + uint(7, 4) + uint(9, 8) + uint(number, 8) + uint(0, 8) + parent_hash + 4 * ZERO_HASH + uint(nonce, 16)
+    return encoding.header(number, parent_hash, compact_target=7, timestamp=9, nonce=nonce)
 
 
 class Tree:
@@ -28,7 +31,7 @@ class Tree:
         self.put('genesis', header(ZERO_HASH, 0, 0), transactions, None)
 
     def put(self, word, head, transactions, ext):
-        block = table([head, table([]), table([t[0] for t in transactions]), fixvec([])])
+        block = encoding.block(head, [t[0] for t in transactions])
         self.rows.append('\t'.join([word, block.hex()] + ([] if ext is None else [ext.hex()])))
 
     def branch(self, place):
@@ -61,8 +64,8 @@ class Tree:
 
     def at(self, place):
         rows = self.replayed(place).rows
-        order = sorted(rows, key=lambda o: (o[:32], int.from_bytes(o[32:], 'little')))
-        self.rows.append('at\t%d\t%d\t%s' % (place, len(order), ckbhash(b''.join(rows[o] for o in order)).hex()))
+        live = sorted(rows, key=order)
+        self.rows.append('at\t%d\t%d\t%s' % (place, len(live), ckbhash(b''.join(rows[o] for o in live)).hex()))
 
     def stops_at(self, first, other):
         """The first block that cannot be taken back from the first place down, or that does not fit from there up to the other."""

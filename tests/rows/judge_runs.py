@@ -1,11 +1,12 @@
 #!/usr/bin/env python3
-"""Rows of crates/run_vectors/stdin: whole runs over chains with blocks and transactions of every form.
+"""Rows of crates/run_vectors/stdin: whole runs over chains with blocks and transactions
+of every form.
 
-    python3 tests/judge_runs.py FOLDER [CASE ..]
+    python3 tests/rows/judge_runs.py FOLDER [CASE ..]
 
 FOLDER has cases, a JSON file each: `ops` in order, each with the `words` of a
 command (`init`, `import`, `check` or `tip`), its input `in` in hex, its output
-`out` and its `status`, and behind it the SHA-256 of LOG up to where its records
+`out` and its `status`, and after it the SHA-256 of LOG up to where its records
 end. Their answers were made from the rules, not by this program. The rows of each
 CASE, a file's name without .json, go to standard output; where none is named, those
 of all; the folder's own name stands before the case's. The stored rows are, of a

@@ -1,11 +1,11 @@
 #!/usr/bin/env python3
-"""Makes the rows on cells, their rows and exts that crates/tx_vectors reads.
+"""Rows of crates/tx_vectors/stdin on cells, their rows and exts.
 
-    python3 make_cell_rows.py
-        the rows, on standard output; they stand in front of all others
+    python3 tests/rows/cells.py
 
-A row is `cell`, a word and its columns, with a tab between two, bytes in hex and
-`-` for no bytes. The last column is the answer that is wanted:
+They are the first of that file. A row is `cell`, a word and its columns, with a tab
+between two, bytes in hex and `-` for no bytes. The last column is the answer that is
+wanted:
 
     occupied          lock args, type args or `-`, data, all as lengths: shannons
     data hash         data: its hash
@@ -13,10 +13,10 @@ A row is `cell`, a word and its columns, with a tab between two, bytes in hex an
     transaction hash  a Transaction: its hash, which leaves out the witnesses
     row of            block, transaction, a CellOutput, its data: the fields of its row
     ext               bytes: the bytes again where they are an ext, else `none`
-    fees              an ext: its fees, each with a comma behind it
+    fees              an ext: its fees, each with a comma after it
     fee in            a place, an ext: the fee of the transaction there, else `none`
     row in            a place, an ext: the out-point and the fields of the row there
-    block             a Block, its ext: they are kept, one behind the other
+    block             a Block, its ext: they are kept, one after the other
     fetch             block, transaction, index: the CellOutput and its data, `damaged`
                       where there is none, `none` where no such block is kept
     spent             block: its ext
@@ -26,49 +26,36 @@ The layouts are those of docs/FORMATS.md and docs/STORE.md, the hashes Python's
 own Blake2b; nothing is taken from the program.
 """
 
-from make_store import NULL_OUT_POINT, SHANNONS, ZERO_HASH, as_bytes, ckbhash, fixvec, table, uint
+import common
+from common import hexed
 
-
-def hexed(content):
-    return content.hex() or '-'
+import encoding
+from encoding import NULL_OUT_POINT, ZERO_HASH, cell_input, ckbhash, data_hash, header, out_point, raw_transaction, script, uint
+from encoding import cell_output as output
+from make_store import SHANNONS
 
 
 def emit(*columns):
-    print('cell\t' + '\t'.join(c if isinstance(c, str) else hexed(c) if isinstance(c, bytes) else str(c) for c in columns))
+    common.emit('cell', *columns)
 
 
 # ------------------------------------------------------------------- values
 
-def script(code_hash, hash_type, args):
-    return table([code_hash, uint(hash_type, 1), as_bytes(args)])
-
-
-def output(capacity, lock, type_script=b''):
-    return table([uint(capacity, 8), lock, type_script])
-
-
 def transaction(outputs, contents, witnesses=(), version=0):
-    null_input = uint(0, 8) + NULL_OUT_POINT
-    raw = table([uint(version, 4), fixvec([]), fixvec([]), fixvec([null_input]), table(outputs),
-                 table([as_bytes(c) for c in contents])])
-    return raw, table([raw, table([as_bytes(w) for w in witnesses])])
+    raw = raw_transaction([cell_input(NULL_OUT_POINT)], outputs, contents, version=version)
+    return raw, encoding.transaction(raw, witnesses)
 
 
 def block(number, transactions):
     """A block by its encoding alone: nothing of its header is right but the number."""
-    header = uint(0, 4) + uint(0, 4) + uint(0, 8) + uint(number, 8) + uint(0, 8) + bytes(160) + uint(0, 16)
-    return table([header, table([]), table(transactions), fixvec([])])
-
-
-def data_hash(content):
-    return ckbhash(content) if content else ZERO_HASH
+    return encoding.block(header(number), transactions)
 
 
 # ------------------------------------------------------------ rows and exts
 
-def row_bytes(out_point, block, tx, capacity, occupied, lock_hash, type_hash, content_hash, size):
+def row_bytes(point, block, tx, capacity, occupied, lock_hash, type_hash, content_hash, size):
     of_type = b'\x01' + type_hash if type_hash else bytes(33)
-    return (out_point[0] + uint(out_point[1], 4) + uint(block, 4) + uint(tx, 4) + uint(capacity, 8)
+    return (out_point(*point) + uint(block, 4) + uint(tx, 4) + uint(capacity, 8)
             + uint(occupied, 8) + lock_hash + of_type + content_hash + uint(size, 4))
 
 

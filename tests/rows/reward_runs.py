@@ -1,28 +1,27 @@
 #!/usr/bin/env python3
-"""Rows of crates/run_vectors/stdin over chains whose cellbases pay rewards: J31 and J32 as imports.
+"""Rows of crates/run_vectors/stdin over chains whose cellbases pay rewards: J31 and J32
+as imports.
 
-    python3 tests/reward_runs.py
+    python3 tests/rows/reward_runs.py
 
-Each chain is a store of its own, and its items are one input of `import`. A block
-that joins pays what is worked out here, in plain Python, by docs/RULES.md, "The
-reward" and "Capacity and the DAO field"; one that is refused differs from it in what
-its line says. Nothing is taken from the program.
+They stand there after rows that no script here makes. Each chain is a store of its own,
+and its items are one input of `import`. A block that joins pays what is worked out
+here, in plain Python, by docs/RULES.md, "The reward" and "Capacity and the DAO field";
+one that is refused differs from it in what its line says. Nothing is taken from the
+program.
 """
 
-import os
-import sys
+from common import emit
 
-HERE = os.path.dirname(os.path.abspath(__file__))
-sys.path.insert(0, os.path.join(os.path.dirname(HERE), 'examples'))
-sys.dont_write_bytecode = True
-
-import make_store as store  # noqa: E402 (beside the path above)
-import paying_chain  # noqa: E402
-from make_contract_chain import ANYONE, First, Transaction  # noqa: E402
-from make_first_blocks import genesis_line  # noqa: E402
-from make_store import COIN, LOCK, NULL_OUT_POINT, SHANNONS, Spec, as_bytes, ckbhash, fixvec, table, uint  # noqa: E402
-from paying_chain import CODE_NAME, LEAST, LONG_LOCK, dao_cell, interest_of, next_dao  # noqa: E402
-from script_scene import Cell  # noqa: E402
+import encoding
+import make_store as store
+import paying_chain
+from encoding import NULL_OUT_POINT, as_bytes, cell_input, ckbhash, out_point, raw_transaction, table, uint
+from make_contract_chain import ANYONE, First, Transaction
+from make_first_blocks import genesis_line
+from make_store import COIN, LOCK, SHANNONS, Spec
+from paying_chain import CODE_NAME, LEAST, LONG_LOCK, dao_cell, interest_of, next_dao
+from script_scene import Cell
 
 
 class Chain(paying_chain.Chain):
@@ -70,11 +69,11 @@ class Deposits:
                dao_cell(18_200_000_000, bytes(8)), dao_cell(31_000_000_007, bytes(8))]
 
     def raw(self):
-        return table([uint(0, 4), fixvec([]), fixvec([]), fixvec([uint(0, 8) + NULL_OUT_POINT]),
-                      table([it.item() for it in self.outputs]), table([as_bytes(it.content) for it in self.outputs])])
+        return raw_transaction([cell_input(NULL_OUT_POINT)], [it.item() for it in self.outputs],
+                               [it.content for it in self.outputs])
 
     def item(self):
-        return table([self.raw(), table([])])
+        return encoding.transaction(self.raw())
 
     @property
     def hash(self):
@@ -86,11 +85,10 @@ class Spending:
 
     def __init__(self, spent, made, headers=(), witnesses=(), interest=0):
         source, place = spent
-        deps = [first_hash + uint(it, 4) + b'\0' for first_hash in (Deposits().hash,) for it in (0, 1)]
+        deps = [out_point(Deposits().hash, it) + b'\0' for it in (0, 1)]
         self.inputs, self.outputs, self.interest = [source.outputs[place]], [made], interest
-        raw = table([uint(0, 4), fixvec(deps), fixvec(headers), fixvec([uint(0, 8) + source.hash + uint(place, 4)]),
-                     table([made.item()]), table([as_bytes(made.content)])])
-        self.item = table([raw, table([as_bytes(it) for it in witnesses])])
+        raw = raw_transaction([cell_input(out_point(source.hash, place))], [made.item()], [made.content], deps, headers)
+        self.item = encoding.transaction(raw, witnesses)
         self.hash = ckbhash(raw)
         self.proposal_id = self.hash[:10]
 
@@ -307,12 +305,12 @@ def main():
         for n, chain in enumerate([made] if isinstance(made, Chain) else made):
             name = make.__name__.replace('_', ' ')
             lines = [line for _, line in chain.items]
-            print('folder\t%s %d' % (name, n))
+            emit('folder', '%s %d' % (name, n))
             given = chain.spec.item() + chain.genesis.item()
-            print('\t'.join([name, 'init', '0', given.hex(), (genesis_line(chain.genesis) + '\n').encode().hex()]))
+            emit(name, 'init', 0, given, (genesis_line(chain.genesis) + '\n').encode())
             refused = any(it.startswith('refused') for it in lines)
-            print('\t'.join([name, 'import', str(int(refused)), b''.join(item for item, _ in chain.items).hex(),
-                             ''.join(it + '\n' for it in lines).encode().hex()]))
+            emit(name, 'import', int(refused), b''.join(item for item, _ in chain.items),
+                 ''.join(it + '\n' for it in lines).encode())
 
 
 if __name__ == '__main__':

@@ -1,10 +1,10 @@
 #!/usr/bin/env python3
-"""Makes the rows on the proposal window that crates/rule_vectors reads.
+"""Rows of crates/rule_vectors/stdin on the proposal window.
 
-    python3 make_window_rows.py
-        these rows on standard output; they stand behind those of make_rule_blocks.py
+    python3 tests/rows/windows.py
 
-A row is a word and its columns, with a tab between two, bytes in hex:
+They stand after those of rule_blocks.py there. A row is a word and its columns, with a
+tab between two, bytes in hex:
 
     spec      a specification
     genesis   a Block that begins a chain
@@ -19,19 +19,19 @@ nothing is taken from the program. Some rows state their answer by hand besides.
 
 import dataclasses
 
-from make_store import Spec, ckbhash, fixvec, table, uint
+from common import emit
+
+import encoding
+from encoding import ZERO_HASH, block, ckbhash, uncle
+from make_store import Spec
 
 A, B, C, D, E, F = (bytes([letter]) * 10 for letter in b'abcdef')
 # an id that differs from A in its last byte alone
 NEAR_A = A[:9] + b'b'
 
 
-def emit(*columns):
-    print('\t'.join(c.hex() if isinstance(c, bytes) else str(c) for c in columns))
-
-
 def header(parent_hash, number, nonce):
-    return uint(0, 4) + uint(0, 4) + uint(0, 8) + uint(number, 8) + uint(0, 8) + parent_hash + bytes(128) + uint(nonce, 16)
+    return encoding.header(number, parent_hash, nonce=nonce)
 
 
 @dataclasses.dataclass
@@ -52,10 +52,10 @@ class Chain:
         self.join('genesis', -1, 0, [], [])
 
     def join(self, word, parent, number, own, uncles):
-        parent_hash = self.made[parent].hash if parent >= 0 else bytes(32)
+        parent_hash = self.made[parent].hash if parent >= 0 else ZERO_HASH
         head = header(parent_hash, number, len(self.made))
-        embedded = [table([header(bytes(32), 0, i), fixvec(ids)]) for i, ids in enumerate(uncles)]
-        emit(word, table([head, table(embedded), table([]), fixvec(own)]))
+        embedded = [uncle(header(ZERO_HASH, 0, i), ids) for i, ids in enumerate(uncles)]
+        emit(word, block(head, (), own, embedded))
         self.made.append(Made(ckbhash(head), parent, number, own + [i for ids in uncles for i in ids]))
         return len(self.made) - 1
 
@@ -88,12 +88,12 @@ class Chain:
 
 
 def on_a_window(w_close, w_far):
-    """Block 1 proposes A, its second uncle B, block 3 proposes A and C, its uncle D; C again by the one behind it."""
+    """Block 1 proposes A, its second uncle B, block 3 proposes A and C, its uncle D; C again by the one after it."""
     chain = Chain(w_close, w_far)
     chain.ask(0, A, 0, 'none')
     chain.ask(0, A, 1, 'none')
     one = chain.block(0, [E, A], [[F], [E, B]])
-    # A block's own ids do not count for itself, where the window begins behind it.
+    # A block's own ids do not count for itself, where the window begins after it.
     chain.ask(one, A, 1, 'none')
     three = chain.block(chain.block(one), [A, C], [[D]])
     four = chain.block(three, [], [[C]])

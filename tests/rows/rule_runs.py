@@ -1,38 +1,34 @@
 #!/usr/bin/env python3
-"""Rows of crates/run_vectors/stdin over blocks that break J4 to J14, J16, J17 or J32, and over two that break G4.
+"""Rows of crates/run_vectors/stdin over blocks that break J4 to J14, J16, J17 or J32,
+and over two that break G4.
 
-    python3 tests/rule_runs.py
+    python3 tests/rows/rule_runs.py
 
-The blocks are those of examples/make_rule_blocks.py and of the chain below, where
-each chain is a store of its own and its items are one input of `import`. The lines
-are the ones that stand beside the blocks, for chains whose blocks keep the other
-rules up to J32 too. They owe nothing to the program.
+They stand after those of stopped_logs.py there. The blocks are those of rule_blocks.py
+and of the chain below, where each chain is a store of its own and its items are one
+input of `import`. The lines are the ones that stand beside the blocks, for chains whose
+blocks keep the other rules up to J32 too. They owe nothing to the program.
 """
 
-import os
-import sys
+from common import emit
 
-HERE = os.path.dirname(os.path.abspath(__file__))
-sys.path.insert(0, os.path.join(os.path.dirname(HERE), 'examples'))
-sys.dont_write_bytecode = True
+import encoding
+import rule_blocks as rules
+from encoding import NULL_OUT_POINT, ZERO_HASH, as_bytes, cell_input, cell_output, ckbhash, number_of, out_point, \
+    raw_transaction, script, table
 
-import make_rule_blocks as rules  # noqa: E402 (beside the path above)
-from make_rule_blocks import ZERO_HASH, as_bytes, ckbhash, fixvec, table, uint  # noqa: E402
-
-LOCK = table([ZERO_HASH, b'\0', as_bytes(b'')])
+LOCK = script(ZERO_HASH)
 # a `CellbaseWitness`: a lock and a message
 WITNESS = table([LOCK, as_bytes(b'')])
-NULL_OUT_POINT = ZERO_HASH + uint(0xffffffff, 4)
 
 
 def output(type_script=b''):
-    return table([uint(100 * 10 ** 8, 8), LOCK, type_script])
+    return cell_output(100 * 10 ** 8, LOCK, type_script)
 
 
 def transaction(since, version=0, cell_deps=(), header_deps=(), inputs=1, outputs=(), data=(), witnesses=(WITNESS,)):
-    raw = [uint(version, 4), fixvec(cell_deps), fixvec(header_deps), fixvec([uint(since, 8) + NULL_OUT_POINT] * inputs),
-           table(outputs), table([as_bytes(it) for it in data])]
-    return table([table(raw), table([as_bytes(it) for it in witnesses])])
+    raw = raw_transaction([cell_input(NULL_OUT_POINT, since)] * inputs, outputs, data, cell_deps, header_deps, version)
+    return encoding.transaction(raw, witnesses)
 
 
 def cellbases():
@@ -45,8 +41,7 @@ def cellbases():
         chain.breaks(rule, transactions=list(transactions), **changes)
 
     good = transaction(number)
-    spends = table([table([uint(0, 4), fixvec([]), fixvec([]), fixvec([uint(0, 8) + ZERO_HASH + uint(0, 4)]),
-                           table([output()]), table([as_bytes(b'')])]), table([])])
+    spends = encoding.transaction(raw_transaction([cell_input(out_point(ZERO_HASH, 0))], [output()], [b'']))
     breaks(16)
     breaks(16, transaction(number, inputs=0))
     breaks(16, transaction(number, inputs=2))
@@ -58,7 +53,7 @@ def cellbases():
         breaks(17, transaction(since))
     breaks(17, transaction(number, version=1))
     breaks(17, transaction(number, version=1 << 31))
-    breaks(17, transaction(number, cell_deps=[ckbhash(b'') + uint(0, 4) + b'\0']))
+    breaks(17, transaction(number, cell_deps=[out_point(ckbhash(b''), 0) + b'\0']))
     breaks(17, transaction(number, header_deps=[ckbhash(chain.head(0))]))
     breaks(17, transaction(number, outputs=[output(), output()], data=[b'', b'']))
     breaks(17, transaction(number, outputs=[output(LOCK)], data=[b'']))
@@ -72,13 +67,12 @@ def cellbases():
     breaks(17, transaction(number, witnesses=[WITNESS + b'\0']))
     breaks(17, transaction(number, witnesses=[table([LOCK, as_bytes(b''), b''])]))
     breaks(17, transaction(number, witnesses=[b'', WITNESS]))
-    # the form of the cellbase comes before the rules on a transaction behind it, and on the DAO field
+    # the form of the cellbase comes before the rules on a transaction after it, and on the DAO field
     breaks(17, transaction(number, version=1), spends)
-    none, some = uint(0, 8), uint(1, 8)
-    breaks(17, transaction(number, version=1), dao=4 * none)
-    breaks(32, good, dao=none + 3 * some)
-    breaks(32, good, dao=some + none + 2 * some)
-    breaks(32, good, dao=4 * none)
+    breaks(17, transaction(number, version=1), dao=(0, 0, 0, 0))
+    breaks(32, good, dao=(0, 1, 1, 1))
+    breaks(32, good, dao=(1, 0, 1, 1))
+    breaks(32, good, dao=(0, 0, 0, 0))
     chain.joins(transactions=[transaction(number, witnesses=[WITNESS, b'', WITNESS + b'\0'])])
     return chain
 
@@ -100,11 +94,11 @@ CHAINS = tuple(getattr(rules, it) for it in ('alone_and_before_a_later_one', 'nu
 def line_of(said, item):
     if said != 'joined':
         return said + '\n'
-    return 'joined %d 0x%s\n' % (int.from_bytes(item[36:44], 'little'), rules.ckbhash(item[20:228]).hex())
+    return 'joined %d 0x%s\n' % (number_of(item[36:44]), ckbhash(item[20:228]).hex())
 
 
 def stores(rows):
-    """Each specification with its genesis, and the items behind them."""
+    """Each specification with its genesis, and the items after them."""
     for row in rows:
         said, digits = row.split('\t')
         item = bytes.fromhex(digits)
@@ -123,14 +117,13 @@ def main():
         for n, (spec, genesis, items) in enumerate(list(stores(chain().rows))):
             lines = [line_of(said, item) for said, item in items]
             refused = any(not it.startswith('joined') for it in lines)
-            print('folder\t%s %d' % (name, n))
-            digest = rules.ckbhash(genesis[20:228]).hex()
-            print('\t'.join([name, 'init', '0', (spec + genesis).hex(), ('genesis 0x%s\n' % digest).encode().hex()]))
-            print('\t'.join([name, 'import', str(int(refused)), b''.join(item for _, item in items).hex(),
-                             ''.join(lines).encode().hex()]))
+            emit('folder', '%s %d' % (name, n))
+            digest = ckbhash(genesis[20:228]).hex()
+            emit(name, 'init', 0, spec + genesis, ('genesis 0x%s\n' % digest).encode())
+            emit(name, 'import', int(refused), b''.join(item for _, item in items), ''.join(lines).encode())
     for parts in ((0,), (1,)):
-        print('folder\tgenesis without part %d' % parts)
-        print('\t'.join(['genesis', 'init', '11', genesis_without(parts).hex(), b'bad genesis G4\n'.hex()]))
+        emit('folder', 'genesis without part %d' % parts)
+        emit('genesis', 'init', 11, genesis_without(parts), b'bad genesis G4\n')
 
 
 if __name__ == '__main__':

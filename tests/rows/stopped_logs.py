@@ -1,23 +1,21 @@
 #!/usr/bin/env python3
 """Rows of crates/run_vectors/stdin over logs that a stop may leave.
 
-    python3 tests/stopped_logs.py
+    python3 tests/rows/stopped_logs.py
 
-A log of a genesis and three blocks is stopped at each record: before its first
-write, in it, between the two, and in the second, with what a crash may have left
-of what was not synced. Each is opened, told its tip, and given all three blocks
-again. The rows say by docs/STORE.md which blocks each log has. They owe nothing
-to the program: the bytes of a log are put together here.
+They stand there after rows that no script here makes. A log of a genesis and three
+blocks is stopped at each record: before its first write, in it, between the two, and in
+the second, with what a crash may have left of what was not synced. Each is opened, told
+its tip, and given all three blocks again. The rows say by docs/STORE.md which blocks
+each log has. They owe nothing to the program: the bytes of a log are put together here.
 """
 
 import hashlib
-import os
-import sys
 
-HERE = os.path.dirname(os.path.abspath(__file__))
-sys.path.insert(0, os.path.join(os.path.dirname(HERE), 'examples'))
+from common import emit
 
-import make_store as store  # noqa: E402 (beside the path above)
+import make_store as store
+from encoding import as_bytes
 
 SPEC = store.Spec()
 EXT = bytes(8)
@@ -25,12 +23,11 @@ DONE, NOT_A_STORE, STORE_THERE = 0, 7, 10
 
 
 def record(kind, body):
-    return bytes([1, kind]) + store.uint(len(body), 4) + body
+    return bytes([1, kind]) + as_bytes(body)
 
 
 def block_record(block):
-    item = block.item()
-    return record(3, store.uint(len(item), 4) + item + EXT)
+    return record(3, as_bytes(block.item()) + EXT)
 
 
 def chain():
@@ -46,10 +43,6 @@ LOG = [HEAD + b''.join(map(block_record, BLOCKS[1:n + 1])) for n in range(4)]
 ITEMS = b''.join(it.item() for it in BLOCKS[1:])
 
 
-def hex_of(data):
-    return data.hex() or '-'
-
-
 def tip_line(n):
     return b'tip %d 0x%s\n' % (n, BLOCKS[n].hash().hex().encode())
 
@@ -60,14 +53,11 @@ def item_line(n, kept):
 
 
 def call(name, words, status, given, text, log=None):
-    columns = [name, words, str(status), hex_of(given), hex_of(text)]
-    if log is not None:
-        columns.append('%d:%s' % (len(log), hashlib.sha256(log).hexdigest()))
-    print('\t'.join(columns))
+    emit(name, words, status, given, text, *([] if log is None else ['%d:%s' % (len(log), hashlib.sha256(log).hexdigest())]))
 
 
 def tails(n):
-    """What may stand behind the n-th block's record, and whether the next one is whole there."""
+    """What may stand after the n-th block's record, and whether the next one is whole there."""
     whole = block_record(BLOCKS[n + 1])[1:]
     half = whole[:len(whole) // 2]
     yield 'at rest', b'\0', False
@@ -89,8 +79,8 @@ def stopped_imports():
         for what, tail, whole in tails(n):
             kept = n + 1 if whole else n
             name = '%s, %d' % (what, n)
-            print('folder\t%s' % name)
-            print('put\tlog\t%s' % (LOG[n] + tail).hex())
+            emit('folder', name)
+            emit('put', 'log', LOG[n] + tail)
             call(name, 'tip', DONE, b'', tip_line(kept), LOG[kept])
             call(name, 'tip', DONE, b'', tip_line(kept), LOG[kept])
             lines = b''.join(item_line(i, kept) for i in (1, 2, 3))
@@ -103,15 +93,15 @@ def stopped_inits():
     given = SPEC.item() + BLOCKS[0].item()
     for end in (1, 8, 9, 60, len(HEAD) - 1, len(HEAD)):
         name = 'a new log up to %d' % end
-        print('folder\t%s' % name)
-        print('put\tlog\t%s' % HEAD[:end].hex())
+        emit('folder', name)
+        emit('put', 'log', HEAD[:end])
         call(name, 'tip', NOT_A_STORE, b'', b'', HEAD[:end])
         call(name, 'import', NOT_A_STORE, ITEMS, b'', HEAD[:end])
         call(name, 'init', STORE_THERE, given, b'', HEAD[:end])
     name = 'snapshots left by another'
-    print('folder\t%s' % name)
+    emit('folder', name)
     for area in ('snap_a', 'snap_b'):
-        print('put\t%s\t%s' % (area, b'\1'.hex() * 50))
+        emit('put', area, b'\1' * 50)
     call(name, 'init', DONE, given, b'genesis 0x%s\n' % BLOCKS[0].hash().hex().encode(), LOG[0])
     call(name, 'tip', DONE, b'', tip_line(0), LOG[0])
 

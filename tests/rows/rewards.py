@@ -1,10 +1,10 @@
 #!/usr/bin/env python3
-"""Makes the rows on rewards that crates/rule_vectors reads.
+"""Rows of crates/rule_vectors/stdin on rewards.
 
-    python3 make_reward_rows.py
-        these rows on standard output; they stand after those of make_uncle_rows.py
+    python3 tests/rows/rewards.py
 
-A row is a word and its columns, with a tab between two, bytes in hex:
+They are the last of that file. A row is a word and its columns, with a tab between two,
+bytes in hex:
 
     spec     a specification
     genesis  a Block that begins a chain
@@ -24,41 +24,32 @@ answer by hand besides.
 
 import dataclasses
 
-from make_store import Spec, ckbhash, fixvec, table, uint
+from common import emit
+
+import encoding
+from encoding import ZERO_HASH, ckbhash, fixvec, raw_transaction, uint
+from make_store import Spec
 
 LAST = 2 ** 64 - 1
-
-
-def emit(*columns):
-    print('\t'.join(c.hex() if isinstance(c, bytes) else str(c) for c in columns))
 
 
 # ------------------------------------------------------------------ encoding
 
 def raw(version):
     """The raw transaction of no cells; those of two versions differ in their hashes."""
-    return table([uint(version, 4), fixvec([]), fixvec([]), fixvec([]), table([]), table([])])
+    return raw_transaction([], version=version)
 
 
 def transaction(version):
-    return table([raw(version), table([])])
+    return encoding.transaction(raw(version))
 
 
 def id_of(version):
     return ckbhash(raw(version))[:10]
 
 
-def field(issued, occupied):
-    """A DAO field by its C and its U."""
-    return uint(issued, 8) + uint(1, 8) + uint(0, 8) + uint(occupied, 8)
-
-
-def header(parent_hash, number, dao, nonce):
-    return uint(0, 4) + uint(0, 4) + uint(0, 8) + uint(number, 8) + uint(0, 8) + parent_hash + bytes(96) + dao + uint(nonce, 16)
-
-
 def ext(fees):
-    return uint(len(fees), 4) + b''.join(uint(fee, 8) for fee in fees) + uint(0, 4)
+    return fixvec([uint(fee, 8) for fee in fees]) + fixvec([])
 
 
 # -------------------------------------------------------------------- chains
@@ -84,12 +75,12 @@ class Chain:
         self.join(-1, 0, issued, occupied, proposed, [], {})
 
     def join(self, parent, number, issued, occupied, own, uncles, fees):
-        parent_hash = self.made[parent].hash if parent >= 0 else bytes(32)
-        head = header(parent_hash, number, field(issued, occupied), len(self.made))
+        parent_hash = self.made[parent].hash if parent >= 0 else ZERO_HASH
+        head = encoding.header(number, parent_hash, dao=(issued, 1, 0, occupied), nonce=len(self.made))
         own, uncles = [id_of(i) for i in own], [[id_of(i) for i in u] for u in uncles]
-        embedded = [table([header(bytes(32), 0, bytes(32), i), fixvec(ids)]) for i, ids in enumerate(uncles)]
+        embedded = [encoding.uncle(encoding.header(nonce=i), ids) for i, ids in enumerate(uncles)]
         committed = [transaction(0)] + [transaction(i) for i in fees]
-        block = table([head, table(embedded), table(committed), fixvec(own)])
+        block = encoding.block(head, committed, own, embedded)
         emit(*(['genesis', block] if parent < 0 else ['kept', block, ext(list(fees.values()))]))
         ids = own + [i for u in uncles for i in u]
         self.made.append(Made(ckbhash(head), parent, number, issued, occupied, ids, [(id_of(i), fee) for i, fee in fees.items()]))
