@@ -8,7 +8,6 @@ use Rattle.std.proofs.lemmas.Option.{same_Some}
 use Rattle.codec_defs.specs.Schema.{OutPoint, CellInput, Transaction}
 use Rattle.fold_defs.specs.First.{first_failing}
 use Rattle.fold_defs.proofs.FirstLemmas.{first_failing-fails, first_failing-holds, first_failing-none, first_failing-append-holds, first_failing-append-fails, finds_none}
-use Rattle.outside.specs.declared.disk.Area.TheVariants.{Log}
 use Rattle.outside.specs.declared.disk.Damage.{Damage}
 use Rattle.outside.specs.declared.disk.ReadStop.{ReadStop}
 use Rattle.outside.specs.declared.disk.ReadStop.TheVariants.{DiskFault, NoMemory, Damaged}
