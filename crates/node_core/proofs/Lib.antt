@@ -1,3 +1,4 @@
+pub mod SightLemmas
 pub mod MovingLemmas
 pub mod DecidingLemmas
 pub mod JoiningLemmas
