@@ -87,6 +87,10 @@ pub within-entries : (kept blocks : List Block) (entries : List Entry) (place : 
     → place < length entries
 within-entries kept blocks entries place seen indexed below = omega (arith, below, ap length seen, len-same kept entries indexed)
 
+pub within-blocks : (kept blocks : List Block) (entries : List Entry) (place : ℕ) → kept ≡ blocks → IndexesBlocks kept entries → place < length entries
+    → place < length blocks
+within-blocks kept blocks entries place seen indexed below = omega (arith, below, ap length seen, len-same kept entries indexed)
+
 -- all that a block is judged over, where the rows are those of its parent's branch
 pub whole-at-hand : (spec : Specification) (stored : List Stored) (entries : List Entry) (index : UnclesValue) (state : StateValue) (kept : KeptValue) (b : Block)
     (entry : Entry) → kept_of spec stored ≡ kept → AreKept stored entries index → IsEntryOn kept.chain.blocks b entry → AreJoined kept.chain kept.exts
