@@ -1,6 +1,6 @@
 -- The kept blocks of a log: their ratings, their exts and their uncles.
 use Rattle.std.proofs.Common.{◌≡◌, ℕ, zero, suc, ◌+◌, ◌-◌, ◌*◌, ◌^◌, ◌<◌, ◌≤◌, Bool, true, false, eqb, List, [], ◌∷◌, ◌++◌, map, length, take, drop, Vec, Global, Option, Some, None, refl, sym, ap, ◌∙◌, subst, append_assoc, arith}
-use Rattle.std.specs.Prelude.{nat_lt, slice_get, slice_index_or, IsTrue, IsSome, IfSome}
+use Rattle.std.specs.Prelude.{nat_lt, slice_get, slice_index_or, IsTrue, IsSome, IfSome, Result, Ok, Err, IfOk}
 use Rattle.std.specs.Option.{unwrap_or, option_map}
 use Rattle.std.specs.List.{All}
 use Rattle.std.proofs.lemmas.Bool.{ltb-true, ltb-false, and_parts}
@@ -26,6 +26,7 @@ use Rattle.chain_tree.proofs.BlockLemmas.{described, len-same}
 use Rattle.cell_model.specs.ListBlocks.{contents, IsCanonical, IsExtFor}
 use Rattle.cell_model.specs.ListBlocks as listed
 use Rattle.cell_defs.specs.Fit.{BranchFits}
+use Rattle.cell_state.specs.State.{StateValue, rows}
 use Rattle.chain_tree.specs.Blocks.{AreRated}
 use Rattle.uncle_rules.specs.Embedded.{Embedded, embedded_in, embedded_from, UnclesValue, IndexesUncles}
 use Rattle.chain_defs.specs.Kept.{kept_limit}
@@ -309,10 +310,16 @@ stored-way spec exts kept stored same beside canonical joined =
     (subst (λ (e : List (List ℕ)). AreJoined (record { spec = spec; blocks = kept }) e) (sym beside) joined)) canonical
 
 -- the rows that the genesis leaves are those of its branch
-pub genesis-rows : (items : List (List ℕ)) (kept : List Block) (bytes : List ℕ) (b : Block) (found : OutPoint → Option Row) → map (decoded block) items ≡ map Some kept
+genesis-rows : (items : List (List ℕ)) (kept : List Block) (bytes : List ℕ) (b : Block) (found : OutPoint → Option Row) → map (decoded block) items ≡ map Some kept
     → 0 < length items → bytes ≡ slice_index_or items 0 [] → decoded block bytes ≡ Some b
     → ((o : OutPoint) → found o ≡ row_after 0 (events_of_block 0 b) (λ _. None) o) → AreOf kept 0 found
 genesis-rows items kept bytes b found decode some at is made o =
     let first = slice_get-below kept 0 (omega (arith, some, as-many items kept decode)) in
     let same : Some first.0 ≡ Some b = sym (decoded-at items kept 0 first.0 decode first.1) ∙ ap (decoded block) (sym at) ∙ is in
     made o ∙ sym (live_row-genesis kept b o (first.1 ∙ same))
+
+pub genesis-rows-else : {E : Type 0} (items : List (List ℕ)) (kept : List Block) (bytes : List ℕ) (b : Block) (result : Result StateValue E)
+    → map (decoded block) items ≡ map Some kept → 0 < length items → bytes ≡ slice_index_or items 0 [] → decoded block bytes ≡ Some b
+    → IfOk result (λ state. (o : OutPoint) → rows state o ≡ row_after 0 (events_of_block 0 b) (λ _. None) o) → IfOk result (λ state. AreOf kept 0 (rows state))
+genesis-rows-else items kept bytes b (Ok state) decode some at is made = genesis-rows items kept bytes b (rows state) decode some at is made
+genesis-rows-else items kept bytes b (Err stop) decode some at is made = tt

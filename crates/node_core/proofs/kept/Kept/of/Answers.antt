@@ -23,7 +23,7 @@ pub returns-then-not-are_rated-clause-joined : goal.returns-then-not-are_rated-c
 returns-then-not-are_rated-clause-joined g c = λ kept decode joined exts _. elim c.then-not-are_rated.branch [
   | then-not-are_rated-via-then-not-are_rated w ↦
       c.are_rated.ensures.unrated w.if-not-are_rated.true
-      (rated-joined c.args.spec (contents c.args.blocks.items) c.args.tree.entries kept c.requires.blocks decode joined)
+      (rated-joined c.args.spec (contents c.args.blocks.items) c.args.tree.entries kept c.requires.blocks decode joined.joined)
   | then-not-are_rated-via-else-not-are_rated+then-not-have_exts w ↦
       w.have_exts.ensures.have_not w.if-not-have_exts.true
       (exts-in w.deref.result.now c.args.blocks.items w.deref-else-not-are_rated.result.now c.args.exts.items
