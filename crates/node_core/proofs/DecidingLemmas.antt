@@ -1,6 +1,6 @@
 -- What a block is judged over, and the verdict that it comes to.
 use Rattle.std.proofs.Common.{◌≡◌, ℕ, ◌-◌, ◌<◌, ◌^◌, Bool, true, false, cond, List, [], ◌∷◌, drop, length, Option, Some, None, refl, sym, ap, ◌∙◌, subst, arith}
-use Rattle.std.specs.Prelude.{Result, Ok, Err, nat_lt, is_some, IsTrue, IfOk, IfSome}
+use Rattle.std.specs.Prelude.{Result, Ok, Err, nat_lt, is_some, IsTrue, IfOk}
 use Rattle.std.proofs.lemmas.Bool.Decides.{Decides-ltb}
 use Rattle.std.proofs.lemmas.List.{length-map}
 use Rattle.std.proofs.lemmas.List.Elements.{All-head, All-tail}

@@ -13,11 +13,10 @@ use Rattle.codec_defs.proofs.ShapeLaws.{IsA-decoded}
 use Rattle.codec_defs.specs.Schema.{OutPoint, Block, block}
 use Rattle.time_defs.specs.Dao.{is_rated}
 use Rattle.time_defs.specs.Specification.{Specification}
-use Rattle.chain_defs.specs.Tip.{tip_place}
 use Rattle.chain_defs.proofs.KeptLaws.{slice_get-below}
 use Rattle.cell_defs.specs.Ext.{count_at, row_size, are_rows, is_ext}
 use Rattle.cell_defs.specs.Events.{events_of_block}
-use Rattle.cell_defs.specs.Row.{Row, live_row, row_after}
+use Rattle.cell_defs.specs.Row.{Row, row_after}
 use Rattle.chain_tree.specs.declared.entry.Entry.{Entry}
 use Rattle.chain_tree.specs.Entries.{entry_at}
 use Rattle.chain_tree.specs.Blocks.{IndexesBlocks}

@@ -42,7 +42,7 @@ forms-over-more live number (t ∷ later) is =
     one-of-all (t.raw.version == 0) (length t.raw.cell_deps == 0) (length t.raw.header_deps == 0) (list_all (has_since number) t.raw.inputs)
     (has_plain_output t) (list_any (λ o. is_some (live o)) (made_out_points t)) (names_lock t)
     (ap (λ (any : Bool). (t.raw.version == 0) && (length t.raw.cell_deps == 0) && (length t.raw.header_deps == 0)
-        && list_all (has_since number) t.raw.inputs && has_plain_output t && not any && names_lock t) (sym (none-live (made_out_points t))) ∙ is)
+    && list_all (has_since number) t.raw.inputs && has_plain_output t && not any && names_lock t) (sym (none-live (made_out_points t))) ∙ is)
 
 cellbase-over-more : (live : OutPoint → Option Cell) (b : Block) → forms_cellbase no_cell b ≡ false → forms_cellbase live b ≡ false
 unfolding forms_cellbase

@@ -48,7 +48,7 @@ moves-on-tip chain item b is on = ap (moves_of chain) is ∙ by_known (is_some (
     by_parent None at = refl
     by_parent (Some tip) at =
         let none : distance_from chain.blocks (tip_place chain.blocks) tip ≡ 0 =
-            ap (λ (o : Option ℕ). distance_from chain.blocks o tip) at ∙ none-away chain.blocks tip in
+        ap (λ (o : Option ℕ). distance_from chain.blocks o tip) at ∙ none-away chain.blocks tip in
         by_sight (is_some (broken_at_sight chain.spec (branch chain.blocks tip) b)) (moves_at chain.blocks tip) (ap (λ (n : ℕ). 2 * n) none)
 
     by_known : (known : Bool) → cond known 0 (moves_on chain b (place_of chain.blocks b.header.parent_hash)) ≡ 0

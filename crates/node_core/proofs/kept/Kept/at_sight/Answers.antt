@@ -1,4 +1,4 @@
-use Rattle.std.proofs.Common.{◌≡◌, ap}
+use Rattle.std.proofs.Common.{ap}
 use Rattle.chain_tree.specs.Told.{blocks_of}
 use Rattle.chain_defs.proofs.KeptLaws.{place_of-below}
 use Rattle.node_core.specs.Node.{KeptValue}

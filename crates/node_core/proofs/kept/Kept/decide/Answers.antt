@@ -1,4 +1,4 @@
-use Rattle.std.proofs.Common.{sym, refl, ◌≡◌, ◌∙◌, subst}
+use Rattle.std.proofs.Common.{sym, refl}
 use Rattle.node_core.proofs.DecidingLemmas.{verdict-no-block, decided-else, ready-else}
 use Rattle.node_core.proofs.OpenLemmas.{ok_err}
 use Rattle.node_core.proofs.StepLemmas.{no-step, moves-of-item}

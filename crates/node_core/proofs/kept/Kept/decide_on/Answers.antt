@@ -1,4 +1,4 @@
-use Rattle.std.proofs.Common.{◌≡◌, ℕ, ◌<◌, Bool, Some, refl, sym, ap, ◌∙◌, subst, length}
+use Rattle.std.proofs.Common.{◌≡◌, ◌<◌, Some, sym, ap, ◌∙◌, subst, length}
 use Rattle.std.specs.Prelude.{Err}
 use Rattle.chain_defs.specs.Branch.{branch}
 use Rattle.chain_defs.specs.Tip.{tip_place}
@@ -38,8 +38,8 @@ pub returns-then-is_tip_next-clause-cells : goal.returns-then-is_tip_next-clause
 returns-then-is_tip_next-clause-cells g c joined live =
     let same : c.judge_on.new.self ≡ c.args.self.now = c.judge_on.ensures.same ∙ c.moved.ensures.same in
     let at : tip_place c.args.self.now.chain.blocks ≡ Some c.tip-from.result =
-        sym (ap (λ (v : KeptValue). tip_place v.chain.blocks) c.self.view_is)
-        ∙ c.tip-from.ensures.of_blocks (blocks_of c.self.inside.blocks.stored) c.self.invariant.indexed in
+    sym (ap (λ (v : KeptValue). tip_place v.chain.blocks) c.self.view_is)
+    ∙ c.tip-from.ensures.of_blocks (blocks_of c.self.inside.blocks.stored) c.self.invariant.indexed in
     at-parent c.args.self.now.chain.blocks c.args.entry.parent c.in-Ok-judge_on.decision (rows c.in-Ok-moved.there) c.in-Ok-judge_on.ensures.on
     (sym (ap (λ (v : KeptValue). becomes_tip v.chain.blocks c.in-Ok-judge_on.decision) same) ∙ sym c.is_tip_next.ensures ∙ c.if-is_tip_next.true)
     (c.in-Ok-moved.ensures.cells joined (live c.tip-from.result at))
@@ -47,10 +47,10 @@ returns-then-is_tip_next-clause-cells g c joined live =
 pub returns-then-is_tip_next-clause-decided : goal.returns-then-is_tip_next-clause-decided
 returns-then-is_tip_next-clause-decided g c joined live =
     let at : tip_place c.args.self.now.chain.blocks ≡ Some c.tip-from.result =
-        sym (ap (λ (v : KeptValue). tip_place v.chain.blocks) c.self.view_is)
-        ∙ c.tip-from.ensures.of_blocks (blocks_of c.self.inside.blocks.stored) c.self.invariant.indexed in
+    sym (ap (λ (v : KeptValue). tip_place v.chain.blocks) c.self.view_is)
+    ∙ c.tip-from.ensures.of_blocks (blocks_of c.self.inside.blocks.stored) c.self.invariant.indexed in
     subst (λ (v : KeptValue). AreJoined v.chain v.exts → AreOf v.chain.blocks c.args.entry.parent (rows c.in-Ok-moved.there)
-        → IsDecidedBlock v.chain c.args.block.now c.in-Ok-judge_on.decision) c.moved.ensures.same c.in-Ok-judge_on.ensures.decided joined
+    → IsDecidedBlock v.chain c.args.block.now c.in-Ok-judge_on.decision) c.moved.ensures.same c.in-Ok-judge_on.ensures.decided joined
     (c.in-Ok-moved.ensures.cells joined (live c.tip-from.result at))
 
 pub moved-requires-2-clause-from : goal.moved-requires-2-clause-from
@@ -68,29 +68,29 @@ pub returns-in-Ok-moved-2-clause-cells : goal.returns-in-Ok-moved-2-clause-cells
 returns-in-Ok-moved-2-clause-cells g c joined live =
     let same : c.judge_on.new.self ≡ c.args.self.now = c.judge_on.ensures.same ∙ c.moved.ensures.same in
     let at : tip_place c.args.self.now.chain.blocks ≡ Some c.tip-from.result =
-        sym (ap (λ (v : KeptValue). tip_place v.chain.blocks) c.self.view_is)
-        ∙ c.tip-from.ensures.of_blocks (blocks_of c.self.inside.blocks.stored) c.self.invariant.indexed in
+    sym (ap (λ (v : KeptValue). tip_place v.chain.blocks) c.self.view_is)
+    ∙ c.tip-from.ensures.of_blocks (blocks_of c.self.inside.blocks.stored) c.self.invariant.indexed in
     at-tip c.args.self.now.chain.blocks c.tip-from.result c.in-Ok-judge_on.decision (rows c.in-Ok-moved-2.back) at
     (sym (ap (λ (v : KeptValue). becomes_tip v.chain.blocks c.in-Ok-judge_on.decision) same) ∙ sym c.is_tip_next.ensures ∙ c.if-is_tip_next.false)
     (subst (λ (v : KeptValue). AreJoined v.chain v.exts → AreOf v.chain.blocks c.args.entry.parent (rows c.in-Ok-moved.there)
-        → AreOf v.chain.blocks c.tip-from.result (rows c.in-Ok-moved-2.back)) same c.in-Ok-moved-2.ensures.cells joined
+    → AreOf v.chain.blocks c.tip-from.result (rows c.in-Ok-moved-2.back)) same c.in-Ok-moved-2.ensures.cells joined
     (c.in-Ok-moved.ensures.cells joined (live c.tip-from.result at)))
 
 pub returns-in-Ok-moved-2-clause-decided : goal.returns-in-Ok-moved-2-clause-decided
 returns-in-Ok-moved-2-clause-decided g c joined live =
     let at : tip_place c.args.self.now.chain.blocks ≡ Some c.tip-from.result =
-        sym (ap (λ (v : KeptValue). tip_place v.chain.blocks) c.self.view_is)
-        ∙ c.tip-from.ensures.of_blocks (blocks_of c.self.inside.blocks.stored) c.self.invariant.indexed in
+    sym (ap (λ (v : KeptValue). tip_place v.chain.blocks) c.self.view_is)
+    ∙ c.tip-from.ensures.of_blocks (blocks_of c.self.inside.blocks.stored) c.self.invariant.indexed in
     subst (λ (v : KeptValue). AreJoined v.chain v.exts → AreOf v.chain.blocks c.args.entry.parent (rows c.in-Ok-moved.there)
-        → IsDecidedBlock v.chain c.args.block.now c.in-Ok-judge_on.decision) c.moved.ensures.same c.in-Ok-judge_on.ensures.decided joined
+    → IsDecidedBlock v.chain c.args.block.now c.in-Ok-judge_on.decision) c.moved.ensures.same c.in-Ok-judge_on.ensures.decided joined
     (c.in-Ok-moved.ensures.cells joined (live c.tip-from.result at))
 
 pub returns-clause-undamaged : goal.returns-clause-undamaged
 returns-clause-undamaged g c joined live damage was =
     let same : c.judge_on.new.self ≡ c.args.self.now = c.judge_on.ensures.same ∙ c.moved.ensures.same in
     let at : tip_place c.args.self.now.chain.blocks ≡ Some c.tip-from.result =
-        sym (ap (λ (v : KeptValue). tip_place v.chain.blocks) c.self.view_is)
-        ∙ c.tip-from.ensures.of_blocks (blocks_of c.self.inside.blocks.stored) c.self.invariant.indexed in
+    sym (ap (λ (v : KeptValue). tip_place v.chain.blocks) c.self.view_is)
+    ∙ c.tip-from.ensures.of_blocks (blocks_of c.self.inside.blocks.stored) c.self.invariant.indexed in
     c.in-Err-moved.ensures.undamaged
     (subst (λ (v : KeptValue). AreJoined v.chain v.exts) (sym same) joined)
     (subst (λ (v : KeptValue). AreOf v.chain.blocks c.args.entry.parent (rows c.in-Ok-moved.there)) (sym same)

@@ -1,4 +1,4 @@
-use Rattle.std.proofs.Common.{◌≡◌, sym, ap, ◌∙◌}
+use Rattle.std.proofs.Common.{sym, ap, ◌∙◌}
 use Rattle.chain_tree.specs.Told.{blocks_of}
 use Rattle.chain_defs.specs.Tip.{tip}
 use Rattle.node_core.specs.Node.{KeptValue}

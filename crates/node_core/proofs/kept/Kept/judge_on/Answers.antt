@@ -1,4 +1,4 @@
-use Rattle.std.proofs.Common.{◌≡◌, ℕ, None, Some, refl, ap, ◌∙◌, subst, List, Option, sym}
+use Rattle.std.proofs.Common.{◌≡◌, None, Some, refl, ap, ◌∙◌, subst, sym}
 use Rattle.std.specs.Prelude.{Result, Err, IfOk, length}
 use Rattle.outside.specs.declared.disk.ReadStop.{ReadStop}
 use Rattle.chain_defs.specs.Branch.{branch}

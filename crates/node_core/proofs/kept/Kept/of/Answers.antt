@@ -38,8 +38,12 @@ uncles_of-requires g c = record {
 
 pub genesis_cells-requires : goal.genesis_cells-requires
 genesis_cells-requires g c = record {
-  some = omega (arith, some-blocks (contents c.args.blocks.items) c.args.tree.entries c.tip-tip.result c.requires.blocks c.tip-tip.ensures.within, as-many-contents c.args.blocks.items,
-      ap length c.deref-3.ensures.value);
+  some = omega (
+    arith,
+    some-blocks (contents c.args.blocks.items) c.args.tree.entries c.tip-tip.result c.requires.blocks c.tip-tip.ensures.within,
+    as-many-contents c.args.blocks.items,
+    ap length c.deref-3.ensures.value,
+  );
   canonical = canonical-in c.args.blocks.items c.deref-3.result.now c.args.tree.entries c.requires.blocks c.deref-3.ensures.value;
 }
 

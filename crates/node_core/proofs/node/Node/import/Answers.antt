@@ -1,7 +1,6 @@
 use Rattle.std.proofs.Common.{◌≡◌, ◌⊎◌, arith, ap, sym, ◌∙◌, subst, Err, refl, ◌<◌, ℕ, length, ◌≤◌}
 use Rattle.outside.specs.Disk.{LeavesOnly}
-use Rattle.chain_defs.specs.Kept.{place_of, kept_limit}
-use Rattle.chain_defs.specs.Tip.{tip_place}
+use Rattle.chain_defs.specs.Kept.{kept_limit}
 use Rattle.verdict_defs.specs.declared.verdict.Verdict.TheVariants.{Joined}
 use Rattle.verdict_defs.specs.Verdict.{joins}
 use Rattle.verdict_defs.specs.Chain.{Chain, chain_after}
