@@ -1,3 +1,4 @@
+pub mod SightLemmas
 pub mod MovingLemmas
 pub mod DecidingLemmas
 pub mod JoiningLemmas
@@ -7,7 +8,7 @@ pub mod DiskLemmas
 pub mod NewLemmas
 pub mod OpenLemmas
 pub mod OpeningLemmas
-pub mod ReplayLemmas
+pub mod StepLemmas
 pub mod OwnLemmas
 pub mod KeepingLemmas
 pub mod QueryLemmas

@@ -1,5 +1,5 @@
 -- What the moves of the live cells suppose: canonical blocks, each of which can be taken back.
-use Rattle.std.proofs.Common.{◌≡◌, ℕ, zero, suc, ◌-◌, ◌+◌, ◌<◌, ◌≤◌, List, [], ◌∷◌, ◌++◌, length, take, Option, Some, refl, sym, ap, ◌∙◌, subst, inl, inr, ◌⊎◌, arith}
+use Rattle.std.proofs.Common.{◌≡◌, ℕ, zero, suc, ◌<◌, ◌≤◌, List, [], ◌∷◌, ◌++◌, length, take, Some, refl, sym, ap, ◌∙◌, subst, inl, inr, ◌⊎◌, arith}
 use Rattle.std.specs.Prelude.{slice_get}
 use Rattle.std.proofs.lemmas.List.{length_push}
 use Rattle.std.proofs.lemmas.Option.{slice_get_within}
@@ -11,12 +11,12 @@ use Rattle.chain_defs.proofs.KeptLaws.{slice_get-pushed, slice_get-before}
 use Rattle.time_defs.specs.Specification.{Specification}
 use Rattle.fit_laws.specs.Laws.{IsCanonical, AreCanonical}
 use Rattle.chain_tree.specs.declared.entry.Entry.{Entry}
-use Rattle.chain_tree.specs.Told.{Stored, blocks_of}
+use Rattle.chain_tree.specs.Told.{Stored}
 use Rattle.uncle_rules.specs.Embedded.{UnclesValue}
 use Rattle.verdict_defs.specs.Chain.{Chain}
 use Rattle.verdict_defs.specs.Laws.{MayJoin}
 use Rattle.store_defs.specs.Store.{own_ext, IsJoined, HaveOwnExts, AreJoined}
-use Rattle.reorg.specs.Moves.{EachCanBeTakenBack}
+use Rattle.reorg.specs.Moves.{CanGoDown}
 use Rattle.reorg_laws.proofs.WayLaws.{joined-can-be-taken-back}
 use Rattle.node_core.specs.Node.{KeptValue, kept_of, kept_with, AreKept}
 
@@ -35,9 +35,10 @@ canonical-push kept b item canonical is place other there = by_place (slice_get-
 -- ---- The way
 
 pub way-back : (spec : Specification) (stored : List Stored) (entries : List Entry) (index : UnclesValue) (kept : KeptValue) → kept_of spec stored ≡ kept
-    → AreKept stored entries index → AreJoined kept.chain kept.exts → EachCanBeTakenBack stored
-way-back spec stored entries index kept whole are joined =
+    → AreKept stored entries index → (from to : ℕ) → AreJoined kept.chain kept.exts → CanGoDown stored from to
+way-back spec stored entries index kept whole are from to joined place parent it on off =
     joined-can-be-taken-back (kept_of spec stored).chain stored refl (subst (λ (k : KeptValue). AreJoined k.chain k.exts) (sym whole) joined) are.canonical
+    place parent it
 
 -- ---- What had joined before a block
 

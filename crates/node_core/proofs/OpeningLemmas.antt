@@ -1,6 +1,6 @@
 -- The kept blocks of a log: their ratings, their exts and their uncles.
 use Rattle.std.proofs.Common.{◌≡◌, ℕ, zero, suc, ◌+◌, ◌-◌, ◌*◌, ◌^◌, ◌<◌, ◌≤◌, Bool, true, false, eqb, List, [], ◌∷◌, ◌++◌, map, length, take, drop, Vec, Global, Option, Some, None, refl, sym, ap, ◌∙◌, subst, append_assoc, arith}
-use Rattle.std.specs.Prelude.{nat_lt, slice_get, slice_index_or, IsTrue, IsSome, IfSome}
+use Rattle.std.specs.Prelude.{nat_lt, slice_get, slice_index_or, IsTrue, IsSome, IfSome, Result, Ok, Err, IfOk}
 use Rattle.std.specs.Option.{unwrap_or, option_map}
 use Rattle.std.specs.List.{All}
 use Rattle.std.proofs.lemmas.Bool.{ltb-true, ltb-false, and_parts}
@@ -13,10 +13,10 @@ use Rattle.codec_defs.proofs.ShapeLaws.{IsA-decoded}
 use Rattle.codec_defs.specs.Schema.{OutPoint, Block, block}
 use Rattle.time_defs.specs.Dao.{is_rated}
 use Rattle.time_defs.specs.Specification.{Specification}
-use Rattle.chain_defs.specs.Tip.{tip_place}
 use Rattle.chain_defs.proofs.KeptLaws.{slice_get-below}
 use Rattle.cell_defs.specs.Ext.{count_at, row_size, are_rows, is_ext}
-use Rattle.cell_defs.specs.Row.{Row, live_row}
+use Rattle.cell_defs.specs.Events.{events_of_block}
+use Rattle.cell_defs.specs.Row.{Row, row_after}
 use Rattle.chain_tree.specs.declared.entry.Entry.{Entry}
 use Rattle.chain_tree.specs.Entries.{entry_at}
 use Rattle.chain_tree.specs.Blocks.{IndexesBlocks}
@@ -25,11 +25,16 @@ use Rattle.chain_tree.proofs.BlockLemmas.{described, len-same}
 use Rattle.cell_model.specs.ListBlocks.{contents, IsCanonical, IsExtFor}
 use Rattle.cell_model.specs.ListBlocks as listed
 use Rattle.cell_defs.specs.Fit.{BranchFits}
+use Rattle.cell_state.specs.State.{StateValue, rows}
 use Rattle.chain_tree.specs.Blocks.{AreRated}
 use Rattle.uncle_rules.specs.Embedded.{Embedded, embedded_in, embedded_from, UnclesValue, IndexesUncles}
 use Rattle.chain_defs.specs.Kept.{kept_limit}
 use Rattle.verdict_defs.specs.Chain.{Chain}
-use Rattle.store_defs.specs.Store.{IsJoined}
+use Rattle.fit_laws.specs.Laws.{AreCanonical}
+use Rattle.store_defs.specs.Store.{IsJoined, AreJoined}
+use Rattle.reorg.specs.Moves.{AreOf}
+use Rattle.replay.proofs.RowLemmas.{live_row-genesis}
+use Rattle.reorg_laws.proofs.WayLaws.{joined-can-be-taken-back}
 use Rattle.joined_laws.proofs.HeaderLaws.{blocks-are-rated}
 use Rattle.joined_laws.proofs.FitLaws.{what-joins-fits}
 use Rattle.joined_laws.proofs.BranchFitLaws.{branches-fit}
@@ -165,6 +170,9 @@ counts-fees items exts stored have decode beside place it above there =
     ∙ subst (λ (o : Option Block). IfSome o (λ b. count_at (slice_index_or exts place []) 0 ≡ length b.transactions - 1))
     (decoded-at items (blocks_of stored) place it.block decode here) (have place above within).fees
 
+pub canonical-stored : (items : List (List ℕ)) (kept : List Block) → map (decoded block) items ≡ map Some kept → AreCanonical kept
+canonical-stored items kept decode place b there = canonical-read (slice_index_or items place []) b (decoded-at items kept place b decode there)
+
 -- With the rows of the tip's branch all is kept.
 pub are-kept : (items exts : List (List ℕ)) (entries : List Entry) (before stored : List Stored) (index : UnclesValue)
     → AreBlocks items entries → length items ≤ kept_limit → map (decoded block) items ≡ map Some (blocks_of before) → Some stored ≡ Some before
@@ -173,7 +181,7 @@ are-kept items exts entries before stored index are few decode told have beside 
     subst (λ (s : List Stored). AreKept s entries index) (sym (same_Some stored before told)) (record {
       indexed = indexed-by items entries (blocks_of before) are decode;
       uncles = uncles;
-      canonical = λ place b there. canonical-read (slice_index_or items place []) b (decoded-at items (blocks_of before) place b decode there);
+      canonical = canonical-stored items (blocks_of before) decode;
       rated = rated;
       counted = counts-fees items exts before have decode beside;
       few = omega (arith, few, as-many items (blocks_of before) decode, length-map before (λ (it : Stored). it.block));
@@ -286,3 +294,23 @@ pub exts-in : (blocks seen exts beside : List (Vec ℕ Global)) → seen ≡ blo
 exts-in blocks seen exts beside same too have =
     subst (λ (v : List (Vec ℕ Global)). HaveExts (contents blocks) (contents v)) too
     (subst (λ (v : List (Vec ℕ Global)). HaveExts (contents v) (contents beside)) same have)
+
+-- ---- The live cells
+
+pub some-blocks : (items : List (List ℕ)) (entries : List Entry) (place : ℕ) → AreBlocks items entries → place < length entries → 0 < length items
+some-blocks items entries place are within = omega (arith, within, len-same are.blocks entries are.indexed, as-many items are.blocks are.decode)
+
+-- the rows that the genesis leaves are those of its branch
+genesis-rows : (items : List (List ℕ)) (kept : List Block) (bytes : List ℕ) (b : Block) (found : OutPoint → Option Row) → map (decoded block) items ≡ map Some kept
+    → 0 < length items → bytes ≡ slice_index_or items 0 [] → decoded block bytes ≡ Some b
+    → ((o : OutPoint) → found o ≡ row_after 0 (events_of_block 0 b) (λ _. None) o) → AreOf kept 0 found
+genesis-rows items kept bytes b found decode some at is made o =
+    let first = slice_get-below kept 0 (omega (arith, some, as-many items kept decode)) in
+    let same : Some first.0 ≡ Some b = sym (decoded-at items kept 0 first.0 decode first.1) ∙ ap (decoded block) (sym at) ∙ is in
+    made o ∙ sym (live_row-genesis kept b o (first.1 ∙ same))
+
+pub genesis-rows-else : {E : Type 0} (items : List (List ℕ)) (kept : List Block) (bytes : List ℕ) (b : Block) (result : Result StateValue E)
+    → map (decoded block) items ≡ map Some kept → 0 < length items → bytes ≡ slice_index_or items 0 [] → decoded block bytes ≡ Some b
+    → IfOk result (λ state. (o : OutPoint) → rows state o ≡ row_after 0 (events_of_block 0 b) (λ _. None) o) → IfOk result (λ state. AreOf kept 0 (rows state))
+genesis-rows-else items kept bytes b (Ok state) decode some at is made = genesis-rows items kept bytes b (rows state) decode some at is made
+genesis-rows-else items kept bytes b (Err stop) decode some at is made = tt

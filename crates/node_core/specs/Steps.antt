@@ -5,7 +5,7 @@ use Rattle.codec_defs.specs.Schema.{Block, block}
 use Rattle.chain_defs.specs.Kept.{block_hash, place_of}
 use Rattle.chain_defs.specs.Branch.{branch, distance}
 use Rattle.block_defs.specs.Rules.{broken_at_sight}
-use Rattle.chain_defs.specs.Tip.{greatest_number, tip_place}
+use Rattle.chain_defs.specs.Tip.{tip_place}
 use Rattle.verdict_defs.specs.Chain.{Chain, chain_after}
 use Rattle.store_defs.specs.Store.{Store, NoLog, NotALog, Keeps}
 
@@ -39,8 +39,16 @@ abbrev pub steps_over : Chain → List (List ℕ) → ℕ
 steps_over chain [] = 0
 steps_over chain (item ∷ items) = moves_for chain item + 1 + steps_over (chain_after chain item) items
 
--- To open a store: the branch of its tip is replayed.
-abbrev pub replays_to_open : Store → ℕ
-replays_to_open NoLog = 0
-replays_to_open NotALog = 0
-replays_to_open (Keeps chain) = greatest_number chain.blocks
+abbrev pub distance_to : List Block → ℕ → Option ℕ → ℕ
+distance_to kept from None = 0
+distance_to kept from (Some place) = distance kept from place
+
+-- from the genesis to the tip
+abbrev pub moves_to_tip : List Block → ℕ
+moves_to_tip kept = distance_to kept 0 (tip_place kept)
+
+-- To open a store: from the genesis to the tip of what it keeps.
+abbrev pub moves_to_open : Store → ℕ
+moves_to_open NoLog = 0
+moves_to_open NotALog = 0
+moves_to_open (Keeps chain) = moves_to_tip chain.blocks

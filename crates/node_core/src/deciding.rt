@@ -1,11 +1,13 @@
 // What is to become of an item, over the kept blocks.
-ghost use Rattle.std.specs.Prelude.{◌≡◌, ◌≢◌, ◌≤◌, ◌+◌, ◌<◌, ◌^◌, nat_lt, ℕ, length, Err, IfOk, OnOk};
-ghost use Rattle.chain_defs.specs.Kept.{kept_limit};
-ghost use Rattle.chain_defs.specs.Branch.{distance};
+ghost use Rattle.std.specs.Prelude.{◌≡◌, ◌≢◌, ◌≤◌, ◌+◌, ◌<◌, ◌^◌, nat_lt, ℕ, length, Some, Err, IfOk, OnOk};
+ghost use Rattle.chain_defs.specs.Kept.{place_of, kept_limit};
+ghost use Rattle.chain_defs.specs.Branch.{branch, distance};
 ghost use Rattle.chain_defs.specs.Tip.{best_branch};
 ghost use Rattle.outside.specs.declared.disk.Area.TheVariants.{Log};
 ghost use Rattle.outside.specs.declared.disk.Damage.{Damage};
-ghost use Rattle.outside.specs.declared.disk.ReadStop.TheVariants.{DiskFault, Damaged};
+ghost use Rattle.outside.specs.declared.disk.ReadStop.{ReadStop as a_stop};
+ghost use Rattle.outside.specs.declared.disk.ReadStop.TheVariants.{DiskFault, Damaged, NoMemory};
+ghost use Rattle.block_defs.specs.Rules.{broken_at_sight};
 ghost use Rattle.rule_names.specs.Number.{rule_number};
 ghost use Rattle.rule_names.specs.declared.rule.Rule.{Rule};
 ghost use Rattle.block_judge.specs.declared.stop.Judged.TheVariants.{Broken, Read};

@@ -30,7 +30,7 @@ ghost use Rattle.log_defs.specs.Rest.{IsSettled};
 ghost use Rattle.store_defs.specs.Store.{Keeps, store_of, StandsFor, IsSound, IsJoined, HaveOwnExts, AreJoined};
 ghost use Rattle.log_file.specs.Pieces.{behind_gate, block_record};
 ghost use Rattle.node_core.specs.Node.{IsOn, IsLeftByOpening, IsLeftByImport, IsSettledAfter, IsWithin, AreOfFound, AreOfTip, node_of};
-ghost use Rattle.node_core.specs.Steps.{moves_for, replays_to_open};
+ghost use Rattle.node_core.specs.Steps.{moves_for, moves_to_open};
 ghost use Rattle.node_core.specs.Judging.{IsReadyItem, IsDecided, place_for};
 ghost use Rattle.node_core.specs.Queries.{IsHeaderAt, IsBlockAt, IsLiveCell, IsFetched};
 ghost use Rattle.node_core.specs.declared.deciding.Decision.TheVariants.{Joins};
@@ -175,7 +175,7 @@ fn join<D: Disk, L: Ledger>(
 }
 
 impl Node {
-    /// Opens the store on a disk, and replays the branch of its tip. After `Ok` a crash leaves each area as it reads. Also a
+    /// Opens the store on a disk: its live cells go from the genesis to the tip. After `Ok` a crash leaves each area as it reads. Also a
     /// log whose blocks have not joined may be answered as no store. Whatever is answered, a crash leaves what it might
     /// have left before, or a log that says what it said.
     pub fn open<D: Disk, L: Ledger>(
@@ -202,7 +202,7 @@ impl Node {
         ensures moments { (now : Image) (chain : Chain) → D.reads_as disk.old ≡ Some now → store_of now ≡ Keeps chain → ((image : Image) → D.images disk.old image → IsSound image)
             → LeavesOnly D.moment D.left_since disk.old disk.new (λ image. D.images disk.old image ⊎ StandsFor chain image) }
         ensures cause { CountsFault (D.faults disk.old) (D.faults disk.new) (result ≡ Err LogStop.DiskFault) }
-        ensures most { (now : Image) → D.reads_as disk.old ≡ Some now → steps.new ≤ steps.old + replays_to_open (store_of now) }
+        ensures most { (now : Image) → D.reads_as disk.old ≡ Some now → steps.new ≤ steps.old + moves_to_open (store_of now) }
     {
         if sync_snapshots(disk).is_err() {
             return Err(LogStop::DiskFault);

@@ -3,7 +3,6 @@ ghost use Rattle.std.specs.Prelude.{◌≡◌, ◌≢◌, ◌≤◌, ◌+◌, �
 ghost use Rattle.codec_defs.specs.Shape.{decoded};
 ghost use Rattle.codec_defs.specs.Schema as schema;
 ghost use Rattle.codec_defs.specs.Schema.{Block};
-ghost use Rattle.chain_defs.specs.Tip.{greatest_number};
 ghost use Rattle.cell_defs.specs.Ext.{count_at};
 ghost use Rattle.cell_model.specs.ListBlocks.{contents, IsCanonical, IsExtFor};
 ghost use Rattle.chain_tree.specs.Blocks.{AreRated};
@@ -15,8 +14,10 @@ ghost use Rattle.log_file.specs.declared.stop.LogStop.TheVariants.{DiskFault, No
 ghost use Rattle.outside.specs.declared.disk.Damage.{Damage};
 ghost use Rattle.outside.specs.declared.disk.ReadStop.TheVariants.{Damaged};
 ghost use Rattle.cell_state.specs.State.{rows};
+ghost use Rattle.reorg.specs.Moves.{AreOf};
 ghost use Rattle.node_core.specs.Node.{AreOfTip};
 ghost use Rattle.node_core.specs.Opening.{HaveBlocks, HaveExts};
+ghost use Rattle.node_core.specs.Steps.{moves_to_tip};
 
 use crate::kept::{Kept, take_uncles};
 use cell_model::ListBlocks;
@@ -27,7 +28,7 @@ use epochs::Spec;
 use log_file::{LogStop, ext_form};
 use mol_schema::BlockView;
 use outside::{NoMemory, ReadStop, Steps};
-use crate::applying::replay;
+use reorg::go_to;
 use std::alloc::Global;
 use std::sync::ledger::Ledger;
 use uncle_rules::Uncles;
@@ -103,8 +104,18 @@ fn uncles_of(alloc: Global, blocks: &[Vec<u8>]) -> Result<Uncles, NoMemory>
     Ok(uncles)
 }
 
-/// Why a log is not opened whose blocks were not replayed. They are in memory, so no disk is at fault.
-fn stop_of_replay(stop: ReadStop) -> LogStop
+/// The live cells that the genesis leaves.
+fn genesis_cells(alloc: Global, blocks: &[Vec<u8>]) -> Result<State, NoMemory>
+    requires some { 0 < length blocks.now }
+    requires canonical { HaveBlocks (contents blocks.now) }
+    ensures { (kept : List Block) → map (decoded schema.block) (contents blocks.now) ≡ map Some kept
+        → IfOk result (λ state. AreOf kept 0 (rows state)) }
+{
+    State::genesis(alloc, &view_of(&blocks[0]))
+}
+
+/// Why a log is not opened where the live cells did not reach the tip. Its blocks are in memory, so no disk is at fault.
+fn stop_of_move(stop: ReadStop) -> LogStop
     ensures damaged { result ≡ NotAStore → (damage : Damage) × (stop ≡ Damaged damage) }
     ensures reads { result ≢ DiskFault }
 {
@@ -116,8 +127,9 @@ fn stop_of_replay(stop: ReadStop) -> LogStop
 }
 
 impl Kept {
-    /// The kept blocks of a log, and the live cells of the tip. Where a block's C or AR is 0, what stands beside it is no ext for it, or the events along
-    /// the tip's branch do not fit, they have not joined, and the log is none of a store.
+    /// The kept blocks of a log, and the live cells of the tip, led there from those of the genesis. Where a block's C or AR
+    /// is 0, what stands beside it is no ext for it, or the events along the tip's branch do not fit, they have not joined,
+    /// and the log is none of a store.
     pub(crate) fn of<L: Ledger>(
         alloc: Global,
         spec: Spec,
@@ -139,7 +151,7 @@ impl Kept {
         ensures unrated { (AreRated tree.entries → ⊥) → result ≡ Err NotAStore }
         ensures unfit { (HaveExts (contents blocks.items) (contents exts.items) → ⊥) → result ≡ Err NotAStore }
         ensures reads { result ≢ Err DiskFault }
-        ensures most { (kept : List Block) → map (decoded schema.block) (contents blocks.items) ≡ map Some kept → steps.new ≤ steps.old + greatest_number kept }
+        ensures most { (kept : List Block) → map (decoded schema.block) (contents blocks.items) ≡ map Some kept → steps.new ≤ steps.old + moves_to_tip kept }
     {
         if !are_rated(&tree) || !have_exts(&blocks, &exts) {
             drop((blocks, exts, tree));
@@ -152,14 +164,22 @@ impl Kept {
                 return Err(LogStop::NoMemory);
             }
         };
-        let mut blocks = match ListBlocks::new(alloc, blocks, exts) {
-            Ok(blocks) => blocks,
+        let tip = tree.tip();
+        let genesis = match genesis_cells(alloc, &blocks) {
+            Ok(genesis) => genesis,
             Err(_) => {
-                drop((tree, uncles));
+                drop((blocks, exts, tree, uncles));
                 return Err(LogStop::NoMemory);
             }
         };
-        match replay(alloc, &tree, &mut blocks, tree.tip(), steps) {
+        let mut blocks = match ListBlocks::new(alloc, blocks, exts) {
+            Ok(blocks) => blocks,
+            Err(_) => {
+                drop((tree, uncles, genesis));
+                return Err(LogStop::NoMemory);
+            }
+        };
+        match go_to(alloc, genesis, &tree, &mut blocks, 0, tip, steps) {
             Ok(state) => {
                 let kept = Kept {
                     spec,
@@ -171,7 +191,7 @@ impl Kept {
             }
             Err(stop) => {
                 drop((blocks, tree, uncles));
-                Err(stop_of_replay(stop))
+                Err(stop_of_move(stop))
             }
         }
     }

@@ -5,7 +5,6 @@ use Rattle.std.specs.List.{concat}
 use Rattle.outside.specs.Image.{Image}
 use Rattle.outside.specs.Streams.{Gives}
 use Rattle.outside.proofs.Streams.{gives_more}
-use Rattle.chain_defs.specs.Tip.{greatest_number}
 use Rattle.verdict_defs.specs.Verdict.{joins}
 use Rattle.verdict_defs.specs.Chain.{Chain, verdict_over, chain_after, chain_over}
 use Rattle.store_defs.specs.Store.{Store, Keeps, store_of, StandsFor, IsSound, IsJoined, HaveOwnExts, AreJoined}
@@ -15,7 +14,7 @@ use Rattle.report_defs.specs.Report.{item_limit, input_limit, import_limits}
 use Rattle.report_defs.specs.Survival.{NoneJoins}
 use Rattle.item_reader.specs.Items.{Gave, IsPartial, IsItemAt}
 use Rattle.item_reader.proofs.Reading.{few_partial}
-use Rattle.node_core.specs.Steps.{moves_for, steps_over, replays_to_open}
+use Rattle.node_core.specs.Steps.{moves_for, moves_to_tip, steps_over, moves_to_open}
 use Rattle.node_run.specs.Import.{AreGiven}
 use Rattle.node_run.proofs.LineLemmas.{concat-push}
 use Rattle.node_run.proofs.ImportLemmas.{Whole, all-push, steps-push}
@@ -66,14 +65,14 @@ module _ (chain : Chain) (offset : ℕ) (left_old left left_new taken_old taken 
   stop_also P has given gives more (inl partial) = part_also P has given gives partial
   stop_also P has given gives more (inr item) = item_also P given given item gives more
 
-  steps_more : (steps_new : ℕ) (item : List ℕ) → steps_new ≤ steps_now + moves_for now.blocks item + 1 → were_joined
+  steps_more : (steps_new : ℕ) (item : List ℕ) → steps_new ≤ steps_now + moves_for now item + 1 → were_joined
       → steps_new ≤ steps_old + steps_over chain (whole.items ++ item ∷ [])
   steps_more steps_new item most joined =
       omega (
         arith,
         whole.steps joined,
         steps-push chain whole.items item,
-        subst (λ (k : Chain). steps_new ≤ steps_now + moves_for k.blocks item + 1) (whole.kept_now joined) most,
+        subst (λ (k : Chain). steps_new ≤ steps_now + moves_for k item + 1) (whole.kept_now joined) most,
       )
 
   -- what stands behind them holds no whole item
@@ -83,7 +82,7 @@ module _ (chain : Chain) (offset : ℕ) (left_old left left_new taken_old taken 
 
   -- an item stands behind them
   pub counted_to_item : (steps_new : ℕ) (item given : List ℕ) → IsItemAt item_limit (Some input_limit) offset item given → Gives left left_new given
-      → steps_new ≤ steps_now + moves_for now.blocks item + 1
+      → steps_new ≤ steps_now + moves_for now item + 1
       → Gave left_old left_new (λ given. were_joined → steps_new ≤ steps_old + steps_over chain (split_of import_limits given).items)
   counted_to_item steps_new item given at gives most =
       item_also (λ xs. were_joined → steps_new ≤ steps_old + steps_over chain xs) item given at gives (steps_more steps_new item most)
@@ -108,9 +107,9 @@ stays_there chain now items item is stays = ap (λ (k : Chain). joins (verdict_o
 
 -- ---- A store that was opened
 
-pub opened_in : (chain : Chain) (now : Image) (before after : ℕ) → StandsFor chain now → after ≤ before + replays_to_open (store_of now)
-    → after ≤ before + greatest_number chain.blocks
-opened_in chain now before after stands most = subst (λ (s : Store). after ≤ before + replays_to_open s) (store_of_stands chain now stands) most
+pub opened_in : (chain : Chain) (now : Image) (before after : ℕ) → StandsFor chain now → after ≤ before + moves_to_open (store_of now)
+    → after ≤ before + moves_to_tip chain.blocks
+opened_in chain now before after stands most = subst (λ (s : Store). after ≤ before + moves_to_open s) (store_of_stands chain now stands) most
 
 -- the chain that was opened is the one that the disk read as, and has joined
 pub opened_sound : (reads : Option Image) (opened chain : Chain) (exts : List (List ℕ)) (now : Image)
@@ -125,8 +124,8 @@ none_over opened chain items same none = subst (λ (k : Chain). NoneJoins k item
 
 pub counted_over : (reads : Option Image) (opened chain : Chain) (exts : List (List ℕ)) (now : Image) (items : List (List ℕ)) (before mid after : ℕ)
     → (IfSome reads (λ image. store_of image ≡ Keeps opened)) → (IsSound now → HaveOwnExts opened exts) → reads ≡ Some now → StandsFor chain now
-    → mid ≤ before + replays_to_open (store_of now) → (AreJoined opened exts → after ≤ mid + steps_over opened items)
-    → after ≤ before + greatest_number chain.blocks + steps_over chain items
+    → mid ≤ before + moves_to_open (store_of now) → (AreJoined opened exts → after ≤ mid + steps_over opened items)
+    → after ≤ before + moves_to_tip chain.blocks + steps_over chain items
 counted_over reads opened chain exts now items before mid after kept own told stands most counts =
     let sound = opened_sound reads opened chain exts now kept own told stands in
     omega (arith, opened_in chain now before mid stands most, subst (λ (k : Chain). after ≤ mid + steps_over k items) sound.0 (counts sound.1))

@@ -19,7 +19,7 @@ ghost use Rattle.report_defs.specs.Status.{IsOneOf};
 ghost use Rattle.report_defs.specs.Promise.{query_statuses};
 ghost use Rattle.report_defs.specs.Survival.{KeepsRecords};
 ghost use Rattle.report_defs.specs.declared.command.Command.TheVariants as commands;
-ghost use Rattle.node_core.specs.Steps.{replays_to_open};
+ghost use Rattle.node_core.specs.Steps.{moves_to_open};
 ghost use Rattle.node_core.specs.Queries.{IsHeaderAt};
 ghost use Rattle.node_run.specs.Output.{Took};
 ghost use Rattle.node_run.specs.Queries.{IsCellFound};
@@ -216,7 +216,7 @@ pub fn query<K: Sink, D: Disk, L: Ledger>(
     ensures disk_faults { CountsFault (D.faults disk.old) (D.faults disk.new) (result ≡ Status.DiskFault) }
     ensures rests { (now : Image) → D.reads_as disk.old ≡ Some now → slice_index now.log (end_of_log now.log) ≢ 1
         → IsOnlyRead D.reads_as D.images D.moment D.left_since disk.old disk.new }
-    ensures most { (now : Image) → D.reads_as disk.old ≡ Some now → steps.new ≤ steps.old + replays_to_open (store_of now) }
+    ensures most { (now : Image) → D.reads_as disk.old ≡ Some now → steps.new ≤ steps.old + moves_to_open (store_of now) }
 {
     let mut node = match open(alloc, disk, steps) {
         Ok(node) => node,

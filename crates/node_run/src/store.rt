@@ -10,7 +10,7 @@ ghost use Rattle.log_defs.specs.Rest.{IsSettled};
 ghost use Rattle.store_defs.specs.Store.{Keeps, store_of, StandsFor, IsSound, HaveOwnExts, TellsAsBefore};
 ghost use Rattle.report_defs.specs.Status.{IsOneOf};
 ghost use Rattle.node_core.specs.Node.{IsOn, IsLeftByOpening};
-ghost use Rattle.node_core.specs.Steps.{replays_to_open};
+ghost use Rattle.node_core.specs.Steps.{moves_to_open};
 ghost use Rattle.node_run.specs.Store.{opening_stops};
 
 use node_core::{LogStop, Node};
@@ -81,7 +81,7 @@ pub fn open<D: Disk, L: Ledger>(
     ensures moments { (now : Image) (chain : Chain) → D.reads_as disk.old ≡ Some now → store_of now ≡ Keeps chain → ((image : Image) → D.images disk.old image → IsSound image)
         → LeavesOnly D.moment D.left_since disk.old disk.new (λ image. D.images disk.old image ⊎ StandsFor chain image) }
     ensures cause { CountsFault (D.faults disk.old) (D.faults disk.new) (result ≡ Err Status.DiskFault) }
-    ensures most { (now : Image) → D.reads_as disk.old ≡ Some now → steps.new ≤ steps.old + replays_to_open (store_of now) }
+    ensures most { (now : Image) → D.reads_as disk.old ≡ Some now → steps.new ≤ steps.old + moves_to_open (store_of now) }
 {
     match Node::open(alloc, disk, steps) {
         Ok(node) => Ok(node),

@@ -3,13 +3,10 @@ use Rattle.std.specs.Prelude.{IfSome}
 use Rattle.outside.proofs.Moments.{leaves_also, now_too}
 use Rattle.cell_defs.specs.Ext.{ext_bytes}
 use Rattle.verdict_defs.specs.Chain.{Chain, chain_after}
-use Rattle.verdict_defs.specs.Laws.{MayJoin}
 use Rattle.store_defs.specs.JoinLaws.{record_over}
-use Rattle.store_defs.specs.Store.{IsJoined, HaveOwnExts}
+use Rattle.store_defs.specs.Store.{HaveOwnExts}
 use Rattle.log_file.specs.Pieces.{behind_gate, block_record}
 use Rattle.node_core.specs.Node.{node_of, IsOn}
-use Rattle.node_core.specs.Judging.{IsReadyItem}
-use Rattle.node_core.specs.declared.deciding.Decision.TheVariants.{Joins}
 use Rattle.chain_defs.proofs.KeptLaws.{place_of-below}
 use Rattle.node_core.proofs.MovingLemmas.{are_joined_before}
 use Rattle.node_core.proofs.WritingLemmas.{piece_long}

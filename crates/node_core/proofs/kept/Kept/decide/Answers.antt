@@ -1,7 +1,7 @@
-use Rattle.std.proofs.Common.{sym, refl, ◌≡◌, ◌∙◌, subst}
+use Rattle.std.proofs.Common.{sym, refl}
 use Rattle.node_core.proofs.DecidingLemmas.{verdict-no-block, decided-else, ready-else}
 use Rattle.node_core.proofs.OpenLemmas.{ok_err}
-use Rattle.node_core.proofs.ReplayLemmas.{none-replayed, moves-of-item}
+use Rattle.node_core.proofs.StepLemmas.{no-step, moves-of-item}
 use Rattle.node_core.proofs.kept.Kept.decide.Goals as goal
 
 pub returns-in-None-clause-decided : goal.returns-in-None-clause-decided
@@ -43,11 +43,11 @@ returns-in-Some-clause-ready g c =
     ready-else c.args.self.now.chain.blocks c.args.item.now c.in-Some.block c.decide_block.result (sym c.in-Some.ensures.value) c.decide_block.ensures.ready
 
 pub returns-in-None-clause-most : goal.returns-in-None-clause-most
-returns-in-None-clause-most g c = none-replayed _ _
+returns-in-None-clause-most g c = no-step _ _
 
 pub returns-in-Some-clause-most : goal.returns-in-Some-clause-most
 returns-in-Some-clause-most g c =
-    moves-of-item c.args.self.now.chain.blocks c.args.item.now c.in-Some.block _ _ (sym c.in-Some.ensures.value) c.decide_block.ensures.most
+    moves-of-item c.args.self.now.chain c.args.item.now c.in-Some.block _ _ (sym c.in-Some.ensures.value) c.decide_block.ensures.most
 
 pub returns-in-None-clause-cells : goal.returns-in-None-clause-cells
 returns-in-None-clause-cells g c = λ _ live. live

@@ -1,11 +1,11 @@
-use Rattle.std.proofs.Common.{Some, refl, sym, ap, ◌∙◌, subst}
+use Rattle.std.proofs.Common.{ℕ, ◌+◌, ◌≤◌, Some, refl, sym, ap, ◌∙◌, subst}
 use Rattle.chain_defs.specs.Kept.{place_of}
 use Rattle.chain_tree.specs.Told.{blocks_of}
 use Rattle.node_core.specs.Node.{KeptValue}
 use Rattle.node_core.specs.Judging.{IsEntryOn}
 use Rattle.node_core.proofs.DecidingLemmas.{none-there}
 use Rattle.node_core.proofs.OpenLemmas.{ok_err}
-use Rattle.node_core.proofs.ReplayLemmas.{none-replayed}
+use Rattle.node_core.proofs.StepLemmas.{no-step, moves-on-parent}
 use Rattle.node_core.proofs.kept.Kept.decide_block.Goals as goal
 
 pub returns-then-is_some-clause-undamaged : goal.returns-then-is_some-clause-undamaged
@@ -51,10 +51,10 @@ pub returns-clause-reads : goal.returns-clause-reads
 returns-clause-reads g c = c.decide_on.ensures.reads
 
 pub returns-then-is_some-clause-most : goal.returns-then-is_some-clause-most
-returns-then-is_some-clause-most g c = none-replayed _ _
+returns-then-is_some-clause-most g c = no-step _ _
 
 pub returns-in_default-clause-most : goal.returns-in_default-clause-most
-returns-in_default-clause-most g c = none-replayed _ _
+returns-in_default-clause-most g c = no-step _ _
 
 pub same-self : goal.same-self
 same-self g c = refl
@@ -91,3 +91,14 @@ returns-in_default-clause-cells g c = λ _ live. live
 
 pub returns-clause-cells : goal.returns-clause-cells
 returns-clause-cells g c = c.decide_on.ensures.cells
+
+pub returns-clause-most : goal.returns-clause-most
+returns-clause-most g c =
+    let kept = blocks_of c.self.inside.blocks.stored in
+    let on = subst (λ (v : KeptValue). IsEntryOn v.chain.blocks c.args.block.now c.entry_on-entry.result) c.self.view_is (record {
+      new = sym (c.find.ensures.of_blocks kept c.self.invariant.indexed ∙ ap (place_of kept) c.hash_of-hash.ensures) ∙ none-there c.find.result (sym c.is_some.ensures ∙ c.if-is_some.false);
+      on_kept = sym (c.in-Some.ensures.of_blocks kept c.self.invariant.indexed ∙ ap (place_of kept) c.parent_hash.ensures) ∙ ap Some (sym c.entry_on-entry.ensures.parent);
+      describes = c.entry_on-entry.ensures.describes;
+    }) in
+    subst (λ (n : ℕ). c.decide_on.new.steps ≤ c.args.steps.now + n)
+    (moves-on-parent c.args.self.now.chain c.args.block.now c.entry_on-entry.result.parent on.new on.on_kept) c.decide_on.ensures.most

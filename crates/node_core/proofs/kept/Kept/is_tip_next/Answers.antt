@@ -1,11 +1,13 @@
-use Rattle.std.proofs.Common.{◌≡◌, sym, ap, ◌∙◌}
+use Rattle.std.proofs.Common.{sym, ap, ◌∙◌}
 use Rattle.chain_tree.specs.Told.{blocks_of}
 use Rattle.chain_defs.specs.Tip.{tip}
 use Rattle.node_core.specs.Node.{KeptValue}
+use Rattle.node_core.specs.declared.deciding.Decision.{Decision}
 use Rattle.node_core.specs.Judging.{is_above, becomes_tip}
 use Rattle.node_core.proofs.kept.Kept.is_tip_next.Goals as goal
 
 pub returns-in-Joins : goal.returns-in-Joins
 returns-in-Joins c =
     c.is_above_tip.ensures (blocks_of c.self.inside.blocks.stored) c.self.invariant.indexed
-    ∙ ap (λ (v : KeptValue). becomes_tip v.chain.blocks c.args.decision.now) c.self.view_is
+    ∙ ap (λ (v : KeptValue). is_above (tip v.chain.blocks) c.in-Joins.joining.entry) c.self.view_is
+    ∙ sym (ap (λ (d : Decision). becomes_tip c.args.self.now.chain.blocks d) c.in-Joins.is)

@@ -26,13 +26,13 @@ pub go_to-requires-clause-counts : goal.go_to-requires-clause-counts
 go_to-requires-clause-counts g c = as-many c.self.inside.blocks.stored c.self.inside.tree.entries c.self.inside.uncles c.self.invariant
 
 pub returns-clause-same : goal.returns-clause-same
-returns-clause-same g c = ap (kept_of c.self.inside.spec) (same_Some _ _ c.go_to.ensures.told) ∙ c.self.view_is
+returns-clause-same g c = ap (kept_of c.self.inside.spec) (same_Some _ _ c.go_to.ensures.read.told) ∙ c.self.view_is
 
 pub returns-clause-cells : goal.returns-clause-cells
 returns-clause-cells g c joined live =
     let seen = ap (λ (v : KeptValue). v.chain.blocks) c.self.view_is in
     let way = way-back c.self.inside.spec c.self.inside.blocks.stored c.self.inside.tree.entries c.self.inside.uncles c.args.self.now c.self.view_is
-    c.self.invariant joined in
+    c.self.invariant c.args.from c.args.to joined in
     subst (λ (blocks : List Block). IfOk c.go_to.result (λ there. AreOf blocks c.args.to (rows there))) seen
     (c.go_to.ensures.rows c.self.inside.blocks.stored refl c.self.invariant.indexed way
     (subst (λ (blocks : List Block). AreOf blocks c.args.from (rows c.args.state)) (sym seen) live))
@@ -41,7 +41,7 @@ pub returns-clause-undamaged : goal.returns-clause-undamaged
 returns-clause-undamaged g c joined live =
     let seen = ap (λ (v : KeptValue). v.chain.blocks) c.self.view_is in
     let way = way-back c.self.inside.spec c.self.inside.blocks.stored c.self.inside.tree.entries c.self.inside.uncles c.args.self.now c.self.view_is
-    c.self.invariant joined in
+    c.self.invariant c.args.from c.args.to joined in
     c.go_to.ensures.undamaged c.self.inside.blocks.stored refl c.self.invariant.indexed way
     (subst (λ (blocks : List Block). AreOf blocks c.args.from (rows c.args.state)) (sym seen) live)
     (fits-below (record { spec = c.self.inside.spec; blocks = blocks_of c.self.inside.blocks.stored }) c.self.inside.tree.entries c.args.to
@@ -61,4 +61,4 @@ returns-clause-most g c =
 
 pub invariant_of-self : goal.invariant_of-self
 invariant_of-self g c =
-    subst (λ (l : List Stored). AreKept l c.self.inside.tree.entries c.self.inside.uncles) (sym (same_Some _ _ c.go_to.ensures.told)) c.self.invariant
+    subst (λ (l : List Stored). AreKept l c.self.inside.tree.entries c.self.inside.uncles) (sym (same_Some _ _ c.go_to.ensures.read.told)) c.self.invariant

@@ -1,7 +1,6 @@
 use Rattle.std.proofs.Common.{◌≡◌, ◌⊎◌, arith, ap, sym, ◌∙◌, subst, Err, refl, ◌<◌, ℕ, length, ◌≤◌}
 use Rattle.outside.specs.Disk.{LeavesOnly}
-use Rattle.chain_defs.specs.Kept.{place_of, kept_limit}
-use Rattle.chain_defs.specs.Tip.{tip_place}
+use Rattle.chain_defs.specs.Kept.{kept_limit}
 use Rattle.verdict_defs.specs.declared.verdict.Verdict.TheVariants.{Joined}
 use Rattle.verdict_defs.specs.Verdict.{joins}
 use Rattle.verdict_defs.specs.Chain.{Chain, chain_after}
@@ -16,7 +15,7 @@ use Rattle.node_core.proofs.ImportLemmas.{joined_on, joined_stays_not, decided_o
 use Rattle.node_core.proofs.DiskLemmas.{counts_none, before_calls}
 use Rattle.log_file.proofs.Exits.{stop_counts}
 use Rattle.node_core.proofs.OpenLemmas.{ok_err, same_stop}
-use Rattle.node_core.proofs.ReplayLemmas.{moves-of-chain, moves-on-tip}
+use Rattle.node_core.proofs.StepLemmas.{moves-of-chain, moves-on-tip}
 use Rattle.std.specs.Prelude.{IfSome}
 use Rattle.cell_defs.specs.Ext.{ext_bytes}
 use Rattle.outside.specs.declared.disk.Area.TheVariants.{Log}
@@ -102,7 +101,7 @@ pub returns-in-Ok-join-clause-steps : goal.returns-in-Ok-join-clause-steps
 returns-in-Ok-join-clause-steps g c b is on_tip =
     let chain_is : c.self.inside.kept.chain ≡ c.args.self.chain = ap (λ (v : NodeValue). v.chain) c.self.view_is in
     let most = moves-of-chain c.self.inside.kept.chain c.args.self.chain c.args.item.now _ _ chain_is c.decide.ensures.most in
-    omega (arith, c.join.ensures.most, most, moves-on-tip c.args.self.chain.blocks c.args.item.now b is on_tip)
+    omega (arith, c.join.ensures.most, most, moves-on-tip c.args.self.chain c.args.item.now b is on_tip)
 
 pub returns-in-Err-clause-verdict : goal.returns-in-Err-clause-verdict
 returns-in-Err-clause-verdict g c = λ _. tt
@@ -162,7 +161,7 @@ pub returns-in-Err-clause-steps : goal.returns-in-Err-clause-steps
 returns-in-Err-clause-steps g c = λ b is on_tip.
     let chain_is : c.self.inside.kept.chain ≡ c.args.self.chain = ap (λ (v : NodeValue). v.chain) c.self.view_is in
     let most = moves-of-chain c.self.inside.kept.chain c.args.self.chain c.args.item.now _ _ chain_is c.decide.ensures.most in
-    omega (arith, most, moves-on-tip c.args.self.chain.blocks c.args.item.now b is on_tip)
+    omega (arith, most, moves-on-tip c.args.self.chain c.args.item.now b is on_tip)
 
 pub returns-in-Stays-clause-verdict : goal.returns-in-Stays-clause-verdict
 returns-in-Stays-clause-verdict g c = λ joined.
@@ -200,7 +199,7 @@ pub returns-in-Stays-clause-steps : goal.returns-in-Stays-clause-steps
 returns-in-Stays-clause-steps g c = λ b is on_tip.
     let chain_is : c.self.inside.kept.chain ≡ c.args.self.chain = ap (λ (v : NodeValue). v.chain) c.self.view_is in
     let most = moves-of-chain c.self.inside.kept.chain c.args.self.chain c.args.item.now _ _ chain_is c.decide.ensures.most in
-    omega (arith, most, moves-on-tip c.args.self.chain.blocks c.args.item.now b is on_tip)
+    omega (arith, most, moves-on-tip c.args.self.chain c.args.item.now b is on_tip)
 
 pub returns-in-Ok-join-clause-kept : goal.returns-in-Ok-join-clause-kept
 returns-in-Ok-join-clause-kept g c = λ joined.
@@ -259,7 +258,7 @@ pub returns-in-Err-join-clause-steps : goal.returns-in-Err-join-clause-steps
 returns-in-Err-join-clause-steps g c = λ b is on_tip.
     let chain_is : c.self.inside.kept.chain ≡ c.args.self.chain = ap (λ (v : NodeValue). v.chain) c.self.view_is in
     let most = moves-of-chain c.self.inside.kept.chain c.args.self.chain c.args.item.now _ _ chain_is c.decide.ensures.most in
-    omega (arith, c.join.ensures.most, most, moves-on-tip c.args.self.chain.blocks c.args.item.now b is on_tip)
+    omega (arith, c.join.ensures.most, most, moves-on-tip c.args.self.chain c.args.item.now b is on_tip)
 
 pub invariant_of-node : goal.invariant_of-node
 invariant_of-node g c =

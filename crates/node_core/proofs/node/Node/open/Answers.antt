@@ -7,7 +7,7 @@ use Rattle.node_core.proofs.OpenLemmas.{opened_keeps, opened_own, is_within, no_
 use Rattle.node_core.proofs.NewLemmas.{when_ok}
 use Rattle.node_core.proofs.KeepingLemmas.{left_by_opening, settled_as_read}
 use Rattle.log_file.proofs.Settling.{others_kept, others_on}
-use Rattle.node_core.proofs.ReplayLemmas.{none-replayed, replayed-to-open}
+use Rattle.node_core.proofs.StepLemmas.{no-step, moved-to-open}
 use Rattle.log_file.proofs.Exits.{fault_not_wrong, stop_counts, counts_on}
 use Rattle.node_core.proofs.node.Node.open.Goals as goal
 
@@ -34,7 +34,7 @@ invariant_of-result g c =
     let within = is_within c.in-Ok-of.kept c.in-Ok.opened.spec (contents c.in-Ok.opened.blocks.items) (contents c.in-Ok.opened.exts.items) c.in-Ok.opened.log.place
     (record { spec_is = c.in-Ok-of.ensures.spec; decode = c.in-Ok-of.ensures.blocks; beside = c.in-Ok-of.ensures.exts })
     (omega (arith, many, c.in-Ok.ensures.few)) (omega (arith, many, c.in-Ok.ensures.place)) in
-    (within.0, within.1, λ _. c.in-Ok-of.ensures.live)
+    (within.0, within.1, c.in-Ok-of.ensures.live)
 
 pub returns-in-Err-of-clause-not_a_store : goal.returns-in-Err-of-clause-not_a_store
 returns-in-Err-of-clause-not_a_store g c same =
@@ -173,19 +173,19 @@ returns-in-Err-of-clause-cause g c =
     c.open.ensures.cause (λ fault. ok_err _ _ (sym c.in-Ok.is ∙ fault)) (λ fault. c.in-Err-of.ensures.reads (ap Err (same_stop _ _ fault)))
 
 pub returns-then-is_err-clause-most : goal.returns-then-is_err-clause-most
-returns-then-is_err-clause-most g c = λ _ _. none-replayed _ _
+returns-then-is_err-clause-most g c = λ _ _. no-step _ _
 
 pub returns-in-Err-clause-most : goal.returns-in-Err-clause-most
-returns-in-Err-clause-most g c = λ _ _. none-replayed _ _
+returns-in-Err-clause-most g c = λ _ _. no-step _ _
 
 pub returns-in-Err-of-clause-most : goal.returns-in-Err-of-clause-most
 returns-in-Err-of-clause-most g c = λ now told.
-    replayed-to-open _ _ c.in-Ok.opened.spec (contents c.in-Ok.opened.blocks.items) (contents c.in-Ok.opened.exts.items) c.in-Ok.opened.tree.entries _ _ now
+    moved-to-open _ _ c.in-Ok.opened.spec (contents c.in-Ok.opened.blocks.items) (contents c.in-Ok.opened.exts.items) c.in-Ok.opened.tree.entries _ _ now
     c.sync_snapshots.ensures.same told c.in-Ok.ensures.opened c.of.ensures.most
 
 pub returns-in-Ok-of-clause-most : goal.returns-in-Ok-of-clause-most
 returns-in-Ok-of-clause-most g c = λ now told.
-    replayed-to-open _ _ c.in-Ok.opened.spec (contents c.in-Ok.opened.blocks.items) (contents c.in-Ok.opened.exts.items) c.in-Ok.opened.tree.entries _ _ now
+    moved-to-open _ _ c.in-Ok.opened.spec (contents c.in-Ok.opened.blocks.items) (contents c.in-Ok.opened.exts.items) c.in-Ok.opened.tree.entries _ _ now
     c.sync_snapshots.ensures.same told c.in-Ok.ensures.opened c.of.ensures.most
 
 pub returns-then-is_err-clause-rests : goal.returns-then-is_err-clause-rests
