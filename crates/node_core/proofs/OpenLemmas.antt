@@ -23,7 +23,7 @@ use Rattle.time_defs.specs.Specification.{Specification, specification_of}
 use Rattle.verdict_defs.specs.Chain.{Chain}
 use Rattle.log_defs.specs.Log.{Record, LogContent, log_of, records_of, parts_of_body}
 use Rattle.log_defs.specs.Rest.{IsSettled, HasLog}
-use Rattle.store_defs.specs.Store.{NoLog, Keeps, store_of, store_of_log, chain_of, StandsFor, IsSound, IsJoined, HaveOwnExts, own_ext, chain_before, EachHasJoined, AreJoined}
+use Rattle.store_defs.specs.Store.{NoLog, Keeps, store_of, store_of_log, chain_of, StandsFor, IsSound, IsJoined, HaveOwnExts, own_ext, chain_before, EachHasJoined}
 use Rattle.log_defs.proofs.Contents.{says_its_records}
 use Rattle.log_defs.proofs.Contents.{counts_its_records}
 use Rattle.store_defs.proofs.JoinedLemmas.{joined_of_image}
@@ -182,6 +182,28 @@ exts_joined bytes log spec items exts entries is each (suc before) above within 
     let many : length log.blocks ≡ length log.records + 1 = counts_its_records (records_of (drop 8 bytes)) log is.says in
     ext_joined bytes log spec items exts entries is each before (omega (arith, within, as-many items log.blocks is.decode, many))
 
+-- what is never so of a log whose blocks joined
+abbrev pub NeverJoined : Specification → List (List ℕ) → List (List ℕ) → Type 0
+NeverJoined spec items exts = (kept : List Block) → map (decoded block) items ≡ map Some kept → IsJoined (record { spec = spec; blocks = kept })
+    → HaveExts items exts → ⊥
+
+never_sound : (now : Image) (spec : Specification) (items exts : List (List ℕ)) (entries : List Entry) → Opened spec items exts entries now
+    → NeverJoined spec items exts → IsSound now → ⊥
+never_sound now spec items exts entries (log, is) never (chain, stands) =
+    let log_is : stands.log ≡ log = same_log stands.log log (sym stands.is_log ∙ is.is_log) in
+    let joined : IsJoined (chain_of log) =
+    subst IsJoined (sym stands.keeps ∙ ap chain_of log_is) (joined_of_image chain now stands) in
+    let spec_joined : IsJoined (record { spec = spec; blocks = log.blocks }) =
+    subst (λ (s : Specification). IsJoined (record { spec = s; blocks = log.blocks })) (sym is.specified) joined in
+    never log.blocks is.decode spec_joined (exts_joined now.log log spec items exts entries is (subst EachHasJoined log_is stands.joined))
+
+-- Where the blocks of a log have not joined, the image is not sound.
+pub not_joined : (reads mid : Option Image) (spec : Specification) (items exts : List (List ℕ)) (entries : List Entry) → mid ≡ reads
+    → IfSome mid (Opened spec items exts entries) → NeverJoined spec items exts → IfSome reads (λ now. IsSound now → ⊥)
+not_joined None mid spec items exts entries same opened never = tt
+not_joined (Some now) mid spec items exts entries same opened never =
+    never_sound now spec items exts entries (subst (λ (o : Option Image). IfSome o (Opened spec items exts entries)) same opened) never
+
 -- ---- The exts of a sound log
 
 -- a sound image keeps one chain
@@ -213,30 +235,6 @@ module _ (bytes : List ℕ) (log : LogContent) (spec : Specification) (items ext
   own_opened kept of =
       subst (HaveOwnExts kept.chain) (sym of.beside)
       (subst (λ (c : Chain). HaveOwnExts c exts) (chain_opened bytes log kept spec items exts entries of is) own_of_log)
-
--- what is never so of a log whose blocks joined
-abbrev pub NeverJoined : Specification → List (List ℕ) → List (List ℕ) → Type 0
-NeverJoined spec items exts = (kept : List Block) → map (decoded block) items ≡ map Some kept → AreJoined (record { spec = spec; blocks = kept }) exts
-    → HaveExts items exts → ⊥
-
-never_sound : (now : Image) (spec : Specification) (items exts : List (List ℕ)) (entries : List Entry) → Opened spec items exts entries now
-    → NeverJoined spec items exts → IsSound now → ⊥
-never_sound now spec items exts entries (log, is) never (chain, stands) =
-    let log_is : stands.log ≡ log = same_log stands.log log (sym stands.is_log ∙ is.is_log) in
-    let joined : IsJoined (chain_of log) =
-    subst IsJoined (sym stands.keeps ∙ ap chain_of log_is) (joined_of_image chain now stands) in
-    let each : EachHasJoined log = subst EachHasJoined log_is stands.joined in
-    let spec_joined : AreJoined (record { spec = spec; blocks = log.blocks }) exts =
-    subst (λ (s : Specification). AreJoined (record { spec = s; blocks = log.blocks }) exts) (sym is.specified)
-    (record { joined = joined; own = own_of_log now.log log spec items exts entries is each }) in
-    never log.blocks is.decode spec_joined (exts_joined now.log log spec items exts entries is each)
-
--- Where the blocks of a log have not joined, the image is not sound.
-pub not_joined : (reads mid : Option Image) (spec : Specification) (items exts : List (List ℕ)) (entries : List Entry) → mid ≡ reads
-    → IfSome mid (Opened spec items exts entries) → NeverJoined spec items exts → IfSome reads (λ now. IsSound now → ⊥)
-not_joined None mid spec items exts entries same opened never = tt
-not_joined (Some now) mid spec items exts entries same opened never =
-    never_sound now spec items exts entries (subst (λ (o : Option Image). IfSome o (Opened spec items exts entries)) same opened) never
 
 own_if_sound : (kept : KeptValue) (spec : Specification) (items exts : List (List ℕ)) (entries : List Entry) (now : Image) → IsKeptOf kept spec items exts
     → Opened spec items exts entries now → IsSound now → HaveOwnExts kept.chain kept.exts

@@ -34,7 +34,7 @@ invariant_of-result g c =
     let within = is_within c.in-Ok-of.kept c.in-Ok.opened.spec (contents c.in-Ok.opened.blocks.items) (contents c.in-Ok.opened.exts.items) c.in-Ok.opened.log.place
     (record { spec_is = c.in-Ok-of.ensures.spec; decode = c.in-Ok-of.ensures.blocks; beside = c.in-Ok-of.ensures.exts })
     (omega (arith, many, c.in-Ok.ensures.few)) (omega (arith, many, c.in-Ok.ensures.place)) in
-    (within.0, within.1, c.in-Ok-of.ensures.live)
+    (within.0, within.1, λ joined. c.in-Ok-of.ensures.live)
 
 pub returns-in-Err-of-clause-not_a_store : goal.returns-in-Err-of-clause-not_a_store
 returns-in-Err-of-clause-not_a_store g c same =
