@@ -33,7 +33,7 @@ use Rattle.verdict_defs.specs.Chain.{Chain}
 use Rattle.fit_laws.specs.Laws.{AreCanonical}
 use Rattle.store_defs.specs.Store.{IsJoined, AreJoined}
 use Rattle.reorg.specs.Moves.{AreOf}
-use Rattle.replay.proofs.RowLemmas.{live_row-genesis}
+use Rattle.reorg.proofs.RowLemmas.{live_row-genesis}
 use Rattle.reorg_laws.proofs.WayLaws.{joined-can-be-taken-back}
 use Rattle.joined_laws.proofs.HeaderLaws.{blocks-are-rated}
 use Rattle.joined_laws.proofs.FitLaws.{what-joins-fits}
