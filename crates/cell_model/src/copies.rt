@@ -4,11 +4,11 @@ ghost use Rattle.std.specs.Option.{option_map};
 ghost use Rattle.codec_defs.specs.Shape.{decoded};
 ghost use Rattle.codec_defs.specs.Schema.{cell_output};
 ghost use Rattle.cell_defs.specs.Cell.{Cell, data_of};
-ghost use Rattle.outside.specs.Causes.{CountsFault};
 ghost use Rattle.outside.specs.declared.disk.Area.TheVariants.{Log};
 ghost use Rattle.outside.specs.declared.disk.Damage.{Damage};
-ghost use Rattle.outside.specs.declared.disk.ReadStop.TheVariants.{DiskFault, Damaged};
+ghost use Rattle.outside.specs.declared.disk.ReadStop.TheVariants.{Damaged};
 ghost use Rattle.chain_tree.specs.Told.{Stored};
+ghost use Rattle.chain_tree.specs.Reading.{HasRead, stop_of};
 ghost use Rattle.cell_model.specs.Copies.{IsCopyOf, CopiesOutput, NamesOutput, output_in};
 
 use crate::cells::{CellMeta, OutPoint, Resolved};
@@ -91,9 +91,7 @@ pub fn fetch<B: Blocks>(
     meta: CellMeta,
 ) -> Result<Resolved, ReadStop>
     requires within { meta.block < B.count blocks.old }
-    ensures told { B.told blocks.new ≡ B.told blocks.old }
-    ensures count { B.count blocks.new ≡ B.count blocks.old }
-    ensures loans { B.loans_of blocks.new ≡ B.loans_of blocks.old }
+    ensures read { HasRead B.told B.count B.loans_of B.faults B.damages blocks.old blocks.new (stop_of result) }
     ensures out_point { IfOk result (λ copy. copy.out_point ≡ o) }
     ensures row { IfOk result (λ copy. copy.row ≡ meta) }
     ensures output { IfOk result (λ copy. IsSome (decoded cell_output copy.output)) }
@@ -102,8 +100,6 @@ pub fn fetch<B: Blocks>(
         → (damage : Damage) → result ≡ Err (Damaged damage) → ⊥ }
     ensures exact { (stored : List Stored) (made : Stored) → B.told blocks.old ≡ Some stored → slice_get stored meta.block ≡ Some made
         → IfOk result (CopiesOutput (output_in made.block meta.transaction o.index)) }
-    ensures damage { (damage : Damage) → result ≡ Err (Damaged damage) → damage.area ≡ Log }
-    ensures cause { CountsFault (B.faults blocks.old) (B.faults blocks.new) (result ≡ Err DiskFault) }
 {
     match blocks.bring(meta.block) {
         Ok(()) => {}

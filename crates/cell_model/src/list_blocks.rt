@@ -119,6 +119,8 @@ impl Blocks for ListBlocks {
 
     ghost faults = { λ _. 0 };
 
+    ghost damages = { λ _. 0 };
+
     ghost Loans = { Unit {0} };
 
     ghost loans_of = { λ _. tt };

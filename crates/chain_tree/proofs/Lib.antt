@@ -2,3 +2,4 @@ pub mod EntryLemmas
 pub mod IndexLemmas
 pub mod BlockLemmas
 pub mod TimestampLemmas
+pub mod ReadLemmas

@@ -4,3 +4,4 @@ pub mod Blocks
 pub mod Indexed
 pub mod Timestamps
 pub mod Told
+pub mod Reading

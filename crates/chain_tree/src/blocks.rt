@@ -2,10 +2,11 @@
 ghost use Rattle.std.specs.Prelude.{◌≡◌, ◌-◌, ◌^◌, ◌<◌, ◌≤◌, Option, Some, None, Err, List, ℕ, length, map, drop, slice_get, OnOk, OnErr, IfSome, IsSome, IsTrue};
 ghost use Rattle.chain_defs.specs.Hashes.{proposal_id};
 ghost use Rattle.cell_defs.specs.Ext.{is_ext};
-ghost use Rattle.outside.specs.declared.disk.Area.TheVariants.{Log};
+ghost use Rattle.outside.specs.Causes.{Rose};
 ghost use Rattle.outside.specs.declared.disk.Damage.{Damage};
 ghost use Rattle.outside.specs.declared.disk.ReadStop.TheVariants.{Damaged};
-ghost use Rattle.chain_tree.specs.Told.{Stored, HasReadCause};
+ghost use Rattle.chain_tree.specs.Told.{Stored};
+ghost use Rattle.chain_tree.specs.Reading.{HasRead, stop_of};
 
 use mol_schema::BlockView;
 use outside::ReadStop;
@@ -25,6 +26,9 @@ pub trait Blocks {
     /// How often it has failed.
     ghost faults: { Self → ℕ };
 
+    /// How often it has found damage.
+    ghost damages: { Self → ℕ };
+
     /// What it has borrowed, for one that borrows: no call changes it.
     ghost Loans: { Type 0 };
 
@@ -33,13 +37,11 @@ pub trait Blocks {
     /// Takes an entry in hand. After an `Err` none is.
     fn bring(&mut self, e: u32) -> Result<(), ReadStop>
         requires within { e < count self.old }
-        ensures told { told self.new ≡ told self.old }
-        ensures count { count self.new ≡ count self.old }
-        ensures loans { loans_of self.new ≡ loans_of self.old }
+        ensures read { HasRead told count loans_of faults damages self.old self.new (stop_of result) }
         ensures taken { OnOk result (in_hand self.new ≡ Some e) }
         ensures dropped { OnErr result (in_hand self.new ≡ None) }
-        ensures damage { (damage : Damage) → result ≡ Err (Damaged damage) → damage.area ≡ Log }
-        ensures cause { HasReadCause (faults self.old) (faults self.new) (told self.old) result };
+        ensures counted { (damage : Damage) → result ≡ Err (Damaged damage) → Rose (damages self.old) (damages self.new) }
+        ensures undamaged { IsSome (told self.old) → (damage : Damage) → result ≡ Err (Damaged damage) → ⊥ };
 
     /// The block of the entry in hand, the genesis included, as a view: a source checks the bytes of a block once, when
     /// it takes them from where they lie, and a reader borrows what was checked.

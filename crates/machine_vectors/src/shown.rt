@@ -37,6 +37,8 @@ impl World for Shown {
 
     ghost faults = { λ shown. 0 };
 
+    ghost damages = { λ shown. 0 };
+
     ghost last_fault = { λ shown. omega arith };
 
     ghost Loans = { ⊤ };

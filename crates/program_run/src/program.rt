@@ -90,6 +90,7 @@ pub fn execute_in<W: World>(
     ensures loading { result ≡ Err Stopped.Loading → world.new ≡ world.old }
     ensures running { (items : Items) → W.told world.old ≡ Some items → result ≡ Err (Stopped.Running read_stop.NoMemory) → ProgramWants items budget (segments file.now) (load_elf file.now) }
     ensures cause { CountsFault (W.faults world.old) (W.faults world.new) (result ≡ Err (Stopped.Running read_stop.DiskFault)) }
+    ensures answered { ((damage : Damage) → result ≡ Err (Stopped.Running (read_stop.Damaged damage)) → ⊥) → W.damages world.new ≡ W.damages world.old }
     ensures undamaged { IsSome (W.told world.old) → (damage : Damage) → result ≡ Err (Stopped.Running (read_stop.Damaged damage)) → ⊥ }
     ensures damage { (damage : Damage) → result ≡ Err (Stopped.Running (read_stop.Damaged damage)) → damage.area ≡ Log }
 {
@@ -126,6 +127,7 @@ fn run_judged<W: World>(
     ensures loading { result ≡ Err Stopped.Loading → world.new ≡ world.old }
     ensures running { (items : Items) → W.told world.old ≡ Some items → result ≡ Err (Stopped.Running read_stop.NoMemory) → ProgramWants items budget judged.now.segments (Ok judged.now.program) }
     ensures cause { CountsFault (W.faults world.old) (W.faults world.new) (result ≡ Err (Stopped.Running read_stop.DiskFault)) }
+    ensures answered { ((damage : Damage) → result ≡ Err (Stopped.Running (read_stop.Damaged damage)) → ⊥) → W.damages world.new ≡ W.damages world.old }
     ensures undamaged { IsSome (W.told world.old) → (damage : Damage) → result ≡ Err (Stopped.Running (read_stop.Damaged damage)) → ⊥ }
     ensures damage { (damage : Damage) → result ≡ Err (Stopped.Running (read_stop.Damaged damage)) → damage.area ≡ Log }
 {

@@ -4,14 +4,13 @@ ghost use Rattle.std.specs.List.{list_any};
 ghost use Rattle.std.specs.Str.{bytes_eq};
 ghost use Rattle.std.specs.HashSet as hashed;
 ghost use Rattle.outside.specs.declared.disk.Damage.{Damage};
-ghost use Rattle.outside.specs.declared.disk.ReadStop.TheVariants.{DiskFault, Damaged};
-ghost use Rattle.outside.specs.Causes.{CountsFault};
-ghost use Rattle.outside.specs.declared.disk.Area.TheVariants.{Log};
+ghost use Rattle.outside.specs.declared.disk.ReadStop.TheVariants.{Damaged};
 ghost use Rattle.chain_defs.specs.Kept.{block_at};
 ghost use Rattle.chain_defs.specs.Branch.{branch};
 ghost use Rattle.chain_tree.specs.Entries.{entry_at};
 ghost use Rattle.chain_tree.specs.Blocks.{IndexesBlocks};
 ghost use Rattle.chain_tree.specs.Told.{Stored, blocks_of};
+ghost use Rattle.chain_tree.specs.Reading.{HasRead, stop_of};
 ghost use Rattle.window_defs.specs.Window as window;
 
 use crate::ids::ids_at;
@@ -59,14 +58,10 @@ fn add_at<B: Blocks>(
 ) -> Result<(), ReadStop>
     requires within { place < length tree.now.entries }
     requires counts { B.count blocks.old ≡ length tree.now.entries }
-    ensures told { B.told blocks.new ≡ B.told blocks.old }
-    ensures count { B.count blocks.new ≡ B.count blocks.old }
-    ensures loans { B.loans_of blocks.new ≡ B.loans_of blocks.old }
+    ensures read { HasRead B.told B.count B.loans_of B.faults B.damages blocks.old blocks.new (stop_of result) }
     ensures added { (stored : List Stored) → B.told blocks.old ≡ Some stored → OnOk result ((id : List ℕ) → hashed.contains bytes_eq ids.new id
         ≡ (hashed.contains bytes_eq ids.old id || window.proposes id (block_at (blocks_of stored) place))) }
     ensures undamaged { (stored : List Stored) → B.told blocks.old ≡ Some stored → (damage : Damage) → result ≡ Err (Damaged damage) → ⊥ }
-    ensures damage { (damage : Damage) → result ≡ Err (Damaged damage) → damage.area ≡ Log }
-    ensures cause { CountsFault (B.faults blocks.old) (B.faults blocks.new) (result ≡ Err DiskFault) }
 {
     let more = match ids_at(alloc, tree, blocks, place) {
         Ok(more) => more,
@@ -92,15 +87,11 @@ impl Proposed {
         requires parent { parent < length tree.now.entries }
         requires counts { B.count blocks.old ≡ length tree.now.entries }
         requires height { IsSomeAnd (entry_at tree.now.entries parent) (λ entry. height ≤ entry.number + 1) }
-        ensures told { B.told blocks.new ≡ B.told blocks.old }
-        ensures count { B.count blocks.new ≡ B.count blocks.old }
-        ensures loans { B.loans_of blocks.new ≡ B.loans_of blocks.old }
+        ensures read { HasRead B.told B.count B.loans_of B.faults B.damages blocks.old blocks.new (stop_of result) }
         ensures proposed { (stored : List Stored) → B.told blocks.old ≡ Some stored → IndexesBlocks (blocks_of stored) tree.now.entries
             → IfOk result (λ proposed. (id : List ℕ) → list_any (bytes_eq id) proposed ≡ is_some (window.earliest spec.now (branch (blocks_of stored) parent) id height)) }
         ensures undamaged { (stored : List Stored) → B.told blocks.old ≡ Some stored → IndexesBlocks (blocks_of stored) tree.now.entries
             → (damage : Damage) → result ≡ Err (Damaged damage) → ⊥ }
-        ensures damage { (damage : Damage) → result ≡ Err (Damaged damage) → damage.area ≡ Log }
-        ensures cause { CountsFault (B.faults blocks.old) (B.faults blocks.new) (result ≡ Err DiskFault) }
     {
         let (low, end) = window_of(spec, height);
         let mut ids: HashSet<[u8; 10]> = HashSet::new(alloc);

@@ -1,13 +1,12 @@
 // From the rows of one place's branch to those of another's.
 ghost use Rattle.std.specs.Prelude.{◌≡◌, ◌≤◌, ◌<◌, ◌+◌, ℕ, List, length, Some, Err, IfOk, OnOk, IsSome, slice_get};
 ghost use Rattle.codec_defs.specs.Schema.{Block};
-ghost use Rattle.outside.specs.Causes.{CountsFault};
-ghost use Rattle.outside.specs.declared.disk.Area.TheVariants.{Log};
 ghost use Rattle.outside.specs.declared.disk.Damage.{Damage};
-ghost use Rattle.outside.specs.declared.disk.ReadStop.TheVariants.{DiskFault, Damaged};
+ghost use Rattle.outside.specs.declared.disk.ReadStop.TheVariants.{Damaged};
 ghost use Rattle.chain_defs.specs.Branch.{distance};
 ghost use Rattle.chain_tree.specs.Blocks.{IndexesBlocks};
 ghost use Rattle.chain_tree.specs.Told.{Stored, blocks_of};
+ghost use Rattle.chain_tree.specs.Reading.{HasRead, stop_of};
 ghost use Rattle.cell_defs.specs.Fit.{BranchFits};
 ghost use Rattle.cell_state.specs.State.{rows};
 ghost use Rattle.replay.specs.Damages.{IsAtRecord};
@@ -37,9 +36,7 @@ fn go_down<B: Blocks, L: Ledger>(
     requires from { from < length tree.now.entries }
     requires to { to < length tree.now.entries }
     requires counts { B.count blocks.old ≡ length tree.now.entries }
-    ensures told { B.told blocks.new ≡ B.told blocks.old }
-    ensures count { B.count blocks.new ≡ B.count blocks.old }
-    ensures loans { B.loans_of blocks.new ≡ B.loans_of blocks.old }
+    ensures read { HasRead B.told B.count B.loans_of B.faults B.damages blocks.old blocks.new (stop_of result) }
     ensures within { IfOk result (λ it. (i place : ℕ) → slice_get it.1.items i ≡ Some place → place < length tree.now.entries) }
     ensures on_way { (kept : List Block) → IndexesBlocks kept tree.now.entries → IfOk result (λ it. AreOnTheWay kept from to it.1.items) }
     ensures path { (kept : List Block) → IndexesBlocks kept tree.now.entries → IfOk result (λ it. IsPathUp kept to it.1.items it.0) }
@@ -47,10 +44,8 @@ fn go_down<B: Blocks, L: Ledger>(
         → EachCanBeTakenBack stored → AreOf (blocks_of stored) from (rows state.old) → IfOk result (λ it. AreOf (blocks_of stored) it.0 (rows state.new)) }
     ensures undamaged { (stored : List Stored) → B.told blocks.old ≡ Some stored → IndexesBlocks (blocks_of stored) tree.now.entries
         → EachCanBeTakenBack stored → AreOf (blocks_of stored) from (rows state.old) → (damage : Damage) → result ≡ Err (Damaged damage) → ⊥ }
-    ensures damage { (damage : Damage) → result ≡ Err (Damaged damage) → damage.area ≡ Log }
     ensures at_record { (kept : List Block) → IndexesBlocks kept tree.now.entries → IsSome (B.told blocks.old) → (damage : Damage) → result ≡ Err (Damaged damage)
         → (place : ℕ) × (IsOnTheWay kept from to place × IsAtRecord tree.now.entries place damage) }
-    ensures cause { CountsFault (B.faults blocks.old) (B.faults blocks.new) (result ≡ Err DiskFault) }
     ensures steps { (kept : List Block) → IndexesBlocks kept tree.now.entries
         → IfOk result (λ it. steps.new + length it.1.items ≡ steps.old + distance kept from to) }
     ensures most { (kept : List Block) → IndexesBlocks kept tree.now.entries → steps.new ≤ steps.old + distance kept from to }
@@ -97,18 +92,14 @@ pub fn go_to<B: Blocks, L: Ledger>(
     requires from { from < length tree.now.entries }
     requires to { to < length tree.now.entries }
     requires counts { B.count blocks.old ≡ length tree.now.entries }
-    ensures told { B.told blocks.new ≡ B.told blocks.old }
-    ensures count { B.count blocks.new ≡ B.count blocks.old }
-    ensures loans { B.loans_of blocks.new ≡ B.loans_of blocks.old }
+    ensures read { HasRead B.told B.count B.loans_of B.faults B.damages blocks.old blocks.new (stop_of result) }
     ensures rows { (stored : List Stored) → B.told blocks.old ≡ Some stored → IndexesBlocks (blocks_of stored) tree.now.entries
         → EachCanBeTakenBack stored → AreOf (blocks_of stored) from (rows state) → IfOk result (λ there. AreOf (blocks_of stored) to (rows there)) }
     ensures undamaged { (stored : List Stored) → B.told blocks.old ≡ Some stored → IndexesBlocks (blocks_of stored) tree.now.entries
         → EachCanBeTakenBack stored → AreOf (blocks_of stored) from (rows state) → BranchFits (blocks_of stored) to
         → (damage : Damage) → result ≡ Err (Damaged damage) → ⊥ }
-    ensures damage { (damage : Damage) → result ≡ Err (Damaged damage) → damage.area ≡ Log }
     ensures at_record { (kept : List Block) → IndexesBlocks kept tree.now.entries → IsSome (B.told blocks.old) → (damage : Damage) → result ≡ Err (Damaged damage)
         → (place : ℕ) × (IsOnTheWay kept from to place × IsAtRecord tree.now.entries place damage) }
-    ensures cause { CountsFault (B.faults blocks.old) (B.faults blocks.new) (result ≡ Err DiskFault) }
     ensures steps { (kept : List Block) → IndexesBlocks kept tree.now.entries
         → OnOk result (steps.new ≡ steps.old + distance kept from to) }
     ensures most { (kept : List Block) → IndexesBlocks kept tree.now.entries → steps.new ≤ steps.old + distance kept from to }

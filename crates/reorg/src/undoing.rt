@@ -1,11 +1,10 @@
 // One kept block that is taken back.
 ghost use Rattle.std.specs.Prelude.{◌≡◌, ◌≤◌, ◌<◌, ◌+◌, List, length, Option, Some, Err, OnOk, IsSome, slice_get};
 ghost use Rattle.codec_defs.specs.Schema.{OutPoint};
-ghost use Rattle.outside.specs.Causes.{CountsFault};
-ghost use Rattle.outside.specs.declared.disk.Area.TheVariants.{Log};
 ghost use Rattle.outside.specs.declared.disk.Damage.{Damage};
-ghost use Rattle.outside.specs.declared.disk.ReadStop.TheVariants.{DiskFault, Damaged};
+ghost use Rattle.outside.specs.declared.disk.ReadStop.TheVariants.{Damaged};
 ghost use Rattle.chain_tree.specs.Told.{Stored};
+ghost use Rattle.chain_tree.specs.Reading.{HasRead, stop_of};
 ghost use Rattle.cell_defs.specs.Row.{Row};
 ghost use Rattle.cell_state.specs.State.{rows};
 ghost use Rattle.replay.specs.Damages.{IsAtRecord};
@@ -32,16 +31,12 @@ pub(crate) fn undo_at<B: Blocks, L: Ledger>(
     requires later { 0 < place }
     requires within { place < length tree.now.entries }
     requires counts { B.count blocks.old ≡ length tree.now.entries }
-    ensures told { B.told blocks.new ≡ B.told blocks.old }
-    ensures count { B.count blocks.new ≡ B.count blocks.old }
-    ensures loans { B.loans_of blocks.new ≡ B.loans_of blocks.old }
+    ensures read { HasRead B.told B.count B.loans_of B.faults B.damages blocks.old blocks.new (stop_of result) }
     ensures rows { (stored : List Stored) (it : Stored) (before : OutPoint → Option Row) → B.told blocks.old ≡ Some stored → slice_get stored place ≡ Some it
         → CanBeTakenBack it.block it.ext (rows state.old) before → OnOk result ((o : OutPoint) → rows state.new o ≡ before o) }
     ensures undamaged { (stored : List Stored) (it : Stored) (before : OutPoint → Option Row) → B.told blocks.old ≡ Some stored → slice_get stored place ≡ Some it
         → CanBeTakenBack it.block it.ext (rows state.old) before → (damage : Damage) → result ≡ Err (Damaged damage) → ⊥ }
-    ensures damage { (damage : Damage) → result ≡ Err (Damaged damage) → damage.area ≡ Log }
     ensures at_record { IsSome (B.told blocks.old) → (damage : Damage) → result ≡ Err (Damaged damage) → IsAtRecord tree.now.entries place damage }
-    ensures cause { CountsFault (B.faults blocks.old) (B.faults blocks.new) (result ≡ Err DiskFault) }
     ensures steps { OnOk result (steps.new ≡ steps.old + 1) }
     ensures most { steps.new ≤ steps.old + 1 }
 {

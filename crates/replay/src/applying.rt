@@ -1,12 +1,12 @@
 // One kept block at a time: the cells of the genesis, and the events of a block after it.
 ghost use Rattle.std.specs.Prelude.{◌≡◌, ◌≤◌, ◌<◌, ◌+◌, ℕ, List, length, Some, None, Err, IfOk, OnOk, IsSome};
 ghost use Rattle.codec_defs.specs.Schema.{OutPoint, Block};
-ghost use Rattle.outside.specs.Causes.{CountsFault};
 ghost use Rattle.outside.specs.declared.disk.Area.TheVariants.{Log};
 ghost use Rattle.outside.specs.declared.disk.Damage as disk;
-ghost use Rattle.outside.specs.declared.disk.ReadStop.TheVariants.{DiskFault, Damaged};
+ghost use Rattle.outside.specs.declared.disk.ReadStop.TheVariants.{Damaged};
 ghost use Rattle.chain_defs.specs.Kept.{block_at};
 ghost use Rattle.chain_tree.specs.Told.{Stored, blocks_of};
+ghost use Rattle.chain_tree.specs.Reading.{HasRead, stop_of};
 ghost use Rattle.cell_defs.specs.Events.{events_of_block};
 ghost use Rattle.cell_defs.specs.Row.{row_after};
 ghost use Rattle.cell_defs.specs.Fit.{are_live, AllFit};
@@ -40,14 +40,10 @@ pub(crate) fn genesis_cells<B: Blocks>(
 ) -> Result<State, ReadStop>
     requires some { 0 < length tree.now.entries }
     requires counts { B.count blocks.old ≡ length tree.now.entries }
-    ensures told { B.told blocks.new ≡ B.told blocks.old }
-    ensures count { B.count blocks.new ≡ B.count blocks.old }
-    ensures loans { B.loans_of blocks.new ≡ B.loans_of blocks.old }
+    ensures read { HasRead B.told B.count B.loans_of B.faults B.damages blocks.old blocks.new (stop_of result) }
     ensures rows { (stored : List Stored) (b : Block) → B.told blocks.old ≡ Some stored → block_at (blocks_of stored) 0 ≡ Some b
         → IfOk result (λ state. (o : OutPoint) → rows state o ≡ row_after 0 (events_of_block 0 b) (λ _. None) o) }
     ensures undamaged { (stored : List Stored) → B.told blocks.old ≡ Some stored → (damage : disk.Damage) → result ≡ Err (Damaged damage) → ⊥ }
-    ensures damage { (damage : disk.Damage) → result ≡ Err (Damaged damage) → damage.area ≡ Log }
-    ensures cause { CountsFault (B.faults blocks.old) (B.faults blocks.new) (result ≡ Err DiskFault) }
 {
     match blocks.bring(0) {
         Ok(()) => {}
@@ -71,18 +67,14 @@ pub fn apply_at<B: Blocks, L: Ledger>(
 ) -> Result<(), ReadStop>
     requires within { place < length tree.now.entries }
     requires counts { B.count blocks.old ≡ length tree.now.entries }
-    ensures told { B.told blocks.new ≡ B.told blocks.old }
-    ensures count { B.count blocks.new ≡ B.count blocks.old }
-    ensures loans { B.loans_of blocks.new ≡ B.loans_of blocks.old }
+    ensures read { HasRead B.told B.count B.loans_of B.faults B.damages blocks.old blocks.new (stop_of result) }
     ensures rows { (stored : List Stored) (b : Block) → B.told blocks.old ≡ Some stored → block_at (blocks_of stored) place ≡ Some b
         → OnOk result ((height : ℕ) (o : OutPoint) → 0 < height → rows state.new o ≡ row_after place (events_of_block height b) (rows state.old) o) }
     ensures fit { (stored : List Stored) (b : Block) → B.told blocks.old ≡ Some stored → block_at (blocks_of stored) place ≡ Some b
         → OnOk result ((height : ℕ) → 0 < height → AllFit (events_of_block height b) (are_live (rows state.old))) }
     ensures undamaged { (stored : List Stored) (b : Block) (height : ℕ) → B.told blocks.old ≡ Some stored → block_at (blocks_of stored) place ≡ Some b
         → 0 < height → AllFit (events_of_block height b) (are_live (rows state.old)) → (damage : disk.Damage) → result ≡ Err (Damaged damage) → ⊥ }
-    ensures damage { (damage : disk.Damage) → result ≡ Err (Damaged damage) → damage.area ≡ Log }
     ensures at_record { IsSome (B.told blocks.old) → (damage : disk.Damage) → result ≡ Err (Damaged damage) → IsAtRecord tree.now.entries place damage }
-    ensures cause { CountsFault (B.faults blocks.old) (B.faults blocks.new) (result ≡ Err DiskFault) }
     ensures steps { OnOk result (steps.new ≡ steps.old + 1) }
     ensures most { steps.new ≤ steps.old + 1 }
 {

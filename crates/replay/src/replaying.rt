@@ -1,13 +1,12 @@
 // The live cells of a branch, from the genesis up.
 ghost use Rattle.std.specs.Prelude.{◌≡◌, ◌≤◌, ◌<◌, ◌+◌, List, length, Some, Err, IfOk, OnOk, IfSome, IsSomeAnd};
 ghost use Rattle.codec_defs.specs.Schema.{OutPoint};
-ghost use Rattle.outside.specs.Causes.{CountsFault};
-ghost use Rattle.outside.specs.declared.disk.Area.TheVariants.{Log};
 ghost use Rattle.outside.specs.declared.disk.Damage.{Damage};
-ghost use Rattle.outside.specs.declared.disk.ReadStop.TheVariants.{DiskFault, Damaged};
+ghost use Rattle.outside.specs.declared.disk.ReadStop.TheVariants.{Damaged};
 ghost use Rattle.chain_tree.specs.Entries.{entry_at};
 ghost use Rattle.chain_tree.specs.Blocks.{IndexesBlocks};
 ghost use Rattle.chain_tree.specs.Told.{Stored, blocks_of};
+ghost use Rattle.chain_tree.specs.Reading.{HasRead, stop_of};
 ghost use Rattle.cell_defs.specs.Row.{live_row};
 ghost use Rattle.cell_state.specs.State.{rows};
 ghost use Rattle.replay.specs.Down.{AreDown};
@@ -47,17 +46,13 @@ pub fn replay<B: Blocks, L: Ledger>(
 ) -> Result<State, ReadStop>
     requires within { e < length tree.now.entries }
     requires counts { B.count blocks.old ≡ length tree.now.entries }
-    ensures told { B.told blocks.new ≡ B.told blocks.old }
-    ensures count { B.count blocks.new ≡ B.count blocks.old }
-    ensures loans { B.loans_of blocks.new ≡ B.loans_of blocks.old }
+    ensures read { HasRead B.told B.count B.loans_of B.faults B.damages blocks.old blocks.new (stop_of result) }
     ensures rows { (stored : List Stored) → B.told blocks.old ≡ Some stored → IndexesBlocks (blocks_of stored) tree.now.entries
         → IfOk result (λ state. (o : OutPoint) → rows state o ≡ live_row (blocks_of stored) e o) }
     ensures fit { (stored : List Stored) → B.told blocks.old ≡ Some stored → IndexesBlocks (blocks_of stored) tree.now.entries
         → OnOk result (BranchFits (blocks_of stored) e) }
     ensures undamaged { (stored : List Stored) → B.told blocks.old ≡ Some stored → IndexesBlocks (blocks_of stored) tree.now.entries
         → BranchFits (blocks_of stored) e → (damage : Damage) → result ≡ Err (Damaged damage) → ⊥ }
-    ensures damage { (damage : Damage) → result ≡ Err (Damaged damage) → damage.area ≡ Log }
-    ensures cause { CountsFault (B.faults blocks.old) (B.faults blocks.new) (result ≡ Err DiskFault) }
     ensures steps { IfSome (entry_at tree.now.entries e) (λ entry. OnOk result (steps.new ≡ steps.old + entry.number)) }
     ensures most { IfSome (entry_at tree.now.entries e) (λ entry. steps.new ≤ steps.old + entry.number) }
 {

@@ -1,9 +1,6 @@
--- Kept blocks that are read: what a source of them tells, what reading leaves of it, and what comes of it.
-use Rattle.std.specs.Prelude.{◌≡◌, ⊤, ℕ, List, Option, Some, Result, Ok, Err}
+-- Kept blocks that are read: what a source of them tells, and what comes of reading it.
+use Rattle.std.specs.Prelude.{◌≡◌, ⊤, List, Option, Some, Result, Ok, Err}
 use Rattle.time_defs.specs.Specification.{Specification}
-use Rattle.outside.specs.Causes.{CountsFault}
-use Rattle.outside.specs.declared.disk.Area.TheVariants.{Log}
-use Rattle.outside.specs.declared.disk.Damage.{Damage}
 use Rattle.outside.specs.declared.disk.ReadStop.{ReadStop}
 use Rattle.outside.specs.declared.disk.ReadStop.TheVariants.{DiskFault, NoMemory, Damaged}
 use Rattle.chain_tree.specs.declared.entry.Entry.{Entry}
@@ -16,15 +13,6 @@ pub record Tells (spec : Specification) (told : Option (List Stored)) (entries :
   pub is : told ≡ Some stored
   pub indexes : IndexesBlocks (blocks_of stored) entries
   pub own : HaveOwnFees spec stored
-
--- Reading leaves a source as it was: what it tells, how many it has, what it has borrowed. Damage is of the log, and a fault is counted.
-pub record HasRead {S L T : Type 0} (tells : S → Option (List Stored)) (counts : S → ℕ) (loans_of : S → L) (faults : S → ℕ) (old new : S)
-    (result : Result T ReadStop) : Type 0 where
-  pub told : tells new ≡ tells old
-  pub count : counts new ≡ counts old
-  pub loans : loans_of new ≡ loans_of old
-  pub damage : (damage : Damage) → result ≡ Err (Damaged damage) → damage.area ≡ Log
-  pub cause : CountsFault (faults old) (faults new) (result ≡ Err DiskFault)
 
 -- a stop that is no damage
 abbrev pub IsUndamaged : ReadStop → Type 0

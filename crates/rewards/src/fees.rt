@@ -10,12 +10,13 @@ ghost use Rattle.outside.specs.declared.disk.ReadStop.TheVariants.{Damaged};
 ghost use Rattle.chain_defs.specs.Branch.{branch};
 ghost use Rattle.chain_tree.specs.Entries.{entry_at};
 ghost use Rattle.chain_tree.specs.Told.{Stored, blocks_of};
+ghost use Rattle.chain_tree.specs.Reading.{HasRead, stop_of};
 ghost use Rattle.cell_defs.specs.Ext.{count_at, fee_of, is_ext};
 ghost use Rattle.reward_defs.specs.Fees as fees;
 ghost use Rattle.reward_defs.specs.Fees.{Paid, paid_at};
 ghost use Rattle.rewards.specs.Paid.{ArePaid};
 ghost use Rattle.rewards.specs.Starts.{is_started};
-ghost use Rattle.rewards.specs.Reading.{Tells, HasRead, ComesTo};
+ghost use Rattle.rewards.specs.Reading.{Tells, ComesTo};
 
 use crate::amounts::{committer_share, plus, proposer_share};
 use crate::places::place_at;
@@ -98,7 +99,7 @@ pub(crate) fn committed_at<B: Blocks>(
     requires later { 1 ≤ height }
     requires height { IsSomeAnd (entry_at tree.now.entries parent) (λ entry. height ≤ entry.number) }
     requires counts { B.count blocks.old ≡ length tree.now.entries }
-    ensures reads { HasRead B.told B.count B.loans_of B.faults blocks.old blocks.new result }
+    ensures read { HasRead B.told B.count B.loans_of B.faults B.damages blocks.old blocks.new (stop_of result) }
     ensures sum { (spec : Specification) (stored : List Stored) → Tells spec (B.told blocks.old) tree.now.entries stored
         → ComesTo (λ found. found ≡ as_u64 (pos (sum_by (λ paid. fees.committer_share paid.fee) (paid_at spec (branch (blocks_of stored) parent) height)))) result }
 {
@@ -126,7 +127,7 @@ pub(crate) fn proposed_at<B: Blocks>(
     requires later { 1 ≤ height }
     requires height { IsSomeAnd (entry_at tree.now.entries parent) (λ entry. height ≤ entry.number) }
     requires counts { B.count blocks.old ≡ length tree.now.entries }
-    ensures reads { HasRead B.told B.count B.loans_of B.faults blocks.old blocks.new result }
+    ensures read { HasRead B.told B.count B.loans_of B.faults B.damages blocks.old blocks.new (stop_of result) }
     ensures sum { (spec : Specification) (stored : List Stored) → Tells spec (B.told blocks.old) tree.now.entries stored
         → ComesTo (λ found. found ≡ as_u64 (pos (sum_by (λ paid. fees.proposer_share paid.fee)
         (filter (λ paid. is_started (hashed.get bytes_eq starts.now paid.id) height) (paid_at spec (branch (blocks_of stored) parent) height))))) result }

@@ -1,15 +1,14 @@
 // The reward of a block, by its parts.
 ghost use Rattle.std.specs.Prelude.{◌≡◌, ◌+◌, ◌-◌, ◌<◌, ◌≤◌, List, length, Some, Err, IfOk, IsSomeAnd, pos};
 ghost use Rattle.outside.specs.declared.disk.Damage.{Damage};
-ghost use Rattle.outside.specs.declared.disk.ReadStop.TheVariants.{DiskFault, Damaged};
-ghost use Rattle.outside.specs.Causes.{CountsFault};
-ghost use Rattle.outside.specs.declared.disk.Area.TheVariants.{Log};
+ghost use Rattle.outside.specs.declared.disk.ReadStop.TheVariants.{Damaged};
 ghost use Rattle.codec_defs.specs.Schema.{Block};
 ghost use Rattle.time_defs.specs.Dao.{as_u64, miner_part};
 ghost use Rattle.chain_defs.specs.Branch.{branch};
 ghost use Rattle.chain_tree.specs.Entries.{entry_at};
 ghost use Rattle.chain_tree.specs.Blocks.{AreRated, IndexesBlocks};
 ghost use Rattle.chain_tree.specs.Told.{Stored, blocks_of};
+ghost use Rattle.chain_tree.specs.Reading.{HasRead, stop_of};
 ghost use Rattle.reward_defs.specs.Shares.{primary_at, secondary_at};
 ghost use Rattle.reward_defs.specs.Reward.{field_at, part};
 ghost use Rattle.rewards.specs.Own.{HaveOwnFees};
@@ -53,15 +52,11 @@ pub fn reward<B: Blocks>(
     requires far { IsSomeAnd (entry_at tree.now.entries parent) (λ entry. target + spec.now.w_far ≤ entry.number) }
     requires rated { AreRated tree.now.entries }
     requires counts { B.count blocks.old ≡ length tree.now.entries }
-    ensures told { B.told blocks.new ≡ B.told blocks.old }
-    ensures count { B.count blocks.new ≡ B.count blocks.old }
-    ensures loans { B.loans_of blocks.new ≡ B.loans_of blocks.old }
+    ensures read { HasRead B.told B.count B.loans_of B.faults B.damages blocks.old blocks.new (stop_of result) }
     ensures reward { (stored : List Stored) → B.told blocks.old ≡ Some stored → IndexesBlocks (blocks_of stored) tree.now.entries → HaveOwnFees spec.now stored
         → IfOk result (λ found. found ≡ as_u64 (pos (part spec.now (branch (blocks_of stored) parent) target))) }
     ensures undamaged { (stored : List Stored) → B.told blocks.old ≡ Some stored → IndexesBlocks (blocks_of stored) tree.now.entries → HaveOwnFees spec.now stored
         → (damage : Damage) → result ≡ Err (Damaged damage) → ⊥ }
-    ensures damage { (damage : Damage) → result ≡ Err (Damaged damage) → damage.area ≡ Log }
-    ensures cause { CountsFault (B.faults blocks.old) (B.faults blocks.new) (result ≡ Err DiskFault) }
 {
     let committed = match committed_at(tree, blocks, parent, target) {
         Ok(committed) => committed,

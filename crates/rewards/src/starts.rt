@@ -9,10 +9,11 @@ ghost use Rattle.chain_defs.specs.Branch.{branch};
 ghost use Rattle.chain_tree.specs.Entries.{entry_at};
 ghost use Rattle.chain_tree.specs.Blocks.{IndexesBlocks};
 ghost use Rattle.chain_tree.specs.Told.{Stored, blocks_of};
+ghost use Rattle.chain_tree.specs.Reading.{HasRead, stop_of};
 ghost use Rattle.window_defs.specs.Window.{proposed_ids, proposes, proposes_at};
 ghost use Rattle.rewards.specs.Starts as rules;
 ghost use Rattle.rewards.specs.Starts.{AreStarts};
-ghost use Rattle.rewards.specs.Reading.{HasRead, ComesTo};
+ghost use Rattle.rewards.specs.Reading.{ComesTo};
 
 use chain_tree::{Blocks, Tree};
 use epochs::Spec;
@@ -70,7 +71,7 @@ fn move_at<B: Blocks>(
 ) -> Result<(), ReadStop>
     requires within { place < length tree.now.entries }
     requires counts { B.count blocks.old ≡ length tree.now.entries }
-    ensures reads { HasRead B.told B.count B.loans_of B.faults blocks.old blocks.new result }
+    ensures read { HasRead B.told B.count B.loans_of B.faults B.damages blocks.old blocks.new (stop_of result) }
     ensures moved { (stored : List Stored) → B.told blocks.old ≡ Some stored → ComesTo (λ _. (id : List ℕ) → hashed.get bytes_eq starts.new id
         ≡ cond (proposes id (block_at (blocks_of stored) place)) (option_map (λ _. start) (hashed.get bytes_eq starts.old id)) (hashed.get bytes_eq starts.old id)) result }
 {
@@ -96,7 +97,7 @@ fn move_over<B: Blocks>(
     requires fits { proposer < 2 ^ 32 }
     requires proposer { IsSomeAnd (entry_at tree.now.entries parent) (λ entry. proposer ≤ entry.number) }
     requires counts { B.count blocks.old ≡ length tree.now.entries }
-    ensures reads { HasRead B.told B.count B.loans_of B.faults blocks.old blocks.new result }
+    ensures read { HasRead B.told B.count B.loans_of B.faults B.damages blocks.old blocks.new (stop_of result) }
     ensures starts { (stored : List Stored) → B.told blocks.old ≡ Some stored → IndexesBlocks (blocks_of stored) tree.now.entries
         → ((id : List ℕ) → hashed.get bytes_eq starts.old id ≡ cond (proposes_at (branch (blocks_of stored) parent) id proposer) (Some 0) None)
         → ComesTo (λ _. AreStarts spec.now (branch (blocks_of stored) parent) proposer (hashed.get bytes_eq starts.new)) result }
@@ -127,7 +128,7 @@ pub(crate) fn starts_at<B: Blocks>(
     requires fits { proposer < 2 ^ 32 }
     requires proposer { IsSomeAnd (entry_at tree.now.entries parent) (λ entry. proposer ≤ entry.number) }
     requires counts { B.count blocks.old ≡ length tree.now.entries }
-    ensures reads { HasRead B.told B.count B.loans_of B.faults blocks.old blocks.new result }
+    ensures read { HasRead B.told B.count B.loans_of B.faults B.damages blocks.old blocks.new (stop_of result) }
     ensures starts { (stored : List Stored) → B.told blocks.old ≡ Some stored → IndexesBlocks (blocks_of stored) tree.now.entries
         → option_map proposed_ids (block_at (branch (blocks_of stored) parent) proposer) ≡ Some ids.now
         → ComesTo (λ starts. AreStarts spec.now (branch (blocks_of stored) parent) proposer (hashed.get bytes_eq starts)) result }

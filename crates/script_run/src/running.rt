@@ -1,15 +1,14 @@
 // All script groups of a transaction, one after the other.
 ghost use Rattle.std.specs.Prelude.{◌≡◌, ◌^◌, ◌<◌, ◌≤◌, List, map, Some, None, Err, IfOk, length};
 ghost use Rattle.std.specs.List.{All, AllZip};
-ghost use Rattle.outside.specs.Causes.{CountsFault};
-ghost use Rattle.outside.specs.declared.disk.Area.TheVariants.{Log};
 ghost use Rattle.outside.specs.declared.disk.Damage.{Damage};
-ghost use Rattle.outside.specs.declared.disk.ReadStop.TheVariants.{DiskFault, Damaged};
+ghost use Rattle.outside.specs.declared.disk.ReadStop.TheVariants.{Damaged};
 ghost use Rattle.program_run.specs.Program.{execution_of};
 ghost use Rattle.chain_tree.specs.Told.{Stored};
+ghost use Rattle.chain_tree.specs.Reading.{HasRead};
 ghost use Rattle.script_defs.specs.Scene.{Scene};
 ghost use Rattle.script_defs.specs.Outcome as defs;
-ghost use Rattle.script_run.specs.Running.{ExitsWithin, HasRead, IsOutcome, answer_of, read_stop_of};
+ghost use Rattle.script_run.specs.Running.{ExitsWithin, IsOutcome, answer_of, read_stop_of};
 ghost use Rattle.script_run.specs.Showing.{scene_shown};
 ghost use Rattle.script_run.specs.Shown.{HasItsHash, HasItsInputs, IsShownAs};
 ghost use Rattle.script_run.specs.declared.stop.ScriptStop.TheVariants.{Read};
@@ -121,7 +120,7 @@ fn run_group<B: Blocks>(
     requires left { left ≤ 2 ^ 40 }
     requires counts { B.count blocks.old ≡ length tree.now.entries }
     requires codes { codes.now ≡ tx.now.it.deps }
-    ensures reads { HasRead B.told B.count B.loans_of B.faults blocks.old blocks.new (read_stop_of result) }
+    ensures read { HasRead B.told B.count B.loans_of B.faults B.damages blocks.old blocks.new (read_stop_of result) }
     ensures within { IfOk result (λ cycles. cycles ≤ left) }
     ensures exact { (stored : List Stored) (scene : Scene) → B.told blocks.old ≡ Some stored → scene_shown tx.now.epoch_length stored tx.now.it ≡ Some scene
         → HasItsHash group.now → IsOutcome (defs.run_group scene left place group.now.group) result }
@@ -156,7 +155,7 @@ fn run_each<B: Blocks>(
     requires budget { budget ≤ 2 ^ 40 }
     requires counts { B.count blocks.old ≡ length tree.now.entries }
     requires codes { codes.now ≡ tx.now.it.deps }
-    ensures reads { HasRead B.told B.count B.loans_of B.faults blocks.old blocks.new (read_stop_of result) }
+    ensures read { HasRead B.told B.count B.loans_of B.faults B.damages blocks.old blocks.new (read_stop_of result) }
     ensures within { IfOk result (λ cycles. cycles ≤ budget) }
     ensures exact { (stored : List Stored) (scene : Scene) → B.told blocks.old ≡ Some stored → scene_shown tx.now.epoch_length stored tx.now.it ≡ Some scene
         → All HasItsHash groups.now → IsOutcome (defs.run_from scene budget 0 (map (λ it. it.group) groups.now)) result }
@@ -187,7 +186,7 @@ fn run_shown<'a, B: Blocks>(
     requires budget { budget ≤ 2 ^ 40 }
     requires counts { B.count blocks.old ≡ length tree.now.entries }
     requires codes { codes.now ≡ tx.now.it.deps }
-    ensures reads { HasRead B.told B.count B.loans_of B.faults blocks.old blocks.new (read_stop_of result) }
+    ensures read { HasRead B.told B.count B.loans_of B.faults B.damages blocks.old blocks.new (read_stop_of result) }
     ensures within { IfOk result (λ cycles. cycles ≤ budget) }
     ensures exact { (stored : List Stored) (scene : Scene) → B.told blocks.old ≡ Some stored → scene_shown tx.now.epoch_length stored tx.now.it ≡ Some scene
         → IsOutcome (defs.outcome_of scene budget) result }
@@ -217,9 +216,7 @@ pub fn run_groups<B: Blocks>(
 ) -> Result<u64, ScriptStop>
     requires budget { budget ≤ 2 ^ 40 }
     requires counts { B.count blocks.old ≡ length tree.now.entries }
-    ensures told { B.told blocks.new ≡ B.told blocks.old }
-    ensures count { B.count blocks.new ≡ B.count blocks.old }
-    ensures loans { B.loans_of blocks.new ≡ B.loans_of blocks.old }
+    ensures read { HasRead B.told B.count B.loans_of B.faults B.damages blocks.old blocks.new (read_stop_of result) }
     ensures within { IfOk result (λ cycles. cycles ≤ budget) }
 
     // Over any source of blocks: each input has its copy, or nothing is answered of the scripts.
@@ -230,8 +227,6 @@ pub fn run_groups<B: Blocks>(
         → IsOutcome (defs.outcome_of scene budget) result }
     ensures undamaged { (stored : List Stored) (scene : Scene) → B.told blocks.old ≡ Some stored → scene_shown spec.now.epoch_length stored tx.now ≡ Some scene
         → (damage : Damage) → result ≡ Err (Read (Damaged damage)) → ⊥ }
-    ensures damage { (damage : Damage) → result ≡ Err (Read (Damaged damage)) → damage.area ≡ Log }
-    ensures cause { CountsFault (B.faults blocks.old) (B.faults blocks.new) (result ≡ Err (Read DiskFault)) }
 {
     let shown = match ShownTx::of(alloc, tx, spec.epoch_length) {
         Ok(shown) => shown,

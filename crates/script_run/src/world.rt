@@ -1,20 +1,19 @@
 // What surrounds the script of a group, and the run of its code there.
 ghost use Rattle.std.specs.Prelude.{◌≡◌, ◌^◌, ◌*◌, ◌<◌, ◌≤◌, List, Some, Err, IfOk, IsSomeAnd, length, slice_get};
-ghost use Rattle.outside.specs.Causes.{CountsFault};
-ghost use Rattle.outside.specs.declared.disk.Area.TheVariants.{Log};
 ghost use Rattle.outside.specs.declared.disk.Damage.{Damage};
-ghost use Rattle.outside.specs.declared.disk.ReadStop.TheVariants.{DiskFault, Damaged};
+ghost use Rattle.outside.specs.declared.disk.ReadStop.TheVariants.{Damaged};
 ghost use Rattle.vm_defs.specs.Program.{execution};
 ghost use Rattle.sys_defs.specs.Answer.{syscall};
 ghost use Rattle.program_run.specs.Program.{execution_of};
 ghost use Rattle.chain_tree.specs.Told.{Stored};
+ghost use Rattle.chain_tree.specs.Reading.{HasRead, stop_of};
 ghost use Rattle.codec_defs.specs.Schema.{Block, Header, header};
 ghost use Rattle.codec_defs.specs.Shape.{IsA};
 ghost use Rattle.time_defs.specs.Epochs.{epoch_number};
 ghost use Rattle.script_run.specs.Looks.{bytes_of, header_part};
 ghost use Rattle.script_defs.specs.Scene.{Scene};
 ghost use Rattle.script_defs.specs.Items.{items};
-ghost use Rattle.script_run.specs.Running.{ExitsWithin, HasRead, stop_of};
+ghost use Rattle.script_run.specs.Running.{ExitsWithin};
 ghost use Rattle.script_run.specs.Showing.{scene_shown};
 ghost use Rattle.script_run.specs.Shown.{HasItsHash};
 
@@ -52,6 +51,8 @@ impl<'a, 'w, 'b, B: Blocks> World for GroupWorld<'a, 'w, 'b, B> {
     ghost here = { λ world. option_map bytes_of world.hand };
 
     ghost faults = { λ world. B.faults world.blocks.now };
+
+    ghost damages = { λ world. B.damages world.blocks.now };
 
     ghost last_fault = { λ world. B.last_fault world.blocks.now };
 
@@ -99,7 +100,7 @@ fn read_header<'a, B: Blocks>(
     epoch_length: u32,
 ) -> Result<Bytes<'a>, ReadStop>
     requires counts { B.count blocks.old ≡ length tree.now.entries }
-    ensures reads { HasRead B.told B.count B.loans_of B.faults blocks.old blocks.new (stop_of result) }
+    ensures read { HasRead B.told B.count B.loans_of B.faults B.damages blocks.old blocks.new (stop_of result) }
     ensures part { (stored : List Stored) (made : Stored) → B.told blocks.old ≡ Some stored → slice_get stored place ≡ Some made
         → IfOk result (λ bytes. bytes_of bytes ≡ header_part epoch_length part made.block.header) }
     ensures undamaged { (stored : List Stored) (made : Stored) → B.told blocks.old ≡ Some stored → slice_get stored place ≡ Some made
@@ -172,7 +173,7 @@ pub(crate) fn run_code<'a, 'w, B: Blocks>(
 ) -> Result<Execution, ReadStop>
     requires budget { budget ≤ 2 ^ 40 }
     requires counts { B.count blocks.old ≡ length tree.now.entries }
-    ensures reads { HasRead B.told B.count B.loans_of B.faults blocks.old blocks.new (stop_of result) }
+    ensures read { HasRead B.told B.count B.loans_of B.faults B.damages blocks.old blocks.new (stop_of result) }
     ensures came { (stored : List Stored) (scene : Scene) → B.told blocks.old ≡ Some stored → scene_shown tx.now.epoch_length stored tx.now.it ≡ Some scene
         → HasItsHash group.now → IfOk result (λ came. execution_of came ≡ execution (syscall (items scene group.now.group)) budget code.now) }
     ensures within { IfOk result (ExitsWithin budget) }

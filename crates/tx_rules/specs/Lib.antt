@@ -2,6 +2,6 @@ pub mod At
 pub mod Copying
 pub mod Members
 pub mod Outcome
+pub mod Reading
 pub mod Seen
-pub mod Source
 pub mod Steps

@@ -5,16 +5,15 @@ ghost use Rattle.codec_defs.specs.Schema.{OutPoint, Block};
 ghost use Rattle.cell_defs.specs.Cell.{Cell};
 ghost use Rattle.cell_model.specs.Copies.{IsCopyOf, CopiesOutput, NamesOutput, output_in};
 ghost use Rattle.cell_defs.specs.Row.{Row};
-ghost use Rattle.outside.specs.Causes.{CountsFault};
 ghost use Rattle.outside.specs.declared.disk.Area.TheVariants.{Log};
 ghost use Rattle.outside.specs.declared.disk.Damage.{Damage};
 ghost use Rattle.outside.specs.declared.disk.ReadStop.TheVariants.{DiskFault, Damaged};
 ghost use Rattle.chain_tree.specs.Told.{Stored, blocks_of};
+ghost use Rattle.chain_tree.specs.Reading.{HasRead, stop_of};
 ghost use Rattle.tx_defs.specs.Site.{Site, Found};
 ghost use Rattle.tx_rules.specs.At.{IsPlaced, IsSiteOf, AreSeen, found_row};
 ghost use Rattle.tx_rules.specs.Copying.{IsFoundAt, IsBlockAt, IsCopyOfRow, CopiesItsRow, AreTaken, row_in, HoldsOutput};
 ghost use Rattle.tx_rules.specs.Outcome.{Copies};
-ghost use Rattle.tx_rules.specs.Source.{IsSameSource};
 
 use crate::at::{TxAt, damage_of};
 use cell_model::{CellMeta, OutPoint, Resolved, copy_of, fetch, output_at};
@@ -33,7 +32,7 @@ fn copy_kept<B: Blocks>(
 ) -> Result<Resolved, ReadStop>
     requires counts { B.count blocks.old ≡ length at.now.entries }
     requires within { meta.block < length at.now.entries }
-    ensures source { IsSameSource B.told B.count B.loans_of blocks.old blocks.new }
+    ensures read { HasRead B.told B.count B.loans_of B.faults B.damages blocks.old blocks.new (stop_of result) }
     ensures out_point { IfOk result (λ copy. copy.out_point ≡ o) }
     ensures row { IfOk result (λ copy. copy.row ≡ meta) }
     ensures output { IfOk result HoldsOutput }
@@ -42,8 +41,6 @@ fn copy_kept<B: Blocks>(
         → IfOk result (CopiesOutput (output_in made.block meta.transaction o.index)) }
     ensures undamaged { (stored : List Stored) (cell : Cell) → B.told blocks.old ≡ Some stored → NamesOutput stored o meta cell
         → (damage : Damage) → result ≡ Err (Damaged damage) → ⊥ }
-    ensures damage { (damage : Damage) → result ≡ Err (Damaged damage) → damage.area ≡ Log }
-    ensures cause { CountsFault (B.faults blocks.old) (B.faults blocks.new) (result ≡ Err DiskFault) }
 {
     match fetch(alloc, blocks, o, meta) {
         Ok(copy) => Ok(copy),
@@ -109,7 +106,7 @@ fn copy_row<B: Blocks>(
 ) -> Result<Resolved, ReadStop>
     requires placed { IsPlaced at.now }
     requires counts { B.count blocks.old ≡ length at.now.entries }
-    ensures source { IsSameSource B.told B.count B.loans_of blocks.old blocks.new }
+    ensures read { HasRead B.told B.count B.loans_of B.faults B.damages blocks.old blocks.new (stop_of result) }
     ensures out_point { IfOk result (λ copy. copy.out_point ≡ o) }
     ensures row { IfOk result (λ copy. copy.row ≡ meta) }
     ensures output { IfOk result HoldsOutput }
@@ -118,8 +115,6 @@ fn copy_row<B: Blocks>(
     ensures of_row { IfOk result (CopiesItsRow (B.told blocks.old) at.now) }
     ensures undamaged { (stored : List Stored) (rows : OutPoint → Option Row) (site : Site) (found : Found) → B.told blocks.old ≡ Some stored
         → IsSiteOf stored at.now rows site → IsFoundAt stored at.now.parent site found (o, meta) → (damage : Damage) → result ≡ Err (Damaged damage) → ⊥ }
-    ensures damage { (damage : Damage) → result ≡ Err (Damaged damage) → damage.area ≡ Log }
-    ensures cause { CountsFault (B.faults blocks.old) (B.faults blocks.new) (result ≡ Err DiskFault) }
 {
     let kept = at.tree.len();
     if meta.block < kept {
@@ -218,14 +213,12 @@ fn take_kept<B: Blocks>(
     requires within { meta.block < length at.now.entries }
     requires places { All (λ it. it.1 < length rows.now) order.now }
     requires long { length taken.old ≡ length rows.now }
-    ensures source { IsSameSource B.told B.count B.loans_of blocks.old blocks.new }
+    ensures read { HasRead B.told B.count B.loans_of B.faults B.damages blocks.old blocks.new (stop_of result) }
     ensures long { length taken.new ≡ length rows.now }
     ensures taken { AreTaken (B.told blocks.old) at.now rows.now taken.old → IfOk result (λ _. AreTaken (B.told blocks.old) at.now rows.now taken.new) }
     ensures undamaged { (stored : List Stored) (seen : OutPoint → Option Row) (site : Site) (founds : List Found) → B.told blocks.old ≡ Some stored
         → IsSiteOf stored at.now seen site → AreSeen site founds → rows.now ≡ map (found_row (blocks_of stored) at.now.parent) founds
         → (damage : Damage) → result ≡ Err (Damaged damage) → ⊥ }
-    ensures damage { (damage : Damage) → result ≡ Err (Damaged damage) → damage.area ≡ Log }
-    ensures cause { CountsFault (B.faults blocks.old) (B.faults blocks.new) (result ≡ Err DiskFault) }
 {
     match blocks.bring(meta.block) {
         Ok(()) => {}
@@ -251,14 +244,12 @@ fn take_several<B: Blocks>(
     requires counts { B.count blocks.old ≡ length at.now.entries }
     requires places { All (λ it. it.1 < length rows.now) order.now }
     requires long { length taken.old ≡ length rows.now }
-    ensures source { IsSameSource B.told B.count B.loans_of blocks.old blocks.new }
+    ensures read { HasRead B.told B.count B.loans_of B.faults B.damages blocks.old blocks.new (stop_of result) }
     ensures long { length taken.new ≡ length rows.now }
     ensures taken { AreTaken (B.told blocks.old) at.now rows.now taken.old → IfOk result (λ _. AreTaken (B.told blocks.old) at.now rows.now taken.new) }
     ensures undamaged { (stored : List Stored) (seen : OutPoint → Option Row) (site : Site) (founds : List Found) → B.told blocks.old ≡ Some stored
         → IsSiteOf stored at.now seen site → AreSeen site founds → rows.now ≡ map (found_row (blocks_of stored) at.now.parent) founds
         → (damage : Damage) → result ≡ Err (Damaged damage) → ⊥ }
-    ensures damage { (damage : Damage) → result ≡ Err (Damaged damage) → damage.area ≡ Log }
-    ensures cause { CountsFault (B.faults blocks.old) (B.faults blocks.new) (result ≡ Err DiskFault) }
 {
     let kept = at.tree.len();
     'order: for j in 0..order.len() {
@@ -285,12 +276,10 @@ fn taken_or_copied<B: Blocks>(
     requires placed { IsPlaced at.now }
     requires counts { B.count blocks.old ≡ length at.now.entries }
     requires taken { IfSome taken (IsCopyOfRow (B.told blocks.old) at.now (o, meta)) }
-    ensures source { IsSameSource B.told B.count B.loans_of blocks.old blocks.new }
+    ensures read { HasRead B.told B.count B.loans_of B.faults B.damages blocks.old blocks.new (stop_of result) }
     ensures copy { IfOk result (IsCopyOfRow (B.told blocks.old) at.now (o, meta)) }
     ensures undamaged { (stored : List Stored) (rows : OutPoint → Option Row) (site : Site) (found : Found) → B.told blocks.old ≡ Some stored
         → IsSiteOf stored at.now rows site → IsFoundAt stored at.now.parent site found (o, meta) → (damage : Damage) → result ≡ Err (Damaged damage) → ⊥ }
-    ensures damage { (damage : Damage) → result ≡ Err (Damaged damage) → damage.area ≡ Log }
-    ensures cause { CountsFault (B.faults blocks.old) (B.faults blocks.new) (result ≡ Err DiskFault) }
 {
     match taken {
         Some(copy) => Ok(copy),
@@ -311,13 +300,11 @@ fn copy_each<B: Blocks>(
     requires counts { B.count blocks.old ≡ length at.now.entries }
     requires long { length taken.old ≡ length rows.now }
     requires taken { AreTaken (B.told blocks.old) at.now rows.now taken.old }
-    ensures source { IsSameSource B.told B.count B.loans_of blocks.old blocks.new }
+    ensures read { HasRead B.told B.count B.loans_of B.faults B.damages blocks.old blocks.new (stop_of result) }
     ensures copies { IfOk result (λ copies. AllZip (IsCopyOfRow (B.told blocks.old) at.now) rows.now copies.items) }
     ensures undamaged { (stored : List Stored) (seen : OutPoint → Option Row) (site : Site) (founds : List Found) → B.told blocks.old ≡ Some stored
         → IsSiteOf stored at.now seen site → AreSeen site founds → rows.now ≡ map (found_row (blocks_of stored) at.now.parent) founds
         → (damage : Damage) → result ≡ Err (Damaged damage) → ⊥ }
-    ensures damage { (damage : Damage) → result ≡ Err (Damaged damage) → damage.area ≡ Log }
-    ensures cause { CountsFault (B.faults blocks.old) (B.faults blocks.new) (result ≡ Err DiskFault) }
 {
     let mut copies = Vec::new(alloc);
     'each: for i in 0..rows.len() {
@@ -342,7 +329,7 @@ pub(crate) fn fetch_all<B: Blocks>(
 ) -> Result<Vec<Resolved>, ReadStop>
     requires placed { IsPlaced at.now }
     requires counts { B.count blocks.old ≡ length at.now.entries }
-    ensures source { IsSameSource B.told B.count B.loans_of blocks.old blocks.new }
+    ensures read { HasRead B.told B.count B.loans_of B.faults B.damages blocks.old blocks.new (stop_of result) }
     ensures rows { IfOk result (λ copies. map row_in copies.items ≡ rows.now) }
     ensures outputs { IfOk result (λ copies. All HoldsOutput copies.items) }
     ensures of_rows { IfOk result (λ copies. All (CopiesItsRow (B.told blocks.old) at.now) copies.items) }
@@ -352,8 +339,6 @@ pub(crate) fn fetch_all<B: Blocks>(
     ensures undamaged { (stored : List Stored) (seen : OutPoint → Option Row) (site : Site) (founds : List Found) → B.told blocks.old ≡ Some stored
         → IsSiteOf stored at.now seen site → AreSeen site founds → rows.now ≡ map (found_row (blocks_of stored) at.now.parent) founds
         → (damage : Damage) → result ≡ Err (Damaged damage) → ⊥ }
-    ensures damage { (damage : Damage) → result ≡ Err (Damaged damage) → damage.area ≡ Log }
-    ensures cause { CountsFault (B.faults blocks.old) (B.faults blocks.new) (result ≡ Err DiskFault) }
 {
     let Ok(order) = by_block(alloc, rows) else {
         return Err(ReadStop::NoMemory);

@@ -2,11 +2,11 @@
 ghost use Rattle.std.specs.Prelude.{◌≡◌, ◌<◌, ℕ, List, Some, Err, length, IfOk, map};
 ghost use Rattle.std.specs.Option.{option_map};
 ghost use Rattle.codec_defs.specs.Schema.{CellOutput, Block};
-ghost use Rattle.outside.specs.Causes.{CountsFault};
 ghost use Rattle.outside.specs.declared.disk.Area.TheVariants.{Log};
 ghost use Rattle.outside.specs.declared.disk.Damage.{Damage};
 ghost use Rattle.outside.specs.declared.disk.ReadStop.TheVariants.{DiskFault, Damaged};
 ghost use Rattle.chain_tree.specs.Told.{Stored, blocks_of};
+ghost use Rattle.chain_tree.specs.Reading.{HasRead, stop_of};
 ghost use Rattle.cell_defs.specs.Cell.{Cell};
 ghost use Rattle.cell_defs.specs.Row.{row_of};
 ghost use Rattle.cell_model.specs.Copies.{NamesOutput, output_in};
@@ -14,7 +14,6 @@ ghost use Rattle.tx_defs.specs.Site.{Site};
 ghost use Rattle.tx_defs.specs.Resolving.{cells_of_dep, dep_cells};
 ghost use Rattle.tx_rules.specs.At.{IsPlaced, IsSiteOf, found_row, place_of_height};
 ghost use Rattle.tx_rules.specs.Members.{Adds, rows_of, member_rows};
-ghost use Rattle.tx_rules.specs.Source.{IsSameSource};
 
 use crate::at::{TxAt, damage_of};
 use crate::inputs::find_row;
@@ -98,13 +97,11 @@ fn add_kept_group<C: Cells, B: Blocks>(
     found: &mut Vec<(OutPoint, CellMeta)>,
 ) -> Result<bool, ReadStop>
     requires within { meta.now.block < B.count blocks.old }
-    ensures source { IsSameSource B.told B.count B.loans_of blocks.old blocks.new }
+    ensures read { HasRead B.told B.count B.loans_of B.faults B.damages blocks.old blocks.new (stop_of result) }
     ensures rows { (stored : List Stored) (cell : Cell) → B.told blocks.old ≡ Some stored → NamesOutput stored o.now meta.now cell
         → IfOk result (λ all. Adds found.old.items all found.new.items (member_rows (C.rows cells.now) cell.content)) }
     ensures undamaged { (stored : List Stored) (cell : Cell) → B.told blocks.old ≡ Some stored → NamesOutput stored o.now meta.now cell
         → (damage : Damage) → result ≡ Err (Damaged damage) → ⊥ }
-    ensures damage { (damage : Damage) → result ≡ Err (Damaged damage) → damage.area ≡ Log }
-    ensures cause { CountsFault (B.faults blocks.old) (B.faults blocks.new) (result ≡ Err DiskFault) }
 {
     match blocks.bring(meta.block) {
         Ok(()) => {}
@@ -151,15 +148,13 @@ fn add_group_of<C: Cells, B: Blocks>(
 ) -> Result<bool, ReadStop>
     requires placed { IsPlaced at.now }
     requires counts { B.count blocks.old ≡ length at.now.entries }
-    ensures source { IsSameSource B.told B.count B.loans_of blocks.old blocks.new }
+    ensures read { HasRead B.told B.count B.loans_of B.faults B.damages blocks.old blocks.new (stop_of result) }
     ensures rows { (stored : List Stored) (site : Site) (cell : Cell) → B.told blocks.old ≡ Some stored → IsSiteOf stored at.now (C.rows cells.now) site
         → site.cell o.now ≡ Some cell → meta.now ≡ row_of (place_of_height (blocks_of stored) at.now.parent cell.height) cell
         → IfOk result (λ all. Adds found.old.items all found.new.items (member_rows (C.rows cells.now) cell.content)) }
     ensures undamaged { (stored : List Stored) (site : Site) (cell : Cell) → B.told blocks.old ≡ Some stored → IsSiteOf stored at.now (C.rows cells.now) site
         → site.cell o.now ≡ Some cell → meta.now ≡ row_of (place_of_height (blocks_of stored) at.now.parent cell.height) cell
         → (damage : Damage) → result ≡ Err (Damaged damage) → ⊥ }
-    ensures damage { (damage : Damage) → result ≡ Err (Damaged damage) → damage.area ≡ Log }
-    ensures cause { CountsFault (B.faults blocks.old) (B.faults blocks.new) (result ≡ Err DiskFault) }
 {
     if meta.block < at.tree.len() {
         add_kept_group(at, cells, blocks, o, meta, found)
@@ -178,13 +173,11 @@ fn add_dep<C: Cells, B: Blocks>(
 ) -> Result<bool, ReadStop>
     requires placed { IsPlaced at.now }
     requires counts { B.count blocks.old ≡ length at.now.entries }
-    ensures source { IsSameSource B.told B.count B.loans_of blocks.old blocks.new }
+    ensures read { HasRead B.told B.count B.loans_of B.faults B.damages blocks.old blocks.new (stop_of result) }
     ensures resolved { (stored : List Stored) (site : Site) → B.told blocks.old ≡ Some stored → IsSiteOf stored at.now (C.rows cells.now) site
         → IfOk result (λ all. Adds found.old.items all found.new.items (option_map (map (found_row (blocks_of stored) at.now.parent)) (cells_of_dep site dep.now))) }
     ensures undamaged { (stored : List Stored) (site : Site) → B.told blocks.old ≡ Some stored → IsSiteOf stored at.now (C.rows cells.now) site
         → (damage : Damage) → result ≡ Err (Damaged damage) → ⊥ }
-    ensures damage { (damage : Damage) → result ≡ Err (Damaged damage) → damage.area ≡ Log }
-    ensures cause { CountsFault (B.faults blocks.old) (B.faults blocks.new) (result ≡ Err DiskFault) }
 {
     let Some(row) = find_row(cells, &dep.out_point()) else {
         return Ok(false);
@@ -210,13 +203,11 @@ pub(crate) fn resolved_deps<C: Cells, B: Blocks>(
 ) -> Result<Option<Vec<(OutPoint, CellMeta)>>, ReadStop>
     requires placed { IsPlaced at.now }
     requires counts { B.count blocks.old ≡ length at.now.entries }
-    ensures source { IsSameSource B.told B.count B.loans_of blocks.old blocks.new }
+    ensures read { HasRead B.told B.count B.loans_of B.faults B.damages blocks.old blocks.new (stop_of result) }
     ensures resolved { (stored : List Stored) (site : Site) → B.told blocks.old ≡ Some stored → IsSiteOf stored at.now (C.rows cells.now) site
         → IfOk result (λ found. option_map (λ rows. rows.items) found ≡ option_map (map (found_row (blocks_of stored) at.now.parent)) (dep_cells site tx.now)) }
     ensures undamaged { (stored : List Stored) (site : Site) → B.told blocks.old ≡ Some stored → IsSiteOf stored at.now (C.rows cells.now) site
         → (damage : Damage) → result ≡ Err (Damaged damage) → ⊥ }
-    ensures damage { (damage : Damage) → result ≡ Err (Damaged damage) → damage.area ≡ Log }
-    ensures cause { CountsFault (B.faults blocks.old) (B.faults blocks.new) (result ≡ Err DiskFault) }
 {
     let raw = tx.raw();
     let mut found = Vec::new(alloc);

@@ -1,8 +1,6 @@
 // All rules on one transaction, in their order.
 ghost use Rattle.std.specs.Prelude.{◌≡◌, ◌<◌, ◌^◌, nat_abs, ◌++◌, List, length, map, Ok, Err, Some, None, IfOk, IsTrue, Option, slice_index};
 ghost use Rattle.std.specs.List.{All, AllZip};
-ghost use Rattle.outside.specs.Causes.{CountsFault};
-ghost use Rattle.outside.specs.declared.disk.Area.TheVariants.{Log};
 ghost use Rattle.outside.specs.declared.disk.Damage.{Damage};
 ghost use Rattle.outside.specs.declared.disk.ReadStop.TheVariants.{DiskFault, Damaged};
 ghost use Rattle.codec_defs.specs.Schema.{OutPoint};
@@ -11,6 +9,7 @@ ghost use Rattle.chain_defs.specs.Hashes.{transaction_hash};
 ghost use Rattle.chain_defs.specs.Branch.{branch_places};
 ghost use Rattle.chain_tree.specs.Entries.{place_of_hash};
 ghost use Rattle.chain_tree.specs.Told.{Stored, blocks_of};
+ghost use Rattle.chain_tree.specs.Reading.{HasRead};
 ghost use Rattle.tx_defs.specs.Site.{Site};
 ghost use Rattle.fold_defs.specs.First.{first_failing};
 ghost use Rattle.rule_names.specs.Number.{rule_number};
@@ -20,7 +19,7 @@ ghost use Rattle.tx_defs.specs.Resolving.{inputs, deps, heights};
 ghost use Rattle.tx_rules.specs.At.{AtValue, IsPlaced, IsSiteOf, found_row, input_rows};
 ghost use Rattle.tx_rules.specs.Steps.{spending_rules, naming_rules, using_rules, finding_rules, paying_rules, Tells, Stops, StopsLater, AreFound, Pays};
 ghost use Rattle.tx_rules.specs.declared.resolving.TxStop.TheVariants.{Read};
-ghost use Rattle.tx_rules.specs.Source.{IsSameSource};
+ghost use Rattle.tx_rules.specs.Reading.{read_stop_of};
 ghost use Rattle.tx_rules.specs.Copying.{row_in, CopiesItsRow, HoldsOutput};
 ghost use Rattle.tx_rules.specs.Outcome.{Copies, FollowsRows, IsFormed, IsResolved, IsTried, rules_to_27};
 
@@ -123,7 +122,7 @@ fn named_rows<C: Cells, B: Blocks>(
 ) -> Result<(Vec<(OutPoint, CellMeta)>, Vec<u32>), TxStop>
     requires placed { IsPlaced at.now }
     requires counts { B.count blocks.old ≡ length at.now.entries }
-    ensures source { IsSameSource B.told B.count B.loans_of blocks.old blocks.new }
+    ensures read { HasRead B.told B.count B.loans_of B.faults B.damages blocks.old blocks.new (read_stop_of result) }
     ensures later { StopsLater result }
     ensures tells { (stored : List Stored) (site : Site) → B.told blocks.old ≡ Some stored → IsSiteOf stored at.now (C.rows cells.now) site
         → Tells (naming_rules site tx.now) result }
@@ -132,7 +131,6 @@ fn named_rows<C: Cells, B: Blocks>(
     ensures places { (stored : List Stored) (site : Site) → B.told blocks.old ≡ Some stored → IsSiteOf stored at.now (C.rows cells.now) site
         → IfOk result (λ named. named.1.items ≡ map (slice_index (branch_places (blocks_of stored) at.now.parent)) (heights site tx.now)) }
     ensures headers { IfOk result (λ named. AllZip (λ hash place. place_of_hash at.now.entries hash ≡ Some place) tx.now.raw.header_deps named.1.items) }
-    ensures cause { CountsFault (B.faults blocks.old) (B.faults blocks.new) (result ≡ Err (Read DiskFault)) }
 {
     let rows = match resolved_deps(alloc, tx, at, cells, blocks) {
         Ok(Some(rows)) => rows,
@@ -228,7 +226,7 @@ fn find<C: Cells, B: Blocks>(
 ) -> Result<Finding, TxStop>
     requires placed { IsPlaced at.now }
     requires counts { B.count blocks.old ≡ length at.now.entries }
-    ensures source { IsSameSource B.told B.count B.loans_of blocks.old blocks.new }
+    ensures read { HasRead B.told B.count B.loans_of B.faults B.damages blocks.old blocks.new (read_stop_of result) }
     ensures stops { Stops proposed result }
     ensures by_rows { FollowsRows proposed (C.rows cells.now) tx.now result }
     ensures tells { (stored : List Stored) (site : Site) → B.told blocks.old ≡ Some stored → IsSiteOf stored at.now (C.rows cells.now) site
@@ -239,7 +237,6 @@ fn find<C: Cells, B: Blocks>(
     ensures hash { IfOk result (λ it. it.hash ≡ transaction_hash tx.now) }
     ensures spent { IfOk result (λ it. input_rows (C.rows cells.now) tx.now ≡ Some it.spent.items) }
     ensures headers { IfOk result (λ it. AllZip (λ hash place. place_of_hash at.now.entries hash ≡ Some place) tx.now.raw.header_deps it.places.items) }
-    ensures cause { CountsFault (B.faults blocks.old) (B.faults blocks.new) (result ≡ Err (Read DiskFault)) }
 {
     let spent = match spent_rows(alloc, tx, proposed, cells) {
         Ok(spent) => spent,
@@ -272,7 +269,7 @@ fn copy_cells<B: Blocks>(
     requires placed { IsPlaced at.now }
     requires counts { B.count blocks.old ≡ length at.now.entries }
     requires each { length finding.now.spent.items ≡ length tx.now.raw.inputs }
-    ensures source { IsSameSource B.told B.count B.loans_of blocks.old blocks.new }
+    ensures read { HasRead B.told B.count B.loans_of B.faults B.damages blocks.old blocks.new (read_stop_of result) }
     ensures fits { IfOk result (λ it. nat_abs it.balance.interest < 2 ^ 96) }
     ensures later { StopsLater result }
     ensures tells { (stored : List Stored) (rows : OutPoint → Option Row) (site : Site) → B.told blocks.old ≡ Some stored → IsSiteOf stored at.now rows site
@@ -290,7 +287,6 @@ fn copy_cells<B: Blocks>(
     ensures rows { IfOk result (λ it. map row_in it.inputs.items ≡ finding.now.spent.items) }
     ensures outputs { IfOk result (λ it. All HoldsOutput (it.inputs.items ++ it.deps.items)) }
     ensures of_rows { IfOk result (λ it. All (CopiesItsRow (B.told blocks.old) at.now) (it.inputs.items ++ it.deps.items)) }
-    ensures cause { CountsFault (B.faults blocks.old) (B.faults blocks.new) (result ≡ Err (Read DiskFault)) }
 {
     let inputs = match fetch_all(alloc, at, blocks, &finding.spent) {
         Ok(inputs) => inputs,
@@ -322,9 +318,7 @@ pub fn resolve<'a, C: Cells, B: Blocks>(
 ) -> Result<TxOk<'a>, TxStop>
     requires placed { IsPlaced at.now }
     requires counts { B.count blocks.old ≡ length at.now.entries }
-    ensures told { B.told blocks.new ≡ B.told blocks.old }
-    ensures count { B.count blocks.new ≡ B.count blocks.old }
-    ensures loans { B.loans_of blocks.new ≡ B.loans_of blocks.old }
+    ensures read { HasRead B.told B.count B.loans_of B.faults B.damages blocks.old blocks.new (read_stop_of result) }
     ensures formed { IfOk result (λ ok. IsFormed at.now.entries tx.now ok.resolved) }
     ensures of_rows { IfOk result (λ ok. All (CopiesItsRow (B.told blocks.old) at.now) (ok.resolved.inputs ++ ok.resolved.deps)) }
     ensures tried { (rule : Rule) → result ≡ Err (TxStop.Broken rule) → IsTried proposed (rule_number rule) }
@@ -346,8 +340,6 @@ pub fn resolve<'a, C: Cells, B: Blocks>(
         → IfOk result (λ ok. ok.interest ≡ rules.interest site tx.now) }
     ensures undamaged { (stored : List Stored) (site : Site) → B.told blocks.old ≡ Some stored → IsSiteOf stored at.now (C.rows cells.now) site
         → (damage : Damage) → result ≡ Err (TxStop.Read (Damaged damage)) → ⊥ }
-    ensures damage { (damage : Damage) → result ≡ Err (TxStop.Read (Damaged damage)) → damage.area ≡ Log }
-    ensures cause { CountsFault (B.faults blocks.old) (B.faults blocks.new) (result ≡ Err (TxStop.Read DiskFault)) }
 {
     let found = match find(alloc, tx, at, proposed, cells, blocks) {
         Ok(found) => found,

@@ -31,6 +31,7 @@ pub fn run<W: World>(machine: &mut Machine, world: &mut W) -> Result<Outcome, Re
     ensures later { machine.old.machine.cycles ≤ machine.new.machine.cycles }
     ensures wants { (items : Items) → W.told world.old ≡ Some items → result ≡ Err NoMemory → RunWants items (IsAllocated machine.old.allocated) machine.old.machine }
     ensures cause { CountsFault (W.faults world.old) (W.faults world.new) (result ≡ Err DiskFault) }
+    ensures answered { ((damage : Damage) → result ≡ Err (Damaged damage) → ⊥) → W.damages world.new ≡ W.damages world.old }
     ensures undamaged { IsSome (W.told world.old) → (damage : Damage) → result ≡ Err (Damaged damage) → ⊥ }
     ensures damage { (damage : Damage) → result ≡ Err (Damaged damage) → damage.area ≡ Log }
 {
@@ -54,6 +55,7 @@ fn advance<W: World>(machine: &mut Machine, world: &mut W) -> Result<Option<Outc
     ensures later { machine.old.machine.cycles ≤ machine.new.machine.cycles }
     ensures wants { (items : Items) → W.told world.old ≡ Some items → result ≡ Err NoMemory → WantsPage machine.old machine.new.machine ⊎ StopLoadsItem items machine.old.machine }
     ensures cause { CountsFault (W.faults world.old) (W.faults world.new) (result ≡ Err DiskFault) }
+    ensures answered { ((damage : Damage) → result ≡ Err (Damaged damage) → ⊥) → W.damages world.new ≡ W.damages world.old }
     ensures undamaged { IsSome (W.told world.old) → (damage : Damage) → result ≡ Err (Damaged damage) → ⊥ }
     ensures damage { (damage : Damage) → result ≡ Err (Damaged damage) → damage.area ≡ Log }
     ensures room { OnOk result (LeavesRoom machine.old.machine machine.new.allocated) }

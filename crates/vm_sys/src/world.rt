@@ -36,6 +36,9 @@ pub trait World {
     /// How often it has failed.
     ghost faults: { Self → ℕ };
 
+    /// How often it has found damage where it read.
+    ghost damages: { Self → ℕ };
+
     /// What it has borrowed, for one that borrows: no call changes it.
     ghost Loans: { Type 0 };
 
@@ -50,6 +53,8 @@ pub trait World {
         // That there is no such source or field is known without memory.
         ensures known { IfSome (told self.old) (λ told. told call ≡ items.Unknown → result ≡ Err NoMemory → ⊥) }
         ensures cause { CountsFault (faults self.old) (faults self.new) (result ≡ Err DiskFault) }
+        // Damage that is found is answered.
+        ensures answered { ((damage : Damage) → result ≡ Err (Damaged damage) → ⊥) → damages self.new ≡ damages self.old }
         ensures undamaged { IsSome (told self.old) → (damage : Damage) → result ≡ Err (Damaged damage) → ⊥ }
         ensures damage { (damage : Damage) → result ≡ Err (Damaged damage) → damage.area ≡ Log };
 
@@ -76,6 +81,8 @@ impl World for Alone {
     ghost here = { λ alone. Some [] };
 
     ghost faults = { λ alone. 0 };
+
+    ghost damages = { λ alone. 0 };
 
     ghost last_fault = { λ alone. omega arith };
 

@@ -1,0 +1,82 @@
+-- Calls over a source of kept blocks: one after another, and how one ends that was read to a good end before.
+use Rattle.std.proofs.Common.{◌≡◌, ℕ, List, Option, Some, None, refl, ◌∙◌, subst}
+use Rattle.outside.specs.Causes.{CountsFault}
+use Rattle.outside.specs.declared.disk.Area.TheVariants.{Log}
+use Rattle.outside.specs.declared.disk.Damage.{Damage}
+use Rattle.outside.specs.declared.disk.ReadStop.{ReadStop}
+use Rattle.outside.specs.declared.disk.ReadStop.TheVariants.{DiskFault, NoMemory, Damaged}
+use Rattle.outside.proofs.Endings.{no_fault, behind}
+use Rattle.chain_tree.specs.Told.{Stored}
+use Rattle.chain_tree.specs.Reading.{HasRead}
+
+pub no_stop : (stop : ReadStop) → None ≡ Some stop → ⊥
+no_stop stop same = absurd (cc)
+
+pub no_memory_fault : Some NoMemory ≡ Some DiskFault → ⊥
+no_memory_fault same = absurd (cc)
+
+pub no_memory_damage : (damage : Damage) → Some NoMemory ≡ Some (Damaged damage) → ⊥
+no_memory_damage damage same = absurd (cc)
+
+no_damage_fault : (damage : Damage) → Some (Damaged damage) ≡ Some DiskFault → ⊥
+no_damage_fault damage same = absurd (cc)
+
+in_log : (one other : Damage) → one.area ≡ Log → Some (Damaged one) ≡ Some (Damaged other) → other.area ≡ Log
+in_log one other area same = let is : one ≡ other = cc in subst (λ (damage : Damage). damage.area ≡ Log) is area
+
+module _ {S L : Type 0} {tells : S → Option (List Stored)} {counts : S → ℕ} {loans_of : S → L} {faults damages : S → ℕ} where
+  -- before any reading
+  pub unread : (blocks : S) → HasRead tells counts loans_of faults damages blocks blocks None
+  unread blocks = record {
+    told = refl;
+    count = refl;
+    loans = refl;
+    damage = λ damage is. absurd (no_stop (Damaged damage) is);
+    cause = no_fault _ _ refl (no_stop DiskFault);
+    found = λ undamaged. refl;
+  }
+
+  -- reading after reading
+  pub read_on : {first then last : S} {stop : Option ReadStop} → HasRead tells counts loans_of faults damages first then None
+      → HasRead tells counts loans_of faults damages then last stop → HasRead tells counts loans_of faults damages first last stop
+  read_on before after = record {
+    told = after.told ∙ before.told;
+    count = after.count ∙ before.count;
+    loans = after.loans ∙ before.loans;
+    damage = after.damage;
+    cause = behind (before.cause.unchanged (no_stop DiskFault)) after.cause;
+    found = λ undamaged. after.found undamaged ∙ before.found (λ damage is. no_stop (Damaged damage) is);
+  }
+
+  -- an end after it that is no fault
+  pub read_till : {old new : S} (stop : Option ReadStop) → ((damage : Damage) → stop ≡ Some (Damaged damage) → damage.area ≡ Log) → (stop ≡ Some DiskFault → ⊥)
+      → HasRead tells counts loans_of faults damages old new None → HasRead tells counts loans_of faults damages old new stop
+  read_till stop of_log no_fault_is read = record {
+    told = read.told;
+    count = read.count;
+    loans = read.loans;
+    damage = of_log;
+    cause = no_fault _ _ (read.cause.unchanged (no_stop DiskFault)) no_fault_is;
+    found = λ undamaged. read.found (λ damage is. no_stop (Damaged damage) is);
+  }
+
+  -- out of memory after it
+  pub read_short : {old new : S} → HasRead tells counts loans_of faults damages old new None → HasRead tells counts loans_of faults damages old new (Some NoMemory)
+  read_short read = read_till (Some NoMemory) (λ damage is. absurd (no_memory_damage damage is)) no_memory_fault read
+
+  -- what was read is not what was kept
+  pub read_wrong : {old new : S} (damage : Damage) → damage.area ≡ Log → HasRead tells counts loans_of faults damages old new None
+      → HasRead tells counts loans_of faults damages old new (Some (Damaged damage))
+  read_wrong damage area read = read_till (Some (Damaged damage)) (λ other is. in_log damage other area is) (no_damage_fault damage) read
+
+  -- damage that is said of another place
+  pub read_elsewhere : {old new : S} (one other : Damage) → other.area ≡ Log → HasRead tells counts loans_of faults damages old new (Some (Damaged one))
+      → HasRead tells counts loans_of faults damages old new (Some (Damaged other))
+  read_elsewhere one other area read = record {
+    told = read.told;
+    count = read.count;
+    loans = read.loans;
+    damage = λ damage is. in_log other damage area is;
+    cause = no_fault _ _ (read.cause.unchanged (no_damage_fault one)) (no_damage_fault other);
+    found = λ undamaged. absurd (undamaged other refl);
+  }
