@@ -64,6 +64,3 @@ script-rule (running.Read stop) rule is = absurd (cc)
 pub reads-running : (stop : ScriptStop) (given : ReadStop) → AnswersRunning stop (Read given) → stop ≡ running.Read given
 reads-running (running.Failed f) given answers = absurd answers
 reads-running (running.Read stop) given answers = cc
-
-pub running-reads : (given : ReadStop) (judged : Judged) → AnswersRunning (running.Read given) judged → judged ≡ Read given
-running-reads given judged answers = answers
