@@ -136,7 +136,7 @@ kept-head n false later kept = absurd (none-some n (sym kept ∙ first_failing-f
 -- It is judged by J17 over the live cells, and then by the rules after it.
 passed : (spec : Specification) (on : List Block) (b : Block) → broken_at_sight spec on b ≡ None
     → first_broken spec on b ≡ first_failing ((17, forms_cellbase (live_cell on) b) ∷ (rules_of_transactions spec on b ++ end_rules spec on b))
-unfolding first_broken, all_rules, broken_at_sight
+unfolding first_broken all_rules broken_at_sight
 passed spec on b kept =
     let header : List (ℕ × Bool) = header_rules spec on b in
     let body : List (ℕ × Bool) = body_rules spec b in

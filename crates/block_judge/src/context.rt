@@ -1,7 +1,5 @@
 // What a block or a transaction is judged on.
-ghost use Rattle.std.specs.Prelude.{◌≡◌, Option, None};
-ghost use Rattle.codec_defs.specs.Schema as schema;
-ghost use Rattle.cell_defs.specs.Row.{Row};
+ghost use Rattle.std.specs.Prelude.{None};
 
 use cell_model::{CellMeta, Cells, OutPoint};
 use chain_tree::Tree;

@@ -6,10 +6,10 @@ use Rattle.block_judge.proofs.SightLemmas.{breaks-header, breaks-body, leaves-fa
 use Rattle.block_judge.proofs.at_sight.judge_at_sight.Goals as goal
 
 pub judge_family-requires-clause-hashes : goal.judge_family-requires-clause-hashes
-judge_family-requires-clause-hashes g c = c.deref.ensures.value ∙ (rw c.in-Ok-Kept.field-0-is at c.in-Ok-Kept.ensures.hashes)
+judge_family-requires-clause-hashes c = c.deref.ensures.value ∙ (rw c.in-Ok-Kept.field-0-is at c.in-Ok-Kept.ensures.hashes)
 
 pub returns-in-Some : goal.returns-in-Some
-returns-in-Some g c = record {
+returns-in-Some c = record {
   hashes = tt;
   tried = λ rule same.
       let its = c.in-Some.ensures.tried in let is : rule_number c.in-Some.rule ≡ rule_number rule = same_rule same in (omega (arith, its.0, is), omega (arith, its.1, is));
@@ -24,7 +24,7 @@ returns-in-Some g c = record {
 }
 
 pub returns-in-Ok-Broken : goal.returns-in-Ok-Broken
-returns-in-Ok-Broken g c = record {
+returns-in-Ok-Broken c = record {
   hashes = tt;
   tried = λ rule same.
       let its = body-rule c.args.context.now.spec.now c.args.block.now (rule_number c.in-Ok-Broken.rule) (sym (rw c.in-Ok-Broken.field-0-is at c.in-Ok-Broken.ensures.broken)) in
@@ -41,7 +41,7 @@ returns-in-Ok-Broken g c = record {
 }
 
 pub returns-in-Err : goal.returns-in-Err
-returns-in-Err g c = record {
+returns-in-Err c = record {
   hashes = tt;
   tried = λ rule same. absurd (no_rule same);
   memory = λ stop same. sym (same_read same);
@@ -53,7 +53,7 @@ returns-in-Err g c = record {
 }
 
 pub returns-in-Err-judge_family : goal.returns-in-Err-judge_family
-returns-in-Err-judge_family g c = record {
+returns-in-Err-judge_family c = record {
   hashes = tt;
   tried = λ rule same. let its = c.in-Err-judge_family.ensures.tried rule (as_step same) in (omega (arith, its.0), its.1);
   memory = λ stop same. c.in-Err-judge_family.ensures.memory stop (as_step same);
@@ -68,7 +68,7 @@ returns-in-Err-judge_family g c = record {
 }
 
 pub returns-in-Ok : goal.returns-in-Ok
-returns-in-Ok g c = record {
+returns-in-Ok c = record {
   hashes = rw c.in-Ok-Kept.field-0-is at c.in-Ok-Kept.ensures.hashes;
   tried = λ rule same. absurd (no_error same);
   memory = λ stop same. absurd (no_error same);

@@ -7,7 +7,7 @@ use Rattle.block_judge.proofs.SightLemmas.{breaks-15, breaks-16, breaks-17, keep
 use Rattle.block_judge.proofs.at_sight.judge_family.Goals as goal
 
 pub returns-in-Err : goal.returns-in-Err
-returns-in-Err g c = record {
+returns-in-Err c = record {
   tried = λ rule same. absurd (no_rule same);
   memory = λ stop same. sym (same_read same);
   some = tt;
@@ -16,7 +16,7 @@ returns-in-Err g c = record {
 }
 
 pub returns-then-not-has_uncles : goal.returns-then-not-has_uncles
-returns-then-not-has_uncles g c = record {
+returns-then-not-has_uncles c = record {
   tried = λ rule same. let is : 15 ≡ rule_number rule = same_rule same in (omega (arith, is), omega (arith, is));
   memory = λ stop same. absurd (no_read same);
   some = tt;
@@ -27,7 +27,7 @@ returns-then-not-has_uncles g c = record {
 }
 
 pub returns-in-Err-has_cellbase : goal.returns-in-Err-has_cellbase
-returns-in-Err-has_cellbase g c = record {
+returns-in-Err-has_cellbase c = record {
   tried = λ rule same. absurd (no_rule same);
   memory = λ stop same. sym (same_read same);
   some = tt;
@@ -36,7 +36,7 @@ returns-in-Err-has_cellbase g c = record {
 }
 
 pub returns-then-not-begins : goal.returns-then-not-begins
-returns-then-not-begins g c = record {
+returns-then-not-begins c = record {
   tried = λ rule same. let is : 16 ≡ rule_number rule = same_rule same in (omega (arith, is), omega (arith, is));
   memory = λ stop same. absurd (no_read same);
   some = tt;
@@ -48,7 +48,7 @@ returns-then-not-begins g c = record {
 }
 
 pub returns-then-not-forms_cellbase : goal.returns-then-not-forms_cellbase
-returns-then-not-forms_cellbase g c = record {
+returns-then-not-forms_cellbase c = record {
   tried = λ rule same. let is : 17 ≡ rule_number rule = same_rule same in (omega (arith, is), omega (arith, is));
   memory = λ stop same. absurd (no_read same);
   some = tt;
@@ -61,7 +61,7 @@ returns-then-not-forms_cellbase g c = record {
 }
 
 pub returns : goal.returns
-returns g c = record {
+returns c = record {
   tried = λ rule same. absurd (no_error same);
   memory = λ stop same. absurd (no_error same);
   some = has-first c.args.block.now (sym c.in-Ok-has_cellbase.ensures ∙ c.if-not-begins.false);

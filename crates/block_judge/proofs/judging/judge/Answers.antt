@@ -43,8 +43,8 @@ returns-in-Err g c = record {
   undamaged = λ stored tells whole damage same. c.in-Err.ensures.undamaged stored tells whole.stands damage (as_step same);
 }
 
-pub returns : goal.returns
-returns g c = record {
+pub returns-in-Err-judge_end : goal.returns-in-Err-judge_end
+returns-in-Err-judge_end g c = record {
   read = read_on c.in-Ok.ensures.read c.in-Err-judge_end.ensures.read;
   tried = λ rule same. let its = c.in-Err-judge_end.ensures.tried rule (as_step same) in (omega (arith, its.0), its.1);
   by_rows = λ live tell.
