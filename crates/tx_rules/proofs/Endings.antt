@@ -1,24 +1,20 @@
--- Where a function ends whose stop may be a broken rule: what it counts of faults, and what its answer is not.
-use Rattle.std.proofs.Common.{◌≡◌, ℕ, Result, Err}
-use Rattle.outside.specs.Causes.{CountsFault}
+-- Where a function ends whose stop may be a broken rule: what its answer is not, and what it leaves of a source that was read before.
+use Rattle.std.proofs.Common.{◌≡◌, ℕ, Bool, List, Option, None, Result, Err, refl}
 use Rattle.outside.specs.declared.disk.Damage.{Damage}
 use Rattle.outside.specs.declared.disk.ReadStop.{ReadStop}
 use Rattle.outside.specs.declared.disk.ReadStop.TheVariants.{DiskFault, NoMemory, Damaged}
-use Rattle.outside.proofs.Endings.{counts-as}
+use Rattle.chain_tree.specs.Told.{Stored}
+use Rattle.chain_tree.specs.Reading.{HasRead}
+use Rattle.chain_tree.proofs.ReadLemmas.{read_short, read_wrong}
 use Rattle.rule_names.specs.declared.rule.Rule.{Rule}
+use Rattle.tx_rules.specs.Reading.{read_stop}
+use Rattle.tx_rules.specs.Steps.{IsStop}
 use Rattle.tx_rules.specs.declared.resolving.TxStop.{TxStop}
 use Rattle.tx_rules.specs.declared.resolving.TxStop.TheVariants.{Broken, Read}
 
 -- a fault of reading, as a stop
 pub fault_read : {T U : Type 0} (stop : ReadStop) → ◌≡◌ {A = Result U TxStop} (Err (Read stop)) (Err (Read DiskFault)) → ◌≡◌ {A = Result T ReadStop} (Err stop) (Err DiskFault)
 fault_read stop same = cc
-
-read_fault : {T U : Type 0} (stop : ReadStop) → ◌≡◌ {A = Result T ReadStop} (Err stop) (Err DiskFault) → ◌≡◌ {A = Result U TxStop} (Err (Read stop)) (Err (Read DiskFault))
-read_fault stop same = cc
-
-pub counts-read : {T U : Type 0} {before now : ℕ} (stop : ReadStop) → CountsFault before now (◌≡◌ {A = Result T ReadStop} (Err stop) (Err DiskFault))
-    → CountsFault before now (◌≡◌ {A = Result U TxStop} (Err (Read stop)) (Err (Read DiskFault)))
-counts-read stop counts = counts-as counts (fault_read stop) (read_fault stop)
 
 pub broken_unread : {T : Type 0} {rule : Rule} (stop : ReadStop) → ◌≡◌ {A = Result T TxStop} (Err (Broken rule)) (Err (Read stop)) → ⊥
 broken_unread stop same = absurd (cc)
@@ -28,3 +24,12 @@ memory_unread same = absurd (cc)
 
 pub damage_unread : {T : Type 0} (damage : Damage) → ◌≡◌ {A = Result T TxStop} (Err (Read (Damaged damage))) (Err (Read DiskFault)) → ⊥
 damage_unread damage same = absurd (cc)
+
+-- a step that reads no kept block and stops, after those that were read to a good end
+pub read_stopped : {T S L : Type 0} {tells : S → Option (List Stored)} {counts : S → ℕ} {loans_of : S → L} {faults damages : S → ℕ} {old new : S}
+    (proposed : Bool) (stop : TxStop) → IsStop proposed stop → (◌≡◌ {A = Result T TxStop} (Err stop) (Err (Read DiskFault)) → ⊥)
+    → HasRead tells counts loans_of faults damages old new None → HasRead tells counts loans_of faults damages old new (read_stop stop)
+read_stopped proposed (Broken rule) stops unread read = read
+read_stopped proposed (Read DiskFault) stops unread read = absurd (unread refl)
+read_stopped proposed (Read NoMemory) stops unread read = read_short read
+read_stopped proposed (Read (Damaged damage)) stops unread read = read_wrong damage refl stops read

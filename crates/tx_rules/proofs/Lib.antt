@@ -10,5 +10,4 @@ pub mod RowRuleLemmas
 pub mod RuleLemmas
 pub mod SearchLemmas
 pub mod SiteLemmas
-pub mod SourceLemmas
 pub mod TakenLemmas

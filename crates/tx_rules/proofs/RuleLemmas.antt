@@ -203,10 +203,6 @@ pub tried-of : {T : Type 0} (proposed : Bool) (result : Result T TxStop) (rule :
     → IsTried proposed (rule_number rule)
 tried-of {T = T} proposed result rule stops same = subst (λ (r : Result T TxStop). Stops proposed r) same stops
 
-pub damage-of : {T : Type 0} (proposed : Bool) (result : Result T TxStop) (damage : Damage) → Stops proposed result
-    → result ≡ Err (Read (Damaged damage)) → damage.area ≡ Log
-damage-of {T = T} proposed result damage stops same = subst (λ (r : Result T TxStop). Stops proposed r) same stops
-
 pub broken-of : {T : Type 0} (proposed : Bool) (site : Site) (t : Transaction) (result : Result T TxStop) (rule : Rule)
     → Tells (finding_rules proposed site t ++ paying_rules site t) result → result ≡ Err (Broken rule)
     → first_failing (rules_to_27 proposed site t) ≡ Some (rule_number rule)

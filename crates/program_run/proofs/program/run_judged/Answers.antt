@@ -21,6 +21,7 @@ returns-in-Err g c = record {
   loading = λ is. refl;
   running = λ items told is. absurd (not-running NoMemory is);
   cause = counts-none _ _ (not-running DiskFault);
+  answered = λ none. refl;
   undamaged = λ told damage is. not-running (Damaged damage) is;
   damage = λ damage is. absurd (not-running (Damaged damage) is);
 }
@@ -44,6 +45,7 @@ returns-in-Err-run g c = record {
       (wants-beyond items (IsAllocated old.allocated) (λ page. HoldsBytes page judged.segments) old.machine allocated
       (c.in-Err-run.ensures.wants items told (same-stop c.in-Err-run.stop NoMemory running)));
   cause = counts-as (same-running c.in-Err-run.stop DiskFault) (same-stop c.in-Err-run.stop DiskFault) c.in-Err-run.ensures.cause;
+  answered = λ none. c.in-Err-run.ensures.answered (λ damage is. none damage (same-running c.in-Err-run.stop (Damaged damage) is));
   undamaged = λ told damage is. c.in-Err-run.ensures.undamaged told damage (same-stop c.in-Err-run.stop (Damaged damage) is);
   damage = λ damage is. c.in-Err-run.ensures.damage damage (same-stop c.in-Err-run.stop (Damaged damage) is);
 }
@@ -67,6 +69,7 @@ returns g c =
       loading = λ is. absurd (no-error _ _ is);
       running = λ items told is. absurd (no-error _ _ is);
       cause = counts-as (λ is. absurd (no-error _ _ is)) (λ is. absurd (no-error _ _ is)) c.in-Ok-run.ensures.cause;
+      answered = λ none. c.in-Ok-run.ensures.answered (λ damage. no-error _ _);
       undamaged = λ told damage. no-error _ _;
       damage = λ damage is. absurd (no-error _ _ is);
     }

@@ -1,9 +1,10 @@
-use Rattle.std.proofs.Common.{◌≡◌, ◌+◌, ◌<◌, ℕ, List, Option, length, refl, sym, ap, ◌∙◌, subst, arith}
+use Rattle.std.proofs.Common.{◌≡◌, ◌+◌, ◌<◌, ℕ, List, Option, length, sym, ap, ◌∙◌, subst, arith}
 use Rattle.std.proofs.lemmas.List.{length_push}
 use Rattle.std.specs.Prelude.{IsSome}
 use Rattle.chain_defs.specs.Branch.{distance}
 use Rattle.chain_tree.specs.Told.{Stored, blocks_of}
 use Rattle.chain_tree.proofs.BlockLemmas.{len-same}
+use Rattle.chain_tree.proofs.ReadLemmas.{unread, read_on}
 use Rattle.cell_defs.specs.Row.{live_row}
 use Rattle.cell_state.specs.State.{rows}
 use Rattle.outside.proofs.Endings.{handed}
@@ -19,10 +20,7 @@ down-init g c =
     let none = c.new-up.ensures.items in
     let long : length c.new-up.result.items ≡ 0 = ap length none in
     record {
-      told = refl;
-      count = refl;
-      loans = refl;
-      faults = refl;
+      read = unread c.args.blocks.now;
       low = c.requires.from;
       high = c.requires.to;
       within = each-none (λ place. place < length c.args.tree.now.entries) c.new-up.result.items none;
@@ -38,10 +36,7 @@ down-preserved-in-Some g c =
     let grown = c.in-Ok.ensures.items in
     let more : length c.push.new.self.items ≡ length c.down.up.items + 1 = ap length grown ∙ length_push c.down.up.items c.down.high in
     record {
-      told = c.down.invariant.told;
-      count = c.down.invariant.count;
-      loans = c.down.invariant.loans;
-      faults = c.down.invariant.faults;
+      read = c.down.invariant.read;
       low = c.down.invariant.low;
       high = c.in-Some.ensures.within;
       within = each-more (λ place. place < length c.args.tree.now.entries) c.down.up.items c.push.new.self.items c.down.high grown c.down.invariant.high c.down.invariant.within;
@@ -67,7 +62,7 @@ pub returns-in-Err-undo_at-clause-undamaged : goal.returns-in-Err-undo_at-clause
 returns-in-Err-undo_at-clause-undamaged g c stored tells indexes each are damage same =
     let it = stored-there stored c.args.tree.now.entries c.down.low indexes c.down.invariant.low in
     let parent = parent-there (blocks_of stored) c.args.tree.now.entries c.down.low indexes c.down.invariant.low (omega arith) in
-    c.in-Err-undo_at.ensures.undamaged stored it.0 (live_row (blocks_of stored) parent.0) (c.down.invariant.told ∙ tells) it.1
+    c.in-Err-undo_at.ensures.undamaged stored it.0 (live_row (blocks_of stored) parent.0) (c.down.invariant.read.told ∙ tells) it.1
     (taken-here stored c.down.low parent.0 it.0 (rows c.down.state) each it.1 parent.1 (c.down.invariant.rows stored tells indexes each are))
     damage (handed c.in-Err-undo_at.stop _ same)
 
@@ -81,10 +76,7 @@ returns-in-Err-undo_at-clause-most g c kept indexes =
 
 pub down-preserved : goal.down-preserved
 down-preserved g c = record {
-  told = c.in-Ok-undo_at.ensures.told ∙ c.down.invariant.told;
-  count = c.in-Ok-undo_at.ensures.count ∙ c.down.invariant.count;
-  loans = c.in-Ok-undo_at.ensures.loans ∙ c.down.invariant.loans;
-  faults = c.in-Ok-undo_at.ensures.cause.unchanged (λ fault. cc) ∙ c.down.invariant.faults;
+  read = read_on c.down.invariant.read c.in-Ok-undo_at.ensures.read;
   low = c.in-Some-parent_in.ensures.within;
   high = c.down.invariant.high;
   within = c.down.invariant.within;
@@ -94,7 +86,7 @@ down-preserved g c = record {
   on_way = c.down.invariant.on_way;
   rows = λ stored tells indexes each are.
       let it = stored-there stored c.args.tree.now.entries c.down.low indexes c.down.invariant.low in
-      c.in-Ok-undo_at.ensures.rows stored it.0 (live_row (blocks_of stored) c.in-Some-parent_in.parent) (c.down.invariant.told ∙ tells) it.1
+      c.in-Ok-undo_at.ensures.rows stored it.0 (live_row (blocks_of stored) c.in-Some-parent_in.parent) (c.down.invariant.read.told ∙ tells) it.1
       (taken-here stored c.down.low c.in-Some-parent_in.parent it.0 (rows c.down.state) each it.1
       (sym (c.in-Some-parent_in.ensures.of_blocks (blocks_of stored) indexes)) (c.down.invariant.rows stored tells indexes each are));
   steps = λ kept indexes.
@@ -116,6 +108,6 @@ returns-in-Err-undo_at-clause-at_record g c kept indexes tells damage same = (
   c.down.low,
   (
     c.down.invariant.way kept indexes c.down.low (low-on-way kept c.down.low c.down.high (omega arith)),
-    c.in-Err-undo_at.ensures.at_record (subst (λ (told : Option (List Stored)). IsSome told) (sym c.down.invariant.told) tells) damage (handed c.in-Err-undo_at.stop _ same),
+    c.in-Err-undo_at.ensures.at_record (subst (λ (told : Option (List Stored)). IsSome told) (sym c.down.invariant.read.told) tells) damage (handed c.in-Err-undo_at.stop _ same),
   ),
 )

@@ -1,9 +1,10 @@
-use Rattle.std.proofs.Common.{◌≡◌, ◌+◌, ◌<◌, ℕ, List, Some, length}
+use Rattle.std.proofs.Common.{◌≡◌, ◌+◌, ◌<◌, ℕ, List, Some, None, length}
 use Rattle.std.specs.Prelude.{slice_get}
 use Rattle.codec_defs.specs.Schema.{Block}
 use Rattle.chain_defs.specs.Branch.{distance}
 use Rattle.chain_tree.specs.Blocks.{IndexesBlocks}
 use Rattle.chain_tree.specs.Told.{Stored, blocks_of}
+use Rattle.chain_tree.specs.Reading.{HasRead}
 use Rattle.cell_state.specs.State.{rows}
 use Rattle.reorg.specs.Moves.{EachCanBeTakenBack, AreOf, IsPathUp, IsOnTheWay, AreOnTheWay}
 use Rattle.reorg.proofs.moving.go_down.Given as goal
@@ -13,10 +14,7 @@ use Rattle.reorg.proofs.moving.go_down.Given as goal
 -- What is on the way between the two was so at first.
 abbrev pub invariant-down : goal.invariant-down
 invariant-down g l = record {
-  told : g.B.Blocks.told l.blocks ≡ g.B.Blocks.told l.fn.blocks;
-  count : g.B.Blocks.count l.blocks ≡ g.B.Blocks.count l.fn.blocks;
-  loans : g.B.Blocks.loans_of l.blocks ≡ g.B.Blocks.loans_of l.fn.blocks;
-  faults : g.B.Blocks.faults l.blocks ≡ g.B.Blocks.faults l.fn.blocks;
+  read : HasRead g.B.Blocks.told g.B.Blocks.count g.B.Blocks.loans_of g.B.Blocks.faults g.B.Blocks.damages l.fn.blocks l.blocks None;
   low : l.low < length l.tree.entries;
   high : l.high < length l.tree.entries;
   within : (i place : ℕ) → slice_get l.up.items i ≡ Some place → place < length l.tree.entries;

@@ -2,6 +2,7 @@ use Rattle.std.proofs.Common.{◌≡◌, ◌+◌, ◌-◌, ◌<◌, ℕ, List, O
 use Rattle.std.specs.Prelude.{slice_get, IsSome}
 use Rattle.chain_defs.specs.Branch.{branch_places}
 use Rattle.chain_tree.specs.Told.{Stored, blocks_of}
+use Rattle.chain_tree.proofs.ReadLemmas.{read_on}
 use Rattle.cell_state.specs.State.{rows}
 use Rattle.outside.proofs.Endings.{handed}
 use Rattle.replay.proofs.StepLemmas.{AreRowsAt, block-there, rows-next, fits-here}
@@ -18,7 +19,7 @@ returns-in-Err-apply_at-clause-undamaged g c stored tells indexes each are fits 
     let here = block-there (blocks_of stored) c.args.tree.now.entries c.index-place.result.now indexes (c.in-Ok.ensures.within _ _ there) in
     let height = height_after (blocks_of stored) c.args.to c.in-Ok.down.1.items c.up.i in
     let on = on-path (blocks_of stored) c.args.to c.in-Ok.down.1.items _ c.up.i c.index-place.result.now (c.in-Ok.ensures.path (blocks_of stored) indexes) below there in
-    c.in-Err-apply_at.ensures.undamaged stored here.0 (height + 1) (c.up.invariant.told ∙ tells) here.1 (omega arith)
+    c.in-Err-apply_at.ensures.undamaged stored here.0 (height + 1) (c.up.invariant.read.told ∙ tells) here.1 (omega arith)
     (fits-here (blocks_of stored) c.args.to height c.index-place.result.now here.0 (rows c.up.state) fits on here.1 (c.up.invariant.rows stored tells indexes each are))
     damage (handed c.in-Err-apply_at.stop _ same)
 
@@ -30,10 +31,7 @@ up-preserved g c =
     let there = read-at c.in-Ok.down.1.items c.up.i c.index-place.result.now below
     (c.index-place.ensures ∙ ap (λ (n : ℕ). get_or c.in-Ok.down.1.items (n - c.up.i - 1) c.index-place.result.now) long) in
     record {
-      told = c.in-Ok-apply_at.ensures.told ∙ c.up.invariant.told;
-      count = c.in-Ok-apply_at.ensures.count ∙ c.up.invariant.count;
-      loans = c.in-Ok-apply_at.ensures.loans ∙ c.up.invariant.loans;
-      faults = c.in-Ok-apply_at.ensures.cause.unchanged (λ fault. cc) ∙ c.up.invariant.faults;
+      read = read_on c.up.invariant.read c.in-Ok-apply_at.ensures.read;
       most = omega (arith, below);
       rows = λ stored tells indexes each are.
           let here = block-there (blocks_of stored) c.args.tree.now.entries c.index-place.result.now indexes (c.in-Ok.ensures.within _ _ there) in
@@ -43,7 +41,7 @@ up-preserved g c =
           subst (λ (n : ℕ). AreRowsAt (blocks_of stored) c.args.to n (rows c.apply_at.new.state)) next
           (rows-next (blocks_of stored) c.args.to height c.index-place.result.now here.0 (rows c.up.state) (rows c.apply_at.new.state) on here.1
           (c.up.invariant.rows stored tells indexes each are)
-          (c.in-Ok-apply_at.ensures.rows stored here.0 (c.up.invariant.told ∙ tells) here.1));
+          (c.in-Ok-apply_at.ensures.rows stored here.0 (c.up.invariant.read.told ∙ tells) here.1));
       steps = λ kept indexes.
           let before = c.up.invariant.steps kept indexes in
           let one = c.in-Ok-apply_at.ensures.steps in
@@ -69,6 +67,6 @@ returns-in-Err-apply_at-clause-at_record g c kept indexes tells damage same =
       c.index-place.result.now,
       (
         c.in-Ok.ensures.on_way kept indexes _ _ there,
-        c.in-Err-apply_at.ensures.at_record (subst (λ (told : Option (List Stored)). IsSome told) (sym c.up.invariant.told) tells) damage (handed c.in-Err-apply_at.stop _ same),
+        c.in-Err-apply_at.ensures.at_record (subst (λ (told : Option (List Stored)). IsSome told) (sym c.up.invariant.read.told) tells) damage (handed c.in-Err-apply_at.stop _ same),
       ),
     )

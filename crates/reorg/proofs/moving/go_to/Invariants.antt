@@ -1,9 +1,10 @@
-use Rattle.std.proofs.Common.{◌≡◌, ◌+◌, ◌≤◌, ℕ, List, Some, length}
+use Rattle.std.proofs.Common.{◌≡◌, ◌+◌, ◌≤◌, ℕ, List, Some, None, length}
 use Rattle.std.specs.Prelude.{slice_get}
 use Rattle.codec_defs.specs.Schema.{OutPoint, Block}
 use Rattle.chain_defs.specs.Branch.{branch_places, distance}
 use Rattle.chain_tree.specs.Blocks.{IndexesBlocks}
 use Rattle.chain_tree.specs.Told.{Stored, blocks_of}
+use Rattle.chain_tree.specs.Reading.{HasRead}
 use Rattle.cell_defs.specs.Row.{live_row}
 use Rattle.cell_state.specs.State.{rows}
 use Rattle.reorg.specs.Moves.{EachCanBeTakenBack, AreOf}
@@ -13,10 +14,7 @@ use Rattle.reorg.proofs.moving.go_to.Given as goal
 -- The rows are those of the branch of the place that was reached last, and the steps are all but as many as there are places left.
 abbrev pub invariant-up : goal.invariant-up
 invariant-up g l = record {
-  told : g.B.Blocks.told l.blocks ≡ g.B.Blocks.told l.fn.blocks;
-  count : g.B.Blocks.count l.blocks ≡ g.B.Blocks.count l.fn.blocks;
-  loans : g.B.Blocks.loans_of l.blocks ≡ g.B.Blocks.loans_of l.fn.blocks;
-  faults : g.B.Blocks.faults l.blocks ≡ g.B.Blocks.faults l.fn.blocks;
+  read : HasRead g.B.Blocks.told g.B.Blocks.count g.B.Blocks.loans_of g.B.Blocks.faults g.B.Blocks.damages l.fn.blocks l.blocks None;
   most : l.i ≤ length l.up.items;
   rows : (stored : List Stored) → g.B.Blocks.told l.fn.blocks ≡ Some stored → IndexesBlocks (blocks_of stored) l.tree.entries → EachCanBeTakenBack stored
       → AreOf (blocks_of stored) l.from (rows l.fn.state) → (place : ℕ)

@@ -1,87 +1,72 @@
-use Rattle.std.proofs.Common.{◌≡◌, sym, ap, ◌∙◌, subst, arith}
+use Rattle.std.proofs.Common.{◌≡◌, refl, sym, ap, ◌∙◌, subst, arith}
 use Rattle.codec_defs.specs.Schema.{Block}
 use Rattle.cell_defs.specs.Events.{events_of_block}
 use Rattle.cell_defs.specs.Row.{row_after}
 use Rattle.cell_defs.specs.Fit.{are_live, AllFit}
 use Rattle.cell_laws.proofs.FitLemmas.{found-same}
 use Rattle.cell_state.specs.State.{rows}
-use Rattle.outside.proofs.Endings.{no_fault, handed, counts-handed, no_answer, no_memory, no_damage, memory_undamaged, in_log, is_told}
+use Rattle.outside.proofs.Endings.{handed, no_answer, memory_undamaged, is_told}
+use Rattle.chain_tree.proofs.ReadLemmas.{read_short, read_wrong}
 use Rattle.replay.proofs.RowLemmas.{row_after-same}
 use Rattle.replay.proofs.FitLemmas.{told-block, none-odd, at-record}
 use Rattle.replay.proofs.applying.apply_at.Goals as goal
 
 pub returns-in-Err : goal.returns-in-Err
 returns-in-Err g c = record {
-  told = c.in-Err.ensures.told;
-  count = c.in-Err.ensures.count;
-  loans = c.in-Err.ensures.loans;
+  read = c.in-Err.ensures.read;
   rows = λ stored b tells there. tt;
   fit = λ stored b tells there. tt;
-  undamaged = λ stored b height tells there above fit damage same. c.in-Err.ensures.cause.undamaged (is_told _ stored tells) damage (handed c.in-Err.stop _ same);
-  damage = λ damage same. c.in-Err.ensures.damage damage (handed c.in-Err.stop _ same);
-  at_record = λ tells damage same. absurd (c.in-Err.ensures.cause.undamaged tells damage (handed c.in-Err.stop _ same));
-  cause = counts-handed c.in-Err.stop _ c.in-Err.ensures.cause.counts;
+  undamaged = λ stored b height tells there above fit damage same. c.in-Err.ensures.undamaged (is_told _ stored tells) damage (handed c.in-Err.stop _ same);
+  at_record = λ tells damage same. absurd (c.in-Err.ensures.undamaged tells damage (handed c.in-Err.stop _ same));
   steps = tt;
   most = omega arith;
 }
 
 pub returns-in-Err-reserve : goal.returns-in-Err-reserve
 returns-in-Err-reserve g c = record {
-  told = c.in-Ok.ensures.told;
-  count = c.in-Ok.ensures.count;
-  loans = c.in-Ok.ensures.loans;
+  read = read_short c.in-Ok.ensures.read;
   rows = λ stored b tells there. tt;
   fit = λ stored b tells there. tt;
   undamaged = λ stored b height tells there above fit damage same. memory_undamaged damage same;
-  damage = λ damage same. absurd (memory_undamaged damage same);
   at_record = λ tells damage same. absurd (memory_undamaged damage same);
-  cause = no_fault _ _ (c.in-Ok.ensures.cause.counts.unchanged (no_answer _ _)) no_memory;
   steps = tt;
   most = omega arith;
 }
 
 pub returns-in-Ok-apply : goal.returns-in-Ok-apply
 returns-in-Ok-apply g c = record {
-  told = c.in-Ok.ensures.told;
-  count = c.in-Ok.ensures.count;
-  loans = c.in-Ok.ensures.loans;
+  read = c.in-Ok.ensures.read;
   rows = λ stored b tells there height o above.
       let is : c.block-block.result ≡ b =
-      told-block stored c.block-block.result c.args.place b _ _ (c.in-Ok.ensures.told ∙ tells) c.in-Ok.ensures.taken c.block-block.ensures there in
+      told-block stored c.block-block.result c.args.place b _ _ (c.in-Ok.ensures.read.told ∙ tells) c.in-Ok.ensures.taken c.block-block.ensures there in
       c.in-Ok-apply.ensures.rows height o above
       ∙ row_after-same c.args.place (events_of_block height c.block-block.result) (rows c.reserve.new.self) (rows c.args.state.now) o (c.in-Ok-reserve.ensures.rows o)
       ∙ ap (λ (x : Block). row_after c.args.place (events_of_block height x) (rows c.args.state.now) o) is;
   fit = λ stored b tells there height above.
       let is : c.block-block.result ≡ b =
-      told-block stored c.block-block.result c.args.place b _ _ (c.in-Ok.ensures.told ∙ tells) c.in-Ok.ensures.taken c.block-block.ensures there in
+      told-block stored c.block-block.result c.args.place b _ _ (c.in-Ok.ensures.read.told ∙ tells) c.in-Ok.ensures.taken c.block-block.ensures there in
       subst (λ (x : Block). AllFit (events_of_block height x) (are_live (rows c.args.state.now))) is
       (found-same (events_of_block height c.block-block.result) (rows c.reserve.new.self) (rows c.args.state.now) (λ o. sym (c.in-Ok-reserve.ensures.rows o))
       (c.in-Ok-apply.ensures.fit height above));
   undamaged = λ stored b height tells there above fit damage same. no_answer _ _ same;
-  damage = λ damage same. absurd (no_answer _ _ same);
   at_record = λ tells damage same. absurd (no_answer _ _ same);
-  cause = no_fault _ _ (c.in-Ok.ensures.cause.counts.unchanged (no_answer _ _)) (no_answer _ _);
   steps = c.in-Ok-apply.ensures.steps;
   most = let one = c.in-Ok-apply.ensures.steps in omega (arith, one);
 }
 
 pub returns-in-Err-apply : goal.returns-in-Err-apply
 returns-in-Err-apply g c = record {
-  told = c.in-Ok.ensures.told;
-  count = c.in-Ok.ensures.count;
-  loans = c.in-Ok.ensures.loans;
+  read = read_wrong c.damage_at.result refl c.damage_at.ensures.area c.in-Ok.ensures.read;
   rows = λ stored b tells there. tt;
   fit = λ stored b tells there. tt;
   undamaged = λ stored b height tells there above fit damage same.
       let is : c.block-block.result ≡ b =
-      told-block stored c.block-block.result c.args.place b _ _ (c.in-Ok.ensures.told ∙ tells) c.in-Ok.ensures.taken c.block-block.ensures there in
+      told-block stored c.block-block.result c.args.place b _ _ (c.in-Ok.ensures.read.told ∙ tells) c.in-Ok.ensures.taken c.block-block.ensures there in
       none-odd (events_of_block height c.block-block.result) (are_live (rows c.reserve.new.self)) c.in-Err-apply.field-0
       (found-same (events_of_block height c.block-block.result) (rows c.args.state.now) (rows c.reserve.new.self) c.in-Ok-reserve.ensures.rows
       (subst (λ (x : Block). AllFit (events_of_block height x) (are_live (rows c.args.state.now))) (sym is) fit))
       (c.in-Err-apply.ensures.odd height above);
-  damage = λ damage same. in_log c.damage_at.result damage c.damage_at.ensures.area same;
   at_record = λ tells damage same. at-record c.args.tree.now.entries c.args.place c.damage_at.result damage c.damage_at.ensures.at same;
-  cause = no_fault _ _ (c.in-Ok.ensures.cause.counts.unchanged (no_answer _ _)) (no_damage _);
   steps = tt;
   most = let one = c.in-Err-apply.ensures.steps in omega (arith, one);
 }

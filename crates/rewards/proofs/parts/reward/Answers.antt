@@ -1,6 +1,7 @@
 use Rattle.std.proofs.Common.{◌∙◌}
 use Rattle.chain_tree.specs.Told.{blocks_of}
 use Rattle.reward_defs.specs.Reward.{part}
+use Rattle.chain_tree.proofs.ReadLemmas.{read_on}
 use Rattle.rewards.proofs.ReadLemmas.{not_damaged}
 use Rattle.rewards.proofs.parts.reward.Goals as goal
 
@@ -8,9 +9,15 @@ pub returns-in-Err-clause-undamaged : goal.returns-in-Err-clause-undamaged
 returns-in-Err-clause-undamaged g c stored tells indexes own damage same =
     not_damaged c.in-Err.stop damage (c.in-Err.ensures.sum c.args.spec.now stored (record { is = tells; indexes = indexes; own = own })) same
 
+pub returns-in-Err-proposed_by-clause-read : goal.returns-in-Err-proposed_by-clause-read
+returns-in-Err-proposed_by-clause-read g c = read_on c.in-Ok.ensures.read c.in-Err-proposed_by.ensures.read
+
+pub returns-clause-read : goal.returns-clause-read
+returns-clause-read g c = read_on c.in-Ok.ensures.read c.in-Ok-proposed_by.ensures.read
+
 pub returns-clause-reward : goal.returns-clause-reward
 unfolding part
 returns-clause-reward g c stored tells indexes own =
     c.plus-2.ensures _ _
     (c.plus.ensures _ _ (c.issued.ensures (blocks_of stored) indexes) (c.in-Ok.ensures.sum c.args.spec.now stored (record { is = tells; indexes = indexes; own = own })))
-    (c.in-Ok-proposed_by.ensures.sum stored (record { is = c.in-Ok.ensures.reads.told ∙ tells; indexes = indexes; own = own }))
+    (c.in-Ok-proposed_by.ensures.sum stored (record { is = c.in-Ok.ensures.read.told ∙ tells; indexes = indexes; own = own }))

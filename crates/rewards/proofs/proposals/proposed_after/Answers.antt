@@ -6,7 +6,8 @@ use Rattle.time_defs.specs.Dao.{as_u64}
 use Rattle.chain_defs.specs.Branch.{branch}
 use Rattle.chain_tree.specs.Told.{blocks_of}
 use Rattle.reward_defs.specs.Reward.{proposer_part}
-use Rattle.rewards.proofs.ReadLemmas.{unread, read_well, read_more, read_after, read_enough, tells_still}
+use Rattle.chain_tree.proofs.ReadLemmas.{unread, read_on}
+use Rattle.rewards.proofs.ReadLemmas.{tells_still}
 use Rattle.rewards.proofs.StartLemmas.{window-order}
 use Rattle.rewards.proofs.PartLemmas.{part-more, part-whole}
 use Rattle.rewards.proofs.proposals.proposed_after.Goals as goal
@@ -22,7 +23,7 @@ commits-init g c = record {
 
 pub commits-preserved : goal.commits-preserved
 commits-preserved g c = record {
-  read = read_more c.commits.invariant.read (read_well _ c.in-Ok.ensures.reads);
+  read = read_on c.commits.invariant.read c.in-Ok.ensures.read;
   sum = λ stored tells starts.
       let close : c.args.proposer + c.from.result ≡ c.args.proposer + c.args.spec.now.w_close =
       ap (λ (n : ℕ). c.args.proposer + n) (c.from.ensures ∙ ap (λ spec. spec.w_close) c.spec.view_is) in
@@ -34,13 +35,13 @@ commits-preserved g c = record {
 
 pub returns-in-Err : goal.returns-in-Err
 returns-in-Err g c = record {
-  reads = read_after c.commits.invariant.read c.in-Err.ensures.reads;
+  read = read_on c.commits.invariant.read c.in-Err.ensures.read;
   sum = λ stored tells starts. c.in-Err.ensures.sum c.args.spec.now stored (tells_still c.commits.invariant.read.told tells);
 }
 
 pub returns : goal.returns
 returns g c = record {
-  reads = read_enough _ c.commits.invariant.read;
+  read = c.commits.invariant.read;
   sum = λ stored tells starts.
       let close : c.from.result ≡ c.args.spec.now.w_close = c.from.ensures ∙ ap (λ spec. spec.w_close) c.spec.view_is in
       let far : c.from-2.result ≡ c.args.spec.now.w_far = c.from-2.ensures ∙ ap (λ spec. spec.w_far) c.spec.view_is in

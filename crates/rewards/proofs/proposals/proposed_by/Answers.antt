@@ -5,6 +5,7 @@ use Rattle.time_defs.specs.Dao.{as_u64}
 use Rattle.chain_defs.specs.Branch.{branch}
 use Rattle.chain_tree.specs.Told.{blocks_of}
 use Rattle.chain_tree.proofs.EntryLemmas.{there-within}
+use Rattle.chain_tree.proofs.ReadLemmas.{read_on}
 use Rattle.rewards.proofs.ReadLemmas.{tells_still}
 use Rattle.rewards.proofs.BranchLemmas.{ids-there}
 use Rattle.rewards.proofs.PartLemmas.{none-proposed}
@@ -17,17 +18,23 @@ returns-then-is_empty-clause-sum g c stored tells =
     (there-within c.args.tree.now.entries c.args.parent _ c.requires.far) (c.place_at-place.ensures.of_blocks (blocks_of stored) tells.indexes)
     (c.in-Ok.ensures.ids stored tells.is ∙ ap (λ (l : List (List ℕ)). Some l) (nil_from_length c.in-Ok.ids.items (grind (arith, common_steps))))))
 
+pub returns-in-Ok-starts_at-clause-read : goal.returns-in-Ok-starts_at-clause-read
+returns-in-Ok-starts_at-clause-read g c = read_on c.in-Ok.ensures.read (read_on c.in-Ok-starts_at.ensures.read c.proposed_after.ensures.read)
+
 pub returns-in-Ok-starts_at-clause-sum : goal.returns-in-Ok-starts_at-clause-sum
 returns-in-Ok-starts_at-clause-sum g c stored tells =
-    c.proposed_after.ensures.sum stored (tells_still (c.in-Ok-starts_at.ensures.reads.told ∙ c.in-Ok.ensures.told) tells)
-    (c.in-Ok-starts_at.ensures.starts stored (c.in-Ok.ensures.told ∙ tells.is) tells.indexes
+    c.proposed_after.ensures.sum stored (tells_still (c.in-Ok-starts_at.ensures.read.told ∙ c.in-Ok.ensures.read.told) tells)
+    (c.in-Ok-starts_at.ensures.starts stored (c.in-Ok.ensures.read.told ∙ tells.is) tells.indexes
     (ids-there (blocks_of stored) c.args.tree.now.entries c.args.parent c.args.height c.place_at-place.result c.deref.result.now tells.indexes
     (there-within c.args.tree.now.entries c.args.parent _ c.requires.far) (c.place_at-place.ensures.of_blocks (blocks_of stored) tells.indexes)
     (c.in-Ok.ensures.ids stored tells.is ∙ ap (λ (l : List (List ℕ)). Some l) (sym c.deref.ensures.value))))
 
+pub returns-clause-read : goal.returns-clause-read
+returns-clause-read g c = read_on c.in-Ok.ensures.read c.in-Err-starts_at.ensures.read
+
 pub returns-clause-sum : goal.returns-clause-sum
 returns-clause-sum g c stored tells =
-    c.in-Err-starts_at.ensures.starts stored (c.in-Ok.ensures.told ∙ tells.is) tells.indexes
+    c.in-Err-starts_at.ensures.starts stored (c.in-Ok.ensures.read.told ∙ tells.is) tells.indexes
     (ids-there (blocks_of stored) c.args.tree.now.entries c.args.parent c.args.height c.place_at-place.result c.deref.result.now tells.indexes
     (there-within c.args.tree.now.entries c.args.parent _ c.requires.far) (c.place_at-place.ensures.of_blocks (blocks_of stored) tells.indexes)
     (c.in-Ok.ensures.ids stored tells.is ∙ ap (λ (l : List (List ℕ)). Some l) (sym c.deref.ensures.value)))

@@ -5,7 +5,7 @@ use Rattle.chain_defs.specs.Branch.{branch}
 use Rattle.chain_tree.specs.Told.{blocks_of}
 use Rattle.chain_tree.proofs.EntryLemmas.{there-within}
 use Rattle.proposal_window.proofs.BranchLemmas.{proposes-at-place}
-use Rattle.rewards.proofs.ReadLemmas.{unread, read_well, read_more, read_after, read_enough}
+use Rattle.chain_tree.proofs.ReadLemmas.{unread, read_on}
 use Rattle.rewards.proofs.StartLemmas.{AreMoved, moved-first, moved-by, moved-next, window-order, starts-all}
 use Rattle.rewards.proofs.starts.move_over.Goals as goal
 
@@ -18,7 +18,7 @@ lower-init g c = record {
 
 pub lower-preserved : goal.lower-preserved
 lower-preserved g c = record {
-  read = read_more c.lower.invariant.read (read_well _ c.in-Ok.ensures.reads);
+  read = read_on c.lower.invariant.read c.in-Ok.ensures.read;
   moved = λ stored tells indexes starts.
       moved-next c.args.spec.now.w_far (branch (blocks_of stored) c.args.parent) c.args.proposer c.saturating_sub-low.result c.lower.height
       (get bytes_eq c.lower.starts) (get bytes_eq c.move_at.new.starts) (c.lower.invariant.moved stored tells indexes starts) c.lower.auto.height
@@ -31,13 +31,13 @@ lower-preserved g c = record {
 
 pub returns-in-Err : goal.returns-in-Err
 returns-in-Err g c = record {
-  reads = read_after c.lower.invariant.read c.in-Err.ensures.reads;
+  read = read_on c.lower.invariant.read c.in-Err.ensures.read;
   starts = λ stored tells indexes starts. c.in-Err.ensures.moved stored (c.lower.invariant.read.told ∙ tells);
 }
 
 pub returns : goal.returns
 returns g c = record {
-  reads = read_enough _ c.lower.invariant.read;
+  read = c.lower.invariant.read;
   starts = λ stored tells indexes starts.
       let close : c.from.result ≡ c.args.spec.now.w_close = c.from.ensures ∙ ap (λ spec. spec.w_close) c.spec.view_is in
       let far : c.from-far.result ≡ c.args.spec.now.w_far = c.from-far.ensures ∙ ap (λ spec. spec.w_far) c.spec.view_is in

@@ -1,17 +1,16 @@
-use Rattle.std.proofs.Common.{◌≡◌, Option, refl, sym, ap, subst, ◌∙◌}
-use Rattle.outside.specs.declared.disk.ReadStop.{ReadStop}
+use Rattle.std.proofs.Common.{◌≡◌, refl, sym, ap, ◌∙◌}
 use Rattle.cell_model.specs.Copies.{ResolvedTxValue}
 use Rattle.script_defs.specs.Codes.{NoCode, ManyCodes, code_of, is_type_id}
-use Rattle.script_run.specs.Running.{HasRead}
 use Rattle.script_run.specs.Shown.{GroupValue, ShownTxValue}
 use Rattle.script_run.proofs.ShowingLemmas.{shown-over}
-use Rattle.script_run.proofs.ReadLemmas.{not-there, unread}
+use Rattle.chain_tree.proofs.ReadLemmas.{unread, read_so}
+use Rattle.script_run.proofs.ReadLemmas.{not-there}
 use Rattle.script_run.proofs.RunningLemmas.{answer-within, as-expected, deps-shown, no-read-stop, of-code, of-execution, of-type-id}
 use Rattle.script_run.proofs.running.run_group.Goals as goal
 
 pub returns-then-is_type_id : goal.returns-then-is_type_id
 returns-then-is_type_id g c = record {
-  reads = unread _ _ _ _ _ _ (no-read-stop c.run_type_id.result c.answered.result c.answered.ensures);
+  read = read_so (no-read-stop c.run_type_id.result c.answered.result c.answered.ensures) (unread c.args.blocks.now);
   within = answer-within c.run_type_id.result c.answered.result c.args.left c.answered.ensures c.run_type_id.ensures.within;
   exact = λ stored scene tells shown its_hash.
       let script : c.group.inside.script ≡ c.args.group.now.group.script = ap (λ (it : GroupValue). it.group.script) c.group.view_is in
@@ -27,7 +26,7 @@ returns-then-is_type_id g c = record {
 
 pub returns-in-NoCode : goal.returns-in-NoCode
 returns-in-NoCode g c = record {
-  reads = unread _ _ _ _ _ _ refl;
+  read = unread c.args.blocks.now;
   within = tt;
   exact = λ stored scene tells shown its_hash.
       let script : c.group.inside.script ≡ c.args.group.now.group.script = ap (λ (it : GroupValue). it.group.script) c.group.view_is in
@@ -39,7 +38,7 @@ returns-in-NoCode g c = record {
 
 pub returns-in-ManyCodes : goal.returns-in-ManyCodes
 returns-in-ManyCodes g c = record {
-  reads = unread _ _ _ _ _ _ refl;
+  read = unread c.args.blocks.now;
   within = tt;
   exact = λ stored scene tells shown its_hash.
       let script : c.group.inside.script ≡ c.args.group.now.group.script = ap (λ (it : GroupValue). it.group.script) c.group.view_is in
@@ -51,8 +50,7 @@ returns-in-ManyCodes g c = record {
 
 pub returns-in-Ok : goal.returns-in-Ok
 returns-in-Ok g c = record {
-  reads = subst (λ (stop : Option ReadStop). HasRead g.B.Blocks.told g.B.Blocks.count g.B.Blocks.loans_of g.B.Blocks.faults c.args.blocks.now c.run_code.new.blocks stop)
-      (no-read-stop c.executed.result c.answered-in-Ok.result c.answered-in-Ok.ensures) c.in-Ok.ensures.reads;
+  read = read_so (no-read-stop c.executed.result c.answered-in-Ok.result c.answered-in-Ok.ensures) c.in-Ok.ensures.read;
   within = answer-within c.executed.result c.answered-in-Ok.result c.args.left c.answered-in-Ok.ensures c.executed.ensures.within;
   exact = λ stored scene tells shown its_hash.
       let script : c.group.inside.script ≡ c.args.group.now.group.script = ap (λ (it : GroupValue). it.group.script) c.group.view_is in
@@ -68,7 +66,7 @@ returns-in-Ok g c = record {
 
 pub returns-in-Err : goal.returns-in-Err
 returns-in-Err g c = record {
-  reads = c.in-Err.ensures.reads;
+  read = c.in-Err.ensures.read;
   within = tt;
   exact = λ stored scene tells shown its_hash. tt;
   undamaged = c.in-Err.ensures.undamaged;

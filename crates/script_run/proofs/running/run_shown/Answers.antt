@@ -4,13 +4,14 @@ use Rattle.script_defs.specs.Outcome.{first_without_code, run_from}
 use Rattle.script_run.specs.Running.{IsOutcome}
 use Rattle.script_run.specs.Shown.{GroupValue, HasItsHash}
 use Rattle.script_run.proofs.ShowingLemmas.{shown-over}
-use Rattle.script_run.proofs.ReadLemmas.{not-there, some-stop, unread, unread-stop}
+use Rattle.chain_tree.proofs.ReadLemmas.{unread, read_then}
+use Rattle.script_run.proofs.ReadLemmas.{not-there, some-stop}
 use Rattle.script_run.proofs.RunningLemmas.{groups_in, deps-shown, first-fails, all-run}
 use Rattle.script_run.proofs.running.run_shown.Goals as goal
 
 pub returns-in-Err : goal.returns-in-Err
 returns-in-Err g c = record {
-  reads = unread-stop _ _ _ _ _ c.in-Err.stop (λ damage is. c.in-Err.ensures.damage damage (ap Err is)) (λ is. c.in-Err.ensures.unread (ap Err is));
+  read = read_then (Err c.in-Err.stop) c.in-Err.ensures.damage c.in-Err.ensures.unread (unread c.args.blocks.now);
   within = tt;
   exact = λ stored scene tells there. tt;
   inputs = λ none. absurd (not-there _ c.in-Err.stop (sym none) refl);
@@ -20,7 +21,7 @@ returns-in-Err g c = record {
 
 pub returns-in-Some : goal.returns-in-Some
 returns-in-Some g c = record {
-  reads = unread _ _ _ _ _ _ refl;
+  read = unread c.args.blocks.now;
   within = tt;
   exact = λ stored scene tells there.
       let shows = (shown-over _ stored _ scene there).shows in
@@ -33,7 +34,7 @@ returns-in-Some g c = record {
 
 pub returns : goal.returns
 returns g c = record {
-  reads = c.run_each.ensures.reads;
+  read = c.run_each.ensures.read;
   within = c.run_each.ensures.within;
   exact = λ stored scene tells there.
       let shows = (shown-over _ stored _ scene there).shows in

@@ -3,9 +3,8 @@ use Rattle.std.specs.Prelude.{IfSome}
 use Rattle.chain_tree.specs.Told.{Stored}
 use Rattle.cell_defs.specs.Row.{Row}
 use Rattle.tx_rules.specs.At.{AtValue}
-use Rattle.outside.proofs.Endings.{no_fault, no_damage, in_log}
+use Rattle.chain_tree.proofs.ReadLemmas.{unread, read_then, read_wrong}
 use Rattle.tx_rules.proofs.SiteLemmas.{copied-of-kept, copied-of-own, none-past}
-use Rattle.tx_rules.proofs.SourceLemmas.{unchanged-source}
 use Rattle.tx_rules.proofs.TakenLemmas.{kept-row, judged-row}
 use Rattle.tx_rules.proofs.copying.copy_row.Goals as goal
 
@@ -14,7 +13,7 @@ returns-then-meta-kept g c =
     let place : c.meta.inside.block ≡ c.args.meta.block = ap (λ (row : Row). row.block) c.meta.view_is in
     let long : c.len-kept.result ≡ length c.args.at.now.entries = c.len-kept.ensures.len ∙ ap (λ (at : AtValue). length at.entries) c.at.view_is in
     record {
-      source = c.copy_kept.ensures.source;
+      read = c.copy_kept.ensures.read;
       out_point = c.copy_kept.ensures.out_point;
       row = c.copy_kept.ensures.row;
       output = c.copy_kept.ensures.output;
@@ -27,8 +26,6 @@ returns-then-meta-kept g c =
       undamaged = λ stored rows site found tells is found_at.
           c.copy_kept.ensures.undamaged stored found.cell tells
           (copied-of-kept stored c.args.at.now rows site found c.args.o c.args.meta c.requires.placed.parent is found_at (omega (arith, place, long)));
-      damage = c.copy_kept.ensures.damage;
-      cause = c.copy_kept.ensures.cause;
     }
 
 pub returns-then-meta-kept-2 : goal.returns-then-meta-kept-2
@@ -36,7 +33,7 @@ returns-then-meta-kept-2 g c =
     let place : c.meta.inside.block ≡ c.args.meta.block = ap (λ (row : Row). row.block) c.meta.view_is in
     let long : c.len-kept.result ≡ length c.args.at.now.entries = c.len-kept.ensures.len ∙ ap (λ (at : AtValue). length at.entries) c.at.view_is in
     record {
-      source = unchanged-source _ _ _ _;
+      read = read_then c.copy_own.result c.copy_own.ensures.damage c.copy_own.ensures.unread (unread c.args.blocks.now);
       out_point = c.copy_own.ensures.out_point;
       row = c.copy_own.ensures.row;
       output = c.copy_own.ensures.output;
@@ -50,8 +47,6 @@ returns-then-meta-kept-2 g c =
       undamaged = λ stored rows site found tells is found_at.
           let own = copied-of-own stored c.args.at.now rows site found c.args.o c.args.meta c.requires.placed.parent is found_at (omega (arith, place, long)) in
           c.copy_own.ensures.undamaged own.0 found.cell own.1 own.2;
-      damage = c.copy_own.ensures.damage;
-      cause = no_fault _ _ refl c.copy_own.ensures.unread;
     }
 
 pub returns-else-meta-kept-2 : goal.returns-else-meta-kept-2
@@ -59,7 +54,7 @@ returns-else-meta-kept-2 g c =
     let place : c.meta.inside.block ≡ c.args.meta.block = ap (λ (row : Row). row.block) c.meta.view_is in
     let long : c.len-kept.result ≡ length c.args.at.now.entries = c.len-kept.ensures.len ∙ ap (λ (at : AtValue). length at.entries) c.at.view_is in
     record {
-      source = unchanged-source _ _ _ _;
+      read = read_wrong c.damage_of.result refl c.damage_of.ensures.area (unread c.args.blocks.now);
       out_point = tt;
       row = tt;
       output = tt;
@@ -67,6 +62,4 @@ returns-else-meta-kept-2 g c =
       of_row = tt;
       undamaged = λ stored rows site found tells is found_at damage same.
           none-past stored c.args.at.now rows site found c.args.o c.args.meta c.requires.placed.parent is found_at (omega (arith, place, long));
-      damage = λ damage same. in_log c.damage_of.result damage c.damage_of.ensures.area same;
-      cause = no_fault _ _ refl (no_damage _);
     }

@@ -1,4 +1,4 @@
-use Rattle.std.proofs.Common.{◌≡◌, ◌<◌, ℕ, List, length, drop, map, Option, None, refl, sym, ap, ◌∙◌, subst, arith}
+use Rattle.std.proofs.Common.{◌≡◌, ◌<◌, ℕ, List, length, drop, map, Option, None, sym, ap, ◌∙◌, subst, arith}
 use Rattle.std.specs.Prelude.{IfOk}
 use Rattle.std.specs.List.{All, AllZip}
 use Rattle.std.proofs.lemmas.List.{take_at, length-replicate}
@@ -8,33 +8,29 @@ use Rattle.chain_tree.specs.Told.{Stored, blocks_of}
 use Rattle.cell_model.specs.Copies.{ResolvedValue}
 use Rattle.tx_rules.specs.Copying.{AreTaken, CopiesItsRow, HoldsOutput, IsCopyOfRow, row_in}
 use Rattle.tx_rules.specs.Outcome.{Copies}
-use Rattle.outside.proofs.Endings.{no_fault, no_answer, no_memory, memory_undamaged, behind, handed, counts-handed}
-use Rattle.tx_rules.proofs.SourceLemmas.{unchanged-source, then-source}
+use Rattle.outside.proofs.Endings.{memory_undamaged, handed}
+use Rattle.chain_tree.proofs.ReadLemmas.{unread, read_on, read_short}
 use Rattle.tx_rules.proofs.TakenLemmas.{taken-none, copies-rows, copies-outputs, copies-of-rows, copies-cells}
 use Rattle.tx_rules.proofs.copying.fetch_all.Goals as goal
 
 pub returns-in_default : goal.returns-in_default
 returns-in_default g c = record {
-  source = unchanged-source _ _ _ _;
+  read = read_short (unread c.args.blocks.now);
   rows = tt;
   outputs = tt;
   of_rows = tt;
   copied = λ stored seen site founds tells is are_seen rows. tt;
   undamaged = λ stored seen site founds tells is are_seen rows damage same. memory_undamaged damage same;
-  damage = λ damage same. absurd (memory_undamaged damage same);
-  cause = no_fault _ _ refl no_memory;
 }
 
 pub returns-in_default-none_taken : goal.returns-in_default-none_taken
 returns-in_default-none_taken g c = record {
-  source = unchanged-source _ _ _ _;
+  read = read_short (unread c.args.blocks.now);
   rows = tt;
   outputs = tt;
   of_rows = tt;
   copied = λ stored seen site founds tells is are_seen rows. tt;
   undamaged = λ stored seen site founds tells is are_seen rows damage same. memory_undamaged damage same;
-  damage = λ damage same. absurd (memory_undamaged damage same);
-  cause = no_fault _ _ refl no_memory;
 }
 
 pub take_several-requires : goal.take_several-requires
@@ -47,15 +43,13 @@ take_several-requires g c = record {
 
 pub returns-in-Err : goal.returns-in-Err
 returns-in-Err g c = record {
-  source = c.in-Err.ensures.source;
+  read = c.in-Err.ensures.read;
   rows = tt;
   outputs = tt;
   of_rows = tt;
   copied = λ stored seen site founds tells is are_seen rows. tt;
   undamaged = λ stored seen site founds tells is are_seen rows damage same.
       c.in-Err.ensures.undamaged stored seen site founds tells is are_seen rows damage (handed c.in-Err.stop _ same);
-  damage = λ damage same. c.in-Err.ensures.damage damage (handed c.in-Err.stop _ same);
-  cause = counts-handed c.in-Err.stop _ c.in-Err.ensures.cause;
 }
 
 pub copy_each-requires : goal.copy_each-requires
@@ -72,16 +66,16 @@ copy_each-requires g c =
     (sym (c.deref_mut.ensures.value ∙ none)) (taken-none (g.B.Blocks.told c.args.blocks.now) c.args.at.now c.args.rows.now (length c.args.rows.now)) in
     record {
       placed = c.requires.placed;
-      counts = c.in-Ok-take_several.ensures.source.count ∙ c.requires.counts;
+      counts = c.in-Ok-take_several.ensures.read.count ∙ c.requires.counts;
       long = ap length items ∙ still;
       taken = subst (λ (slots : List (Option ResolvedValue)). AreTaken (g.B.Blocks.told c.take_several.new.blocks) c.args.at.now c.args.rows.now slots) (sym items)
-          (subst (λ (told : Option (List Stored)). AreTaken told c.args.at.now c.args.rows.now c.take_several.new.taken) (sym c.in-Ok-take_several.ensures.source.told)
+          (subst (λ (told : Option (List Stored)). AreTaken told c.args.at.now c.args.rows.now c.take_several.new.taken) (sym c.in-Ok-take_several.ensures.read.told)
           (c.in-Ok-take_several.ensures.taken before));
     }
 
 pub returns : goal.returns
 returns g c = record {
-  source = then-source c.in-Ok-take_several.ensures.source c.copy_each.ensures.source;
+  read = read_on c.in-Ok-take_several.ensures.read c.copy_each.ensures.read;
   rows =
       let told = g.B.Blocks.told c.take_several.new.blocks in
       IfOk-weaker c.copy_each.result (λ copies. AllZip (IsCopyOfRow told c.args.at.now) c.args.rows.now copies.items) (λ copies. map row_in copies.items ≡ c.args.rows.now)
@@ -92,7 +86,7 @@ returns g c = record {
       (λ copies each. copies-outputs told c.args.at.now c.args.rows.now copies.items each) c.copy_each.ensures.copies;
   of_rows =
       let told = g.B.Blocks.told c.take_several.new.blocks in
-      subst (λ (t : Option (List Stored)). IfOk c.copy_each.result (λ copies. All (CopiesItsRow t c.args.at.now) copies.items)) c.in-Ok-take_several.ensures.source.told
+      subst (λ (t : Option (List Stored)). IfOk c.copy_each.result (λ copies. All (CopiesItsRow t c.args.at.now) copies.items)) c.in-Ok-take_several.ensures.read.told
       (IfOk-weaker c.copy_each.result (λ copies. AllZip (IsCopyOfRow told c.args.at.now) c.args.rows.now copies.items) (λ copies. All (CopiesItsRow told c.args.at.now) copies.items)
       (λ copies each. copies-of-rows told c.args.at.now c.args.rows.now copies.items each) c.copy_each.ensures.copies);
   copied = λ stored seen site founds tells is are_seen rows.
@@ -100,10 +94,8 @@ returns g c = record {
       IfOk-weaker c.copy_each.result (λ copies. AllZip (IsCopyOfRow told c.args.at.now) c.args.rows.now copies.items)
       (λ copies. AllZip (Copies (blocks_of stored) c.args.at.now.parent) founds copies.items)
       (λ copies each. copies-cells stored c.args.at.now seen site founds c.args.rows.now copies.items is are_seen rows
-      (subst (λ (t : Option (List Stored)). AllZip (IsCopyOfRow t c.args.at.now) c.args.rows.now copies.items) (c.in-Ok-take_several.ensures.source.told ∙ tells) each))
+      (subst (λ (t : Option (List Stored)). AllZip (IsCopyOfRow t c.args.at.now) c.args.rows.now copies.items) (c.in-Ok-take_several.ensures.read.told ∙ tells) each))
       c.copy_each.ensures.copies;
   undamaged = λ stored seen site founds tells is are_seen rows damage same.
-      c.copy_each.ensures.undamaged stored seen site founds (c.in-Ok-take_several.ensures.source.told ∙ tells) is are_seen rows damage same;
-  damage = c.copy_each.ensures.damage;
-  cause = behind (c.in-Ok-take_several.ensures.cause.unchanged (no_answer _ _)) c.copy_each.ensures.cause;
+      c.copy_each.ensures.undamaged stored seen site founds (c.in-Ok-take_several.ensures.read.told ∙ tells) is are_seen rows damage same;
 }

@@ -6,15 +6,14 @@ use Rattle.chain_tree.specs.Told.{Stored}
 use Rattle.cell_model.specs.Copies.{ResolvedValue}
 use Rattle.tx_rules.specs.At.{AtValue}
 use Rattle.tx_rules.specs.Copying.{AreTaken}
-use Rattle.outside.proofs.Endings.{no_fault, no_answer, behind, handed, counts-handed}
-use Rattle.tx_rules.proofs.SourceLemmas.{unchanged-source, then-source}
+use Rattle.outside.proofs.Endings.{no_answer, handed}
+use Rattle.chain_tree.proofs.ReadLemmas.{unread, read_on, read_is}
 use Rattle.tx_rules.proofs.copying.take_several.Goals as goal
 use Rattle.tx_rules.proofs.copying.take_several.Goals.{then-row-kept+then-starts_several+in-Ok, else-row-kept}
 
 pub order-init : goal.order-init
 order-init g c = record {
-  source = unchanged-source _ _ _ _;
-  faults = refl;
+  read = unread c.args.blocks.now;
   long = c.requires.long;
   taken = λ before. before;
 }
@@ -25,7 +24,7 @@ starts_several-requires g c = c.order-test.true
 pub take_kept-requires : goal.take_kept-requires
 take_kept-requires g c = record {
   placed = c.requires.placed;
-  counts = c.order.invariant.source.count ∙ c.requires.counts;
+  counts = c.order.invariant.read.count ∙ c.requires.counts;
   within =
       let place = ap (λ (it : OutPoint × Row). it.1.block) c.row.view_is in
       let long = c.len-kept.ensures.len ∙ ap (λ (at : AtValue). length at.entries) c.at.view_is in
@@ -39,38 +38,26 @@ take_kept-requires g c = record {
 
 pub returns-in-Err : goal.returns-in-Err
 returns-in-Err g c = record {
-  source = then-source c.order.invariant.source c.in-Err.ensures.source;
+  read = read_on c.order.invariant.read c.in-Err.ensures.read;
   long = c.in-Err.ensures.long;
   taken = λ before. tt;
   undamaged = λ stored seen site founds tells is are_seen rows damage same.
-      c.in-Err.ensures.undamaged stored seen site founds (c.order.invariant.source.told ∙ tells) is are_seen rows damage (handed c.in-Err.stop _ same);
-  damage = λ damage same. c.in-Err.ensures.damage damage (handed c.in-Err.stop _ same);
-  cause = behind c.order.invariant.faults (counts-handed c.in-Err.stop _ c.in-Err.ensures.cause);
+      c.in-Err.ensures.undamaged stored seen site founds (c.order.invariant.read.told ∙ tells) is are_seen rows damage (handed c.in-Err.stop _ same);
 }
 
 pub order-preserved : goal.order-preserved
 order-preserved g c = elim c.if-row-kept.branch [
   | then-row-kept+then-starts_several+in-Ok w ↦ record {
-    source = record {
-      told = ap (λ b. g.B.Blocks.told b) w.blocks-is ∙ w.in-Ok.ensures.source.told ∙ c.order.invariant.source.told;
-      count = ap (λ b. g.B.Blocks.count b) w.blocks-is ∙ w.in-Ok.ensures.source.count ∙ c.order.invariant.source.count;
-      loans = ap (λ b. g.B.Blocks.loans_of b) w.blocks-is ∙ w.in-Ok.ensures.source.loans ∙ c.order.invariant.source.loans;
-    };
-    faults = ap (λ b. g.B.Blocks.faults b) w.blocks-is ∙ w.in-Ok.ensures.cause.unchanged (no_answer _ _) ∙ c.order.invariant.faults;
+    read = read_is w.blocks-is (read_on c.order.invariant.read w.in-Ok.ensures.read);
     long = ap length w.taken-is ∙ w.in-Ok.ensures.long;
     taken = λ before. subst (λ (slots : List (Option ResolvedValue)). AreTaken (g.B.Blocks.told c.args.blocks.now) c.args.at.now c.args.rows.now slots) (sym w.taken-is)
-        (subst (λ (told : Option (List Stored)). AreTaken told c.args.at.now c.args.rows.now w.take_kept.new.taken) c.order.invariant.source.told
+        (subst (λ (told : Option (List Stored)). AreTaken told c.args.at.now c.args.rows.now w.take_kept.new.taken) c.order.invariant.read.told
         (w.in-Ok.ensures.taken
-        (subst (λ (told : Option (List Stored)). AreTaken told c.args.at.now c.args.rows.now c.order.taken) (sym c.order.invariant.source.told)
+        (subst (λ (told : Option (List Stored)). AreTaken told c.args.at.now c.args.rows.now c.order.taken) (sym c.order.invariant.read.told)
         (c.order.invariant.taken before))));
   }
   | else-row-kept w ↦ record {
-    source = record {
-      told = ap (λ b. g.B.Blocks.told b) w.blocks-is ∙ c.order.invariant.source.told;
-      count = ap (λ b. g.B.Blocks.count b) w.blocks-is ∙ c.order.invariant.source.count;
-      loans = ap (λ b. g.B.Blocks.loans_of b) w.blocks-is ∙ c.order.invariant.source.loans;
-    };
-    faults = ap (λ b. g.B.Blocks.faults b) w.blocks-is ∙ c.order.invariant.faults;
+    read = read_is w.blocks-is c.order.invariant.read;
     long = ap length w.taken-is ∙ c.order.invariant.long;
     taken = λ before. subst (λ (slots : List (Option ResolvedValue)). AreTaken (g.B.Blocks.told c.args.blocks.now) c.args.at.now c.args.rows.now slots) (sym w.taken-is)
         (c.order.invariant.taken before);
@@ -79,10 +66,8 @@ order-preserved g c = elim c.if-row-kept.branch [
 
 pub returns : goal.returns
 returns g c = record {
-  source = c.order.invariant.source;
+  read = c.order.invariant.read;
   long = c.order.invariant.long;
   taken = c.order.invariant.taken;
   undamaged = λ stored seen site founds tells is are_seen rows damage same. no_answer _ _ same;
-  damage = λ damage same. absurd (no_answer _ _ same);
-  cause = no_fault _ _ c.order.invariant.faults (no_answer _ _);
 }

@@ -5,6 +5,7 @@ use Rattle.cell_model.specs.Copies.{NamesOutput, output_in}
 use Rattle.tx_rules.specs.At.{AtValue}
 use Rattle.tx_rules.proofs.SiteLemmas.{IsOwnRow, output-of}
 use Rattle.tx_rules.proofs.DepLemmas.{kept-names, own-row}
+use Rattle.chain_tree.proofs.ReadLemmas.{unread, read_then}
 use Rattle.tx_rules.proofs.deps.add_group_of.Goals as goal
 
 pub returns-then-meta-len-clause-rows : goal.returns-then-meta-len-clause-rows
@@ -50,3 +51,7 @@ returns-else-meta-len-clause-undamaged g c = λ stored site cell tells is seen i
     let output : output_in own.block c.args.meta.now.transaction c.args.o.now.index ≡ Some (cell.output, cell.content) =
     ap (λ (row : Row). output_in own.block row.transaction c.args.o.now.index) its_row ∙ output-of own.block c.args.o.now cell own.output in
     c.add_own_group.ensures.undamaged own.block cell.output cell.content own.judged own.last output
+
+pub returns-else-meta-len-clause-read : goal.returns-else-meta-len-clause-read
+returns-else-meta-len-clause-read g c =
+    read_then c.add_own_group.result c.add_own_group.ensures.damage c.add_own_group.ensures.no_fault (unread c.args.blocks.now)

@@ -1,4 +1,4 @@
-use Rattle.std.proofs.Common.{◌≡◌, List, Option, Err, map, length, ap, subst, sym, ◌∙◌}
+use Rattle.std.proofs.Common.{◌≡◌, true, List, Option, Some, Err, map, length, ap, subst, sym, ◌∙◌}
 use Rattle.std.specs.Prelude.{slice_index}
 use Rattle.std.specs.List.{All, AllZip}
 use Rattle.std.proofs.lemmas.List.{length-map}
@@ -11,12 +11,11 @@ use Rattle.tx_rules.specs.At.{found_row}
 use Rattle.tx_rules.specs.Copying.{row_in, CopiesItsRow, HoldsOutput}
 use Rattle.tx_rules.specs.Outcome.{Copies}
 use Rattle.tx_rules.specs.Steps.{paying_rules}
-use Rattle.outside.proofs.Endings.{no_fault, no_answer, handed, behind}
+use Rattle.chain_tree.proofs.ReadLemmas.{read_on}
 use Rattle.tx_rules.proofs.Endings.{counts-read}
 use Rattle.tx_rules.proofs.SiteLemmas.{inputs-seen, deps-seen}
-use Rattle.tx_rules.proofs.SourceLemmas.{then-source}
 use Rattle.tx_rules.proofs.RuleLemmas.{read-stops}
-use Rattle.tx_rules.proofs.RowRuleLemmas.{later-read}
+use Rattle.tx_rules.proofs.RowRuleLemmas.{later-read, later-stops}
 use Rattle.tx_rules.proofs.resolving.copy_cells.Goals as goal
 
 pub paid_by-requires-clause-each : goal.paid_by-requires-clause-each
@@ -26,9 +25,9 @@ paid_by-requires-clause-each g c =
 
 pub returns-in-Err : goal.returns-in-Err
 returns-in-Err g c = record {
-  source = c.in-Err.ensures.source;
+  read = c.in-Err.ensures.read;
   fits = tt;
-  later = later-read c.in-Err.stop (λ damage same. c.in-Err.ensures.damage damage (ap Err same));
+  later = later-read c.in-Err.stop (λ damage same. c.in-Err.ensures.read.damage damage (ap Some same));
   tells = λ stored rows site told is found.
       let spent : c.deref.result.now ≡ map (found_row (blocks_of stored) c.args.at.now.parent) (inputs site c.args.tx.now) = c.deref.ensures.value ∙ found.spent_are in
       read-stops (paying_rules site c.args.tx.now) c.in-Err.stop
@@ -39,12 +38,12 @@ returns-in-Err g c = record {
   rows = tt;
   outputs = tt;
   of_rows = tt;
-  cause = counts-read c.in-Err.stop c.in-Err.ensures.cause;
 }
 
 pub returns-in-Err-paid_by : goal.returns-in-Err-paid_by
 returns-in-Err-paid_by g c = record {
-  source = c.in-Ok.ensures.source;
+  read = read_stopped true c.in-Err-paid_by.stop (later-stops true c.in-Err-paid_by.stop c.in-Err-paid_by.ensures.later)
+      c.in-Err-paid_by.ensures.unread c.in-Ok.ensures.read;
   fits = tt;
   later = c.in-Err-paid_by.ensures.later;
   tells = λ stored rows site told is found.
@@ -61,18 +60,17 @@ returns-in-Err-paid_by g c = record {
   rows = tt;
   outputs = tt;
   of_rows = tt;
-  cause = no_fault _ _ (c.in-Ok.ensures.cause.unchanged (no_answer _ _)) (λ same. c.in-Err-paid_by.ensures.unread (handed c.in-Err-paid_by.stop _ same));
 }
 
 pub returns-in-Err-fetch_all : goal.returns-in-Err-fetch_all
 returns-in-Err-fetch_all g c = record {
-  source = then-source c.in-Ok.ensures.source c.in-Err-fetch_all.ensures.source;
+  read = read_on c.in-Ok.ensures.read c.in-Err-fetch_all.ensures.read;
   fits = tt;
-  later = later-read c.in-Err-fetch_all.stop (λ damage same. c.in-Err-fetch_all.ensures.damage damage (ap Err same));
+  later = later-read c.in-Err-fetch_all.stop (λ damage same. c.in-Err-fetch_all.ensures.read.damage damage (ap Some same));
   tells = λ stored rows site told is found.
       let named : c.deref-4.result.now ≡ map (found_row (blocks_of stored) c.args.at.now.parent) (deps site c.args.tx.now) = c.deref-4.ensures.value ∙ found.named_are in
       read-stops (paying_rules site c.args.tx.now) c.in-Err-fetch_all.stop
-      (λ damage same. c.in-Err-fetch_all.ensures.undamaged stored rows site (deps site c.args.tx.now) (c.in-Ok.ensures.source.told ∙ told) is (deps-seen site c.args.tx.now) named
+      (λ damage same. c.in-Err-fetch_all.ensures.undamaged stored rows site (deps site c.args.tx.now) (c.in-Ok.ensures.read.told ∙ told) is (deps-seen site c.args.tx.now) named
       damage (ap Err same));
   inputs = λ stored rows site told is found. tt;
   deps = λ stored rows site told is found. tt;
@@ -80,12 +78,11 @@ returns-in-Err-fetch_all g c = record {
   rows = tt;
   outputs = tt;
   of_rows = tt;
-  cause = behind (c.in-Ok.ensures.cause.unchanged (no_answer _ _)) (counts-read c.in-Err-fetch_all.stop c.in-Err-fetch_all.ensures.cause);
 }
 
 pub returns-in-Ok-fetch_all : goal.returns-in-Ok-fetch_all
 returns-in-Ok-fetch_all g c = record {
-  source = then-source c.in-Ok.ensures.source c.in-Ok-fetch_all.ensures.source;
+  read = read_on c.in-Ok.ensures.read c.in-Ok-fetch_all.ensures.read;
   fits = c.in-Ok-paid_by.ensures.fits;
   later = tt;
   tells = λ stored rows site told is found.
@@ -101,7 +98,7 @@ returns-in-Ok-fetch_all g c = record {
       c.in-Ok.ensures.copied stored rows site (inputs site c.args.tx.now) told is (inputs-seen site c.args.tx.now) spent;
   deps = λ stored rows site told is found.
       let named : c.deref-4.result.now ≡ map (found_row (blocks_of stored) c.args.at.now.parent) (deps site c.args.tx.now) = c.deref-4.ensures.value ∙ found.named_are in
-      c.in-Ok-fetch_all.ensures.copied stored rows site (deps site c.args.tx.now) (c.in-Ok.ensures.source.told ∙ told) is (deps-seen site c.args.tx.now) named;
+      c.in-Ok-fetch_all.ensures.copied stored rows site (deps site c.args.tx.now) (c.in-Ok.ensures.read.told ∙ told) is (deps-seen site c.args.tx.now) named;
   paid = λ stored rows site told is found.
       let spent : c.deref.result.now ≡ map (found_row (blocks_of stored) c.args.at.now.parent) (inputs site c.args.tx.now) = c.deref.ensures.value ∙ found.spent_are in
       let copied : AllZip (Copies (blocks_of stored) c.args.at.now.parent) (inputs site c.args.tx.now) c.in-Ok.inputs.items =
@@ -114,6 +111,5 @@ returns-in-Ok-fetch_all g c = record {
   outputs = All-append HoldsOutput c.in-Ok.inputs.items c.in-Ok-fetch_all.deps.items c.in-Ok.ensures.outputs c.in-Ok-fetch_all.ensures.outputs;
   of_rows =
       All-append (CopiesItsRow (g.B.Blocks.told c.args.blocks.now) c.args.at.now) c.in-Ok.inputs.items c.in-Ok-fetch_all.deps.items c.in-Ok.ensures.of_rows
-      (subst (λ (told : Option (List Stored)). All (CopiesItsRow told c.args.at.now) c.in-Ok-fetch_all.deps.items) c.in-Ok.ensures.source.told c.in-Ok-fetch_all.ensures.of_rows);
-  cause = no_fault _ _ (c.in-Ok-fetch_all.ensures.cause.unchanged (no_answer _ _) ∙ c.in-Ok.ensures.cause.unchanged (no_answer _ _)) (no_answer _ _);
+      (subst (λ (told : Option (List Stored)). All (CopiesItsRow told c.args.at.now) c.in-Ok-fetch_all.deps.items) c.in-Ok.ensures.read.told c.in-Ok-fetch_all.ensures.of_rows);
 }

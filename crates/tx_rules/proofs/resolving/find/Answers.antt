@@ -1,14 +1,14 @@
-use Rattle.std.proofs.Common.{◌≡◌, ◌++◌, length, map, refl, ap, ◌∙◌}
+use Rattle.std.proofs.Common.{◌≡◌, ◌++◌, length, map, ap, ◌∙◌}
 use Rattle.codec_defs.specs.Schema.{CellInput}
 use Rattle.chain_tree.specs.Told.{blocks_of}
 use Rattle.tx_defs.specs.Resolving.{inputs, deps}
 use Rattle.tx_rules.specs.At.{find_row, found_row}
 use Rattle.tx_rules.specs.Steps.{spending_rules, naming_rules, using_rules}
 use Rattle.tx_rules.proofs.AllThere.{all_there-long}
-use Rattle.outside.proofs.Endings.{no_fault, no_answer, handed, counts-handed}
+use Rattle.chain_tree.proofs.ReadLemmas.{unread}
+use Rattle.tx_rules.proofs.Endings.{read_stopped}
 use Rattle.tx_rules.proofs.RuleLemmas.{rows-named, spent-inputs, stops-front, stops-back, keeps-all}
 use Rattle.tx_rules.proofs.RowRuleLemmas.{later-stops, follows-on, follows-behind}
-use Rattle.tx_rules.proofs.SourceLemmas.{unchanged-source}
 use Rattle.tx_rules.proofs.resolving.find.Goals as goal
 
 pub try_cells-requires-clause-each : goal.try_cells-requires-clause-each
@@ -19,7 +19,7 @@ try_cells-requires-clause-each g c =
 
 pub returns-in-Err : goal.returns-in-Err
 returns-in-Err g c = record {
-  source = unchanged-source _ _ _ _;
+  read = read_stopped c.args.proposed c.in-Err.stop c.in-Err.ensures.stops c.in-Err.ensures.unread (unread c.args.blocks.now);
   stops = c.in-Err.ensures.stops;
   by_rows = follows-on c.args.proposed (g.C.Cells.rows c.args.cells.now) c.args.tx.now c.in-Err.stop c.in-Err.ensures.by_rows;
   tells = λ stored site told is.
@@ -30,12 +30,11 @@ returns-in-Err g c = record {
   hash = tt;
   spent = tt;
   headers = tt;
-  cause = no_fault _ _ refl (λ same. c.in-Err.ensures.unread (handed c.in-Err.stop _ same));
 }
 
 pub returns-in-Err-named_rows : goal.returns-in-Err-named_rows
 returns-in-Err-named_rows g c = record {
-  source = c.in-Err-named_rows.ensures.source;
+  read = c.in-Err-named_rows.ensures.read;
   stops = later-stops c.args.proposed c.in-Err-named_rows.stop c.in-Err-named_rows.ensures.later;
   by_rows = follows-behind c.args.proposed (g.C.Cells.rows c.args.cells.now) c.args.tx.now c.in-Ok.spent _ c.in-Ok.ensures.by_rows c.in-Err-named_rows.ensures.later;
   tells = λ stored site told is.
@@ -47,12 +46,12 @@ returns-in-Err-named_rows g c = record {
   hash = tt;
   spent = tt;
   headers = tt;
-  cause = counts-handed c.in-Err-named_rows.stop _ c.in-Err-named_rows.ensures.cause;
 }
 
 pub returns-in-Err-try_cells : goal.returns-in-Err-try_cells
 returns-in-Err-try_cells g c = record {
-  source = c.in-Ok-named_rows.ensures.source;
+  read = read_stopped c.args.proposed c.in-Err-try_cells.stop
+      (later-stops c.args.proposed c.in-Err-try_cells.stop c.in-Err-try_cells.ensures.later) c.in-Err-try_cells.ensures.unread c.in-Ok-named_rows.ensures.read;
   stops = later-stops c.args.proposed c.in-Err-try_cells.stop c.in-Err-try_cells.ensures.later;
   by_rows = follows-behind c.args.proposed (g.C.Cells.rows c.args.cells.now) c.args.tx.now c.in-Ok.spent _ c.in-Ok.ensures.by_rows c.in-Err-try_cells.ensures.later;
   tells = λ stored site told is.
@@ -69,12 +68,11 @@ returns-in-Err-try_cells g c = record {
   hash = tt;
   spent = tt;
   headers = tt;
-  cause = no_fault _ _ (c.in-Ok-named_rows.ensures.cause.unchanged (no_answer _ _)) (λ same. c.in-Err-try_cells.ensures.unread (handed c.in-Err-try_cells.stop _ same));
 }
 
 pub returns-in-Ok-try_cells : goal.returns-in-Ok-try_cells
 returns-in-Ok-try_cells g c = record {
-  source = c.in-Ok-named_rows.ensures.source;
+  read = c.in-Ok-named_rows.ensures.read;
   stops = tt;
   by_rows = follows-behind c.args.proposed (g.C.Cells.rows c.args.cells.now) c.args.tx.now c.in-Ok.spent _ c.in-Ok.ensures.by_rows tt;
   tells = λ stored site told is.
@@ -94,5 +92,4 @@ returns-in-Ok-try_cells g c = record {
   hash = c.tx_hash-hash.ensures;
   spent = c.in-Ok.ensures.rows;
   headers = c.in-Ok-named_rows.ensures.headers;
-  cause = no_fault _ _ (c.in-Ok-named_rows.ensures.cause.unchanged (no_answer _ _)) (no_answer _ _);
 }

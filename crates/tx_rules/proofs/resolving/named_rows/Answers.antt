@@ -1,13 +1,12 @@
 use Rattle.std.proofs.Common.{◌≡◌, Some, None, Err, map, ap}
 use Rattle.std.specs.Prelude.{slice_index}
 use Rattle.std.specs.Option.{option_map}
-use Rattle.outside.specs.declared.disk.ReadStop.TheVariants.{DiskFault}
 use Rattle.chain_defs.specs.Branch.{branch_places}
 use Rattle.chain_tree.specs.Told.{blocks_of}
 use Rattle.tx_defs.specs.Resolving.{dep_cells, header_heights}
 use Rattle.tx_rules.specs.At.{found_row}
 use Rattle.tx_rules.specs.Steps.{naming_rules}
-use Rattle.outside.proofs.Endings.{no_fault, no_answer}
+use Rattle.chain_tree.proofs.ReadLemmas.{read_short}
 use Rattle.tx_rules.proofs.Endings.{broken_unread, memory_unread, counts-read}
 use Rattle.tx_rules.proofs.RuleLemmas.{no-cell-deps, no-header-deps, names-well, found-none, found-some, found-list, read-stops}
 use Rattle.tx_rules.proofs.RowRuleLemmas.{later-21, later-22, later-read}
@@ -15,7 +14,7 @@ use Rattle.tx_rules.proofs.resolving.named_rows.Goals as goal
 
 pub returns-in-Ok-None : goal.returns-in-Ok-None
 returns-in-Ok-None g c = record {
-  source = c.in-Ok-None.ensures.source;
+  read = c.in-Ok-None.ensures.read;
   later = later-21;
   tells = λ stored site tells is.
       let none : None ≡ option_map (map (found_row (blocks_of stored) c.args.at.now.parent)) (dep_cells site c.args.tx.now) =
@@ -24,24 +23,22 @@ returns-in-Ok-None g c = record {
   cells = λ stored site tells is. tt;
   places = λ stored site tells is. tt;
   headers = tt;
-  cause = no_fault _ _ (c.in-Ok-None.ensures.cause.unchanged (no_answer _ _)) (broken_unread DiskFault);
 }
 
 pub returns-in-Err : goal.returns-in-Err
 returns-in-Err g c = record {
-  source = c.in-Err.ensures.source;
-  later = later-read c.in-Err.stop (λ damage same. c.in-Err.ensures.damage damage (ap Err same));
+  read = c.in-Err.ensures.read;
+  later = later-read c.in-Err.stop (λ damage same. c.in-Err.ensures.read.damage damage (ap Some same));
   tells = λ stored site tells is.
       read-stops (naming_rules site c.args.tx.now) c.in-Err.stop (λ damage same. c.in-Err.ensures.undamaged stored site tells is damage (ap Err same));
   cells = λ stored site tells is. tt;
   places = λ stored site tells is. tt;
   headers = tt;
-  cause = counts-read c.in-Err.stop c.in-Err.ensures.cause;
 }
 
 pub returns-in-Ok-Some-header_places : goal.returns-in-Ok-Some-header_places
 returns-in-Ok-Some-header_places g c = record {
-  source = c.in-Ok-Some.ensures.source;
+  read = c.in-Ok-Some.ensures.read;
   later = tt;
   tells = λ stored site tells is.
       let some : Some c.in-Ok-Some.rows.items ≡ option_map (map (found_row (blocks_of stored) c.args.at.now.parent)) (dep_cells site c.args.tx.now) =
@@ -59,12 +56,11 @@ returns-in-Ok-Some-header_places g c = record {
       rw c.in-Ok-Some-header_places.field-0-is at (c.in-Ok-Some-header_places.ensures.heights stored (g.C.Cells.rows c.args.cells.now) site is) in
       found-list (slice_index (branch_places (blocks_of stored) c.args.at.now.parent)) (header_heights site c.args.tx.now) c.in-Ok-Some-header_places.places.items all;
   headers = rw c.in-Ok-Some-header_places.field-0-is at c.in-Ok-Some-header_places.ensures.found;
-  cause = no_fault _ _ (c.in-Ok-Some.ensures.cause.unchanged (no_answer _ _)) (no_answer _ _);
 }
 
 pub returns-in-Ok-None-header_places : goal.returns-in-Ok-None-header_places
 returns-in-Ok-None-header_places g c = record {
-  source = c.in-Ok-Some.ensures.source;
+  read = c.in-Ok-Some.ensures.read;
   later = later-22;
   tells = λ stored site tells is.
       let some : Some c.in-Ok-Some.rows.items ≡ option_map (map (found_row (blocks_of stored) c.args.at.now.parent)) (dep_cells site c.args.tx.now) =
@@ -76,16 +72,14 @@ returns-in-Ok-None-header_places g c = record {
   cells = λ stored site tells is. tt;
   places = λ stored site tells is. tt;
   headers = tt;
-  cause = no_fault _ _ (c.in-Ok-Some.ensures.cause.unchanged (no_answer _ _)) (broken_unread DiskFault);
 }
 
 pub returns-in-Err-header_places : goal.returns-in-Err-header_places
 returns-in-Err-header_places g c = record {
-  source = c.in-Ok-Some.ensures.source;
+  read = read_short c.in-Ok-Some.ensures.read;
   later = tt;
   tells = λ stored site tells is. tt;
   cells = λ stored site tells is. tt;
   places = λ stored site tells is. tt;
   headers = tt;
-  cause = no_fault _ _ (c.in-Ok-Some.ensures.cause.unchanged (no_answer _ _)) memory_unread;
 }

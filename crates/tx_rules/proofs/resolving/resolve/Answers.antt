@@ -9,8 +9,9 @@ use Rattle.tx_rules.specs.At.{find_row}
 use Rattle.tx_rules.specs.Copying.{CopiesItsRow}
 use Rattle.tx_rules.proofs.AllThere.{all_there-long}
 use Rattle.tx_rules.specs.Steps.{finding_rules, paying_rules}
-use Rattle.outside.proofs.Endings.{no_fault, no_answer, behind, counts-handed}
-use Rattle.tx_rules.proofs.RuleLemmas.{rows-named, stops-front, stops-back, tried-of, damage-of, broken-of, undamaged-of, all-rules, keeps-all, copied-inputs}
+use Rattle.outside.proofs.Endings.{no_answer}
+use Rattle.chain_tree.proofs.ReadLemmas.{read_on}
+use Rattle.tx_rules.proofs.RuleLemmas.{rows-named, stops-front, stops-back, tried-of, broken-of, undamaged-of, all-rules, keeps-all, copied-inputs}
 use Rattle.tx_rules.proofs.RowRuleLemmas.{later-stops, follows-on, follows-behind}
 use Rattle.tx_rules.proofs.resolving.resolve.Goals as goal
 
@@ -24,9 +25,7 @@ copy_cells-requires-clause-each g c =
 
 pub returns-in-Err : goal.returns-in-Err
 returns-in-Err g c = record {
-  told = c.in-Err.ensures.source.told;
-  count = c.in-Err.ensures.source.count;
-  loans = c.in-Err.ensures.source.loans;
+  read = c.in-Err.ensures.read;
   formed = tt;
   of_rows = tt;
   tried = λ rule same. tried-of c.args.proposed _ rule c.in-Err.ensures.stops same;
@@ -42,15 +41,11 @@ returns-in-Err g c = record {
   undamaged = λ stored site told is damage same.
       undamaged-of (finding_rules c.args.proposed site c.args.tx.now ++ paying_rules site c.args.tx.now) _ damage
       (stops-front (finding_rules c.args.proposed site c.args.tx.now) (paying_rules site c.args.tx.now) c.in-Err.stop (c.in-Err.ensures.tells stored site told is)) same;
-  damage = λ damage same. damage-of c.args.proposed _ damage c.in-Err.ensures.stops same;
-  cause = counts-handed c.in-Err.stop _ c.in-Err.ensures.cause;
 }
 
 pub returns-in-Err-copy_cells : goal.returns-in-Err-copy_cells
 returns-in-Err-copy_cells g c = record {
-  told = c.in-Err-copy_cells.ensures.source.told ∙ c.in-Ok.ensures.source.told;
-  count = c.in-Err-copy_cells.ensures.source.count ∙ c.in-Ok.ensures.source.count;
-  loans = c.in-Err-copy_cells.ensures.source.loans ∙ c.in-Ok.ensures.source.loans;
+  read = read_on c.in-Ok.ensures.read c.in-Err-copy_cells.ensures.read;
   formed = tt;
   of_rows = tt;
   tried = λ rule same. tried-of c.args.proposed _ rule (later-stops c.args.proposed c.in-Err-copy_cells.stop c.in-Err-copy_cells.ensures.later) same;
@@ -59,7 +54,7 @@ returns-in-Err-copy_cells g c = record {
   broken = λ stored site told is rule same.
       broken-of c.args.proposed site c.args.tx.now _ rule
       (stops-back (finding_rules c.args.proposed site c.args.tx.now) (paying_rules site c.args.tx.now) c.in-Err-copy_cells.stop (c.in-Ok.ensures.tells stored site told is)
-      (c.in-Err-copy_cells.ensures.tells stored (g.C.Cells.rows c.args.cells.now) site (c.in-Ok.ensures.source.told ∙ told) is (c.in-Ok.ensures.found stored site told is))) same;
+      (c.in-Err-copy_cells.ensures.tells stored (g.C.Cells.rows c.args.cells.now) site (c.in-Ok.ensures.read.told ∙ told) is (c.in-Ok.ensures.found stored site told is))) same;
   unbroken = λ stored site told is. tt;
   resolved = λ stored site told is. tt;
   fee = λ stored site told is. tt;
@@ -67,16 +62,12 @@ returns-in-Err-copy_cells g c = record {
   undamaged = λ stored site told is damage same.
       undamaged-of (finding_rules c.args.proposed site c.args.tx.now ++ paying_rules site c.args.tx.now) _ damage
       (stops-back (finding_rules c.args.proposed site c.args.tx.now) (paying_rules site c.args.tx.now) c.in-Err-copy_cells.stop (c.in-Ok.ensures.tells stored site told is)
-      (c.in-Err-copy_cells.ensures.tells stored (g.C.Cells.rows c.args.cells.now) site (c.in-Ok.ensures.source.told ∙ told) is (c.in-Ok.ensures.found stored site told is))) same;
-  damage = λ damage same. damage-of c.args.proposed _ damage (later-stops c.args.proposed c.in-Err-copy_cells.stop c.in-Err-copy_cells.ensures.later) same;
-  cause = behind (c.in-Ok.ensures.cause.unchanged (no_answer _ _)) (counts-handed c.in-Err-copy_cells.stop _ c.in-Err-copy_cells.ensures.cause);
+      (c.in-Err-copy_cells.ensures.tells stored (g.C.Cells.rows c.args.cells.now) site (c.in-Ok.ensures.read.told ∙ told) is (c.in-Ok.ensures.found stored site told is))) same;
 }
 
 pub returns : goal.returns
 returns g c = record {
-  told = c.in-Ok-copy_cells.ensures.source.told ∙ c.in-Ok.ensures.source.told;
-  count = c.in-Ok-copy_cells.ensures.source.count ∙ c.in-Ok.ensures.source.count;
-  loans = c.in-Ok-copy_cells.ensures.source.loans ∙ c.in-Ok.ensures.source.loans;
+  read = read_on c.in-Ok.ensures.read c.in-Ok-copy_cells.ensures.read;
   formed = record {
     form = c.in-Ok.ensures.form;
     tx = c.from_encoding.ensures c.args.tx.now c.bytes.ensures;
@@ -87,7 +78,7 @@ returns g c = record {
   };
   of_rows =
       subst (λ (told : Option (List Stored)). All (CopiesItsRow told c.args.at.now) (c.in-Ok-copy_cells.copied.inputs.items ++ c.in-Ok-copy_cells.copied.deps.items))
-      c.in-Ok.ensures.source.told c.in-Ok-copy_cells.ensures.of_rows;
+      c.in-Ok.ensures.read.told c.in-Ok-copy_cells.ensures.of_rows;
   tried = λ rule same. absurd (no_answer _ _ same);
   by_rows = follows-behind c.args.proposed (g.C.Cells.rows c.args.cells.now) c.args.tx.now c.in-Ok.found _ c.in-Ok.ensures.by_rows tt;
   fits =
@@ -95,19 +86,17 @@ returns g c = record {
   broken = λ stored site told is rule same. absurd (no_answer _ _ same);
   unbroken = λ stored site told is.
       all-rules c.args.proposed site c.args.tx.now ∙ keeps-all (finding_rules c.args.proposed site c.args.tx.now) (paying_rules site c.args.tx.now) (c.in-Ok.ensures.tells stored site told is)
-      (c.in-Ok-copy_cells.ensures.tells stored (g.C.Cells.rows c.args.cells.now) site (c.in-Ok.ensures.source.told ∙ told) is (c.in-Ok.ensures.found stored site told is));
+      (c.in-Ok-copy_cells.ensures.tells stored (g.C.Cells.rows c.args.cells.now) site (c.in-Ok.ensures.read.told ∙ told) is (c.in-Ok.ensures.found stored site told is));
   resolved = λ stored site told is. record {
-    inputs_are = c.in-Ok-copy_cells.ensures.inputs stored (g.C.Cells.rows c.args.cells.now) site (c.in-Ok.ensures.source.told ∙ told) is (c.in-Ok.ensures.found stored site told is);
-    deps_are = c.in-Ok-copy_cells.ensures.deps stored (g.C.Cells.rows c.args.cells.now) site (c.in-Ok.ensures.source.told ∙ told) is (c.in-Ok.ensures.found stored site told is);
+    inputs_are = c.in-Ok-copy_cells.ensures.inputs stored (g.C.Cells.rows c.args.cells.now) site (c.in-Ok.ensures.read.told ∙ told) is (c.in-Ok.ensures.found stored site told is);
+    deps_are = c.in-Ok-copy_cells.ensures.deps stored (g.C.Cells.rows c.args.cells.now) site (c.in-Ok.ensures.read.told ∙ told) is (c.in-Ok.ensures.found stored site told is);
     headers_are = (c.in-Ok.ensures.found stored site told is).places_are;
   };
   fee = λ stored site told is.
-      (c.in-Ok-copy_cells.ensures.paid stored (g.C.Cells.rows c.args.cells.now) site (c.in-Ok.ensures.source.told ∙ told) is (c.in-Ok.ensures.found stored site told is)).fee_is;
+      (c.in-Ok-copy_cells.ensures.paid stored (g.C.Cells.rows c.args.cells.now) site (c.in-Ok.ensures.read.told ∙ told) is (c.in-Ok.ensures.found stored site told is)).fee_is;
   interest = λ stored site told is.
       let paid : c.in-Ok-copy_cells.copied.balance.interest ≡ interest site c.args.tx.now =
-      (c.in-Ok-copy_cells.ensures.paid stored (g.C.Cells.rows c.args.cells.now) site (c.in-Ok.ensures.source.told ∙ told) is (c.in-Ok.ensures.found stored site told is)).interest_is in
+      (c.in-Ok-copy_cells.ensures.paid stored (g.C.Cells.rows c.args.cells.now) site (c.in-Ok.ensures.read.told ∙ told) is (c.in-Ok.ensures.found stored site told is)).interest_is in
       to_z-of_z w128 c.in-Ok-copy_cells.copied.balance.interest (search rules) ∙ paid;
   undamaged = λ stored site told is damage same. no_answer _ _ same;
-  damage = λ damage same. absurd (no_answer _ _ same);
-  cause = no_fault _ _ (c.in-Ok-copy_cells.ensures.cause.unchanged (no_answer _ _) ∙ c.in-Ok.ensures.cause.unchanged (no_answer _ _)) (no_answer _ _);
 }

@@ -1,7 +1,8 @@
-use Rattle.std.proofs.Common.{inl, refl, arith, rules}
+use Rattle.std.proofs.Common.{inl, refl, ap, ◌∙◌, arith, rules}
 use Rattle.vm_defs.specs.declared.step.Step.TheVariants.{Ecall, Fault, NoMemory, Spent}
 use Rattle.sys_defs.specs.World.{Unknown}
 use Rattle.sys_defs.specs.Answer.{syscall}
+use Rattle.vm_sys.specs.Running.{outcome_of}
 use Rattle.vm_sys.proofs.Exits.{counts-none}
 use Rattle.vm_sys.proofs.RunLemmas.{fault-advances, handled-later, no-error, spent-advances, stops-later}
 use Rattle.vm_sys.proofs.running.advance.Goals as goal
@@ -24,6 +25,7 @@ returns-in-Fault g c =
       later = stops-later old new.machine (Fault c.in-Fault.number) c.in-Fault.ensures.stops;
       wants = λ items told is. absurd (no-error _ _ is);
       cause = counts-none _ _ (no-error _ _);
+      answered = λ none. refl;
       undamaged = λ told damage. no-error _ _;
       damage = λ damage is. absurd (no-error _ _ is);
       room = c.in-Fault.ensures.room (λ is. absurd cc);
@@ -42,6 +44,7 @@ returns-in-Spent g c =
       later = stops-later old new.machine Spent c.in-Spent.ensures.stops;
       wants = λ items told is. absurd (no-error _ _ is);
       cause = counts-none _ _ (no-error _ _);
+      answered = λ none. refl;
       undamaged = λ told damage. no-error _ _;
       damage = λ damage is. absurd (no-error _ _ is);
       room = c.in-Spent.ensures.room (λ is. absurd cc);
@@ -57,6 +60,7 @@ returns-in-NoMemory g c = record {
   later = stops-later c.args.machine.now c.run.new.self.machine NoMemory c.in-NoMemory.ensures.stops;
   wants = λ items told is. inl c.in-NoMemory.ensures.stops;
   cause = counts-none _ _ (λ is. absurd cc);
+  answered = λ none. refl;
   undamaged = λ told damage is. absurd cc;
   damage = λ damage is. absurd cc;
   room = tt;
@@ -71,3 +75,6 @@ returns-in-Ecall-clause-exact g c = search rules
 
 pub returns-in-Ecall-clause-cause : goal.returns-in-Ecall-clause-cause
 returns-in-Ecall-clause-cause g c = search rules
+
+pub returns-in-Ecall-clause-answered : goal.returns-in-Ecall-clause-answered
+returns-in-Ecall-clause-answered g c = λ none. c.handle.ensures.answered (λ damage is. none damage (c.outcome_of.ensures ∙ ap outcome_of is))

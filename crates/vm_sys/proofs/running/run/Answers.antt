@@ -2,6 +2,7 @@ use Rattle.std.proofs.Common.{◌≡◌, refl, ap, ◌∙◌, arith}
 use Rattle.std.specs.Prelude.{Err}
 use Rattle.outside.specs.declared.disk.ReadStop.TheVariants.{NoMemory}
 use Rattle.sys_defs.specs.Answer.{syscall}
+use Rattle.outside.proofs.Endings.{handed}
 use Rattle.sys_laws.proofs.AccountLaws.{syscalls-keep-account}
 use Rattle.vm_sys.proofs.RunLemmas.{accounts-more, accounts-none, cycles-left, ends-within, run-ends, run-wants, runs-more, runs-none}
 use Rattle.vm_sys.proofs.running.run.Goals as goal
@@ -12,6 +13,7 @@ steps-init g c = record {
   told = refl;
   loans = refl;
   faults = refl;
+  damages = refl;
   accounts = accounts-none c.args.machine.now.machine;
   runs = λ items told. runs-none (syscall items) c.args.machine.now;
 }
@@ -43,6 +45,7 @@ steps-preserved g c = record {
   told = c.advance.ensures.told ∙ c.steps.invariant.told;
   loans = c.advance.ensures.loans ∙ c.steps.invariant.loans;
   faults = c.in-Ok-None.ensures.cause.unchanged (λ fault. cc) ∙ c.steps.invariant.faults;
+  damages = c.in-Ok-None.ensures.answered (λ damage is. cc) ∙ c.steps.invariant.damages;
   accounts = accounts-more c.args.machine.now.machine c.steps.machine c.advance.new.machine c.in-Ok-None.field-0 c.steps.invariant.accounts
       c.in-Ok-None.ensures.some c.in-Ok-None.field-0-is;
   runs = λ items told.
@@ -56,3 +59,9 @@ returns-in-Err-clause-wants g c = λ items told wants.
     let stop : c.in-Err.stop ≡ NoMemory = cc in
     run-wants items c.args.machine.now c.steps.machine c.advance.new.machine.machine (c.steps.invariant.runs items told)
     (c.in-Err.ensures.wants items (c.steps.invariant.told ∙ told) (ap Err stop))
+
+pub returns-in-Ok-Some-clause-answered : goal.returns-in-Ok-Some-clause-answered
+returns-in-Ok-Some-clause-answered g c = λ none. c.in-Ok-Some.ensures.answered (λ damage is. cc) ∙ c.steps.invariant.damages
+
+pub returns-in-Err-clause-answered : goal.returns-in-Err-clause-answered
+returns-in-Err-clause-answered g c = λ none. c.in-Err.ensures.answered (λ damage is. none damage (handed c.in-Err.stop _ is)) ∙ c.steps.invariant.damages

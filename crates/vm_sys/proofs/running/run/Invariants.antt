@@ -10,6 +10,7 @@ invariant-steps g l = record {
   told : g.W.World.told l.world ≡ g.W.World.told l.fn.world;
   loans : g.W.World.loans_of l.world ≡ g.W.World.loans_of l.fn.world;
   faults : g.W.World.faults l.world ≡ g.W.World.faults l.fn.world;
+  damages : g.W.World.damages l.world ≡ g.W.World.damages l.fn.world;
   accounts : Accounts l.fn.machine.machine l.machine.machine;
   -- what is left to run ends as the whole does
   runs : (items : Items) → g.W.World.told l.fn.world ≡ Some items → Runs (syscall items) l.fn.machine l.machine;

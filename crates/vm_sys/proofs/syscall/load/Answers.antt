@@ -19,6 +19,7 @@ returns-in-Err g c = record {
       known-before _ _ items c.asked.result (asks c.args.machine.now.machine (form_meaning c.args.form)) c.in-Err.stop c.in-Err.ensures.known told c.asked.ensures wants;
   unpaid = λ stop is. refl;
   cause = counts-as (same-answer c.in-Err.stop DiskFault) (same-stop c.in-Err.stop DiskFault) c.in-Err.ensures.cause;
+  answered = λ none. c.in-Err.ensures.answered (λ damage is. none damage (same-answer c.in-Err.stop (Damaged damage) is));
   undamaged = λ told damage is. c.in-Err.ensures.undamaged told damage (same-stop c.in-Err.stop (Damaged damage) is);
   damage = λ damage is. c.in-Err.ensures.damage damage (same-stop c.in-Err.stop (Damaged damage) is);
   in_part = none-held _ _ refl;
@@ -44,6 +45,7 @@ returns-in-Unknown g c =
       wants = λ items told is. absurd (no-stop 5 NoMemory is);
       unpaid = λ stop is. absurd (no-stop 5 stop is);
       cause = counts-as (λ is. absurd cc) (λ is. absurd cc) c.in-Ok.ensures.cause;
+      answered = λ none. c.in-Ok.ensures.answered (λ damage is. absurd cc);
       undamaged = λ told damage. no-stop 5 (Damaged damage);
       damage = λ damage is. absurd (no-stop 5 (Damaged damage) is);
       in_part = none-held _ _ refl;

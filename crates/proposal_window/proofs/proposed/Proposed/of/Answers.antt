@@ -5,17 +5,15 @@ use Rattle.std.specs.HashSet.{contains}
 use Rattle.chain_defs.specs.Branch.{branch}
 use Rattle.chain_tree.specs.Told.{blocks_of}
 use Rattle.window_defs.specs.Window.{proposes_at}
-use Rattle.outside.proofs.Endings.{no_fault, behind, handed, counts-handed, no_answer}
+use Rattle.outside.proofs.Endings.{handed, no_answer}
+use Rattle.chain_tree.proofs.ReadLemmas.{unread, read_on}
 use Rattle.proposal_window.proofs.ProposedLemmas.{window-more, window-proposes}
 use Rattle.proposal_window.proofs.BranchLemmas.{proposes-at-place}
 use Rattle.proposal_window.proofs.proposed.Proposed.of.Goals as goal
 
 pub window-init : goal.window-init
 window-init g c = record {
-  told = refl;
-  count = refl;
-  loans = refl;
-  faults = refl;
+  read = unread c.args.blocks.now;
   from = omega arith;
   within = λ begun. absurd (omega (arith, begun));
   added = λ stored tells indexes id.
@@ -26,16 +24,13 @@ window-init g c = record {
 
 pub window-preserved : goal.window-preserved
 window-preserved g c = record {
-  told = c.add_at.ensures.told ∙ c.window.invariant.told;
-  count = c.add_at.ensures.count ∙ c.window.invariant.count;
-  loans = c.add_at.ensures.loans ∙ c.window.invariant.loans;
-  faults = c.in-Ok.ensures.cause.unchanged (no_answer _ _) ∙ c.window.invariant.faults;
+  read = read_on c.window.invariant.read c.in-Ok.ensures.read;
   from = let from = c.window.invariant.from in omega (arith, from);
   within = λ begun. let more = c.window-test.true in omega (arith, more);
   added = λ stored tells indexes id.
       window-more (proposes_at (branch (blocks_of stored) c.args.parent) id) c.window_of-low.result.0 c.window.proposer _ _ c.window.invariant.from
       (c.window.invariant.added stored tells indexes id)
-      (c.in-Ok.ensures.added stored (c.window.invariant.told ∙ tells) id
+      (c.in-Ok.ensures.added stored (c.window.invariant.read.told ∙ tells) id
       ∙ ap (λ b. contains bytes_eq c.window.ids id || b)
       (sym (proposes-at-place (blocks_of stored) c.args.tree.now.entries id c.args.parent c.window.proposer c.ancestor-place.result _ indexes
       c.requires.parent (c.ancestor-place.ensures.of_blocks (blocks_of stored) indexes) refl)));
@@ -43,25 +38,17 @@ window-preserved g c = record {
 
 pub returns-in-Err : goal.returns-in-Err
 returns-in-Err g c = record {
-  told = c.in-Err.ensures.told ∙ c.window.invariant.told;
-  count = c.in-Err.ensures.count ∙ c.window.invariant.count;
-  loans = c.in-Err.ensures.loans ∙ c.window.invariant.loans;
+  read = read_on c.window.invariant.read c.in-Err.ensures.read;
   proposed = λ stored tells indexes. tt;
-  undamaged = λ stored tells indexes damage same. c.in-Err.ensures.undamaged stored (c.window.invariant.told ∙ tells) damage (handed c.in-Err.stop _ same);
-  damage = λ damage same. c.in-Err.ensures.damage damage (handed c.in-Err.stop _ same);
-  cause = behind c.window.invariant.faults (counts-handed c.in-Err.stop _ c.in-Err.ensures.cause);
+  undamaged = λ stored tells indexes damage same. c.in-Err.ensures.undamaged stored (c.window.invariant.read.told ∙ tells) damage (handed c.in-Err.stop _ same);
 }
 
 pub returns : goal.returns
 returns g c = record {
-  told = c.window.invariant.told;
-  count = c.window.invariant.count;
-  loans = c.window.invariant.loans;
+  read = c.window.invariant.read;
   proposed = λ stored tells indexes id.
       window-proposes c.args.spec.now (branch (blocks_of stored) c.args.parent) id c.args.height c.window_of-low.result.0 c.window_of-low.result.1 c.window.proposer _
       c.window_of-low.ensures.low c.window_of-low.ensures.end (let past = c.window-test.false in omega (arith, past)) c.window.invariant.within
       (c.window.invariant.added stored tells indexes id);
   undamaged = λ stored tells indexes damage same. no_answer _ _ same;
-  damage = λ damage same. absurd (no_answer _ _ same);
-  cause = no_fault _ _ c.window.invariant.faults (no_answer _ _);
 }

@@ -4,9 +4,9 @@ use Rattle.outside.specs.declared.disk.ReadStop.TheVariants.{NoMemory}
 use Rattle.sys_defs.specs.World.{Here, NoIndex, Missing, Unknown}
 use Rattle.script_run.specs.declared.bytes.Look.TheVariants as look
 use Rattle.script_run.specs.Looks.{bytes_of, header_part, items_told}
-use Rattle.script_run.specs.Running.{stop_of}
+use Rattle.chain_tree.specs.Reading.{stop_of}
 use Rattle.script_run.specs.Shown.{ShownTxValue}
-use Rattle.script_run.proofs.ReadLemmas.{counted-as, counted-stop, damage-no-fault, damage-no-want, damage-of-log, no-error, none-counted, not-there}
+use Rattle.script_run.proofs.ReadLemmas.{counted-as, counted-stop, damage-no-fault, damage-no-want, damage-of-log, no-error, none-counted, not-there, some-stop}
 use Rattle.script_run.proofs.WorldLemmas.{block-told, by-look, here-or-unknown, kept, not-broken, not-wanted}
 use Rattle.script_run.proofs.world.GroupWorldWorld.find.Goals as goal
 
@@ -21,6 +21,7 @@ returns-in-Here g c =
           (λ items. items c.args.call ≡ Here (bytes_of c.in-Here.bytes)) (λ stored scene told is. is);
       known = not-wanted (items_told world.tx.now.epoch_length world.tx.now.it world.group.now (g.B.Blocks.told world.blocks.now)) c.args.call _ (no-error _ _);
       cause = none-counted _ _ (no-error _ _);
+      answered = λ none. refl;
       undamaged = λ _ damage is. no-error _ _ is;
       damage = λ damage is. absurd (no-error _ _ is);
     }
@@ -36,6 +37,7 @@ returns-in-NoIndex g c =
           (λ items. items c.args.call ≡ NoIndex) (λ stored scene told is. is);
       known = not-wanted (items_told world.tx.now.epoch_length world.tx.now.it world.group.now (g.B.Blocks.told world.blocks.now)) c.args.call _ (no-error _ _);
       cause = none-counted _ _ (no-error _ _);
+      answered = λ none. refl;
       undamaged = λ _ damage is. no-error _ _ is;
       damage = λ damage is. absurd (no-error _ _ is);
     }
@@ -51,6 +53,7 @@ returns-in-Missing g c =
           (λ items. items c.args.call ≡ Missing) (λ stored scene told is. is);
       known = not-wanted (items_told world.tx.now.epoch_length world.tx.now.it world.group.now (g.B.Blocks.told world.blocks.now)) c.args.call _ (no-error _ _);
       cause = none-counted _ _ (no-error _ _);
+      answered = λ none. refl;
       undamaged = λ _ damage is. no-error _ _ is;
       damage = λ damage is. absurd (no-error _ _ is);
     }
@@ -66,6 +69,7 @@ returns-in-Unknown g c =
           (λ items. items c.args.call ≡ Unknown) (λ stored scene told is. is);
       known = not-wanted (items_told world.tx.now.epoch_length world.tx.now.it world.group.now (g.B.Blocks.told world.blocks.now)) c.args.call _ (no-error _ _);
       cause = none-counted _ _ (no-error _ _);
+      answered = λ none. refl;
       undamaged = λ _ damage is. no-error _ _ is;
       damage = λ damage is. absurd (no-error _ _ is);
     }
@@ -80,6 +84,7 @@ returns-in-Broken g c =
       found = tt;
       known = not-wanted (items_told world.tx.now.epoch_length world.tx.now.it world.group.now (g.B.Blocks.told world.blocks.now)) c.args.call _ (damage-no-want c.damaged.result _ c.damaged.ensures);
       cause = none-counted _ _ (damage-no-fault c.damaged.result _ c.damaged.ensures);
+      answered = λ none. refl;
       undamaged = λ some damage is.
           not-broken world.tx.now.epoch_length world.tx.now.it world.group.now (g.B.Blocks.told world.blocks.now) c.args.call c.sought.result c.sought.ensures c.in-Broken.is some;
       damage = λ damage is. damage-of-log c.damaged.result damage c.damaged.ensures is;
@@ -90,10 +95,10 @@ returns-in-Ok g c =
     let world = c.args.self.now in
     let place = c.in-InBlock.place in
     let part = c.in-InBlock.part in
-    let reads = c.in-Ok.ensures.reads in
+    let read = c.in-Ok.ensures.read in
     record {
-      told = ap (items_told world.tx.now.epoch_length world.tx.now.it world.group.now) reads.told;
-      loans = λ t. (world.blocks.ghost_name, reads.loans t, reads.told t, reads.count t);
+      told = ap (items_told world.tx.now.epoch_length world.tx.now.it world.group.now) read.told;
+      loans = λ t. (world.blocks.ghost_name, read.loans t, read.told t, read.count t);
       here = λ _. refl;
       found = by-look world.tx.now.epoch_length world.tx.now.it world.group.now (g.B.Blocks.told world.blocks.now) c.args.call c.sought.result (look.InBlock place part) c.sought.ensures c.in-InBlock.is
           (λ items. items c.args.call ≡ Here (bytes_of c.in-Ok.bytes))
@@ -101,7 +106,8 @@ returns-in-Ok g c =
           let k = kept stored place _ is in
           k.holds ∙ ap Here (ap (λ (t : ShownTxValue). header_part t.epoch_length part k.made.block.header) (sym c.tx.view_is) ∙ sym (c.in-Ok.ensures.part stored k.made told k.there)));
       known = not-wanted (items_told world.tx.now.epoch_length world.tx.now.it world.group.now (g.B.Blocks.told world.blocks.now)) c.args.call _ (no-error _ _);
-      cause = counted-as _ _ _ _ (λ is. absurd (no-error _ _ is)) (λ is. absurd (not-there _ _ refl is)) reads.cause;
+      cause = counted-as _ _ _ _ (λ is. absurd (no-error _ _ is)) (λ is. absurd (not-there _ _ refl is)) read.cause;
+      answered = λ none. read.found (λ damage is. not-there _ _ refl is);
       undamaged = λ _ damage is. no-error _ _ is;
       damage = λ damage is. absurd (no-error _ _ is);
     }
@@ -111,18 +117,19 @@ returns-in-Err g c =
     let world = c.args.self.now in
     let place = c.in-InBlock.place in
     let part = c.in-InBlock.part in
-    let reads = c.in-Err.ensures.reads in
+    let read = c.in-Err.ensures.read in
     record {
-      told = ap (items_told world.tx.now.epoch_length world.tx.now.it world.group.now) reads.told;
-      loans = λ t. (world.blocks.ghost_name, reads.loans t, reads.told t, reads.count t);
+      told = ap (items_told world.tx.now.epoch_length world.tx.now.it world.group.now) read.told;
+      loans = λ t. (world.blocks.ghost_name, read.loans t, read.told t, read.count t);
       here = tt;
       found = tt;
       known = by-look world.tx.now.epoch_length world.tx.now.it world.group.now (g.B.Blocks.told world.blocks.now) c.args.call c.sought.result (look.InBlock place part) c.sought.ensures c.in-InBlock.is
           (λ items. items c.args.call ≡ Unknown → Err c.in-Err.stop ≡ Err NoMemory → ⊥)
           (λ stored scene told is unknown no_memory. let k = kept stored place _ is in here-or-unknown _ _ k.holds unknown);
-      cause = counted-stop _ _ c.in-Err.stop reads.cause;
+      cause = counted-stop _ _ c.in-Err.stop read.cause;
+      answered = λ none. read.found (λ damage is. none damage (ap Err (some-stop _ _ is)));
       undamaged = λ some damage is.
           let t = block-told world.tx.now.epoch_length world.tx.now.it world.group.now (g.B.Blocks.told world.blocks.now) c.args.call c.sought.result place part c.sought.ensures c.in-InBlock.is some in
           c.in-Err.ensures.undamaged t.stored t.made t.told_are t.there damage (ap stop_of is);
-      damage = λ damage is. reads.damage damage (ap stop_of is);
+      damage = λ damage is. read.damage damage (ap stop_of is);
     }
