@@ -1,9 +1,8 @@
 // A block judged by all rules, and a transaction judged alone.
-ghost use Rattle.std.specs.Prelude.{◌≡◌, ◌-◌, ◌<◌, ◌^◌, ◌≤◌, ℕ, List, Option, None, Some, Err, IfOk, IsTrue, length, map};
-ghost use Rattle.fold_defs.specs.First.{first_failing};
+ghost use Rattle.std.specs.Prelude.{◌≡◌, ◌-◌, ◌<◌, ◌^◌, List, Option, None, Some, Err, IfOk, IsTrue, length, map};
 ghost use Rattle.outside.specs.declared.disk.Damage.{Damage};
 ghost use Rattle.outside.specs.declared.disk.ReadStop.TheVariants.{Damaged};
-ghost use Rattle.codec_defs.specs.Schema.{OutPoint, Block};
+ghost use Rattle.codec_defs.specs.Schema.{OutPoint};
 ghost use Rattle.chain_defs.specs.Branch.{branch};
 ghost use Rattle.chain_defs.specs.Hashes.{transaction_hash};
 ghost use Rattle.chain_tree.specs.Told.{Stored, blocks_of};

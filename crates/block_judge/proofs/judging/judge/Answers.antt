@@ -1,4 +1,4 @@
-use Rattle.std.proofs.Common.{◌≡◌, true, refl, inl, ap, sym, ◌∙◌, Some, Err, arith}
+use Rattle.std.proofs.Common.{◌≡◌, refl, inl, ap, sym, ◌∙◌, Some, Err, arith}
 use Rattle.rule_names.specs.Number.{rule_number}
 use Rattle.chain_defs.specs.Branch.{branch}
 use Rattle.cell_defs.specs.Events.{live_cell}
