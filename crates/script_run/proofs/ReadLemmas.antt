@@ -6,6 +6,8 @@ use Rattle.outside.specs.declared.disk.Damage.{Damage}
 use Rattle.outside.specs.declared.disk.ReadStop.{ReadStop}
 use Rattle.outside.specs.declared.disk.ReadStop.TheVariants.{Damaged, DiskFault, NoMemory}
 use Rattle.chain_tree.specs.Reading.{stop_of}
+use Rattle.program_run.specs.declared.program.Stopped.{Stopped}
+use Rattle.program_run.specs.declared.program.Stopped.TheVariants.{Running}
 use Rattle.script_run.specs.declared.stop.ScriptStop.{ScriptStop}
 use Rattle.script_run.specs.declared.stop.ScriptStop.TheVariants.{Read}
 use Rattle.script_run.specs.Grouping.{IsWantOrDamage}
@@ -36,6 +38,9 @@ logged stop damage damaged is = let same : Damaged (record { area = Log; at = 0 
 
 pub damaged-unlike-fault : (stop : ReadStop) (damage : Damage) → stop ≡ Damaged damage → Some stop ≡ Some DiskFault → ⊥
 damaged-unlike-fault stop damage damaged is = absurd (cc)
+
+pub running-stop : {T : Type 0} (stop other : ReadStop) → ◌≡◌ {A = Result T Stopped} (Err (Running stop)) (Err (Running other)) → Some stop ≡ Some other
+running-stop stop other same = let is : stop ≡ other = cc in ap Some is
 
 -- want of memory, where scripts are run
 pub wanted-no-damage : (damage : Damage) → ◌≡◌ {A = Result ℕ ScriptStop} (Err (Read NoMemory)) (Err (Read (Damaged damage))) → ⊥

@@ -12,7 +12,7 @@ use Rattle.tx_rules.specs.Copying.{row_in, CopiesItsRow, HoldsOutput}
 use Rattle.tx_rules.specs.Outcome.{Copies}
 use Rattle.tx_rules.specs.Steps.{paying_rules}
 use Rattle.chain_tree.proofs.ReadLemmas.{read_on}
-use Rattle.tx_rules.proofs.Endings.{counts-read}
+use Rattle.tx_rules.proofs.Endings.{read_stopped}
 use Rattle.tx_rules.proofs.SiteLemmas.{inputs-seen, deps-seen}
 use Rattle.tx_rules.proofs.RuleLemmas.{read-stops}
 use Rattle.tx_rules.proofs.RowRuleLemmas.{later-read, later-stops}

@@ -7,7 +7,6 @@ use Rattle.tx_defs.specs.Resolving.{dep_cells, header_heights}
 use Rattle.tx_rules.specs.At.{found_row}
 use Rattle.tx_rules.specs.Steps.{naming_rules}
 use Rattle.chain_tree.proofs.ReadLemmas.{read_short}
-use Rattle.tx_rules.proofs.Endings.{broken_unread, memory_unread, counts-read}
 use Rattle.tx_rules.proofs.RuleLemmas.{no-cell-deps, no-header-deps, names-well, found-none, found-some, found-list, read-stops}
 use Rattle.tx_rules.proofs.RowRuleLemmas.{later-21, later-22, later-read}
 use Rattle.tx_rules.proofs.resolving.named_rows.Goals as goal
