@@ -47,3 +47,6 @@ returns-then-height-delay-clause-read g c = unread _
 
 pub returns-in-Ok-Some-clause-read : goal.returns-in-Ok-Some-clause-read
 returns-in-Ok-Some-clause-read g c = read_on c.in-Ok-Some.ensures.read c.pays_at.ensures.read
+
+pub returns-in-Ok-Some-clause-undamaged : goal.returns-in-Ok-Some-clause-undamaged
+returns-in-Ok-Some-clause-undamaged g c stored tells indexes own damage same = c.pays_at.ensures.undamaged stored (c.reward.ensures.read.told ∙ tells) damage same
