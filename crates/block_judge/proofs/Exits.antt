@@ -1,14 +1,22 @@
 -- What a function's clauses say where it ends in an error.
-use Rattle.std.proofs.Common.{◌≡◌, ℕ, Bool, true, false, Result, Ok, Err, refl, sym, ap, subst, arith, ◌∙◌}
+use Rattle.std.proofs.Common.{◌≡◌, ℕ, Bool, true, false, List, Option, Result, Ok, Err, refl, sym, ap, subst, ◌∙◌}
 use Rattle.std.specs.Prelude.{⊤}
-use Rattle.outside.specs.Causes.{CountsFault}
 use Rattle.outside.specs.declared.disk.Damage.{Damage}
 use Rattle.outside.specs.declared.disk.ReadStop.{ReadStop}
 use Rattle.outside.specs.declared.disk.ReadStop.TheVariants.{DiskFault, NoMemory, Damaged}
+use Rattle.chain_tree.specs.Told.{Stored}
+use Rattle.chain_tree.specs.Reading.{HasRead}
+use Rattle.tx_rules.specs.declared.resolving.TxStop.{TxStop}
+use Rattle.tx_rules.specs.declared.resolving.TxStop.TheVariants as resolving_stop
+use Rattle.tx_rules.specs.Reading as resolving
+use Rattle.script_run.specs.declared.stop.ScriptStop.{ScriptStop}
+use Rattle.script_run.specs.declared.stop.ScriptStop.TheVariants as running_stop
+use Rattle.script_run.specs.Running as running
 use Rattle.rule_names.specs.Number.{rule_number}
 use Rattle.rule_names.specs.declared.rule.Rule.{Rule}
 use Rattle.block_judge.specs.declared.stop.Judged.{Judged}
 use Rattle.block_judge.specs.declared.stop.Judged.TheVariants.{Broken, Read}
+use Rattle.block_judge.specs.Stops.{of_resolving, AnswersRunning, stop_in}
 
 -- ---- One error is another
 
@@ -46,12 +54,6 @@ as_read {T = T} same = ap as_error (same_read same)
     as_error : ReadStop → Result T ReadStop
     as_error it = Err it
 
-pub as_judged : {T U : Type 0} {stop given : ReadStop} → ◌≡◌ {A = Result T ReadStop} (Err stop) (Err given) → ◌≡◌ {A = Result U Judged} (Err (Read stop)) (Err (Read given))
-as_judged {U = U} same = ap as_error (same_stop same)
-  where
-    as_error : ReadStop → Result U Judged
-    as_error it = Err (Read it)
-
 -- ---- One is not another
 
 abbrev IsFine : {T E : Type 0} → Result T E → Type 0
@@ -82,48 +84,29 @@ no_rule same = subst IsRead (same_stop same) tt
 pub no_read : {T : Type 0} {rule : Rule} {stop : ReadStop} → ◌≡◌ {A = Result T Judged} (Err (Broken rule)) (Err (Read stop)) → ⊥
 no_read same = subst IsRead (sym (same_stop same)) tt
 
--- want of memory is neither damage nor a fault
+-- want of memory is no damage
 pub not_damage : {damage : Damage} → Damaged damage ≡ NoMemory → ⊥
 not_damage same = subst IsMemory (sym same) tt
-
-pub not_fault : DiskFault ≡ NoMemory → ⊥
-not_fault same = subst IsMemory (sym same) tt
 
 pub no_damage : {T : Type 0} {damage : Damage} → ◌≡◌ {A = Result T Judged} (Err (Read NoMemory)) (Err (Read (Damaged damage))) → ⊥
 no_damage same = not_damage (sym (same_read same))
 
-pub no_fault : {T : Type 0} → ◌≡◌ {A = Result T Judged} (Err (Read NoMemory)) (Err (Read DiskFault)) → ⊥
-no_fault same = not_fault (sym (same_read same))
-
 pub not_both : {test : Bool} → test ≡ true → test ≡ false → ⊥
 not_both holds fails = subst IsFalse (sym fails ∙ holds) tt
 
--- ---- The count of faults
+-- ---- What was read of kept blocks
 
--- the error of a step is handed on
-pub counts-on : {before now : ℕ} {Fault Same : Type 0} → (Fault → Same) → (Same → Fault) → CountsFault before now Fault → CountsFault before now Same
-counts-on to from counts = record {
-  later = counts.later;
-  rose = λ fault. counts.rose (from fault);
-  unchanged = λ none. counts.unchanged (λ fault. none (to fault));
-}
+module _ {S L : Type 0} {tells : S → Option (List Stored)} {counts : S → ℕ} {loans_of : S → L} {faults damages : S → ℕ} where
+  -- the stop of a step is answered as another that says the same of them
+  pub read_as : {old new : S} {stop other : Option ReadStop} → stop ≡ other → HasRead tells counts loans_of faults damages old new stop
+      → HasRead tells counts loans_of faults damages old new other
+  read_as {old = old} {new = new} same read = subst (λ (it : Option ReadStop). HasRead tells counts loans_of faults damages old new it) same read
 
--- neither the answer of the step nor the function's is a fault
-pub counts-none : {before now : ℕ} {Fault Other : Type 0} → (Fault → ⊥) → (Other → ⊥) → CountsFault before now Fault → CountsFault before now Other
-counts-none no_step no_other counts = record {
-  later = counts.later;
-  rose = λ fault. absurd (no_other fault);
-  unchanged = λ none. counts.unchanged no_step;
-}
+pub resolving-stop : (T : Type 0) (stop : TxStop) (judged : Judged) → judged ≡ of_resolving stop → resolving.read_stop_of {T = T} (Err stop) ≡ stop_in judged
+resolving-stop T (resolving_stop.Broken rule) judged is = sym (ap stop_in is)
+resolving-stop T (resolving_stop.Read stop) judged is = sym (ap stop_in is)
 
--- nothing was read
-pub counts-still : {now : ℕ} {Fault : Type 0} → (Fault → ⊥) → CountsFault now now Fault
-counts-still no_fault = record {
-  later = omega arith;
-  rose = λ fault. absurd (no_fault fault);
-  unchanged = λ none. refl;
-}
-
--- it stood still before
-pub counts-behind : {before between now : ℕ} {Fault : Type 0} → between ≡ before → CountsFault between now Fault → CountsFault before now Fault
-counts-behind {now = now} {Fault = Fault} still counts = subst (λ (n : ℕ). CountsFault n now Fault) still counts
+pub running-stop : (stop : ScriptStop) (judged : Judged) → AnswersRunning stop judged → running.read_stop_of (Err stop) ≡ stop_in judged
+running-stop (running_stop.Failed failure) (Broken rule) is = refl
+running-stop (running_stop.Failed failure) (Read stop) is = absurd is
+running-stop (running_stop.Read stop) judged is = sym (ap stop_in is)

@@ -12,7 +12,6 @@ use Rattle.script_run.specs.declared.stop.ScriptStop.TheVariants as running
 use Rattle.script_run.specs.Running.{IsOutcome}
 use Rattle.rule_names.specs.Number.{rule_number}
 use Rattle.rule_names.specs.declared.rule.Rule.{Rule}
-use Rattle.block_judge.specs.declared.stop.Judged.{Judged}
 use Rattle.block_judge.specs.declared.stop.Judged.TheVariants.{Broken, Read}
 use Rattle.block_judge.specs.Standing.{IsScriptRule}
 use Rattle.block_judge.specs.Stops.{AnswersRunning}
@@ -64,6 +63,3 @@ script-rule (running.Read stop) rule is = absurd (cc)
 pub reads-running : (stop : ScriptStop) (given : ReadStop) → AnswersRunning stop (Read given) → stop ≡ running.Read given
 reads-running (running.Failed f) given answers = absurd answers
 reads-running (running.Read stop) given answers = cc
-
-pub running-reads : (given : ReadStop) (judged : Judged) → AnswersRunning (running.Read given) judged → judged ≡ Read given
-running-reads given judged answers = answers

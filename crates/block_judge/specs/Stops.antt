@@ -1,5 +1,6 @@
--- What the stops of the steps on a transaction are answered as.
-use Rattle.std.specs.Prelude.{◌≡◌}
+-- What the stops of the steps on a transaction are answered as, and why kept blocks were not read to a good end.
+use Rattle.std.specs.Prelude.{◌≡◌, Option, Some, None, Result, Ok, Err}
+use Rattle.outside.specs.declared.disk.ReadStop.{ReadStop}
 use Rattle.rule_names.specs.Number.{rule_number}
 use Rattle.tx_rules.specs.declared.resolving.TxStop.{TxStop}
 use Rattle.tx_rules.specs.declared.resolving.TxStop.TheVariants as resolving
@@ -18,3 +19,12 @@ abbrev pub AnswersRunning : ScriptStop → Judged → Type 0
 AnswersRunning (running.Failed failure) (Broken rule) = rule_number rule ≡ rule_of failure
 AnswersRunning (running.Failed failure) (Read stop) = ⊥
 AnswersRunning (running.Read stop) judged = judged ≡ Read stop
+
+-- why kept blocks were not read to a good end, where they were not: a rule that is broken is no such stop
+abbrev pub stop_in : Judged → Option ReadStop
+stop_in (Broken rule) = None
+stop_in (Read stop) = Some stop
+
+abbrev pub read_stop_of : {T : Type 0} → Result T Judged → Option ReadStop
+read_stop_of (Ok value) = None
+read_stop_of (Err judged) = stop_in judged

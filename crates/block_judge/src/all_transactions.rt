@@ -2,14 +2,13 @@
 ghost use Rattle.std.specs.Prelude.{◌≡◌, ◌+◌, ◌-◌, ◌<◌, ◌^◌, ◌≤◌, ◌++◌, ◌∷◌, [], ℕ, nat_lt, pos, ◌+ℤ◌, List, None, Some, Err, IfOk, OnOk, length, map, drop};
 ghost use Rattle.std.specs.List.{filter};
 ghost use Rattle.fold_defs.specs.First.{first_failing};
-ghost use Rattle.outside.specs.Causes.{CountsFault};
-ghost use Rattle.outside.specs.declared.disk.Area.TheVariants.{Log};
 ghost use Rattle.outside.specs.declared.disk.Damage.{Damage};
-ghost use Rattle.outside.specs.declared.disk.ReadStop.TheVariants.{DiskFault, Damaged};
+ghost use Rattle.outside.specs.declared.disk.ReadStop.TheVariants.{Damaged};
 ghost use Rattle.codec_defs.specs.Schema.{OutPoint};
 ghost use Rattle.chain_defs.specs.Branch.{branch};
 ghost use Rattle.chain_defs.specs.Hashes.{transaction_hash};
 ghost use Rattle.chain_tree.specs.Told.{Stored, blocks_of};
+ghost use Rattle.chain_tree.specs.Reading.{HasRead};
 ghost use Rattle.cell_defs.specs.Events.{events_of};
 ghost use Rattle.cell_defs.specs.Row.{row_after};
 ghost use Rattle.tx_defs.specs.Site.{Site};
@@ -26,6 +25,7 @@ ghost use Rattle.block_judge.specs.declared.stop.Judged.TheVariants.{Broken, Rea
 ghost use Rattle.block_judge.specs.Changes.{with_changes};
 ghost use Rattle.block_judge.specs.Progress.{AreProposed, CanMove};
 ghost use Rattle.block_judge.specs.Standing.{IsTriedOnTransaction, StandsFor, seen};
+ghost use Rattle.block_judge.specs.Stops.{read_stop_of};
 
 use crate::block_cells::BlockCells;
 use crate::context::Context;
@@ -156,9 +156,7 @@ impl<'a, C: Cells> Progress<'a, C> {
         requires few { place < 2 ^ 30 }
         requires moved { CanMove place self.old.interest self.old.freed }
         requires counts { B.count blocks.old ≡ length at.now.entries }
-        ensures told { B.told blocks.new ≡ B.told blocks.old }
-        ensures count { B.count blocks.new ≡ B.count blocks.old }
-        ensures loans { B.loans_of blocks.new ≡ B.loans_of blocks.old }
+        ensures read { HasRead B.told B.count B.loans_of B.faults B.damages blocks.old blocks.new (read_stop_of result) }
         ensures rule { (rule : Rule) → result ≡ Err (Broken rule) → IsTriedOnTransaction (rule_number rule) }
         ensures within { self.new.left ≤ self.old.left }
         ensures moved { OnOk result (CanMove (place + 1) self.new.interest self.new.freed) }
@@ -192,8 +190,6 @@ impl<'a, C: Cells> Progress<'a, C> {
         ensures undamaged { (stored : List Stored) (site : Site) → B.told blocks.old ≡ Some stored
             → IsSiteOf stored at.now (with_changes self.old.cells.changed (C.rows self.old.cells.base.now)) site
             → (damage : Damage) → result ≡ Err (Read (Damaged damage)) → ⊥ }
-        ensures damage { (damage : Damage) → result ≡ Err (Read (Damaged damage)) → damage.area ≡ Log }
-        ensures cause { CountsFault (B.faults blocks.old) (B.faults blocks.new) (result ≡ Err (Read DiskFault)) }
     {
         let is_proposed = proposed.contains(&proposal_id(hash));
         let taken = match judge_transaction(
@@ -230,9 +226,7 @@ pub(crate) fn judge_transactions<C: Cells, B: Blocks>(
     requires counts { B.count blocks.old ≡ length context.now.tree.now.entries }
     requires some { 0 < length block.now.transactions }
     requires hashes { hashes.now ≡ map transaction_hash block.now.transactions }
-    ensures told { B.told blocks.new ≡ B.told blocks.old }
-    ensures count { B.count blocks.new ≡ B.count blocks.old }
-    ensures loans { B.loans_of blocks.new ≡ B.loans_of blocks.old }
+    ensures read { HasRead B.told B.count B.loans_of B.faults B.damages blocks.old blocks.new (read_stop_of result) }
     ensures rule { (rule : Rule) → result ≡ Err (Broken rule) → IsTriedOnTransaction (rule_number rule) }
     ensures fees { IfOk result (λ it. length it.ext.fees ≡ length block.now.transactions - 1) }
     ensures broken { (stored : List Stored) → B.told blocks.old ≡ Some stored → StandsFor stored (seen C.rows context.now)
@@ -247,8 +241,6 @@ pub(crate) fn judge_transactions<C: Cells, B: Blocks>(
         → IfOk result (λ it. it.freed ≡ freed_from context.now.spec.now (branch (blocks_of stored) context.now.parent) block.now 1 (drop 1 block.now.transactions)) }
     ensures undamaged { (stored : List Stored) → B.told blocks.old ≡ Some stored → StandsFor stored (seen C.rows context.now)
         → (damage : Damage) → result ≡ Err (Read (Damaged damage)) → ⊥ }
-    ensures damage { (damage : Damage) → result ≡ Err (Read (Damaged damage)) → damage.area ≡ Log }
-    ensures cause { CountsFault (B.faults blocks.old) (B.faults blocks.new) (result ≡ Err (Read DiskFault)) }
 {
     let count = block.transactions_count();
     if count == 1 {

@@ -2,16 +2,15 @@
 ghost use Rattle.std.specs.Prelude.{◌≡◌, ◌<◌, ◌≤◌, ◌^◌, ℕ, List, None, Some, Err, IfOk, IsTrue, length, drop};
 ghost use Rattle.std.specs.List.{sum_by};
 ghost use Rattle.fold_defs.specs.First.{first_failing};
-ghost use Rattle.outside.specs.Causes.{CountsFault};
-ghost use Rattle.outside.specs.declared.disk.Area.TheVariants.{Log};
 ghost use Rattle.outside.specs.declared.disk.Damage.{Damage};
-ghost use Rattle.outside.specs.declared.disk.ReadStop.TheVariants.{DiskFault, Damaged};
+ghost use Rattle.outside.specs.declared.disk.ReadStop.TheVariants.{Damaged};
 ghost use Rattle.codec_defs.specs.Schema as schema;
 ghost use Rattle.time_defs.specs.Dao.{is_rated};
 ghost use Rattle.chain_defs.specs.Kept.{block_at};
 ghost use Rattle.chain_defs.specs.Branch.{branch};
 ghost use Rattle.chain_tree.specs.Blocks.{AreRated, IndexesBlocks};
 ghost use Rattle.chain_tree.specs.Told.{Stored, blocks_of};
+ghost use Rattle.chain_tree.specs.Reading.{HasRead, stop_of};
 ghost use Rattle.cell_defs.specs.Cell.{occupied_by};
 ghost use Rattle.reward_defs.specs.Payment as payment;
 ghost use Rattle.reward_defs.specs.Field as field;
@@ -20,6 +19,7 @@ ghost use Rattle.rewards.specs.Own.{HaveOwnFees};
 ghost use Rattle.rule_names.specs.Number.{rule_number};
 ghost use Rattle.block_judge.specs.declared.stop.Judged.TheVariants.{Broken, Read};
 ghost use Rattle.block_judge.specs.Progress.{AreMoved};
+ghost use Rattle.block_judge.specs.Stops.{read_stop_of};
 
 use crate::all_transactions::Outcome;
 use crate::context::Context;
@@ -89,14 +89,10 @@ fn pays_at<B: Blocks>(
     cellbase: &RawTxView<'_>,
 ) -> Result<bool, ReadStop>
     requires within { place < B.count blocks.old }
-    ensures told { B.told blocks.new ≡ B.told blocks.old }
-    ensures count { B.count blocks.new ≡ B.count blocks.old }
-    ensures loans { B.loans_of blocks.new ≡ B.loans_of blocks.old }
+    ensures read { HasRead B.told B.count B.loans_of B.faults B.damages blocks.old blocks.new (stop_of result) }
     ensures pays { (stored : List Stored) → B.told blocks.old ≡ Some stored → IfOk result (λ pays.
         pays ≡ payment.are_owed (payment.owed_to (payment.lock_of (block_at (blocks_of stored) place)) reward) cellbase.now.outputs) }
     ensures undamaged { (stored : List Stored) → B.told blocks.old ≡ Some stored → (damage : Damage) → result ≡ Err (Damaged damage) → ⊥ }
-    ensures damage { (damage : Damage) → result ≡ Err (Damaged damage) → damage.area ≡ Log }
-    ensures cause { CountsFault (B.faults blocks.old) (B.faults blocks.new) (result ≡ Err DiskFault) }
 {
     match blocks.bring(place) {
         Ok(()) => {}
@@ -119,15 +115,11 @@ fn pays_reward<B: Blocks>(
     requires rated { AreRated tree.now.entries }
     requires counts { B.count blocks.old ≡ length tree.now.entries }
     requires some { 0 < length block.now.transactions }
-    ensures told { B.told blocks.new ≡ B.told blocks.old }
-    ensures count { B.count blocks.new ≡ B.count blocks.old }
-    ensures loans { B.loans_of blocks.new ≡ B.loans_of blocks.old }
+    ensures read { HasRead B.told B.count B.loans_of B.faults B.damages blocks.old blocks.new (stop_of result) }
     ensures pays { (stored : List Stored) → B.told blocks.old ≡ Some stored → IndexesBlocks (blocks_of stored) tree.now.entries
         → HaveOwnFees spec.now stored → IfOk result (λ pays. pays ≡ rules.pays_reward spec.now (branch (blocks_of stored) parent) block.now) }
     ensures undamaged { (stored : List Stored) → B.told blocks.old ≡ Some stored → IndexesBlocks (blocks_of stored) tree.now.entries
         → HaveOwnFees spec.now stored → (damage : Damage) → result ≡ Err (Damaged damage) → ⊥ }
-    ensures damage { (damage : Damage) → result ≡ Err (Damaged damage) → damage.area ≡ Log }
-    ensures cause { CountsFault (B.faults blocks.old) (B.faults blocks.new) (result ≡ Err DiskFault) }
 {
     let cellbase = block.transactions_item(0).raw();
     let height = tree.entry(parent).number + 1;
@@ -232,9 +224,7 @@ pub(crate) fn judge_end<C: Cells, B: Blocks>(
     requires rated { AreRated context.now.tree.now.entries }
     requires counts { B.count blocks.old ≡ length context.now.tree.now.entries }
     requires some { 0 < length block.now.transactions }
-    ensures told { B.told blocks.new ≡ B.told blocks.old }
-    ensures count { B.count blocks.new ≡ B.count blocks.old }
-    ensures loans { B.loans_of blocks.new ≡ B.loans_of blocks.old }
+    ensures read { HasRead B.told B.count B.loans_of B.faults B.damages blocks.old blocks.new (read_stop_of result) }
     ensures tried { (rule : Rule) → result ≡ Err (Broken rule) → (31 ≤ rule_number rule) × (rule_number rule ≤ 32) }
     ensures rated { IfOk result (λ _. IsTrue (is_rated block.now.header.dao)) }
     ensures broken { (stored : List Stored) → B.told blocks.old ≡ Some stored → IndexesBlocks (blocks_of stored) context.now.tree.now.entries → HaveOwnFees context.now.spec.now stored
@@ -245,8 +235,6 @@ pub(crate) fn judge_end<C: Cells, B: Blocks>(
         → IfOk result (λ _. first_failing (rules.end_rules context.now.spec.now (branch (blocks_of stored) context.now.parent) block.now) ≡ None) }
     ensures undamaged { (stored : List Stored) → B.told blocks.old ≡ Some stored → IndexesBlocks (blocks_of stored) context.now.tree.now.entries → HaveOwnFees context.now.spec.now stored
         → (damage : Damage) → result ≡ Err (Read (Damaged damage)) → ⊥ }
-    ensures damage { (damage : Damage) → result ≡ Err (Read (Damaged damage)) → damage.area ≡ Log }
-    ensures cause { CountsFault (B.faults blocks.old) (B.faults blocks.new) (result ≡ Err (Read DiskFault)) }
 {
     match pays_reward(
         alloc,

@@ -1,13 +1,12 @@
 // A block judged by all rules, and a transaction judged alone.
 ghost use Rattle.std.specs.Prelude.{◌≡◌, ◌-◌, ◌<◌, ◌^◌, List, Option, None, Some, Err, IfOk, IsTrue, length, map};
-ghost use Rattle.outside.specs.Causes.{CountsFault};
-ghost use Rattle.outside.specs.declared.disk.Area.TheVariants.{Log};
 ghost use Rattle.outside.specs.declared.disk.Damage.{Damage};
-ghost use Rattle.outside.specs.declared.disk.ReadStop.TheVariants.{DiskFault, Damaged};
+ghost use Rattle.outside.specs.declared.disk.ReadStop.TheVariants.{Damaged};
 ghost use Rattle.codec_defs.specs.Schema.{OutPoint};
 ghost use Rattle.chain_defs.specs.Branch.{branch};
 ghost use Rattle.chain_defs.specs.Hashes.{transaction_hash};
 ghost use Rattle.chain_tree.specs.Told.{Stored, blocks_of};
+ghost use Rattle.chain_tree.specs.Reading.{HasRead};
 ghost use Rattle.cell_defs.specs.Cell.{Cell};
 ghost use Rattle.family_defs.specs.Cellbase as rules;
 ghost use Rattle.tx_defs.specs.Capacity as capacity;
@@ -24,6 +23,7 @@ ghost use Rattle.rule_names.specs.Number.{rule_number};
 ghost use Rattle.block_judge.specs.declared.stop.Judged.TheVariants.{Broken, Read};
 ghost use Rattle.block_judge.specs.ByRows.{SaysByForm, SaysByRows, TellLive};
 ghost use Rattle.block_judge.specs.Standing.{PassesAtSight, IsTried, IsTriedAlone, StandsFor, StandsForAll, seen};
+ghost use Rattle.block_judge.specs.Stops.{read_stop_of};
 
 use crate::all_transactions::judge_transactions;
 use crate::cellbase::forms_cellbase;
@@ -55,9 +55,7 @@ pub fn judge<C: Cells, B: Blocks>(
     requires counts { B.count blocks.old ≡ length context.now.tree.now.entries }
     requires hashes { hashes.now ≡ map transaction_hash block.now.transactions }
     requires some { 0 < length block.now.transactions }
-    ensures told { B.told blocks.new ≡ B.told blocks.old }
-    ensures count { B.count blocks.new ≡ B.count blocks.old }
-    ensures loans { B.loans_of blocks.new ≡ B.loans_of blocks.old }
+    ensures read { HasRead B.told B.count B.loans_of B.faults B.damages blocks.old blocks.new (read_stop_of result) }
     ensures tried { (rule : Rule) → result ≡ Err (Broken rule) → IsTried (rule_number rule) }
 
     // Over any source of blocks: J17; a fee for each transaction after the cellbase; and a DAO field that later ones can be reckoned by.
@@ -79,8 +77,6 @@ pub fn judge<C: Cells, B: Blocks>(
         → IfOk result (λ ext. ext ≡ ext_of context.now.spec.now (blocks_of stored) context.now.parent block.now) }
     ensures undamaged { (stored : List Stored) → B.told blocks.old ≡ Some stored
         → StandsForAll stored (seen C.rows context.now) → (damage : Damage) → result ≡ Err (Read (Damaged damage)) → ⊥ }
-    ensures damage { (damage : Damage) → result ≡ Err (Read (Damaged damage)) → damage.area ≡ Log }
-    ensures cause { CountsFault (B.faults blocks.old) (B.faults blocks.new) (result ≡ Err (Read DiskFault)) }
 {
     if !forms_cellbase(context.cells, block, hashes) {
         return Err(Judged::Broken(Rule::CellbaseForm));
@@ -110,9 +106,7 @@ pub fn dry_run<C: Cells, B: Blocks>(
     requires few { length context.now.tree.now.entries < 2 ^ 24 }
     requires rated { AreRated context.now.tree.now.entries }
     requires counts { B.count blocks.old ≡ length context.now.tree.now.entries }
-    ensures told { B.told blocks.new ≡ B.told blocks.old }
-    ensures count { B.count blocks.new ≡ B.count blocks.old }
-    ensures loans { B.loans_of blocks.new ≡ B.loans_of blocks.old }
+    ensures read { HasRead B.told B.count B.loans_of B.faults B.damages blocks.old blocks.new (read_stop_of result) }
     ensures tried { (rule : Rule) → result ≡ Err (Broken rule) → IsTriedAlone (rule_number rule) }
 
     // Over any source of blocks: J18 and J20.
@@ -129,8 +123,6 @@ pub fn dry_run<C: Cells, B: Blocks>(
         → IfOk result (λ it. it.1 ≡ cycles_of (scene_of (site_after context.now.spec.now (branch (blocks_of stored) context.now.parent)) tx.now) context.now.spec.now.max_cycles) }
     ensures undamaged { (stored : List Stored) → B.told blocks.old ≡ Some stored → StandsFor stored (seen C.rows context.now)
         → (damage : Damage) → result ≡ Err (Read (Damaged damage)) → ⊥ }
-    ensures damage { (damage : Damage) → result ≡ Err (Read (Damaged damage)) → damage.area ≡ Log }
-    ensures cause { CountsFault (B.faults blocks.old) (B.faults blocks.new) (result ≡ Err (Read DiskFault)) }
 {
     let spec = context.spec;
     let at = TxAt {

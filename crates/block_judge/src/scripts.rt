@@ -1,13 +1,12 @@
 // J28 to J30: the scripts of a transaction.
 ghost use Rattle.std.specs.Prelude.{◌≡◌, ◌^◌, ◌≤◌, ℕ, List, Option, None, Some, Err, IfOk, length};
 ghost use Rattle.fold_defs.specs.First.{first_failing};
-ghost use Rattle.outside.specs.Causes.{CountsFault};
-ghost use Rattle.outside.specs.declared.disk.Area.TheVariants.{Log};
 ghost use Rattle.outside.specs.declared.disk.Damage.{Damage};
-ghost use Rattle.outside.specs.declared.disk.ReadStop.TheVariants.{DiskFault, Damaged};
+ghost use Rattle.outside.specs.declared.disk.ReadStop.TheVariants.{Damaged};
 ghost use Rattle.codec_defs.specs.Schema.{OutPoint};
 ghost use Rattle.cell_defs.specs.Row.{Row};
 ghost use Rattle.chain_tree.specs.Told.{Stored, blocks_of};
+ghost use Rattle.chain_tree.specs.Reading.{HasRead};
 ghost use Rattle.tx_defs.specs.Site.{Site};
 ghost use Rattle.tx_rules.specs.At.{IsSiteOf};
 ghost use Rattle.tx_rules.specs.Outcome.{IsFormed, IsResolved};
@@ -17,7 +16,7 @@ ghost use Rattle.script_defs.specs.Rules as rules;
 ghost use Rattle.rule_names.specs.Number.{rule_number};
 ghost use Rattle.block_judge.specs.declared.stop.Judged.TheVariants.{Broken, Read};
 ghost use Rattle.block_judge.specs.Standing.{IsScriptRule};
-ghost use Rattle.block_judge.specs.Stops.{AnswersRunning};
+ghost use Rattle.block_judge.specs.Stops.{AnswersRunning, read_stop_of};
 
 use crate::stop::Judged;
 use cell_model::ResolvedTx;
@@ -61,9 +60,7 @@ pub(crate) fn run_scripts<B: Blocks>(
     requires left { left ≤ 2 ^ 40 }
     requires counts { B.count blocks.old ≡ length at.now.entries }
     requires formed { IsFormed at.now.entries resolved.now.tx resolved.now }
-    ensures told { B.told blocks.new ≡ B.told blocks.old }
-    ensures count { B.count blocks.new ≡ B.count blocks.old }
-    ensures loans { B.loans_of blocks.new ≡ B.loans_of blocks.old }
+    ensures read { HasRead B.told B.count B.loans_of B.faults B.damages blocks.old blocks.new (read_stop_of result) }
     ensures within { IfOk result (λ cycles. cycles ≤ left) }
     ensures rule { (rule : Rule) → result ≡ Err (Broken rule) → IsScriptRule (rule_number rule) }
     ensures broken { (stored : List Stored) (rows : OutPoint → Option Row) (site : Site) → B.told blocks.old ≡ Some stored → IsSiteOf stored at.now rows site
@@ -74,8 +71,6 @@ pub(crate) fn run_scripts<B: Blocks>(
         → IfOk result (λ cycles. (first_failing (script_rules (scene_of site resolved.now.tx) left) ≡ None) × (cycles ≡ cycles_of (scene_of site resolved.now.tx) left)) }
     ensures undamaged { (stored : List Stored) (rows : OutPoint → Option Row) (site : Site) → B.told blocks.old ≡ Some stored → IsSiteOf stored at.now rows site
         → IsResolved (blocks_of stored) at.now.parent site resolved.now.tx resolved.now → (damage : Damage) → result ≡ Err (Read (Damaged damage)) → ⊥ }
-    ensures damage { (damage : Damage) → result ≡ Err (Read (Damaged damage)) → damage.area ≡ Log }
-    ensures cause { CountsFault (B.faults blocks.old) (B.faults blocks.new) (result ≡ Err (Read DiskFault)) }
 {
     match run_groups(alloc, at.spec, resolved, at.tree, blocks, left) {
         Ok(cycles) => Ok(cycles),

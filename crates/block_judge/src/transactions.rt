@@ -2,12 +2,11 @@
 ghost use Rattle.std.specs.Prelude.{◌≡◌, ◌^◌, ◌<◌, ◌≤◌, ◌++◌, ◌∷◌, ℕ, nat_abs, true, List, None, Some, Err, IfOk, length, map};
 ghost use Rattle.std.specs.List.{sum_by};
 ghost use Rattle.fold_defs.specs.First.{first_failing};
-ghost use Rattle.outside.specs.Causes.{CountsFault};
-ghost use Rattle.outside.specs.declared.disk.Area.TheVariants.{Log};
 ghost use Rattle.outside.specs.declared.disk.Damage.{Damage};
-ghost use Rattle.outside.specs.declared.disk.ReadStop.TheVariants.{DiskFault, Damaged};
+ghost use Rattle.outside.specs.declared.disk.ReadStop.TheVariants.{Damaged};
 ghost use Rattle.chain_defs.specs.Hashes.{transaction_hash};
 ghost use Rattle.chain_tree.specs.Told.{Stored, blocks_of};
+ghost use Rattle.chain_tree.specs.Reading.{HasRead};
 ghost use Rattle.tx_defs.specs.Site.{Site};
 ghost use Rattle.tx_defs.specs.Rules.{form_rules, cell_rules, has_form};
 ghost use Rattle.tx_defs.specs.Capacity.{fee, interest};
@@ -22,7 +21,7 @@ ghost use Rattle.rule_names.specs.declared.rule.Rule.{Rule};
 ghost use Rattle.block_judge.specs.declared.stop.Judged.TheVariants.{Broken, Read};
 ghost use Rattle.block_judge.specs.ByRows.{SaysByRows};
 ghost use Rattle.block_judge.specs.Standing.{IsTriedAlone, IsTriedOnTransaction};
-ghost use Rattle.block_judge.specs.Stops.{of_resolving};
+ghost use Rattle.block_judge.specs.Stops.{of_resolving, read_stop_of};
 
 use crate::scripts::run_scripts;
 use crate::stop::Judged;
@@ -82,9 +81,7 @@ pub(crate) fn judge_transaction<C: Cells, B: Blocks>(
     requires placed { IsPlaced at.now }
     requires left { left ≤ 2 ^ 40 }
     requires counts { B.count blocks.old ≡ length at.now.entries }
-    ensures told { B.told blocks.new ≡ B.told blocks.old }
-    ensures count { B.count blocks.new ≡ B.count blocks.old }
-    ensures loans { B.loans_of blocks.new ≡ B.loans_of blocks.old }
+    ensures read { HasRead B.told B.count B.loans_of B.faults B.damages blocks.old blocks.new (read_stop_of result) }
     ensures hash { IfOk result (λ taken. taken.hash ≡ transaction_hash tx.now) }
     ensures within { IfOk result (λ taken. taken.cycles ≤ left) }
     ensures interest_fits { IfOk result (λ taken. nat_abs taken.interest < 2 ^ 96) }
@@ -110,8 +107,6 @@ pub(crate) fn judge_transaction<C: Cells, B: Blocks>(
         → IfOk result (λ taken. map row_in taken.inputs.items ≡ map (found_row (blocks_of stored) at.now.parent) (inputs site tx.now)) }
     ensures undamaged { (stored : List Stored) (site : Site) → B.told blocks.old ≡ Some stored → IsSiteOf stored at.now (C.rows cells.now) site
         → (damage : Damage) → result ≡ Err (Read (Damaged damage)) → ⊥ }
-    ensures damage { (damage : Damage) → result ≡ Err (Read (Damaged damage)) → damage.area ≡ Log }
-    ensures cause { CountsFault (B.faults blocks.old) (B.faults blocks.new) (result ≡ Err (Read DiskFault)) }
 {
     let ok = match resolve(alloc, tx, at, proposed, cells, blocks) {
         Ok(ok) => ok,

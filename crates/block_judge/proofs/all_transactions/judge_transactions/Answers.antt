@@ -10,7 +10,8 @@ use Rattle.rule_names.specs.Number.{rule_number}
 use Rattle.block_judge.specs.Changes.{with_changes}
 use Rattle.block_judge.specs.Standing.{Stands}
 use Rattle.block_judge.proofs.MovedLemmas.{can-move-none, moved-none, moved-more, moved-all}
-use Rattle.block_judge.proofs.Exits.{as_step, as_read, as_judged, no_error, no_rule, no_damage, no_fault, counts-on, counts-none, counts-still, counts-behind}
+use Rattle.chain_tree.proofs.ReadLemmas.{unread, read_on, read_short}
+use Rattle.block_judge.proofs.Exits.{as_step, as_read, no_error, no_rule, no_damage}
 use Rattle.block_judge.proofs.SiteLemmas.{rows-after_none, rows-after_more, site-in_block}
 use Rattle.block_judge.proofs.NextLemmas.{proposed-here, judged-none, judged-breaks, judged-more, judged-all, judged-ext}
 use Rattle.block_judge.proofs.all_transactions.judge_transactions.Goals as goal
@@ -20,9 +21,7 @@ returns-then-count-eq1 g c =
     let alone : 1 ≡ length c.args.block.now.transactions = omega (arith, c.if-count-eq1.true, c.transactions_count-count.ensures.value) in
     let moved = λ (on : List Block).
     moved-all c.args.context.now.spec.now on c.args.block.now 1 (pos 0) 0 (moved-none c.args.context.now.spec.now on c.args.block.now (pos 0) 0 refl refl) (omega (arith, alone)) in record {
-      told = refl;
-      count = refl;
-      loans = refl;
+      read = unread _;
       rule = λ rule same. absurd (no_error same);
       fees = ap length c.new.ensures.items ∙ ap (λ (n : ℕ). n - 1) alone;
       broken = λ stored tells stands rule same. absurd (no_error same);
@@ -39,15 +38,11 @@ returns-then-count-eq1 g c =
       interest = λ stored tells stands. (moved (branch (blocks_of stored) c.args.context.now.parent)).interest_is;
       freed = λ stored tells stands. (moved (branch (blocks_of stored) c.args.context.now.parent)).freed_is;
       undamaged = λ stored tells stands damage same. no_error same;
-      damage = λ damage same. absurd (no_error same);
-      cause = counts-still (λ fault. no_error fault);
     }
 
 pub returns-in-Err : goal.returns-in-Err
 returns-in-Err g c = record {
-  told = c.of.ensures.told;
-  count = c.of.ensures.count;
-  loans = c.of.ensures.loans;
+  read = c.in-Err.ensures.read;
   rule = λ rule same. absurd (no_rule same);
   fees = tt;
   broken = λ stored tells stands rule same. absurd (no_rule same);
@@ -56,15 +51,11 @@ returns-in-Err g c = record {
   interest = λ stored tells stands. tt;
   freed = λ stored tells stands. tt;
   undamaged = λ stored tells stands damage same. c.in-Err.ensures.undamaged stored tells stands.indexed damage (as_read same);
-  damage = λ damage same. c.in-Err.ensures.damage damage (as_read same);
-  cause = counts-on as_judged as_read c.in-Err.ensures.cause;
 }
 
 pub returns-in-Err-behind : goal.returns-in-Err-behind
 returns-in-Err-behind g c = record {
-  told = c.of.ensures.told;
-  count = c.of.ensures.count;
-  loans = c.of.ensures.loans;
+  read = read_short c.in-Ok.ensures.read;
   rule = λ rule same. absurd (no_rule same);
   fees = tt;
   broken = λ stored tells stands rule same. absurd (no_rule same);
@@ -73,16 +64,11 @@ returns-in-Err-behind g c = record {
   interest = λ stored tells stands. tt;
   freed = λ stored tells stands. tt;
   undamaged = λ stored tells stands damage same. no_damage same;
-  damage = λ damage same. absurd (no_damage same);
-  cause = counts-none no_error no_fault c.in-Ok.ensures.cause;
 }
 
 pub later-init : goal.later-init
 later-init g c = record {
-  told = c.in-Ok.ensures.told;
-  count = c.in-Ok.ensures.count;
-  loans = c.in-Ok.ensures.loans;
-  faults = c.in-Ok.ensures.cause.unchanged no_error;
+  read = c.in-Ok.ensures.read;
   left = c.in-Ok-behind.ensures.few;
   within = omega (arith, c.requires.some);
   moves = can-move-none 1 c.in-Ok-behind.progress.interest c.in-Ok-behind.progress.freed c.in-Ok-behind.ensures.interest c.in-Ok-behind.ensures.freed;
@@ -100,10 +86,7 @@ later-init g c = record {
 
 pub later-preserved : goal.later-preserved
 later-preserved g c = record {
-  told = c.judge_next.ensures.told ∙ c.later.invariant.told;
-  count = c.judge_next.ensures.count ∙ c.later.invariant.count;
-  loans = c.judge_next.ensures.loans ∙ c.later.invariant.loans;
-  faults = c.in-Ok-judge_next.ensures.cause.unchanged no_error ∙ c.later.invariant.faults;
+  read = read_on c.later.invariant.read c.in-Ok-judge_next.ensures.read;
   left = omega (arith, c.judge_next.ensures.within, c.later.invariant.left);
   within = omega (arith, c.later-test.true, c.transactions_count-count.ensures.value);
   moves = c.in-Ok-judge_next.ensures.moved;
@@ -121,10 +104,10 @@ later-preserved g c = record {
       (c.in-Ok.ensures.proposed stored tells stands.indexed) (c.height.ensures.height stored _ site is) in
       judged-more c.args.context.now.spec.now (blocks_of stored) c.args.context.now.parent c.args.block.now c.later.place c.later.progress.left c.judge_next.new.self.left
       c.later.progress.ext c.judge_next.new.self.ext c.transactions_item-tx.result (c.later.invariant.judged stored tells stands) c.transactions_item-tx.ensures
-      (c.in-Ok-judge_next.ensures.unbroken stored site (c.later.invariant.told ∙ tells) is proposed)
-      (c.in-Ok-judge_next.ensures.cycles stored site (c.later.invariant.told ∙ tells) is)
-      (c.in-Ok-judge_next.ensures.fee stored site (c.later.invariant.told ∙ tells) is)
-      (c.in-Ok-judge_next.ensures.spends stored site (c.later.invariant.told ∙ tells) is);
+      (c.in-Ok-judge_next.ensures.unbroken stored site (c.later.invariant.read.told ∙ tells) is proposed)
+      (c.in-Ok-judge_next.ensures.cycles stored site (c.later.invariant.read.told ∙ tells) is)
+      (c.in-Ok-judge_next.ensures.fee stored site (c.later.invariant.read.told ∙ tells) is)
+      (c.in-Ok-judge_next.ensures.spends stored site (c.later.invariant.read.told ∙ tells) is);
   moved = λ stored tells stands.
       let at : AtValue = record { spec = c.args.context.now.spec.now; entries = c.args.context.now.tree.now.entries; parent = c.args.context.now.parent; block = Some c.from_encoding.result } in
       let site : Site = site_at c.args.context.now.spec.now (branch (blocks_of stored) c.args.context.now.parent) c.args.block.now c.later.place in
@@ -133,16 +116,14 @@ later-preserved g c = record {
       (ap Some (c.from_encoding.ensures c.args.block.now c.bytes.ensures)) c.requires.parent stands c.later.invariant.rows in
       moved-more c.args.context.now.spec.now (branch (blocks_of stored) c.args.context.now.parent) c.args.block.now c.later.place c.transactions_item-tx.result
       c.later.progress.interest c.judge_next.new.self.interest c.later.progress.freed c.judge_next.new.self.freed (c.later.invariant.moved stored tells stands)
-      c.transactions_item-tx.ensures (c.in-Ok-judge_next.ensures.interest stored site (c.later.invariant.told ∙ tells) is)
-      (c.in-Ok-judge_next.ensures.freed stored site (c.later.invariant.told ∙ tells) is);
+      c.transactions_item-tx.ensures (c.in-Ok-judge_next.ensures.interest stored site (c.later.invariant.read.told ∙ tells) is)
+      (c.in-Ok-judge_next.ensures.freed stored site (c.later.invariant.read.told ∙ tells) is);
 }
 
 pub returns-in-Err-judge_next : goal.returns-in-Err-judge_next
 returns-in-Err-judge_next g c =
     let at : AtValue = record { spec = c.args.context.now.spec.now; entries = c.args.context.now.tree.now.entries; parent = c.args.context.now.parent; block = Some c.from_encoding.result } in record {
-      told = c.judge_next.ensures.told ∙ c.later.invariant.told;
-      count = c.judge_next.ensures.count ∙ c.later.invariant.count;
-      loans = c.judge_next.ensures.loans ∙ c.later.invariant.loans;
+      read = read_on c.later.invariant.read c.in-Err-judge_next.ensures.read;
       rule = λ rule same. c.in-Err-judge_next.ensures.rule rule (as_step same);
       fees = tt;
       broken = λ stored tells stands rule same.
@@ -154,7 +135,7 @@ returns-in-Err-judge_next g c =
           (c.in-Ok.ensures.proposed stored tells stands.indexed) (c.height.ensures.height stored _ site is) in
           judged-breaks c.args.context.now.spec.now (blocks_of stored) c.args.context.now.parent c.args.block.now c.later.place c.later.progress.left c.later.progress.ext
           c.transactions_item-tx.result (rule_number rule) (c.later.invariant.judged stored tells stands) c.transactions_item-tx.ensures
-          (c.in-Err-judge_next.ensures.broken stored site (c.later.invariant.told ∙ tells) is proposed rule (as_step same));
+          (c.in-Err-judge_next.ensures.broken stored site (c.later.invariant.read.told ∙ tells) is proposed rule (as_step same));
       unbroken = λ stored tells stands. tt;
       ext = λ stored tells stands. tt;
       interest = λ stored tells stands. tt;
@@ -164,9 +145,7 @@ returns-in-Err-judge_next g c =
           let is = site-in_block stored at c.args.block.now c.later.place (g.C.Cells.rows c.args.context.now.cells.now)
           (with_changes c.later.progress.cells.changed (g.C.Cells.rows c.later.progress.cells.base.now))
           (ap Some (c.from_encoding.ensures c.args.block.now c.bytes.ensures)) c.requires.parent stands c.later.invariant.rows in
-          c.in-Err-judge_next.ensures.undamaged stored site (c.later.invariant.told ∙ tells) is damage (as_step same);
-      damage = λ damage same. c.in-Err-judge_next.ensures.damage damage (as_step same);
-      cause = counts-behind c.later.invariant.faults (counts-on as_step as_step c.in-Err-judge_next.ensures.cause);
+          c.in-Err-judge_next.ensures.undamaged stored site (c.later.invariant.read.told ∙ tells) is damage (as_step same);
     }
 
 pub returns : goal.returns
@@ -176,9 +155,7 @@ returns g c =
     (stands : Stands stored c.args.context.now.tree.now.entries c.args.context.now.parent (g.C.Cells.rows c.args.context.now.cells.now)).
     moved-all c.args.context.now.spec.now (branch (blocks_of stored) c.args.context.now.parent) c.args.block.now c.later.place c.later.progress.interest c.later.progress.freed
     (c.later.invariant.moved stored tells stands) past in record {
-      told = c.later.invariant.told;
-      count = c.later.invariant.count;
-      loans = c.later.invariant.loans;
+      read = c.later.invariant.read;
       rule = λ rule same. absurd (no_error same);
       fees = omega (arith, c.later.invariant.fees, c.later.invariant.within, past);
       broken = λ stored tells stands rule same. absurd (no_error same);
@@ -191,6 +168,4 @@ returns g c =
       interest = λ stored tells stands. to_z-of_z w128 c.later.progress.interest (search rules) ∙ (moved stored tells stands).interest_is;
       freed = λ stored tells stands. (moved stored tells stands).freed_is;
       undamaged = λ stored tells stands damage same. no_error same;
-      damage = λ damage same. absurd (no_error same);
-      cause = counts-behind c.later.invariant.faults (counts-still (λ fault. no_error fault));
     }

@@ -1,6 +1,7 @@
-use Rattle.std.proofs.Common.{◌≡◌, ◌+◌, ◌^◌, ◌≤◌, List, length, Some}
+use Rattle.std.proofs.Common.{◌≡◌, ◌+◌, ◌^◌, ◌≤◌, List, length, Some, None}
 use Rattle.chain_defs.specs.Branch.{branch}
 use Rattle.chain_tree.specs.Told.{Stored, blocks_of}
+use Rattle.chain_tree.specs.Reading.{HasRead}
 use Rattle.block_judge.specs.Changes.{with_changes}
 use Rattle.block_judge.specs.Progress.{CanMove}
 use Rattle.block_judge.specs.Standing.{Stands}
@@ -10,13 +11,10 @@ use Rattle.block_judge.proofs.NextLemmas.{IsJudgedTo}
 use Rattle.block_judge.proofs.all_transactions.judge_transactions.Given as goal
 
 -- the cells are those after the transactions so far, and the rest of them is what is left to judge and to move; the ext has a fee for each
--- after the cellbase; the source of blocks tells and counts the same
+-- after the cellbase; the source of blocks was read to a good end
 abbrev pub invariant-later : goal.invariant-later
 invariant-later g l = record {
-  told : g.B.Blocks.told l.blocks ≡ g.B.Blocks.told l.fn.blocks;
-  count : g.B.Blocks.count l.blocks ≡ g.B.Blocks.count l.fn.blocks;
-  loans : g.B.Blocks.loans_of l.blocks ≡ g.B.Blocks.loans_of l.fn.blocks;
-  faults : g.B.Blocks.faults l.blocks ≡ g.B.Blocks.faults l.fn.blocks;
+  read : HasRead g.B.Blocks.told g.B.Blocks.count g.B.Blocks.loans_of g.B.Blocks.faults g.B.Blocks.damages l.fn.blocks l.blocks None;
   left : l.progress.left ≤ 2 ^ 40;
   moves : CanMove l.place l.progress.interest l.progress.freed;
   within : l.place ≤ length l.block.transactions;

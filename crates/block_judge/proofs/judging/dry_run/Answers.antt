@@ -7,7 +7,7 @@ use Rattle.script_defs.specs.Rules.{cycles_of}
 use Rattle.script_defs.specs.Scene.{scene_of}
 use Rattle.tx_defs.specs.Site.{site_after}
 use Rattle.rule_names.specs.Number.{rule_number}
-use Rattle.block_judge.proofs.Exits.{as_step, no_error, counts-on, counts-none}
+use Rattle.block_judge.proofs.Exits.{as_step, no_error}
 use Rattle.block_judge.proofs.SiteLemmas.{site-alone}
 use Rattle.block_judge.proofs.NextLemmas.{alone-judged}
 use Rattle.block_judge.proofs.judging.dry_run.Goals as goal
@@ -15,9 +15,7 @@ use Rattle.block_judge.proofs.judging.dry_run.Goals as goal
 pub returns-in-Err : goal.returns-in-Err
 returns-in-Err g c =
     let at : AtValue = record { spec = c.args.context.now.spec.now; entries = c.args.context.now.tree.now.entries; parent = c.args.context.now.parent; block = None } in record {
-      told = c.judge_transaction.ensures.told;
-      count = c.judge_transaction.ensures.count;
-      loans = c.judge_transaction.ensures.loans;
+      read = c.in-Err.ensures.read;
       tried = λ rule same. c.in-Err.ensures.alone refl rule (as_step same);
       by_rows = c.in-Err.ensures.by_rows refl;
       broken = λ stored tells stands rule same.
@@ -28,16 +26,12 @@ returns-in-Err g c =
       cycles = λ stored tells stands. tt;
       undamaged = λ stored tells stands damage same.
           c.in-Err.ensures.undamaged stored _ tells (site-alone stored at (g.C.Cells.rows c.args.context.now.cells.now) stands) damage (as_step same);
-      damage = λ damage same. c.in-Err.ensures.damage damage (as_step same);
-      cause = counts-on as_step as_step c.in-Err.ensures.cause;
     }
 
 pub returns-in-Ok : goal.returns-in-Ok
 returns-in-Ok g c =
     let at : AtValue = record { spec = c.args.context.now.spec.now; entries = c.args.context.now.tree.now.entries; parent = c.args.context.now.parent; block = None } in record {
-      told = c.judge_transaction.ensures.told;
-      count = c.judge_transaction.ensures.count;
-      loans = c.judge_transaction.ensures.loans;
+      read = c.in-Ok.ensures.read;
       tried = λ rule same. absurd (no_error same);
       by_rows = c.in-Ok.ensures.by_rows refl;
       broken = λ stored tells stands rule same. absurd (no_error same);
@@ -50,6 +44,4 @@ returns-in-Ok g c =
           ∙ ap (λ (s : Specification). cycles_of (scene_of (site_after c.args.context.now.spec.now (branch (blocks_of stored) c.args.context.now.parent)) c.args.tx.now) s.max_cycles)
           c.spec.view_is;
       undamaged = λ stored tells stands damage same. no_error same;
-      damage = λ damage same. absurd (no_error same);
-      cause = counts-none no_error no_error c.in-Ok.ensures.cause;
     }

@@ -3,15 +3,14 @@ use Rattle.rule_names.specs.Number.{rule_number}
 use Rattle.chain_defs.specs.Branch.{branch}
 use Rattle.cell_defs.specs.Events.{live_cell}
 use Rattle.chain_tree.specs.Told.{blocks_of}
-use Rattle.block_judge.proofs.Exits.{same_rule, as_step, no_error, no_read, counts-on, counts-none, counts-still, counts-behind}
+use Rattle.chain_tree.proofs.ReadLemmas.{unread, read_on}
+use Rattle.block_judge.proofs.Exits.{same_rule, as_step, no_error, no_read}
 use Rattle.block_judge.proofs.SightLemmas.{live-there, first-cellbase, first-transaction, at-end, stops-after}
 use Rattle.block_judge.proofs.judging.judge.Goals as goal
 
 pub returns-then-not-forms_cellbase : goal.returns-then-not-forms_cellbase
 returns-then-not-forms_cellbase g c = record {
-  told = refl;
-  count = refl;
-  loans = refl;
+  read = unread _;
   tried = λ rule same. let is : 17 ≡ rule_number rule = same_rule same in (omega (arith, is), omega (arith, is));
   by_rows = λ live tell. inl (refl, sym (c.if-not-forms_cellbase.ensures live tell));
   fees = tt;
@@ -23,15 +22,11 @@ returns-then-not-forms_cellbase g c = record {
   unbroken = λ stored tells whole passed. tt;
   ext = λ stored tells whole. tt;
   undamaged = λ stored tells whole damage same. no_read same;
-  damage = λ damage same. absurd (no_read same);
-  cause = counts-still no_read;
 }
 
 pub returns-in-Err : goal.returns-in-Err
 returns-in-Err g c = record {
-  told = c.judge_transactions.ensures.told;
-  count = c.judge_transactions.ensures.count;
-  loans = c.judge_transactions.ensures.loans;
+  read = c.in-Err.ensures.read;
   tried = λ rule same. let its = c.in-Err.ensures.rule rule (as_step same) in (omega (arith, its.0), omega (arith, its.1));
   by_rows = λ live tell.
       stops-after _ c.in-Err.stop (sym (c.if-not-forms_cellbase.ensures live tell))
@@ -46,15 +41,11 @@ returns-in-Err g c = record {
   unbroken = λ stored tells whole passed. tt;
   ext = λ stored tells whole. tt;
   undamaged = λ stored tells whole damage same. c.in-Err.ensures.undamaged stored tells whole.stands damage (as_step same);
-  damage = λ damage same. c.in-Err.ensures.damage damage (as_step same);
-  cause = counts-on as_step as_step c.in-Err.ensures.cause;
 }
 
 pub returns-in-Err-judge_end : goal.returns-in-Err-judge_end
 returns-in-Err-judge_end g c = record {
-  told = c.judge_end.ensures.told ∙ c.judge_transactions.ensures.told;
-  count = c.judge_end.ensures.count ∙ c.judge_transactions.ensures.count;
-  loans = c.judge_end.ensures.loans ∙ c.judge_transactions.ensures.loans;
+  read = read_on c.in-Ok.ensures.read c.in-Err-judge_end.ensures.read;
   tried = λ rule same. let its = c.in-Err-judge_end.ensures.tried rule (as_step same) in (omega (arith, its.0), its.1);
   by_rows = λ live tell.
       stops-after _ c.in-Err-judge_end.stop (sym (c.if-not-forms_cellbase.ensures live tell))
@@ -66,7 +57,7 @@ returns-in-Err-judge_end g c = record {
       (sym (c.if-not-forms_cellbase.ensures (live_cell (branch (blocks_of stored) c.args.context.now.parent))
       (λ o. live-there (blocks_of stored) c.args.context.now.parent o _ (whole.stands.live o))))
       (c.in-Ok.ensures.unbroken stored tells whole.stands)
-      ∙ c.in-Err-judge_end.ensures.broken stored (c.judge_transactions.ensures.told ∙ tells) whole.stands.indexed whole.fees
+      ∙ c.in-Err-judge_end.ensures.broken stored (c.judge_transactions.ensures.read.told ∙ tells) whole.stands.indexed whole.fees
       (record {
         interest_is = c.in-Ok.ensures.interest stored tells whole.stands;
         freed_is = c.in-Ok.ensures.freed stored tells whole.stands;
@@ -74,16 +65,12 @@ returns-in-Err-judge_end g c = record {
   unbroken = λ stored tells whole passed. tt;
   ext = λ stored tells whole. tt;
   undamaged = λ stored tells whole damage same.
-      c.in-Err-judge_end.ensures.undamaged stored (c.judge_transactions.ensures.told ∙ tells) whole.stands.indexed whole.fees damage (as_step same);
-  damage = λ damage same. c.in-Err-judge_end.ensures.damage damage (as_step same);
-  cause = counts-behind (c.in-Ok.ensures.cause.unchanged no_error) (counts-on as_step as_step c.in-Err-judge_end.ensures.cause);
+      c.in-Err-judge_end.ensures.undamaged stored (c.judge_transactions.ensures.read.told ∙ tells) whole.stands.indexed whole.fees damage (as_step same);
 }
 
 pub returns-in-Ok-judge_end : goal.returns-in-Ok-judge_end
 returns-in-Ok-judge_end g c = record {
-  told = c.judge_end.ensures.told ∙ c.judge_transactions.ensures.told;
-  count = c.judge_end.ensures.count ∙ c.judge_transactions.ensures.count;
-  loans = c.judge_end.ensures.loans ∙ c.judge_transactions.ensures.loans;
+  read = read_on c.in-Ok.ensures.read c.in-Ok-judge_end.ensures.read;
   tried = λ rule same. absurd (no_error same);
   by_rows = λ live tell. sym (c.if-not-forms_cellbase.ensures live tell);
   fees = c.in-Ok.ensures.fees;
@@ -94,13 +81,11 @@ returns-in-Ok-judge_end g c = record {
       (sym (c.if-not-forms_cellbase.ensures (live_cell (branch (blocks_of stored) c.args.context.now.parent))
       (λ o. live-there (blocks_of stored) c.args.context.now.parent o _ (whole.stands.live o))))
       (c.in-Ok.ensures.unbroken stored tells whole.stands)
-      ∙ c.in-Ok-judge_end.ensures.unbroken stored (c.judge_transactions.ensures.told ∙ tells) whole.stands.indexed whole.fees
+      ∙ c.in-Ok-judge_end.ensures.unbroken stored (c.judge_transactions.ensures.read.told ∙ tells) whole.stands.indexed whole.fees
       (record {
         interest_is = c.in-Ok.ensures.interest stored tells whole.stands;
         freed_is = c.in-Ok.ensures.freed stored tells whole.stands;
       });
   ext = λ stored tells whole. c.in-Ok.ensures.ext stored tells whole.stands;
   undamaged = λ stored tells whole damage same. no_error same;
-  damage = λ damage same. absurd (no_error same);
-  cause = counts-behind (c.in-Ok.ensures.cause.unchanged no_error) (counts-none no_error no_error c.in-Ok-judge_end.ensures.cause);
 }

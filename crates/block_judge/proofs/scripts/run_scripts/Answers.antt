@@ -1,19 +1,16 @@
 use Rattle.std.proofs.Common.{Err, ap, subst}
-use Rattle.outside.specs.declared.disk.ReadStop.TheVariants.{DiskFault, Damaged}
+use Rattle.outside.specs.declared.disk.ReadStop.TheVariants.{Damaged}
 use Rattle.tx_rules.specs.At.{AtValue}
-use Rattle.script_run.specs.declared.stop.ScriptStop.{ScriptStop}
 use Rattle.script_defs.specs.Scene.{scene_of}
 use Rattle.block_judge.specs.Stops.{AnswersRunning}
-use Rattle.block_judge.proofs.Exits.{same_stop, no_error, counts-on, counts-none}
+use Rattle.block_judge.proofs.Exits.{same_stop, no_error, read_as, running-stop}
 use Rattle.block_judge.proofs.SceneLemmas.{scene-told}
-use Rattle.block_judge.proofs.ScriptLemmas.{scripts-keep, scripts-break, script-rule, reads-running, running-reads}
+use Rattle.block_judge.proofs.ScriptLemmas.{scripts-keep, scripts-break, script-rule, reads-running}
 use Rattle.block_judge.proofs.scripts.run_scripts.Goals as goal
 
 pub returns-in-Ok : goal.returns-in-Ok
 returns-in-Ok g c = record {
-  told = c.run_groups.ensures.told;
-  count = c.run_groups.ensures.count;
-  loans = c.run_groups.ensures.loans;
+  read = c.in-Ok.ensures.read;
   within = c.in-Ok.ensures.within;
   rule = λ rule same. absurd (no_error same);
   broken = λ stored rows site told is resolves rule same. absurd (no_error same);
@@ -21,15 +18,11 @@ returns-in-Ok g c = record {
       scripts-keep (scene_of site c.args.resolved.now.tx) c.args.left c.in-Ok.cycles (c.in-Ok.ensures.exact stored (scene_of site c.args.resolved.now.tx) told
       (scene-told stored c.args.at.now rows site c.at.inside.spec.now c.args.resolved.now is c.requires.formed resolves (ap (λ (at : AtValue). at.spec) c.at.view_is)));
   undamaged = λ stored rows site told is resolves damage same. no_error same;
-  damage = λ damage same. absurd (no_error same);
-  cause = counts-none no_error no_error c.in-Ok.ensures.cause;
 }
 
 pub returns-in-Err : goal.returns-in-Err
 returns-in-Err g c = record {
-  told = c.run_groups.ensures.told;
-  count = c.run_groups.ensures.count;
-  loans = c.run_groups.ensures.loans;
+  read = read_as (running-stop c.in-Err.stop c.stopped.result c.stopped.ensures) c.in-Err.ensures.read;
   within = tt;
   rule = λ rule same. script-rule c.in-Err.stop rule (subst (AnswersRunning c.in-Err.stop) (same_stop same) c.stopped.ensures);
   broken = λ stored rows site told is resolves rule same.
@@ -41,7 +34,4 @@ returns-in-Err g c = record {
       c.in-Err.ensures.undamaged stored (scene_of site c.args.resolved.now.tx) told
       (scene-told stored c.args.at.now rows site c.at.inside.spec.now c.args.resolved.now is c.requires.formed resolves (ap (λ (at : AtValue). at.spec) c.at.view_is))
       damage (ap Err (reads-running c.in-Err.stop (Damaged damage) (subst (AnswersRunning c.in-Err.stop) (same_stop same) c.stopped.ensures)));
-  damage = λ damage same. c.in-Err.ensures.damage damage (ap Err (reads-running c.in-Err.stop (Damaged damage) (subst (AnswersRunning c.in-Err.stop) (same_stop same) c.stopped.ensures)));
-  cause = counts-on (λ fault. ap Err (running-reads DiskFault _ (subst (λ (it : ScriptStop). AnswersRunning it c.stopped.result) (same_stop fault) c.stopped.ensures)))
-      (λ fault. ap Err (reads-running c.in-Err.stop DiskFault (subst (AnswersRunning c.in-Err.stop) (same_stop fault) c.stopped.ensures))) c.in-Err.ensures.cause;
 }

@@ -1,7 +1,7 @@
 use Rattle.std.proofs.Common.{◌≡◌, ◌<◌, ◌^◌, ℤ, nat_abs, inr, Err, sym, ap, ◌∙◌, subst, arith}
 use Rattle.std.specs.List.{sum_by}
 use Rattle.fold_defs.specs.First.{first_failing}
-use Rattle.outside.specs.declared.disk.ReadStop.TheVariants.{DiskFault, Damaged}
+use Rattle.outside.specs.declared.disk.ReadStop.TheVariants.{Damaged}
 use Rattle.codec_defs.specs.Schema.{Transaction}
 use Rattle.chain_tree.specs.Told.{blocks_of}
 use Rattle.tx_rules.specs.At.{spends_rows}
@@ -10,8 +10,8 @@ use Rattle.tx_defs.specs.Rules.{has_form}
 use Rattle.script_defs.specs.Scene.{scene_of}
 use Rattle.script_defs.specs.Rules.{script_rules, cycles_of}
 use Rattle.block_judge.specs.ByRows.{StopsByRows}
-use Rattle.block_judge.specs.Stops.{of_resolving}
-use Rattle.block_judge.proofs.Exits.{same_stop, as_step, no_error, counts-on, counts-none, counts-behind}
+use Rattle.chain_tree.proofs.ReadLemmas.{read_on}
+use Rattle.block_judge.proofs.Exits.{same_stop, as_step, no_error, read_as, resolving-stop}
 use Rattle.block_judge.proofs.TransactionLemmas.{stops-resolving, reads-resolving, tried-resolving, alone-resolving, leaves-scripts, its-transaction, resolved-own, spent-rows}
 use Rattle.block_judge.proofs.MovedLemmas.{interest-kept, freed-same}
 use Rattle.block_judge.proofs.RowsLemmas.{stops-by-rows, resolved-by-rows, later-by-rows}
@@ -19,9 +19,7 @@ use Rattle.block_judge.proofs.transactions.judge_transaction.Goals as goal
 
 pub returns-in-Err : goal.returns-in-Err
 returns-in-Err g c = record {
-  told = c.resolve.ensures.told;
-  count = c.resolve.ensures.count;
-  loans = c.resolve.ensures.loans;
+  read = read_as (resolving-stop _ c.in-Err.stop c.stopped.result c.stopped.ensures) c.in-Err.ensures.read;
   hash = tt;
   within = tt;
   interest_fits = tt;
@@ -46,17 +44,11 @@ returns-in-Err g c = record {
   undamaged = λ stored site told is damage same.
       c.in-Err.ensures.undamaged stored site told is damage
       (ap Err (reads-resolving c.in-Err.stop (Damaged damage) (sym c.stopped.ensures ∙ same_stop same)));
-  damage = λ damage same.
-      c.in-Err.ensures.damage damage (ap Err (reads-resolving c.in-Err.stop (Damaged damage) (sym c.stopped.ensures ∙ same_stop same)));
-  cause = counts-on (λ fault. ap Err (c.stopped.ensures ∙ ap of_resolving (same_stop fault)))
-      (λ fault. ap Err (reads-resolving c.in-Err.stop DiskFault (sym c.stopped.ensures ∙ same_stop fault))) c.in-Err.ensures.cause;
 }
 
 pub returns-in-Err-run_scripts : goal.returns-in-Err-run_scripts
 returns-in-Err-run_scripts g c = record {
-  told = c.run_scripts.ensures.told ∙ c.resolve.ensures.told;
-  count = c.run_scripts.ensures.count ∙ c.resolve.ensures.count;
-  loans = c.run_scripts.ensures.loans ∙ c.resolve.ensures.loans;
+  read = read_on c.in-Ok.ensures.read c.in-Err-run_scripts.ensures.read;
   hash = tt;
   within = tt;
   interest_fits = tt;
@@ -72,7 +64,7 @@ returns-in-Err-run_scripts g c = record {
       leaves-scripts site c.args.tx.now (script_rules (scene_of site c.args.tx.now) c.args.left) c.args.proposed
       (c.in-Ok.ensures.unbroken stored site told is)
       ∙ ap (λ (t : Transaction). first_failing (script_rules (scene_of site t) c.args.left)) (sym (its-transaction c.args.tx.now its c.in-Ok.ensures.formed.tx))
-      ∙ c.in-Err-run_scripts.ensures.broken stored (g.C.Cells.rows c.args.cells.now) site (c.resolve.ensures.told ∙ told) is
+      ∙ c.in-Err-run_scripts.ensures.broken stored (g.C.Cells.rows c.args.cells.now) site (c.resolve.ensures.read.told ∙ told) is
       (resolved-own (blocks_of stored) c.args.at.now.parent site c.args.tx.now its c.in-Ok.ensures.formed.tx (c.in-Ok.ensures.resolved stored site told is)) rule
       (as_step same);
   unbroken = λ stored site told is. tt;
@@ -82,18 +74,14 @@ returns-in-Err-run_scripts g c = record {
   cycles = λ stored site told is. tt;
   spends = λ stored site told is. tt;
   undamaged = λ stored site told is damage same.
-      c.in-Err-run_scripts.ensures.undamaged stored (g.C.Cells.rows c.args.cells.now) site (c.resolve.ensures.told ∙ told) is
+      c.in-Err-run_scripts.ensures.undamaged stored (g.C.Cells.rows c.args.cells.now) site (c.resolve.ensures.read.told ∙ told) is
       (resolved-own (blocks_of stored) c.args.at.now.parent site c.args.tx.now (ap (λ (ok : TxOk). ok.resolved) c.ok.view_is) c.in-Ok.ensures.formed.tx
       (c.in-Ok.ensures.resolved stored site told is)) damage (as_step same);
-  damage = λ damage same. c.in-Err-run_scripts.ensures.damage damage (as_step same);
-  cause = counts-behind (c.in-Ok.ensures.cause.unchanged no_error) (counts-on as_step as_step c.in-Err-run_scripts.ensures.cause);
 }
 
 pub returns : goal.returns
 returns g c = record {
-  told = c.run_scripts.ensures.told ∙ c.resolve.ensures.told;
-  count = c.run_scripts.ensures.count ∙ c.resolve.ensures.count;
-  loans = c.run_scripts.ensures.loans ∙ c.resolve.ensures.loans;
+  read = read_on c.in-Ok.ensures.read c.in-Ok-run_scripts.ensures.read;
   hash = ap (λ (ok : TxOk). ok.resolved.hash) c.ok.view_is ∙ c.in-Ok.ensures.formed.hash;
   within = c.in-Ok-run_scripts.ensures.within;
   interest_fits =
@@ -110,7 +98,7 @@ returns g c = record {
       leaves-scripts site c.args.tx.now (script_rules (scene_of site c.args.tx.now) c.args.left) c.args.proposed
       (c.in-Ok.ensures.unbroken stored site told is)
       ∙ ap (λ (t : Transaction). first_failing (script_rules (scene_of site t) c.args.left)) (sym (its-transaction c.args.tx.now its c.in-Ok.ensures.formed.tx))
-      ∙ (c.in-Ok-run_scripts.ensures.unbroken stored (g.C.Cells.rows c.args.cells.now) site (c.resolve.ensures.told ∙ told) is
+      ∙ (c.in-Ok-run_scripts.ensures.unbroken stored (g.C.Cells.rows c.args.cells.now) site (c.resolve.ensures.read.told ∙ told) is
       (resolved-own (blocks_of stored) c.args.at.now.parent site c.args.tx.now its c.in-Ok.ensures.formed.tx (c.in-Ok.ensures.resolved stored site told is))).0;
   fee = λ stored site told is. ap (λ (ok : TxOk). ok.fee) c.ok.view_is ∙ c.in-Ok.ensures.fee stored site told is;
   interest = λ stored site told is.
@@ -120,12 +108,10 @@ returns g c = record {
       ∙ freed-same (blocks_of stored) c.args.at.now.parent site c.args.tx.now (ap (λ (ok : TxOk). ok.resolved) c.ok.view_is) (c.in-Ok.ensures.resolved stored site told is);
   cycles = λ stored site told is.
       let its = ap (λ (ok : TxOk). ok.resolved) c.ok.view_is in
-      (c.in-Ok-run_scripts.ensures.unbroken stored (g.C.Cells.rows c.args.cells.now) site (c.resolve.ensures.told ∙ told) is
+      (c.in-Ok-run_scripts.ensures.unbroken stored (g.C.Cells.rows c.args.cells.now) site (c.resolve.ensures.read.told ∙ told) is
       (resolved-own (blocks_of stored) c.args.at.now.parent site c.args.tx.now its c.in-Ok.ensures.formed.tx (c.in-Ok.ensures.resolved stored site told is))).1
       ∙ ap (λ (t : Transaction). cycles_of (scene_of site t) c.args.left) (its-transaction c.args.tx.now its c.in-Ok.ensures.formed.tx);
   spends = λ stored site told is.
       spent-rows (blocks_of stored) c.args.at.now.parent site c.args.tx.now (ap (λ (ok : TxOk). ok.resolved) c.ok.view_is) (c.in-Ok.ensures.resolved stored site told is);
   undamaged = λ stored site told is damage same. no_error same;
-  damage = λ damage same. absurd (no_error same);
-  cause = counts-behind (c.in-Ok.ensures.cause.unchanged no_error) (counts-none no_error no_error c.in-Ok-run_scripts.ensures.cause);
 }

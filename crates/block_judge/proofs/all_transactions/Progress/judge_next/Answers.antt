@@ -1,7 +1,8 @@
 use Rattle.std.proofs.Common.{ℕ, ◌+◌, ◌-◌, ℤ, ◌+ℤ◌, [], ◌∷◌, ◌++◌, Some, None, length, refl, ap, ◌∙◌, arith, rules}
 use Rattle.std.proofs.lemmas.List.{length_push}
 use Rattle.rule_names.specs.Number.{rule_number}
-use Rattle.block_judge.proofs.Exits.{as_step, no_error, no_rule, no_damage, no_fault, counts-on, counts-none}
+use Rattle.chain_tree.proofs.ReadLemmas.{read_short}
+use Rattle.block_judge.proofs.Exits.{as_step, no_error, no_rule, no_damage}
 use Rattle.block_judge.proofs.MovedLemmas.{can-move-one}
 use Rattle.block_judge.proofs.NextLemmas.{by-proposed, spent-next}
 use Rattle.block_judge.proofs.all_transactions.Progress.judge_next.Goals as goal
@@ -11,9 +12,7 @@ take-requires-clause-moves g c = can-move-one c.in-Ok.taken.interest c.in-Ok.tak
 
 pub returns-in-Err : goal.returns-in-Err
 returns-in-Err g c = record {
-  told = c.judge_transaction.ensures.told;
-  count = c.judge_transaction.ensures.count;
-  loans = c.judge_transaction.ensures.loans;
+  read = c.in-Err.ensures.read;
   rule = λ rule same. c.in-Err.ensures.rule rule (as_step same);
   within = omega arith;
   moved = tt;
@@ -29,15 +28,11 @@ returns-in-Err g c = record {
   interest = λ stored site told is. tt;
   freed = λ stored site told is. tt;
   undamaged = λ stored site told is damage same. c.in-Err.ensures.undamaged stored site told is damage (as_step same);
-  damage = λ damage same. c.in-Err.ensures.damage damage (as_step same);
-  cause = counts-on as_step as_step c.in-Err.ensures.cause;
 }
 
 pub returns : goal.returns
 returns g c = record {
-  told = c.judge_transaction.ensures.told;
-  count = c.judge_transaction.ensures.count;
-  loans = c.judge_transaction.ensures.loans;
+  read = read_short c.in-Ok.ensures.read;
   rule = λ rule same. absurd (no_rule same);
   within = c.take.ensures.within;
   moved = tt;
@@ -51,15 +46,11 @@ returns g c = record {
   interest = λ stored site told is. tt;
   freed = λ stored site told is. tt;
   undamaged = λ stored site told is damage same. no_damage same;
-  damage = λ damage same. absurd (no_damage same);
-  cause = counts-none no_error no_fault c.in-Ok.ensures.cause;
 }
 
 pub returns-in-Ok-take : goal.returns-in-Ok-take
 returns-in-Ok-take g c = record {
-  told = c.judge_transaction.ensures.told;
-  count = c.judge_transaction.ensures.count;
-  loans = c.judge_transaction.ensures.loans;
+  read = c.in-Ok.ensures.read;
   rule = λ rule same. absurd (no_error same);
   within = c.take.ensures.within;
   moved = c.in-Ok-take.ensures.moved;
@@ -79,6 +70,4 @@ returns-in-Ok-take g c = record {
   freed = λ stored site told is.
       c.in-Ok-take.ensures.freed ∙ ap (λ (n : ℕ). c.args.self.now.freed + n) (c.in-Ok.ensures.freed stored site told is);
   undamaged = λ stored site told is damage same. no_error same;
-  damage = λ damage same. absurd (no_error same);
-  cause = counts-none no_error no_error c.in-Ok.ensures.cause;
 }
