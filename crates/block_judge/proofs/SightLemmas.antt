@@ -1,6 +1,6 @@
 -- The rules that a block is judged by at sight, one group after another, and all rules of a block that has passed.
 use Rattle.std.proofs.Common.{◌≡◌, ℕ, ◌<◌, ◌≤◌, inr, Bool, true, false, ◌&&◌, List, [], ◌∷◌, ◌++◌, length, map, Option, Some, None, refl, sym, ap, ◌∙◌, arith, subst}
-use Rattle.std.specs.Prelude.{option_map, is_some}
+use Rattle.std.specs.Prelude.{option_map, is_some, nat_le, drop}
 use Rattle.std.specs.List.{All}
 use Rattle.std.proofs.lemmas.List.Elements.{All-nil, All-cons, All-head, All-tail}
 use Rattle.std.proofs.lemmas.Option.{same_Some, none-some}
@@ -55,6 +55,21 @@ body-rule spec b rule is =
   where
     listed : (n : ℕ) (test : Bool) → 9 ≤ n → n ≤ 14 → (rules : List (ℕ × Bool)) → All (λ row. IsOfBody row.0) rules → All (λ row. IsOfBody row.0) ((n, test) ∷ rules)
     listed n test low high rules rest = All-cons (λ row. IsOfBody row.0) (n, test) rules (low, high) rest
+
+-- A block whose body keeps its rules fits the length, and its proposals are few enough.
+pub body-asks : (spec : Specification) (b : Block) → None ≡ first_failing (body_rules spec b)
+    → (fits_length spec b ≡ true) × (nat_le (length b.proposals) spec.max_proposals ≡ true)
+body-asks spec b kept =
+    let from_10 : List (ℕ × Bool) =
+    (10, has_proposals spec b) ∷ (11, commits_to_proposals b) ∷ (12, commits_to_transactions b) ∷ (13, has_few_uncles b) ∷ (14, commits_to_uncles b) ∷ [] in
+    let all : All (λ rule. rule.1 ≡ true) ((9, fits_length spec b) ∷ from_10) = (finds_none (body_rules spec b)).0 (sym kept) in
+    let second : has_proposals spec b ≡ true =
+    All-head (λ rule. rule.1 ≡ true) (10, has_proposals spec b) (drop 1 from_10) (All-tail (λ rule. rule.1 ≡ true) (9, fits_length spec b) from_10 all) in
+    (All-head (λ rule. rule.1 ≡ true) (9, fits_length spec b) from_10 all, first (nat_le (length b.proposals) spec.max_proposals) (are_distinct b.proposals) second)
+  where
+    first : (one other : Bool) → (one && other) ≡ true → one ≡ true
+    first true other both = refl
+    first false other both = absurd (cc)
 
 pub breaks-header : (spec : Specification) (on : List Block) (b : Block) (rule : ℕ) → Some rule ≡ first_failing (header_rules spec on b)
     → broken_at_sight spec on b ≡ Some rule

@@ -1,5 +1,5 @@
 // What is judged of a block at sight, J4 to J17: all that asks for no live cell.
-ghost use Rattle.std.specs.Prelude.{◌≡◌, ◌<◌, ◌≤◌, List, None, Some, Err, IfOk, length, map};
+ghost use Rattle.std.specs.Prelude.{◌≡◌, ◌<◌, ◌≤◌, nat_le, true, List, None, Some, Err, IfOk, length, map};
 ghost use Rattle.fold_defs.specs.First.{first_failing};
 ghost use Rattle.outside.specs.declared.disk.ReadStop.{ReadStop as a_stop};
 ghost use Rattle.outside.specs.declared.disk.ReadStop.TheVariants.{NoMemory as no_memory};
@@ -8,6 +8,7 @@ ghost use Rattle.chain_defs.specs.Branch.{branch};
 ghost use Rattle.chain_defs.specs.Hashes.{transaction_hash};
 ghost use Rattle.chain_tree.specs.Blocks.{IndexesBlocks};
 ghost use Rattle.rule_defs.specs.Header.{header_rules as rules_on_header};
+ghost use Rattle.rule_defs.specs.Body.{fits_length};
 ghost use Rattle.uncle_rules.specs.Embedded.{IndexesUncles};
 ghost use Rattle.family_defs.specs.Rules.{family_rules_over, no_cell};
 ghost use Rattle.block_defs.specs.Rules.{broken_at_sight};
@@ -71,7 +72,8 @@ fn judge_family(
 
 /// Judges a block at sight on a parent in the tree: the first of J4 to J17 that it breaks, or the hashes of its transactions,
 /// in their order. It looks at no live cell: that the output of the cellbase is not live is left to `judge`, which goes on
-/// from here. It reads no kept block, so that it stops for want of memory alone, and never where one of J4 to J8 is broken.
+/// from here. It reads no kept block, so that it stops for want of memory alone, and never where one of J4 to J9 is
+/// broken or the proposals are too many.
 pub fn judge_at_sight(
     alloc: Global,
     context: &Context<'_, NoCells>,
@@ -91,6 +93,8 @@ pub fn judge_at_sight(
     ensures memory { (stop : a_stop) → result ≡ Err (Read stop) → stop ≡ no_memory }
     ensures asked { (kept : List Block) → IndexesBlocks kept context.now.tree.now.entries → (stop : a_stop) → result ≡ Err (Read stop)
         → first_failing (rules_on_header context.now.spec.now (branch kept context.now.parent) block.now) ≡ None }
+    ensures asked_of_body { (stop : a_stop) → result ≡ Err (Read stop)
+        → (fits_length context.now.spec.now block.now ≡ true) × (nat_le (length block.now.proposals) context.now.spec.now.max_proposals ≡ true) }
 {
     if let Some(rule) = header_rules::check(
         context.spec,

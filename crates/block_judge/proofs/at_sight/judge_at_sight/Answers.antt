@@ -2,7 +2,7 @@ use Rattle.std.proofs.Common.{◌≡◌, Some, sym, ap, ◌∙◌, arith}
 use Rattle.chain_defs.specs.Branch.{branch}
 use Rattle.rule_names.specs.Number.{rule_number}
 use Rattle.block_judge.proofs.Exits.{same_rule, same_read, as_step, no_error, no_rule, no_read}
-use Rattle.block_judge.proofs.SightLemmas.{breaks-header, breaks-body, leaves-family, body-rule}
+use Rattle.block_judge.proofs.SightLemmas.{breaks-header, breaks-body, leaves-family, body-asks, body-rule}
 use Rattle.block_judge.proofs.at_sight.judge_at_sight.Goals as goal
 
 pub judge_family-requires-clause-hashes : goal.judge_family-requires-clause-hashes
@@ -17,6 +17,7 @@ returns-in-Some c = record {
   some = tt;
   header = λ kept indexes. tt;
   asked = λ kept indexes stop same. absurd (no_read same);
+  asked_of_body = λ stop same. absurd (no_read same);
   broken = λ kept indexes uncles rule same.
       breaks-header c.args.context.now.spec.now (branch kept c.args.context.now.parent) c.args.block.now (rule_number c.in-Some.rule)
       (c.in-Some.ensures.of_blocks kept c.args.block.now indexes c.header.ensures) ∙ ap Some (same_rule same);
@@ -33,6 +34,7 @@ returns-in-Ok-Broken c = record {
   some = tt;
   header = λ kept indexes. tt;
   asked = λ kept indexes stop same. absurd (no_read same);
+  asked_of_body = λ stop same. absurd (no_read same);
   broken = λ kept indexes uncles rule same.
       breaks-body c.args.context.now.spec.now (branch kept c.args.context.now.parent) c.args.block.now (rule_number c.in-Ok-Broken.rule)
       (c.in_default.ensures.of_blocks kept c.args.block.now indexes c.header.ensures) (rw c.in-Ok-Broken.field-0-is at c.in-Ok-Broken.ensures.broken)
@@ -48,6 +50,7 @@ returns-in-Err c = record {
   some = tt;
   header = λ kept indexes. tt;
   asked = λ kept indexes stop same. sym (c.in_default.ensures.of_blocks kept c.args.block.now indexes c.header.ensures);
+  asked_of_body = λ stop same. c.in-Err.ensures.asked tt;
   broken = λ kept indexes uncles rule same. absurd (no_rule same);
   unbroken = λ kept indexes uncles. tt;
 }
@@ -60,6 +63,7 @@ returns-in-Err-judge_family c = record {
   some = tt;
   header = λ kept indexes. tt;
   asked = λ kept indexes stop same. sym (c.in_default.ensures.of_blocks kept c.args.block.now indexes c.header.ensures);
+  asked_of_body = λ stop same. body-asks c.args.context.now.spec.now c.args.block.now (rw c.in-Ok-Kept.field-0-is at c.in-Ok-Kept.ensures.broken);
   broken = λ kept indexes uncles rule same.
       leaves-family c.args.context.now.spec.now (branch kept c.args.context.now.parent) c.args.block.now
       (c.in_default.ensures.of_blocks kept c.args.block.now indexes c.header.ensures) (rw c.in-Ok-Kept.field-0-is at c.in-Ok-Kept.ensures.broken)
@@ -75,6 +79,7 @@ returns-in-Ok c = record {
   asked = λ kept indexes stop same. absurd (no_error same);
   some = c.in-Ok.ensures.some;
   header = λ kept indexes. sym (c.in_default.ensures.of_blocks kept c.args.block.now indexes c.header.ensures);
+  asked_of_body = λ stop same. absurd (no_error same);
   broken = λ kept indexes uncles rule same. absurd (no_error same);
   unbroken = λ kept indexes uncles.
       leaves-family c.args.context.now.spec.now (branch kept c.args.context.now.parent) c.args.block.now
