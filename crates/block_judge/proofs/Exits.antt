@@ -102,9 +102,9 @@ module _ {S L : Type 0} {tells : S → Option (List Stored)} {counts : S → ℕ
       → HasRead tells counts loans_of faults damages old new other
   read_as {old = old} {new = new} same read = subst (λ (it : Option ReadStop). HasRead tells counts loans_of faults damages old new it) same read
 
-pub resolving-stop : (T : Type 0) (stop : TxStop) (judged : Judged) → judged ≡ of_resolving stop → resolving.read_stop_of {T = T} (Err stop) ≡ stop_in judged
-resolving-stop T (resolving_stop.Broken rule) judged is = sym (ap stop_in is)
-resolving-stop T (resolving_stop.Read stop) judged is = sym (ap stop_in is)
+pub resolving-stop : (stop : TxStop) (judged : Judged) → judged ≡ of_resolving stop → resolving.read_stop stop ≡ stop_in judged
+resolving-stop (resolving_stop.Broken rule) judged is = sym (ap stop_in is)
+resolving-stop (resolving_stop.Read stop) judged is = sym (ap stop_in is)
 
 pub running-stop : (stop : ScriptStop) (judged : Judged) → AnswersRunning stop judged → running.read_stop_of (Err stop) ≡ stop_in judged
 running-stop (running_stop.Failed failure) (Broken rule) is = refl

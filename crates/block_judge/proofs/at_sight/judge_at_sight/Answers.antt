@@ -1,4 +1,4 @@
-use Rattle.std.proofs.Common.{◌≡◌, Some, sym, ap, ◌∙◌, arith}
+use Rattle.std.proofs.Common.{◌≡◌, Some, refl, sym, ap, ◌∙◌, arith}
 use Rattle.chain_defs.specs.Branch.{branch}
 use Rattle.rule_names.specs.Number.{rule_number}
 use Rattle.block_judge.proofs.Exits.{same_rule, same_read, as_step, no_error, no_rule, no_read}
@@ -50,7 +50,7 @@ returns-in-Err c = record {
   some = tt;
   header = λ kept indexes. tt;
   asked = λ kept indexes stop same. sym (c.in_default.ensures.of_blocks kept c.args.block.now indexes c.header.ensures);
-  asked_of_body = λ stop same. c.in-Err.ensures.asked tt;
+  asked_of_body = λ stop same. c.in-Err.ensures.asked refl;
   broken = λ kept indexes uncles rule same. absurd (no_rule same);
   unbroken = λ kept indexes uncles. tt;
 }

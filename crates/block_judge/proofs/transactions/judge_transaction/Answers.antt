@@ -19,7 +19,7 @@ use Rattle.block_judge.proofs.transactions.judge_transaction.Goals as goal
 
 pub returns-in-Err : goal.returns-in-Err
 returns-in-Err g c = record {
-  read = read_as (resolving-stop _ c.in-Err.stop c.stopped.result c.stopped.ensures) c.in-Err.ensures.read;
+  read = read_as (resolving-stop c.in-Err.stop c.stopped.result c.stopped.ensures) c.in-Err.ensures.read;
   hash = tt;
   within = tt;
   interest_fits = tt;
