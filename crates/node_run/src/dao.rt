@@ -57,7 +57,8 @@ fn fetch_cell(
 ) -> Result<Option<Fetched>, Status>
     ensures same { node.new ≡ node.old }
     ensures found { AreJoined node.old.chain node.old.exts → IfOk result (IsCopyFound (cell_at_tip node.old.chain tx_hash index)) }
-    ensures memory { (status : Status) → result ≡ Err status → status ≡ Status.NoMemory }
+    ensures stop { (status : Status) → result ≡ Err status → IsOneOf finding_stops status }
+    ensures sound { AreJoined node.old.chain node.old.exts → result ≡ Err Status.NotAStore → ⊥ }
 {
     let Some(o) = out_point(tx_hash, index) else {
         return Ok(None);
