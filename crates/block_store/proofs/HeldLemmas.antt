@@ -1,16 +1,19 @@
 -- What a cache holds after its calls.
-use Rattle.std.proofs.Common.{◌≡◌, ℕ, ◌<◌, Bool, true, false, cond, List, ◌∷◌, Option, Some, None, Result, Ok, Err, refl, sym, ap, subst, ⊎_elim, ◌∙◌, nat_eq, inl, inr}
-use Rattle.std.specs.Prelude.{◌⊎◌, is_some, IsTrue, IsSome, OnOk, OnErr, Contains}
+use Rattle.std.proofs.Common.{◌≡◌, ℕ, ◌<◌, Bool, true, false, cond, List, [], ◌∷◌, Option, Some, None, Result, Ok, Err, refl, sym, ap, subst, ⊎_elim, ◌∙◌, nat_eq, inl, inr}
+use Rattle.std.specs.Prelude.{◌⊎◌, is_some, IsTrue, IsSome, IfSome, OnOk, OnErr, Contains}
 use Rattle.std.specs.Option.{option_map}
 use Rattle.std.specs.Map.{lookup, lookup_entry}
 use Rattle.std.specs.Cmp.{nat_eq_equiv}
 use Rattle.std.proofs.lemmas.Bool.{eqb-true}
 use Rattle.lru.specs.LruCache.{LruCache, lru_cache, promoted, put_entries}
 use Rattle.lru.proofs.CallerLemmas.{Contains-promoted, Contains-put_entries, Contains-lookup, Contains-lookup_entry, lookup-put_entries}
+use Rattle.lru.proofs.Splits.{Contains-nil}
 use Rattle.lru.proofs.Pairs.{lookup-lookup_entry}
 use Rattle.cell_defs.specs.Ext.{is_ext}
+use Rattle.outside.specs.Image.{Image}
 use Rattle.chain_tree.specs.Told.{Stored}
-use Rattle.block_store.specs.Held.{held_at, Holds, NothingNew, OnlyAdds, HaveForm}
+use Rattle.chain_tree.specs.declared.entry.Entry.{Entry}
+use Rattle.block_store.specs.Held.{held_at, Holds, NothingNew, OnlyAdds, HaveForm, IsKept}
 
 -- ---- What is found is held
 
@@ -18,6 +21,11 @@ pub found-held : (held : List (ℕ × Stored)) (e : ℕ) (it : Stored) → held_
 found-held held e it found =
     let there = Contains-lookup (nat_eq e) held it found in
     subst (λ (k : ℕ). Holds held k it) (sym (eqb-true e there.0 there.2)) there.1
+
+-- nothing is held that LOG does not have
+pub empty-kept : (held : List (ℕ × Stored)) (entries : List Entry) (reads : Option Image) → held ≡ [] → IfSome reads (IsKept entries held)
+empty-kept held entries None none = tt
+empty-kept held entries (Some image) none = λ e it there. absurd (Contains-nil (e, it) (subst (λ (l : List (ℕ × Stored)). Holds l e it) none there))
 
 -- ---- The last used goes first
 

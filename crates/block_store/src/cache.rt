@@ -1,7 +1,9 @@
 // Bodies in memory, those that were used last.
-ghost use Rattle.std.specs.Prelude.{◌≡◌, ◌≤◌, ◌<◌, [], Some, is_some, IfOk, OnOk, OnErr, IsSome, IsTrue};
+ghost use Rattle.std.specs.Prelude.{◌≡◌, ◌≤◌, ◌<◌, List, [], Option, Some, is_some, IfOk, IfSome, OnOk, OnErr, IsSome, IsTrue};
 ghost use Rattle.cell_defs.specs.Ext.{is_ext};
-ghost use Rattle.block_store.specs.Held.{held_at, Holds, NothingNew, OnlyAdds};
+ghost use Rattle.outside.specs.Image.{Image};
+ghost use Rattle.chain_tree.specs.declared.entry.Entry.{Entry};
+ghost use Rattle.block_store.specs.Held.{held_at, Holds, NothingNew, OnlyAdds, IsKept};
 
 use crate::body::KeptBody;
 use lru::LruCache;
@@ -33,7 +35,8 @@ impl Cache {
     /// An empty cache for so many bodies.
     pub fn new(alloc: Global, blocks: usize) -> Result<Cache, NoMemory>
         requires { 1 ≤ blocks }
-        ensures { IfOk result (λ cache. cache ≡ []) }
+        ensures empty { IfOk result (λ cache. cache ≡ []) }
+        ensures agrees { (entries : List Entry) (reads : Option Image) → IfOk result (λ cache. IfSome reads (IsKept entries cache)) }
     {
         let Some(most) = NonZeroUsize::new(blocks) else {
             unreachable!()
