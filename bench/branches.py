@@ -2,7 +2,7 @@
 """The time of blocks on two branches in turn, by how far they fork below and how long the chain is.
 
     python3 bench/branches.py CKBDEV [--sizes 2000,20000] [--depths 10,1000]
-        [--switches 20] [--rounds 3] [--seed 0] [--limit SECONDS]
+        [--switches 200] [--rounds 3] [--seed 0] [--limit SECONDS]
 
 Chains of each size are made, at whose end two branches of each depth stand, as
 long as each other; one `import` takes them.  Then the branches grow in turn: the
@@ -100,7 +100,7 @@ def main():
     a.add_argument('ckbdev')
     a.add_argument('--sizes', default='2000,20000')
     a.add_argument('--depths', default='10,1000')
-    a.add_argument('--switches', type=int, default=20)
+    a.add_argument('--switches', type=int, default=200)
     a.add_argument('--rounds', type=int, default=3)
     a.add_argument('--seed', type=int, default=0)
     a.add_argument('--limit', type=float, default=600)
@@ -112,10 +112,8 @@ def main():
     for depth in map(int, a.depths.split(',')):
         per_block = []
         for size in sizes:
-            # short moves more often, so that they take a time that can be told
-            switches = a.switches * max(1, 200 // depth)
             with tempfile.TemporaryDirectory() as work:
-                chain = Branches(a.seed, size, depth, switches, work)
+                chain = Branches(a.seed, size, depth, a.switches, work)
                 least = min(seconds(program, chain, work, a) for _ in range(a.rounds))
             per_block.append(least / chain.blocks)
             rows.append((str(size), str(depth), str(chain.blocks), str(chain.steps), '%.3f' % (1e3 * least / chain.blocks),
