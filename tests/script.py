@@ -400,7 +400,7 @@ def check_lines_of_the_rules(_):
     where the program has another."""
     with open(os.path.join(TOP, 'docs', 'RULES.md')) as f:
         rules = f.read().split('\n## A block\n')[1].split('\n`import` tries')[0]
-    lines = re.findall(r'^\| (J\d+) \| ([^|]*) \|$', rules, re.MULTILINE)
+    lines = re.findall(r'^\| (J\d+) \| ([^|]*) \| [^|]+ \| [^|]+ \|$', rules, re.MULTILINE)
     must_be([name for name, _ in lines], ['J%d' % n for n in range(1, 33)], 'the rules of docs/RULES.md')
     with open(os.path.join(TOP, 'crates', 'rule_vectors', 'stdin')) as f:
         rows = [tuple(row.rstrip('\n').split('\t')[1:]) for row in f if row.startswith('rule\t')]
