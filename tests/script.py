@@ -9,6 +9,7 @@ import subprocess
 import sys
 import time
 
+import all as figures
 import block_json
 from harness import (CONTRACT_INIT, CONTRACT_LINE, FIRST_INIT, FIRST_LINE, SCRIPT, SECONDS, TOP, Ran, chain_of,
                      contract, first, line_of, must, must_answer, must_be, must_have_tip, new_folder, new_store,
@@ -407,10 +408,22 @@ def check_lines_of_the_rules(_):
     must_be(rows, lines, 'the rows of rules in crates/rule_vectors/stdin')
 
 
+def check_figures(_):
+    """The README's table of figures has the rows that bench/all.py writes."""
+    with open(figures.README, encoding='utf-8') as f:
+        _, rows, _ = figures.rows_of(f.read())
+    must_be(list(rows), [it.what for bench in figures.BENCHES.values() for it in bench.figures], 'the figures of the README')
+
+
+def shown_by(page):
+    """The lines of a page, those of its samples without the spaces before them."""
+    with open(os.path.join(TOP, page), encoding='utf-8') as f:
+        return re.sub(r'^ {4}', '', f.read(), flags=re.MULTILINE)
+
+
 def check_readme(_):
-    """What the README shows is what comes."""
-    with open(os.path.join(TOP, 'README.md'), encoding='utf-8') as f:
-        readme = f.read()
+    """What the README and the page on examples/ show is what comes."""
+    readme, examples = shown_by('README.md'), shown_by('examples/README.md')
     items, tip = first.first_blocks()
     _, text = first.input_and_text(items)
     of_chain = [
@@ -425,8 +438,8 @@ def check_readme(_):
         ('cat examples/spec.bin own.bin | ./ckbdev own init', 0, (first.genesis_line(own) + '\n').encode()),
         ('./ckbdev own json 1', 0, b'none\n'),
     ]
-    of_program = [
-        ('./ckbdev chain exec 1000000 < examples/primes.elf', 0, b'exit 25 8337\n'),
+    of_program = [('./ckbdev chain exec 1000000 < examples/primes.elf', 0, b'exit 25 8337\n')]
+    of_code = [
         ('tail -c +177 examples/primes.elf | head -c 64 | ./ckbdev chain dis | tail -n 5', 0,
          b'50 addi x17,x0,93\n54 ecall\n58 addiw x10,x10,1\n60 addiw x14,x14,1\n62 jal x0,-52\n'),
         ("printf 'addi x17,x0,93\\naddi x10,x0,0\\necall\\n' | ./ckbdev chain asm > exit0.elf", 0, b''),
@@ -435,24 +448,27 @@ def check_readme(_):
     makes = ('python3 examples/make_store.py --window 2 11 --output 23100000000 '
              '"$(od -An -v -tx1 examples/scripts/exit.elf)"')
     coin = './ckbdev contract cell 0x%s 1' % contract.First.hash.hex()
+    text_of_contract = first.input_and_text(contract.contract_chain()[0])[1]
     of_contract = [
         (makes + ' | ./ckbdev contract init', 0, CONTRACT_LINE),
         (coin, 0, live_line(contract.First.outputs[1], 0)),
-        ('./ckbdev contract import < examples/contract-chain.bin', 1,
-         first.input_and_text(contract.contract_chain()[0])[1]),
-        (coin, 0, b'none\n'),
+        ('./ckbdev contract import < examples/contract-chain.bin | grep refused', 0,
+         b''.join(it for it in text_of_contract.splitlines(keepends=True) if it.startswith(b'refused'))),
         ('./ckbdev contract check < examples/transfer.bin', 0, (contract.transfer()[1] + '\n').encode()),
         ('./ckbdev contract check < examples/refused.bin', 1, (contract.refused()[1] + '\n').encode()),
     ]
     with new_folder() as away:
-        for folder in ('chain', 'own', 'contract'):
-            must('mkdir %s\n' % folder in readme, 'the README does not make the folder %s' % folder)
+        for folder, page in (('chain', readme), ('own', examples), ('contract', readme)):
+            must('\nmkdir %s\n' % folder in page, 'no page makes the folder %s' % folder)
             os.mkdir(os.path.join(away, folder))
         for name in ('ckbdev', 'examples'):
             os.symlink(os.path.join(TOP, name), os.path.join(away, name))
-        for line, status, wanted in of_chain + of_own_chain + of_contract + of_program:
-            must('\n%s\n%s' % (line, wanted.decode()) in readme, 'the README does not show %s with what it prints' % line)
-            must_answer(Ran(['sh', '-c', line], cwd=away), status, wanted, line)
+        for page, lines in ((readme, of_chain), (examples, of_own_chain), (readme, of_contract), (readme, of_program),
+                            (examples, of_code)):
+            for line, status, wanted in lines:
+                must('\n%s\n%s' % (line, wanted.decode()) in page, 'no page shows %s with what it prints' % line)
+                must_answer(Ran(['sh', '-c', line], cwd=away), status, wanted, line)
+        must_answer(Ran(['sh', '-c', coin], cwd=away), 0, b'none\n', coin + ' after the import')
         ran = Ran(['sh', os.path.join(TOP, 'examples', 'first-chain.sh'), 'new'], cwd=away)
         must_be((ran.status, ran.err), (0, b''), 'first-chain.sh')
         for _, _, wanted in of_chain:
