@@ -18,7 +18,7 @@ from encoding import ckbhash, data_hash
 from streams import BAD_WORDS
 
 
-def check_script_hands_on(_):
+def check_script_passes_on(_):
     """Words, streams, status and folder go through the script as they are."""
     given, text = first.input_and_text(first.first_blocks()[0])
     with new_folder() as away:
@@ -35,7 +35,7 @@ def check_script_hands_on(_):
                 'what is left in a folder')
 
 
-def check_script_tells_statuses(_):
+def check_script_explains_statuses(_):
     """Each status above 2 has a line on standard error, which says what it means here."""
     items, _ = first.first_blocks()
     given, text = first.input_and_text(items)
@@ -43,8 +43,8 @@ def check_script_tells_statuses(_):
     def must_tell(words, status, out, why, given=b'', **how):
         ran = Ran([SCRIPT, *words], given, cwd=away, **how)
         must_be((ran.status, ran.out), (status, out), repr(words))
-        must(ran.err.startswith(b'ckbdev: status %d: ' % status), '%r: no line tells the status' % words)
-        must(why.encode() in ran.err, '%r: %r is not told, but %r' % (words, why, ran.err))
+        must(ran.err.startswith(b'ckbdev: status %d: ' % status), '%r: no line explains the status' % words)
+        must(why.encode() in ran.err, '%r: %r is not named, but %r' % (words, why, ran.err))
         must_be(ran.err.count(b'\n'), 1, '%r: lines on standard error' % words)
 
     with new_folder() as away:
@@ -63,12 +63,12 @@ def check_script_tells_statuses(_):
             must_tell(['store', 'tip'], 5, b'', "another run has the folder 'store'")
         closed = Ran(['sh', '-c', 'exec "$@" <&-', '', SCRIPT, 'store', 'import'], cwd=away)
         must_be((closed.status, closed.out), (3, b''), 'a closed standard input')
-        must(closed.err.startswith(b'ckbdev: status 3: '), 'a closed standard input is not told')
+        must(closed.err.startswith(b'ckbdev: status 3: '), 'a closed standard input is not named')
         with open('/dev/full', 'wb') as full:
             ran = subprocess.run([SCRIPT, 'store', 'tip'], stdin=subprocess.DEVNULL, stdout=full,
                                  stderr=subprocess.PIPE, cwd=away, timeout=SECONDS)
         must_be(ran.returncode, 4, 'a full standard output')
-        must(ran.stderr.startswith(b'ckbdev: status 4: '), 'a full standard output is not told')
+        must(ran.stderr.startswith(b'ckbdev: status 4: '), 'a full standard output is not named')
         block, lines = items[0][0], text.splitlines(keepends=True)
         must_tell(['store', 'import'], 8, lines[0] + b'cut %d\n' % len(block), 'inside an item', block + block[:9])
         must_tell(['store', 'import'], 9, b'bad size 0\n', 'the size at the start', b'\3\0\0\0')
@@ -139,7 +139,7 @@ echo begun
 while :; do sleep 0.02; done
 """
 LOW = '//! %s\n\n#[cfg(test)]\nmod tests;\n'
-# a toolchain that proves nothing, is slow, and may be told to fail or never to end
+# a toolchain that proves nothing, is slow, and may be made to fail or never to end
 FAKE_RT = r'''#!/bin/sh
 [ "$1" = fmt ] && exit 0
 [ "$1" = version ] && echo 'a fake kit' && exit 0
@@ -217,7 +217,7 @@ class Checkout:
         return err
 
 
-def check_script_tells_words_without_a_build(_):
+def check_script_answers_words_without_a_build(_):
     with new_folder() as top:
         it = Checkout(top)
         for words, why in (([], 'no words'), (['any'], 'no command'), (['tip'], 'ckbdev FOLDER tip'),
@@ -227,7 +227,7 @@ def check_script_tells_words_without_a_build(_):
                            (['any', ''], 'no command'), (['any', '*'], "no command '*'\n")):
             status, out, err = it.run(words=words)
             must_be((status, out), (2, b''), repr(words))
-            must(why.encode() in err, '%r: %r is not told, but %r' % (words, why, err))
+            must(why.encode() in err, '%r: %r is not named, but %r' % (words, why, err))
             must(b'usage: ckbdev FOLDER ' in err, '%r: no usage' % words)
         usages = [it.run(words=[word]) for word in ('--help', '-h')]
         must_be(usages[0], usages[1], '--help and -h')
@@ -239,7 +239,7 @@ def check_script_tells_words_without_a_build(_):
         status, out, err = it.run(words=['--version'])
         must_be((status, err), (0, b''), '--version')
         must(out.startswith(b'ckbdev ') and b'not built yet' in out, '--version before a build: %r' % out)
-        must_be(it.builds(), 0, 'builds for words that are told without one')
+        must_be(it.builds(), 0, 'builds for words that are answered without one')
         it.must_run(b'one', 1, 'a run')
         must(it.run(words=['--version'])[1].endswith(b'\nproved with a fake kit\n'), '--version after a build')
         it.write('crates/low/src/lib.rt', LOW % 'changed')
