@@ -51,13 +51,19 @@ def agreeing(rows, at, part):
     return next((place for place, (row, wanted) in enumerate(pairs) if row != wanted), min(len(part), len(rows) - at))
 
 
+def called(row):
+    """What a row is called in a message: its first two columns, cut short."""
+    return "'%s'" % ' '.join(it.decode(errors='replace')[:40] for it in row.rstrip(b'\n').split(b'\t')[:2])
+
+
 def must_have_part(file, rows, at, exact, name, part):
     """The place after the part, which stands at a place or, if that is not exact, somewhere after it."""
     places = [at] if exact else [it for it in range(at, len(rows)) if rows[it] == part[0]] or [at]
     best = max(places, key=lambda it: agreeing(rows, it, part))
     agree = agreeing(rows, best, part)
     must(agree or exact, '%s has not the first row of tests/rows/%s.py' % (file, name))
-    must(agree == len(part), '%s: line %d is not line %d of what tests/rows/%s.py makes' % (file, best + agree + 1, agree + 1, name))
+    must(agree == len(part), '%s: line %d is not the row %s of tests/rows/%s.py'
+         % (file, best + agree + 1, called(part[min(agree, len(part) - 1)]), name))
     return best + len(part)
 
 
