@@ -421,6 +421,17 @@ def shown_by(page):
         return re.sub(r'^ {4}', '', f.read(), flags=re.MULTILINE)
 
 
+def check_refusals(_):
+    """Each number that a refusal may name has a row with an example and what to look at first."""
+    rows = r'^\| %s \| [^|]+ \| [^|]+ \| [^|]+ \|$'
+    for page, name, count in (('RULES.md', 'S%d', 7), ('RULES.md', 'G%d', 7), ('RULES.md', 'J%d', 32), ('MACHINE.md', 'E %d', 8)):
+        with open(os.path.join(TOP, 'docs', page), encoding='utf-8') as f:
+            text = f.read()
+        for number in range(1, count + 1):
+            found = re.findall(rows % (name % number), text, re.MULTILINE)
+            must(len(found) == 1, 'docs/%s has %d rows of %s' % (page, len(found), name % number))
+
+
 def check_readme(_):
     """What the README and the page on examples/ show is what comes."""
     readme, examples = shown_by('README.md'), shown_by('examples/README.md')
