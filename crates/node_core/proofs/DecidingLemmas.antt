@@ -26,7 +26,7 @@ use Rattle.tx_defs.specs.Capacity.{fee}
 use Rattle.script_defs.specs.Scene.{scene_of}
 use Rattle.script_defs.specs.Rules.{cycles_of}
 use Rattle.block_defs.specs.Ext.{ext_of}
-use Rattle.block_defs.specs.Rules.{first_broken, broken_in_dry_run}
+use Rattle.block_defs.specs.Rules.{first_broken, broken_at_sight, broken_in_dry_run}
 use Rattle.tx_defs.specs.Site.{site_after}
 use Rattle.time_defs.specs.Dao.{is_rated}
 use Rattle.block_judge.specs.Standing.{Stands, StandsWhole}
@@ -48,7 +48,8 @@ use Rattle.reorg.specs.Moves.{AreOf}
 use Rattle.node_core.specs.Node.{KeptValue, kept_of, AreKept, AreOfTip}
 use Rattle.node_core.proofs.JoiningLemmas.{few-heights}
 use Rattle.node_core.proofs.OwnLemmas.{have-own-fees}
-use Rattle.node_core.specs.Judging.{IsEntryOn, IsJudged, IsDecidedBlock, IsDecided, IsReady, IsReadyBlock, IsReadyItem}
+use Rattle.node_core.proofs.SightLemmas.{header-at-sight}
+use Rattle.node_core.specs.Judging.{IsEntryOn, IsJudged, IsDecidedBlock, IsDecided, MayBeKept, IsReadyBlock, IsReadyItem}
 
 pub none-there : {T : Type 0} (o : Option T) → is_some o ≡ false → o ≡ None
 none-there None is = refl
@@ -125,15 +126,18 @@ follows-by-header spec on b unbroken =
 pub room-for : (count number : ℕ) (room : Bool) → room ≡ nat_lt count kept_limit → room ≡ true → count ≡ number → number < kept_limit
 room-for count number room is so same = omega (arith, (Decides-ltb count kept_limit).0 (sym is ∙ so), same)
 
-pub is-ready : (spec : Specification) (kept : List Block) (b : Block) (entry : Entry) (ext : Ext) → IsEntryOn kept b entry
-    → first_failing (header_rules spec (branch kept entry.parent) b) ≡ None → length kept < kept_limit → is_rated b.header.dao ≡ true
-    → length ext.fees ≡ length b.transactions - 1 → IsReady kept b (record { entry = entry; ext = ext })
-is-ready spec kept b entry ext on unbroken room rated fees = record {
-  entry = on;
-  next = follows-by-header spec (branch kept entry.parent) b unbroken;
-  room = room;
-  rated = rated;
-  fees = fees;
+pub may-be-kept : (chain : Chain) (b : Block) (entry : Entry) (ext : Ext) → IsEntryOn chain.blocks b entry
+    → broken_at_sight chain.spec (branch chain.blocks entry.parent) b ≡ None → length chain.blocks < kept_limit → is_rated b.header.dao ≡ true
+    → length ext.fees ≡ length b.transactions - 1 → MayBeKept chain b (record { entry = entry; ext = ext })
+may-be-kept chain b entry ext on passed room rated fees = record {
+  ready = record {
+    entry = on;
+    next = follows-by-header chain.spec (branch chain.blocks entry.parent) b (header-at-sight chain.spec (branch chain.blocks entry.parent) b passed);
+    room = room;
+    rated = rated;
+    fees = fees;
+  };
+  sight = passed;
 }
 
 -- ---- The verdict on a block
@@ -189,14 +193,14 @@ pub decided-else : {S E : Type 0} (chain : Chain) (item : List ℕ) (b : Block) 
 decided-else chain item b (Ok it) is here = decided-item chain item b it.1 is here
 decided-else chain item b (Err stop) is here = tt
 
-ready-item : (kept : List Block) (item : List ℕ) (b : Block) (decision : Decision) → decoded block item ≡ Some b → IsReadyBlock kept b decision → IsReadyItem kept item decision
-ready-item kept item b (Joins joining) is here = (b, is, here)
-ready-item kept item b (Stays answer) is here = here
+ready-item : (chain : Chain) (item : List ℕ) (b : Block) (decision : Decision) → decoded block item ≡ Some b → IsReadyBlock chain b decision → IsReadyItem chain item decision
+ready-item chain item b (Joins joining) is here = (b, is, here)
+ready-item chain item b (Stays answer) is here = here
 
-pub ready-else : {S E : Type 0} (kept : List Block) (item : List ℕ) (b : Block) (result : Result (S × Decision) E) → decoded block item ≡ Some b
-    → IfOk result (λ it. IsReadyBlock kept b it.1) → IfOk result (λ it. IsReadyItem kept item it.1)
-ready-else kept item b (Ok it) is here = ready-item kept item b it.1 is here
-ready-else kept item b (Err stop) is here = tt
+pub ready-else : {S E : Type 0} (chain : Chain) (item : List ℕ) (b : Block) (result : Result (S × Decision) E) → decoded block item ≡ Some b
+    → IfOk result (λ it. IsReadyBlock chain b it.1) → IfOk result (λ it. IsReadyItem chain item it.1)
+ready-else chain item b (Ok it) is here = ready-item chain item b it.1 is here
+ready-else chain item b (Err stop) is here = tt
 
 -- ---- A transaction alone
 

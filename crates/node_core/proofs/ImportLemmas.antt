@@ -43,9 +43,9 @@ decided_on inside kept item decision is same found decided joined =
     (decided (subst (λ (k : KeptValue). AreJoined k.chain k.exts) (sym same) joined)))
 
 pub ready_on : (inside chain : Chain) (item : List ℕ) (decision is : Decision) → inside ≡ chain → decision ≡ is
-    → IsReadyItem inside.blocks item decision → IsReadyItem chain.blocks item is
+    → IsReadyItem inside item decision → IsReadyItem chain item is
 ready_on inside chain item decision is same found ready =
-    subst (λ (d : Decision). IsReadyItem chain.blocks item d) found (subst (λ (k : Chain). IsReadyItem k.blocks item decision) same ready)
+    subst (λ (d : Decision). IsReadyItem chain item d) found (subst (λ (k : Chain). IsReadyItem k item decision) same ready)
 
 -- it can join
 pub can_join : (chain : Chain) (item : List ℕ) (joining : Joining) → IsDecided chain item (Joins joining) → CanJoin chain.spec chain.blocks item
@@ -71,14 +71,14 @@ form_is chain item bytes joining decided same form =
     subst (λ (l : List ℕ). IsTrue (is_ext l)) (same ∙ sym (ext_is chain item joining decided)) form
 
 -- its verdict
-pub verdict_is : (chain : Chain) (item : List ℕ) (joining : Joining) → IsDecided chain item (Joins joining) → IsReadyItem chain.blocks item (Joins joining)
+pub verdict_is : (chain : Chain) (item : List ℕ) (joining : Joining) → IsDecided chain item (Joins joining) → IsReadyItem chain item (Joins joining)
     → Joined joining.entry.number joining.entry.hash ≡ verdict_over chain item
 unfolding can_join
-verdict_is chain item joining (b, is, judged) (other, is_other, ready) =
+verdict_is chain item joining (b, is, judged) (other, is_other, may) =
     let found : Some other ≡ Some b = sym is_other ∙ is in
     let same : other ≡ b = (cc) in
-    ap (λ (number : ℕ). Joined number joining.entry.hash) (ready.entry.describes.number ∙ ap (λ (x : Block). x.header.number) same)
-    ∙ ap (λ (hash : List ℕ). Joined b.header.number hash) (ready.entry.describes.hash ∙ ap block_hash same)
+    ap (λ (number : ℕ). Joined number joining.entry.hash) (may.ready.entry.describes.number ∙ ap (λ (x : Block). x.header.number) same)
+    ∙ ap (λ (hash : List ℕ). Joined b.header.number hash) (may.ready.entry.describes.hash ∙ ap block_hash same)
     ∙ sym (verdict-joined chain.spec chain.blocks item (can_join chain item joining (b, is, judged)))
 
 -- what is kept after an item that stays out
@@ -89,11 +89,11 @@ stays_so chain item left =
 -- ---- What is put beside it
 
 -- bytes of the form of an ext with as many fees may stand beside it
-pub is_ext_for : (kept : List Block) (item ext : List ℕ) (joining : Joining) → IsReadyItem kept item (Joins joining) → IsTrue (is_ext ext)
+pub is_ext_for : (chain : Chain) (item ext : List ℕ) (joining : Joining) → IsReadyItem chain item (Joins joining) → IsTrue (is_ext ext)
     → count_at ext 0 ≡ length joining.ext.fees → IsExtFor item ext
-is_ext_for kept item ext joining (b, is, ready) form count = record {
+is_ext_for chain item ext joining (b, is, may) form count = record {
   form = form;
-  fees = subst (λ (o : Option Block). IfSome o (λ x. count_at ext 0 ≡ length x.transactions - 1)) (sym is) (count ∙ ready.fees);
+  fees = subst (λ (o : Option Block). IfSome o (λ x. count_at ext 0 ≡ length x.transactions - 1)) (sym is) (count ∙ may.ready.fees);
 }
 
 -- ---- What is kept with it
@@ -122,14 +122,14 @@ module _ (inside next : KeptValue) (chain : Chain) (item ext : List ℕ) (joinin
       kept b is ∙ (λ i. kept_with (record { chain = same i; exts = beside i }) b (own i)) in
       subst (λ (k : KeptValue). HaveOwnExts k.chain k.exts) (sym whole) (own_push chain exts b have)
 
-  module _ (ready : IsReadyItem chain.blocks item (Joins joining)) where
+  module _ (ready : IsReadyItem chain item (Joins joining)) where
     one_more : length next.chain.blocks ≡ length chain.blocks + 1
     one_more =
         ap (λ (k : KeptValue). length k.chain.blocks) (kept ready.0 ready.1) ∙ length_push inside.chain.blocks ready.0
         ∙ ap (λ (c : Chain). length c.blocks + 1) same
 
     pub few_after : length next.chain.blocks ≤ kept_limit
-    few_after = omega (arith, one_more, ready.2.room)
+    few_after = omega (arith, one_more, ready.2.ready.room)
 
     pub within_after : (place end size : ℕ) → IsWithin (length inside.chain.blocks) place → end ≡ place + size → size < 2 ^ 33
         → IsWithin (length next.chain.blocks) end

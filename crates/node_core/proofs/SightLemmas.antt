@@ -16,6 +16,13 @@ use Rattle.family_defs.specs.Rules.{family_rules, family_rules_over, no_cell}
 use Rattle.reward_defs.specs.Rules.{end_rules}
 use Rattle.block_defs.specs.Transactions.{rules_of_transactions}
 use Rattle.block_defs.specs.Rules.{all_rules, first_broken, broken_at_sight}
+use Rattle.chain_defs.specs.Kept.{block_hash, place_of}
+use Rattle.chain_defs.specs.Branch.{branch}
+use Rattle.block_judge.proofs.SightLemmas.{body-asks}
+use Rattle.verdict_defs.specs.Chain.{Chain}
+use Rattle.node_core.specs.declared.deciding.Joining.{Joining}
+use Rattle.node_core.specs.declared.deciding.Decision.TheVariants.{Joins}
+use Rattle.node_core.specs.Judging.{IsReadyItem, WantsMemory, MayWantMemory}
 
 -- ---- J17, over more live cells
 
@@ -78,7 +85,7 @@ first-at-sight spec on b rule is =
     (family-over-more (has_uncles spec on b) (has_cellbase b) (forms_cellbase no_cell b) (forms_cellbase (live_cell on) b) rule
     (cellbase-over-more (live_cell on) b) here))) is
 
--- ---- The rules on a header
+-- ---- The rules on a header and on a body
 
 earlier-unbroken : (earlier later : List (ℕ × Bool)) → first_failing (earlier ++ later) ≡ None → first_failing earlier ≡ None
 unfolding first_failing
@@ -90,3 +97,36 @@ earlier-unbroken ((n, false) ∷ earlier) later is = absurd (cc)
 pub header-at-sight : (spec : Specification) (on : List Block) (b : Block) → broken_at_sight spec on b ≡ None → first_failing (header_rules spec on b) ≡ None
 unfolding broken_at_sight
 header-at-sight spec on b is = earlier-unbroken (header_rules spec on b) (body_rules spec b ++ family_rules_over no_cell spec on b) is
+
+later-unbroken : (earlier later : List (ℕ × Bool)) → first_failing (earlier ++ later) ≡ None → first_failing later ≡ None
+unfolding first_failing
+later-unbroken [] later is = is
+later-unbroken ((n, true) ∷ earlier) later is = later-unbroken earlier later is
+later-unbroken ((n, false) ∷ earlier) later is = absurd (cc)
+
+-- nor of those on a body
+body-at-sight : (spec : Specification) (on : List Block) (b : Block) → broken_at_sight spec on b ≡ None → first_failing (body_rules spec b) ≡ None
+unfolding broken_at_sight
+body-at-sight spec on b is =
+    earlier-unbroken (body_rules spec b) (family_rules_over no_cell spec on b)
+    (later-unbroken (header_rules spec on b) (body_rules spec b ++ family_rules_over no_cell spec on b) is)
+
+-- ---- Where memory may be wanted
+
+-- for a block that passes at sight
+pub wants-passed : (chain : Chain) (b : Block) (parent : ℕ) → place_of chain.blocks (block_hash b) ≡ None
+    → place_of chain.blocks b.header.parent_hash ≡ Some parent → broken_at_sight chain.spec (branch chain.blocks parent) b ≡ None → WantsMemory chain b
+wants-passed chain b parent new on passed =
+    let asks = body-asks chain.spec b (sym (body-at-sight chain.spec (branch chain.blocks parent) b passed)) in record {
+      new = new;
+      parent = parent;
+      on_kept = on;
+      header = header-at-sight chain.spec (branch chain.blocks parent) b passed;
+      short = asks.0;
+      few = asks.1;
+    }
+
+-- for an item that joins
+pub wants-joining : (chain : Chain) (item : List ℕ) (joining : Joining) → IsReadyItem chain item (Joins joining) → MayWantMemory chain item
+wants-joining chain item joining (b, is, may) =
+    (b, is, wants-passed chain b joining.entry.parent may.ready.entry.new may.ready.entry.on_kept may.sight)

@@ -1,5 +1,5 @@
 -- What is to become of a block and of an item.
-use Rattle.std.specs.Prelude.{◌≡◌, ℕ, ◌-◌, ◌<◌, nat_lt, Bool, true, false, List, map, length, Option, Some, None, if◌then◌else◌, IsTrue}
+use Rattle.std.specs.Prelude.{◌≡◌, ℕ, ◌-◌, ◌<◌, nat_lt, nat_le, Bool, true, false, List, map, length, Option, Some, None, if◌then◌else◌, IsTrue}
 use Rattle.codec_defs.specs.Shape.{decoded}
 use Rattle.codec_defs.specs.Schema.{Block, block}
 use Rattle.chain_defs.specs.Kept.{block_hash, place_of, follows, kept_limit}
@@ -7,7 +7,9 @@ use Rattle.chain_defs.specs.Branch.{branch}
 use Rattle.chain_defs.specs.Tip.{tip, tip_place}
 use Rattle.chain_tree.specs.declared.entry.Entry.{Entry}
 use Rattle.chain_tree.specs.Blocks.{Describes}
-use Rattle.rule_defs.specs.Header.{parent_of}
+use Rattle.rule_defs.specs.Header.{parent_of, header_rules}
+use Rattle.rule_defs.specs.Body.{fits_length}
+use Rattle.fold_defs.specs.First.{first_failing}
 use Rattle.time_defs.specs.Dao.{is_rated}
 use Rattle.chain_defs.specs.Hashes.{transaction_hash}
 use Rattle.block_defs.specs.Rules.{broken_at_sight}
@@ -40,13 +42,32 @@ pub record IsReady (kept : List Block) (b : Block) (joining : Joining) : Type 0 
   pub rated : IsTrue (is_rated b.header.dao)
   pub fees : length joining.ext.fees ≡ length b.transactions - 1
 
-abbrev pub IsReadyBlock : List Block → Block → Decision → Type 0
-IsReadyBlock kept b (Joins joining) = IsReady kept b joining
-IsReadyBlock kept b (Stays verdict) = joins verdict ≡ false
+-- It has passed at sight after a chain too.
+pub record MayBeKept (chain : Chain) (b : Block) (joining : Joining) : Type 0 where
+  pub ready : IsReady chain.blocks b joining
+  pub sight : broken_at_sight chain.spec (branch chain.blocks joining.entry.parent) b ≡ None
 
-abbrev pub IsReadyItem : List Block → List ℕ → Decision → Type 0
-IsReadyItem kept item (Joins joining) = (b : Block) × (decoded block item ≡ Some b) × IsReady kept b joining
-IsReadyItem kept item (Stays verdict) = joins verdict ≡ false
+abbrev pub IsReadyBlock : Chain → Block → Decision → Type 0
+IsReadyBlock chain b (Joins joining) = MayBeKept chain b joining
+IsReadyBlock chain b (Stays verdict) = joins verdict ≡ false
+
+abbrev pub IsReadyItem : Chain → List ℕ → Decision → Type 0
+IsReadyItem chain item (Joins joining) = (b : Block) × (decoded block item ≡ Some b) × MayBeKept chain b joining
+IsReadyItem chain item (Stays verdict) = joins verdict ≡ false
+
+-- Memory may be wanted to judge a block after a chain: it is not kept and its parent is, it breaks no rule on a header there, and its length and the
+-- count of its proposals are within their limits.
+pub record WantsMemory (chain : Chain) (b : Block) : Type 0 where
+  pub new : place_of chain.blocks (block_hash b) ≡ None
+  pub parent : ℕ
+  pub on_kept : place_of chain.blocks b.header.parent_hash ≡ Some parent
+  pub header : first_failing (header_rules chain.spec (branch chain.blocks parent) b) ≡ None
+  pub short : fits_length chain.spec b ≡ true
+  pub few : nat_le (length b.proposals) chain.spec.max_proposals ≡ true
+
+-- and an item: it is such a block
+abbrev pub MayWantMemory : Chain → List ℕ → Type 0
+MayWantMemory chain item = (b : Block) × (decoded block item ≡ Some b) × WantsMemory chain b
 
 -- A block that joins does so on this parent.
 abbrev pub IsOnParent : ℕ → Decision → Type 0

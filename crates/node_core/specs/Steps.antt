@@ -17,12 +17,13 @@ distance_from kept (Some from) place = distance kept from place
 abbrev pub moves_at : List Block → ℕ → ℕ
 moves_at kept place = 2 * distance_from kept (tip_place kept) place
 
--- To judge a block on what was found as its parent: none where the parent is not kept, or where it breaks a rule at sight.
+-- For a block on what was found as its parent: the way there and back, and one for its own events; none where the parent is not kept, or where it
+-- breaks a rule at sight.
 abbrev pub moves_on : Chain → Block → Option ℕ → ℕ
 moves_on chain b None = 0
-moves_on chain b (Some parent) = if is_some (broken_at_sight chain.spec (branch chain.blocks parent) b) then 0 else moves_at chain.blocks parent
+moves_on chain b (Some parent) = if is_some (broken_at_sight chain.spec (branch chain.blocks parent) b) then 0 else moves_at chain.blocks parent + 1
 
--- to judge a block: none where it is kept already
+-- for a block: none where it is kept already
 abbrev pub moves_of_block : Chain → Block → ℕ
 moves_of_block chain b = if is_some (place_of chain.blocks (block_hash b)) then 0 else moves_on chain b (place_of chain.blocks b.header.parent_hash)
 
@@ -30,14 +31,14 @@ abbrev pub moves_of : Chain → Option Block → ℕ
 moves_of chain None = 0
 moves_of chain (Some b) = moves_of_block chain b
 
--- To judge an item after a chain: one that is no block is answered at sight too.
+-- For an item after a chain: one that is no block is answered at sight too.
 abbrev pub moves_for : Chain → List ℕ → ℕ
 moves_for chain item = moves_of chain (decoded block item)
 
--- For items one after the other, each over what is kept by then: beside the moves for it a step each.
+-- For items one after the other, each over what is kept by then.
 abbrev pub steps_over : Chain → List (List ℕ) → ℕ
 steps_over chain [] = 0
-steps_over chain (item ∷ items) = moves_for chain item + 1 + steps_over (chain_after chain item) items
+steps_over chain (item ∷ items) = moves_for chain item + steps_over (chain_after chain item) items
 
 abbrev pub distance_to : List Block → ℕ → Option ℕ → ℕ
 distance_to kept from None = 0

@@ -1,6 +1,6 @@
 // What is to become of an item, over the kept blocks.
-ghost use Rattle.std.specs.Prelude.{◌≡◌, ◌≢◌, ◌≤◌, ◌+◌, ◌<◌, ◌^◌, nat_lt, ℕ, length, Some, Err, IfOk, OnOk};
-ghost use Rattle.chain_defs.specs.Kept.{place_of, kept_limit};
+ghost use Rattle.std.specs.Prelude.{◌≡◌, ◌≢◌, ◌≤◌, ◌+◌, ◌-◌, ◌<◌, ◌^◌, nat_lt, ℕ, length, Some, None, Err, IfOk, OnOk};
+ghost use Rattle.chain_defs.specs.Kept.{block_hash, place_of, kept_limit};
 ghost use Rattle.chain_defs.specs.Branch.{branch, distance};
 ghost use Rattle.chain_defs.specs.Tip.{best_branch};
 ghost use Rattle.outside.specs.declared.disk.Area.TheVariants.{Log};
@@ -18,7 +18,7 @@ ghost use Rattle.node_core.specs.Steps.{moves_on, moves_of_block, moves_for};
 ghost use Rattle.cell_state.specs.State.{rows};
 ghost use Rattle.reorg.specs.Moves.{AreOf};
 ghost use Rattle.node_core.specs.Node.{AreOfFound, AreOfTip};
-ghost use Rattle.node_core.specs.Judging.{IsEntryOn, IsOnParent, HasPassed, IsDecidedBlock, IsDecided, IsReadyBlock, IsReadyItem, becomes_tip, place_for};
+ghost use Rattle.node_core.specs.Judging.{IsEntryOn, IsOnParent, HasPassed, IsDecidedBlock, IsDecided, IsReadyBlock, IsReadyItem, WantsMemory, MayWantMemory, becomes_tip, place_for};
 
 use crate::entry::{entry_on, hash_of, parent_hash};
 use crate::kept::{Kept, is_above_tip};
@@ -96,6 +96,7 @@ impl Kept {
         ensures passed { IfOk result (λ hashes. HasPassed self.now.chain parent block.now hashes.items) }
         ensures broken { (rule : Rule) → result ≡ Err (Broken rule) → broken_at_sight self.now.chain.spec (branch self.now.chain.blocks parent) block.now ≡ Some (rule_number rule) }
         ensures memory { (stop : a_stop) → result ≡ Err (Read stop) → stop ≡ NoMemory }
+        ensures asked { place_of self.now.chain.blocks (block_hash block.now) ≡ None → (stop : a_stop) → result ≡ Err (Read stop) → WantsMemory self.now.chain block.now }
     {
         let context = Context {
             spec: &self.spec,
@@ -119,7 +120,7 @@ impl Kept {
         requires entry { IsEntryOn self.old.chain.blocks block.now entry }
         requires passed { HasPassed self.old.chain entry.parent block.now hashes.now }
         ensures same { self.new ≡ self.old }
-        ensures ready { IfOk result (IsReadyBlock self.old.chain.blocks block.now) }
+        ensures ready { IfOk result (IsReadyBlock self.old.chain block.now) }
         ensures on { IfOk result (IsOnParent entry.parent) }
         ensures decided { AreJoined self.old.chain self.old.exts → AreOf self.old.chain.blocks entry.parent (rows state.now)
             → IfOk result (IsDecidedBlock self.old.chain block.now) }
@@ -171,7 +172,7 @@ impl Kept {
     ) -> Result<(State, Decision), ReadStop>
         requires { IsEntryOn self.old.chain.blocks block.now entry }
         ensures same { self.new ≡ self.old }
-        ensures ready { IfOk result (λ it. IsReadyBlock self.old.chain.blocks block.now it.1) }
+        ensures ready { IfOk result (λ it. IsReadyBlock self.old.chain block.now it.1) }
         ensures cells { AreJoined self.old.chain self.old.exts → AreOfTip self.old.chain.blocks (rows state)
             → IfOk result (λ it. AreOfFound self.old.chain.blocks (place_for self.old.chain.blocks it.1) (rows it.0)) }
         ensures decided { AreJoined self.old.chain self.old.exts → AreOfTip self.old.chain.blocks (rows state)
@@ -180,7 +181,8 @@ impl Kept {
             → (damage : Damage) → result ≡ Err (Damaged damage) → ⊥ }
         ensures damage { (damage : Damage) → result ≡ Err (Damaged damage) → damage.area ≡ Log }
         ensures reads { result ≢ Err DiskFault }
-        ensures most { steps.new ≤ steps.old + moves_on self.old.chain block.now (Some entry.parent) }
+        ensures asked { result ≡ Err NoMemory → WantsMemory self.old.chain block.now }
+        ensures most { steps.new ≤ steps.old + (moves_on self.old.chain block.now (Some entry.parent) - 1) }
     {
         let parent = entry.parent;
         let hashes = match self.at_sight(alloc, block, parent) {
@@ -226,7 +228,7 @@ impl Kept {
         steps: &mut Steps<L>,
     ) -> Result<(State, Decision), ReadStop>
         ensures same { self.new ≡ self.old }
-        ensures ready { IfOk result (λ it. IsReadyBlock self.old.chain.blocks block.now it.1) }
+        ensures ready { IfOk result (λ it. IsReadyBlock self.old.chain block.now it.1) }
         ensures cells { AreJoined self.old.chain self.old.exts → AreOfTip self.old.chain.blocks (rows state)
             → IfOk result (λ it. AreOfFound self.old.chain.blocks (place_for self.old.chain.blocks it.1) (rows it.0)) }
         ensures decided { AreJoined self.old.chain self.old.exts → AreOfTip self.old.chain.blocks (rows state)
@@ -235,7 +237,8 @@ impl Kept {
             → (damage : Damage) → result ≡ Err (Damaged damage) → ⊥ }
         ensures damage { (damage : Damage) → result ≡ Err (Damaged damage) → damage.area ≡ Log }
         ensures reads { result ≢ Err DiskFault }
-        ensures most { steps.new ≤ steps.old + moves_of_block self.old.chain block.now }
+        ensures asked { result ≡ Err NoMemory → WantsMemory self.old.chain block.now }
+        ensures most { steps.new ≤ steps.old + (moves_of_block self.old.chain block.now - 1) }
     {
         let hash = hash_of(block);
         if self.tree.find(&hash).is_some() {
@@ -249,7 +252,8 @@ impl Kept {
     }
 
     /// What is to become of an item, and the live cells where they then stand: on the parent's branch of a block that
-    /// becomes the tip, and else on the tip's. After an error they are gone.
+    /// becomes the tip, and else on the tip's. After an error they are gone. Memory is wanted only for a block that is new,
+    /// on a kept parent, and keeps the rules on a header and the limits on its length and its proposals.
     pub(crate) fn decide<L: Ledger>(
         &mut self,
         alloc: Global,
@@ -258,7 +262,7 @@ impl Kept {
         steps: &mut Steps<L>,
     ) -> Result<(State, Decision), ReadStop>
         ensures same { self.new ≡ self.old }
-        ensures ready { IfOk result (λ it. IsReadyItem self.old.chain.blocks item.now it.1) }
+        ensures ready { IfOk result (λ it. IsReadyItem self.old.chain item.now it.1) }
         ensures cells { AreJoined self.old.chain self.old.exts → AreOfTip self.old.chain.blocks (rows state)
             → IfOk result (λ it. AreOfFound self.old.chain.blocks (place_for self.old.chain.blocks it.1) (rows it.0)) }
         ensures decided { AreJoined self.old.chain self.old.exts → AreOfTip self.old.chain.blocks (rows state)
@@ -267,7 +271,8 @@ impl Kept {
             → (damage : Damage) → result ≡ Err (Damaged damage) → ⊥ }
         ensures damage { (damage : Damage) → result ≡ Err (Damaged damage) → damage.area ≡ Log }
         ensures reads { result ≢ Err DiskFault }
-        ensures most { steps.new ≤ steps.old + moves_for self.old.chain item.now }
+        ensures asked { result ≡ Err NoMemory → MayWantMemory self.old.chain item.now }
+        ensures most { steps.new ≤ steps.old + (moves_for self.old.chain item.now - 1) }
     {
         match BlockView::read(item) {
             None => Ok((state, Decision::Stays(Verdict::Refused(1)))),

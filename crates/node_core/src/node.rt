@@ -1,5 +1,5 @@
 // A node: the kept blocks of a store, in memory and on their disk.
-ghost use Rattle.std.specs.Prelude.{◌≡◌, ◌≢◌, ◌⊎◌, ◌<◌, ◌≤◌, ◌+◌, ◌^◌, ◌++◌, ◌∷◌, [], ℕ, false, Err, List, Some, length, drop, slice_index, IfOk, IsOk, IfErr, OnOk, OnErr, IfSome, IsTrue, pos};
+ghost use Rattle.std.specs.Prelude.{◌≡◌, ◌≢◌, ◌⊎◌, ◌<◌, ◌≤◌, ◌+◌, ◌-◌, ◌^◌, ◌++◌, ◌∷◌, [], ℕ, false, Err, List, Some, length, drop, slice_index, IfOk, IsOk, IfErr, OnOk, OnErr, IfSome, IsTrue, pos};
 ghost use Rattle.std.specs.Option.{option_map};
 ghost use Rattle.outside.specs.Causes.{CountsFault};
 ghost use Rattle.outside.specs.Disk.{HasOneImage, OthersRead, LeavesOnly, IsOnlyRead};
@@ -31,7 +31,7 @@ ghost use Rattle.store_defs.specs.Store.{Keeps, store_of, StandsFor, IsSound, Is
 ghost use Rattle.log_file.specs.Pieces.{behind_gate, block_record};
 ghost use Rattle.node_core.specs.Node.{IsOn, IsLeftByOpening, IsLeftByImport, IsSettledAfter, IsWithin, AreOfFound, AreOfTip, node_of};
 ghost use Rattle.node_core.specs.Steps.{moves_for, moves_to_open};
-ghost use Rattle.node_core.specs.Judging.{IsReadyItem, IsDecided, place_for};
+ghost use Rattle.node_core.specs.Judging.{IsReadyItem, IsDecided, MayWantMemory, place_for};
 ghost use Rattle.node_core.specs.Queries.{IsHeaderAt, IsBlockAt, IsLiveCell, IsFetched};
 ghost use Rattle.node_core.specs.declared.deciding.Decision.TheVariants.{Joins};
 
@@ -128,7 +128,7 @@ fn join<D: Disk, L: Ledger>(
     requires size { length item.now < 2 ^ 31 }
     requires there { IfSome (D.reads_as disk.old) (λ image. log.place < length image.log) }
     requires within { IsWithin (length kept.chain.blocks) log.place }
-    requires ready { IsReadyItem kept.chain.blocks item.now (Joins joining) }
+    requires ready { IsReadyItem kept.chain item.now (Joins joining) }
     requires cells { AreJoined kept.chain kept.exts → AreOfFound kept.chain.blocks (place_for kept.chain.blocks (Joins joining)) (rows state) }
     ensures kept { IsDecided kept.chain item.now (Joins joining) → IfOk result (λ node. node.chain ≡ chain_after kept.chain item.now) }
     ensures there { IfOk result (λ node. IfSome (D.reads_as disk.new) (λ image. node.place < length image.log)) }
@@ -233,7 +233,8 @@ impl Node {
     /// the disk. After an `Err` the disk has the record or not. Damaged where a kept block is not what those after it say,
     /// which never comes over a chain that has joined. The live cells go to the block's parent, are judged by there, and go
     /// back unless the block becomes the tip: with its own events at most twice the distance from the tip to the parent, and
-    /// one. An item that is answered at sight, as one that is known, takes no step.
+    /// one. An item that is answered at sight, as one that is known, takes no step. Memory is wanted only for a block that
+    /// is new, on a kept parent, and keeps the rules on a header and the limits on its length and its proposals.
     pub fn import<D: Disk, L: Ledger>(
         self,
         alloc: Global,
@@ -261,10 +262,11 @@ impl Node {
         ensures undamaged { AreJoined self.chain self.exts → (damage : Damage) → result ≡ Err (Damaged damage) → ⊥ }
         ensures damage { (damage : Damage) → result ≡ Err (Damaged damage) → damage.area ≡ log_area }
         ensures cause { CountsFault (D.faults disk.old) (D.faults disk.new) (result ≡ Err DiskFault) }
+        ensures asked { result ≡ Err ReadStop.NoMemory → MayWantMemory self.chain item.now }
         ensures steps { (b : Block) → decoded schema.block item.now ≡ Some b
             → place_of self.chain.blocks b.header.parent_hash ≡ tip_place self.chain.blocks → steps.new ≤ steps.old + 1 }
-        ensures most { steps.new ≤ steps.old + moves_for self.chain item.now + 1 }
-        ensures stays { IfOk result (λ answer. joins answer.1 ≡ false → steps.new ≤ steps.old + moves_for self.chain item.now) }
+        ensures most { steps.new ≤ steps.old + moves_for self.chain item.now }
+        ensures stays { IfOk result (λ answer. joins answer.1 ≡ false → steps.new ≤ steps.old + (moves_for self.chain item.now - 1)) }
     {
         let Node {
             mut kept,

@@ -65,14 +65,14 @@ module _ (chain : Chain) (offset : ℕ) (left_old left left_new taken_old taken 
   stop_also P has given gives more (inl partial) = part_also P has given gives partial
   stop_also P has given gives more (inr item) = item_also P given given item gives more
 
-  steps_more : (steps_new : ℕ) (item : List ℕ) → steps_new ≤ steps_now + moves_for now item + 1 → were_joined
+  steps_more : (steps_new : ℕ) (item : List ℕ) → steps_new ≤ steps_now + moves_for now item → were_joined
       → steps_new ≤ steps_old + steps_over chain (whole.items ++ item ∷ [])
   steps_more steps_new item most joined =
       omega (
         arith,
         whole.steps joined,
         steps-push chain whole.items item,
-        subst (λ (k : Chain). steps_new ≤ steps_now + moves_for k item + 1) (whole.kept_now joined) most,
+        subst (λ (k : Chain). steps_new ≤ steps_now + moves_for k item) (whole.kept_now joined) most,
       )
 
   -- what stands behind them holds no whole item
@@ -82,7 +82,7 @@ module _ (chain : Chain) (offset : ℕ) (left_old left left_new taken_old taken 
 
   -- an item stands behind them
   pub counted_to_item : (steps_new : ℕ) (item given : List ℕ) → IsItemAt item_limit (Some input_limit) offset item given → Gives left left_new given
-      → steps_new ≤ steps_now + moves_for now item + 1
+      → steps_new ≤ steps_now + moves_for now item
       → Gave left_old left_new (λ given. were_joined → steps_new ≤ steps_old + steps_over chain (split_of import_limits given).items)
   counted_to_item steps_new item given at gives most =
       item_also (λ xs. were_joined → steps_new ≤ steps_old + steps_over chain xs) item given at gives (steps_more steps_new item most)

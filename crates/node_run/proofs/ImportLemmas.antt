@@ -183,7 +183,7 @@ pub all-push : (items : List (List ℕ)) (item : List ℕ) → AreItems import_l
 all-push items item all is = all_items-append import_limits 0 items (item ∷ []) all (is, tt)
 
 pub steps-push : (chain : Chain) (items : List (List ℕ)) (item : List ℕ)
-    → steps_over chain (items ++ item ∷ []) ≡ steps_over chain items + (moves_for (chain_over chain items) item + 1)
+    → steps_over chain (items ++ item ∷ []) ≡ steps_over chain items + moves_for (chain_over chain items) item
 steps-push chain [] item = omega arith
 steps-push chain (x ∷ items) item =
     let later = steps-push (chain_after chain x) items item in
@@ -197,7 +197,7 @@ pub whole_more : (chain : Chain) (offset : ℕ) (left_old left left_new taken_ol
     → (whole : Whole chain offset left_old left taken_old taken now refused were_joined are_joined was_on is_on leaves steps_old steps_now) → IsItemAt item_limit (Some input_limit) offset item given
     → Gives left left_new given → Takes taken taken_new text
     → (are_joined → verdict ≡ verdict_over now item) → (are_joined → new ≡ chain_after now item) → (are_joined → text ≡ line_over now item)
-    → (are_joined → joined_new) → (is_on → on_new) → (was_on → leaves_new (KeepsSome chain (whole.items ++ item ∷ []))) → steps_new ≤ steps_now + moves_for now item + 1
+    → (are_joined → joined_new) → (is_on → on_new) → (was_on → leaves_new (KeepsSome chain (whole.items ++ item ∷ []))) → steps_new ≤ steps_now + moves_for now item
     → (more : Whole chain (offset + size) left_old left_new taken_old taken_new new any were_joined joined_new was_on on_new leaves_new steps_old steps_new)
     × (more.items ≡ whole.items ++ item ∷ [])
 whole_more chain offset left_old left left_new taken_old taken taken_new now new refused were_joined are_joined joined_new was_on is_on on_new leaves leaves_new steps_old steps_now steps_new item given text verdict size any
@@ -229,7 +229,7 @@ whole_more chain offset left_old left left_new taken_old taken taken_new now new
               arith,
               whole.steps joined,
               steps-push chain whole.items item,
-              subst (λ (k : Chain). steps_new ≤ steps_now + moves_for k item + 1) (whole.kept_now joined) most,
+              subst (λ (k : Chain). steps_new ≤ steps_now + moves_for k item) (whole.kept_now joined) most,
             );
       },
       refl,

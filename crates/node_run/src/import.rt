@@ -96,7 +96,7 @@ fn import_item<K: Sink, D: Disk, L: Ledger>(
     ensures still { AreJoined node.chain node.exts → joins (verdict_over node.chain item.now) ≡ false → disk.new ≡ disk.old }
     ensures out_faults { CountsFault (K.faults out.old) (K.faults out.new) (result ≡ Err Status.SinkFault) }
     ensures disk_faults { CountsFault (D.faults disk.old) (D.faults disk.new) (result ≡ Err Status.DiskFault) }
-    ensures most { steps.new ≤ steps.old + moves_for node.chain item.now + 1 }
+    ensures most { steps.new ≤ steps.old + moves_for node.chain item.now }
 {
     let (next, verdict) = match node.import(alloc, disk, item, steps) {
         Ok(answer) => answer,

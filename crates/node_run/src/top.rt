@@ -85,7 +85,7 @@ pub fn run<S: Source, K: Sink, D: Disk, L: Ledger>(
         → NoneJoins chain (split_of import_limits given).items → IsOnlyRead D.reads_as D.images D.moment D.left_since disk.old disk.new) }
 
     // Only a command that opens the store counts steps: a query or question at most one for each block after the genesis on the branch of the tip, and an import
-    // over a store that is sound at most these, and for each item one and those from the tip to its parent and back.
+    // over a store that is sound at most these, and for each item that is not answered at sight one and those from the tip to its parent and back.
     ensures steps { (OpensStore (grammar.command_of (map string_bytes words.now)) → ⊥) → steps.new ≡ steps.old }
     ensures query_steps { (now : Image) → D.reads_as disk.old ≡ Some now → AsksStore (grammar.command_of (map string_bytes words.now))
         → steps.new ≤ steps.old + moves_to_open (store_of now) }

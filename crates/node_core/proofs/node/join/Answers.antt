@@ -22,23 +22,22 @@ use Rattle.node_core.proofs.node.join.Goals as goal
 
 pub rec_behind-rec-requires-clause-limit : goal.rec_behind-rec-requires-clause-limit
 rec_behind-rec-requires-clause-limit g c =
-    place_limit (length c.args.kept.chain.blocks) c.args.log.place (omega (arith, c.requires.ready.2.room)) c.requires.within
+    place_limit (length c.args.kept.chain.blocks) c.args.log.place (omega (arith, c.requires.ready.2.ready.room)) c.requires.within
 
 pub rec_behind-rec-requires-clause-filled : goal.rec_behind-rec-requires-clause-filled
 rec_behind-rec-requires-clause-filled g c =
     piece_long (block_record c.args.item.now (ext_bytes c.args.joining.ext)) c.fill.new.body c.in-Ok.ensures.filled
 
 pub join-requires-clause-canonical : goal.join-requires-clause-canonical
-join-requires-clause-canonical g c =
-    c.requires.ready
+join-requires-clause-canonical g c = (c.requires.ready.0, c.requires.ready.1, c.requires.ready.2.ready)
 
 pub join-requires-clause-ext : goal.join-requires-clause-ext
 join-requires-clause-ext g c =
-    is_ext_for c.args.kept.chain.blocks c.args.item.now c.in-Ok.ext.items c.args.joining c.requires.ready c.in-Ok.ensures.form c.in-Ok.ensures.fees
+    is_ext_for c.args.kept.chain c.args.item.now c.in-Ok.ext.items c.args.joining c.requires.ready c.in-Ok.ensures.form c.in-Ok.ensures.fees
 
 pub append-requires-clause-limit : goal.append-requires-clause-limit
 append-requires-clause-limit g c =
-    place_limit (length c.args.kept.chain.blocks) c.args.log.place (omega (arith, c.requires.ready.2.room)) c.requires.within
+    place_limit (length c.args.kept.chain.blocks) c.args.log.place (omega (arith, c.requires.ready.2.ready.room)) c.requires.within
 
 pub append-requires-clause-there : goal.append-requires-clause-there
 append-requires-clause-there g c =
@@ -52,7 +51,7 @@ append-requires-clause-filled g c =
 pub invariant_of-result : goal.invariant_of-result
 invariant_of-result g c =
     let ready = c.requires.ready in
-    let below = place_of-below c.args.kept.chain.blocks ready.0.header.parent_hash c.args.joining.entry.parent ready.2.entry.on_kept in (
+    let below = place_of-below c.args.kept.chain.blocks ready.0.header.parent_hash c.args.joining.entry.parent ready.2.ready.entry.on_kept in (
       few_after c.args.kept c.in-Ok-join.joined.0 c.args.kept.chain c.args.item.now c.in-Ok.ext.items c.args.joining refl c.in-Ok-join.ensures.kept ready,
       within_after c.args.kept c.in-Ok-join.joined.0 c.args.kept.chain c.args.item.now c.in-Ok.ext.items c.args.joining refl c.in-Ok-join.ensures.kept ready
           c.args.log.place c.in-Ok-append.log.place (length c.fill.new.body) c.requires.within c.in-Ok-append.ensures.place c.in-Ok.ensures.short,

@@ -1,7 +1,10 @@
-use Rattle.std.proofs.Common.{ap}
+use Rattle.std.proofs.Common.{◌≡◌, None, Some, sym, ap, subst}
+use Rattle.chain_defs.specs.Kept.{block_hash, place_of}
+use Rattle.verdict_defs.specs.Chain.{Chain}
 use Rattle.chain_tree.specs.Told.{blocks_of}
 use Rattle.chain_defs.proofs.KeptLaws.{place_of-below}
-use Rattle.node_core.specs.Node.{KeptValue}
+use Rattle.node_core.specs.Node.{KeptValue, kept_of}
+use Rattle.node_core.specs.Judging.{WantsMemory}
 use Rattle.node_core.proofs.DecidingLemmas.{within-entries}
 use Rattle.node_core.proofs.kept.Kept.at_sight.Goals as goal
 
@@ -11,3 +14,16 @@ judge_at_sight-requires c = record {
       (ap (λ (v : KeptValue). v.chain.blocks) c.self.view_is) c.self.invariant.indexed
       (place_of-below c.args.self.now.chain.blocks c.args.block.now.header.parent_hash c.args.parent c.requires);
 }
+
+pub returns-clause-asked : goal.returns-clause-asked
+returns-clause-asked c new stop same =
+    let whole : (kept_of c.self.inside.spec c.self.inside.blocks.stored).chain ≡ c.args.self.now.chain = ap (λ (v : KeptValue). v.chain) c.self.view_is in
+    let body = c.judge_at_sight.ensures.asked_of_body stop same in
+    subst (λ (k : Chain). WantsMemory k c.args.block.now) whole (record {
+      new = subst (λ (k : Chain). place_of k.blocks (block_hash c.args.block.now) ≡ None) (sym whole) new;
+      parent = c.args.parent;
+      on_kept = subst (λ (k : Chain). place_of k.blocks c.args.block.now.header.parent_hash ≡ Some c.args.parent) (sym whole) c.requires;
+      header = c.judge_at_sight.ensures.asked (blocks_of c.self.inside.blocks.stored) c.self.invariant.indexed stop same;
+      short = body.0;
+      few = body.1;
+    })

@@ -40,7 +40,7 @@ returns-in-Some-clause-reads g c = c.decide_block.ensures.reads
 
 pub returns-in-Some-clause-ready : goal.returns-in-Some-clause-ready
 returns-in-Some-clause-ready g c =
-    ready-else c.args.self.now.chain.blocks c.args.item.now c.in-Some.block c.decide_block.result (sym c.in-Some.ensures.value) c.decide_block.ensures.ready
+    ready-else c.args.self.now.chain c.args.item.now c.in-Some.block c.decide_block.result (sym c.in-Some.ensures.value) c.decide_block.ensures.ready
 
 pub returns-in-None-clause-most : goal.returns-in-None-clause-most
 returns-in-None-clause-most g c = no-step _ _
@@ -54,3 +54,9 @@ returns-in-None-clause-cells g c = λ _ live. live
 
 pub returns-in-Some-clause-cells : goal.returns-in-Some-clause-cells
 returns-in-Some-clause-cells g c = c.decide_block.ensures.cells
+
+pub returns-in-None-clause-asked : goal.returns-in-None-clause-asked
+returns-in-None-clause-asked g c = λ e. absurd (ok_err _ _ e)
+
+pub returns-in-Some-clause-asked : goal.returns-in-Some-clause-asked
+returns-in-Some-clause-asked g c = λ e. (c.in-Some.block, sym c.in-Some.ensures.value, c.decide_block.ensures.asked e)

@@ -1,4 +1,4 @@
-use Rattle.std.proofs.Common.{ℕ, ◌+◌, ◌≤◌, Some, refl, sym, ap, ◌∙◌, subst}
+use Rattle.std.proofs.Common.{ℕ, ◌+◌, ◌-◌, ◌≤◌, Some, refl, sym, ap, ◌∙◌, subst}
 use Rattle.chain_defs.specs.Kept.{place_of}
 use Rattle.chain_tree.specs.Told.{blocks_of}
 use Rattle.node_core.specs.Node.{KeptValue}
@@ -100,5 +100,14 @@ returns-clause-most g c =
       on_kept = sym (c.in-Some.ensures.of_blocks kept c.self.invariant.indexed ∙ ap (place_of kept) c.parent_hash.ensures) ∙ ap Some (sym c.entry_on-entry.ensures.parent);
       describes = c.entry_on-entry.ensures.describes;
     }) in
-    subst (λ (n : ℕ). c.decide_on.new.steps ≤ c.args.steps.now + n)
+    subst (λ (n : ℕ). c.decide_on.new.steps ≤ c.args.steps.now + (n - 1))
     (moves-on-parent c.args.self.now.chain c.args.block.now c.entry_on-entry.result.parent on.new on.on_kept) c.decide_on.ensures.most
+
+pub returns-then-is_some-clause-asked : goal.returns-then-is_some-clause-asked
+returns-then-is_some-clause-asked g c = λ e. absurd (ok_err _ _ e)
+
+pub returns-in_default-clause-asked : goal.returns-in_default-clause-asked
+returns-in_default-clause-asked g c = λ e. absurd (ok_err _ _ e)
+
+pub returns-clause-asked : goal.returns-clause-asked
+returns-clause-asked g c = c.decide_on.ensures.asked

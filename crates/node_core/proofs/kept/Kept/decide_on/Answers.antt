@@ -12,7 +12,7 @@ use Rattle.verdict_defs.specs.declared.verdict.Verdict.TheVariants.{Refused}
 use Rattle.node_core.specs.Node.{KeptValue}
 use Rattle.node_core.specs.Judging.{IsDecidedBlock, becomes_tip}
 use Rattle.node_core.proofs.DecidingLemmas.{within-blocks, verdict-refused}
-use Rattle.node_core.proofs.SightLemmas.{first-at-sight}
+use Rattle.node_core.proofs.SightLemmas.{first-at-sight, wants-passed}
 use Rattle.node_core.proofs.JoiningLemmas.{at-parent, at-tip}
 use Rattle.node_core.proofs.OpenLemmas.{same_stop}
 use Rattle.node_core.proofs.kept.Kept.decide_on.Goals as goal
@@ -96,3 +96,15 @@ returns-clause-undamaged g c joined live damage was =
     (subst (λ (v : KeptValue). AreOf v.chain.blocks c.args.entry.parent (rows c.in-Ok-moved.there)) (sym same)
     (c.in-Ok-moved.ensures.cells joined (live c.tip-from.result at)))
     damage (ap Err (same_stop _ _ was))
+
+pub returns-in-Err-clause-asked : goal.returns-in-Err-clause-asked
+returns-in-Err-clause-asked g c = λ _.
+    wants-passed c.args.self.now.chain c.args.block.now c.args.entry.parent c.requires.new c.requires.on_kept c.in-Ok.ensures.passed.sight
+
+pub returns-in-Err-judge_on-clause-asked : goal.returns-in-Err-judge_on-clause-asked
+returns-in-Err-judge_on-clause-asked g c = λ _.
+    wants-passed c.args.self.now.chain c.args.block.now c.args.entry.parent c.requires.new c.requires.on_kept c.in-Ok.ensures.passed.sight
+
+pub returns-clause-asked : goal.returns-clause-asked
+returns-clause-asked g c = λ _.
+    wants-passed c.args.self.now.chain c.args.block.now c.args.entry.parent c.requires.new c.requires.on_kept c.in-Ok.ensures.passed.sight

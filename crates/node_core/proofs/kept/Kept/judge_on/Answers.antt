@@ -12,8 +12,7 @@ use Rattle.verdict_defs.specs.declared.verdict.Verdict.TheVariants.{Refused}
 use Rattle.rule_names.specs.Number.{rule_number}
 use Rattle.node_core.specs.declared.deciding.Decision.{Decision}
 use Rattle.node_core.specs.Judging.{IsReadyBlock, IsDecidedBlock}
-use Rattle.node_core.proofs.DecidingLemmas.{as-many, few-entries, within-entries, whole-at-hand, room-for, is-ready, is-judged, verdict-refused, verdict-full}
-use Rattle.node_core.proofs.SightLemmas.{header-at-sight}
+use Rattle.node_core.proofs.DecidingLemmas.{as-many, few-entries, within-entries, whole-at-hand, room-for, may-be-kept, is-judged, verdict-refused, verdict-full}
 use Rattle.node_core.proofs.OpenLemmas.{ok_err, same_stop}
 use Rattle.node_core.specs.Node.{KeptValue}
 use Rattle.node_core.proofs.kept.Kept.judge_on.Goals.{in-Err-Broken, in-Err-Read, in-Ok+then-has_room, in-Ok+else-has_room}
@@ -34,13 +33,12 @@ judge-requires-clause-counts c = as-many c.self.inside.blocks.stored c.self.insi
 pub returns-clause-ready : goal.returns-clause-ready
 returns-clause-ready c =
     let whole = ap (λ (v : KeptValue). v.chain) c.self.view_is in
-    let Ready : Result Decision ReadStop → Type 0 = λ r. IfOk r (IsReadyBlock c.args.self.now.chain.blocks c.args.block.now) in
+    let Ready : Result Decision ReadStop → Type 0 = λ r. IfOk r (IsReadyBlock c.args.self.now.chain c.args.block.now) in
     elim c.match-judge.branch [
       | in-Err-Broken w ↦ subst Ready (sym w.result-is) refl
       | in-Err-Read w ↦ subst Ready (sym w.result-is) tt
       | in-Ok+then-has_room w ↦ subst Ready (sym w.result-is)
-          (is-ready c.args.self.now.chain.spec c.args.self.now.chain.blocks c.args.block.now c.args.entry w.in-Ok.ext c.requires.entry
-          (header-at-sight c.args.self.now.chain.spec (branch c.args.self.now.chain.blocks c.args.entry.parent) c.args.block.now c.requires.passed.sight)
+          (may-be-kept c.args.self.now.chain c.args.block.now c.args.entry w.in-Ok.ext c.requires.entry c.requires.passed.sight
           (room-for w.len.result _ w.has_room.result w.has_room.ensures w.if-has_room.true
           (w.len.ensures.of_blocks (blocks_of c.self.inside.blocks.stored) c.self.invariant.indexed ∙ ap (λ (v : Chain). length v.blocks) whole))
           w.in-Ok.ensures.rated w.in-Ok.ensures.fees)

@@ -15,7 +15,9 @@ use Rattle.node_core.proofs.ImportLemmas.{joined_on, joined_stays_not, decided_o
 use Rattle.node_core.proofs.DiskLemmas.{counts_none, before_calls}
 use Rattle.log_file.proofs.Exits.{stop_counts}
 use Rattle.node_core.proofs.OpenLemmas.{ok_err, same_stop}
-use Rattle.node_core.proofs.StepLemmas.{moves-of-chain, moves-on-tip}
+use Rattle.node_core.specs.Judging.{MayWantMemory}
+use Rattle.node_core.proofs.SightLemmas.{wants-joining}
+use Rattle.node_core.proofs.StepLemmas.{moves-of-chain, moves-on-tip, moves-joining}
 use Rattle.std.specs.Prelude.{IfSome}
 use Rattle.cell_defs.specs.Ext.{ext_bytes}
 use Rattle.outside.specs.declared.disk.Area.TheVariants.{Log}
@@ -56,7 +58,7 @@ returns-in-Stays-clause-kept g c joined =
     let decided : IsDecided c.args.self.chain c.args.item.now (Stays c.in-Stays.verdict) =
     decided_on c.self.inside.kept (kept_in c.args.self) c.args.item.now c.in-Ok.decided.1 (Stays c.in-Stays.verdict) (ap kept_in c.self.view_is) c.in-Stays.is
     (λ j. c.in-Ok.ensures.decided j (c.self.invariant.2 j)) joined in
-    let left : IsReadyItem c.args.self.chain.blocks c.args.item.now (Stays c.in-Stays.verdict) =
+    let left : IsReadyItem c.args.self.chain c.args.item.now (Stays c.in-Stays.verdict) =
     ready_on c.self.inside.kept.chain c.args.self.chain c.args.item.now c.in-Ok.decided.1 (Stays c.in-Stays.verdict) chain_is c.in-Stays.is
     c.in-Ok.ensures.ready in
     ap (λ (k : KeptValue). k.chain) c.decide.ensures.same ∙ chain_is ∙ stays_so c.args.self.chain c.args.item.now (ap joins (sym decided) ∙ left)
@@ -308,13 +310,35 @@ pub returns-in-Err-join-clause-most : goal.returns-in-Err-join-clause-most
 returns-in-Err-join-clause-most g c =
     let chain_is : c.self.inside.kept.chain ≡ c.args.self.chain = ap (λ (v : NodeValue). v.chain) c.self.view_is in
     let most = moves-of-chain c.self.inside.kept.chain c.args.self.chain c.args.item.now _ _ chain_is c.decide.ensures.most in
-    omega (arith, most, c.join.ensures.most)
+    let ready = ready_on c.self.inside.kept.chain c.args.self.chain c.args.item.now c.in-Ok.decided.1 (Joins c.in-Joins.joining) chain_is c.in-Joins.is
+    c.in-Ok.ensures.ready in
+    omega (arith, most, c.join.ensures.most, moves-joining c.args.self.chain c.args.item.now c.in-Joins.joining ready)
 
 pub returns-in-Ok-join-clause-most : goal.returns-in-Ok-join-clause-most
 returns-in-Ok-join-clause-most g c =
     let chain_is : c.self.inside.kept.chain ≡ c.args.self.chain = ap (λ (v : NodeValue). v.chain) c.self.view_is in
     let most = moves-of-chain c.self.inside.kept.chain c.args.self.chain c.args.item.now _ _ chain_is c.decide.ensures.most in
-    omega (arith, most, c.join.ensures.most)
+    let ready = ready_on c.self.inside.kept.chain c.args.self.chain c.args.item.now c.in-Ok.decided.1 (Joins c.in-Joins.joining) chain_is c.in-Joins.is
+    c.in-Ok.ensures.ready in
+    omega (arith, most, c.join.ensures.most, moves-joining c.args.self.chain c.args.item.now c.in-Joins.joining ready)
+
+pub returns-in-Err-clause-asked : goal.returns-in-Err-clause-asked
+returns-in-Err-clause-asked g c = λ e.
+    let chain_is : c.self.inside.kept.chain ≡ c.args.self.chain = ap (λ (v : NodeValue). v.chain) c.self.view_is in
+    subst (λ (k : Chain). MayWantMemory k c.args.item.now) chain_is (c.in-Err.ensures.asked (ap Err (same_stop _ _ e)))
+
+pub returns-in-Stays-clause-asked : goal.returns-in-Stays-clause-asked
+returns-in-Stays-clause-asked g c = λ e. absurd (ok_err _ _ e)
+
+pub returns-in-Ok-join-clause-asked : goal.returns-in-Ok-join-clause-asked
+returns-in-Ok-join-clause-asked g c = λ e. absurd (ok_err _ _ e)
+
+pub returns-in-Err-join-clause-asked : goal.returns-in-Err-join-clause-asked
+returns-in-Err-join-clause-asked g c = λ _.
+    let chain_is : c.self.inside.kept.chain ≡ c.args.self.chain = ap (λ (v : NodeValue). v.chain) c.self.view_is in
+    wants-joining c.args.self.chain c.args.item.now c.in-Joins.joining
+    (ready_on c.self.inside.kept.chain c.args.self.chain c.args.item.now c.in-Ok.decided.1 (Joins c.in-Joins.joining) chain_is c.in-Joins.is
+    c.in-Ok.ensures.ready)
 
 pub returns-in-Stays-clause-stays : goal.returns-in-Stays-clause-stays
 returns-in-Stays-clause-stays g c = λ _.
@@ -341,7 +365,7 @@ pub returns-in-Stays-clause-settled : goal.returns-in-Stays-clause-settled
 returns-in-Stays-clause-settled g c = λ records settled.
     let chain_is : c.self.inside.kept.chain ≡ c.args.self.chain = ap (λ (v : NodeValue). v.chain) c.self.view_is in
     let at : c.self.inside.log.place ≡ c.args.self.place = ap (λ (v : NodeValue). v.place) c.self.view_is in
-    let left : IsReadyItem c.args.self.chain.blocks c.args.item.now (Stays c.in-Stays.verdict) =
+    let left : IsReadyItem c.args.self.chain c.args.item.now (Stays c.in-Stays.verdict) =
     ready_on c.self.inside.kept.chain c.args.self.chain c.args.item.now c.in-Ok.decided.1 (Stays c.in-Stays.verdict) chain_is c.in-Stays.is
     c.in-Ok.ensures.ready in
     settled_still records c.args.item.now c.in-Stays.verdict c.self.inside.log.place _ _ left
