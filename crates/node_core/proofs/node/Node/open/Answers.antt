@@ -30,8 +30,8 @@ returns-in-Err-clause-moments g c now chain told keeps sound =
 
 pub invariant_of-result : goal.invariant_of-result
 invariant_of-result g c =
-    let within = is_within c.in-Ok-of.kept c.in-Ok.opened.spec c.open.new.gathered c.in-Ok.opened.log.place
-    (kept_of_bytes c.in-Ok-of.kept c.in-Ok.opened.spec (contents c.into_parts-blocks.result.0.items) (contents c.into_parts-blocks.result.1.items) c.open.new.gathered
+    let within = is_within c.in-Ok-of.kept c.in-Ok.opened.spec c.open.new.visitor c.in-Ok.opened.log.place
+    (kept_of_bytes c.in-Ok-of.kept c.in-Ok.opened.spec (contents c.into_parts-blocks.result.0.items) (contents c.into_parts-blocks.result.1.items) c.open.new.visitor
     (record { decode = c.into_parts-blocks.ensures.blocks; beside = c.into_parts-blocks.ensures.exts })
     c.in-Ok-of.ensures.spec c.in-Ok-of.ensures.blocks c.in-Ok-of.ensures.exts) c.in-Ok.ensures.blocks.few c.in-Ok.ensures.place in
     (within.0, within.1, λ joined. c.in-Ok-of.ensures.live)
@@ -39,13 +39,13 @@ invariant_of-result g c =
 pub returns-in-Err-of-clause-not_a_store : goal.returns-in-Err-of-clause-not_a_store
 returns-in-Err-of-clause-not_a_store g c same =
     let stop : c.in-Err-of.stop ≡ NotAStore = same_stop _ _ same in
-    not_joined _ _ c.in-Ok.opened.spec (contents c.into_parts-blocks.result.0.items) (contents c.into_parts-blocks.result.1.items) c.open.new.gathered c.in-Ok.opened.tree.entries (record { decode = c.into_parts-blocks.ensures.blocks; beside = c.into_parts-blocks.ensures.exts })
+    not_joined _ _ c.in-Ok.opened.spec (contents c.into_parts-blocks.result.0.items) (contents c.into_parts-blocks.result.1.items) c.open.new.visitor c.in-Ok.opened.tree.entries (record { decode = c.into_parts-blocks.ensures.blocks; beside = c.into_parts-blocks.ensures.exts })
     c.sync_snapshots.ensures.same c.in-Ok.ensures.opened
     (λ kept decode joined exts. c.of.ensures.joined kept decode joined exts (c.in-Err-of.is ∙ ap Err stop))
 
 pub returns-in-Err-of-clause-no_log : goal.returns-in-Err-of-clause-no_log
 returns-in-Err-of-clause-no_log g c now told nothing =
-    absurd (none_opened _ now c.in-Ok.opened.spec c.open.new.gathered c.in-Ok.opened.tree.entries
+    absurd (none_opened _ now c.in-Ok.opened.spec c.open.new.visitor c.in-Ok.opened.tree.entries
     (c.sync_snapshots.ensures.same ∙ told) c.in-Ok.ensures.opened nothing)
 
 pub returns-in-Err-of-clause-moments : goal.returns-in-Err-of-clause-moments
@@ -57,23 +57,23 @@ returns-in-Err-of-clause-moments g c now chain told keeps sound =
 
 pub returns-in-Ok-of-clause-kept : goal.returns-in-Ok-of-clause-kept
 returns-in-Ok-of-clause-kept g c =
-    opened_keeps _ _ c.in-Ok-of.kept c.in-Ok.opened.spec c.open.new.gathered c.in-Ok.opened.tree.entries
-    (kept_of_bytes c.in-Ok-of.kept c.in-Ok.opened.spec (contents c.into_parts-blocks.result.0.items) (contents c.into_parts-blocks.result.1.items) c.open.new.gathered
+    opened_keeps _ _ c.in-Ok-of.kept c.in-Ok.opened.spec c.open.new.visitor c.in-Ok.opened.tree.entries
+    (kept_of_bytes c.in-Ok-of.kept c.in-Ok.opened.spec (contents c.into_parts-blocks.result.0.items) (contents c.into_parts-blocks.result.1.items) c.open.new.visitor
     (record { decode = c.into_parts-blocks.ensures.blocks; beside = c.into_parts-blocks.ensures.exts })
     c.in-Ok-of.ensures.spec c.in-Ok-of.ensures.blocks c.in-Ok-of.ensures.exts)
     c.sync_snapshots.ensures.same c.in-Ok.ensures.opened
 
 pub returns-in-Ok-of-clause-own : goal.returns-in-Ok-of-clause-own
 returns-in-Ok-of-clause-own g c now told sound =
-    opened_own _ _ c.in-Ok-of.kept c.in-Ok.opened.spec c.open.new.gathered c.in-Ok.opened.tree.entries
-    (kept_of_bytes c.in-Ok-of.kept c.in-Ok.opened.spec (contents c.into_parts-blocks.result.0.items) (contents c.into_parts-blocks.result.1.items) c.open.new.gathered
+    opened_own _ _ c.in-Ok-of.kept c.in-Ok.opened.spec c.open.new.visitor c.in-Ok.opened.tree.entries
+    (kept_of_bytes c.in-Ok-of.kept c.in-Ok.opened.spec (contents c.into_parts-blocks.result.0.items) (contents c.into_parts-blocks.result.1.items) c.open.new.visitor
     (record { decode = c.into_parts-blocks.ensures.blocks; beside = c.into_parts-blocks.ensures.exts })
     c.in-Ok-of.ensures.spec c.in-Ok-of.ensures.blocks c.in-Ok-of.ensures.exts)
     c.sync_snapshots.ensures.same c.in-Ok.ensures.opened now told sound
 
 pub returns-in-Ok-of-clause-no_log : goal.returns-in-Ok-of-clause-no_log
 returns-in-Ok-of-clause-no_log g c now told nothing =
-    absurd (none_opened _ now c.in-Ok.opened.spec c.open.new.gathered c.in-Ok.opened.tree.entries
+    absurd (none_opened _ now c.in-Ok.opened.spec c.open.new.visitor c.in-Ok.opened.tree.entries
     (c.sync_snapshots.ensures.same ∙ told) c.in-Ok.ensures.opened nothing)
 
 pub returns-in-Ok-of-clause-one_image : goal.returns-in-Ok-of-clause-one_image
@@ -87,8 +87,8 @@ returns-in-Ok-of-clause-one_image g c =
 pub returns-in-Ok-of-clause-on : goal.returns-in-Ok-of-clause-on
 returns-in-Ok-of-clause-on g c sound =
     opened_on _ _ c.sync_snapshots.ensures.images sound _ _ c.in-Ok.opened.log.place c.in-Ok-of.kept c.in-Ok.opened.spec
-    c.open.new.gathered c.in-Ok.opened.tree.entries
-    (kept_of_bytes c.in-Ok-of.kept c.in-Ok.opened.spec (contents c.into_parts-blocks.result.0.items) (contents c.into_parts-blocks.result.1.items) c.open.new.gathered
+    c.open.new.visitor c.in-Ok.opened.tree.entries
+    (kept_of_bytes c.in-Ok-of.kept c.in-Ok.opened.spec (contents c.into_parts-blocks.result.0.items) (contents c.into_parts-blocks.result.1.items) c.open.new.visitor
     (record { decode = c.into_parts-blocks.ensures.blocks; beside = c.into_parts-blocks.ensures.exts })
     c.in-Ok-of.ensures.spec c.in-Ok-of.ensures.blocks c.in-Ok-of.ensures.exts)
     (g.met.D.Disk.reads_image c.open.new.disk) _ _ (g.met.D.Disk.reads_image c.args.disk.now) c.sync_snapshots.ensures.same c.in-Ok.ensures.opened c.in-Ok.ensures.settled
@@ -186,12 +186,12 @@ returns-in-Err-clause-most g c = λ _ _. no-step _ _
 
 pub returns-in-Err-of-clause-most : goal.returns-in-Err-of-clause-most
 returns-in-Err-of-clause-most g c = λ now told.
-    moved-to-open _ _ c.in-Ok.opened.spec (contents c.into_parts-blocks.result.0.items) (contents c.into_parts-blocks.result.1.items) c.open.new.gathered c.in-Ok.opened.tree.entries _ _ now (record { decode = c.into_parts-blocks.ensures.blocks; beside = c.into_parts-blocks.ensures.exts })
+    moved-to-open _ _ c.in-Ok.opened.spec (contents c.into_parts-blocks.result.0.items) (contents c.into_parts-blocks.result.1.items) c.open.new.visitor c.in-Ok.opened.tree.entries _ _ now (record { decode = c.into_parts-blocks.ensures.blocks; beside = c.into_parts-blocks.ensures.exts })
     c.sync_snapshots.ensures.same told c.in-Ok.ensures.opened c.of.ensures.most
 
 pub returns-in-Ok-of-clause-most : goal.returns-in-Ok-of-clause-most
 returns-in-Ok-of-clause-most g c = λ now told.
-    moved-to-open _ _ c.in-Ok.opened.spec (contents c.into_parts-blocks.result.0.items) (contents c.into_parts-blocks.result.1.items) c.open.new.gathered c.in-Ok.opened.tree.entries _ _ now (record { decode = c.into_parts-blocks.ensures.blocks; beside = c.into_parts-blocks.ensures.exts })
+    moved-to-open _ _ c.in-Ok.opened.spec (contents c.into_parts-blocks.result.0.items) (contents c.into_parts-blocks.result.1.items) c.open.new.visitor c.in-Ok.opened.tree.entries _ _ now (record { decode = c.into_parts-blocks.ensures.blocks; beside = c.into_parts-blocks.ensures.exts })
     c.sync_snapshots.ensures.same told c.in-Ok.ensures.opened c.of.ensures.most
 
 pub returns-then-is_err-clause-rests : goal.returns-then-is_err-clause-rests
@@ -267,16 +267,16 @@ open-requires g c = c.new-gathered.ensures
 
 pub of-requires-clause-blocks : goal.of-requires-clause-blocks
 of-requires-clause-blocks g c =
-    record { blocks = blocks_of c.open.new.gathered; decode = c.into_parts-blocks.ensures.blocks; indexed = c.in-Ok.ensures.blocks.indexed }
+    record { blocks = blocks_of c.open.new.visitor; decode = c.into_parts-blocks.ensures.blocks; indexed = c.in-Ok.ensures.blocks.indexed }
 
 pub of-requires-clause-beside : goal.of-requires-clause-beside
 of-requires-clause-beside g c =
-    let many = as_many_bytes c.into_parts-blocks.result.0.items c.into_parts-blocks.result.1.items c.open.new.gathered
+    let many = as_many_bytes c.into_parts-blocks.result.0.items c.into_parts-blocks.result.1.items c.open.new.visitor
     (record { decode = c.into_parts-blocks.ensures.blocks; beside = c.into_parts-blocks.ensures.exts }) in
     omega (arith, many.0, many.1)
 
 pub of-requires-clause-few : goal.of-requires-clause-few
 of-requires-clause-few g c =
-    let many = as_many_bytes c.into_parts-blocks.result.0.items c.into_parts-blocks.result.1.items c.open.new.gathered
+    let many = as_many_bytes c.into_parts-blocks.result.0.items c.into_parts-blocks.result.1.items c.open.new.visitor
     (record { decode = c.into_parts-blocks.ensures.blocks; beside = c.into_parts-blocks.ensures.exts }) in
     omega (arith, many.0, c.in-Ok.ensures.blocks.few)
