@@ -1,10 +1,11 @@
 -- The forms of a body and an ext.
-use Rattle.std.proofs.Common.{◌≡◌, ℕ, suc, ◌+◌, ◌-◌, ◌*◌, ◌<◌, ◌≤◌, Bool, true, false, cond, eqb, leb, List, length, take, drop, Option, Some, None, sym, ap, ◌∙◌, arith}
+use Rattle.std.proofs.Common.{◌≡◌, ℕ, suc, ◌+◌, ◌-◌, ◌*◌, ◌<◌, ◌≤◌, Bool, true, false, cond, eqb, leb, List, ◌++◌, length, take, drop, Option, Some, None, sym, ap, ◌∙◌, append_assoc, arith}
 use Rattle.std.specs.Prelude.{◌&&◌}
+use Rattle.std.specs.Int.{w32, to_le_bytes}
 use Rattle.std.proofs.lemmas.Bool.{le-leb, lt-leb, and_from, and_left, and_right, ne_eqb, eq-eqb}
-use Rattle.std.proofs.lemmas.List.{take_rest, drop-drop}
+use Rattle.std.proofs.lemmas.List.{take_rest, drop-drop, length-drop, length-take-le, take-append-drop}
 use Rattle.cell_defs.specs.Ext.{count_at, row_size, is_row, are_rows, is_ext}
-use Rattle.log_defs.specs.Log.{parts_of_body}
+use Rattle.log_defs.specs.Log.{parts_of_body, body_of_parts}
 
 abbrev made_parts : List ℕ → Option (List ℕ × List ℕ)
 made_parts body = Some (take (count_at body 0) (drop 4 body), drop (4 + count_at body 0) body)
@@ -28,6 +29,18 @@ parts-there body first second size is reach one two =
     let ext : second ≡ drop (4 + count_at body 0) body = two ∙ take_rest body (4 + size) ∙ ap (λ (n : ℕ). drop (4 + n) body) is in
     (λ i. Some (item i, ext i)) ∙ sym (ap (λ (b : Bool). cond b (made_parts body) None)
     (and_from (leb 4 (length body)) (leb (4 + count_at body 0) (length body)) (le-leb 4 (length body) (omega (arith, within))) (le-leb (4 + count_at body 0) (length body) within)))
+
+-- the parts make up the body
+pub parts-whole : (body first second : List ℕ) (size : ℕ) → to_le_bytes w32 size ≡ take 4 body → 4 + size ≤ length body
+    → first ≡ take (4 + size - 4) (drop 4 body) → second ≡ take (length body - (4 + size)) (drop (4 + size) body) → body ≡ body_of_parts first second
+parts-whole body first second size here reach one two =
+    let item : first ≡ take size (drop 4 body) = one ∙ ap (λ (n : ℕ). take n (drop 4 body)) (omega arith) in
+    let ext : second ≡ drop size (drop 4 body) = two ∙ take_rest body (4 + size) ∙ sym (drop-drop size 4 body) in
+    let long : length first ≡ size = ap length item ∙ length-take-le size (drop 4 body) (omega (arith, reach, length-drop 4 body)) in
+    sym (
+      ap (λ (l : List ℕ). l ++ first ++ second) (ap (to_le_bytes w32) long ∙ here) ∙ append_assoc (take 4 body) first second
+      ∙ (λ i. take 4 body ++ (item i ++ ext i)) ∙ ap (λ (l : List ℕ). take 4 body ++ l) (take-append-drop size (drop 4 body)) ∙ take-append-drop 4 body
+    )
 
 -- ---- The ext
 

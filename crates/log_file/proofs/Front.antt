@@ -4,7 +4,7 @@ use Rattle.std.specs.Prelude.{IfSome}
 use Rattle.time_defs.specs.Specification.{Specification, specification_of}
 use Rattle.outside.specs.Image.{Image}
 use Rattle.log_defs.specs.Log.{Record, magic, log_of}
-use Rattle.log_file.specs.Grammar.{is_specification, is_genesis, BlocksValue, IsGenesisOf}
+use Rattle.log_file.specs.Grammar.{is_specification, is_genesis, AreBlocks, BlocksValue, IsGenesisOf}
 use Rattle.log_file.specs.Reading.{ReaderValue, IsReading, HasPassed, OfRecordHere}
 use Rattle.log_file.specs.Opening.{HasRead}
 use Rattle.log_file.proofs.Progress.{begun, not_specified, no_genesis, no_content, no_start}
@@ -51,13 +51,13 @@ pub told_begun : (reads l1 l2 : Option Image) (spec : Specification) (r0 r1 r2 r
     → IfSome l1 (λ image. IsReading image.log r1 → HasPassed image.log (OfSpec spec) r1 r2)
     → IfSome l2 (λ image. IsReading image.log r2 → IsReading image.log r3)
     → IfSome l2 (λ image. IsReading image.log r2 → HasPassed image.log (λ r. IsGenesisOf (r2.at + 6) r blocks) r2 r3)
-    → IfSome reads (λ image. IsReading image.log r0 → HasRead image.log spec r3 blocks)
-told_begun None l1 l2 spec r0 r1 r2 r3 blocks same then at goes on one further two = tt
-told_begun (Some image) l1 l2 spec r0 r1 r2 r3 blocks same then at goes on one further two = λ reading.
+    → AreBlocks blocks.stored blocks.entries → IfSome reads (λ image. IsReading image.log r0 → HasRead image.log spec r3 blocks)
+told_begun None l1 l2 spec r0 r1 r2 r3 blocks same then at goes on one further two are = tt
+told_begun (Some image) l1 l2 spec r0 r1 r2 r3 blocks same then at goes on one further two are = λ reading.
     let goes_on = on_same l1 (Some image) (λ image. IsReading image.log r1 → IsReading image.log r2) same on in
     let passed = on_same l1 (Some image) (λ image. IsReading image.log r1 → HasPassed image.log (OfSpec spec) r1 r2) same one in
     let goes_further = on_same l2 (Some image) (λ image. IsReading image.log r2 → IsReading image.log r3) (then ∙ same) further in
     let passed_too = on_same l2 (Some image) (λ image. IsReading image.log r2 → HasPassed image.log (λ r. IsGenesisOf (r2.at + 6) r blocks) r2 r3) (then ∙ same) two in
     let first = goes reading in
     let second = goes_on first in
-    begun image.log spec r1 r2 r3 blocks at (passed first) (passed_too second) (goes_further second)
+    begun image.log spec r1 r2 r3 blocks at (passed first) (passed_too second) are (goes_further second)

@@ -1,19 +1,23 @@
 -- Blocks that are put behind others, from their records.
-use Rattle.std.proofs.Common.{◌≡◌, ℕ, ◌≤◌, Bool, true, false, cond, drop, List, [], ◌∷◌, ◌++◌, map, length, Option, Some, None, refl, sym, ap, ◌∙◌, subst, arith}
-use Rattle.std.specs.Prelude.{◌==◌, is_none}
+use Rattle.std.proofs.Common.{◌≡◌, ◌⊎◌, inl, inr, ℕ, ◌<◌, Bool, true, false, cond, drop, List, [], ◌∷◌, ◌++◌, length, Option, Some, None, refl, sym, ap, ◌∙◌, subst, arith}
+use Rattle.std.specs.Prelude.{◌==◌, is_none, slice_get, IsTrue}
 use Rattle.std.proofs.lemmas.Bool.{and_right, eqb-true}
-use Rattle.std.proofs.lemmas.List.{map-append, length-map, length_push}
+use Rattle.std.proofs.lemmas.List.{length-map, length_push, map_push}
 use Rattle.codec_defs.specs.Shape.{decoded}
+use Rattle.codec_defs.proofs.ShapeLaws.{IsA-decoded}
 use Rattle.codec_defs.specs.Schema.{Block}
 use Rattle.codec_defs.specs.Schema as shapes
-use Rattle.chain_defs.specs.Kept.{place_of, kept_limit}
+use Rattle.cell_defs.specs.Ext.{is_ext}
+use Rattle.chain_defs.specs.Kept.{kept_limit}
+use Rattle.chain_defs.proofs.KeptLaws.{slice_get-pushed}
 use Rattle.fold_defs.specs.First.{first_failing}
+use Rattle.fit_laws.specs.Laws.{IsCanonical, AreCanonical}
 use Rattle.chain_tree.specs.declared.entry.Entry.{Entry}
-use Rattle.chain_tree.specs.Blocks.{Describes, IndexesBlocks}
+use Rattle.chain_tree.specs.Blocks.{IndexesBlocks}
+use Rattle.chain_tree.specs.Told.{Stored, blocks_of}
 use Rattle.genesis_defs.specs.Genesis.{is_first, genesis_rules, broken_by, broken_genesis_rule}
-use Rattle.log_defs.specs.Log.{Record, record_limit}
-use Rattle.log_defs.specs.LogLaws.{HasFittingBody}
-use Rattle.log_file.specs.Grammar.{record_of, is_genesis, ext_in, BlocksValue, AreBlocks, StandFor, IsBehind, IsGrownBy}
+use Rattle.log_defs.specs.Log.{record_limit}
+use Rattle.log_file.specs.Grammar.{record_of, is_genesis, AreBlocks}
 
 pub limit_is : record_limit ≡ 999999
 unfolding record_limit kept_limit
@@ -23,47 +27,42 @@ pub kept_limit_is : kept_limit ≡ 1000000
 unfolding kept_limit
 kept_limit_is = refl
 
-pub as_many : (items : List (List ℕ)) (kept : List Block) → map (decoded shapes.block) items ≡ map Some kept → length items ≡ length kept
-as_many items kept decode = sym (length-map items (decoded shapes.block)) ∙ ap length decode ∙ length-map kept Some
+-- ---- One block more
 
-pub grown : (place : ℕ) (r : Record) (kept : List Block) (old new : BlocksValue) (item : List ℕ) (entry : Entry) → StandFor kept old → IsBehind place r kept item entry
-    → new.items ≡ old.items ++ item ∷ [] → new.exts ≡ old.exts ++ ext_in r ∷ [] → new.entries ≡ old.entries ++ entry ∷ []
-    → ((block : Block) → Describes block entry → place_of kept block.header.parent_hash ≡ Some entry.parent → IndexesBlocks (kept ++ block ∷ []) new.entries)
-    → HasFittingBody r → IsGrownBy place r kept old new
-grown place r kept old new item entry stand behind items exts entries indexed fits = record {
-  block = behind.block;
-  is = behind.is;
-  stand = record {
-    decode = ap (map (decoded shapes.block)) items ∙ map-append (decoded shapes.block) old.items (item ∷ [])
-        ∙ (λ i. stand.decode i ++ behind.decode i ∷ []) ∙ sym (map-append Some kept (behind.block ∷ []));
-    indexed = indexed behind.block behind.described behind.parent;
-  };
-  entry = entry;
-  entries = entries;
-  named = behind.named;
-  item = item;
-  items = items;
-  exts = exts;
-  fits = fits;
-}
+-- what is so of what stands at each place is so of one more
+each-push : {X : Type 0} (P : ℕ → X → Type 0) (xs : List X) (x : X) → ((place : ℕ) (y : X) → slice_get xs place ≡ Some y → P place y) → P (length xs) x
+    → (place : ℕ) (y : X) → slice_get (xs ++ x ∷ []) place ≡ Some y → P place y
+each-push {X} P xs x each last place y there = by_place (slice_get-pushed xs x place y there)
+  where
+    by_place : ((place < length xs) × (slice_get xs place ≡ Some y)) ⊎ ((place ≡ length xs) × (x ≡ y)) → P place y
+    by_place (inl (within, here)) = each place y here
+    by_place (inr (at, is)) = subst (λ (n : ℕ). P n y) (sym at) (subst (P (length xs)) is last)
 
-pub still_blocks : (place : ℕ) (r : Record) (kept : List Block) (old new : BlocksValue) → IsGrownBy place r kept old new → AreBlocks new.items new.entries
-still_blocks place r kept old new is = record { blocks = kept ++ is.block ∷ []; decode = is.stand.decode; indexed = is.stand.indexed }
+-- in no list is there one
+none-at : {X : Type 0} (P : ℕ → X → Type 0) (place : ℕ) (y : X) → slice_get [] place ≡ Some y → P place y
+none-at P place y there = absurd (cc)
 
-pub one_more : (old : BlocksValue) (kept : List Block) (items : List (List ℕ)) (item : List ℕ) (len : ℕ) → StandFor kept old → len ≡ length kept → len ≤ 999999
-    → items ≡ old.items ++ item ∷ [] → length items ≤ kept_limit
-one_more old kept items item len stand is few more =
-    omega (arith, ap length more, length_push old.items item, as_many old.items kept stand.decode, is, few, kept_limit_is)
+abbrev HasForm : ℕ → Stored → Type 0
+HasForm place it = 0 < place → IsTrue (is_ext it.ext)
 
--- what holds of blocks in memory
-abbrev pub AreInMemory : {I X : Type 0} → (I → List ℕ) → List I → List X → List Entry → Type 0
-AreInMemory bytes items exts entries = AreBlocks (map bytes items) entries × (length exts ≡ length items) × (length items ≤ kept_limit)
+abbrev IsCanonicalAt : ℕ → Block → Type 0
+IsCanonicalAt place b = IsCanonical b
 
-pub still_in_memory : {I X : Type 0} (bytes : I → List ℕ) (items items1 : List I) (exts exts1 : List X) (entries entries1 : List Entry) → items1 ≡ items → exts1 ≡ exts → entries1 ≡ entries
-    → AreInMemory bytes items exts entries → AreInMemory bytes items1 exts1 entries1
-still_in_memory bytes items items1 exts exts1 entries entries1 same_items same_exts same_entries are =
-    subst (λ (list : List _). AreInMemory bytes list exts1 entries1) (sym same_items)
-    (subst (λ (list : List _). AreInMemory bytes items list entries1) (sym same_exts) (subst (λ (list : List Entry). AreInMemory bytes items exts list) (sym same_entries) are))
+pub blocks-push : (stored : List Stored) (it : Stored) → blocks_of (stored ++ it ∷ []) ≡ blocks_of stored ++ it.block ∷ []
+blocks-push stored it = map_push (λ (x : Stored). x.block) stored it
+
+pub as_many : (stored : List Stored) → length (blocks_of stored) ≡ length stored
+as_many stored = length-map stored (λ (x : Stored). x.block)
+
+pub blocks_more : (stored later : List Stored) (entries entries1 : List Entry) (it : Stored) → AreBlocks stored entries → IsCanonical it.block → IsTrue (is_ext it.ext)
+    → later ≡ stored ++ it ∷ [] → length stored < kept_limit → IndexesBlocks (blocks_of stored ++ it.block ∷ []) entries1 → AreBlocks later entries1
+blocks_more stored later entries entries1 it are canonical form more few indexed =
+    subst (λ (list : List Stored). AreBlocks list entries1) (sym more) (record {
+      indexed = subst (λ (blocks : List Block). IndexesBlocks blocks entries1) (sym (blocks-push stored it)) indexed;
+      canonical = subst AreCanonical (sym (blocks-push stored it)) (each-push IsCanonicalAt (blocks_of stored) it.block are.canonical canonical);
+      forms = each-push HasForm stored it are.forms (λ _. form);
+      few = omega (arith, few, length_push stored it);
+    })
 
 -- ---- The genesis
 
@@ -82,5 +81,12 @@ genesis_first body b there kept = by_test (is_first b) refl (sym (ap broken_by t
     by_test true is none = eqb-true b.header.number 0 is
     by_test false is none = absurd (cc)
 
-pub genesis_blocks : (body : List ℕ) (b : Block) (entries : List Entry) → decoded shapes.block body ≡ Some b → IndexesBlocks (b ∷ []) entries → AreBlocks (body ∷ []) entries
-genesis_blocks body b entries there indexed = record { blocks = b ∷ []; decode = (λ i. there i ∷ []); indexed = indexed }
+pub genesis_blocks : (stored : List Stored) (entries : List Entry) (body : List ℕ) (b : Block) → decoded shapes.block body ≡ Some b
+    → stored ≡ record { block = b; ext = [] } ∷ [] → IndexesBlocks (b ∷ []) entries → AreBlocks stored entries
+genesis_blocks stored entries body b there one indexed =
+    subst (λ (list : List Stored). AreBlocks list entries) (sym one) (record {
+      indexed = indexed;
+      canonical = each-push IsCanonicalAt [] b (none-at IsCanonicalAt) (IsA-decoded shapes.block body b there).fits;
+      forms = each-push HasForm [] (record { block = b; ext = [] }) (none-at HasForm) (λ above. absurd (omega (arith, above)));
+      few = omega (arith, kept_limit_is);
+    })

@@ -14,7 +14,7 @@ use Rattle.cell_defs.specs.Ext.{count_at}
 use Rattle.codec_defs.specs.Schema.{Block}
 use Rattle.log_defs.specs.Log.{Record, record_at, record_bytes, record_limit, block_of_record, magic}
 use Rattle.log_defs.proofs.Records.{record_length, IsRecordAt, parts_at, front_kept}
-use Rattle.log_file.specs.Grammar.{record_of, BlocksValue, StandFor}
+use Rattle.log_file.specs.Grammar.{record_of}
 use Rattle.log_file.specs.Reading.{ReaderValue, IsReading, IsAt, HasPassed, OfRecordHere, IsWrongHere}
 
 -- bytes of which the front was there, and the next n were read behind it
@@ -238,22 +238,21 @@ told_here None P E old mid r bytes is found holds same = tt
 told_here (Some image) P E old mid r bytes is found holds same = λ reading e other there.
     subst P (same_Some r other (sym (found_is image.log old mid r bytes is found (same reading)) ∙ there)) (holds e)
 
--- the same of the record of a block, whatever blocks are kept
-pub told_passed_block : (E : Type 0) (reads : Option Image) (P : List Block → Record → Type 0) (blocks : BlocksValue) (old mid new : ReaderValue) (r : Record) (bytes : List ℕ) → IsAt old.len old.at mid
-    → IsAt mid.len (mid.at + (6 + length r.body)) new → bytes ≡ mid.ahead → Some r ≡ record_at bytes → ((kept : List Block) → StandFor kept blocks → P kept r)
+-- the same of the record of a block, where one was found
+pub told_passed_block : (E : Type 0) (reads : Option Image) (P : Record → Type 0) (old mid new : ReaderValue) (r : Record) (bytes : List ℕ) → IsAt old.len old.at mid
+    → IsAt mid.len (mid.at + (6 + length r.body)) new → bytes ≡ mid.ahead → Some r ≡ record_at bytes → P r
     → IfSome reads (λ image. IsReading image.log old → record_at mid.ahead ≡ record_at (drop old.at image.log))
-    → IfSome reads (λ image. IsReading image.log old → E → (kept : List Block) → StandFor kept blocks → HasPassed image.log (P kept) old new)
-told_passed_block E None P blocks old mid new r bytes at over is found holds same = tt
-told_passed_block E (Some image) P blocks old mid new r bytes at over is found holds same =
-    λ reading _ kept stand. told_passed (Some image) (P kept) old mid new r bytes at over is found (holds kept stand) same reading
+    → IfSome reads (λ image. IsReading image.log old → E → HasPassed image.log P old new)
+told_passed_block E None P old mid new r bytes at over is found holds same = tt
+told_passed_block E (Some image) P old mid new r bytes at over is found holds same = λ reading _. told_passed (Some image) P old mid new r bytes at over is found holds same reading
 
-pub told_wrong_block : (E : Type 0) (reads : Option Image) (blocks : BlocksValue) (old mid : ReaderValue) (r : Record) (bytes : List ℕ) → bytes ≡ mid.ahead → Some r ≡ record_at bytes
-    → (E → (kept : List Block) → StandFor kept blocks → (block_of_record kept r ≡ None) ⊎ (record_limit < length kept))
+pub told_wrong_block : (E : Type 0) (reads : Option Image) (kept : List Block) (old mid : ReaderValue) (r : Record) (bytes : List ℕ) → bytes ≡ mid.ahead → Some r ≡ record_at bytes
+    → (E → (block_of_record kept r ≡ None) ⊎ (record_limit < length kept))
     → IfSome reads (λ image. IsReading image.log old → record_at mid.ahead ≡ record_at (drop old.at image.log))
-    → IfSome reads (λ image. IsReading image.log old → E → (kept : List Block) → StandFor kept blocks → IsWrongHere image.log kept old)
-told_wrong_block E None blocks old mid r bytes is found wrong same = tt
-told_wrong_block E (Some image) blocks old mid r bytes is found wrong same =
-    λ reading e kept stand. record { r = r; there = found_is image.log old mid r bytes is found (same reading); wrong = wrong e kept stand }
+    → IfSome reads (λ image. IsReading image.log old → E → IsWrongHere image.log kept old)
+told_wrong_block E None kept old mid r bytes is found wrong same = tt
+told_wrong_block E (Some image) kept old mid r bytes is found wrong same =
+    λ reading e. record { r = r; there = found_is image.log old mid r bytes is found (same reading); wrong = wrong e }
 
 -- a reader that reads this log still does
 pub still_reading : (reads : Option Image) (old mid new : ReaderValue) → IfSome reads (λ image. IsReading image.log old → IsReading image.log mid)

@@ -1,5 +1,5 @@
 -- What the records of a log say, as they are read one after the other.
-use Rattle.std.proofs.Common.{◌≡◌, ◌⊎◌, inl, inr, ℕ, ◌+◌, ◌<◌, ◌≤◌, Bool, true, false, cond, eqb, leb, List, [], ◌∷◌, ◌++◌, length, take, drop, Option, Some, None, refl, sym, ap, ◌∙◌, subst, arith}
+use Rattle.std.proofs.Common.{◌≡◌, ◌⊎◌, inl, inr, ℕ, ◌+◌, ◌<◌, ◌≤◌, Bool, true, false, cond, eqb, leb, List, [], ◌∷◌, ◌++◌, map, length, take, drop, Option, Some, None, refl, sym, ap, ◌∙◌, subst, arith}
 use Rattle.std.specs.Prelude.{◌&&◌, is_none, IfSome}
 use Rattle.std.specs.Option.{option_map, option_and_then}
 use Rattle.std.specs.Str.{bytes_eq}
@@ -7,10 +7,15 @@ use Rattle.std.specs.Cmp.Lexicographic.{bytes_decides}
 use Rattle.std.proofs.lemmas.Bool.{and_from, and_parts, and_right, le-leb, leb-true}
 use Rattle.std.proofs.lemmas.List.{append_assoc, append-nil, length-append, length-drop, length_push, map_push, drop-drop}
 use Rattle.std.proofs.lemmas.List.Elements.{All-nil, All-push}
+use Rattle.codec_defs.specs.Shape.{encoded}
+use Rattle.codec_defs.proofs.ShapeLaws.{IsA-decoded}
 use Rattle.codec_defs.specs.Schema.{Block}
-use Rattle.chain_defs.specs.Kept.{blocks_of_item, kept_limit}
+use Rattle.codec_defs.specs.Schema as shapes
+use Rattle.chain_defs.specs.Kept.{block_list, blocks_of_item}
 use Rattle.time_defs.specs.Specification.{Specification, broken_specification_rule, specification_of}
 use Rattle.chain_tree.specs.declared.entry.Entry.{Entry}
+use Rattle.chain_tree.specs.Blocks.{IndexesBlocks}
+use Rattle.chain_tree.specs.Told.{Stored, blocks_of}
 use Rattle.outside.specs.Image.{Image}
 use Rattle.genesis_defs.specs.Genesis.{broken_genesis_rule}
 use Rattle.log_defs.specs.Log.{Record, record_at, record_bytes, all_record_bytes, records_of, end_of_log, magic, LogContent, record_limit, are_first, block_of_record, blocks_over, content_of_records, log_of}
@@ -18,10 +23,11 @@ use Rattle.log_defs.specs.LogLaws.{HasFittingBody, grown}
 use Rattle.log_defs.specs.Rest.{EndsAt}
 use Rattle.log_defs.proofs.Records.{record_length, parts_at, records_of_none, records_of_some, size_of_all, size-push}
 use Rattle.log_defs.proofs.Contents.{adds_a_block}
-use Rattle.log_file.specs.Grammar.{record_of, is_specification, is_genesis, ext_in, NamesBody, BlocksValue, StandFor, IsGenesisOf, IsGrownBy}
+use Rattle.log_file.specs.Grammar.{record_of, is_specification, is_genesis, ext_in, NamesBody, AreBlocks, BlocksValue, IsGenesisOf, IsGrownBy}
+use Rattle.log_file.specs.Pieces.{block_record}
 use Rattle.log_file.specs.Reading.{ReaderValue, IsReading, IsAt, HasPassed, OfRecordHere, IsWrongHere}
-use Rattle.log_file.specs.Opening.{NameBodies, IsOpened, HasRead, HasReadAll}
-use Rattle.log_file.proofs.Judging.{limit_is, kept_limit_is, as_many}
+use Rattle.log_file.specs.Opening.{NameBodies, kept_records, AreOpened, IsOpened, HasRead, HasReadAll}
+use Rattle.log_file.proofs.Judging.{limit_is, kept_limit_is, blocks-push, as_many}
 
 -- ---- Records that were read, and those that are left
 
@@ -154,12 +160,40 @@ names-push place (first ∷ records) (e ∷ es) r entry so_far last =
       names-push (place + n) records es r entry so_far.2 (record { at = last.at ∙ omega (arith, sum); len = last.len }),
     )
 
+-- ---- The records of blocks
+
+abbrev record_of_stored : Stored → Record
+record_of_stored it = block_record (encoded shapes.block it.block) it.ext
+
+-- one block more behind a genesis
+kept-push : (first : Record) (records : List Record) (stored : List Stored) (it : Stored) → first ∷ records ≡ kept_records stored
+    → first ∷ (records ++ record_of_stored it ∷ []) ≡ kept_records (stored ++ it ∷ [])
+kept-push first records [] it held = absurd (cc)
+kept-push first records (genesis ∷ later) it held =
+    ap (λ (l : List Record). l ++ record_of_stored it ∷ []) held
+    ∙ ap (λ (l : List Record). record_of 2 (encoded shapes.block genesis.block) ∷ l) (sym (map_push record_of_stored later it))
+
 -- ---- From front to back
+
+-- what the two first records are opened as
+opened_first : (one two : Record) (at : ℕ) (blocks : BlocksValue) → IsGenesisOf at two blocks → AreBlocks blocks.stored blocks.entries → at ≡ 14 + length one.body + 6
+    → AreOpened (first_content one two) blocks.stored blocks.entries
+opened_first one two at blocks is are start =
+    let blocks_are : blocks_of blocks.stored ≡ blocks_of_item two.body = ap blocks_of is.stored ∙ sym (ap block_list is.is) in
+    let named : NameBodies (14 + length one.body) (record_of 2 two.body ∷ []) (is.entry ∷ []) = (is.named.at ∙ start, is.named.len, tt) in
+    record {
+      blocks = blocks_are;
+      exts = ap (map (λ (it : Stored). it.ext)) is.stored;
+      fits = All-nil HasFittingBody;
+      indexed = subst (λ (l : List Block). IndexesBlocks l blocks.entries) blocks_are are.indexed;
+      named = subst (NameBodies (14 + length one.body) (record_of 2 two.body ∷ [])) (sym is.entries) named;
+      held = ap (λ (body : List ℕ). record_of 2 body ∷ []) (IsA-decoded shapes.block two.body is.block is.is).encoding ∙ sym (ap kept_records is.stored);
+    }
 
 pub begun : (log : List ℕ) (spec : Specification) (first second third : ReaderValue) (blocks : BlocksValue) → first.at ≡ 8
     → HasPassed log (λ r. (is_specification r ≡ true) × (spec ≡ specification_of r.body)) first second
-    → HasPassed log (λ r. IsGenesisOf (second.at + 6) r blocks) second third → IsReading log third → HasRead log spec third blocks
-begun log spec first second third blocks start one two reading =
+    → HasPassed log (λ r. IsGenesisOf (second.at + 6) r blocks) second third → AreBlocks blocks.stored blocks.entries → IsReading log third → HasRead log spec third blocks
+begun log spec first second third blocks start one two are reading =
     let size : size_of_all (one.r ∷ two.r ∷ []) ≡ length (record_bytes one.r) + length (record_bytes two.r) =
     length-append (record_bytes one.r) (record_bytes two.r ++ []) ∙ ap (λ (l : List ℕ). length (record_bytes one.r) + length l) (append-nil (record_bytes two.r)) in
     let all : List Record = records_of (drop 8 log) in
@@ -168,8 +202,7 @@ begun log spec first second third blocks start one two reading =
     split_more all [] log first.at one.r split one.there ∙ ap (λ (n : ℕ). one.r ∷ records_of (drop n log)) (sym one.at.at) in
     let split_two : all ≡ one.r ∷ two.r ∷ records_of (drop third.at log) =
     split_more all (one.r ∷ []) log second.at two.r split_one two.there ∙ ap (λ (n : ℕ). one.r ∷ two.r ∷ records_of (drop n log)) (sym two.at.at) in
-    let named : NameBodies (14 + length one.r.body) (record_of 2 two.r.body ∷ []) (two.is.entry ∷ []) =
-    (two.is.named.at ∙ omega (arith, one.at.at, start, record_length one.r), two.is.named.len, tt) in
+    let opened = opened_first one.r two.r (second.at + 6) blocks two.is are (omega (arith, one.at.at, start, record_length one.r)) in
     record {
       reading = reading;
       within = omega (arith, two.at.at, still_within log second.at two.r two.there);
@@ -179,11 +212,8 @@ begun log spec first second third blocks start one two reading =
       log = first_content one.r two.r;
       says = first_says one.r two.r one.is.0 two.is.genesis;
       specified = one.is.1;
-      stand = two.is.stand;
-      exts = two.is.exts;
-      fits = All-nil HasFittingBody;
-      counted = omega (arith, as_many blocks.items (blocks_of_item two.r.body) two.is.stand.decode, ap length two.is.items);
-      named = subst (NameBodies (14 + length one.r.body) (record_of 2 two.r.body ∷ [])) (sym two.is.entries) named;
+      opened = opened;
+      counted = sym (ap length opened.blocks) ∙ ap (λ (l : List Stored). length (blocks_of l)) two.is.stored;
       next = omega (
         arith,
         two.at.at,
@@ -196,18 +226,37 @@ begun log spec first second third blocks start one two reading =
       );
     }
 
+-- what is opened with one block more
+opened_more : (at : ℕ) (r : Record) (log : LogContent) (before after : BlocksValue) → AreOpened log before.stored before.entries → (is : IsGrownBy (at + 6) r before after)
+    → AreBlocks after.stored after.entries → at ≡ 14 + length log.specification + size_of_all (record_of 2 log.genesis ∷ log.records)
+    → AreOpened (grown log r is.block) after.stored after.entries
+opened_more at r log before after so_far is are next =
+    let it : Stored = record { block = is.block; ext = is.ext } in
+    let front : List Record = record_of 2 log.genesis ∷ log.records in
+    let start : ℕ = 14 + length log.specification in
+    let named : NamesBody (start + size_of_all front + 6) r is.entry = record { at = is.named.at ∙ omega (arith, next); len = is.named.len } in
+    let blocks_are : blocks_of after.stored ≡ log.blocks ++ is.block ∷ [] =
+    ap blocks_of is.stored ∙ blocks-push before.stored it ∙ ap (λ (l : List Block). l ++ is.block ∷ []) so_far.blocks in
+    record {
+      blocks = blocks_are;
+      exts = ap (map (λ (x : Stored). x.ext)) is.stored ∙ map_push (λ (x : Stored). x.ext) before.stored it
+          ∙ (λ i. so_far.exts i ++ is.holds.beside i ∷ []) ∙ ap (λ (l : List (List ℕ)). [] ∷ l) (sym (map_push ext_in log.records r));
+      fits = All-push HasFittingBody log.records r so_far.fits is.fits;
+      indexed = subst (λ (l : List Block). IndexesBlocks l after.entries) blocks_are are.indexed;
+      named = subst (NameBodies start (front ++ r ∷ [])) (sym is.entries) (names-push start front before.entries r is.entry so_far.named named);
+      held = ap (λ (x : Record). front ++ x ∷ []) is.holds.is ∙ kept-push (record_of 2 log.genesis) log.records before.stored it so_far.held ∙ sym (ap kept_records is.stored);
+    }
+
 pub one_more_read : (log : List ℕ) (spec : Specification) (old new : ReaderValue) (before after : BlocksValue) (so_far : HasRead log spec old before)
-    → HasPassed log (λ r. IsGrownBy (old.at + 6) r so_far.log.blocks before after) old new → IsReading log new → length after.items ≤ kept_limit → HasRead log spec new after
-one_more_read log spec old new before after so_far passed reading few =
+    → HasPassed log (λ r. IsGrownBy (old.at + 6) r before after) old new → AreBlocks after.stored after.entries → IsReading log new → HasRead log spec new after
+one_more_read log spec old new before after so_far passed are reading =
     let r : Record = passed.r in
     let is = passed.is in
     let kept : List Block = so_far.log.blocks in
-    let more : ℕ = length (kept ++ is.block ∷ []) in
-    let front : List Record = record_of 2 so_far.log.genesis ∷ so_far.log.records in
-    let start : ℕ = 14 + length so_far.log.specification in
+    let opened = opened_more old.at r so_far.log before after so_far.opened is are so_far.next in
+    let found : block_of_record kept r ≡ Some is.block = subst (λ (l : List Block). block_of_record l r ≡ Some is.block) so_far.opened.blocks is.is in
     let room : length so_far.log.records < record_limit =
-    omega (arith, limit_is, kept_limit_is, few, as_many after.items (kept ++ is.block ∷ []) is.stand.decode, length_push kept is.block, so_far.counted) in
-    let named : NamesBody (start + size_of_all front + 6) r is.entry = record { at = is.named.at ∙ omega (arith, so_far.next); len = is.named.len } in
+    omega (arith, limit_is, kept_limit_is, are.few, as_many after.stored, ap length opened.blocks, length_push kept is.block, so_far.counted) in
     record {
       reading = reading;
       within = omega (arith, passed.at.at, still_within log old.at r passed.there);
@@ -216,21 +265,20 @@ one_more_read log spec old new before after so_far passed reading few =
           ∙ ap (λ (n : ℕ). (so_far.records ++ r ∷ []) ++ records_of (drop n log)) (sym passed.at.at);
       place = omega (arith, passed.at.at, so_far.place, size-push so_far.records r);
       log = grown so_far.log r is.block;
-      says = adds_a_block so_far.records r so_far.log is.block so_far.says is.is room;
+      says = adds_a_block so_far.records r so_far.log is.block so_far.says found room;
       specified = so_far.specified;
-      stand = is.stand;
-      exts = is.exts ∙ ap (λ (l : List (List ℕ)). l ++ ext_in r ∷ []) so_far.exts ∙ ap (λ (l : List (List ℕ)). [] ∷ l) (sym (map_push ext_in so_far.log.records r));
-      fits = All-push HasFittingBody so_far.log.records r so_far.fits is.fits;
+      opened = opened;
       counted = omega (arith, length_push kept is.block, length_push so_far.log.records r, so_far.counted);
-      named = subst (NameBodies start (front ++ r ∷ [])) (sym is.entries) (names-push start front before.entries r is.entry so_far.named named);
-      next = omega (arith, passed.at.at, so_far.next, size-push front r);
+      next = omega (arith, passed.at.at, so_far.next, size-push (record_of 2 so_far.log.genesis ∷ so_far.log.records) r);
     }
 
-pub wrong_here : (log : List ℕ) (spec : Specification) (reader : ReaderValue) (blocks : BlocksValue) (so_far : HasRead log spec reader blocks)
-    → IsWrongHere log so_far.log.blocks reader → content_of_records (records_of (drop 8 log)) ≡ None
+pub wrong_here : (log : List ℕ) (spec : Specification) (reader : ReaderValue) (blocks : BlocksValue) → HasRead log spec reader blocks
+    → IsWrongHere log (blocks_of blocks.stored) reader → content_of_records (records_of (drop 8 log)) ≡ None
 wrong_here log spec reader blocks so_far here =
+    let wrong : (block_of_record so_far.log.blocks here.r ≡ None) ⊎ (record_limit < length so_far.log.blocks) =
+    subst (λ (l : List Block). (block_of_record l here.r ≡ None) ⊎ (record_limit < length l)) so_far.opened.blocks here.wrong in
     ap content_of_records (split_here (records_of (drop 8 log)) so_far.records log reader.at here.r so_far.split here.there)
-    ∙ wrong_behind so_far.records here.r (records_of (drop (reader.at + length (record_bytes here.r)) log)) so_far.log so_far.says here.wrong so_far.counted
+    ∙ wrong_behind so_far.records here.r (records_of (drop (reader.at + length (record_bytes here.r)) log)) so_far.log so_far.says wrong so_far.counted
 
 pub not_specified : (log : List ℕ) (reader : ReaderValue) → reader.at ≡ 8 → OfRecordHere log reader (λ r. is_specification r ≡ false)
     → content_of_records (records_of (drop 8 log)) ≡ None
@@ -278,7 +326,7 @@ says_all : (log : List ℕ) (spec : Specification) (reader : ReaderValue) (block
 says_all log spec reader blocks all = split_end (records_of (drop 8 log)) all.so_far.records log reader.at all.so_far.split all.ended
 
 pub opened_all : (log : List ℕ) (spec : Specification) (reader : ReaderValue) (blocks : BlocksValue) → take 8 log ≡ magic → HasReadAll log spec reader blocks
-    → (content : LogContent) × IsOpened log content spec blocks.items blocks.exts blocks.entries
+    → (content : LogContent) × IsOpened log content spec blocks.stored blocks.entries
 unfolding log_of
 opened_all log spec reader blocks begins all =
     let far = all.so_far in
@@ -289,11 +337,7 @@ opened_all log spec reader blocks begins all =
         is_log = ap (λ (t : Bool). cond t (content_of_records (records_of (drop 8 log))) None) test ∙ says;
         says = says;
         specified = far.specified;
-        decode = far.stand.decode;
-        beside = far.exts;
-        fits = far.fits;
-        indexed = far.stand.indexed;
-        named = far.named;
+        opened = far.opened;
       },
     )
 
@@ -315,26 +359,25 @@ module _ (spec : Specification) (r0 r1 : ReaderValue) (b0 b1 : BlocksValue) wher
   SoFar reads = IfSome reads (λ image. HasRead image.log spec r0 b0 → HasRead image.log spec r1 b1)
 
   pub told_wrong : (reads later : Option Image) (E F : Type 0) → (E → F) → later ≡ reads → SoFar reads
-      → IfSome later (λ image. IsReading image.log r1 → F → (kept : List Block) → StandFor kept b1 → IsWrongHere image.log kept r1)
+      → IfSome later (λ image. IsReading image.log r1 → F → IsWrongHere image.log (blocks_of b1.stored) r1)
       → IfSome reads (λ image. HasRead image.log spec r0 b0 → E → content_of_records (records_of (drop 8 image.log)) ≡ None)
   told_wrong None later E F is same so_far wrong = tt
   told_wrong (Some image) later E F is same so_far wrong = λ start e.
       let far = so_far start in
-      let here = subst (λ (o : Option Image). IfSome o (λ image. IsReading image.log r1 → F → (kept : List Block) → StandFor kept b1 → IsWrongHere image.log kept r1)) same wrong in
-      wrong_here image.log spec r1 b1 far (here far.reading (is e) far.log.blocks far.stand)
+      let here = subst (λ (o : Option Image). IfSome o (λ image. IsReading image.log r1 → F → IsWrongHere image.log (blocks_of b1.stored) r1)) same wrong in
+      wrong_here image.log spec r1 b1 far (here far.reading (is e))
 
   pub told_more : (reads later : Option Image) (r2 : ReaderValue) (b2 : BlocksValue) (E : Type 0) → E → later ≡ reads → SoFar reads
       → IfSome later (λ image. IsReading image.log r1 → IsReading image.log r2)
-      → IfSome later (λ image. IsReading image.log r1 → E → (kept : List Block) → StandFor kept b1
-      → HasPassed image.log (λ r. IsGrownBy (r1.at + 6) r kept b1 b2) r1 r2)
-      → length b2.items ≤ kept_limit → IfSome reads (λ image. HasRead image.log spec r0 b0 → HasRead image.log spec r2 b2)
-  told_more None later r2 b2 E e same so_far goes passed few = tt
-  told_more (Some image) later r2 b2 E e same so_far goes passed few = λ start.
+      → IfSome later (λ image. IsReading image.log r1 → E → HasPassed image.log (λ r. IsGrownBy (r1.at + 6) r b1 b2) r1 r2)
+      → AreBlocks b2.stored b2.entries → IfSome reads (λ image. HasRead image.log spec r0 b0 → HasRead image.log spec r2 b2)
+  told_more None later r2 b2 E e same so_far goes passed are = tt
+  told_more (Some image) later r2 b2 E e same so_far goes passed are = λ start.
       let far = so_far start in
       let on = subst (λ (o : Option Image). IfSome o (λ image. IsReading image.log r1 → IsReading image.log r2)) same goes in
-      let over = subst (λ (o : Option Image). IfSome o (λ image. IsReading image.log r1 → E → (kept : List Block) → StandFor kept b1
-      → HasPassed image.log (λ r. IsGrownBy (r1.at + 6) r kept b1 b2) r1 r2)) same passed in
-      one_more_read image.log spec r1 r2 b1 b2 far (over far.reading e far.log.blocks far.stand) (on far.reading) few
+      let over =
+      subst (λ (o : Option Image). IfSome o (λ image. IsReading image.log r1 → E → HasPassed image.log (λ r. IsGrownBy (r1.at + 6) r b1 b2) r1 r2)) same passed in
+      one_more_read image.log spec r1 r2 b1 b2 far (over far.reading e) are (on far.reading)
 
   pub told_all : (reads later : Option Image) (r2 : ReaderValue) (b2 : BlocksValue) (E : Type 0) → E → later ≡ reads → SoFar reads
       → IfSome later (λ image. IsReading image.log r1 → IsReading image.log r2)
@@ -357,11 +400,8 @@ module _ (spec : Specification) (r0 r1 : ReaderValue) (b0 b1 : BlocksValue) wher
           log = far.log;
           says = far.says;
           specified = far.specified;
-          stand = subst (StandFor far.log.blocks) (sym is) far.stand;
-          exts = ap (λ (b : BlocksValue). b.exts) is ∙ far.exts;
-          fits = far.fits;
+          opened = subst (λ (b : BlocksValue). AreOpened far.log b.stored b.entries) (sym is) far.opened;
           counted = far.counted;
-          named = subst (λ (b : BlocksValue). NameBodies (14 + length far.log.specification) (record_of 2 far.log.genesis ∷ far.log.records) b.entries) (sym is) far.named;
           next = at.at ∙ far.next;
         };
         ended = ap (λ (n : ℕ). record_at (drop n image.log)) at.at ∙ ended far.reading e;

@@ -7,6 +7,7 @@ use Rattle.outside.specs.Disk.{OthersRead, NoneNew, SameImages, IsDurable, Leave
 use Rattle.outside.proofs.Moments.{leaves_also, leaves_then}
 use Rattle.time_defs.specs.Specification.{Specification}
 use Rattle.chain_tree.specs.declared.entry.Entry.{Entry}
+use Rattle.chain_tree.specs.Told.{Stored}
 use Rattle.log_defs.specs.Log.{Record, LogContent, log_of, records_of, end_of_log}
 use Rattle.log_defs.specs.Rest.{EndsAt, IsSettled, HasLog}
 use Rattle.log_file.specs.Opening.{IsOpened, mended}
@@ -65,11 +66,11 @@ wrong_on None later P E F is same told = tt
 wrong_on (Some now) later P E F is same told = λ e. on_same later (Some now) (λ now. F → P now) same told (is e)
 
 -- what was opened is a log
-pub told_log : (reads later : Option Image) (specification : Specification) (items exts : List (List ℕ)) (entries : List Entry) (P : Type 0) → later ≡ reads
-    → IfSome later (λ now. (log : LogContent) × IsOpened now.log log specification items exts entries) → IfSome reads (λ now. log_of now.log ≡ None → P)
-told_log None later specification items exts entries P same opened = tt
-told_log (Some now) later specification items exts entries P same opened = λ none.
-    let (log, is) = on_same later (Some now) (λ now. (log : LogContent) × IsOpened now.log log specification items exts entries) same opened in
+pub told_log : (reads later : Option Image) (specification : Specification) (stored : List Stored) (entries : List Entry) (P : Type 0) → later ≡ reads
+    → IfSome later (λ now. (log : LogContent) × IsOpened now.log log specification stored entries) → IfSome reads (λ now. log_of now.log ≡ None → P)
+told_log None later specification stored entries P same opened = tt
+told_log (Some now) later specification stored entries P same opened = λ none.
+    let (log, is) = on_same later (Some now) (λ now. (log : LogContent) × IsOpened now.log log specification stored entries) same opened in
     let both : Some log ≡ None = sym is.is_log ∙ none in
     absurd (cc)
 

@@ -1,9 +1,8 @@
 -- A whole log, once it was read.
-use Rattle.std.proofs.Common.{◌≡◌, ℕ, ◌+◌, ◌*◌, ◌^◌, ◌<◌, ◌≤◌, Bool, eqb, List, map, length, take, drop, get_or, Option, Some, None, sym, ap, ◌∙◌, subst, arith}
+use Rattle.std.proofs.Common.{◌≡◌, ℕ, ◌<◌, Bool, eqb, List, length, take, drop, get_or, Option, Some, None, sym, ap, ◌∙◌, subst, arith}
 use Rattle.std.specs.Prelude.{slice_index, IfSome, ◌==◌}
-use Rattle.std.proofs.lemmas.List.{get_or-take, length-map}
+use Rattle.std.proofs.lemmas.List.{get_or-take}
 use Rattle.time_defs.specs.Specification.{Specification}
-use Rattle.chain_tree.specs.declared.entry.Entry.{Entry}
 use Rattle.outside.specs.Image.{Image}
 use Rattle.log_defs.specs.Log.{records_of, magic, LogContent, content_of_records, log_of}
 use Rattle.log_defs.specs.Rest.{EndsAt}
@@ -41,17 +40,10 @@ told_wrong_blocks (Some image) l1 spec len r0 r1 b1 E F is same size reading fro
     let none = on_same l1 (Some image) (λ image. HasRead image.log spec r1 b1 → F → content_of_records (records_of (drop 8 image.log)) ≡ None) same wrong in
     no_content image.log (none (front (reading image.log size)) (is e))
 
-pub told_opened : (reads : Option Image) (spec : Specification) (reader : ReaderValue) (blocks : BlocksValue) (items exts : List (List ℕ)) (entries : List Entry)
-    → items ≡ blocks.items → exts ≡ blocks.exts → entries ≡ blocks.entries → IfSome reads (λ image. IsRead image.log spec reader blocks)
-    → IfSome reads (λ now. (log : LogContent) × IsOpened now.log log spec items exts entries)
-told_opened None spec reader blocks items exts entries is beside are all = tt
-told_opened (Some now) spec reader blocks items exts entries is beside are all =
-    let found = opened_all now.log spec reader blocks all.begins all.all in (
-      found.0,
-      subst (λ (l : List (List ℕ)). IsOpened now.log found.0 spec l exts entries) (sym is)
-          (subst (λ (l : List (List ℕ)). IsOpened now.log found.0 spec blocks.items l entries) (sym beside)
-          (subst (λ (l : List Entry). IsOpened now.log found.0 spec blocks.items blocks.exts l) (sym are) found.1)),
-    )
+pub told_opened : (reads : Option Image) (spec : Specification) (reader : ReaderValue) (blocks : BlocksValue) → IfSome reads (λ image. IsRead image.log spec reader blocks)
+    → IfSome reads (λ now. (log : LogContent) × IsOpened now.log log spec blocks.stored blocks.entries)
+told_opened None spec reader blocks all = tt
+told_opened (Some now) spec reader blocks all = opened_all now.log spec reader blocks all.begins all.all
 
 pub told_ends : (reads : Option Image) (spec : Specification) (reader : ReaderValue) (blocks : BlocksValue) (place : ℕ) → place ≡ reader.at
     → IfSome reads (λ image. IsRead image.log spec reader blocks) → IfSome reads (λ now. EndsAt place (records_of (drop 8 now.log)) now.log)
@@ -77,8 +69,3 @@ pub told_wrong_front : (reads : Option Image) (len : ℕ) (reader : ReaderValue)
     → IfSome reads (λ image. E → log_of image.log ≡ None)
 told_wrong_front None len reader E F is size reading front = tt
 told_wrong_front (Some image) len reader E F is size reading front = λ e. front (reading image.log size) (is e)
-
-pub place_within : {I : Type 0} (bytes : I → List ℕ) (place at : ℕ) (blocks : List I) (items : List (List ℕ)) → place ≡ at → map bytes blocks ≡ items
-    → at ≤ 2 ^ 33 * (length items + 1) → place ≤ 2 ^ 33 * (length blocks + 1)
-place_within bytes place at blocks items is read within =
-    subst (λ (n : ℕ). n ≤ 2 ^ 33 * (length blocks + 1)) (sym is) (subst (λ (n : ℕ). at ≤ 2 ^ 33 * (n + 1)) (sym (ap length read) ∙ length-map blocks bytes) within)

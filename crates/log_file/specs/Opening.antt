@@ -1,14 +1,16 @@
 -- What a log is opened as.
 use Rattle.std.specs.Prelude.{◌≡◌, ℕ, ◌+◌, ◌<◌, ◌==◌, List, [], ◌∷◌, ◌++◌, All, map, length, drop, slice_index, Some, None, if◌then◌else◌}
-use Rattle.codec_defs.specs.Shape.{decoded}
+use Rattle.codec_defs.specs.Shape.{encoded}
 use Rattle.codec_defs.specs.Schema.{block}
 use Rattle.time_defs.specs.Specification.{Specification, specification_of}
 use Rattle.chain_tree.specs.declared.entry.Entry.{Entry}
 use Rattle.chain_tree.specs.Blocks.{IndexesBlocks}
+use Rattle.chain_tree.specs.Told.{Stored, blocks_of}
 use Rattle.outside.specs.declared.disk.Area.TheVariants.{Log}
 use Rattle.outside.specs.Image.{Image}
 use Rattle.outside.specs.Disk.{write_area}
-use Rattle.log_file.specs.Grammar.{record_of, ext_in, BlocksValue, StandFor}
+use Rattle.log_file.specs.Grammar.{record_of, ext_in, BlocksValue}
+use Rattle.log_file.specs.Pieces.{block_record}
 use Rattle.log_file.specs.Reading.{ReaderValue, IsReading}
 use Rattle.log_defs.specs.Log.{Record, record_bytes, all_record_bytes, record_at, records_of, LogContent, content_of_records, log_of}
 use Rattle.log_defs.specs.LogLaws.{HasFittingBody}
@@ -21,17 +23,28 @@ NameBodies place (r ∷ records) [] = ⊥
 NameBodies place (r ∷ records) (entry ∷ entries) =
     (entry.at ≡ place + 6) × (entry.len ≡ length r.body) × NameBodies (place + length (record_bytes r)) records entries
 
--- The bytes are this log, and it is opened as this specification, these items with their exts and these entries. The first record that an entry
--- names, that of the genesis, stands behind the start and the record of the specification.
-pub record IsOpened (bytes : List ℕ) (log : LogContent) (specification : Specification) (items exts : List (List ℕ)) (entries : List Entry) : Type 0 where
-  pub is_log : log_of bytes ≡ Some log
-  pub says : content_of_records (records_of (drop 8 bytes)) ≡ Some log
-  pub specified : specification ≡ specification_of log.specification
-  pub decode : map (decoded block) items ≡ map Some log.blocks
-  pub beside : exts ≡ [] ∷ map ext_in log.records
+-- the records of kept blocks: that of the genesis, whose body is its encoding, and those of the later ones with their exts
+abbrev pub kept_records : List Stored → List Record
+kept_records [] = []
+kept_records (genesis ∷ later) = record_of 2 (encoded block genesis.block) ∷ map (λ it. block_record (encoded block it.block) it.ext) later
+
+-- What the records of a log say, as it is opened: its blocks with their exts, of which no byte stands for that of the genesis, and their entries. The
+-- first record that an entry names, that of the genesis, stands behind the start and the record of the specification; and each that is named holds its
+-- block's bytes and its ext.
+pub record AreOpened (log : LogContent) (stored : List Stored) (entries : List Entry) : Type 0 where
+  pub blocks : blocks_of stored ≡ log.blocks
+  pub exts : map (λ it. it.ext) stored ≡ [] ∷ map ext_in log.records
   pub fits : All HasFittingBody log.records
   pub indexed : IndexesBlocks log.blocks entries
   pub named : NameBodies (14 + length log.specification) (record_of 2 log.genesis ∷ log.records) entries
+  pub held : record_of 2 log.genesis ∷ log.records ≡ kept_records stored
+
+-- The bytes are this log, and it is opened as this specification, these blocks with their exts, and these entries.
+pub record IsOpened (bytes : List ℕ) (log : LogContent) (specification : Specification) (stored : List Stored) (entries : List Entry) : Type 0 where
+  pub is_log : log_of bytes ≡ Some log
+  pub says : content_of_records (records_of (drop 8 bytes)) ≡ Some log
+  pub specified : specification ≡ specification_of log.specification
+  pub opened : AreOpened log stored entries
 
 -- So far a log was read: its records up to the place of the reader, and what they say.
 pub record HasRead (bytes : List ℕ) (specification : Specification) (reader : ReaderValue) (blocks : BlocksValue) : Type 0 where
@@ -43,11 +56,8 @@ pub record HasRead (bytes : List ℕ) (specification : Specification) (reader : 
   pub log : LogContent
   pub says : content_of_records records ≡ Some log
   pub specified : specification ≡ specification_of log.specification
-  pub stand : StandFor log.blocks blocks
-  pub exts : blocks.exts ≡ [] ∷ map ext_in log.records
-  pub fits : All HasFittingBody log.records
+  pub opened : AreOpened log blocks.stored blocks.entries
   pub counted : length log.blocks ≡ length log.records + 1
-  pub named : NameBodies (14 + length log.specification) (record_of 2 log.genesis ∷ log.records) blocks.entries
   pub next : reader.at ≡ 14 + length log.specification + length (all_record_bytes (record_of 2 log.genesis ∷ log.records))
 
 -- All of it was read: no record stands where the reader is, and a byte is in memory.

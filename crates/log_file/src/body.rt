@@ -1,9 +1,9 @@
 // The records of blocks.
 
-ghost use Rattle.std.specs.Prelude.{◌≡◌, ◌+◌, ◌<◌, ◌^◌, ◌++◌, ◌∷◌, [], length, OnOk, OnErr};
+ghost use Rattle.std.specs.Prelude.{◌≡◌, ◌+◌, ◌<◌, ◌^◌, ◌++◌, ◌∷◌, [], length, IfSome, OnOk, OnErr};
 ghost use Rattle.std.specs.Option.{option_map};
 ghost use Rattle.std.specs.Int.{w32, to_le_bytes};
-ghost use Rattle.log_defs.specs.Log.{parts_of_body};
+ghost use Rattle.log_defs.specs.Log.{parts_of_body, body_of_parts};
 ghost use Rattle.log_file.specs.Pieces.{block_record, behind_gate};
 
 use crate::number::read_count;
@@ -14,7 +14,8 @@ use std::marker::Model;
 /// The block and the ext in the body of a block's record. None comes exactly where the length at the front is
 /// missing, or reaches past the body.
 pub fn parts(body: &[u8]) -> Option<(&[u8], &[u8])>
-    ensures { option_map (λ p. (p.0.now, p.1.now)) result ≡ parts_of_body body.now }
+    ensures parts { option_map (λ p. (p.0.now, p.1.now)) result ≡ parts_of_body body.now }
+    ensures whole { IfSome result (λ p. body.now ≡ body_of_parts p.0.now p.1.now) }
 {
     if body.len() < 4 {
         return None;

@@ -3,7 +3,8 @@
 //!
 //! The contract of use: [`create`], [`append`] and [`open`] say of each moment what a crash may leave, in the words
 //! `IsSettled`, `IsAtRest` and `HasLog` of `log_defs`; after `Ok` the log is settled with its records. [`open`]
-//! answers what a log says, or that LOG is none, exactly by `log_of`. [`Body`] is filled before the disk is touched,
+//! answers what a log says, or that LOG is none, exactly by `log_of`; it holds no block, and shows each to a [`Visitor`] as
+//! it is read. [`Body`] is filled before the disk is touched,
 //! so that `append` takes no memory. [`genesis_ok`], [`parts`] and [`ext_form`] tell what the records of a log may
 //! hold. Which block may join is left to the rules above.
 #![tactic(auto)]
@@ -21,6 +22,7 @@ mod opening;
 mod reading;
 mod records;
 mod stop;
+mod visitor;
 
 pub use appending::{append, rec_behind};
 pub use body::{Body, parts};
@@ -30,3 +32,4 @@ pub use genesis::genesis_ok;
 pub use log::{Log, Rec};
 pub use opening::{Opened, open};
 pub use stop::LogStop;
+pub use visitor::Visitor;

@@ -1,10 +1,9 @@
 // A log is opened.
 
-ghost use Rattle.std.specs.Prelude.{◌≡◌, ◌≢◌, ◌⊎◌, ◌+◌, ◌*◌, ◌<◌, ◌≤◌, ◌^◌, ◌==◌, List, Some, None, Err, length, map, drop, slice_index, IfSome, IfOk, OnOk, IfErr};
+ghost use Rattle.std.specs.Prelude.{◌≡◌, ◌≢◌, ◌⊎◌, ◌+◌, ◌*◌, ◌<◌, ◌≤◌, ◌^◌, ◌==◌, List, [], Some, None, Err, length, drop, slice_index, IfSome, IfOk, OnOk, IfErr};
 ghost use Rattle.outside.specs.Causes.{HasCause, CountsFault};
 ghost use Rattle.outside.specs.Disk.{OthersRead, IsDurable, NoneNew, IsAsBefore, LeavesOnly, IsOnlyRead};
 ghost use Rattle.outside.specs.declared.disk.Area.TheVariants.{Log as log_area};
-ghost use Rattle.chain_defs.specs.Kept.{kept_limit};
 ghost use Rattle.log_defs.specs.Log.{Record, LogContent, log_of, records_of, end_of_log};
 ghost use Rattle.log_defs.specs.Rest.{EndsAt, IsSettled, HasLog};
 ghost use Rattle.log_file.specs.Grammar.{AreBlocks};
@@ -15,6 +14,7 @@ use crate::log::Log;
 use crate::reading::Reader;
 use crate::records::{read_blocks, read_front};
 use crate::stop::LogStop;
+use crate::visitor::Visitor;
 use chain_tree::Tree;
 use epochs::Spec;
 use outside::{Area, Disk, Failed, write_durably};
@@ -25,10 +25,6 @@ use std::alloc::Global;
 pub struct Opened {
     pub log: Log,
     pub spec: Spec,
-    /// The encodings of the blocks, genesis first.
-    pub blocks: Vec<Vec<u8>>,
-    /// Beside each its ext; no byte stands for that of the genesis.
-    pub exts: Vec<Vec<u8>>,
     /// The entry of a block says where in LOG the body of its record is.
     pub tree: Tree,
 }
@@ -48,38 +44,38 @@ fn synced_len<D: Disk>(disk: &mut D) -> Result<u64, Failed>
 }
 
 /// Reads a log of this length, and judges it. Answers beside it whether an open gate stands behind its records.
-fn read_log<D: Disk>(alloc: Global, disk: &mut D, len: u64) -> Result<(Opened, bool), LogStop>
-    requires { IfSome (D.reads_as disk.old) (λ image. len ≡ length image.log) }
+fn read_log<D: Disk, V: Visitor>(
+    alloc: Global,
+    disk: &mut D,
+    visitor: &mut V,
+    len: u64,
+) -> Result<(Opened, bool), LogStop>
+    requires len { IfSome (D.reads_as disk.old) (λ image. len ≡ length image.log) }
+    requires none { V.visited visitor.old ≡ [] }
     ensures opened { IfSome (D.reads_as disk.old) (λ now. IfOk result (λ found. (log : LogContent)
-        × IsOpened now.log log found.0.spec (map (λ item. item.items) found.0.blocks.items)
-        (map (λ ext. ext.items) found.0.exts.items) found.0.tree.entries)) }
+        × IsOpened now.log log found.0.spec (V.visited visitor.new) found.0.tree.entries)) }
     ensures ends { IfSome (D.reads_as disk.old) (λ now. IfOk result (λ found. EndsAt found.0.log.place (records_of (drop 8 now.log)) now.log)) }
     ensures gate { IfSome (D.reads_as disk.old) (λ now. IfOk result (λ found. found.1 ≡ (slice_index now.log found.0.log.place == 1))) }
     ensures not_a_store { IfSome (D.reads_as disk.old) (λ now. result ≡ Err LogStop.NotAStore → log_of now.log ≡ None) }
-    ensures blocks { IfOk result (λ found. AreBlocks (map (λ item. item.items) found.0.blocks.items) found.0.tree.entries) }
-    ensures beside { IfOk result (λ found. length found.0.exts.items ≡ length found.0.blocks.items) }
-    ensures few { IfOk result (λ found. length found.0.blocks.items ≤ kept_limit) }
-    ensures place { IfOk result (λ found. found.0.log.place ≤ 2 ^ 33 * (length found.0.blocks.items + 1)) }
+    ensures blocks { IfOk result (λ found. AreBlocks (V.visited visitor.new) found.0.tree.entries) }
+    ensures place { IfOk result (λ found. found.0.log.place ≤ 2 ^ 33 * (length (V.visited visitor.new) + 1)) }
     ensures as_before { IsAsBefore D.reads_as D.images D.moment D.left_since disk.old disk.new }
     ensures cause { CountsFault (D.faults disk.old) (D.faults disk.new) (result ≡ Err LogStop.DiskFault) }
 {
     let mut reader = Reader::new(alloc, len);
-    let (spec, mut blocks) = match read_front(alloc, disk, &mut reader) {
+    let (spec, mut tree) = match read_front(alloc, disk, &mut reader, visitor) {
         Ok(front) => front,
         Err(stop) => return Err(stop),
     };
-    match read_blocks(alloc, disk, &mut reader, &mut blocks) {
+    match read_blocks(alloc, disk, &mut reader, visitor, &mut tree) {
         Ok(()) => {}
         Err(stop) => return Err(stop),
     }
     let open_gate = is_open(reader.ahead());
     let place = reader.at();
-    let (blocks, exts, tree) = blocks.into_parts();
     let opened = Opened {
         log: Log { place },
         spec,
-        blocks,
-        exts,
         tree,
     };
     Ok((opened, open_gate))
@@ -110,19 +106,24 @@ fn mend<D: Disk>(disk: &mut D, place: u64, open_gate: bool) -> Result<(), Failed
     Ok(())
 }
 
-/// Reads the log from front to back, once, and judges it (docs/STORE.md, "Opening"). Where a gate stands open behind
-/// its records, which a crash may leave, it is closed; nothing else is written.
-pub fn open<D: Disk>(alloc: Global, disk: &mut D) -> Result<Opened, LogStop>
+/// Reads the log from front to back, once, and judges it (docs/STORE.md, "Opening"). The visitor is shown each block as
+/// it is read, also where the log is none in the end. Where a gate stands open behind its records, which a crash may
+/// leave, it is closed; nothing else is written.
+pub fn open<D: Disk, V: Visitor>(
+    alloc: Global,
+    disk: &mut D,
+    visitor: &mut V,
+) -> Result<Opened, LogStop>
+    requires { V.visited visitor.old ≡ [] }
+
     // Exactly a log is opened, but for faults and want of memory.
     ensures opened { IfSome (D.reads_as disk.old) (λ now. IfOk result (λ o. (log : LogContent)
-        × IsOpened now.log log o.spec (map (λ item. item.items) o.blocks.items) (map (λ ext. ext.items) o.exts.items) o.tree.entries)) }
+        × IsOpened now.log log o.spec (V.visited visitor.new) o.tree.entries)) }
     ensures not_a_store { IfSome (D.reads_as disk.old) (λ now. result ≡ Err LogStop.NotAStore → log_of now.log ≡ None) }
 
     // Of each disk, also of one that tells nothing:
-    ensures blocks { IfOk result (λ o. AreBlocks (map (λ item. item.items) o.blocks.items) o.tree.entries) }
-    ensures beside { IfOk result (λ o. length o.exts.items ≡ length o.blocks.items) }
-    ensures few { IfOk result (λ o. length o.blocks.items ≤ kept_limit) }
-    ensures place { IfOk result (λ o. o.log.place ≤ 2 ^ 33 * (length o.blocks.items + 1)) }
+    ensures blocks { IfOk result (λ o. AreBlocks (V.visited visitor.new) o.tree.entries) }
+    ensures place { IfOk result (λ o. o.log.place ≤ 2 ^ 33 * (length (V.visited visitor.new) + 1)) }
 
     // The log is at rest with the records that it had.
     ensures settled { IfSome (D.reads_as disk.old) (λ now. IfOk result (λ o.
@@ -148,7 +149,7 @@ pub fn open<D: Disk>(alloc: Global, disk: &mut D) -> Result<Opened, LogStop>
         Ok(len) => len,
         Err(_) => return Err(LogStop::DiskFault),
     };
-    let (opened, open_gate) = match read_log(alloc, disk, len) {
+    let (opened, open_gate) = match read_log(alloc, disk, visitor, len) {
         Ok(found) => found,
         Err(stop) => return Err(stop),
     };

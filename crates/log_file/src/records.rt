@@ -1,20 +1,21 @@
 // The records of a log, from front to back.
 
-ghost use Rattle.std.specs.Prelude.{◌≡◌, ◌≢◌, ◌⊎◌, ◌+◌, ◌*◌, ◌<◌, ◌≤◌, ◌^◌, List, Ok, Err, None, length, take, drop, IfSome, IfOk, OnOk, IfErr, true, false};
-ghost use Rattle.codec_defs.specs.Schema.{Block};
+ghost use Rattle.std.specs.Prelude.{◌≡◌, ◌≢◌, ◌+◌, ◌*◌, ◌<◌, ◌≤◌, ◌^◌, List, [], Ok, Err, None, length, take, drop, IfSome, IfOk, OnOk, true, false};
 ghost use Rattle.outside.specs.Causes.{CountsFault};
 ghost use Rattle.outside.specs.Disk.{IsAsBefore};
-ghost use Rattle.chain_defs.specs.Kept.{kept_limit};
+ghost use Rattle.chain_tree.specs.Told.{blocks_of};
 ghost use Rattle.time_defs.specs.Specification.{Specification, specification_of};
 ghost use Rattle.log_defs.specs.Log.{magic, record_at, records_of, content_of_records, log_of};
-ghost use Rattle.log_file.specs.Grammar.{is_specification, is_genesis, StandFor, IsGenesisOf, IsGrownBy};
+ghost use Rattle.log_file.specs.Grammar.{is_specification, is_genesis, AreBlocks, blocks_with, IsGenesisOf, IsGrownBy};
 ghost use Rattle.log_file.specs.Reading.{IsReading, IsAt, HasPassed, OfRecordHere, IsWrongHere};
 ghost use Rattle.log_file.specs.Opening.{HasRead, HasReadAll};
 
-use crate::blocks::Blocks;
+use crate::blocks::{begin, put};
 use crate::grammar::{is_start, record_at, spec_of};
 use crate::reading::Reader;
 use crate::stop::LogStop;
+use crate::visitor::Visitor;
+use chain_tree::Tree;
 use epochs::Spec;
 use outside::Disk;
 use std::alloc::Global;
@@ -70,16 +71,18 @@ fn read_spec<D: Disk>(alloc: Global, disk: &mut D, reader: &mut Reader) -> Resul
 }
 
 /// Reads the record of the genesis.
-fn read_genesis<D: Disk>(
+fn read_genesis<D: Disk, V: Visitor>(
     alloc: Global,
     disk: &mut D,
     reader: &mut Reader,
-) -> Result<Blocks, LogStop>
-    ensures at { IfOk result (λ blocks. (reader.new.len ≡ reader.old.len) × (reader.new.at ≤ reader.old.at + 2 ^ 32 + 5)) }
-    ensures one { IfOk result (λ blocks. length blocks.items ≡ 1) }
+    visitor: &mut V,
+) -> Result<Tree, LogStop>
+    requires { V.visited visitor.old ≡ [] }
+    ensures at { IfOk result (λ tree. (reader.new.len ≡ reader.old.len) × (reader.new.at ≤ reader.old.at + 2 ^ 32 + 5)) }
+    ensures blocks { IfOk result (λ tree. AreBlocks (V.visited visitor.new) tree.entries) }
     ensures reading { IfSome (D.reads_as disk.old) (λ image. IsReading image.log reader.old → IsReading image.log reader.new) }
-    ensures found { IfSome (D.reads_as disk.old) (λ image. IsReading image.log reader.old → IfOk result (λ blocks.
-        HasPassed image.log (λ r. IsGenesisOf (reader.old.at + 6) r blocks) reader.old reader.new)) }
+    ensures found { IfSome (D.reads_as disk.old) (λ image. IsReading image.log reader.old → IfOk result (λ tree.
+        HasPassed image.log (λ r. IsGenesisOf (reader.old.at + 6) r (blocks_with (V.visited visitor.new) tree.entries)) reader.old reader.new)) }
     ensures wrong { IfSome (D.reads_as disk.old) (λ image. IsReading image.log reader.old → result ≡ Err LogStop.NotAStore
         → OfRecordHere image.log reader.old (λ r. is_genesis r ≡ false)) }
     ensures as_before { IsAsBefore D.reads_as D.images D.moment D.left_since disk.old disk.new }
@@ -93,25 +96,29 @@ fn read_genesis<D: Disk>(
     let Some((kind, body)) = record_at(reader.ahead()) else {
         return Err(LogStop::NotAStore);
     };
-    let blocks = match Blocks::of_genesis(alloc, kind, body, place + 6) {
-        Ok(blocks) => blocks,
+    let tree = match begin(alloc, visitor, kind, body, place + 6) {
+        Ok(tree) => tree,
         Err(stop) => return Err(stop),
     };
     let size = 6 + body.len();
     reader.skip(size);
-    Ok(blocks)
+    Ok(tree)
 }
 
-/// Reads the front of a log, up to its blocks.
-pub(crate) fn read_front<D: Disk>(
+/// Reads the front of a log, up to its genesis.
+pub(crate) fn read_front<D: Disk, V: Visitor>(
     alloc: Global,
     disk: &mut D,
     reader: &mut Reader,
-) -> Result<(Spec, Blocks), LogStop>
-    requires { reader.old.at ≡ 0 }
-    ensures place { IfOk result (λ front. reader.new.at ≤ 2 ^ 33 * (length front.1.items + 1)) }
+    visitor: &mut V,
+) -> Result<(Spec, Tree), LogStop>
+    requires start { reader.old.at ≡ 0 }
+    requires none { V.visited visitor.old ≡ [] }
+    ensures place { IfOk result (λ front. reader.new.at ≤ 2 ^ 33 * (length (V.visited visitor.new) + 1)) }
+    ensures blocks { IfOk result (λ front. AreBlocks (V.visited visitor.new) front.1.entries) }
     ensures start { IfSome (D.reads_as disk.old) (λ image. IsReading image.log reader.old → IfOk result (λ front. take 8 image.log ≡ magic)) }
-    ensures found { IfSome (D.reads_as disk.old) (λ image. IsReading image.log reader.old → IfOk result (λ front. HasRead image.log front.0 reader.new front.1)) }
+    ensures found { IfSome (D.reads_as disk.old) (λ image. IsReading image.log reader.old → IfOk result (λ front.
+        HasRead image.log front.0 reader.new (blocks_with (V.visited visitor.new) front.1.entries))) }
     ensures wrong { IfSome (D.reads_as disk.old) (λ image. IsReading image.log reader.old → result ≡ Err LogStop.NotAStore → log_of image.log ≡ None) }
     ensures as_before { IsAsBefore D.reads_as D.images D.moment D.left_since disk.old disk.new }
     ensures cause { CountsFault (D.faults disk.old) (D.faults disk.new) (result ≡ Err LogStop.DiskFault) }
@@ -124,31 +131,34 @@ pub(crate) fn read_front<D: Disk>(
         Ok(spec) => spec,
         Err(stop) => return Err(stop),
     };
-    match read_genesis(alloc, disk, reader) {
-        Ok(blocks) => Ok((spec, blocks)),
+    match read_genesis(alloc, disk, reader, visitor) {
+        Ok(tree) => Ok((spec, tree)),
         Err(stop) => Err(stop),
     }
 }
 
 /// Reads the record of one block more, if a record stands here, and answers whether one does.
-fn read_block<D: Disk>(
+fn read_block<D: Disk, V: Visitor>(
     alloc: Global,
     disk: &mut D,
     reader: &mut Reader,
-    blocks: &mut Blocks,
+    visitor: &mut V,
+    tree: &mut Tree,
 ) -> Result<bool, LogStop>
+    requires { AreBlocks (V.visited visitor.old) tree.old.entries }
     ensures at { result ≡ Ok true → (reader.new.len ≡ reader.old.len) × (reader.new.at ≤ reader.old.at + 2 ^ 32 + 5) }
-    ensures longer { result ≡ Ok true → length blocks.new.items ≡ length blocks.old.items + 1 }
-    ensures few { result ≡ Ok true → length blocks.new.items ≤ kept_limit }
-    ensures stays { result ≡ Ok false → IsAt reader.old.len reader.old.at reader.new × (blocks.new ≡ blocks.old) }
+    ensures blocks { OnOk result (AreBlocks (V.visited visitor.new) tree.new.entries) }
+    ensures longer { result ≡ Ok true → length (V.visited visitor.new) ≡ length (V.visited visitor.old) + 1 }
+    ensures stays { result ≡ Ok false → IsAt reader.old.len reader.old.at reader.new × (V.visited visitor.new ≡ V.visited visitor.old) × (tree.new ≡ tree.old) }
     ensures reading { IfSome (D.reads_as disk.old) (λ image. IsReading image.log reader.old → IsReading image.log reader.new) }
-    ensures found { IfSome (D.reads_as disk.old) (λ image. IsReading image.log reader.old → result ≡ Ok true → (kept : List Block) → StandFor kept blocks.old
-        → HasPassed image.log (λ r. IsGrownBy (reader.old.at + 6) r kept blocks.old blocks.new) reader.old reader.new) }
+    ensures found { IfSome (D.reads_as disk.old) (λ image. IsReading image.log reader.old → result ≡ Ok true
+        → HasPassed image.log (λ r. IsGrownBy (reader.old.at + 6) r (blocks_with (V.visited visitor.old) tree.old.entries)
+        (blocks_with (V.visited visitor.new) tree.new.entries)) reader.old reader.new) }
     ensures ended { IfSome (D.reads_as disk.old) (λ image. IsReading image.log reader.old → result ≡ Ok false → record_at (drop reader.old.at image.log) ≡ None) }
     ensures byte { IfSome (D.reads_as disk.old) (λ image. IsReading image.log reader.old → result ≡ Ok false → reader.old.at < reader.old.len
         → 0 < length reader.new.ahead) }
-    ensures wrong { IfSome (D.reads_as disk.old) (λ image. IsReading image.log reader.old → result ≡ Err LogStop.NotAStore → (kept : List Block)
-        → StandFor kept blocks.old → IsWrongHere image.log kept reader.old) }
+    ensures wrong { IfSome (D.reads_as disk.old) (λ image. IsReading image.log reader.old → result ≡ Err LogStop.NotAStore
+        → IsWrongHere image.log (blocks_of (V.visited visitor.old)) reader.old) }
     ensures as_before { IsAsBefore D.reads_as D.images D.moment D.left_since disk.old disk.new }
     ensures cause { CountsFault (D.faults disk.old) (D.faults disk.new) (result ≡ Err LogStop.DiskFault) }
 {
@@ -160,7 +170,7 @@ fn read_block<D: Disk>(
     let Some((kind, body)) = record_at(reader.ahead()) else {
         return Ok(false);
     };
-    match blocks.put(alloc, kind, body, place + 6) {
+    match put(alloc, visitor, tree, kind, body, place + 6) {
         Ok(()) => {}
         Err(stop) => return Err(stop),
     }
@@ -170,20 +180,25 @@ fn read_block<D: Disk>(
 }
 
 /// Reads the records of blocks to the end of the log.
-pub(crate) fn read_blocks<D: Disk>(
+pub(crate) fn read_blocks<D: Disk, V: Visitor>(
     alloc: Global,
     disk: &mut D,
     reader: &mut Reader,
-    blocks: &mut Blocks,
+    visitor: &mut V,
+    tree: &mut Tree,
 ) -> Result<(), LogStop>
-    ensures place { reader.old.at ≤ 2 ^ 33 * (length blocks.old.items + 1) → OnOk result (reader.new.at ≤ 2 ^ 33 * (length blocks.new.items + 1)) }
-    ensures found { (spec : Specification) → IfSome (D.reads_as disk.old) (λ image. HasRead image.log spec reader.old blocks.old
-        → OnOk result (HasReadAll image.log spec reader.new blocks.new)) }
-    ensures wrong { (spec : Specification) → IfSome (D.reads_as disk.old) (λ image. HasRead image.log spec reader.old blocks.old → result ≡ Err LogStop.NotAStore
+    requires { AreBlocks (V.visited visitor.old) tree.old.entries }
+    ensures place { reader.old.at ≤ 2 ^ 33 * (length (V.visited visitor.old) + 1) → OnOk result (reader.new.at ≤ 2 ^ 33 * (length (V.visited visitor.new) + 1)) }
+    ensures blocks { OnOk result (AreBlocks (V.visited visitor.new) tree.new.entries) }
+    ensures found { (spec : Specification) → IfSome (D.reads_as disk.old) (λ image.
+        HasRead image.log spec reader.old (blocks_with (V.visited visitor.old) tree.old.entries)
+        → OnOk result (HasReadAll image.log spec reader.new (blocks_with (V.visited visitor.new) tree.new.entries))) }
+    ensures wrong { (spec : Specification) → IfSome (D.reads_as disk.old) (λ image.
+        HasRead image.log spec reader.old (blocks_with (V.visited visitor.old) tree.old.entries) → result ≡ Err LogStop.NotAStore
         → content_of_records (records_of (drop 8 image.log)) ≡ None) }
     ensures as_before { IsAsBefore D.reads_as D.images D.moment D.left_since disk.old disk.new }
     ensures cause { CountsFault (D.faults disk.old) (D.faults disk.new) (result ≡ Err LogStop.DiskFault) }
 {
-    'records: while read_block(alloc, disk, reader, blocks)? {}
+    'records: while read_block(alloc, disk, reader, visitor, tree)? {}
     Ok(())
 }

@@ -8,6 +8,7 @@ pub mod DiskLemmas
 pub mod NewLemmas
 pub mod OpenLemmas
 pub mod OpeningLemmas
+pub mod GatheredLemmas
 pub mod StepLemmas
 pub mod OwnLemmas
 pub mod KeepingLemmas

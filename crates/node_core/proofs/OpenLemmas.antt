@@ -1,5 +1,5 @@
 -- A store that is opened: what its image keeps, and what its disk stands for then.
-use Rattle.std.proofs.Common.{◌≡◌, ℕ, zero, suc, ◌+◌, ◌-◌, ◌*◌, ◌^◌, ◌<◌, ◌≤◌, Bool, false, cond, List, [], ◌∷◌, length, drop, map, Option, Some, None, refl, sym, ap, ◌∙◌, subst, inl, inr, ◌⊎◌, arith}
+use Rattle.std.proofs.Common.{◌≡◌, ℕ, zero, suc, ◌+◌, ◌-◌, ◌*◌, ◌^◌, ◌<◌, ◌≤◌, Bool, false, cond, List, [], ◌∷◌, length, drop, map, Vec, Global, Option, Some, None, refl, sym, ap, ◌∙◌, subst, inl, inr, ◌⊎◌, arith}
 use Rattle.std.specs.Prelude.{IfSome, IsTrue, ◌==◌, slice_get, slice_index_or, Result, Ok, Err, IsOk, is_err}
 use Rattle.std.specs.Option.{option_map}
 use Rattle.std.proofs.lemmas.Bool.{ne_eqb}
@@ -18,7 +18,7 @@ use Rattle.codec_defs.specs.Schema.{Block, block}
 use Rattle.chain_defs.specs.Kept.{block_at, kept_limit}
 use Rattle.chain_defs.proofs.KeptLaws.{slice_get-below}
 use Rattle.cell_defs.specs.Ext.{count_at, is_ext}
-use Rattle.cell_model.specs.ListBlocks.{IsExtFor}
+use Rattle.cell_model.specs.ListBlocks.{contents, IsExtFor}
 use Rattle.time_defs.specs.Specification.{Specification, specification_of}
 use Rattle.verdict_defs.specs.Chain.{Chain}
 use Rattle.log_defs.specs.Log.{Record, LogContent, log_of, records_of, parts_of_body}
@@ -29,11 +29,12 @@ use Rattle.log_defs.proofs.Contents.{counts_its_records}
 use Rattle.store_defs.proofs.JoinedLemmas.{joined_of_image}
 use Rattle.store_defs.proofs.ExtLemmas.{HoldsItsExt, exts_of_log, own_of_record}
 use Rattle.chain_tree.specs.declared.entry.Entry.{Entry}
+use Rattle.chain_tree.specs.Told.{Stored, blocks_of}
 use Rattle.log_file.specs.Grammar.{record_of, ext_in}
 use Rattle.log_file.specs.Opening.{IsOpened}
-use Rattle.node_core.specs.Node.{KeptValue, node_of, IsOn, IsWithin}
+use Rattle.node_core.specs.Node.{exts_of, KeptValue, node_of, IsOn, IsWithin}
 use Rattle.node_core.specs.Opening.{HaveExts}
-use Rattle.node_core.proofs.OpeningLemmas.{same-blocks, as-many, decoded-at}
+use Rattle.node_core.proofs.OpeningLemmas.{same-blocks, as-many, as-many-contents, decoded-at}
 use Rattle.node_core.proofs.DiskLemmas.{same_image}
 
 -- ---- The store of an image
@@ -61,39 +62,66 @@ same_log one other same = (cc)
 
 -- ---- What was opened
 
-abbrev pub Opened : Specification → List (List ℕ) → List (List ℕ) → List Entry → Image → Type 0
-Opened spec items exts entries now = (log : LogContent) × IsOpened now.log log spec items exts entries
+abbrev pub Opened : Specification → List Stored → List Entry → Image → Type 0
+Opened spec stored entries now = (log : LogContent) × IsOpened now.log log spec stored entries
 
 -- What is kept then.
-pub record IsKeptOf (kept : KeptValue) (spec : Specification) (items exts : List (List ℕ)) : Type 0 where
+pub record IsKeptOf (kept : KeptValue) (spec : Specification) (stored : List Stored) : Type 0 where
   pub spec_is : kept.chain.spec ≡ spec
-  pub decode : map (decoded block) items ≡ map Some kept.chain.blocks
-  pub beside : kept.exts ≡ exts
+  pub blocks : kept.chain.blocks ≡ blocks_of stored
+  pub beside : kept.exts ≡ exts_of stored
 
-chain_opened : (bytes : List ℕ) (log : LogContent) (kept : KeptValue) (spec : Specification) (items exts : List (List ℕ)) (entries : List Entry)
-    → IsKeptOf kept spec items exts → IsOpened bytes log spec items exts entries → chain_of log ≡ kept.chain
-chain_opened bytes log kept spec items exts entries of is =
+-- The bytes are those of these blocks and their exts.
+pub record AreBytesOf (items exts : List (List ℕ)) (stored : List Stored) : Type 0 where
+  pub decode : map (decoded block) items ≡ map Some (blocks_of stored)
+  pub beside : exts ≡ exts_of stored
+
+-- the blocks of a log, from their bytes
+pub decode_opened : (bytes : List ℕ) (log : LogContent) (spec : Specification) (items exts : List (List ℕ)) (stored : List Stored) (entries : List Entry)
+    → AreBytesOf items exts stored → IsOpened bytes log spec stored entries → map (decoded block) items ≡ map Some log.blocks
+decode_opened bytes log spec items exts stored entries of is = of.decode ∙ ap (map (λ (b : Block). Some b)) is.opened.blocks
+
+-- as many of each
+pub as_many_bytes : (blocks exts : List (Vec ℕ Global)) (stored : List Stored) → AreBytesOf (contents blocks) (contents exts) stored
+    → (length blocks ≡ length stored) × (length exts ≡ length stored)
+as_many_bytes blocks exts stored of = (
+  omega (arith, as-many (contents blocks) (blocks_of stored) of.decode, as-many-contents blocks, length-map stored (λ (it : Stored). it.block)),
+  omega (arith, ap length of.beside, as-many-contents exts, length-map stored (λ (it : Stored). it.ext)),
+)
+
+-- What is kept of them.
+pub kept_of_bytes : (kept : KeptValue) (spec : Specification) (items exts : List (List ℕ)) (stored : List Stored) → AreBytesOf items exts stored → kept.chain.spec ≡ spec
+    → map (decoded block) items ≡ map Some kept.chain.blocks → kept.exts ≡ exts → IsKeptOf kept spec stored
+kept_of_bytes kept spec items exts stored of same decode beside = record {
+  spec_is = same;
+  blocks = same-blocks kept.chain.blocks (blocks_of stored) (sym decode ∙ of.decode);
+  beside = beside ∙ of.beside;
+}
+
+chain_opened : (bytes : List ℕ) (log : LogContent) (kept : KeptValue) (spec : Specification) (stored : List Stored) (entries : List Entry)
+    → IsKeptOf kept spec stored → IsOpened bytes log spec stored entries → chain_of log ≡ kept.chain
+chain_opened bytes log kept spec stored entries of is =
     let specified : specification_of log.specification ≡ kept.chain.spec = sym is.specified ∙ sym of.spec_is in
-    let blocks : log.blocks ≡ kept.chain.blocks = same-blocks log.blocks kept.chain.blocks (sym is.decode ∙ of.decode) in
+    let blocks : log.blocks ≡ kept.chain.blocks = sym (of.blocks ∙ is.opened.blocks) in
     λ i. record { spec = specified i; blocks = blocks i }
 
-keeps_at : (kept : KeptValue) (spec : Specification) (items exts : List (List ℕ)) (entries : List Entry) (now : Image) → IsKeptOf kept spec items exts
-    → Opened spec items exts entries now → store_of now ≡ Keeps kept.chain
-keeps_at kept spec items exts entries now of (log, is) =
-    store_keeps now log is.is_log ∙ ap Keeps (chain_opened now.log log kept spec items exts entries of is)
+keeps_at : (kept : KeptValue) (spec : Specification) (stored : List Stored) (entries : List Entry) (now : Image) → IsKeptOf kept spec stored
+    → Opened spec stored entries now → store_of now ≡ Keeps kept.chain
+keeps_at kept spec stored entries now of (log, is) =
+    store_keeps now log is.is_log ∙ ap Keeps (chain_opened now.log log kept spec stored entries of is)
 
-pub opened_keeps : (reads mid : Option Image) (kept : KeptValue) (spec : Specification) (items exts : List (List ℕ)) (entries : List Entry)
-    → IsKeptOf kept spec items exts → mid ≡ reads → IfSome mid (Opened spec items exts entries) → IfSome reads (λ now. store_of now ≡ Keeps kept.chain)
-opened_keeps None mid kept spec items exts entries of same opened = tt
-opened_keeps (Some now) mid kept spec items exts entries of same opened =
-    keeps_at kept spec items exts entries now of (subst (λ (o : Option Image). IfSome o (Opened spec items exts entries)) same opened)
+pub opened_keeps : (reads mid : Option Image) (kept : KeptValue) (spec : Specification) (stored : List Stored) (entries : List Entry)
+    → IsKeptOf kept spec stored → mid ≡ reads → IfSome mid (Opened spec stored entries) → IfSome reads (λ now. store_of now ≡ Keeps kept.chain)
+opened_keeps None mid kept spec stored entries of same opened = tt
+opened_keeps (Some now) mid kept spec stored entries of same opened =
+    keeps_at kept spec stored entries now of (subst (λ (o : Option Image). IfSome o (Opened spec stored entries)) same opened)
 
 -- what a node asks of its chain and its place
-pub is_within : (kept : KeptValue) (spec : Specification) (items exts : List (List ℕ)) (place : ℕ) → IsKeptOf kept spec items exts
-    → length items ≤ kept_limit → place ≤ 2 ^ 33 * (length items + 1)
+pub is_within : (kept : KeptValue) (spec : Specification) (stored : List Stored) (place : ℕ) → IsKeptOf kept spec stored
+    → length stored ≤ kept_limit → place ≤ 2 ^ 33 * (length stored + 1)
     → (length kept.chain.blocks ≤ kept_limit) × IsWithin (length kept.chain.blocks) place
-is_within kept spec items exts place of few within =
-    let many : length items ≡ length kept.chain.blocks = as-many items kept.chain.blocks of.decode in
+is_within kept spec stored place of few within =
+    let many : length stored ≡ length kept.chain.blocks = sym (ap length of.blocks ∙ length-map stored (λ (it : Stored). it.block)) in
     (omega (arith, few, many), subst (λ (n : ℕ). IsWithin n place) many within)
 
 -- ---- Where nothing is opened
@@ -107,12 +135,12 @@ no_log_in now nothing = by_found (log_of now.log) refl
     by_found (Some log) is = absurd (nothing (chain_of log) (store_keeps now log is))
 
 -- and none was opened
-pub none_opened : (mid : Option Image) (now : Image) (spec : Specification) (items exts : List (List ℕ)) (entries : List Entry) → mid ≡ Some now
-    → IfSome mid (Opened spec items exts entries) → ((chain : Chain) → store_of now ≡ Keeps chain → ⊥) → ⊥
-none_opened mid now spec items exts entries told opened nothing =
-    by_log (subst (λ (o : Option Image). IfSome o (Opened spec items exts entries)) told opened)
+pub none_opened : (mid : Option Image) (now : Image) (spec : Specification) (stored : List Stored) (entries : List Entry) → mid ≡ Some now
+    → IfSome mid (Opened spec stored entries) → ((chain : Chain) → store_of now ≡ Keeps chain → ⊥) → ⊥
+none_opened mid now spec stored entries told opened nothing =
+    by_log (subst (λ (o : Option Image). IfSome o (Opened spec stored entries)) told opened)
   where
-    by_log : Opened spec items exts entries now → ⊥
+    by_log : Opened spec stored entries now → ⊥
     by_log (log, is) = nothing (chain_of log) (store_keeps now log is.is_log)
 
 none_is_some : (log : LogContent) → Some log ≡ None → ⊥
@@ -148,12 +176,12 @@ ext_for r b bytes ext its is beside =
           (ap (λ (e : List ℕ). count_at e 0) same ∙ its.fees);
     }
 
-ext_joined : (bytes : List ℕ) (log : LogContent) (spec : Specification) (items exts : List (List ℕ)) (entries : List Entry)
-    → IsOpened bytes log spec items exts entries → EachHasJoined log → (before : ℕ) → before < length log.records
+ext_joined : (bytes : List ℕ) (log : LogContent) (spec : Specification) (items exts : List (List ℕ)) (stored : List Stored) (entries : List Entry)
+    → AreBytesOf items exts stored → IsOpened bytes log spec stored entries → EachHasJoined log → (before : ℕ) → before < length log.records
     → IsExtFor (slice_index_or items (suc before) []) (slice_index_or exts (suc before) [])
-ext_joined bytes log spec items exts entries is each before low =
+ext_joined bytes log spec items exts stored entries of is each before low =
     ext_for r found.0 (slice_index_or items (suc before) []) (slice_index_or exts (suc before) []) its
-    (decoded-at items log.blocks (suc before) found.0 is.decode found.1) beside
+    (decoded-at items log.blocks (suc before) found.0 (decode_opened bytes log spec items exts stored entries of is) found.1) beside
   where
     r : Record
     r = slice_index_or log.records before no_record
@@ -169,40 +197,42 @@ ext_joined bytes log spec items exts entries is each before low =
 
     its : HoldsItsExt r found.0
     its = exts_of_log bytes log is.is_log each before r found.0 (slice_get-get_or log.records before no_record low)
-        (ap (block_at log.blocks) next ∙ found.1) (is.fits before no_record low)
+        (ap (block_at log.blocks) next ∙ found.1) (is.opened.fits before no_record low)
 
     beside : slice_index_or exts (suc before) [] ≡ ext_in r
-    beside = ap (λ (l : List (List ℕ)). slice_index_or l (suc before) []) is.beside ∙ get_or-map ext_in log.records before no_record [] low
+    beside = ap (λ (l : List (List ℕ)). slice_index_or l (suc before) []) (of.beside ∙ is.opened.exts) ∙ get_or-map ext_in log.records before no_record [] low
 
 -- Beside each block of a log whose blocks joined stands an ext for it.
-exts_joined : (bytes : List ℕ) (log : LogContent) (spec : Specification) (items exts : List (List ℕ)) (entries : List Entry)
-    → IsOpened bytes log spec items exts entries → EachHasJoined log → HaveExts items exts
-exts_joined bytes log spec items exts entries is each zero above within = absurd (omega (arith, above))
-exts_joined bytes log spec items exts entries is each (suc before) above within =
+exts_joined : (bytes : List ℕ) (log : LogContent) (spec : Specification) (items exts : List (List ℕ)) (stored : List Stored) (entries : List Entry)
+    → AreBytesOf items exts stored → IsOpened bytes log spec stored entries → EachHasJoined log → HaveExts items exts
+exts_joined bytes log spec items exts stored entries of is each zero above within = absurd (omega (arith, above))
+exts_joined bytes log spec items exts stored entries of is each (suc before) above within =
     let many : length log.blocks ≡ length log.records + 1 = counts_its_records (records_of (drop 8 bytes)) log is.says in
-    ext_joined bytes log spec items exts entries is each before (omega (arith, within, as-many items log.blocks is.decode, many))
+    ext_joined bytes log spec items exts stored entries of is each before
+    (omega (arith, within, as-many items log.blocks (decode_opened bytes log spec items exts stored entries of is), many))
 
 -- what is never so of a log whose blocks joined
 abbrev pub NeverJoined : Specification → List (List ℕ) → List (List ℕ) → Type 0
 NeverJoined spec items exts = (kept : List Block) → map (decoded block) items ≡ map Some kept → IsJoined (record { spec = spec; blocks = kept })
     → HaveExts items exts → ⊥
 
-never_sound : (now : Image) (spec : Specification) (items exts : List (List ℕ)) (entries : List Entry) → Opened spec items exts entries now
-    → NeverJoined spec items exts → IsSound now → ⊥
-never_sound now spec items exts entries (log, is) never (chain, stands) =
+never_sound : (now : Image) (spec : Specification) (items exts : List (List ℕ)) (stored : List Stored) (entries : List Entry) → AreBytesOf items exts stored
+    → Opened spec stored entries now → NeverJoined spec items exts → IsSound now → ⊥
+never_sound now spec items exts stored entries of (log, is) never (chain, stands) =
     let log_is : stands.log ≡ log = same_log stands.log log (sym stands.is_log ∙ is.is_log) in
     let joined : IsJoined (chain_of log) =
     subst IsJoined (sym stands.keeps ∙ ap chain_of log_is) (joined_of_image chain now stands) in
     let spec_joined : IsJoined (record { spec = spec; blocks = log.blocks }) =
     subst (λ (s : Specification). IsJoined (record { spec = s; blocks = log.blocks })) (sym is.specified) joined in
-    never log.blocks is.decode spec_joined (exts_joined now.log log spec items exts entries is (subst EachHasJoined log_is stands.joined))
+    never log.blocks (decode_opened now.log log spec items exts stored entries of is) spec_joined
+    (exts_joined now.log log spec items exts stored entries of is (subst EachHasJoined log_is stands.joined))
 
 -- Where the blocks of a log have not joined, the image is not sound.
-pub not_joined : (reads mid : Option Image) (spec : Specification) (items exts : List (List ℕ)) (entries : List Entry) → mid ≡ reads
-    → IfSome mid (Opened spec items exts entries) → NeverJoined spec items exts → IfSome reads (λ now. IsSound now → ⊥)
-not_joined None mid spec items exts entries same opened never = tt
-not_joined (Some now) mid spec items exts entries same opened never =
-    never_sound now spec items exts entries (subst (λ (o : Option Image). IfSome o (Opened spec items exts entries)) same opened) never
+pub not_joined : (reads mid : Option Image) (spec : Specification) (items exts : List (List ℕ)) (stored : List Stored) (entries : List Entry) → AreBytesOf items exts stored
+    → mid ≡ reads → IfSome mid (Opened spec stored entries) → NeverJoined spec items exts → IfSome reads (λ now. IsSound now → ⊥)
+not_joined None mid spec items exts stored entries of same opened never = tt
+not_joined (Some now) mid spec items exts stored entries of same opened never =
+    never_sound now spec items exts stored entries of (subst (λ (o : Option Image). IfSome o (Opened spec stored entries)) same opened) never
 
 -- ---- The exts of a sound log
 
@@ -210,43 +240,43 @@ not_joined (Some now) mid spec items exts entries same opened never =
 joined_so : (now : Image) (log : LogContent) → IsSound now → log_of now.log ≡ Some log → EachHasJoined log
 joined_so now log (chain, stands) is = subst EachHasJoined (same_log stands.log log (sym stands.is_log ∙ is)) stands.joined
 
-module _ (bytes : List ℕ) (log : LogContent) (spec : Specification) (items exts : List (List ℕ)) (entries : List Entry)
-    (is : IsOpened bytes log spec items exts entries) (each : EachHasJoined log) where
+module _ (bytes : List ℕ) (log : LogContent) (spec : Specification) (stored : List Stored) (entries : List Entry)
+    (is : IsOpened bytes log spec stored entries) (each : EachHasJoined log) where
   many : length log.blocks ≡ length log.records + 1
   many = counts_its_records (records_of (drop 8 bytes)) log is.says
 
-  own_at : (place : ℕ) (b : Block) → 0 < place → block_at log.blocks place ≡ Some b → slice_get exts place ≡ Some (own_ext (chain_before log place) b)
+  own_at : (place : ℕ) (b : Block) → 0 < place → block_at log.blocks place ≡ Some b → slice_get (exts_of stored) place ≡ Some (own_ext (chain_before log place) b)
   own_at zero b above there = absurd (omega (arith, above))
   own_at (suc before) b above there =
       let next : before + 1 ≡ suc before = omega arith in
       let r = slice_get-below log.records before (omega (arith, many, slice_get_within log.blocks (suc before) b there)) in
       let own = own_of_record log each before r.0 b r.1 (ap (block_at log.blocks) next ∙ there) in
-      ap (λ (l : List (List ℕ)). slice_get l (suc before)) is.beside ∙ slice_get-map ext_in log.records before ∙ ap (option_map ext_in) r.1
+      ap (λ (l : List (List ℕ)). slice_get l (suc before)) is.opened.exts ∙ slice_get-map ext_in log.records before ∙ ap (option_map ext_in) r.1
       ∙ ap Some (ext_is r.0 own.0 (own_ext (chain_before log (before + 1)) b) own.1)
       ∙ ap (λ (count : ℕ). Some (own_ext (chain_before log count) b)) next
 
-  own_of_log : HaveOwnExts (chain_of log) exts
+  own_of_log : HaveOwnExts (chain_of log) (exts_of stored)
   own_of_log = record {
-    as_many = ap length is.beside ∙ ap suc (length-map log.records ext_in) ∙ omega (arith, many);
+    as_many = ap length is.opened.exts ∙ ap suc (length-map log.records ext_in) ∙ omega (arith, many);
     own = own_at;
   }
 
-  pub own_opened : (kept : KeptValue) → IsKeptOf kept spec items exts → HaveOwnExts kept.chain kept.exts
+  pub own_opened : (kept : KeptValue) → IsKeptOf kept spec stored → HaveOwnExts kept.chain kept.exts
   own_opened kept of =
       subst (HaveOwnExts kept.chain) (sym of.beside)
-      (subst (λ (c : Chain). HaveOwnExts c exts) (chain_opened bytes log kept spec items exts entries of is) own_of_log)
+      (subst (λ (c : Chain). HaveOwnExts c (exts_of stored)) (chain_opened bytes log kept spec stored entries of is) own_of_log)
 
-own_if_sound : (kept : KeptValue) (spec : Specification) (items exts : List (List ℕ)) (entries : List Entry) (now : Image) → IsKeptOf kept spec items exts
-    → Opened spec items exts entries now → IsSound now → HaveOwnExts kept.chain kept.exts
-own_if_sound kept spec items exts entries now of (log, is) sound =
-    own_opened now.log log spec items exts entries is (joined_so now log sound is.is_log) kept of
+own_if_sound : (kept : KeptValue) (spec : Specification) (stored : List Stored) (entries : List Entry) (now : Image) → IsKeptOf kept spec stored
+    → Opened spec stored entries now → IsSound now → HaveOwnExts kept.chain kept.exts
+own_if_sound kept spec stored entries now of (log, is) sound =
+    own_opened now.log log spec stored entries is (joined_so now log sound is.is_log) kept of
 
 -- Where what was read is sound, each block has its own ext.
-pub opened_own : (reads mid : Option Image) (kept : KeptValue) (spec : Specification) (items exts : List (List ℕ)) (entries : List Entry)
-    → IsKeptOf kept spec items exts → mid ≡ reads → IfSome mid (Opened spec items exts entries) → (now : Image) → reads ≡ Some now → IsSound now
+pub opened_own : (reads mid : Option Image) (kept : KeptValue) (spec : Specification) (stored : List Stored) (entries : List Entry)
+    → IsKeptOf kept spec stored → mid ≡ reads → IfSome mid (Opened spec stored entries) → (now : Image) → reads ≡ Some now → IsSound now
     → HaveOwnExts kept.chain kept.exts
-opened_own reads mid kept spec items exts entries of same opened now told sound =
-    own_if_sound kept spec items exts entries now of (subst (λ (o : Option Image). IfSome o (Opened spec items exts entries)) (same ∙ told) opened) sound
+opened_own reads mid kept spec stored entries of same opened now told sound =
+    own_if_sound kept spec stored entries now of (subst (λ (o : Option Image). IfSome o (Opened spec stored entries)) (same ∙ told) opened) sound
 
 -- ---- A disk that was only read
 
@@ -305,9 +335,9 @@ module _ (images0 images1 : Image → Type 0) (none_new : NoneNew images0 images
       inr (stands_so now image chain (sound now (subst (λ (o : Option Image). IfSome o images0) told read)) keeps left)
 
   -- when it is opened
-  module _ (images2 : Image → Type 0) (reads2 : Option Image) (place : ℕ) (kept : KeptValue) (spec : Specification) (items exts : List (List ℕ)) (entries : List Entry)
-      (of : IsKeptOf kept spec items exts) (read2 : IfSome reads2 images2) where
-    is_on_at : (now : Image) (log : LogContent) → IsSound now → IsOpened now.log log spec items exts entries
+  module _ (images2 : Image → Type 0) (reads2 : Option Image) (place : ℕ) (kept : KeptValue) (spec : Specification) (stored : List Stored) (entries : List Entry)
+      (of : IsKeptOf kept spec stored) (read2 : IfSome reads2 images2) where
+    is_on_at : (now : Image) (log : LogContent) → IsSound now → IsOpened now.log log spec stored entries
         → IsSettled place (records_of (drop 8 now.log)) reads2 images2 → ((image : Image) → images2 image → LeftSo images1 now image)
         → IsOn (node_of kept place) reads2 images2
     is_on_at now log is_sound is settled left =
@@ -321,28 +351,28 @@ module _ (images0 images1 : Image → Type 0) (none_new : NoneNew images0 images
           stands = record {
             log = log;
             is_log = says_its_records place (records_of (drop 8 now.log)) settled.now.log settled.rest ∙ is.says;
-            keeps = chain_opened now.log log kept spec items exts entries of is;
+            keeps = chain_opened now.log log kept spec stored entries of is;
             joined = joined_so now log is_sound is.is_log;
             no_snap_a = mine.0;
             no_snap_b = mine.1;
           };
           records = records_of (drop 8 now.log);
           rest = settled.rest;
-          own = own_opened now.log log spec items exts entries is (joined_so now log is_sound is.is_log) kept of;
+          own = own_opened now.log log spec stored entries is (joined_so now log is_sound is.is_log) kept of;
         }
 
-    by_log : (now : Image) → IsSound now → Opened spec items exts entries now → IsSettled place (records_of (drop 8 now.log)) reads2 images2
+    by_log : (now : Image) → IsSound now → Opened spec stored entries now → IsSettled place (records_of (drop 8 now.log)) reads2 images2
         → ((image : Image) → images2 image → LeftSo images1 now image)
         → IsOn (node_of kept place) reads2 images2
     by_log now is_sound (log, is) settled left = is_on_at now log is_sound is settled left
 
-    pub opened_on : (reads0 reads1 : Option Image) → IfSome reads0 images0 → reads1 ≡ reads0 → IfSome reads1 (Opened spec items exts entries)
+    pub opened_on : (reads0 reads1 : Option Image) → IfSome reads0 images0 → reads1 ≡ reads0 → IfSome reads1 (Opened spec stored entries)
         → IfSome reads1 (λ now. IsSettled place (records_of (drop 8 now.log)) reads2 images2)
         → IfSome reads1 (λ now. (image : Image) → images2 image → LeftSo images1 now image)
         → IfSome reads0 (λ _. IsOn (node_of kept place) reads2 images2)
     opened_on None reads1 read same opened settled left = tt
     opened_on (Some now) reads1 read same opened settled left =
-        by_log now (sound now read) (subst (λ (o : Option Image). IfSome o (Opened spec items exts entries)) same opened)
+        by_log now (sound now read) (subst (λ (o : Option Image). IfSome o (Opened spec stored entries)) same opened)
         (subst (λ (o : Option Image). IfSome o (λ now. IsSettled place (records_of (drop 8 now.log)) reads2 images2)) same settled)
         (subst (λ (o : Option Image). IfSome o (λ now. (image : Image) → images2 image → LeftSo images1 now image)) same left)
 

@@ -38,10 +38,9 @@ use Rattle.reorg_laws.proofs.WayLaws.{joined-can-be-taken-back}
 use Rattle.joined_laws.proofs.HeaderLaws.{blocks-are-rated}
 use Rattle.joined_laws.proofs.FitLaws.{what-joins-fits}
 use Rattle.joined_laws.proofs.BranchFitLaws.{branches-fit}
-use Rattle.log_file.specs.Grammar.{AreBlocks}
 use Rattle.node_core.specs.Node.{exts_of, CountFees, AreKept}
 use Rattle.node_core.proofs.MovingLemmas.{canonical-read}
-use Rattle.node_core.specs.Opening.{HaveExts}
+use Rattle.node_core.specs.Opening.{HaveExts, EncodeIndexed}
 
 -- ---- Ratings
 
@@ -128,7 +127,7 @@ decoded-at (item ∷ items) (x ∷ kept) (suc place) b decode there =
     let later : map (decoded block) items ≡ map Some kept = (cc) in decoded-at items kept place b later there
 
 -- the entries of a tree index the blocks of its encodings
-pub indexed-by : (items : List (List ℕ)) (entries : List Entry) (kept : List Block) → AreBlocks items entries → map (decoded block) items ≡ map Some kept
+pub indexed-by : (items : List (List ℕ)) (entries : List Entry) (kept : List Block) → EncodeIndexed items entries → map (decoded block) items ≡ map Some kept
     → IndexesBlocks kept entries
 indexed-by items entries kept are decode =
     subst (λ (blocks : List Block). IndexesBlocks blocks entries) (same-blocks are.blocks kept (sym are.decode ∙ decode)) are.indexed
@@ -141,7 +140,7 @@ unfolding kept_limit
 few-blocks n few = omega (arith, few)
 
 -- What a source of blocks is made of.
-pub can-be-listed : (items exts : List (List ℕ)) (entries : List Entry) → AreBlocks items entries → length exts ≡ length items → length items ≤ kept_limit
+pub can-be-listed : (items exts : List (List ℕ)) (entries : List Entry) → EncodeIndexed items entries → length exts ≡ length items → length items ≤ kept_limit
     → HaveExts items exts → listed.AreKept items exts
 can-be-listed items exts entries are beside few have = record {
   lengths = beside;
@@ -151,7 +150,7 @@ can-be-listed items exts entries are beside few have = record {
 }
 
 -- as many are stored as the tree has entries
-pub counts-entries : (items : List (List ℕ)) (entries : List Entry) (stored : List Stored) → AreBlocks items entries
+pub counts-entries : (items : List (List ℕ)) (entries : List Entry) (stored : List Stored) → EncodeIndexed items entries
     → map (decoded block) items ≡ map Some (blocks_of stored) → length stored ≡ length entries
 counts-entries items entries stored are decode =
     sym (length-map stored (λ (it : Stored). it.block)) ∙ sym (len-same (blocks_of stored) entries (indexed-by items entries (blocks_of stored) are decode))
@@ -175,7 +174,7 @@ canonical-stored items kept decode place b there = canonical-read (slice_index_o
 
 -- With the rows of the tip's branch all is kept.
 pub are-kept : (items exts : List (List ℕ)) (entries : List Entry) (before stored : List Stored) (index : UnclesValue)
-    → AreBlocks items entries → length items ≤ kept_limit → map (decoded block) items ≡ map Some (blocks_of before) → Some stored ≡ Some before
+    → EncodeIndexed items entries → length items ≤ kept_limit → map (decoded block) items ≡ map Some (blocks_of before) → Some stored ≡ Some before
     → HaveExts items exts → exts_of before ≡ exts → AreRated entries → IndexesUncles (blocks_of before) index → AreKept stored entries index
 are-kept items exts entries before stored index are few decode told have beside rated uncles =
     subst (λ (s : List Stored). AreKept s entries index) (sym (same_Some stored before told)) (record {
@@ -192,13 +191,13 @@ are-kept items exts entries before stored index are few decode told have beside 
 abbrev chain_with : Specification → List Block → Chain
 chain_with spec kept = record { spec = spec; blocks = kept }
 
-pub rated-joined : (spec : Specification) (items : List (List ℕ)) (entries : List Entry) (kept : List Block) → AreBlocks items entries
+pub rated-joined : (spec : Specification) (items : List (List ℕ)) (entries : List Entry) (kept : List Block) → EncodeIndexed items entries
     → map (decoded block) items ≡ map Some kept → IsJoined (record { spec = spec; blocks = kept }) → AreRated entries
 rated-joined spec items entries kept are decode joined place entry there =
     let here = described kept entries place entry (indexed-by items entries kept are decode).each there in
     subst (λ (dao : List ℕ). IsTrue (is_rated dao)) (sym here.is.dao) (blocks-are-rated (chain_with spec kept) place here.block joined here.there)
 
-pub fits-joined : (spec : Specification) (items : List (List ℕ)) (entries : List Entry) (kept : List Block) (stored : List Stored) (tip : ℕ) → AreBlocks items entries
+pub fits-joined : (spec : Specification) (items : List (List ℕ)) (entries : List Entry) (kept : List Block) (stored : List Stored) (tip : ℕ) → EncodeIndexed items entries
     → map (decoded block) items ≡ map Some (blocks_of stored) → map (decoded block) items ≡ map Some kept → IsJoined (record { spec = spec; blocks = kept })
     → tip < length entries → BranchFits (blocks_of stored) tip
 fits-joined spec items entries kept stored tip are mine decode joined below =
@@ -284,7 +283,7 @@ pub exts-not : (blocks exts : List (List ℕ)) (place : ℕ) (bytes ext : List �
 exts-not blocks exts place bytes ext at beside above within not have = not (is-for _ bytes _ ext (sym at) (sym beside) (have place above within))
 
 -- the vectors as they were handed on
-pub canonical-in : (vectors seen : List (Vec ℕ Global)) (entries : List Entry) → AreBlocks (contents vectors) entries → seen ≡ vectors
+pub canonical-in : (vectors seen : List (Vec ℕ Global)) (entries : List Entry) → EncodeIndexed (contents vectors) entries → seen ≡ vectors
     → All IsCanonical (contents seen)
 canonical-in vectors seen entries are same =
     subst (λ (v : List (Vec ℕ Global)). All IsCanonical (contents v)) (sym same) (canonical-all (contents vectors) are.blocks are.decode)
@@ -297,7 +296,7 @@ exts-in blocks seen exts beside same too have =
 
 -- ---- The live cells
 
-pub some-blocks : (items : List (List ℕ)) (entries : List Entry) (place : ℕ) → AreBlocks items entries → place < length entries → 0 < length items
+pub some-blocks : (items : List (List ℕ)) (entries : List Entry) (place : ℕ) → EncodeIndexed items entries → place < length entries → 0 < length items
 some-blocks items entries place are within = omega (arith, within, len-same are.blocks entries are.indexed, as-many items are.blocks are.decode)
 
 -- the rows that the genesis leaves are those of its branch

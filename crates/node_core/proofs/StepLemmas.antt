@@ -12,7 +12,8 @@ use Rattle.chain_tree.specs.declared.entry.Entry.{Entry}
 use Rattle.time_defs.specs.Specification.{Specification}
 use Rattle.verdict_defs.specs.Chain.{Chain}
 use Rattle.store_defs.specs.Store.{Store, store_of}
-use Rattle.node_core.proofs.OpenLemmas.{Opened, store_keeps}
+use Rattle.chain_tree.specs.Told.{Stored}
+use Rattle.node_core.proofs.OpenLemmas.{Opened, AreBytesOf, decode_opened, store_keeps}
 use Rattle.reorg.proofs.DistanceLemmas.{none-away}
 use Rattle.node_core.specs.declared.deciding.Joining.{Joining}
 use Rattle.node_core.specs.declared.deciding.Decision.TheVariants.{Joins}
@@ -90,12 +91,14 @@ moves-on-tip chain item b is on = subst (λ (o : Option Block). moves_of chain o
 pub to-tip : (kept : List Block) (tip before now : ℕ) → tip_place kept ≡ Some tip → now ≤ before + distance kept 0 tip → now ≤ before + moves_to_tip kept
 to-tip kept tip before now is most = subst (λ (n : ℕ). now ≤ before + n) (sym (ap (distance_to kept 0) is)) most
 
-pub moved-to-open : (reads mid : Option Image) (spec : Specification) (items exts : List (List ℕ)) (entries : List Entry) (before now : ℕ) (image : Image)
-    → mid ≡ reads → reads ≡ Some image → IfSome mid (Opened spec items exts entries)
+pub moved-to-open : (reads mid : Option Image) (spec : Specification) (items exts : List (List ℕ)) (stored : List Stored) (entries : List Entry) (before now : ℕ) (image : Image)
+    → AreBytesOf items exts stored → mid ≡ reads → reads ≡ Some image → IfSome mid (Opened spec stored entries)
     → ((kept : List Block) → map (decoded block) items ≡ map Some kept → now ≤ before + moves_to_tip kept)
     → now ≤ before + moves_to_open (store_of image)
-moved-to-open reads mid spec items exts entries before now image same told opened most =
-    by_log (subst (λ (o : Option Image). IfSome o (Opened spec items exts entries)) (same ∙ told) opened)
+moved-to-open reads mid spec items exts stored entries before now image of same told opened most =
+    by_log (subst (λ (o : Option Image). IfSome o (Opened spec stored entries)) (same ∙ told) opened)
   where
-    by_log : Opened spec items exts entries image → now ≤ before + moves_to_open (store_of image)
-    by_log (log, is) = subst (λ (s : Store). now ≤ before + moves_to_open s) (sym (store_keeps image log is.is_log)) (most log.blocks is.decode)
+    by_log : Opened spec stored entries image → now ≤ before + moves_to_open (store_of image)
+    by_log (log, is) =
+        subst (λ (s : Store). now ≤ before + moves_to_open s) (sym (store_keeps image log is.is_log))
+        (most log.blocks (decode_opened image.log log spec items exts stored entries of is))

@@ -38,6 +38,7 @@ ghost use Rattle.node_core.specs.declared.deciding.Decision.TheVariants.{Joins};
 use crate::area::sync_snapshots;
 use crate::deciding::{Decision, Joining};
 use crate::kept::Kept;
+use crate::opening::Gathered;
 use crate::queries::{Fetched, HeaderAt, Live};
 use block_judge::Judged;
 use cell_model::{Ext, OutPoint};
@@ -207,18 +208,16 @@ impl Node {
         if sync_snapshots(disk).is_err() {
             return Err(LogStop::DiskFault);
         }
-        let opened = match log_file::open(alloc, disk) {
-            Err(stop) => return Err(stop),
+        let mut gathered = Gathered::new(alloc);
+        let opened = match log_file::open(alloc, disk, &mut gathered) {
+            Err(stop) => {
+                drop(gathered);
+                return Err(stop);
+            }
             Ok(opened) => opened,
         };
-        match Kept::of(
-            alloc,
-            opened.spec,
-            opened.blocks,
-            opened.exts,
-            opened.tree,
-            steps,
-        ) {
+        let (blocks, exts) = gathered.into_parts();
+        match Kept::of(alloc, opened.spec, blocks, exts, opened.tree, steps) {
             Err(stop) => Err(stop),
             Ok((kept, state)) => Ok(Node {
                 kept,

@@ -1,37 +1,96 @@
-// The kept blocks of a log that was read, and the live cells of their tip.
-ghost use Rattle.std.specs.Prelude.{◌≡◌, ◌≢◌, ◌≤◌, ◌+◌, ◌<◌, ◌^◌, List, length, map, true, false, Some, Err, IfOk};
+// The blocks of a log as it is read, its kept blocks, and the live cells of their tip.
+ghost use Rattle.std.specs.Prelude.{◌≡◌, ◌≢◌, ◌≤◌, ◌+◌, ◌<◌, ◌^◌, List, [], length, map, true, false, Some, Err, IfOk};
 ghost use Rattle.codec_defs.specs.Shape.{decoded};
 ghost use Rattle.codec_defs.specs.Schema as schema;
 ghost use Rattle.codec_defs.specs.Schema.{Block};
 ghost use Rattle.cell_defs.specs.Ext.{count_at};
 ghost use Rattle.cell_model.specs.ListBlocks.{contents, IsCanonical, IsExtFor};
 ghost use Rattle.chain_tree.specs.Blocks.{AreRated};
+ghost use Rattle.chain_tree.specs.Told.{blocks_of};
 ghost use Rattle.uncle_rules.specs.Embedded.{embedded_from};
 ghost use Rattle.chain_defs.specs.Kept.{kept_limit};
 ghost use Rattle.store_defs.specs.Store.{IsJoined};
-ghost use Rattle.log_file.specs.Grammar.{AreBlocks};
 ghost use Rattle.log_file.specs.declared.stop.LogStop.TheVariants.{DiskFault, NotAStore};
 ghost use Rattle.outside.specs.declared.disk.Damage.{Damage};
 ghost use Rattle.outside.specs.declared.disk.ReadStop.TheVariants.{Damaged};
 ghost use Rattle.cell_state.specs.State.{rows};
 ghost use Rattle.reorg.specs.Moves.{AreOf};
-ghost use Rattle.node_core.specs.Node.{AreOfTip};
-ghost use Rattle.node_core.specs.Opening.{HaveBlocks, HaveExts};
+ghost use Rattle.node_core.specs.Node.{exts_of, AreOfTip};
+ghost use Rattle.node_core.specs.Opening.{HaveBlocks, HaveExts, EncodeIndexed};
 ghost use Rattle.node_core.specs.Steps.{moves_to_tip};
 
 use crate::kept::{Kept, take_uncles};
 use cell_model::ListBlocks;
 use cell_state::State;
-use chain_tree::Tree;
+use chain_tree::{Entry, Tree};
 use dao_math::is_rated;
 use epochs::Spec;
-use log_file::{LogStop, ext_form};
+use log_file::{LogStop, Visitor, ext_form};
 use mol_schema::BlockView;
 use outside::{NoMemory, ReadStop, Steps};
 use reorg::go_to;
 use std::alloc::Global;
+use std::marker::Model;
 use std::sync::ledger::Ledger;
 use uncle_rules::Uncles;
+
+/// The blocks of a log with their exts, as bytes. Clauses see those that it was shown.
+#[derive(Drop)]
+pub(crate) struct Gathered {
+    blocks: Vec<Vec<u8>>,
+    exts: Vec<Vec<u8>>,
+}
+
+impl Model for Gathered {
+    ghost use Rattle.std.specs.Prelude.{◌≡◌, List, length};
+    ghost use Rattle.chain_tree.specs.Told.{Stored};
+    ghost use Rattle.cell_model.specs.ListBlocks.{contents, stored_from};
+    ghost use Rattle.node_core.specs.Opening.{HaveBlocks};
+
+    ghost Value = { List Stored };
+
+    ghost view = { λ it. stored_from (contents it.blocks.items) (contents it.exts.items) };
+
+    ghost invariant = { λ it. (length it.exts.items ≡ length it.blocks.items) × HaveBlocks (contents it.blocks.items) };
+}
+
+impl Visitor for Gathered {
+    ghost visited = { λ it. it };
+
+    fn visit(
+        &mut self,
+        alloc: Global,
+        block: &BlockView<'_>,
+        ext: &[u8],
+        _entry: &Entry,
+    ) -> Result<(), NoMemory> {
+        let bytes = block.bytes().to_vec(alloc)?;
+        let ext = ext.to_vec(alloc)?;
+        self.blocks.reserve(1)?;
+        self.exts.push(ext)?;
+        self.blocks.push_reserved(bytes);
+        Ok(())
+    }
+}
+
+impl Gathered {
+    pub(crate) fn new(alloc: Global) -> Gathered
+        ensures { result ≡ [] }
+    {
+        Gathered {
+            blocks: Vec::new(alloc),
+            exts: Vec::new(alloc),
+        }
+    }
+
+    /// The encodings of the blocks, genesis first, and beside each its ext.
+    pub(crate) fn into_parts(self) -> (Vec<Vec<u8>>, Vec<Vec<u8>>)
+        ensures blocks { map (decoded schema.block) (contents result.0.items) ≡ map Some (blocks_of self) }
+        ensures exts { contents result.1.items ≡ exts_of self }
+    {
+        (self.blocks, self.exts)
+    }
+}
 
 /// Whether the DAO field of each entry of a tree is rated.
 fn are_rated(tree: &Tree) -> bool
@@ -138,7 +197,7 @@ impl Kept {
         tree: Tree,
         steps: &mut Steps<L>,
     ) -> Result<(Kept, State), LogStop>
-        requires blocks { AreBlocks (contents blocks.items) tree.entries }
+        requires blocks { EncodeIndexed (contents blocks.items) tree.entries }
         requires beside { length exts.items ≡ length blocks.items }
         requires few { length blocks.items ≤ kept_limit }
         ensures spec { IfOk result (λ it. it.0.chain.spec ≡ spec) }

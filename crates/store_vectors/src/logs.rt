@@ -2,8 +2,10 @@
 ghost use Rattle.std.specs.Prelude.{◌≤◌, length};
 
 use crate::forms::are_bytes;
-use log_file::{Body, LogStop, append, create, open};
-use outside::{Area, Disk, WriteStop};
+use chain_tree::Entry;
+use log_file::{Body, LogStop, Visitor, append, create, open};
+use mol_schema::BlockView;
+use outside::{Area, Disk, NoMemory, WriteStop};
 use outside_mem::MemDisk;
 use row_table::Row;
 use std::alloc::Global;
@@ -89,10 +91,39 @@ pub(crate) fn put(disk: &mut MemDisk, bytes: &[u8]) -> Option<bool> {
     Some(true)
 }
 
-/// How many blocks the log is opened with, and where its records end then.
+/// The blocks that a log showed, each with its ext.
+#[derive(Drop)]
+struct Shown {
+    blocks: Vec<(Vec<u8>, Vec<u8>)>,
+}
+
+impl Visitor for Shown {
+    ghost use Rattle.std.specs.Prelude.{map};
+    ghost use Rattle.codec_defs.specs.Schema as schema;
+
+    ghost visited = { λ shown. map (λ pair. record { block = schema.block.decoding pair.0.items; ext = pair.1.items }) shown.blocks.items };
+
+    fn visit(
+        &mut self,
+        alloc: Global,
+        block: &BlockView<'_>,
+        ext: &[u8],
+        _entry: &Entry,
+    ) -> Result<(), NoMemory> {
+        let bytes = block.bytes().to_vec(alloc)?;
+        let ext = ext.to_vec(alloc)?;
+        self.blocks.push((bytes, ext))?;
+        Ok(())
+    }
+}
+
+/// How many blocks the log shows as it is opened, and where its records end then.
 fn opened(alloc: Global, disk: &mut MemDisk) -> Result<(u64, u64), LogStop> {
-    let found = open(alloc, disk)?;
-    Ok((found.blocks.len() as u64, found.log.place))
+    let mut shown = Shown {
+        blocks: Vec::new(alloc),
+    };
+    let found = open(alloc, disk, &mut shown)?;
+    Ok((shown.blocks.len() as u64, found.log.place))
 }
 
 /// The count of the blocks, where the records end, and the byte that stands there then, or why there is none.

@@ -9,7 +9,7 @@ pub returns-then-bytes-ne1-clause-found : goal.returns-then-bytes-ne1-clause-fou
 returns-then-bytes-ne1-clause-found c = sym (none_unless c.args.bytes.now (λ r is. absurd (c.if-bytes-ne1.true is.open_gate)))
 
 pub returns-then-bytes-end-clause-found : goal.returns-then-bytes-end-clause-found
-returns-then-bytes-end-clause-found c = sym (none_unless c.args.bytes.now (λ r is. absurd (omega (arith, is.whole, is.size, c.read_count.ensures, c.if-bytes-end.true))))
+returns-then-bytes-end-clause-found c = sym (none_unless c.args.bytes.now (λ r is. absurd (omega (arith, is.whole, is.size, c.read_count.ensures.value, c.if-bytes-end.true))))
 
 pub returns-clause-found : goal.returns-clause-found
-returns-clause-found c = sym (whole_there c.args.bytes.now (6 + c.read_count.result) c.if-bytes-ne1.false (ap (λ (n : ℕ). 6 + n) c.read_count.ensures) c.if-bytes-end.false)
+returns-clause-found c = sym (whole_there c.args.bytes.now (6 + c.read_count.result) c.if-bytes-ne1.false (ap (λ (n : ℕ). 6 + n) c.read_count.ensures.value) c.if-bytes-end.false)

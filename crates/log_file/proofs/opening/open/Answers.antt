@@ -14,7 +14,7 @@ pub returns-in-Err-read_log-clause-others : goal.returns-in-Err-read_log-clause-
 returns-in-Err-read_log-clause-others g c = others_kept _ _ (c.read_log.ensures.as_before.reads ∙ c.synced_len.ensures.same)
 
 pub mend-requires-clause-limit : goal.mend-requires-clause-limit
-mend-requires-clause-limit g c = omega (arith, c.in-Ok-read_log.ensures.place, c.in-Ok-read_log.ensures.few, kept_limit_is)
+mend-requires-clause-limit g c = omega (arith, c.in-Ok-read_log.ensures.place, c.in-Ok-read_log.ensures.blocks.few, kept_limit_is)
 
 pub returns-in-Err-mend-clause-moments : goal.returns-in-Err-mend-clause-moments
 returns-in-Err-mend-clause-moments g c =
@@ -63,12 +63,6 @@ returns-in-Err-clause-mended g c = on_each (g.D.Disk.reads_as c.args.disk.now) _
 pub returns-in-Err-clause-blocks : goal.returns-in-Err-clause-blocks
 returns-in-Err-clause-blocks g c = tt
 
-pub returns-in-Err-clause-beside : goal.returns-in-Err-clause-beside
-returns-in-Err-clause-beside g c = tt
-
-pub returns-in-Err-clause-few : goal.returns-in-Err-clause-few
-returns-in-Err-clause-few g c = tt
-
 pub returns-in-Err-clause-place : goal.returns-in-Err-clause-place
 returns-in-Err-clause-place g c = tt
 
@@ -109,12 +103,6 @@ returns-in-Err-read_log-clause-mended g c = on_each (g.D.Disk.reads_as c.args.di
 
 pub returns-in-Err-read_log-clause-blocks : goal.returns-in-Err-read_log-clause-blocks
 returns-in-Err-read_log-clause-blocks g c = tt
-
-pub returns-in-Err-read_log-clause-beside : goal.returns-in-Err-read_log-clause-beside
-returns-in-Err-read_log-clause-beside g c = tt
-
-pub returns-in-Err-read_log-clause-few : goal.returns-in-Err-read_log-clause-few
-returns-in-Err-read_log-clause-few g c = tt
 
 pub returns-in-Err-read_log-clause-place : goal.returns-in-Err-read_log-clause-place
 returns-in-Err-read_log-clause-place g c = tt
@@ -160,12 +148,6 @@ returns-in-Err-mend-clause-mended g c = on_each (g.D.Disk.reads_as c.args.disk.n
 pub returns-in-Err-mend-clause-blocks : goal.returns-in-Err-mend-clause-blocks
 returns-in-Err-mend-clause-blocks g c = tt
 
-pub returns-in-Err-mend-clause-beside : goal.returns-in-Err-mend-clause-beside
-returns-in-Err-mend-clause-beside g c = tt
-
-pub returns-in-Err-mend-clause-few : goal.returns-in-Err-mend-clause-few
-returns-in-Err-mend-clause-few g c = tt
-
 pub returns-in-Err-mend-clause-place : goal.returns-in-Err-mend-clause-place
 returns-in-Err-mend-clause-place g c = tt
 
@@ -185,7 +167,7 @@ pub returns-in-Err-mend-clause-only_read : goal.returns-in-Err-mend-clause-only_
 returns-in-Err-mend-clause-only_read g c = λ e. absurd (fault_not_wrong e)
 
 pub returns-in-Err-mend-clause-no_log : goal.returns-in-Err-mend-clause-no_log
-returns-in-Err-mend-clause-no_log g c = told_log _ _ _ _ _ _ _ c.in-Ok.ensures.same c.in-Ok-read_log.ensures.opened
+returns-in-Err-mend-clause-no_log g c = told_log _ _ _ _ _ _ c.in-Ok.ensures.same c.in-Ok-read_log.ensures.opened
 
 pub returns-in-Err-mend-clause-cause : goal.returns-in-Err-mend-clause-cause
 returns-in-Err-mend-clause-cause g c =
@@ -199,12 +181,6 @@ returns-in-Ok-mend-clause-opened g c = on_same _ _ _ c.in-Ok.ensures.same c.in-O
 
 pub returns-in-Ok-mend-clause-blocks : goal.returns-in-Ok-mend-clause-blocks
 returns-in-Ok-mend-clause-blocks g c = c.in-Ok-read_log.ensures.blocks
-
-pub returns-in-Ok-mend-clause-beside : goal.returns-in-Ok-mend-clause-beside
-returns-in-Ok-mend-clause-beside g c = c.in-Ok-read_log.ensures.beside
-
-pub returns-in-Ok-mend-clause-few : goal.returns-in-Ok-mend-clause-few
-returns-in-Ok-mend-clause-few g c = c.in-Ok-read_log.ensures.few
 
 pub returns-in-Ok-mend-clause-place : goal.returns-in-Ok-mend-clause-place
 returns-in-Ok-mend-clause-place g c = c.in-Ok-read_log.ensures.place
@@ -225,7 +201,7 @@ pub returns-in-Ok-mend-clause-only_read : goal.returns-in-Ok-mend-clause-only_re
 returns-in-Ok-mend-clause-only_read g c = λ e. absurd (no_error _ _ e)
 
 pub returns-in-Ok-mend-clause-no_log : goal.returns-in-Ok-mend-clause-no_log
-returns-in-Ok-mend-clause-no_log g c = told_log _ _ _ _ _ _ _ c.in-Ok.ensures.same c.in-Ok-read_log.ensures.opened
+returns-in-Ok-mend-clause-no_log g c = told_log _ _ _ _ _ _ c.in-Ok.ensures.same c.in-Ok-read_log.ensures.opened
 
 pub returns-in-Ok-mend-clause-others : goal.returns-in-Ok-mend-clause-others
 returns-in-Ok-mend-clause-others g c = others_on _ _ _ (c.in-Ok-read_log.ensures.as_before.reads ∙ c.in-Ok.ensures.same) c.mend.ensures.others

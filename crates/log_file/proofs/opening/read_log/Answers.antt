@@ -1,33 +1,36 @@
-use Rattle.std.proofs.Common.{Err, ap}
+use Rattle.std.proofs.Common.{Err, ap, arith}
 use Rattle.std.specs.Prelude.{IfSome}
+use Rattle.log_file.specs.Grammar.{blocks_with}
 use Rattle.log_file.proofs.Exits.{on_each, no_error, stop_counts, answer_counts, answer_still, counts_on, as_before_then, same_stop}
-use Rattle.log_file.proofs.Whole.{IsRead, told_read, told_wrong_blocks, told_opened, told_ends, told_gate, place_within, told_wrong_front}
+use Rattle.log_file.proofs.Whole.{IsRead, told_read, told_wrong_blocks, told_opened, told_ends, told_gate, told_wrong_front}
 use Rattle.log_file.proofs.opening.read_log.Goals as goal
 
 pub returns-in-Err-read_blocks-clause-not_a_store : goal.returns-in-Err-read_blocks-clause-not_a_store
 returns-in-Err-read_blocks-clause-not_a_store g c =
     let front = c.in-Ok.ensures in
-    told_wrong_blocks _ _ c.in-Ok.front.0 c.args.len c.new-reader.result c.read_front.new.reader c.in-Ok.front.1 _ _ (λ e. ap Err (same_stop _ _ e)) front.as_before.reads c.requires
-    c.new-reader.ensures.reading front.found (c.in-Err-read_blocks.ensures.wrong c.in-Ok.front.0)
+    told_wrong_blocks _ _ c.in-Ok.front.0 c.args.len c.new-reader.result c.read_front.new.reader (blocks_with (g.V.Visitor.visited c.read_front.new.visitor) c.in-Ok.front.1.entries) _ _
+    (λ e. ap Err (same_stop _ _ e)) front.as_before.reads c.requires.len c.new-reader.ensures.reading front.found (c.in-Err-read_blocks.ensures.wrong c.in-Ok.front.0)
 
-all_read : (g : _) (c : goal.After-drop-reader-inside-2 g) → IfSome (g.D.Disk.reads_as c.args.disk.now) (λ image. IsRead image.log c.in-Ok.front.0 c.read_blocks.new.reader c.read_blocks.new.blocks)
+all_read : (g : _) (c : goal.After-drop-reader-inside-2 g) → IfSome (g.D.Disk.reads_as c.args.disk.now) (λ image. IsRead image.log c.in-Ok.front.0 c.read_blocks.new.reader
+    (blocks_with (g.V.Visitor.visited c.read_blocks.new.visitor) c.read_blocks.new.tree.entries))
 all_read g c =
     let front = c.in-Ok.ensures in
-    told_read _ _ c.in-Ok.front.0 c.args.len c.new-reader.result c.read_front.new.reader c.read_blocks.new.reader c.in-Ok.front.1 c.read_blocks.new.blocks front.as_before.reads c.requires
-    c.new-reader.ensures.reading front.start front.found (c.in-Ok-read_blocks.ensures.found c.in-Ok.front.0)
+    told_read _ _ c.in-Ok.front.0 c.args.len c.new-reader.result c.read_front.new.reader c.read_blocks.new.reader
+    (blocks_with (g.V.Visitor.visited c.read_front.new.visitor) c.in-Ok.front.1.entries) (blocks_with (g.V.Visitor.visited c.read_blocks.new.visitor) c.read_blocks.new.tree.entries)
+    front.as_before.reads c.requires.len c.new-reader.ensures.reading front.start front.found (c.in-Ok-read_blocks.ensures.found c.in-Ok.front.0)
 
 pub returns-clause-opened : goal.returns-clause-opened
-returns-clause-opened g c =
-    let parts = c.into_parts-blocks.ensures in
-    told_opened _ c.in-Ok.front.0 c.read_blocks.new.reader c.read_blocks.new.blocks _ _ _ parts.items parts.exts parts.entries (all_read g c)
+returns-clause-opened g c = told_opened _ c.in-Ok.front.0 c.read_blocks.new.reader (blocks_with (g.V.Visitor.visited c.read_blocks.new.visitor) c.read_blocks.new.tree.entries) (all_read g c)
 
 pub returns-clause-ends : goal.returns-clause-ends
-returns-clause-ends g c = told_ends _ c.in-Ok.front.0 c.read_blocks.new.reader c.read_blocks.new.blocks c.at-place.result c.at-place.ensures.value (all_read g c)
+returns-clause-ends g c =
+    told_ends _ c.in-Ok.front.0 c.read_blocks.new.reader (blocks_with (g.V.Visitor.visited c.read_blocks.new.visitor) c.read_blocks.new.tree.entries) c.at-place.result c.at-place.ensures.value
+    (all_read g c)
 
 pub returns-clause-gate : goal.returns-clause-gate
 returns-clause-gate g c =
-    told_gate _ c.in-Ok.front.0 c.read_blocks.new.reader c.read_blocks.new.blocks c.at-place.result c.ahead.result.now c.is_open-open_gate.result c.at-place.ensures.value c.ahead.ensures
-    c.is_open-open_gate.ensures (all_read g c)
+    told_gate _ c.in-Ok.front.0 c.read_blocks.new.reader (blocks_with (g.V.Visitor.visited c.read_blocks.new.visitor) c.read_blocks.new.tree.entries) c.at-place.result c.ahead.result.now
+    c.is_open-open_gate.result c.at-place.ensures.value c.ahead.ensures c.is_open-open_gate.ensures (all_read g c)
 
 pub returns-in-Err-clause-opened : goal.returns-in-Err-clause-opened
 returns-in-Err-clause-opened g c = on_each (g.D.Disk.reads_as c.args.disk.now) _ (λ _. tt)
@@ -41,18 +44,12 @@ returns-in-Err-clause-gate g c = on_each (g.D.Disk.reads_as c.args.disk.now) _ (
 pub returns-in-Err-clause-blocks : goal.returns-in-Err-clause-blocks
 returns-in-Err-clause-blocks g c = tt
 
-pub returns-in-Err-clause-beside : goal.returns-in-Err-clause-beside
-returns-in-Err-clause-beside g c = tt
-
-pub returns-in-Err-clause-few : goal.returns-in-Err-clause-few
-returns-in-Err-clause-few g c = tt
-
 pub returns-in-Err-clause-place : goal.returns-in-Err-clause-place
 returns-in-Err-clause-place g c = tt
 
 pub returns-in-Err-clause-not_a_store : goal.returns-in-Err-clause-not_a_store
 returns-in-Err-clause-not_a_store g c =
-    told_wrong_front _ _ _ _ _ (λ e. ap Err (same_stop _ _ e)) c.requires c.new-reader.ensures.reading c.in-Err.ensures.wrong
+    told_wrong_front _ _ _ _ _ (λ e. ap Err (same_stop _ _ e)) c.requires.len c.new-reader.ensures.reading c.in-Err.ensures.wrong
 
 pub returns-in-Err-clause-as_before : goal.returns-in-Err-clause-as_before
 returns-in-Err-clause-as_before g c = c.in-Err.ensures.as_before
@@ -71,12 +68,6 @@ returns-in-Err-read_blocks-clause-gate g c = on_each (g.D.Disk.reads_as c.args.d
 
 pub returns-in-Err-read_blocks-clause-blocks : goal.returns-in-Err-read_blocks-clause-blocks
 returns-in-Err-read_blocks-clause-blocks g c = tt
-
-pub returns-in-Err-read_blocks-clause-beside : goal.returns-in-Err-read_blocks-clause-beside
-returns-in-Err-read_blocks-clause-beside g c = tt
-
-pub returns-in-Err-read_blocks-clause-few : goal.returns-in-Err-read_blocks-clause-few
-returns-in-Err-read_blocks-clause-few g c = tt
 
 pub returns-in-Err-read_blocks-clause-place : goal.returns-in-Err-read_blocks-clause-place
 returns-in-Err-read_blocks-clause-place g c = tt
@@ -97,17 +88,13 @@ pub returns-clause-cause : goal.returns-clause-cause
 returns-clause-cause g c = counts_on _ _ _ (answer_still _ _ _ _ c.in-Ok.ensures.cause) (answer_counts _ _ _ _ (answer_still _ _ _ _ c.in-Ok-read_blocks.ensures.cause))
 
 pub returns-clause-blocks : goal.returns-clause-blocks
-returns-clause-blocks g c = c.into_parts-blocks.ensures.blocks
-
-pub returns-clause-beside : goal.returns-clause-beside
-returns-clause-beside g c = c.into_parts-blocks.ensures.beside
-
-pub returns-clause-few : goal.returns-clause-few
-returns-clause-few g c = c.into_parts-blocks.ensures.few
+returns-clause-blocks g c = c.in-Ok-read_blocks.ensures.blocks
 
 pub read_front-requires : goal.read_front-requires
-read_front-requires g c = c.new-reader.ensures.at.at
+read_front-requires g c = record { start = c.new-reader.ensures.at.at; none = c.requires.none }
+
+pub read_blocks-requires : goal.read_blocks-requires
+read_blocks-requires g c = c.in-Ok.ensures.blocks
 
 pub returns-clause-place : goal.returns-clause-place
-returns-clause-place g c =
-    place_within _ c.at-place.result _ _ _ c.at-place.ensures.value c.into_parts-blocks.ensures.items (c.in-Ok-read_blocks.ensures.place c.in-Ok.ensures.place)
+returns-clause-place g c = omega (arith, c.at-place.ensures.value, c.in-Ok-read_blocks.ensures.place c.in-Ok.ensures.place)

@@ -1,5 +1,7 @@
 use Rattle.std.proofs.Common.{ℕ, ◌+◌, length, Err, refl, sym, ap, ◌∙◌, subst, arith}
-use Rattle.log_file.specs.Grammar.{record_of, IsGrownBy}
+use Rattle.log_file.specs.Grammar.{record_of, blocks_with, IsGrownBy}
+use Rattle.chain_tree.specs.Told.{blocks_of}
+use Rattle.std.proofs.lemmas.List.{length_push}
 use Rattle.log_file.proofs.Pieces.{told_passed_block, told_wrong_block, still_reading}
 use Rattle.log_file.proofs.Exits.{on_each, told_also, no_answer, no_error, not_yes, same_stop, stop_counts, answer_counts, answer_still, no_fault_behind}
 use Rattle.log_file.proofs.records.read_block.Goals as goal
@@ -10,8 +12,8 @@ returns-in-Err-clause-at g c = λ e. absurd (no_answer _ _ e)
 pub returns-in-Err-clause-longer : goal.returns-in-Err-clause-longer
 returns-in-Err-clause-longer g c = λ e. absurd (no_answer _ _ e)
 
-pub returns-in-Err-clause-few : goal.returns-in-Err-clause-few
-returns-in-Err-clause-few g c = λ e. absurd (no_answer _ _ e)
+pub returns-in-Err-clause-blocks : goal.returns-in-Err-clause-blocks
+returns-in-Err-clause-blocks g c = tt
 
 pub returns-in-Err-clause-stays : goal.returns-in-Err-clause-stays
 returns-in-Err-clause-stays g c = λ e. absurd (no_answer _ _ e)
@@ -37,8 +39,8 @@ returns-in-Err-put-clause-at g c = λ e. absurd (no_answer _ _ e)
 pub returns-in-Err-put-clause-longer : goal.returns-in-Err-put-clause-longer
 returns-in-Err-put-clause-longer g c = λ e. absurd (no_answer _ _ e)
 
-pub returns-in-Err-put-clause-few : goal.returns-in-Err-put-clause-few
-returns-in-Err-put-clause-few g c = λ e. absurd (no_answer _ _ e)
+pub returns-in-Err-put-clause-blocks : goal.returns-in-Err-put-clause-blocks
+returns-in-Err-put-clause-blocks g c = tt
 
 pub returns-in-Err-put-clause-stays : goal.returns-in-Err-put-clause-stays
 returns-in-Err-put-clause-stays g c = λ e. absurd (no_answer _ _ e)
@@ -59,7 +61,7 @@ pub returns-in-Err-put-clause-as_before : goal.returns-in-Err-put-clause-as_befo
 returns-in-Err-put-clause-as_before g c = c.in-Ok.ensures.as_before
 
 pub returns-in-Err-clause-wrong : goal.returns-in-Err-clause-wrong
-returns-in-Err-clause-wrong g c = on_each (g.D.Disk.reads_as c.args.disk.now) _ (λ _ _ e _ _. absurd (c.in-Err.ensures.reads (same_stop _ _ e)))
+returns-in-Err-clause-wrong g c = on_each (g.D.Disk.reads_as c.args.disk.now) _ (λ _ _ e. absurd (c.in-Err.ensures.reads (same_stop _ _ e)))
 
 pub returns-in_default-clause-at : goal.returns-in_default-clause-at
 returns-in_default-clause-at g c = λ e. absurd (not_yes e)
@@ -67,8 +69,8 @@ returns-in_default-clause-at g c = λ e. absurd (not_yes e)
 pub returns-in_default-clause-longer : goal.returns-in_default-clause-longer
 returns-in_default-clause-longer g c = λ e. absurd (not_yes e)
 
-pub returns-in_default-clause-few : goal.returns-in_default-clause-few
-returns-in_default-clause-few g c = λ e. absurd (not_yes e)
+pub returns-in_default-clause-blocks : goal.returns-in_default-clause-blocks
+returns-in_default-clause-blocks g c = c.requires
 
 pub returns-in_default-clause-found : goal.returns-in_default-clause-found
 returns-in_default-clause-found g c = on_each (g.D.Disk.reads_as c.args.disk.now) _ (λ _ _ e. absurd (not_yes e))
@@ -119,29 +121,31 @@ pub returns-clause-at : goal.returns-clause-at
 returns-clause-at g c = λ _. (c.skip.ensures.at.len ∙ c.fill_record.ensures.at.len, omega (arith, c.skip.ensures.at.at, c.fill_record.ensures.at.at, c.in-Some.ensures.fits))
 
 pub put-requires : goal.put-requires
-put-requires g c = c.in-Some.ensures.fits
+put-requires g c = record { fits = c.in-Some.ensures.fits; blocks = c.requires }
 
 pub returns-clause-longer : goal.returns-clause-longer
-returns-clause-longer g c = λ _. c.in-Ok-put.ensures.longer
+returns-clause-longer g c = λ _.
+    ap length c.in-Ok-put.ensures.grown.stored ∙ length_push (g.V.Visitor.visited c.args.visitor.now) (record { block = c.in-Ok-put.ensures.grown.block; ext = c.in-Ok-put.ensures.grown.ext })
 
-pub returns-clause-few : goal.returns-clause-few
-returns-clause-few g c = λ _. c.in-Ok-put.ensures.few
+pub returns-clause-blocks : goal.returns-clause-blocks
+returns-clause-blocks g c = c.in-Ok-put.ensures.blocks
 
 pub returns-in_default-clause-stays : goal.returns-in_default-clause-stays
-returns-in_default-clause-stays g c = λ _. (c.fill_record.ensures.at, refl)
+returns-in_default-clause-stays g c = λ _. (c.fill_record.ensures.at, refl, refl)
 
 pub returns-in_default-clause-byte : goal.returns-in_default-clause-byte
 returns-in_default-clause-byte g c = told_also _ (g.D.Disk.reads_as c.args.disk.now) _ _ c.in-Ok.ensures.byte
 
 pub returns-in-Err-put-clause-wrong : goal.returns-in-Err-put-clause-wrong
 returns-in-Err-put-clause-wrong g c =
-    told_wrong_block _ _ c.args.blocks.now c.args.reader.now c.fill_record.new.self (record_of c.in-Some.kind c.in-Some.body.now) c.ahead.result.now c.ahead.ensures c.in-Some.ensures.found
-    (λ e kept stand. c.in-Err-put.ensures.wrong kept stand (ap Err (same_stop _ _ e))) c.in-Ok.ensures.found
+    told_wrong_block _ _ (blocks_of (g.V.Visitor.visited c.args.visitor.now)) c.args.reader.now c.fill_record.new.self (record_of c.in-Some.kind c.in-Some.body.now) c.ahead.result.now
+    c.ahead.ensures c.in-Some.ensures.found (λ e. c.in-Err-put.ensures.wrong (ap Err (same_stop _ _ e))) c.in-Ok.ensures.found
 
 pub returns-clause-found : goal.returns-clause-found
 returns-clause-found g c =
     let r = record_of c.in-Some.kind c.in-Some.body.now in
-    told_passed_block _ _ (λ kept r. IsGrownBy (c.args.reader.now.at + 6) r kept c.args.blocks.now c.put.new.self) c.args.blocks.now
-    c.args.reader.now c.fill_record.new.self c.skip.new.self r c.ahead.result.now c.fill_record.ensures.at c.skip.ensures.at c.ahead.ensures c.in-Some.ensures.found
-    (λ kept stand. subst (λ (place : ℕ). IsGrownBy (place + 6) r kept c.args.blocks.now c.put.new.self) (c.at-place.ensures.value ∙ c.fill_record.ensures.at.at) (c.in-Ok-put.ensures.grown kept stand))
-    c.in-Ok.ensures.found
+    let old = blocks_with (g.V.Visitor.visited c.args.visitor.now) c.args.tree.now.entries in
+    let new = blocks_with (g.V.Visitor.visited c.put.new.visitor) c.put.new.tree.entries in
+    told_passed_block _ _ (λ r. IsGrownBy (c.args.reader.now.at + 6) r old new) c.args.reader.now c.fill_record.new.self c.skip.new.self r c.ahead.result.now c.fill_record.ensures.at c.skip.ensures.at
+    c.ahead.ensures c.in-Some.ensures.found
+    (subst (λ (place : ℕ). IsGrownBy (place + 6) r old new) (c.at-place.ensures.value ∙ c.fill_record.ensures.at.at) c.in-Ok-put.ensures.grown) c.in-Ok.ensures.found

@@ -1,4 +1,5 @@
 use Rattle.std.proofs.Common.{Err, ap}
+use Rattle.log_file.specs.Grammar.{blocks_with}
 use Rattle.log_file.proofs.Exits.{on_each, no_error, stop_counts, answer_counts, answer_still, counts_on, as_before_then, same_stop}
 use Rattle.log_file.proofs.Front.{told_wrong_start, told_wrong_spec, told_wrong_genesis, told_begun}
 use Rattle.log_file.proofs.records.read_front.Goals as goal
@@ -23,8 +24,9 @@ returns-in-Ok-read_genesis-clause-found g c =
     let start = c.in-Ok.ensures in
     let one = c.in-Ok-read_spec.ensures in
     let two = c.in-Ok-read_genesis.ensures in
-    told_begun _ _ _ c.in-Ok-read_spec.spec c.args.reader.now c.read_start.new.reader c.read_spec.new.reader c.read_genesis.new.reader c.in-Ok-read_genesis.blocks start.as_before.reads
-    one.as_before.reads start.at.at start.reading one.reading one.found two.reading two.found
+    told_begun _ _ _ c.in-Ok-read_spec.spec c.args.reader.now c.read_start.new.reader c.read_spec.new.reader c.read_genesis.new.reader
+    (blocks_with (g.V.Visitor.visited c.read_genesis.new.visitor) c.in-Ok-read_genesis.tree.entries) start.as_before.reads one.as_before.reads start.at.at start.reading one.reading one.found two.reading
+    two.found two.blocks
 
 pub returns-in-Err-clause-start : goal.returns-in-Err-clause-start
 returns-in-Err-clause-start g c = on_each (g.D.Disk.reads_as c.args.disk.now) _ (λ _ _. tt)
@@ -87,3 +89,15 @@ returns-in-Ok-read_genesis-clause-cause g c =
 
 pub returns-in-Ok-read_genesis-clause-wrong : goal.returns-in-Ok-read_genesis-clause-wrong
 returns-in-Ok-read_genesis-clause-wrong g c = on_each (g.D.Disk.reads_as c.args.disk.now) _ (λ _ _ e. absurd (no_error _ _ e))
+
+pub returns-in-Err-clause-blocks : goal.returns-in-Err-clause-blocks
+returns-in-Err-clause-blocks g c = tt
+
+pub returns-in-Err-read_spec-clause-blocks : goal.returns-in-Err-read_spec-clause-blocks
+returns-in-Err-read_spec-clause-blocks g c = tt
+
+pub returns-in-Err-read_genesis-clause-blocks : goal.returns-in-Err-read_genesis-clause-blocks
+returns-in-Err-read_genesis-clause-blocks g c = tt
+
+pub returns-in-Ok-read_genesis-clause-blocks : goal.returns-in-Ok-read_genesis-clause-blocks
+returns-in-Ok-read_genesis-clause-blocks g c = c.in-Ok-read_genesis.ensures.blocks

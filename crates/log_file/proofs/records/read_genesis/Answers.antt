@@ -1,5 +1,5 @@
 use Rattle.std.proofs.Common.{ℕ, ◌+◌, length, ap, ◌∙◌, subst, arith}
-use Rattle.log_file.specs.Grammar.{record_of, IsGenesisOf}
+use Rattle.log_file.specs.Grammar.{record_of, blocks_with, IsGenesisOf}
 use Rattle.log_file.proofs.Pieces.{told_passed, told_here, still_reading}
 use Rattle.log_file.proofs.Exits.{on_each, no_error, same_stop, stop_counts, answer_counts, answer_still, no_fault_behind, wrong_not_fault}
 use Rattle.log_file.proofs.records.read_genesis.Goals as goal
@@ -7,8 +7,8 @@ use Rattle.log_file.proofs.records.read_genesis.Goals as goal
 pub returns-in-Err-clause-at : goal.returns-in-Err-clause-at
 returns-in-Err-clause-at g c = tt
 
-pub returns-in-Err-clause-one : goal.returns-in-Err-clause-one
-returns-in-Err-clause-one g c = tt
+pub returns-in-Err-clause-blocks : goal.returns-in-Err-clause-blocks
+returns-in-Err-clause-blocks g c = tt
 
 pub returns-in-Err-clause-found : goal.returns-in-Err-clause-found
 returns-in-Err-clause-found g c = on_each (g.D.Disk.reads_as c.args.disk.now) _ (λ _ _. tt)
@@ -16,20 +16,20 @@ returns-in-Err-clause-found g c = on_each (g.D.Disk.reads_as c.args.disk.now) _ 
 pub returns-in_default-clause-at : goal.returns-in_default-clause-at
 returns-in_default-clause-at g c = tt
 
-pub returns-in_default-clause-one : goal.returns-in_default-clause-one
-returns-in_default-clause-one g c = tt
+pub returns-in_default-clause-blocks : goal.returns-in_default-clause-blocks
+returns-in_default-clause-blocks g c = tt
 
 pub returns-in_default-clause-found : goal.returns-in_default-clause-found
 returns-in_default-clause-found g c = on_each (g.D.Disk.reads_as c.args.disk.now) _ (λ _ _. tt)
 
-pub returns-in-Err-of_genesis-clause-at : goal.returns-in-Err-of_genesis-clause-at
-returns-in-Err-of_genesis-clause-at g c = tt
+pub returns-in-Err-begin-clause-at : goal.returns-in-Err-begin-clause-at
+returns-in-Err-begin-clause-at g c = tt
 
-pub returns-in-Err-of_genesis-clause-one : goal.returns-in-Err-of_genesis-clause-one
-returns-in-Err-of_genesis-clause-one g c = tt
+pub returns-in-Err-begin-clause-blocks : goal.returns-in-Err-begin-clause-blocks
+returns-in-Err-begin-clause-blocks g c = tt
 
-pub returns-in-Err-of_genesis-clause-found : goal.returns-in-Err-of_genesis-clause-found
-returns-in-Err-of_genesis-clause-found g c = on_each (g.D.Disk.reads_as c.args.disk.now) _ (λ _ _. tt)
+pub returns-in-Err-begin-clause-found : goal.returns-in-Err-begin-clause-found
+returns-in-Err-begin-clause-found g c = on_each (g.D.Disk.reads_as c.args.disk.now) _ (λ _ _. tt)
 
 pub returns-in-Err-clause-reading : goal.returns-in-Err-clause-reading
 returns-in-Err-clause-reading g c = c.in-Err.ensures.reading
@@ -46,11 +46,11 @@ returns-in_default-clause-reading g c = c.in-Ok.ensures.reading
 pub returns-in_default-clause-as_before : goal.returns-in_default-clause-as_before
 returns-in_default-clause-as_before g c = c.in-Ok.ensures.as_before
 
-pub returns-in-Err-of_genesis-clause-reading : goal.returns-in-Err-of_genesis-clause-reading
-returns-in-Err-of_genesis-clause-reading g c = c.in-Ok.ensures.reading
+pub returns-in-Err-begin-clause-reading : goal.returns-in-Err-begin-clause-reading
+returns-in-Err-begin-clause-reading g c = c.in-Ok.ensures.reading
 
-pub returns-in-Err-of_genesis-clause-as_before : goal.returns-in-Err-of_genesis-clause-as_before
-returns-in-Err-of_genesis-clause-as_before g c = c.in-Ok.ensures.as_before
+pub returns-in-Err-begin-clause-as_before : goal.returns-in-Err-begin-clause-as_before
+returns-in-Err-begin-clause-as_before g c = c.in-Ok.ensures.as_before
 
 pub returns-clause-as_before : goal.returns-clause-as_before
 returns-clause-as_before g c = c.in-Ok.ensures.as_before
@@ -68,14 +68,14 @@ pub returns-clause-found : goal.returns-clause-found
 returns-clause-found g c =
     let r = record_of c.in-Some.kind c.in-Some.body.now in
     told_passed _ _ c.args.reader.now c.fill_record.new.self c.skip.new.self r c.ahead.result.now c.fill_record.ensures.at c.skip.ensures.at c.ahead.ensures c.in-Some.ensures.found
-    (subst (λ (place : ℕ). IsGenesisOf (place + 6) r c.in-Ok-of_genesis.blocks) (c.at-place.ensures.value ∙ c.fill_record.ensures.at.at) c.in-Ok-of_genesis.ensures.genesis)
+    (subst (λ (place : ℕ). IsGenesisOf (place + 6) r (blocks_with (g.V.Visitor.visited c.begin.new.visitor) c.in-Ok-begin.tree.entries)) (c.at-place.ensures.value ∙ c.fill_record.ensures.at.at) c.in-Ok-begin.ensures.genesis)
     c.in-Ok.ensures.found
 
 pub returns-in_default-clause-cause : goal.returns-in_default-clause-cause
 returns-in_default-clause-cause g c = no_fault_behind _ _ (answer_still _ _ _ _ c.in-Ok.ensures.cause) wrong_not_fault
 
-pub returns-in-Err-of_genesis-clause-cause : goal.returns-in-Err-of_genesis-clause-cause
-returns-in-Err-of_genesis-clause-cause g c = no_fault_behind _ _ (answer_still _ _ _ _ c.in-Ok.ensures.cause) (λ e. c.in-Err-of_genesis.ensures.reads (same_stop _ _ e))
+pub returns-in-Err-begin-clause-cause : goal.returns-in-Err-begin-clause-cause
+returns-in-Err-begin-clause-cause g c = no_fault_behind _ _ (answer_still _ _ _ _ c.in-Ok.ensures.cause) (λ e. c.in-Err-begin.ensures.reads (same_stop _ _ e))
 
 pub skip-requires : goal.skip-requires
 skip-requires g c = omega (arith, c.in-Some.ensures.within, ap length c.ahead.ensures)
@@ -86,13 +86,13 @@ returns-clause-reading g c = still_reading (g.D.Disk.reads_as c.args.disk.now) _
 pub returns-clause-at : goal.returns-clause-at
 returns-clause-at g c = (c.skip.ensures.at.len ∙ c.fill_record.ensures.at.len, omega (arith, c.skip.ensures.at.at, c.fill_record.ensures.at.at, c.in-Some.ensures.fits))
 
-pub of_genesis-requires : goal.of_genesis-requires
-of_genesis-requires g c = c.in-Some.ensures.fits
+pub begin-requires : goal.begin-requires
+begin-requires g c = record { fits = c.in-Some.ensures.fits; none = c.requires }
 
-pub returns-clause-one : goal.returns-clause-one
-returns-clause-one g c = c.in-Ok-of_genesis.ensures.one
+pub returns-clause-blocks : goal.returns-clause-blocks
+returns-clause-blocks g c = c.in-Ok-begin.ensures.blocks
 
-pub returns-in-Err-of_genesis-clause-wrong : goal.returns-in-Err-of_genesis-clause-wrong
-returns-in-Err-of_genesis-clause-wrong g c =
+pub returns-in-Err-begin-clause-wrong : goal.returns-in-Err-begin-clause-wrong
+returns-in-Err-begin-clause-wrong g c =
     told_here _ _ _ c.args.reader.now c.fill_record.new.self (record_of c.in-Some.kind c.in-Some.body.now) c.ahead.result.now c.ahead.ensures c.in-Some.ensures.found
-    c.in-Err-of_genesis.ensures.wrong c.in-Ok.ensures.found
+    c.in-Err-begin.ensures.wrong c.in-Ok.ensures.found

@@ -1,9 +1,9 @@
-use Rattle.std.proofs.Common.{◌≡◌, Err, sym, ap, ◌∙◌, inl, arith}
+use Rattle.std.proofs.Common.{◌≡◌, Err, refl, sym, ap, ◌∙◌, inl, arith}
 use Rattle.outside.proofs.Moments.{leaves_also, leaves_then, now_too}
 use Rattle.cell_model.specs.ListBlocks.{contents}
+use Rattle.chain_tree.specs.Told.{blocks_of}
 use Rattle.log_file.specs.declared.stop.LogStop.TheVariants.{NotAStore}
-use Rattle.node_core.proofs.OpeningLemmas.{as-many-contents}
-use Rattle.node_core.proofs.OpenLemmas.{opened_keeps, opened_own, is_within, no_log_in, none_opened, not_sound, not_joined, only_read-then, stands_while_opened, opened_on, ok_err, was_ok, counts_none, at_some, if_some_also, one_after, same_stop}
+use Rattle.node_core.proofs.OpenLemmas.{as_many_bytes, kept_of_bytes, opened_keeps, opened_own, is_within, no_log_in, none_opened, not_sound, not_joined, only_read-then, stands_while_opened, opened_on, ok_err, was_ok, counts_none, at_some, if_some_also, one_after, same_stop}
 use Rattle.node_core.proofs.NewLemmas.{when_ok}
 use Rattle.node_core.proofs.KeepingLemmas.{left_by_opening, settled_as_read}
 use Rattle.log_file.proofs.Settling.{others_kept, others_on}
@@ -30,22 +30,22 @@ returns-in-Err-clause-moments g c now chain told keeps sound =
 
 pub invariant_of-result : goal.invariant_of-result
 invariant_of-result g c =
-    let many = as-many-contents c.in-Ok.opened.blocks.items in
-    let within = is_within c.in-Ok-of.kept c.in-Ok.opened.spec (contents c.in-Ok.opened.blocks.items) (contents c.in-Ok.opened.exts.items) c.in-Ok.opened.log.place
-    (record { spec_is = c.in-Ok-of.ensures.spec; decode = c.in-Ok-of.ensures.blocks; beside = c.in-Ok-of.ensures.exts })
-    (omega (arith, many, c.in-Ok.ensures.few)) (omega (arith, many, c.in-Ok.ensures.place)) in
+    let within = is_within c.in-Ok-of.kept c.in-Ok.opened.spec c.open.new.visitor c.in-Ok.opened.log.place
+    (kept_of_bytes c.in-Ok-of.kept c.in-Ok.opened.spec (contents c.into_parts-blocks.result.0.items) (contents c.into_parts-blocks.result.1.items) c.open.new.visitor
+    (record { decode = c.into_parts-blocks.ensures.blocks; beside = c.into_parts-blocks.ensures.exts })
+    c.in-Ok-of.ensures.spec c.in-Ok-of.ensures.blocks c.in-Ok-of.ensures.exts) c.in-Ok.ensures.blocks.few c.in-Ok.ensures.place in
     (within.0, within.1, λ joined. c.in-Ok-of.ensures.live)
 
 pub returns-in-Err-of-clause-not_a_store : goal.returns-in-Err-of-clause-not_a_store
 returns-in-Err-of-clause-not_a_store g c same =
     let stop : c.in-Err-of.stop ≡ NotAStore = same_stop _ _ same in
-    not_joined _ _ c.in-Ok.opened.spec (contents c.in-Ok.opened.blocks.items) (contents c.in-Ok.opened.exts.items) c.in-Ok.opened.tree.entries
+    not_joined _ _ c.in-Ok.opened.spec (contents c.into_parts-blocks.result.0.items) (contents c.into_parts-blocks.result.1.items) c.open.new.visitor c.in-Ok.opened.tree.entries (record { decode = c.into_parts-blocks.ensures.blocks; beside = c.into_parts-blocks.ensures.exts })
     c.sync_snapshots.ensures.same c.in-Ok.ensures.opened
     (λ kept decode joined exts. c.of.ensures.joined kept decode joined exts (c.in-Err-of.is ∙ ap Err stop))
 
 pub returns-in-Err-of-clause-no_log : goal.returns-in-Err-of-clause-no_log
 returns-in-Err-of-clause-no_log g c now told nothing =
-    absurd (none_opened _ now c.in-Ok.opened.spec (contents c.in-Ok.opened.blocks.items) (contents c.in-Ok.opened.exts.items) c.in-Ok.opened.tree.entries
+    absurd (none_opened _ now c.in-Ok.opened.spec c.open.new.visitor c.in-Ok.opened.tree.entries
     (c.sync_snapshots.ensures.same ∙ told) c.in-Ok.ensures.opened nothing)
 
 pub returns-in-Err-of-clause-moments : goal.returns-in-Err-of-clause-moments
@@ -57,19 +57,23 @@ returns-in-Err-of-clause-moments g c now chain told keeps sound =
 
 pub returns-in-Ok-of-clause-kept : goal.returns-in-Ok-of-clause-kept
 returns-in-Ok-of-clause-kept g c =
-    opened_keeps _ _ c.in-Ok-of.kept c.in-Ok.opened.spec (contents c.in-Ok.opened.blocks.items) (contents c.in-Ok.opened.exts.items) c.in-Ok.opened.tree.entries
-    (record { spec_is = c.in-Ok-of.ensures.spec; decode = c.in-Ok-of.ensures.blocks; beside = c.in-Ok-of.ensures.exts })
+    opened_keeps _ _ c.in-Ok-of.kept c.in-Ok.opened.spec c.open.new.visitor c.in-Ok.opened.tree.entries
+    (kept_of_bytes c.in-Ok-of.kept c.in-Ok.opened.spec (contents c.into_parts-blocks.result.0.items) (contents c.into_parts-blocks.result.1.items) c.open.new.visitor
+    (record { decode = c.into_parts-blocks.ensures.blocks; beside = c.into_parts-blocks.ensures.exts })
+    c.in-Ok-of.ensures.spec c.in-Ok-of.ensures.blocks c.in-Ok-of.ensures.exts)
     c.sync_snapshots.ensures.same c.in-Ok.ensures.opened
 
 pub returns-in-Ok-of-clause-own : goal.returns-in-Ok-of-clause-own
 returns-in-Ok-of-clause-own g c now told sound =
-    opened_own _ _ c.in-Ok-of.kept c.in-Ok.opened.spec (contents c.in-Ok.opened.blocks.items) (contents c.in-Ok.opened.exts.items) c.in-Ok.opened.tree.entries
-    (record { spec_is = c.in-Ok-of.ensures.spec; decode = c.in-Ok-of.ensures.blocks; beside = c.in-Ok-of.ensures.exts })
+    opened_own _ _ c.in-Ok-of.kept c.in-Ok.opened.spec c.open.new.visitor c.in-Ok.opened.tree.entries
+    (kept_of_bytes c.in-Ok-of.kept c.in-Ok.opened.spec (contents c.into_parts-blocks.result.0.items) (contents c.into_parts-blocks.result.1.items) c.open.new.visitor
+    (record { decode = c.into_parts-blocks.ensures.blocks; beside = c.into_parts-blocks.ensures.exts })
+    c.in-Ok-of.ensures.spec c.in-Ok-of.ensures.blocks c.in-Ok-of.ensures.exts)
     c.sync_snapshots.ensures.same c.in-Ok.ensures.opened now told sound
 
 pub returns-in-Ok-of-clause-no_log : goal.returns-in-Ok-of-clause-no_log
 returns-in-Ok-of-clause-no_log g c now told nothing =
-    absurd (none_opened _ now c.in-Ok.opened.spec (contents c.in-Ok.opened.blocks.items) (contents c.in-Ok.opened.exts.items) c.in-Ok.opened.tree.entries
+    absurd (none_opened _ now c.in-Ok.opened.spec c.open.new.visitor c.in-Ok.opened.tree.entries
     (c.sync_snapshots.ensures.same ∙ told) c.in-Ok.ensures.opened nothing)
 
 pub returns-in-Ok-of-clause-one_image : goal.returns-in-Ok-of-clause-one_image
@@ -83,8 +87,10 @@ returns-in-Ok-of-clause-one_image g c =
 pub returns-in-Ok-of-clause-on : goal.returns-in-Ok-of-clause-on
 returns-in-Ok-of-clause-on g c sound =
     opened_on _ _ c.sync_snapshots.ensures.images sound _ _ c.in-Ok.opened.log.place c.in-Ok-of.kept c.in-Ok.opened.spec
-    (contents c.in-Ok.opened.blocks.items) (contents c.in-Ok.opened.exts.items) c.in-Ok.opened.tree.entries
-    (record { spec_is = c.in-Ok-of.ensures.spec; decode = c.in-Ok-of.ensures.blocks; beside = c.in-Ok-of.ensures.exts })
+    c.open.new.visitor c.in-Ok.opened.tree.entries
+    (kept_of_bytes c.in-Ok-of.kept c.in-Ok.opened.spec (contents c.into_parts-blocks.result.0.items) (contents c.into_parts-blocks.result.1.items) c.open.new.visitor
+    (record { decode = c.into_parts-blocks.ensures.blocks; beside = c.into_parts-blocks.ensures.exts })
+    c.in-Ok-of.ensures.spec c.in-Ok-of.ensures.blocks c.in-Ok-of.ensures.exts)
     (g.met.D.Disk.reads_image c.open.new.disk) _ _ (g.met.D.Disk.reads_image c.args.disk.now) c.sync_snapshots.ensures.same c.in-Ok.ensures.opened c.in-Ok.ensures.settled
     (if_some_also _ _ _ c.open.ensures.moments (λ now left. now_too g.D.Disk.moment g.D.Disk.left_since g.D.Disk.images g.met.D.Disk.counts_now _ _ _ left))
 
@@ -180,12 +186,12 @@ returns-in-Err-clause-most g c = λ _ _. no-step _ _
 
 pub returns-in-Err-of-clause-most : goal.returns-in-Err-of-clause-most
 returns-in-Err-of-clause-most g c = λ now told.
-    moved-to-open _ _ c.in-Ok.opened.spec (contents c.in-Ok.opened.blocks.items) (contents c.in-Ok.opened.exts.items) c.in-Ok.opened.tree.entries _ _ now
+    moved-to-open _ _ c.in-Ok.opened.spec (contents c.into_parts-blocks.result.0.items) (contents c.into_parts-blocks.result.1.items) c.open.new.visitor c.in-Ok.opened.tree.entries _ _ now (record { decode = c.into_parts-blocks.ensures.blocks; beside = c.into_parts-blocks.ensures.exts })
     c.sync_snapshots.ensures.same told c.in-Ok.ensures.opened c.of.ensures.most
 
 pub returns-in-Ok-of-clause-most : goal.returns-in-Ok-of-clause-most
 returns-in-Ok-of-clause-most g c = λ now told.
-    moved-to-open _ _ c.in-Ok.opened.spec (contents c.in-Ok.opened.blocks.items) (contents c.in-Ok.opened.exts.items) c.in-Ok.opened.tree.entries _ _ now
+    moved-to-open _ _ c.in-Ok.opened.spec (contents c.into_parts-blocks.result.0.items) (contents c.into_parts-blocks.result.1.items) c.open.new.visitor c.in-Ok.opened.tree.entries _ _ now (record { decode = c.into_parts-blocks.ensures.blocks; beside = c.into_parts-blocks.ensures.exts })
     c.sync_snapshots.ensures.same told c.in-Ok.ensures.opened c.of.ensures.most
 
 pub returns-then-is_err-clause-rests : goal.returns-then-is_err-clause-rests
@@ -255,3 +261,22 @@ returns-in-Ok-of-clause-others g c = others_on _ _ _ c.sync_snapshots.ensures.sa
 
 pub returns-then-is_err-clause-others : goal.returns-then-is_err-clause-others
 returns-then-is_err-clause-others g c = others_kept _ _ c.sync_snapshots.ensures.same
+
+pub open-requires : goal.open-requires
+open-requires g c = c.new-gathered.ensures
+
+pub of-requires-clause-blocks : goal.of-requires-clause-blocks
+of-requires-clause-blocks g c =
+    record { blocks = blocks_of c.open.new.visitor; decode = c.into_parts-blocks.ensures.blocks; indexed = c.in-Ok.ensures.blocks.indexed }
+
+pub of-requires-clause-beside : goal.of-requires-clause-beside
+of-requires-clause-beside g c =
+    let many = as_many_bytes c.into_parts-blocks.result.0.items c.into_parts-blocks.result.1.items c.open.new.visitor
+    (record { decode = c.into_parts-blocks.ensures.blocks; beside = c.into_parts-blocks.ensures.exts }) in
+    omega (arith, many.0, many.1)
+
+pub of-requires-clause-few : goal.of-requires-clause-few
+of-requires-clause-few g c =
+    let many = as_many_bytes c.into_parts-blocks.result.0.items c.into_parts-blocks.result.1.items c.open.new.visitor
+    (record { decode = c.into_parts-blocks.ensures.blocks; beside = c.into_parts-blocks.ensures.exts }) in
+    omega (arith, many.0, c.in-Ok.ensures.blocks.few)
