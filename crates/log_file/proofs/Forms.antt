@@ -38,8 +38,8 @@ parts-whole body first second size here reach one two =
     let ext : second ≡ drop size (drop 4 body) = two ∙ take_rest body (4 + size) ∙ sym (drop-drop size 4 body) in
     let long : length first ≡ size = ap length item ∙ length-take-le size (drop 4 body) (omega (arith, reach, length-drop 4 body)) in
     sym (
-      ap (λ (l : List ℕ). l ++ first ++ second) (ap (to_le_bytes w32) long ∙ here) ∙ append_assoc (take 4 body) first second
-      ∙ (λ i. take 4 body ++ (item i ++ ext i)) ∙ ap (λ (l : List ℕ). take 4 body ++ l) (take-append-drop size (drop 4 body)) ∙ take-append-drop 4 body
+    ap (λ (l : List ℕ). l ++ first ++ second) (ap (to_le_bytes w32) long ∙ here) ∙ append_assoc (take 4 body) first second
+    ∙ (λ i. take 4 body ++ (item i ++ ext i)) ∙ ap (λ (l : List ℕ). take 4 body ++ l) (take-append-drop size (drop 4 body)) ∙ take-append-drop 4 body
     )
 
 -- ---- The ext

@@ -79,12 +79,7 @@ struct Found<'a> {
 }
 
 /// The block in the body of a record with its ext, and its entry, if it may stand behind those of a tree.
-fn judged<'a>(
-    tree: &Tree,
-    kind: u8,
-    body: &'a [u8],
-    at: u64,
-) -> Option<Found<'a>>
+fn judged<'a>(tree: &Tree, kind: u8, body: &'a [u8], at: u64) -> Option<Found<'a>>
     requires few { length tree.now.entries < 2 ^ 32 }
     requires fits { length body.now < 2 ^ 32 }
     ensures judged { (kept : List Block) → IndexesBlocks kept tree.now.entries

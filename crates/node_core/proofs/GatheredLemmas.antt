@@ -1,14 +1,13 @@
 -- The blocks of a log with their exts, gathered as bytes.
 use Rattle.std.proofs.Common.{◌≡◌, ℕ, List, [], ◌∷◌, ◌++◌, length, map, Vec, Global, Some, sym, ap, ◌∙◌, subst, refl, arith}
 use Rattle.std.specs.Prelude.{IsSome}
-use Rattle.std.specs.List.{All}
-use Rattle.std.proofs.lemmas.List.{length-map, length_push, map_push}
+use Rattle.std.proofs.lemmas.List.{length_push}
 use Rattle.std.proofs.lemmas.List.Elements.{All-nil, All-push}
 use Rattle.codec_defs.specs.Shape.{IsA, decoded}
 use Rattle.codec_defs.specs.Schema.{Block, block}
 use Rattle.codec_defs.proofs.ShapeLaws.{decoded-is}
 use Rattle.codec_defs.proofs.RowLaws.{block-check}
-use Rattle.chain_tree.specs.Told.{Stored, blocks_of}
+use Rattle.chain_tree.specs.Told.{blocks_of}
 use Rattle.cell_model.specs.ListBlocks.{contents, IsCanonical, stored_from}
 use Rattle.cell_model.proofs.ListLemmas.{contents-push, stored_from-push, blocks-stored_from, exts-stored_from}
 use Rattle.node_core.specs.Node.{exts_of}

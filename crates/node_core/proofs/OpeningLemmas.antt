@@ -31,10 +31,9 @@ use Rattle.uncle_rules.specs.Embedded.{Embedded, embedded_in, embedded_from, Unc
 use Rattle.chain_defs.specs.Kept.{kept_limit}
 use Rattle.verdict_defs.specs.Chain.{Chain}
 use Rattle.fit_laws.specs.Laws.{AreCanonical}
-use Rattle.store_defs.specs.Store.{IsJoined, AreJoined}
+use Rattle.store_defs.specs.Store.{IsJoined}
 use Rattle.reorg.specs.Moves.{AreOf}
 use Rattle.reorg.proofs.RowLemmas.{live_row-genesis}
-use Rattle.reorg_laws.proofs.WayLaws.{joined-can-be-taken-back}
 use Rattle.joined_laws.proofs.HeaderLaws.{blocks-are-rated}
 use Rattle.joined_laws.proofs.FitLaws.{what-joins-fits}
 use Rattle.joined_laws.proofs.BranchFitLaws.{branches-fit}

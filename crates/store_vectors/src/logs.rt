@@ -2,7 +2,7 @@
 ghost use Rattle.std.specs.Prelude.{◌≤◌, length};
 
 use crate::forms::are_bytes;
-use chain_tree::Entry;
+use chain_tree::{Entry, Tree};
 use log_file::{Body, LogStop, Visitor, append, create, open};
 use mol_schema::BlockView;
 use outside::{Area, Disk, NoMemory, WriteStop};
@@ -91,10 +91,11 @@ pub(crate) fn put(disk: &mut MemDisk, bytes: &[u8]) -> Option<bool> {
     Some(true)
 }
 
-/// The blocks that a log showed, each with its ext.
+/// The blocks that a log showed, each with its ext, and their entries.
 #[derive(Drop)]
 struct Shown {
     blocks: Vec<(Vec<u8>, Vec<u8>)>,
+    entries: Vec<Entry>,
 }
 
 impl Visitor for Shown {
@@ -108,21 +109,40 @@ impl Visitor for Shown {
         alloc: Global,
         block: &BlockView<'_>,
         ext: &[u8],
-        _entry: &Entry,
+        entry: &Entry,
     ) -> Result<(), NoMemory> {
         let bytes = block.bytes().to_vec(alloc)?;
         let ext = ext.to_vec(alloc)?;
+        self.entries.push(*entry)?;
         self.blocks.push((bytes, ext))?;
         Ok(())
     }
 }
 
-/// How many blocks the log shows as it is opened, and where its records end then.
+/// Whether each entry of a tree is the one that was shown with its block, which no clause says.
+fn are_shown(tree: &Tree, entries: &[Entry]) -> bool {
+    'entries: for place in 0..tree.len() {
+        let Some(shown) = entries.get(place as usize) else {
+            return false;
+        };
+        if shown != tree.entry(place) {
+            return false;
+        }
+    }
+    true
+}
+
+/// How many blocks the log shows as it is opened, and where its records end then. A log that shows an entry other than
+/// the tree has it is answered as none, so that its row differs.
 fn opened(alloc: Global, disk: &mut MemDisk) -> Result<(u64, u64), LogStop> {
     let mut shown = Shown {
         blocks: Vec::new(alloc),
+        entries: Vec::new(alloc),
     };
     let found = open(alloc, disk, &mut shown)?;
+    if !are_shown(&found.tree, &shown.entries) {
+        return Err(LogStop::NotAStore);
+    }
     Ok((shown.blocks.len() as u64, found.log.place))
 }
 

@@ -1,4 +1,4 @@
-use Rattle.std.proofs.Common.{length, ◌+◌, ◌∷◌, [], ◌∙◌, refl}
+use Rattle.std.proofs.Common.{◌+◌, ◌∷◌, [], ◌∙◌, refl}
 use Rattle.outside.proofs.Moments.{leaves_also, leaves_then}
 use Rattle.log_file.proofs.Gates.{leaves_while_written, leaves_while_opened, settles_after, ends_there, ends_no_later}
 use Rattle.log_file.proofs.Creating.{others_then, others_written}

@@ -1,7 +1,6 @@
-use Rattle.std.proofs.Common.{List, ◌++◌, ◌∷◌, [], Err, length, ap, ◌∙◌, arith}
+use Rattle.std.proofs.Common.{List, ◌++◌, ◌∷◌, [], length, ap, ◌∙◌, arith}
 use Rattle.chain_tree.specs.Told.{Stored}
 use Rattle.log_file.proofs.Judging.{kept_limit_is, genesis_blocks}
-use Rattle.log_file.proofs.Exits.{no_error, same_stop, not_wrong, no_memory_is_no_fault}
 use Rattle.log_file.proofs.blocks.begin.Goals as goal
 
 pub visit-requires-clause-few : goal.visit-requires-clause-few

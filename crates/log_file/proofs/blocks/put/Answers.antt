@@ -1,10 +1,7 @@
-use Rattle.std.proofs.Common.{◌≡◌, ◌++◌, ◌∷◌, [], Err, inr, sym, subst, arith}
-use Rattle.codec_defs.specs.Schema.{Block}
-use Rattle.chain_tree.specs.declared.entry.Entry.{Entry}
+use Rattle.std.proofs.Common.{inr, sym, subst, arith}
 use Rattle.chain_tree.specs.Blocks.{IndexesBlocks}
 use Rattle.chain_tree.specs.Told.{blocks_of}
 use Rattle.log_file.proofs.Judging.{limit_is, kept_limit_is, as_many, blocks_more}
-use Rattle.log_file.proofs.Exits.{no_error, not_wrong, no_memory_is_no_fault, wrong_is_no_fault}
 use Rattle.log_file.proofs.blocks.put.Goals as goal
 
 pub returns-then-len-gt-RECORD_LIMIT-clause-wrong : goal.returns-then-len-gt-RECORD_LIMIT-clause-wrong

@@ -1,7 +1,6 @@
-use Rattle.std.proofs.Common.{◌≡◌, length, refl, ◌∙◌}
+use Rattle.std.proofs.Common.{length}
 use Rattle.outside.proofs.Moments.{started, goes_on, leaves_also, leaves_then}
 use Rattle.log_file.proofs.Creating.{others_then, others_cut, others_written, up_to_there, up_to_cut, up_to_torn, replaced}
-use Rattle.log_file.proofs.Exits.{failed_on, answered}
 use Rattle.log_file.proofs.creation.replace_log.Goals as goal
 
 pub returns-in-Err-clause-moments : goal.returns-in-Err-clause-moments

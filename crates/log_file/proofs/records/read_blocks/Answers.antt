@@ -1,6 +1,6 @@
 use Rattle.std.proofs.Common.{◌≡◌, Ok, true, false, ap, arith, rules}
 use Rattle.std.proofs.lemmas.Grind.{common_steps}
-use Rattle.log_file.specs.Grammar.{BlocksValue, blocks_with}
+use Rattle.log_file.specs.Grammar.{blocks_with}
 use Rattle.log_file.proofs.Progress.{told_wrong, told_more, told_all}
 use Rattle.log_file.proofs.records.read_blocks.Goals as goal
 

@@ -1,4 +1,4 @@
-use Rattle.std.proofs.Common.{◌≡◌, Err, refl, sym, ap, ◌∙◌, inl, arith}
+use Rattle.std.proofs.Common.{◌≡◌, Err, sym, ap, ◌∙◌, inl, arith}
 use Rattle.outside.proofs.Moments.{leaves_also, leaves_then, now_too}
 use Rattle.cell_model.specs.ListBlocks.{contents}
 use Rattle.chain_tree.specs.Told.{blocks_of}
