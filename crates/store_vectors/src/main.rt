@@ -7,6 +7,7 @@
 //! the medians by its `sorted`.
 #![tactic(auto)]
 
+mod brought;
 mod forms;
 mod logs;
 mod trees;
@@ -59,6 +60,7 @@ impl Store {
             "byte" => logs::agrees_on_byte(&mut self.disk, row),
             "put" => logs::put(&mut self.disk, &self.bytes),
             "open" => logs::agrees_on_open(alloc, &mut self.disk, row),
+            "brings" => brought::agrees_on_brings(alloc, &mut self.disk, &self.bytes, row),
             "changed" => logs::agrees_on_changed(alloc, &self.bytes, row),
             "fronts" => logs::agrees_on_fronts(alloc, &self.bytes, row),
             call => self.agrees_on_tree(alloc, call, row),
