@@ -1,8 +1,8 @@
 -- What a cache holds after its calls.
-use Rattle.std.proofs.Common.{◌≡◌, ℕ, ◌<◌, Bool, true, false, cond, List, [], ◌∷◌, Option, Some, None, Result, Ok, Err, refl, sym, ap, subst, ⊎_elim, ◌∙◌, nat_eq, inl, inr}
-use Rattle.std.specs.Prelude.{◌⊎◌, is_some, IsTrue, IsSome, IfSome, OnOk, OnErr, Contains}
+use Rattle.std.proofs.Common.{◌≡◌, ℕ, ◌<◌, Bool, List, [], Option, Some, None, Result, Ok, Err, refl, sym, ap, subst, ⊎_elim, ◌∙◌, nat_eq, inl, inr}
+use Rattle.std.specs.Prelude.{is_some, IsTrue, IsSome, IfSome, OnOk, OnErr}
 use Rattle.std.specs.Option.{option_map}
-use Rattle.std.specs.Map.{lookup, lookup_entry}
+use Rattle.std.specs.Map.{lookup_entry}
 use Rattle.std.specs.Cmp.{nat_eq_equiv}
 use Rattle.std.proofs.lemmas.Bool.{eqb-true}
 use Rattle.lru.specs.LruCache.{LruCache, lru_cache, promoted, put_entries}

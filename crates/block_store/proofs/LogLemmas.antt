@@ -1,6 +1,6 @@
 -- What the records of a log say of kept blocks, and what is read at the places of their bodies.
-use Rattle.std.proofs.Common.{◌≡◌, ℕ, zero, suc, ◌+◌, ◌-◌, ◌^◌, ◌<◌, Bool, true, false, cond, eqb, leb, List, [], ◌∷◌, ◌++◌, length, map, take, drop, Option, Some, None, refl, sym, ap, subst, ◌∙◌, arith, inl, inr}
-use Rattle.std.specs.Prelude.{◌&&◌, ◌==◌, All, IfSome, IsTrue, slice_get}
+use Rattle.std.proofs.Common.{◌≡◌, ℕ, zero, suc, ◌+◌, ◌^◌, ◌<◌, Bool, true, false, cond, leb, List, [], ◌∷◌, ◌++◌, length, map, take, drop, Option, Some, None, refl, sym, ap, subst, ◌∙◌, arith, inl, inr}
+use Rattle.std.specs.Prelude.{◌&&◌, ◌==◌, All, IsTrue, slice_get}
 use Rattle.std.specs.Option.{option_map, option_and_then}
 use Rattle.std.specs.Int.{w32, to_le_bytes}
 use Rattle.std.proofs.lemmas.Bool.{and_parts, eq-eqb, eqb-true}
@@ -12,18 +12,16 @@ use Rattle.chain_defs.specs.Kept.{block_list, blocks_of_item}
 use Rattle.chain_defs.proofs.KeptLaws.{slice_get-pushed}
 use Rattle.cell_defs.specs.Ext.{is_ext}
 use Rattle.outside.specs.Image.{Image}
-use Rattle.log_defs.specs.Log.{Record, LogContent, record_at, record_bytes, all_record_bytes, records_of, end_of_log, record_limit, parts_of_body, body_of_parts, may_stand_on, block_if, block_of_parts, block_of_record, blocks_over, are_first, content_of_records}
+use Rattle.log_defs.specs.Log.{Record, LogContent, record_at, record_bytes, all_record_bytes, records_of, end_of_log, record_limit, parts_of_body, may_stand_on, block_if, block_of_parts, block_of_record, blocks_over, are_first, content_of_records}
 use Rattle.log_defs.specs.LogLaws.{HasFittingBody}
 use Rattle.log_defs.proofs.Records.{record_length, parts_at, records_of_none, records_of_some, size_of_all}
 use Rattle.log_defs.proofs.Contents.{gives_the_parts, said, one_genesis, good_genesis}
-use Rattle.log_file.specs.declared.log.Rec.{Rec}
-use Rattle.log_file.specs.Pieces.{Names, block_record}
 use Rattle.log_file.specs.Grammar.{record_of, ext_in}
 use Rattle.log_file.specs.Opening.{NameBodies}
 use Rattle.chain_tree.specs.Told.{Stored, blocks_of}
 use Rattle.chain_tree.specs.declared.entry.Entry.{Entry}
-use Rattle.block_store.specs.Stored.{of_length, body_at, with_ext, parts_in, beside, stored_in, stored_of, put_first, all_stored, told_by, all_in, told_in, later_record, kept_records, CanBeKept}
-use Rattle.block_store.specs.Laws.{NamesTheLog, TellsTheRecords, SaysWhatIsKept, TellsTheLog, OpensTold, FollowsTheLog, AddsARecord}
+use Rattle.block_store.specs.Stored.{of_length, body_at, with_ext, parts_in, beside, stored_in, stored_of, put_first, all_stored, all_in, later_record, kept_records}
+use Rattle.block_store.specs.Laws.{TellsTheRecords, ReadsItsRecord, SaysWhatIsKept, TellsTheLog, OpensTold, FollowsTheLog, AddsARecord}
 
 -- ---- The first record of a log
 
@@ -59,8 +57,8 @@ body_there : (image : Image) (place : ℕ) (r : Record) (entry : Entry) → reco
     → body_at image entry ≡ Some r.body
 body_there image place r entry there at len =
     let bytes : take (length r.body) (drop 6 (drop place image.log)) ≡ r.body = (parts_at (drop place image.log) r there).body in
-    let behind : drop entry.at image.log ≡ drop 6 (drop place image.log) = ap (λ (n : ℕ). drop n image.log) at ∙ sym (drop-drop 6 place image.log) in
-    let read : take entry.len (drop entry.at image.log) ≡ r.body = (λ i. take (len i) (behind i)) ∙ bytes in
+    let after : drop entry.at image.log ≡ drop 6 (drop place image.log) = ap (λ (n : ℕ). drop n image.log) at ∙ sym (drop-drop 6 place image.log) in
+    let read : take entry.len (drop entry.at image.log) ≡ r.body = (λ i. take (len i) (after i)) ∙ bytes in
     ap (of_length entry.len) read ∙ of_its_length entry.len r.body len
 
 -- entries that name the bodies of records tell what the records say
@@ -103,14 +101,18 @@ first_body body b is = ap (option_map (beside [])) is
 fits_within : (it : Stored) → HasFittingBody (later_record it) → length (encoded block it.block) < 2 ^ 32
 fits_within it fits = omega (arith, fits, length-append (to_le_bytes w32 (length (encoded block it.block)) ++ encoded block it.block) it.ext, length-append (to_le_bytes w32 (length (encoded block it.block))) (encoded block it.block))
 
+pub reads_its_record : ReadsItsRecord
+reads_its_record zero it later canonical form fits = absurd (omega (arith, later))
+reads_its_record (suc place) it later canonical form fits =
+    later_body place (later_record it).body (encoded block it.block) it.ext it.block (gives_the_parts (encoded block it.block) it.ext (fits_within it fits)) form canonical
+
 later_told : (place : ℕ) (later : List Stored) → ((k : ℕ) (it : Stored) → slice_get later k ≡ Some it → decoded block (encoded block it.block) ≡ Some it.block)
     → All HasFittingBody (map later_record later) → ((k : ℕ) (it : Stored) → slice_get later k ≡ Some it → is_ext it.ext ≡ true)
     → all_in (suc place) (map later_record later) ≡ Some later
 later_told place [] canonical fit forms = refl
 later_told place (it ∷ later) canonical fit forms =
-    let parts = gives_the_parts (encoded block it.block) it.ext (fits_within it (fit 0 (later_record it) (omega arith))) in
     let here : stored_in (suc place) (later_record it).body ≡ Some it =
-    later_body place (later_record it).body (encoded block it.block) it.ext it.block parts (forms 0 it refl) (canonical 0 it refl) in
+    reads_its_record (suc place) it (omega arith) (canonical 0 it refl) (forms 0 it refl) (fit 0 (later_record it) (omega arith)) in
     let rest : all_in (suc (suc place)) (map later_record later) ≡ Some later =
     later_told (suc place) later (λ k other there. canonical (suc k) other there) (λ k d within. fit (suc k) d (omega (arith, within))) (λ k other there. forms (suc k) other there) in
     λ i. put_first (here i) (rest i)
@@ -151,7 +153,7 @@ record_told place kept r b is = by_parts (parts_of_body r.body) refl (block_if-s
     by_parts None parts found = absurd cc
     by_parts (Some them) parts found = by_block them.0 them.1 parts (decoded block them.0) refl found
 
--- blocks over others stand behind them
+-- blocks over others stand after them
 over_begins : (kept : List Block) (records : List Record) (all : List Block) → blocks_over kept records ≡ Some all → (more : List Block) × (all ≡ kept ++ more)
 over_begins kept [] all over = ([], same over)
   where
@@ -240,7 +242,7 @@ said_by (one ∷ two ∷ records) log says = by_test (are_first one two && leb (
     by_test false is says = absurd cc
     by_test true is says = by_blocks (and_parts (are_first one two) (leb (length records) record_limit) is).0 (blocks_over (blocks_of_item two.body) records) refl says
 
--- the genesis with the blocks behind it
+-- the genesis with the blocks after it
 genesis_told : (item : List ℕ) (records : List Record) (blocks : List Block) (stored : List Stored) (o : Option Block) → decoded block item ≡ o
     → length (block_list o) ≡ 1 → blocks_over (block_list o) records ≡ Some blocks → blocks_of stored ≡ blocks → map (λ it. it.ext) stored ≡ [] ∷ map ext_in records
     → put_first (stored_in 0 item) (all_in 1 records) ≡ Some stored
@@ -293,18 +295,21 @@ follows_the_log bytes specification records entries r rec entry names named at l
 
 pub adds_a_record : AddsARecord
 adds_a_record [] it some = absurd (omega (arith, some))
-adds_a_record (genesis ∷ later) it some = (grows, λ can canonical form fits. record {
-  canonical = λ place one there. elim (slice_get-pushed (genesis ∷ later) it place one there) [
-    | inl before ↦ can.canonical place one before.1
-    | inr same ↦ subst (λ (x : Stored). decoded block (encoded block x.block) ≡ Some x.block) same.1 canonical
-  ];
-  fit = subst (λ (l : List Record). All HasFittingBody l) (sym grows) (All-push HasFittingBody (kept_records (genesis ∷ later)) (later_record it) can.fit fits);
-  genesis = can.genesis;
-  forms = λ place one above there. elim (slice_get-pushed (genesis ∷ later) it place one there) [
-    | inl before ↦ can.forms place one above before.1
-    | inr same ↦ subst (λ (x : Stored). IsTrue (is_ext x.ext)) same.1 form
-  ];
-})
+adds_a_record (genesis ∷ later) it some = (
+  grows,
+  λ can canonical form fits. record {
+    canonical = λ place one there. elim (slice_get-pushed (genesis ∷ later) it place one there) [
+      | inl before ↦ can.canonical place one before.1
+      | inr same ↦ subst (λ (x : Stored). decoded block (encoded block x.block) ≡ Some x.block) same.1 canonical
+    ];
+    fit = subst (λ (l : List Record). All HasFittingBody l) (sym grows) (All-push HasFittingBody (kept_records (genesis ∷ later)) (later_record it) can.fit fits);
+    genesis = can.genesis;
+    forms = λ place one above there. elim (slice_get-pushed (genesis ∷ later) it place one there) [
+      | inl before ↦ can.forms place one above before.1
+      | inr same ↦ subst (λ (x : Stored). IsTrue (is_ext x.ext)) same.1 form
+    ];
+  },
+)
   where
     grows : kept_records ((genesis ∷ later) ++ it ∷ []) ≡ kept_records (genesis ∷ later) ++ later_record it ∷ []
     grows = ap (λ (l : List Record). record_of 2 (encoded block genesis.block) ∷ l) (map_push later_record later it)

@@ -1,6 +1,6 @@
 -- What a body says, and what a disk tells of the entries of a tree.
-use Rattle.std.proofs.Common.{◌≡◌, ℕ, zero, suc, ◌+◌, ◌-◌, ◌<◌, ◌≤◌, Bool, true, false, cond, leb, min, List, [], ◌∷◌, length, take, drop, Option, Some, None, Result, Err, refl, sym, ap, subst, ◌∙◌, arith, inl, inr}
-use Rattle.std.specs.Prelude.{◌&&◌, slice_get, IfSome, is_some, IsSome, IsSomeAnd, IsTrue}
+use Rattle.std.proofs.Common.{◌≡◌, ℕ, zero, suc, ◌+◌, ◌-◌, ◌<◌, ◌≤◌, Bool, true, false, cond, leb, List, [], ◌∷◌, length, take, drop, Option, Some, None, Result, Err, refl, sym, ap, subst, ◌∙◌, arith, inl, inr}
+use Rattle.std.specs.Prelude.{◌&&◌, slice_get, IfSome, is_some, IsSome, IsSomeAnd}
 use Rattle.std.specs.Option.{option_map, option_and_then}
 use Rattle.std.proofs.lemmas.Bool.{and_parts, leb-true}
 use Rattle.std.proofs.lemmas.List.{length-take-le, length-drop}
@@ -31,7 +31,7 @@ chosen false v w is = absurd cc
 pub record PartsLie (body item ext : List ℕ) : Type 0 where
   pub fits : 4 + length item ≤ length body
   pub block : item ≡ take (4 + length item - 4) (drop 4 body)
-  pub behind : ext ≡ drop (4 + length item) body
+  pub rest : ext ≡ drop (4 + length item) body
 
 pub parts-lie : (body item ext : List ℕ) → parts_of_body body ≡ Some (item, ext) → PartsLie body item ext
 unfolding parts_of_body
@@ -47,7 +47,7 @@ parts-lie body item ext is =
     record {
       fits = omega (arith, reach, long);
       block = sym first ∙ ap (λ (n : ℕ). take n (drop 4 body)) (omega (arith, long));
-      behind = sym second ∙ ap (λ (n : ℕ). drop n body) (omega (arith, long));
+      rest = sym second ∙ ap (λ (n : ℕ). drop n body) (omega (arith, long));
     }
 
 -- the parts of a body after the genesis
@@ -68,23 +68,29 @@ is-canonical item b is = ap is_some is
 
 -- ---- What a disk tells
 
-pub put_first-at : (first : Option Stored) (later : Option (List Stored)) (stored : List Stored) → put_first first later ≡ Some stored
+put_first-at : (first : Option Stored) (later : Option (List Stored)) (stored : List Stored) → put_first first later ≡ Some stored
     → (it : Stored) × (rest : List Stored) × (first ≡ Some it) × (later ≡ Some rest) × (it ∷ rest ≡ stored)
 put_first-at None later stored is = absurd cc
 put_first-at (Some it) None stored is = absurd cc
 put_first-at (Some it) (Some rest) stored is = (it, rest, refl, refl, cc)
 
-all_stored-at : (image : Image) (place e : ℕ) (entries : List Entry) (stored : List Stored) (it : Stored) → all_stored image place entries ≡ Some stored
-    → slice_get stored e ≡ Some it → option_and_then (stored_of image (place + e)) (entry_at entries e) ≡ Some it
-all_stored-at image place e [] [] it is there = there
-all_stored-at image place e [] (first ∷ rest) it is there = absurd cc
-all_stored-at image place zero (entry ∷ entries) stored it is there =
+-- what is told for a place is what LOG has for the entry there
+pub all_stored-at : (image : Image) (place e : ℕ) (entries : List Entry) (stored : List Stored) → all_stored image place entries ≡ Some stored
+    → option_and_then (stored_of image (place + e)) (entry_at entries e) ≡ slice_get stored e
+all_stored-at image place e [] [] is = refl
+all_stored-at image place e [] (first ∷ rest) is = absurd cc
+all_stored-at image place zero (entry ∷ entries) stored is =
     let put = put_first-at (stored_of image place entry) (all_stored image (suc place) entries) stored is in
-    ap (λ (n : ℕ). stored_of image n entry) (omega arith) ∙ put.2 ∙ subst (λ (l : List Stored). slice_get l 0 ≡ Some it) (sym put.4) there
-all_stored-at image place (suc e) (entry ∷ entries) stored it is there =
+    ap (λ (n : ℕ). stored_of image n entry) (omega arith) ∙ put.2 ∙ ap (λ (l : List Stored). slice_get l 0) put.4
+all_stored-at image place (suc e) (entry ∷ entries) stored is =
     let put = put_first-at (stored_of image place entry) (all_stored image (suc place) entries) stored is in
-    let on = all_stored-at image (suc place) e entries put.1 it put.3 (subst (λ (l : List Stored). slice_get l (suc e) ≡ Some it) (sym put.4) there) in
-    ap (λ (n : ℕ). option_and_then (stored_of image n) (entry_at entries e)) (omega arith) ∙ on
+    ap (λ (n : ℕ). option_and_then (stored_of image n) (entry_at entries e)) (omega arith)
+    ∙ all_stored-at image (suc place) e entries put.1 put.3 ∙ ap (λ (l : List Stored). slice_get l (suc e)) put.4
+
+pub stored-at : (image : Image) (entries : List Entry) (stored : List Stored) (e : ℕ) → all_stored image 0 entries ≡ Some stored
+    → stored_at image entries e ≡ slice_get stored e
+stored-at image entries stored e is =
+    ap (λ (n : ℕ). option_and_then (stored_of image n) (entry_at entries e)) (omega arith) ∙ all_stored-at image 0 e entries stored is
 
 told-at : (image : Image) (entries : List Entry) (e : ℕ) (it : Stored) (P : Stored → Type 0) (told : Option (List Stored)) → all_stored image 0 entries ≡ told
     → stored_at image entries e ≡ Some it → P it → IfSome told (λ stored. IfSome (slice_get stored e) P)
@@ -94,7 +100,7 @@ told-at image entries e it P (Some stored) is there holds = at_place (slice_get 
     at_place : (found : Option Stored) → slice_get stored e ≡ found → IfSome found P
     at_place None none = tt
     at_place (Some other) found =
-        let same : Some it ≡ Some other = sym there ∙ ap (λ (n : ℕ). option_and_then (stored_of image n) (entry_at entries e)) (omega arith) ∙ all_stored-at image 0 e entries stored other is found in
+        let same : Some it ≡ Some other = sym there ∙ stored-at image entries stored e is ∙ found in
         subst P (same_one same) holds
       where
         same_one : Some it ≡ Some other → it ≡ other
@@ -139,7 +145,7 @@ told-there (Some image) entries e within told missing = by_told (all_stored imag
     by_told (Some stored) is some =
         let as_many : length stored ≡ length entries = subst (λ (o : Option (List Stored)). IfSome o (λ them. length them ≡ length entries)) is (all_stored-length image 0 entries) in
         let found = slice_get-below stored e (omega (arith, within, as_many)) in
-        let there = ap (λ (n : ℕ). option_and_then (stored_of image n) (entry_at entries e)) (omega arith) ∙ all_stored-at image 0 e entries stored found.0 is found.1 in
+        let there = stored-at image entries stored e is ∙ found.1 in
         none_some (sym missing ∙ there)
       where
         none_some : {it : Stored} → None ≡ Some it → ⊥

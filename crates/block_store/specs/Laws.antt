@@ -1,5 +1,5 @@
 -- What a log tells of its kept blocks, and what a cache keeps of them while it grows, in words (docs/STORE.md, "Kept blocks read by their places").
-use Rattle.std.specs.Prelude.{◌≡◌, ◌↔◌, ℕ, ◌+◌, ◌<◌, Bool, true, List, [], ◌∷◌, ◌++◌, map, length, drop, Some}
+use Rattle.std.specs.Prelude.{◌≡◌, ◌↔◌, ℕ, ◌+◌, ◌<◌, true, List, [], ◌∷◌, ◌++◌, map, length, drop, Some}
 use Rattle.codec_defs.specs.Shape.{encoded, decoded}
 use Rattle.codec_defs.specs.Schema.{block}
 use Rattle.cell_defs.specs.Ext.{is_ext}
@@ -12,10 +12,10 @@ use Rattle.log_file.specs.Grammar.{record_of, ext_in}
 use Rattle.log_file.specs.Opening.{NameBodies}
 use Rattle.chain_tree.specs.Told.{Stored, blocks_of}
 use Rattle.chain_tree.specs.declared.entry.Entry.{Entry}
-use Rattle.block_store.specs.Stored.{told_by, told_in, later_record, kept_records, CanBeKept}
+use Rattle.block_store.specs.Stored.{stored_in, told_by, told_in, later_record, kept_records, CanBeKept}
 use Rattle.block_store.specs.Held.{OnlyAdds, IsKept, AgreesWith}
 
--- The log holds these records behind that of its specification, and the entries name their bodies.
+-- The log holds these records after that of its specification, and the entries name their bodies.
 pub record NamesTheLog (bytes specification : List ℕ) (records : List Record) (entries : List Entry) : Type 0 where
   pub holds : records_of (drop 8 bytes) ≡ record_of 1 specification ∷ records
   pub named : NameBodies (14 + length specification) records entries
@@ -24,6 +24,11 @@ pub record NamesTheLog (bytes specification : List ℕ) (records : List Record) 
 abbrev pub TellsTheRecords : Type 0
 TellsTheRecords = (image : Image) (specification : List ℕ) (records : List Record) (entries : List Entry)
     → NamesTheLog image.log specification records entries → told_by (Some image) entries ≡ told_in records
+
+-- Law: the body of the record of a kept block after the genesis is read as this block with its ext.
+abbrev pub ReadsItsRecord : Type 0
+ReadsItsRecord = (place : ℕ) (it : Stored) → 0 < place → decoded block (encoded block it.block) ≡ Some it.block → is_ext it.ext ≡ true
+    → HasFittingBody (later_record it) → stored_in place (later_record it).body ≡ Some it
 
 -- Law: the records of kept blocks that a log can keep say these blocks.
 abbrev pub SaysWhatIsKept : Type 0
@@ -50,16 +55,16 @@ abbrev pub KeepsAfterAppend : Type 0
 KeepsAfterAppend = (stored : List Stored) (it : Stored) (old new : List (ℕ × Stored)) → AgreesWith stored old → OnlyAdds (length stored) it old new
     → AgreesWith (stored ++ it ∷ []) new
 
--- Law: the entry of a record that was put where the log ended names its body behind the others.
+-- Law: the entry of a record that was put where the log ended names its body after the others.
 abbrev pub FollowsTheLog : Type 0
 FollowsTheLog = (bytes specification : List ℕ) (records : List Record) (entries : List Entry) (r : Record) (rec : Rec) (entry : Entry)
     → NamesTheLog bytes specification records entries → Names rec (end_of_log bytes) r → entry.at ≡ rec.at → entry.len ≡ rec.len
     → NameBodies (14 + length specification) (records ++ r ∷ []) (entries ++ entry ∷ [])
 
--- Law: one kept block more is one record more behind the others, and can be kept where it is canonical, with an ext of its form, and where the body
+-- Law: one kept block more is one record more after the others, and can be kept where it is canonical, with an ext of its form, and where the body
 -- of its record fits.
 abbrev pub AddsARecord : Type 0
 AddsARecord = (stored : List Stored) (it : Stored) → 0 < length stored
     → (kept_records (stored ++ it ∷ []) ≡ kept_records stored ++ later_record it ∷ [])
     × (CanBeKept stored → decoded block (encoded block it.block) ≡ Some it.block → is_ext it.ext ≡ true → HasFittingBody (later_record it)
-        → CanBeKept (stored ++ it ∷ []))
+    → CanBeKept (stored ++ it ∷ []))

@@ -1,5 +1,5 @@
 -- What LOG says of the kept blocks, each at the place that its entry names (docs/STORE.md, "The log" and "Kept blocks read by their places").
-use Rattle.std.specs.Prelude.{◌≡◌, ℕ, zero, suc, ◌<◌, ◌==◌, Bool, List, [], ◌∷◌, All, map, length, take, drop, slice_get, Option, Some, None, IfSome, IsTrue, if◌then◌else◌}
+use Rattle.std.specs.Prelude.{◌≡◌, ℕ, zero, suc, ◌<◌, ◌==◌, List, [], ◌∷◌, All, map, length, take, drop, slice_get, Option, Some, None, IfSome, IsTrue, if◌then◌else◌}
 use Rattle.std.specs.Option.{option_map, option_and_then}
 use Rattle.std.proofs.Common.{refl, ap}
 use Rattle.codec_defs.specs.Shape.{encoded, decoded}
@@ -66,7 +66,7 @@ abbrev pub all_in : ℕ → List Record → Option (List Stored)
 all_in place [] = Some []
 all_in place (r ∷ records) = put_first (stored_in place r.body) (all_in (suc place) records)
 
--- Those in the records of a log behind that of its specification: first the genesis.
+-- Those in the records of a log after that of its specification: first the genesis.
 abbrev pub told_in : List Record → Option (List Stored)
 told_in records = all_in 0 records
 

@@ -49,7 +49,7 @@ fn proposal_ids(alloc: Global, block: &BlockView<'_>) -> Result<Vec<[u8; 10]>, N
     Ok(ids)
 }
 
-/// Where the block of a body begins and ends. The ext, if the entry has one, stands behind it, to the end.
+/// Where the block of a body begins and ends. The ext, if the entry has one, stands after it, to the end.
 fn block_range(place: u32, body: &[u8]) -> Option<(usize, usize)>
     ensures parts { option_map (λ at. (take (at.1 - at.0) (drop at.0 body.now), drop at.1 body.now)) result ≡ parts_in place body.now }
     ensures ordered { IfSome result (λ at. at.0 ≤ at.1) }

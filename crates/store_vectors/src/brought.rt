@@ -1,5 +1,5 @@
 // Rows of kept blocks that are read by their places.
-ghost use Rattle.std.specs.Prelude.{◌≡◌, ◌<◌};
+ghost use Rattle.std.specs.Prelude.{◌≡◌, ◌<◌, Some};
 
 use crate::logs::put;
 use block_store::{Cache, Store};
@@ -13,7 +13,7 @@ use std::alloc::Global;
 /// The tree of a log with these bytes.
 fn tree_of(alloc: Global, bytes: &[u8]) -> Option<Tree> {
     let mut disk = MemDisk::new(alloc, Vec::new(alloc));
-    let placed = put(&mut disk, bytes);
+    let placed = put(&mut disk, 0, bytes);
     let found = open(alloc, &mut disk);
     drop(disk);
     placed?;
@@ -29,23 +29,48 @@ fn tree_of(alloc: Global, bytes: &[u8]) -> Option<Tree> {
     Some(tree)
 }
 
-/// The length of the block at a place, `fault`, or where it is damaged.
-fn is_brought<B: Blocks>(blocks: &mut B, place: u32, row: &mut Row) -> Option<bool>
+/// What is in hand: the height, the length of the block, that of its ext and the count of its proposal ids.
+fn is_in_hand<B: Blocks>(alloc: Global, blocks: &B, place: u32, row: &mut Row) -> Option<bool>
+    requires { B.in_hand blocks.now ≡ Some place }
+{
+    let wanted = row.numbers(alloc)?;
+    let ext = if place == 0 {
+        0
+    } else {
+        blocks.spent().len()
+    };
+    let block = blocks.block();
+    Some(
+        *wanted.first()? == block.header().number()
+            && *wanted.get(1)? == block.bytes().len() as u64
+            && *wanted.get(2)? == ext as u64
+            && *wanted.get(3)? == blocks.ids().len() as u64,
+    )
+}
+
+/// What is found at a place, or why nothing is: `fault`, or `damaged` and the offset.
+fn is_brought<B: Blocks>(
+    alloc: Global,
+    blocks: &mut B,
+    place: u32,
+    row: &mut Row,
+) -> Option<bool>
     requires { place < B.count blocks.old }
     ensures { B.count blocks.new ≡ B.count blocks.old }
 {
     match blocks.bring(place) {
-        Ok(()) => Some(row.number()? == blocks.block().bytes().len() as u64),
+        Ok(()) => is_in_hand(alloc, blocks, place, row),
         Err(ReadStop::DiskFault) => Some(row.word() == "fault"),
-        Err(ReadStop::Damaged(damage)) => {
-            Some(damage.area == Area::Log && row.number()? == damage.at)
-        }
+        Err(ReadStop::Damaged(damage)) => Some(
+            damage.area == Area::Log && row.word() == "damaged" && row.number()? == damage.at,
+        ),
         Err(ReadStop::NoMemory) => None,
     }
 }
 
 /// The same for one place after the other.
 fn are_brought<B: Blocks>(
+    alloc: Global,
     blocks: &mut B,
     count: u32,
     places: &[u64],
@@ -57,15 +82,14 @@ fn are_brought<B: Blocks>(
         if *place >= u64::from(count) {
             return None;
         }
-        if !is_brought(blocks, *place as u32, row)? {
+        if !is_brought(alloc, blocks, *place as u32, row)? {
             return Some(false);
         }
     }
     Some(true)
 }
 
-/// The size of a cache, and places of blocks of the log of `bytes`, which are read from the disk: the length of each block,
-/// `fault`, or the offset in LOG where it is damaged.
+/// The most bodies of a cache, and places of blocks of the log of `bytes`, which are read from the disk: what is found at each.
 pub(crate) fn agrees_on_brings(
     alloc: Global,
     disk: &mut MemDisk,
@@ -80,5 +104,5 @@ pub(crate) fn agrees_on_brings(
     let tree = tree_of(alloc, bytes)?;
     let mut cache = Cache::new(alloc, size).ok()?;
     let mut store = Store::new(alloc, disk, &tree, &mut cache);
-    are_brought(&mut store, tree.len(), &places, row)
+    are_brought(alloc, &mut store, tree.len(), &places, row)
 }
