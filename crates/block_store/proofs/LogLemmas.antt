@@ -21,7 +21,8 @@ use Rattle.log_file.specs.Opening.{NameBodies}
 use Rattle.chain_tree.specs.Told.{Stored, blocks_of}
 use Rattle.chain_tree.specs.declared.entry.Entry.{Entry}
 use Rattle.block_store.specs.Stored.{of_length, body_at, with_ext, parts_in, beside, stored_in, stored_of, put_first, all_stored, all_in, later_record, kept_records}
-use Rattle.block_store.specs.Laws.{TellsTheRecords, ReadsItsRecord, SaysWhatIsKept, TellsTheLog, OpensTold, FollowsTheLog, AddsARecord}
+use Rattle.block_store.specs.Laws.{TellsTheRecords, ReadsItsRecord, SaysWhatIsKept, TellsTheLog, SaysWhatIsOpened, OpensTold, SaysOneMore, FollowsTheLog, AddsARecord}
+use Rattle.block_store.proofs.StoredLemmas.{put_first-at}
 
 -- ---- The first record of a log
 
@@ -266,13 +267,36 @@ genesis_told item records blocks (genesis ∷ later) (Some g) is one over same e
     later_exts : genesis.ext ∷ map (λ it. it.ext) later ≡ [] ∷ map ext_in records → map (λ it. it.ext) later ≡ map ext_in records
     later_exts is = cc
 
+pub says_what_is_opened : SaysWhatIsOpened
+says_what_is_opened records log stored says blocks exts =
+    let its = said_by records log says in
+    genesis_told log.genesis log.records log.blocks stored (decoded block log.genesis) refl its.genesis its.blocks blocks exts
+
 pub opens_told : OpensTold
 opens_told image log stored entries says blocks exts named =
-    let its = said_by (records_of (drop 8 image.log)) log says in
+    let records : List Record = records_of (drop 8 image.log) in
+    let its = said_by records log says in
     tells_the_records image log.specification (record_of 2 log.genesis ∷ log.records) entries (record { holds = its.split; named = named })
-    ∙ genesis_told log.genesis log.records log.blocks stored (decoded block log.genesis) refl its.genesis its.blocks blocks exts
+    ∙ says_what_is_opened records log stored says blocks exts
 
 -- ---- One more
+
+all_in-more : (n : ℕ) (records : List Record) (stored : List Stored) (r : Record) (it : Stored) → all_in n records ≡ Some stored
+    → stored_in (n + length records) r.body ≡ Some it → all_in n (records ++ r ∷ []) ≡ Some (stored ++ it ∷ [])
+all_in-more n [] stored r it is one =
+    let here : stored_in n r.body ≡ Some it = ap (λ (k : ℕ). stored_in k r.body) (omega arith) ∙ one in
+    ap (λ (o : Option Stored). put_first o (Some [])) here ∙ ap (λ (l : List Stored). Some (l ++ it ∷ [])) (empty is)
+  where
+    empty : Some [] ≡ Some stored → [] ≡ stored
+    empty is = cc
+all_in-more n (first ∷ records) stored r it is one =
+    let put = put_first-at (stored_in n first.body) (all_in (suc n) records) stored is in
+    let next : all_in (suc n) (records ++ r ∷ []) ≡ Some (put.1 ++ it ∷ []) =
+    all_in-more (suc n) records put.1 r it put.3 (ap (λ (k : ℕ). stored_in k r.body) (omega arith) ∙ one) in
+    (λ i. put_first (put.2 i) (next i)) ∙ ap (λ (l : List Stored). Some (l ++ it ∷ [])) put.4
+
+pub says_one_more : SaysOneMore
+says_one_more records stored r it says one = all_in-more 0 records stored r it says (ap (λ (k : ℕ). stored_in k r.body) (omega arith) ∙ one)
 
 names_more : (place : ℕ) (records : List Record) (entries : List Entry) (r : Record) (entry : Entry) → NameBodies place records entries
     → entry.at ≡ place + size_of_all records + 6 → entry.len ≡ length r.body → NameBodies place (records ++ r ∷ []) (entries ++ entry ∷ [])

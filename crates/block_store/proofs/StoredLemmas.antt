@@ -68,7 +68,7 @@ is-canonical item b is = ap is_some is
 
 -- ---- What a disk tells
 
-put_first-at : (first : Option Stored) (later : Option (List Stored)) (stored : List Stored) → put_first first later ≡ Some stored
+pub put_first-at : (first : Option Stored) (later : Option (List Stored)) (stored : List Stored) → put_first first later ≡ Some stored
     → (it : Stored) × (rest : List Stored) × (first ≡ Some it) × (later ≡ Some rest) × (it ∷ rest ≡ stored)
 put_first-at None later stored is = absurd cc
 put_first-at (Some it) None stored is = absurd cc

@@ -39,7 +39,13 @@ abbrev pub TellsTheLog : Type 0
 TellsTheLog = (image : Image) (specification : List ℕ) (stored : List Stored) (entries : List Entry)
     → NamesTheLog image.log specification (kept_records stored) entries → CanBeKept stored → told_by (Some image) entries ≡ Some stored
 
--- Law: a log that is opened tells its blocks, each with the ext beside it.
+-- Law: the records of a log say its blocks, each with the ext beside it.
+abbrev pub SaysWhatIsOpened : Type 0
+SaysWhatIsOpened = (records : List Record) (log : LogContent) (stored : List Stored) → content_of_records records ≡ Some log
+    → blocks_of stored ≡ log.blocks → map (λ it. it.ext) stored ≡ [] ∷ map ext_in log.records
+    → told_in (record_of 2 log.genesis ∷ log.records) ≡ Some stored
+
+-- Law: so a log that is opened tells them.
 abbrev pub OpensTold : Type 0
 OpensTold = (image : Image) (log : LogContent) (stored : List Stored) (entries : List Entry) → content_of_records (records_of (drop 8 image.log)) ≡ Some log
     → blocks_of stored ≡ log.blocks → map (λ it. it.ext) stored ≡ [] ∷ map ext_in log.records
@@ -60,6 +66,11 @@ abbrev pub FollowsTheLog : Type 0
 FollowsTheLog = (bytes specification : List ℕ) (records : List Record) (entries : List Entry) (r : Record) (rec : Rec) (entry : Entry)
     → NamesTheLog bytes specification records entries → Names rec (end_of_log bytes) r → entry.at ≡ rec.at → entry.len ≡ rec.len
     → NameBodies (14 + length specification) (records ++ r ∷ []) (entries ++ entry ∷ [])
+
+-- Law: with one record more, whose body is read as a block with its ext, the records say one more.
+abbrev pub SaysOneMore : Type 0
+SaysOneMore = (records : List Record) (stored : List Stored) (r : Record) (it : Stored) → told_in records ≡ Some stored
+    → stored_in (length records) r.body ≡ Some it → told_in (records ++ r ∷ []) ≡ Some (stored ++ it ∷ [])
 
 -- Law: one kept block more is one record more after the others, and can be kept where it is canonical, with an ext of its form, and where the body
 -- of its record fits.

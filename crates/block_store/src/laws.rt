@@ -1,5 +1,5 @@
 // The laws of what a log tells of kept blocks.
-ghost use Rattle.block_store.specs.Laws.{TellsTheRecords, ReadsItsRecord, SaysWhatIsKept, TellsTheLog, OpensTold, AgreesAlways, KeepsAfterAppend, FollowsTheLog, AddsARecord};
+ghost use Rattle.block_store.specs.Laws.{TellsTheRecords, ReadsItsRecord, SaysWhatIsKept, TellsTheLog, SaysWhatIsOpened, OpensTold, AgreesAlways, KeepsAfterAppend, FollowsTheLog, SaysOneMore, AddsARecord};
 
 /// States that a log tells the kept blocks that its records say, or that it is opened with, where the
 /// entries name their bodies; that a cache holds what LOG has exactly where it holds what is told; and
@@ -9,9 +9,11 @@ pub fn store_laws()
     ensures reads_its_record { ReadsItsRecord }
     ensures says_what_is_kept { SaysWhatIsKept }
     ensures tells_the_log { TellsTheLog }
+    ensures says_what_is_opened { SaysWhatIsOpened }
     ensures opens_told { OpensTold }
     ensures agrees_always { AgreesAlways }
     ensures keeps_after_append { KeepsAfterAppend }
     ensures follows_the_log { FollowsTheLog }
+    ensures says_one_more { SaysOneMore }
     ensures adds_a_record { AddsARecord }
 {}
