@@ -2,11 +2,12 @@
 //!
 //! A row begins with what it calls, has a column for each argument and ends with the answer, with a tab between two; bytes are
 //! in hex, `-` for none. `disk` makes a new disk in memory, with the numbers of the calls that fail, and `tree` a new tree; the
-//! rows below use them. `bytes` has bytes of a log, which `changed`, `fronts` and `put` are about. A line that begins with `#`
-//! tells what follows. The records are by docs/STORE.md, the blocks by docs/RULES.md with hashes of Python's own Blake2b, and
+//! rows below use them. `bytes` has bytes of a log, which `changed`, `fronts`, `put`, `prefix` and `brings` are about. A line that
+//! begins with `#` tells what follows. The records are by docs/STORE.md, the blocks by docs/RULES.md with hashes of Python's own Blake2b, and
 //! the medians by its `sorted`.
 #![tactic(auto)]
 
+mod brought;
 mod forms;
 mod logs;
 mod trees;
@@ -57,10 +58,19 @@ impl Store {
             "append" => logs::agrees_on_append(alloc, &mut self.disk, row),
             "log" => logs::agrees_on_log(alloc, &mut self.disk, row),
             "byte" => logs::agrees_on_byte(&mut self.disk, row),
-            "put" => logs::put(&mut self.disk, &self.bytes),
             "open" => logs::agrees_on_open(alloc, &mut self.disk, row),
             "changed" => logs::agrees_on_changed(alloc, &self.bytes, row),
             "fronts" => logs::agrees_on_fronts(alloc, &self.bytes, row),
+            call => self.agrees_on_bodies(alloc, call, row),
+        }
+    }
+
+    fn agrees_on_bodies(&mut self, alloc: Global, call: &str, row: &mut Row) -> Option<bool> {
+        match call {
+            "put" => logs::put(&mut self.disk, 0, &self.bytes),
+            "prefix" => logs::put_prefix(&mut self.disk, &self.bytes, row),
+            "write" => logs::put_at(alloc, &mut self.disk, row),
+            "brings" => brought::agrees_on_brings(alloc, &mut self.disk, &self.bytes, row),
             call => self.agrees_on_tree(alloc, call, row),
         }
     }

@@ -1,0 +1,4 @@
+pub mod HeldLemmas
+pub mod StoredLemmas
+pub mod LogLemmas
+pub mod AgreeLemmas

@@ -1,0 +1,34 @@
+use Rattle.std.proofs.Common.{◌≡◌, Option, Some, None, Err, refl, ap}
+use Rattle.outside.specs.Image.{Image}
+use Rattle.outside.specs.declared.disk.Damage.{Damage}
+use Rattle.outside.specs.declared.disk.ReadStop.TheVariants.{Damaged}
+use Rattle.chain_tree.specs.Entries.{entry_at}
+use Rattle.block_store.specs.Stored.{stored_at, told_by}
+use Rattle.block_store.proofs.StoredLemmas.{told-there, of_damage, in_log, failed, stopped, stopped-back}
+use Rattle.block_store.proofs.store.StoreBlocks.bring.Goals as goal
+
+pub invariant_of-self : goal.invariant_of-self
+invariant_of-self g c = record { kept = c.in-Ok.ensures.kept; held = (c.requires.within, c.in-Ok.ensures.held) }
+
+pub returns-in-Err-clause-read : goal.returns-in-Err-clause-read
+returns-in-Err-clause-read g c =
+    let it = c.args.self.now in
+    let its = c.in-Err.ensures in
+    record {
+      told = ap (λ (reads : Option Image). told_by reads it.tree.now.entries) its.same;
+      count = refl;
+      loans = λ i. (it.disk.ghost_name, it.cache.ghost_name, its.content i, it.tree.now.entries);
+      damage = λ damage is. in_log (entry_at it.tree.now.entries c.args.e) damage (its.place damage (stopped-back Unit _ _ is));
+      cause = record {
+        later = its.cause.later;
+        rose = λ is. its.cause.rose (stopped-back Unit _ _ is);
+        unchanged = λ other. its.cause.unchanged (λ is. other (stopped Unit _ _ is));
+      };
+      found = λ other. c.counted-self.ensures.same (λ damage is. other damage (ap (λ stop. Some stop) is));
+    }
+
+pub returns-in-Err-clause-undamaged : goal.returns-in-Err-clause-undamaged
+returns-in-Err-clause-undamaged g c = λ told damage is.
+    let it = c.args.self.now in
+    told-there _ it.tree.now.entries c.args.e c.requires.within told
+    (of_damage _ (λ (one : Damage). failed Unit c.in-Err.stop ≡ Err (Damaged one)) (λ image. stored_at image it.tree.now.entries c.args.e ≡ None) damage c.in-Err.ensures.missing is)
