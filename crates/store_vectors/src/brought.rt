@@ -1,7 +1,7 @@
 // Rows of kept blocks that are read by their places.
 ghost use Rattle.std.specs.Prelude.{◌≡◌, ◌<◌, Some};
 
-use crate::logs::put;
+use crate::logs::{Shown, put};
 use block_store::{Cache, Store};
 use chain_tree::{Blocks, Tree};
 use log_file::{Opened, open};
@@ -14,18 +14,15 @@ use std::alloc::Global;
 fn tree_of(alloc: Global, bytes: &[u8]) -> Option<Tree> {
     let mut disk = MemDisk::new(alloc, Vec::new(alloc));
     let placed = put(&mut disk, 0, bytes);
-    let found = open(alloc, &mut disk);
+    let mut shown = Shown::none(alloc);
+    let found = open(alloc, &mut disk, &mut shown);
     drop(disk);
     placed?;
     let Opened {
         log: _,
         spec: _,
-        blocks,
-        exts,
         tree,
     } = found.ok()?;
-    drop(blocks);
-    drop(exts);
     Some(tree)
 }
 

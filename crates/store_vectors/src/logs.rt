@@ -1,5 +1,5 @@
 // Rows of logs.
-ghost use Rattle.std.specs.Prelude.{◌≤◌, length};
+ghost use Rattle.std.specs.Prelude.{◌≡◌, ◌≤◌, [], length};
 
 use crate::forms::are_bytes;
 use chain_tree::{Entry, Tree};
@@ -106,9 +106,21 @@ pub(crate) fn put_at(alloc: Global, disk: &mut MemDisk, row: &mut Row) -> Option
 
 /// The blocks that a log showed, each with its ext, and their entries.
 #[derive(Drop)]
-struct Shown {
+pub(crate) struct Shown {
     blocks: Vec<(Vec<u8>, Vec<u8>)>,
     entries: Vec<Entry>,
+}
+
+impl Shown {
+    /// Of no block.
+    pub(crate) fn none(alloc: Global) -> Shown
+        ensures { result.blocks.items ≡ [] }
+    {
+        Shown {
+            blocks: Vec::new(alloc),
+            entries: Vec::new(alloc),
+        }
+    }
 }
 
 impl Visitor for Shown {
@@ -148,10 +160,7 @@ fn are_shown(tree: &Tree, entries: &[Entry]) -> bool {
 /// How many blocks the log shows as it is opened, and where its records end then. A log that shows an entry other than
 /// the tree has it is answered as none, so that its row differs.
 fn opened(alloc: Global, disk: &mut MemDisk) -> Result<(u64, u64), LogStop> {
-    let mut shown = Shown {
-        blocks: Vec::new(alloc),
-        entries: Vec::new(alloc),
-    };
+    let mut shown = Shown::none(alloc);
     let found = open(alloc, disk, &mut shown)?;
     if !are_shown(&found.tree, &shown.entries) {
         return Err(LogStop::NotAStore);
