@@ -17,7 +17,7 @@ use Rattle.node_core.proofs.OpenLemmas.{Opened, AreBytesOf, decode_opened, store
 use Rattle.reorg.proofs.DistanceLemmas.{none-away}
 use Rattle.node_core.specs.declared.deciding.Joining.{Joining}
 use Rattle.node_core.specs.declared.deciding.Decision.TheVariants.{Joins}
-use Rattle.node_core.specs.Judging.{MayBeKept, IsReadyItem}
+use Rattle.node_core.specs.Judging.{IsReadyItem}
 use Rattle.node_core.specs.Steps.{distance_from, distance_to, moves_at, moves_on, moves_of, moves_of_block, moves_for, moves_to_tip, moves_to_open}
 
 pub no-step : (before most : ℕ) → before ≤ before + most
