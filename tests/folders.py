@@ -12,7 +12,9 @@ import time
 from harness import (CONTRACT_INIT, FIRST_INIT, FIRST_LINE, Ran, chain_of, chaingen, contract, contract_store,
                      developer, file_with, first, line_of, log_of, must, must_answer, must_be, must_have_tip,
                      new_folder, new_store, size_word, started, status_of, write)
+import paying_chain
 from encoding import as_bytes, fields_of, fixvec, uint
+from script_scene import Cell
 
 KILLS, MOST_LINES = 200, 10
 NOBODY = 65534
@@ -229,6 +231,66 @@ def must_survive(program, folder, chain, ran):
     also_known = known + chain.known(count + 1) + b''.join(chain.lines[count + 1:])
     must(after.out in (known + rest, also_known), 'the next import does not know what was answered')
     must_have_tip(program, folder, chain.tip(len(chain.blocks)), 'the next import')
+
+
+def limited_to(megabytes):
+    def limit():
+        resource.setrlimit(resource.RLIMIT_AS, (megabytes << 20, megabytes << 20))
+    return limit
+
+
+def least_to_open(program, folder):
+    """The least of memory, in megabytes, with which the store is opened."""
+    low, high = 0, 1024
+    while low + 1 < high:
+        middle = (low + high) // 2
+        if Ran([program, folder, 'tip'], preexec_fn=limited_to(middle)).status == 0:
+            high = middle
+        else:
+            low = middle
+    return high
+
+
+def check_memory_that_ends_on_the_way_to_another_branch(program):
+    """A block on a branch of many live cells, with memory for none of them: it is not kept, nor anything else lost."""
+    chain, tip, wide, asked = wide_branch()
+    given, text = first.input_and_text(chain.items)
+    on_tip, beside = chain.block(parent=tip), chain.block(parent=wide)
+    with new_store(program, chain.spec.item() + chain.genesis.item(), (first.genesis_line(chain.genesis) + '\n').encode()) as folder:
+        must_answer(Ran([program, folder, 'import'], given), 0, text, 'import of both branches')
+        least = least_to_open(program, folder)
+        joins = (first.joined(on_tip) + '\n').encode()
+        # one on the tip finds memory enough
+        ran = Ran([program, folder, 'import'], on_tip.item() + beside.item(), preexec_fn=limited_to(least + 1))
+        must_answer(ran, 6, joins, 'import with little memory')
+        before = log_of(folder)
+        must_answer(Ran([program, folder, 'import'], beside.item(), preexec_fn=limited_to(least + 1)), 6, b'', 'once more')
+        must_be(log_of(folder), before, 'the log')
+        must_have_tip(program, folder, (first.tip(on_tip) + '\n').encode(), 'behind little memory')
+        for output, live in asked:
+            ran = Ran([program, folder, 'cell', '0x' + output[0].hash.hex(), str(output[1])])
+            must_be((ran.status, ran.out.startswith(b'live ')), (0, live), 'cell %d behind little memory' % output[1])
+        must_answer(Ran([program, folder, 'import'], beside.item()), 0, (first.joined(beside) + '\n').encode(), 'with memory')
+
+
+def wide_branch():
+    """Two branches on block 1: one of blocks without a transaction, whose last is the tip, and one of blocks that make
+    9,000 cells each. Beside them cells that are live at the tip or not."""
+    chain = paying_chain.Chain(w_close=1, w_far=10, max_block_bytes=1 << 20)
+    makes, spent, left = [], (contract.First, 1), contract.COIN
+    for _ in range(3):
+        left -= 9000 * 50 * contract.SHANNONS + 10 ** 6
+        cells = [Cell(contract.ANYONE, capacity=50 * contract.SHANNONS) for _ in range(9000)]
+        makes.append(contract.Transaction([spent], [Cell(contract.ANYONE, capacity=left)] + cells))
+        spent = (makes[-1], 0)
+    chain.joins(proposes=makes)
+    root = chain.tip
+    for _ in range(5):
+        chain.joins()
+    tip, chain.tip = chain.tip, root
+    for it in makes:
+        chain.joins(commits=[it])
+    return chain, tip, chain.tip, (((contract.First, 1), True), ((makes[0], 1), False), ((makes[2], 0), False))
 
 
 def check_full_disk(program):
