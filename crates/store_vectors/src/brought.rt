@@ -65,6 +65,23 @@ fn is_brought<B: Blocks>(
     }
 }
 
+/// The same, where a block has this place.
+fn is_brought_within<B: Blocks>(
+    alloc: Global,
+    blocks: &mut B,
+    count: u32,
+    place: u64,
+    row: &mut Row,
+) -> Option<bool>
+    requires { count ≡ B.count blocks.old }
+    ensures { B.count blocks.new ≡ B.count blocks.old }
+{
+    if place >= u64::from(count) {
+        return None;
+    }
+    is_brought(alloc, blocks, place as u32, row)
+}
+
 /// The same for one place after the other.
 fn are_brought<B: Blocks>(
     alloc: Global,
@@ -76,10 +93,7 @@ fn are_brought<B: Blocks>(
     requires { count ≡ B.count blocks.old }
 {
     'places: for place in places {
-        if *place >= u64::from(count) {
-            return None;
-        }
-        if !is_brought(alloc, blocks, *place as u32, row)? {
+        if !is_brought_within(alloc, blocks, count, *place, row)? {
             return Some(false);
         }
     }
