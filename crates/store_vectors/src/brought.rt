@@ -13,7 +13,7 @@ use std::alloc::Global;
 /// The tree of a log with these bytes.
 fn tree_of(alloc: Global, bytes: &[u8]) -> Option<Tree> {
     let mut disk = MemDisk::new(alloc, Vec::new(alloc));
-    let placed = put(&mut disk, 0, bytes);
+    let placed = put(&mut disk, bytes);
     let mut shown = Shown::none(alloc);
     let found = open(alloc, &mut disk, &mut shown);
     drop(disk);

@@ -82,26 +82,30 @@ fn byte_at(disk: &mut MemDisk, at: u64) -> Option<u64> {
     }
 }
 
-/// Puts these bytes into a log at an offset, in one call. None where it fails.
-pub(crate) fn put(disk: &mut MemDisk, at: u64, bytes: &[u8]) -> Option<bool> {
-    if bytes.len() >= LIMIT || at >= LIMIT as u64 {
+/// Puts these bytes at the start of a log, in one call. None where it fails.
+pub(crate) fn put(disk: &mut MemDisk, bytes: &[u8]) -> Option<bool> {
+    if bytes.len() >= LIMIT {
         return None;
     }
-    disk.write(Area::Log, at, bytes).ok()?;
+    disk.write(Area::Log, 0, bytes).ok()?;
     Some(true)
 }
 
 /// How many of these bytes are put at the start of a log.
 pub(crate) fn put_prefix(disk: &mut MemDisk, bytes: &[u8], row: &mut Row) -> Option<bool> {
     let len: usize = row.word().parse().ok()?;
-    put(disk, 0, bytes.get(..len)?)
+    put(disk, bytes.get(..len)?)
 }
 
-/// An offset, and the bytes that are put there.
+/// An offset within a log, and the bytes that are put there.
 pub(crate) fn put_at(alloc: Global, disk: &mut MemDisk, row: &mut Row) -> Option<bool> {
     let at = row.number()?;
     let bytes = row.bytes(alloc)?;
-    put(disk, at, &bytes)
+    if bytes.len() >= LIMIT || at >= LIMIT as u64 || at > disk.len(Area::Log).ok()? {
+        return None;
+    }
+    disk.write(Area::Log, at, &bytes).ok()?;
+    Some(true)
 }
 
 /// The blocks that a log showed, each with its ext, and their entries.
@@ -190,7 +194,7 @@ fn agrees_on_bytes(alloc: Global, bytes: &[u8], row: &mut Row) -> Option<bool> {
 }
 
 fn agrees_behind(alloc: Global, disk: &mut MemDisk, bytes: &[u8], row: &mut Row) -> Option<bool> {
-    put(disk, 0, bytes)?;
+    put(disk, bytes)?;
     agrees_on_open(alloc, disk, row)
 }
 
@@ -220,7 +224,7 @@ pub(crate) fn agrees_on_fronts(alloc: Global, bytes: &[u8], row: &mut Row) -> Op
 /// The count of the blocks and where the records end, with a comma between, or `not_a_store`.
 fn agrees_on_front(alloc: Global, bytes: &[u8], wanted: &str) -> Option<bool> {
     let mut disk = MemDisk::new(alloc, Vec::new(alloc));
-    let placed = put(&mut disk, 0, bytes);
+    let placed = put(&mut disk, bytes);
     let found = opened(alloc, &mut disk);
     drop(disk);
     placed?;

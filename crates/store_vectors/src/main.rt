@@ -67,7 +67,7 @@ impl Store {
 
     fn agrees_on_bodies(&mut self, alloc: Global, call: &str, row: &mut Row) -> Option<bool> {
         match call {
-            "put" => logs::put(&mut self.disk, 0, &self.bytes),
+            "put" => logs::put(&mut self.disk, &self.bytes),
             "prefix" => logs::put_prefix(&mut self.disk, &self.bytes, row),
             "write" => logs::put_at(alloc, &mut self.disk, row),
             "brings" => brought::agrees_on_brings(alloc, &mut self.disk, &self.bytes, row),
