@@ -62,10 +62,10 @@ head-length number tip hash count long =
 
 -- the parts of a head
 pub record IsSameHead (number tip : ℕ) (hash : List ℕ) (count number1 tip1 : ℕ) (hash1 : List ℕ) (count1 : ℕ) : Type 0 where
-  pub number : number ≡ number1
-  pub tip : tip ≡ tip1
-  pub hash : hash ≡ hash1
-  pub count : count ≡ count1
+  pub numbers : number ≡ number1
+  pub tips : tip ≡ tip1
+  pub hashes : hash ≡ hash1
+  pub counts : count ≡ count1
 
 pub same-head : (number tip : ℕ) (hash : List ℕ) (count number1 tip1 : ℕ) (hash1 : List ℕ) (count1 : ℕ)
     → number < 2 ^ 32 → tip < 2 ^ 32 → length hash ≡ 32 → count < 2 ^ 64 → number1 < 2 ^ 32 → tip1 < 2 ^ 32 → length hash1 ≡ 32 → count1 < 2 ^ 64
@@ -75,10 +75,10 @@ same-head number tip hash count number1 tip1 hash1 count1 n t h c n1 t1 h1 c1 sa
     let tips = same-parts (to_le_bytes w32 tip) (to_le_bytes w32 tip1) _ _ 4 refl refl numbers.1 in
     let hashes = same-parts hash hash1 _ _ 32 h h1 tips.1 in
     record {
-      number = same-u32 number number1 n n1 numbers.0;
-      tip = same-u32 tip tip1 t t1 tips.0;
-      hash = hashes.0;
-      count = same-u64 count count1 c c1 hashes.1;
+      numbers = same-u32 number number1 n n1 numbers.0;
+      tips = same-u32 tip tip1 t t1 tips.0;
+      hashes = hashes.0;
+      counts = same-u64 count count1 c c1 hashes.1;
     }
 
 abbrev pub head_of : Snapshot → List ℕ

@@ -1,6 +1,7 @@
 -- The bytes of an area tell the snapshot that they hold.
 use Rattle.std.proofs.Common.{◌≡◌, ℕ, ◌+◌, ◌*◌, ◌<◌, ◌^◌, true, List, [], ◌∷◌, ◌++◌, length, take, drop, refl, sym, ap, ◌∙◌, subst, arith}
 use Rattle.std.specs.Int.{w32, to_le_bytes, from_le_bytes}
+use Rattle.std.proofs.lemmas.Bool.{lt-ltb}
 use Rattle.std.proofs.lemmas.Nat.{from_le_bytes-to_le_bytes_4}
 use Rattle.cell_defs.specs.Ext.{count_at}
 use Rattle.snapshot_defs.specs.Snapshot.{Snapshot, HasForm, snapshot_bytes, body_bytes, has_open_gate, Holds}
@@ -21,13 +22,13 @@ bytes-tell-snapshots bytes one other holds as_holds =
     let head = same-head one.number one.tip one.hash (length one.rows) other.number other.tip other.hash (length other.rows)
     f.number f.tip f.hash f.few g.number g.tip g.hash g.few halves.0 in
     let rows = same-parts (rows_bytes one.rows) (rows_bytes other.rows) _ _ (161 * length one.rows)
-    (rows-length one.rows f.fits) (rows-length other.rows g.fits ∙ ap (λ (n : ℕ). 161 * n) (sym head.count)) halves.1 in
-    same-snapshot one other head.number head.tip head.hash (same-rows one.rows other.rows head.count f.fits g.fits rows.0)
+    (rows-length one.rows f.fits) (rows-length other.rows g.fits ∙ ap (λ (n : ℕ). 161 * n) (sym head.counts)) halves.1 in
+    same-snapshot one other head.numbers head.tips head.hashes (same-rows one.rows other.rows head.counts f.fits g.fits rows.0)
 
 open-with : (s : Snapshot) (after : List ℕ) → s.number < 2 ^ 32 → IsOpenWith (snapshot_bytes s ++ after) s
 unfolding body_bytes
 open-with s after fits = record {
-  gate = refl;
+  gate = lt-ltb 1 (length (snapshot_bytes s ++ after)) (omega arith);
   number = from_le_bytes-to_le_bytes_4 s.number fits;
 }
 

@@ -65,7 +65,7 @@ pub record IsOfBlocks (kept : List Block) (s : Snapshot) : Type 0 where
 pub record HoldsSound (kept : List Block) (area : Area) (bytes : List ℕ) (s : Snapshot) : Type 0 where
   pub holds : Holds bytes s
   pub here : area_of s.number ≡ area
-  pub kept : IsOfBlocks kept s
+  pub of_blocks : IsOfBlocks kept s
 
 abbrev pub IsSoundArea : List Block → Area → List ℕ → Type 0
 IsSoundArea kept area bytes = IsTrue (has_open_gate bytes) → (s : Snapshot) × HoldsSound kept area bytes s

@@ -3,7 +3,6 @@ use Rattle.std.specs.Prelude.{◌≡◌, ℕ, ◌+◌, ◌*◌, ◌^◌, ◌<◌
 use Rattle.std.specs.List.{All}
 use Rattle.std.specs.Str.{bytes_eq}
 use Rattle.std.specs.Int.{w32, w64, to_le_bytes}
-use Rattle.std.specs.declared.vec.Vec.{Vec}
 use Rattle.codec_defs.specs.Schema.{OutPoint}
 use Rattle.cell_defs.specs.Row.{Row, ListsRows}
 use Rattle.cell_defs.specs.Ext.{count_at}
@@ -60,12 +59,15 @@ has_tip entries tip hash = has_hash (entry_at entries tip) hash
 
 -- ---- The rows
 
--- The bytes of so many rows, where the area has them.
-abbrev pub TellsRows : Area → ℕ → List ℕ → Result (Vec ℕ) ReadStop → Type 0
-TellsRows area count bytes (Ok found) = (49 + 161 * count ≤ length bytes) × (found.items ≡ take (161 * count) (drop 49 bytes))
-TellsRows area count bytes (Err DiskFault) = Unit
-TellsRows area count bytes (Err NoMemory) = Unit
-TellsRows area count bytes (Err (Damaged damage)) = (length bytes < 49 + 161 * count) × (damage ≡ damage_in area)
+-- The area has the bytes of so many rows, and these are they.
+abbrev pub AreRowBytes : ℕ → List ℕ → List ℕ → Type 0
+AreRowBytes count bytes found = (49 + 161 * count ≤ length bytes) × (found ≡ take (161 * count) (drop 49 bytes))
+
+-- By the stop: the area is too short for so many rows.
+abbrev pub TellsShort : Area → ℕ → List ℕ → ReadStop → Type 0
+TellsShort area count bytes DiskFault = Unit
+TellsShort area count bytes NoMemory = Unit
+TellsShort area count bytes (Damaged damage) = (length bytes < 49 + 161 * count) × (damage ≡ damage_in area)
 
 -- ---- The whole
 
@@ -78,8 +80,8 @@ pub record IsOfTree (entries : List Entry) (s : Snapshot) : Type 0 where
 pub record IsRead (entries : List Entry) (bytes : List ℕ) (before after number tip : ℕ) (state : StateValue) (s : Snapshot) : Type 0 where
   pub holds : Holds bytes s
   pub of_tree : IsOfTree entries s
-  pub number : number ≡ s.number
-  pub tip : tip ≡ s.tip
+  pub number_is : number ≡ s.number
+  pub tip_is : tip ≡ s.tip
   pub rows : ListsRows (rows state) s.rows
   pub steps : after ≡ before + length s.rows
 
@@ -102,5 +104,5 @@ TellsSnapshot area entries bytes before after (Err (Damaged damage)) = IsDamaged
 
 -- The tip and each row are of kept blocks, whatever the disk tells.
 pub record AreWithin (entries : List Entry) (tip : ℕ) (state : StateValue) : Type 0 where
-  pub tip : tip < length entries
+  pub tip_is : tip < length entries
   pub rows : (o : OutPoint) (row : Row) → rows state o ≡ Some row → IsHeld (length entries) (o, row)

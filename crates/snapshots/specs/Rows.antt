@@ -19,15 +19,15 @@ is_after_last (Some last) o = is_lt (out_point_cmp last o)
 
 -- The row that bytes hold may stand after the last one.
 pub record IsNextRow (kept : ℕ) (last : Option OutPoint) (bytes : List ℕ) (it : OutPoint × Row) : Type 0 where
-  pub bytes : row_bytes it ≡ bytes
+  pub is : row_bytes it ≡ bytes
   pub fits : FitsRow it
   pub held : IsHeld kept it
   pub after : is_after_last last it.0 ≡ true
 
 -- Bytes are those of so many rows of kept blocks, in rising order of their out-points.
 pub record AreRows (kept count : ℕ) (bytes : List ℕ) (list : List (OutPoint × Row)) : Type 0 where
-  pub bytes : concat (map row_bytes list) ≡ bytes
-  pub count : length list ≡ count
+  pub are : concat (map row_bytes list) ≡ bytes
+  pub as_many : length list ≡ count
   pub fits : All FitsRow list
   pub rising : IsRising list
   pub held : All (IsHeld kept) list

@@ -66,7 +66,7 @@ pub(crate) fn is_open(first: &[u8]) -> bool
 
 /// The number behind an open gate, by the first 5 bytes of an area or as many as it has.
 fn number_in(area: Area, first: &[u8]) -> Result<Option<u32>, ReadStop>
-    ensures { (bytes : List ℕ) → first.now ≡ take 5 bytes → TellsNumber area bytes result }
+    ensures number { (bytes : List ℕ) → first.now ≡ take 5 bytes → TellsNumber area bytes result }
     ensures no_memory { result ≡ Err no_memory → ⊥ }
     ensures no_fault { result ≡ Err DiskFault → ⊥ }
 {
@@ -96,7 +96,7 @@ pub fn number<D: Disk>(disk: &mut D, area: Area) -> Result<Option<u32>, ReadStop
 
 /// What stands before the rows, by the first 49 bytes of an area or as many as it has. None where its gate is not open.
 fn head_in(area: Area, first: &[u8]) -> Result<Option<Head>, ReadStop>
-    ensures { (bytes : List ℕ) → first.now ≡ take 49 bytes → TellsHead area bytes result }
+    ensures head { (bytes : List ℕ) → first.now ≡ take 49 bytes → TellsHead area bytes result }
     ensures no_fault { result ≡ Err DiskFault → ⊥ }
 {
     if !is_open(first) {

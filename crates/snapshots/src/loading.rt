@@ -3,7 +3,7 @@ ghost use Rattle.std.specs.Prelude.{◌≡◌, ◌+◌, ◌*◌, ◌≤◌, List
 ghost use Rattle.codec_defs.specs.Schema as schema;
 ghost use Rattle.cell_defs.specs.Row.{Row};
 ghost use Rattle.cell_state.specs.State.{rows};
-ghost use Rattle.snapshots.specs.Rows.{IsAfter, is_after_last, IsNextRow, AreRows, HasRows};
+ghost use Rattle.snapshots.specs.Rows.{is_after_last, IsNextRow, AreRows, HasRows};
 
 use cell_model::{CellMeta, OutPoint, ROW_SIZE, read_row};
 use cell_state::State;
@@ -17,7 +17,11 @@ fn is_after(last: &Option<OutPoint>, o: &OutPoint) -> bool
 {
     match last {
         None => true,
-        Some(last) => (last.tx_hash, last.index) < (o.tx_hash, o.index),
+        Some(last) => {
+            let by_hash = last.tx_hash.cmp(&o.tx_hash);
+            let by_index = last.index.cmp(&o.index);
+            by_hash.then(by_index).is_lt()
+        }
     }
 }
 
@@ -31,8 +35,13 @@ fn next_row(row: &[u8], kept: u32, last: &Option<OutPoint>) -> Option<(OutPoint,
     let Some((o, meta)) = read_row(row) else {
         return None;
     };
-    let held = meta.block < kept && meta.occupied <= meta.capacity;
-    if held && is_after(last, &o) {
+    if meta.block >= kept {
+        return None;
+    }
+    if meta.occupied > meta.capacity {
+        return None;
+    }
+    if is_after(last, &o) {
         Some((o, meta))
     } else {
         None

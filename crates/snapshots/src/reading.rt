@@ -1,9 +1,9 @@
 // A snapshot is read.
-ghost use Rattle.std.specs.Prelude.{◌≡◌, ◌+◌, ◌*◌, ◌<◌, ◌≤◌, ◌^◌, Err, length, take, drop, IfSome, IfOk};
+ghost use Rattle.std.specs.Prelude.{◌≡◌, ◌+◌, ◌*◌, ◌<◌, ◌≤◌, ◌^◌, Err, length, take, drop, IfSome, IfOk, IfErr};
 ghost use Rattle.outside.specs.Causes.{CountsFault};
 ghost use Rattle.outside.specs.Image.{content};
 ghost use Rattle.outside.specs.declared.disk.ReadStop.TheVariants.{DiskFault};
-ghost use Rattle.snapshots.specs.Reading.{TellsRows, TellsSnapshot, has_tip, AreWithin};
+ghost use Rattle.snapshots.specs.Reading.{AreRowBytes, TellsShort, TellsSnapshot, has_tip, AreWithin};
 
 use crate::area::damaged;
 use crate::head::{HEAD_SIZE, Head, read_head};
@@ -40,7 +40,8 @@ fn read_rows<D: Disk>(
     area: Area,
     count: u64,
 ) -> Result<Vec<u8>, ReadStop>
-    ensures rows { IfSome (D.reads_as disk.old) (λ image. TellsRows area count (content area image) result) }
+    ensures rows { IfSome (D.reads_as disk.old) (λ image. IfOk result (λ bytes. AreRowBytes count (content area image) bytes.items)) }
+    ensures short { IfSome (D.reads_as disk.old) (λ image. IfErr result (TellsShort area count (content area image))) }
     ensures size { IfOk result (λ bytes. length bytes.items ≡ 161 * count) }
     ensures content { D.content_of disk.new ≡ D.content_of disk.old }
     ensures cause { CountsFault (D.faults disk.old) (D.faults disk.new) (result ≡ Err DiskFault) }
@@ -57,8 +58,12 @@ fn read_rows<D: Disk>(
         Err(_) => return Err(ReadStop::NoMemory),
     };
     match disk.read(area, HEAD_SIZE as u64, &mut bytes) {
-        Ok(n) if n == size => Ok(bytes),
-        Ok(_) => Err(damaged(area)),
+        Ok(n) => {
+            if n < size {
+                return Err(damaged(area));
+            }
+            Ok(bytes)
+        }
         Err(_) => Err(ReadStop::DiskFault),
     }
 }
