@@ -4,7 +4,9 @@ use Rattle.std.specs.Prelude.{IfSome}
 use Rattle.std.specs.List.{All}
 use Rattle.std.specs.Int.{w32, w64, to_le_bytes}
 use Rattle.std.proofs.lemmas.Bool.{lt-ltb}
-use Rattle.std.proofs.lemmas.List.{take_at, drop_at}
+use Rattle.std.proofs.lemmas.List.{take_at, drop_at, length-take, length-drop}
+use Rattle.std.proofs.lemmas.Option.{slice_get_within}
+use Rattle.chain_tree.specs.Entries.{entry_at}
 use Rattle.codec_defs.specs.Schema.{OutPoint}
 use Rattle.cell_defs.specs.Row.{Row}
 use Rattle.cell_state.specs.State.{StateValue, rows}
@@ -17,7 +19,7 @@ use Rattle.snapshot_defs.specs.Snapshot.{Snapshot, HasForm, has_open_gate, Holds
 use Rattle.snapshot_defs.proofs.Fields.{rows_bytes, rows-length, head_bytes, head-length, same-head, head_of, in-parts}
 use Rattle.snapshots.specs.declared.head.Head.{Head}
 use Rattle.snapshots.specs.Rows.{IsHeld, AreRows, HasRows}
-use Rattle.snapshots.specs.Reading.{IsHead, has_tip, AreRowBytes, IsOfTree, IsRead, IsDamaged, FewSteps, TellsHead, TellsShort, TellsSnapshot, damage_in}
+use Rattle.snapshots.specs.Reading.{AreWithin, IsHead, has_hash, has_tip, AreRowBytes, IsOfTree, IsRead, IsDamaged, FewSteps, TellsHead, TellsShort, TellsSnapshot, damage_in}
 use Rattle.snapshots.proofs.Heads.{open-by}
 
 abbrev snapshot_of : Head → List (OutPoint × Row) → Snapshot
@@ -205,3 +207,34 @@ told-all area entries (Some image) mid head found state before after same h tip 
         steps = steps ∙ ap (λ (n : ℕ). before + n) (sym loaded.are.as_many);
       },
     )
+
+-- ---- What is so whatever the disk tells
+
+some-hash : (entries : List Entry) (tip : ℕ) (hash : List ℕ) (found : Option Entry) → entry_at entries tip ≡ found → has_hash found hash ≡ true → tip < length entries
+some-hash entries tip hash None is has = absurd (true-false (sym has))
+some-hash entries tip hash (Some entry) is has = slice_get_within entries tip entry is
+
+pub within : (entries : List Entry) (tip : ℕ) (hash found : List ℕ) (count : ℕ) (state : StateValue) → has_tip entries tip hash ≡ true
+    → HasRows (length entries) count found (rows state) → AreWithin entries tip state
+within entries tip hash found count state has loaded = record {
+  tip_is = some-hash entries tip hash (entry_at entries tip) refl has;
+  rows = λ o row held.
+    let place = (loaded.lists.each o row).1 held in
+    subst (IsHeld (length entries)) place.2 (loaded.are.held place.0 (o, row) place.1);
+}
+
+-- an area that is long enough gives all that is read of it
+pub not-fewer : (P : Image → Type 0) (area : Area) (reads mid : Option Image) (len size n : ℕ) (into : List ℕ) → mid ≡ reads
+    → IfSome reads (λ image. len ≡ length (content area image)) → 49 + size ≤ len → length into ≡ size → n < size
+    → IfSome mid (λ image. take n into ≡ take (length into) (drop 49 (content area image))) → IfSome reads P
+not-fewer P area None mid len size n into same long there space few read = tt
+not-fewer P area (Some image) mid len size n into same long there space few read =
+    let bytes : take n into ≡ take (length into) (drop 49 (content area image)) =
+    subst (λ (o : Option Image). IfSome o (λ i. take n into ≡ take (length into) (drop 49 (content area i)))) same read in
+    absurd (omega (
+      arith, long, there, space, few, ap length bytes, length-take n into, length-take (length into) (drop 49 (content area image)), length-drop 49 (content area image),
+    ))
+
+pub its-head : (area : Area) (reads : Option Image) (found : Option Head) (head : Head) → found ≡ Some head
+    → IfSome reads (λ image. TellsHead area (content area image) (Ok found)) → IfSome reads (λ image. IsHead (content area image) head)
+its-head area reads found head is tells = subst (λ (f : Option Head). IfSome reads (λ image. TellsHead area (content area image) (Ok f))) is tells

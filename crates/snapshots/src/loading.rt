@@ -1,5 +1,5 @@
 // The rows of a snapshot, put into a state.
-ghost use Rattle.std.specs.Prelude.{◌≡◌, ◌+◌, ◌*◌, ◌≤◌, List, Option, true, false, Some, None, length, IfOk, IfSome};
+ghost use Rattle.std.specs.Prelude.{◌≡◌, ◌+◌, ◌*◌, ◌≤◌, List, Option, true, false, Some, None, length, IfOk, IfSome, OnErr};
 ghost use Rattle.codec_defs.specs.Schema as schema;
 ghost use Rattle.cell_defs.specs.Row.{Row};
 ghost use Rattle.cell_state.specs.State.{rows};
@@ -93,6 +93,7 @@ pub(crate) fn state_of<L: Ledger>(
     ensures steps { IfOk result (λ found. IfSome found (λ _. steps.new ≡ steps.old + count)) }
     ensures later { steps.old ≤ steps.new }
     ensures most { steps.new ≤ steps.old + count }
+    ensures err { OnErr result (steps.new ≡ steps.old) }
 {
     let mut state = State::new(alloc);
     match state.reserve(count as u64) {
