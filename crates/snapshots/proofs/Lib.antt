@@ -3,4 +3,5 @@ mod LoadLemmas
 mod Heads
 mod Whole
 mod Gates
+mod BodyLemmas
 mod Exits

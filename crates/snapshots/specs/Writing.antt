@@ -35,10 +35,10 @@ IsAsItWasOrClosed old new = (new ≡ old) ⊎ (has_open_gate new ≡ false)
 
 -- A snapshot has this number, tip and hash, and just these rows.
 pub record IsSnapshotOf (number tip : ℕ) (hash : List ℕ) (rows : OutPoint → Option Row) (s : Snapshot) : Type 0 where
-  pub number : s.number ≡ number
-  pub tip : s.tip ≡ tip
-  pub hash : s.hash ≡ hash
-  pub rows : ListsRows rows s.rows
+  pub number_is : s.number ≡ number
+  pub tip_is : s.tip ≡ tip
+  pub hash_is : s.hash ≡ hash
+  pub lists : ListsRows rows s.rows
 
 -- The bytes of an area hold such a snapshot.
 abbrev pub HoldsNew : ℕ → ℕ → List ℕ → (OutPoint → Option Row) → List ℕ → Type 0
