@@ -5,13 +5,15 @@ use Rattle.std.specs.Option.{option_map}
 use Rattle.std.proofs.lemmas.Bool.{cases_eq, ne_eqb, and_left}
 use Rattle.std.proofs.Math.Bool.{and-false}
 use Rattle.std.proofs.lemmas.List.{length-take}
+use Rattle.codec_defs.specs.Schema.{OutPoint}
+use Rattle.cell_defs.specs.Row.{Row}
 use Rattle.outside.specs.declared.disk.Area.{Area}
 use Rattle.outside.specs.declared.disk.Area.TheVariants.{Log, SnapA, SnapB}
 use Rattle.outside.specs.Image.{Image, InArea, content, with_content}
 use Rattle.outside.specs.Disk.{written, write_area, Torn, ComesBy, Follows, IsDurable, SameImages, OthersRead}
 use Rattle.outside.proofs.Images.{own_content}
 use Rattle.snapshot_defs.specs.Snapshot.{Snapshot, has_open_gate, Holds}
-use Rattle.snapshots.specs.Writing.{IsClosed, IsShut, IsAsItWasOrClosed, IsClosedOr, HasArea, HoldsBody}
+use Rattle.snapshots.specs.Writing.{IsClosed, IsShut, IsAsItWasOrClosed, IsClosedOr, HasArea, HoldsBody, HoldsNew, IsBodyOf}
 
 no-some : IsSome {T = Image} None → ⊥
 no-some some = cc
@@ -157,3 +159,29 @@ while-closed area (Some now) images images1 n into told same durable long read b
     let needs : NeedsClosing (content area now) = needs-closing (content area now) into n (read ∙ ap (λ (k : ℕ). take k (content area now)) long) long by in
     let here : NeedsClosing (content area before) = subst NeedsClosing (sym (durable before first)) needs in
     (before, first, (bytes, closing (content area before) bytes here torn, is))
+
+-- ---- The snapshot behind a gate
+
+pub holds-new : (number tip : ℕ) (hash : List ℕ) (rows : OutPoint → Option Row) (body bytes : List ℕ) → IsBodyOf number tip hash rows body → HoldsBody body bytes
+    → HoldsNew number tip hash rows bytes
+holds-new number tip hash rows body bytes is holds = (
+  is.s,
+  is.is,
+  record { form = is.form; after = holds.0; parts = holds.1 ∙ ap (λ (l : List ℕ). 1 ∷ (l ++ holds.0)) is.bytes },
+)
+
+pub closed-or-new : (number tip : ℕ) (hash : List ℕ) (rows : OutPoint → Option Row) (area : Area) (body : List ℕ) (images : Image → Type 0)
+    → IsBodyOf number tip hash rows body → (image : Image) → HasArea area (IsClosedOr (HoldsBody body)) images image
+    → HasArea area (IsClosedOr (HoldsNew number tip hash rows)) images image
+closed-or-new number tip hash rows area body images is image (before, left, (bytes, has, was)) = (before, left, (bytes, by has, was))
+  where
+    by : IsClosedOr (HoldsBody body) bytes → IsClosedOr (HoldsNew number tip hash rows) bytes
+    by (inl closed) = inl closed
+    by (inr holds) = inr (holds-new number tip hash rows body bytes is holds)
+
+-- before the first call
+pub still-shut : (New : List ℕ → Type 0) (area : Area) (reads : Option Image) (images : Image → Type 0) → IsShut area reads images → (image : Image) → images image
+    → HasArea area (IsClosedOr New) images image
+still-shut New area reads images shut image left =
+    let closed : IsClosed (content area image) = subst IsClosed (sym (shut.durable image left)) shut.closed in
+    (image, left, (content area image, inl (no-gate (content area image) closed.1), own_content area image))

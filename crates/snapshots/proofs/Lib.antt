@@ -4,4 +4,3 @@ mod Heads
 mod Whole
 mod Gates
 mod BodyLemmas
-mod Exits
