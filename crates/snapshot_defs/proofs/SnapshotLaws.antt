@@ -1,12 +1,10 @@
 -- The bytes of an area tell the snapshot that they hold.
-use Rattle.std.proofs.Common.{◌≡◌, ℕ, ◌+◌, ◌*◌, ◌<◌, ◌^◌, true, List, [], ◌∷◌, ◌++◌, length, take, drop, refl, sym, ap, ◌∙◌, subst, arith}
-use Rattle.std.specs.Int.{w32, to_le_bytes, from_le_bytes}
+use Rattle.std.proofs.Common.{◌≡◌, ℕ, ◌*◌, ◌<◌, ◌^◌, List, ◌++◌, length, refl, sym, ap, ◌∙◌, subst, arith}
 use Rattle.std.proofs.lemmas.Bool.{lt-ltb}
 use Rattle.std.proofs.lemmas.Nat.{from_le_bytes-to_le_bytes_4}
-use Rattle.cell_defs.specs.Ext.{count_at}
-use Rattle.snapshot_defs.specs.Snapshot.{Snapshot, HasForm, snapshot_bytes, body_bytes, has_open_gate, Holds}
+use Rattle.snapshot_defs.specs.Snapshot.{Snapshot, snapshot_bytes, body_bytes}
 use Rattle.snapshot_defs.specs.Laws.{BytesTellSnapshots, IsOpenWith, OpensItsGate, FindsItself}
-use Rattle.snapshot_defs.proofs.Fields.{same-parts, same-rows, rows_bytes, rows-length, head_bytes, head-length, same-head, head_of, in-parts}
+use Rattle.snapshot_defs.proofs.Fields.{same-parts, same-rows, rows_bytes, rows-length, head-length, same-head, head_of, in-parts}
 
 same-snapshot : (one other : Snapshot) → one.number ≡ other.number → one.tip ≡ other.tip → one.hash ≡ other.hash → one.rows ≡ other.rows → one ≡ other
 same-snapshot one other number tip hash rows t = record { number = number t; tip = tip t; hash = hash t; rows = rows t }

@@ -1,5 +1,5 @@
 -- A snapshot: the live cells of a branch as an area of the disk keeps them (docs/STORE.md, "A snapshot").
-use Rattle.std.specs.Prelude.{◌≡◌, ℕ, ◌+◌, ◌^◌, ◌<◌, ◌%◌, ◌==◌, ◌&&◌, nat_lt, Bool, IsTrue, List, ◌∷◌, ◌++◌, length, map, slice_index, Option, Some, IsSomeAnd, if◌then◌else◌}
+use Rattle.std.specs.Prelude.{◌≡◌, ℕ, ◌^◌, ◌<◌, ◌%◌, ◌==◌, ◌&&◌, nat_lt, Bool, IsTrue, List, ◌∷◌, ◌++◌, length, map, slice_index, IsSomeAnd, if◌then◌else◌}
 use Rattle.std.specs.List.{All, concat}
 use Rattle.std.specs.Int.{w32, w64, to_le_bytes}
 use Rattle.codec_defs.specs.Schema.{OutPoint, Block}

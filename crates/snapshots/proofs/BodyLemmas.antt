@@ -1,12 +1,11 @@
 -- The bytes of a snapshot, as they are written.
-use Rattle.std.proofs.Common.{◌≡◌, ℕ, ◌+◌, ◌*◌, ◌<◌, ◌≤◌, ◌^◌, List, [], ◌∷◌, ◌++◌, length, map, take, get_or, Option, Some, None, refl, sym, ap, ◌∙◌, subst, append_assoc, length-append, arith}
-use Rattle.std.specs.List.{All, concat}
+use Rattle.std.proofs.Common.{◌≡◌, ℕ, ◌+◌, ◌*◌, ◌<◌, ◌≤◌, ◌^◌, List, [], ◌++◌, length, take, get_or, sym, ap, ◌∙◌, subst, append_assoc, length-append, arith}
+use Rattle.std.specs.List.{All}
 use Rattle.std.specs.Int.{w32, w64, to_le_bytes}
 use Rattle.std.proofs.lemmas.List.{take_more, take_all}
 use Rattle.std.proofs.lemmas.List.Elements.{All-push, All-same}
 use Rattle.codec_defs.specs.Schema.{OutPoint}
 use Rattle.cell_defs.specs.Row.{Row}
-use Rattle.cell_defs.specs.Ext.{row_bytes}
 use Rattle.ext_defs.specs.Fits.{FitsRow}
 use Rattle.snapshot_defs.specs.Snapshot.{Snapshot, body_bytes}
 use Rattle.snapshot_defs.proofs.Fields.{rows_bytes, rows-length}

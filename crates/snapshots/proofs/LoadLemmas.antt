@@ -1,14 +1,14 @@
 -- The rows that bytes hold, one after the other.
-use Rattle.std.proofs.Common.{◌≡◌, ℕ, zero, suc, ◌+◌, ◌-◌, ◌*◌, ◌<◌, ◌≤◌, Bool, true, false, List, [], ◌∷◌, ◌++◌, length, map, take, drop, get_or, Option, Some, None, refl, sym, ap, ◌∙◌, subst, append_assoc, take-append-drop, length-append, arith}
+use Rattle.std.proofs.Common.{◌≡◌, ℕ, ◌+◌, ◌-◌, ◌*◌, ◌<◌, ◌≤◌, true, false, List, [], ◌∷◌, ◌++◌, length, map, take, drop, get_or, Option, Some, None, refl, sym, ap, ◌∙◌, subst, take-append-drop, length-append, arith}
 use Rattle.std.specs.Prelude.{if◌then◌else◌}
-use Rattle.std.specs.List.{All, Contains, concat, slice_range}
+use Rattle.std.specs.List.{All, concat, slice_range}
 use Rattle.std.proofs.Math.Seq.{get_or-append_seam}
 use Rattle.std.proofs.lemmas.List.{take_at, drop_at, drop_more, take_all, map-append, length-take-le, length_push, get_or_append_left}
 use Rattle.std.proofs.lemmas.List.Elements.{All-push}
 use Rattle.std.proofs.lemmas.List.Folds.{concat-append}
 use Rattle.codec_defs.specs.Schema.{OutPoint}
 use Rattle.cell_defs.specs.Events.{same_out_point}
-use Rattle.cell_defs.specs.Row.{Row, IsRising, ListsRows}
+use Rattle.cell_defs.specs.Row.{Row, ListsRows}
 use Rattle.cell_defs.specs.Ext.{row_bytes, is_row}
 use Rattle.cell_model.proofs.ExtLemmas.{one_read_more}
 use Rattle.cell_model.proofs.RowLemmas.{row-form}

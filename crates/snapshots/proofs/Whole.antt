@@ -1,7 +1,6 @@
 -- A snapshot is put together of its parts, or there is none.
-use Rattle.std.proofs.Common.{◌≡◌, ℕ, ◌+◌, ◌*◌, ◌<◌, ◌≤◌, ◌^◌, Bool, true, false, ltb, List, ◌∷◌, ◌++◌, length, take, drop, Option, Some, None, Result, Ok, Err, refl, sym, ap, ◌∙◌, subst, take-append-drop, length-append, arith}
+use Rattle.std.proofs.Common.{◌≡◌, ℕ, ◌+◌, ◌*◌, ◌<◌, ◌≤◌, ◌^◌, true, false, List, ◌∷◌, ◌++◌, length, take, drop, Option, Some, None, Ok, Err, refl, sym, ap, ◌∙◌, subst, take-append-drop, length-append, arith}
 use Rattle.std.specs.Prelude.{IfSome}
-use Rattle.std.specs.List.{All}
 use Rattle.std.specs.Int.{w32, w64, to_le_bytes}
 use Rattle.std.proofs.lemmas.Bool.{lt-ltb}
 use Rattle.std.proofs.lemmas.List.{take_at, drop_at, length-take, length-drop}
@@ -15,7 +14,7 @@ use Rattle.outside.specs.declared.disk.Area.{Area}
 use Rattle.outside.specs.declared.disk.ReadStop.{ReadStop}
 use Rattle.outside.specs.declared.disk.ReadStop.TheVariants.{DiskFault, NoMemory, Damaged}
 use Rattle.outside.specs.Image.{Image, content}
-use Rattle.snapshot_defs.specs.Snapshot.{Snapshot, HasForm, has_open_gate, Holds}
+use Rattle.snapshot_defs.specs.Snapshot.{Snapshot, has_open_gate, Holds}
 use Rattle.snapshot_defs.proofs.Fields.{rows_bytes, rows-length, head_bytes, head-length, same-head, head_of, in-parts}
 use Rattle.snapshots.specs.declared.head.Head.{Head}
 use Rattle.snapshots.specs.Rows.{IsHeld, AreRows, HasRows}
@@ -98,8 +97,8 @@ other-tip : (entries : List Entry) (bytes : List ℕ) (head : Head) → IsHead b
 other-tip entries bytes head h none = record {
   gate = gate-open bytes head h;
   none = λ s holds of_tree.
-    let same = of-head bytes head s h holds in
-    true-false (sym of_tree.tip ∙ sym (λ t. has_tip entries (same.tips t) (same.hashes t)) ∙ none);
+      let same = of-head bytes head s h holds in
+      true-false (sym of_tree.tip ∙ sym (λ t. has_tip entries (same.tips t) (same.hashes t)) ∙ none);
 }
 
 too-short : (entries : List Entry) (bytes : List ℕ) (head : Head) → IsHead bytes head → length bytes < 49 + 161 * head.count → IsDamaged entries bytes
@@ -195,8 +194,7 @@ pub told-all : (area : Area) (entries : List Entry) (reads mid : Option Image) (
     → IfSome reads (λ image. (s : Snapshot) × IsRead entries (content area image) before after head.number head.tip state s)
 told-all area entries None mid head found state before after same h tip there loaded steps = tt
 told-all area entries (Some image) mid head found state before after same h tip there loaded steps =
-    let here : AreRowBytes head.count (content area image) found = subst (λ (o : Option Image). IfSome o (λ i. AreRowBytes head.count (content area i) found)) same there in
-    (
+    let here : AreRowBytes head.count (content area image) found = subst (λ (o : Option Image). IfSome o (λ i. AreRowBytes head.count (content area i) found)) same there in (
       snapshot_of head loaded.list,
       record {
         holds = whole-read (content area image) found head loaded.list (length entries) h here loaded.are;
@@ -219,8 +217,8 @@ pub within : (entries : List Entry) (tip : ℕ) (hash found : List ℕ) (count :
 within entries tip hash found count state has loaded = record {
   tip_is = some-hash entries tip hash (entry_at entries tip) refl has;
   rows = λ o row held.
-    let place = (loaded.lists.each o row).1 held in
-    subst (IsHeld (length entries)) place.2 (loaded.are.held place.0 (o, row) place.1);
+      let place = (loaded.lists.each o row).1 held in
+      subst (IsHeld (length entries)) place.2 (loaded.are.held place.0 (o, row) place.1);
 }
 
 -- an area that is long enough gives all that is read of it
@@ -232,7 +230,15 @@ not-fewer P area (Some image) mid len size n into same long there space few read
     let bytes : take n into ≡ take (length into) (drop 49 (content area image)) =
     subst (λ (o : Option Image). IfSome o (λ i. take n into ≡ take (length into) (drop 49 (content area i)))) same read in
     absurd (omega (
-      arith, long, there, space, few, ap length bytes, length-take n into, length-take (length into) (drop 49 (content area image)), length-drop 49 (content area image),
+      arith,
+      long,
+      there,
+      space,
+      few,
+      ap length bytes,
+      length-take n into,
+      length-take (length into) (drop 49 (content area image)),
+      length-drop 49 (content area image),
     ))
 
 pub its-head : (area : Area) (reads : Option Image) (found : Option Head) (head : Head) → found ≡ Some head

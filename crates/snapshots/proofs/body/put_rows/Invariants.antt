@@ -1,4 +1,4 @@
-use Rattle.std.proofs.Common.{◌≡◌, ◌++◌, length, map, take}
+use Rattle.std.proofs.Common.{◌≡◌, ◌++◌, map, take}
 use Rattle.std.specs.List.{All, concat}
 use Rattle.cell_defs.specs.Ext.{row_bytes}
 use Rattle.ext_defs.specs.Fits.{FitsRow}

@@ -1,5 +1,4 @@
-use Rattle.std.proofs.Common.{◌≡◌, ◌⊎◌, ℕ, List, inl, inr, sym, ap, ◌∙◌, rules}
-use Rattle.std.specs.Prelude.{slice_index, length}
+use Rattle.std.proofs.Common.{inl, inr, ◌∙◌, rules}
 use Rattle.outside.proofs.Moments.{goes_on, leaves_also, leaves_then}
 use Rattle.snapshots.proofs.Gates.{others-as, as-it-was, while-closed}
 use Rattle.snapshots.proofs.closing.close.Goals as goal

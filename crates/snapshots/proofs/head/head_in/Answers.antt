@@ -1,5 +1,4 @@
-use Rattle.std.proofs.Common.{◌≡◌, ◌<◌, ◌^◌, true, length, rules, arith}
-use Rattle.snapshot_defs.specs.Snapshot.{has_open_gate}
+use Rattle.std.proofs.Common.{true, rules}
 use Rattle.snapshots.proofs.Heads.{gate-of, short-of, long-of, damaged-head, head-of}
 use Rattle.snapshots.proofs.head.head_in.Goals as goal
 

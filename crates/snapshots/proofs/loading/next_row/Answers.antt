@@ -1,4 +1,4 @@
-use Rattle.std.proofs.Common.{Some, ap, ◌∙◌, rules}
+use Rattle.std.proofs.Common.{Some, ap, rules}
 use Rattle.snapshots.proofs.LoadLemmas.{no-form, only-this, not-kept, not-within, not-after}
 use Rattle.snapshots.proofs.loading.next_row.Goals as goal
 

@@ -1,4 +1,4 @@
-use Rattle.std.proofs.Common.{rules, ◌≡◌, true, false}
+use Rattle.std.proofs.Common.{rules}
 use Rattle.snapshots.proofs.Whole.{told-no-head, told-other-tip, told-short, told-no-rows, told-all, within, its-head}
 use Rattle.snapshots.proofs.reading.read.Goals as goal
 
