@@ -2,7 +2,7 @@
 ghost use Rattle.std.specs.Prelude.{◌≡◌, ◌<◌, ◌≤◌, length};
 
 use crate::forms::are_bytes;
-use cell_model::{Cells, OutPoint, CellMeta, ROW_SIZE, put_row, read_row};
+use cell_model::{CellMeta, Cells, OutPoint, ROW_SIZE, put_row, read_row};
 use cell_state::State;
 use chain_tree::Tree;
 use outside::{Area, Disk, Failed, ReadStop, Steps, WriteStop};
@@ -16,7 +16,12 @@ use std::sync::ledger::{Blank, Ledger};
 const LIMIT: usize = 10_000_000;
 
 /// What is done to an area, `a` or `b`, and its columns.
-pub(crate) fn agrees(alloc: Global, disk: &mut MemDisk, tree: &Tree, row: &mut Row) -> Option<bool> {
+pub(crate) fn agrees(
+    alloc: Global,
+    disk: &mut MemDisk,
+    tree: &Tree,
+    row: &mut Row,
+) -> Option<bool> {
     let call = row.word();
     let area = match row.word() {
         "a" => Area::SnapA,
