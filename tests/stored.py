@@ -24,6 +24,7 @@ PARTS = {
     'tx_vectors': ('cells', 'live_cells', 'transactions', 'script_groups'),
     'rule_vectors': (OTHERS, 'rule_blocks', 'windows', 'uncles', 'rewards'),
     'reorg_vectors': ('moves',),
+    'store_vectors': (OTHERS, 'snapshots'),
     'run_vectors': (OTHERS, 'stopped_logs', 'rule_runs', OTHERS, 'reward_runs', OTHERS, 'dao_amounts'),
     'format_vectors': (OTHERS, 'sample_blocks', OTHERS),
 }
