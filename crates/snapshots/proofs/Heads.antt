@@ -2,16 +2,16 @@
 use Rattle.std.proofs.Common.{lit≤, ◌≡◌, ℕ, suc, ◌+◌, ◌<◌, ◌≤◌, Bool, true, eqb, ltb, List, [], ◌∷◌, ◌++◌, length, take, drop, refl, sym, ap, ◌∙◌, subst, append_assoc, arith}
 use Rattle.std.specs.Prelude.{◌&&◌, Option, Some, None, Err, IfSome}
 use Rattle.std.specs.List.{slice_range}
-use Rattle.std.specs.Int.{w32, w64, to_le_bytes}
+use Rattle.std.specs.Int.{w32, w64, to_le_bytes, from_le_bytes}
 use Rattle.std.proofs.lemmas.Bool.{lt-ltb, and_parts, eqb-true}
-use Rattle.std.proofs.lemmas.List.{length-take}
+use Rattle.std.proofs.lemmas.List.{length-take, take-take, drop-take}
 use Rattle.cell_model.proofs.RowLemmas.{next, whole}
 use Rattle.outside.specs.declared.disk.Area.{Area}
 use Rattle.outside.specs.declared.disk.ReadStop.{ReadStop}
 use Rattle.outside.specs.declared.disk.ReadStop.TheVariants.{Damaged}
 use Rattle.outside.specs.Image.{Image, content}
 use Rattle.snapshot_defs.specs.Snapshot.{has_open_gate}
-use Rattle.snapshots.specs.Reading.{TellsHead, damage_in}
+use Rattle.snapshots.specs.Reading.{TellsHead, row_count, damage_in}
 
 -- the first two bytes tell whether the gate is open
 pub open-by : (n : ℕ) (bytes : List ℕ) → has_open_gate (take (suc (suc n)) bytes) ≡ has_open_gate bytes
@@ -52,6 +52,12 @@ head-of bytes first hash number tip count is long opened n t h c =
     let three = next first _ hash 9 41 (lit≤ tt) h two in
     let four = next first _ (to_le_bytes w64 count) 41 49 (lit≤ tt) c three in
     sym is ∙ sym (whole first _ 49 size four) ∙ regroup 1 (to_le_bytes w32 number) (to_le_bytes w32 tip) hash (to_le_bytes w64 count)
+
+-- the count stands in the first 49 bytes
+pub counted-of : (bytes first : List ℕ) (count : ℕ) → first ≡ take 49 bytes → count ≡ from_le_bytes w64 (slice_range first 41 (41 + 8)) → count ≡ row_count bytes
+counted-of bytes first count is by =
+    let part : take 8 (drop 41 (take 49 bytes)) ≡ take 8 (drop 41 bytes) = ap (take 8) (drop-take 41 8 bytes) ∙ take-take 8 8 (drop 41 bytes) (omega arith) in
+    by ∙ ap (λ (l : List ℕ). from_le_bytes w64 (take 8 (drop 41 l))) is ∙ ap (from_le_bytes w64) part
 
 -- ---- Answers
 

@@ -18,7 +18,7 @@ use Rattle.snapshot_defs.specs.Snapshot.{Snapshot, has_open_gate, Holds}
 use Rattle.snapshot_defs.proofs.Fields.{rows_bytes, rows-length, head_bytes, head-length, same-head, head_of, in-parts}
 use Rattle.snapshots.specs.declared.head.Head.{Head}
 use Rattle.snapshots.specs.Rows.{IsHeld, AreRows, HasRows}
-use Rattle.snapshots.specs.Reading.{AreWithin, IsHead, has_hash, has_tip, AreRowBytes, IsOfTree, IsRead, IsDamaged, FewSteps, TellsHead, TellsShort, TellsSnapshot, damage_in}
+use Rattle.snapshots.specs.Reading.{AreWithin, IsHead, has_hash, has_tip, row_count, HasSpaceFor, AreRowBytes, IsOfTree, IsRead, IsDamaged, FewSteps, TellsHead, TellsShort, TellsSnapshot, damage_in}
 use Rattle.snapshots.proofs.Heads.{open-by}
 
 abbrev snapshot_of : Head → List (OutPoint × Row) → Snapshot
@@ -159,11 +159,8 @@ told-no-rows area entries (Some image) mid head found before after stop is same 
     damaged-as area entries (content area image) before after stop is (no-rows entries (content area image) found head h here refused)
     (later, omega (arith, most, here.0))
 
-pub told-memory : (area : Area) (entries : List Entry) (reads : Option Image) (head : Head) (before after : ℕ) → after ≡ before
-    → IfSome reads (λ image. IsHead (content area image) head)
-    → IfSome reads (λ image. (has_open_gate (content area image) ≡ true) × (after ≡ before))
-told-memory area entries None head before after same h = tt
-told-memory area entries (Some image) head before after same h = (gate-open (content area image) head h, same)
+with-space : (bytes : List ℕ) (head : Head) → IsHead bytes head → HasSpaceFor head.count bytes → HasSpaceFor (row_count bytes) bytes
+with-space bytes head h space = subst (λ (n : ℕ). HasSpaceFor n bytes) h.counted space
 
 pub told-short : (area : Area) (entries : List Entry) (reads mid : Option Image) (head : Head) (before : ℕ) (stop : ReadStop) → mid ≡ reads
     → IfSome reads (λ image. IsHead (content area image) head) → IfSome mid (λ image. TellsShort area head.count (content area image) stop)
@@ -174,7 +171,7 @@ told-short area entries (Some image) mid head before stop same h short =
   where
     by : (s : ReadStop) → TellsShort area head.count (content area image) s → TellsSnapshot area entries (content area image) before before (Err s)
     by DiskFault is = refl
-    by NoMemory is = (gate-open (content area image) head h, refl)
+    by NoMemory is = (gate-open (content area image) head h, with-space (content area image) head h is, refl)
     by (Damaged damage) is = (too-short entries (content area image) head h is.0, is.1, no-steps (content area image) before)
 
 pub told-no-head : (area : Area) (entries : List Entry) (reads : Option Image) (before : ℕ) (stop : ReadStop)

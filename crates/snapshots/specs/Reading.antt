@@ -1,8 +1,8 @@
 -- What an area is read as, by the answer.
 use Rattle.std.specs.Prelude.{◌≡◌, ℕ, ◌+◌, ◌*◌, ◌^◌, ◌<◌, ◌≤◌, Bool, true, false, List, ◌∷◌, ◌++◌, length, take, drop, Option, Some, None, Result, Ok, Err}
-use Rattle.std.specs.List.{All}
+use Rattle.std.specs.List.{All, slice_range}
 use Rattle.std.specs.Str.{bytes_eq}
-use Rattle.std.specs.Int.{w32, w64, to_le_bytes}
+use Rattle.std.specs.Int.{w32, w64, to_le_bytes, from_le_bytes}
 use Rattle.codec_defs.specs.Schema.{OutPoint}
 use Rattle.cell_defs.specs.Row.{Row, ListsRows}
 use Rattle.cell_defs.specs.Ext.{count_at}
@@ -33,6 +33,14 @@ TellsNumber area bytes (Err (Damaged damage)) = (has_open_gate bytes ≡ true) �
 
 -- ---- What stands before the rows
 
+-- how many rows follow, as it stands before them
+abbrev pub row_count : List ℕ → ℕ
+row_count bytes = from_le_bytes w64 (slice_range bytes 41 49)
+
+-- The area is as long as so many rows take.
+abbrev pub HasSpaceFor : ℕ → List ℕ → Type 0
+HasSpaceFor count bytes = 49 + 161 * count ≤ length bytes
+
 -- The bytes begin with an open gate and these numbers and hash.
 pub record IsHead (bytes : List ℕ) (head : Head) : Type 0 where
   pub number : head.number < 2 ^ 32
@@ -40,6 +48,7 @@ pub record IsHead (bytes : List ℕ) (head : Head) : Type 0 where
   pub hash : length head.hash ≡ 32
   pub count : head.count < 2 ^ 64
   pub there : 49 ≤ length bytes
+  pub counted : head.count ≡ row_count bytes
   pub parts : take 49 bytes ≡ 1 ∷ (to_le_bytes w32 head.number ++ (to_le_bytes w32 head.tip ++ (head.hash ++ to_le_bytes w64 head.count)))
 
 abbrev pub TellsHead : Area → List ℕ → Result (Option Head) ReadStop → Type 0
@@ -61,12 +70,12 @@ has_tip entries tip hash = has_hash (entry_at entries tip) hash
 
 -- The area has the bytes of so many rows, and these are they.
 abbrev pub AreRowBytes : ℕ → List ℕ → List ℕ → Type 0
-AreRowBytes count bytes found = (49 + 161 * count ≤ length bytes) × (found ≡ take (161 * count) (drop 49 bytes))
+AreRowBytes count bytes found = HasSpaceFor count bytes × (found ≡ take (161 * count) (drop 49 bytes))
 
--- By the stop: the area is too short for so many rows.
+-- By the stop: the area is too short for so many rows. Memory is taken only where it is not.
 abbrev pub TellsShort : Area → ℕ → List ℕ → ReadStop → Type 0
 TellsShort area count bytes DiskFault = Unit
-TellsShort area count bytes NoMemory = Unit
+TellsShort area count bytes NoMemory = HasSpaceFor count bytes
 TellsShort area count bytes (Damaged damage) = (length bytes < 49 + 161 * count) × (damage ≡ damage_in area)
 
 -- ---- The whole
@@ -94,12 +103,14 @@ pub record IsDamaged (entries : List Entry) (bytes : List ℕ) : Type 0 where
 abbrev pub FewSteps : List ℕ → ℕ → ℕ → Type 0
 FewSteps bytes before after = (before ≤ after) × (161 * after ≤ 161 * before + length bytes)
 
--- By the answer: no open gate, the snapshot that the area holds, or that it holds none.
+-- By the answer: no open gate, the snapshot that the area holds, or that it holds none. Memory is taken only where the area is as long as its count of
+-- rows says.
 abbrev pub TellsSnapshot : Area → List Entry → List ℕ → ℕ → ℕ → Result (Option (ℕ × ℕ × StateValue)) ReadStop → Type 0
 TellsSnapshot area entries bytes before after (Ok None) = (has_open_gate bytes ≡ false) × (after ≡ before)
 TellsSnapshot area entries bytes before after (Ok (Some (number, tip, state))) = (s : Snapshot) × IsRead entries bytes before after number tip state s
 TellsSnapshot area entries bytes before after (Err DiskFault) = after ≡ before
-TellsSnapshot area entries bytes before after (Err NoMemory) = (has_open_gate bytes ≡ true) × (after ≡ before)
+TellsSnapshot area entries bytes before after (Err NoMemory) =
+    (has_open_gate bytes ≡ true) × HasSpaceFor (row_count bytes) bytes × (after ≡ before)
 TellsSnapshot area entries bytes before after (Err (Damaged damage)) = IsDamaged entries bytes × (damage ≡ damage_in area) × FewSteps bytes before after
 
 -- The tip and each row are of kept blocks, whatever the disk tells.

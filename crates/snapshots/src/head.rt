@@ -1,7 +1,7 @@
 // What a snapshot begins with: gate, number, tip, the tip's hash and the count of rows.
 ghost use Rattle.std.specs.Prelude.{◌≡◌, ◌+◌, ◌<◌, ◌≤◌, ◌^◌, List, ℕ, Err, length, take, IfSome, IfOk};
 ghost use Rattle.std.specs.List.{slice_range};
-ghost use Rattle.std.specs.Int.{w32, w64, to_le_bytes};
+ghost use Rattle.std.specs.Int.{w32, w64, to_le_bytes, from_le_bytes};
 ghost use Rattle.cell_defs.specs.Ext.{count_at};
 ghost use Rattle.outside.specs.Causes.{CountsFault};
 ghost use Rattle.outside.specs.Image.{content};
@@ -39,7 +39,8 @@ fn u32_at(bytes: &[u8], at: usize) -> u32
 /// The number that the eight bytes from `at` on are.
 fn u64_at(bytes: &[u8], at: usize) -> u64
     requires { at + 8 ≤ length bytes.now }
-    ensures { to_le_bytes w64 result ≡ slice_range bytes.now at (at + 8) }
+    ensures value { result ≡ from_le_bytes w64 (slice_range bytes.now at (at + 8)) }
+    ensures bytes { to_le_bytes w64 result ≡ slice_range bytes.now at (at + 8) }
 {
     let eight = &bytes[at..at + 8];
     u64::from_le_bytes([
