@@ -24,7 +24,7 @@ PARTS = {
     'tx_vectors': ('cells', 'live_cells', 'transactions', 'script_groups'),
     'rule_vectors': (OTHERS, 'rule_blocks', 'windows', 'uncles', 'rewards'),
     'reorg_vectors': ('moves',),
-    'store_vectors': (OTHERS, 'kept_bodies'),
+    'store_vectors': (OTHERS, 'kept_bodies', 'snapshots'),
     'run_vectors': (OTHERS, 'stopped_logs', 'rule_runs', OTHERS, 'reward_runs', OTHERS, 'dao_amounts', 'branch_runs'),
     'format_vectors': (OTHERS, 'sample_blocks', OTHERS),
 }

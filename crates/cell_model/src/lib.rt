@@ -3,8 +3,8 @@
 //!
 //! Contracts see a [`CellMeta`] as a `Row` of `cell_defs`, and [`Cells`] as a function from out-points to rows.
 //! [`fetch`] copies the output and the data that a row names, exactly, over a [`Blocks`](chain_tree::Blocks) that
-//! tells; [`Ext`] is read and written by its form, [`fee_in`] takes a fee out of an ext's bytes, and [`ListBlocks`] is a
-//! `Blocks` in memory, which tells its blocks and never fails. Which cells are live is left to `cell_state`, what a transaction may do with them to `tx_rules`.
+//! tells; [`Ext`] is read and written by its form, [`read_row`] and [`put_row`] are for one row, [`fee_in`] takes a fee
+//! out of an ext's bytes, and [`ListBlocks`] is a `Blocks` in memory, which tells its blocks and never fails. Which cells are live is left to `cell_state`, what a transaction may do with them to `tx_rules`.
 #![tactic(auto)]
 
 mod cells;
@@ -21,3 +21,4 @@ pub use ext::{Ext, fee_in};
 pub use hashes::{data_hash, meta_of, meta_with, occupied, proposal_id, script_hash, tx_hash};
 pub use last_script::LastScript;
 pub use list_blocks::ListBlocks;
+pub use row::{ROW_SIZE, put_row, read_row};

@@ -8,8 +8,8 @@ ghost use Rattle.ext_defs.specs.Fits.{FitsRow};
 use crate::cells::{CellMeta, OutPoint};
 use outside::NoMemory;
 
-/// Bytes in a row.
-pub(crate) const ROW_SIZE: usize = 161;
+/// Bytes in a row with its out-point.
+pub const ROW_SIZE: usize = 161;
 
 /// The number that the four bytes from `at` on are.
 pub(crate) fn u32_at(bytes: &[u8], at: usize) -> u32
@@ -69,8 +69,8 @@ fn type_hash_in(row: &[u8]) -> Option<Option<[u8; 32]>>
     None
 }
 
-/// The row that the bytes hold, with its out-point. None where they are not of its form.
-pub(crate) fn read_row(row: &[u8]) -> Option<(OutPoint, CellMeta)>
+/// The row that 161 bytes hold, with its out-point. None where they are not of its form.
+pub fn read_row(row: &[u8]) -> Option<(OutPoint, CellMeta)>
     requires { length row.now ≡ 161 }
     ensures found { is_some result ≡ exts.is_row row.now }
     ensures bytes { IfSome result (λ it. exts.row_bytes it ≡ row.now) }
@@ -125,8 +125,8 @@ fn put_front(bytes: &mut Vec<u8>, o: &OutPoint, meta: &CellMeta) -> Result<(), N
     Ok(())
 }
 
-/// Puts a row with its out-point after what is there.
-pub(crate) fn put_row(bytes: &mut Vec<u8>, o: &OutPoint, meta: &CellMeta) -> Result<(), NoMemory>
+/// Puts the 161 bytes of a row with its out-point after what is there.
+pub fn put_row(bytes: &mut Vec<u8>, o: &OutPoint, meta: &CellMeta) -> Result<(), NoMemory>
     ensures written { OnOk result (bytes.new.items ≡ bytes.old.items ++ exts.row_bytes (o.now, meta.now)) }
     ensures size { OnOk result (length (exts.row_bytes (o.now, meta.now)) ≡ 161) }
     ensures form { OnOk result (IsTrue (exts.is_row (exts.row_bytes (o.now, meta.now)))) }

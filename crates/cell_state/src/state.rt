@@ -51,6 +51,16 @@ pub fn outputs_in(block: &BlockView<'_>) -> u64
 }
 
 impl State {
+    /// No cell. The rows of a branch come by `reserve` and `load_row`.
+    pub fn new(alloc: Global) -> State
+        ensures { (o : schema.OutPoint) → rows result o ≡ None }
+    {
+        State {
+            slots: Slots::new(alloc),
+            last: LastScript::new(),
+        }
+    }
+
     /// The cells that a genesis leaves. Of one without transactions there is none.
     pub fn genesis(alloc: Global, block: &BlockView<'_>) -> Result<State, NoMemory>
         ensures { IfOk result (λ state. (o : schema.OutPoint) → rows state o ≡ row_after 0 (events_of_block 0 block.now) (λ _. None) o) }

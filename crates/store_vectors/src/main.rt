@@ -10,6 +10,7 @@
 mod brought;
 mod forms;
 mod logs;
+mod snaps;
 mod trees;
 
 use chain_tree::Tree;
@@ -84,6 +85,7 @@ impl Store {
             "parts" => forms::agrees_on_parts(alloc, row),
             "ext_form" => forms::agrees_on_ext(alloc, row),
             "genesis" => forms::agrees_on_genesis(alloc, row),
+            "snapshot" => snaps::agrees(alloc, &mut self.disk, &self.tree, row),
             _ => None,
         }
     }

@@ -1,0 +1,14 @@
+//! Snapshots by their bytes: the live cells of a branch as an area of the disk keeps them, an open gate, and when an area is
+//! that of some kept blocks. Definitions, and as the contract of [`bytes_of_snapshots`] the law that bytes hold at most one
+//! snapshot, whatever follows it. How one is read and written is left to `snapshots`.
+#![tactic(auto)]
+
+ghost use Rattle.snapshot_defs.specs.Laws.{BytesTellSnapshots, OpensItsGate, FindsItself};
+
+/// States what bytes hold: a snapshot behind an open gate, that of which they are made and no other, whatever stands after it.
+/// It does nothing.
+pub fn bytes_of_snapshots()
+    ensures tell_snapshots { BytesTellSnapshots }
+    ensures opens_its_gate { OpensItsGate }
+    ensures finds_itself { FindsItself }
+{}

@@ -1,0 +1,6 @@
+mod Order
+mod LoadLemmas
+mod Heads
+mod Whole
+mod Gates
+mod BodyLemmas
