@@ -1,6 +1,6 @@
 -- One block more changes no snapshot of the blocks before it.
 use Rattle.std.proofs.Common.{◌≡◌, ℕ, zero, suc, ◌<◌, List, [], ◌∷◌, ◌++◌, length, Option, Some, None, refl, sym, ap, ◌∙◌, subst, arith}
-use Rattle.std.specs.Prelude.{slice_index, slice_get, IsSomeAnd}
+use Rattle.std.specs.Prelude.{slice_index, IsSomeAnd}
 use Rattle.std.specs.Option.{option_map}
 use Rattle.std.proofs.lemmas.Option.{slice_get_within}
 use Rattle.codec_defs.specs.Schema.{OutPoint, Block}
@@ -10,9 +10,8 @@ use Rattle.chain_defs.proofs.KeptLaws.{slice_get-before}
 use Rattle.chain_defs.proofs.BranchLaws.{parent_place-below, parent_place-push, branch-push}
 use Rattle.cell_defs.specs.Cell.{Cell}
 use Rattle.cell_defs.specs.Events.{live_cell}
-use Rattle.cell_defs.specs.Row.{Row, row_of, row_on, live_row, ListsRows}
-use Rattle.outside.specs.declared.disk.Area.{Area}
-use Rattle.snapshot_defs.specs.Snapshot.{Snapshot, IsOfBlocks, HoldsSound, IsSoundArea}
+use Rattle.cell_defs.specs.Row.{row_of, row_on, live_row}
+use Rattle.snapshot_defs.specs.Snapshot.{Snapshot}
 use Rattle.snapshot_defs.specs.Laws.{StaysOfBlocks, StaysSound}
 
 abbrev places_on : ℕ → List Block → ℕ → Option ℕ → List ℕ
