@@ -31,11 +31,7 @@ fn is_in_hand<B: Blocks>(alloc: Global, blocks: &B, place: u32, row: &mut Row) -
     requires { B.in_hand blocks.now ≡ Some place }
 {
     let wanted = row.numbers(alloc)?;
-    let ext = if place == 0 {
-        0
-    } else {
-        blocks.spent().len()
-    };
+    let ext = if place == 0 { 0 } else { blocks.spent().len() };
     let block = blocks.block();
     Some(
         *wanted.first()? == block.header().number()
@@ -46,12 +42,7 @@ fn is_in_hand<B: Blocks>(alloc: Global, blocks: &B, place: u32, row: &mut Row) -
 }
 
 /// What is found at a place, or why nothing is: `fault`, or `damaged` and the offset.
-fn is_brought<B: Blocks>(
-    alloc: Global,
-    blocks: &mut B,
-    place: u32,
-    row: &mut Row,
-) -> Option<bool>
+fn is_brought<B: Blocks>(alloc: Global, blocks: &mut B, place: u32, row: &mut Row) -> Option<bool>
     requires { place < B.count blocks.old }
     ensures { B.count blocks.new ≡ B.count blocks.old }
 {
