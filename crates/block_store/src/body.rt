@@ -1,7 +1,10 @@
 // The body of an entry, checked.
 ghost use Rattle.std.specs.Prelude.{◌≡◌, ◌≤◌, ◌-◌, Some, take, drop, length, IfOk, IfSome};
 ghost use Rattle.std.specs.Option.{option_map};
-ghost use Rattle.cell_model.specs.ListBlocks.{ids_of};
+ghost use Rattle.codec_defs.specs.Shape.{decoded};
+ghost use Rattle.codec_defs.specs.Schema as schema;
+ghost use Rattle.codec_defs.specs.Schema.{Block};
+ghost use Rattle.cell_model.specs.ListBlocks.{ids_of, IsCanonical};
 ghost use Rattle.block_store.specs.Stored.{parts_in, stored_in};
 
 use cell_model::{proposal_id, tx_hash};
@@ -66,6 +69,22 @@ fn block_range(place: u32, body: &[u8]) -> Option<(usize, usize)>
 }
 
 impl KeptBody {
+    /// The body of a block after the genesis with its ext.
+    pub fn of(alloc: Global, block: &[u8], ext: &[u8]) -> Result<KeptBody, NoMemory>
+        requires { IsCanonical block.now }
+        ensures { (b : Block) → decoded schema.block block.now ≡ Some b → IfOk result (λ body. body ≡ record { block = b; ext = ext.now }) }
+    {
+        let ids = proposal_ids(alloc, &BlockView::from_encoding(block))?;
+        let mut bytes = block.to_vec(alloc)?;
+        bytes.extend_from_slice(ext)?;
+        Ok(KeptBody {
+            bytes,
+            start: 0,
+            end: block.len(),
+            ids,
+        })
+    }
+
     /// The body of the entry at a place, of its bytes. None where they are no body.
     pub fn read(alloc: Global, place: u32, bytes: Vec<u8>) -> Result<Option<KeptBody>, NoMemory>
         ensures { IfOk result (λ body. body ≡ stored_in place bytes.items) }

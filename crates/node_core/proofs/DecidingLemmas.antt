@@ -94,11 +94,11 @@ within-blocks kept blocks entries place seen indexed below = omega (arith, below
 
 -- all that a block is judged over, where the rows are those of its parent's branch
 pub whole-at-hand : (spec : Specification) (stored : List Stored) (entries : List Entry) (index : UnclesValue) (state : StateValue) (kept : KeptValue) (b : Block)
-    (entry : Entry) → kept_of spec stored ≡ kept → AreKept stored entries index → IsEntryOn kept.chain.blocks b entry → AreJoined kept.chain kept.exts
+    (entry : Entry) → kept_of spec stored entries ≡ kept → AreKept stored entries index → IsEntryOn kept.chain.blocks b entry → AreJoined kept.chain kept.exts
     → AreOf kept.chain.blocks entry.parent (rows state) → StandsWhole spec stored entries entry.parent (rows state) index
 whole-at-hand spec stored entries index state kept b entry whole are on joined live =
     let seen : blocks_of stored ≡ kept.chain.blocks = ap (λ (k : KeptValue). k.chain.blocks) whole in
-    let before : AreJoined (kept_of spec stored).chain (kept_of spec stored).exts = subst (λ (k : KeptValue). AreJoined k.chain k.exts) (sym whole) joined in
+    let before : AreJoined (kept_of spec stored entries).chain (kept_of spec stored entries).exts = subst (λ (k : KeptValue). AreJoined k.chain k.exts) (sym whole) joined in
     record {
       stands = stands-on spec stored entries entry.parent (rows state) before.joined are.indexed
           (within-entries (blocks_of stored) kept.chain.blocks entries entry.parent seen are.indexed

@@ -272,13 +272,14 @@ exts-push : (stored after : List Stored) (b : Block) (ext : List ℕ) → after 
     → exts_of after ≡ exts_of stored ++ ext ∷ []
 exts-push stored after b ext is = ap exts_of is ∙ map-append (λ (it : Stored). it.ext) stored (record { block = b; ext = ext } ∷ [])
 
-pub kept-push : (spec : Specification) (stored after : List Stored) (b : Block) (ext : List ℕ) (kept : KeptValue) → kept_of spec stored ≡ kept
-    → after ≡ stored ++ record { block = b; ext = ext } ∷ [] → kept_of spec after ≡ kept_with kept b ext
-kept-push spec stored after b ext kept whole is =
+pub kept-push : (spec : Specification) (stored after : List Stored) (entries later : List Entry) (b : Block) (ext : List ℕ) (entry : Entry) (kept : KeptValue)
+    → kept_of spec stored entries ≡ kept → after ≡ stored ++ record { block = b; ext = ext } ∷ [] → later ≡ entries ++ entry ∷ []
+    → kept_of spec after later ≡ kept_with kept b ext entry
+kept-push spec stored after entries later b ext entry kept whole is entered =
     let blocks = blocks-push stored after b ext is in
     let exts = exts-push stored after b ext is in
-    subst (λ (v : KeptValue). kept_of spec after ≡ kept_with v b ext) whole
-    (λ i. record { chain = record { spec = spec; blocks = blocks i }; exts = exts i })
+    subst (λ (v : KeptValue). kept_of spec after later ≡ kept_with v b ext entry) whole
+    (λ i. record { chain = record { spec = spec; blocks = blocks i }; exts = exts i; entries = entered i })
 
 -- its ext counts its fees
 counted-push : (stored after : List Stored) (b : Block) (ext item : List ℕ) → CountFees stored → decoded block item ≡ Some b → IsExtFor item ext

@@ -1,4 +1,5 @@
 pub mod SightLemmas
+pub mod SourceLemmas
 pub mod MovingLemmas
 pub mod DecidingLemmas
 pub mod JoiningLemmas
@@ -8,8 +9,10 @@ pub mod DiskLemmas
 pub mod NewLemmas
 pub mod OpenLemmas
 pub mod OpeningLemmas
-pub mod GatheredLemmas
+pub mod GatherLemmas
 pub mod StepLemmas
 pub mod OwnLemmas
 pub mod KeepingLemmas
 pub mod QueryLemmas
+pub mod SourceLemmas
+pub mod RecordedLemmas

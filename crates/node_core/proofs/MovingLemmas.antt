@@ -34,10 +34,10 @@ canonical-push kept b item canonical is place other there = by_place (slice_get-
 
 -- ---- The way
 
-pub way-back : (spec : Specification) (stored : List Stored) (entries : List Entry) (index : UnclesValue) (kept : KeptValue) → kept_of spec stored ≡ kept
+pub way-back : (spec : Specification) (stored : List Stored) (entries : List Entry) (index : UnclesValue) (kept : KeptValue) → kept_of spec stored entries ≡ kept
     → AreKept stored entries index → (from to : ℕ) → AreJoined kept.chain kept.exts → CanGoDown stored from to
 way-back spec stored entries index kept whole are from to joined place parent it on off =
-    joined-can-be-taken-back (kept_of spec stored).chain stored refl (subst (λ (k : KeptValue). AreJoined k.chain k.exts) (sym whole) joined) are.canonical
+    joined-can-be-taken-back (kept_of spec stored entries).chain stored refl (subst (λ (k : KeptValue). AreJoined k.chain k.exts) (sym whole) joined) are.canonical
     place parent it
 
 -- ---- What had joined before a block
@@ -83,8 +83,8 @@ module _ (chain : Chain) (b : Block) (some : 0 < length chain.blocks) where
       as_many = omega (arith, own.as_many, length_push exts ext, length_push chain.blocks b)
 
 -- where all that is kept with one more block has joined, what was kept before it had
-pub are_joined_before : (kept next : KeptValue) (b : Block) (ext : List ℕ) → 0 < length kept.chain.blocks → next ≡ kept_with kept b ext
+pub are_joined_before : (kept next : KeptValue) (b : Block) (ext : List ℕ) (entry : Entry) → 0 < length kept.chain.blocks → next ≡ kept_with kept b ext entry
     → AreJoined next.chain next.exts → AreJoined kept.chain kept.exts
-are_joined_before kept next b ext some is joined =
-    let more : AreJoined (kept_with kept b ext).chain (kept_with kept b ext).exts = subst (λ (k : KeptValue). AreJoined k.chain k.exts) is joined in
+are_joined_before kept next b ext entry some is joined =
+    let more : AreJoined (kept_with kept b ext entry).chain (kept_with kept b ext entry).exts = subst (λ (k : KeptValue). AreJoined k.chain k.exts) is joined in
     record { joined = joined_before kept.chain b some more.joined; own = own_before kept.chain b some kept.exts ext more.own }

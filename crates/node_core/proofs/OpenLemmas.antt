@@ -1,41 +1,54 @@
--- A store that is opened: what its image keeps, and what its disk stands for then.
-use Rattle.std.proofs.Common.{◌≡◌, ℕ, zero, suc, ◌+◌, ◌-◌, ◌*◌, ◌^◌, ◌<◌, ◌≤◌, Bool, false, cond, List, [], ◌∷◌, length, drop, map, Vec, Global, Option, Some, None, refl, sym, ap, ◌∙◌, subst, inl, inr, ◌⊎◌, arith}
-use Rattle.std.specs.Prelude.{IfSome, IsTrue, ◌==◌, slice_get, slice_index_or, Result, Ok, Err, IsOk, is_err}
+-- A store that is opened: what its image keeps, what its disk stands for then, and what opening leaves of the disk.
+use Rattle.std.proofs.Common.{◌≡◌, ℕ, ◌+◌, ◌*◌, ◌^◌, ◌≤◌, Bool, false, cond, List, [], ◌∷◌, length, drop, Option, Some, None, refl, sym, ap, ◌∙◌, subst, inl, inr, ◌⊎◌, arith}
+use Rattle.std.specs.Prelude.{◌≢◌, ◌==◌, IfSome, IsSome, slice_index, Result, Ok, Err, IfOk, IsOk, is_err}
 use Rattle.std.specs.Option.{option_map}
 use Rattle.std.proofs.lemmas.Bool.{ne_eqb}
-use Rattle.std.proofs.lemmas.List.{get_or-map, length-map}
-use Rattle.std.proofs.lemmas.Option.{slice_get-get_or, slice_get-map, slice_get_within}
+use Rattle.std.proofs.lemmas.List.{length-map}
+use Rattle.std.proofs.lemmas.Option.{same_Some}
 use Rattle.outside.specs.declared.disk.Area.TheVariants.{Log, SnapA, SnapB}
 use Rattle.outside.specs.declared.disk.Damage.{Damage}
 use Rattle.outside.specs.declared.disk.ReadStop.{ReadStop}
 use Rattle.outside.specs.declared.disk.ReadStop.TheVariants.{DiskFault, Damaged, NoMemory}
 use Rattle.outside.specs.Image.{Image, with_content}
-use Rattle.outside.specs.Causes.{CountsFault}
-use Rattle.outside.specs.Disk.{NoneNew, IsDurable, HasOneImage, OthersRead, LeavesOnly, IsOnlyRead}
-use Rattle.outside.proofs.Moments.{leaves_also, leaves_then}
-use Rattle.codec_defs.specs.Shape.{decoded}
-use Rattle.codec_defs.specs.Schema.{Block, block}
-use Rattle.chain_defs.specs.Kept.{block_at, kept_limit}
-use Rattle.chain_defs.proofs.KeptLaws.{slice_get-below}
-use Rattle.cell_defs.specs.Ext.{count_at, is_ext}
-use Rattle.cell_model.specs.ListBlocks.{contents, IsExtFor}
-use Rattle.time_defs.specs.Specification.{Specification, specification_of}
+use Rattle.outside.specs.Causes.{Rose, CountsFault}
+use Rattle.outside.specs.Disk.{NoneNew, IsDurable, HasOneImage, OthersRead, LeavesOnly, IsAsBefore, IsOnlyRead}
+use Rattle.outside.proofs.Moments.{leaves_also, leaves_then, now_too}
+use Rattle.codec_defs.specs.Schema.{OutPoint, Block}
+use Rattle.chain_defs.specs.Kept.{kept_limit}
+use Rattle.chain_defs.specs.Tip.{tip_place}
+use Rattle.chain_defs.specs.Branch.{distance}
+use Rattle.cell_defs.specs.Row.{Row}
+use Rattle.cell_state.specs.State.{StateValue, rows}
+use Rattle.reorg.specs.Moves.{AreOf}
+use Rattle.time_defs.specs.Specification.{Specification}
 use Rattle.verdict_defs.specs.Chain.{Chain}
-use Rattle.log_defs.specs.Log.{Record, LogContent, log_of, records_of, parts_of_body}
-use Rattle.log_defs.specs.Rest.{IsSettled, HasLog}
-use Rattle.store_defs.specs.Store.{NoLog, Keeps, store_of, store_of_log, chain_of, StandsFor, IsSound, IsJoined, HaveOwnExts, own_ext, chain_before, EachHasJoined}
+use Rattle.log_defs.specs.Log.{Record, LogContent, content_of_records, log_of, records_of, end_of_log}
+use Rattle.log_defs.specs.Rest.{IsAtRest, IsSettled, HasLog}
 use Rattle.log_defs.proofs.Contents.{says_its_records}
-use Rattle.log_defs.proofs.Contents.{counts_its_records}
-use Rattle.store_defs.proofs.JoinedLemmas.{joined_of_image}
-use Rattle.store_defs.proofs.ExtLemmas.{HoldsItsExt, exts_of_log, own_of_record}
+use Rattle.store_defs.specs.Store.{Store, NoLog, Keeps, store_of, store_of_log, chain_of, StandsFor, IsSound, AreJoined}
 use Rattle.chain_tree.specs.declared.entry.Entry.{Entry}
+use Rattle.chain_tree.specs.Blocks.{IndexesBlocks, AreRated}
+use Rattle.chain_tree.specs.Reading.{stop_of}
 use Rattle.chain_tree.specs.Told.{Stored, blocks_of}
-use Rattle.log_file.specs.Grammar.{record_of, ext_in}
-use Rattle.log_file.specs.Opening.{IsOpened}
-use Rattle.node_core.specs.Node.{exts_of, KeptValue, node_of, IsOn, IsWithin}
-use Rattle.node_core.specs.Opening.{HaveExts}
-use Rattle.node_core.proofs.OpeningLemmas.{same-blocks, as-many, as-many-contents, decoded-at}
-use Rattle.node_core.proofs.DiskLemmas.{same_image}
+use Rattle.log_file.specs.Grammar.{record_of, AreBlocks}
+use Rattle.log_file.specs.Opening.{IsOpened, NameBodies, kept_records}
+use Rattle.log_file.proofs.Settling.{others_kept, others_on}
+use Rattle.block_store.specs.Held.{Holds, AgreesWith}
+use Rattle.block_store.specs.Stored.{CanBeKept}
+use Rattle.node_core.specs.Node.{KeptValue, NodeValue, kept_of, kept_in, node_of, stored_of, exts_of, CountFees, IsWithin, IsReadBy, IsOf, IsItsOwn, IsSoundNode, IsOnlyImage, IsOn, IsLeftByOpening, AreOfTip}
+use Rattle.node_core.specs.Opening.{LeavesStore, IsReadFrom}
+use Rattle.node_core.specs.Steps.{distance_to, moves_to_tip, moves_to_open}
+use Rattle.node_core.proofs.KeepingLemmas.{left_by_opening}
+use Rattle.node_core.proofs.OpeningLemmas.{paired-stored, same_log, same_chain, joined-log, joined-chain, records-are, can-be-kept, chain-opened, counted-opened, joined-opened, rated-opened, some-opened}
+
+-- ---- What is said of what a disk reads as
+
+pub at_some : (P : Image → Type 0) (found : Option Image) (now : Image) → found ≡ Some now → IfSome found P → P now
+at_some P found now is here = subst (λ (o : Option Image). IfSome o P) is here
+
+pub if_some_also : (P Q : Image → Type 0) (found : Option Image) → IfSome found P → ((now : Image) → P now → Q now) → IfSome found Q
+if_some_also P Q None here also = tt
+if_some_also P Q (Some now) here also = also now here
 
 -- ---- The store of an image
 
@@ -54,75 +67,91 @@ pub store_keeps : (image : Image) (log : LogContent) → log_of image.log ≡ So
 unfolding store_of
 store_keeps image log is = store_of_bytes image.log log is
 
-same_chain : (one other : Chain) → Keeps one ≡ Keeps other → one ≡ other
-same_chain one other same = (cc)
-
-same_log : (one other : LogContent) → Some one ≡ Some other → one ≡ other
-same_log one other same = (cc)
-
 -- ---- What was opened
 
 abbrev pub Opened : Specification → List Stored → List Entry → Image → Type 0
 Opened spec stored entries now = (log : LogContent) × IsOpened now.log log spec stored entries
 
--- What is kept then.
-pub record IsKeptOf (kept : KeptValue) (spec : Specification) (stored : List Stored) : Type 0 where
-  pub spec_is : kept.chain.spec ≡ spec
-  pub blocks : kept.chain.blocks ≡ blocks_of stored
-  pub beside : kept.exts ≡ exts_of stored
-
--- The bytes are those of these blocks and their exts.
-pub record AreBytesOf (items exts : List (List ℕ)) (stored : List Stored) : Type 0 where
-  pub decode : map (decoded block) items ≡ map Some (blocks_of stored)
-  pub beside : exts ≡ exts_of stored
-
--- the blocks of a log, from their bytes
-pub decode_opened : (bytes : List ℕ) (log : LogContent) (spec : Specification) (items exts : List (List ℕ)) (stored : List Stored) (entries : List Entry)
-    → AreBytesOf items exts stored → IsOpened bytes log spec stored entries → map (decoded block) items ≡ map Some log.blocks
-decode_opened bytes log spec items exts stored entries of is = of.decode ∙ ap (map (λ (b : Block). Some b)) is.opened.blocks
-
--- as many of each
-pub as_many_bytes : (blocks exts : List (Vec ℕ Global)) (stored : List Stored) → AreBytesOf (contents blocks) (contents exts) stored
-    → (length blocks ≡ length stored) × (length exts ≡ length stored)
-as_many_bytes blocks exts stored of = (
-  omega (arith, as-many (contents blocks) (blocks_of stored) of.decode, as-many-contents blocks, length-map stored (λ (it : Stored). it.block)),
-  omega (arith, ap length of.beside, as-many-contents exts, length-map stored (λ (it : Stored). it.ext)),
-)
-
--- What is kept of them.
-pub kept_of_bytes : (kept : KeptValue) (spec : Specification) (items exts : List (List ℕ)) (stored : List Stored) → AreBytesOf items exts stored → kept.chain.spec ≡ spec
-    → map (decoded block) items ≡ map Some kept.chain.blocks → kept.exts ≡ exts → IsKeptOf kept spec stored
-kept_of_bytes kept spec items exts stored of same decode beside = record {
-  spec_is = same;
-  blocks = same-blocks kept.chain.blocks (blocks_of stored) (sym decode ∙ of.decode);
-  beside = beside ∙ of.beside;
-}
-
-chain_opened : (bytes : List ℕ) (log : LogContent) (kept : KeptValue) (spec : Specification) (stored : List Stored) (entries : List Entry)
-    → IsKeptOf kept spec stored → IsOpened bytes log spec stored entries → chain_of log ≡ kept.chain
-chain_opened bytes log kept spec stored entries of is =
-    let specified : specification_of log.specification ≡ kept.chain.spec = sym is.specified ∙ sym of.spec_is in
-    let blocks : log.blocks ≡ kept.chain.blocks = sym (of.blocks ∙ is.opened.blocks) in
-    λ i. record { spec = specified i; blocks = blocks i }
-
-keeps_at : (kept : KeptValue) (spec : Specification) (stored : List Stored) (entries : List Entry) (now : Image) → IsKeptOf kept spec stored
-    → Opened spec stored entries now → store_of now ≡ Keeps kept.chain
-keeps_at kept spec stored entries now of (log, is) =
-    store_keeps now log is.is_log ∙ ap Keeps (chain_opened now.log log kept spec stored entries of is)
-
-pub opened_keeps : (reads mid : Option Image) (kept : KeptValue) (spec : Specification) (stored : List Stored) (entries : List Entry)
-    → IsKeptOf kept spec stored → mid ≡ reads → IfSome mid (Opened spec stored entries) → IfSome reads (λ now. store_of now ≡ Keeps kept.chain)
-opened_keeps None mid kept spec stored entries of same opened = tt
-opened_keeps (Some now) mid kept spec stored entries of same opened =
-    keeps_at kept spec stored entries now of (subst (λ (o : Option Image). IfSome o (Opened spec stored entries)) same opened)
-
 -- what a node asks of its chain and its place
-pub is_within : (kept : KeptValue) (spec : Specification) (stored : List Stored) (place : ℕ) → IsKeptOf kept spec stored
+pub is_within : (kept : KeptValue) (spec : Specification) (stored : List Stored) (entries : List Entry) (place : ℕ) → kept ≡ kept_of spec stored entries
     → length stored ≤ kept_limit → place ≤ 2 ^ 33 * (length stored + 1)
     → (length kept.chain.blocks ≤ kept_limit) × IsWithin (length kept.chain.blocks) place
-is_within kept spec stored place of few within =
-    let many : length stored ≡ length kept.chain.blocks = sym (ap length of.blocks ∙ length-map stored (λ (it : Stored). it.block)) in
+is_within kept spec stored entries place of few within =
+    let many : length stored ≡ length kept.chain.blocks =
+    sym (ap (λ (k : KeptValue). length k.chain.blocks) of ∙ length-map stored (λ (it : Stored). it.block)) in
     (omega (arith, few, many), subst (λ (n : ℕ). IsWithin n place) many within)
+
+-- before a block is read nothing is held
+nothing-held : (e : ℕ) (it : Stored) → Holds [] e it → ⊥
+nothing-held e it there = let within = there.1 in omega arith
+
+-- LOG has what is kept, where it was opened so
+module _ (now : Image) (log : LogContent) (kept : KeptValue) (spec : Specification) (stored : List Stored) (entries : List Entry)
+    (of : kept ≡ kept_of spec stored entries) (is : IsOpened now.log log spec stored entries) (are : AreBlocks stored entries)
+    (held : List (ℕ × Stored)) (none : held ≡ []) where
+  stored_is : stored_of kept ≡ stored
+  stored_is = ap stored_of of ∙ paired-stored stored
+
+  held_is : record_of 2 log.genesis ∷ log.records ≡ kept_records (stored_of kept)
+  held_is = is.opened.held ∙ ap kept_records (sym stored_is)
+
+  all_records : records_of (drop 8 now.log) ≡ record_of 1 log.specification ∷ kept_records (stored_of kept)
+  all_records =
+      records-are (records_of (drop 8 now.log)) log is.says ∙ ap (λ (l : List Record). record_of 1 log.specification ∷ l) held_is
+
+  read_by : (place : ℕ) (image : Image) → IsAtRest place (records_of (drop 8 now.log)) image.log → IsReadBy kept held image
+  read_by place image rest = record {
+    specification = log.specification;
+    names = record {
+      holds = rest.holds ∙ all_records;
+      named = subst (λ (named : List Entry). NameBodies (14 + length log.specification) (kept_records (stored_of kept)) named)
+          (sym (ap (λ (k : KeptValue). k.entries) of))
+          (subst (λ (l : List Record). NameBodies (14 + length log.specification) l entries) held_is is.opened.named);
+    };
+    can = subst CanBeKept (sym stored_is) (can-be-kept now.log log spec stored entries is are);
+    agrees = subst (AgreesWith (stored_of kept)) (sym none) (λ e it there. absurd (nothing-held e it there));
+  }
+
+  read_from : (place : ℕ) (cells : StateValue) (reads : Option Image) (images : Image → Type 0)
+      → IsSettled place (records_of (drop 8 now.log)) reads images → IsReadFrom (node_of kept place cells held) reads images now
+  read_from place cells reads images settled = record {
+    keeps = store_keeps now log is.is_log ∙ ap Keeps (chain-opened now.log log kept spec stored entries of is);
+    settled = settled;
+    of = record {
+      now = settled.now;
+      told = settled.told;
+      read = read_by place settled.now settled.rest;
+      settled = subst (λ (l : List Record). IsSettled place l reads images) all_records settled;
+    };
+    joined = λ sound. joined-opened now.log log spec stored entries is (joined-log now log sound is.is_log) (joined-chain now log sound is.is_log) kept of;
+  }
+
+-- what is said of the image that a disk tells
+pub on_told : (P : Image → Type 0) (reads mid : Option Image) (now : Image) → mid ≡ reads → reads ≡ Some now → IfSome mid P → P now
+on_told P reads mid now same told here = subst (λ (o : Option Image). IfSome o P) (same ∙ told) here
+
+pub if_told : (P : Image → Type 0) (reads : Option Image) → ((now : Image) → reads ≡ Some now → P now) → IfSome reads P
+if_told P None here = tt
+if_told P (Some now) here = here now refl
+
+module _ (reads mid : Option Image) (spec : Specification) (stored : List Stored) (entries : List Entry)
+    (same : mid ≡ reads) (opened : IfSome mid (Opened spec stored entries)) (are : AreBlocks stored entries) where
+  pub opened_read : (kept : KeptValue) → kept ≡ kept_of spec stored entries → (held : List (ℕ × Stored)) → held ≡ [] → (place : ℕ) (cells : StateValue)
+      (final : Option Image) (images : Image → Type 0) → IfSome mid (λ now. IsSettled place (records_of (drop 8 now.log)) final images)
+      → IfSome reads (IsReadFrom (node_of kept place cells held) final images)
+  opened_read kept of held none place cells final images settled = if_told (IsReadFrom (node_of kept place cells held) final images) reads (λ now told.
+      let found = on_told (Opened spec stored entries) reads mid now same told opened in
+      read_from now found.0 kept spec stored entries of found.1 are held none place cells final images
+      (on_told (λ image. IsSettled place (records_of (drop 8 image.log)) final images) reads mid now same told settled))
+
+  -- where the blocks of a log have not joined, the image is not sound
+  pub not_joined : (0 < length stored → AreRated entries → CountFees stored → ⊥) → IfSome reads (λ now. IsSound now → ⊥)
+  not_joined never = if_told (λ now. IsSound now → ⊥) reads (λ now told sound.
+      let found = on_told (Opened spec stored entries) reads mid now same told opened in
+      let each = joined-log now found.0 sound found.1.is_log in
+      never (some-opened now.log found.0 spec stored entries found.1 each)
+      (rated-opened now.log found.0 spec stored entries found.1 each (joined-chain now found.0 sound found.1.is_log) are)
+      (counted-opened now.log found.0 spec stored entries found.1 each))
 
 -- ---- Where nothing is opened
 
@@ -133,15 +162,6 @@ no_log_in now nothing = by_found (log_of now.log) refl
     by_found : (o : Option LogContent) → log_of now.log ≡ o → log_of now.log ≡ None
     by_found None is = is
     by_found (Some log) is = absurd (nothing (chain_of log) (store_keeps now log is))
-
--- and none was opened
-pub none_opened : (mid : Option Image) (now : Image) (spec : Specification) (stored : List Stored) (entries : List Entry) → mid ≡ Some now
-    → IfSome mid (Opened spec stored entries) → ((chain : Chain) → store_of now ≡ Keeps chain → ⊥) → ⊥
-none_opened mid now spec stored entries told opened nothing =
-    by_log (subst (λ (o : Option Image). IfSome o (Opened spec stored entries)) told opened)
-  where
-    by_log : Opened spec stored entries now → ⊥
-    by_log (log, is) = nothing (chain_of log) (store_keeps now log is.is_log)
 
 none_is_some : (log : LogContent) → Some log ≡ None → ⊥
 none_is_some log is = absurd (cc)
@@ -156,132 +176,13 @@ not_sound None mid same none stopped = tt
 not_sound {Stopped} (Some now) mid same none stopped =
     no_log_sound now (subst (λ (o : Option Image). IfSome o (λ now. Stopped → log_of now.log ≡ None)) same none stopped)
 
-no_record : Record
-no_record = record_of 0 []
+same_image : (image now : Image) → image.log ≡ now.log → image.snap_a ≡ now.snap_a → image.snap_b ≡ now.snap_b → image ≡ now
+same_image image now log snap_a snap_b = λ i. record { log = log i; snap_a = snap_a i; snap_b = snap_b i }
 
-ext_is : (r : Record) (item ext : List ℕ) → parts_of_body r.body ≡ Some (item, ext) → ext_in r ≡ ext
-ext_is r item ext is =
-    ap (λ (o : Option (List ℕ × List ℕ)). elim o [
-      | None ↦ []
-      | Some parts ↦ parts.1
-    ]) is
-
--- What stands beside a block of a record whose block joined is an ext for it.
-ext_for : (r : Record) (b : Block) (bytes ext : List ℕ) → HoldsItsExt r b → decoded block bytes ≡ Some b → ext ≡ ext_in r → IsExtFor bytes ext
-ext_for r b bytes ext its is beside =
-    let same : ext ≡ its.holds.ext = beside ∙ ext_is r its.holds.item its.holds.ext its.holds.parts in
-    record {
-      form = subst (λ (e : List ℕ). IsTrue (is_ext e)) (sym same) its.holds.form;
-      fees = subst (λ (o : Option Block). IfSome o (λ x. count_at ext 0 ≡ length x.transactions - 1)) (sym is)
-          (ap (λ (e : List ℕ). count_at e 0) same ∙ its.fees);
-    }
-
-ext_joined : (bytes : List ℕ) (log : LogContent) (spec : Specification) (items exts : List (List ℕ)) (stored : List Stored) (entries : List Entry)
-    → AreBytesOf items exts stored → IsOpened bytes log spec stored entries → EachHasJoined log → (before : ℕ) → before < length log.records
-    → IsExtFor (slice_index_or items (suc before) []) (slice_index_or exts (suc before) [])
-ext_joined bytes log spec items exts stored entries of is each before low =
-    ext_for r found.0 (slice_index_or items (suc before) []) (slice_index_or exts (suc before) []) its
-    (decoded-at items log.blocks (suc before) found.0 (decode_opened bytes log spec items exts stored entries of is) found.1) beside
-  where
-    r : Record
-    r = slice_index_or log.records before no_record
-
-    many : length log.blocks ≡ length log.records + 1
-    many = counts_its_records (records_of (drop 8 bytes)) log is.says
-
-    found : (b : Block) × (block_at log.blocks (suc before) ≡ Some b)
-    found = slice_get-below log.blocks (suc before) (omega (arith, low, many))
-
-    next : before + 1 ≡ suc before
-    next = omega arith
-
-    its : HoldsItsExt r found.0
-    its = exts_of_log bytes log is.is_log each before r found.0 (slice_get-get_or log.records before no_record low)
-        (ap (block_at log.blocks) next ∙ found.1) (is.opened.fits before no_record low)
-
-    beside : slice_index_or exts (suc before) [] ≡ ext_in r
-    beside = ap (λ (l : List (List ℕ)). slice_index_or l (suc before) []) (of.beside ∙ is.opened.exts) ∙ get_or-map ext_in log.records before no_record [] low
-
--- Beside each block of a log whose blocks joined stands an ext for it.
-exts_joined : (bytes : List ℕ) (log : LogContent) (spec : Specification) (items exts : List (List ℕ)) (stored : List Stored) (entries : List Entry)
-    → AreBytesOf items exts stored → IsOpened bytes log spec stored entries → EachHasJoined log → HaveExts items exts
-exts_joined bytes log spec items exts stored entries of is each zero above within = absurd (omega (arith, above))
-exts_joined bytes log spec items exts stored entries of is each (suc before) above within =
-    let many : length log.blocks ≡ length log.records + 1 = counts_its_records (records_of (drop 8 bytes)) log is.says in
-    ext_joined bytes log spec items exts stored entries of is each before
-    (omega (arith, within, as-many items log.blocks (decode_opened bytes log spec items exts stored entries of is), many))
-
--- what is never so of a log whose blocks joined
-abbrev pub NeverJoined : Specification → List (List ℕ) → List (List ℕ) → Type 0
-NeverJoined spec items exts = (kept : List Block) → map (decoded block) items ≡ map Some kept → IsJoined (record { spec = spec; blocks = kept })
-    → HaveExts items exts → ⊥
-
-never_sound : (now : Image) (spec : Specification) (items exts : List (List ℕ)) (stored : List Stored) (entries : List Entry) → AreBytesOf items exts stored
-    → Opened spec stored entries now → NeverJoined spec items exts → IsSound now → ⊥
-never_sound now spec items exts stored entries of (log, is) never (chain, stands) =
-    let log_is : stands.log ≡ log = same_log stands.log log (sym stands.is_log ∙ is.is_log) in
-    let joined : IsJoined (chain_of log) =
-    subst IsJoined (sym stands.keeps ∙ ap chain_of log_is) (joined_of_image chain now stands) in
-    let spec_joined : IsJoined (record { spec = spec; blocks = log.blocks }) =
-    subst (λ (s : Specification). IsJoined (record { spec = s; blocks = log.blocks })) (sym is.specified) joined in
-    never log.blocks (decode_opened now.log log spec items exts stored entries of is) spec_joined
-    (exts_joined now.log log spec items exts stored entries of is (subst EachHasJoined log_is stands.joined))
-
--- Where the blocks of a log have not joined, the image is not sound.
-pub not_joined : (reads mid : Option Image) (spec : Specification) (items exts : List (List ℕ)) (stored : List Stored) (entries : List Entry) → AreBytesOf items exts stored
-    → mid ≡ reads → IfSome mid (Opened spec stored entries) → NeverJoined spec items exts → IfSome reads (λ now. IsSound now → ⊥)
-not_joined None mid spec items exts stored entries of same opened never = tt
-not_joined (Some now) mid spec items exts stored entries of same opened never =
-    never_sound now spec items exts stored entries of (subst (λ (o : Option Image). IfSome o (Opened spec stored entries)) same opened) never
-
--- ---- The exts of a sound log
-
--- a sound image keeps one chain
-joined_so : (now : Image) (log : LogContent) → IsSound now → log_of now.log ≡ Some log → EachHasJoined log
-joined_so now log (chain, stands) is = subst EachHasJoined (same_log stands.log log (sym stands.is_log ∙ is)) stands.joined
-
-module _ (bytes : List ℕ) (log : LogContent) (spec : Specification) (stored : List Stored) (entries : List Entry)
-    (is : IsOpened bytes log spec stored entries) (each : EachHasJoined log) where
-  many : length log.blocks ≡ length log.records + 1
-  many = counts_its_records (records_of (drop 8 bytes)) log is.says
-
-  own_at : (place : ℕ) (b : Block) → 0 < place → block_at log.blocks place ≡ Some b → slice_get (exts_of stored) place ≡ Some (own_ext (chain_before log place) b)
-  own_at zero b above there = absurd (omega (arith, above))
-  own_at (suc before) b above there =
-      let next : before + 1 ≡ suc before = omega arith in
-      let r = slice_get-below log.records before (omega (arith, many, slice_get_within log.blocks (suc before) b there)) in
-      let own = own_of_record log each before r.0 b r.1 (ap (block_at log.blocks) next ∙ there) in
-      ap (λ (l : List (List ℕ)). slice_get l (suc before)) is.opened.exts ∙ slice_get-map ext_in log.records before ∙ ap (option_map ext_in) r.1
-      ∙ ap Some (ext_is r.0 own.0 (own_ext (chain_before log (before + 1)) b) own.1)
-      ∙ ap (λ (count : ℕ). Some (own_ext (chain_before log count) b)) next
-
-  own_of_log : HaveOwnExts (chain_of log) (exts_of stored)
-  own_of_log = record {
-    as_many = ap length is.opened.exts ∙ ap suc (length-map log.records ext_in) ∙ omega (arith, many);
-    own = own_at;
-  }
-
-  pub own_opened : (kept : KeptValue) → IsKeptOf kept spec stored → HaveOwnExts kept.chain kept.exts
-  own_opened kept of =
-      subst (HaveOwnExts kept.chain) (sym of.beside)
-      (subst (λ (c : Chain). HaveOwnExts c (exts_of stored)) (chain_opened bytes log kept spec stored entries of is) own_of_log)
-
-own_if_sound : (kept : KeptValue) (spec : Specification) (stored : List Stored) (entries : List Entry) (now : Image) → IsKeptOf kept spec stored
-    → Opened spec stored entries now → IsSound now → HaveOwnExts kept.chain kept.exts
-own_if_sound kept spec stored entries now of (log, is) sound =
-    own_opened now.log log spec stored entries is (joined_so now log sound is.is_log) kept of
-
--- Where what was read is sound, each block has its own ext.
-pub opened_own : (reads mid : Option Image) (kept : KeptValue) (spec : Specification) (stored : List Stored) (entries : List Entry)
-    → IsKeptOf kept spec stored → mid ≡ reads → IfSome mid (Opened spec stored entries) → (now : Image) → reads ≡ Some now → IsSound now
-    → HaveOwnExts kept.chain kept.exts
-opened_own reads mid kept spec stored entries of same opened now told sound =
-    own_if_sound kept spec stored entries now of (subst (λ (o : Option Image). IfSome o (Opened spec stored entries)) (same ∙ told) opened) sound
-
--- ---- A disk that was only read
+-- ---- What opening leaves of a disk
 
 module _ {D : Type 0} (reads_as : D → Option Image) (images : D → Image → Type 0) (moment : D → ℕ) (left_since : D → ℕ → Image → Type 0) where
-  pub only_read-then : (old mid new : D) → reads_as mid ≡ reads_as old → NoneNew (images old) (images mid) → LeavesOnly moment left_since old mid (images old)
+  only_read-then : (old mid new : D) → reads_as mid ≡ reads_as old → NoneNew (images old) (images mid) → LeavesOnly moment left_since old mid (images old)
       → IsOnlyRead reads_as images moment left_since mid new → IsOnlyRead reads_as images moment left_since old new
   only_read-then old mid new same none_new moments second = record {
     reads = second.reads ∙ same;
@@ -290,13 +191,83 @@ module _ {D : Type 0} (reads_as : D → Option Image) (images : D → Image → 
         (leaves_also moment left_since mid new (images mid) (images old) second.moments none_new);
   }
 
+  -- it was synced alone
+  pub leaves_synced : (old new : D) → reads_as new ≡ reads_as old → NoneNew (images old) (images new) → LeavesOnly moment left_since old new (images old)
+      → LeavesStore reads_as images moment left_since old new
+  leaves_synced old new same none_new moments = record {
+    no_log = λ now told nothing. record { reads = same; images = none_new; moments = moments };
+    rests = λ now told closed. record { reads = same; images = none_new; moments = moments };
+    keeps = λ now told. leaves_also moment left_since old new (images old) (IsLeftByOpening now.log (images old)) moments (λ image left. inl left);
+    others = others_kept (reads_as old) (reads_as new) same;
+  }
+
+  -- and then its log was read
+  pub leaves_read : (old mid new : D) → reads_as mid ≡ reads_as old → NoneNew (images old) (images mid) → LeavesOnly moment left_since old mid (images old)
+      → IfSome (reads_as mid) (λ now. log_of now.log ≡ None → IsOnlyRead reads_as images moment left_since mid new)
+      → IfSome (reads_as mid) (λ now. slice_index now.log (end_of_log now.log) ≢ 1 → IsOnlyRead reads_as images moment left_since mid new)
+      → IfSome (reads_as mid) (λ now. LeavesOnly moment left_since mid new (λ image. images mid image ⊎ HasLog (λ bytes. log_of bytes ≡ log_of now.log) (images mid) image))
+      → OthersRead Log (reads_as mid) (reads_as new) → LeavesStore reads_as images moment left_since old new
+  leaves_read old mid new same none_new moments no_log rests keeps others = record {
+    no_log = λ now told nothing. only_read-then old mid new same none_new moments
+        (on_told (λ image. log_of image.log ≡ None → IsOnlyRead reads_as images moment left_since mid new) (reads_as old) (reads_as mid) now same told no_log
+        (no_log_in now nothing));
+    rests = λ now told closed. only_read-then old mid new same none_new moments
+        (on_told (λ image. slice_index image.log (end_of_log image.log) ≢ 1 → IsOnlyRead reads_as images moment left_since mid new) (reads_as old) (reads_as mid) now same told rests
+        closed);
+    keeps = λ now told. leaves_then moment left_since old mid new (IsLeftByOpening now.log (images old))
+        (leaves_also moment left_since old mid (images old) (IsLeftByOpening now.log (images old)) moments (λ image left. inl left))
+        (leaves_also moment left_since mid new (λ image. images mid image ⊎ HasLog (λ bytes. log_of bytes ≡ log_of now.log) (images mid) image)
+        (IsLeftByOpening now.log (images old))
+        (on_told (λ was. LeavesOnly moment left_since mid new (λ image. images mid image ⊎ HasLog (λ bytes. log_of bytes ≡ log_of was.log) (images mid) image))
+        (reads_as old) (reads_as mid) now same told keeps)
+        (left_by_opening now.log (images old) (images mid) none_new));
+    others = others_on (reads_as old) (reads_as mid) (reads_as new) same others;
+  }
+
+  -- and then blocks were read
+  only_read-still : (old mid new : D) → IsOnlyRead reads_as images moment left_since old mid → IsAsBefore reads_as images moment left_since mid new
+      → IsOnlyRead reads_as images moment left_since old new
+  only_read-still old mid new first second = record {
+    reads = second.reads ∙ first.reads;
+    images = λ image left. first.images image ((second.images image).0 left);
+    moments = leaves_then moment left_since old mid new (images old) first.moments
+        (leaves_also moment left_since mid new (images mid) (images old) second.moments first.images);
+  }
+
+  pub leaves_on : ((disk : D) (t : ℕ) (image : Image) → t ≤ moment disk → images disk image → left_since disk t image)
+      → (old mid new : D) → LeavesStore reads_as images moment left_since old mid → IsAsBefore reads_as images moment left_since mid new
+      → LeavesStore reads_as images moment left_since old new
+  leaves_on counts_now old mid new first second = record {
+    no_log = λ now told nothing. only_read-still old mid new (first.no_log now told nothing) second;
+    rests = λ now told closed. only_read-still old mid new (first.rests now told closed) second;
+    keeps = λ now told. leaves_then moment left_since old mid new (IsLeftByOpening now.log (images old)) (first.keeps now told)
+        (leaves_also moment left_since mid new (images mid) (IsLeftByOpening now.log (images old)) second.moments
+        (now_too moment left_since images counts_now old mid (IsLeftByOpening now.log (images old)) (first.keeps now told)));
+    others = subst (OthersRead Log (reads_as old)) (sym second.reads) first.others;
+  }
+
+  none_new_on : (mid new : D) → IsAsBefore reads_as images moment left_since mid new → NoneNew (images mid) (images new)
+  none_new_on mid new second image left = (second.images image).0 left
+
+-- where a disk told, and others of its areas read as they did, it tells
+pub tells_still : (old new : Option Image) (now : Image) → old ≡ Some now → OthersRead Log old new → IsSome new
+tells_still old new now told (bytes, wrote) =
+    subst IsSome (sym (wrote ∙ ap (option_map (with_content Log bytes)) told)) refl
+
+pub told_before : (old new : Option Image) → OthersRead Log old new → IsSome new → (now : Image) × (old ≡ Some now)
+told_before None new (bytes, wrote) some = absurd (no_some (subst IsSome wrote some))
+  where
+    no_some : IsSome (option_map (with_content Log bytes) None) → ⊥
+    no_some some = absurd (cc)
+told_before (Some now) new others some = (now, refl)
+
 -- ---- What a crash leaves
 
 abbrev SaysSo : Image → List ℕ → Type 0
 SaysSo now bytes = log_of bytes ≡ log_of now.log
 
 -- an image of before, or one whose log says what it said
-abbrev pub LeftSo : (Image → Type 0) → Image → Image → Type 0
+abbrev LeftSo : (Image → Type 0) → Image → Image → Type 0
 LeftSo images now image = images image ⊎ HasLog (SaysSo now) images image
 
 module _ (images0 images1 : Image → Type 0) (none_new : NoneNew images0 images1) (sound : (image : Image) → images0 image → IsSound image) where
@@ -327,86 +298,49 @@ module _ (images0 images1 : Image → Type 0) (none_new : NoneNew images0 images
         no_snap_b = snaps.1;
       }
 
-  -- at each moment
-  pub stands_while_opened : (reads0 reads1 : Option Image) (now : Image) (chain : Chain) → IfSome reads0 images0 → reads1 ≡ reads0 → reads0 ≡ Some now → store_of now ≡ Keeps chain
-      → (image : Image) → LeftSo images1 now image → images0 image ⊎ StandsFor chain image
-  stands_while_opened reads0 reads1 now chain read same told keeps image (inl here) = inl (none_new image here)
-  stands_while_opened reads0 reads1 now chain read same told keeps image (inr left) =
-      inr (stands_so now image chain (sound now (subst (λ (o : Option Image). IfSome o images0) told read)) keeps left)
-
   -- when it is opened
-  module _ (images2 : Image → Type 0) (reads2 : Option Image) (place : ℕ) (kept : KeptValue) (spec : Specification) (stored : List Stored) (entries : List Entry)
-      (of : IsKeptOf kept spec stored) (read2 : IfSome reads2 images2) where
-    is_on_at : (now : Image) (log : LogContent) → IsSound now → IsOpened now.log log spec stored entries
-        → IsSettled place (records_of (drop 8 now.log)) reads2 images2 → ((image : Image) → images2 image → LeftSo images1 now image)
-        → IsOn (node_of kept place) reads2 images2
-    is_on_at now log is_sound is settled left =
-        let mine = left_snaps now settled.now (left settled.now (subst (λ (o : Option Image). IfSome o images2) settled.told read2)) in
-        record {
-          now = settled.now;
-          told = settled.told;
-          one = λ image here.
-              let snaps = left_snaps now image (left image here) in
-              same_image image settled.now (settled.durable image here) (snaps.0 ∙ sym mine.0) (snaps.1 ∙ sym mine.1);
-          stands = record {
-            log = log;
-            is_log = says_its_records place (records_of (drop 8 now.log)) settled.now.log settled.rest ∙ is.says;
-            keeps = chain_opened now.log log kept spec stored entries of is;
-            joined = joined_so now log is_sound is.is_log;
-            no_snap_a = mine.0;
-            no_snap_b = mine.1;
-          };
-          records = records_of (drop 8 now.log);
-          rest = settled.rest;
-          own = own_opened now.log log spec stored entries is (joined_so now log is_sound is.is_log) kept of;
-        }
+  only_at : (images2 : Image → Type 0) (reads2 : Option Image) (place : ℕ) (chain : Chain) (now : Image) (log : LogContent) → IsSound now
+      → log_of now.log ≡ Some log → content_of_records (records_of (drop 8 now.log)) ≡ Some log → chain_of log ≡ chain
+      → IfSome reads2 images2 → IsSettled place (records_of (drop 8 now.log)) reads2 images2 → ((image : Image) → images2 image → LeftSo images1 now image)
+      → IsOnlyImage chain reads2 images2
+  only_at images2 reads2 place chain now log is_sound is_log says keeps read2 settled left =
+      let mine = left_snaps now settled.now (left settled.now (subst (λ (o : Option Image). IfSome o images2) settled.told read2)) in
+      record {
+        now = settled.now;
+        told = settled.told;
+        one = λ image here.
+            let snaps = left_snaps now image (left image here) in
+            same_image image settled.now (settled.durable image here) (snaps.0 ∙ sym mine.0) (snaps.1 ∙ sym mine.1);
+        stands = record {
+          log = log;
+          is_log = says_its_records place (records_of (drop 8 now.log)) settled.now.log settled.rest ∙ says;
+          keeps = keeps;
+          joined = joined-log now log is_sound is_log;
+          no_snap_a = mine.0;
+          no_snap_b = mine.1;
+        };
+      }
 
-    by_log : (now : Image) → IsSound now → Opened spec stored entries now → IsSettled place (records_of (drop 8 now.log)) reads2 images2
-        → ((image : Image) → images2 image → LeftSo images1 now image)
-        → IsOn (node_of kept place) reads2 images2
-    by_log now is_sound (log, is) settled left = is_on_at now log is_sound is settled left
+  pub opened_only : (images2 : Image → Type 0) (reads0 reads1 reads2 : Option Image) (place : ℕ) (kept : KeptValue) (spec : Specification) (stored : List Stored) (entries : List Entry)
+      → kept ≡ kept_of spec stored entries → IfSome reads0 images0 → IfSome reads2 images2 → reads1 ≡ reads0 → IfSome reads1 (Opened spec stored entries)
+      → IfSome reads1 (λ now. IsSettled place (records_of (drop 8 now.log)) reads2 images2)
+      → IfSome reads1 (λ now. (image : Image) → images2 image → LeftSo images1 now image)
+      → IfSome reads0 (λ _. IsOnlyImage kept.chain reads2 images2)
+  opened_only images2 reads0 reads1 reads2 place kept spec stored entries of read0 read2 same opened settled left =
+      if_told (λ _. IsOnlyImage kept.chain reads2 images2) reads0 (λ now told.
+      let found = on_told (Opened spec stored entries) reads0 reads1 now same told opened in
+      only_at images2 reads2 place kept.chain now found.0 (sound now (at_some images0 reads0 now told read0)) found.1.is_log found.1.says
+      (chain-opened now.log found.0 kept spec stored entries of found.1) read2
+      (on_told (λ image. IsSettled place (records_of (drop 8 image.log)) reads2 images2) reads0 reads1 now same told settled)
+      (on_told (λ was. (image : Image) → images2 image → LeftSo images1 was image) reads0 reads1 now same told left))
 
-    pub opened_on : (reads0 reads1 : Option Image) → IfSome reads0 images0 → reads1 ≡ reads0 → IfSome reads1 (Opened spec stored entries)
-        → IfSome reads1 (λ now. IsSettled place (records_of (drop 8 now.log)) reads2 images2)
-        → IfSome reads1 (λ now. (image : Image) → images2 image → LeftSo images1 now image)
-        → IfSome reads0 (λ _. IsOn (node_of kept place) reads2 images2)
-    opened_on None reads1 read same opened settled left = tt
-    opened_on (Some now) reads1 read same opened settled left =
-        by_log now (sound now read) (subst (λ (o : Option Image). IfSome o (Opened spec stored entries)) same opened)
-        (subst (λ (o : Option Image). IfSome o (λ now. IsSettled place (records_of (drop 8 now.log)) reads2 images2)) same settled)
-        (subst (λ (o : Option Image). IfSome o (λ now. (image : Image) → images2 image → LeftSo images1 now image)) same left)
-
--- ---- Counts
-
-pub ok_err : {T E : Type 0} (value : T) (stop : E) → Ok value ≡ Err stop → ⊥
-ok_err value stop is = absurd (cc)
-
-pub same_stop : {T E : Type 0} (first second : E) → ◌≡◌ {A = Result T E} (Err first) (Err second) → first ≡ second
-same_stop first second is = cc
-
-pub was_ok : {T E : Type 0} (result : Result T E) (failed : Bool) → failed ≡ is_err result → failed ≡ false → IsOk result
-was_ok (Ok value) failed is no_fault = refl
-was_ok (Err error) failed is no_fault = absurd (cc)
-
--- a count that was unchanged, and then counts a fault that was not
-pub counts_none : {First Fault : Type 0} (before mid now : ℕ) → mid ≡ before → CountsFault mid now First → (First → ⊥) → (Fault → ⊥)
-    → CountsFault before now Fault
-counts_none before mid now same counts never not =
-    let still : now ≡ before = counts.unchanged never ∙ same in
-    record {
-      later = omega (arith, still);
-      rose = λ fault. absurd (not fault);
-      unchanged = λ _. still;
-    }
-
--- ---- What is said of what a disk reads as
-
-pub at_some : (P : Image → Type 0) (found : Option Image) (now : Image) → found ≡ Some now → IfSome found P → P now
-at_some P found now is here = subst (λ (o : Option Image). IfSome o P) is here
-
-pub if_some_also : (P Q : Image → Type 0) (found : Option Image) → IfSome found P → ((now : Image) → P now → Q now) → IfSome found Q
-if_some_also P Q None here also = tt
-if_some_also P Q (Some now) here also = also now here
+-- at each moment
+pub stands_while_opened : (images : Image → Type 0) → ((image : Image) → images image → IsSound image) → (reads : Option Image) (now : Image) (chain : Chain)
+    → IfSome reads images → reads ≡ Some now → store_of now ≡ Keeps chain → (image : Image) → IsLeftByOpening now.log images image
+    → images image ⊎ StandsFor chain image
+stands_while_opened images sound reads now chain read told keeps image (inl here) = inl here
+stands_while_opened images sound reads now chain read told keeps image (inr left) =
+    inr (stands_so images images (λ _ here. here) sound now image chain (sound now (at_some images reads now told read)) keeps left)
 
 -- ---- The image that is left where each area was synced
 
@@ -432,6 +366,158 @@ pub one_after : (reads1 reads2 : Option Image) (images1 images2 : Image → Type
 one_after None reads2 images1 images2 place durable_a durable_b (bytes, wrote) settled left = subst (λ (o : Option Image). HasOneImage o images2) (sym wrote) tt
 one_after (Some now) reads2 images1 images2 place durable_a durable_b (bytes, wrote) settled left =
     one_as_read images1 images2 reads2 now place (records_of (drop 8 now.log)) bytes durable_a durable_b wrote settled left
+
+-- ---- A node whose live cells were led to the tip
+
+module _ (reads1 reads2 : Option Image) (images1 images2 : Image → Type 0) (same : reads2 ≡ reads1) (none_new : NoneNew images1 images2) where
+  pub settled_still : (place : ℕ) (records : List Record) → IsSettled place records reads1 images1 → IsSettled place records reads2 images2
+  settled_still place records settled = record {
+    now = settled.now;
+    told = same ∙ settled.told;
+    rest = settled.rest;
+    durable = λ image left. settled.durable image (none_new image left);
+  }
+
+  -- what is held in memory may be other then
+  of_still : (kept : KeptValue) (place : ℕ) (cells next : StateValue) (held later : List (ℕ × Stored)) → IsOf (node_of kept place cells held) reads1 images1
+      → IfSome reads2 (IsReadBy kept later) → IsOf (node_of kept place next later) reads2 images2
+  of_still kept place cells next held later of read =
+      let told : reads2 ≡ Some of.now = same ∙ of.told in
+      let now = at_some (IsReadBy kept later) reads2 of.now told read in
+      record {
+        now = of.now;
+        told = told;
+        read = now;
+        settled = subst (λ (l : List Record). IsSettled place l reads2 images2) (sym of.read.names.holds ∙ now.names.holds)
+            (settled_still place (record_of 1 of.read.specification ∷ kept_records (stored_of kept)) of.settled);
+      }
+
+  pub only_still : (chain : Chain) → IsOnlyImage chain reads1 images1 → IsOnlyImage chain reads2 images2
+  only_still chain only = record {
+    now = only.now;
+    told = same ∙ only.told;
+    one = λ image left. only.one image (none_new image left);
+    stands = only.stands;
+  }
+
+  pub one_still : HasOneImage reads1 images1 → HasOneImage reads2 images2
+  one_still one = subst (λ (o : Option Image). HasOneImage o images2) (sym same) (fewer reads1 one)
+    where
+      fewer : (reads : Option Image) → HasOneImage reads images1 → HasOneImage reads images2
+      fewer None one = tt
+      fewer (Some now) one = λ image left. one image (none_new image left)
+
+-- the node that was read, by its parts
+pub read_parts : (node : NodeValue) (kept : KeptValue) (place : ℕ) (cells : StateValue) (held : List (ℕ × Stored)) → node_of kept place cells held ≡ node
+    → (P : NodeValue → Type 0) → P node → P (node_of kept place cells held)
+read_parts node kept place cells held is P here = subst P (sym is) here
+
+-- what is asked of a disk to read blocks there
+pub own_read : (reads0 reads1 : Option Image) (images1 : Image → Type 0) (kept : KeptValue) (place : ℕ) (cells : StateValue) (held : List (ℕ × Stored)) → OthersRead Log reads0 reads1
+    → IfSome reads0 (IsReadFrom (node_of kept place cells held) reads1 images1) → IfSome reads1 (IsReadBy kept held)
+own_read reads0 reads1 images1 kept place cells held others read = if_told (IsReadBy kept held) reads1 (λ now told.
+    let was = told_before reads0 reads1 others (subst IsSome (sym told) refl) in
+    let from = at_some (IsReadFrom (node_of kept place cells held) reads1 images1) reads0 was.0 was.1 read in
+    subst (IsReadBy kept held) (same_Some from.of.now now (sym from.of.told ∙ told)) from.of.read)
+
+module _ (reads0 reads1 reads2 : Option Image) (images1 images2 : Image → Type 0) (kept : KeptValue) (place : ℕ) (cells next : StateValue) (held later : List (ℕ × Stored))
+    (others : OthersRead Log reads0 reads1) (same : reads2 ≡ reads1) (none_new : NoneNew images1 images2)
+    (read : IfSome reads0 (IsReadFrom (node_of kept place cells held) reads1 images1)) where
+  from_at : (now : Image) → reads0 ≡ Some now → IsReadFrom (node_of kept place cells held) reads1 images1 now
+  from_at now told = at_some (IsReadFrom (node_of kept place cells held) reads1 images1) reads0 now told read
+
+  pub keeps_led : IfSome reads0 (λ now. store_of now ≡ Keeps kept.chain)
+  keeps_led = if_some_also (IsReadFrom (node_of kept place cells held) reads1 images1) (λ now. store_of now ≡ Keeps kept.chain) reads0 read
+      (λ now from. from.keeps)
+
+  pub settled_led : IfSome reads0 (λ now. IsSettled place (records_of (drop 8 now.log)) reads2 images2)
+  settled_led = if_some_also (IsReadFrom (node_of kept place cells held) reads1 images1) (λ now. IsSettled place (records_of (drop 8 now.log)) reads2 images2) reads0 read
+      (λ now from. settled_still reads1 reads2 images1 images2 same none_new place (records_of (drop 8 now.log)) from.settled)
+
+  pub own_led : IfSome reads2 (IsReadBy kept later) → IsItsOwn (node_of kept place next later) reads2 images2
+  own_led agrees = if_told (λ _. IsOf (node_of kept place next later) reads2 images2) reads2 (λ now told.
+      let was = told_before reads0 reads1 others (subst IsSome (sym (sym same ∙ told)) refl) in
+      of_still reads1 reads2 images1 images2 same none_new kept place cells next held later (from_at was.0 was.1).of agrees)
+
+  -- where the blocks of its image have joined
+  module _ (tip : ℕ) (at_tip : tip_place kept.chain.blocks ≡ Some tip)
+      (moved : IsSome reads1 → AreJoined kept.chain kept.exts → AreOf kept.chain.blocks tip (rows next)) where
+    pub sound_led : (now : Image) → reads0 ≡ Some now → IsSound now → IsSoundNode (node_of kept place next later)
+    sound_led now told sound =
+        let joined = (from_at now told).joined sound in
+        record {
+          joined = joined;
+          live = λ other at. subst (λ (n : ℕ). AreOf kept.chain.blocks n (rows next)) (same_Some tip other (sym at_tip ∙ at))
+              (moved (tells_still reads0 reads1 now told others) joined);
+        }
+
+    pub on_led : (images0 : Image → Type 0) → IfSome reads0 images0 → ((image : Image) → images0 image → IsSound image)
+        → IfSome reads0 (λ _. IsOnlyImage kept.chain reads1 images1) → IfSome reads2 (IsReadBy kept later)
+        → IfSome reads0 (λ _. IsOn (node_of kept place next later) reads2 images2)
+    on_led images0 read0 sound only agrees = if_told (λ _. IsOn (node_of kept place next later) reads2 images2) reads0 (λ now told. record {
+      image = only_still reads1 reads2 images1 images2 same none_new kept.chain (at_some (λ _. IsOnlyImage kept.chain reads1 images1) reads0 now told only);
+      of = of_still reads1 reads2 images1 images2 same none_new kept place cells next held later (from_at now told).of agrees;
+      sound = sound_led now told (sound now (at_some images0 reads0 now told read0));
+    })
+
+-- where the blocks do not fit, the image is not sound
+pub not_led : (reads0 reads1 : Option Image) (images1 : Image → Type 0) (kept : KeptValue) (place : ℕ) (cells : StateValue) (held : List (ℕ × Stored))
+    → OthersRead Log reads0 reads1 → IfSome reads0 (IsReadFrom (node_of kept place cells held) reads1 images1)
+    → (IsSome reads1 → AreJoined kept.chain kept.exts → ⊥) → IfSome reads0 (λ now. IsSound now → ⊥)
+not_led reads0 reads1 images1 kept place cells held others read never = if_told (λ now. IsSound now → ⊥) reads0 (λ now told sound.
+    never (tells_still reads0 reads1 now told others)
+    ((at_some (IsReadFrom (node_of kept place cells held) reads1 images1) reads0 now told read).joined sound))
+
+-- ---- How many steps that takes, and what failed
+
+-- a count that was unchanged, and then counts the same fault
+pub led_counts : {First Fault : Type 0} (before mid now : ℕ) → mid ≡ before → CountsFault mid now First → (First → Fault) → (Fault → First)
+    → CountsFault before now Fault
+led_counts before mid now still counts there back = record {
+  later = omega (arith, still, counts.later);
+  rose = λ fault. subst (λ (n : ℕ). Rose n now) still (counts.rose (back fault));
+  unchanged = λ never. counts.unchanged (λ first. never (there first)) ∙ still;
+}
+
+pub none_stopped : (stop : ReadStop) → ◌≡◌ {A = Option ReadStop} None (Some stop) → ⊥
+none_stopped stop is = absurd (cc)
+
+-- from the genesis to the tip
+pub moved_to_open : (kept : KeptValue) (now : Image) (tip before after : ℕ) → store_of now ≡ Keeps kept.chain → tip_place kept.chain.blocks ≡ Some tip
+    → after ≤ before + distance kept.chain.blocks 0 tip → after ≤ before + moves_to_open (store_of now)
+moved_to_open kept now tip before after keeps at_tip most =
+    subst (λ (s : Store). after ≤ before + moves_to_open s) (sym keeps)
+    (subst (λ (n : ℕ). after ≤ before + n) (sym (ap (distance_to kept.chain.blocks 0) at_tip)) most)
+
+pub no_step : (before most : ℕ) → before ≤ before + most
+no_step before most = omega arith
+
+-- ---- Counts
+
+pub ok_err : {T E : Type 0} (value : T) (stop : E) → Ok value ≡ Err stop → ⊥
+ok_err value stop is = absurd (cc)
+
+pub same_stop : {T E : Type 0} (first second : E) → ◌≡◌ {A = Result T E} (Err first) (Err second) → first ≡ second
+same_stop first second is = cc
+
+pub not_ok : {T E : Type 0} (result : Result T E) (stop : E) → result ≡ Err stop → IsOk result → ⊥
+not_ok (Ok value) stop is ok = absurd (cc)
+not_ok (Err other) stop is ok = absurd (cc)
+
+pub was_ok : {T E : Type 0} (result : Result T E) (failed : Bool) → failed ≡ is_err result → failed ≡ false → IsOk result
+was_ok (Ok value) failed is no_fault = refl
+was_ok (Err error) failed is no_fault = absurd (cc)
+
+-- a count that was unchanged, and then counts a fault that was not
+pub counts_none : {First Fault : Type 0} (before mid now : ℕ) → mid ≡ before → CountsFault mid now First → (First → ⊥) → (Fault → ⊥)
+    → CountsFault before now Fault
+counts_none before mid now same counts never not =
+    let still : now ≡ before = counts.unchanged never ∙ same in
+    record {
+      later = omega (arith, still);
+      rose = λ fault. absurd (not fault);
+      unchanged = λ _. still;
+    }
 
 -- ---- The stops of reading are distinct
 

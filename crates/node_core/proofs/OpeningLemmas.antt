@@ -1,314 +1,238 @@
--- The kept blocks of a log: their ratings, their exts and their uncles.
-use Rattle.std.proofs.Common.{◌≡◌, ℕ, zero, suc, ◌+◌, ◌-◌, ◌*◌, ◌^◌, ◌<◌, ◌≤◌, Bool, true, false, eqb, List, [], ◌∷◌, ◌++◌, map, length, take, drop, Vec, Global, Option, Some, None, refl, sym, ap, ◌∙◌, subst, append_assoc, arith}
-use Rattle.std.specs.Prelude.{nat_lt, slice_get, slice_index_or, IsTrue, IsSome, IfSome, Result, Ok, Err, IfOk}
-use Rattle.std.specs.Option.{unwrap_or, option_map}
+-- A log that was opened: what is kept of it, and what is so of that where its image is sound.
+use Rattle.std.proofs.Common.{◌≡◌, ℕ, zero, suc, ◌+◌, ◌-◌, ◌*◌, ◌^◌, ◌<◌, ◌≤◌, Bool, true, false, cond, leb, List, [], ◌∷◌, ◌++◌, length, drop, map, Option, Some, None, refl, sym, ap, ◌∙◌, subst, arith}
+use Rattle.std.specs.Prelude.{◌&&◌, ◌==◌, IfSome, IsTrue, slice_get, is_none}
+use Rattle.std.specs.Option.{option_map}
 use Rattle.std.specs.List.{All}
-use Rattle.std.proofs.lemmas.Bool.{ltb-true, ltb-false, and_parts}
+use Rattle.std.proofs.lemmas.Bool.{and_parts}
 use Rattle.std.proofs.lemmas.Bool.Decides.{Decides-eqb}
-use Rattle.std.proofs.lemmas.List.{append-nil, length-map, get_or-map, take_all}
-use Rattle.std.proofs.lemmas.List.Elements.{All-nil, All-cons}
-use Rattle.std.proofs.lemmas.Option.{same_Some, slice_get-map, slice_get_within, get_or_from_slice_get}
-use Rattle.codec_defs.specs.Shape.{IsA, decoded}
-use Rattle.codec_defs.proofs.ShapeLaws.{IsA-decoded}
-use Rattle.codec_defs.specs.Schema.{OutPoint, Block, block}
+use Rattle.std.proofs.lemmas.List.{length-map}
+use Rattle.std.proofs.lemmas.List.Elements.{All-cons}
+use Rattle.std.proofs.lemmas.Option.{same_Some, slice_get-map, slice_get_within}
+use Rattle.codec_defs.specs.Shape.{IsA, Encoding, encoded, decoded, dynvec, fixvec}
+use Rattle.codec_defs.specs.Schema.{header, uncle_block, transaction, proposal_short_id, Block, block}
+use Rattle.codec_defs.proofs.ShapeLaws.{decoded-is}
+use Rattle.codec_defs.proofs.RowLaws.{block-check}
+use Rattle.fit_laws.specs.Laws.{IsCanonical}
+use Rattle.fit_laws.proofs.ShapeLemmas.{table-parts}
 use Rattle.time_defs.specs.Dao.{is_rated}
-use Rattle.time_defs.specs.Specification.{Specification}
+use Rattle.time_defs.specs.Specification.{Specification, specification_of, broken_specification_rule}
+use Rattle.genesis_defs.specs.Genesis.{broken_genesis_rule}
+use Rattle.chain_defs.specs.Kept.{block_at, blocks_of_item, kept_limit}
 use Rattle.chain_defs.proofs.KeptLaws.{slice_get-below}
-use Rattle.cell_defs.specs.Ext.{count_at, row_size, are_rows, is_ext}
-use Rattle.cell_defs.specs.Events.{events_of_block}
-use Rattle.cell_defs.specs.Row.{Row, row_after}
+use Rattle.cell_defs.specs.Ext.{count_at, is_ext}
 use Rattle.chain_tree.specs.declared.entry.Entry.{Entry}
-use Rattle.chain_tree.specs.Entries.{entry_at}
-use Rattle.chain_tree.specs.Blocks.{IndexesBlocks}
+use Rattle.chain_tree.specs.Blocks.{IndexesBlocks, AreRated}
 use Rattle.chain_tree.specs.Told.{Stored, blocks_of}
 use Rattle.chain_tree.proofs.BlockLemmas.{described, len-same}
-use Rattle.cell_model.specs.ListBlocks.{contents, IsCanonical, IsExtFor}
-use Rattle.cell_model.specs.ListBlocks as listed
-use Rattle.cell_defs.specs.Fit.{BranchFits}
-use Rattle.cell_state.specs.State.{StateValue, rows}
-use Rattle.chain_tree.specs.Blocks.{AreRated}
-use Rattle.uncle_rules.specs.Embedded.{Embedded, embedded_in, embedded_from, UnclesValue, IndexesUncles}
-use Rattle.chain_defs.specs.Kept.{kept_limit}
 use Rattle.verdict_defs.specs.Chain.{Chain}
-use Rattle.fit_laws.specs.Laws.{AreCanonical}
-use Rattle.store_defs.specs.Store.{IsJoined}
-use Rattle.reorg.specs.Moves.{AreOf}
-use Rattle.reorg.proofs.RowLemmas.{live_row-genesis}
+use Rattle.outside.specs.Image.{Image}
+use Rattle.log_defs.specs.Log.{Record, LogContent, record_limit, records_of, log_of, content_of_records, are_first, blocks_over, parts_of_body}
+use Rattle.log_defs.specs.LogLaws.{HasFittingBody}
+use Rattle.log_defs.proofs.Contents.{said, counts_its_records}
+use Rattle.store_defs.specs.Store.{Keeps, store_of, chain_of, StandsFor, IsSound, IsJoined, AreJoined, HaveOwnExts, own_ext, chain_before, EachHasJoined}
+use Rattle.store_defs.proofs.JoinedLemmas.{joined_of_image}
+use Rattle.store_defs.proofs.ExtLemmas.{HoldsItsExt, exts_of_log, own_of_record}
 use Rattle.joined_laws.proofs.HeaderLaws.{blocks-are-rated}
-use Rattle.joined_laws.proofs.FitLaws.{what-joins-fits}
-use Rattle.joined_laws.proofs.BranchFitLaws.{branches-fit}
-use Rattle.node_core.specs.Node.{exts_of, CountFees, AreKept}
-use Rattle.node_core.proofs.MovingLemmas.{canonical-read}
-use Rattle.node_core.specs.Opening.{HaveExts, EncodeIndexed}
+use Rattle.log_file.specs.Grammar.{record_of, ext_in, AreBlocks}
+use Rattle.log_file.specs.Opening.{IsOpened, kept_records}
+use Rattle.block_store.specs.Stored.{CanBeKept}
+use Rattle.node_core.specs.Node.{KeptValue, kept_of, exts_of, paired, CountFees}
 
--- ---- Ratings
+-- ---- What is kept of it
 
-abbrev pub IsRated : Entry → Type 0
-IsRated entry = IsTrue (is_rated entry.dao)
+-- the blocks with their exts, as they were read
+pub paired-stored : (stored : List Stored) → paired (blocks_of stored) (exts_of stored) ≡ stored
+paired-stored [] = refl
+paired-stored (it ∷ stored) = ap (λ (l : List Stored). it ∷ l) (paired-stored stored)
 
--- the entries before a place are rated
-abbrev pub AreRatedBelow : List Entry → ℕ → Type 0
-AreRatedBelow entries count = (place : ℕ) (entry : Entry) → place < count → entry_at entries place ≡ Some entry → IsRated entry
+pub same_log : (one other : LogContent) → Some one ≡ Some other → one ≡ other
+same_log one other same = (cc)
 
-rated-by : (entries : List Entry) (count : ℕ) (last : Entry) → AreRatedBelow entries count → entry_at entries count ≡ Some last → IsRated last
-    → (place : ℕ) (entry : Entry) → place < count + 1 → entry_at entries place ≡ Some entry → (b : Bool) → nat_lt place count ≡ b → IsRated entry
-rated-by entries count last earlier at_last last_is place entry below there true before = earlier place entry (ltb-true place count before) there
-rated-by entries count last earlier at_last last_is place entry below there false past =
-    let same : place ≡ count = omega (arith, below, ltb-false place count past) in
-    subst IsRated (ap (λ o. unwrap_or o last) (sym at_last ∙ ap (entry_at entries) (sym same) ∙ there)) last_is
+pub same_chain : (one other : Chain) → Keeps one ≡ Keeps other → one ≡ other
+same_chain one other same = (cc)
 
--- one entry more
-pub rated-more : (entries : List Entry) (count : ℕ) (last : Entry) → AreRatedBelow entries count → entry_at entries count ≡ Some last → IsRated last
-    → AreRatedBelow entries (count + 1)
-rated-more entries count last earlier at_last last_is place entry below there =
-    rated-by entries count last earlier at_last last_is place entry below there (nat_lt place count) refl
+-- a sound image keeps one chain
+pub joined-log : (now : Image) (log : LogContent) → IsSound now → log_of now.log ≡ Some log → EachHasJoined log
+joined-log now log (chain, stands) is = subst EachHasJoined (same_log stands.log log (sym stands.is_log ∙ is)) stands.joined
 
--- ---- Exts
+pub joined-chain : (now : Image) (log : LogContent) → IsSound now → log_of now.log ≡ Some log → IsJoined (chain_of log)
+joined-chain now log (chain, stands) is =
+    let same : stands.log ≡ log = same_log stands.log log (sym stands.is_log ∙ is) in
+    subst IsJoined (sym stands.keeps ∙ ap chain_of same) (joined_of_image chain now stands)
 
--- The form of an ext has room for its count of fees.
-pub ext-long : (bytes : List ℕ) → IsTrue (is_ext bytes) → 4 ≤ length bytes
-unfolding is_ext row_size
-ext-long bytes form =
-    let rows_at : ℕ = 4 + 8 * count_at bytes 0 in
-    let rows : ℕ = count_at bytes rows_at in
-    let test = and_parts (eqb (length bytes) (rows_at + 4 + 161 * rows)) (are_rows rows (drop (rows_at + 4) bytes)) form in
-    let long : length bytes ≡ rows_at + 4 + 161 * rows = (Decides-eqb (length bytes) (rows_at + 4 + 161 * rows)).0 test.0 in
-    omega (arith, long)
+-- ---- The first two records
 
--- ---- The blocks of encodings
+kind-is : (r : Record) (kind : ℕ) → r.kind ≡ kind → record_of kind r.body ≡ r
+kind-is r kind is = λ i. record { kind = sym is i; body = r.body }
 
--- Blocks are known by their encodings.
-pub same-blocks : (kept other : List Block) → map Some kept ≡ map Some other → kept ≡ other
-same-blocks [] [] same = refl
-same-blocks [] (o ∷ other) same = absurd (cc)
-same-blocks (b ∷ kept) [] same = absurd (cc)
-same-blocks (b ∷ kept) (o ∷ other) same =
-    let first : b ≡ o = (cc) in
-    let later : map Some kept ≡ map Some other = (cc) in
-    λ i. first i ∷ same-blocks kept other later i
-
--- Canonical bytes are the encoding of a block, and of that one alone.
-pub is-encoding : (bytes : List ℕ) → IsCanonical bytes → (b : Block) × IsA block bytes b
-is-encoding bytes canonical = by_block (decoded block bytes) refl canonical
+-- The records of a log are that of its specification, that of its genesis, and those of its blocks.
+pub records-are : (records : List Record) (log : LogContent) → content_of_records records ≡ Some log
+    → records ≡ record_of 1 log.specification ∷ record_of 2 log.genesis ∷ log.records
+records-are [] log says = absurd (cc)
+records-are (one ∷ []) log says = absurd (cc)
+records-are (one ∷ two ∷ records) log says = by_test (are_first one two && leb (length records) record_limit) refl says
   where
-    by_block : (found : Option Block) → decoded block bytes ≡ found → IsSome found → (b : Block) × IsA block bytes b
-    by_block None is some = absurd (cc)
-    by_block (Some b) is some = (b, IsA-decoded block bytes b is)
+    by_blocks : are_first one two ≡ true → (o : Option (List Block)) → said one two records o ≡ Some log
+        → one ∷ two ∷ records ≡ record_of 1 log.specification ∷ record_of 2 log.genesis ∷ log.records
+    by_blocks first None is = absurd (cc)
+    by_blocks first (Some blocks) is =
+        let same : record { specification = one.body; genesis = two.body; records = records; blocks = blocks } ≡ log = (cc) in
+        let front = and_parts ((one.kind == 1) && is_none (broken_specification_rule one.body) && (two.kind == 2)) (is_none (broken_genesis_rule two.body)) first in
+        let kinds = and_parts ((one.kind == 1) && is_none (broken_specification_rule one.body)) (two.kind == 2) front.0 in
+        let kind = and_parts (one.kind == 1) (is_none (broken_specification_rule one.body)) kinds.0 in
+        let first_is : record_of 1 one.body ≡ one = kind-is one 1 ((Decides-eqb one.kind 1).0 kind.0) in
+        let second_is : record_of 2 two.body ≡ two = kind-is two 2 ((Decides-eqb two.kind 2).0 kinds.1) in
+        (λ i. sym first_is i ∷ sym second_is i ∷ records)
+        ∙ ap (λ (l : LogContent). record_of 1 l.specification ∷ record_of 2 l.genesis ∷ l.records) same
 
-pub is-decoded : (bytes : List ℕ) (view : Block) → IsCanonical bytes → ((b : Block) → IsA block bytes b → view ≡ b) → decoded block bytes ≡ Some view
-is-decoded bytes view canonical only = by_block (decoded block bytes) refl canonical
-  where
-    by_block : (found : Option Block) → decoded block bytes ≡ found → IsSome found → decoded block bytes ≡ Some view
-    by_block None is some = absurd (cc)
-    by_block (Some b) is some = is ∙ sym (ap Some (only b (IsA-decoded block bytes b is)))
+    by_test : (t : Bool) → (are_first one two && leb (length records) record_limit) ≡ t
+        → cond t (said one two records (blocks_over (blocks_of_item two.body) records)) None ≡ Some log
+        → one ∷ two ∷ records ≡ record_of 1 log.specification ∷ record_of 2 log.genesis ∷ log.records
+    by_test false is says = absurd (cc)
+    by_test true is says =
+        by_blocks (and_parts (are_first one two) (leb (length records) record_limit) is).0 (blocks_over (blocks_of_item two.body) records) says
 
--- Where they encode blocks, each is canonical.
-pub canonical-all : (items : List (List ℕ)) (kept : List Block) → map (decoded block) items ≡ map Some kept → All IsCanonical items
-canonical-all [] kept decode = All-nil IsCanonical
-canonical-all (item ∷ items) [] decode = absurd (cc)
-canonical-all (item ∷ items) (b ∷ kept) decode =
-    let first : decoded block item ≡ Some b = (cc) in
-    let later : map (decoded block) items ≡ map Some kept = (cc) in
-    All-cons IsCanonical item items (subst IsSome (sym first) refl) (canonical-all items kept later)
+-- ---- They can be kept
 
-pub as-many : (items : List (List ℕ)) (kept : List Block) → map (decoded block) items ≡ map Some kept → length items ≡ length kept
-as-many items kept decode = sym (length-map items (decoded block)) ∙ ap length decode ∙ length-map kept Some
+abbrev block_fields : Block → List Encoding
+block_fields b = header.encoding b.header ∷ (dynvec uncle_block).encoding b.uncles ∷ (dynvec transaction).encoding b.transactions
+    ∷ (fixvec 10 proposal_short_id).encoding b.proposals ∷ []
 
--- the block at a place
-pub decoded-at : (items : List (List ℕ)) (kept : List Block) (place : ℕ) (b : Block) → map (decoded block) items ≡ map Some kept
-    → slice_get kept place ≡ Some b → decoded block (slice_index_or items place []) ≡ Some b
-decoded-at [] [] place b decode there = absurd (cc)
-decoded-at [] (x ∷ kept) place b decode there = absurd (cc)
-decoded-at (item ∷ items) [] place b decode there = absurd (cc)
-decoded-at (item ∷ items) (x ∷ kept) zero b decode there =
-    let first : decoded block item ≡ Some x = (cc) in first ∙ there
-decoded-at (item ∷ items) (x ∷ kept) (suc place) b decode there =
-    let later : map (decoded block) items ≡ map Some kept = (cc) in decoded-at items kept place b later there
+-- the bytes of a canonical block are so few that four bytes count them
+canonical-short : (b : Block) → IsCanonical b → length (encoded block b) < 2 ^ 32
+unfolding block
+canonical-short b canonical = (table-parts (block_fields b) canonical).0
 
--- the entries of a tree index the blocks of its encodings
-pub indexed-by : (items : List (List ℕ)) (entries : List Entry) (kept : List Block) → EncodeIndexed items entries → map (decoded block) items ≡ map Some kept
-    → IndexesBlocks kept entries
-indexed-by items entries kept are decode =
-    subst (λ (blocks : List Block). IndexesBlocks blocks entries) (same-blocks are.blocks kept (sym are.decode ∙ decode)) are.indexed
+block-there : (stored : List Stored) (place : ℕ) (it : Stored) → slice_get stored place ≡ Some it → block_at (blocks_of stored) place ≡ Some it.block
+block-there stored place it there =
+    slice_get-map (λ (x : Stored). x.block) stored place ∙ ap (option_map (λ (x : Stored). x.block)) there
 
--- ---- What is kept of them
+canonical-decodes : (b : Block) → IsCanonical b → decoded block (encoded block b) ≡ Some b
+canonical-decodes b canonical = decoded-is block block-check (encoded block b) b (record { fits = canonical; encoding = refl })
 
--- no more are kept than a place can number
-pub few-blocks : (n : ℕ) → n ≤ kept_limit → n < 2 ^ 32
-unfolding kept_limit
-few-blocks n few = omega (arith, few)
+first_body : List Record → List ℕ
+first_body [] = []
+first_body (r ∷ records) = r.body
 
--- What a source of blocks is made of.
-pub can-be-listed : (items exts : List (List ℕ)) (entries : List Entry) → EncodeIndexed items entries → length exts ≡ length items → length items ≤ kept_limit
-    → HaveExts items exts → listed.AreKept items exts
-can-be-listed items exts entries are beside few have = record {
-  lengths = beside;
-  few = few-blocks (length items) few;
-  canonical = canonical-all items are.blocks are.decode;
-  later = have;
-}
+fitting-records : (stored : List Stored) (log : LogContent) → record_of 2 log.genesis ∷ log.records ≡ kept_records stored
+    → ((place : ℕ) (it : Stored) → slice_get stored place ≡ Some it → IsCanonical it.block) → All HasFittingBody log.records
+    → All HasFittingBody (kept_records stored)
+fitting-records [] log held canonical fits = absurd (cc)
+fitting-records (genesis ∷ later) log held canonical fits =
+    let first : log.genesis ≡ encoded block genesis.block = ap first_body held in
+    subst (All HasFittingBody) held
+    (All-cons HasFittingBody (record_of 2 log.genesis) log.records
+    (subst (λ (bytes : List ℕ). length bytes < 2 ^ 32) (sym first) (canonical-short genesis.block (canonical 0 genesis refl))) fits)
 
--- as many are stored as the tree has entries
-pub counts-entries : (items : List (List ℕ)) (entries : List Entry) (stored : List Stored) → EncodeIndexed items entries
-    → map (decoded block) items ≡ map Some (blocks_of stored) → length stored ≡ length entries
-counts-entries items entries stored are decode =
-    sym (length-map stored (λ (it : Stored). it.block)) ∙ sym (len-same (blocks_of stored) entries (indexed-by items entries (blocks_of stored) are decode))
+no-ext : (stored : List Stored) (exts : List (List ℕ)) → exts_of stored ≡ [] ∷ exts → IfSome (slice_get stored 0) (λ it. it.ext ≡ [])
+no-ext [] exts is = absurd (cc)
+no-ext (it ∷ stored) exts is = (cc)
 
--- their exts count their fees
-counts-fees : (items exts : List (List ℕ)) (stored : List Stored) → HaveExts items exts → map (decoded block) items ≡ map Some (blocks_of stored)
-    → exts_of stored ≡ exts → CountFees stored
-counts-fees items exts stored have decode beside place it above there =
-    let here : slice_get (blocks_of stored) place ≡ Some it.block =
-    slice_get-map (λ (x : Stored). x.block) stored place ∙ ap (option_map (λ (x : Stored). x.block)) there in
-    let ext_here : slice_get exts place ≡ Some it.ext =
-    ap (λ (l : List (List ℕ)). slice_get l place) (sym beside) ∙ slice_get-map (λ (x : Stored). x.ext) stored place
-    ∙ ap (option_map (λ (x : Stored). x.ext)) there in
-    let within : place < length items = omega (arith, slice_get_within (blocks_of stored) place it.block here, as-many items (blocks_of stored) decode) in
-    ap (λ (e : List ℕ). count_at e 0) (sym (get_or_from_slice_get exts place it.ext [] ext_here))
-    ∙ subst (λ (o : Option Block). IfSome o (λ b. count_at (slice_index_or exts place []) 0 ≡ length b.transactions - 1))
-    (decoded-at items (blocks_of stored) place it.block decode here) (have place above within).fees
+pub can-be-kept : (bytes : List ℕ) (log : LogContent) (spec : Specification) (stored : List Stored) (entries : List Entry)
+    → IsOpened bytes log spec stored entries → AreBlocks stored entries → CanBeKept stored
+can-be-kept bytes log spec stored entries is are =
+    let canonical : (place : ℕ) (it : Stored) → slice_get stored place ≡ Some it → IsCanonical it.block =
+    λ place it there. are.canonical place it.block (block-there stored place it there) in
+    record {
+      canonical = λ place it there. canonical-decodes it.block (canonical place it there);
+      fit = fitting-records stored log is.opened.held canonical is.opened.fits;
+      genesis = no-ext stored (map ext_in log.records) is.opened.exts;
+      forms = λ place it above there. are.forms place it there above;
+    }
 
-pub canonical-stored : (items : List (List ℕ)) (kept : List Block) → map (decoded block) items ≡ map Some kept → AreCanonical kept
-canonical-stored items kept decode place b there = canonical-read (slice_index_or items place []) b (decoded-at items kept place b decode there)
+-- ---- Where the image is sound
 
--- With the rows of the tip's branch all is kept.
-pub are-kept : (items exts : List (List ℕ)) (entries : List Entry) (before stored : List Stored) (index : UnclesValue)
-    → EncodeIndexed items entries → length items ≤ kept_limit → map (decoded block) items ≡ map Some (blocks_of before) → Some stored ≡ Some before
-    → HaveExts items exts → exts_of before ≡ exts → AreRated entries → IndexesUncles (blocks_of before) index → AreKept stored entries index
-are-kept items exts entries before stored index are few decode told have beside rated uncles =
-    subst (λ (s : List Stored). AreKept s entries index) (sym (same_Some stored before told)) (record {
-      indexed = indexed-by items entries (blocks_of before) are decode;
-      uncles = uncles;
-      canonical = canonical-stored items (blocks_of before) decode;
-      rated = rated;
-      counted = counts-fees items exts before have decode beside;
-      few = omega (arith, few, as-many items (blocks_of before) decode, length-map before (λ (it : Stored). it.block));
-    })
+chain-is : (bytes : List ℕ) (log : LogContent) (spec : Specification) (stored : List Stored) (entries : List Entry)
+    → IsOpened bytes log spec stored entries → chain_of log ≡ (kept_of spec stored entries).chain
+chain-is bytes log spec stored entries is =
+    λ i. record { spec = sym is.specified i; blocks = sym is.opened.blocks i }
 
--- ---- A chain that has joined
+pub chain-opened : (bytes : List ℕ) (log : LogContent) (kept : KeptValue) (spec : Specification) (stored : List Stored) (entries : List Entry)
+    → kept ≡ kept_of spec stored entries → IsOpened bytes log spec stored entries → chain_of log ≡ kept.chain
+chain-opened bytes log kept spec stored entries of is =
+    chain-is bytes log spec stored entries is ∙ ap (λ (k : KeptValue). k.chain) (sym of)
 
-abbrev chain_with : Specification → List Block → Chain
-chain_with spec kept = record { spec = spec; blocks = kept }
+ext_is : (r : Record) (item ext : List ℕ) → parts_of_body r.body ≡ Some (item, ext) → ext_in r ≡ ext
+ext_is r item ext is =
+    ap (λ (o : Option (List ℕ × List ℕ)). elim o [
+      | None ↦ []
+      | Some parts ↦ parts.1
+    ]) is
 
-pub rated-joined : (spec : Specification) (items : List (List ℕ)) (entries : List Entry) (kept : List Block) → EncodeIndexed items entries
-    → map (decoded block) items ≡ map Some kept → IsJoined (record { spec = spec; blocks = kept }) → AreRated entries
-rated-joined spec items entries kept are decode joined place entry there =
-    let here = described kept entries place entry (indexed-by items entries kept are decode).each there in
-    subst (λ (dao : List ℕ). IsTrue (is_rated dao)) (sym here.is.dao) (blocks-are-rated (chain_with spec kept) place here.block joined here.there)
+module _ (bytes : List ℕ) (log : LogContent) (spec : Specification) (stored : List Stored) (entries : List Entry)
+    (is : IsOpened bytes log spec stored entries) (each : EachHasJoined log) where
+  many : length log.blocks ≡ length log.records + 1
+  many = counts_its_records (records_of (drop 8 bytes)) log is.says
 
-pub fits-joined : (spec : Specification) (items : List (List ℕ)) (entries : List Entry) (kept : List Block) (stored : List Stored) (tip : ℕ) → EncodeIndexed items entries
-    → map (decoded block) items ≡ map Some (blocks_of stored) → map (decoded block) items ≡ map Some kept → IsJoined (record { spec = spec; blocks = kept })
-    → tip < length entries → BranchFits (blocks_of stored) tip
-fits-joined spec items entries kept stored tip are mine decode joined below =
-    subst (λ (blocks : List Block). BranchFits blocks tip) (same-blocks kept (blocks_of stored) (sym decode ∙ mine))
-    (branches-fit what-joins-fits (chain_with spec kept) tip joined (omega (arith, below, len-same kept entries (indexed-by items entries kept are decode))))
+  block-in : (place : ℕ) (it : Stored) → slice_get stored place ≡ Some it → block_at log.blocks place ≡ Some it.block
+  block-in place it there =
+      ap (λ (blocks : List Block). block_at blocks place) (sym is.opened.blocks) ∙ block-there stored place it there
 
--- ---- Uncles
+  -- the ext beside a block is that of its record
+  ext-in : (before : ℕ) (it : Stored) (r : Record) → slice_get stored (suc before) ≡ Some it → slice_get log.records before ≡ Some r → it.ext ≡ ext_in r
+  ext-in before it r there at =
+      same_Some it.ext (ext_in r)
+      (sym (slice_get-map (λ (x : Stored). x.ext) stored (suc before) ∙ ap (option_map (λ (x : Stored). x.ext)) there)
+      ∙ ap (λ (l : List (List ℕ)). slice_get l (suc before)) is.opened.exts ∙ slice_get-map ext_in log.records before ∙ ap (option_map ext_in) at)
 
-pub embedded-none : (from : ℕ) → embedded_from from [] ≡ []
-unfolding embedded_from
-embedded-none from = refl
+  record-at : (before : ℕ) (b : Block) → block_at log.blocks (suc before) ≡ Some b → (r : Record) × (slice_get log.records before ≡ Some r)
+  record-at before b there = slice_get-below log.records before (omega (arith, many, slice_get_within log.blocks (suc before) b there))
 
--- those of one block more
-embedded-push : (from : ℕ) (kept : List Block) (place : ℕ) (b : Block) → slice_get kept place ≡ Some b
-    → embedded_from from (take (place + 1) kept) ≡ embedded_from from (take place kept) ++ embedded_in (from + place) b
-unfolding embedded_from
-embedded-push from [] place b there = absurd (cc)
-embedded-push from (x ∷ kept) zero b there =
-    let same : x ≡ b = same_Some x b there in
-    let at : from ≡ from + 0 = omega arith in
-    append-nil (embedded_in from x) ∙ (λ i. embedded_in (at i) (same i))
-embedded-push from (x ∷ kept) (suc place) b there =
-    let at : suc from + place ≡ from + suc place = omega arith in
-    let more : suc place + 1 ≡ suc (place + 1) = omega arith in
-    ap (λ (n : ℕ). embedded_from from (take n (x ∷ kept))) more
-    ∙ ap (λ (l : List Embedded). embedded_in from x ++ l) (embedded-push (suc from) kept place b there)
-    ∙ sym (append_assoc (embedded_in from x) (embedded_from (suc from) (take place kept)) (embedded_in (suc from + place) b))
-    ∙ ap (λ (n : ℕ). (embedded_in from x ++ embedded_from (suc from) (take place kept)) ++ embedded_in n b) at
+  fit-record : (before : ℕ) (r : Record) → slice_get log.records before ≡ Some r → HasFittingBody r
+  fit-record before r at = fit-one log.records before r is.opened.fits at
+    where
+      fit-one : (records : List Record) (place : ℕ) (one : Record) → All HasFittingBody records → slice_get records place ≡ Some one → HasFittingBody one
+      fit-one [] place one all at = absurd (cc)
+      fit-one (first ∷ records) zero one all at = subst HasFittingBody (same_Some first one at) (all 0 first (omega arith))
+      fit-one (first ∷ records) (suc place) one all at =
+          fit-one records place one (λ k d below. all (suc k) d (omega (arith, below))) at
 
-pub uncles-more : (items : List (List ℕ)) (kept : List Block) (place : ℕ) (b : Block) (bytes : List ℕ) → map (decoded block) items ≡ map Some kept
-    → place < length items → bytes ≡ slice_index_or items place [] → decoded block bytes ≡ Some b
-    → embedded_from 0 (take (place + 1) kept) ≡ embedded_from 0 (take place kept) ++ embedded_in place b
-uncles-more items kept place b bytes decode within at is =
-    let found = slice_get-below kept place (omega (arith, within, as-many items kept decode)) in
-    let same : Some found.0 ≡ Some b = sym (decoded-at items kept place found.0 decode found.1) ∙ ap (decoded block) (sym at) ∙ is in
-    let its : 0 + place ≡ place = omega arith in
-    embedded-push 0 kept place b (found.1 ∙ same) ∙ ap (λ (n : ℕ). embedded_from 0 (take place kept) ++ embedded_in n b) its
+  counted-at : (place : ℕ) (it : Stored) → 0 < place → slice_get stored place ≡ Some it → count_at it.ext 0 ≡ length it.block.transactions - 1
+  counted-at zero it above there = absurd (omega (arith, above))
+  counted-at (suc before) it above there =
+      let here = block-in (suc before) it there in
+      let r = record-at before it.block here in
+      let next : before + 1 ≡ suc before = omega arith in
+      let its : HoldsItsExt r.0 it.block = exts_of_log bytes log is.is_log each before r.0 it.block r.1 (ap (block_at log.blocks) next ∙ here) (fit-record before r.0 r.1) in
+      ap (λ (e : List ℕ). count_at e 0) (ext-in before it r.0 there r.1 ∙ ext_is r.0 its.holds.item its.holds.ext its.holds.parts) ∙ its.fees
 
-pub uncles-all : (items : List (List ℕ)) (kept : List Block) (place : ℕ) → map (decoded block) items ≡ map Some kept → length items ≤ place
-    → embedded_from 0 (take place kept) ≡ embedded_from 0 kept
-uncles-all items kept place decode past = ap (embedded_from 0) (take_all place kept (omega (arith, past, as-many items kept decode)))
+  -- each ext counts its fees
+  pub counted-opened : CountFees stored
+  counted-opened place it above there = counted-at place it above there
 
--- ---- Exts beside their blocks
+  own_at : (place : ℕ) (b : Block) → 0 < place → block_at log.blocks place ≡ Some b → slice_get (exts_of stored) place ≡ Some (own_ext (chain_before log place) b)
+  own_at zero b above there = absurd (omega (arith, above))
+  own_at (suc before) b above there =
+      let next : before + 1 ≡ suc before = omega arith in
+      let r = record-at before b there in
+      let own = own_of_record log each before r.0 b r.1 (ap (block_at log.blocks) next ∙ there) in
+      ap (λ (l : List (List ℕ)). slice_get l (suc before)) is.opened.exts ∙ slice_get-map ext_in log.records before ∙ ap (option_map ext_in) r.1
+      ∙ ap Some (ext_is r.0 own.0 (own_ext (chain_before log (before + 1)) b) own.1)
+      ∙ ap (λ (count : ℕ). Some (own_ext (chain_before log count) b)) next
 
-is-for : (bytes other ext more : List ℕ) → bytes ≡ other → ext ≡ more → IsExtFor bytes ext → IsExtFor other more
-is-for bytes other ext more same beside it =
-    subst (λ (e : List ℕ). IsExtFor other e) beside (subst (λ (b : List ℕ). IsExtFor b ext) same it)
+  own-log : HaveOwnExts (chain_of log) (exts_of stored)
+  own-log = record {
+    as_many = ap length is.opened.exts ∙ ap suc (length-map log.records ext_in) ∙ omega (arith, many);
+    own = own_at;
+  }
 
--- the bytes that stand at a place
-pub bytes-at : (vectors : List (Vec ℕ Global)) (place : ℕ) (vector : Vec ℕ Global) (bytes : List ℕ) → place < length vectors → bytes ≡ vector.items
-    → vector ≡ slice_index_or vectors place vector → bytes ≡ slice_index_or (contents vectors) place []
-bytes-at vectors place vector bytes within is at =
-    is ∙ ap (λ (v : Vec ℕ Global). v.items) at ∙ sym (get_or-map (λ (v : Vec ℕ Global). v.items) vectors place vector [] within)
+  -- what is kept has joined
+  pub joined-opened : IsJoined (chain_of log) → (kept : KeptValue) → kept ≡ kept_of spec stored entries → AreJoined kept.chain kept.exts
+  joined-opened joined kept of =
+      let chain : chain_of log ≡ kept.chain = chain-opened bytes log kept spec stored entries of is in
+      let beside : exts_of stored ≡ kept.exts = ap (λ (k : KeptValue). k.exts) (sym of) in
+      record {
+        joined = subst IsJoined chain joined;
+        own = subst (λ (exts : List (List ℕ)). HaveOwnExts kept.chain exts) beside (subst (λ (c : Chain). HaveOwnExts c (exts_of stored)) chain own-log);
+      }
 
-pub as-many-contents : (vectors : List (Vec ℕ Global)) → length (contents vectors) ≡ length vectors
-as-many-contents vectors = length-map vectors (λ (v : Vec ℕ Global). v.items)
+  -- its entries are rated
+  pub rated-opened : IsJoined (chain_of log) → AreBlocks stored entries → AreRated entries
+  rated-opened joined are place entry there =
+      let here = described (blocks_of stored) entries place entry are.indexed.each there in
+      let in_log : block_at log.blocks place ≡ Some here.block =
+      ap (λ (blocks : List Block). block_at blocks place) (sym is.opened.blocks) ∙ here.there in
+      subst (λ (dao : List ℕ). IsTrue (is_rated dao)) (sym here.is.dao) (blocks-are-rated (chain_of log) place here.block joined in_log)
 
-pub canonical-at : (items : List (List ℕ)) (place : ℕ) (bytes : List ℕ) → All IsCanonical items → place < length items → bytes ≡ slice_index_or items place []
-    → IsCanonical bytes
-canonical-at items place bytes canonical within at = subst IsCanonical (sym at) (canonical place [] within)
-
--- each before a place and behind the genesis has its ext
-abbrev pub HaveExtsBelow : List (List ℕ) → List (List ℕ) → ℕ → Type 0
-HaveExtsBelow blocks exts count = (place : ℕ) → 0 < place → place < count → IsExtFor (slice_index_or blocks place []) (slice_index_or exts place [])
-
-exts-by : (blocks exts : List (List ℕ)) (count : ℕ) (bytes ext : List ℕ) → HaveExtsBelow blocks exts count → bytes ≡ slice_index_or blocks count []
-    → ext ≡ slice_index_or exts count [] → IsExtFor bytes ext → (place : ℕ) → 0 < place → place < count + 1 → (b : Bool) → nat_lt place count ≡ b
-    → IsExtFor (slice_index_or blocks place []) (slice_index_or exts place [])
-exts-by blocks exts count bytes ext earlier at beside is place above below true before = earlier place above (ltb-true place count before)
-exts-by blocks exts count bytes ext earlier at beside is place above below false past =
-    let same : count ≡ place = omega (arith, below, ltb-false place count past) in
-    subst (λ (n : ℕ). IsExtFor (slice_index_or blocks n []) (slice_index_or exts n [])) same (is-for bytes _ ext _ at beside is)
-
--- one more
-pub exts-more : (blocks exts : List (List ℕ)) (count : ℕ) (bytes ext : List ℕ) → HaveExtsBelow blocks exts count → bytes ≡ slice_index_or blocks count []
-    → ext ≡ slice_index_or exts count [] → IsExtFor bytes ext → HaveExtsBelow blocks exts (count + 1)
-exts-more blocks exts count bytes ext earlier at beside is place above below =
-    exts-by blocks exts count bytes ext earlier at beside is place above below (nat_lt place count) refl
-
--- one that has none
-pub exts-not : (blocks exts : List (List ℕ)) (place : ℕ) (bytes ext : List ℕ) → bytes ≡ slice_index_or blocks place [] → ext ≡ slice_index_or exts place []
-    → 0 < place → place < length blocks → (IsExtFor bytes ext → ⊥) → HaveExts blocks exts → ⊥
-exts-not blocks exts place bytes ext at beside above within not have = not (is-for _ bytes _ ext (sym at) (sym beside) (have place above within))
-
--- the vectors as they were handed on
-pub canonical-in : (vectors seen : List (Vec ℕ Global)) (entries : List Entry) → EncodeIndexed (contents vectors) entries → seen ≡ vectors
-    → All IsCanonical (contents seen)
-canonical-in vectors seen entries are same =
-    subst (λ (v : List (Vec ℕ Global)). All IsCanonical (contents v)) (sym same) (canonical-all (contents vectors) are.blocks are.decode)
-
-pub exts-in : (blocks seen exts beside : List (Vec ℕ Global)) → seen ≡ blocks → beside ≡ exts → HaveExts (contents seen) (contents beside)
-    → HaveExts (contents blocks) (contents exts)
-exts-in blocks seen exts beside same too have =
-    subst (λ (v : List (Vec ℕ Global)). HaveExts (contents blocks) (contents v)) too
-    (subst (λ (v : List (Vec ℕ Global)). HaveExts (contents v) (contents beside)) same have)
-
--- ---- The live cells
-
-pub some-blocks : (items : List (List ℕ)) (entries : List Entry) (place : ℕ) → EncodeIndexed items entries → place < length entries → 0 < length items
-some-blocks items entries place are within = omega (arith, within, len-same are.blocks entries are.indexed, as-many items are.blocks are.decode)
-
--- the rows that the genesis leaves are those of its branch
-genesis-rows : (items : List (List ℕ)) (kept : List Block) (bytes : List ℕ) (b : Block) (found : OutPoint → Option Row) → map (decoded block) items ≡ map Some kept
-    → 0 < length items → bytes ≡ slice_index_or items 0 [] → decoded block bytes ≡ Some b
-    → ((o : OutPoint) → found o ≡ row_after 0 (events_of_block 0 b) (λ _. None) o) → AreOf kept 0 found
-genesis-rows items kept bytes b found decode some at is made o =
-    let first = slice_get-below kept 0 (omega (arith, some, as-many items kept decode)) in
-    let same : Some first.0 ≡ Some b = sym (decoded-at items kept 0 first.0 decode first.1) ∙ ap (decoded block) (sym at) ∙ is in
-    made o ∙ sym (live_row-genesis kept b o (first.1 ∙ same))
-
-pub genesis-rows-else : {E : Type 0} (items : List (List ℕ)) (kept : List Block) (bytes : List ℕ) (b : Block) (result : Result StateValue E)
-    → map (decoded block) items ≡ map Some kept → 0 < length items → bytes ≡ slice_index_or items 0 [] → decoded block bytes ≡ Some b
-    → IfOk result (λ state. (o : OutPoint) → rows state o ≡ row_after 0 (events_of_block 0 b) (λ _. None) o) → IfOk result (λ state. AreOf kept 0 (rows state))
-genesis-rows-else items kept bytes b (Ok state) decode some at is made = genesis-rows items kept bytes b (rows state) decode some at is made
-genesis-rows-else items kept bytes b (Err stop) decode some at is made = tt
+  pub some-opened : 0 < length stored
+  some-opened = omega (arith, many, ap length is.opened.blocks, length-map stored (λ (it : Stored). it.block))

@@ -12,19 +12,19 @@ use Rattle.verdict_defs.specs.Chain.{Chain}
 use Rattle.store_defs.specs.Store.{IsJoined, HaveOwnExts}
 use Rattle.store_defs.proofs.ExtLemmas.{length-fees_from}
 use Rattle.joined_laws.proofs.FeeLaws.{exts-hold-fees}
-use Rattle.node_core.specs.Node.{exts_of, kept_of, CountFees}
+use Rattle.node_core.specs.Node.{exts_of, CountFees}
 use Rattle.rewards.specs.Own.{fees_on, HaveOwnFees}
 
 -- Each holds its own fees. Their count is that of the block's transactions, which the exts in memory have.
-pub have-own-fees : (spec : Specification) (stored : List Stored) → IsJoined (kept_of spec stored).chain
-    → HaveOwnExts (kept_of spec stored).chain (kept_of spec stored).exts → CountFees stored → HaveOwnFees spec stored
+pub have-own-fees : (spec : Specification) (stored : List Stored) → IsJoined (record { spec = spec; blocks = blocks_of stored })
+    → HaveOwnExts (record { spec = spec; blocks = blocks_of stored }) (exts_of stored) → CountFees stored → HaveOwnFees spec stored
 have-own-fees spec stored joined have counted place it above there = record {
   count = λ parent on. counted place it above there ∙ sym (as-many parent);
   each = λ parent j on within. (exts-hold-fees chain (exts_of stored) place parent it.block it.ext joined have above here beside on).each j within;
 }
   where
     chain : Chain
-    chain = (kept_of spec stored).chain
+    chain = record { spec = spec; blocks = blocks_of stored }
 
     here : block_at (blocks_of stored) place ≡ Some it.block
     here = slice_get-map (λ (x : Stored). x.block) stored place ∙ ap (option_map (λ (x : Stored). x.block)) there

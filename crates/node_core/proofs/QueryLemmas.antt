@@ -1,7 +1,7 @@
 -- What queries ask of a node: the block at a height of the best branch, and the live cell with an out-point there.
 use Rattle.std.proofs.Common.{◌≡◌, ℕ, ◌+◌, ◌<◌, List, [], ◌∷◌, length, Option, Some, None, refl, sym, ap, ◌∙◌, subst, arith}
-use Rattle.std.specs.Prelude.{Bool, slice_get, slice_index, IfSome, IsSomeAnd, if◌then◌else◌}
-use Rattle.std.proofs.lemmas.Bool.{lt-ltb}
+use Rattle.std.specs.Prelude.{slice_get, slice_index, IfSome, IsSomeAnd}
+use Rattle.std.proofs.lemmas.List.{length-map}
 use Rattle.std.specs.Option.{option_map, option_and_then}
 use Rattle.std.proofs.lemmas.Option.{slice_get_within, slice_get_past, slice_get-map, same_Some}
 use Rattle.codec_defs.specs.Schema.{OutPoint, Block}
@@ -20,7 +20,7 @@ use Rattle.cell_defs.specs.Events.{live_cell}
 use Rattle.cell_defs.specs.Row.{Row, row_of, row_on, live_row, IsOutputOf}
 use Rattle.cell_laws.proofs.OutputLaws.{cells-are-outputs}
 use Rattle.cell_model.specs.Copies.{NamesOutput}
-use Rattle.cell_model.specs.ListBlocks.{ListBlocksValue, place_in_hand}
+use Rattle.cell_model.proofs.CopyLemmas.{in-hand}
 use Rattle.tx_rules.proofs.BranchLemmas.{PlaceOfHeight, place-of-height, branch-long, branch-block, number-on-branch}
 use Rattle.node_core.specs.Node.{AreOfTip}
 use Rattle.node_core.specs.Queries.{IsLiveRow}
@@ -55,18 +55,15 @@ module _ (kept : List Block) (entries : List Entry) (tip : ℕ) (indexed : Index
 pub no-block : (blocks : List Block) (height : ℕ) → height < length blocks → block_at blocks height ≡ None → ⊥
 no-block blocks height below none = let there = slice_get-below blocks height below in absurd (cc (sym none ∙ there.1))
 
--- the block in hand of a list of blocks, once that of a place was taken
-pub block-told : (it : ListBlocksValue) (stored : List Stored) (place : ℕ) (b : Block) → it ≡ record { stored = stored; hand = Some place }
-    → place < length stored → IfSome (place_in_hand it) (λ e. IfSome (slice_get it.stored e) (λ told. b ≡ told.block))
-    → block_at (blocks_of stored) place ≡ Some b
-block-told it stored place b is below told =
-    let at = slice_get-below stored place below in
-    let here : IfSome (slice_get stored place) (λ told. b ≡ told.block) =
-    subst (λ (test : Bool). IfSome (if test then Some place else None) (λ e. IfSome (slice_get stored e) (λ told. b ≡ told.block)))
-    (lt-ltb place (length stored) below)
-    (subst (λ (v : ListBlocksValue). IfSome (place_in_hand v) (λ e. IfSome (slice_get v.stored e) (λ told. b ≡ told.block))) is told) in
-    let same : b ≡ at.0.block = subst (λ (found : Option Stored). IfSome found (λ told. b ≡ told.block)) at.1 here in
-    slice_get-map (λ (told : Stored). told.block) stored place ∙ ap (option_map (λ (told : Stored). told.block)) at.1 ∙ ap Some (sym same)
+-- the block in hand of a source that tells the stored blocks, once that of a place was taken
+pub block-told : (stored : List Stored) (kept : List Block) (place : ℕ) (b : Block) (told : Option (List Stored)) (hand : Option ℕ) → blocks_of stored ≡ kept
+    → place < length kept → told ≡ Some stored → hand ≡ Some place
+    → IfSome told (λ all. IfSome hand (λ e. IfSome (slice_get all e) (λ it. b ≡ it.block))) → block_at kept place ≡ Some b
+block-told stored kept place b told hand seen below tells taken of_hand =
+    let here = slice_get-below stored place (omega (arith, below, ap length seen, length-map stored (λ (it : Stored). it.block))) in
+    let same : b ≡ here.0.block = in-hand b told hand stored place here.0 tells taken here.1 of_hand in
+    ap (λ (blocks : List Block). block_at blocks place) (sym seen) ∙ slice_get-map (λ (it : Stored). it.block) stored place
+    ∙ ap (option_map (λ (it : Stored). it.block)) here.1 ∙ ap (λ (x : Block). Some x) (sym same)
 
 -- A tree has a tip.
 pub record HasTip (kept : List Block) (entries : List Entry) : Type 0 where
@@ -177,3 +174,25 @@ made-of stored entries o cell row indexed of_row =
     made-at stored entries of_row.tip o cell row indexed
     (omega (arith, len-same (blocks_of stored) entries indexed, tip_place-below (blocks_of stored) of_row.tip of_row.is_tip))
     (ap (λ (blocks : List Block). live_cell blocks o) (sym (best-is (blocks_of stored) of_row.tip of_row.is_tip)) ∙ of_row.live) of_row.its_row
+
+-- and what its row names
+pub names-of : (stored : List Stored) (o : OutPoint) (cell : Cell) (row : Row) → IsLiveRow (blocks_of stored) o cell row → NamesOutput stored o row cell
+names-of stored o cell row of_row = record {
+  made = kept.0;
+  there = kept.1;
+  output = subst (λ (b : Block). IsOutputOf b o cell) (sym kept.2) made.2;
+  its_row = of_row.its_row ∙ ap (λ (block : ℕ). row_of block cell) (sym same);
+}
+  where
+    made : (b : Block) × (block_at (branch (blocks_of stored) of_row.tip) cell.height ≡ Some b) × IsOutputOf b o cell
+    made = cells-are-outputs (branch (blocks_of stored) of_row.tip) o cell
+        (ap (λ (blocks : List Block). live_cell blocks o) (sym (best-is (blocks_of stored) of_row.tip of_row.is_tip)) ∙ of_row.live)
+
+    place : PlaceOfHeight (blocks_of stored) of_row.tip cell.height made.0
+    place = place-of-height (blocks_of stored) of_row.tip cell.height made.0 (tip_place-below (blocks_of stored) of_row.tip of_row.is_tip) made.1
+
+    same : row.block ≡ slice_index (branch_places (blocks_of stored) of_row.tip) cell.height
+    same = ap (λ (r : Row). r.block) of_row.its_row
+
+    kept : (it : Stored) × (slice_get stored row.block ≡ Some it) × (it.block ≡ made.0)
+    kept = stored-at stored row.block made.0 (ap (block_at (blocks_of stored)) same ∙ place.there)

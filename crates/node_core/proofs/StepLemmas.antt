@@ -1,24 +1,18 @@
 -- How many steps the live cells take, for an item and to open a store.
-use Rattle.std.proofs.Common.{◌≡◌, ℕ, ◌+◌, ◌-◌, ◌*◌, ◌≤◌, Bool, true, false, cond, refl, List, map, Option, Some, None, sym, ap, ◌∙◌, subst, arith}
-use Rattle.std.specs.Prelude.{IfSome, is_some}
-use Rattle.outside.specs.Image.{Image}
+use Rattle.std.proofs.Common.{◌≡◌, ℕ, ◌+◌, ◌-◌, ◌*◌, ◌≤◌, Bool, true, false, cond, refl, List, Option, Some, None, sym, ap, ◌∙◌, subst, arith}
+use Rattle.std.specs.Prelude.{is_some}
 use Rattle.codec_defs.specs.Shape.{decoded}
 use Rattle.codec_defs.specs.Schema.{Block, block}
 use Rattle.chain_defs.specs.Kept.{block_hash, place_of}
 use Rattle.chain_defs.specs.Branch.{branch, distance}
 use Rattle.chain_defs.specs.Tip.{tip_place}
 use Rattle.block_defs.specs.Rules.{broken_at_sight}
-use Rattle.chain_tree.specs.declared.entry.Entry.{Entry}
-use Rattle.time_defs.specs.Specification.{Specification}
 use Rattle.verdict_defs.specs.Chain.{Chain}
-use Rattle.store_defs.specs.Store.{Store, store_of}
-use Rattle.chain_tree.specs.Told.{Stored}
-use Rattle.node_core.proofs.OpenLemmas.{Opened, AreBytesOf, decode_opened, store_keeps}
 use Rattle.reorg.proofs.DistanceLemmas.{none-away}
 use Rattle.node_core.specs.declared.deciding.Joining.{Joining}
 use Rattle.node_core.specs.declared.deciding.Decision.TheVariants.{Joins}
-use Rattle.node_core.specs.Judging.{IsReadyItem}
-use Rattle.node_core.specs.Steps.{distance_from, distance_to, moves_at, moves_on, moves_of, moves_of_block, moves_for, moves_to_tip, moves_to_open}
+use Rattle.node_core.specs.Judging.{MayBeKept, IsReadyItem}
+use Rattle.node_core.specs.Steps.{distance_from, distance_to, moves_at, moves_on, moves_of, moves_of_block, moves_for, moves_to_tip}
 
 pub no-step : (before most : ℕ) → before ≤ before + most
 no-step before most = omega arith
@@ -90,15 +84,3 @@ moves-on-tip chain item b is on = subst (λ (o : Option Block). moves_of chain o
 
 pub to-tip : (kept : List Block) (tip before now : ℕ) → tip_place kept ≡ Some tip → now ≤ before + distance kept 0 tip → now ≤ before + moves_to_tip kept
 to-tip kept tip before now is most = subst (λ (n : ℕ). now ≤ before + n) (sym (ap (distance_to kept 0) is)) most
-
-pub moved-to-open : (reads mid : Option Image) (spec : Specification) (items exts : List (List ℕ)) (stored : List Stored) (entries : List Entry) (before now : ℕ) (image : Image)
-    → AreBytesOf items exts stored → mid ≡ reads → reads ≡ Some image → IfSome mid (Opened spec stored entries)
-    → ((kept : List Block) → map (decoded block) items ≡ map Some kept → now ≤ before + moves_to_tip kept)
-    → now ≤ before + moves_to_open (store_of image)
-moved-to-open reads mid spec items exts stored entries before now image of same told opened most =
-    by_log (subst (λ (o : Option Image). IfSome o (Opened spec stored entries)) (same ∙ told) opened)
-  where
-    by_log : Opened spec stored entries image → now ≤ before + moves_to_open (store_of image)
-    by_log (log, is) =
-        subst (λ (s : Store). now ≤ before + moves_to_open s) (sym (store_keeps image log is.is_log))
-        (most log.blocks (decode_opened image.log log spec items exts stored entries of is))

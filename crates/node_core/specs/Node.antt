@@ -1,6 +1,10 @@
 -- What contracts see of a node and of a new store, and a disk as a node left it.
-use Rattle.std.specs.Prelude.{◌≡◌, ◌⊎◌, Bool, false, true, ℕ, ◌+◌, ◌-◌, ◌*◌, ◌^◌, ◌<◌, ◌≤◌, List, [], ◌∷◌, ◌++◌, map, length, slice_get, Option, Some, None}
+use Rattle.std.specs.Prelude.{◌≡◌, ◌⊎◌, Bool, false, true, ℕ, ◌+◌, ◌-◌, ◌*◌, ◌^◌, ◌<◌, ◌≤◌, List, [], ◌∷◌, ◌++◌, map, length, slice_get, Option, Some, None, IfSome, IsSome}
+use Rattle.outside.specs.Causes.{CountsFault}
 use Rattle.outside.specs.declared.disk.Area.TheVariants.{Log}
+use Rattle.outside.specs.declared.disk.Damage.{Damage}
+use Rattle.outside.specs.declared.disk.ReadStop.{ReadStop}
+use Rattle.outside.specs.declared.disk.ReadStop.TheVariants.{DiskFault, Damaged}
 use Rattle.outside.specs.Image.{Image, content}
 use Rattle.outside.specs.Disk.{ComesBy, Follows, AreaKept}
 use Rattle.std.specs.Option.{option_map}
@@ -9,77 +13,106 @@ use Rattle.codec_defs.specs.Schema.{OutPoint, Block, block}
 use Rattle.chain_defs.specs.Kept.{block_hash, kept_limit}
 use Rattle.chain_defs.specs.Tip.{tip_place}
 use Rattle.chain_tree.specs.declared.entry.Entry.{Entry}
-use Rattle.chain_tree.specs.Blocks.{IndexesBlocks}
+use Rattle.chain_tree.specs.Blocks.{IndexesBlocks, AreRated}
 use Rattle.chain_tree.specs.Told.{Stored, blocks_of}
 use Rattle.cell_defs.specs.Ext.{count_at}
 use Rattle.cell_defs.specs.Row.{Row}
-use Rattle.chain_tree.specs.Blocks.{AreRated}
+use Rattle.cell_state.specs.State.{StateValue, rows}
 use Rattle.uncle_rules.specs.Embedded.{UnclesValue, IndexesUncles}
 use Rattle.time_defs.specs.Specification.{Specification, broken_specification_rule}
 use Rattle.verdict_defs.specs.declared.verdict.Verdict.{Verdict}
 use Rattle.verdict_defs.specs.Verdict.{joins}
 use Rattle.verdict_defs.specs.Chain.{Chain, chain_of_genesis}
 use Rattle.log_file.specs.Pieces.{block_record}
+use Rattle.log_file.specs.Grammar.{record_of}
+use Rattle.log_file.specs.Opening.{kept_records}
+use Rattle.block_store.specs.Held.{AgreesWith}
+use Rattle.block_store.specs.Stored.{CanBeKept}
+use Rattle.block_store.specs.Laws.{NamesTheLog}
 use Rattle.genesis_defs.specs.Genesis.{broken_genesis_rule}
 use Rattle.log_defs.specs.Log.{Record, log_of}
-use Rattle.log_defs.specs.Rest.{IsAtRest, IsSettled, HasLog, HasAppended}
+use Rattle.log_defs.specs.Rest.{IsSettled, HasLog, HasAppended}
 use Rattle.fit_laws.specs.Laws.{AreCanonical}
 use Rattle.reorg.specs.Moves.{AreOf}
-use Rattle.store_defs.specs.Store.{StandsFor, HaveOwnExts, HasNoSnapshots, new_image}
+use Rattle.store_defs.specs.Store.{StandsFor, AreJoined, HasNoSnapshots, new_image}
 
 -- the ext beside each kept block
 abbrev pub exts_of : List Stored → List (List ℕ)
 exts_of stored = map (λ it. it.ext) stored
 
--- what is kept in memory: a chain, and the exts of its blocks
+-- each block with the ext beside it
+abbrev pub paired : List Block → List (List ℕ) → List Stored
+paired [] exts = []
+paired (b ∷ blocks) [] = []
+paired (b ∷ blocks) (ext ∷ exts) = record { block = b; ext = ext } ∷ paired blocks exts
+
+-- what is remembered of the kept blocks, for clauses alone
+pub record RecordedValue : Type 0 where
+  pub stored : List Stored
+
+-- what is kept: a chain, the exts of its blocks, and their entries in the tree
 pub record KeptValue : Type 0 where
   pub chain : Chain
   pub exts : List (List ℕ)
+  pub entries : List Entry
 
-abbrev pub kept_of : Specification → List Stored → KeptValue
-kept_of spec stored = record { chain = record { spec = spec; blocks = blocks_of stored }; exts = exts_of stored }
+abbrev pub kept_of : Specification → List Stored → List Entry → KeptValue
+kept_of spec stored entries = record { chain = record { spec = spec; blocks = blocks_of stored }; exts = exts_of stored; entries = entries }
 
--- with one more block and its ext
-abbrev pub kept_with : KeptValue → Block → List ℕ → KeptValue
-kept_with kept b ext =
-    record { chain = record { spec = kept.chain.spec; blocks = kept.chain.blocks ++ b ∷ [] }; exts = kept.exts ++ ext ∷ [] }
+-- with one more block, its ext and its entry
+abbrev pub kept_with : KeptValue → Block → List ℕ → Entry → KeptValue
+kept_with kept b ext entry = record {
+  chain = record { spec = kept.chain.spec; blocks = kept.chain.blocks ++ b ∷ [] };
+  exts = kept.exts ++ ext ∷ [];
+  entries = kept.entries ++ entry ∷ [];
+}
 
--- a node: its chain, the exts of its blocks, and the offset where the records of its log end
+-- its blocks, each with its ext
+abbrev pub stored_of : KeptValue → List Stored
+stored_of kept = paired kept.chain.blocks kept.exts
+
+-- A node: its chain, the exts of its blocks, and their entries, which say where in LOG each block lies; the offset where the records of its log end;
+-- its live cells; and the blocks that it holds in memory, each with its ext, by their places.
 pub record NodeValue : Type 0 where
   pub chain : Chain
   pub exts : List (List ℕ)
+  pub entries : List Entry
   pub place : ℕ
+  pub cells : StateValue
+  pub held : List (ℕ × Stored)
 
 abbrev pub kept_in : NodeValue → KeptValue
-kept_in node = record { chain = node.chain; exts = node.exts }
+kept_in node = record { chain = node.chain; exts = node.exts; entries = node.entries }
 
-abbrev pub node_of : KeptValue → ℕ → NodeValue
-node_of kept place = record { chain = kept.chain; exts = kept.exts; place = place }
+abbrev pub node_of : KeptValue → ℕ → StateValue → List (ℕ × Stored) → NodeValue
+node_of kept place cells held =
+    record { chain = kept.chain; exts = kept.exts; entries = kept.entries; place = place; cells = cells; held = held }
 
--- The disk has one image, which stands for the node's chain, with a log at rest whose records end at the node's place; and the exts of the node's
--- blocks are their own.
-pub record IsOn (node : NodeValue) (reads : Option Image) (images : Image → Type 0) : Type 0 where
+-- ---- What a disk has of it
+
+-- LOG has what is kept, and just that, after the record of some specification: the entries name the bodies of its blocks, and what is held in
+-- memory for an entry is its block with its ext.
+pub record IsReadBy (kept : KeptValue) (held : List (ℕ × Stored)) (image : Image) : Type 0 where
+  pub specification : List ℕ
+  pub names : NamesTheLog image.log specification (kept_records (stored_of kept)) kept.entries
+  pub can : CanBeKept (stored_of kept)
+  pub agrees : AgreesWith (stored_of kept) held
+
+-- The disk is a node's own: LOG has what the node keeps, its records end at the node's place, and a crash leaves LOG as it reads.
+pub record IsOf (node : NodeValue) (reads : Option Image) (images : Image → Type 0) : Type 0 where
   pub now : Image
   pub told : reads ≡ Some now
-  pub one : (image : Image) → images image → image ≡ now
-  pub stands : StandsFor node.chain now
-  pub records : List Record
-  pub rest : IsAtRest node.place records now.log
-  pub own : HaveOwnExts node.chain node.exts
+  pub read : IsReadBy (kept_in node) node.held now
+  pub settled : IsSettled node.place (record_of 1 read.specification ∷ kept_records (stored_of (kept_in node))) reads images
 
--- The ext of each block after the genesis counts a fee for each transaction of the block after the first.
-abbrev pub CountFees : List Stored → Type 0
-CountFees stored = (place : ℕ) (it : Stored) → 0 < place → slice_get stored place ≡ Some it → count_at it.ext 0 ≡ length it.block.transactions - 1
+-- so it is where the disk tells what it reads as
+abbrev pub IsItsOwn : NodeValue → Option Image → (Image → Type 0) → Type 0
+IsItsOwn node reads images = IfSome reads (λ _. IsOf node reads images)
 
--- What is kept in memory: canonical blocks; the tree indexes them, and the other index their uncles; the C and the AR of each block's DAO field
--- are above 0; the exts count their fees; and no more blocks are kept than may be.
-pub record AreKept (stored : List Stored) (entries : List Entry) (index : UnclesValue) : Type 0 where
-  pub canonical : AreCanonical (blocks_of stored)
-  pub indexed : IndexesBlocks (blocks_of stored) entries
-  pub uncles : IndexesUncles (blocks_of stored) index
-  pub rated : AreRated entries
-  pub counted : CountFees stored
-  pub few : length stored ≤ kept_limit
+-- What is kept has joined, and a source of blocks tells it.
+pub record TellsJoined (kept : KeptValue) (told : Option (List Stored)) : Type 0 where
+  pub all : told ≡ Some (stored_of kept)
+  pub joined : AreJoined kept.chain kept.exts
 
 -- the rows are those of the branch of a place that was found
 abbrev pub AreOfFound : List Block → Option ℕ → (OutPoint → Option Row) → Type 0
@@ -88,6 +121,60 @@ AreOfFound kept found rows = (place : ℕ) → found ≡ Some place → AreOf ke
 -- of the tip's branch
 abbrev pub AreOfTip : List Block → (OutPoint → Option Row) → Type 0
 AreOfTip kept rows = AreOfFound kept (tip_place kept) rows
+
+-- A node is sound: what it keeps has joined, each block with its own ext, and its live cells are those of the tip.
+pub record IsSoundNode (node : NodeValue) : Type 0 where
+  pub joined : AreJoined node.chain node.exts
+  pub live : AreOfTip node.chain.blocks (rows node.cells)
+
+-- It is sound on a disk that tells what it reads as.
+pub record IsSoundOn (node : NodeValue) (reads : Option Image) : Type 0 where
+  pub sound : IsSoundNode node
+  pub told : IsSome reads
+
+-- The disk has one image, and that stands for this chain.
+pub record IsOnlyImage (chain : Chain) (reads : Option Image) (images : Image → Type 0) : Type 0 where
+  pub now : Image
+  pub told : reads ≡ Some now
+  pub one : (image : Image) → images image → image ≡ now
+  pub stands : StandsFor chain now
+
+-- A node is on a disk: it is sound, and the disk is its own and has one image, that of its chain.
+pub record IsOn (node : NodeValue) (reads : Option Image) (images : Image → Type 0) : Type 0 where
+  pub image : IsOnlyImage node.chain reads images
+  pub of : IsOf node reads images
+  pub sound : IsSoundNode node
+
+-- What a call leaves that only reads kept blocks on a disk: the disk as it was, and in memory what is the disk's.
+pub record HasLooked {S C : Type 0} (content_of : S → C) (reads_as : S → Option Image) (faults : S → ℕ) (old new : S) (kept : KeptValue)
+    (held : List (ℕ × Stored)) (stop : Option ReadStop) : Type 0 where
+  pub content : content_of new ≡ content_of old
+  pub agrees : IfSome (reads_as new) (IsReadBy kept held)
+  pub damage : (damage : Damage) → stop ≡ Some (Damaged damage) → damage.area ≡ Log
+  pub cause : CountsFault (faults old) (faults new) (stop ≡ Some DiskFault)
+
+-- the same of a node and its own disk: the node differs in what it holds in memory alone
+pub record LeavesAll {S C : Type 0} (content_of : S → C) (reads_as : S → Option Image) (images : S → Image → Type 0) (faults : S → ℕ) (old new : S)
+    (before after : NodeValue) (stop : Option ReadStop) : Type 0 where
+  pub content : content_of new ≡ content_of old
+  pub node : after ≡ record before { held = after.held }
+  pub own : IsItsOwn after (reads_as new) (images new)
+  pub damage : (damage : Damage) → stop ≡ Some (Damaged damage) → damage.area ≡ Log
+  pub cause : CountsFault (faults old) (faults new) (stop ≡ Some DiskFault)
+
+-- The ext of each block after the genesis counts a fee for each transaction of the block after the first.
+abbrev pub CountFees : List Stored → Type 0
+CountFees stored = (place : ℕ) (it : Stored) → 0 < place → slice_get stored place ≡ Some it → count_at it.ext 0 ≡ length it.block.transactions - 1
+
+-- What is kept: canonical blocks; the tree indexes them, and the other index their uncles; the C and the AR of each block's DAO field
+-- are above 0; the exts count their fees; and no more blocks are kept than may be.
+pub record AreKept (stored : List Stored) (entries : List Entry) (index : UnclesValue) : Type 0 where
+  pub canonical : AreCanonical (blocks_of stored)
+  pub indexed : IndexesBlocks (blocks_of stored) entries
+  pub uncles : IndexesUncles (blocks_of stored) index
+  pub rated : AreRated entries
+  pub counted : CountFees stored
+  pub few : length stored ≤ kept_limit
 
 -- A log is no longer than the records of so many blocks may make it.
 abbrev pub IsWithin : ℕ → ℕ → Type 0

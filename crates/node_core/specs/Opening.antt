@@ -1,22 +1,29 @@
--- What stands beside the blocks of a log.
-use Rattle.std.specs.Prelude.{◌≡◌, ℕ, ◌<◌, List, [], length, map, slice_index_or, Some}
-use Rattle.std.specs.List.{All}
-use Rattle.codec_defs.specs.Shape.{decoded}
-use Rattle.codec_defs.specs.Schema.{Block, block}
-use Rattle.chain_tree.specs.declared.entry.Entry.{Entry}
-use Rattle.chain_tree.specs.Blocks.{IndexesBlocks}
-use Rattle.cell_model.specs.ListBlocks.{IsCanonical, IsExtFor}
+-- What opening a store leaves of its disk, and what it reads there.
+use Rattle.std.specs.Prelude.{◌≡◌, ◌≢◌, ℕ, drop, slice_index, Option, Some}
+use Rattle.outside.specs.declared.disk.Area.TheVariants.{Log}
+use Rattle.outside.specs.Image.{Image}
+use Rattle.outside.specs.Disk.{OthersRead, LeavesOnly, IsOnlyRead}
+use Rattle.log_defs.specs.Log.{records_of, end_of_log}
+use Rattle.log_defs.specs.Rest.{IsSettled}
+use Rattle.verdict_defs.specs.Chain.{Chain}
+use Rattle.store_defs.specs.Store.{Keeps, store_of, IsSound, AreJoined}
+use Rattle.node_core.specs.Node.{NodeValue, IsOf, IsLeftByOpening}
 
--- each encodes a block
-abbrev pub HaveBlocks : List (List ℕ) → Type 0
-HaveBlocks blocks = All IsCanonical blocks
+-- Whatever is answered: a disk that keeps no chain is only read, and so is one whose log has no open gate; a crash leaves what it might have left
+-- before, or a log that says what it said; and no other area reads otherwise.
+pub record LeavesStore {S : Type 0} (reads_as : S → Option Image) (images : S → Image → Type 0) (moment : S → ℕ) (left_since : S → ℕ → Image → Type 0)
+    (old new : S) : Type 0 where
+  pub no_log : (now : Image) → reads_as old ≡ Some now → ((chain : Chain) → store_of now ≡ Keeps chain → ⊥)
+      → IsOnlyRead reads_as images moment left_since old new
+  pub rests : (now : Image) → reads_as old ≡ Some now → slice_index now.log (end_of_log now.log) ≢ 1
+      → IsOnlyRead reads_as images moment left_since old new
+  pub keeps : (now : Image) → reads_as old ≡ Some now → LeavesOnly moment left_since old new (IsLeftByOpening now.log (images old))
+  pub others : OthersRead Log (reads_as old) (reads_as new)
 
--- Each block after the genesis has an ext beside it.
-abbrev pub HaveExts : List (List ℕ) → List (List ℕ) → Type 0
-HaveExts blocks exts = (place : ℕ) → 0 < place → place < length blocks → IsExtFor (slice_index_or blocks place []) (slice_index_or exts place [])
-
--- They are the encodings of blocks that these entries index.
-pub record EncodeIndexed (items : List (List ℕ)) (entries : List Entry) : Type 0 where
-  pub blocks : List Block
-  pub decode : map (decoded block) items ≡ map Some blocks
-  pub indexed : IndexesBlocks blocks entries
+-- A node is read from an image: it has the chain that the image keeps, its records are settled and the disk is its own, and what it keeps has
+-- joined where the image is sound.
+pub record IsReadFrom (node : NodeValue) (reads : Option Image) (images : Image → Type 0) (image : Image) : Type 0 where
+  pub keeps : store_of image ≡ Keeps node.chain
+  pub settled : IsSettled node.place (records_of (drop 8 image.log)) reads images
+  pub of : IsOf node reads images
+  pub joined : IsSound image → AreJoined node.chain node.exts

@@ -3,7 +3,6 @@ ghost use Rattle.std.specs.Prelude.{◌≡◌, ◌≢◌, ◌≤◌, ◌+◌, �
 ghost use Rattle.chain_defs.specs.Kept.{block_hash, place_of, kept_limit};
 ghost use Rattle.chain_defs.specs.Branch.{branch, distance};
 ghost use Rattle.chain_defs.specs.Tip.{best_branch};
-ghost use Rattle.outside.specs.declared.disk.Area.TheVariants.{Log};
 ghost use Rattle.outside.specs.declared.disk.Damage.{Damage};
 ghost use Rattle.outside.specs.declared.disk.ReadStop.{ReadStop as a_stop};
 ghost use Rattle.outside.specs.declared.disk.ReadStop.TheVariants.{DiskFault, Damaged, NoMemory};
@@ -13,11 +12,12 @@ ghost use Rattle.rule_names.specs.declared.rule.Rule.{Rule};
 ghost use Rattle.block_judge.specs.declared.stop.Judged.TheVariants.{Broken, Read};
 ghost use Rattle.verdict_defs.specs.Trial.{trial_on};
 ghost use Rattle.verdict_defs.specs.declared.trial.Trial.TheVariants.{Passes, Refused};
-ghost use Rattle.store_defs.specs.Store.{IsJoined, AreJoined};
 ghost use Rattle.node_core.specs.Steps.{moves_on, moves_of_block, moves_for};
 ghost use Rattle.cell_state.specs.State.{rows};
 ghost use Rattle.reorg.specs.Moves.{AreOf};
-ghost use Rattle.node_core.specs.Node.{AreOfFound, AreOfTip};
+ghost use Rattle.chain_tree.specs.Reading.{HasRead, stop_of};
+ghost use Rattle.block_judge.specs.Stops.{read_stop_of};
+ghost use Rattle.node_core.specs.Node.{TellsJoined, AreOfFound, AreOfTip};
 ghost use Rattle.node_core.specs.Judging.{IsEntryOn, IsOnParent, HasPassed, IsDecidedBlock, IsDecided, IsReadyBlock, IsReadyItem, WantsMemory, MayWantMemory, becomes_tip, place_for};
 
 use crate::entry::{entry_on, hash_of, parent_hash};
@@ -25,7 +25,7 @@ use crate::kept::{Kept, is_above_tip};
 use block_judge::{Context, Judged, NoCells, dry_run, judge, judge_at_sight};
 use cell_model::Ext;
 use cell_state::State;
-use chain_tree::Entry;
+use chain_tree::{Blocks, Entry};
 use mol_schema::{BlockView, TxView};
 use outside::{ReadStop, Steps};
 use reorg::go_to;
@@ -62,27 +62,27 @@ pub(crate) enum Decision {
 
 impl Kept {
     /// Leads the live cells of the branch of one place to those of another's: a step for each block of their distance.
-    fn moved<L: Ledger>(
-        &mut self,
+    pub(crate) fn moved<B: Blocks, L: Ledger>(
+        &self,
         alloc: Global,
+        blocks: &mut B,
         state: State,
         from: u32,
         to: u32,
         steps: &mut Steps<L>,
     ) -> Result<State, ReadStop>
-        requires from { from < length self.old.chain.blocks }
-        requires to { to < length self.old.chain.blocks }
-        ensures same { self.new ≡ self.old }
-        ensures cells { AreJoined self.old.chain self.old.exts → AreOf self.old.chain.blocks from (rows state)
-            → IfOk result (λ there. AreOf self.old.chain.blocks to (rows there)) }
-        ensures undamaged { AreJoined self.old.chain self.old.exts → AreOf self.old.chain.blocks from (rows state)
+        requires from { from < length self.now.chain.blocks }
+        requires to { to < length self.now.chain.blocks }
+        requires counts { B.count blocks.old ≡ length self.now.chain.blocks }
+        ensures read { HasRead B.told B.count B.loans_of B.faults B.damages blocks.old blocks.new (stop_of result) }
+        ensures cells { TellsJoined self.now (B.told blocks.old) → AreOf self.now.chain.blocks from (rows state)
+            → IfOk result (λ there. AreOf self.now.chain.blocks to (rows there)) }
+        ensures undamaged { TellsJoined self.now (B.told blocks.old) → AreOf self.now.chain.blocks from (rows state)
             → (damage : Damage) → result ≡ Err (Damaged damage) → ⊥ }
-        ensures damage { (damage : Damage) → result ≡ Err (Damaged damage) → damage.area ≡ Log }
-        ensures reads { result ≢ Err DiskFault }
-        ensures steps { OnOk result (steps.new ≡ steps.old + distance self.old.chain.blocks from to) }
-        ensures most { steps.new ≤ steps.old + distance self.old.chain.blocks from to }
+        ensures steps { OnOk result (steps.new ≡ steps.old + distance self.now.chain.blocks from to) }
+        ensures most { steps.new ≤ steps.old + distance self.now.chain.blocks from to }
     {
-        go_to(alloc, state, &self.tree, &mut self.blocks, from, to, steps)
+        go_to(alloc, state, &self.tree, blocks, from, to, steps)
     }
 
     /// Judges a block at sight on a kept parent: the hashes of its transactions where it passes.
@@ -109,25 +109,25 @@ impl Kept {
     }
 
     /// Judges a block that has passed at sight on a kept parent, by the live cells of its parent's branch.
-    fn judge_on(
-        &mut self,
+    fn judge_on<B: Blocks>(
+        &self,
         alloc: Global,
+        blocks: &mut B,
         state: &State,
         block: &BlockView<'_>,
         hashes: &[[u8; 32]],
         entry: Entry,
     ) -> Result<Decision, ReadStop>
-        requires entry { IsEntryOn self.old.chain.blocks block.now entry }
-        requires passed { HasPassed self.old.chain entry.parent block.now hashes.now }
-        ensures same { self.new ≡ self.old }
-        ensures ready { IfOk result (IsReadyBlock self.old.chain block.now) }
+        requires entry { IsEntryOn self.now.chain.blocks block.now entry }
+        requires passed { HasPassed self.now.chain entry.parent block.now hashes.now }
+        requires counts { B.count blocks.old ≡ length self.now.chain.blocks }
+        ensures read { HasRead B.told B.count B.loans_of B.faults B.damages blocks.old blocks.new (stop_of result) }
+        ensures ready { IfOk result (IsReadyBlock self.now.chain block.now) }
         ensures on { IfOk result (IsOnParent entry.parent) }
-        ensures decided { AreJoined self.old.chain self.old.exts → AreOf self.old.chain.blocks entry.parent (rows state.now)
-            → IfOk result (IsDecidedBlock self.old.chain block.now) }
-        ensures undamaged { AreJoined self.old.chain self.old.exts → AreOf self.old.chain.blocks entry.parent (rows state.now)
+        ensures decided { TellsJoined self.now (B.told blocks.old) → AreOf self.now.chain.blocks entry.parent (rows state.now)
+            → IfOk result (IsDecidedBlock self.now.chain block.now) }
+        ensures undamaged { TellsJoined self.now (B.told blocks.old) → AreOf self.now.chain.blocks entry.parent (rows state.now)
             → (damage : Damage) → result ≡ Err (Damaged damage) → ⊥ }
-        ensures damage { (damage : Damage) → result ≡ Err (Damaged damage) → damage.area ≡ Log }
-        ensures reads { result ≢ Err DiskFault }
     {
         let parent = entry.parent;
         let context = Context {
@@ -137,7 +137,7 @@ impl Kept {
             cells: state,
             parent,
         };
-        match judge(alloc, &context, &mut self.blocks, block, hashes) {
+        match judge(alloc, &context, blocks, block, hashes) {
             Err(Judged::Broken(rule)) => Ok(Decision::Stays(Verdict::Refused(rule.number()))),
             Err(Judged::Read(stop)) => Err(stop),
             Ok(ext) => {
@@ -162,27 +162,27 @@ impl Kept {
 
     /// What is to become of a block on a kept parent. Where it passes at sight, the live cells go from the tip's branch to its
     /// parent's, where it is judged, and back unless it becomes the tip.
-    fn decide_on<L: Ledger>(
-        &mut self,
+    fn decide_on<B: Blocks, L: Ledger>(
+        &self,
         alloc: Global,
+        blocks: &mut B,
         state: State,
         block: &BlockView<'_>,
         entry: Entry,
         steps: &mut Steps<L>,
     ) -> Result<(State, Decision), ReadStop>
-        requires { IsEntryOn self.old.chain.blocks block.now entry }
-        ensures same { self.new ≡ self.old }
-        ensures ready { IfOk result (λ it. IsReadyBlock self.old.chain block.now it.1) }
-        ensures cells { AreJoined self.old.chain self.old.exts → AreOfTip self.old.chain.blocks (rows state)
-            → IfOk result (λ it. AreOfFound self.old.chain.blocks (place_for self.old.chain.blocks it.1) (rows it.0)) }
-        ensures decided { AreJoined self.old.chain self.old.exts → AreOfTip self.old.chain.blocks (rows state)
-            → IfOk result (λ it. IsDecidedBlock self.old.chain block.now it.1) }
-        ensures undamaged { AreJoined self.old.chain self.old.exts → AreOfTip self.old.chain.blocks (rows state)
+        requires entry { IsEntryOn self.now.chain.blocks block.now entry }
+        requires counts { B.count blocks.old ≡ length self.now.chain.blocks }
+        ensures read { HasRead B.told B.count B.loans_of B.faults B.damages blocks.old blocks.new (stop_of result) }
+        ensures ready { IfOk result (λ it. IsReadyBlock self.now.chain block.now it.1) }
+        ensures cells { TellsJoined self.now (B.told blocks.old) → AreOfTip self.now.chain.blocks (rows state)
+            → IfOk result (λ it. AreOfFound self.now.chain.blocks (place_for self.now.chain.blocks it.1) (rows it.0)) }
+        ensures decided { TellsJoined self.now (B.told blocks.old) → AreOfTip self.now.chain.blocks (rows state)
+            → IfOk result (λ it. IsDecidedBlock self.now.chain block.now it.1) }
+        ensures undamaged { TellsJoined self.now (B.told blocks.old) → AreOfTip self.now.chain.blocks (rows state)
             → (damage : Damage) → result ≡ Err (Damaged damage) → ⊥ }
-        ensures damage { (damage : Damage) → result ≡ Err (Damaged damage) → damage.area ≡ Log }
-        ensures reads { result ≢ Err DiskFault }
-        ensures asked { result ≡ Err NoMemory → WantsMemory self.old.chain block.now }
-        ensures most { steps.new ≤ steps.old + (moves_on self.old.chain block.now (Some entry.parent) - 1) }
+        ensures asked { result ≡ Err NoMemory → WantsMemory self.now.chain block.now }
+        ensures most { steps.new ≤ steps.old + (moves_on self.now.chain block.now (Some entry.parent) - 1) }
     {
         let parent = entry.parent;
         let hashes = match self.at_sight(alloc, block, parent) {
@@ -196,11 +196,11 @@ impl Kept {
             }
         };
         let from = self.tree.tip();
-        let there = match self.moved(alloc, state, from, parent, steps) {
+        let there = match self.moved(alloc, blocks, state, from, parent, steps) {
             Ok(there) => there,
             Err(stop) => return Err(stop),
         };
-        let decision = match self.judge_on(alloc, &there, block, &hashes, entry) {
+        let decision = match self.judge_on(alloc, blocks, &there, block, &hashes, entry) {
             Ok(decision) => decision,
             Err(stop) => {
                 drop(there);
@@ -210,7 +210,7 @@ impl Kept {
         if self.is_tip_next(&decision) {
             return Ok((there, decision));
         }
-        match self.moved(alloc, there, parent, from, steps) {
+        match self.moved(alloc, blocks, there, parent, from, steps) {
             Ok(back) => Ok((back, decision)),
             Err(stop) => {
                 drop(decision);
@@ -220,25 +220,25 @@ impl Kept {
     }
 
     /// What is to become of a block.
-    fn decide_block<L: Ledger>(
-        &mut self,
+    fn decide_block<B: Blocks, L: Ledger>(
+        &self,
         alloc: Global,
+        blocks: &mut B,
         state: State,
         block: &BlockView<'_>,
         steps: &mut Steps<L>,
     ) -> Result<(State, Decision), ReadStop>
-        ensures same { self.new ≡ self.old }
-        ensures ready { IfOk result (λ it. IsReadyBlock self.old.chain block.now it.1) }
-        ensures cells { AreJoined self.old.chain self.old.exts → AreOfTip self.old.chain.blocks (rows state)
-            → IfOk result (λ it. AreOfFound self.old.chain.blocks (place_for self.old.chain.blocks it.1) (rows it.0)) }
-        ensures decided { AreJoined self.old.chain self.old.exts → AreOfTip self.old.chain.blocks (rows state)
-            → IfOk result (λ it. IsDecidedBlock self.old.chain block.now it.1) }
-        ensures undamaged { AreJoined self.old.chain self.old.exts → AreOfTip self.old.chain.blocks (rows state)
+        requires counts { B.count blocks.old ≡ length self.now.chain.blocks }
+        ensures read { HasRead B.told B.count B.loans_of B.faults B.damages blocks.old blocks.new (stop_of result) }
+        ensures ready { IfOk result (λ it. IsReadyBlock self.now.chain block.now it.1) }
+        ensures cells { TellsJoined self.now (B.told blocks.old) → AreOfTip self.now.chain.blocks (rows state)
+            → IfOk result (λ it. AreOfFound self.now.chain.blocks (place_for self.now.chain.blocks it.1) (rows it.0)) }
+        ensures decided { TellsJoined self.now (B.told blocks.old) → AreOfTip self.now.chain.blocks (rows state)
+            → IfOk result (λ it. IsDecidedBlock self.now.chain block.now it.1) }
+        ensures undamaged { TellsJoined self.now (B.told blocks.old) → AreOfTip self.now.chain.blocks (rows state)
             → (damage : Damage) → result ≡ Err (Damaged damage) → ⊥ }
-        ensures damage { (damage : Damage) → result ≡ Err (Damaged damage) → damage.area ≡ Log }
-        ensures reads { result ≢ Err DiskFault }
-        ensures asked { result ≡ Err NoMemory → WantsMemory self.old.chain block.now }
-        ensures most { steps.new ≤ steps.old + (moves_of_block self.old.chain block.now - 1) }
+        ensures asked { result ≡ Err NoMemory → WantsMemory self.now.chain block.now }
+        ensures most { steps.new ≤ steps.old + (moves_of_block self.now.chain block.now - 1) }
     {
         let hash = hash_of(block);
         if self.tree.find(&hash).is_some() {
@@ -248,52 +248,52 @@ impl Kept {
             return Ok((state, Decision::Stays(Verdict::Refused(3))));
         };
         let entry = entry_on(block, hash, parent);
-        self.decide_on(alloc, state, block, entry, steps)
+        self.decide_on(alloc, blocks, state, block, entry, steps)
     }
 
     /// What is to become of an item, and the live cells where they then stand: on the parent's branch of a block that
     /// becomes the tip, and else on the tip's. After an error they are gone. Memory is wanted only for a block that is new,
     /// on a kept parent, and keeps the rules on a header and the limits on its length and its proposals.
-    pub(crate) fn decide<L: Ledger>(
-        &mut self,
+    pub(crate) fn decide<B: Blocks, L: Ledger>(
+        &self,
         alloc: Global,
+        blocks: &mut B,
         state: State,
         item: &[u8],
         steps: &mut Steps<L>,
     ) -> Result<(State, Decision), ReadStop>
-        ensures same { self.new ≡ self.old }
-        ensures ready { IfOk result (λ it. IsReadyItem self.old.chain item.now it.1) }
-        ensures cells { AreJoined self.old.chain self.old.exts → AreOfTip self.old.chain.blocks (rows state)
-            → IfOk result (λ it. AreOfFound self.old.chain.blocks (place_for self.old.chain.blocks it.1) (rows it.0)) }
-        ensures decided { AreJoined self.old.chain self.old.exts → AreOfTip self.old.chain.blocks (rows state)
-            → IfOk result (λ it. IsDecided self.old.chain item.now it.1) }
-        ensures undamaged { AreJoined self.old.chain self.old.exts → AreOfTip self.old.chain.blocks (rows state)
+        requires counts { B.count blocks.old ≡ length self.now.chain.blocks }
+        ensures read { HasRead B.told B.count B.loans_of B.faults B.damages blocks.old blocks.new (stop_of result) }
+        ensures ready { IfOk result (λ it. IsReadyItem self.now.chain item.now it.1) }
+        ensures cells { TellsJoined self.now (B.told blocks.old) → AreOfTip self.now.chain.blocks (rows state)
+            → IfOk result (λ it. AreOfFound self.now.chain.blocks (place_for self.now.chain.blocks it.1) (rows it.0)) }
+        ensures decided { TellsJoined self.now (B.told blocks.old) → AreOfTip self.now.chain.blocks (rows state)
+            → IfOk result (λ it. IsDecided self.now.chain item.now it.1) }
+        ensures undamaged { TellsJoined self.now (B.told blocks.old) → AreOfTip self.now.chain.blocks (rows state)
             → (damage : Damage) → result ≡ Err (Damaged damage) → ⊥ }
-        ensures damage { (damage : Damage) → result ≡ Err (Damaged damage) → damage.area ≡ Log }
-        ensures reads { result ≢ Err DiskFault }
-        ensures asked { result ≡ Err NoMemory → MayWantMemory self.old.chain item.now }
-        ensures most { steps.new ≤ steps.old + (moves_for self.old.chain item.now - 1) }
+        ensures asked { result ≡ Err NoMemory → MayWantMemory self.now.chain item.now }
+        ensures most { steps.new ≤ steps.old + (moves_for self.now.chain item.now - 1) }
     {
         match BlockView::read(item) {
             None => Ok((state, Decision::Stays(Verdict::Refused(1)))),
-            Some(block) => self.decide_block(alloc, state, &block, steps),
+            Some(block) => self.decide_block(alloc, blocks, state, &block, steps),
         }
     }
 
     /// Judges a transaction alone after the tip, by its live cells: its fee in shannons, and the cycles of its scripts.
-    pub(crate) fn check(
-        &mut self,
+    pub(crate) fn check<B: Blocks>(
+        &self,
         alloc: Global,
+        blocks: &mut B,
         state: &State,
         tx: &TxView<'_>,
     ) -> Result<(u64, u64), Judged>
-        ensures same { self.new ≡ self.old }
-        ensures passes { IsJoined self.old.chain → AreOfTip self.old.chain.blocks (rows state.now) → IfOk result (λ it. trial_on self.old.chain.spec (best_branch self.old.chain.blocks) tx.now ≡ Passes it.0 it.1) }
-        ensures broken { IsJoined self.old.chain → AreOfTip self.old.chain.blocks (rows state.now) → (rule : Rule) → result ≡ Err (Broken rule)
-            → trial_on self.old.chain.spec (best_branch self.old.chain.blocks) tx.now ≡ Refused (rule_number rule) }
-        ensures undamaged { IsJoined self.old.chain → AreOfTip self.old.chain.blocks (rows state.now) → (damage : Damage) → result ≡ Err (Read (Damaged damage)) → ⊥ }
-        ensures damage { (damage : Damage) → result ≡ Err (Read (Damaged damage)) → damage.area ≡ Log }
-        ensures reads { result ≢ Err (Read DiskFault) }
+        requires counts { B.count blocks.old ≡ length self.now.chain.blocks }
+        ensures read { HasRead B.told B.count B.loans_of B.faults B.damages blocks.old blocks.new (read_stop_of result) }
+        ensures passes { TellsJoined self.now (B.told blocks.old) → AreOfTip self.now.chain.blocks (rows state.now) → IfOk result (λ it. trial_on self.now.chain.spec (best_branch self.now.chain.blocks) tx.now ≡ Passes it.0 it.1) }
+        ensures broken { TellsJoined self.now (B.told blocks.old) → AreOfTip self.now.chain.blocks (rows state.now) → (rule : Rule) → result ≡ Err (Broken rule)
+            → trial_on self.now.chain.spec (best_branch self.now.chain.blocks) tx.now ≡ Refused (rule_number rule) }
+        ensures undamaged { TellsJoined self.now (B.told blocks.old) → AreOfTip self.now.chain.blocks (rows state.now) → (damage : Damage) → result ≡ Err (Read (Damaged damage)) → ⊥ }
     {
         let context = Context {
             spec: &self.spec,
@@ -302,6 +302,6 @@ impl Kept {
             cells: state,
             parent: self.tree.tip(),
         };
-        dry_run(alloc, &context, &mut self.blocks, tx)
+        dry_run(alloc, &context, blocks, tx)
     }
 }

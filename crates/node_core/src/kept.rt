@@ -1,4 +1,4 @@
-// The kept blocks in memory, and how the live cells of the tip grow.
+// What is kept, and how the live cells of the tip grow.
 ghost use Rattle.std.specs.Prelude.{◌≡◌, ◌≢◌, ◌≤◌, ◌<◌, ◌+◌, ◌++◌, ◌∷◌, ◌^◌, [], ℕ, List, length, Some, None, Err, IfOk, OnOk};
 ghost use Rattle.codec_defs.specs.Shape.{decoded};
 ghost use Rattle.codec_defs.specs.Schema as schema;
@@ -23,7 +23,7 @@ ghost use Rattle.node_core.specs.Judging.{IsReady, is_above, place_for};
 ghost use Rattle.node_core.specs.declared.deciding.Decision.TheVariants.{Joins};
 
 use crate::deciding::Joining;
-use cell_model::ListBlocks;
+use crate::recorded::Recorded;
 use cell_state::{State, outputs_in};
 use chain_tree::{Entry, Tree};
 use epochs::Spec;
@@ -35,12 +35,12 @@ use std::marker::Model;
 use std::sync::ledger::Ledger;
 use uncle_rules::Uncles;
 
-/// The kept blocks with their exts, and all that is looked up in them. Clauses see the chain and the exts.
+/// All that is looked up of the kept blocks; their bytes lie on the disk. Clauses see the chain, the exts and the entries.
 // At an exit it is dropped by a call, which is one step of the proof; else each of its fields, and theirs, is one.
 #[derive(Drop)]
 pub(crate) struct Kept {
     pub(crate) spec: Spec,
-    pub(crate) blocks: ListBlocks,
+    pub(crate) blocks: Recorded,
     pub(crate) tree: Tree,
     pub(crate) uncles: Uncles,
 }
@@ -50,7 +50,7 @@ impl Model for Kept {
 
     ghost Value = { KeptValue };
 
-    ghost view = { λ kept. kept_of kept.spec kept.blocks.stored };
+    ghost view = { λ kept. kept_of kept.spec kept.blocks.stored kept.tree.entries };
 
     ghost invariant = { λ kept. AreKept kept.blocks.stored kept.tree.entries kept.uncles };
 }
@@ -131,14 +131,15 @@ impl Kept {
         alloc: Global,
         state: State,
         item: &[u8],
-        ext: Vec<u8>,
+        ext: &[u8],
         rec: Rec,
         joining: Joining,
         steps: &mut Steps<L>,
     ) -> Result<(Kept, State), ReadStop>
         requires canonical { (b : Block) × (decoded schema.block item.now ≡ Some b) × IsReady self.chain.blocks b joining }
-        requires ext { IsExtFor item.now ext.items }
-        ensures kept { (b : Block) → decoded schema.block item.now ≡ Some b → IfOk result (λ it. it.0 ≡ kept_with self b ext.items) }
+        requires ext { IsExtFor item.now ext.now }
+        ensures kept { (b : Block) → decoded schema.block item.now ≡ Some b
+            → IfOk result (λ it. it.0 ≡ kept_with self b ext.now (record joining.entry { at = rec.at; len = rec.len })) }
         ensures live { AreOfFound self.chain.blocks (place_for self.chain.blocks (Joins joining)) (rows state)
             → IfOk result (λ it. AreOfTip it.0.chain.blocks (rows it.1)) }
         ensures undamaged { (b : Block) → decoded schema.block item.now ≡ Some b → IsJoined self.chain → MayJoin self.chain.spec self.chain.blocks b
@@ -176,7 +177,6 @@ impl Kept {
             &mut tree,
             &mut uncles,
             &block,
-            item,
             ext,
             entry,
         ) {
@@ -205,7 +205,8 @@ impl Kept {
 
     /// The tree of the kept blocks.
     pub(crate) fn tree(&self) -> &Tree
-        ensures { IndexesBlocks self.now.chain.blocks result.now.entries }
+        ensures entries { result.now.entries ≡ self.now.entries }
+        ensures indexed { IndexesBlocks self.now.chain.blocks result.now.entries }
     {
         &self.tree
     }
@@ -224,25 +225,20 @@ pub(crate) fn take_uncles(
     Ok(())
 }
 
-/// Puts an item with its ext after the others, and its block's entry and uncles.
+/// Puts a block with its ext after the others: what clauses see of it, its entry and its uncles.
 fn put(
     alloc: Global,
-    blocks: &mut ListBlocks,
+    blocks: &mut Recorded,
     tree: &mut Tree,
     uncles: &mut Uncles,
     block: &BlockView<'_>,
-    item: &[u8],
-    ext: Vec<u8>,
+    ext: &[u8],
     entry: Entry,
 ) -> Result<(), NoMemory>
-    requires few { length blocks.old.stored + 1 < 2 ^ 32 }
     requires fewer { length tree.old.entries + 1 < 2 ^ 32 }
-    requires canonical { IsCanonical item.now }
-    requires ext { 0 < length blocks.old.stored → IsExtFor item.now ext.items }
     requires parent { FollowsParent tree.old.entries entry }
     requires new { place_of_hash tree.old.entries entry.hash ≡ None }
-    ensures blocks { (b : Block) → decoded schema.block item.now ≡ Some b
-        → OnOk result (blocks.new.stored ≡ blocks.old.stored ++ record { block = b; ext = ext.items } ∷ []) }
+    ensures blocks { OnOk result (blocks.new.stored ≡ blocks.old.stored ++ record { block = block.now; ext = ext.now } ∷ []) }
     ensures entries { OnOk result (tree.new.entries ≡ tree.old.entries ++ entry ∷ []) }
     ensures indexed { (kept : List Block) (b : Block) → IndexesBlocks kept tree.old.entries → Describes b entry
         → place_of kept b.header.parent_hash ≡ Some entry.parent → OnOk result (IndexesBlocks (kept ++ b ∷ []) tree.new.entries) }
@@ -257,11 +253,7 @@ fn put(
         Ok(()) => {}
         Err(_) => return Err(NoMemory),
     }
-    let copy = match item.to_vec(alloc) {
-        Ok(copy) => copy,
-        Err(_) => return Err(NoMemory),
-    };
-    match blocks.push(alloc, copy, ext) {
+    match blocks.push(alloc, block, ext) {
         Ok(()) => {}
         Err(_) => return Err(NoMemory),
     }

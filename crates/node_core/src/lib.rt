@@ -13,11 +13,13 @@
 mod area;
 mod deciding;
 mod entry;
+mod gathering;
 mod kept;
 mod new_store;
 mod node;
-mod opening;
+mod over_disk;
 mod queries;
+mod recorded;
 
 pub use block_judge::Judged;
 pub use log_file::LogStop;

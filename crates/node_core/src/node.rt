@@ -1,5 +1,5 @@
-// A node: the kept blocks of a store, in memory and on their disk.
-ghost use Rattle.std.specs.Prelude.{◌≡◌, ◌≢◌, ◌⊎◌, ◌<◌, ◌≤◌, ◌+◌, ◌-◌, ◌^◌, ◌++◌, ◌∷◌, [], ℕ, false, Err, List, Some, length, drop, slice_index, IfOk, IsOk, IfErr, OnOk, OnErr, IfSome, IsTrue, pos};
+// A node: what is kept of a store, and its disk.
+ghost use Rattle.std.specs.Prelude.{◌≡◌, ◌≢◌, ◌⊎◌, ◌<◌, ◌≤◌, ◌+◌, ◌-◌, ◌^◌, ◌++◌, ◌∷◌, [], ℕ, false, Err, List, Some, length, drop, slice_index, IfOk, IfErr, OnOk, IfSome, IsSome, IsTrue, pos};
 ghost use Rattle.std.specs.Option.{option_map};
 ghost use Rattle.outside.specs.Causes.{CountsFault};
 ghost use Rattle.outside.specs.Disk.{HasOneImage, OthersRead, LeavesOnly, IsOnlyRead};
@@ -17,9 +17,12 @@ ghost use Rattle.chain_defs.specs.Tip as tips;
 ghost use Rattle.chain_defs.specs.Tip.{tip_place, best_branch};
 ghost use Rattle.cell_defs.specs.Ext.{ext_bytes, is_ext, count_at};
 ghost use Rattle.cell_state.specs.State.{rows};
+ghost use Rattle.reorg.specs.Moves.{AreOf};
 ghost use Rattle.chain_tree.specs.Blocks.{Describes, IndexesBlocks};
+ghost use Rattle.chain_tree.specs.Reading.{stop_of};
 ghost use Rattle.rule_names.specs.Number.{rule_number};
 ghost use Rattle.rule_names.specs.declared.rule.Rule.{Rule};
+ghost use Rattle.block_judge.specs.Stops.{read_stop_of};
 ghost use Rattle.block_judge.specs.declared.stop.Judged.TheVariants.{Broken, Read};
 ghost use Rattle.verdict_defs.specs.Chain.{Chain, verdict_over, chain_after};
 ghost use Rattle.verdict_defs.specs.Verdict.{joins};
@@ -27,9 +30,11 @@ ghost use Rattle.verdict_defs.specs.Trial.{trial_on};
 ghost use Rattle.verdict_defs.specs.declared.trial.Trial.TheVariants.{Passes, Refused};
 ghost use Rattle.log_defs.specs.Log.{Record, records_of, end_of_log};
 ghost use Rattle.log_defs.specs.Rest.{IsSettled};
-ghost use Rattle.store_defs.specs.Store.{Keeps, store_of, StandsFor, IsSound, IsJoined, HaveOwnExts, AreJoined};
+ghost use Rattle.store_defs.specs.Store.{Keeps, store_of, StandsFor, IsSound, HaveOwnExts, AreJoined};
 ghost use Rattle.log_file.specs.Pieces.{behind_gate, block_record};
-ghost use Rattle.node_core.specs.Node.{IsOn, IsLeftByOpening, IsLeftByImport, IsSettledAfter, IsWithin, AreOfFound, AreOfTip, node_of};
+ghost use Rattle.log_file.specs.declared.stop.LogStop.TheVariants as log_stops;
+ghost use Rattle.node_core.specs.Node.{node_of, IsItsOwn, IsSoundNode, IsSoundOn, IsOnlyImage, IsOn, LeavesAll, IsLeftByOpening, IsLeftByImport, IsSettledAfter, IsWithin, AreOfFound, AreOfTip};
+ghost use Rattle.node_core.specs.Opening.{LeavesStore, IsReadFrom};
 ghost use Rattle.node_core.specs.Steps.{moves_for, moves_to_open};
 ghost use Rattle.node_core.specs.Judging.{IsReadyItem, IsDecided, MayWantMemory, place_for};
 ghost use Rattle.node_core.specs.Queries.{IsHeaderAt, IsBlockAt, IsLiveCell, IsFetched};
@@ -37,10 +42,12 @@ ghost use Rattle.node_core.specs.declared.deciding.Decision.TheVariants.{Joins};
 
 use crate::area::sync_snapshots;
 use crate::deciding::{Decision, Joining};
+use crate::gathering::Gathering;
 use crate::kept::Kept;
-use crate::opening::Gathered;
+use crate::over_disk;
 use crate::queries::{Fetched, HeaderAt, Live};
 use block_judge::Judged;
+use block_store::{Cache, KeptBody};
 use cell_model::{Ext, OutPoint};
 use cell_state::State;
 use chain_tree::{Entry, Tree};
@@ -87,8 +94,11 @@ fn fill(alloc: Global, body: &mut Body, item: &[u8], ext: &Ext) -> Result<Vec<u8
     Ok(bytes)
 }
 
-/// The kept blocks of a store, and the live cells of the tip. Clauses see their chain, their exts, and where the records of
-/// its log end. The cells are the tip's where all that is kept has joined, each block with its own ext beside it.
+/// The most blocks whose bytes are held in memory: those that were used last.
+const HELD: usize = 64;
+
+/// What is kept of a store, and the live cells of the tip. The bytes of its blocks lie on the disk. Clauses see the chain, the
+/// exts, the entries, where the records of its log end, the live cells, and what is held in memory.
 #[derive(Drop)]
 pub struct Node {
     kept: Kept,
@@ -96,25 +106,78 @@ pub struct Node {
     log: Log,
     /// The record that is put after the others next.
     body: Body,
+    cache: Cache,
 }
 
 impl Model for Node {
     ghost use Rattle.std.specs.Prelude.{◌≤◌, length};
     ghost use Rattle.chain_defs.specs.Kept.{kept_limit};
-    ghost use Rattle.cell_state.specs.State.{rows};
-    ghost use Rattle.store_defs.specs.Store.{AreJoined};
-    ghost use Rattle.node_core.specs.Node.{NodeValue, node_of, IsWithin, AreOfTip};
+    ghost use Rattle.node_core.specs.Node.{NodeValue, node_of, IsWithin};
 
     ghost Value = { NodeValue };
 
-    ghost view = { λ node. node_of node.kept node.log.place };
+    ghost view = { λ node. node_of node.kept node.log.place node.state node.cache };
 
-    ghost invariant = { λ node. (length node.kept.chain.blocks ≤ kept_limit) × IsWithin (length node.kept.chain.blocks) node.log.place
-        × (AreJoined node.kept.chain node.kept.exts → AreOfTip node.kept.chain.blocks (rows node.state)) };
+    ghost invariant = { λ node. (length node.kept.chain.blocks ≤ kept_limit) × IsWithin (length node.kept.chain.blocks) node.log.place };
+}
+
+/// Why a log is not opened where the live cells did not reach the tip.
+fn stop_of_move(stop: ReadStop) -> LogStop
+    ensures damaged { result ≡ log_stops.NotAStore → (damage : Damage) × (stop ≡ Damaged damage) }
+    ensures fault { (result ≡ log_stops.DiskFault → stop ≡ DiskFault) × (stop ≡ DiskFault → result ≡ log_stops.DiskFault) }
+{
+    match stop {
+        ReadStop::Damaged(_) => LogStop::NotAStore,
+        ReadStop::DiskFault => LogStop::DiskFault,
+        ReadStop::NoMemory => LogStop::NoMemory,
+    }
+}
+
+/// Reads the store on a disk: a node whose live cells are those that the genesis leaves.
+fn read_store<D: Disk>(alloc: Global, disk: &mut D) -> Result<Node, LogStop>
+    ensures left { LeavesStore D.reads_as D.images D.moment D.left_since disk.old disk.new }
+    ensures read { IfOk result (λ node. IfSome (D.reads_as disk.old) (IsReadFrom node (D.reads_as disk.new) (D.images disk.new))) }
+    ensures cells { IfOk result (λ node. AreOf node.chain.blocks 0 (rows node.cells)) }
+    ensures not_a_store { result ≡ Err LogStop.NotAStore → IfSome (D.reads_as disk.old) (λ now. IsSound now → ⊥) }
+    ensures one_image { OnOk result (HasOneImage (D.reads_as disk.new) (D.images disk.new)) }
+    ensures image { ((image : Image) → D.images disk.old image → IsSound image)
+        → IfOk result (λ node. IfSome (D.reads_as disk.old) (λ _. IsOnlyImage node.chain (D.reads_as disk.new) (D.images disk.new))) }
+    ensures cause { CountsFault (D.faults disk.old) (D.faults disk.new) (result ≡ Err LogStop.DiskFault) }
+{
+    match sync_snapshots(disk) {
+        Ok(()) => {}
+        Err(_) => return Err(LogStop::DiskFault),
+    }
+    let mut gathering = Gathering::new(alloc);
+    let opened = match log_file::open(alloc, disk, &mut gathering) {
+        Ok(opened) => opened,
+        Err(stop) => {
+            drop(gathering);
+            return Err(stop);
+        }
+    };
+    let log = opened.log;
+    let (kept, state) = match gathering.into_kept(opened.spec, opened.tree) {
+        Ok(kept) => kept,
+        Err(stop) => return Err(stop),
+    };
+    match Cache::new(alloc, HELD) {
+        Ok(cache) => Ok(Node {
+            kept,
+            state,
+            log,
+            body: Body::new(alloc),
+            cache,
+        }),
+        Err(_) => {
+            drop((kept, state));
+            Err(LogStop::NoMemory)
+        }
+    }
 }
 
 /// Keeps an item that can join, and puts its record on the disk after the others: a node of these kept blocks, live cells,
-/// log and body. The cells stand where they were left when it was judged.
+/// log, body and cache. The cells stand where they were left when it was judged.
 fn join<D: Disk, L: Ledger>(
     alloc: Global,
     disk: &mut D,
@@ -122,21 +185,23 @@ fn join<D: Disk, L: Ledger>(
     state: State,
     log: Log,
     mut body: Body,
+    mut cache: Cache,
     item: &[u8],
     joining: Joining,
     steps: &mut Steps<L>,
 ) -> Result<Node, ReadStop>
     requires size { length item.now < 2 ^ 31 }
-    requires there { IfSome (D.reads_as disk.old) (λ image. log.place < length image.log) }
+    requires own { IsItsOwn (node_of kept log.place state cache) (D.reads_as disk.old) (D.images disk.old) }
     requires within { IsWithin (length kept.chain.blocks) log.place }
     requires ready { IsReadyItem kept.chain item.now (Joins joining) }
-    requires cells { AreJoined kept.chain kept.exts → AreOfFound kept.chain.blocks (place_for kept.chain.blocks (Joins joining)) (rows state) }
+    ensures own { IfOk result (λ node. IsItsOwn node (D.reads_as disk.new) (D.images disk.new)) }
     ensures kept { IsDecided kept.chain item.now (Joins joining) → IfOk result (λ node. node.chain ≡ chain_after kept.chain item.now) }
-    ensures there { IfOk result (λ node. IfSome (D.reads_as disk.new) (λ image. node.place < length image.log)) }
-    ensures own { IsDecided kept.chain item.now (Joins joining) → HaveOwnExts kept.chain kept.exts → IfOk result (λ node. HaveOwnExts node.chain node.exts) }
-    ensures on { IsDecided kept.chain item.now (Joins joining) → IsOn (node_of kept log.place) (D.reads_as disk.old) (D.images disk.old)
-        → IfOk result (λ node. IsOn node (D.reads_as disk.new) (D.images disk.new)) }
-    ensures moments { IsDecided kept.chain item.now (Joins joining) → IsOn (node_of kept log.place) (D.reads_as disk.old) (D.images disk.old)
+    ensures exts { IsDecided kept.chain item.now (Joins joining) → HaveOwnExts kept.chain kept.exts → IfOk result (λ node. HaveOwnExts node.chain node.exts) }
+    ensures live { AreOfFound kept.chain.blocks (place_for kept.chain.blocks (Joins joining)) (rows state)
+        → IfOk result (λ node. AreOfTip node.chain.blocks (rows node.cells)) }
+    ensures image { IsDecided kept.chain item.now (Joins joining) → IsOnlyImage kept.chain (D.reads_as disk.old) (D.images disk.old)
+        → IfOk result (λ node. IsOnlyImage node.chain (D.reads_as disk.new) (D.images disk.new)) }
+    ensures moments { IsDecided kept.chain item.now (Joins joining) → IsOnlyImage kept.chain (D.reads_as disk.old) (D.images disk.old)
         → LeavesOnly D.moment D.left_since disk.old disk.new (λ image. StandsFor kept.chain image ⊎ StandsFor (chain_after kept.chain item.now) image) }
     ensures settled { (records : List Record) → IsSettled log.place records (D.reads_as disk.old) (D.images disk.old)
         → IfOk result (λ node. IsSettled node.place (records ++ block_record item.now (ext_bytes joining.ext) ∷ []) (D.reads_as disk.new) (D.images disk.new)) }
@@ -144,7 +209,9 @@ fn join<D: Disk, L: Ledger>(
         → LeavesOnly D.moment D.left_since disk.old disk.new (IsLeftByImport log.place records item.now (D.images disk.old)) }
     ensures others { OthersRead log_area (D.reads_as disk.old) (D.reads_as disk.new) }
     ensures untouched { IfErr result (λ stop. stop ≢ DiskFault → disk.new ≡ disk.old) }
-    ensures undamaged { IsDecided kept.chain item.now (Joins joining) → AreJoined kept.chain kept.exts → (damage : Damage) → result ≡ Err (Damaged damage) → ⊥ }
+    ensures undamaged { IsDecided kept.chain item.now (Joins joining) → AreJoined kept.chain kept.exts
+        → AreOfFound kept.chain.blocks (place_for kept.chain.blocks (Joins joining)) (rows state)
+        → (damage : Damage) → result ≡ Err (Damaged damage) → ⊥ }
     ensures damage { (damage : Damage) → result ≡ Err (Damaged damage) → damage.area ≡ log_area }
     ensures cause { CountsFault (D.faults disk.old) (D.faults disk.new) (result ≡ Err DiskFault) }
     ensures most { steps.new ≤ steps.old + 1 }
@@ -152,18 +219,36 @@ fn join<D: Disk, L: Ledger>(
     let ext = match fill(alloc, &mut body, item, &joining.ext) {
         Ok(ext) => ext,
         Err(_) => {
-            drop((kept, state));
+            drop((kept, state, cache));
             return Err(ReadStop::NoMemory);
         }
     };
     let rec = rec_behind(&log, &body);
-    let (kept, state) = match kept.join(alloc, state, item, ext, rec, joining, steps) {
-        Ok(joined) => joined,
-        Err(stop) => return Err(stop),
+    let held = match KeptBody::of(alloc, item, &ext) {
+        Ok(held) => held,
+        Err(_) => {
+            drop((kept, state, cache));
+            return Err(ReadStop::NoMemory);
+        }
     };
+    let place = kept.tree.len();
+    let (kept, state) = match kept.join(alloc, state, item, &ext, rec, joining, steps) {
+        Ok(joined) => joined,
+        Err(stop) => {
+            drop((cache, held));
+            return Err(stop);
+        }
+    };
+    match cache.put(place, held) {
+        Ok(()) => {}
+        Err(_) => {
+            drop((kept, state, cache));
+            return Err(ReadStop::NoMemory);
+        }
+    }
     match append(log, disk, &body) {
         Err(_) => {
-            drop((kept, state));
+            drop((kept, state, cache));
             Err(ReadStop::DiskFault)
         }
         Ok((log, _)) => Ok(Node {
@@ -171,14 +256,16 @@ fn join<D: Disk, L: Ledger>(
             state,
             log,
             body,
+            cache,
         }),
     }
 }
 
 impl Node {
-    /// Opens the store on a disk: its live cells go from the genesis to the tip. After `Ok` a crash leaves each area as it reads. Also a
-    /// log whose blocks have not joined may be answered as no store. Whatever is answered, a crash leaves what it might
-    /// have left before, or a log that says what it said.
+    /// Opens the store on a disk. LOG is read once, from front to back; then the live cells go from the genesis to the tip, by
+    /// the blocks of its branch. After `Ok` a crash leaves each area as it reads. Also a log whose blocks have not joined may
+    /// be answered as no store. Whatever is answered, a crash leaves what it might have left before, or a log that says what
+    /// it said.
     pub fn open<D: Disk, L: Ledger>(
         alloc: Global,
         disk: &mut D,
@@ -190,7 +277,7 @@ impl Node {
             → IsOnlyRead D.reads_as D.images D.moment D.left_since disk.old disk.new }
         ensures rests { (now : Image) → D.reads_as disk.old ≡ Some now → slice_index now.log (end_of_log now.log) ≢ 1
             → IsOnlyRead D.reads_as D.images D.moment D.left_since disk.old disk.new }
-        ensures there { IfOk result (λ node. IfSome (D.reads_as disk.new) (λ image. node.place < length image.log)) }
+        ensures own { IfOk result (λ node. IsItsOwn node (D.reads_as disk.new) (D.images disk.new)) }
         ensures settled { IfOk result (λ node. IfSome (D.reads_as disk.old) (λ now.
             IsSettled node.place (records_of (drop 8 now.log)) (D.reads_as disk.new) (D.images disk.new))) }
         ensures keeps { (now : Image) → D.reads_as disk.old ≡ Some now
@@ -199,32 +286,36 @@ impl Node {
         ensures one_image { OnOk result (HasOneImage (D.reads_as disk.new) (D.images disk.new)) }
         ensures on { ((image : Image) → D.images disk.old image → IsSound image)
             → IfOk result (λ node. IfSome (D.reads_as disk.old) (λ _. IsOn node (D.reads_as disk.new) (D.images disk.new))) }
-        ensures own { (now : Image) → D.reads_as disk.old ≡ Some now → IsSound now → IfOk result (λ node. HaveOwnExts node.chain node.exts) }
+        ensures sound { (now : Image) → D.reads_as disk.old ≡ Some now → IsSound now → IfOk result IsSoundNode }
         ensures moments { (now : Image) (chain : Chain) → D.reads_as disk.old ≡ Some now → store_of now ≡ Keeps chain → ((image : Image) → D.images disk.old image → IsSound image)
             → LeavesOnly D.moment D.left_since disk.old disk.new (λ image. D.images disk.old image ⊎ StandsFor chain image) }
         ensures cause { CountsFault (D.faults disk.old) (D.faults disk.new) (result ≡ Err LogStop.DiskFault) }
         ensures most { (now : Image) → D.reads_as disk.old ≡ Some now → steps.new ≤ steps.old + moves_to_open (store_of now) }
     {
-        if sync_snapshots(disk).is_err() {
-            return Err(LogStop::DiskFault);
-        }
-        let mut gathered = Gathered::new(alloc);
-        let opened = match log_file::open(alloc, disk, &mut gathered) {
-            Err(stop) => {
-                drop(gathered);
-                return Err(stop);
-            }
-            Ok(opened) => opened,
+        let node = match read_store(alloc, disk) {
+            Ok(node) => node,
+            Err(stop) => return Err(stop),
         };
-        let (blocks, exts) = gathered.into_parts();
-        match Kept::of(alloc, opened.spec, blocks, exts, opened.tree, steps) {
-            Err(stop) => Err(stop),
-            Ok((kept, state)) => Ok(Node {
+        let Node {
+            kept,
+            state,
+            log,
+            body,
+            mut cache,
+        } = node;
+        let tip = kept.tree().tip();
+        match over_disk::moved(alloc, disk, &mut cache, &kept, state, 0, tip, steps) {
+            Ok(state) => Ok(Node {
                 kept,
                 state,
-                log: opened.log,
-                body: Body::new(alloc),
+                log,
+                body,
+                cache,
             }),
+            Err(stop) => {
+                drop((kept, body, cache));
+                Err(stop_of_move(stop))
+            }
         }
     }
 
@@ -242,11 +333,11 @@ impl Node {
         steps: &mut Steps<L>,
     ) -> Result<(Node, Verdict), ReadStop>
         requires size { length item.now < 2 ^ 31 }
-        requires there { IfSome (D.reads_as disk.old) (λ image. self.place < length image.log) }
-        ensures verdict { AreJoined self.chain self.exts → IfOk result (λ answer. answer.1 ≡ verdict_over self.chain item.now) }
-        ensures kept { AreJoined self.chain self.exts → IfOk result (λ answer. answer.0.chain ≡ chain_after self.chain item.now) }
-        ensures joined { AreJoined self.chain self.exts → IfOk result (λ answer. AreJoined answer.0.chain answer.0.exts) }
-        ensures there { IfOk result (λ answer. IfSome (D.reads_as disk.new) (λ image. answer.0.place < length image.log)) }
+        requires own { IsItsOwn self (D.reads_as disk.old) (D.images disk.old) }
+        ensures own { IfOk result (λ answer. IsItsOwn answer.0 (D.reads_as disk.new) (D.images disk.new)) }
+        ensures verdict { IsSoundOn self (D.reads_as disk.old) → IfOk result (λ answer. answer.1 ≡ verdict_over self.chain item.now) }
+        ensures kept { IsSoundOn self (D.reads_as disk.old) → IfOk result (λ answer. answer.0.chain ≡ chain_after self.chain item.now) }
+        ensures sound { IsSoundOn self (D.reads_as disk.old) → IfOk result (λ answer. IsSoundNode answer.0) }
         ensures on { IsOn self (D.reads_as disk.old) (D.images disk.old) → IfOk result (λ answer. IsOn answer.0 (D.reads_as disk.new) (D.images disk.new)) }
         ensures moments { IsOn self (D.reads_as disk.old) (D.images disk.old)
             → LeavesOnly D.moment D.left_since disk.old disk.new (λ image. StandsFor self.chain image ⊎ StandsFor (chain_after self.chain item.now) image) }
@@ -255,10 +346,11 @@ impl Node {
         ensures keeps { (records : List Record) → IsSettled self.place records (D.reads_as disk.old) (D.images disk.old)
             → LeavesOnly D.moment D.left_since disk.old disk.new (IsLeftByImport self.place records item.now (D.images disk.old)) }
         ensures others { OthersRead log_area (D.reads_as disk.old) (D.reads_as disk.new) }
-        ensures still { AreJoined self.chain self.exts → joins (verdict_over self.chain item.now) ≡ false → disk.new ≡ disk.old }
-        ensures unwritten { IfOk result (λ answer. joins answer.1 ≡ false → disk.new ≡ disk.old) }
-        ensures untouched { IfErr result (λ stop. stop ≢ DiskFault → disk.new ≡ disk.old) }
-        ensures undamaged { AreJoined self.chain self.exts → (damage : Damage) → result ≡ Err (Damaged damage) → ⊥ }
+        ensures still { IsSoundOn self (D.reads_as disk.old) → joins (verdict_over self.chain item.now) ≡ false
+            → D.content_of disk.new ≡ D.content_of disk.old }
+        ensures unwritten { IfOk result (λ answer. joins answer.1 ≡ false → D.content_of disk.new ≡ D.content_of disk.old) }
+        ensures untouched { IfErr result (λ stop. stop ≢ DiskFault → D.content_of disk.new ≡ D.content_of disk.old) }
+        ensures undamaged { IsSoundOn self (D.reads_as disk.old) → (damage : Damage) → result ≡ Err (Damaged damage) → ⊥ }
         ensures damage { (damage : Damage) → result ≡ Err (Damaged damage) → damage.area ≡ log_area }
         ensures cause { CountsFault (D.faults disk.old) (D.faults disk.new) (result ≡ Err DiskFault) }
         ensures asked { result ≡ Err ReadStop.NoMemory → MayWantMemory self.chain item.now }
@@ -268,15 +360,17 @@ impl Node {
         ensures stays { IfOk result (λ answer. joins answer.1 ≡ false → steps.new ≤ steps.old + (moves_for self.chain item.now - 1)) }
     {
         let Node {
-            mut kept,
+            kept,
             state,
             log,
             body,
+            mut cache,
         } = self;
-        let (state, decision) = match kept.decide(alloc, state, item, steps) {
+        let decided = over_disk::decide(alloc, disk, &mut cache, &kept, state, item, steps);
+        let (state, decision) = match decided {
             Ok(decided) => decided,
             Err(stop) => {
-                drop((kept, log, body));
+                drop((kept, log, body, cache));
                 return Err(stop);
             }
         };
@@ -287,12 +381,15 @@ impl Node {
                     state,
                     log,
                     body,
+                    cache,
                 };
                 Ok((node, verdict))
             }
             Decision::Joins(joining) => {
                 let verdict = Verdict::Joined(joining.entry.number, joining.entry.hash);
-                match join(alloc, disk, kept, state, log, body, item, joining, steps) {
+                match join(
+                    alloc, disk, kept, state, log, body, cache, item, joining, steps,
+                ) {
                     Ok(next) => Ok((next, verdict)),
                     Err(stop) => Err(stop),
                 }
@@ -301,16 +398,21 @@ impl Node {
     }
 
     /// Judges a transaction alone after the tip: its fee in shannons, and the cycles of its scripts.
-    pub fn check(&mut self, alloc: Global, tx: &TxView<'_>) -> Result<(u64, u64), Judged>
-        ensures same { self.new ≡ self.old }
-        ensures passes { AreJoined self.old.chain self.old.exts → IfOk result (λ it. trial_on self.old.chain.spec (best_branch self.old.chain.blocks) tx.now ≡ Passes it.0 it.1) }
-        ensures broken { AreJoined self.old.chain self.old.exts → (rule : Rule) → result ≡ Err (Broken rule)
+    pub fn check<D: Disk>(
+        &mut self,
+        alloc: Global,
+        disk: &mut D,
+        tx: &TxView<'_>,
+    ) -> Result<(u64, u64), Judged>
+        requires own { IsItsOwn self.old (D.reads_as disk.old) (D.images disk.old) }
+        ensures left { LeavesAll D.content_of D.reads_as D.images D.faults disk.old disk.new self.old self.new (read_stop_of result) }
+        ensures passes { IsSoundOn self.old (D.reads_as disk.old)
+            → IfOk result (λ it. trial_on self.old.chain.spec (best_branch self.old.chain.blocks) tx.now ≡ Passes it.0 it.1) }
+        ensures broken { IsSoundOn self.old (D.reads_as disk.old) → (rule : Rule) → result ≡ Err (Broken rule)
             → trial_on self.old.chain.spec (best_branch self.old.chain.blocks) tx.now ≡ Refused (rule_number rule) }
-        ensures undamaged { AreJoined self.old.chain self.old.exts → (damage : Damage) → result ≡ Err (Read (Damaged damage)) → ⊥ }
-        ensures damage { (damage : Damage) → result ≡ Err (Read (Damaged damage)) → damage.area ≡ log_area }
-        ensures reads { result ≢ Err (Read DiskFault) }
+        ensures undamaged { IsSoundOn self.old (D.reads_as disk.old) → (damage : Damage) → result ≡ Err (Read (Damaged damage)) → ⊥ }
     {
-        self.kept.check(alloc, &self.state, tx)
+        over_disk::check(alloc, disk, &mut self.cache, &self.kept, &self.state, tx)
     }
 
     /// The height of the tip.
@@ -321,41 +423,57 @@ impl Node {
     }
 
     /// The header at a height of the best branch.
-    pub fn header(&mut self, height: u64) -> Result<Option<HeaderAt>, ReadStop>
-        ensures same { self.new ≡ self.old }
-        ensures header { IfOk result (IsHeaderAt self.old.chain.blocks height) }
-        ensures always { IsOk result }
-        ensures undamaged { (damage : Damage) → result ≡ Err (Damaged damage) → ⊥ }
-        ensures reads { result ≢ Err DiskFault }
+    pub fn header<D: Disk>(
+        &mut self,
+        alloc: Global,
+        disk: &mut D,
+        height: u64,
+    ) -> Result<Option<HeaderAt>, ReadStop>
+        requires own { IsItsOwn self.old (D.reads_as disk.old) (D.images disk.old) }
+        ensures left { LeavesAll D.content_of D.reads_as D.images D.faults disk.old disk.new self.old self.new (stop_of result) }
+        ensures header { IsSome (D.reads_as disk.old) → IfOk result (IsHeaderAt self.old.chain.blocks height) }
+        ensures undamaged { IsSome (D.reads_as disk.old) → (damage : Damage) → result ≡ Err (Damaged damage) → ⊥ }
     {
-        self.kept.header(height)
+        over_disk::header(alloc, disk, &mut self.cache, &self.kept, height)
     }
 
     /// The bytes of the block at a height of the best branch.
-    pub fn block(&mut self, alloc: Global, height: u64) -> Result<Option<Vec<u8>>, ReadStop>
-        ensures same { self.new ≡ self.old }
-        ensures block { IfOk result (λ found. IsBlockAt self.old.chain.blocks height (option_map (λ bytes. bytes.items) found)) }
-        ensures undamaged { (damage : Damage) → result ≡ Err (Damaged damage) → ⊥ }
-        ensures reads { result ≢ Err DiskFault }
+    pub fn block<D: Disk>(
+        &mut self,
+        alloc: Global,
+        disk: &mut D,
+        height: u64,
+    ) -> Result<Option<Vec<u8>>, ReadStop>
+        requires own { IsItsOwn self.old (D.reads_as disk.old) (D.images disk.old) }
+        ensures left { LeavesAll D.content_of D.reads_as D.images D.faults disk.old disk.new self.old self.new (stop_of result) }
+        ensures block { IsSome (D.reads_as disk.old)
+            → IfOk result (λ found. IsBlockAt self.old.chain.blocks height (option_map (λ bytes. bytes.items) found)) }
+        ensures undamaged { IsSome (D.reads_as disk.old) → (damage : Damage) → result ≡ Err (Damaged damage) → ⊥ }
     {
-        self.kept.block(alloc, height)
+        over_disk::block(alloc, disk, &mut self.cache, &self.kept, height)
     }
 
     /// The live cell with an out-point.
     pub fn live(&self, o: &OutPoint) -> Option<Live>
-        ensures { AreJoined self.now.chain self.now.exts → IsLiveCell self.now.chain.blocks o.now result }
+        ensures { AreOfTip self.now.chain.blocks (rows self.now.cells) → IsLiveCell self.now.chain.blocks o.now result }
     {
         self.kept.live(&self.state, o)
     }
 
     /// The live cell with an out-point, with a copy of its bytes.
-    pub fn fetch(&mut self, alloc: Global, o: OutPoint) -> Result<Option<Fetched>, ReadStop>
-        ensures same { self.new ≡ self.old }
-        ensures fetched { AreJoined self.old.chain self.old.exts → IfOk result (IsFetched self.old.chain.blocks o) }
-        ensures undamaged { AreJoined self.old.chain self.old.exts → (damage : Damage) → result ≡ Err (Damaged damage) → ⊥ }
-        ensures reads { result ≢ Err DiskFault }
+    pub fn fetch<D: Disk>(
+        &mut self,
+        alloc: Global,
+        disk: &mut D,
+        o: OutPoint,
+    ) -> Result<Option<Fetched>, ReadStop>
+        requires own { IsItsOwn self.old (D.reads_as disk.old) (D.images disk.old) }
+        ensures left { LeavesAll D.content_of D.reads_as D.images D.faults disk.old disk.new self.old self.new (stop_of result) }
+        ensures fetched { AreOfTip self.old.chain.blocks (rows self.old.cells) → IsSome (D.reads_as disk.old) → IfOk result (IsFetched self.old.chain.blocks o) }
+        ensures undamaged { AreOfTip self.old.chain.blocks (rows self.old.cells) → IsSome (D.reads_as disk.old)
+            → (damage : Damage) → result ≡ Err (Damaged damage) → ⊥ }
     {
-        self.kept.fetch(alloc, &self.state, o)
+        over_disk::fetch(alloc, disk, &mut self.cache, &self.kept, &self.state, o)
     }
 
     /// What a cell of this capacity and occupied capacity counts, in shannons, that was deposited at a height of the best
@@ -388,14 +506,15 @@ impl Node {
 
     /// The tree of the kept blocks.
     pub fn tree(&self) -> &Tree
-        ensures { IndexesBlocks self.now.chain.blocks result.now.entries }
+        ensures entries { result.now.entries ≡ self.now.entries }
+        ensures indexed { IndexesBlocks self.now.chain.blocks result.now.entries }
     {
         self.kept.tree()
     }
 
-    /// The live cells of the tip.
+    /// The live cells of the tip, where the node is sound.
     pub fn state(&self) -> &State
-        ensures { AreJoined self.now.chain self.now.exts → AreOfTip self.now.chain.blocks (rows result.now) }
+        ensures { result.now ≡ self.now.cells }
     {
         &self.state
     }

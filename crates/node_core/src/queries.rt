@@ -12,7 +12,8 @@ ghost use Rattle.outside.specs.declared.disk.Area.TheVariants.{Log};
 ghost use Rattle.outside.specs.declared.disk.Damage.{Damage as a_damage};
 ghost use Rattle.outside.specs.declared.disk.ReadStop.TheVariants.{DiskFault, Damaged};
 ghost use Rattle.cell_state.specs.State.{rows};
-ghost use Rattle.node_core.specs.Node.{AreOfTip};
+ghost use Rattle.chain_tree.specs.Reading.{HasRead, stop_of};
+ghost use Rattle.node_core.specs.Node.{stored_of, AreOfTip};
 ghost use Rattle.node_core.specs.Queries.{IsHeaderAt, IsBlockAt, IsLiveCell, IsFetched};
 
 use crate::kept::Kept;
@@ -125,41 +126,50 @@ impl Kept {
     }
 
     /// The header at a height of the best branch.
-    pub(crate) fn header(&mut self, height: u64) -> Result<Option<HeaderAt>, ReadStop>
-        ensures same { self.new ≡ self.old }
-        ensures header { IfOk result (IsHeaderAt self.old.chain.blocks height) }
-        ensures always { IsOk result }
-        ensures undamaged { (damage : a_damage) → result ≡ Err (Damaged damage) → ⊥ }
-        ensures reads { result ≢ Err DiskFault }
+    pub(crate) fn header<B: Blocks>(
+        &self,
+        blocks: &mut B,
+        height: u64,
+    ) -> Result<Option<HeaderAt>, ReadStop>
+        requires counts { B.count blocks.old ≡ length self.now.chain.blocks }
+        ensures read { HasRead B.told B.count B.loans_of B.faults B.damages blocks.old blocks.new (stop_of result) }
+        ensures header { B.told blocks.old ≡ Some (stored_of self.now) → IfOk result (IsHeaderAt self.now.chain.blocks height) }
+        ensures undamaged { IsSome (B.told blocks.old) → (damage : a_damage) → result ≡ Err (Damaged damage) → ⊥ }
     {
         let Some(place) = self.place_at(height) else {
             return Ok(None);
         };
-        match self.blocks.bring(place) {
+        match blocks.bring(place) {
             Ok(()) => {}
             Err(stop) => return Err(stop),
         }
         Ok(Some(HeaderAt {
             hash: self.tree.entry(place).hash,
-            bytes: header_of(&self.blocks.block()),
+            bytes: header_of(&blocks.block()),
         }))
     }
 
     /// The bytes of the block at a height of the best branch.
-    pub(crate) fn block(&mut self, alloc: Global, height: u64) -> Result<Option<Vec<u8>>, ReadStop>
-        ensures same { self.new ≡ self.old }
-        ensures block { IfOk result (λ found. IsBlockAt self.old.chain.blocks height (option_map (λ bytes. bytes.items) found)) }
-        ensures undamaged { (damage : a_damage) → result ≡ Err (Damaged damage) → ⊥ }
-        ensures reads { result ≢ Err DiskFault }
+    pub(crate) fn block<B: Blocks>(
+        &self,
+        alloc: Global,
+        blocks: &mut B,
+        height: u64,
+    ) -> Result<Option<Vec<u8>>, ReadStop>
+        requires counts { B.count blocks.old ≡ length self.now.chain.blocks }
+        ensures read { HasRead B.told B.count B.loans_of B.faults B.damages blocks.old blocks.new (stop_of result) }
+        ensures block { B.told blocks.old ≡ Some (stored_of self.now)
+            → IfOk result (λ found. IsBlockAt self.now.chain.blocks height (option_map (λ bytes. bytes.items) found)) }
+        ensures undamaged { IsSome (B.told blocks.old) → (damage : a_damage) → result ≡ Err (Damaged damage) → ⊥ }
     {
         let Some(place) = self.place_at(height) else {
             return Ok(None);
         };
-        match self.blocks.bring(place) {
+        match blocks.bring(place) {
             Ok(()) => {}
             Err(stop) => return Err(stop),
         }
-        let Ok(bytes) = self.blocks.block().bytes().to_vec(alloc) else {
+        let Ok(bytes) = blocks.block().bytes().to_vec(alloc) else {
             return Err(ReadStop::NoMemory);
         };
         Ok(Some(bytes))
@@ -183,22 +193,25 @@ impl Kept {
     }
 
     /// The live cell with an out-point, by the live cells of the tip, with a copy of its bytes.
-    pub(crate) fn fetch(
-        &mut self,
+    pub(crate) fn fetch<B: Blocks>(
+        &self,
         alloc: Global,
+        blocks: &mut B,
         state: &State,
         o: OutPoint,
     ) -> Result<Option<Fetched>, ReadStop>
-        ensures same { self.new ≡ self.old }
-        ensures fetched { AreOfTip self.old.chain.blocks (rows state.now) → IfOk result (IsFetched self.old.chain.blocks o) }
-        ensures undamaged { AreOfTip self.old.chain.blocks (rows state.now) → (damage : a_damage) → result ≡ Err (Damaged damage) → ⊥ }
-        ensures reads { result ≢ Err DiskFault }
+        requires counts { B.count blocks.old ≡ length self.now.chain.blocks }
+        ensures read { HasRead B.told B.count B.loans_of B.faults B.damages blocks.old blocks.new (stop_of result) }
+        ensures fetched { B.told blocks.old ≡ Some (stored_of self.now) → AreOfTip self.now.chain.blocks (rows state.now)
+            → IfOk result (IsFetched self.now.chain.blocks o) }
+        ensures undamaged { B.told blocks.old ≡ Some (stored_of self.now) → AreOfTip self.now.chain.blocks (rows state.now)
+            → (damage : a_damage) → result ≡ Err (Damaged damage) → ⊥ }
     {
         let Some(live) = self.live(state, &o) else {
             return Ok(None);
         };
         let Live { meta, height } = live;
-        let copy = match fetch(alloc, &mut self.blocks, o, meta) {
+        let copy = match fetch(alloc, blocks, o, meta) {
             Ok(copy) => copy,
             Err(stop) => return Err(stop),
         };

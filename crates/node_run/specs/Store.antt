@@ -1,5 +1,6 @@
 -- What a command delivers of a store.
 use Rattle.std.specs.Prelude.{◌≡◌, ℕ, List, [], ◌∷◌, Option, Some}
+use Rattle.outside.specs.Causes.{CountsFault}
 use Rattle.outside.specs.Image.{Image}
 use Rattle.verdict_defs.specs.Chain.{Chain}
 use Rattle.store_defs.specs.Store.{Store}
@@ -21,7 +22,12 @@ pub record Delivers (command : Command) (reads : Option Image) (at_start at_exit
   pub order : (store : Store) → Finds (Some command) reads store → KeepsOrder (Some command) store given left taken status
   pub disk : (now : Image) → reads ≡ Some now → KeepsDisk (Some command) now at_start at_exit meanwhile given taken status
 
--- what stops the finding of an answer, in a store that is sound or not
+-- What a call leaves of the disk that only looks at it: all as it was, and a failure counted where it is answered.
+pub record OnlyLooks {S C : Type 0} (content_of : S → C) (faults : S → ℕ) (old new : S) (failed : Type 0) : Type 0 where
+  pub content : content_of new ≡ content_of old
+  pub cause : CountsFault (faults old) (faults new) failed
+
+-- what stops the finding of an answer by what is in memory, in a store that is sound or not
 abbrev pub finding_stops : List Status
 finding_stops = NotAStore ∷ NoMemory ∷ []
 

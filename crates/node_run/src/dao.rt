@@ -7,7 +7,8 @@ ghost use Rattle.tx_defs.specs.Withdrawals as rules;
 ghost use Rattle.cell_model.specs.Copies.{IsCopyOf};
 ghost use Rattle.outside.specs.declared.disk.Damage.{Damage};
 ghost use Rattle.outside.specs.declared.disk.ReadStop.TheVariants.{DiskFault, Damaged};
-ghost use Rattle.store_defs.specs.Store.{IsJoined, AreJoined};
+ghost use Rattle.store_defs.specs.Store.{IsJoined};
+ghost use Rattle.node_core.specs.Node.{IsItsOwn, IsSoundOn};
 ghost use Rattle.report_defs.specs.Report as reports;
 ghost use Rattle.report_defs.specs.Queries as answers;
 ghost use Rattle.report_defs.specs.Queries.{cell_at_tip};
@@ -15,7 +16,7 @@ ghost use Rattle.report_defs.specs.Text as text;
 ghost use Rattle.report_defs.specs.declared.command.Query.TheVariants as queries;
 ghost use Rattle.report_defs.specs.declared.dao.DaoState.TheVariants as states;
 ghost use Rattle.report_defs.specs.Status.{IsOneOf};
-ghost use Rattle.node_run.specs.Store.{finding_stops};
+ghost use Rattle.node_run.specs.Store.{OnlyLooks, finding_stops, opening_stops};
 ghost use Rattle.node_run.specs.Queries.{IsCopied, IsCopyFound, IsLiveIn};
 
 use crate::lines::{deposit_line, none_line, not_dao_line, withdrawing_line};
@@ -25,7 +26,7 @@ use cell_model::Resolved;
 use epochs::Spec;
 use mol_schema::{OutputView, ScriptView};
 use node_core::{Fetched, Node};
-use outside::ReadStop;
+use outside::{Disk, ReadStop};
 use report_defs::{DaoState, Status};
 use std::alloc::{AllocError, Global};
 
@@ -33,12 +34,20 @@ use std::alloc::{AllocError, Global};
 const BY_TYPE: u8 = 1;
 
 /// The line of what the live cell with an out-point counts.
-pub fn dao(alloc: Global, node: &mut Node, tx_hash: [u8; 32], index: u64) -> Result<Vec<u8>, Status>
-    ensures text { AreJoined node.old.chain node.old.exts → IfOk result (λ text. text.items ≡ reports.answer_to_query (queries.Dao tx_hash index) node.old.chain) }
-    ensures stop { (status : Status) → result ≡ Err status → IsOneOf finding_stops status }
-    ensures sound { AreJoined node.old.chain node.old.exts → result ≡ Err Status.NotAStore → ⊥ }
+pub fn dao<D: Disk>(
+    alloc: Global,
+    disk: &mut D,
+    node: &mut Node,
+    tx_hash: [u8; 32],
+    index: u64,
+) -> Result<Vec<u8>, Status>
+    requires own { IsItsOwn node.old (D.reads_as disk.old) (D.images disk.old) }
+    ensures disk { OnlyLooks D.content_of D.faults disk.old disk.new (result ≡ Err Status.DiskFault) }
+    ensures text { IsSoundOn node.old (D.reads_as disk.old) → IfOk result (λ text. text.items ≡ reports.answer_to_query (queries.Dao tx_hash index) node.old.chain) }
+    ensures stop { (status : Status) → result ≡ Err status → IsOneOf opening_stops status }
+    ensures sound { IsSoundOn node.old (D.reads_as disk.old) → result ≡ Err Status.NotAStore → ⊥ }
 {
-    let found = match fetch_cell(alloc, node, tx_hash, index) {
+    let found = match fetch_cell(alloc, disk, node, tx_hash, index) {
         Ok(found) => found,
         Err(status) => return Err(status),
     };
@@ -49,21 +58,24 @@ pub fn dao(alloc: Global, node: &mut Node, tx_hash: [u8; 32], index: u64) -> Res
 }
 
 /// The live cell with an out-point, with a copy of its bytes.
-fn fetch_cell(
+fn fetch_cell<D: Disk>(
     alloc: Global,
+    disk: &mut D,
     node: &mut Node,
     tx_hash: [u8; 32],
     index: u64,
 ) -> Result<Option<Fetched>, Status>
-    ensures same { node.new ≡ node.old }
-    ensures found { AreJoined node.old.chain node.old.exts → IfOk result (IsCopyFound (cell_at_tip node.old.chain tx_hash index)) }
-    ensures stop { (status : Status) → result ≡ Err status → IsOneOf finding_stops status }
-    ensures sound { AreJoined node.old.chain node.old.exts → result ≡ Err Status.NotAStore → ⊥ }
+    requires own { IsItsOwn node.old (D.reads_as disk.old) (D.images disk.old) }
+    ensures disk { OnlyLooks D.content_of D.faults disk.old disk.new (result ≡ Err Status.DiskFault) }
+    ensures chain { node.new.chain ≡ node.old.chain }
+    ensures found { IsSoundOn node.old (D.reads_as disk.old) → IfOk result (IsCopyFound (cell_at_tip node.old.chain tx_hash index)) }
+    ensures stop { (status : Status) → result ≡ Err status → IsOneOf opening_stops status }
+    ensures sound { IsSoundOn node.old (D.reads_as disk.old) → result ≡ Err Status.NotAStore → ⊥ }
 {
     let Some(o) = out_point(tx_hash, index) else {
         return Ok(None);
     };
-    match node.fetch(alloc, o) {
+    match node.fetch(alloc, disk, o) {
         Ok(found) => Ok(found),
         Err(stop) => Err(status_of_reading(stop)),
     }

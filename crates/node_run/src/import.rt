@@ -7,7 +7,7 @@ ghost use Rattle.log_defs.specs.Log.{Record, end_of_log};
 ghost use Rattle.log_defs.specs.Rest.{IsSettled};
 ghost use Rattle.verdict_defs.specs.Verdict.{joins};
 ghost use Rattle.verdict_defs.specs.Chain.{Chain, verdict_over, chain_after};
-ghost use Rattle.store_defs.specs.Store.{Keeps, store_of, StandsFor, AreJoined, TellsAsBefore};
+ghost use Rattle.store_defs.specs.Store.{Keeps, store_of, StandsFor, TellsAsBefore};
 ghost use Rattle.report_defs.specs.Items.{split_of};
 ghost use Rattle.report_defs.specs.Report as reports;
 ghost use Rattle.report_defs.specs.Status.{IsOneOf};
@@ -16,7 +16,7 @@ ghost use Rattle.report_defs.specs.Promise.{import_statuses};
 ghost use Rattle.report_defs.specs.Survival.{NoneJoins, GoesOn, KeepsRecords};
 ghost use Rattle.report_defs.specs.declared.command.Command.TheVariants.{Import};
 ghost use Rattle.item_reader.specs.Items.{Gave, IsNext};
-ghost use Rattle.node_core.specs.Node.{IsOn, IsLeftByImport, IsSettledAfter};
+ghost use Rattle.node_core.specs.Node.{IsItsOwn, IsSoundNode, IsSoundOn, IsOn, IsLeftByImport, IsSettledAfter};
 ghost use Rattle.node_core.specs.Steps.{moves_for, moves_to_tip, steps_over};
 ghost use Rattle.node_run.specs.Output.{Took, Transfers};
 ghost use Rattle.node_run.specs.Store.{Delivers};
@@ -78,14 +78,14 @@ fn import_item<K: Sink, D: Disk, L: Ledger>(
     steps: &mut Steps<L>,
 ) -> Result<(Node, Verdict), Status>
     requires size { length item.now < 2 ^ 31 }
-    requires there { IfSome (D.reads_as disk.old) (λ image. node.place < length image.log) }
-    ensures verdict { AreJoined node.chain node.exts → IfOk result (λ answer. answer.1 ≡ verdict_over node.chain item.now) }
-    ensures kept { AreJoined node.chain node.exts → IfOk result (λ answer. answer.0.chain ≡ chain_after node.chain item.now) }
-    ensures joined { AreJoined node.chain node.exts → IfOk result (λ answer. AreJoined answer.0.chain answer.0.exts) }
-    ensures written { Took (K.taken out.old) (K.taken out.new) (λ taken. AreJoined node.chain node.exts → IsAnswered (line_over node.chain item.now) result taken) }
+    requires own { IsItsOwn node (D.reads_as disk.old) (D.images disk.old) }
+    ensures verdict { IsSoundOn node (D.reads_as disk.old) → IfOk result (λ answer. answer.1 ≡ verdict_over node.chain item.now) }
+    ensures kept { IsSoundOn node (D.reads_as disk.old) → IfOk result (λ answer. answer.0.chain ≡ chain_after node.chain item.now) }
+    ensures sound { IsSoundOn node (D.reads_as disk.old) → IfOk result (λ answer. IsSoundNode answer.0) }
+    ensures written { Took (K.taken out.old) (K.taken out.new) (λ taken. IsSoundOn node (D.reads_as disk.old) → IsAnswered (line_over node.chain item.now) result taken) }
     ensures status { (status : Status) → result ≡ Err status → IsOneOf item_stops status }
     ensures told { TellsAsBefore (D.reads_as disk.old) (D.reads_as disk.new) }
-    ensures there { IfOk result (λ answer. IfSome (D.reads_as disk.new) (λ image. answer.0.place < length image.log)) }
+    ensures own { IfOk result (λ answer. IsItsOwn answer.0 (D.reads_as disk.new) (D.images disk.new)) }
     ensures on { IsOn node (D.reads_as disk.old) (D.images disk.old) → IfOk result (λ answer. IsOn answer.0 (D.reads_as disk.new) (D.images disk.new)) }
     ensures moments { IsOn node (D.reads_as disk.old) (D.images disk.old)
         → LeavesOnly D.moment D.left_since disk.old disk.new (λ image. StandsFor node.chain image ⊎ StandsFor (chain_after node.chain item.now) image) }
@@ -93,7 +93,7 @@ fn import_item<K: Sink, D: Disk, L: Ledger>(
         → IfOk result (λ answer. IsSettledAfter records item.now answer.1 answer.0.place (D.reads_as disk.new) (D.images disk.new)) }
     ensures keeps { (records : List Record) → IsSettled node.place records (D.reads_as disk.old) (D.images disk.old)
         → LeavesOnly D.moment D.left_since disk.old disk.new (IsLeftByImport node.place records item.now (D.images disk.old)) }
-    ensures still { AreJoined node.chain node.exts → joins (verdict_over node.chain item.now) ≡ false → disk.new ≡ disk.old }
+    ensures still { IsSoundOn node (D.reads_as disk.old) → joins (verdict_over node.chain item.now) ≡ false → D.content_of disk.new ≡ D.content_of disk.old }
     ensures out_faults { CountsFault (K.faults out.old) (K.faults out.new) (result ≡ Err Status.SinkFault) }
     ensures disk_faults { CountsFault (D.faults disk.old) (D.faults disk.new) (result ≡ Err Status.DiskFault) }
     ensures most { steps.new ≤ steps.old + moves_for node.chain item.now }
@@ -120,22 +120,22 @@ fn import_items<S: Source, K: Sink, D: Disk, L: Ledger>(
     opened: Node,
     steps: &mut Steps<L>,
 ) -> Result<Ended, Status>
-    requires there { IfSome (D.reads_as disk.old) (λ image. opened.place < length image.log) }
+    requires own { IsItsOwn opened (D.reads_as disk.old) (D.images disk.old) }
     ensures imported { Transfers (S.left input.old) (S.left input.new) (K.taken out.old) (K.taken out.new)
-        (λ given taken. AreJoined opened.chain opened.exts → AreImported opened.chain (S.left input.new) result (IsOn opened (D.reads_as disk.old) (D.images disk.old))
+        (λ given taken. IsSoundOn opened (D.reads_as disk.old) → AreImported opened.chain (S.left input.new) result (IsOn opened (D.reads_as disk.old) (D.images disk.old))
         (D.images disk.new) (LeavesOnly D.moment D.left_since disk.old disk.new) given taken) }
     ensures told { TellsAsBefore (D.reads_as disk.old) (D.reads_as disk.new) }
     ensures status { (status : Status) → result ≡ Err status → IsOneOf (Status.InputFault ∷ item_stops) status }
     ensures input_faults { CountsFault (S.faults input.old) (S.faults input.new) (result ≡ Err Status.InputFault) }
     ensures out_faults { CountsFault (K.faults out.old) (K.faults out.new) (result ≡ Err Status.SinkFault) }
     ensures disk_faults { CountsFault (D.faults disk.old) (D.faults disk.new) (result ≡ Err Status.DiskFault) }
-    ensures steps { Gave (S.left input.old) (S.left input.new) (λ given. AreJoined opened.chain opened.exts
+    ensures steps { Gave (S.left input.old) (S.left input.new) (λ given. IsSoundOn opened (D.reads_as disk.old)
         → steps.new ≤ steps.old + steps_over opened.chain (split_of reports.import_limits given).items) }
     ensures records { Gave (S.left input.old) (S.left input.new) (λ given. (records : List Record)
         → IsSettled opened.place records (D.reads_as disk.old) (D.images disk.old)
         → LeavesOnly D.moment D.left_since disk.old disk.new (λ image. GoesOn (split_of reports.import_limits given).items records image.log)) }
-    ensures still { Gave (S.left input.old) (S.left input.new) (λ given. AreJoined opened.chain opened.exts
-        → NoneJoins opened.chain (split_of reports.import_limits given).items → disk.new ≡ disk.old) }
+    ensures still { Gave (S.left input.old) (S.left input.new) (λ given. IsSoundOn opened (D.reads_as disk.old)
+        → NoneJoins opened.chain (split_of reports.import_limits given).items → D.content_of disk.new ≡ D.content_of disk.old) }
 {
     let mut node = opened;
     let mut offset = 0u64;

@@ -1,5 +1,5 @@
 // Queries: the store is asked, and nothing is read.
-ghost use Rattle.std.specs.Prelude.{◌≡◌, ◌≢◌, ◌+◌, ◌≤◌, slice_index, ◌∷◌, List, ℕ, Option, Err, Some, None, [], IfOk, string_bytes, nat_lt, if◌then◌else◌};
+ghost use Rattle.std.specs.Prelude.{◌≡◌, ◌≢◌, ◌+◌, ◌≤◌, slice_index, ◌∷◌, List, ℕ, Option, Err, Some, None, [], IfOk, string_bytes, nat_lt, if◌then◌else◌, IsSome};
 ghost use Rattle.codec_defs.specs.Shape.{IsA};
 ghost use Rattle.codec_defs.specs.Schema as schema;
 ghost use Rattle.codec_defs.specs.Schema.{Block};
@@ -8,7 +8,7 @@ ghost use Rattle.chain_defs.specs.Tip.{best_branch};
 ghost use Rattle.cell_defs.specs.Cell.{Cell};
 ghost use Rattle.outside.specs.Causes.{CountsFault};
 ghost use Rattle.log_defs.specs.Log.{end_of_log};
-ghost use Rattle.store_defs.specs.Store.{Keeps, store_of, AreJoined, TellsAsBefore};
+ghost use Rattle.store_defs.specs.Store.{Keeps, store_of, TellsAsBefore};
 ghost use Rattle.outside.specs.Disk.{IsOnlyRead};
 ghost use Rattle.verdict_defs.specs.Chain.{Chain};
 ghost use Rattle.outside.specs.Image.{Image};
@@ -20,10 +20,12 @@ ghost use Rattle.report_defs.specs.Promise.{query_statuses};
 ghost use Rattle.report_defs.specs.Survival.{KeepsRecords};
 ghost use Rattle.report_defs.specs.declared.command.Command.TheVariants as commands;
 ghost use Rattle.node_core.specs.Steps.{moves_to_open};
+ghost use Rattle.cell_state.specs.State.{rows};
+ghost use Rattle.node_core.specs.Node.{IsItsOwn, IsSoundOn, AreOfTip};
 ghost use Rattle.node_core.specs.Queries.{IsHeaderAt};
 ghost use Rattle.node_run.specs.Output.{Took};
 ghost use Rattle.node_run.specs.Queries.{IsCellFound};
-ghost use Rattle.node_run.specs.Store.{Delivers, IsQueryTold, finding_stops};
+ghost use Rattle.node_run.specs.Store.{Delivers, IsQueryTold, OnlyLooks, opening_stops};
 
 use crate::dao::dao;
 use crate::lines::{epoch_line, header_line, live_line, none_line, tip_line};
@@ -40,18 +42,25 @@ use std::alloc::{AllocError, Global};
 use std::sync::ledger::Ledger;
 
 /// Finds what a query answers over the kept blocks. Each query has a function of its own.
-fn answer_to(alloc: Global, node: &mut Node, query: Query) -> Result<Vec<u8>, Status>
-    ensures text { AreJoined node.old.chain node.old.exts → IfOk result (λ text. text.items ≡ reports.answer_to_query query node.old.chain) }
-    ensures stop { (status : Status) → result ≡ Err status → IsOneOf finding_stops status }
-    ensures sound { AreJoined node.old.chain node.old.exts → result ≡ Err Status.NotAStore → ⊥ }
+fn answer_to<D: Disk>(
+    alloc: Global,
+    disk: &mut D,
+    node: &mut Node,
+    query: Query,
+) -> Result<Vec<u8>, Status>
+    requires own { IsItsOwn node.old (D.reads_as disk.old) (D.images disk.old) }
+    ensures disk { OnlyLooks D.content_of D.faults disk.old disk.new (result ≡ Err Status.DiskFault) }
+    ensures text { IsSoundOn node.old (D.reads_as disk.old) → IfOk result (λ text. text.items ≡ reports.answer_to_query query node.old.chain) }
+    ensures stop { (status : Status) → result ≡ Err status → IsOneOf opening_stops status }
+    ensures sound { IsSoundOn node.old (D.reads_as disk.old) → result ≡ Err Status.NotAStore → ⊥ }
 {
     match query {
         Query::Tip => tip(alloc, node),
-        Query::Header { height } => header(alloc, node, height),
-        Query::Json { height } => json(alloc, node, height),
+        Query::Header { height } => header(alloc, disk, node, height),
+        Query::Json { height } => json(alloc, disk, node, height),
         Query::Epoch => epoch(alloc, node),
         Query::Cell { tx_hash, index } => cell(alloc, node, tx_hash, index),
-        Query::Dao { tx_hash, index } => dao(alloc, node, tx_hash, index),
+        Query::Dao { tx_hash, index } => dao(alloc, disk, node, tx_hash, index),
     }
 }
 
@@ -76,12 +85,19 @@ pub fn line_or_stop(line: Result<String, AllocError>) -> Result<Vec<u8>, Status>
 }
 
 /// The line of the header at a height of the best branch.
-fn header(alloc: Global, node: &mut Node, height: u64) -> Result<Vec<u8>, Status>
-    ensures text { IfOk result (λ text. text.items ≡ reports.answer_to_query (queries.Header height) node.old.chain) }
-    ensures stop { (status : Status) → result ≡ Err status → IsOneOf finding_stops status }
-    ensures sound { result ≡ Err Status.NotAStore → ⊥ }
+fn header<D: Disk>(
+    alloc: Global,
+    disk: &mut D,
+    node: &mut Node,
+    height: u64,
+) -> Result<Vec<u8>, Status>
+    requires own { IsItsOwn node.old (D.reads_as disk.old) (D.images disk.old) }
+    ensures disk { OnlyLooks D.content_of D.faults disk.old disk.new (result ≡ Err Status.DiskFault) }
+    ensures text { IsSome (D.reads_as disk.old) → IfOk result (λ text. text.items ≡ reports.answer_to_query (queries.Header height) node.old.chain) }
+    ensures stop { (status : Status) → result ≡ Err status → IsOneOf opening_stops status }
+    ensures sound { IsSome (D.reads_as disk.old) → result ≡ Err Status.NotAStore → ⊥ }
 {
-    let found = match node.header(height) {
+    let found = match node.header(alloc, disk, height) {
         Ok(found) => found,
         Err(stop) => return Err(status_of_reading(stop)),
     };
@@ -104,12 +120,19 @@ fn header_line_of(
 }
 
 /// The line of the block at a height of the best branch, as JSON.
-fn json(alloc: Global, node: &mut Node, height: u64) -> Result<Vec<u8>, Status>
-    ensures text { IfOk result (λ text. text.items ≡ reports.answer_to_query (queries.Json height) node.old.chain) }
-    ensures stop { (status : Status) → result ≡ Err status → IsOneOf finding_stops status }
-    ensures sound { result ≡ Err Status.NotAStore → ⊥ }
+fn json<D: Disk>(
+    alloc: Global,
+    disk: &mut D,
+    node: &mut Node,
+    height: u64,
+) -> Result<Vec<u8>, Status>
+    requires own { IsItsOwn node.old (D.reads_as disk.old) (D.images disk.old) }
+    ensures disk { OnlyLooks D.content_of D.faults disk.old disk.new (result ≡ Err Status.DiskFault) }
+    ensures text { IsSome (D.reads_as disk.old) → IfOk result (λ text. text.items ≡ reports.answer_to_query (queries.Json height) node.old.chain) }
+    ensures stop { (status : Status) → result ≡ Err status → IsOneOf opening_stops status }
+    ensures sound { IsSome (D.reads_as disk.old) → result ≡ Err Status.NotAStore → ⊥ }
 {
-    let found = match node.block(alloc, height) {
+    let found = match node.block(alloc, disk, height) {
         Ok(found) => found,
         Err(stop) => return Err(status_of_reading(stop)),
     };
@@ -155,7 +178,7 @@ pub fn out_point(tx_hash: [u8; 32], index: u64) -> Option<OutPoint>
 
 /// The line of the live cell with an out-point.
 fn cell(alloc: Global, node: &Node, tx_hash: [u8; 32], index: u64) -> Result<Vec<u8>, Status>
-    ensures text { AreJoined node.now.chain node.now.exts → IfOk result (λ text. text.items ≡ reports.answer_to_query (queries.Cell tx_hash index) node.now.chain) }
+    ensures text { AreOfTip node.now.chain.blocks (rows node.now.cells) → IfOk result (λ text. text.items ≡ reports.answer_to_query (queries.Cell tx_hash index) node.now.chain) }
     ensures memory { (status : Status) → result ≡ Err status → status ≡ Status.NoMemory }
 {
     let found = find_cell(node, tx_hash, index);
@@ -164,7 +187,7 @@ fn cell(alloc: Global, node: &Node, tx_hash: [u8; 32], index: u64) -> Result<Vec
 
 /// The live cell with an out-point, as its row.
 fn find_cell(node: &Node, tx_hash: [u8; 32], index: u64) -> Option<Live>
-    ensures { AreJoined node.now.chain node.now.exts → IsCellFound (cell_at_tip node.now.chain tx_hash index) result }
+    ensures { AreOfTip node.now.chain.blocks (rows node.now.cells) → IsCellFound (cell_at_tip node.now.chain tx_hash index) result }
 {
     match out_point(tx_hash, index) {
         None => None,
@@ -183,13 +206,21 @@ fn cell_line_of(alloc: Global, found: &Option<Live>) -> Result<String, AllocErro
 }
 
 /// Finds the answer and writes it.
-fn find_and_tell<K: Sink>(alloc: Global, out: &mut K, node: &mut Node, query: Query) -> Status
-    ensures told { Took (K.taken out.old) (K.taken out.new) (λ taken. AreJoined node.old.chain node.old.exts → (left : Option (List ℕ)) → IsQueryTold query node.old.chain left taken result) }
+fn find_and_tell<K: Sink, D: Disk>(
+    alloc: Global,
+    out: &mut K,
+    disk: &mut D,
+    node: &mut Node,
+    query: Query,
+) -> Status
+    requires own { IsItsOwn node.old (D.reads_as disk.old) (D.images disk.old) }
+    ensures told { Took (K.taken out.old) (K.taken out.new) (λ taken. IsSoundOn node.old (D.reads_as disk.old)
+        → (left : Option (List ℕ)) → IsQueryTold query node.old.chain left taken result) }
     ensures status { IsOneOf query_statuses result }
-    ensures disk { result ≡ Status.DiskFault → ⊥ }
+    ensures disk { OnlyLooks D.content_of D.faults disk.old disk.new (result ≡ Status.DiskFault) }
     ensures faults { CountsFault (K.faults out.old) (K.faults out.new) (result ≡ Status.SinkFault) }
 {
-    let text = match answer_to(alloc, node, query) {
+    let text = match answer_to(alloc, disk, node, query) {
         Ok(text) => text,
         Err(status) => return status,
     };
@@ -222,7 +253,7 @@ pub fn query<K: Sink, D: Disk, L: Ledger>(
         Ok(node) => node,
         Err(status) => return status,
     };
-    let status = find_and_tell(alloc, out, &mut node, asked);
+    let status = find_and_tell(alloc, out, disk, &mut node, asked);
     drop(node);
     status
 }

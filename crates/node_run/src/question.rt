@@ -5,7 +5,7 @@ ghost use Rattle.outside.specs.Image.{Image};
 ghost use Rattle.verdict_defs.specs.Chain.{Chain};
 ghost use Rattle.verdict_defs.specs.Trial as trials;
 ghost use Rattle.log_defs.specs.Log.{end_of_log};
-ghost use Rattle.store_defs.specs.Store.{Keeps, store_of, AreJoined, TellsAsBefore};
+ghost use Rattle.store_defs.specs.Store.{Keeps, store_of, TellsAsBefore};
 ghost use Rattle.outside.specs.Disk.{IsOnlyRead};
 ghost use Rattle.report_defs.specs.Report as reports;
 ghost use Rattle.report_defs.specs.Text as text;
@@ -16,7 +16,8 @@ ghost use Rattle.item_reader.specs.Items.{Gave};
 ghost use Rattle.item_reader.specs.Whole.{IsReadWhole};
 ghost use Rattle.node_core.specs.Steps.{moves_to_open};
 ghost use Rattle.node_run.specs.Output.{Transfers};
-ghost use Rattle.node_run.specs.Store.{finding_stops};
+ghost use Rattle.node_core.specs.Node.{IsItsOwn, IsSoundOn};
+ghost use Rattle.node_run.specs.Store.{OnlyLooks, opening_stops};
 ghost use Rattle.node_run.specs.Question.{IsAnswerTo, AnswersQuestion, DeliversAnswer};
 
 use crate::lines::trial_line;
@@ -45,31 +46,41 @@ fn read_items<S: Source>(alloc: Global, input: &mut S, question: Question) -> Re
 }
 
 /// Finds what a question answers of these items over the kept blocks. Each question has a function of its own.
-fn answer_to(
+fn answer_to<D: Disk>(
     alloc: Global,
+    disk: &mut D,
     node: &mut Node,
     question: Question,
     items: &[Vec<u8>],
 ) -> Result<Answer, Status>
-    requires { length items.now ≡ length (reports.question_items question) }
-    ensures answer { AreJoined node.old.chain node.old.exts → IfOk result (λ answer. IsAnswerTo question node.old.chain (map (λ item. item.items) items.now) (string_bytes answer.text) answer.status) }
+    requires items { length items.now ≡ length (reports.question_items question) }
+    requires own { IsItsOwn node.old (D.reads_as disk.old) (D.images disk.old) }
+    ensures disk { OnlyLooks D.content_of D.faults disk.old disk.new (result ≡ Err Status.DiskFault) }
+    ensures answer { IsSoundOn node.old (D.reads_as disk.old) → IfOk result (λ answer. IsAnswerTo question node.old.chain (map (λ item. item.items) items.now) (string_bytes answer.text) answer.status) }
     ensures one_of { IfOk result (λ answer. IsOneOf (Status.Done ∷ Status.SomeRefused ∷ []) answer.status) }
-    ensures stop { (status : Status) → result ≡ Err status → IsOneOf finding_stops status }
-    ensures sound { AreJoined node.old.chain node.old.exts → result ≡ Err Status.NotAStore → ⊥ }
+    ensures stop { (status : Status) → result ≡ Err status → IsOneOf opening_stops status }
+    ensures sound { IsSoundOn node.old (D.reads_as disk.old) → result ≡ Err Status.NotAStore → ⊥ }
 {
     match question {
-        Question::Check => check(alloc, node, &items[0]),
+        Question::Check => check(alloc, disk, node, &items[0]),
     }
 }
 
 /// Judges a transaction alone, and says what came of it.
-fn check(alloc: Global, node: &mut Node, item: &[u8]) -> Result<Answer, Status>
-    ensures answer { AreJoined node.old.chain node.old.exts → IfOk result (λ answer. IsAnswerTo Question.Check node.old.chain (item.now ∷ []) (string_bytes answer.text) answer.status) }
+fn check<D: Disk>(
+    alloc: Global,
+    disk: &mut D,
+    node: &mut Node,
+    item: &[u8],
+) -> Result<Answer, Status>
+    requires own { IsItsOwn node.old (D.reads_as disk.old) (D.images disk.old) }
+    ensures disk { OnlyLooks D.content_of D.faults disk.old disk.new (result ≡ Err Status.DiskFault) }
+    ensures answer { IsSoundOn node.old (D.reads_as disk.old) → IfOk result (λ answer. IsAnswerTo Question.Check node.old.chain (item.now ∷ []) (string_bytes answer.text) answer.status) }
     ensures one_of { IfOk result (λ answer. IsOneOf (Status.Done ∷ Status.SomeRefused ∷ []) answer.status) }
-    ensures stop { (status : Status) → result ≡ Err status → IsOneOf finding_stops status }
-    ensures sound { AreJoined node.old.chain node.old.exts → result ≡ Err Status.NotAStore → ⊥ }
+    ensures stop { (status : Status) → result ≡ Err status → IsOneOf opening_stops status }
+    ensures sound { IsSoundOn node.old (D.reads_as disk.old) → result ≡ Err Status.NotAStore → ⊥ }
 {
-    let tried = match judge_item(alloc, node, item) {
+    let tried = match judge_item(alloc, disk, node, item) {
         Ok(tried) => tried,
         Err(status) => return Err(status),
     };
@@ -80,15 +91,22 @@ fn check(alloc: Global, node: &mut Node, item: &[u8]) -> Result<Answer, Status>
 }
 
 /// Judges the transaction of an item alone.
-fn judge_item(alloc: Global, node: &mut Node, item: &[u8]) -> Result<Trial, Status>
-    ensures trial { AreJoined node.old.chain node.old.exts → IfOk result (λ tried. tried ≡ trials.trial node.old.chain item.now) }
-    ensures stop { (status : Status) → result ≡ Err status → IsOneOf finding_stops status }
-    ensures sound { AreJoined node.old.chain node.old.exts → result ≡ Err Status.NotAStore → ⊥ }
+fn judge_item<D: Disk>(
+    alloc: Global,
+    disk: &mut D,
+    node: &mut Node,
+    item: &[u8],
+) -> Result<Trial, Status>
+    requires own { IsItsOwn node.old (D.reads_as disk.old) (D.images disk.old) }
+    ensures disk { OnlyLooks D.content_of D.faults disk.old disk.new (result ≡ Err Status.DiskFault) }
+    ensures trial { IsSoundOn node.old (D.reads_as disk.old) → IfOk result (λ tried. tried ≡ trials.trial node.old.chain item.now) }
+    ensures stop { (status : Status) → result ≡ Err status → IsOneOf opening_stops status }
+    ensures sound { IsSoundOn node.old (D.reads_as disk.old) → result ≡ Err Status.NotAStore → ⊥ }
 {
     let Some(tx) = TxView::read(item) else {
         return Ok(Trial::Refused(1));
     };
-    match node.check(alloc, &tx) {
+    match node.check(alloc, disk, &tx) {
         Ok((fee, cycles)) => Ok(Trial::Passes(fee, cycles)),
         Err(Judged::Broken(rule)) => Ok(Trial::Refused(rule.number())),
         Err(Judged::Read(stop)) => Err(status_of_reading(stop)),
@@ -110,17 +128,19 @@ fn answer_of_trial(alloc: Global, tried: &Trial) -> Result<Answer, NoMemory>
 }
 
 /// Reads what the question is about, finds the answer, and tells it.
-fn read_and_tell<S: Source, K: Sink>(
+fn read_and_tell<S: Source, K: Sink, D: Disk>(
     alloc: Global,
     input: &mut S,
     out: &mut K,
+    disk: &mut D,
     node: &mut Node,
     question: Question,
 ) -> Status
+    requires own { IsItsOwn node.old (D.reads_as disk.old) (D.images disk.old) }
     ensures answered { Transfers (S.left input.old) (S.left input.new) (K.taken out.old) (K.taken out.new)
-        (λ given taken. AreJoined node.old.chain node.old.exts → AnswersQuestion question node.old.chain given (S.left input.new) taken result) }
+        (λ given taken. IsSoundOn node.old (D.reads_as disk.old) → AnswersQuestion question node.old.chain given (S.left input.new) taken result) }
     ensures status { IsOneOf question_statuses result }
-    ensures disk { result ≡ Status.DiskFault → ⊥ }
+    ensures disk { OnlyLooks D.content_of D.faults disk.old disk.new (result ≡ Status.DiskFault) }
     ensures input_faults { CountsFault (S.faults input.old) (S.faults input.new) (result ≡ Status.InputFault) }
     ensures out_faults { CountsFault (K.faults out.old) (K.faults out.new) (result ≡ Status.SinkFault) }
 {
@@ -129,7 +149,7 @@ fn read_and_tell<S: Source, K: Sink>(
         Ok(Whole::Early { end, offset }) => return tell_early(alloc, out, end, offset),
         Err(status) => return status,
     };
-    match answer_to(alloc, node, question, &items) {
+    match answer_to(alloc, disk, node, question, &items) {
         Ok(answer) => tell(out, &answer),
         Err(status) => status,
     }
@@ -164,7 +184,7 @@ pub fn question<S: Source, K: Sink, D: Disk, L: Ledger>(
         Ok(node) => node,
         Err(status) => return status,
     };
-    let status = read_and_tell(alloc, input, out, &mut node, asked);
+    let status = read_and_tell(alloc, input, out, disk, &mut node, asked);
     drop(node);
     status
 }

@@ -7,9 +7,9 @@ ghost use Rattle.outside.specs.Image.{Image};
 ghost use Rattle.verdict_defs.specs.Chain.{Chain};
 ghost use Rattle.log_defs.specs.Log.{records_of, end_of_log};
 ghost use Rattle.log_defs.specs.Rest.{IsSettled};
-ghost use Rattle.store_defs.specs.Store.{Keeps, store_of, StandsFor, IsSound, HaveOwnExts, TellsAsBefore};
+ghost use Rattle.store_defs.specs.Store.{Keeps, store_of, StandsFor, IsSound, TellsAsBefore};
 ghost use Rattle.report_defs.specs.Status.{IsOneOf};
-ghost use Rattle.node_core.specs.Node.{IsOn, IsLeftByOpening};
+ghost use Rattle.node_core.specs.Node.{IsItsOwn, IsSoundNode, IsOn, IsLeftByOpening};
 ghost use Rattle.node_core.specs.Steps.{moves_to_open};
 ghost use Rattle.node_run.specs.Store.{opening_stops};
 
@@ -70,14 +70,14 @@ pub fn open<D: Disk, L: Ledger>(
     ensures rests { (now : Image) → D.reads_as disk.old ≡ Some now → slice_index now.log (end_of_log now.log) ≢ 1
         → IsOnlyRead D.reads_as D.images D.moment D.left_since disk.old disk.new }
     ensures told { TellsAsBefore (D.reads_as disk.old) (D.reads_as disk.new) }
-    ensures there { IfOk result (λ node. IfSome (D.reads_as disk.new) (λ image. node.place < length image.log)) }
+    ensures own { IfOk result (λ node. IsItsOwn node (D.reads_as disk.new) (D.images disk.new)) }
     ensures settled { IfOk result (λ node. IfSome (D.reads_as disk.old) (λ now.
         IsSettled node.place (records_of (drop 8 now.log)) (D.reads_as disk.new) (D.images disk.new))) }
     ensures keeps { (now : Image) → D.reads_as disk.old ≡ Some now
         → LeavesOnly D.moment D.left_since disk.old disk.new (IsLeftByOpening now.log (D.images disk.old)) }
     ensures on { ((image : Image) → D.images disk.old image → IsSound image)
         → IfOk result (λ node. IfSome (D.reads_as disk.old) (λ _. IsOn node (D.reads_as disk.new) (D.images disk.new))) }
-    ensures own { (now : Image) → D.reads_as disk.old ≡ Some now → IsSound now → IfOk result (λ node. HaveOwnExts node.chain node.exts) }
+    ensures sound { (now : Image) → D.reads_as disk.old ≡ Some now → IsSound now → IfOk result IsSoundNode }
     ensures moments { (now : Image) (chain : Chain) → D.reads_as disk.old ≡ Some now → store_of now ≡ Keeps chain → ((image : Image) → D.images disk.old image → IsSound image)
         → LeavesOnly D.moment D.left_since disk.old disk.new (λ image. D.images disk.old image ⊎ StandsFor chain image) }
     ensures cause { CountsFault (D.faults disk.old) (D.faults disk.new) (result ≡ Err Status.DiskFault) }

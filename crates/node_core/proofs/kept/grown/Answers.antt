@@ -4,7 +4,7 @@ use Rattle.cell_state.specs.State.{rows}
 use Rattle.cell_defs.specs.Fit.{are_live}
 use Rattle.cell_laws.proofs.FitLemmas.{found-same}
 use Rattle.reorg.proofs.FitLemmas.{none-odd}
-use Rattle.node_core.proofs.OpenLemmas.{ok_err, memory_no_damage, memory_no_fault, damage_no_fault}
+use Rattle.outside.proofs.Endings.{no_answer, no_memory, no_damage, memory_undamaged}
 use Rattle.node_core.proofs.kept.grown.Goals as goal
 
 pub returns-in-Err-apply-clause-undamaged : goal.returns-in-Err-apply-clause-undamaged
@@ -17,13 +17,13 @@ pub returns-in-Err-clause-of_branch : goal.returns-in-Err-clause-of_branch
 returns-in-Err-clause-of_branch g c = tt
 
 pub returns-in-Err-clause-undamaged : goal.returns-in-Err-clause-undamaged
-returns-in-Err-clause-undamaged g c = λ _ _ _ damage e. memory_no_damage damage e
+returns-in-Err-clause-undamaged g c = λ _ _ _ damage e. memory_undamaged damage e
 
 pub returns-in-Err-clause-damage : goal.returns-in-Err-clause-damage
-returns-in-Err-clause-damage g c = λ damage e. absurd (memory_no_damage damage e)
+returns-in-Err-clause-damage g c = λ damage e. absurd (memory_undamaged damage e)
 
 pub returns-in-Err-clause-reads : goal.returns-in-Err-clause-reads
-returns-in-Err-clause-reads g c = memory_no_fault
+returns-in-Err-clause-reads g c = no_memory
 
 pub returns-in-Err-clause-most : goal.returns-in-Err-clause-most
 returns-in-Err-clause-most g c = omega arith
@@ -32,16 +32,16 @@ pub returns-in-Err-apply-clause-of_branch : goal.returns-in-Err-apply-clause-of_
 returns-in-Err-apply-clause-of_branch g c = tt
 
 pub returns-in-Err-apply-clause-reads : goal.returns-in-Err-apply-clause-reads
-returns-in-Err-apply-clause-reads g c = damage_no_fault _
+returns-in-Err-apply-clause-reads g c = no_damage _
 
 pub returns-in-Ok-apply-clause-undamaged : goal.returns-in-Ok-apply-clause-undamaged
-returns-in-Ok-apply-clause-undamaged g c = λ _ _ _ _ e. ok_err _ _ e
+returns-in-Ok-apply-clause-undamaged g c = λ _ _ _ _ e. no_answer _ _ e
 
 pub returns-in-Ok-apply-clause-damage : goal.returns-in-Ok-apply-clause-damage
-returns-in-Ok-apply-clause-damage g c = λ _ e. absurd (ok_err _ _ e)
+returns-in-Ok-apply-clause-damage g c = λ _ e. absurd (no_answer _ _ e)
 
 pub returns-in-Ok-apply-clause-reads : goal.returns-in-Ok-apply-clause-reads
-returns-in-Ok-apply-clause-reads g c = λ e. ok_err _ _ e
+returns-in-Ok-apply-clause-reads g c = λ e. no_answer _ _ e
 
 pub returns-in-Ok-apply-clause-of_branch : goal.returns-in-Ok-apply-clause-of_branch
 returns-in-Ok-apply-clause-of_branch g c = λ kept parent is there at are. c.in-Ok-apply.ensures.of_branch kept parent is there at (λ o. c.in-Ok.ensures.rows o ∙ are o)

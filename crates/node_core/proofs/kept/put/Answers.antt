@@ -7,7 +7,7 @@ returns-clause-uncles c = λ kept indexed.
     c.in-Ok.ensures ∙ ap (λ (n : ℕ). c.args.uncles.now.embedded ++ embedded_in n c.args.block.now) (c.len.ensures.of_blocks kept indexed)
 
 pub returns-in-Err-clause-blocks : goal.returns-in-Err-clause-blocks
-returns-in-Err-clause-blocks c = λ _ _. tt
+returns-in-Err-clause-blocks c = tt
 
 pub returns-in-Err-clause-entries : goal.returns-in-Err-clause-entries
 returns-in-Err-clause-entries c = tt
@@ -19,7 +19,7 @@ pub returns-in-Err-clause-uncles : goal.returns-in-Err-clause-uncles
 returns-in-Err-clause-uncles c = λ _ _. tt
 
 pub returns-in-Err-reserve-clause-blocks : goal.returns-in-Err-reserve-clause-blocks
-returns-in-Err-reserve-clause-blocks c = λ _ _. tt
+returns-in-Err-reserve-clause-blocks c = tt
 
 pub returns-in-Err-reserve-clause-entries : goal.returns-in-Err-reserve-clause-entries
 returns-in-Err-reserve-clause-entries c = tt
@@ -30,20 +30,8 @@ returns-in-Err-reserve-clause-indexed c = λ _ _ _ _ _. tt
 pub returns-in-Err-reserve-clause-uncles : goal.returns-in-Err-reserve-clause-uncles
 returns-in-Err-reserve-clause-uncles c = λ _ _. tt
 
-pub returns-in-Err-to_vec-clause-blocks : goal.returns-in-Err-to_vec-clause-blocks
-returns-in-Err-to_vec-clause-blocks c = λ _ _. tt
-
-pub returns-in-Err-to_vec-clause-entries : goal.returns-in-Err-to_vec-clause-entries
-returns-in-Err-to_vec-clause-entries c = tt
-
-pub returns-in-Err-to_vec-clause-indexed : goal.returns-in-Err-to_vec-clause-indexed
-returns-in-Err-to_vec-clause-indexed c = λ _ _ _ _ _. tt
-
-pub returns-in-Err-to_vec-clause-uncles : goal.returns-in-Err-to_vec-clause-uncles
-returns-in-Err-to_vec-clause-uncles c = λ _ _. tt
-
 pub returns-in-Err-push-clause-blocks : goal.returns-in-Err-push-clause-blocks
-returns-in-Err-push-clause-blocks c = λ _ _. tt
+returns-in-Err-push-clause-blocks c = tt
 
 pub returns-in-Err-push-clause-entries : goal.returns-in-Err-push-clause-entries
 returns-in-Err-push-clause-entries c = tt
@@ -53,12 +41,6 @@ returns-in-Err-push-clause-indexed c = λ _ _ _ _ _. tt
 
 pub returns-in-Err-push-clause-uncles : goal.returns-in-Err-push-clause-uncles
 returns-in-Err-push-clause-uncles c = λ _ _. tt
-
-pub push-requires-clause-canonical : goal.push-requires-clause-canonical
-push-requires-clause-canonical c = search rules
-
-pub push-requires-clause-later : goal.push-requires-clause-later
-push-requires-clause-later c = search rules
 
 pub returns-clause-blocks : goal.returns-clause-blocks
 returns-clause-blocks c = search rules

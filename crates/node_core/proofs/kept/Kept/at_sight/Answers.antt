@@ -17,7 +17,7 @@ judge_at_sight-requires c = record {
 
 pub returns-clause-asked : goal.returns-clause-asked
 returns-clause-asked c new stop same =
-    let whole : (kept_of c.self.inside.spec c.self.inside.blocks.stored).chain ≡ c.args.self.now.chain = ap (λ (v : KeptValue). v.chain) c.self.view_is in
+    let whole : (kept_of c.self.inside.spec c.self.inside.blocks.stored c.self.inside.tree.entries).chain ≡ c.args.self.now.chain = ap (λ (v : KeptValue). v.chain) c.self.view_is in
     let body = c.judge_at_sight.ensures.asked_of_body stop same in
     subst (λ (k : Chain). WantsMemory k c.args.block.now) whole (record {
       new = subst (λ (k : Chain). place_of k.blocks (block_hash c.args.block.now) ≡ None) (sym whole) new;

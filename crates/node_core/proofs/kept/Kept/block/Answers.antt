@@ -1,25 +1,53 @@
-use Rattle.std.proofs.Common.{◌≡◌, ◌<◌, ℕ, List, length, sym, ap, ◌∙◌, subst, arith, rules}
-use Rattle.std.proofs.lemmas.List.{length-map}
+use Rattle.std.proofs.Common.{◌≡◌, ℕ, List, Option, Some, sym, ap, ◌∙◌, subst, rules}
+use Rattle.std.specs.Option.{option_and_then}
+use Rattle.outside.proofs.Endings.{handed, no_answer, memory_undamaged}
 use Rattle.codec_defs.specs.Shape.{IsA}
 use Rattle.codec_defs.specs.Schema as schema
+use Rattle.codec_defs.specs.Schema.{Block}
 use Rattle.chain_defs.specs.Kept.{block_at}
-use Rattle.chain_tree.specs.Told.{Stored}
-use Rattle.node_core.specs.Node.{KeptValue}
+use Rattle.chain_tree.specs.Told.{blocks_of}
+use Rattle.chain_tree.proofs.ReadLemmas.{unread, read_short}
+use Rattle.node_core.specs.Node.{stored_of}
 use Rattle.node_core.proofs.QueryLemmas.{block-told}
+use Rattle.node_core.proofs.RecordedLemmas.{blocks-told}
 use Rattle.node_core.proofs.kept.Kept.block.Goals as goal
 
+pub returns-in_default : goal.returns-in_default
+returns-in_default g c = record {
+  read = unread c.args.blocks.now;
+  block = λ tells. sym c.place_at.ensures.block ∙ ap (option_and_then (block_at c.args.self.now.chain.blocks)) c.in_default.is;
+  undamaged = λ tells damage same. no_answer _ _ same;
+}
+
+pub returns-in-Err : goal.returns-in-Err
+returns-in-Err g c = record {
+  read = c.in-Err.ensures.read;
+  block = λ tells. tt;
+  undamaged = λ tells damage same. c.in-Err.ensures.undamaged tells damage (handed c.in-Err.stop _ same);
+}
+
+pub returns-in_default-to_vec : goal.returns-in_default-to_vec
+returns-in_default-to_vec g c = record {
+  read = read_short c.in-Ok.ensures.read;
+  block = λ tells. tt;
+  undamaged = λ tells damage same. memory_undamaged damage same;
+}
+
+pub returns-clause-read : goal.returns-clause-read
+returns-clause-read g c = c.in-Ok.ensures.read
+
+pub returns-clause-undamaged : goal.returns-clause-undamaged
+returns-clause-undamaged g c = λ tells damage same. no_answer _ _ same
+
 pub returns-clause-block : goal.returns-clause-block
-returns-clause-block c =
-    let below : c.in-Some.place < length c.self.inside.blocks.stored =
-    omega (
-      arith,
-      c.in-Some.ensures.within,
-      ap (λ (v : KeptValue). length v.chain.blocks) c.self.view_is,
-      length-map c.self.inside.blocks.stored (λ (it : Stored). it.block),
-    ) in
-    let there = block-told c.bring.new.self c.self.inside.blocks.stored c.in-Some.place c.block.result c.in-Ok.ensures.taken below c.block.ensures in
+returns-clause-block g c = λ tells.
+    let stored = stored_of c.args.self.now in
+    let kept : List Block = c.args.self.now.chain.blocks in
+    let seen : blocks_of stored ≡ kept = blocks-told c.args.self.now _ _ tells (g.met.B.Blocks.told_all c.args.blocks.now) c.requires.counts in
+    let there : block_at kept c.in-Some.place ≡ Some c.block.result =
+    block-told stored kept c.in-Some.place c.block.result _ _ seen c.in-Some.ensures.within (c.in-Ok.ensures.read.told ∙ tells) c.in-Ok.ensures.taken c.block.ensures in
     let copied : c.in-Ok-to_vec.bytes.items ≡ c.bytes.result.now = search rules in (
       c.block.result,
-      sym c.in-Some.ensures.block ∙ ap (λ (v : KeptValue). block_at v.chain.blocks c.in-Some.place) (sym c.self.view_is) ∙ there,
+      sym c.in-Some.ensures.block ∙ there,
       subst (λ (bytes : List ℕ). IsA schema.block bytes c.block.result) (sym copied) c.bytes.ensures,
     )

@@ -1,62 +1,58 @@
 use Rattle.std.proofs.Common.{sym, refl}
+use Rattle.outside.proofs.Endings.{no_answer}
+use Rattle.chain_tree.proofs.ReadLemmas.{unread}
 use Rattle.node_core.proofs.DecidingLemmas.{verdict-no-block, decided-else, ready-else}
-use Rattle.node_core.proofs.OpenLemmas.{ok_err}
 use Rattle.node_core.proofs.StepLemmas.{no-step, moves-of-item}
 use Rattle.node_core.proofs.kept.Kept.decide.Goals as goal
 
-pub returns-in-None-clause-decided : goal.returns-in-None-clause-decided
-returns-in-None-clause-decided g c joined live = verdict-no-block c.args.self.now.chain c.args.item.now (sym c.in-None.ensures.value)
+pub decide_block-requires : goal.decide_block-requires
+decide_block-requires g c = record { counts = c.requires.counts }
 
-pub returns-in-Some-clause-decided : goal.returns-in-Some-clause-decided
-returns-in-Some-clause-decided g c joined live =
-    decided-else c.args.self.now.chain c.args.item.now c.in-Some.block c.decide_block.result (sym c.in-Some.ensures.value) (c.decide_block.ensures.decided joined live)
+-- ---- No block
 
-pub returns-in-None-clause-undamaged : goal.returns-in-None-clause-undamaged
-returns-in-None-clause-undamaged g c = λ _ _ _ e. ok_err _ _ e
-
-pub returns-in-None-clause-damage : goal.returns-in-None-clause-damage
-returns-in-None-clause-damage g c = λ _ e. absurd (ok_err _ _ e)
-
-pub returns-in-None-clause-reads : goal.returns-in-None-clause-reads
-returns-in-None-clause-reads g c = λ e. ok_err _ _ e
-
-pub returns-in-None-clause-same : goal.returns-in-None-clause-same
-returns-in-None-clause-same g c = refl
+pub returns-in-None-clause-read : goal.returns-in-None-clause-read
+returns-in-None-clause-read g c = unread _
 
 pub returns-in-None-clause-ready : goal.returns-in-None-clause-ready
 returns-in-None-clause-ready g c = refl
 
-pub returns-in-Some-clause-same : goal.returns-in-Some-clause-same
-returns-in-Some-clause-same g c = c.decide_block.ensures.same
+pub returns-in-None-clause-cells : goal.returns-in-None-clause-cells
+returns-in-None-clause-cells g c = λ _ live. live
 
-pub returns-in-Some-clause-undamaged : goal.returns-in-Some-clause-undamaged
-returns-in-Some-clause-undamaged g c = c.decide_block.ensures.undamaged
+pub returns-in-None-clause-decided : goal.returns-in-None-clause-decided
+returns-in-None-clause-decided g c tells live = verdict-no-block c.args.self.now.chain c.args.item.now (sym c.in-None.ensures.value)
 
-pub returns-in-Some-clause-damage : goal.returns-in-Some-clause-damage
-returns-in-Some-clause-damage g c = c.decide_block.ensures.damage
+pub returns-in-None-clause-undamaged : goal.returns-in-None-clause-undamaged
+returns-in-None-clause-undamaged g c = λ _ _ _ e. no_answer _ _ e
 
-pub returns-in-Some-clause-reads : goal.returns-in-Some-clause-reads
-returns-in-Some-clause-reads g c = c.decide_block.ensures.reads
+pub returns-in-None-clause-asked : goal.returns-in-None-clause-asked
+returns-in-None-clause-asked g c = λ e. absurd (no_answer _ _ e)
+
+pub returns-in-None-clause-most : goal.returns-in-None-clause-most
+returns-in-None-clause-most g c = no-step _ _
+
+-- ---- A block
+
+pub returns-in-Some-clause-read : goal.returns-in-Some-clause-read
+returns-in-Some-clause-read g c = c.decide_block.ensures.read
 
 pub returns-in-Some-clause-ready : goal.returns-in-Some-clause-ready
 returns-in-Some-clause-ready g c =
     ready-else c.args.self.now.chain c.args.item.now c.in-Some.block c.decide_block.result (sym c.in-Some.ensures.value) c.decide_block.ensures.ready
 
-pub returns-in-None-clause-most : goal.returns-in-None-clause-most
-returns-in-None-clause-most g c = no-step _ _
+pub returns-in-Some-clause-cells : goal.returns-in-Some-clause-cells
+returns-in-Some-clause-cells g c = c.decide_block.ensures.cells
+
+pub returns-in-Some-clause-decided : goal.returns-in-Some-clause-decided
+returns-in-Some-clause-decided g c tells live =
+    decided-else c.args.self.now.chain c.args.item.now c.in-Some.block c.decide_block.result (sym c.in-Some.ensures.value) (c.decide_block.ensures.decided tells live)
+
+pub returns-in-Some-clause-undamaged : goal.returns-in-Some-clause-undamaged
+returns-in-Some-clause-undamaged g c = c.decide_block.ensures.undamaged
+
+pub returns-in-Some-clause-asked : goal.returns-in-Some-clause-asked
+returns-in-Some-clause-asked g c = λ e. (c.in-Some.block, sym c.in-Some.ensures.value, c.decide_block.ensures.asked e)
 
 pub returns-in-Some-clause-most : goal.returns-in-Some-clause-most
 returns-in-Some-clause-most g c =
     moves-of-item c.args.self.now.chain c.args.item.now c.in-Some.block _ _ (sym c.in-Some.ensures.value) c.decide_block.ensures.most
-
-pub returns-in-None-clause-cells : goal.returns-in-None-clause-cells
-returns-in-None-clause-cells g c = λ _ live. live
-
-pub returns-in-Some-clause-cells : goal.returns-in-Some-clause-cells
-returns-in-Some-clause-cells g c = c.decide_block.ensures.cells
-
-pub returns-in-None-clause-asked : goal.returns-in-None-clause-asked
-returns-in-None-clause-asked g c = λ e. absurd (ok_err _ _ e)
-
-pub returns-in-Some-clause-asked : goal.returns-in-Some-clause-asked
-returns-in-Some-clause-asked g c = λ e. (c.in-Some.block, sym c.in-Some.ensures.value, c.decide_block.ensures.asked e)

@@ -1,31 +1,57 @@
-use Rattle.std.proofs.Common.{◌≡◌, Err, refl, sym, ap, ◌∙◌, subst}
+use Rattle.std.proofs.Common.{◌≡◌, List, Option, sym, ap, ◌∙◌, subst, arith}
+use Rattle.outside.proofs.Endings.{handed, no_answer}
+use Rattle.codec_defs.specs.Schema.{Block}
 use Rattle.cell_defs.specs.Row.{Row}
 use Rattle.chain_tree.specs.Told.{blocks_of}
-use Rattle.node_core.specs.Node.{KeptValue}
-use Rattle.node_core.specs.Queries.{LiveValue, IsLiveRow}
-use Rattle.node_core.proofs.OpenLemmas.{same_stop}
-use Rattle.node_core.proofs.QueryLemmas.{made-of}
+use Rattle.chain_tree.proofs.ReadLemmas.{unread}
+use Rattle.node_core.specs.Node.{stored_of}
+use Rattle.node_core.specs.Queries.{LiveValue, IsLiveRow, IsLiveCell}
+use Rattle.node_core.proofs.QueryLemmas.{names-of}
+use Rattle.node_core.proofs.RecordedLemmas.{blocks-told}
 use Rattle.node_core.proofs.kept.Kept.fetch.Goals as goal
 
+pub fetch-requires : goal.fetch-requires
+fetch-requires g c = record {
+  within = omega (arith, c.in-Some.ensures.within, ap (λ (live : LiveValue). live.row.block) c.live-2.view_is, c.requires.counts);
+}
+
+pub returns-in_default : goal.returns-in_default
+returns-in_default g c = record {
+  read = unread c.args.blocks.now;
+  fetched = λ tells at_tip. subst (λ (found : Option LiveValue). IsLiveCell c.args.self.now.chain.blocks c.args.o found) c.in_default.is (c.live.ensures.live at_tip);
+  undamaged = λ tells at_tip damage same. no_answer _ _ same;
+}
+
+pub returns-in-Err : goal.returns-in-Err
+returns-in-Err g c = record {
+  read = c.in-Err.ensures.read;
+  fetched = λ tells at_tip. tt;
+  undamaged = λ tells at_tip damage same.
+      let seen = blocks-told c.args.self.now _ _ tells (g.met.B.Blocks.told_all c.args.blocks.now) c.requires.counts in
+      let live = c.in-Some.ensures.live at_tip in
+      let meta : c.live-2.inside.meta ≡ c.in-Some.live.row = ap (λ (l : LiveValue). l.row) c.live-2.view_is in
+      let names = names-of (stored_of c.args.self.now) c.args.o live.0 c.live-2.inside.meta
+      (subst (λ (row : Row). IsLiveRow (blocks_of (stored_of c.args.self.now)) c.args.o live.0 row) (sym meta)
+      (subst (λ (blocks : List Block). IsLiveRow blocks c.args.o live.0 c.in-Some.live.row) (sym seen) live.1)) in
+      c.in-Err.ensures.undamaged (stored_of c.args.self.now) live.0 tells names damage (handed c.in-Err.stop _ same);
+}
+
+pub returns-clause-read : goal.returns-clause-read
+returns-clause-read g c = c.in-Ok.ensures.read
+
+pub returns-clause-undamaged : goal.returns-clause-undamaged
+returns-clause-undamaged g c = λ tells at_tip damage same. no_answer _ _ same
+
 pub returns-clause-fetched : goal.returns-clause-fetched
-returns-clause-fetched c at_tip =
+returns-clause-fetched g c = λ tells at_tip.
+    let seen = blocks-told c.args.self.now _ _ tells (g.met.B.Blocks.told_all c.args.blocks.now) c.requires.counts in
     let live = c.in-Some.ensures.live at_tip in
     let meta : c.live-2.inside.meta ≡ c.in-Some.live.row = ap (λ (l : LiveValue). l.row) c.live-2.view_is in
-    let made = made-of c.self.inside.blocks.stored c.self.inside.tree.entries c.args.o live.0 c.live-2.inside.meta c.self.invariant.indexed
-    (subst (λ (row : Row). IsLiveRow (blocks_of c.self.inside.blocks.stored) c.args.o live.0 row) (sym meta)
-    (subst (λ (v : KeptValue). IsLiveRow v.chain.blocks c.args.o live.0 c.in-Some.live.row) (sym c.self.view_is) live.1)) in (
+    let names = names-of (stored_of c.args.self.now) c.args.o live.0 c.live-2.inside.meta
+      (subst (λ (row : Row). IsLiveRow (blocks_of (stored_of c.args.self.now)) c.args.o live.0 row) (sym meta)
+      (subst (λ (blocks : List Block). IsLiveRow blocks c.args.o live.0 c.in-Some.live.row) (sym seen) live.1)) in (
       live.0,
       subst (λ (row : Row). IsLiveRow c.args.self.now.chain.blocks c.args.o live.0 row) (sym (c.in-Ok.ensures.row ∙ meta)) live.1,
-      c.in-Ok.ensures.copied c.self.inside.blocks.stored live.0 refl made.names,
+      c.in-Ok.ensures.copied (stored_of c.args.self.now) live.0 tells names,
       ap (λ (l : LiveValue). l.height) c.live-2.view_is ∙ live.2,
     )
-
-pub returns-in-Err-clause-undamaged : goal.returns-in-Err-clause-undamaged
-returns-in-Err-clause-undamaged c = λ at_tip damage is.
-    let live = c.in-Some.ensures.live at_tip in
-    let meta : c.live-2.inside.meta ≡ c.in-Some.live.row = ap (λ (l : LiveValue). l.row) c.live-2.view_is in
-    let made = made-of c.self.inside.blocks.stored c.self.inside.tree.entries c.args.o live.0 c.live-2.inside.meta c.self.invariant.indexed
-    (subst (λ (row : Row). IsLiveRow (blocks_of c.self.inside.blocks.stored) c.args.o live.0 row) (sym meta)
-    (subst (λ (v : KeptValue). IsLiveRow v.chain.blocks c.args.o live.0 c.in-Some.live.row) (sym c.self.view_is) live.1)) in
-    let no = c.in-Err.ensures.undamaged c.self.inside.blocks.stored live.0 refl made.names damage in
-    no (ap Err (same_stop _ _ is))

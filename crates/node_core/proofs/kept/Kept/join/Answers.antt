@@ -7,8 +7,8 @@ use Rattle.node_core.specs.Node.{KeptValue, AreOfFound, AreOfTip}
 use Rattle.node_core.specs.Judging.{IsReady, place_for}
 use Rattle.node_core.specs.declared.deciding.Decision.TheVariants.{Joins}
 use Rattle.node_core.proofs.DecidingLemmas.{few-entries}
-use Rattle.node_core.proofs.JoiningLemmas.{few-kept, follows-parent, hash-new, FitsOn, fits-on, ready-for, describes-named, kept-push, blocks-push, are-kept-push}
-use Rattle.node_core.proofs.OpenLemmas.{ok_err, same_stop, memory_no_damage, memory_no_fault}
+use Rattle.node_core.proofs.JoiningLemmas.{follows-parent, hash-new, FitsOn, fits-on, ready-for, describes-named, kept-push, blocks-push, are-kept-push}
+use Rattle.outside.proofs.Endings.{handed, no_answer, no_memory, memory_undamaged}
 use Rattle.node_core.proofs.kept.Kept.join.Goals as goal
 
 pub returns-in-Err-clause-undamaged : goal.returns-in-Err-clause-undamaged
@@ -24,10 +24,7 @@ returns-in-Err-clause-undamaged g c b is joined may live damage was =
     (subst (λ (x : Block). FitsOn c.args.self.chain.blocks x c.args.joining.entry.parent) (sym same) own) in
     let no = c.in-Err.ensures.undamaged kept fits.height c.self.invariant.indexed ready
     (subst (λ (bs : List Block). AreOfFound bs (place_for bs (Joins c.args.joining)) (rows c.args.state)) (sym seen) live) fits.above fits.fits damage in
-    no (ap Err (same_stop _ _ was))
-
-pub put-requires-clause-few : goal.put-requires-clause-few
-put-requires-clause-few g c = few-kept (length c.self.inside.blocks.stored) c.self.invariant.few
+    no (handed _ _ was)
 
 pub put-requires-clause-fewer : goal.put-requires-clause-fewer
 put-requires-clause-fewer g c =
@@ -77,14 +74,26 @@ invariant_of-kept g c =
       len = c.args.rec.len;
     }) ready.entry.describes refl refl refl refl in
     are-kept-push c.self.inside.blocks.stored c.put.new.blocks.stored c.self.inside.tree.entries c.put.new.tree.entries c.self.inside.uncles c.put.new.uncles
-    c.in-Some.block c.args.ext.items c.args.item.now c.args.joining _ (length kept) c.self.invariant ready is c.requires.ext
-    (c.in-Ok-put.ensures.blocks c.in-Some.block is) c.in-Ok-put.ensures.entries describes
+    c.in-Some.block c.args.ext.now c.args.item.now c.args.joining _ (length kept) c.self.invariant ready is c.requires.ext
+    c.in-Ok-put.ensures.blocks c.in-Ok-put.ensures.entries describes
     (c.in-Ok-put.ensures.indexed kept c.in-Some.block c.self.invariant.indexed describes ready.entry.on_kept)
     refl (c.in-Ok-put.ensures.uncles kept c.self.invariant.indexed)
 
 pub returns-in-Ok-put-clause-kept : goal.returns-in-Ok-put-clause-kept
 returns-in-Ok-put-clause-kept g c b is =
-    kept-push c.self.inside.spec c.self.inside.blocks.stored c.put.new.blocks.stored b c.args.ext.items c.args.self c.self.view_is (c.in-Ok-put.ensures.blocks b is)
+    let same : c.in-Some.block ≡ b = same_Some c.in-Some.block b (c.in-Some.ensures.value ∙ is) in
+    kept-push c.self.inside.spec c.self.inside.blocks.stored c.put.new.blocks.stored c.self.inside.tree.entries c.put.new.tree.entries b c.args.ext.now
+    (record {
+      hash = c.args.joining.entry.hash;
+      parent = c.args.joining.entry.parent;
+      number = c.args.joining.entry.number;
+      timestamp = c.args.joining.entry.timestamp;
+      dao = c.args.joining.entry.dao;
+      at = c.args.rec.at;
+      len = c.args.rec.len;
+    }) c.args.self c.self.view_is
+    (subst (λ (x : Block). c.put.new.blocks.stored ≡ c.self.inside.blocks.stored ++ record { block = x; ext = c.args.ext.now } ∷ []) same c.in-Ok-put.ensures.blocks)
+    c.in-Ok-put.ensures.entries
 
 pub returns-in_default-clause-kept : goal.returns-in_default-clause-kept
 returns-in_default-clause-kept g c = λ _ _. tt
@@ -96,13 +105,13 @@ pub returns-in-Err-put-clause-kept : goal.returns-in-Err-put-clause-kept
 returns-in-Err-put-clause-kept g c = λ _ _. tt
 
 pub returns-in-Ok-put-clause-undamaged : goal.returns-in-Ok-put-clause-undamaged
-returns-in-Ok-put-clause-undamaged g c = λ _ _ _ _ _ _ e. ok_err _ _ e
+returns-in-Ok-put-clause-undamaged g c = λ _ _ _ _ _ _ e. no_answer _ _ e
 
 pub returns-in-Ok-put-clause-damage : goal.returns-in-Ok-put-clause-damage
-returns-in-Ok-put-clause-damage g c = λ _ e. absurd (ok_err _ _ e)
+returns-in-Ok-put-clause-damage g c = λ _ e. absurd (no_answer _ _ e)
 
 pub returns-in-Ok-put-clause-reads : goal.returns-in-Ok-put-clause-reads
-returns-in-Ok-put-clause-reads g c = λ e. ok_err _ _ e
+returns-in-Ok-put-clause-reads g c = λ e. no_answer _ _ e
 
 pub state_with-requires : goal.state_with-requires
 state_with-requires g c = record {
@@ -110,22 +119,22 @@ state_with-requires g c = record {
 }
 
 pub returns-in_default-clause-undamaged : goal.returns-in_default-clause-undamaged
-returns-in_default-clause-undamaged g c = λ _ _ _ _ _ damage e. memory_no_damage damage e
+returns-in_default-clause-undamaged g c = λ _ _ _ _ _ damage e. memory_undamaged damage e
 
 pub returns-in_default-clause-damage : goal.returns-in_default-clause-damage
-returns-in_default-clause-damage g c = λ damage e. absurd (memory_no_damage damage e)
+returns-in_default-clause-damage g c = λ damage e. absurd (memory_undamaged damage e)
 
 pub returns-in_default-clause-reads : goal.returns-in_default-clause-reads
-returns-in_default-clause-reads g c = memory_no_fault
+returns-in_default-clause-reads g c = no_memory
 
 pub returns-in-Err-put-clause-undamaged : goal.returns-in-Err-put-clause-undamaged
-returns-in-Err-put-clause-undamaged g c = λ _ _ _ _ _ damage e. memory_no_damage damage e
+returns-in-Err-put-clause-undamaged g c = λ _ _ _ _ _ damage e. memory_undamaged damage e
 
 pub returns-in-Err-put-clause-damage : goal.returns-in-Err-put-clause-damage
-returns-in-Err-put-clause-damage g c = λ damage e. absurd (memory_no_damage damage e)
+returns-in-Err-put-clause-damage g c = λ damage e. absurd (memory_undamaged damage e)
 
 pub returns-in-Err-put-clause-reads : goal.returns-in-Err-put-clause-reads
-returns-in-Err-put-clause-reads g c = memory_no_fault
+returns-in-Err-put-clause-reads g c = no_memory
 
 pub returns-in_default-clause-most : goal.returns-in_default-clause-most
 returns-in_default-clause-most g c = omega arith
@@ -140,10 +149,10 @@ pub returns-in-Err-clause-most : goal.returns-in-Err-clause-most
 returns-in-Err-clause-most g c = c.state_with.ensures.most
 
 pub returns-in-Err-clause-damage : goal.returns-in-Err-clause-damage
-returns-in-Err-clause-damage g c = λ damage e. c.in-Err.ensures.damage damage (ap Err (same_stop _ _ e))
+returns-in-Err-clause-damage g c = λ damage e. c.in-Err.ensures.damage damage (handed _ _ e)
 
 pub returns-in-Err-clause-reads : goal.returns-in-Err-clause-reads
-returns-in-Err-clause-reads g c = λ e. c.in-Err.ensures.reads (ap Err (same_stop _ _ e))
+returns-in-Err-clause-reads g c = λ e. c.in-Err.ensures.reads (handed _ _ e)
 
 pub returns-in-Ok-put-clause-live : goal.returns-in-Ok-put-clause-live
 returns-in-Ok-put-clause-live g c live =
@@ -153,7 +162,7 @@ returns-in-Ok-put-clause-live g c live =
     let ready = subst (λ (bs : List Block). IsReady bs c.in-Some.block c.args.joining) (sym seen)
     (ready-for c.args.self.chain.blocks c.args.item.now c.in-Some.block c.args.joining c.requires.canonical is) in
     let grown : blocks_of c.put.new.blocks.stored ≡ kept ++ c.in-Some.block ∷ [] =
-    blocks-push c.self.inside.blocks.stored c.put.new.blocks.stored c.in-Some.block c.args.ext.items (c.in-Ok-put.ensures.blocks c.in-Some.block is) in
+    blocks-push c.self.inside.blocks.stored c.put.new.blocks.stored c.in-Some.block c.args.ext.now c.in-Ok-put.ensures.blocks in
     subst (λ (bs : List Block). AreOfTip bs (rows c.in-Ok.state)) (sym grown)
     (c.in-Ok.ensures.live kept c.self.invariant.indexed ready
     (subst (λ (bs : List Block). AreOfFound bs (place_for bs (Joins c.args.joining)) (rows c.args.state)) (sym seen) live))

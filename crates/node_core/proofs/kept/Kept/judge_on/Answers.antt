@@ -1,89 +1,125 @@
 use Rattle.std.proofs.Common.{◌≡◌, None, Some, refl, ap, ◌∙◌, subst, sym}
-use Rattle.std.specs.Prelude.{Result, Err, IfOk, length}
-use Rattle.outside.specs.declared.disk.ReadStop.{ReadStop}
+use Rattle.std.specs.Prelude.{Err, length}
+use Rattle.outside.proofs.Endings.{no_answer}
 use Rattle.chain_defs.specs.Branch.{branch}
 use Rattle.chain_defs.proofs.KeptLaws.{place_of-below}
-use Rattle.block_judge.specs.declared.stop.Judged.TheVariants.{Read}
 use Rattle.chain_tree.specs.Told.{blocks_of}
+use Rattle.chain_tree.proofs.ReadLemmas.{read_so}
+use Rattle.block_judge.specs.Stops.{stop_in}
+use Rattle.block_judge.specs.declared.stop.Judged.TheVariants.{Read}
 use Rattle.block_defs.specs.Ext.{ext_of}
 use Rattle.block_defs.specs.Rules.{first_broken, broken_at_sight}
 use Rattle.verdict_defs.specs.Chain.{Chain}
 use Rattle.verdict_defs.specs.declared.verdict.Verdict.TheVariants.{Refused}
 use Rattle.rule_names.specs.Number.{rule_number}
-use Rattle.node_core.specs.declared.deciding.Decision.{Decision}
-use Rattle.node_core.specs.Judging.{IsReadyBlock, IsDecidedBlock}
-use Rattle.node_core.proofs.DecidingLemmas.{as-many, few-entries, within-entries, whole-at-hand, room-for, may-be-kept, is-judged, verdict-refused, verdict-full}
-use Rattle.node_core.proofs.OpenLemmas.{ok_err, same_stop}
 use Rattle.node_core.specs.Node.{KeptValue}
-use Rattle.node_core.proofs.kept.Kept.judge_on.Goals.{in-Err-Broken, in-Err-Read, in-Ok+then-has_room, in-Ok+else-has_room}
+use Rattle.node_core.proofs.DecidingLemmas.{few-entries, within-entries, whole-at-hand, room-for, may-be-kept, is-judged, verdict-refused, verdict-full}
+use Rattle.node_core.proofs.SourceLemmas.{told-stored, counts-entries, same_stop}
 use Rattle.node_core.proofs.kept.Kept.judge_on.Goals as goal
 
 pub judge-requires-clause-parent : goal.judge-requires-clause-parent
-judge-requires-clause-parent c =
+judge-requires-clause-parent g c =
     within-entries (blocks_of c.self.inside.blocks.stored) c.args.self.now.chain.blocks c.self.inside.tree.entries c.args.entry.parent
     (ap (λ (v : KeptValue). v.chain.blocks) c.self.view_is) c.self.invariant.indexed
     (place_of-below c.args.self.now.chain.blocks c.args.block.now.header.parent_hash c.args.entry.parent c.requires.entry.on_kept)
 
 pub judge-requires-clause-few : goal.judge-requires-clause-few
-judge-requires-clause-few c = few-entries c.self.inside.blocks.stored c.self.inside.tree.entries c.self.inside.uncles c.self.invariant
+judge-requires-clause-few g c = few-entries c.self.inside.blocks.stored c.self.inside.tree.entries c.self.inside.uncles c.self.invariant
 
 pub judge-requires-clause-counts : goal.judge-requires-clause-counts
-judge-requires-clause-counts c = as-many c.self.inside.blocks.stored c.self.inside.tree.entries c.self.inside.uncles c.self.invariant
+judge-requires-clause-counts g c =
+    counts-entries (blocks_of c.self.inside.blocks.stored) c.args.self.now.chain.blocks c.self.inside.tree.entries _
+    (ap (λ (v : KeptValue). v.chain.blocks) c.self.view_is) c.self.invariant.indexed c.requires.counts
 
-pub returns-clause-ready : goal.returns-clause-ready
-returns-clause-ready c =
-    let whole = ap (λ (v : KeptValue). v.chain) c.self.view_is in
-    let Ready : Result Decision ReadStop → Type 0 = λ r. IfOk r (IsReadyBlock c.args.self.now.chain c.args.block.now) in
-    elim c.match-judge.branch [
-      | in-Err-Broken w ↦ subst Ready (sym w.result-is) refl
-      | in-Err-Read w ↦ subst Ready (sym w.result-is) tt
-      | in-Ok+then-has_room w ↦ subst Ready (sym w.result-is)
-          (may-be-kept c.args.self.now.chain c.args.block.now c.args.entry w.in-Ok.ext c.requires.entry c.requires.passed.sight
-          (room-for w.len.result _ w.has_room.result w.has_room.ensures w.if-has_room.true
-          (w.len.ensures.of_blocks (blocks_of c.self.inside.blocks.stored) c.self.invariant.indexed ∙ ap (λ (v : Chain). length v.blocks) whole))
-          w.in-Ok.ensures.rated w.in-Ok.ensures.fees)
-      | in-Ok+else-has_room w ↦ subst Ready (sym w.result-is) refl
-    ]
+-- ---- A rule that is broken
 
-pub returns-clause-decided : goal.returns-clause-decided
-returns-clause-decided c joined live =
+pub returns-in-Err-Broken-clause-read : goal.returns-in-Err-Broken-clause-read
+returns-in-Err-Broken-clause-read g c = read_so (ap stop_in c.in-Err-Broken.field-0-is) c.in-Err-Broken.ensures.read
+
+pub returns-in-Err-Broken-clause-ready : goal.returns-in-Err-Broken-clause-ready
+returns-in-Err-Broken-clause-ready g c = refl
+
+pub returns-in-Err-Broken-clause-decided : goal.returns-in-Err-Broken-clause-decided
+returns-in-Err-Broken-clause-decided g c tells live =
     let stored = c.self.inside.blocks.stored in
+    let told = told-stored c.self.inside.spec stored c.self.inside.tree.entries c.args.self.now _ c.self.view_is tells in
     let whole = ap (λ (v : KeptValue). v.chain) c.self.view_is in
     let stands = whole-at-hand c.self.inside.spec stored c.self.inside.tree.entries c.self.inside.uncles
-    c.args.state.now c.args.self.now c.args.block.now c.args.entry c.self.view_is c.self.invariant c.requires.entry joined live in
+    c.args.state.now c.args.self.now c.args.block.now c.args.entry c.self.view_is c.self.invariant c.requires.entry tells.joined live in
     let passes = subst (λ (v : Chain). broken_at_sight v.spec (branch v.blocks c.args.entry.parent) c.args.block.now ≡ None) (sym whole) c.requires.passed.sight in
-    let Decided : Result Decision ReadStop → Type 0 = λ r. IfOk r (IsDecidedBlock c.args.self.now.chain c.args.block.now) in
-    elim c.match-judge.branch [
-      | in-Err-Broken w ↦ subst Decided (sym w.result-is)
-          (ap Refused (w.number.ensures ∙ ap rule_number w.in-Err-Broken.rule-is)
-          ∙ verdict-refused c.args.self.now.chain.spec c.args.self.now.chain.blocks c.args.block.now c.args.entry c.requires.entry (rule_number w.in-Err-Broken.rule)
-          (subst (λ (v : Chain). first_broken v.spec (branch v.blocks c.args.entry.parent) c.args.block.now ≡ Some (rule_number w.in-Err-Broken.rule)) whole
-          (w.in-Err-Broken.ensures.broken stored refl stands passes w.in-Err-Broken.rule (ap Err w.in-Err-Broken.field-0-is))))
-      | in-Err-Read w ↦ subst Decided (sym w.result-is) tt
-      | in-Ok+then-has_room w ↦ subst Decided (sym w.result-is)
-          (is-judged c.args.self.now.chain c.args.block.now (record { entry = c.args.entry; ext = w.in-Ok.ext }) c.requires.entry
-          (subst (λ (v : Chain). first_broken v.spec (branch v.blocks c.args.entry.parent) c.args.block.now ≡ None) whole
-          (w.in-Ok.ensures.unbroken stored refl stands passes))
-          (room-for w.len.result _ w.has_room.result w.has_room.ensures w.if-has_room.true
-          (w.len.ensures.of_blocks (blocks_of stored) c.self.invariant.indexed ∙ ap (λ (v : Chain). length v.blocks) whole))
-          (subst (λ (v : Chain). w.in-Ok.ext ≡ ext_of v.spec v.blocks c.args.entry.parent c.args.block.now) whole
-          (w.in-Ok.ensures.ext stored refl stands)))
-      | in-Ok+else-has_room w ↦ subst Decided (sym w.result-is)
-          (verdict-full c.args.self.now.chain.spec c.args.self.now.chain.blocks c.args.block.now c.args.entry c.requires.entry w.len.result w.has_room.result
-          (subst (λ (v : Chain). first_broken v.spec (branch v.blocks c.args.entry.parent) c.args.block.now ≡ None) whole
-          (w.in-Ok.ensures.unbroken stored refl stands passes))
-          w.has_room.ensures w.if-has_room.false
-          (w.len.ensures.of_blocks (blocks_of stored) c.self.invariant.indexed ∙ ap (λ (v : Chain). length v.blocks) whole))
-    ]
+    ap Refused (c.number.ensures ∙ ap rule_number c.in-Err-Broken.rule-is)
+    ∙ verdict-refused c.args.self.now.chain.spec c.args.self.now.chain.blocks c.args.block.now c.args.entry c.requires.entry (rule_number c.in-Err-Broken.rule)
+    (subst (λ (v : Chain). first_broken v.spec (branch v.blocks c.args.entry.parent) c.args.block.now ≡ Some (rule_number c.in-Err-Broken.rule)) whole
+    (c.in-Err-Broken.ensures.broken stored told stands passes c.in-Err-Broken.rule (ap Err c.in-Err-Broken.field-0-is)))
 
-pub returns-clause-undamaged : goal.returns-clause-undamaged
-returns-clause-undamaged c joined live damage was =
-    let stands = whole-at-hand c.self.inside.spec c.self.inside.blocks.stored c.self.inside.tree.entries c.self.inside.uncles
-    c.args.state.now c.args.self.now c.args.block.now c.args.entry c.self.view_is c.self.invariant c.requires.entry joined live in
-    elim c.match-judge.branch [
-      | in-Err-Broken w ↦ ok_err _ _ (sym w.result-is ∙ was)
-      | in-Err-Read w ↦ w.in-Err-Read.ensures.undamaged c.self.inside.blocks.stored refl stands damage
-          (ap Err (w.in-Err-Read.field-0-is ∙ ap Read (sym w.in-Err-Read.stop-is ∙ same_stop _ _ (sym w.result-is ∙ was))))
-      | in-Ok+then-has_room w ↦ ok_err _ _ (sym w.result-is ∙ was)
-      | in-Ok+else-has_room w ↦ ok_err _ _ (sym w.result-is ∙ was)
-    ]
+pub returns-in-Err-Broken-clause-undamaged : goal.returns-in-Err-Broken-clause-undamaged
+returns-in-Err-Broken-clause-undamaged g c = λ _ _ _ was. no_answer _ _ was
+
+-- ---- Blocks that are not read
+
+pub returns-in-Err-Read-clause-read : goal.returns-in-Err-Read-clause-read
+returns-in-Err-Read-clause-read g c =
+    read_so (ap stop_in (c.in-Err-Read.field-0-is ∙ ap Read (sym c.in-Err-Read.stop-is))) c.in-Err-Read.ensures.read
+
+pub returns-in-Err-Read-clause-undamaged : goal.returns-in-Err-Read-clause-undamaged
+returns-in-Err-Read-clause-undamaged g c tells live damage was =
+    let stored = c.self.inside.blocks.stored in
+    let told = told-stored c.self.inside.spec stored c.self.inside.tree.entries c.args.self.now _ c.self.view_is tells in
+    let stands = whole-at-hand c.self.inside.spec stored c.self.inside.tree.entries c.self.inside.uncles
+    c.args.state.now c.args.self.now c.args.block.now c.args.entry c.self.view_is c.self.invariant c.requires.entry tells.joined live in
+    c.in-Err-Read.ensures.undamaged stored told stands damage (ap Err (c.in-Err-Read.field-0-is ∙ ap Read (sym c.in-Err-Read.stop-is ∙ same_stop _ _ was)))
+
+-- ---- Room
+
+pub returns-then-has_room-clause-read : goal.returns-then-has_room-clause-read
+returns-then-has_room-clause-read g c = c.in-Ok.ensures.read
+
+pub returns-then-has_room-clause-ready : goal.returns-then-has_room-clause-ready
+returns-then-has_room-clause-ready g c =
+    let whole = ap (λ (v : KeptValue). v.chain) c.self.view_is in
+    may-be-kept c.args.self.now.chain c.args.block.now c.args.entry c.in-Ok.ext c.requires.entry c.requires.passed.sight
+    (room-for c.len.result _ c.has_room.result c.has_room.ensures c.if-has_room.true
+    (c.len.ensures.of_blocks (blocks_of c.self.inside.blocks.stored) c.self.invariant.indexed ∙ ap (λ (v : Chain). length v.blocks) whole))
+    c.in-Ok.ensures.rated c.in-Ok.ensures.fees
+
+pub returns-then-has_room-clause-decided : goal.returns-then-has_room-clause-decided
+returns-then-has_room-clause-decided g c tells live =
+    let stored = c.self.inside.blocks.stored in
+    let told = told-stored c.self.inside.spec stored c.self.inside.tree.entries c.args.self.now _ c.self.view_is tells in
+    let whole = ap (λ (v : KeptValue). v.chain) c.self.view_is in
+    let stands = whole-at-hand c.self.inside.spec stored c.self.inside.tree.entries c.self.inside.uncles
+    c.args.state.now c.args.self.now c.args.block.now c.args.entry c.self.view_is c.self.invariant c.requires.entry tells.joined live in
+    let passes = subst (λ (v : Chain). broken_at_sight v.spec (branch v.blocks c.args.entry.parent) c.args.block.now ≡ None) (sym whole) c.requires.passed.sight in
+    is-judged c.args.self.now.chain c.args.block.now (record { entry = c.args.entry; ext = c.in-Ok.ext }) c.requires.entry
+    (subst (λ (v : Chain). first_broken v.spec (branch v.blocks c.args.entry.parent) c.args.block.now ≡ None) whole
+    (c.in-Ok.ensures.unbroken stored told stands passes))
+    (room-for c.len.result _ c.has_room.result c.has_room.ensures c.if-has_room.true
+    (c.len.ensures.of_blocks (blocks_of stored) c.self.invariant.indexed ∙ ap (λ (v : Chain). length v.blocks) whole))
+    (subst (λ (v : Chain). c.in-Ok.ext ≡ ext_of v.spec v.blocks c.args.entry.parent c.args.block.now) whole
+    (c.in-Ok.ensures.ext stored told stands))
+
+pub returns-then-has_room-clause-undamaged : goal.returns-then-has_room-clause-undamaged
+returns-then-has_room-clause-undamaged g c = λ _ _ _ was. no_answer _ _ was
+
+pub returns-else-has_room-clause-read : goal.returns-else-has_room-clause-read
+returns-else-has_room-clause-read g c = c.in-Ok.ensures.read
+
+pub returns-else-has_room-clause-ready : goal.returns-else-has_room-clause-ready
+returns-else-has_room-clause-ready g c = refl
+
+pub returns-else-has_room-clause-decided : goal.returns-else-has_room-clause-decided
+returns-else-has_room-clause-decided g c tells live =
+    let stored = c.self.inside.blocks.stored in
+    let told = told-stored c.self.inside.spec stored c.self.inside.tree.entries c.args.self.now _ c.self.view_is tells in
+    let whole = ap (λ (v : KeptValue). v.chain) c.self.view_is in
+    let stands = whole-at-hand c.self.inside.spec stored c.self.inside.tree.entries c.self.inside.uncles
+    c.args.state.now c.args.self.now c.args.block.now c.args.entry c.self.view_is c.self.invariant c.requires.entry tells.joined live in
+    let passes = subst (λ (v : Chain). broken_at_sight v.spec (branch v.blocks c.args.entry.parent) c.args.block.now ≡ None) (sym whole) c.requires.passed.sight in
+    verdict-full c.args.self.now.chain.spec c.args.self.now.chain.blocks c.args.block.now c.args.entry c.requires.entry c.len.result c.has_room.result
+    (subst (λ (v : Chain). first_broken v.spec (branch v.blocks c.args.entry.parent) c.args.block.now ≡ None) whole
+    (c.in-Ok.ensures.unbroken stored told stands passes))
+    c.has_room.ensures c.if-has_room.false
+    (c.len.ensures.of_blocks (blocks_of stored) c.self.invariant.indexed ∙ ap (λ (v : Chain). length v.blocks) whole)
+
+pub returns-else-has_room-clause-undamaged : goal.returns-else-has_room-clause-undamaged
+returns-else-has_room-clause-undamaged g c = λ _ _ _ was. no_answer _ _ was

@@ -1,16 +1,16 @@
 use Rattle.std.proofs.Common.{sym, ◌∙◌, arith}
 use Rattle.node_core.proofs.JoiningLemmas.{joining-cells, staying-cells, fits-parent, rows-stay, move-else}
-use Rattle.node_core.proofs.OpenLemmas.{ok_err}
+use Rattle.outside.proofs.Endings.{no_answer}
 use Rattle.node_core.proofs.kept.Kept.state_with.Goals as goal
 
 pub returns-then-not-is_above_tip-clause-undamaged : goal.returns-then-not-is_above_tip-clause-undamaged
-returns-then-not-is_above_tip-clause-undamaged g c = λ _ _ _ _ _ _ _ _ e. ok_err _ _ e
+returns-then-not-is_above_tip-clause-undamaged g c = λ _ _ _ _ _ _ _ _ e. no_answer _ _ e
 
 pub returns-then-not-is_above_tip-clause-damage : goal.returns-then-not-is_above_tip-clause-damage
-returns-then-not-is_above_tip-clause-damage g c = λ _ e. absurd (ok_err _ _ e)
+returns-then-not-is_above_tip-clause-damage g c = λ _ e. absurd (no_answer _ _ e)
 
 pub returns-then-not-is_above_tip-clause-reads : goal.returns-then-not-is_above_tip-clause-reads
-returns-then-not-is_above_tip-clause-reads g c = λ e. ok_err _ _ e
+returns-then-not-is_above_tip-clause-reads g c = λ e. no_answer _ _ e
 
 pub returns-then-not-is_above_tip-clause-most : goal.returns-then-not-is_above_tip-clause-most
 returns-then-not-is_above_tip-clause-most g c = omega arith

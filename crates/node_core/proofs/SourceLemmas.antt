@@ -1,0 +1,115 @@
+-- What a source of blocks tells of what is kept, and what a look through a store leaves of a disk and of what is held in memory.
+use Rattle.std.proofs.Common.{◌≡◌, ℕ, List, [], ◌∷◌, length, Option, Some, None, Result, Err, refl, sym, ap, ◌∙◌, subst, arith}
+use Rattle.std.specs.Prelude.{IfSome, IsSome}
+use Rattle.outside.specs.Causes.{CountsFault}
+use Rattle.outside.specs.Image.{Image}
+use Rattle.outside.specs.declared.disk.Area.TheVariants.{Log}
+use Rattle.outside.specs.declared.disk.Damage.{Damage}
+use Rattle.outside.specs.declared.disk.ReadStop.{ReadStop}
+use Rattle.outside.specs.declared.disk.ReadStop.TheVariants.{DiskFault, Damaged}
+use Rattle.time_defs.specs.Specification.{Specification}
+use Rattle.codec_defs.specs.Schema.{Block}
+use Rattle.chain_tree.specs.declared.entry.Entry.{Entry}
+use Rattle.chain_tree.specs.Told.{Stored, blocks_of}
+use Rattle.chain_tree.specs.Blocks.{IndexesBlocks}
+use Rattle.chain_tree.proofs.BlockLemmas.{len-same}
+use Rattle.store_defs.specs.Store.{AreJoined}
+use Rattle.block_store.specs.Stored.{told_by}
+use Rattle.block_store.specs.Held.{IsKept, AgreesWith}
+use Rattle.block_store.proofs.LogLemmas.{tells_the_log}
+use Rattle.block_store.proofs.AgreeLemmas.{agrees_always}
+use Rattle.node_core.specs.Node.{exts_of, paired, KeptValue, kept_of, stored_of, TellsJoined, IsReadBy, HasLooked}
+
+-- blocks beside their exts are what was stored
+paired-kept : (stored : List Stored) → paired (blocks_of stored) (exts_of stored) ≡ stored
+paired-kept [] = refl
+paired-kept (it ∷ stored) = ap (λ (later : List Stored). it ∷ later) (paired-kept stored)
+
+pub told-stored : (spec : Specification) (stored : List Stored) (entries : List Entry) (kept : KeptValue) (told : Option (List Stored))
+    → kept_of spec stored entries ≡ kept → TellsJoined kept told → told ≡ Some stored
+told-stored spec stored entries kept told whole tells =
+    tells.all ∙ ap (λ (l : List Stored). Some l) (sym (ap stored_of whole) ∙ paired-kept stored)
+
+-- it tells the same after it was read
+pub tells-on : (kept : KeptValue) (before now : Option (List Stored)) → now ≡ before → TellsJoined kept before → TellsJoined kept now
+tells-on kept before now same tells = record { all = same ∙ tells.all; joined = tells.joined }
+
+-- as many as there are entries
+pub counts-entries : (kept blocks : List Block) (entries : List Entry) (count : ℕ) → kept ≡ blocks → IndexesBlocks kept entries → count ≡ length blocks
+    → count ≡ length entries
+counts-entries kept blocks entries count seen indexed counts = omega (arith, counts, ap length seen, len-same kept entries indexed)
+
+pub same_stop : {T E : Type 0} (first second : E) → ◌≡◌ {A = Result T E} (Err first) (Err second) → first ≡ second
+same_stop first second is = cc
+
+-- ---- Over a disk
+
+module _ (kept : KeptValue) (image : Image) (held : List (ℕ × Stored)) (read : IsReadBy kept held image) where
+  told_at : told_by (Some image) kept.entries ≡ Some (stored_of kept)
+  told_at = tells_the_log image read.specification (stored_of kept) kept.entries read.names read.can
+
+  -- what is held in memory is what LOG has
+  kept_at : IsKept kept.entries held image
+  kept_at = (agrees_always image kept.entries (stored_of kept) held told_at).1 read.agrees
+
+  -- and other things held, where they are
+  read_at : (later : List (ℕ × Stored)) → IsKept kept.entries later image → IsReadBy kept later image
+  read_at later is_kept = record {
+    specification = read.specification;
+    names = read.names;
+    can = read.can;
+    agrees = (agrees_always image kept.entries (stored_of kept) later told_at).0 is_kept;
+  }
+
+pub kept-on : (kept : KeptValue) (entries : List Entry) (held : List (ℕ × Stored)) (reads : Option Image) → entries ≡ kept.entries
+    → IfSome reads (IsReadBy kept held) → IfSome reads (IsKept entries held)
+kept-on kept entries held None same own = tt
+kept-on kept entries held (Some image) same own = subst (λ (es : List Entry). IsKept es held image) (sym same) (kept_at kept image held own)
+
+read-later : (kept : KeptValue) (held later : List (ℕ × Stored)) (reads : Option Image) → IfSome reads (IsReadBy kept held)
+    → IfSome reads (IsKept kept.entries later) → IfSome reads (IsReadBy kept later)
+read-later kept held later None own is_kept = tt
+read-later kept held later (Some image) own is_kept = read_at kept image held own later is_kept
+
+tells-all : (kept : KeptValue) (held : List (ℕ × Stored)) (reads : Option Image) → IfSome reads (IsReadBy kept held) → IsSome reads
+    → told_by reads kept.entries ≡ Some (stored_of kept)
+tells-all kept held None own told = absurd (cc)
+tells-all kept held (Some image) own told = told_at kept image held own
+
+-- a store over a disk that reads as it did tells what is kept
+pub tells-kept : (kept : KeptValue) (entries : List Entry) (held : List (ℕ × Stored)) (reads before : Option Image) → entries ≡ kept.entries → reads ≡ before
+    → IfSome before (IsReadBy kept held) → IsSome before → told_by reads entries ≡ Some (stored_of kept)
+tells-kept kept entries held reads before same rests own told =
+    ap (λ (o : Option Image). told_by o entries) rests ∙ ap (told_by before) same ∙ tells-all kept held before own told
+
+pub tells-joined : (kept : KeptValue) (entries : List Entry) (held : List (ℕ × Stored)) (reads before : Option Image) → entries ≡ kept.entries → reads ≡ before
+    → IfSome before (IsReadBy kept held) → IsSome before → AreJoined kept.chain kept.exts → TellsJoined kept (told_by reads entries)
+tells-joined kept entries held reads before same rests own told joined =
+    record { all = tells-kept kept entries held reads before same rests own told; joined = joined }
+
+-- it has as many entries as there are blocks
+pub counts-blocks : (kept blocks : List Block) (entries others : List Entry) → kept ≡ blocks → IndexesBlocks kept entries → others ≡ entries
+    → length others ≡ length blocks
+counts-blocks kept blocks entries others seen indexed same = omega (arith, ap length same, ap length seen, len-same kept entries indexed)
+
+-- the loans of a store hold the content of its disk
+pub same-content : {C : Type 0} {first last : ℕ × ℕ × C × List Entry} → last ≡ first → last.2 ≡ first.2
+same-content {C = C} same = ap (λ (loans : ℕ × ℕ × C × List Entry). loans.2) same
+
+-- and its entries
+pub same-entries : {C : Type 0} {first last : ℕ × ℕ × C × List Entry} → last ≡ first → last.3 ≡ first.3
+same-entries {C = C} same = ap (λ (loans : ℕ × ℕ × C × List Entry). loans.3) same
+
+-- What a look leaves, where the content is the same and what is held then is what LOG has.
+pub has-looked : {S C : Type 0} {content_of : S → C} {reads_as : S → Option Image} {faults : S → ℕ} {old new : S} {stop : Option ReadStop}
+    (kept : KeptValue) (entries : List Entry) (held later : List (ℕ × Stored)) → entries ≡ kept.entries → content_of new ≡ content_of old
+    → reads_as new ≡ reads_as old → IfSome (reads_as old) (IsReadBy kept held) → IfSome (reads_as new) (IsKept entries later)
+    → ((damage : Damage) → stop ≡ Some (Damaged damage) → damage.area ≡ Log) → CountsFault (faults old) (faults new) (stop ≡ Some DiskFault)
+    → HasLooked content_of reads_as faults old new kept later stop
+has-looked {reads_as = reads_as} {new = new} kept entries held later same content reads own is_kept damage cause = record {
+  content = content;
+  agrees = read-later kept held later (reads_as new) (subst (λ (o : Option Image). IfSome o (IsReadBy kept held)) (sym reads) own)
+      (subst (λ (es : List Entry). IfSome (reads_as new) (IsKept es later)) same is_kept);
+  damage = damage;
+  cause = cause;
+}

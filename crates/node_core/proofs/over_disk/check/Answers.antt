@@ -1,0 +1,43 @@
+use Rattle.std.proofs.Common.{ap, ◌∙◌}
+use Rattle.outside.proofs.Endings.{behind}
+use Rattle.chain_tree.specs.Entries.{TreeValue}
+use Rattle.chain_tree.specs.Told.{blocks_of}
+use Rattle.node_core.specs.Node.{KeptValue}
+use Rattle.node_core.proofs.SourceLemmas.{kept-on, counts-blocks, tells-joined, same-content, same-entries, has-looked}
+use Rattle.node_core.proofs.over_disk.check.Goals as goal
+
+pub new-store-requires : goal.new-store-requires
+new-store-requires g c =
+    kept-on c.args.kept.now c.kept.inside.tree.entries c.args.cache.now (g.D.Disk.reads_as c.args.disk.now) (ap (λ (v : KeptValue). v.entries) c.kept.view_is) c.requires.own
+
+pub check-requires : goal.check-requires
+check-requires g c = record {
+  counts = counts-blocks (blocks_of c.kept.inside.blocks.stored) c.args.kept.now.chain.blocks c.kept.inside.tree.entries _
+      (ap (λ (v : KeptValue). v.chain.blocks) c.kept.view_is) c.kept.invariant.indexed (ap (λ (t : TreeValue). t.entries) c.new-store.ensures.tree);
+}
+
+pub returns-clause-looked : goal.returns-clause-looked
+returns-clause-looked g c =
+    let same = ap (λ (t : TreeValue). t.entries) c.new-store.ensures.tree ∙ ap (λ (v : KeptValue). v.entries) c.kept.view_is in
+    let content = same-content c.check.ensures.read.loans ∙ ap g.D.Disk.content_of c.new-store.ensures.disk in
+    has-looked c.args.kept.now c.check.new.blocks.tree.now.entries c.args.cache.now _ (same-entries c.check.ensures.read.loans ∙ same) content
+    (g.met.D.Disk.content_rests _ _ content).reads c.requires.own c.check.new.blocks.kept c.check.ensures.read.damage
+    (behind (ap g.D.Disk.faults c.new-store.ensures.disk) c.check.ensures.read.cause)
+
+pub returns-clause-passes : goal.returns-clause-passes
+returns-clause-passes g c told joined =
+    let same = ap (λ (t : TreeValue). t.entries) c.new-store.ensures.tree ∙ ap (λ (v : KeptValue). v.entries) c.kept.view_is in
+    c.check.ensures.passes (tells-joined c.args.kept.now c.new-store.result.tree.now.entries c.args.cache.now (g.D.Disk.reads_as c.new-store.result.disk.now)
+    (g.D.Disk.reads_as c.args.disk.now) same (ap g.D.Disk.reads_as c.new-store.ensures.disk) c.requires.own told joined)
+
+pub returns-clause-broken : goal.returns-clause-broken
+returns-clause-broken g c told joined =
+    let same = ap (λ (t : TreeValue). t.entries) c.new-store.ensures.tree ∙ ap (λ (v : KeptValue). v.entries) c.kept.view_is in
+    c.check.ensures.broken (tells-joined c.args.kept.now c.new-store.result.tree.now.entries c.args.cache.now (g.D.Disk.reads_as c.new-store.result.disk.now)
+    (g.D.Disk.reads_as c.args.disk.now) same (ap g.D.Disk.reads_as c.new-store.ensures.disk) c.requires.own told joined)
+
+pub returns-clause-undamaged : goal.returns-clause-undamaged
+returns-clause-undamaged g c told joined =
+    let same = ap (λ (t : TreeValue). t.entries) c.new-store.ensures.tree ∙ ap (λ (v : KeptValue). v.entries) c.kept.view_is in
+    c.check.ensures.undamaged (tells-joined c.args.kept.now c.new-store.result.tree.now.entries c.args.cache.now (g.D.Disk.reads_as c.new-store.result.disk.now)
+    (g.D.Disk.reads_as c.args.disk.now) same (ap g.D.Disk.reads_as c.new-store.ensures.disk) c.requires.own told joined)

@@ -1,0 +1,48 @@
+use Rattle.std.proofs.Common.{ap, ◌∙◌}
+use Rattle.outside.proofs.Endings.{behind}
+use Rattle.chain_tree.specs.Entries.{TreeValue}
+use Rattle.chain_tree.specs.Told.{blocks_of}
+use Rattle.node_core.specs.Node.{KeptValue}
+use Rattle.node_core.proofs.SourceLemmas.{kept-on, counts-blocks, tells-joined, same-content, same-entries, has-looked}
+use Rattle.node_core.proofs.over_disk.moved.Goals as goal
+
+pub new-store-requires : goal.new-store-requires
+new-store-requires g c =
+    kept-on c.args.kept.now c.kept.inside.tree.entries c.args.cache.now (g.D.Disk.reads_as c.args.disk.now) (ap (λ (v : KeptValue). v.entries) c.kept.view_is) c.requires.own
+
+pub moved-requires-clause-from : goal.moved-requires-clause-from
+moved-requires-clause-from g c = c.requires.from
+
+pub moved-requires-clause-to : goal.moved-requires-clause-to
+moved-requires-clause-to g c = c.requires.to
+
+pub moved-requires-clause-counts : goal.moved-requires-clause-counts
+moved-requires-clause-counts g c =
+    counts-blocks (blocks_of c.kept.inside.blocks.stored) c.args.kept.now.chain.blocks c.kept.inside.tree.entries _
+    (ap (λ (v : KeptValue). v.chain.blocks) c.kept.view_is) c.kept.invariant.indexed (ap (λ (t : TreeValue). t.entries) c.new-store.ensures.tree)
+
+pub returns-clause-looked : goal.returns-clause-looked
+returns-clause-looked g c =
+    let same = ap (λ (t : TreeValue). t.entries) c.new-store.ensures.tree ∙ ap (λ (v : KeptValue). v.entries) c.kept.view_is in
+    let content = same-content c.moved.ensures.read.loans ∙ ap g.D.Disk.content_of c.new-store.ensures.disk in
+    has-looked c.args.kept.now c.moved.new.blocks.tree.now.entries c.args.cache.now _ (same-entries c.moved.ensures.read.loans ∙ same) content
+    (g.met.D.Disk.content_rests _ _ content).reads c.requires.own c.moved.new.blocks.kept c.moved.ensures.read.damage
+    (behind (ap g.D.Disk.faults c.new-store.ensures.disk) c.moved.ensures.read.cause)
+
+pub returns-clause-cells : goal.returns-clause-cells
+returns-clause-cells g c told joined =
+    let same = ap (λ (t : TreeValue). t.entries) c.new-store.ensures.tree ∙ ap (λ (v : KeptValue). v.entries) c.kept.view_is in
+    c.moved.ensures.cells (tells-joined c.args.kept.now c.new-store.result.tree.now.entries c.args.cache.now (g.D.Disk.reads_as c.new-store.result.disk.now)
+    (g.D.Disk.reads_as c.args.disk.now) same (ap g.D.Disk.reads_as c.new-store.ensures.disk) c.requires.own told joined)
+
+pub returns-clause-undamaged : goal.returns-clause-undamaged
+returns-clause-undamaged g c told joined =
+    let same = ap (λ (t : TreeValue). t.entries) c.new-store.ensures.tree ∙ ap (λ (v : KeptValue). v.entries) c.kept.view_is in
+    c.moved.ensures.undamaged (tells-joined c.args.kept.now c.new-store.result.tree.now.entries c.args.cache.now (g.D.Disk.reads_as c.new-store.result.disk.now)
+    (g.D.Disk.reads_as c.args.disk.now) same (ap g.D.Disk.reads_as c.new-store.ensures.disk) c.requires.own told joined)
+
+pub returns-clause-steps : goal.returns-clause-steps
+returns-clause-steps g c = c.moved.ensures.steps
+
+pub returns-clause-most : goal.returns-clause-most
+returns-clause-most g c = c.moved.ensures.most

@@ -1,0 +1,162 @@
+// What is kept of the blocks of a log, gathered as they are read.
+ghost use Rattle.std.specs.Prelude.{◌≡◌, ◌≢◌, ◌<◌, ◌≤◌, ◌&&◌, [], true, false, Some, length, IfOk, IfErr, IsOk, OnOk};
+ghost use Rattle.chain_defs.specs.Kept.{kept_limit};
+ghost use Rattle.cell_defs.specs.Ext.{count_at, is_ext};
+ghost use Rattle.cell_state.specs.State.{rows};
+ghost use Rattle.chain_tree.specs.Blocks.{Describes, AreRated};
+ghost use Rattle.log_file.specs.Grammar.{AreBlocks};
+ghost use Rattle.log_file.specs.declared.stop.LogStop.TheVariants.{NotAStore};
+ghost use Rattle.reorg.specs.Moves.{AreOf};
+ghost use Rattle.node_core.specs.Node.{kept_of, CountFees};
+ghost use Rattle.node_core.specs.Gathering.{counts_fees, fits_at, AreLeftBy};
+
+use crate::kept::Kept;
+use crate::recorded::Recorded;
+use cell_state::State;
+use chain_tree::{Entry, Tree};
+use dao_math::is_rated;
+use epochs::Spec;
+use log_file::{LogStop, Visitor};
+use mol_schema::BlockView;
+use outside::NoMemory;
+use std::alloc::Global;
+use std::marker::Model;
+use uncle_rules::Uncles;
+
+/// What is gathered of the blocks of a log. Clauses see them, each with its ext.
+#[derive(Drop)]
+pub(crate) struct Gathering {
+    blocks: Recorded,
+    count: u32,
+    uncles: Uncles,
+    /// The live cells that the genesis leaves, once it was read.
+    genesis: Option<State>,
+    /// Whether the DAO field of each block is rated, and each ext after the genesis counts the fees of its block.
+    fits: bool,
+}
+
+impl Model for Gathering {
+    ghost use Rattle.node_core.specs.Node.{RecordedValue};
+    ghost use Rattle.node_core.specs.Gathering.{IsGathered};
+
+    ghost Value = { RecordedValue };
+
+    ghost view = { λ it. it.blocks };
+
+    ghost invariant = { λ it. IsGathered it.blocks.stored it.count it.uncles it.genesis it.fits };
+}
+
+/// The count of fees of an ext.
+fn fees_in(ext: &[u8]) -> u32
+    requires { 4 ≤ length ext.now }
+    ensures { result ≡ count_at ext.now 0 }
+{
+    let mut count = [0; 4];
+    count.copy_from_slice(&ext[..4]);
+    u32::from_le_bytes(count)
+}
+
+/// Whether an ext counts a fee for each transaction of its block after the first.
+fn counts(block: &BlockView<'_>, ext: &[u8]) -> bool
+    requires { is_ext ext.now ≡ true }
+    ensures { result ≡ counts_fees (record { block = block.now; ext = ext.now }) }
+{
+    fees_in(ext) as usize == block.transactions_count().saturating_sub(1)
+}
+
+/// Whether a block with its ext fits at a place: the genesis has no ext.
+fn fits(block: &BlockView<'_>, ext: &[u8], entry: &Entry, place: u32) -> bool
+    requires describes { Describes block.now entry.now }
+    requires form { 0 < place → is_ext ext.now ≡ true }
+    ensures { result ≡ fits_at place (record { block = block.now; ext = ext.now }) }
+{
+    if place == 0 {
+        return is_rated(&entry.dao);
+    }
+    is_rated(&entry.dao) && counts(block, ext)
+}
+
+/// Takes the live cells that a block leaves, where its place is that of the genesis.
+fn take_cells(
+    alloc: Global,
+    cells: &mut Option<State>,
+    block: &BlockView<'_>,
+    place: u32,
+) -> Result<(), NoMemory>
+    ensures genesis { place ≡ 0 → OnOk result (AreLeftBy block.now cells.new) }
+    ensures later { 0 < place → cells.new ≡ cells.old }
+{
+    if place == 0 {
+        *cells = Some(State::genesis(alloc, block)?);
+    }
+    Ok(())
+}
+
+impl Gathering {
+    /// Of no block.
+    pub(crate) fn new(alloc: Global) -> Gathering
+        ensures { result.stored ≡ [] }
+    {
+        Gathering {
+            blocks: Recorded::new(alloc),
+            count: 0,
+            uncles: Uncles::new(alloc),
+            genesis: None,
+            fits: true,
+        }
+    }
+
+    /// What is kept of the blocks, whose entries a tree has, and the live cells that the genesis leaves. Where a block's C or
+    /// AR is 0, or what stands beside it is no ext for it, they have not joined, and the log is none of a store.
+    pub(crate) fn into_kept(self, spec: Spec, tree: Tree) -> Result<(Kept, State), LogStop>
+        requires { AreBlocks self.stored tree.entries }
+        ensures kept { IfOk result (λ it. it.0 ≡ kept_of spec self.stored tree.entries) }
+        ensures cells { IfOk result (λ it. AreOf it.0.chain.blocks 0 (rows it.1)) }
+        ensures wrong { OnOk result (AreRated tree.entries × CountFees self.stored) }
+        ensures right { 0 < length self.stored → AreRated tree.entries → CountFees self.stored → IsOk result }
+        ensures stop { IfErr result (λ stop. stop ≡ NotAStore) }
+    {
+        let Gathering {
+            blocks,
+            count,
+            uncles,
+            genesis,
+            fits,
+        } = self;
+        if count == 0 || !fits {
+            drop((blocks, uncles, genesis, tree));
+            return Err(LogStop::NotAStore);
+        }
+        let Some(cells) = genesis else {
+            unreachable!()
+        };
+        let kept = Kept {
+            spec,
+            blocks,
+            tree,
+            uncles,
+        };
+        Ok((kept, cells))
+    }
+}
+
+impl Visitor for Gathering {
+    ghost visited = { λ it. it.stored };
+
+    fn visit(
+        &mut self,
+        alloc: Global,
+        block: &BlockView<'_>,
+        ext: &[u8],
+        entry: &Entry,
+    ) -> Result<(), NoMemory> {
+        let fits = fits(block, ext, entry, self.count);
+        take_cells(alloc, &mut self.genesis, block, self.count)?;
+        self.uncles.reserve(block.uncles_count())?;
+        self.blocks.push(alloc, block, ext)?;
+        self.uncles.add(block, self.count);
+        self.count += 1;
+        self.fits = self.fits && fits;
+        Ok(())
+    }
+}
