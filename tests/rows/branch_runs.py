@@ -9,7 +9,10 @@ branch to one end, on another to another, and on a third not at all. After each 
 one that is refused, one that joins beside the tip's branch and one that becomes the tip,
 `cell` is asked for each cell. What it says is a replay of the tip's branch from the
 genesis, in a dict, by docs/RULES.md ("Cells"). Then all blocks are imported in one run,
-where a block is judged over what those before it left. Nothing is taken from the program.
+where a block is judged over what those before it left. At last an import, a `check`, a
+`header` and a `cell` are run over disks of which one call fails, each call in its turn:
+none may answer anything else, and nothing that was kept is lost. Nothing is taken from
+the program.
 """
 
 from common import emit
@@ -23,6 +26,10 @@ from paying_chain import ancestors
 from script_scene import Cell, data_hash
 
 NAME = 'branches that spend a cell differently'
+
+# the calls of the disk that `init` makes, and fewer than the runs after it make: each of the blocks that join takes four
+INIT_CALLS = 8
+LEAST_CALLS = 100
 
 
 def spending(spent, *capacities):
@@ -112,9 +119,12 @@ def main():
     chain = branches()
     given = chain.spec.item() + chain.genesis.item()
 
+    def begins():
+        emit(NAME, 'init', 0, given, (genesis_line(chain.genesis) + '\n').encode())
+
     def starts(name):
         emit('folder', name)
-        emit(NAME, 'init', 0, given, (genesis_line(chain.genesis) + '\n').encode())
+        begins()
 
     def imports(items):
         refused = any(line.startswith('refused') for _, line in items)
@@ -132,6 +142,15 @@ def main():
     starts(NAME + ', in one run')
     imports(chain.items)
     asks(chain.best[-1])
+    emit('faults', INIT_CALLS, LEAST_CALLS)
+    begins()
+    imports(chain.items)
+    # its input is spent on the tip's branch
+    emit(NAME, 'check', 1, LEFT.item(), b'refused J20\n')
+    root = next(it for it in ancestors(chain.best[-1]) if it.number == 1)
+    emit(NAME, 'header 1', 0, b'', ('header 1 0x%s 0x%s\n' % (root.hash().hex(), root.header().hex())).encode())
+    asks(chain.best[-1])
+    emit('end')
 
 
 if __name__ == '__main__':

@@ -1,11 +1,13 @@
 -- A new store of a generated chain, its items one after the other, and its tip.
 use Rattle.std.proofs.Common.{◌≡◌, ℕ, ◌+◌, ◌≤◌, ◌<◌, Bool, true, false, List, [], ◌∷◌, ◌++◌, length, map, take, get_or, Vec, Global, Option, Some, None, refl, sym, ap, ◌∙◌, subst, arith}
-use Rattle.std.specs.Prelude.{IfSome, cond, ◌==◌}
+use Rattle.std.specs.Prelude.{IfSome, IsSome, cond, ◌==◌}
 use Rattle.std.specs.List.{filter}
-use Rattle.std.specs.Option.{option_and_then}
+use Rattle.std.specs.Option.{option_map, option_and_then}
 use Rattle.std.proofs.lemmas.List.{take_more, map-append}
 use Rattle.std.proofs.lemmas.Bool.Decides.{nat_tests}
-use Rattle.outside.specs.Image.{Image}
+use Rattle.outside.specs.Image.{Image, with_content}
+use Rattle.outside.specs.Disk.{OthersRead}
+use Rattle.outside.specs.declared.disk.Area.{Area}
 use Rattle.codec_defs.specs.Schema.{OutPoint, Block}
 use Rattle.chain_defs.specs.Branch.{branch}
 use Rattle.chain_defs.specs.Kept.{block_at}
@@ -18,7 +20,7 @@ use Rattle.verdict_defs.specs.Verdict.{joins}
 use Rattle.verdict_defs.specs.Chain.{Chain, verdict_over, chain_after, verdicts_over, chain_over, chain_of_genesis}
 use Rattle.log_defs.specs.Log.{LogContent, log_of}
 use Rattle.store_defs.specs.Store.{Keeps, store_of, store_of_log, StandsFor, IsSound}
-use Rattle.node_core.specs.Node.{IsNew}
+use Rattle.node_core.specs.Node.{NodeValue, IsNew, IsSoundOn, IsOn}
 use Rattle.codec_defs.specs.Shape.{encoded}
 use Rattle.codec_defs.specs.Schema as schema
 use Rattle.gen_defs.specs.Start as start
@@ -66,6 +68,15 @@ new-is-sound spec genesis reads images new image left =
 
 pub of-told : (reads : Option Image) (Q : Type 0) (now : Image) → reads ≡ Some now → IfSome reads (λ image. Q) → Q
 of-told reads Q now told is = subst (λ (r : Option Image). IfSome r (λ image. Q)) told is
+
+-- the node is sound there
+pub sound_on : (node : NodeValue) (reads : Option Image) (images : Image → Type 0) → IsOn node reads images → IsSoundOn node reads
+sound_on node reads images on = record { sound = on.sound; told = subst (λ (r : Option Image). IsSome r) (sym on.image.told) refl }
+
+-- what told its bytes tells them still
+pub tells_still : (area : Area) (old new : Option Image) → OthersRead area old new → IsSome old → IsSome new
+tells_still area None new others told = absurd (cc)
+tells_still area (Some now) new (bytes, is) told = subst (λ (r : Option Image). IsSome r) (sym is) refl
 
 -- ---- Items one after the other
 

@@ -1,5 +1,6 @@
 // What the rows act on, and what a run over it answers.
 
+use crate::faulty::FaultyRuns;
 use crate::folder::{FILE_LIMIT, is_log, put};
 use crate::list::RunList;
 use crate::row::{Call, area_of, behaviour_of, bytes_of, call_of};
@@ -20,10 +21,11 @@ pub struct Trial {
     input: Vec<u8>,
     left: Option<usize>,
     list: Option<RunList>,
+    faulty: Option<FaultyRuns>,
 }
 
 /// The number of the status that a run ends with.
-fn status_of<S: Source, K: Sink, D: Disk, L: Ledger>(
+pub(crate) fn status_of<S: Source, K: Sink, D: Disk, L: Ledger>(
     alloc: Global,
     words: &[String],
     input: &mut S,
@@ -45,7 +47,10 @@ fn has_log(alloc: Global, disk: &mut MemDisk, call: &Call) -> Result<bool, Alloc
 
 /// Whether a row of this name acts on the folder or asks of the last run, which no row of a list may.
 fn is_of_folder(name: &str) -> bool {
-    matches!(name, "folder" | "failing" | "list" | "put" | "left")
+    matches!(
+        name,
+        "folder" | "failing" | "list" | "faults" | "put" | "left"
+    )
 }
 
 impl Trial {
@@ -56,6 +61,7 @@ impl Trial {
             input,
             left: None,
             list: None,
+            faulty: None,
         }
     }
 
@@ -105,13 +111,26 @@ impl Trial {
         self.begin_folder(alloc, failing)
     }
 
-    /// Whether the last list has its `end`.
-    pub fn is_ended(&self) -> bool {
-        self.list.is_none()
+    /// A list of runs that is made over disks of which one call fails, from a number on; at least so many do.
+    fn begin_faults(&mut self, alloc: Global, row: &mut Row) -> Option<bool> {
+        let first = row.number()?;
+        let least = row.number()?;
+        self.faulty = Some(FaultyRuns::new(alloc, first, least));
+        Some(true)
     }
 
-    /// Runs the list in one call.
+    /// Whether the last list has its `end`.
+    pub fn is_ended(&self) -> bool {
+        self.list.is_none() && self.faulty.is_none()
+    }
+
+    /// Runs the list in one call, or over each of its disks.
     fn runs_list<L: Ledger>(&mut self, alloc: Global, steps: &mut Steps<L>) -> Option<bool> {
+        if let Some(faulty) = self.faulty.take() {
+            let agrees = faulty.agrees(alloc, steps);
+            drop(faulty);
+            return agrees.ok();
+        }
         let mut list = self.list.take()?;
         let agrees = list.agrees(alloc, &mut self.disk, steps);
         drop(list);
@@ -127,6 +146,11 @@ impl Trial {
         words: &str,
         call: Call,
     ) -> Result<bool, AllocError> {
+        if let Some(faulty) = &mut self.faulty {
+            let is_run = call.log.is_none();
+            faulty.push(alloc, &self.input, call)?;
+            return Ok(is_run);
+        }
         let Some(list) = &mut self.list else {
             let agrees = self.runs_as(alloc, steps, &call);
             drop(call);
@@ -193,6 +217,7 @@ impl Trial {
             "folder" => self.begin_folder(alloc, Vec::new(alloc)),
             "failing" => self.begin_folder(alloc, row.numbers(alloc)?),
             "list" => self.begin_list(alloc, row.numbers(alloc)?),
+            "faults" => self.begin_faults(alloc, row),
             "end" => self.runs_list(alloc, steps),
             "put" => self.puts(alloc, row),
             "streams" => self.begin_streams(alloc, row),

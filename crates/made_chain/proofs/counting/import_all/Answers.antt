@@ -13,8 +13,8 @@ importing-preserved g c =
     one-more c.args.items.now c.importing.i c.index-items-i.result item (omega (arith, c.importing-test.true)) c.index-items-i.is c.deref.ensures.value in
     let added : c.one_if_joined-joined.result ≡ one_if (joins c.in-Ok.answer.1) = c.one_if_joined-joined.ensures in
     record {
-      are_joined = c.in-Ok.ensures.joined;
-      there = c.in-Ok.ensures.there;
+      sound = c.in-Ok.ensures.sound;
+      own = c.in-Ok.ensures.own;
       kept = c.in-Ok.ensures.kept ∙ chain-push c.args.opened.chain c.importing.node.chain before item c.importing.invariant.kept
           ∙ ap (chain_over c.args.opened.chain) (sym more);
       count = count-push c.args.opened.chain c.importing.node.chain before item c.in-Ok.answer.1 c.importing.joined c.one_if_joined-joined.result c.importing.invariant.kept
