@@ -4,7 +4,7 @@ use Rattle.std.specs.Prelude.{◌↔◌, ◌&&◌, ◌==◌, IsTrue, slice_get}
 use Rattle.std.specs.Option.{option_map}
 use Rattle.std.proofs.lemmas.Bool.{and_parts, and_from}
 use Rattle.std.proofs.lemmas.Bool.Decides.{Decides-eqb}
-use Rattle.std.proofs.lemmas.List.{append-nil, length-map, length_push, map-append}
+use Rattle.std.proofs.lemmas.List.{length-map, length_push, map_push}
 use Rattle.std.proofs.lemmas.Option.{same_Some, slice_get-map, slice_get_within}
 use Rattle.codec_defs.specs.Schema.{OutPoint, Block}
 use Rattle.time_defs.specs.Dao.{is_rated}
@@ -21,6 +21,7 @@ use Rattle.chain_tree.proofs.BlockLemmas.{described, len-same}
 use Rattle.uncle_rules.specs.Embedded.{Embedded, embedded_in, embedded_from, UnclesValue, IndexesUncles}
 use Rattle.log_file.specs.Grammar.{AreBlocks}
 use Rattle.node_core.specs.Node.{CountFees, AreKept}
+use Rattle.node_core.proofs.JoiningLemmas.{uncles-push}
 use Rattle.node_core.specs.Gathering.{counts_fees, fits_at, FitInPlace, AreLeftBy, IsGathered}
 
 -- ---- Exts
@@ -61,27 +62,18 @@ fit-more stored it fits so_far = (
 
 -- ---- Uncles
 
-embedded_from-push : (kept : List Block) (b : Block) (place : ℕ) → embedded_from place (kept ++ b ∷ []) ≡ embedded_from place kept ++ embedded_in (place + length kept) b
-unfolding embedded_from
-embedded_from-push [] b place = append-nil (embedded_in place b) ∙ ap (λ (p : ℕ). embedded_in p b) (omega arith)
-embedded_from-push (first ∷ later) b place =
-    ap (λ (es : List Embedded). embedded_in place first ++ es) (embedded_from-push later b (suc place))
-    ∙ sym (append_assoc (embedded_in place first) (embedded_from (suc place) later) (embedded_in (suc place + length later) b))
-    ∙ ap (λ (p : ℕ). (embedded_in place first ++ embedded_from (suc place) later) ++ embedded_in p b) (omega arith)
-
 none-embedded : embedded_from 0 [] ≡ []
 unfolding embedded_from
 none-embedded = refl
 
 blocks-more : (stored : List Stored) (it : Stored) → blocks_of (stored ++ it ∷ []) ≡ blocks_of stored ++ it.block ∷ []
-blocks-more stored it = map-append (λ (x : Stored). x.block) stored it
+blocks-more stored it = map_push (λ (x : Stored). x.block) stored it
 
 index-more : (stored : List Stored) (it : Stored) (count : ℕ) (old new : UnclesValue) → count ≡ length stored → IndexesUncles (blocks_of stored) old
     → new.embedded ≡ old.embedded ++ embedded_in count it.block → IndexesUncles (blocks_of (stored ++ it ∷ [])) new
 index-more stored it count old new counted index is =
-    let place : count ≡ 0 + length (blocks_of stored) = omega (arith, counted, length-map stored (λ (x : Stored). x.block)) in
-    is ∙ (λ i. index i ++ embedded_in (place i) it.block) ∙ sym (embedded_from-push (blocks_of stored) it.block 0)
-    ∙ ap (embedded_from 0) (sym (blocks-more stored it))
+    let place : count ≡ length (blocks_of stored) = omega (arith, counted, length-map stored (λ (x : Stored). x.block)) in
+    uncles-push (blocks_of stored) it.block count old.embedded new.embedded place index is ∙ ap (embedded_from 0) (sym (blocks-more stored it))
 
 -- ---- The live cells that the genesis leaves
 
