@@ -219,6 +219,10 @@ are-kept-gathered stored entries count uncles cells fits gathered are fit =
       few = are.few;
     }
 
+-- a tree has a tip, so it has entries
+pub some-entries : (tip : ℕ) (entries : List Entry) → tip < length entries → 0 < length entries
+some-entries tip entries within = omega (arith, within)
+
 first-of : (stored : List Stored) (entries : List Entry) → IndexesBlocks (blocks_of stored) entries → 0 < length entries
     → (b : Block) × (block_at (blocks_of stored) 0 ≡ Some b)
 first-of stored entries indexed some = slice_get-below (blocks_of stored) 0 (omega (arith, some, len-same (blocks_of stored) entries indexed))
