@@ -60,6 +60,13 @@ fit-more stored it fits so_far = (
   (λ all. and_from fits (fits_at (length stored) it) (so_far.1 (fit-before stored it all)) (all (length stored) it (slice_get-push stored it))),
 )
 
+-- whether all fit is asked of a block only where those before it do
+pub fits-both : (fits test all : Bool) → fits ≡ true → all ≡ test → all ≡ (fits && test)
+fits-both fits test all so is = is ∙ ap (λ (b : Bool). b && test) (sym so)
+
+pub fits-not : (fits test all : Bool) → fits ≡ false → all ≡ false → all ≡ (fits && test)
+fits-not fits test all not is = is ∙ ap (λ (b : Bool). b && test) (sym not)
+
 -- ---- Uncles
 
 none-embedded : embedded_from 0 [] ≡ []
