@@ -1,12 +1,12 @@
 -- What is gathered of the blocks of a log: one block more, and all of them.
-use Rattle.std.proofs.Common.{◌≡◌, ℕ, zero, suc, ◌+◌, ◌-◌, ◌*◌, ◌<◌, ◌≤◌, ◌^◌, Bool, true, false, eqb, drop, List, [], ◌∷◌, ◌++◌, length, map, Option, Some, None, refl, sym, ap, ◌∙◌, subst, inl, inr, ◌⊎◌, append_assoc, arith}
-use Rattle.std.specs.Prelude.{◌↔◌, ◌&&◌, ◌==◌, IsTrue, slice_get}
+use Rattle.std.proofs.Common.{◌≡◌, ℕ, zero, suc, ◌+◌, ◌-◌, ◌*◌, ◌<◌, ◌≤◌, ◌^◌, Bool, true, false, eqb, drop, List, [], ◌∷◌, ◌++◌, length, Option, Some, None, refl, sym, ap, ◌∙◌, subst, inl, inr, ◌⊎◌, arith}
+use Rattle.std.specs.Prelude.{◌↔◌, ◌&&◌, IsTrue, slice_get}
 use Rattle.std.specs.Option.{option_map}
 use Rattle.std.proofs.lemmas.Bool.{and_parts, and_from}
 use Rattle.std.proofs.lemmas.Bool.Decides.{Decides-eqb}
 use Rattle.std.proofs.lemmas.List.{length-map, length_push, map_push}
 use Rattle.std.proofs.lemmas.Option.{same_Some, slice_get-map, slice_get_within}
-use Rattle.codec_defs.specs.Schema.{OutPoint, Block}
+use Rattle.codec_defs.specs.Schema.{Block}
 use Rattle.time_defs.specs.Dao.{is_rated}
 use Rattle.chain_defs.specs.Kept.{block_at, kept_limit}
 use Rattle.chain_defs.proofs.KeptLaws.{slice_get-below, slice_get-before, slice_get-push, slice_get-pushed}
@@ -15,10 +15,10 @@ use Rattle.cell_state.specs.State.{StateValue, rows}
 use Rattle.reorg.specs.Moves.{AreOf}
 use Rattle.reorg.proofs.RowLemmas.{live_row-genesis}
 use Rattle.chain_tree.specs.declared.entry.Entry.{Entry}
-use Rattle.chain_tree.specs.Blocks.{Describes, IndexesBlocks, AreRated}
+use Rattle.chain_tree.specs.Blocks.{IndexesBlocks, AreRated}
 use Rattle.chain_tree.specs.Told.{Stored, blocks_of}
 use Rattle.chain_tree.proofs.BlockLemmas.{described, len-same}
-use Rattle.uncle_rules.specs.Embedded.{Embedded, embedded_in, embedded_from, UnclesValue, IndexesUncles}
+use Rattle.uncle_rules.specs.Embedded.{embedded_in, embedded_from, UnclesValue, IndexesUncles}
 use Rattle.log_file.specs.Grammar.{AreBlocks}
 use Rattle.node_core.specs.Node.{CountFees, AreKept}
 use Rattle.node_core.proofs.JoiningLemmas.{uncles-push}
