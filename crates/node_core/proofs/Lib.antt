@@ -14,5 +14,4 @@ pub mod StepLemmas
 pub mod OwnLemmas
 pub mod KeepingLemmas
 pub mod QueryLemmas
-pub mod SourceLemmas
 pub mod RecordedLemmas

@@ -39,7 +39,8 @@ use Rattle.node_core.specs.Node.{KeptValue, NodeValue, kept_of, kept_in, node_of
 use Rattle.node_core.specs.Opening.{LeavesStore, IsReadFrom}
 use Rattle.node_core.specs.Steps.{distance_to, moves_to_tip, moves_to_open}
 use Rattle.node_core.proofs.KeepingLemmas.{left_by_opening}
-use Rattle.node_core.proofs.OpeningLemmas.{paired-stored, same_log, same_chain, joined-log, joined-chain, records-are, can-be-kept, chain-opened, counted-opened, joined-opened, rated-opened, some-opened}
+use Rattle.node_core.proofs.RecordedLemmas.{paired-kept, same_image}
+use Rattle.node_core.proofs.OpeningLemmas.{same_log, same_chain, joined-log, joined-chain, records-are, can-be-kept, chain-opened, counted-opened, joined-opened, rated-opened, some-opened}
 
 -- ---- What is said of what a disk reads as
 
@@ -90,7 +91,7 @@ module _ (now : Image) (log : LogContent) (kept : KeptValue) (spec : Specificati
     (of : kept ≡ kept_of spec stored entries) (is : IsOpened now.log log spec stored entries) (are : AreBlocks stored entries)
     (held : List (ℕ × Stored)) (none : held ≡ []) where
   stored_is : stored_of kept ≡ stored
-  stored_is = ap stored_of of ∙ paired-stored stored
+  stored_is = ap stored_of of ∙ paired-kept stored
 
   held_is : record_of 2 log.genesis ∷ log.records ≡ kept_records (stored_of kept)
   held_is = is.opened.held ∙ ap kept_records (sym stored_is)
@@ -175,9 +176,6 @@ pub not_sound : {Stopped : Type 0} (reads mid : Option Image) → mid ≡ reads 
 not_sound None mid same none stopped = tt
 not_sound {Stopped} (Some now) mid same none stopped =
     no_log_sound now (subst (λ (o : Option Image). IfSome o (λ now. Stopped → log_of now.log ≡ None)) same none stopped)
-
-same_image : (image now : Image) → image.log ≡ now.log → image.snap_a ≡ now.snap_a → image.snap_b ≡ now.snap_b → image ≡ now
-same_image image now log snap_a snap_b = λ i. record { log = log i; snap_a = snap_a i; snap_b = snap_b i }
 
 -- ---- What opening leaves of a disk
 

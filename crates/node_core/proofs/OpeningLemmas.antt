@@ -36,14 +36,9 @@ use Rattle.joined_laws.proofs.HeaderLaws.{blocks-are-rated}
 use Rattle.log_file.specs.Grammar.{record_of, ext_in, AreBlocks}
 use Rattle.log_file.specs.Opening.{IsOpened, kept_records}
 use Rattle.block_store.specs.Stored.{CanBeKept}
-use Rattle.node_core.specs.Node.{KeptValue, kept_of, exts_of, paired, CountFees}
+use Rattle.node_core.specs.Node.{KeptValue, kept_of, exts_of, CountFees}
 
 -- ---- What is kept of it
-
--- the blocks with their exts, as they were read
-pub paired-stored : (stored : List Stored) → paired (blocks_of stored) (exts_of stored) ≡ stored
-paired-stored [] = refl
-paired-stored (it ∷ stored) = ap (λ (l : List Stored). it ∷ l) (paired-stored stored)
 
 pub same_log : (one other : LogContent) → Some one ≡ Some other → one ≡ other
 same_log one other same = (cc)

@@ -54,6 +54,10 @@ one-remembered blocks exts more later bytes ext b before same whole grown beside
 
 -- ---- A node on its own disk
 
+-- images of the same areas
+pub same_image : (image now : Image) → image.log ≡ now.log → image.snap_a ≡ now.snap_a → image.snap_b ≡ now.snap_b → image ≡ now
+same_image image now log snap_a snap_b = λ i. record { log = log i; snap_a = snap_a i; snap_b = snap_b i }
+
 -- LOG has what it keeps
 read-own : (node : NodeValue) (reads : Option Image) (images : Image → Type 0) → IsItsOwn node reads images → IfSome reads (IsReadBy (kept_in node) node.held)
 read-own node None images own = tt

@@ -18,17 +18,13 @@ use Rattle.block_store.specs.Stored.{told_by}
 use Rattle.block_store.specs.Held.{IsKept, AgreesWith}
 use Rattle.block_store.proofs.LogLemmas.{tells_the_log}
 use Rattle.block_store.proofs.AgreeLemmas.{agrees_always}
-use Rattle.node_core.specs.Node.{exts_of, paired, KeptValue, kept_of, stored_of, TellsJoined, IsReadBy, HasLooked}
-
--- blocks beside their exts are what was stored
-paired-kept : (stored : List Stored) → paired (blocks_of stored) (exts_of stored) ≡ stored
-paired-kept [] = refl
-paired-kept (it ∷ stored) = ap (λ (later : List Stored). it ∷ later) (paired-kept stored)
+use Rattle.node_core.specs.Node.{KeptValue, kept_of, stored_of, TellsJoined, IsReadBy, HasLooked}
+use Rattle.node_core.proofs.RecordedLemmas.{tells-stored}
 
 pub told-stored : (spec : Specification) (stored : List Stored) (entries : List Entry) (kept : KeptValue) (told : Option (List Stored))
     → kept_of spec stored entries ≡ kept → TellsJoined kept told → told ≡ Some stored
 told-stored spec stored entries kept told whole tells =
-    tells.all ∙ ap (λ (l : List Stored). Some l) (sym (ap stored_of whole) ∙ paired-kept stored)
+    tells-stored spec stored entries kept told whole tells.all
 
 -- it tells the same after it was read
 pub tells-on : (kept : KeptValue) (before now : Option (List Stored)) → now ≡ before → TellsJoined kept before → TellsJoined kept now
