@@ -1,5 +1,5 @@
 -- What a disk has of the kept blocks once one more is kept, and its record stands behind the others.
-use Rattle.std.proofs.Common.{◌≡◌, ℕ, ◌+◌, ◌<◌, List, [], ◌∷◌, ◌++◌, length, drop, Option, Some, None, refl, sym, ap, ◌∙◌, subst, arith}
+use Rattle.std.proofs.Common.{◌≡◌, ℕ, suc, ◌+◌, ◌<◌, List, [], ◌∷◌, ◌++◌, length, drop, Option, Some, None, refl, sym, ap, ◌∙◌, subst, arith}
 use Rattle.std.specs.Prelude.{IfSome, IsTrue}
 use Rattle.std.specs.Option.{option_map}
 use Rattle.std.proofs.lemmas.List.{length-map}
@@ -57,7 +57,11 @@ paired-push (first ∷ blocks) (other ∷ exts) b ext many =
 paired-length : (blocks : List Block) (exts : List (List ℕ)) → length exts ≡ length blocks → length (paired blocks exts) ≡ length blocks
 paired-length [] exts many = refl
 paired-length (first ∷ blocks) [] many = absurd (omega (arith, many))
-paired-length (first ∷ blocks) (other ∷ exts) many = ap (λ (n : ℕ). n + 1) (paired-length blocks exts (omega (arith, many)))
+paired-length (first ∷ blocks) (other ∷ exts) many = ap suc (paired-length blocks exts (omega (arith, many)))
+
+-- the entry, as a record is named
+abbrev pub named_by : Entry → Rec → Entry
+named_by entry rec = record entry { at = rec.at; len = rec.len }
 
 -- ---- The log with its record
 
@@ -66,7 +70,7 @@ module _ (kept next : KeptValue) (b : Block) (item ext : List ℕ) (entry : Entr
     (canonical : decoded block item ≡ Some b) (form : IsTrue (is_ext ext)) (fits : HasFittingBody (block_record item ext))
     (names : Names rec place (block_record item ext)) (at : entry.at ≡ rec.at) (len : entry.len ≡ rec.len)
     (adds : OnlyAdds (length kept.chain.blocks) (record { block = b; ext = ext }) held later) where
-  one_more : Stored
+  abbrev one_more : Stored
   one_more = record { block = b; ext = ext }
 
   bytes_are : item ≡ encoded block b
@@ -130,6 +134,7 @@ module _ (kept next : KeptValue) (b : Block) (item ext : List ℕ) (entry : Entr
     settled_then of = after (record_of 1 of.read.specification ∷ kept_records (stored_of kept)) of.settled
 
     of_next : IsOf (node_of kept place cells held) reads images → IsOf (node_of next end cells1 later) reads1 images1
+    unfolding read_next
     of_next of =
         let then = settled_then of in
         record {
@@ -166,3 +171,13 @@ pub own_there : (node : NodeValue) (reads : Option Image) (images : Image → Ty
 own_there node None images own = tt
 own_there node (Some image) images own =
     subst (λ (now : Image). node.place < length now.log) (same_Some own.settled.now image (sym own.settled.told)) own.settled.rest.there
+
+-- what a cache took more, for the place and the block that it was put for
+pub adds-here : (place count : ℕ) (found it : Stored) (old new : List (ℕ × Stored)) → place ≡ count → found ≡ it → OnlyAdds place found old new
+    → OnlyAdds count it old new
+adds-here place count found it old new at is adds =
+    subst (λ (n : ℕ). OnlyAdds n it old new) at (subst (λ (one : Stored). OnlyAdds place one old new) is adds)
+
+-- one that is put has an ext of the form of one
+pub has-form : (found it : Stored) (ext : List ℕ) → found ≡ it → it.ext ≡ ext → IsTrue (is_ext ext) → IsTrue (is_ext found.ext)
+has-form found it ext is beside form = subst (λ (l : List ℕ). IsTrue (is_ext l)) (sym (ap (λ (one : Stored). one.ext) is ∙ beside)) form
