@@ -25,11 +25,10 @@ use Rattle.log_file.specs.Grammar.{record_of}
 use Rattle.log_file.specs.Opening.{NameBodies, kept_records}
 use Rattle.log_file.specs.declared.log.Rec.{Rec}
 use Rattle.block_store.specs.Held.{OnlyAdds, AgreesWith}
-use Rattle.block_store.specs.Laws.{NamesTheLog}
 use Rattle.block_store.specs.Stored.{later_record, CanBeKept}
 use Rattle.block_store.proofs.LogLemmas.{follows_the_log, adds_a_record}
 use Rattle.block_store.proofs.AgreeLemmas.{keeps_after_append}
-use Rattle.node_core.specs.Node.{exts_of, paired, KeptValue, NodeValue, kept_of, kept_with, stored_of, node_of, IsReadBy, IsOf, IsItsOwn}
+use Rattle.node_core.specs.Node.{paired, KeptValue, NodeValue, kept_of, kept_with, stored_of, node_of, IsReadBy, IsOf, IsItsOwn}
 
 -- ---- What is kept, with one more
 

@@ -1,13 +1,10 @@
 -- What is put behind a log for a block: the bytes of its ext, and its record.
-use Rattle.std.proofs.Common.{◌≡◌, ℕ, ◌+◌, ◌<◌, ◌≤◌, ◌^◌, List, ◌++◌, length, ap, ◌∙◌, arith}
-use Rattle.std.specs.Int.{w32, to_le_bytes}
-use Rattle.std.proofs.lemmas.List.{length-append}
+use Rattle.std.proofs.Common.{◌≡◌, ℕ, ◌<◌, ◌≤◌, ◌^◌, List, length, ap, ◌∙◌, arith}
 use Rattle.std.proofs.lemmas.Nat.{from_le_bytes-to_le_bytes_4}
 use Rattle.cell_defs.specs.Ext.{Ext, ext_bytes, count_at}
 use Rattle.log_defs.specs.Log.{Record}
 use Rattle.log_defs.proofs.Records.{record_length}
-use Rattle.log_defs.specs.LogLaws.{HasFittingBody}
-use Rattle.log_file.specs.Pieces.{behind_gate, block_record}
+use Rattle.log_file.specs.Pieces.{behind_gate}
 use Rattle.log_file.proofs.Gates.{piece_length}
 
 -- the count at the front is that of the fees
@@ -18,8 +15,3 @@ counts_fees ext bytes is few = ap (λ (l : List ℕ). count_at l 0) is ∙ from_
 -- no piece is shorter than its header
 pub piece_long : (r : Record) (piece : List ℕ) → piece ≡ behind_gate r → 6 ≤ length piece
 piece_long r piece is = omega (arith, ap length is, piece_length r, record_length r)
-
--- an item and an ext below these limits make a body whose length fits four bytes
-pub fits_beside : (item ext : List ℕ) → length item < 2 ^ 31 → length ext + 4 ≤ 2 ^ 31 → HasFittingBody (block_record item ext)
-fits_beside item ext size short =
-    omega (arith, size, short, length-append (to_le_bytes w32 (length item)) (item ++ ext), length-append item ext)

@@ -1,5 +1,4 @@
 use Rattle.std.proofs.Common.{rules}
-use Rattle.node_core.proofs.WritingLemmas.{fits_beside}
 use Rattle.node_core.proofs.node.fill.Goals as goal
 
 pub returns-clause-filled : goal.returns-clause-filled
