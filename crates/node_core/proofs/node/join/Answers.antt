@@ -21,18 +21,18 @@ use Rattle.node_core.proofs.KeepingLemmas.{started_import}
 use Rattle.node_core.proofs.node.join.Goals as goal
 
 pub rec_behind-rec-requires-clause-limit : goal.rec_behind-rec-requires-clause-limit
-rec_behind-rec-requires-clause-limit g c = 
+rec_behind-rec-requires-clause-limit g c =
     place_limit (length c.args.kept.chain.blocks) c.args.log.place (omega (arith, c.requires.ready.2.ready.room)) c.requires.within
 
 pub rec_behind-rec-requires-clause-filled : goal.rec_behind-rec-requires-clause-filled
-rec_behind-rec-requires-clause-filled g c = 
+rec_behind-rec-requires-clause-filled g c =
     piece_long (block_record c.args.item.now (ext_bytes c.args.joining.ext)) c.fill.new.body c.in-Ok.ensures.filled
 
 pub join-requires-clause-canonical : goal.join-requires-clause-canonical
 join-requires-clause-canonical g c = (c.requires.ready.0, c.requires.ready.1, c.requires.ready.2.ready)
 
 pub join-requires-clause-ext : goal.join-requires-clause-ext
-join-requires-clause-ext g c = 
+join-requires-clause-ext g c =
     is_ext_for c.args.kept.chain c.args.item.now c.deref-2.result.now c.args.joining c.requires.ready
     (subst (λ (ext : List ℕ). IsTrue (is_ext ext)) (sym c.deref-2.ensures.value) c.in-Ok.ensures.form)
     (ap (λ (ext : List ℕ). count_at ext 0) c.deref-2.ensures.value ∙ c.in-Ok.ensures.fees)
@@ -43,15 +43,15 @@ put-requires g c = record {
 }
 
 pub append-requires-clause-limit : goal.append-requires-clause-limit
-append-requires-clause-limit g c = 
+append-requires-clause-limit g c =
     place_limit (length c.args.kept.chain.blocks) c.args.log.place (omega (arith, c.requires.ready.2.ready.room)) c.requires.within
 
 pub append-requires-clause-there : goal.append-requires-clause-there
-append-requires-clause-there g c = 
+append-requires-clause-there g c =
     own_there (node_of c.args.kept c.args.log.place c.args.state c.args.cache) (g.D.Disk.reads_as c.args.disk.now) (g.D.Disk.images c.args.disk.now) c.requires.own
 
 pub append-requires-clause-filled : goal.append-requires-clause-filled
-append-requires-clause-filled g c = 
+append-requires-clause-filled g c =
     piece_long (block_record c.args.item.now (ext_bytes c.args.joining.ext)) c.fill.new.body c.in-Ok.ensures.filled
 
 pub invariant_of-result : goal.invariant_of-result
@@ -314,7 +314,7 @@ pub returns-in-Ok-append-clause-others : goal.returns-in-Ok-append-clause-others
 returns-in-Ok-append-clause-others g c = c.append.ensures.others
 
 pub returns-in-Ok-append-clause-own : goal.returns-in-Ok-append-clause-own
-returns-in-Ok-append-clause-own g c = 
+returns-in-Ok-append-clause-own g c =
     let ready = c.requires.ready in
     let ext = c.in-Ok.ext.items in
     let below = place_of-below c.args.kept.chain.blocks ready.0.header.parent_hash c.args.joining.entry.parent ready.2.ready.entry.on_kept in
@@ -333,7 +333,7 @@ returns-in-Ok-append-clause-own g c =
     (λ records settled. c.in-Ok-append.ensures.settled records (block_record c.args.item.now ext) filled settled) c.requires.own c.append.ensures.others
 
 pub returns-in-Ok-append-clause-kept : goal.returns-in-Ok-append-clause-kept
-returns-in-Ok-append-clause-kept g c = 
+returns-in-Ok-append-clause-kept g c =
     is_after c.args.kept c.in-Ok-join.joined.0 c.args.kept.chain c.args.item.now c.deref-2.result.now _ c.args.joining refl c.in-Ok-join.ensures.kept
 
 pub returns-in-Ok-append-clause-exts : goal.returns-in-Ok-append-clause-exts
