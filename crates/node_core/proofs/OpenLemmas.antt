@@ -1,5 +1,5 @@
 -- A store that is opened: what its image keeps, what its disk stands for then, and what opening leaves of the disk.
-use Rattle.std.proofs.Common.{◌≡◌, ℕ, ◌+◌, ◌*◌, ◌^◌, ◌≤◌, Bool, false, cond, List, [], ◌∷◌, length, drop, Option, Some, None, refl, sym, ap, ◌∙◌, subst, inl, inr, ◌⊎◌, arith}
+use Rattle.std.proofs.Common.{◌≡◌, ℕ, ◌+◌, ◌*◌, ◌^◌, ◌≤◌, Bool, false, cond, ◌<◌, List, [], ◌∷◌, length, drop, Option, Some, None, refl, sym, ap, ◌∙◌, subst, inl, inr, ◌⊎◌, arith}
 use Rattle.std.specs.Prelude.{◌≢◌, ◌==◌, IfSome, IsSome, slice_index, Result, Ok, Err, IfOk, IsOk, is_err}
 use Rattle.std.specs.Option.{option_map}
 use Rattle.std.proofs.lemmas.Bool.{ne_eqb}
@@ -114,6 +114,7 @@ module _ (now : Image) (log : LogContent) (kept : KeptValue) (spec : Specificati
 
   read_from : (place : ℕ) (cells : StateValue) (reads : Option Image) (images : Image → Type 0)
       → IsSettled place (records_of (drop 8 now.log)) reads images → IsReadFrom (node_of kept place cells held) reads images now
+  unfolding read_by
   read_from place cells reads images settled = record {
     keeps = store_keeps now log is.is_log ∙ ap Keeps (chain-opened now.log log kept spec stored entries of is);
     settled = settled;

@@ -117,6 +117,7 @@ first_body (r ∷ records) = r.body
 fitting-records : (stored : List Stored) (log : LogContent) → record_of 2 log.genesis ∷ log.records ≡ kept_records stored
     → ((place : ℕ) (it : Stored) → slice_get stored place ≡ Some it → IsCanonical it.block) → All HasFittingBody log.records
     → All HasFittingBody (kept_records stored)
+unfolding first_body block
 fitting-records [] log held canonical fits = absurd (cc)
 fitting-records (genesis ∷ later) log held canonical fits =
     let first : log.genesis ≡ encoded block genesis.block = ap first_body held in
