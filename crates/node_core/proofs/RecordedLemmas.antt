@@ -15,7 +15,7 @@ use Rattle.chain_tree.specs.Told.{Stored, blocks_of}
 use Rattle.cell_model.specs.ListBlocks.{stored_from}
 use Rattle.cell_model.proofs.ListLemmas.{stored_from-push, decoding-is}
 use Rattle.cell_state.specs.State.{StateValue}
-use Rattle.node_core.specs.Node.{RecordedValue, KeptValue, NodeValue, kept_of, kept_in, node_of, exts_of, paired, stored_of, IsReadBy, IsOf, IsItsOwn, HasLooked, LeavesAll}
+use Rattle.node_core.specs.Node.{RecordedValue, KeptValue, NodeValue, kept_of, kept_in, node_of, exts_of, paired, stored_of, IsReadBy, IsItsOwn, HasLooked, LeavesAll}
 
 -- blocks and exts of a list are its own, one beside the other
 pub paired-kept : (stored : List Stored) → paired (blocks_of stored) (exts_of stored) ≡ stored

@@ -113,17 +113,19 @@ impl Gathering {
         ensures kept { IfOk result (λ it. it.0 ≡ kept_of spec self.stored tree.entries) }
         ensures cells { IfOk result (λ it. AreOf it.0.chain.blocks 0 (rows it.1)) }
         ensures wrong { OnOk result (AreRated tree.entries × CountFees self.stored) }
-        ensures right { 0 < length self.stored → AreRated tree.entries → CountFees self.stored → IsOk result }
+        ensures right { AreRated tree.entries → CountFees self.stored → IsOk result }
         ensures stop { IfErr result (λ stop. stop ≡ NotAStore) }
     {
+        // A tree has a tip, so there was a genesis.
+        let _ = tree.tip();
         let Gathering {
             blocks,
-            count,
+            count: _,
             uncles,
             genesis,
             fits,
         } = self;
-        if count == 0 || !fits {
+        if !fits {
             drop((blocks, uncles, genesis, tree));
             return Err(LogStop::NotAStore);
         }
