@@ -1,5 +1,5 @@
 -- A store that is opened: what its image keeps, what its disk stands for then, and what opening leaves of the disk.
-use Rattle.std.proofs.Common.{◌≡◌, ℕ, ◌+◌, ◌*◌, ◌^◌, ◌≤◌, Bool, false, cond, ◌<◌, List, [], ◌∷◌, length, drop, Option, Some, None, refl, sym, ap, ◌∙◌, subst, inl, inr, ◌⊎◌, arith}
+use Rattle.std.proofs.Common.{◌≡◌, ℕ, ◌+◌, ◌*◌, ◌^◌, ◌≤◌, Bool, false, cond, List, [], ◌∷◌, length, drop, Option, Some, None, refl, sym, ap, ◌∙◌, subst, inl, inr, ◌⊎◌, arith}
 use Rattle.std.specs.Prelude.{◌≢◌, ◌==◌, IfSome, IsSome, slice_index, Result, Ok, Err, IfOk, IsOk, is_err}
 use Rattle.std.specs.Option.{option_map}
 use Rattle.std.proofs.lemmas.Bool.{ne_eqb}
@@ -39,7 +39,7 @@ use Rattle.node_core.specs.Node.{KeptValue, NodeValue, kept_of, kept_in, node_of
 use Rattle.node_core.specs.Opening.{LeavesStore, IsReadFrom}
 use Rattle.node_core.specs.Steps.{distance_to, moves_to_tip, moves_to_open}
 use Rattle.node_core.proofs.KeepingLemmas.{left_by_opening}
-use Rattle.node_core.proofs.OpeningLemmas.{paired-stored, same_log, same_chain, joined-log, joined-chain, records-are, can-be-kept, chain-opened, counted-opened, joined-opened, rated-opened, some-opened}
+use Rattle.node_core.proofs.OpeningLemmas.{paired-stored, same_log, same_chain, joined-log, joined-chain, records-are, can-be-kept, chain-opened, counted-opened, joined-opened, rated-opened}
 
 -- ---- What is said of what a disk reads as
 
@@ -146,12 +146,11 @@ module _ (reads mid : Option Image) (spec : Specification) (stored : List Stored
       (on_told (λ image. IsSettled place (records_of (drop 8 image.log)) final images) reads mid now same told settled))
 
   -- where the blocks of a log have not joined, the image is not sound
-  pub not_joined : (0 < length stored → AreRated entries → CountFees stored → ⊥) → IfSome reads (λ now. IsSound now → ⊥)
+  pub not_joined : (AreRated entries → CountFees stored → ⊥) → IfSome reads (λ now. IsSound now → ⊥)
   not_joined never = if_told (λ now. IsSound now → ⊥) reads (λ now told sound.
       let found = on_told (Opened spec stored entries) reads mid now same told opened in
       let each = joined-log now found.0 sound found.1.is_log in
-      never (some-opened now.log found.0 spec stored entries found.1 each)
-      (rated-opened now.log found.0 spec stored entries found.1 each (joined-chain now found.0 sound found.1.is_log) are)
+      never (rated-opened now.log found.0 spec stored entries found.1 each (joined-chain now found.0 sound found.1.is_log) are)
       (counted-opened now.log found.0 spec stored entries found.1 each))
 
 -- ---- Where nothing is opened

@@ -234,6 +234,3 @@ module _ (bytes : List ℕ) (log : LogContent) (spec : Specification) (stored : 
       let in_log : block_at log.blocks place ≡ Some here.block =
       ap (λ (blocks : List Block). block_at blocks place) (sym is.opened.blocks) ∙ here.there in
       subst (λ (dao : List ℕ). IsTrue (is_rated dao)) (sym here.is.dao) (blocks-are-rated (chain_of log) place here.block joined in_log)
-
-  pub some-opened : 0 < length stored
-  some-opened = omega (arith, many, ap length is.opened.blocks, length-map stored (λ (it : Stored). it.block))
