@@ -40,7 +40,7 @@ use Rattle.node_core.specs.Opening.{LeavesStore, IsReadFrom}
 use Rattle.node_core.specs.Steps.{distance_to, moves_to_tip, moves_to_open}
 use Rattle.node_core.proofs.KeepingLemmas.{left_by_opening}
 use Rattle.node_core.proofs.RecordedLemmas.{paired-kept, same_image}
-use Rattle.node_core.proofs.OpeningLemmas.{same_log, same_chain, joined-log, joined-chain, records-are, can-be-kept, chain-opened, counted-opened, joined-opened, rated-opened, some-opened}
+use Rattle.node_core.proofs.OpeningLemmas.{same_log, same_chain, joined-log, joined-chain, records-are, can-be-kept, chain-opened, counted-opened, joined-opened, rated-opened}
 
 -- ---- What is said of what a disk reads as
 
@@ -115,6 +115,7 @@ module _ (now : Image) (log : LogContent) (kept : KeptValue) (spec : Specificati
 
   read_from : (place : ℕ) (cells : StateValue) (reads : Option Image) (images : Image → Type 0)
       → IsSettled place (records_of (drop 8 now.log)) reads images → IsReadFrom (node_of kept place cells held) reads images now
+  unfolding read_by
   read_from place cells reads images settled = record {
     keeps = store_keeps now log is.is_log ∙ ap Keeps (chain-opened now.log log kept spec stored entries of is);
     settled = settled;
@@ -146,12 +147,11 @@ module _ (reads mid : Option Image) (spec : Specification) (stored : List Stored
       (on_told (λ image. IsSettled place (records_of (drop 8 image.log)) final images) reads mid now same told settled))
 
   -- where the blocks of a log have not joined, the image is not sound
-  pub not_joined : (0 < length stored → AreRated entries → CountFees stored → ⊥) → IfSome reads (λ now. IsSound now → ⊥)
+  pub not_joined : (AreRated entries → CountFees stored → ⊥) → IfSome reads (λ now. IsSound now → ⊥)
   not_joined never = if_told (λ now. IsSound now → ⊥) reads (λ now told sound.
       let found = on_told (Opened spec stored entries) reads mid now same told opened in
       let each = joined-log now found.0 sound found.1.is_log in
-      never (some-opened now.log found.0 spec stored entries found.1 each)
-      (rated-opened now.log found.0 spec stored entries found.1 each (joined-chain now found.0 sound found.1.is_log) are)
+      never (rated-opened now.log found.0 spec stored entries found.1 each (joined-chain now found.0 sound found.1.is_log) are)
       (counted-opened now.log found.0 spec stored entries found.1 each))
 
 -- ---- Where nothing is opened

@@ -112,6 +112,7 @@ first_body (r ∷ records) = r.body
 fitting-records : (stored : List Stored) (log : LogContent) → record_of 2 log.genesis ∷ log.records ≡ kept_records stored
     → ((place : ℕ) (it : Stored) → slice_get stored place ≡ Some it → IsCanonical it.block) → All HasFittingBody log.records
     → All HasFittingBody (kept_records stored)
+unfolding first_body block
 fitting-records [] log held canonical fits = absurd (cc)
 fitting-records (genesis ∷ later) log held canonical fits =
     let first : log.genesis ≡ encoded block genesis.block = ap first_body held in
@@ -228,6 +229,3 @@ module _ (bytes : List ℕ) (log : LogContent) (spec : Specification) (stored : 
       let in_log : block_at log.blocks place ≡ Some here.block =
       ap (λ (blocks : List Block). block_at blocks place) (sym is.opened.blocks) ∙ here.there in
       subst (λ (dao : List ℕ). IsTrue (is_rated dao)) (sym here.is.dao) (blocks-are-rated (chain_of log) place here.block joined in_log)
-
-  pub some-opened : 0 < length stored
-  some-opened = omega (arith, many, ap length is.opened.blocks, length-map stored (λ (it : Stored). it.block))
