@@ -17,8 +17,8 @@ use Rattle.verdict_defs.proofs.VerdictLaws.{verdict-joined, keeps-what-joins, ke
 use Rattle.store_defs.specs.JoinLaws.{record_over}
 use Rattle.store_defs.specs.Store.{ext_on, own_ext, ext_of_found, ext_over, HaveOwnExts, AreJoined}
 use Rattle.store_defs.proofs.ExtLemmas.{own_push}
-use Rattle.store_defs.proofs.JoinedLemmas.{joined_of_image}
 use Rattle.log_file.specs.Pieces.{block_record}
+use Rattle.chain_tree.specs.declared.entry.Entry.{Entry}
 use Rattle.node_core.specs.declared.deciding.Joining.{Joining}
 use Rattle.node_core.specs.declared.deciding.Decision.{Decision}
 use Rattle.node_core.specs.declared.deciding.Decision.TheVariants.{Joins}
@@ -30,7 +30,7 @@ joined_stays_not is = absurd (cc)
 
 -- what a node keeps on its disk has joined
 pub joined_on : (node : NodeValue) (reads : Option Image) (images : Image → Type 0) → IsOn node reads images → AreJoined node.chain node.exts
-joined_on node reads images on = record { joined = joined_of_image node.chain on.now on.stands; own = on.own }
+joined_on node reads images on = on.sound.joined
 
 -- ---- What was decided
 
@@ -103,8 +103,8 @@ pub place_limit : (count place : ℕ) → count ≤ kept_limit → IsWithin coun
 unfolding kept_limit
 place_limit count place few within = omega (arith, few, within)
 
-module _ (inside next : KeptValue) (chain : Chain) (item ext : List ℕ) (joining : Joining) (same : inside.chain ≡ chain)
-    (kept : (b : Block) → decoded block item ≡ Some b → next ≡ kept_with inside b ext) where
+module _ (inside next : KeptValue) (chain : Chain) (item ext : List ℕ) (entry : Entry) (joining : Joining) (same : inside.chain ≡ chain)
+    (kept : (b : Block) → decoded block item ≡ Some b → next ≡ kept_with inside b ext entry) where
   -- the chain after it
   pub is_after : IsDecided chain item (Joins joining) → next.chain ≡ chain_after chain item
   unfolding can_join
@@ -118,8 +118,8 @@ module _ (inside next : KeptValue) (chain : Chain) (item ext : List ℕ) (joinin
       → HaveOwnExts next.chain next.exts
   own_after (b, is, judged) bytes exts beside have =
       let own : ext ≡ own_ext chain b = bytes ∙ sym (own_is chain b joining judged) in
-      let whole : next ≡ kept_with (record { chain = chain; exts = exts }) b (own_ext chain b) =
-      kept b is ∙ (λ i. kept_with (record { chain = same i; exts = beside i }) b (own i)) in
+      let whole : next ≡ kept_with (record { chain = chain; exts = exts; entries = inside.entries }) b (own_ext chain b) entry =
+      kept b is ∙ (λ i. kept_with (record { chain = same i; exts = beside i; entries = inside.entries }) b (own i) entry) in
       subst (λ (k : KeptValue). HaveOwnExts k.chain k.exts) (sym whole) (own_push chain exts b have)
 
   module _ (ready : IsReadyItem chain item (Joins joining)) where

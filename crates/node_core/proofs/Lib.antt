@@ -13,6 +13,7 @@ pub mod GatherLemmas
 pub mod StepLemmas
 pub mod OwnLemmas
 pub mod KeepingLemmas
+pub mod StayingLemmas
 pub mod QueryLemmas
 pub mod SourceLemmas
 pub mod RecordedLemmas
