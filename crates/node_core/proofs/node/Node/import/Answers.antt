@@ -20,8 +20,8 @@ use Rattle.node_core.proofs.StepLemmas.{moves-of-chain, moves-on-tip, moves-join
 use Rattle.node_core.proofs.StayingLemmas.{of-told, sound-on, sound-joined, not_stopped, stopped-counts, settled-looked, only-looked, own-looked, on-looked, others-looked, moments-looked, keeps-looked, others-then, moments-then, keeps-then}
 use Rattle.node_core.proofs.node.Node.import.Goals as goal
 
-pub decide-requires : goal.decide-requires
-decide-requires g c = record {
+pub decide-decided-requires : goal.decide-decided-requires
+decide-decided-requires g c = record {
   own = read-here c.self.inside.kept c.self.inside.log.place c.self.inside.state c.self.inside.cache c.args.self (g.D.Disk.reads_as c.args.disk.now)
       (g.D.Disk.images c.args.disk.now) c.self.view_is c.requires.own;
 }
