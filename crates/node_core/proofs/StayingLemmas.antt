@@ -1,5 +1,5 @@
 -- A node and its disk while an item is judged, which only looks at them, and after it.
-use Rattle.std.proofs.Common.{◌≡◌, ◌⊎◌, inl, inr, ℕ, List, [], Option, Some, None, Result, Err, refl, sym, ap, ◌∙◌, subst}
+use Rattle.std.proofs.Common.{◌≡◌, ◌⊎◌, inl, ℕ, List, [], Option, Some, None, Result, Err, refl, sym, ap, ◌∙◌, subst}
 use Rattle.std.specs.Prelude.{IfSome, IsSome}
 use Rattle.std.proofs.lemmas.Option.{same_Some}
 use Rattle.outside.specs.Causes.{CountsFault}
@@ -99,9 +99,6 @@ module _ {S C : Type 0} (content_of : S → C) (reads_as : S → Option Image) (
     (old mid : S) (looked : content_of mid ≡ content_of old) where
   as-before : IsAsBefore reads_as images moment left_since old mid
   as-before = rests old mid looked
-
-  pub told-looked : IsSome (reads_as old) → IsSome (reads_as mid)
-  told-looked some = subst IsSome (sym as-before.reads) some
 
   pub settled-looked : (place : ℕ) (records : List Record) → IsSettled place records (reads_as old) (images old) → IsSettled place records (reads_as mid) (images mid)
   settled-looked = settled-same (reads_as old) (reads_as mid) (images old) (images mid) as-before.reads as-before.images
