@@ -1,6 +1,6 @@
 -- A store that is opened: what its image keeps, what its disk stands for then, and what opening leaves of the disk.
 use Rattle.std.proofs.Common.{◌≡◌, ℕ, ◌+◌, ◌*◌, ◌^◌, ◌≤◌, Bool, false, cond, List, [], ◌∷◌, length, drop, Option, Some, None, refl, sym, ap, ◌∙◌, subst, inl, inr, ◌⊎◌, arith}
-use Rattle.std.specs.Prelude.{◌≢◌, ◌==◌, IfSome, IsSome, slice_index, Result, Ok, Err, IfOk, IsOk, is_err}
+use Rattle.std.specs.Prelude.{◌≢◌, ◌==◌, IfSome, IsSome, slice_index, Result, Ok, Err, IsOk, is_err}
 use Rattle.std.specs.Option.{option_map}
 use Rattle.std.proofs.lemmas.Bool.{ne_eqb}
 use Rattle.std.proofs.lemmas.List.{length-map}
@@ -13,11 +13,9 @@ use Rattle.outside.specs.Image.{Image, with_content}
 use Rattle.outside.specs.Causes.{Rose, CountsFault}
 use Rattle.outside.specs.Disk.{NoneNew, IsDurable, HasOneImage, OthersRead, LeavesOnly, IsAsBefore, IsOnlyRead}
 use Rattle.outside.proofs.Moments.{leaves_also, leaves_then, now_too}
-use Rattle.codec_defs.specs.Schema.{OutPoint, Block}
 use Rattle.chain_defs.specs.Kept.{kept_limit}
 use Rattle.chain_defs.specs.Tip.{tip_place}
 use Rattle.chain_defs.specs.Branch.{distance}
-use Rattle.cell_defs.specs.Row.{Row}
 use Rattle.cell_state.specs.State.{StateValue, rows}
 use Rattle.reorg.specs.Moves.{AreOf}
 use Rattle.time_defs.specs.Specification.{Specification}
@@ -27,20 +25,19 @@ use Rattle.log_defs.specs.Rest.{IsAtRest, IsSettled, HasLog}
 use Rattle.log_defs.proofs.Contents.{says_its_records}
 use Rattle.store_defs.specs.Store.{Store, NoLog, Keeps, store_of, store_of_log, chain_of, StandsFor, IsSound, AreJoined}
 use Rattle.chain_tree.specs.declared.entry.Entry.{Entry}
-use Rattle.chain_tree.specs.Blocks.{IndexesBlocks, AreRated}
-use Rattle.chain_tree.specs.Reading.{stop_of}
-use Rattle.chain_tree.specs.Told.{Stored, blocks_of}
+use Rattle.chain_tree.specs.Blocks.{AreRated}
+use Rattle.chain_tree.specs.Told.{Stored}
 use Rattle.log_file.specs.Grammar.{record_of, AreBlocks}
 use Rattle.log_file.specs.Opening.{IsOpened, NameBodies, kept_records}
 use Rattle.log_file.proofs.Settling.{others_kept, others_on}
 use Rattle.block_store.specs.Held.{Holds, AgreesWith}
 use Rattle.block_store.specs.Stored.{CanBeKept}
-use Rattle.node_core.specs.Node.{KeptValue, NodeValue, kept_of, kept_in, node_of, stored_of, exts_of, CountFees, IsWithin, IsReadBy, IsOf, IsItsOwn, IsSoundNode, IsOnlyImage, IsOn, IsLeftByOpening, AreOfTip}
+use Rattle.node_core.specs.Node.{KeptValue, NodeValue, kept_of, node_of, stored_of, CountFees, IsWithin, IsReadBy, IsOf, IsItsOwn, IsSoundNode, IsOnlyImage, IsOn, IsLeftByOpening}
 use Rattle.node_core.specs.Opening.{LeavesStore, IsReadFrom}
-use Rattle.node_core.specs.Steps.{distance_to, moves_to_tip, moves_to_open}
+use Rattle.node_core.specs.Steps.{distance_to, moves_to_open}
 use Rattle.node_core.proofs.KeepingLemmas.{left_by_opening}
 use Rattle.node_core.proofs.RecordedLemmas.{paired-kept, same_image}
-use Rattle.node_core.proofs.OpeningLemmas.{same_log, same_chain, joined-log, joined-chain, records-are, can-be-kept, chain-opened, counted-opened, joined-opened, rated-opened}
+use Rattle.node_core.proofs.OpeningLemmas.{same_chain, joined-log, joined-chain, records-are, can-be-kept, chain-opened, counted-opened, joined-opened, rated-opened}
 
 -- ---- What is said of what a disk reads as
 

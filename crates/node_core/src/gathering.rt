@@ -1,6 +1,5 @@
 // What is kept of the blocks of a log, gathered as they are read.
-ghost use Rattle.std.specs.Prelude.{◌≡◌, ◌≢◌, ◌<◌, ◌≤◌, ◌&&◌, [], true, false, Some, length, IfOk, IfErr, IsOk, OnOk};
-ghost use Rattle.chain_defs.specs.Kept.{kept_limit};
+ghost use Rattle.std.specs.Prelude.{◌≡◌, ◌<◌, ◌≤◌, [], true, length, IfOk, IfErr, IsOk, OnOk};
 ghost use Rattle.cell_defs.specs.Ext.{count_at, is_ext};
 ghost use Rattle.cell_state.specs.State.{rows};
 ghost use Rattle.chain_tree.specs.Blocks.{Describes, AreRated};
@@ -129,9 +128,7 @@ impl Gathering {
             drop((blocks, uncles, genesis, tree));
             return Err(LogStop::NotAStore);
         }
-        let Some(cells) = genesis else {
-            unreachable!()
-        };
+        let Some(cells) = genesis else { unreachable!() };
         let kept = Kept {
             spec,
             blocks,
