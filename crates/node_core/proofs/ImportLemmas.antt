@@ -2,7 +2,6 @@
 use Rattle.std.proofs.Common.{◌≡◌, ℕ, ◌+◌, ◌-◌, ◌<◌, ◌≤◌, ◌^◌, List, [], ◌∷◌, ◌++◌, length, Option, Some, sym, ap, ◌∙◌, subst, arith}
 use Rattle.std.specs.Prelude.{Bool, true, false, IsTrue, IfSome}
 use Rattle.std.proofs.lemmas.List.{length_push}
-use Rattle.outside.specs.Image.{Image}
 use Rattle.codec_defs.specs.Shape.{decoded}
 use Rattle.codec_defs.specs.Schema.{Block, block}
 use Rattle.chain_defs.specs.Kept.{block_hash, kept_limit}
@@ -15,33 +14,22 @@ use Rattle.verdict_defs.specs.Laws.{CanJoin}
 use Rattle.verdict_defs.specs.declared.verdict.Verdict.TheVariants.{Joined}
 use Rattle.verdict_defs.proofs.VerdictLaws.{verdict-joined, keeps-what-joins, kept_after-stays}
 use Rattle.store_defs.specs.JoinLaws.{record_over}
-use Rattle.store_defs.specs.Store.{ext_on, own_ext, ext_of_found, ext_over, HaveOwnExts, AreJoined}
+use Rattle.store_defs.specs.Store.{ext_on, own_ext, ext_of_found, ext_over, HaveOwnExts}
 use Rattle.store_defs.proofs.ExtLemmas.{own_push}
-use Rattle.store_defs.proofs.JoinedLemmas.{joined_of_image}
 use Rattle.log_file.specs.Pieces.{block_record}
+use Rattle.chain_tree.specs.declared.entry.Entry.{Entry}
 use Rattle.node_core.specs.declared.deciding.Joining.{Joining}
 use Rattle.node_core.specs.declared.deciding.Decision.{Decision}
 use Rattle.node_core.specs.declared.deciding.Decision.TheVariants.{Joins}
 use Rattle.node_core.specs.Judging.{IsReadyItem, IsJudged, IsDecided}
-use Rattle.node_core.specs.Node.{KeptValue, NodeValue, kept_with, IsOn, IsWithin}
+use Rattle.node_core.specs.Node.{KeptValue, kept_with, IsWithin}
 
 pub joined_stays_not : ◌≡◌ {A = Bool} true false → ⊥
 joined_stays_not is = absurd (cc)
 
--- what a node keeps on its disk has joined
-pub joined_on : (node : NodeValue) (reads : Option Image) (images : Image → Type 0) → IsOn node reads images → AreJoined node.chain node.exts
-joined_on node reads images on = record { joined = joined_of_image node.chain on.now on.stands; own = on.own }
-
 -- ---- What was decided
 
--- what was decided over this chain
-pub decided_on : (inside kept : KeptValue) (item : List ℕ) (decision is : Decision) → inside ≡ kept → decision ≡ is
-    → (AreJoined inside.chain inside.exts → IsDecided inside.chain item decision) → AreJoined kept.chain kept.exts → IsDecided kept.chain item is
-decided_on inside kept item decision is same found decided joined =
-    subst (λ (d : Decision). IsDecided kept.chain item d) found
-    (subst (λ (k : KeptValue). IsDecided k.chain item decision) same
-    (decided (subst (λ (k : KeptValue). AreJoined k.chain k.exts) (sym same) joined)))
-
+-- what is ready over this chain, where the decision was taken apart
 pub ready_on : (inside chain : Chain) (item : List ℕ) (decision is : Decision) → inside ≡ chain → decision ≡ is
     → IsReadyItem inside item decision → IsReadyItem chain item is
 ready_on inside chain item decision is same found ready =
@@ -103,8 +91,8 @@ pub place_limit : (count place : ℕ) → count ≤ kept_limit → IsWithin coun
 unfolding kept_limit
 place_limit count place few within = omega (arith, few, within)
 
-module _ (inside next : KeptValue) (chain : Chain) (item ext : List ℕ) (joining : Joining) (same : inside.chain ≡ chain)
-    (kept : (b : Block) → decoded block item ≡ Some b → next ≡ kept_with inside b ext) where
+module _ (inside next : KeptValue) (chain : Chain) (item ext : List ℕ) (entry : Entry) (joining : Joining) (same : inside.chain ≡ chain)
+    (kept : (b : Block) → decoded block item ≡ Some b → next ≡ kept_with inside b ext entry) where
   -- the chain after it
   pub is_after : IsDecided chain item (Joins joining) → next.chain ≡ chain_after chain item
   unfolding can_join
@@ -118,8 +106,8 @@ module _ (inside next : KeptValue) (chain : Chain) (item ext : List ℕ) (joinin
       → HaveOwnExts next.chain next.exts
   own_after (b, is, judged) bytes exts beside have =
       let own : ext ≡ own_ext chain b = bytes ∙ sym (own_is chain b joining judged) in
-      let whole : next ≡ kept_with (record { chain = chain; exts = exts }) b (own_ext chain b) =
-      kept b is ∙ (λ i. kept_with (record { chain = same i; exts = beside i }) b (own i)) in
+      let whole : next ≡ kept_with (record { chain = chain; exts = exts; entries = inside.entries }) b (own_ext chain b) entry =
+      kept b is ∙ (λ i. kept_with (record { chain = same i; exts = beside i; entries = inside.entries }) b (own i) entry) in
       subst (λ (k : KeptValue). HaveOwnExts k.chain k.exts) (sym whole) (own_push chain exts b have)
 
   module _ (ready : IsReadyItem chain item (Joins joining)) where

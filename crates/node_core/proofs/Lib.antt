@@ -6,6 +6,7 @@ pub mod JoiningLemmas
 pub mod WritingLemmas
 pub mod ImportLemmas
 pub mod DiskLemmas
+pub mod AppendLemmas
 pub mod NewLemmas
 pub mod OpenLemmas
 pub mod OpeningLemmas
@@ -13,6 +14,6 @@ pub mod GatherLemmas
 pub mod StepLemmas
 pub mod OwnLemmas
 pub mod KeepingLemmas
+pub mod StayingLemmas
 pub mod QueryLemmas
-pub mod SourceLemmas
 pub mod RecordedLemmas
