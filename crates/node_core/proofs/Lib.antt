@@ -6,6 +6,7 @@ pub mod JoiningLemmas
 pub mod WritingLemmas
 pub mod ImportLemmas
 pub mod DiskLemmas
+pub mod AppendLemmas
 pub mod NewLemmas
 pub mod OpenLemmas
 pub mod OpeningLemmas

@@ -29,6 +29,7 @@ ghost use Rattle.verdict_defs.specs.Verdict.{joins};
 ghost use Rattle.verdict_defs.specs.Trial.{trial_on};
 ghost use Rattle.verdict_defs.specs.declared.trial.Trial.TheVariants.{Passes, Refused};
 ghost use Rattle.log_defs.specs.Log.{Record, records_of, end_of_log};
+ghost use Rattle.log_defs.specs.LogLaws.{HasFittingBody};
 ghost use Rattle.log_defs.specs.Rest.{IsSettled};
 ghost use Rattle.store_defs.specs.Store.{Keeps, store_of, StandsFor, IsSound, HaveOwnExts, AreJoined};
 ghost use Rattle.log_file.specs.Pieces.{behind_gate, block_record};
@@ -88,6 +89,7 @@ fn fill(alloc: Global, body: &mut Body, item: &[u8], ext: &Ext) -> Result<Vec<u8
     ensures fees { IfOk result (λ bytes. count_at bytes.items 0 ≡ length ext.now.fees) }
     ensures filled { OnOk result (body.new ≡ behind_gate (block_record item.now (ext_bytes ext.now))) }
     ensures short { OnOk result (length body.new < 2 ^ 33) }
+    ensures fits { IfOk result (λ bytes. HasFittingBody (block_record item.now bytes.items)) }
 {
     let bytes = bytes_of(alloc, ext)?;
     body.fill(alloc, item, &bytes)?;
