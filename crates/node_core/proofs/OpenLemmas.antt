@@ -1,23 +1,19 @@
 -- A store that is opened: what its image keeps, what its disk stands for then, and what opening leaves of the disk.
-use Rattle.std.proofs.Common.{◌≡◌, ℕ, ◌+◌, ◌*◌, ◌^◌, ◌≤◌, Bool, false, cond, List, [], ◌∷◌, length, drop, Option, Some, None, refl, sym, ap, ◌∙◌, subst, inl, inr, ◌⊎◌, arith}
-use Rattle.std.specs.Prelude.{◌≢◌, ◌==◌, IfSome, IsSome, slice_index, Result, Ok, Err, IfOk, IsOk, is_err}
+use Rattle.std.proofs.Common.{◌≡◌, ℕ, ◌+◌, ◌*◌, ◌^◌, ◌≤◌, Bool, cond, List, [], ◌∷◌, length, drop, Option, Some, None, refl, sym, ap, ◌∙◌, subst, inl, inr, ◌⊎◌, arith}
+use Rattle.std.specs.Prelude.{◌≢◌, ◌==◌, IfSome, IsSome, slice_index, Result, Ok, Err, IsOk}
 use Rattle.std.specs.Option.{option_map}
 use Rattle.std.proofs.lemmas.Bool.{ne_eqb}
 use Rattle.std.proofs.lemmas.List.{length-map}
 use Rattle.std.proofs.lemmas.Option.{same_Some}
 use Rattle.outside.specs.declared.disk.Area.TheVariants.{Log, SnapA, SnapB}
-use Rattle.outside.specs.declared.disk.Damage.{Damage}
 use Rattle.outside.specs.declared.disk.ReadStop.{ReadStop}
-use Rattle.outside.specs.declared.disk.ReadStop.TheVariants.{DiskFault, Damaged, NoMemory}
 use Rattle.outside.specs.Image.{Image, with_content}
 use Rattle.outside.specs.Causes.{Rose, CountsFault}
 use Rattle.outside.specs.Disk.{NoneNew, IsDurable, HasOneImage, OthersRead, LeavesOnly, IsAsBefore, IsOnlyRead}
 use Rattle.outside.proofs.Moments.{leaves_also, leaves_then, now_too}
-use Rattle.codec_defs.specs.Schema.{OutPoint, Block}
 use Rattle.chain_defs.specs.Kept.{kept_limit}
 use Rattle.chain_defs.specs.Tip.{tip_place}
 use Rattle.chain_defs.specs.Branch.{distance}
-use Rattle.cell_defs.specs.Row.{Row}
 use Rattle.cell_state.specs.State.{StateValue, rows}
 use Rattle.reorg.specs.Moves.{AreOf}
 use Rattle.time_defs.specs.Specification.{Specification}
@@ -27,24 +23,23 @@ use Rattle.log_defs.specs.Rest.{IsAtRest, IsSettled, HasLog}
 use Rattle.log_defs.proofs.Contents.{says_its_records}
 use Rattle.store_defs.specs.Store.{Store, NoLog, Keeps, store_of, store_of_log, chain_of, StandsFor, IsSound, AreJoined}
 use Rattle.chain_tree.specs.declared.entry.Entry.{Entry}
-use Rattle.chain_tree.specs.Blocks.{IndexesBlocks, AreRated}
-use Rattle.chain_tree.specs.Reading.{stop_of}
-use Rattle.chain_tree.specs.Told.{Stored, blocks_of}
+use Rattle.chain_tree.specs.Blocks.{AreRated}
+use Rattle.chain_tree.specs.Told.{Stored}
 use Rattle.log_file.specs.Grammar.{record_of, AreBlocks}
 use Rattle.log_file.specs.Opening.{IsOpened, NameBodies, kept_records}
 use Rattle.log_file.proofs.Settling.{others_kept, others_on}
 use Rattle.block_store.specs.Held.{Holds, AgreesWith}
 use Rattle.block_store.specs.Stored.{CanBeKept}
-use Rattle.node_core.specs.Node.{KeptValue, NodeValue, kept_of, kept_in, node_of, stored_of, exts_of, CountFees, IsWithin, IsReadBy, IsOf, IsItsOwn, IsSoundNode, IsOnlyImage, IsOn, IsLeftByOpening, AreOfTip}
+use Rattle.node_core.specs.Node.{KeptValue, NodeValue, kept_of, node_of, stored_of, CountFees, IsWithin, IsReadBy, IsOf, IsItsOwn, IsSoundNode, IsOnlyImage, IsOn, IsLeftByOpening}
 use Rattle.node_core.specs.Opening.{LeavesStore, IsReadFrom}
-use Rattle.node_core.specs.Steps.{distance_to, moves_to_tip, moves_to_open}
+use Rattle.node_core.specs.Steps.{distance_to, moves_to_open}
 use Rattle.node_core.proofs.KeepingLemmas.{left_by_opening}
 use Rattle.node_core.proofs.RecordedLemmas.{paired-kept, same_image}
-use Rattle.node_core.proofs.OpeningLemmas.{same_log, same_chain, joined-log, joined-chain, records-are, can-be-kept, chain-opened, counted-opened, joined-opened, rated-opened}
+use Rattle.node_core.proofs.OpeningLemmas.{same_chain, joined-log, joined-chain, records-are, can-be-kept, chain-opened, counted-opened, joined-opened, rated-opened}
 
 -- ---- What is said of what a disk reads as
 
-pub at_some : (P : Image → Type 0) (found : Option Image) (now : Image) → found ≡ Some now → IfSome found P → P now
+at_some : (P : Image → Type 0) (found : Option Image) (now : Image) → found ≡ Some now → IfSome found P → P now
 at_some P found now is here = subst (λ (o : Option Image). IfSome o P) is here
 
 pub if_some_also : (P Q : Image → Type 0) (found : Option Image) → IfSome found P → ((now : Image) → P now → Q now) → IfSome found Q
@@ -64,13 +59,13 @@ store_of_bytes (b ∷ bytes) log is =
     ap (λ (t : Bool). cond t NoLog (store_of_log (log_of (b ∷ bytes)))) (ne_eqb (length (b ∷ bytes)) 0 (λ none. absurd (omega (arith, none))))
     ∙ ap store_of_log is
 
-pub store_keeps : (image : Image) (log : LogContent) → log_of image.log ≡ Some log → store_of image ≡ Keeps (chain_of log)
+store_keeps : (image : Image) (log : LogContent) → log_of image.log ≡ Some log → store_of image ≡ Keeps (chain_of log)
 unfolding store_of
 store_keeps image log is = store_of_bytes image.log log is
 
 -- ---- What was opened
 
-abbrev pub Opened : Specification → List Stored → List Entry → Image → Type 0
+abbrev Opened : Specification → List Stored → List Entry → Image → Type 0
 Opened spec stored entries now = (log : LogContent) × IsOpened now.log log spec stored entries
 
 -- what a node asks of its chain and its place
@@ -129,10 +124,10 @@ module _ (now : Image) (log : LogContent) (kept : KeptValue) (spec : Specificati
   }
 
 -- what is said of the image that a disk tells
-pub on_told : (P : Image → Type 0) (reads mid : Option Image) (now : Image) → mid ≡ reads → reads ≡ Some now → IfSome mid P → P now
+on_told : (P : Image → Type 0) (reads mid : Option Image) (now : Image) → mid ≡ reads → reads ≡ Some now → IfSome mid P → P now
 on_told P reads mid now same told here = subst (λ (o : Option Image). IfSome o P) (same ∙ told) here
 
-pub if_told : (P : Image → Type 0) (reads : Option Image) → ((now : Image) → reads ≡ Some now → P now) → IfSome reads P
+if_told : (P : Image → Type 0) (reads : Option Image) → ((now : Image) → reads ≡ Some now → P now) → IfSome reads P
 if_told P None here = tt
 if_told P (Some now) here = here now refl
 
@@ -157,7 +152,7 @@ module _ (reads mid : Option Image) (spec : Specification) (stored : List Stored
 -- ---- Where nothing is opened
 
 -- a disk that keeps no chain has no log
-pub no_log_in : (now : Image) → ((chain : Chain) → store_of now ≡ Keeps chain → ⊥) → log_of now.log ≡ None
+no_log_in : (now : Image) → ((chain : Chain) → store_of now ≡ Keeps chain → ⊥) → log_of now.log ≡ None
 no_log_in now nothing = by_found (log_of now.log) refl
   where
     by_found : (o : Option LogContent) → log_of now.log ≡ o → log_of now.log ≡ None
@@ -245,11 +240,11 @@ module _ {D : Type 0} (reads_as : D → Option Image) (images : D → Image → 
   }
 
 -- where a disk told, and others of its areas read as they did, it tells
-pub tells_still : (old new : Option Image) (now : Image) → old ≡ Some now → OthersRead Log old new → IsSome new
+tells_still : (old new : Option Image) (now : Image) → old ≡ Some now → OthersRead Log old new → IsSome new
 tells_still old new now told (bytes, wrote) =
     subst IsSome (sym (wrote ∙ ap (option_map (with_content Log bytes)) told)) refl
 
-pub told_before : (old new : Option Image) → OthersRead Log old new → IsSome new → (now : Image) × (old ≡ Some now)
+told_before : (old new : Option Image) → OthersRead Log old new → IsSome new → (now : Image) × (old ≡ Some now)
 told_before None new (bytes, wrote) some = absurd (no_some (subst IsSome wrote some))
   where
     no_some : IsSome (option_map (with_content Log bytes) None) → ⊥

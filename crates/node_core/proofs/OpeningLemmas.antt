@@ -1,5 +1,5 @@
 -- A log that was opened: what is kept of it, and what is so of that where its image is sound.
-use Rattle.std.proofs.Common.{◌≡◌, ℕ, zero, suc, ◌+◌, ◌-◌, ◌*◌, ◌^◌, ◌<◌, ◌≤◌, Bool, true, false, cond, leb, List, [], ◌∷◌, ◌++◌, length, drop, map, Option, Some, None, refl, sym, ap, ◌∙◌, subst, arith}
+use Rattle.std.proofs.Common.{◌≡◌, ℕ, zero, suc, ◌+◌, ◌-◌, ◌^◌, ◌<◌, Bool, true, false, cond, leb, List, [], ◌∷◌, length, drop, map, Option, Some, None, refl, sym, ap, ◌∙◌, subst, arith}
 use Rattle.std.specs.Prelude.{◌&&◌, ◌==◌, IfSome, IsTrue, slice_get, is_none}
 use Rattle.std.specs.Option.{option_map}
 use Rattle.std.specs.List.{All}
@@ -8,28 +8,28 @@ use Rattle.std.proofs.lemmas.Bool.Decides.{Decides-eqb}
 use Rattle.std.proofs.lemmas.List.{length-map}
 use Rattle.std.proofs.lemmas.List.Elements.{All-cons}
 use Rattle.std.proofs.lemmas.Option.{same_Some, slice_get-map, slice_get_within}
-use Rattle.codec_defs.specs.Shape.{IsA, Encoding, encoded, decoded, dynvec, fixvec}
+use Rattle.codec_defs.specs.Shape.{Encoding, encoded, decoded, dynvec, fixvec}
 use Rattle.codec_defs.specs.Schema.{header, uncle_block, transaction, proposal_short_id, Block, block}
 use Rattle.codec_defs.proofs.ShapeLaws.{decoded-is}
 use Rattle.codec_defs.proofs.RowLaws.{block-check}
 use Rattle.fit_laws.specs.Laws.{IsCanonical}
 use Rattle.fit_laws.proofs.ShapeLemmas.{table-parts}
 use Rattle.time_defs.specs.Dao.{is_rated}
-use Rattle.time_defs.specs.Specification.{Specification, specification_of, broken_specification_rule}
+use Rattle.time_defs.specs.Specification.{Specification, broken_specification_rule}
 use Rattle.genesis_defs.specs.Genesis.{broken_genesis_rule}
-use Rattle.chain_defs.specs.Kept.{block_at, blocks_of_item, kept_limit}
+use Rattle.chain_defs.specs.Kept.{block_at, blocks_of_item}
 use Rattle.chain_defs.proofs.KeptLaws.{slice_get-below}
-use Rattle.cell_defs.specs.Ext.{count_at, is_ext}
+use Rattle.cell_defs.specs.Ext.{count_at}
 use Rattle.chain_tree.specs.declared.entry.Entry.{Entry}
-use Rattle.chain_tree.specs.Blocks.{IndexesBlocks, AreRated}
+use Rattle.chain_tree.specs.Blocks.{AreRated}
 use Rattle.chain_tree.specs.Told.{Stored, blocks_of}
-use Rattle.chain_tree.proofs.BlockLemmas.{described, len-same}
+use Rattle.chain_tree.proofs.BlockLemmas.{described}
 use Rattle.verdict_defs.specs.Chain.{Chain}
 use Rattle.outside.specs.Image.{Image}
 use Rattle.log_defs.specs.Log.{Record, LogContent, record_limit, records_of, log_of, content_of_records, are_first, blocks_over, parts_of_body}
 use Rattle.log_defs.specs.LogLaws.{HasFittingBody}
 use Rattle.log_defs.proofs.Contents.{said, counts_its_records}
-use Rattle.store_defs.specs.Store.{Keeps, store_of, chain_of, StandsFor, IsSound, IsJoined, AreJoined, HaveOwnExts, own_ext, chain_before, EachHasJoined}
+use Rattle.store_defs.specs.Store.{Keeps, chain_of, IsSound, IsJoined, AreJoined, HaveOwnExts, own_ext, chain_before, EachHasJoined}
 use Rattle.store_defs.proofs.JoinedLemmas.{joined_of_image}
 use Rattle.store_defs.proofs.ExtLemmas.{HoldsItsExt, exts_of_log, own_of_record}
 use Rattle.joined_laws.proofs.HeaderLaws.{blocks-are-rated}
