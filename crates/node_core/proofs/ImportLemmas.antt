@@ -2,8 +2,6 @@
 use Rattle.std.proofs.Common.{◌≡◌, ℕ, ◌+◌, ◌-◌, ◌<◌, ◌≤◌, ◌^◌, List, [], ◌∷◌, ◌++◌, length, Option, Some, sym, ap, ◌∙◌, subst, arith}
 use Rattle.std.specs.Prelude.{Bool, true, false, IsTrue, IfSome}
 use Rattle.std.proofs.lemmas.List.{length_push}
-use Rattle.outside.specs.Image.{Image}
-use Rattle.chain_tree.specs.declared.entry.Entry.{Entry}
 use Rattle.codec_defs.specs.Shape.{decoded}
 use Rattle.codec_defs.specs.Schema.{Block, block}
 use Rattle.chain_defs.specs.Kept.{block_hash, kept_limit}
@@ -16,32 +14,22 @@ use Rattle.verdict_defs.specs.Laws.{CanJoin}
 use Rattle.verdict_defs.specs.declared.verdict.Verdict.TheVariants.{Joined}
 use Rattle.verdict_defs.proofs.VerdictLaws.{verdict-joined, keeps-what-joins, kept_after-stays}
 use Rattle.store_defs.specs.JoinLaws.{record_over}
-use Rattle.store_defs.specs.Store.{ext_on, own_ext, ext_of_found, ext_over, HaveOwnExts, AreJoined}
+use Rattle.store_defs.specs.Store.{ext_on, own_ext, ext_of_found, ext_over, HaveOwnExts}
 use Rattle.store_defs.proofs.ExtLemmas.{own_push}
 use Rattle.log_file.specs.Pieces.{block_record}
+use Rattle.chain_tree.specs.declared.entry.Entry.{Entry}
 use Rattle.node_core.specs.declared.deciding.Joining.{Joining}
 use Rattle.node_core.specs.declared.deciding.Decision.{Decision}
 use Rattle.node_core.specs.declared.deciding.Decision.TheVariants.{Joins}
 use Rattle.node_core.specs.Judging.{IsReadyItem, IsJudged, IsDecided}
-use Rattle.node_core.specs.Node.{KeptValue, NodeValue, kept_with, IsOn, IsWithin}
+use Rattle.node_core.specs.Node.{KeptValue, kept_with, IsWithin}
 
 pub joined_stays_not : ◌≡◌ {A = Bool} true false → ⊥
 joined_stays_not is = absurd (cc)
 
--- what a node keeps on its disk has joined
-pub joined_on : (node : NodeValue) (reads : Option Image) (images : Image → Type 0) → IsOn node reads images → AreJoined node.chain node.exts
-joined_on node reads images on = on.sound.joined
-
 -- ---- What was decided
 
--- what was decided over this chain
-pub decided_on : (inside kept : KeptValue) (item : List ℕ) (decision is : Decision) → inside ≡ kept → decision ≡ is
-    → (AreJoined inside.chain inside.exts → IsDecided inside.chain item decision) → AreJoined kept.chain kept.exts → IsDecided kept.chain item is
-decided_on inside kept item decision is same found decided joined =
-    subst (λ (d : Decision). IsDecided kept.chain item d) found
-    (subst (λ (k : KeptValue). IsDecided k.chain item decision) same
-    (decided (subst (λ (k : KeptValue). AreJoined k.chain k.exts) (sym same) joined)))
-
+-- what is ready over this chain, where the decision was taken apart
 pub ready_on : (inside chain : Chain) (item : List ℕ) (decision is : Decision) → inside ≡ chain → decision ≡ is
     → IsReadyItem inside item decision → IsReadyItem chain item is
 ready_on inside chain item decision is same found ready =

@@ -14,5 +14,6 @@ pub mod GatherLemmas
 pub mod StepLemmas
 pub mod OwnLemmas
 pub mod KeepingLemmas
+pub mod StayingLemmas
 pub mod QueryLemmas
 pub mod RecordedLemmas

@@ -1,4 +1,4 @@
--- How many steps the live cells take, for an item and to open a store.
+-- How many steps the live cells take for an item.
 use Rattle.std.proofs.Common.{◌≡◌, ℕ, ◌+◌, ◌-◌, ◌*◌, ◌≤◌, Bool, true, false, cond, refl, List, Option, Some, None, sym, ap, ◌∙◌, subst, arith}
 use Rattle.std.specs.Prelude.{is_some}
 use Rattle.codec_defs.specs.Shape.{decoded}
@@ -11,13 +11,11 @@ use Rattle.verdict_defs.specs.Chain.{Chain}
 use Rattle.reorg.proofs.DistanceLemmas.{none-away}
 use Rattle.node_core.specs.declared.deciding.Joining.{Joining}
 use Rattle.node_core.specs.declared.deciding.Decision.TheVariants.{Joins}
-use Rattle.node_core.specs.Judging.{MayBeKept, IsReadyItem}
-use Rattle.node_core.specs.Steps.{distance_from, distance_to, moves_at, moves_on, moves_of, moves_of_block, moves_for, moves_to_tip}
+use Rattle.node_core.specs.Judging.{IsReadyItem}
+use Rattle.node_core.specs.Steps.{distance_from, moves_at, moves_on, moves_of, moves_of_block, moves_for}
 
 pub no-step : (before most : ℕ) → before ≤ before + most
 no-step before most = omega arith
-
--- ---- For an item
 
 -- a block that is not kept, on a kept parent
 pub moves-on-parent : (chain : Chain) (b : Block) (parent : ℕ) → place_of chain.blocks (block_hash b) ≡ None
@@ -79,8 +77,3 @@ moves-on-tip chain item b is on = subst (λ (o : Option Block). moves_of chain o
     by_known : (known : Bool) → cond known 0 (moves_on chain b (place_of chain.blocks b.header.parent_hash)) ≤ 1
     by_known true = omega arith
     by_known false = subst (λ (o : Option ℕ). moves_on chain b o ≤ 1) (sym on) (by_parent (tip_place chain.blocks) refl)
-
--- ---- To open a store
-
-pub to-tip : (kept : List Block) (tip before now : ℕ) → tip_place kept ≡ Some tip → now ≤ before + distance kept 0 tip → now ≤ before + moves_to_tip kept
-to-tip kept tip before now is most = subst (λ (n : ℕ). now ≤ before + n) (sym (ap (distance_to kept 0) is)) most
