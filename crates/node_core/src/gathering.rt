@@ -129,9 +129,7 @@ impl Gathering {
             drop((blocks, uncles, genesis, tree));
             return Err(LogStop::NotAStore);
         }
-        let Some(cells) = genesis else {
-            unreachable!()
-        };
+        let Some(cells) = genesis else { unreachable!() };
         let kept = Kept {
             spec,
             blocks,

@@ -31,6 +31,7 @@ pub returns-clause-wrong : goal.returns-clause-wrong
 returns-clause-wrong c =
     let same = ap (λ (v : RecordedValue). v.stored) c.self.view_is in
     let are = blocks-seen c.self.inside.blocks.stored c.args.self.stored c.args.tree.entries same c.requires in
-    let each = c.self.invariant.fit.0 c.if-not-fits.false in
-    (rated-fit c.self.inside.blocks.stored c.args.tree.entries are.indexed each,
-      counted-seen c.self.inside.blocks.stored c.args.self.stored same (counted-fit c.self.inside.blocks.stored each))
+    let each = c.self.invariant.fit.0 c.if-not-fits.false in (
+      rated-fit c.self.inside.blocks.stored c.args.tree.entries are.indexed each,
+      counted-seen c.self.inside.blocks.stored c.args.self.stored same (counted-fit c.self.inside.blocks.stored each),
+    )
