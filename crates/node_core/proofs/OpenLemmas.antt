@@ -1,14 +1,12 @@
 -- A store that is opened: what its image keeps, what its disk stands for then, and what opening leaves of the disk.
-use Rattle.std.proofs.Common.{◌≡◌, ℕ, ◌+◌, ◌*◌, ◌^◌, ◌≤◌, Bool, false, cond, List, [], ◌∷◌, length, drop, Option, Some, None, refl, sym, ap, ◌∙◌, subst, inl, inr, ◌⊎◌, arith}
-use Rattle.std.specs.Prelude.{◌≢◌, ◌==◌, IfSome, IsSome, slice_index, Result, Ok, Err, IsOk, is_err}
+use Rattle.std.proofs.Common.{◌≡◌, ℕ, ◌+◌, ◌*◌, ◌^◌, ◌≤◌, Bool, cond, List, [], ◌∷◌, length, drop, Option, Some, None, refl, sym, ap, ◌∙◌, subst, inl, inr, ◌⊎◌, arith}
+use Rattle.std.specs.Prelude.{◌≢◌, ◌==◌, IfSome, IsSome, slice_index, Result, Ok, Err, IsOk}
 use Rattle.std.specs.Option.{option_map}
 use Rattle.std.proofs.lemmas.Bool.{ne_eqb}
 use Rattle.std.proofs.lemmas.List.{length-map}
 use Rattle.std.proofs.lemmas.Option.{same_Some}
 use Rattle.outside.specs.declared.disk.Area.TheVariants.{Log, SnapA, SnapB}
-use Rattle.outside.specs.declared.disk.Damage.{Damage}
 use Rattle.outside.specs.declared.disk.ReadStop.{ReadStop}
-use Rattle.outside.specs.declared.disk.ReadStop.TheVariants.{DiskFault, Damaged, NoMemory}
 use Rattle.outside.specs.Image.{Image, with_content}
 use Rattle.outside.specs.Causes.{Rose, CountsFault}
 use Rattle.outside.specs.Disk.{NoneNew, IsDurable, HasOneImage, OthersRead, LeavesOnly, IsAsBefore, IsOnlyRead}
@@ -41,7 +39,7 @@ use Rattle.node_core.proofs.OpeningLemmas.{same_chain, joined-log, joined-chain,
 
 -- ---- What is said of what a disk reads as
 
-pub at_some : (P : Image → Type 0) (found : Option Image) (now : Image) → found ≡ Some now → IfSome found P → P now
+at_some : (P : Image → Type 0) (found : Option Image) (now : Image) → found ≡ Some now → IfSome found P → P now
 at_some P found now is here = subst (λ (o : Option Image). IfSome o P) is here
 
 pub if_some_also : (P Q : Image → Type 0) (found : Option Image) → IfSome found P → ((now : Image) → P now → Q now) → IfSome found Q
@@ -61,13 +59,13 @@ store_of_bytes (b ∷ bytes) log is =
     ap (λ (t : Bool). cond t NoLog (store_of_log (log_of (b ∷ bytes)))) (ne_eqb (length (b ∷ bytes)) 0 (λ none. absurd (omega (arith, none))))
     ∙ ap store_of_log is
 
-pub store_keeps : (image : Image) (log : LogContent) → log_of image.log ≡ Some log → store_of image ≡ Keeps (chain_of log)
+store_keeps : (image : Image) (log : LogContent) → log_of image.log ≡ Some log → store_of image ≡ Keeps (chain_of log)
 unfolding store_of
 store_keeps image log is = store_of_bytes image.log log is
 
 -- ---- What was opened
 
-abbrev pub Opened : Specification → List Stored → List Entry → Image → Type 0
+abbrev Opened : Specification → List Stored → List Entry → Image → Type 0
 Opened spec stored entries now = (log : LogContent) × IsOpened now.log log spec stored entries
 
 -- what a node asks of its chain and its place
@@ -126,10 +124,10 @@ module _ (now : Image) (log : LogContent) (kept : KeptValue) (spec : Specificati
   }
 
 -- what is said of the image that a disk tells
-pub on_told : (P : Image → Type 0) (reads mid : Option Image) (now : Image) → mid ≡ reads → reads ≡ Some now → IfSome mid P → P now
+on_told : (P : Image → Type 0) (reads mid : Option Image) (now : Image) → mid ≡ reads → reads ≡ Some now → IfSome mid P → P now
 on_told P reads mid now same told here = subst (λ (o : Option Image). IfSome o P) (same ∙ told) here
 
-pub if_told : (P : Image → Type 0) (reads : Option Image) → ((now : Image) → reads ≡ Some now → P now) → IfSome reads P
+if_told : (P : Image → Type 0) (reads : Option Image) → ((now : Image) → reads ≡ Some now → P now) → IfSome reads P
 if_told P None here = tt
 if_told P (Some now) here = here now refl
 
@@ -154,7 +152,7 @@ module _ (reads mid : Option Image) (spec : Specification) (stored : List Stored
 -- ---- Where nothing is opened
 
 -- a disk that keeps no chain has no log
-pub no_log_in : (now : Image) → ((chain : Chain) → store_of now ≡ Keeps chain → ⊥) → log_of now.log ≡ None
+no_log_in : (now : Image) → ((chain : Chain) → store_of now ≡ Keeps chain → ⊥) → log_of now.log ≡ None
 no_log_in now nothing = by_found (log_of now.log) refl
   where
     by_found : (o : Option LogContent) → log_of now.log ≡ o → log_of now.log ≡ None
@@ -242,11 +240,11 @@ module _ {D : Type 0} (reads_as : D → Option Image) (images : D → Image → 
   }
 
 -- where a disk told, and others of its areas read as they did, it tells
-pub tells_still : (old new : Option Image) (now : Image) → old ≡ Some now → OthersRead Log old new → IsSome new
+tells_still : (old new : Option Image) (now : Image) → old ≡ Some now → OthersRead Log old new → IsSome new
 tells_still old new now told (bytes, wrote) =
     subst IsSome (sym (wrote ∙ ap (option_map (with_content Log bytes)) told)) refl
 
-pub told_before : (old new : Option Image) → OthersRead Log old new → IsSome new → (now : Image) × (old ≡ Some now)
+told_before : (old new : Option Image) → OthersRead Log old new → IsSome new → (now : Image) × (old ≡ Some now)
 told_before None new (bytes, wrote) some = absurd (no_some (subst IsSome wrote some))
   where
     no_some : IsSome (option_map (with_content Log bytes) None) → ⊥

@@ -1,6 +1,5 @@
 use Rattle.std.proofs.Common.{Err, refl, sym, ap, ◌∙◌}
 use Rattle.outside.proofs.Moments.{now_too}
-use Rattle.log_file.specs.declared.stop.LogStop.TheVariants.{NotAStore}
 use Rattle.log_file.proofs.Exits.{fault_counts, stop_counts, counts_on, fault_not_wrong, not_wrong, wrong_is_no_fault, memory_not_fault, answer_counts, answer_still}
 use Rattle.node_core.proofs.OpenLemmas.{leaves_synced, leaves_read, is_within, opened_read, not_sound, not_joined, one_after, opened_only, if_some_also, same_stop, ok_err, not_ok, counts_none}
 use Rattle.node_core.proofs.node.read_store.Goals as goal
