@@ -146,7 +146,7 @@ def main():
     begins()
     imports(chain.items)
     # its input is spent on the tip's branch
-    emit(NAME, 'check', 1, LEFT.item(), b'refused J20\n')
+    emit(NAME, 'check', 1, LEFT.item, b'refused J20\n')
     root = next(it for it in ancestors(chain.best[-1]) if it.number == 1)
     emit(NAME, 'header 1', 0, b'', ('header 1 0x%s 0x%s\n' % (root.hash().hex(), root.header().hex())).encode())
     asks(chain.best[-1])
