@@ -7,18 +7,19 @@ use Rattle.outside.specs.Streams.{Gives}
 use Rattle.outside.proofs.Streams.{gives_more}
 use Rattle.verdict_defs.specs.Verdict.{joins}
 use Rattle.verdict_defs.specs.Chain.{Chain, verdict_over, chain_after, chain_over}
-use Rattle.store_defs.specs.Store.{Store, Keeps, store_of, StandsFor, IsSound, IsJoined, HaveOwnExts, AreJoined}
-use Rattle.store_defs.proofs.JoinedLemmas.{joined_of_image}
+use Rattle.store_defs.specs.Store.{Store, Keeps, store_of, StandsFor, IsSound, TellsAsBefore}
 use Rattle.report_defs.specs.Items.{Split, split_of}
 use Rattle.report_defs.specs.Report.{item_limit, input_limit, import_limits}
 use Rattle.report_defs.specs.Survival.{NoneJoins}
 use Rattle.item_reader.specs.Items.{Gave, IsPartial, IsItemAt}
 use Rattle.item_reader.proofs.Reading.{few_partial}
+use Rattle.node_core.specs.Node.{NodeValue, IsSoundNode, IsSoundOn}
 use Rattle.node_core.specs.Steps.{moves_for, moves_to_tip, steps_over, moves_to_open}
 use Rattle.node_run.specs.Import.{AreGiven}
 use Rattle.node_run.proofs.LineLemmas.{concat-push}
 use Rattle.node_run.proofs.ImportLemmas.{Whole, all-push, steps-push}
 use Rattle.node_run.proofs.ImportReport.{split_is}
+use Rattle.node_run.proofs.DiskLemmas.{opened_sound}
 use Rattle.node_run.proofs.StoreLemmas.{if_told, same_chain, store_of_stands}
 
 given_also : (P : List (List ℕ) → Type 0) (items : List (List ℕ)) (rest given : List ℕ) → AreGiven items rest given → P items → P (split_of import_limits given).items
@@ -27,8 +28,8 @@ given_also P items rest given are has = subst (λ (s : Split). P s.items) (sym (
 -- ---- Items one after the other
 
 module _ (chain : Chain) (offset : ℕ) (left_old left left_new taken_old taken : Option (List ℕ)) (now : Chain) (refused : Bool)
-    (were_joined are_joined was_on is_on : Type 0) (leaves : (Image → Type 0) → Type 0) (steps_old steps_now : ℕ)
-    (whole : Whole chain offset left_old left taken_old taken now refused were_joined are_joined was_on is_on leaves steps_old steps_now) where
+    (were_sound are_sound was_on is_on : Type 0) (leaves : (Image → Type 0) → Type 0) (steps_old steps_now : ℕ)
+    (whole : Whole chain offset left_old left taken_old taken now refused were_sound are_sound was_on is_on leaves steps_old steps_now) where
   -- What has P of the items, where no whole one stands behind them.
   pub part_also : (P : List (List ℕ) → Type 0) → P whole.items → (given : List ℕ) → Gives left left_new given
       → IsPartial item_limit (Some input_limit) offset given → Gave left_old left_new (λ given. P (split_of import_limits given).items)
@@ -65,34 +66,34 @@ module _ (chain : Chain) (offset : ℕ) (left_old left left_new taken_old taken 
   stop_also P has given gives more (inl partial) = part_also P has given gives partial
   stop_also P has given gives more (inr item) = item_also P given given item gives more
 
-  steps_more : (steps_new : ℕ) (item : List ℕ) → steps_new ≤ steps_now + moves_for now item → were_joined
+  steps_more : (steps_new : ℕ) (item : List ℕ) → steps_new ≤ steps_now + moves_for now item → were_sound
       → steps_new ≤ steps_old + steps_over chain (whole.items ++ item ∷ [])
-  steps_more steps_new item most joined =
+  steps_more steps_new item most sound =
       omega (
         arith,
-        whole.steps joined,
+        whole.steps sound,
         steps-push chain whole.items item,
-        subst (λ (k : Chain). steps_new ≤ steps_now + moves_for k item) (whole.kept_now joined) most,
+        subst (λ (k : Chain). steps_new ≤ steps_now + moves_for k item) (whole.kept_now sound) most,
       )
 
   -- what stands behind them holds no whole item
   pub counted_to_part : (given : List ℕ) → Gives left left_new given → IsPartial item_limit (Some input_limit) offset given
-      → Gave left_old left_new (λ given. were_joined → steps_now ≤ steps_old + steps_over chain (split_of import_limits given).items)
-  counted_to_part given gives partial = part_also (λ xs. were_joined → steps_now ≤ steps_old + steps_over chain xs) whole.steps given gives partial
+      → Gave left_old left_new (λ given. were_sound → steps_now ≤ steps_old + steps_over chain (split_of import_limits given).items)
+  counted_to_part given gives partial = part_also (λ xs. were_sound → steps_now ≤ steps_old + steps_over chain xs) whole.steps given gives partial
 
   -- an item stands behind them
   pub counted_to_item : (steps_new : ℕ) (item given : List ℕ) → IsItemAt item_limit (Some input_limit) offset item given → Gives left left_new given
       → steps_new ≤ steps_now + moves_for now item
-      → Gave left_old left_new (λ given. were_joined → steps_new ≤ steps_old + steps_over chain (split_of import_limits given).items)
+      → Gave left_old left_new (λ given. were_sound → steps_new ≤ steps_old + steps_over chain (split_of import_limits given).items)
   counted_to_item steps_new item given at gives most =
-      item_also (λ xs. were_joined → steps_new ≤ steps_old + steps_over chain xs) item given at gives (steps_more steps_new item most)
+      item_also (λ xs. were_sound → steps_new ≤ steps_old + steps_over chain xs) item given at gives (steps_more steps_new item most)
 
   -- the reading was stopped
   pub counted_to_stop : (given : List ℕ) → Gives left left_new given
       → IsPartial item_limit (Some input_limit) offset given ⊎ IsItemAt item_limit (Some input_limit) offset given given
-      → Gave left_old left_new (λ given. were_joined → steps_now ≤ steps_old + steps_over chain (split_of import_limits given).items)
+      → Gave left_old left_new (λ given. were_sound → steps_now ≤ steps_old + steps_over chain (split_of import_limits given).items)
   counted_to_stop given gives =
-      stop_also (λ xs. were_joined → steps_now ≤ steps_old + steps_over chain xs) whole.steps given gives (steps_more steps_now given (omega arith))
+      stop_also (λ xs. were_sound → steps_now ≤ steps_old + steps_over chain xs) whole.steps given gives (steps_more steps_now given (omega arith))
 
 -- ---- Items none of which joins
 
@@ -111,21 +112,26 @@ pub opened_in : (chain : Chain) (now : Image) (before after : ℕ) → StandsFor
     → after ≤ before + moves_to_tip chain.blocks
 opened_in chain now before after stands most = subst (λ (s : Store). after ≤ before + moves_to_open s) (store_of_stands chain now stands) most
 
--- the chain that was opened is the one that the disk read as, and has joined
-pub opened_sound : (reads : Option Image) (opened chain : Chain) (exts : List (List ℕ)) (now : Image)
-    → (IfSome reads (λ image. store_of image ≡ Keeps opened)) → (IsSound now → HaveOwnExts opened exts) → reads ≡ Some now → StandsFor chain now
-    → (opened ≡ chain) × AreJoined opened exts
-opened_sound reads opened chain exts now kept own told stands =
-    let same : opened ≡ chain = same_chain opened chain (sym (if_told reads (λ image. store_of image ≡ Keeps opened) now kept told) ∙ store_of_stands chain now stands) in
-    (same, record { joined = subst IsJoined (sym same) (joined_of_image chain now stands); own = own (chain, stands) })
+-- the chain that was opened is the one that the disk read as, and the node is sound
+pub opened_over : (before after : Option Image) (opened : NodeValue) (chain : Chain) (now : Image)
+    → IfSome before (λ image. store_of image ≡ Keeps opened.chain) → TellsAsBefore before after → (IsSound now → IsSoundNode opened) → before ≡ Some now → StandsFor chain now
+    → (opened.chain ≡ chain) × IsSoundOn opened after
+opened_over before after opened chain now kept as_before sound told stands = (
+  same_chain opened.chain chain (sym (if_told before (λ image. store_of image ≡ Keeps opened.chain) now kept told) ∙ store_of_stands chain now stands),
+  opened_sound opened before after now as_before sound told (chain, stands),
+)
 
 pub none_over : (opened chain : Chain) (items : List (List ℕ)) → opened ≡ chain → NoneJoins chain items → NoneJoins opened items
 none_over opened chain items same none = subst (λ (k : Chain). NoneJoins k items) (sym same) none
 
-pub counted_over : (reads : Option Image) (opened chain : Chain) (exts : List (List ℕ)) (now : Image) (items : List (List ℕ)) (before mid after : ℕ)
-    → (IfSome reads (λ image. store_of image ≡ Keeps opened)) → (IsSound now → HaveOwnExts opened exts) → reads ≡ Some now → StandsFor chain now
-    → mid ≤ before + moves_to_open (store_of now) → (AreJoined opened exts → after ≤ mid + steps_over opened items)
-    → after ≤ before + moves_to_tip chain.blocks + steps_over chain items
-counted_over reads opened chain exts now items before mid after kept own told stands most counts =
-    let sound = opened_sound reads opened chain exts now kept own told stands in
-    omega (arith, opened_in chain now before mid stands most, subst (λ (k : Chain). after ≤ mid + steps_over k items) sound.0 (counts sound.1))
+pub counted_over : (before after : Option Image) (opened : NodeValue) (chain : Chain) (now : Image) (items : List (List ℕ)) (steps_old steps_now steps_new : ℕ)
+    → IfSome before (λ image. store_of image ≡ Keeps opened.chain) → TellsAsBefore before after → (IsSound now → IsSoundNode opened) → before ≡ Some now → StandsFor chain now
+    → steps_now ≤ steps_old + moves_to_open (store_of now) → (IsSoundOn opened after → steps_new ≤ steps_now + steps_over opened.chain items)
+    → steps_new ≤ steps_old + moves_to_tip chain.blocks + steps_over chain items
+counted_over before after opened chain now items steps_old steps_now steps_new kept as_before sound told stands most counts =
+    let over = opened_over before after opened chain now kept as_before sound told stands in
+    omega (
+      arith,
+      opened_in chain now steps_old steps_now stands most,
+      subst (λ (k : Chain). steps_new ≤ steps_now + steps_over k items) over.0 (counts over.1),
+    )

@@ -44,10 +44,10 @@ pub input_limit-is : input_limit ≡ 1099511627776
 unfolding input_limit
 input_limit-is = refl
 
--- Whole items were imported, and nothing of a next one was read. Where what was kept had joined they are answered by their lines. Where the
+-- Whole items were imported, and nothing of a next one was read. Where the node was sound they are answered by their lines. Where the
 -- node was on its disk it is so now, and at each moment a crash left what joined of some of them.
 pub record Whole (chain : Chain) (offset : ℕ) (left_old left_new taken_old taken_new : Option (List ℕ)) (now : Chain) (refused : Bool)
-    (were_joined are_joined was_on is_on : Type 0) (leaves : (Image → Type 0) → Type 0) (steps_old steps_now : ℕ) : Type 0 where
+    (were_sound are_sound was_on is_on : Type 0) (leaves : (Image → Type 0) → Type 0) (steps_old steps_now : ℕ) : Type 0 where
   pub items : List (List ℕ)
   pub taken : List ℕ
   pub gives : Gives left_old left_new (concat items)
@@ -55,13 +55,13 @@ pub record Whole (chain : Chain) (offset : ℕ) (left_old left_new taken_old tak
   pub all : AreItems import_limits 0 items
   pub place : offset ≡ length (concat items)
   pub within : offset ≤ input_limit
-  pub joined : were_joined → are_joined
-  pub lines : were_joined → taken ≡ text_over chain items
-  pub kept_now : were_joined → now ≡ chain_over chain items
-  pub any_refused : were_joined → refused ≡ list_any rules.refuses (verdicts_over chain items)
+  pub sound : were_sound → are_sound
+  pub lines : were_sound → taken ≡ text_over chain items
+  pub kept_now : were_sound → now ≡ chain_over chain items
+  pub any_refused : were_sound → refused ≡ list_any rules.refuses (verdicts_over chain items)
   pub on : was_on → is_on
   pub moments : was_on → leaves (KeepsSome chain items)
-  pub steps : were_joined → steps_now ≤ steps_old + steps_over chain items
+  pub steps : were_sound → steps_now ≤ steps_old + steps_over chain items
 
 -- ---- What a crash leaves
 
@@ -91,7 +91,7 @@ keeps_either chain items item image (inr new) = keeps_all chain (items ++ item �
 pub on_stands : (node : NodeValue) (chain : Chain) (reads : Option Image) (images : Image → Type 0) → node.chain ≡ chain → IsOn node reads images
     → (image : Image) → images image → StandsFor chain image
 on_stands node chain reads images is on image left =
-    subst (λ (k : Chain). StandsFor k image) is (subst (λ (i : Image). StandsFor node.chain i) (sym (on.one image left)) on.stands)
+    subst (λ (k : Chain). StandsFor k image) is (subst (λ (i : Image). StandsFor node.chain i) (sym (on.image.one image left)) on.image.stands)
 
 module _ {D : Type 0} (images : D → Image → Type 0) (moment : D → ℕ) (left_since : D → ℕ → Image → Type 0)
     (counts_now : (disk : D) (t : ℕ) (image : Image) → t ≤ moment disk → images disk image → left_since disk t image) where
@@ -191,16 +191,16 @@ steps-push chain (x ∷ items) item =
 
 -- one item more was imported
 pub whole_more : (chain : Chain) (offset : ℕ) (left_old left left_new taken_old taken taken_new : Option (List ℕ)) (now new : Chain) (refused : Bool)
-    (were_joined are_joined joined_new was_on is_on on_new : Type 0) (leaves leaves_new : (Image → Type 0) → Type 0) (steps_old steps_now steps_new : ℕ)
+    (were_sound are_sound sound_new was_on is_on on_new : Type 0) (leaves leaves_new : (Image → Type 0) → Type 0) (steps_old steps_now steps_new : ℕ)
     (item given text : List ℕ) (verdict : Verdict) (size : ℕ) (any : Bool)
     → size ≡ length item → any ≡ (refused || rules.refuses verdict)
-    → (whole : Whole chain offset left_old left taken_old taken now refused were_joined are_joined was_on is_on leaves steps_old steps_now) → IsItemAt item_limit (Some input_limit) offset item given
+    → (whole : Whole chain offset left_old left taken_old taken now refused were_sound are_sound was_on is_on leaves steps_old steps_now) → IsItemAt item_limit (Some input_limit) offset item given
     → Gives left left_new given → Takes taken taken_new text
-    → (are_joined → verdict ≡ verdict_over now item) → (are_joined → new ≡ chain_after now item) → (are_joined → text ≡ line_over now item)
-    → (are_joined → joined_new) → (is_on → on_new) → (was_on → leaves_new (KeepsSome chain (whole.items ++ item ∷ []))) → steps_new ≤ steps_now + moves_for now item
-    → (more : Whole chain (offset + size) left_old left_new taken_old taken_new new any were_joined joined_new was_on on_new leaves_new steps_old steps_new)
+    → (are_sound → verdict ≡ verdict_over now item) → (are_sound → new ≡ chain_after now item) → (are_sound → text ≡ line_over now item)
+    → (are_sound → sound_new) → (is_on → on_new) → (was_on → leaves_new (KeepsSome chain (whole.items ++ item ∷ []))) → steps_new ≤ steps_now + moves_for now item
+    → (more : Whole chain (offset + size) left_old left_new taken_old taken_new new any were_sound sound_new was_on on_new leaves_new steps_old steps_new)
     × (more.items ≡ whole.items ++ item ∷ [])
-whole_more chain offset left_old left left_new taken_old taken taken_new now new refused were_joined are_joined joined_new was_on is_on on_new leaves leaves_new steps_old steps_now steps_new item given text verdict size any
+whole_more chain offset left_old left left_new taken_old taken taken_new now new refused were_sound are_sound sound_new was_on is_on on_new leaves leaves_new steps_old steps_now steps_new item given text verdict size any
     long either whole at gives takes judged kept_is text_is stay goes_on moments most = (
       record {
         items = whole.items ++ item ∷ [];
@@ -210,26 +210,26 @@ whole_more chain offset left_old left left_new taken_old taken taken_new now new
         all = all-push whole.items item whole.all at.is_item;
         place = omega (arith, long, whole.place, ap length (concat-push whole.items item), length-append (concat whole.items) item);
         within = rw long at.within;
-        joined = λ joined. stay (whole.joined joined);
-        lines = λ joined.
-            ap (λ bs. bs ++ text) (whole.lines joined)
-            ∙ ap (λ bs. text_over chain whole.items ++ bs) (text_is (whole.joined joined) ∙ ap (λ (k : Chain). line_over k item) (whole.kept_now joined))
+        sound = λ sound. stay (whole.sound sound);
+        lines = λ sound.
+            ap (λ bs. bs ++ text) (whole.lines sound)
+            ∙ ap (λ bs. text_over chain whole.items ++ bs) (text_is (whole.sound sound) ∙ ap (λ (k : Chain). line_over k item) (whole.kept_now sound))
             ∙ sym (lines-push chain whole.items item);
-        kept_now = λ joined. kept_is (whole.joined joined) ∙ ap (λ (k : Chain). chain_after k item) (whole.kept_now joined) ∙ sym (keep-push chain_after chain whole.items item);
-        any_refused = λ joined.
-            either ∙ ap (λ b. b || rules.refuses verdict) (whole.any_refused joined)
+        kept_now = λ sound. kept_is (whole.sound sound) ∙ ap (λ (k : Chain). chain_after k item) (whole.kept_now sound) ∙ sym (keep-push chain_after chain whole.items item);
+        any_refused = λ sound.
+            either ∙ ap (λ b. b || rules.refuses verdict) (whole.any_refused sound)
             ∙ ap (λ (v : Verdict). list_any rules.refuses (verdicts_over chain whole.items) || rules.refuses v)
-            (judged (whole.joined joined) ∙ ap (λ (k : Chain). verdict_over k item) (whole.kept_now joined))
+            (judged (whole.sound sound) ∙ ap (λ (k : Chain). verdict_over k item) (whole.kept_now sound))
             ∙ sym (any-push (verdicts_over chain whole.items) (verdict_over (chain_over chain whole.items) item))
             ∙ sym (ap (list_any rules.refuses) (verdicts-push chain_after verdict_over chain whole.items item));
         on = λ was. goes_on (whole.on was);
         moments = moments;
-        steps = λ joined.
+        steps = λ sound.
             omega (
               arith,
-              whole.steps joined,
+              whole.steps sound,
               steps-push chain whole.items item,
-              subst (λ (k : Chain). steps_new ≤ steps_now + moves_for k item) (whole.kept_now joined) most,
+              subst (λ (k : Chain). steps_new ≤ steps_now + moves_for k item) (whole.kept_now sound) most,
             );
       },
       refl,
@@ -239,17 +239,17 @@ whole_more chain offset left_old left left_new taken_old taken taken_new now new
 
 -- the reading ended behind whole items
 pub imported_to_end : (chain : Chain) (offset : ℕ) (left_old left left_new taken_old taken : Option (List ℕ)) (now : Chain) (ended : Ended)
-    (were_joined are_joined was_on is_on : Type 0) (images : Image → Type 0) (leaves : (Image → Type 0) → Type 0) (steps_old steps_now : ℕ) (given : List ℕ)
-    → Whole chain offset left_old left taken_old taken now ended.refused were_joined are_joined was_on is_on leaves steps_old steps_now → Gives left left_new given
+    (were_sound are_sound was_on is_on : Type 0) (images : Image → Type 0) (leaves : (Image → Type 0) → Type 0) (steps_old steps_now : ℕ) (given : List ℕ)
+    → Whole chain offset left_old left taken_old taken now ended.refused were_sound are_sound was_on is_on leaves steps_old steps_now → Gives left left_new given
     → EndsAt (Some item_limit) (Some input_limit) offset left_new ended.end given → IsPartial item_limit (Some input_limit) offset given → ended.offset ≡ offset
     → (is_on → Each images (StandsFor now))
-    → Transfers left_old left_new taken_old taken (λ given taken. were_joined → AreImported chain left_new (Ok ended) was_on images leaves given taken)
-imported_to_end chain offset left_old left left_new taken_old taken now ended were_joined are_joined was_on is_on images leaves steps_old steps_now given whole gives ends partial there stand = (
+    → Transfers left_old left_new taken_old taken (λ given taken. were_sound → AreImported chain left_new (Ok ended) was_on images leaves given taken)
+imported_to_end chain offset left_old left left_new taken_old taken now ended were_sound are_sound was_on is_on images leaves steps_old steps_now given whole gives ends partial there stand = (
   concat whole.items ++ given,
   whole.taken,
   gives_more left_old left left_new (concat whole.items) given whole.gives gives,
   whole.takes,
-  λ joined. record {
+  λ sound. record {
     items = whole.items;
     before = whole.items;
     rest = given;
@@ -262,31 +262,31 @@ imported_to_end chain offset left_old left left_new taken_old taken now ended we
     came = (
       refl,
       record {
-        lines = whole.lines joined;
-        refused = whole.any_refused joined;
+        lines = whole.lines sound;
+        refused = whole.any_refused sound;
         offset = there ∙ whole.place;
         ends = rw (← whole.place) ends;
       },
     );
-    exit = λ was. λ image left. inl (subst (λ (k : Chain). StandsFor k image) (whole.kept_now joined) (stand (whole.on was) image left));
+    exit = λ was. λ image left. inl (subst (λ (k : Chain). StandsFor k image) (whole.kept_now sound) (stand (whole.on was) image left));
     moments = whole.moments;
   },
 )
 
 -- the reading was stopped behind whole items
 pub imported_to_fault : (chain : Chain) (offset : ℕ) (left_old left left_new taken_old taken : Option (List ℕ)) (now : Chain) (refused : Bool)
-    (were_joined are_joined was_on is_on : Type 0) (images : Image → Type 0) (leaves : (Image → Type 0) → Type 0) (steps_old steps_now : ℕ) (status : Status) (given : List ℕ)
-    → (whole : Whole chain offset left_old left taken_old taken now refused were_joined are_joined was_on is_on leaves steps_old steps_now) → Gives left left_new given → IsReadingStop status
+    (were_sound are_sound was_on is_on : Type 0) (images : Image → Type 0) (leaves : (Image → Type 0) → Type 0) (steps_old steps_now : ℕ) (status : Status) (given : List ℕ)
+    → (whole : Whole chain offset left_old left taken_old taken now refused were_sound are_sound was_on is_on leaves steps_old steps_now) → Gives left left_new given → IsReadingStop status
     → IsPartial item_limit (Some input_limit) offset given ⊎ IsItemAt item_limit (Some input_limit) offset given given
     → (is_on → Each images (StandsFor now))
     → (leaves (KeepsSome chain whole.items) → leaves (KeepsSome chain (whole.items ++ given ∷ [])))
-    → Transfers left_old left_new taken_old taken (λ given taken. were_joined → AreImported chain left_new (Err status) was_on images leaves given taken)
-imported_to_fault chain offset left_old left left_new taken_old taken now refused were_joined are_joined was_on is_on images leaves steps_old steps_now status given whole gives stop (inl partial) stand weaker = (
+    → Transfers left_old left_new taken_old taken (λ given taken. were_sound → AreImported chain left_new (Err status) was_on images leaves given taken)
+imported_to_fault chain offset left_old left left_new taken_old taken now refused were_sound are_sound was_on is_on images leaves steps_old steps_now status given whole gives stop (inl partial) stand weaker = (
   concat whole.items ++ given,
   whole.taken,
   gives_more left_old left left_new (concat whole.items) given whole.gives gives,
   whole.takes,
-  λ joined. record {
+  λ sound. record {
     items = whole.items;
     before = whole.items;
     rest = given;
@@ -299,20 +299,20 @@ imported_to_fault chain offset left_old left left_new taken_old taken now refuse
     came = record {
       stop = reading_stops status stop;
       part = [];
-      taken_is = whole.lines joined ∙ sym (append-nil (text_over chain whole.items));
+      taken_is = whole.lines sound ∙ sym (append-nil (text_over chain whole.items));
       silent = λ early. refl;
       last = inl (refl, refl);
     };
-    exit = λ was. λ image left. inl (subst (λ (k : Chain). StandsFor k image) (whole.kept_now joined) (stand (whole.on was) image left));
+    exit = λ was. λ image left. inl (subst (λ (k : Chain). StandsFor k image) (whole.kept_now sound) (stand (whole.on was) image left));
     moments = whole.moments;
   },
 )
-imported_to_fault chain offset left_old left left_new taken_old taken now refused were_joined are_joined was_on is_on images leaves steps_old steps_now status given whole gives stop (inr at) stand weaker = (
+imported_to_fault chain offset left_old left left_new taken_old taken now refused were_sound are_sound was_on is_on images leaves steps_old steps_now status given whole gives stop (inr at) stand weaker = (
   concat whole.items ++ given,
   whole.taken,
   gives_more left_old left left_new (concat whole.items) given whole.gives gives,
   whole.takes,
-  λ joined. record {
+  λ sound. record {
     items = whole.items ++ given ∷ [];
     before = whole.items;
     rest = [];
@@ -325,7 +325,7 @@ imported_to_fault chain offset left_old left left_new taken_old taken now refuse
     came = record {
       stop = reading_stops status stop;
       part = [];
-      taken_is = whole.lines joined ∙ sym (append-nil (text_over chain whole.items));
+      taken_is = whole.lines sound ∙ sym (append-nil (text_over chain whole.items));
       silent = λ early. refl;
       last = inr (
         given,
@@ -337,27 +337,27 @@ imported_to_fault chain offset left_old left left_new taken_old taken now refuse
         },
       );
     };
-    exit = λ was. λ image left. inl (subst (λ (k : Chain). StandsFor k image) (whole.kept_now joined) (stand (whole.on was) image left));
+    exit = λ was. λ image left. inl (subst (λ (k : Chain). StandsFor k image) (whole.kept_now sound) (stand (whole.on was) image left));
     moments = λ was. weaker (whole.moments was);
   },
 )
 
 -- an item was read, and its import was stopped
 pub imported_to_line : (chain : Chain) (offset : ℕ) (left_old left left_new taken_old taken taken_new : Option (List ℕ)) (now : Chain) (refused : Bool)
-    (were_joined are_joined was_on is_on : Type 0) (images : Image → Type 0) (leaves leaves_new : (Image → Type 0) → Type 0) (steps_old steps_now : ℕ) (status : Status) (item given part : List ℕ)
-    → (whole : Whole chain offset left_old left taken_old taken now refused were_joined are_joined was_on is_on leaves steps_old steps_now) → IsItemAt item_limit (Some input_limit) offset item given
-    → Gives left left_new given → Takes taken taken_new part → (are_joined → IsCutShort (line_over now item) status part)
-    → (were_joined → is_on → Each images (λ image. StandsFor (chain_over chain whole.items) image ⊎ StandsFor (chain_over chain (whole.items ++ item ∷ [])) image))
+    (were_sound are_sound was_on is_on : Type 0) (images : Image → Type 0) (leaves leaves_new : (Image → Type 0) → Type 0) (steps_old steps_now : ℕ) (status : Status) (item given part : List ℕ)
+    → (whole : Whole chain offset left_old left taken_old taken now refused were_sound are_sound was_on is_on leaves steps_old steps_now) → IsItemAt item_limit (Some input_limit) offset item given
+    → Gives left left_new given → Takes taken taken_new part → (are_sound → IsCutShort (line_over now item) status part)
+    → (were_sound → is_on → Each images (λ image. StandsFor (chain_over chain whole.items) image ⊎ StandsFor (chain_over chain (whole.items ++ item ∷ [])) image))
     → (was_on → leaves_new (KeepsSome chain (whole.items ++ item ∷ [])))
-    → Transfers left_old left_new taken_old taken_new (λ given taken. were_joined → AreImported chain left_new (Err status) was_on images leaves_new given taken)
-imported_to_line chain offset left_old left left_new taken_old taken taken_new now refused were_joined are_joined was_on is_on images leaves leaves_new steps_old steps_now status item given part
+    → Transfers left_old left_new taken_old taken_new (λ given taken. were_sound → AreImported chain left_new (Err status) was_on images leaves_new given taken)
+imported_to_line chain offset left_old left left_new taken_old taken taken_new now refused were_sound are_sound was_on is_on images leaves leaves_new steps_old steps_now status item given part
     whole at gives takes short exit moments = (
       concat whole.items ++ item,
       whole.taken ++ part,
       gives_more left_old left left_new (concat whole.items) item whole.gives (subst (Gives left left_new) at.same gives),
       takes_more taken_old taken taken_new whole.taken part whole.takes takes,
-      λ joined.
-          let cut = short (whole.joined joined) in
+      λ sound.
+          let cut = short (whole.sound sound) in
           record {
             items = whole.items ++ item ∷ [];
             before = whole.items;
@@ -371,11 +371,11 @@ imported_to_line chain offset left_old left left_new taken_old taken taken_new n
             came = record {
               stop = writing_stops status cut.stop;
               part = part;
-              taken_is = ap (λ bs. bs ++ part) (whole.lines joined);
+              taken_is = ap (λ bs. bs ++ part) (whole.lines sound);
               silent = cut.silent;
-              last = inr (item, refl, refl, subst (λ (k : Chain). IsPartOf (line_over k item) part) (whole.kept_now joined) cut.part);
+              last = inr (item, refl, refl, subst (λ (k : Chain). IsPartOf (line_over k item) part) (whole.kept_now sound) cut.part);
             };
-            exit = λ was. exit joined (whole.on was);
+            exit = λ was. exit sound (whole.on was);
             moments = moments;
           },
     )

@@ -5,6 +5,7 @@ pub mod Statuses
 pub mod LineLemmas
 pub mod ImportLemmas
 pub mod StoreLemmas
+pub mod DiskLemmas
 pub mod ImportReport
 pub mod CountLemmas
 pub mod StandaloneLemmas

@@ -9,7 +9,7 @@ use Rattle.codec_defs.specs.Schema.{Block}
 use Rattle.chain_defs.specs.Kept.{block_hash}
 use Rattle.verdict_defs.specs.Chain.{Chain, chain_over}
 use Rattle.log_defs.specs.Log.{LogContent, log_of}
-use Rattle.store_defs.specs.Store.{Store, NoLog, NotALog, Keeps, store_of, store_of_log, StandsFor, IsSound, IsJoined, HaveOwnExts, AreJoined}
+use Rattle.store_defs.specs.Store.{Store, NoLog, NotALog, Keeps, store_of, store_of_log, StandsFor, IsSound, IsJoined}
 use Rattle.store_defs.proofs.JoinedLemmas.{joined_of_image}
 use Rattle.report_defs.specs.declared.command.Command.{Command}
 use Rattle.report_defs.specs.declared.command.Query.{Query}
@@ -38,14 +38,6 @@ opened_store reads chain store kept found = found.2 ∙ if_told reads (λ now. s
 -- and its chain has joined
 opened_joined : (reads : Option Image) (chain : Chain) (store : Store) → IfSome reads (λ now. store_of now ≡ Keeps chain) → IsSoundStoreOf reads store → IsJoined chain
 opened_joined reads chain store kept found = joined_of_image chain found.0 (found.3 chain (opened_store reads chain store kept found))
-
--- and the exts beside its blocks are their own
-pub opened_joined_whole : (reads : Option Image) (chain : Chain) (exts : List (List ℕ)) (store : Store) → IfSome reads (λ now. store_of now ≡ Keeps chain)
-    → ((now : Image) → reads ≡ Some now → IsSound now → HaveOwnExts chain exts) → IsSoundStoreOf reads store → AreJoined chain exts
-opened_joined_whole reads chain exts store kept own found = record {
-  joined = opened_joined reads chain store kept found;
-  own = own found.0 found.1 (chain, found.3 chain (opened_store reads chain store kept found));
-}
 
 -- where a store was opened, there is one
 pub opened_there : (reads : Option Image) (chain : Chain) (now : Image) → IfSome reads (λ now. store_of now ≡ Keeps chain) → reads ≡ Some now

@@ -1,5 +1,5 @@
 // The store that a command works on.
-ghost use Rattle.std.specs.Prelude.{◌≡◌, ◌≢◌, ◌⊎◌, ◌↔◌, ◌+◌, ◌<◌, ◌≤◌, ◌∷◌, [], Err, Some, length, drop, slice_index, IfOk, IfSome};
+ghost use Rattle.std.specs.Prelude.{◌≡◌, ◌≢◌, ◌⊎◌, ◌↔◌, ◌+◌, ◌≤◌, ◌∷◌, [], Err, Some, drop, slice_index, IfOk, IfSome};
 ghost use Rattle.outside.specs.Causes.{CountsFault};
 ghost use Rattle.outside.specs.Disk.{LeavesOnly, IsOnlyRead};
 ghost use Rattle.outside.specs.declared.disk.Damage.{Damage};

@@ -1,7 +1,6 @@
 use Rattle.std.proofs.Common.{inl, inr, ◌++◌, [], drop, refl, ap, sym, subst, ◌∙◌, arith}
 use Rattle.std.proofs.lemmas.List.{append-nil}
 use Rattle.std.specs.Prelude.{Err, string_bytes, if◌then◌else◌}
-use Rattle.outside.specs.Disk.{IsOnlyRead}
 use Rattle.outside.proofs.Endings.{counts-as, no_fault, no_answer}
 use Rattle.outside.proofs.Streams.{gives_none, takes_none, takes_more}
 use Rattle.report_defs.specs.declared.command.Command.TheVariants.{Import}
@@ -9,21 +8,20 @@ use Rattle.report_defs.specs.declared.status.Status.{Status}
 use Rattle.report_defs.specs.declared.status.Status.TheVariants.{Done, SomeRefused, NoMemory}
 use Rattle.report_defs.specs.Items.{split_of}
 use Rattle.report_defs.specs.Report.{import_limits, closing_of_end, status_of_end}
-use Rattle.store_defs.specs.Store.{AreJoined}
-use Rattle.node_core.specs.Node.{IsOn}
-use Rattle.node_core.proofs.ImportLemmas.{joined_on}
+use Rattle.node_core.specs.Node.{IsSoundOn, IsOn}
 use Rattle.node_run.specs.Output.{IsToldAnswer}
 use Rattle.node_run.specs.Import.{text_over}
 use Rattle.node_run.proofs.Faults.{then_counts, IsNoFault, end_no_fault, told_no_fault, no_input_there, no_disk_there, IsMemory}
 use Rattle.node_run.proofs.ImportLemmas.{items_stop_import}
-use Rattle.node_run.proofs.StoreLemmas.{delivers_over, opened_joined_whole, keeps_opened, keeps_unopened, opened_there, unopened, sound_opening, sound_here, by_disk_or_memory, if_told}
+use Rattle.node_run.proofs.StoreLemmas.{delivers_over, keeps_opened, keeps_unopened, opened_there, unopened, sound_opening, sound_here, by_disk_or_memory, if_told}
+use Rattle.node_run.proofs.DiskLemmas.{sound_on, found_sound, only_read_then}
 use Rattle.node_run.proofs.ImportReport.{report_on, stopped_import, stopped_at_once, stopped_behind, stopped_acknowledges, stopped_take, ended_import, keeps_given, keeps_all_given}
 use Rattle.node_run.proofs.Statuses.{import_opening, import_told, opening_no_input, opening_no_sink}
 use Rattle.node_run.proofs.Exits.{same_stop}
 use Rattle.log_defs.specs.Log.{records_of}
 use Rattle.log_defs.specs.Rest.{IsSettled}
 use Rattle.node_run.proofs.RecordLemmas.{opening_keeps, imported_keeps}
-use Rattle.node_run.proofs.CountLemmas.{opened_in, counted_over, opened_sound, none_over}
+use Rattle.node_run.proofs.CountLemmas.{opened_in, counted_over, opened_over, none_over}
 use Rattle.node_run.proofs.import.import.Goals as goal
 
 pub returns-in-Err-clause-import : goal.returns-in-Err-clause-import
@@ -55,16 +53,16 @@ returns-in-Err-import_items-clause-import g c =
       came.1,
       came.2,
       came.3,
-      delivers_over (AreJoined chain c.in-Ok.node.exts) Import reads chain (g.D.Disk.images c.args.disk.now) (g.D.Disk.images c.import_items.new.disk)
+      delivers_over (IsSoundOn c.in-Ok.node (g.D.Disk.reads_as c.open.new.disk)) Import reads chain (g.D.Disk.images c.args.disk.now) (g.D.Disk.images c.import_items.new.disk)
           (g.D.Disk.left_since c.import_items.new.disk (g.D.Disk.moment c.args.disk.now)) (g.S.Source.left c.import_items.new.input) came.0 came.1 status (λ store found. found) c.in-Ok.ensures.kept
-          (λ store found. opened_joined_whole reads chain c.in-Ok.node.exts store c.in-Ok.ensures.kept c.in-Ok.ensures.own found)
+          (λ store found. found_sound c.in-Ok.node reads (g.D.Disk.reads_as c.open.new.disk) store c.in-Ok.ensures.kept c.in-Ok.ensures.told c.in-Ok.ensures.sound found)
           (report_on chain) (λ whole. refl)
-          (λ joined. let are = came.4 joined in stopped_import chain are.items are.before are.rest came.0 came.1 (g.S.Source.left c.import_items.new.input) status are.are_given are.came)
+          (λ sound. let are = came.4 sound in stopped_import chain are.items are.before are.rest came.0 came.1 (g.S.Source.left c.import_items.new.input) status are.are_given are.came)
           (keeps_opened reads chain (split_of import_limits came.0).items (g.D.Disk.images c.args.disk.now) (g.D.Disk.images c.import_items.new.disk)
           (g.D.Disk.left_since c.import_items.new.disk (g.D.Disk.moment c.args.disk.now)) came.1 status c.in-Ok.ensures.kept
           (λ now told keeps sound.
           let on = if_told reads (λ _. IsOn c.in-Ok.node (g.D.Disk.reads_as c.open.new.disk) (g.D.Disk.images c.open.new.disk)) now (c.in-Ok.ensures.on sound) told in
-          let are = came.4 (joined_on c.in-Ok.node (g.D.Disk.reads_as c.open.new.disk) (g.D.Disk.images c.open.new.disk) on) in
+          let are = came.4 (sound_on c.in-Ok.node (g.D.Disk.reads_as c.open.new.disk) (g.D.Disk.images c.open.new.disk) on) in
           keeps_given g.D.Disk.images g.D.Disk.moment g.D.Disk.left_since g.met.D.Disk.counts_now c.args.disk.now c.open.new.disk c.import_items.new.disk chain
           are.items are.before are.rest came.0 came.1 status are.are_given
           (stopped_acknowledges chain status are.items are.before are.rest came.1 are.came) (stopped_take chain status are.items are.before are.rest came.1 are.came)
@@ -81,17 +79,17 @@ returns-in-Err-answer_to_end-clause-import g c =
       came.1,
       came.2,
       came.3,
-      delivers_over (AreJoined chain c.in-Ok.node.exts) Import reads chain (g.D.Disk.images c.args.disk.now) (g.D.Disk.images c.import_items.new.disk)
+      delivers_over (IsSoundOn c.in-Ok.node (g.D.Disk.reads_as c.open.new.disk)) Import reads chain (g.D.Disk.images c.args.disk.now) (g.D.Disk.images c.import_items.new.disk)
           (g.D.Disk.left_since c.import_items.new.disk (g.D.Disk.moment c.args.disk.now)) left came.0 came.1 NoMemory (λ store found. found) c.in-Ok.ensures.kept
-          (λ store found. opened_joined_whole reads chain c.in-Ok.node.exts store c.in-Ok.ensures.kept c.in-Ok.ensures.own found)
+          (λ store found. found_sound c.in-Ok.node reads (g.D.Disk.reads_as c.open.new.disk) store c.in-Ok.ensures.kept c.in-Ok.ensures.told c.in-Ok.ensures.sound found)
           (report_on chain) (λ whole. refl)
-          (λ joined. let are = came.4 joined in stopped_import chain are.items are.items are.rest came.0 came.1 left NoMemory are.are_given
+          (λ sound. let are = came.4 sound in stopped_import chain are.items are.items are.rest came.0 came.1 left NoMemory are.are_given
           (stopped_behind chain left c.in-Ok-import_items.ended are.items are.rest came.0 came.1 are.are_given are.came.1 NoMemory tt))
           (keeps_opened reads chain (split_of import_limits came.0).items (g.D.Disk.images c.args.disk.now) (g.D.Disk.images c.import_items.new.disk)
           (g.D.Disk.left_since c.import_items.new.disk (g.D.Disk.moment c.args.disk.now)) came.1 NoMemory c.in-Ok.ensures.kept
           (λ now told keeps sound.
           let on = if_told reads (λ _. IsOn c.in-Ok.node (g.D.Disk.reads_as c.open.new.disk) (g.D.Disk.images c.open.new.disk)) now (c.in-Ok.ensures.on sound) told in
-          let are = came.4 (joined_on c.in-Ok.node (g.D.Disk.reads_as c.open.new.disk) (g.D.Disk.images c.open.new.disk) on) in
+          let are = came.4 (sound_on c.in-Ok.node (g.D.Disk.reads_as c.open.new.disk) (g.D.Disk.images c.open.new.disk) on) in
           keeps_all_given g.D.Disk.images g.D.Disk.moment g.D.Disk.left_since g.met.D.Disk.counts_now c.args.disk.now c.open.new.disk c.import_items.new.disk chain
           are.items are.before are.rest came.0 came.1 NoMemory are.are_given are.came.0 [] (are.came.1.lines ∙ sym (append-nil (text_over chain are.items)))
           (c.in-Ok.ensures.moments now chain told keeps sound) (are.exit on) (are.moments on))),
@@ -113,16 +111,16 @@ returns-clause-import g c =
       came.1 ++ told.0,
       came.2,
       takes_more (g.K.Sink.taken c.args.out.now) (g.K.Sink.taken c.import_items.new.out) (g.K.Sink.taken c.tell.new.out) came.1 told.0 came.3 told.1,
-      delivers_over (AreJoined chain c.in-Ok.node.exts) Import reads chain (g.D.Disk.images c.args.disk.now) (g.D.Disk.images c.import_items.new.disk)
+      delivers_over (IsSoundOn c.in-Ok.node (g.D.Disk.reads_as c.open.new.disk)) Import reads chain (g.D.Disk.images c.args.disk.now) (g.D.Disk.images c.import_items.new.disk)
           (g.D.Disk.left_since c.import_items.new.disk (g.D.Disk.moment c.args.disk.now)) left came.0 (came.1 ++ told.0) c.tell.result (λ store found. found) c.in-Ok.ensures.kept
-          (λ store found. opened_joined_whole reads chain c.in-Ok.node.exts store c.in-Ok.ensures.kept c.in-Ok.ensures.own found)
+          (λ store found. found_sound c.in-Ok.node reads (g.D.Disk.reads_as c.open.new.disk) store c.in-Ok.ensures.kept c.in-Ok.ensures.told c.in-Ok.ensures.sound found)
           (report_on chain) (λ whole. refl)
-          (λ joined. let are = came.4 joined in ended_import chain left ended are.items are.rest came.0 came.1 are.are_given are.came.1 told.0 c.tell.result last)
+          (λ sound. let are = came.4 sound in ended_import chain left ended are.items are.rest came.0 came.1 are.are_given are.came.1 told.0 c.tell.result last)
           (keeps_opened reads chain (split_of import_limits came.0).items (g.D.Disk.images c.args.disk.now) (g.D.Disk.images c.import_items.new.disk)
           (g.D.Disk.left_since c.import_items.new.disk (g.D.Disk.moment c.args.disk.now)) (came.1 ++ told.0) c.tell.result c.in-Ok.ensures.kept
           (λ now known keeps sound.
           let on = if_told reads (λ _. IsOn c.in-Ok.node (g.D.Disk.reads_as c.open.new.disk) (g.D.Disk.images c.open.new.disk)) now (c.in-Ok.ensures.on sound) known in
-          let are = came.4 (joined_on c.in-Ok.node (g.D.Disk.reads_as c.open.new.disk) (g.D.Disk.images c.open.new.disk) on) in
+          let are = came.4 (sound_on c.in-Ok.node (g.D.Disk.reads_as c.open.new.disk) (g.D.Disk.images c.open.new.disk) on) in
           keeps_all_given g.D.Disk.images g.D.Disk.moment g.D.Disk.left_since g.met.D.Disk.counts_now c.args.disk.now c.open.new.disk c.import_items.new.disk chain
           are.items are.before are.rest came.0 (came.1 ++ told.0) c.tell.result are.are_given are.came.0 told.0 (ap (λ bs. bs ++ told.0) are.came.1.lines)
           (c.in-Ok.ensures.moments now chain known keeps sound) (are.exit on) (are.moments on))),
@@ -217,8 +215,8 @@ returns-in-Err-import_items-clause-steps g c =
     let came = c.import_items.ensures.steps in (
       came.0,
       came.1,
-      λ now chain told stands. counted_over (g.D.Disk.reads_as c.args.disk.now) c.in-Ok.node.chain chain c.in-Ok.node.exts now (split_of import_limits came.0).items _ _ _
-          c.in-Ok.ensures.kept (c.in-Ok.ensures.own now told) told stands (c.open.ensures.most now told) came.2,
+      λ now chain told stands. counted_over (g.D.Disk.reads_as c.args.disk.now) (g.D.Disk.reads_as c.open.new.disk) c.in-Ok.node chain now (split_of import_limits came.0).items _ _ _
+          c.in-Ok.ensures.kept c.in-Ok.ensures.told (c.in-Ok.ensures.sound now told) told stands (c.open.ensures.most now told) came.2,
     )
 
 pub returns-in-Err-answer_to_end-clause-steps : goal.returns-in-Err-answer_to_end-clause-steps
@@ -226,8 +224,8 @@ returns-in-Err-answer_to_end-clause-steps g c =
     let came = c.import_items.ensures.steps in (
       came.0,
       came.1,
-      λ now chain told stands. counted_over (g.D.Disk.reads_as c.args.disk.now) c.in-Ok.node.chain chain c.in-Ok.node.exts now (split_of import_limits came.0).items _ _ _
-          c.in-Ok.ensures.kept (c.in-Ok.ensures.own now told) told stands (c.open.ensures.most now told) came.2,
+      λ now chain told stands. counted_over (g.D.Disk.reads_as c.args.disk.now) (g.D.Disk.reads_as c.open.new.disk) c.in-Ok.node chain now (split_of import_limits came.0).items _ _ _
+          c.in-Ok.ensures.kept c.in-Ok.ensures.told (c.in-Ok.ensures.sound now told) told stands (c.open.ensures.most now told) came.2,
     )
 
 pub returns-clause-steps : goal.returns-clause-steps
@@ -235,8 +233,8 @@ returns-clause-steps g c =
     let came = c.import_items.ensures.steps in (
       came.0,
       came.1,
-      λ now chain told stands. counted_over (g.D.Disk.reads_as c.args.disk.now) c.in-Ok.node.chain chain c.in-Ok.node.exts now (split_of import_limits came.0).items _ _ _
-          c.in-Ok.ensures.kept (c.in-Ok.ensures.own now told) told stands (c.open.ensures.most now told) came.2,
+      λ now chain told stands. counted_over (g.D.Disk.reads_as c.args.disk.now) (g.D.Disk.reads_as c.open.new.disk) c.in-Ok.node chain now (split_of import_limits came.0).items _ _ _
+          c.in-Ok.ensures.kept c.in-Ok.ensures.told (c.in-Ok.ensures.sound now told) told stands (c.open.ensures.most now told) came.2,
     )
 
 pub returns-in-Err-clause-told : goal.returns-in-Err-clause-told
@@ -260,9 +258,11 @@ returns-in-Err-import_items-clause-still g c =
       came.0,
       came.1,
       λ now chain told stands rests none.
-          let sound = opened_sound (g.D.Disk.reads_as c.args.disk.now) c.in-Ok.node.chain chain c.in-Ok.node.exts now c.in-Ok.ensures.kept (c.in-Ok.ensures.own now told) told stands in
-          subst (λ d. IsOnlyRead g.D.Disk.reads_as g.D.Disk.images g.D.Disk.moment g.D.Disk.left_since c.args.disk.now d)
-          (sym (came.2 sound.1 (none_over c.in-Ok.node.chain chain (split_of import_limits came.0).items sound.0 none))) (c.in-Ok.ensures.rests now told rests),
+          let over = opened_over (g.D.Disk.reads_as c.args.disk.now) (g.D.Disk.reads_as c.open.new.disk) c.in-Ok.node chain now c.in-Ok.ensures.kept c.in-Ok.ensures.told
+          (c.in-Ok.ensures.sound now told) told stands in
+          only_read_then g.D.Disk.reads_as g.D.Disk.images g.D.Disk.moment g.D.Disk.left_since c.args.disk.now c.open.new.disk c.import_items.new.disk
+          (c.in-Ok.ensures.rests now told rests) (g.met.D.Disk.content_rests c.open.new.disk c.import_items.new.disk
+          (came.2 over.1 (none_over c.in-Ok.node.chain chain (split_of import_limits came.0).items over.0 none))),
     )
 
 pub returns-in-Err-answer_to_end-clause-still : goal.returns-in-Err-answer_to_end-clause-still
@@ -271,9 +271,11 @@ returns-in-Err-answer_to_end-clause-still g c =
       came.0,
       came.1,
       λ now chain told stands rests none.
-          let sound = opened_sound (g.D.Disk.reads_as c.args.disk.now) c.in-Ok.node.chain chain c.in-Ok.node.exts now c.in-Ok.ensures.kept (c.in-Ok.ensures.own now told) told stands in
-          subst (λ d. IsOnlyRead g.D.Disk.reads_as g.D.Disk.images g.D.Disk.moment g.D.Disk.left_since c.args.disk.now d)
-          (sym (came.2 sound.1 (none_over c.in-Ok.node.chain chain (split_of import_limits came.0).items sound.0 none))) (c.in-Ok.ensures.rests now told rests),
+          let over = opened_over (g.D.Disk.reads_as c.args.disk.now) (g.D.Disk.reads_as c.open.new.disk) c.in-Ok.node chain now c.in-Ok.ensures.kept c.in-Ok.ensures.told
+          (c.in-Ok.ensures.sound now told) told stands in
+          only_read_then g.D.Disk.reads_as g.D.Disk.images g.D.Disk.moment g.D.Disk.left_since c.args.disk.now c.open.new.disk c.import_items.new.disk
+          (c.in-Ok.ensures.rests now told rests) (g.met.D.Disk.content_rests c.open.new.disk c.import_items.new.disk
+          (came.2 over.1 (none_over c.in-Ok.node.chain chain (split_of import_limits came.0).items over.0 none))),
     )
 
 pub returns-clause-still : goal.returns-clause-still
@@ -282,9 +284,11 @@ returns-clause-still g c =
       came.0,
       came.1,
       λ now chain told stands rests none.
-          let sound = opened_sound (g.D.Disk.reads_as c.args.disk.now) c.in-Ok.node.chain chain c.in-Ok.node.exts now c.in-Ok.ensures.kept (c.in-Ok.ensures.own now told) told stands in
-          subst (λ d. IsOnlyRead g.D.Disk.reads_as g.D.Disk.images g.D.Disk.moment g.D.Disk.left_since c.args.disk.now d)
-          (sym (came.2 sound.1 (none_over c.in-Ok.node.chain chain (split_of import_limits came.0).items sound.0 none))) (c.in-Ok.ensures.rests now told rests),
+          let over = opened_over (g.D.Disk.reads_as c.args.disk.now) (g.D.Disk.reads_as c.open.new.disk) c.in-Ok.node chain now c.in-Ok.ensures.kept c.in-Ok.ensures.told
+          (c.in-Ok.ensures.sound now told) told stands in
+          only_read_then g.D.Disk.reads_as g.D.Disk.images g.D.Disk.moment g.D.Disk.left_since c.args.disk.now c.open.new.disk c.import_items.new.disk
+          (c.in-Ok.ensures.rests now told rests) (g.met.D.Disk.content_rests c.open.new.disk c.import_items.new.disk
+          (came.2 over.1 (none_over c.in-Ok.node.chain chain (split_of import_limits came.0).items over.0 none))),
     )
 
 pub returns-in-Err-clause-records : goal.returns-in-Err-clause-records

@@ -23,8 +23,8 @@ returns-in-Err-clause-verdict g c = λ joined. tt
 pub returns-in-Err-clause-kept : goal.returns-in-Err-clause-kept
 returns-in-Err-clause-kept g c = λ joined. tt
 
-pub returns-in-Err-clause-joined : goal.returns-in-Err-clause-joined
-returns-in-Err-clause-joined g c = λ joined. tt
+pub returns-in-Err-clause-sound : goal.returns-in-Err-clause-sound
+returns-in-Err-clause-sound g c = λ joined. tt
 
 pub returns-in-Err-clause-written : goal.returns-in-Err-clause-written
 returns-in-Err-clause-written g c = (
@@ -41,8 +41,8 @@ pub returns-in-Err-clause-status : goal.returns-in-Err-clause-status
 returns-in-Err-clause-status g c = λ status e.
     subst (λ s. IsOneOf item_stops s) (same_stop _ _ e) (item_stopped c.status_of_reading.result c.status_of_reading.ensures.one_of)
 
-pub returns-in-Err-clause-there : goal.returns-in-Err-clause-there
-returns-in-Err-clause-there g c = tt
+pub returns-in-Err-clause-own : goal.returns-in-Err-clause-own
+returns-in-Err-clause-own g c = tt
 
 pub returns-in-Err-clause-on : goal.returns-in-Err-clause-on
 returns-in-Err-clause-on g c = λ on. tt
@@ -68,8 +68,8 @@ returns-in-Ok-write_verdict-clause-verdict g c = c.in-Ok.ensures.verdict
 pub returns-in-Ok-write_verdict-clause-kept : goal.returns-in-Ok-write_verdict-clause-kept
 returns-in-Ok-write_verdict-clause-kept g c = c.in-Ok.ensures.kept
 
-pub returns-in-Ok-write_verdict-clause-joined : goal.returns-in-Ok-write_verdict-clause-joined
-returns-in-Ok-write_verdict-clause-joined g c = c.in-Ok.ensures.joined
+pub returns-in-Ok-write_verdict-clause-sound : goal.returns-in-Ok-write_verdict-clause-sound
+returns-in-Ok-write_verdict-clause-sound g c = c.in-Ok.ensures.sound
 
 pub returns-in-Ok-write_verdict-clause-written : goal.returns-in-Ok-write_verdict-clause-written
 returns-in-Ok-write_verdict-clause-written g c =
@@ -82,8 +82,8 @@ returns-in-Ok-write_verdict-clause-written g c =
 pub returns-in-Ok-write_verdict-clause-status : goal.returns-in-Ok-write_verdict-clause-status
 returns-in-Ok-write_verdict-clause-status g c = λ status e. absurd (no_answer _ _ e)
 
-pub returns-in-Ok-write_verdict-clause-there : goal.returns-in-Ok-write_verdict-clause-there
-returns-in-Ok-write_verdict-clause-there g c = c.in-Ok.ensures.there
+pub returns-in-Ok-write_verdict-clause-own : goal.returns-in-Ok-write_verdict-clause-own
+returns-in-Ok-write_verdict-clause-own g c = c.in-Ok.ensures.own
 
 pub returns-in-Ok-write_verdict-clause-on : goal.returns-in-Ok-write_verdict-clause-on
 returns-in-Ok-write_verdict-clause-on g c = c.in-Ok.ensures.on
@@ -105,8 +105,8 @@ returns-in-Err-write_verdict-clause-verdict g c = λ joined. tt
 pub returns-in-Err-write_verdict-clause-kept : goal.returns-in-Err-write_verdict-clause-kept
 returns-in-Err-write_verdict-clause-kept g c = λ joined. tt
 
-pub returns-in-Err-write_verdict-clause-joined : goal.returns-in-Err-write_verdict-clause-joined
-returns-in-Err-write_verdict-clause-joined g c = λ joined. tt
+pub returns-in-Err-write_verdict-clause-sound : goal.returns-in-Err-write_verdict-clause-sound
+returns-in-Err-write_verdict-clause-sound g c = λ joined. tt
 
 pub returns-in-Err-write_verdict-clause-written : goal.returns-in-Err-write_verdict-clause-written
 returns-in-Err-write_verdict-clause-written g c =
@@ -120,8 +120,8 @@ pub returns-in-Err-write_verdict-clause-status : goal.returns-in-Err-write_verdi
 returns-in-Err-write_verdict-clause-status g c = λ status e.
     subst (λ s. IsOneOf item_stops s) (same_stop _ _ e) (line_stopped c.in-Err-write_verdict.status (c.in-Err-write_verdict.ensures.status c.in-Err-write_verdict.status refl))
 
-pub returns-in-Err-write_verdict-clause-there : goal.returns-in-Err-write_verdict-clause-there
-returns-in-Err-write_verdict-clause-there g c = tt
+pub returns-in-Err-write_verdict-clause-own : goal.returns-in-Err-write_verdict-clause-own
+returns-in-Err-write_verdict-clause-own g c = tt
 
 pub returns-in-Err-write_verdict-clause-on : goal.returns-in-Err-write_verdict-clause-on
 returns-in-Err-write_verdict-clause-on g c = λ on. tt

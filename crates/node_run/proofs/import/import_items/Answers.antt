@@ -6,9 +6,7 @@ use Rattle.outside.specs.Disk.{LeavesOnly}
 use Rattle.log_defs.specs.Log.{Record}
 use Rattle.log_defs.specs.Rest.{IsSettled}
 use Rattle.outside.proofs.Moments.{leaves_also}
-use Rattle.store_defs.specs.Store.{AreJoined}
-use Rattle.node_core.specs.Node.{IsOn}
-use Rattle.node_core.proofs.ImportLemmas.{joined_on}
+use Rattle.node_core.specs.Node.{IsSoundOn, IsOn}
 use Rattle.report_defs.specs.declared.status.Status.TheVariants.{InputFault}
 use Rattle.report_defs.specs.Report.{item_limit, input_limit}
 use Rattle.report_defs.specs.Survival.{NoneJoins, GoesOn}
@@ -20,6 +18,7 @@ use Rattle.node_run.specs.Import.{item_stops}
 use Rattle.node_run.proofs.Exits.{same_stop}
 use Rattle.node_run.proofs.Faults.{then_counts}
 use Rattle.node_run.proofs.ImportLemmas.{whole_more, imported_to_end, imported_to_fault, imported_to_line, leaves_none, leaves_item, exit_of_item, on_stands, no_input_fault, reading_stopped, keeps_more, or_then, or_else, item_limit-is, input_limit-is}
+use Rattle.node_run.proofs.DiskLemmas.{sound_after, sound_on}
 use Rattle.node_run.proofs.RecordLemmas.{HasGrown, grown_none, grown_more, grown_moments, goes_more}
 use Rattle.node_run.proofs.CountLemmas.{counted_to_part, counted_to_stop, counted_to_item, part_also, stop_also, item_also, none-push, stays_there}
 use Rattle.node_run.proofs.import.import_items.Goals as goal
@@ -36,20 +35,20 @@ items-init g c = record {
       all = tt;
       place = refl;
       within = omega (arith, input_limit-is);
-      joined = λ joined. joined;
-      lines = λ joined. refl;
-      kept_now = λ joined. refl;
-      any_refused = λ joined. refl;
+      sound = λ sound. sound;
+      lines = λ sound. refl;
+      kept_now = λ sound. refl;
+      any_refused = λ sound. refl;
       on = λ on. on;
       moments = λ on. leaves_none g.D.Disk.images g.D.Disk.moment g.D.Disk.left_since g.met.D.Disk.counts_now g.met.D.Disk.only_now c.args.disk.now c.args.opened
           (g.D.Disk.reads_as c.args.disk.now) on;
-      steps = λ joined. omega arith;
+      steps = λ sound. omega arith;
     },
-    λ joined none. refl,
+    λ sound none. refl,
     λ records settled. grown_none g.D.Disk.images g.D.Disk.moment g.D.Disk.left_since g.met.D.Disk.counts_now g.met.D.Disk.only_now c.args.disk.now records
         c.args.opened.place (g.D.Disk.reads_as c.args.disk.now) settled,
   );
-  there = c.requires.there;
+  own = c.requires.own;
   told = refl;
   input_unchanged = refl;
   out_unchanged = refl;
@@ -67,7 +66,7 @@ returns-in-Ok-End-clause-imported g c =
     subst (λ (n : Next). IsNext item_limit (Some input_limit) c.items.offset left (Ok n) next.0) c.in-Ok-End.field-0-is next.2 in
     imported_to_end c.args.opened.chain c.items.offset (g.S.Source.left c.args.input.now) (g.S.Source.left c.items.input) (g.S.Source.left c.next_block.new.input)
     (g.K.Sink.taken c.args.out.now) (g.K.Sink.taken c.items.out) c.items.node.chain (record { end = c.in-Ok-End.end; offset = c.items.offset; refused = c.items.refused })
-    (AreJoined c.args.opened.chain c.args.opened.exts) (AreJoined c.items.node.chain c.items.node.exts)
+    (IsSoundOn c.args.opened (g.D.Disk.reads_as c.args.disk.now)) (IsSoundOn c.items.node (g.D.Disk.reads_as c.items.disk))
     (IsOn c.args.opened (g.D.Disk.reads_as c.args.disk.now) (g.D.Disk.images c.args.disk.now)) (IsOn c.items.node (g.D.Disk.reads_as c.items.disk) (g.D.Disk.images c.items.disk))
     (g.D.Disk.images c.items.disk) (LeavesOnly g.D.Disk.moment g.D.Disk.left_since c.args.disk.now c.items.disk) c.args.steps.now c.items.steps next.0 c.items.invariant.whole.0 next.1 ends.0 ends.1 refl
     (on_stands c.items.node c.items.node.chain (g.D.Disk.reads_as c.items.disk) (g.D.Disk.images c.items.disk) refl)
@@ -86,8 +85,8 @@ returns-in-Ok-End-clause-out_faults g c = no_fault (g.K.Sink.faults c.args.out.n
 pub returns-in-Ok-End-clause-disk_faults : goal.returns-in-Ok-End-clause-disk_faults
 returns-in-Ok-End-clause-disk_faults g c = no_fault (g.D.Disk.faults c.args.disk.now) (g.D.Disk.faults c.items.disk) c.items.invariant.disk_unchanged (no_answer _ _)
 
-pub import_item-requires-clause-there : goal.import_item-requires-clause-there
-import_item-requires-clause-there g c = c.items.invariant.there
+pub import_item-requires-clause-own : goal.import_item-requires-clause-own
+import_item-requires-clause-own g c = c.items.invariant.own
 
 pub returns-in-Err-clause-imported : goal.returns-in-Err-clause-imported
 returns-in-Err-clause-imported g c =
@@ -95,7 +94,7 @@ returns-in-Err-clause-imported g c =
     let whole = c.items.invariant.whole.0 in
     imported_to_fault c.args.opened.chain c.items.offset (g.S.Source.left c.args.input.now) (g.S.Source.left c.items.input) (g.S.Source.left c.next_block.new.input)
     (g.K.Sink.taken c.args.out.now) (g.K.Sink.taken c.items.out) c.items.node.chain c.items.refused
-    (AreJoined c.args.opened.chain c.args.opened.exts) (AreJoined c.items.node.chain c.items.node.exts)
+    (IsSoundOn c.args.opened (g.D.Disk.reads_as c.args.disk.now)) (IsSoundOn c.items.node (g.D.Disk.reads_as c.items.disk))
     (IsOn c.args.opened (g.D.Disk.reads_as c.args.disk.now) (g.D.Disk.images c.args.disk.now)) (IsOn c.items.node (g.D.Disk.reads_as c.items.disk) (g.D.Disk.images c.items.disk))
     (g.D.Disk.images c.items.disk) (LeavesOnly g.D.Disk.moment g.D.Disk.left_since c.args.disk.now c.items.disk) c.args.steps.now c.items.steps c.in-Err.status
     next.0 whole next.1 next.2.0 next.2.1
@@ -113,15 +112,15 @@ returns-in-Err-import_item-clause-imported g c =
     subst (λ bytes. IsItemAt item_limit (Some input_limit) c.items.offset bytes next.0) (sym c.deref.ensures.value) found in
     imported_to_line c.args.opened.chain c.items.offset (g.S.Source.left c.args.input.now) (g.S.Source.left c.items.input) (g.S.Source.left c.next_block.new.input)
     (g.K.Sink.taken c.args.out.now) (g.K.Sink.taken c.items.out) (g.K.Sink.taken c.import_item.new.out) c.items.node.chain c.items.refused
-    (AreJoined c.args.opened.chain c.args.opened.exts) (AreJoined c.items.node.chain c.items.node.exts)
+    (IsSoundOn c.args.opened (g.D.Disk.reads_as c.args.disk.now)) (IsSoundOn c.items.node (g.D.Disk.reads_as c.items.disk))
     (IsOn c.args.opened (g.D.Disk.reads_as c.args.disk.now) (g.D.Disk.images c.args.disk.now)) (IsOn c.items.node (g.D.Disk.reads_as c.items.disk) (g.D.Disk.images c.items.disk))
     (g.D.Disk.images c.import_item.new.disk) (LeavesOnly g.D.Disk.moment g.D.Disk.left_since c.args.disk.now c.items.disk) (LeavesOnly g.D.Disk.moment g.D.Disk.left_since c.args.disk.now c.import_item.new.disk)
     c.args.steps.now c.items.steps c.in-Err-import_item.status c.deref.result.now next.0 written.0 whole at next.1 written.1 written.2
-    (λ joined on. exit_of_item g.D.Disk.images g.D.Disk.moment g.D.Disk.left_since g.met.D.Disk.counts_now c.items.disk c.import_item.new.disk c.args.opened.chain c.items.node.chain
-    whole.items c.deref.result.now (whole.kept_now joined) (c.in-Err-import_item.ensures.moments on))
+    (λ sound on. exit_of_item g.D.Disk.images g.D.Disk.moment g.D.Disk.left_since g.met.D.Disk.counts_now c.items.disk c.import_item.new.disk c.args.opened.chain c.items.node.chain
+    whole.items c.deref.result.now (whole.kept_now sound) (c.in-Err-import_item.ensures.moments on))
     (λ was. leaves_item g.D.Disk.images g.D.Disk.moment g.D.Disk.left_since g.met.D.Disk.counts_now c.args.disk.now c.items.disk c.import_item.new.disk c.args.opened.chain
     c.items.node.chain whole.items c.deref.result.now
-    (whole.kept_now (joined_on c.args.opened (g.D.Disk.reads_as c.args.disk.now) (g.D.Disk.images c.args.disk.now) was))
+    (whole.kept_now (sound_on c.args.opened (g.D.Disk.reads_as c.args.disk.now) (g.D.Disk.images c.args.disk.now) was))
     (whole.moments was) (c.in-Err-import_item.ensures.moments (whole.on was)))
 
 pub returns-in-Err-clause-input_faults : goal.returns-in-Err-clause-input_faults
@@ -211,21 +210,22 @@ items-preserved g c =
     ] in
     let more = whole_more c.args.opened.chain c.items.offset (g.S.Source.left c.args.input.now) (g.S.Source.left c.items.input) (g.S.Source.left c.next_block.new.input)
     (g.K.Sink.taken c.args.out.now) (g.K.Sink.taken c.items.out) (g.K.Sink.taken c.import_item.new.out) c.items.node.chain c.in-Ok.answer.0.chain c.items.refused
-    (AreJoined c.args.opened.chain c.args.opened.exts) (AreJoined c.items.node.chain c.items.node.exts) (AreJoined c.in-Ok.answer.0.chain c.in-Ok.answer.0.exts)
+    (IsSoundOn c.args.opened (g.D.Disk.reads_as c.args.disk.now)) (IsSoundOn c.items.node (g.D.Disk.reads_as c.items.disk)) (IsSoundOn c.in-Ok.answer.0 (g.D.Disk.reads_as c.import_item.new.disk))
     (IsOn c.args.opened (g.D.Disk.reads_as c.args.disk.now) (g.D.Disk.images c.args.disk.now)) (IsOn c.items.node (g.D.Disk.reads_as c.items.disk) (g.D.Disk.images c.items.disk))
     (IsOn c.in-Ok.answer.0 (g.D.Disk.reads_as c.import_item.new.disk) (g.D.Disk.images c.import_item.new.disk)) (LeavesOnly g.D.Disk.moment g.D.Disk.left_since c.args.disk.now c.items.disk)
     (LeavesOnly g.D.Disk.moment g.D.Disk.left_since c.args.disk.now c.import_item.new.disk) c.args.steps.now c.items.steps c.import_item.new.steps item next.0 written.0 c.in-Ok.answer.1 c.len.result c.if-refused.refused size any
-    whole at next.1 written.1 c.in-Ok.ensures.verdict c.in-Ok.ensures.kept written.2 c.in-Ok.ensures.joined c.in-Ok.ensures.on
+    whole at next.1 written.1 c.in-Ok.ensures.verdict c.in-Ok.ensures.kept written.2
+    (λ sound. sound_after c.in-Ok.answer.0 (g.D.Disk.reads_as c.items.disk) (g.D.Disk.reads_as c.import_item.new.disk) sound.told c.in-Ok.ensures.told (c.in-Ok.ensures.sound sound)) c.in-Ok.ensures.on
     (λ was. leaves_item g.D.Disk.images g.D.Disk.moment g.D.Disk.left_since g.met.D.Disk.counts_now c.args.disk.now c.items.disk c.import_item.new.disk c.args.opened.chain
-    c.items.node.chain whole.items item (whole.kept_now (joined_on c.args.opened (g.D.Disk.reads_as c.args.disk.now) (g.D.Disk.images c.args.disk.now) was))
+    c.items.node.chain whole.items item (whole.kept_now (sound_on c.args.opened (g.D.Disk.reads_as c.args.disk.now) (g.D.Disk.images c.args.disk.now) was))
     (whole.moments was) (c.in-Ok.ensures.moments (whole.on was))) c.import_item.ensures.most in
     record {
       whole = (
         more.0,
-        λ joined none.
+        λ sound none.
             let parts = none-push c.args.opened.chain whole.items item (subst (λ xs. NoneJoins c.args.opened.chain xs) more.1 none) in
-            c.in-Ok.ensures.still (whole.joined joined) (stays_there c.args.opened.chain c.items.node.chain whole.items item (whole.kept_now joined) parts.1)
-            ∙ c.items.invariant.whole.1 joined parts.0,
+            c.in-Ok.ensures.still (whole.sound sound) (stays_there c.args.opened.chain c.items.node.chain whole.items item (whole.kept_now sound) parts.1)
+            ∙ c.items.invariant.whole.1 sound parts.0,
         λ records settled.
             let grown = c.items.invariant.whole.2 records settled in
             subst (λ xs. HasGrown xs records c.in-Ok.answer.0.place (g.D.Disk.reads_as c.import_item.new.disk) (g.D.Disk.images c.import_item.new.disk)
@@ -234,7 +234,7 @@ items-preserved g c =
             c.items.node.place c.in-Ok.answer.0.place (g.D.Disk.reads_as c.items.disk) (g.D.Disk.reads_as c.import_item.new.disk) c.in-Ok.answer.1 grown
             (c.in-Ok.ensures.keeps (records ++ grown.added) grown.settled) (c.in-Ok.ensures.settled (records ++ grown.added) grown.settled)),
       );
-      there = c.in-Ok.ensures.there;
+      own = c.in-Ok.ensures.own;
       told = c.in-Ok.ensures.told ∙ c.items.invariant.told;
       input_unchanged = c.in-Ok-Item.ensures.faults.unchanged (no_answer _ _) ∙ c.items.invariant.input_unchanged;
       out_unchanged = c.in-Ok.ensures.out_faults.unchanged (no_answer _ _) ∙ c.items.invariant.out_unchanged;
@@ -249,7 +249,7 @@ returns-in-Ok-End-clause-steps g c =
     subst (λ (n : Next). IsNext item_limit (Some input_limit) c.items.offset left (Ok n) next.0) c.in-Ok-End.field-0-is next.2 in
     counted_to_part c.args.opened.chain c.items.offset (g.S.Source.left c.args.input.now) (g.S.Source.left c.items.input) (g.S.Source.left c.next_block.new.input)
     (g.K.Sink.taken c.args.out.now) (g.K.Sink.taken c.items.out) c.items.node.chain c.items.refused
-    (AreJoined c.args.opened.chain c.args.opened.exts) (AreJoined c.items.node.chain c.items.node.exts)
+    (IsSoundOn c.args.opened (g.D.Disk.reads_as c.args.disk.now)) (IsSoundOn c.items.node (g.D.Disk.reads_as c.items.disk))
     (IsOn c.args.opened (g.D.Disk.reads_as c.args.disk.now) (g.D.Disk.images c.args.disk.now)) (IsOn c.items.node (g.D.Disk.reads_as c.items.disk) (g.D.Disk.images c.items.disk))
     (LeavesOnly g.D.Disk.moment g.D.Disk.left_since c.args.disk.now c.items.disk) c.args.steps.now c.items.steps c.items.invariant.whole.0 next.0 next.1 ends.1
 
@@ -258,7 +258,7 @@ returns-in-Err-clause-steps g c =
     let next = c.in-Err.ensures.next in
     counted_to_stop c.args.opened.chain c.items.offset (g.S.Source.left c.args.input.now) (g.S.Source.left c.items.input) (g.S.Source.left c.next_block.new.input)
     (g.K.Sink.taken c.args.out.now) (g.K.Sink.taken c.items.out) c.items.node.chain c.items.refused
-    (AreJoined c.args.opened.chain c.args.opened.exts) (AreJoined c.items.node.chain c.items.node.exts)
+    (IsSoundOn c.args.opened (g.D.Disk.reads_as c.args.disk.now)) (IsSoundOn c.items.node (g.D.Disk.reads_as c.items.disk))
     (IsOn c.args.opened (g.D.Disk.reads_as c.args.disk.now) (g.D.Disk.images c.args.disk.now)) (IsOn c.items.node (g.D.Disk.reads_as c.items.disk) (g.D.Disk.images c.items.disk))
     (LeavesOnly g.D.Disk.moment g.D.Disk.left_since c.args.disk.now c.items.disk) c.args.steps.now c.items.steps c.items.invariant.whole.0 next.0 next.1 next.2.1
 
@@ -271,7 +271,7 @@ returns-in-Err-import_item-clause-steps g c =
     subst (λ bytes. IsItemAt item_limit (Some input_limit) c.items.offset bytes next.0) (sym c.deref.ensures.value) found in
     counted_to_item c.args.opened.chain c.items.offset (g.S.Source.left c.args.input.now) (g.S.Source.left c.items.input) (g.S.Source.left c.next_block.new.input)
     (g.K.Sink.taken c.args.out.now) (g.K.Sink.taken c.items.out) c.items.node.chain c.items.refused
-    (AreJoined c.args.opened.chain c.args.opened.exts) (AreJoined c.items.node.chain c.items.node.exts)
+    (IsSoundOn c.args.opened (g.D.Disk.reads_as c.args.disk.now)) (IsSoundOn c.items.node (g.D.Disk.reads_as c.items.disk))
     (IsOn c.args.opened (g.D.Disk.reads_as c.args.disk.now) (g.D.Disk.images c.args.disk.now)) (IsOn c.items.node (g.D.Disk.reads_as c.items.disk) (g.D.Disk.images c.items.disk))
     (LeavesOnly g.D.Disk.moment g.D.Disk.left_since c.args.disk.now c.items.disk) c.args.steps.now c.items.steps c.items.invariant.whole.0 c.import_item.new.steps c.deref.result.now next.0 at next.1 c.import_item.ensures.most
 
@@ -292,21 +292,21 @@ returns-in-Ok-End-clause-still g c =
     subst (λ (n : Next). IsNext item_limit (Some input_limit) c.items.offset left (Ok n) next.0) c.in-Ok-End.field-0-is next.2 in
     part_also c.args.opened.chain c.items.offset (g.S.Source.left c.args.input.now) (g.S.Source.left c.items.input) (g.S.Source.left c.next_block.new.input)
     (g.K.Sink.taken c.args.out.now) (g.K.Sink.taken c.items.out) c.items.node.chain c.items.refused
-    (AreJoined c.args.opened.chain c.args.opened.exts) (AreJoined c.items.node.chain c.items.node.exts)
+    (IsSoundOn c.args.opened (g.D.Disk.reads_as c.args.disk.now)) (IsSoundOn c.items.node (g.D.Disk.reads_as c.items.disk))
     (IsOn c.args.opened (g.D.Disk.reads_as c.args.disk.now) (g.D.Disk.images c.args.disk.now)) (IsOn c.items.node (g.D.Disk.reads_as c.items.disk) (g.D.Disk.images c.items.disk))
     (LeavesOnly g.D.Disk.moment g.D.Disk.left_since c.args.disk.now c.items.disk) c.args.steps.now c.items.steps c.items.invariant.whole.0
-    (λ xs. AreJoined c.args.opened.chain c.args.opened.exts → NoneJoins c.args.opened.chain xs → c.items.disk ≡ c.args.disk.now) c.items.invariant.whole.1 next.0 next.1 ends.1
+    (λ xs. IsSoundOn c.args.opened (g.D.Disk.reads_as c.args.disk.now) → NoneJoins c.args.opened.chain xs → g.D.Disk.content_of c.items.disk ≡ g.D.Disk.content_of c.args.disk.now) c.items.invariant.whole.1 next.0 next.1 ends.1
 
 pub returns-in-Err-clause-still : goal.returns-in-Err-clause-still
 returns-in-Err-clause-still g c =
     let next = c.in-Err.ensures.next in
     stop_also c.args.opened.chain c.items.offset (g.S.Source.left c.args.input.now) (g.S.Source.left c.items.input) (g.S.Source.left c.next_block.new.input)
     (g.K.Sink.taken c.args.out.now) (g.K.Sink.taken c.items.out) c.items.node.chain c.items.refused
-    (AreJoined c.args.opened.chain c.args.opened.exts) (AreJoined c.items.node.chain c.items.node.exts)
+    (IsSoundOn c.args.opened (g.D.Disk.reads_as c.args.disk.now)) (IsSoundOn c.items.node (g.D.Disk.reads_as c.items.disk))
     (IsOn c.args.opened (g.D.Disk.reads_as c.args.disk.now) (g.D.Disk.images c.args.disk.now)) (IsOn c.items.node (g.D.Disk.reads_as c.items.disk) (g.D.Disk.images c.items.disk))
     (LeavesOnly g.D.Disk.moment g.D.Disk.left_since c.args.disk.now c.items.disk) c.args.steps.now c.items.steps c.items.invariant.whole.0
-    (λ xs. AreJoined c.args.opened.chain c.args.opened.exts → NoneJoins c.args.opened.chain xs → c.items.disk ≡ c.args.disk.now) c.items.invariant.whole.1 next.0 next.1
-    (λ joined none. c.items.invariant.whole.1 joined (none-push c.args.opened.chain c.items.invariant.whole.0.items next.0 none).0) next.2.1
+    (λ xs. IsSoundOn c.args.opened (g.D.Disk.reads_as c.args.disk.now) → NoneJoins c.args.opened.chain xs → g.D.Disk.content_of c.items.disk ≡ g.D.Disk.content_of c.args.disk.now) c.items.invariant.whole.1 next.0 next.1
+    (λ sound none. c.items.invariant.whole.1 sound (none-push c.args.opened.chain c.items.invariant.whole.0.items next.0 none).0) next.2.1
 
 pub returns-in-Err-import_item-clause-still : goal.returns-in-Err-import_item-clause-still
 returns-in-Err-import_item-clause-still g c =
@@ -318,14 +318,14 @@ returns-in-Err-import_item-clause-still g c =
     let whole = c.items.invariant.whole.0 in
     item_also c.args.opened.chain c.items.offset (g.S.Source.left c.args.input.now) (g.S.Source.left c.items.input) (g.S.Source.left c.next_block.new.input)
     (g.K.Sink.taken c.args.out.now) (g.K.Sink.taken c.items.out) c.items.node.chain c.items.refused
-    (AreJoined c.args.opened.chain c.args.opened.exts) (AreJoined c.items.node.chain c.items.node.exts)
+    (IsSoundOn c.args.opened (g.D.Disk.reads_as c.args.disk.now)) (IsSoundOn c.items.node (g.D.Disk.reads_as c.items.disk))
     (IsOn c.args.opened (g.D.Disk.reads_as c.args.disk.now) (g.D.Disk.images c.args.disk.now)) (IsOn c.items.node (g.D.Disk.reads_as c.items.disk) (g.D.Disk.images c.items.disk))
     (LeavesOnly g.D.Disk.moment g.D.Disk.left_since c.args.disk.now c.items.disk) c.args.steps.now c.items.steps c.items.invariant.whole.0
-    (λ xs. AreJoined c.args.opened.chain c.args.opened.exts → NoneJoins c.args.opened.chain xs → c.import_item.new.disk ≡ c.args.disk.now) c.deref.result.now next.0 at next.1
-    (λ joined none.
+    (λ xs. IsSoundOn c.args.opened (g.D.Disk.reads_as c.args.disk.now) → NoneJoins c.args.opened.chain xs → g.D.Disk.content_of c.import_item.new.disk ≡ g.D.Disk.content_of c.args.disk.now) c.deref.result.now next.0 at next.1
+    (λ sound none.
     let parts = none-push c.args.opened.chain whole.items c.deref.result.now none in
-    c.in-Err-import_item.ensures.still (whole.joined joined) (stays_there c.args.opened.chain c.items.node.chain whole.items c.deref.result.now (whole.kept_now joined) parts.1)
-    ∙ c.items.invariant.whole.1 joined parts.0)
+    c.in-Err-import_item.ensures.still (whole.sound sound) (stays_there c.args.opened.chain c.items.node.chain whole.items c.deref.result.now (whole.kept_now sound) parts.1)
+    ∙ c.items.invariant.whole.1 sound parts.0)
 
 pub returns-in-Ok-End-clause-records : goal.returns-in-Ok-End-clause-records
 returns-in-Ok-End-clause-records g c =
@@ -335,7 +335,7 @@ returns-in-Ok-End-clause-records g c =
     subst (λ (n : Next). IsNext item_limit (Some input_limit) c.items.offset left (Ok n) next.0) c.in-Ok-End.field-0-is next.2 in
     part_also c.args.opened.chain c.items.offset (g.S.Source.left c.args.input.now) (g.S.Source.left c.items.input) (g.S.Source.left c.next_block.new.input)
     (g.K.Sink.taken c.args.out.now) (g.K.Sink.taken c.items.out) c.items.node.chain c.items.refused
-    (AreJoined c.args.opened.chain c.args.opened.exts) (AreJoined c.items.node.chain c.items.node.exts)
+    (IsSoundOn c.args.opened (g.D.Disk.reads_as c.args.disk.now)) (IsSoundOn c.items.node (g.D.Disk.reads_as c.items.disk))
     (IsOn c.args.opened (g.D.Disk.reads_as c.args.disk.now) (g.D.Disk.images c.args.disk.now)) (IsOn c.items.node (g.D.Disk.reads_as c.items.disk) (g.D.Disk.images c.items.disk))
     (LeavesOnly g.D.Disk.moment g.D.Disk.left_since c.args.disk.now c.items.disk) c.args.steps.now c.items.steps c.items.invariant.whole.0
     (λ xs. (records : List Record) → IsSettled c.args.opened.place records (g.D.Disk.reads_as c.args.disk.now) (g.D.Disk.images c.args.disk.now)
@@ -347,7 +347,7 @@ returns-in-Err-clause-records g c =
     let next = c.in-Err.ensures.next in
     stop_also c.args.opened.chain c.items.offset (g.S.Source.left c.args.input.now) (g.S.Source.left c.items.input) (g.S.Source.left c.next_block.new.input)
     (g.K.Sink.taken c.args.out.now) (g.K.Sink.taken c.items.out) c.items.node.chain c.items.refused
-    (AreJoined c.args.opened.chain c.args.opened.exts) (AreJoined c.items.node.chain c.items.node.exts)
+    (IsSoundOn c.args.opened (g.D.Disk.reads_as c.args.disk.now)) (IsSoundOn c.items.node (g.D.Disk.reads_as c.items.disk))
     (IsOn c.args.opened (g.D.Disk.reads_as c.args.disk.now) (g.D.Disk.images c.args.disk.now)) (IsOn c.items.node (g.D.Disk.reads_as c.items.disk) (g.D.Disk.images c.items.disk))
     (LeavesOnly g.D.Disk.moment g.D.Disk.left_since c.args.disk.now c.items.disk) c.args.steps.now c.items.steps c.items.invariant.whole.0
     (λ xs. (records : List Record) → IsSettled c.args.opened.place records (g.D.Disk.reads_as c.args.disk.now) (g.D.Disk.images c.args.disk.now)
@@ -366,7 +366,7 @@ returns-in-Err-import_item-clause-records g c =
     subst (λ bytes. IsItemAt item_limit (Some input_limit) c.items.offset bytes next.0) (sym c.deref.ensures.value) found in
     item_also c.args.opened.chain c.items.offset (g.S.Source.left c.args.input.now) (g.S.Source.left c.items.input) (g.S.Source.left c.next_block.new.input)
     (g.K.Sink.taken c.args.out.now) (g.K.Sink.taken c.items.out) c.items.node.chain c.items.refused
-    (AreJoined c.args.opened.chain c.args.opened.exts) (AreJoined c.items.node.chain c.items.node.exts)
+    (IsSoundOn c.args.opened (g.D.Disk.reads_as c.args.disk.now)) (IsSoundOn c.items.node (g.D.Disk.reads_as c.items.disk))
     (IsOn c.args.opened (g.D.Disk.reads_as c.args.disk.now) (g.D.Disk.images c.args.disk.now)) (IsOn c.items.node (g.D.Disk.reads_as c.items.disk) (g.D.Disk.images c.items.disk))
     (LeavesOnly g.D.Disk.moment g.D.Disk.left_since c.args.disk.now c.items.disk) c.args.steps.now c.items.steps c.items.invariant.whole.0
     (λ xs. (records : List Record) → IsSettled c.args.opened.place records (g.D.Disk.reads_as c.args.disk.now) (g.D.Disk.images c.args.disk.now)

@@ -1,12 +1,11 @@
-use Rattle.std.proofs.Common.{◌≡◌, ◌-◌, ◌<◌, List, length}
-use Rattle.std.specs.Prelude.{IfSome}
+use Rattle.std.proofs.Common.{◌≡◌, ◌-◌, List}
 use Rattle.outside.specs.Disk.{LeavesOnly}
 use Rattle.log_defs.specs.Log.{Record}
 use Rattle.log_defs.specs.Rest.{IsSettled}
 use Rattle.report_defs.specs.Report.{input_limit}
 use Rattle.report_defs.specs.Survival.{NoneJoins}
-use Rattle.store_defs.specs.Store.{AreJoined, TellsAsBefore}
-use Rattle.node_core.specs.Node.{IsOn}
+use Rattle.store_defs.specs.Store.{TellsAsBefore}
+use Rattle.node_core.specs.Node.{IsItsOwn, IsSoundOn, IsOn}
 use Rattle.node_run.proofs.ImportLemmas.{Whole}
 use Rattle.node_run.proofs.RecordLemmas.{HasGrown}
 use Rattle.node_run.proofs.import.import_items.Given as goal
@@ -14,13 +13,13 @@ use Rattle.node_run.proofs.import.import_items.Given as goal
 abbrev pub invariant-items : goal.invariant-items
 invariant-items g l = record {
   whole : (w : Whole l.fn.opened.chain l.offset (g.S.Source.left l.fn.input) (g.S.Source.left l.input) (g.K.Sink.taken l.fn.out) (g.K.Sink.taken l.out) l.node.chain l.refused
-      (AreJoined l.fn.opened.chain l.fn.opened.exts) (AreJoined l.node.chain l.node.exts)
+      (IsSoundOn l.fn.opened (g.D.Disk.reads_as l.fn.disk)) (IsSoundOn l.node (g.D.Disk.reads_as l.disk))
       (IsOn l.fn.opened (g.D.Disk.reads_as l.fn.disk) (g.D.Disk.images l.fn.disk)) (IsOn l.node (g.D.Disk.reads_as l.disk) (g.D.Disk.images l.disk))
       (LeavesOnly g.D.Disk.moment g.D.Disk.left_since l.fn.disk l.disk) l.fn.steps l.steps)
-      × (AreJoined l.fn.opened.chain l.fn.opened.exts → NoneJoins l.fn.opened.chain w.items → l.disk ≡ l.fn.disk)
+      × (IsSoundOn l.fn.opened (g.D.Disk.reads_as l.fn.disk) → NoneJoins l.fn.opened.chain w.items → g.D.Disk.content_of l.disk ≡ g.D.Disk.content_of l.fn.disk)
       × ((records : List Record) → IsSettled l.fn.opened.place records (g.D.Disk.reads_as l.fn.disk) (g.D.Disk.images l.fn.disk)
       → HasGrown w.items records l.node.place (g.D.Disk.reads_as l.disk) (g.D.Disk.images l.disk) (LeavesOnly g.D.Disk.moment g.D.Disk.left_since l.fn.disk l.disk));
-  there : IfSome (g.D.Disk.reads_as l.disk) (λ image. l.node.place < length image.log);
+  own : IsItsOwn l.node (g.D.Disk.reads_as l.disk) (g.D.Disk.images l.disk);
   told : TellsAsBefore (g.D.Disk.reads_as l.fn.disk) (g.D.Disk.reads_as l.disk);
   input_unchanged : g.S.Source.faults l.input ≡ g.S.Source.faults l.fn.input;
   out_unchanged : g.K.Sink.faults l.out ≡ g.K.Sink.faults l.fn.out;
