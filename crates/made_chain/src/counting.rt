@@ -21,6 +21,9 @@ use verdict_defs::Verdict;
 /// More bytes than an item of a node has. No generated item comes near it.
 const SIZE_BOUND: usize = 1 << 31;
 
+/// How many blocks the node holds in memory beside those on its disk.
+const HELD: usize = 64;
+
 /// One for an item that joined, and none for any other.
 fn one_if_joined(verdict: &Verdict) -> u64
     ensures { result ≡ (if rules.joins verdict.now then 1 else 0) }
@@ -58,7 +61,7 @@ fn open_new<D: Disk, L: Ledger>(
         Ok(()) => {}
         Err(_) => return Err(NoMemory),
     }
-    match Node::open(alloc, disk, steps) {
+    match Node::open(alloc, disk, HELD, steps) {
         Ok(node) => Ok(node),
         Err(_) => Err(NoMemory),
     }

@@ -96,9 +96,6 @@ fn fill(alloc: Global, body: &mut Body, item: &[u8], ext: &Ext) -> Result<Vec<u8
     Ok(bytes)
 }
 
-/// The most blocks whose bytes are held in memory: those that were used last.
-const HELD: usize = 64;
-
 /// What is kept of a store, and the live cells of the tip. The bytes of its blocks lie on the disk. Clauses see the chain, the
 /// exts, the entries, where the records of its log end, the live cells, and what is held in memory.
 #[derive(Drop)]
@@ -135,8 +132,9 @@ fn stop_of_move(stop: ReadStop) -> LogStop
     }
 }
 
-/// Reads the store on a disk: a node whose live cells are those that the genesis leaves.
-fn read_store<D: Disk>(alloc: Global, disk: &mut D) -> Result<Node, LogStop>
+/// Reads the store on a disk: a node whose live cells are those that the genesis leaves, with room for so many blocks in memory.
+fn read_store<D: Disk>(alloc: Global, disk: &mut D, held: usize) -> Result<Node, LogStop>
+    requires { 1 ≤ held }
     ensures left { LeavesStore D.reads_as D.images D.moment D.left_since disk.old disk.new }
     ensures read { IfOk result (λ node. IfSome (D.reads_as disk.old) (IsReadFrom node (D.reads_as disk.new) (D.images disk.new))) }
     ensures cells { IfOk result (λ node. AreOf node.chain.blocks 0 (rows node.cells)) }
@@ -163,7 +161,7 @@ fn read_store<D: Disk>(alloc: Global, disk: &mut D) -> Result<Node, LogStop>
         Ok(kept) => kept,
         Err(stop) => return Err(stop),
     };
-    match Cache::new(alloc, HELD) {
+    match Cache::new(alloc, held) {
         Ok(cache) => Ok(Node {
             kept,
             state,
@@ -267,12 +265,14 @@ impl Node {
     /// Opens the store on a disk. LOG is read once, from front to back; then the live cells go from the genesis to the tip, by
     /// the blocks of its branch. After `Ok` a crash leaves each area as it reads. Also a log whose blocks have not joined may
     /// be answered as no store. Whatever is answered, a crash leaves what it might have left before, or a log that says what
-    /// it said.
+    /// it said. `held` is how many blocks the node holds in memory at most, those that were used last.
     pub fn open<D: Disk, L: Ledger>(
         alloc: Global,
         disk: &mut D,
+        held: usize,
         steps: &mut Steps<L>,
     ) -> Result<Node, LogStop>
+        requires { 1 ≤ held }
         ensures kept { IfOk result (λ node. IfSome (D.reads_as disk.old) (λ now. store_of now ≡ Keeps node.chain)) }
         ensures not_a_store { result ≡ Err LogStop.NotAStore → IfSome (D.reads_as disk.old) (λ now. IsSound now → ⊥) }
         ensures no_log { (now : Image) → D.reads_as disk.old ≡ Some now → ((chain : Chain) → store_of now ≡ Keeps chain → ⊥)
@@ -294,7 +294,7 @@ impl Node {
         ensures cause { CountsFault (D.faults disk.old) (D.faults disk.new) (result ≡ Err LogStop.DiskFault) }
         ensures most { (now : Image) → D.reads_as disk.old ≡ Some now → steps.new ≤ steps.old + moves_to_open (store_of now) }
     {
-        let node = match read_store(alloc, disk) {
+        let node = match read_store(alloc, disk, held) {
             Ok(node) => node,
             Err(stop) => return Err(stop),
         };

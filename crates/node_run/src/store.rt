@@ -19,6 +19,9 @@ use report_defs::Status;
 use std::alloc::Global;
 use std::sync::ledger::Ledger;
 
+/// How many blocks a node holds in memory beside those on its disk, the ones that were used last.
+const HELD: usize = 64;
+
 /// The status of a stop of opening.
 fn status_of_opening(stop: LogStop) -> Status
     ensures one_of { IsOneOf opening_stops result }
@@ -83,7 +86,7 @@ pub fn open<D: Disk, L: Ledger>(
     ensures cause { CountsFault (D.faults disk.old) (D.faults disk.new) (result ≡ Err Status.DiskFault) }
     ensures most { (now : Image) → D.reads_as disk.old ≡ Some now → steps.new ≤ steps.old + moves_to_open (store_of now) }
 {
-    match Node::open(alloc, disk, steps) {
+    match Node::open(alloc, disk, HELD, steps) {
         Ok(node) => Ok(node),
         Err(stop) => Err(status_of_opening(stop)),
     }
