@@ -18,3 +18,4 @@ pub mod RunLemmas
 pub mod RecordLemmas
 pub mod QueryLemmas
 pub mod SimulationLemmas
+pub mod LookLemmas

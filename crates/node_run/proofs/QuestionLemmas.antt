@@ -2,13 +2,12 @@
 use Rattle.std.proofs.Common.{◌≡◌, ◌⊎◌, ℕ, ◌≤◌, List, [], ◌∷◌, length, map, get_or, Vec, Global, refl, ap, sym, ◌∙◌, subst, arith}
 use Rattle.std.specs.Prelude.{Option, Some, IfSome}
 use Rattle.outside.specs.Image.{Image}
-use Rattle.outside.specs.Disk.{LeavesOnly}
+use Rattle.outside.specs.Disk.{LeavesOnly, IsAsBefore}
 use Rattle.codec_defs.specs.Shape.{decoded}
 use Rattle.codec_defs.specs.Schema.{Transaction, transaction}
 use Rattle.verdict_defs.specs.Chain.{Chain}
 use Rattle.verdict_defs.specs.Trial.{trial, trial_of}
-use Rattle.store_defs.specs.Store.{Keeps, store_of, StandsFor, IsSound, IsJoined, HaveOwnExts, AreJoined}
-use Rattle.store_defs.proofs.JoinedLemmas.{joined_of_image}
+use Rattle.store_defs.specs.Store.{Keeps, store_of, StandsFor, IsSound, TellsAsBefore}
 use Rattle.report_defs.specs.declared.command.Command.TheVariants as commands
 use Rattle.report_defs.specs.declared.command.Question.{Question}
 use Rattle.report_defs.specs.declared.command.Question.TheVariants.{Check}
@@ -20,13 +19,14 @@ use Rattle.report_defs.specs.Items.{ReadsNoFurther}
 use Rattle.report_defs.specs.Report.{Report, text_of, question_items, question_limits, answer_to_question, report_of_end}
 use Rattle.item_reader.specs.Whole.{IsWhole, EndsEarly}
 use Rattle.item_reader.proofs.FurtherLemmas.{items_no_further}
-use Rattle.node_core.specs.Node.{NodeValue, IsOn}
+use Rattle.node_core.specs.Node.{NodeValue, IsSoundNode, IsSoundOn, IsOn}
 use Rattle.node_run.specs.Question.{IsAnswerTo, full, AnswersQuestion, DeliversAnswer}
 use Rattle.node_run.specs.Import.{IsStop}
 use Rattle.node_run.specs.Output.{IsSaid, IsToldAnswer}
 use Rattle.node_run.specs.Store.{opening_stops}
-use Rattle.node_run.proofs.ImportLemmas.{on_stands}
-use Rattle.node_run.proofs.StoreLemmas.{if_told, same_chain, store_of_stands, delivers_over, opened_joined_whole, keeps_opened, keeps_read, keeps_unopened, unopened, sound_opening, sound_here, by_disk_or_memory}
+use Rattle.node_run.proofs.DiskLemmas.{opened_sound, found_sound}
+use Rattle.node_run.proofs.LookLemmas.{keeps_looked}
+use Rattle.node_run.proofs.StoreLemmas.{if_told, same_chain, store_of_stands, delivers_over, keeps_unopened, unopened, sound_opening, sound_here, by_disk_or_memory}
 use Rattle.node_run.proofs.Statuses.{each_of, IsEarly, opening_not_done}
 use Rattle.node_run.proofs.WholeReports.{IsJudged, stop_not_judged, whole_stopped, whole_early, whole_judged, report_of_all, told_said, all_said, early_not_judged}
 
@@ -98,29 +98,6 @@ question_judged question chain left items given taken text status result whole a
 
 module _ {D : Type 0} (reads_as : D → Option Image) (images : D → Image → Type 0) (moment : D → ℕ) (left_since : D → ℕ → Image → Type 0)
     (counts_now : (disk : D) (t : ℕ) (image : Image) → t ≤ moment disk → images disk image → left_since disk t image) where
-  -- the store was opened
-  pub question_opened : (question : Question) (old new : D) (node : NodeValue) (left : Option (List ℕ)) (given taken : List ℕ) (status : Status)
-      → IfSome (reads_as old) (λ now. store_of now ≡ Keeps node.chain)
-      → (((image : Image) → images old image → IsSound image) → IfSome (reads_as old) (λ _. IsOn node (reads_as new) (images new)))
-      → ((now : Image) (chain : Chain) → reads_as old ≡ Some now → store_of now ≡ Keeps chain → ((image : Image) → images old image → IsSound image)
-      → LeavesOnly moment left_since old new (λ image. images old image ⊎ StandsFor chain image))
-      → ((now : Image) → reads_as old ≡ Some now → IsSound now → HaveOwnExts node.chain node.exts)
-      → (AreJoined node.chain node.exts → AnswersQuestion question node.chain given left taken status)
-      → DeliversAnswer question (reads_as old) (images old) (images new) (left_since new (moment old)) left given taken status
-  question_opened question old new node left given taken status kept on moments own says = record {
-    delivers = delivers_over (AreJoined node.chain node.exts) (commands.Question question) (reads_as old) node.chain (images old) (images new) (left_since new (moment old)) left given taken status (λ store found. found) kept
-        (λ store found. opened_joined_whole (reads_as old) node.chain node.exts store kept own found)
-        (full question node.chain) (λ whole. refl) (λ joined. ((says joined).text, (says joined).order))
-        (keeps_opened (reads_as old) node.chain [] (images old) (images new) (left_since new (moment old)) taken status kept
-        (λ now told keeps sound. keeps_read images moment left_since counts_now old new node.chain taken status (moments now node.chain told keeps sound)
-        (on_stands node node.chain (reads_as new) (images new) refl
-        (if_told (reads_as old) (λ _. IsOn node (reads_as new) (images new)) now (on sound) told))));
-    answers = λ now chain told stands done.
-        let same : node.chain ≡ chain = same_chain node.chain chain
-        (sym (if_told (reads_as old) (λ image. store_of image ≡ Keeps node.chain) now kept told) ∙ store_of_stands chain now stands) in
-        (says (record { joined = subst IsJoined (sym same) (joined_of_image chain now stands); own = own now told (chain, stands) })).answers done ∙ ap (λ (k : Chain). text_of (full question k given)) same;
-  }
-
   -- none was opened
   pub question_unopened : (question : Question) (old new : D) (left : Option (List ℕ)) (status : Status) → IsOneOf opening_stops status
       → (status ≡ NotAStore → IfSome (reads_as old) (λ now. IsSound now → ⊥)) → IfSome (reads_as old) (images old)
@@ -135,3 +112,27 @@ module _ {D : Type 0} (reads_as : D → Option Image) (images : D → Image → 
         (moments now chain told keeps sound));
     answers = λ now chain told stands done. absurd (opening_not_done status one done);
   }
+
+  -- the store was opened, and then looked at
+  module _ {C : Type 0} (content_of : D → C) (rests : (old new : D) → content_of new ≡ content_of old → IsAsBefore reads_as images moment left_since old new) where
+    pub question_opened : (question : Question) (old mid new : D) (node : NodeValue) (left : Option (List ℕ)) (given taken : List ℕ) (status : Status)
+        → IfSome (reads_as old) (λ now. store_of now ≡ Keeps node.chain)
+        → (((image : Image) → images old image → IsSound image) → IfSome (reads_as old) (λ _. IsOn node (reads_as mid) (images mid)))
+        → ((now : Image) (chain : Chain) → reads_as old ≡ Some now → store_of now ≡ Keeps chain → ((image : Image) → images old image → IsSound image)
+        → LeavesOnly moment left_since old mid (λ image. images old image ⊎ StandsFor chain image))
+        → ((now : Image) → reads_as old ≡ Some now → IsSound now → IsSoundNode node)
+        → TellsAsBefore (reads_as old) (reads_as mid)
+        → content_of new ≡ content_of mid
+        → (IsSoundOn node (reads_as mid) → AnswersQuestion question node.chain given left taken status)
+        → DeliversAnswer question (reads_as old) (images old) (images new) (left_since new (moment old)) left given taken status
+    question_opened question old mid new node left given taken status kept on moments sound tells looked says = record {
+      delivers = delivers_over (IsSoundOn node (reads_as mid)) (commands.Question question) (reads_as old) node.chain (images old) (images new) (left_since new (moment old)) left given taken status (λ store found. found) kept
+          (λ store found. found_sound node (reads_as old) (reads_as mid) store kept tells sound found)
+          (full question node.chain) (λ whole. refl) (λ is. ((says is).text, (says is).order))
+          (keeps_looked content_of reads_as images moment left_since rests counts_now old mid new node taken status kept on moments looked);
+      answers = λ now chain told stands done.
+          let same : node.chain ≡ chain = same_chain node.chain chain
+          (sym (if_told (reads_as old) (λ image. store_of image ≡ Keeps node.chain) now kept told) ∙ store_of_stands chain now stands) in
+          (says (opened_sound node (reads_as old) (reads_as mid) now tells (sound now told) told (chain, stands))).answers done
+          ∙ ap (λ (k : Chain). text_of (full question k given)) same;
+    }

@@ -11,7 +11,7 @@ use Rattle.report_defs.specs.Promise.{IsReported, reported, ended_early, IsStopp
 use Rattle.item_reader.specs.Items.{IsReadingStop}
 use Rattle.node_run.specs.Import.{IsStop}
 use Rattle.node_run.specs.Output.{IsToldAnswer, IsWritingStop, early_ends}
-use Rattle.node_run.specs.Store.{opening_stops, finding_stops}
+use Rattle.node_run.specs.Store.{opening_stops}
 use Rattle.node_run.proofs.Tables.{held, lacks, among, apart}
 
 -- each of these statuses has P
@@ -111,19 +111,8 @@ import_told text refused end status result taken is (inr failed) = inr (inr (inr
 pub query_opening : (status : Status) → IsOneOf opening_stops status → IsOneOf query_statuses status
 query_opening = among opening_stops query_statuses refl
 
--- ---- What stops the finding of an answer
-
--- over a chain that has joined it is missing memory
-pub finding_stop : (status : Status) → IsOneOf finding_stops status → (status ≡ NotAStore → ⊥) → IsStop status
-finding_stop status (inl none) sound = absurd (sound none)
-finding_stop status (inr (inl memory)) sound = subst IsStop (sym memory) tt
-finding_stop status (inr (inr never)) sound = absurd never
-
-pub query_finding : (status : Status) → IsOneOf finding_stops status → IsOneOf query_statuses status
-query_finding = among finding_stops query_statuses refl
-
-pub question_finding : (status : Status) → IsOneOf finding_stops status → IsOneOf question_statuses status
-question_finding = among finding_stops question_statuses refl
+pub question_opening : (status : Status) → IsOneOf opening_stops status → IsOneOf question_statuses status
+question_opening = among opening_stops question_statuses refl
 
 -- ---- An answer that was told
 

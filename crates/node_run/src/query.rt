@@ -1,7 +1,5 @@
 // Queries: the store is asked, and nothing is read.
 ghost use Rattle.std.specs.Prelude.{◌≡◌, ◌≢◌, ◌+◌, ◌≤◌, slice_index, ◌∷◌, List, ℕ, Option, Err, Some, None, [], IfOk, string_bytes, nat_lt, if◌then◌else◌, IsSome};
-ghost use Rattle.codec_defs.specs.Shape.{IsA};
-ghost use Rattle.codec_defs.specs.Schema as schema;
 ghost use Rattle.codec_defs.specs.Schema.{Block};
 ghost use Rattle.chain_defs.specs.Kept.{block_at};
 ghost use Rattle.chain_defs.specs.Tip.{best_branch};
@@ -140,18 +138,21 @@ fn json<D: Disk>(
         None => return line_or_stop(none_line(alloc)),
         Some(bytes) => bytes,
     };
-    let Ok(line) = json_line(alloc, &bytes) else {
+    // (always a block, where the disk tells what it reads as)
+    let Some(block) = BlockView::read(&bytes) else {
+        return Err(Status::NotAStore);
+    };
+    let Ok(line) = json_line(alloc, &block) else {
         return Err(Status::NoMemory);
     };
     Ok(line)
 }
 
 /// The line of a block in JSON.
-fn json_line(alloc: Global, bytes: &[u8]) -> Result<Vec<u8>, NoMemory>
-    requires { (b : Block) × IsA schema.block bytes.now b }
-    ensures { (b : Block) → IsA schema.block bytes.now b → IfOk result (λ line. line.items ≡ json_of (Some b)) }
+fn json_line(alloc: Global, block: &BlockView<'_>) -> Result<Vec<u8>, NoMemory>
+    ensures { IfOk result (λ line. line.items ≡ json_of (Some block.now)) }
 {
-    let mut line = to_json(alloc, &BlockView::from_encoding(bytes))?;
+    let mut line = to_json(alloc, block)?;
     line.push(b'\n')?;
     Ok(line)
 }

@@ -1,39 +1,40 @@
 use Rattle.std.proofs.Common.{[], ◌∷◌, inl, refl, ap, ◌∙◌}
 use Rattle.std.specs.Prelude.{Err}
-use Rattle.outside.proofs.Endings.{no_fault}
+use Rattle.outside.proofs.Endings.{no_fault, no_answer}
 use Rattle.outside.proofs.Streams.{takes_none}
 use Rattle.report_defs.specs.declared.status.Status.TheVariants.{Done, SinkFault, DiskFault}
-use Rattle.node_run.specs.Store.{finding_stops}
+use Rattle.node_run.proofs.Exits.{same_stop}
+use Rattle.node_run.proofs.LookLemmas.{looks_as, looks_well}
 use Rattle.node_run.proofs.Tables.{lacks}
 use Rattle.node_run.proofs.StoreLemmas.{query_stopped, query_told}
 use Rattle.node_run.proofs.Statuses as statuses
-use Rattle.node_run.proofs.Statuses.{finding_stop, query_finding, told_one}
+use Rattle.node_run.proofs.Statuses.{opening_stop, opening_no_sink, query_opening, told_one}
 use Rattle.node_run.proofs.query.find_and_tell.Goals as goal
 
 pub returns-in-Err-clause-told : goal.returns-in-Err-clause-told
 returns-in-Err-clause-told g c = (
   [],
   takes_none (g.K.Sink.taken c.args.out.now),
-  λ joined left.
+  λ sound left.
       let status = c.in-Err.status in
       query_stopped c.args.query c.args.node.now.chain left status
-      (finding_stop status (c.in-Err.ensures.stop status refl) (λ e. c.in-Err.ensures.sound joined (ap Err e))),
+      (opening_stop status (c.in-Err.ensures.stop status refl) (λ e. c.in-Err.ensures.sound sound (ap Err e))),
 )
 
 pub returns-in-Err-clause-status : goal.returns-in-Err-clause-status
-returns-in-Err-clause-status g c = query_finding c.in-Err.status (c.in-Err.ensures.stop c.in-Err.status refl)
+returns-in-Err-clause-status g c = query_opening c.in-Err.status (c.in-Err.ensures.stop c.in-Err.status refl)
 
 pub returns-in-Err-clause-disk : goal.returns-in-Err-clause-disk
-returns-in-Err-clause-disk g c = lacks finding_stops DiskFault refl c.in-Err.status (c.in-Err.ensures.stop c.in-Err.status refl)
+returns-in-Err-clause-disk g c = looks_as c.in-Err.ensures.disk (λ is. ap Err is) (same_stop _ _)
 
 pub returns-in-Err-clause-faults : goal.returns-in-Err-clause-faults
-returns-in-Err-clause-faults g c = no_fault _ _ refl (lacks finding_stops SinkFault refl c.in-Err.status (c.in-Err.ensures.stop c.in-Err.status refl))
+returns-in-Err-clause-faults g c = no_fault _ _ refl (opening_no_sink c.in-Err.status (c.in-Err.ensures.stop c.in-Err.status refl))
 
 pub returns-clause-told : goal.returns-clause-told
 returns-clause-told g c = let told = c.tell_bytes.ensures.told in (
   told.0,
   told.1,
-  λ joined left. query_told c.args.query c.args.node.now.chain left told.0 c.deref.result.now c.tell_bytes.result (c.deref.ensures.value ∙ c.in-Ok.ensures.text joined) told.2,
+  λ sound left. query_told c.args.query c.args.node.now.chain left told.0 c.deref.result.now c.tell_bytes.result (c.deref.ensures.value ∙ c.in-Ok.ensures.text sound) told.2,
 )
 
 pub returns-clause-status : goal.returns-clause-status
@@ -42,7 +43,7 @@ returns-clause-status g c =
     statuses.query_told c.tell_bytes.result (told_one (Done ∷ []) c.deref.result.now Done c.tell_bytes.result told.0 (inl refl) told.2)
 
 pub returns-clause-disk : goal.returns-clause-disk
-returns-clause-disk g c = λ e.
+returns-clause-disk g c = looks_well c.in-Ok.ensures.disk (no_answer _ _) (λ e.
     let told = c.tell_bytes.ensures.told in
     lacks (SinkFault ∷ Done ∷ []) DiskFault refl c.tell_bytes.result
-    (told_one (Done ∷ []) c.deref.result.now Done c.tell_bytes.result told.0 (inl refl) told.2) e
+    (told_one (Done ∷ []) c.deref.result.now Done c.tell_bytes.result told.0 (inl refl) told.2) e)

@@ -1,7 +1,8 @@
 use Rattle.std.proofs.Common.{[], ap, refl}
 use Rattle.std.specs.Prelude.{Err}
-use Rattle.outside.proofs.Endings.{no_fault, no_answer}
+use Rattle.outside.proofs.Endings.{no_answer, behind}
 use Rattle.outside.proofs.Streams.{gives_none, takes_none}
+use Rattle.node_run.proofs.LookLemmas.{tells_looked, leaves_looked, only_read_looked}
 use Rattle.node_run.proofs.QuestionLemmas.{question_opened, question_unopened}
 use Rattle.node_run.proofs.StoreLemmas.{opened_there}
 use Rattle.node_run.proofs.RecordLemmas.{opening_keeps}
@@ -26,12 +27,13 @@ returns-clause-question g c =
       said.1,
       said.2,
       said.3,
-      question_opened g.D.Disk.reads_as g.D.Disk.images g.D.Disk.moment g.D.Disk.left_since g.met.D.Disk.counts_now c.args.asked c.args.disk.now c.open.new.disk
-          c.in-Ok.node left said.0 said.1 c.read_and_tell-status.result c.in-Ok.ensures.kept c.in-Ok.ensures.on c.in-Ok.ensures.moments c.in-Ok.ensures.own said.4,
+      question_opened g.D.Disk.reads_as g.D.Disk.images g.D.Disk.moment g.D.Disk.left_since g.met.D.Disk.counts_now g.D.Disk.content_of g.met.D.Disk.content_rests
+          c.args.asked c.args.disk.now c.open.new.disk c.read_and_tell-status.new.disk c.in-Ok.node left said.0 said.1 c.read_and_tell-status.result
+          c.in-Ok.ensures.kept c.in-Ok.ensures.on c.in-Ok.ensures.moments c.in-Ok.ensures.sound c.in-Ok.ensures.told c.read_and_tell-status.ensures.disk.content said.4,
     )
 
 pub returns-clause-disk_faults : goal.returns-clause-disk_faults
-returns-clause-disk_faults g c = no_fault _ _ (c.in-Ok.ensures.cause.unchanged (no_answer _ _)) c.read_and_tell-status.ensures.disk
+returns-clause-disk_faults g c = behind (c.in-Ok.ensures.cause.unchanged (no_answer _ _)) c.read_and_tell-status.ensures.disk.cause
 
 pub returns-clause-no_log : goal.returns-clause-no_log
 returns-clause-no_log g c = λ now told none. absurd (opened_there (g.D.Disk.reads_as c.args.disk.now) c.in-Ok.node.chain now c.in-Ok.ensures.kept told none)
@@ -40,7 +42,9 @@ pub returns-in-Err-clause-rests : goal.returns-in-Err-clause-rests
 returns-in-Err-clause-rests g c = c.in-Err.ensures.rests
 
 pub returns-clause-rests : goal.returns-clause-rests
-returns-clause-rests g c = c.in-Ok.ensures.rests
+returns-clause-rests g c = λ now told other.
+    only_read_looked g.D.Disk.content_of g.D.Disk.reads_as g.D.Disk.images g.D.Disk.moment g.D.Disk.left_since g.met.D.Disk.content_rests g.met.D.Disk.counts_now
+    c.args.disk.now c.open.new.disk c.read_and_tell-status.new.disk (c.in-Ok.ensures.rests now told other) c.read_and_tell-status.ensures.disk.content
 
 pub returns-in-Err-clause-most : goal.returns-in-Err-clause-most
 returns-in-Err-clause-most g c = c.in-Err.ensures.most
@@ -52,7 +56,9 @@ pub returns-in-Err-clause-told : goal.returns-in-Err-clause-told
 returns-in-Err-clause-told g c = c.in-Err.ensures.told
 
 pub returns-clause-told : goal.returns-clause-told
-returns-clause-told g c = c.in-Ok.ensures.told
+returns-clause-told g c =
+    tells_looked g.D.Disk.content_of g.D.Disk.reads_as g.D.Disk.images g.D.Disk.moment g.D.Disk.left_since g.met.D.Disk.content_rests
+    c.args.disk.now c.open.new.disk c.read_and_tell-status.new.disk c.in-Ok.ensures.told c.read_and_tell-status.ensures.disk.content
 
 pub returns-in-Err-clause-records : goal.returns-in-Err-clause-records
 returns-in-Err-clause-records g c = λ now chain told keeps.
@@ -60,4 +66,6 @@ returns-in-Err-clause-records g c = λ now chain told keeps.
 
 pub returns-clause-records : goal.returns-clause-records
 returns-clause-records g c = λ now chain told keeps.
-    opening_keeps g.D.Disk.images g.D.Disk.moment g.D.Disk.left_since g.met.D.Disk.counts_now c.args.disk.now c.open.new.disk [] now chain keeps (c.in-Ok.ensures.keeps now told)
+    opening_keeps g.D.Disk.images g.D.Disk.moment g.D.Disk.left_since g.met.D.Disk.counts_now c.args.disk.now c.read_and_tell-status.new.disk [] now chain keeps
+    (leaves_looked g.D.Disk.content_of g.D.Disk.reads_as g.D.Disk.images g.D.Disk.moment g.D.Disk.left_since g.met.D.Disk.content_rests g.met.D.Disk.counts_now
+    c.args.disk.now c.open.new.disk c.read_and_tell-status.new.disk _ (c.in-Ok.ensures.keeps now told) c.read_and_tell-status.ensures.disk.content)

@@ -9,12 +9,13 @@ use Rattle.item_reader.specs.Items.{IsReadingStop}
 use Rattle.item_reader.specs.Whole.{IsWhole, EndsEarly, IsReadWhole}
 use Rattle.item_reader.specs.declared.whole.Whole.{Whole}
 use Rattle.node_run.specs.Output.{early_ends}
-use Rattle.node_run.specs.Store.{finding_stops}
+use Rattle.node_run.specs.Store.{opening_stops}
 use Rattle.node_run.proofs.Tables.{lacks}
+use Rattle.node_run.proofs.LookLemmas.{looks_as, looks_well, looks_not}
 use Rattle.node_run.proofs.QuestionLemmas.{question_stopped, question_early, question_judged}
 use Rattle.node_run.proofs.WholeReports.{whole_no_further}
 use Rattle.node_run.proofs.Statuses as statuses
-use Rattle.node_run.proofs.Statuses.{reading_stops, finding_stop, told_one}
+use Rattle.node_run.proofs.Statuses.{reading_stops, opening_stop, told_one}
 use Rattle.node_run.proofs.Exits.{same_stop}
 use Rattle.node_run.proofs.question.read_and_tell.Goals as goal
 
@@ -31,14 +32,14 @@ returns-in-Ok-Early-clause-answered g c =
       said.0,
       read.1,
       said.1,
-      λ joined. question_early c.args.question c.args.node.now.chain left read.0 said.0 c.in-Ok-Early.end c.in-Ok-Early.offset c.tell_early.result early said.2,
+      λ sound. question_early c.args.question c.args.node.now.chain left read.0 said.0 c.in-Ok-Early.end c.in-Ok-Early.offset c.tell_early.result early said.2,
     )
 
 pub returns-in-Ok-Early-clause-status : goal.returns-in-Ok-Early-clause-status
 returns-in-Ok-Early-clause-status g c = statuses.question_early c.tell_early.result c.tell_early.ensures.one_of
 
 pub returns-in-Ok-Early-clause-disk : goal.returns-in-Ok-Early-clause-disk
-returns-in-Ok-Early-clause-disk g c = lacks early_ends DiskFault refl c.tell_early.result c.tell_early.ensures.one_of
+returns-in-Ok-Early-clause-disk g c = looks_not c.args.disk.now (lacks early_ends DiskFault refl c.tell_early.result c.tell_early.ensures.one_of)
 
 pub returns-in-Ok-Early-clause-input_faults : goal.returns-in-Ok-Early-clause-input_faults
 returns-in-Ok-Early-clause-input_faults g c =
@@ -57,14 +58,14 @@ returns-in-Err-clause-answered g c =
       [],
       read.1,
       takes_none (g.K.Sink.taken c.args.out.now),
-      λ joined. question_stopped c.args.question c.args.node.now.chain left read.0 c.in-Err.status (reading_stops c.in-Err.status read.2.0) read.2.1,
+      λ sound. question_stopped c.args.question c.args.node.now.chain left read.0 c.in-Err.status (reading_stops c.in-Err.status read.2.0) read.2.1,
     )
 
 pub returns-in-Err-clause-status : goal.returns-in-Err-clause-status
 returns-in-Err-clause-status g c = statuses.question_reading c.in-Err.status c.in-Err.ensures.read.2.0
 
 pub returns-in-Err-clause-disk : goal.returns-in-Err-clause-disk
-returns-in-Err-clause-disk g c = λ e. subst IsReadingStop e c.in-Err.ensures.read.2.0
+returns-in-Err-clause-disk g c = looks_not c.args.disk.now (λ e. subst IsReadingStop e c.in-Err.ensures.read.2.0)
 
 pub returns-in-Err-clause-input_faults : goal.returns-in-Err-clause-input_faults
 returns-in-Err-clause-input_faults g c =
@@ -75,8 +76,8 @@ returns-in-Err-clause-out_faults g c = no_fault _ _ refl (λ e. subst IsReadingS
 
 -- ---- The items were read
 
-pub answer_to-requires : goal.answer_to-requires
-answer_to-requires g c =
+pub answer_to-requires-clause-items : goal.answer_to-requires-clause-items
+answer_to-requires-clause-items g c =
     let read = c.in-Ok-Items.ensures.read in
     let left = g.S.Source.left c.read_items.new.input in
     let whole : IsWhole (question_items c.args.question) left (map (λ item. item.items) c.in-Ok-Items.items.items) read.0 =
@@ -95,25 +96,25 @@ returns-clause-answered g c =
       [],
       read.1,
       takes_none (g.K.Sink.taken c.args.out.now),
-      λ joined. question_stopped c.args.question c.args.node.now.chain left read.0 status
-          (finding_stop status (c.in-Err-answer_to.ensures.stop status refl) (λ e. c.in-Err-answer_to.ensures.sound joined (ap Err e)))
+      λ sound. question_stopped c.args.question c.args.node.now.chain left read.0 status
+          (opening_stop status (c.in-Err-answer_to.ensures.stop status refl) (λ e. c.in-Err-answer_to.ensures.sound sound (ap Err e)))
           (whole_no_further (question_items c.args.question) left (map (λ item. item.items) c.in-Ok-Items.items.items) read.0 whole),
     )
 
 pub returns-clause-status : goal.returns-clause-status
-returns-clause-status g c = statuses.question_finding c.in-Err-answer_to.status (c.in-Err-answer_to.ensures.stop c.in-Err-answer_to.status refl)
+returns-clause-status g c = statuses.question_opening c.in-Err-answer_to.status (c.in-Err-answer_to.ensures.stop c.in-Err-answer_to.status refl)
 
 pub returns-clause-disk : goal.returns-clause-disk
-returns-clause-disk g c = lacks finding_stops DiskFault refl c.in-Err-answer_to.status (c.in-Err-answer_to.ensures.stop c.in-Err-answer_to.status refl)
+returns-clause-disk g c = looks_as c.in-Err-answer_to.ensures.disk (λ is. ap Err is) (same_stop _ _)
 
 pub returns-clause-input_faults : goal.returns-clause-input_faults
 returns-clause-input_faults g c =
     no_fault _ _ (c.in-Ok-Items.ensures.faults.unchanged (no_answer _ _))
-    (lacks finding_stops InputFault refl c.in-Err-answer_to.status (c.in-Err-answer_to.ensures.stop c.in-Err-answer_to.status refl))
+    (lacks opening_stops InputFault refl c.in-Err-answer_to.status (c.in-Err-answer_to.ensures.stop c.in-Err-answer_to.status refl))
 
 pub returns-clause-out_faults : goal.returns-clause-out_faults
 returns-clause-out_faults g c =
-    no_fault _ _ refl (lacks finding_stops SinkFault refl c.in-Err-answer_to.status (c.in-Err-answer_to.ensures.stop c.in-Err-answer_to.status refl))
+    no_fault _ _ refl (lacks opening_stops SinkFault refl c.in-Err-answer_to.status (c.in-Err-answer_to.ensures.stop c.in-Err-answer_to.status refl))
 
 -- it was told
 pub returns-in-Ok-clause-answered : goal.returns-in-Ok-clause-answered
@@ -129,8 +130,8 @@ returns-in-Ok-clause-answered g c =
       told.0,
       read.1,
       told.1,
-      λ joined. question_judged c.args.question c.args.node.now.chain left items read.0 told.0 (string_bytes c.in-Ok.answer.text) c.in-Ok.answer.status c.tell.result
-          here (c.in-Ok.ensures.answer joined) c.in-Ok.ensures.one_of told.2,
+      λ sound. question_judged c.args.question c.args.node.now.chain left items read.0 told.0 (string_bytes c.in-Ok.answer.text) c.in-Ok.answer.status c.tell.result
+          here (c.in-Ok.ensures.answer sound) c.in-Ok.ensures.one_of told.2,
     )
 
 pub returns-in-Ok-clause-status : goal.returns-in-Ok-clause-status
@@ -139,9 +140,9 @@ returns-in-Ok-clause-status g c =
     c.tell.ensures.told.0 c.in-Ok.ensures.one_of c.tell.ensures.told.2)
 
 pub returns-in-Ok-clause-disk : goal.returns-in-Ok-clause-disk
-returns-in-Ok-clause-disk g c =
-    lacks (SinkFault ∷ Done ∷ SomeRefused ∷ []) DiskFault refl c.tell.result (told_one (Done ∷ SomeRefused ∷ []) (string_bytes c.in-Ok.answer.text) c.in-Ok.answer.status c.tell.result
-    c.tell.ensures.told.0 c.in-Ok.ensures.one_of c.tell.ensures.told.2)
+returns-in-Ok-clause-disk g c = looks_well c.in-Ok.ensures.disk (no_answer _ _)
+    (lacks (SinkFault ∷ Done ∷ SomeRefused ∷ []) DiskFault refl c.tell.result (told_one (Done ∷ SomeRefused ∷ []) (string_bytes c.in-Ok.answer.text) c.in-Ok.answer.status c.tell.result
+    c.tell.ensures.told.0 c.in-Ok.ensures.one_of c.tell.ensures.told.2))
 
 pub returns-in-Ok-clause-input_faults : goal.returns-in-Ok-clause-input_faults
 returns-in-Ok-clause-input_faults g c =
