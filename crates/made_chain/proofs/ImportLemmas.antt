@@ -2,10 +2,10 @@
 use Rattle.std.proofs.Common.{◌≡◌, ℕ, ◌+◌, ◌≤◌, ◌<◌, Bool, true, false, List, [], ◌∷◌, ◌++◌, length, map, take, get_or, Vec, Global, Option, Some, None, refl, sym, ap, ◌∙◌, subst, arith}
 use Rattle.std.specs.Prelude.{IfSome, IsSome, cond, ◌==◌}
 use Rattle.std.specs.List.{filter}
-use Rattle.std.specs.Option.{option_map, option_and_then}
+use Rattle.std.specs.Option.{option_and_then}
 use Rattle.std.proofs.lemmas.List.{take_more, map-append}
 use Rattle.std.proofs.lemmas.Bool.Decides.{nat_tests}
-use Rattle.outside.specs.Image.{Image, with_content}
+use Rattle.outside.specs.Image.{Image}
 use Rattle.outside.specs.Disk.{OthersRead}
 use Rattle.outside.specs.declared.disk.Area.{Area}
 use Rattle.codec_defs.specs.Schema.{OutPoint, Block}

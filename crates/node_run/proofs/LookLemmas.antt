@@ -1,29 +1,28 @@
 -- What only looks at a node's disk: what it leaves, what stops it, and what a command delivers that opened the store and then looked.
-use Rattle.std.proofs.Common.{◌≡◌, ◌⊎◌, inl, inr, ℕ, ◌≤◌, List, [], ◌∷◌, Option, Some, None, Result, Ok, Err, refl, sym, ap, ◌∙◌, subst}
-use Rattle.std.specs.Prelude.{IfSome, IfOk, IsSome, is_some, ◌↔◌}
+use Rattle.std.proofs.Common.{◌≡◌, ◌⊎◌, ℕ, ◌≤◌, List, [], Option, Some, None, Result, Err, refl, sym, ap, ◌∙◌, subst}
+use Rattle.std.specs.Prelude.{IfSome, is_some, ◌↔◌}
 use Rattle.std.proofs.lemmas.Option.{same_Some}
 use Rattle.outside.specs.Image.{Image}
-use Rattle.outside.specs.Disk.{LeavesOnly, IsAsBefore, IsOnlyRead, SameImages}
+use Rattle.outside.specs.Disk.{LeavesOnly, IsAsBefore, IsOnlyRead}
 use Rattle.outside.specs.declared.disk.ReadStop.{ReadStop}
 use Rattle.outside.specs.declared.disk.ReadStop.TheVariants as stops
-use Rattle.outside.proofs.Endings.{no_fault, counts-as, no_answer}
+use Rattle.outside.proofs.Endings.{no_fault, counts-as}
 use Rattle.outside.proofs.Moments.{leaves_also, leaves_then, now_too}
 use Rattle.rule_names.specs.declared.rule.Rule.{Rule}
 use Rattle.block_judge.specs.Stops.{stop_in}
 use Rattle.block_judge.specs.declared.stop.Judged.{Judged}
 use Rattle.block_judge.specs.declared.stop.Judged.TheVariants.{Broken, Read}
 use Rattle.verdict_defs.specs.Chain.{Chain}
-use Rattle.store_defs.specs.Store.{Store, Keeps, store_of, StandsFor, IsSound, TellsAsBefore}
+use Rattle.store_defs.specs.Store.{Keeps, store_of, StandsFor, IsSound, TellsAsBefore}
 use Rattle.report_defs.specs.declared.status.Status.{Status}
 use Rattle.report_defs.specs.declared.status.Status.TheVariants.{DiskFault, NoMemory, NotAStore}
 use Rattle.report_defs.specs.Status.{IsOneOf}
-use Rattle.report_defs.specs.Promise.{IsSoundStoreOf}
 use Rattle.report_defs.specs.Survival.{Each, KeepsStore}
-use Rattle.node_core.specs.Node.{NodeValue, IsSoundNode, IsSoundOn, IsOn, LeavesAll}
+use Rattle.node_core.specs.Node.{NodeValue, IsOn, LeavesAll}
 use Rattle.node_run.specs.Store.{OnlyLooks, opening_stops}
 use Rattle.node_run.proofs.DiskLemmas.{only_read_then}
 use Rattle.node_run.proofs.Exits.{same_stop}
-use Rattle.node_run.proofs.StoreLemmas.{if_told, opened_store, keeps_opened, keeps_read}
+use Rattle.node_run.proofs.StoreLemmas.{if_told, keeps_opened, keeps_read}
 use Rattle.node_run.proofs.Tables.{held}
 
 -- ---- What a call leaves that looks

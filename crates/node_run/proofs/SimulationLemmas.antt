@@ -3,11 +3,11 @@ use Rattle.std.proofs.Common.{◌≡◌, inl, inr, ℕ, List, [], refl, sym, ◌
 use Rattle.std.specs.Prelude.{Option}
 use Rattle.report_defs.specs.declared.command.Simulation.{Simulation}
 use Rattle.report_defs.specs.declared.status.Status.{Status}
-use Rattle.report_defs.specs.declared.status.Status.TheVariants.{Done, SinkFault, NoMemory}
+use Rattle.report_defs.specs.declared.status.Status.TheVariants.{Done, NoMemory}
 use Rattle.report_defs.specs.Report.{Report, answer_to_simulation, report_of_simulation}
 use Rattle.report_defs.specs.Promise.{IsPrefix, IsStoppedBeforeTheSink}
 use Rattle.node_run.specs.Import.{IsStop}
-use Rattle.node_run.specs.Output.{MatchesReportOf, IsToldAnswer}
+use Rattle.node_run.specs.Output.{IsToldAnswer}
 use Rattle.node_run.specs.Simulation.{IsSimulationTold}
 use Rattle.node_run.proofs.Statuses.{stop_not_reported, is_early, not_early}
 use Rattle.node_run.proofs.StoreLemmas.{by_function, stop_says}

@@ -1,6 +1,5 @@
 use Rattle.std.proofs.Common.{Err, ap}
 use Rattle.outside.proofs.Endings.{no_answer}
-use Rattle.verdict_defs.specs.Chain.{Chain}
 use Rattle.node_core.specs.Node.{NodeValue}
 use Rattle.node_run.proofs.Exits.{same_stop}
 use Rattle.node_run.proofs.LookLemmas.{looks_not, looks_found, looks_stopped}

@@ -1,4 +1,4 @@
-use Rattle.node_run.proofs.LookLemmas.{looks_not, memory_no_fault, memory_no_none, memory_opening}
+use Rattle.node_run.proofs.LookLemmas.{looks_not, memory_no_fault}
 use Rattle.node_run.proofs.query.answer_to.Goals as goal
 
 pub returns-in-Tip-clause-disk : goal.returns-in-Tip-clause-disk

@@ -1,4 +1,4 @@
-use Rattle.std.proofs.Common.{ap, sym, ◌∙◌, subst}
+use Rattle.std.proofs.Common.{ap, sym, ◌∙◌}
 use Rattle.std.specs.Prelude.{Some, None, Err}
 use Rattle.outside.proofs.Endings.{no_answer}
 use Rattle.block_judge.specs.declared.stop.Judged.TheVariants.{Read}

@@ -1,8 +1,8 @@
-use Rattle.std.proofs.Common.{◌≡◌, [], inl, inr, refl, ap, ◌∙◌, arith, subst}
+use Rattle.std.proofs.Common.{[], inl, inr, refl, ap, ◌∙◌, arith, subst}
 use Rattle.outside.proofs.Endings.{no_fault, counts-as, no_answer}
 use Rattle.outside.proofs.Streams.{takes_none}
 use Rattle.report_defs.specs.declared.status.Status.TheVariants.{NoMemory}
-use Rattle.report_defs.specs.Report.{Report, report_without_lines, text_of, file_limit, IsReportOfFile}
+use Rattle.report_defs.specs.Report.{report_without_lines, file_limit, IsReportOfFile}
 use Rattle.report_defs.specs.Promise.{IsPrefix}
 use Rattle.node_run.specs.Standalone.{IsFile}
 use Rattle.node_run.proofs.Statuses.{reading_stops}
