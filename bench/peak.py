@@ -1,12 +1,12 @@
 #!/usr/bin/env python3
-"""The memory of `import` and of opening, beside the bytes that the store keeps.
+"""The memory of `import` and of opening, beside the blocks that a node holds.
 
     python3 bench/peak.py CKBDEV [--blocks 500] [--bytes 597000] [--disk FOLDER]
 
 A generated chain (chaingen.py) of blocks of the given size goes through `import`
 into a new store, and `tip` opens it. Every line is checked. The last lines have
-the peaks of resident memory and what they may be: 1.2 times the kept bytes plus
-64 MB. Above that the status is 1. A MB is 10^6 bytes.
+the peaks of resident memory and what they may be: 60 MB beside the 64 blocks
+that a node holds. Above that the status is 1. A MB is 10^6 bytes.
 
 --disk FOLDER  where the store is made (default: /dev/shm where that is there,
                so that no disk is waited for)
@@ -21,6 +21,9 @@ import tempfile
 
 sys.dont_write_bytecode = True
 import chaingen  # noqa: E402
+
+# the blocks that a node holds in memory (docs/STORE.md, "Kept blocks read by their places")
+HELD = 64
 
 
 def write(path, content):
@@ -57,7 +60,7 @@ def main():
     spec, genesis, blocks, kept, tip = chaingen.make(0, a.blocks, plain=True, block_bytes=a.bytes)
     named = ['%d 0x%s\n' % (number, top.hex()) for number, top in kept]
     size = len(genesis) + sum(map(len, blocks))
-    most = 1.2 * size + 64e6
+    most = HELD * max(map(len, blocks)) + 60e6
     with tempfile.TemporaryDirectory() as work, tempfile.TemporaryDirectory(dir=a.disk) as folder:
         given = os.path.join(work, 'given')
         write(given, spec + genesis)

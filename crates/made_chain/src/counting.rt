@@ -1,11 +1,11 @@
 // The blocks of a generated chain are imported, one after the other, and counted.
-ghost use Rattle.std.specs.Prelude.{◌≡◌, ◌<◌, ◌≤◌, ◌^◌, length, map, IfOk, IfSome, IsSome, if◌then◌else◌};
+ghost use Rattle.std.specs.Prelude.{◌≡◌, ◌<◌, ◌≤◌, ◌^◌, length, map, IfOk, IsSome, if◌then◌else◌};
 ghost use Rattle.std.specs.List.{filter};
 ghost use Rattle.chain_defs.specs.Tip as tips;
 ghost use Rattle.cell_defs.specs.Events.{events};
 ghost use Rattle.verdict_defs.specs.Verdict as rules;
 ghost use Rattle.verdict_defs.specs.Chain.{verdict_over, chain_after, verdicts_over, chain_over, chain_of_genesis};
-ghost use Rattle.store_defs.specs.Store.{AreJoined};
+ghost use Rattle.node_core.specs.Node.{IsItsOwn, IsSoundNode, IsSoundOn};
 ghost use Rattle.report_defs.specs.Simulation.{live_cells, height_of, counts_over, generated_counts};
 
 use chain_gen::{Made, make};
@@ -44,8 +44,8 @@ fn open_new<D: Disk, L: Ledger>(
 ) -> Result<Node, NoMemory>
     requires told { IsSome (D.reads_as disk.old) }
     ensures chain { IfOk result (λ node. node.chain ≡ chain_of_genesis spec.now genesis.now) }
-    ensures joined { IfOk result (λ node. AreJoined node.chain node.exts) }
-    ensures there { IfOk result (λ node. IfSome (D.reads_as disk.new) (λ image. node.place < length image.log)) }
+    ensures sound { IfOk result (λ node. IsSoundOn node (D.reads_as disk.new)) }
+    ensures own { IfOk result (λ node. IsItsOwn node (D.reads_as disk.new) (D.images disk.new)) }
 {
     if spec.len() >= SIZE_BOUND || genesis.len() >= SIZE_BOUND {
         return Err(NoMemory);
@@ -72,12 +72,12 @@ fn import_item<D: Disk, L: Ledger>(
     item: &[u8],
     steps: &mut Steps<L>,
 ) -> Result<(Node, Verdict), NoMemory>
-    requires joined { AreJoined node.chain node.exts }
-    requires there { IfSome (D.reads_as disk.old) (λ image. node.place < length image.log) }
+    requires sound { IsSoundOn node (D.reads_as disk.old) }
+    requires own { IsItsOwn node (D.reads_as disk.old) (D.images disk.old) }
     ensures verdict { IfOk result (λ answer. answer.1 ≡ verdict_over node.chain item.now) }
     ensures kept { IfOk result (λ answer. answer.0.chain ≡ chain_after node.chain item.now) }
-    ensures joined { IfOk result (λ answer. AreJoined answer.0.chain answer.0.exts) }
-    ensures there { IfOk result (λ answer. IfSome (D.reads_as disk.new) (λ image. answer.0.place < length image.log)) }
+    ensures sound { IfOk result (λ answer. IsSoundOn answer.0 (D.reads_as disk.new)) }
+    ensures own { IfOk result (λ answer. IsItsOwn answer.0 (D.reads_as disk.new) (D.images disk.new)) }
 {
     if item.len() >= SIZE_BOUND {
         drop(node);
@@ -97,9 +97,9 @@ fn import_all<D: Disk, L: Ledger>(
     items: &[Vec<u8>],
     steps: &mut Steps<L>,
 ) -> Result<(Node, u64), NoMemory>
-    requires joined { AreJoined opened.chain opened.exts }
-    requires there { IfSome (D.reads_as disk.old) (λ image. opened.place < length image.log) }
-    ensures joined { IfOk result (λ came. AreJoined came.0.chain came.0.exts) }
+    requires sound { IsSoundOn opened (D.reads_as disk.old) }
+    requires own { IsItsOwn opened (D.reads_as disk.old) (D.images disk.old) }
+    ensures sound { IfOk result (λ came. IsSoundNode came.0) }
     ensures kept { IfOk result (λ came. came.0.chain ≡ chain_over opened.chain (map (λ bytes. bytes.items) items.now)) }
     ensures count { IfOk result (λ came. came.1 ≡ length (filter rules.joins (verdicts_over opened.chain (map (λ bytes. bytes.items) items.now)))) }
 {
@@ -118,7 +118,7 @@ fn import_all<D: Disk, L: Ledger>(
 
 /// What is counted of a node, where so many items joined. The live cells are listed to be counted: the list has each once.
 fn counted(alloc: Global, node: &Node, joined: u64) -> Result<Counts, NoMemory>
-    requires { AreJoined node.now.chain node.now.exts }
+    requires { IsSoundNode node.now }
     ensures { IfOk result (λ counts. counts ≡ record {
       joined = joined;
       height = height_of (tips.tip node.now.chain.blocks);

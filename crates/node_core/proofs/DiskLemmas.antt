@@ -18,6 +18,7 @@ use Rattle.store_defs.specs.Store.{ext_over, StandsFor}
 use Rattle.log_defs.proofs.Contents.{says_its_records}
 use Rattle.store_defs.proofs.StoreLemmas.{stands_as_it_says, stands_after_an_item}
 use Rattle.node_core.specs.Node.{IsOnlyImage}
+use Rattle.node_core.proofs.RecordedLemmas.{same_image}
 
 -- without a fault the count stands still
 pub counts_none : {Fault : Type 0} (before now : ℕ) → now ≡ before → (Fault → ⊥) → CountsFault before now Fault
@@ -42,9 +43,6 @@ pub before_calls : {D : Type 0} (moment : D → ℕ) (left_since : D → ℕ →
     → LeavesOnly moment left_since disk disk (λ image. StandsFor chain image ⊎ StandsFor (chain_after chain item) image)
 before_calls moment left_since images only_now chain reads disk item only =
     started moment left_since disk _ (λ image left. inl (subst (StandsFor chain) (sym (only.one image (only_now disk image left))) only.stands))
-
-pub same_image : (image now : Image) → image.log ≡ now.log → image.snap_a ≡ now.snap_a → image.snap_b ≡ now.snap_b → image ≡ now
-same_image image now log snap_a snap_b = λ i. record { log = log i; snap_a = snap_a i; snap_b = snap_b i }
 
 module _ (chain : Chain) (reads : Option Image) (images : Image → Type 0) (only : IsOnlyImage chain reads images) (place : ℕ) (records : List Record)
     (settled : IsSettled place records reads images) where

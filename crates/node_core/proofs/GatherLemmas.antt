@@ -1,12 +1,12 @@
 -- What is gathered of the blocks of a log: one block more, and all of them.
-use Rattle.std.proofs.Common.{◌≡◌, ℕ, zero, suc, ◌+◌, ◌-◌, ◌*◌, ◌<◌, ◌≤◌, ◌^◌, Bool, true, false, eqb, drop, List, [], ◌∷◌, ◌++◌, length, map, Option, Some, None, refl, sym, ap, ◌∙◌, subst, inl, inr, ◌⊎◌, append_assoc, arith}
-use Rattle.std.specs.Prelude.{◌↔◌, ◌&&◌, ◌==◌, IsTrue, slice_get}
+use Rattle.std.proofs.Common.{◌≡◌, ℕ, zero, suc, ◌+◌, ◌-◌, ◌*◌, ◌<◌, ◌≤◌, ◌^◌, Bool, true, false, eqb, drop, List, [], ◌∷◌, ◌++◌, length, Option, Some, None, refl, sym, ap, ◌∙◌, subst, inl, inr, ◌⊎◌, arith}
+use Rattle.std.specs.Prelude.{◌↔◌, ◌&&◌, IsTrue, slice_get}
 use Rattle.std.specs.Option.{option_map}
 use Rattle.std.proofs.lemmas.Bool.{and_parts, and_from}
 use Rattle.std.proofs.lemmas.Bool.Decides.{Decides-eqb}
-use Rattle.std.proofs.lemmas.List.{append-nil, length-map, length_push, map-append}
+use Rattle.std.proofs.lemmas.List.{length-map, length_push, map_push}
 use Rattle.std.proofs.lemmas.Option.{same_Some, slice_get-map, slice_get_within}
-use Rattle.codec_defs.specs.Schema.{OutPoint, Block}
+use Rattle.codec_defs.specs.Schema.{Block}
 use Rattle.time_defs.specs.Dao.{is_rated}
 use Rattle.chain_defs.specs.Kept.{block_at, kept_limit}
 use Rattle.chain_defs.proofs.KeptLaws.{slice_get-below, slice_get-before, slice_get-push, slice_get-pushed}
@@ -15,12 +15,13 @@ use Rattle.cell_state.specs.State.{StateValue, rows}
 use Rattle.reorg.specs.Moves.{AreOf}
 use Rattle.reorg.proofs.RowLemmas.{live_row-genesis}
 use Rattle.chain_tree.specs.declared.entry.Entry.{Entry}
-use Rattle.chain_tree.specs.Blocks.{Describes, IndexesBlocks, AreRated}
+use Rattle.chain_tree.specs.Blocks.{IndexesBlocks, AreRated}
 use Rattle.chain_tree.specs.Told.{Stored, blocks_of}
 use Rattle.chain_tree.proofs.BlockLemmas.{described, len-same}
-use Rattle.uncle_rules.specs.Embedded.{Embedded, embedded_in, embedded_from, UnclesValue, IndexesUncles}
+use Rattle.uncle_rules.specs.Embedded.{embedded_in, embedded_from, UnclesValue, IndexesUncles}
 use Rattle.log_file.specs.Grammar.{AreBlocks}
 use Rattle.node_core.specs.Node.{CountFees, AreKept}
+use Rattle.node_core.proofs.JoiningLemmas.{uncles-push}
 use Rattle.node_core.specs.Gathering.{counts_fees, fits_at, FitInPlace, AreLeftBy, IsGathered}
 
 -- ---- Exts
@@ -59,29 +60,27 @@ fit-more stored it fits so_far = (
   (λ all. and_from fits (fits_at (length stored) it) (so_far.1 (fit-before stored it all)) (all (length stored) it (slice_get-push stored it))),
 )
 
--- ---- Uncles
+-- whether all fit is asked of a block only where those before it do
+pub fits-both : (fits test all : Bool) → fits ≡ true → all ≡ test → all ≡ (fits && test)
+fits-both fits test all so is = is ∙ ap (λ (b : Bool). b && test) (sym so)
 
-embedded_from-push : (kept : List Block) (b : Block) (place : ℕ) → embedded_from place (kept ++ b ∷ []) ≡ embedded_from place kept ++ embedded_in (place + length kept) b
-unfolding embedded_from
-embedded_from-push [] b place = append-nil (embedded_in place b) ∙ ap (λ (p : ℕ). embedded_in p b) (omega arith)
-embedded_from-push (first ∷ later) b place =
-    ap (λ (es : List Embedded). embedded_in place first ++ es) (embedded_from-push later b (suc place))
-    ∙ sym (append_assoc (embedded_in place first) (embedded_from (suc place) later) (embedded_in (suc place + length later) b))
-    ∙ ap (λ (p : ℕ). (embedded_in place first ++ embedded_from (suc place) later) ++ embedded_in p b) (omega arith)
+pub fits-not : (fits test all : Bool) → fits ≡ false → all ≡ false → all ≡ (fits && test)
+fits-not fits test all not is = is ∙ ap (λ (b : Bool). b && test) (sym not)
+
+-- ---- Uncles
 
 none-embedded : embedded_from 0 [] ≡ []
 unfolding embedded_from
 none-embedded = refl
 
 blocks-more : (stored : List Stored) (it : Stored) → blocks_of (stored ++ it ∷ []) ≡ blocks_of stored ++ it.block ∷ []
-blocks-more stored it = map-append (λ (x : Stored). x.block) stored it
+blocks-more stored it = map_push (λ (x : Stored). x.block) stored it
 
 index-more : (stored : List Stored) (it : Stored) (count : ℕ) (old new : UnclesValue) → count ≡ length stored → IndexesUncles (blocks_of stored) old
     → new.embedded ≡ old.embedded ++ embedded_in count it.block → IndexesUncles (blocks_of (stored ++ it ∷ [])) new
 index-more stored it count old new counted index is =
-    let place : count ≡ 0 + length (blocks_of stored) = omega (arith, counted, length-map stored (λ (x : Stored). x.block)) in
-    is ∙ (λ i. index i ++ embedded_in (place i) it.block) ∙ sym (embedded_from-push (blocks_of stored) it.block 0)
-    ∙ ap (embedded_from 0) (sym (blocks-more stored it))
+    let place : count ≡ length (blocks_of stored) = omega (arith, counted, length-map stored (λ (x : Stored). x.block)) in
+    uncles-push (blocks_of stored) it.block count old.embedded new.embedded place index is ∙ ap (embedded_from 0) (sym (blocks-more stored it))
 
 -- ---- The live cells that the genesis leaves
 
@@ -226,6 +225,10 @@ are-kept-gathered stored entries count uncles cells fits gathered are fit =
       counted = counted-fit stored each;
       few = are.few;
     }
+
+-- a tree has a tip, so it has entries
+pub some-entries : (tip : ℕ) (entries : List Entry) → tip < length entries → 0 < length entries
+some-entries tip entries within = omega (arith, within)
 
 first-of : (stored : List Stored) (entries : List Entry) → IndexesBlocks (blocks_of stored) entries → 0 < length entries
     → (b : Block) × (block_at (blocks_of stored) 0 ≡ Some b)

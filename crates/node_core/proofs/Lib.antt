@@ -16,5 +16,4 @@ pub mod OwnLemmas
 pub mod KeepingLemmas
 pub mod StayingLemmas
 pub mod QueryLemmas
-pub mod SourceLemmas
 pub mod RecordedLemmas

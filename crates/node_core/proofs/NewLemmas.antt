@@ -17,7 +17,7 @@ use Rattle.log_defs.specs.Rest.{IsAtRest, IsSettled, HasNoLonger}
 use Rattle.store_defs.specs.Store.{HasNoSnapshots, new_image}
 use Rattle.store_defs.proofs.StoreLemmas.{stands_for_the_genesis}
 use Rattle.node_core.specs.Node.{AreJudged, IsNew, KeepsLog, HasOldLogOrNoSnapshots}
-use Rattle.node_core.proofs.DiskLemmas.{same_image}
+use Rattle.node_core.proofs.RecordedLemmas.{same_image}
 
 pub no_genesis : (item : List ℕ) → decoded block item ≡ None → broken_genesis_rule item ≡ Some 1
 unfolding broken_genesis_rule

@@ -1,6 +1,6 @@
 -- A store that is opened: what its image keeps, what its disk stands for then, and what opening leaves of the disk.
 use Rattle.std.proofs.Common.{◌≡◌, ℕ, ◌+◌, ◌*◌, ◌^◌, ◌≤◌, Bool, false, cond, List, [], ◌∷◌, length, drop, Option, Some, None, refl, sym, ap, ◌∙◌, subst, inl, inr, ◌⊎◌, arith}
-use Rattle.std.specs.Prelude.{◌≢◌, ◌==◌, IfSome, IsSome, slice_index, Result, Ok, Err, IfOk, IsOk, is_err}
+use Rattle.std.specs.Prelude.{◌≢◌, ◌==◌, IfSome, IsSome, slice_index, Result, Ok, Err, IsOk, is_err}
 use Rattle.std.specs.Option.{option_map}
 use Rattle.std.proofs.lemmas.Bool.{ne_eqb}
 use Rattle.std.proofs.lemmas.List.{length-map}
@@ -13,11 +13,9 @@ use Rattle.outside.specs.Image.{Image, with_content}
 use Rattle.outside.specs.Causes.{Rose, CountsFault}
 use Rattle.outside.specs.Disk.{NoneNew, IsDurable, HasOneImage, OthersRead, LeavesOnly, IsAsBefore, IsOnlyRead}
 use Rattle.outside.proofs.Moments.{leaves_also, leaves_then, now_too}
-use Rattle.codec_defs.specs.Schema.{OutPoint, Block}
 use Rattle.chain_defs.specs.Kept.{kept_limit}
 use Rattle.chain_defs.specs.Tip.{tip_place}
 use Rattle.chain_defs.specs.Branch.{distance}
-use Rattle.cell_defs.specs.Row.{Row}
 use Rattle.cell_state.specs.State.{StateValue, rows}
 use Rattle.reorg.specs.Moves.{AreOf}
 use Rattle.time_defs.specs.Specification.{Specification}
@@ -27,19 +25,19 @@ use Rattle.log_defs.specs.Rest.{IsAtRest, IsSettled, HasLog}
 use Rattle.log_defs.proofs.Contents.{says_its_records}
 use Rattle.store_defs.specs.Store.{Store, NoLog, Keeps, store_of, store_of_log, chain_of, StandsFor, IsSound, AreJoined}
 use Rattle.chain_tree.specs.declared.entry.Entry.{Entry}
-use Rattle.chain_tree.specs.Blocks.{IndexesBlocks, AreRated}
-use Rattle.chain_tree.specs.Reading.{stop_of}
-use Rattle.chain_tree.specs.Told.{Stored, blocks_of}
+use Rattle.chain_tree.specs.Blocks.{AreRated}
+use Rattle.chain_tree.specs.Told.{Stored}
 use Rattle.log_file.specs.Grammar.{record_of, AreBlocks}
 use Rattle.log_file.specs.Opening.{IsOpened, NameBodies, kept_records}
 use Rattle.log_file.proofs.Settling.{others_kept, others_on}
 use Rattle.block_store.specs.Held.{Holds, AgreesWith}
 use Rattle.block_store.specs.Stored.{CanBeKept}
-use Rattle.node_core.specs.Node.{KeptValue, NodeValue, kept_of, kept_in, node_of, stored_of, exts_of, CountFees, IsWithin, IsReadBy, IsOf, IsItsOwn, IsSoundNode, IsOnlyImage, IsOn, IsLeftByOpening, AreOfTip}
+use Rattle.node_core.specs.Node.{KeptValue, NodeValue, kept_of, node_of, stored_of, CountFees, IsWithin, IsReadBy, IsOf, IsItsOwn, IsSoundNode, IsOnlyImage, IsOn, IsLeftByOpening}
 use Rattle.node_core.specs.Opening.{LeavesStore, IsReadFrom}
-use Rattle.node_core.specs.Steps.{distance_to, moves_to_tip, moves_to_open}
+use Rattle.node_core.specs.Steps.{distance_to, moves_to_open}
 use Rattle.node_core.proofs.KeepingLemmas.{left_by_opening}
-use Rattle.node_core.proofs.OpeningLemmas.{paired-stored, same_log, same_chain, joined-log, joined-chain, records-are, can-be-kept, chain-opened, counted-opened, joined-opened, rated-opened, some-opened}
+use Rattle.node_core.proofs.RecordedLemmas.{paired-kept, same_image}
+use Rattle.node_core.proofs.OpeningLemmas.{same_chain, joined-log, joined-chain, records-are, can-be-kept, chain-opened, counted-opened, joined-opened, rated-opened}
 
 -- ---- What is said of what a disk reads as
 
@@ -90,7 +88,7 @@ module _ (now : Image) (log : LogContent) (kept : KeptValue) (spec : Specificati
     (of : kept ≡ kept_of spec stored entries) (is : IsOpened now.log log spec stored entries) (are : AreBlocks stored entries)
     (held : List (ℕ × Stored)) (none : held ≡ []) where
   stored_is : stored_of kept ≡ stored
-  stored_is = ap stored_of of ∙ paired-stored stored
+  stored_is = ap stored_of of ∙ paired-kept stored
 
   held_is : record_of 2 log.genesis ∷ log.records ≡ kept_records (stored_of kept)
   held_is = is.opened.held ∙ ap kept_records (sym stored_is)
@@ -114,6 +112,7 @@ module _ (now : Image) (log : LogContent) (kept : KeptValue) (spec : Specificati
 
   read_from : (place : ℕ) (cells : StateValue) (reads : Option Image) (images : Image → Type 0)
       → IsSettled place (records_of (drop 8 now.log)) reads images → IsReadFrom (node_of kept place cells held) reads images now
+  unfolding read_by
   read_from place cells reads images settled = record {
     keeps = store_keeps now log is.is_log ∙ ap Keeps (chain-opened now.log log kept spec stored entries of is);
     settled = settled;
@@ -145,12 +144,11 @@ module _ (reads mid : Option Image) (spec : Specification) (stored : List Stored
       (on_told (λ image. IsSettled place (records_of (drop 8 image.log)) final images) reads mid now same told settled))
 
   -- where the blocks of a log have not joined, the image is not sound
-  pub not_joined : (0 < length stored → AreRated entries → CountFees stored → ⊥) → IfSome reads (λ now. IsSound now → ⊥)
+  pub not_joined : (AreRated entries → CountFees stored → ⊥) → IfSome reads (λ now. IsSound now → ⊥)
   not_joined never = if_told (λ now. IsSound now → ⊥) reads (λ now told sound.
       let found = on_told (Opened spec stored entries) reads mid now same told opened in
       let each = joined-log now found.0 sound found.1.is_log in
-      never (some-opened now.log found.0 spec stored entries found.1 each)
-      (rated-opened now.log found.0 spec stored entries found.1 each (joined-chain now found.0 sound found.1.is_log) are)
+      never (rated-opened now.log found.0 spec stored entries found.1 each (joined-chain now found.0 sound found.1.is_log) are)
       (counted-opened now.log found.0 spec stored entries found.1 each))
 
 -- ---- Where nothing is opened
@@ -175,9 +173,6 @@ pub not_sound : {Stopped : Type 0} (reads mid : Option Image) → mid ≡ reads 
 not_sound None mid same none stopped = tt
 not_sound {Stopped} (Some now) mid same none stopped =
     no_log_sound now (subst (λ (o : Option Image). IfSome o (λ now. Stopped → log_of now.log ≡ None)) same none stopped)
-
-same_image : (image now : Image) → image.log ≡ now.log → image.snap_a ≡ now.snap_a → image.snap_b ≡ now.snap_b → image ≡ now
-same_image image now log snap_a snap_b = λ i. record { log = log i; snap_a = snap_a i; snap_b = snap_b i }
 
 -- ---- What opening leaves of a disk
 

@@ -1,5 +1,5 @@
 -- A log that was opened: what is kept of it, and what is so of that where its image is sound.
-use Rattle.std.proofs.Common.{◌≡◌, ℕ, zero, suc, ◌+◌, ◌-◌, ◌*◌, ◌^◌, ◌<◌, ◌≤◌, Bool, true, false, cond, leb, List, [], ◌∷◌, ◌++◌, length, drop, map, Option, Some, None, refl, sym, ap, ◌∙◌, subst, arith}
+use Rattle.std.proofs.Common.{◌≡◌, ℕ, zero, suc, ◌+◌, ◌-◌, ◌^◌, ◌<◌, Bool, true, false, cond, leb, List, [], ◌∷◌, length, drop, map, Option, Some, None, refl, sym, ap, ◌∙◌, subst, arith}
 use Rattle.std.specs.Prelude.{◌&&◌, ◌==◌, IfSome, IsTrue, slice_get, is_none}
 use Rattle.std.specs.Option.{option_map}
 use Rattle.std.specs.List.{All}
@@ -8,42 +8,37 @@ use Rattle.std.proofs.lemmas.Bool.Decides.{Decides-eqb}
 use Rattle.std.proofs.lemmas.List.{length-map}
 use Rattle.std.proofs.lemmas.List.Elements.{All-cons}
 use Rattle.std.proofs.lemmas.Option.{same_Some, slice_get-map, slice_get_within}
-use Rattle.codec_defs.specs.Shape.{IsA, Encoding, encoded, decoded, dynvec, fixvec}
+use Rattle.codec_defs.specs.Shape.{Encoding, encoded, decoded, dynvec, fixvec}
 use Rattle.codec_defs.specs.Schema.{header, uncle_block, transaction, proposal_short_id, Block, block}
 use Rattle.codec_defs.proofs.ShapeLaws.{decoded-is}
 use Rattle.codec_defs.proofs.RowLaws.{block-check}
 use Rattle.fit_laws.specs.Laws.{IsCanonical}
 use Rattle.fit_laws.proofs.ShapeLemmas.{table-parts}
 use Rattle.time_defs.specs.Dao.{is_rated}
-use Rattle.time_defs.specs.Specification.{Specification, specification_of, broken_specification_rule}
+use Rattle.time_defs.specs.Specification.{Specification, broken_specification_rule}
 use Rattle.genesis_defs.specs.Genesis.{broken_genesis_rule}
-use Rattle.chain_defs.specs.Kept.{block_at, blocks_of_item, kept_limit}
+use Rattle.chain_defs.specs.Kept.{block_at, blocks_of_item}
 use Rattle.chain_defs.proofs.KeptLaws.{slice_get-below}
-use Rattle.cell_defs.specs.Ext.{count_at, is_ext}
+use Rattle.cell_defs.specs.Ext.{count_at}
 use Rattle.chain_tree.specs.declared.entry.Entry.{Entry}
-use Rattle.chain_tree.specs.Blocks.{IndexesBlocks, AreRated}
+use Rattle.chain_tree.specs.Blocks.{AreRated}
 use Rattle.chain_tree.specs.Told.{Stored, blocks_of}
-use Rattle.chain_tree.proofs.BlockLemmas.{described, len-same}
+use Rattle.chain_tree.proofs.BlockLemmas.{described}
 use Rattle.verdict_defs.specs.Chain.{Chain}
 use Rattle.outside.specs.Image.{Image}
 use Rattle.log_defs.specs.Log.{Record, LogContent, record_limit, records_of, log_of, content_of_records, are_first, blocks_over, parts_of_body}
 use Rattle.log_defs.specs.LogLaws.{HasFittingBody}
 use Rattle.log_defs.proofs.Contents.{said, counts_its_records}
-use Rattle.store_defs.specs.Store.{Keeps, store_of, chain_of, StandsFor, IsSound, IsJoined, AreJoined, HaveOwnExts, own_ext, chain_before, EachHasJoined}
+use Rattle.store_defs.specs.Store.{Keeps, chain_of, IsSound, IsJoined, AreJoined, HaveOwnExts, own_ext, chain_before, EachHasJoined}
 use Rattle.store_defs.proofs.JoinedLemmas.{joined_of_image}
 use Rattle.store_defs.proofs.ExtLemmas.{HoldsItsExt, exts_of_log, own_of_record}
 use Rattle.joined_laws.proofs.HeaderLaws.{blocks-are-rated}
 use Rattle.log_file.specs.Grammar.{record_of, ext_in, AreBlocks}
 use Rattle.log_file.specs.Opening.{IsOpened, kept_records}
 use Rattle.block_store.specs.Stored.{CanBeKept}
-use Rattle.node_core.specs.Node.{KeptValue, kept_of, exts_of, paired, CountFees}
+use Rattle.node_core.specs.Node.{KeptValue, kept_of, exts_of, CountFees}
 
 -- ---- What is kept of it
-
--- the blocks with their exts, as they were read
-pub paired-stored : (stored : List Stored) → paired (blocks_of stored) (exts_of stored) ≡ stored
-paired-stored [] = refl
-paired-stored (it ∷ stored) = ap (λ (l : List Stored). it ∷ l) (paired-stored stored)
 
 pub same_log : (one other : LogContent) → Some one ≡ Some other → one ≡ other
 same_log one other same = (cc)
@@ -117,6 +112,7 @@ first_body (r ∷ records) = r.body
 fitting-records : (stored : List Stored) (log : LogContent) → record_of 2 log.genesis ∷ log.records ≡ kept_records stored
     → ((place : ℕ) (it : Stored) → slice_get stored place ≡ Some it → IsCanonical it.block) → All HasFittingBody log.records
     → All HasFittingBody (kept_records stored)
+unfolding first_body block
 fitting-records [] log held canonical fits = absurd (cc)
 fitting-records (genesis ∷ later) log held canonical fits =
     let first : log.genesis ≡ encoded block genesis.block = ap first_body held in
@@ -233,6 +229,3 @@ module _ (bytes : List ℕ) (log : LogContent) (spec : Specification) (stored : 
       let in_log : block_at log.blocks place ≡ Some here.block =
       ap (λ (blocks : List Block). block_at blocks place) (sym is.opened.blocks) ∙ here.there in
       subst (λ (dao : List ℕ). IsTrue (is_rated dao)) (sym here.is.dao) (blocks-are-rated (chain_of log) place here.block joined in_log)
-
-  pub some-opened : 0 < length stored
-  some-opened = omega (arith, many, ap length is.opened.blocks, length-map stored (λ (it : Stored). it.block))

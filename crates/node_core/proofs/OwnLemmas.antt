@@ -15,7 +15,7 @@ use Rattle.joined_laws.proofs.FeeLaws.{exts-hold-fees}
 use Rattle.node_core.specs.Node.{exts_of, CountFees}
 use Rattle.rewards.specs.Own.{fees_on, HaveOwnFees}
 
--- Each holds its own fees. Their count is that of the block's transactions, which the exts in memory have.
+-- Each holds its own fees. Their count is that of the block's transactions, which the exts count.
 pub have-own-fees : (spec : Specification) (stored : List Stored) → IsJoined (record { spec = spec; blocks = blocks_of stored })
     → HaveOwnExts (record { spec = spec; blocks = blocks_of stored }) (exts_of stored) → CountFees stored → HaveOwnFees spec stored
 have-own-fees spec stored joined have counted place it above there = record {

@@ -15,7 +15,7 @@ use Rattle.chain_tree.specs.Told.{Stored, blocks_of}
 use Rattle.cell_model.specs.ListBlocks.{stored_from}
 use Rattle.cell_model.proofs.ListLemmas.{stored_from-push, decoding-is}
 use Rattle.cell_state.specs.State.{StateValue}
-use Rattle.node_core.specs.Node.{RecordedValue, KeptValue, NodeValue, kept_of, kept_in, node_of, exts_of, paired, stored_of, IsReadBy, IsOf, IsItsOwn, HasLooked, LeavesAll}
+use Rattle.node_core.specs.Node.{RecordedValue, KeptValue, NodeValue, kept_of, kept_in, node_of, exts_of, paired, stored_of, IsReadBy, IsItsOwn, HasLooked, LeavesAll}
 
 -- blocks and exts of a list are its own, one beside the other
 pub paired-kept : (stored : List Stored) → paired (blocks_of stored) (exts_of stored) ≡ stored
@@ -53,6 +53,10 @@ one-remembered blocks exts more later bytes ext b before same whole grown beside
     ∙ (λ i. (whole i).stored ++ record { block = of_bytes i; ext = ext } ∷ [])
 
 -- ---- A node on its own disk
+
+-- images of the same areas
+pub same_image : (image now : Image) → image.log ≡ now.log → image.snap_a ≡ now.snap_a → image.snap_b ≡ now.snap_b → image ≡ now
+same_image image now log snap_a snap_b = λ i. record { log = log i; snap_a = snap_a i; snap_b = snap_b i }
 
 -- LOG has what it keeps
 read-own : (node : NodeValue) (reads : Option Image) (images : Image → Type 0) → IsItsOwn node reads images → IfSome reads (IsReadBy (kept_in node) node.held)

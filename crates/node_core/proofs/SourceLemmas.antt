@@ -1,5 +1,5 @@
 -- What a source of blocks tells of what is kept, and what a look through a store leaves of a disk and of what is held in memory.
-use Rattle.std.proofs.Common.{◌≡◌, ℕ, List, [], ◌∷◌, length, Option, Some, None, Result, Err, refl, sym, ap, ◌∙◌, subst, arith}
+use Rattle.std.proofs.Common.{◌≡◌, ℕ, List, length, Option, Some, None, Result, Err, sym, ap, ◌∙◌, subst, arith}
 use Rattle.std.specs.Prelude.{IfSome, IsSome}
 use Rattle.outside.specs.Causes.{CountsFault}
 use Rattle.outside.specs.Image.{Image}
@@ -10,25 +10,21 @@ use Rattle.outside.specs.declared.disk.ReadStop.TheVariants.{DiskFault, Damaged}
 use Rattle.time_defs.specs.Specification.{Specification}
 use Rattle.codec_defs.specs.Schema.{Block}
 use Rattle.chain_tree.specs.declared.entry.Entry.{Entry}
-use Rattle.chain_tree.specs.Told.{Stored, blocks_of}
+use Rattle.chain_tree.specs.Told.{Stored}
 use Rattle.chain_tree.specs.Blocks.{IndexesBlocks}
 use Rattle.chain_tree.proofs.BlockLemmas.{len-same}
 use Rattle.store_defs.specs.Store.{AreJoined}
 use Rattle.block_store.specs.Stored.{told_by}
-use Rattle.block_store.specs.Held.{IsKept, AgreesWith}
+use Rattle.block_store.specs.Held.{IsKept}
 use Rattle.block_store.proofs.LogLemmas.{tells_the_log}
 use Rattle.block_store.proofs.AgreeLemmas.{agrees_always}
-use Rattle.node_core.specs.Node.{exts_of, paired, KeptValue, kept_of, stored_of, TellsJoined, IsReadBy, HasLooked}
-
--- blocks beside their exts are what was stored
-paired-kept : (stored : List Stored) → paired (blocks_of stored) (exts_of stored) ≡ stored
-paired-kept [] = refl
-paired-kept (it ∷ stored) = ap (λ (later : List Stored). it ∷ later) (paired-kept stored)
+use Rattle.node_core.specs.Node.{KeptValue, kept_of, stored_of, TellsJoined, IsReadBy, HasLooked}
+use Rattle.node_core.proofs.RecordedLemmas.{tells-stored}
 
 pub told-stored : (spec : Specification) (stored : List Stored) (entries : List Entry) (kept : KeptValue) (told : Option (List Stored))
     → kept_of spec stored entries ≡ kept → TellsJoined kept told → told ≡ Some stored
 told-stored spec stored entries kept told whole tells =
-    tells.all ∙ ap (λ (l : List Stored). Some l) (sym (ap stored_of whole) ∙ paired-kept stored)
+    tells-stored spec stored entries kept told whole tells.all
 
 -- it tells the same after it was read
 pub tells-on : (kept : KeptValue) (before now : Option (List Stored)) → now ≡ before → TellsJoined kept before → TellsJoined kept now

@@ -1,6 +1,5 @@
 // What is kept of the blocks of a log, gathered as they are read.
-ghost use Rattle.std.specs.Prelude.{◌≡◌, ◌≢◌, ◌<◌, ◌≤◌, ◌&&◌, [], true, false, Some, length, IfOk, IfErr, IsOk, OnOk};
-ghost use Rattle.chain_defs.specs.Kept.{kept_limit};
+ghost use Rattle.std.specs.Prelude.{◌≡◌, ◌<◌, ◌≤◌, [], true, length, IfOk, IfErr, IsOk, OnOk};
 ghost use Rattle.cell_defs.specs.Ext.{count_at, is_ext};
 ghost use Rattle.cell_state.specs.State.{rows};
 ghost use Rattle.chain_tree.specs.Blocks.{Describes, AreRated};
@@ -113,23 +112,23 @@ impl Gathering {
         ensures kept { IfOk result (λ it. it.0 ≡ kept_of spec self.stored tree.entries) }
         ensures cells { IfOk result (λ it. AreOf it.0.chain.blocks 0 (rows it.1)) }
         ensures wrong { OnOk result (AreRated tree.entries × CountFees self.stored) }
-        ensures right { 0 < length self.stored → AreRated tree.entries → CountFees self.stored → IsOk result }
+        ensures right { AreRated tree.entries → CountFees self.stored → IsOk result }
         ensures stop { IfErr result (λ stop. stop ≡ NotAStore) }
     {
+        // A tree has a tip, so there was a genesis.
+        let _ = tree.tip();
         let Gathering {
             blocks,
-            count,
+            count: _,
             uncles,
             genesis,
             fits,
         } = self;
-        if count == 0 || !fits {
+        if !fits {
             drop((blocks, uncles, genesis, tree));
             return Err(LogStop::NotAStore);
         }
-        let Some(cells) = genesis else {
-            unreachable!()
-        };
+        let Some(cells) = genesis else { unreachable!() };
         let kept = Kept {
             spec,
             blocks,

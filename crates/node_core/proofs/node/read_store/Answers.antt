@@ -41,7 +41,7 @@ returns-in-Err-into_kept-clause-left g c =
 pub returns-in-Err-into_kept-clause-not_a_store : goal.returns-in-Err-into_kept-clause-not_a_store
 returns-in-Err-into_kept-clause-not_a_store g c same = 
     not_joined _ _ c.in-Ok-open.opened.spec c.open.new.visitor.stored c.in-Ok-open.opened.tree.entries c.in-Ok.ensures.same c.in-Ok-open.ensures.opened c.in-Ok-open.ensures.blocks
-    (λ some rated counted. not_ok c.into_kept.result _ c.in-Err-into_kept.is (c.into_kept.ensures.right some rated counted))
+    (λ rated counted. not_ok c.into_kept.result _ c.in-Err-into_kept.is (c.into_kept.ensures.right rated counted))
 
 pub returns-in-Err-into_kept-clause-cause : goal.returns-in-Err-into_kept-clause-cause
 returns-in-Err-into_kept-clause-cause g c = 
