@@ -1,14 +1,12 @@
 -- A store that is opened: what its image keeps, what its disk stands for then, and what opening leaves of the disk.
-use Rattle.std.proofs.Common.{◌≡◌, ℕ, ◌+◌, ◌*◌, ◌^◌, ◌≤◌, Bool, false, cond, List, [], ◌∷◌, length, drop, Option, Some, None, refl, sym, ap, ◌∙◌, subst, inl, inr, ◌⊎◌, arith}
-use Rattle.std.specs.Prelude.{◌≢◌, ◌==◌, IfSome, IsSome, slice_index, Result, Ok, Err, IsOk, is_err}
+use Rattle.std.proofs.Common.{◌≡◌, ℕ, ◌+◌, ◌*◌, ◌^◌, ◌≤◌, Bool, cond, List, [], ◌∷◌, length, drop, Option, Some, None, refl, sym, ap, ◌∙◌, subst, inl, inr, ◌⊎◌, arith}
+use Rattle.std.specs.Prelude.{◌≢◌, ◌==◌, IfSome, IsSome, slice_index, Result, Ok, Err, IsOk}
 use Rattle.std.specs.Option.{option_map}
 use Rattle.std.proofs.lemmas.Bool.{ne_eqb}
 use Rattle.std.proofs.lemmas.List.{length-map}
 use Rattle.std.proofs.lemmas.Option.{same_Some}
 use Rattle.outside.specs.declared.disk.Area.TheVariants.{Log, SnapA, SnapB}
-use Rattle.outside.specs.declared.disk.Damage.{Damage}
 use Rattle.outside.specs.declared.disk.ReadStop.{ReadStop}
-use Rattle.outside.specs.declared.disk.ReadStop.TheVariants.{DiskFault, Damaged, NoMemory}
 use Rattle.outside.specs.Image.{Image, with_content}
 use Rattle.outside.specs.Causes.{Rose, CountsFault}
 use Rattle.outside.specs.Disk.{NoneNew, IsDurable, HasOneImage, OthersRead, LeavesOnly, IsAsBefore, IsOnlyRead}
@@ -41,7 +39,7 @@ use Rattle.node_core.proofs.OpeningLemmas.{same_chain, joined-log, joined-chain,
 
 -- ---- What is said of what a disk reads as
 
-pub at_some : (P : Image → Type 0) (found : Option Image) (now : Image) → found ≡ Some now → IfSome found P → P now
+at_some : (P : Image → Type 0) (found : Option Image) (now : Image) → found ≡ Some now → IfSome found P → P now
 at_some P found now is here = subst (λ (o : Option Image). IfSome o P) is here
 
 pub if_some_also : (P Q : Image → Type 0) (found : Option Image) → IfSome found P → ((now : Image) → P now → Q now) → IfSome found Q
@@ -61,13 +59,13 @@ store_of_bytes (b ∷ bytes) log is =
     ap (λ (t : Bool). cond t NoLog (store_of_log (log_of (b ∷ bytes)))) (ne_eqb (length (b ∷ bytes)) 0 (λ none. absurd (omega (arith, none))))
     ∙ ap store_of_log is
 
-pub store_keeps : (image : Image) (log : LogContent) → log_of image.log ≡ Some log → store_of image ≡ Keeps (chain_of log)
+store_keeps : (image : Image) (log : LogContent) → log_of image.log ≡ Some log → store_of image ≡ Keeps (chain_of log)
 unfolding store_of
 store_keeps image log is = store_of_bytes image.log log is
 
 -- ---- What was opened
 
-abbrev pub Opened : Specification → List Stored → List Entry → Image → Type 0
+abbrev Opened : Specification → List Stored → List Entry → Image → Type 0
 Opened spec stored entries now = (log : LogContent) × IsOpened now.log log spec stored entries
 
 -- what a node asks of its chain and its place
@@ -126,10 +124,10 @@ module _ (now : Image) (log : LogContent) (kept : KeptValue) (spec : Specificati
   }
 
 -- what is said of the image that a disk tells
-pub on_told : (P : Image → Type 0) (reads mid : Option Image) (now : Image) → mid ≡ reads → reads ≡ Some now → IfSome mid P → P now
+on_told : (P : Image → Type 0) (reads mid : Option Image) (now : Image) → mid ≡ reads → reads ≡ Some now → IfSome mid P → P now
 on_told P reads mid now same told here = subst (λ (o : Option Image). IfSome o P) (same ∙ told) here
 
-pub if_told : (P : Image → Type 0) (reads : Option Image) → ((now : Image) → reads ≡ Some now → P now) → IfSome reads P
+if_told : (P : Image → Type 0) (reads : Option Image) → ((now : Image) → reads ≡ Some now → P now) → IfSome reads P
 if_told P None here = tt
 if_told P (Some now) here = here now refl
 
@@ -154,7 +152,7 @@ module _ (reads mid : Option Image) (spec : Specification) (stored : List Stored
 -- ---- Where nothing is opened
 
 -- a disk that keeps no chain has no log
-pub no_log_in : (now : Image) → ((chain : Chain) → store_of now ≡ Keeps chain → ⊥) → log_of now.log ≡ None
+no_log_in : (now : Image) → ((chain : Chain) → store_of now ≡ Keeps chain → ⊥) → log_of now.log ≡ None
 no_log_in now nothing = by_found (log_of now.log) refl
   where
     by_found : (o : Option LogContent) → log_of now.log ≡ o → log_of now.log ≡ None
@@ -241,15 +239,12 @@ module _ {D : Type 0} (reads_as : D → Option Image) (images : D → Image → 
     others = subst (OthersRead Log (reads_as old)) (sym second.reads) first.others;
   }
 
-  none_new_on : (mid new : D) → IsAsBefore reads_as images moment left_since mid new → NoneNew (images mid) (images new)
-  none_new_on mid new second image left = (second.images image).0 left
-
 -- where a disk told, and others of its areas read as they did, it tells
-pub tells_still : (old new : Option Image) (now : Image) → old ≡ Some now → OthersRead Log old new → IsSome new
+tells_still : (old new : Option Image) (now : Image) → old ≡ Some now → OthersRead Log old new → IsSome new
 tells_still old new now told (bytes, wrote) =
     subst IsSome (sym (wrote ∙ ap (option_map (with_content Log bytes)) told)) refl
 
-pub told_before : (old new : Option Image) → OthersRead Log old new → IsSome new → (now : Image) × (old ≡ Some now)
+told_before : (old new : Option Image) → OthersRead Log old new → IsSome new → (now : Image) × (old ≡ Some now)
 told_before None new (bytes, wrote) some = absurd (no_some (subst IsSome wrote some))
   where
     no_some : IsSome (option_map (with_content Log bytes) None) → ⊥
@@ -362,108 +357,122 @@ one_after None reads2 images1 images2 place durable_a durable_b (bytes, wrote) s
 one_after (Some now) reads2 images1 images2 place durable_a durable_b (bytes, wrote) settled left =
     one_as_read images1 images2 reads2 now place (records_of (drop 8 now.log)) bytes durable_a durable_b wrote settled left
 
--- ---- A node whose live cells were led to the tip
+-- ---- A disk that was looked at
 
-module _ (reads1 reads2 : Option Image) (images1 images2 : Image → Type 0) (same : reads2 ≡ reads1) (none_new : NoneNew images1 images2) where
-  pub settled_still : (place : ℕ) (records : List Record) → IsSettled place records reads1 images1 → IsSettled place records reads2 images2
+module _ {D : Type 0} (reads_as : D → Option Image) (images : D → Image → Type 0) (moment : D → ℕ) (left_since : D → ℕ → Image → Type 0) (mid new : D)
+    (rests : IsAsBefore reads_as images moment left_since mid new) where
+  none_new_on : NoneNew (images mid) (images new)
+  none_new_on image left = (rests.images image).0 left
+
+  settled_still : (place : ℕ) (records : List Record) → IsSettled place records (reads_as mid) (images mid) → IsSettled place records (reads_as new) (images new)
   settled_still place records settled = record {
     now = settled.now;
-    told = same ∙ settled.told;
+    told = rests.reads ∙ settled.told;
     rest = settled.rest;
-    durable = λ image left. settled.durable image (none_new image left);
+    durable = λ image left. settled.durable image (none_new_on image left);
   }
 
   -- what is held in memory may be other then
-  of_still : (kept : KeptValue) (place : ℕ) (cells next : StateValue) (held later : List (ℕ × Stored)) → IsOf (node_of kept place cells held) reads1 images1
-      → IfSome reads2 (IsReadBy kept later) → IsOf (node_of kept place next later) reads2 images2
+  of_still : (kept : KeptValue) (place : ℕ) (cells next : StateValue) (held later : List (ℕ × Stored)) → IsOf (node_of kept place cells held) (reads_as mid) (images mid)
+      → IfSome (reads_as new) (IsReadBy kept later) → IsOf (node_of kept place next later) (reads_as new) (images new)
   of_still kept place cells next held later of read =
-      let told : reads2 ≡ Some of.now = same ∙ of.told in
-      let now = at_some (IsReadBy kept later) reads2 of.now told read in
+      let told : reads_as new ≡ Some of.now = rests.reads ∙ of.told in
+      let now = at_some (IsReadBy kept later) (reads_as new) of.now told read in
       record {
         now = of.now;
         told = told;
         read = now;
-        settled = subst (λ (l : List Record). IsSettled place l reads2 images2) (sym of.read.names.holds ∙ now.names.holds)
+        settled = subst (λ (l : List Record). IsSettled place l (reads_as new) (images new)) (sym of.read.names.holds ∙ now.names.holds)
             (settled_still place (record_of 1 of.read.specification ∷ kept_records (stored_of kept)) of.settled);
       }
 
-  pub only_still : (chain : Chain) → IsOnlyImage chain reads1 images1 → IsOnlyImage chain reads2 images2
+  only_still : (chain : Chain) → IsOnlyImage chain (reads_as mid) (images mid) → IsOnlyImage chain (reads_as new) (images new)
   only_still chain only = record {
     now = only.now;
-    told = same ∙ only.told;
-    one = λ image left. only.one image (none_new image left);
+    told = rests.reads ∙ only.told;
+    one = λ image left. only.one image (none_new_on image left);
     stands = only.stands;
   }
 
-  pub one_still : HasOneImage reads1 images1 → HasOneImage reads2 images2
-  one_still one = subst (λ (o : Option Image). HasOneImage o images2) (sym same) (fewer reads1 one)
+  pub one_still : HasOneImage (reads_as mid) (images mid) → HasOneImage (reads_as new) (images new)
+  one_still one = subst (λ (o : Option Image). HasOneImage o (images new)) (sym rests.reads) (fewer (reads_as mid) one)
     where
-      fewer : (reads : Option Image) → HasOneImage reads images1 → HasOneImage reads images2
+      fewer : (reads : Option Image) → HasOneImage reads (images mid) → HasOneImage reads (images new)
       fewer None one = tt
-      fewer (Some now) one = λ image left. one image (none_new image left)
+      fewer (Some now) one = λ image left. one image (none_new_on image left)
 
--- the node that was read, by its parts
-pub read_parts : (node : NodeValue) (kept : KeptValue) (place : ℕ) (cells : StateValue) (held : List (ℕ × Stored)) → node_of kept place cells held ≡ node
-    → (P : NodeValue → Type 0) → P node → P (node_of kept place cells held)
-read_parts node kept place cells held is P here = subst P (sym is) here
+-- ---- A node that was read, by its parts
 
--- what is asked of a disk to read blocks there
-pub own_read : (reads0 reads1 : Option Image) (images1 : Image → Type 0) (kept : KeptValue) (place : ℕ) (cells : StateValue) (held : List (ℕ × Stored)) → OthersRead Log reads0 reads1
-    → IfSome reads0 (IsReadFrom (node_of kept place cells held) reads1 images1) → IfSome reads1 (IsReadBy kept held)
-own_read reads0 reads1 images1 kept place cells held others read = if_told (IsReadBy kept held) reads1 (λ now told.
-    let was = told_before reads0 reads1 others (subst IsSome (sym told) refl) in
-    let from = at_some (IsReadFrom (node_of kept place cells held) reads1 images1) reads0 was.0 was.1 read in
-    subst (IsReadBy kept held) (same_Some from.of.now now (sym from.of.told ∙ told)) from.of.read)
+module _ {D : Type 0} (reads_as : D → Option Image) (images : D → Image → Type 0) (old mid : D)
+    (kept : KeptValue) (place : ℕ) (cells : StateValue) (held : List (ℕ × Stored)) (node : NodeValue) (is : node_of kept place cells held ≡ node)
+    (others : OthersRead Log (reads_as old) (reads_as mid)) (read : IfSome (reads_as old) (IsReadFrom node (reads_as mid) (images mid)))
+    (first : AreOf node.chain.blocks 0 (rows node.cells)) where
+  from_at : (now : Image) → reads_as old ≡ Some now → IsReadFrom (node_of kept place cells held) (reads_as mid) (images mid) now
+  from_at now told = subst (λ (n : NodeValue). IsReadFrom n (reads_as mid) (images mid) now) (sym is)
+      (at_some (IsReadFrom node (reads_as mid) (images mid)) (reads_as old) now told read)
 
-module _ (reads0 reads1 reads2 : Option Image) (images1 images2 : Image → Type 0) (kept : KeptValue) (place : ℕ) (cells next : StateValue) (held later : List (ℕ × Stored))
-    (others : OthersRead Log reads0 reads1) (same : reads2 ≡ reads1) (none_new : NoneNew images1 images2)
-    (read : IfSome reads0 (IsReadFrom (node_of kept place cells held) reads1 images1)) where
-  from_at : (now : Image) → reads0 ≡ Some now → IsReadFrom (node_of kept place cells held) reads1 images1 now
-  from_at now told = at_some (IsReadFrom (node_of kept place cells held) reads1 images1) reads0 now told read
+  first_at : AreOf kept.chain.blocks 0 (rows cells)
+  first_at = subst (λ (n : NodeValue). AreOf n.chain.blocks 0 (rows n.cells)) (sym is) first
 
-  pub keeps_led : IfSome reads0 (λ now. store_of now ≡ Keeps kept.chain)
-  keeps_led = if_some_also (IsReadFrom (node_of kept place cells held) reads1 images1) (λ now. store_of now ≡ Keeps kept.chain) reads0 read
-      (λ now from. from.keeps)
+  -- what is asked of the disk to read blocks there
+  pub own_read : IfSome (reads_as mid) (IsReadBy kept held)
+  own_read = if_told (IsReadBy kept held) (reads_as mid) (λ now told.
+      let was = told_before (reads_as old) (reads_as mid) others (subst IsSome (sym told) refl) in
+      let from = from_at was.0 was.1 in
+      subst (IsReadBy kept held) (same_Some from.of.now now (sym from.of.told ∙ told)) from.of.read)
 
-  pub settled_led : IfSome reads0 (λ now. IsSettled place (records_of (drop 8 now.log)) reads2 images2)
-  settled_led = if_some_also (IsReadFrom (node_of kept place cells held) reads1 images1) (λ now. IsSettled place (records_of (drop 8 now.log)) reads2 images2) reads0 read
-      (λ now from. settled_still reads1 reads2 images1 images2 same none_new place (records_of (drop 8 now.log)) from.settled)
+  pub keeps_led : IfSome (reads_as old) (λ now. store_of now ≡ Keeps kept.chain)
+  keeps_led = if_told (λ now. store_of now ≡ Keeps kept.chain) (reads_as old) (λ now told. (from_at now told).keeps)
 
-  pub own_led : IfSome reads2 (IsReadBy kept later) → IsItsOwn (node_of kept place next later) reads2 images2
-  own_led agrees = if_told (λ _. IsOf (node_of kept place next later) reads2 images2) reads2 (λ now told.
-      let was = told_before reads0 reads1 others (subst IsSome (sym (sym same ∙ told)) refl) in
-      of_still reads1 reads2 images1 images2 same none_new kept place cells next held later (from_at was.0 was.1).of agrees)
+  -- from the genesis to the tip
+  pub moved_to_open : (tip before after : ℕ) → tip_place kept.chain.blocks ≡ Some tip → after ≤ before + distance kept.chain.blocks 0 tip
+      → (now : Image) → reads_as old ≡ Some now → after ≤ before + moves_to_open (store_of now)
+  moved_to_open tip before after at_tip most now told =
+      subst (λ (s : Store). after ≤ before + moves_to_open s) (sym (from_at now told).keeps)
+      (subst (λ (n : ℕ). after ≤ before + n) (sym (ap (distance_to kept.chain.blocks 0) at_tip)) most)
 
-  -- where the blocks of its image have joined
-  module _ (tip : ℕ) (at_tip : tip_place kept.chain.blocks ≡ Some tip)
-      (moved : IsSome reads1 → AreJoined kept.chain kept.exts → AreOf kept.chain.blocks tip (rows next)) where
-    pub sound_led : (now : Image) → reads0 ≡ Some now → IsSound now → IsSoundNode (node_of kept place next later)
-    sound_led now told sound =
-        let joined = (from_at now told).joined sound in
-        record {
-          joined = joined;
-          live = λ other at. subst (λ (n : ℕ). AreOf kept.chain.blocks n (rows next)) (same_Some tip other (sym at_tip ∙ at))
-              (moved (tells_still reads0 reads1 now told others) joined);
-        }
+  -- where the blocks do not fit, the image is not sound
+  pub not_led : (IsSome (reads_as mid) → AreJoined kept.chain kept.exts → AreOf kept.chain.blocks 0 (rows cells) → ⊥) → IfSome (reads_as old) (λ now. IsSound now → ⊥)
+  not_led never = if_told (λ now. IsSound now → ⊥) (reads_as old) (λ now told sound.
+      never (tells_still (reads_as old) (reads_as mid) now told others) ((from_at now told).joined sound) first_at)
 
-    pub on_led : (images0 : Image → Type 0) → IfSome reads0 images0 → ((image : Image) → images0 image → IsSound image)
-        → IfSome reads0 (λ _. IsOnlyImage kept.chain reads1 images1) → IfSome reads2 (IsReadBy kept later)
-        → IfSome reads0 (λ _. IsOn (node_of kept place next later) reads2 images2)
-    on_led images0 read0 sound only agrees = if_told (λ _. IsOn (node_of kept place next later) reads2 images2) reads0 (λ now told. record {
-      image = only_still reads1 reads2 images1 images2 same none_new kept.chain (at_some (λ _. IsOnlyImage kept.chain reads1 images1) reads0 now told only);
-      of = of_still reads1 reads2 images1 images2 same none_new kept place cells next held later (from_at now told).of agrees;
-      sound = sound_led now told (sound now (at_some images0 reads0 now told read0));
-    })
+  -- ---- Whose live cells were led to the tip
 
--- where the blocks do not fit, the image is not sound
-pub not_led : (reads0 reads1 : Option Image) (images1 : Image → Type 0) (kept : KeptValue) (place : ℕ) (cells : StateValue) (held : List (ℕ × Stored))
-    → OthersRead Log reads0 reads1 → IfSome reads0 (IsReadFrom (node_of kept place cells held) reads1 images1)
-    → (IsSome reads1 → AreJoined kept.chain kept.exts → ⊥) → IfSome reads0 (λ now. IsSound now → ⊥)
-not_led reads0 reads1 images1 kept place cells held others read never = if_told (λ now. IsSound now → ⊥) reads0 (λ now told sound.
-    never (tells_still reads0 reads1 now told others)
-    ((at_some (IsReadFrom (node_of kept place cells held) reads1 images1) reads0 now told read).joined sound))
+  module _ (moment : D → ℕ) (left_since : D → ℕ → Image → Type 0) (new : D) (rests : IsAsBefore reads_as images moment left_since mid new)
+      (next : StateValue) (later : List (ℕ × Stored)) where
+    pub settled_led : IfSome (reads_as old) (λ now. IsSettled place (records_of (drop 8 now.log)) (reads_as new) (images new))
+    settled_led = if_told (λ now. IsSettled place (records_of (drop 8 now.log)) (reads_as new) (images new)) (reads_as old) (λ now told.
+        settled_still reads_as images moment left_since mid new rests place (records_of (drop 8 now.log)) (from_at now told).settled)
 
--- ---- How many steps that takes, and what failed
+    pub own_led : IfSome (reads_as new) (IsReadBy kept later) → IsItsOwn (node_of kept place next later) (reads_as new) (images new)
+    own_led agrees = if_told (λ _. IsOf (node_of kept place next later) (reads_as new) (images new)) (reads_as new) (λ now told.
+        let was = told_before (reads_as old) (reads_as mid) others (subst IsSome (sym (sym rests.reads ∙ told)) refl) in
+        of_still reads_as images moment left_since mid new rests kept place cells next held later (from_at was.0 was.1).of agrees)
+
+    -- where the blocks of its image have joined
+    module _ (tip : ℕ) (at_tip : tip_place kept.chain.blocks ≡ Some tip)
+        (moved : IsSome (reads_as mid) → AreJoined kept.chain kept.exts → AreOf kept.chain.blocks 0 (rows cells) → AreOf kept.chain.blocks tip (rows next)) where
+      pub sound_led : (now : Image) → reads_as old ≡ Some now → IsSound now → IsSoundNode (node_of kept place next later)
+      sound_led now told sound =
+          let joined = (from_at now told).joined sound in
+          record {
+            joined = joined;
+            live = λ other at. subst (λ (n : ℕ). AreOf kept.chain.blocks n (rows next)) (same_Some tip other (sym at_tip ∙ at))
+                (moved (tells_still (reads_as old) (reads_as mid) now told others) joined first_at);
+          }
+
+      pub on_led : IfSome (reads_as old) (images old) → ((image : Image) → images old image → IsSound image)
+          → IfSome (reads_as old) (λ _. IsOnlyImage node.chain (reads_as mid) (images mid)) → IfSome (reads_as new) (IsReadBy kept later)
+          → IfSome (reads_as old) (λ _. IsOn (node_of kept place next later) (reads_as new) (images new))
+      on_led here sound only agrees = if_told (λ _. IsOn (node_of kept place next later) (reads_as new) (images new)) (reads_as old) (λ now told. record {
+        image = only_still reads_as images moment left_since mid new rests kept.chain
+            (subst (λ (n : NodeValue). IsOnlyImage n.chain (reads_as mid) (images mid)) (sym is)
+            (at_some (λ _. IsOnlyImage node.chain (reads_as mid) (images mid)) (reads_as old) now told only));
+        of = of_still reads_as images moment left_since mid new rests kept place cells next held later (from_at now told).of agrees;
+        sound = sound_led now told (sound now (at_some (images old) (reads_as old) now told here));
+      })
+
+-- ---- What failed
 
 -- a count that was unchanged, and then counts the same fault
 pub led_counts : {First Fault : Type 0} (before mid now : ℕ) → mid ≡ before → CountsFault mid now First → (First → Fault) → (Fault → First)
@@ -476,13 +485,6 @@ led_counts before mid now still counts there back = record {
 
 pub none_stopped : (stop : ReadStop) → ◌≡◌ {A = Option ReadStop} None (Some stop) → ⊥
 none_stopped stop is = absurd (cc)
-
--- from the genesis to the tip
-pub moved_to_open : (kept : KeptValue) (now : Image) (tip before after : ℕ) → store_of now ≡ Keeps kept.chain → tip_place kept.chain.blocks ≡ Some tip
-    → after ≤ before + distance kept.chain.blocks 0 tip → after ≤ before + moves_to_open (store_of now)
-moved_to_open kept now tip before after keeps at_tip most =
-    subst (λ (s : Store). after ≤ before + moves_to_open s) (sym keeps)
-    (subst (λ (n : ℕ). after ≤ before + n) (sym (ap (distance_to kept.chain.blocks 0) at_tip)) most)
 
 pub no_step : (before most : ℕ) → before ≤ before + most
 no_step before most = omega arith
@@ -499,10 +501,6 @@ pub not_ok : {T E : Type 0} (result : Result T E) (stop : E) → result ≡ Err 
 not_ok (Ok value) stop is ok = absurd (cc)
 not_ok (Err other) stop is ok = absurd (cc)
 
-pub was_ok : {T E : Type 0} (result : Result T E) (failed : Bool) → failed ≡ is_err result → failed ≡ false → IsOk result
-was_ok (Ok value) failed is no_fault = refl
-was_ok (Err error) failed is no_fault = absurd (cc)
-
 -- a count that was unchanged, and then counts a fault that was not
 pub counts_none : {First Fault : Type 0} (before mid now : ℕ) → mid ≡ before → CountsFault mid now First → (First → ⊥) → (Fault → ⊥)
     → CountsFault before now Fault
@@ -513,17 +511,3 @@ counts_none before mid now same counts never not =
       rose = λ fault. absurd (not fault);
       unchanged = λ _. still;
     }
-
--- ---- The stops of reading are distinct
-
-pub memory_no_damage : {T : Type 0} (damage : Damage) → ◌≡◌ {A = Result T ReadStop} (Err NoMemory) (Err (Damaged damage)) → ⊥
-memory_no_damage damage is = absurd (cc)
-
-pub memory_no_fault : {T : Type 0} → ◌≡◌ {A = Result T ReadStop} (Err NoMemory) (Err DiskFault) → ⊥
-memory_no_fault is = absurd (cc)
-
-pub fault_no_damage : {T : Type 0} (damage : Damage) → ◌≡◌ {A = Result T ReadStop} (Err DiskFault) (Err (Damaged damage)) → ⊥
-fault_no_damage damage is = absurd (cc)
-
-pub damage_no_fault : {T : Type 0} (damage : Damage) → ◌≡◌ {A = Result T ReadStop} (Err (Damaged damage)) (Err DiskFault) → ⊥
-damage_no_fault damage is = absurd (cc)

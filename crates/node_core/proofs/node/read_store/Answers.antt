@@ -1,6 +1,5 @@
 use Rattle.std.proofs.Common.{Err, refl, sym, ap, ◌∙◌}
 use Rattle.outside.proofs.Moments.{now_too}
-use Rattle.log_file.specs.declared.stop.LogStop.TheVariants.{NotAStore}
 use Rattle.log_file.proofs.Exits.{fault_counts, stop_counts, counts_on, fault_not_wrong, not_wrong, wrong_is_no_fault, memory_not_fault, answer_counts, answer_still}
 use Rattle.node_core.proofs.OpenLemmas.{leaves_synced, leaves_read, is_within, opened_read, not_sound, not_joined, one_after, opened_only, if_some_also, same_stop, ok_err, not_ok, counts_none}
 use Rattle.node_core.proofs.node.read_store.Goals as goal
@@ -12,7 +11,7 @@ pub into_kept-requires : goal.into_kept-requires
 into_kept-requires g c = c.in-Ok-open.ensures.blocks
 
 pub returns-in-Err-clause-left : goal.returns-in-Err-clause-left
-returns-in-Err-clause-left g c = 
+returns-in-Err-clause-left g c =
     leaves_synced g.D.Disk.reads_as g.D.Disk.images g.D.Disk.moment g.D.Disk.left_since _ _ c.in-Err.ensures.same c.in-Err.ensures.images c.in-Err.ensures.moments
 
 pub returns-in-Err-clause-not_a_store : goal.returns-in-Err-clause-not_a_store
@@ -22,34 +21,34 @@ pub returns-in-Err-clause-cause : goal.returns-in-Err-clause-cause
 returns-in-Err-clause-cause g c = fault_counts _ _ _ _ c.in-Err.ensures.cause
 
 pub returns-in-Err-open-clause-left : goal.returns-in-Err-open-clause-left
-returns-in-Err-open-clause-left g c = 
+returns-in-Err-open-clause-left g c =
     leaves_read g.D.Disk.reads_as g.D.Disk.images g.D.Disk.moment g.D.Disk.left_since _ _ _ c.in-Ok.ensures.same c.in-Ok.ensures.images c.in-Ok.ensures.moments
     c.open.ensures.no_log c.open.ensures.rests c.open.ensures.moments c.open.ensures.others
 
 pub returns-in-Err-open-clause-not_a_store : goal.returns-in-Err-open-clause-not_a_store
-returns-in-Err-open-clause-not_a_store g c same = 
+returns-in-Err-open-clause-not_a_store g c same =
     not_sound _ _ c.in-Ok.ensures.same c.in-Err-open.ensures.not_a_store (ap Err (same_stop _ _ same))
 
 pub returns-in-Err-open-clause-cause : goal.returns-in-Err-open-clause-cause
 returns-in-Err-open-clause-cause g c = counts_on _ _ _ (c.in-Ok.ensures.cause.unchanged refl) (stop_counts _ _ _ _ c.in-Err-open.ensures.cause)
 
 pub returns-in-Err-into_kept-clause-left : goal.returns-in-Err-into_kept-clause-left
-returns-in-Err-into_kept-clause-left g c = 
+returns-in-Err-into_kept-clause-left g c =
     leaves_read g.D.Disk.reads_as g.D.Disk.images g.D.Disk.moment g.D.Disk.left_since _ _ _ c.in-Ok.ensures.same c.in-Ok.ensures.images c.in-Ok.ensures.moments
     c.open.ensures.no_log c.open.ensures.rests c.open.ensures.moments c.open.ensures.others
 
 pub returns-in-Err-into_kept-clause-not_a_store : goal.returns-in-Err-into_kept-clause-not_a_store
-returns-in-Err-into_kept-clause-not_a_store g c same = 
+returns-in-Err-into_kept-clause-not_a_store g c same =
     not_joined _ _ c.in-Ok-open.opened.spec c.open.new.visitor.stored c.in-Ok-open.opened.tree.entries c.in-Ok.ensures.same c.in-Ok-open.ensures.opened c.in-Ok-open.ensures.blocks
     (λ rated counted. not_ok c.into_kept.result _ c.in-Err-into_kept.is (c.into_kept.ensures.right rated counted))
 
 pub returns-in-Err-into_kept-clause-cause : goal.returns-in-Err-into_kept-clause-cause
-returns-in-Err-into_kept-clause-cause g c = 
+returns-in-Err-into_kept-clause-cause g c =
     counts_none _ _ _ (c.in-Ok.ensures.cause.unchanged refl) c.open.ensures.cause (λ fault. ok_err _ _ (sym c.in-Ok-open.is ∙ fault))
     (λ fault. wrong_is_no_fault (sym c.in-Err-into_kept.ensures.stop ∙ same_stop _ _ fault))
 
 pub returns-in-Err-new-clause-left : goal.returns-in-Err-new-clause-left
-returns-in-Err-new-clause-left g c = 
+returns-in-Err-new-clause-left g c =
     leaves_read g.D.Disk.reads_as g.D.Disk.images g.D.Disk.moment g.D.Disk.left_since _ _ _ c.in-Ok.ensures.same c.in-Ok.ensures.images c.in-Ok.ensures.moments
     c.open.ensures.no_log c.open.ensures.rests c.open.ensures.moments c.open.ensures.others
 
@@ -57,21 +56,21 @@ pub returns-in-Err-new-clause-not_a_store : goal.returns-in-Err-new-clause-not_a
 returns-in-Err-new-clause-not_a_store g c = λ e. absurd (not_wrong e)
 
 pub returns-in-Err-new-clause-cause : goal.returns-in-Err-new-clause-cause
-returns-in-Err-new-clause-cause g c = 
+returns-in-Err-new-clause-cause g c =
     counts_none _ _ _ (c.in-Ok.ensures.cause.unchanged refl) c.open.ensures.cause (λ fault. ok_err _ _ (sym c.in-Ok-open.is ∙ fault)) memory_not_fault
 
 pub invariant_of-result : goal.invariant_of-result
-invariant_of-result g c = 
+invariant_of-result g c =
     is_within c.in-Ok-into_kept.kept.0 c.in-Ok-open.opened.spec c.open.new.visitor.stored c.in-Ok-open.opened.tree.entries c.in-Ok-open.opened.log.place
     c.in-Ok-into_kept.ensures.kept c.in-Ok-open.ensures.blocks.few c.in-Ok-open.ensures.place
 
 pub returns-in-Ok-new-clause-left : goal.returns-in-Ok-new-clause-left
-returns-in-Ok-new-clause-left g c = 
+returns-in-Ok-new-clause-left g c =
     leaves_read g.D.Disk.reads_as g.D.Disk.images g.D.Disk.moment g.D.Disk.left_since _ _ _ c.in-Ok.ensures.same c.in-Ok.ensures.images c.in-Ok.ensures.moments
     c.open.ensures.no_log c.open.ensures.rests c.open.ensures.moments c.open.ensures.others
 
 pub returns-in-Ok-new-clause-read : goal.returns-in-Ok-new-clause-read
-returns-in-Ok-new-clause-read g c = 
+returns-in-Ok-new-clause-read g c =
     opened_read _ _ c.in-Ok-open.opened.spec c.open.new.visitor.stored c.in-Ok-open.opened.tree.entries c.in-Ok.ensures.same c.in-Ok-open.ensures.opened c.in-Ok-open.ensures.blocks
     c.in-Ok-into_kept.kept.0 c.in-Ok-into_kept.ensures.kept c.in-Ok-new.cache c.in-Ok-new.ensures.empty c.in-Ok-open.opened.log.place c.in-Ok-into_kept.kept.1 _ _ c.in-Ok-open.ensures.settled
 
@@ -79,16 +78,16 @@ pub returns-in-Ok-new-clause-not_a_store : goal.returns-in-Ok-new-clause-not_a_s
 returns-in-Ok-new-clause-not_a_store g c = λ e. absurd (ok_err _ _ e)
 
 pub returns-in-Ok-new-clause-one_image : goal.returns-in-Ok-new-clause-one_image
-returns-in-Ok-new-clause-one_image g c = 
+returns-in-Ok-new-clause-one_image g c =
     one_after _ _ _ _ c.in-Ok-open.opened.log.place c.in-Ok.ensures.snap_a c.in-Ok.ensures.snap_b c.open.ensures.others c.in-Ok-open.ensures.settled
     (if_some_also _ _ _ c.open.ensures.moments (λ now left. now_too g.D.Disk.moment g.D.Disk.left_since g.D.Disk.images g.met.D.Disk.counts_now _ _ _ left))
 
 pub returns-in-Ok-new-clause-image : goal.returns-in-Ok-new-clause-image
-returns-in-Ok-new-clause-image g c sound = 
+returns-in-Ok-new-clause-image g c sound =
     opened_only _ _ c.in-Ok.ensures.images sound _ _ _ _ c.in-Ok-open.opened.log.place c.in-Ok-into_kept.kept.0 c.in-Ok-open.opened.spec c.open.new.visitor.stored c.in-Ok-open.opened.tree.entries
     c.in-Ok-into_kept.ensures.kept (g.met.D.Disk.reads_image c.args.disk.now) (g.met.D.Disk.reads_image c.open.new.disk) c.in-Ok.ensures.same c.in-Ok-open.ensures.opened
     c.in-Ok-open.ensures.settled (if_some_also _ _ _ c.open.ensures.moments (λ now left. now_too g.D.Disk.moment g.D.Disk.left_since g.D.Disk.images g.met.D.Disk.counts_now _ _ _ left))
 
 pub returns-in-Ok-new-clause-cause : goal.returns-in-Ok-new-clause-cause
-returns-in-Ok-new-clause-cause g c = 
+returns-in-Ok-new-clause-cause g c =
     counts_on _ _ _ (c.in-Ok.ensures.cause.unchanged refl) (answer_counts _ _ _ _ (answer_still _ _ _ _ c.in-Ok-open.ensures.cause))

@@ -1,4 +1,4 @@
-use Rattle.std.proofs.Common.{◌≡◌, ℕ, List, Option, Some, sym, ap, ◌∙◌, subst, rules}
+use Rattle.std.proofs.Common.{◌≡◌, ℕ, List, Some, sym, ap, ◌∙◌, subst, rules}
 use Rattle.std.specs.Option.{option_and_then}
 use Rattle.outside.proofs.Endings.{handed, no_answer, memory_undamaged}
 use Rattle.codec_defs.specs.Shape.{IsA}

@@ -12,7 +12,6 @@ use Rattle.node_core.specs.Node.{KeptValue}
 use Rattle.node_core.proofs.DecidingLemmas.{within-blocks, verdict-refused}
 use Rattle.node_core.proofs.SightLemmas.{first-at-sight, wants-passed}
 use Rattle.node_core.proofs.JoiningLemmas.{at-parent, at-tip}
-use Rattle.node_core.proofs.StepLemmas.{moved_there, moved_back}
 use Rattle.node_core.proofs.SourceLemmas.{tells-on, same_stop}
 use Rattle.node_core.proofs.kept.Kept.decide_on.Goals as goal
 

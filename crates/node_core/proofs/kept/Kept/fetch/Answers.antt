@@ -48,8 +48,8 @@ returns-clause-fetched g c = λ tells at_tip.
     let live = c.in-Some.ensures.live at_tip in
     let meta : c.live-2.inside.meta ≡ c.in-Some.live.row = ap (λ (l : LiveValue). l.row) c.live-2.view_is in
     let names = names-of (stored_of c.args.self.now) c.args.o live.0 c.live-2.inside.meta
-      (subst (λ (row : Row). IsLiveRow (blocks_of (stored_of c.args.self.now)) c.args.o live.0 row) (sym meta)
-      (subst (λ (blocks : List Block). IsLiveRow blocks c.args.o live.0 c.in-Some.live.row) (sym seen) live.1)) in (
+    (subst (λ (row : Row). IsLiveRow (blocks_of (stored_of c.args.self.now)) c.args.o live.0 row) (sym meta)
+    (subst (λ (blocks : List Block). IsLiveRow blocks c.args.o live.0 c.in-Some.live.row) (sym seen) live.1)) in (
       live.0,
       subst (λ (row : Row). IsLiveRow c.args.self.now.chain.blocks c.args.o live.0 row) (sym (c.in-Ok.ensures.row ∙ meta)) live.1,
       c.in-Ok.ensures.copied (stored_of c.args.self.now) live.0 tells names,

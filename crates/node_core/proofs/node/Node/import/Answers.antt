@@ -33,10 +33,10 @@ pub join-requires : goal.join-requires
 join-requires g c = record {
   size = c.requires.size;
   own =
-    own-looked g.D.Disk.content_of g.D.Disk.reads_as g.D.Disk.images g.D.Disk.moment g.D.Disk.left_since g.met.D.Disk.content_rests
-    c.args.disk.now c.decide-decided.new.disk c.decide-decided.ensures.looked.content
-    c.self.inside.kept c.self.inside.log.place c.self.inside.state c.in-Ok.decided.0 c.self.inside.cache c.decide-decided.new.cache
-    (subst (λ (v : NodeValue). IsItsOwn v (g.D.Disk.reads_as c.args.disk.now) (g.D.Disk.images c.args.disk.now)) (sym c.self.view_is) c.requires.own) c.in-Ok.ensures.looked.agrees;
+      own-looked g.D.Disk.content_of g.D.Disk.reads_as g.D.Disk.images g.D.Disk.moment g.D.Disk.left_since g.met.D.Disk.content_rests
+      c.args.disk.now c.decide-decided.new.disk c.decide-decided.ensures.looked.content
+      c.self.inside.kept c.self.inside.log.place c.self.inside.state c.in-Ok.decided.0 c.self.inside.cache c.decide-decided.new.cache
+      (subst (λ (v : NodeValue). IsItsOwn v (g.D.Disk.reads_as c.args.disk.now) (g.D.Disk.images c.args.disk.now)) (sym c.self.view_is) c.requires.own) c.in-Ok.ensures.looked.agrees;
   within = c.self.invariant.1;
   ready = ready_on c.self.inside.kept.chain c.self.inside.kept.chain c.args.item.now c.in-Ok.decided.1 (Joins c.in-Joins.joining) refl c.in-Joins.is c.in-Ok.ensures.ready;
 }
@@ -311,7 +311,7 @@ returns-in-Ok-join-clause-on g c = λ on.
       image = image;
       of = of-told _ _ _ _ image c.in-Ok-join.ensures.own;
       sound = sound-joined c.self.inside.kept.chain c.args.item.now _ (c.in-Ok-join.ensures.kept decided) inside.sound.joined.joined
-    (c.in-Ok-join.ensures.exts decided inside.sound.joined.own) (c.in-Ok-join.ensures.live live);
+          (c.in-Ok-join.ensures.exts decided inside.sound.joined.own) (c.in-Ok-join.ensures.live live);
     }
 
 pub returns-in-Ok-join-clause-moments : goal.returns-in-Ok-join-clause-moments

@@ -1,16 +1,10 @@
-use Rattle.std.proofs.Common.{◌≡◌, Err, Some, refl, sym, ap, ◌∙◌, subst, arith}
-use Rattle.std.specs.Prelude.{IfSome}
+use Rattle.std.proofs.Common.{Err, Some, sym, ap, ◌∙◌, arith}
 use Rattle.outside.proofs.Moments.{leaves_also}
 use Rattle.std.proofs.lemmas.Option.{same_Some}
 use Rattle.chain_tree.proofs.BlockLemmas.{len-same}
-use Rattle.cell_state.specs.State.{rows}
-use Rattle.reorg.specs.Moves.{AreOf}
 use Rattle.chain_tree.specs.Reading.{stop_of}
-use Rattle.store_defs.specs.Store.{Keeps, store_of}
 use Rattle.log_file.proofs.Exits.{stop_counts, answer_still}
-use Rattle.node_core.specs.Node.{NodeValue, IsOnlyImage}
-use Rattle.node_core.specs.Opening.{IsReadFrom}
-use Rattle.node_core.proofs.OpenLemmas.{leaves_on, stands_while_opened, own_read, keeps_led, settled_led, own_led, one_still, sound_led, on_led, not_led, moved_to_open, on_told, led_counts, none_stopped, no_step, ok_err, same_stop}
+use Rattle.node_core.proofs.OpenLemmas.{leaves_on, stands_while_opened, own_read, keeps_led, settled_led, own_led, one_still, sound_led, on_led, not_led, moved_to_open, led_counts, none_stopped, no_step, ok_err, same_stop}
 use Rattle.node_core.proofs.node.Node.open.Goals as goal
 
 pub returns-in-Err-clause-not_a_store : goal.returns-in-Err-clause-not_a_store
@@ -29,7 +23,7 @@ pub returns-in-Err-clause-others : goal.returns-in-Err-clause-others
 returns-in-Err-clause-others g c = c.read_store.ensures.left.others
 
 pub returns-in-Err-clause-moments : goal.returns-in-Err-clause-moments
-returns-in-Err-clause-moments g c now chain told keeps sound = 
+returns-in-Err-clause-moments g c now chain told keeps sound =
     leaves_also g.D.Disk.moment g.D.Disk.left_since _ _ _ _ (c.read_store.ensures.left.keeps now told)
     (stands_while_opened (g.D.Disk.images c.args.disk.now) sound (g.D.Disk.reads_as c.args.disk.now) now chain (g.met.D.Disk.reads_image c.args.disk.now) told keeps)
 
@@ -58,127 +52,127 @@ pub returns-in-Err-clause-sound : goal.returns-in-Err-clause-sound
 returns-in-Err-clause-sound g c = λ _ _ _. tt
 
 pub moved-requires-clause-from : goal.moved-requires-clause-from
-moved-requires-clause-from g c = 
+moved-requires-clause-from g c =
     omega (arith, c.tip-tip.ensures.within, len-same c.node.inside.kept.chain.blocks _ c.tree.ensures.indexed)
 
 pub moved-requires-clause-to : goal.moved-requires-clause-to
-moved-requires-clause-to g c = 
+moved-requires-clause-to g c =
     omega (arith, c.tip-tip.ensures.within, len-same c.node.inside.kept.chain.blocks _ c.tree.ensures.indexed)
 
 pub moved-requires-clause-own : goal.moved-requires-clause-own
-moved-requires-clause-own g c = 
-    own_read (g.D.Disk.reads_as c.args.disk.now) (g.D.Disk.reads_as c.read_store.new.disk) (g.D.Disk.images c.read_store.new.disk) c.node.inside.kept c.node.inside.log.place c.node.inside.state c.node.inside.cache c.read_store.ensures.left.others
-    (subst (λ (v : NodeValue). IfSome (g.D.Disk.reads_as c.args.disk.now) (IsReadFrom v (g.D.Disk.reads_as c.read_store.new.disk) (g.D.Disk.images c.read_store.new.disk))) (sym c.node.view_is) c.in-Ok.ensures.read)
+moved-requires-clause-own g c =
+    own_read g.D.Disk.reads_as g.D.Disk.images _ _ c.node.inside.kept c.node.inside.log.place c.node.inside.state c.node.inside.cache _ c.node.view_is
+    c.read_store.ensures.left.others c.in-Ok.ensures.read c.in-Ok.ensures.cells
 
 pub invariant_of-result : goal.invariant_of-result
 invariant_of-result g c = c.node.invariant
 
 pub returns-in-Ok-moved-clause-kept : goal.returns-in-Ok-moved-clause-kept
-returns-in-Ok-moved-clause-kept g c = 
-    keeps_led _ (g.D.Disk.reads_as c.read_store.new.disk) _ (g.D.Disk.images c.read_store.new.disk) _ c.node.inside.kept c.node.inside.log.place c.node.inside.state c.in-Ok-moved.state c.node.inside.cache c.moved.new.cache
-    c.read_store.ensures.left.others (g.met.D.Disk.content_rests _ _ c.moved.ensures.looked.content).reads (λ image left. ((g.met.D.Disk.content_rests _ _ c.moved.ensures.looked.content).images image).0 left) (subst (λ (v : NodeValue). IfSome (g.D.Disk.reads_as c.args.disk.now) (IsReadFrom v (g.D.Disk.reads_as c.read_store.new.disk) (g.D.Disk.images c.read_store.new.disk))) (sym c.node.view_is) c.in-Ok.ensures.read)
+returns-in-Ok-moved-clause-kept g c =
+    keeps_led g.D.Disk.reads_as g.D.Disk.images _ _ c.node.inside.kept c.node.inside.log.place c.node.inside.state c.node.inside.cache _ c.node.view_is
+    c.read_store.ensures.left.others c.in-Ok.ensures.read c.in-Ok.ensures.cells
 
 pub returns-in-Ok-moved-clause-not_a_store : goal.returns-in-Ok-moved-clause-not_a_store
 returns-in-Ok-moved-clause-not_a_store g c = λ e. absurd (ok_err _ _ e)
 
 pub returns-in-Ok-moved-clause-no_log : goal.returns-in-Ok-moved-clause-no_log
-returns-in-Ok-moved-clause-no_log g c = 
+returns-in-Ok-moved-clause-no_log g c =
     (leaves_on g.D.Disk.reads_as g.D.Disk.images g.D.Disk.moment g.D.Disk.left_since g.met.D.Disk.counts_now _ _ _ c.read_store.ensures.left (g.met.D.Disk.content_rests _ _ c.moved.ensures.looked.content)).no_log
 
 pub returns-in-Ok-moved-clause-rests : goal.returns-in-Ok-moved-clause-rests
-returns-in-Ok-moved-clause-rests g c = 
+returns-in-Ok-moved-clause-rests g c =
     (leaves_on g.D.Disk.reads_as g.D.Disk.images g.D.Disk.moment g.D.Disk.left_since g.met.D.Disk.counts_now _ _ _ c.read_store.ensures.left (g.met.D.Disk.content_rests _ _ c.moved.ensures.looked.content)).rests
 
 pub returns-in-Ok-moved-clause-keeps : goal.returns-in-Ok-moved-clause-keeps
-returns-in-Ok-moved-clause-keeps g c = 
+returns-in-Ok-moved-clause-keeps g c =
     (leaves_on g.D.Disk.reads_as g.D.Disk.images g.D.Disk.moment g.D.Disk.left_since g.met.D.Disk.counts_now _ _ _ c.read_store.ensures.left (g.met.D.Disk.content_rests _ _ c.moved.ensures.looked.content)).keeps
 
 pub returns-in-Ok-moved-clause-others : goal.returns-in-Ok-moved-clause-others
-returns-in-Ok-moved-clause-others g c = 
+returns-in-Ok-moved-clause-others g c =
     (leaves_on g.D.Disk.reads_as g.D.Disk.images g.D.Disk.moment g.D.Disk.left_since g.met.D.Disk.counts_now _ _ _ c.read_store.ensures.left (g.met.D.Disk.content_rests _ _ c.moved.ensures.looked.content)).others
 
 pub returns-in-Ok-moved-clause-own : goal.returns-in-Ok-moved-clause-own
-returns-in-Ok-moved-clause-own g c = 
-    own_led _ (g.D.Disk.reads_as c.read_store.new.disk) _ (g.D.Disk.images c.read_store.new.disk) _ c.node.inside.kept c.node.inside.log.place c.node.inside.state c.in-Ok-moved.state c.node.inside.cache c.moved.new.cache
-    c.read_store.ensures.left.others (g.met.D.Disk.content_rests _ _ c.moved.ensures.looked.content).reads (λ image left. ((g.met.D.Disk.content_rests _ _ c.moved.ensures.looked.content).images image).0 left) (subst (λ (v : NodeValue). IfSome (g.D.Disk.reads_as c.args.disk.now) (IsReadFrom v (g.D.Disk.reads_as c.read_store.new.disk) (g.D.Disk.images c.read_store.new.disk))) (sym c.node.view_is) c.in-Ok.ensures.read) c.moved.ensures.looked.agrees
+returns-in-Ok-moved-clause-own g c =
+    own_led g.D.Disk.reads_as g.D.Disk.images _ _ c.node.inside.kept c.node.inside.log.place c.node.inside.state c.node.inside.cache _ c.node.view_is
+    c.read_store.ensures.left.others c.in-Ok.ensures.read c.in-Ok.ensures.cells g.D.Disk.moment g.D.Disk.left_since _ (g.met.D.Disk.content_rests _ _ c.moved.ensures.looked.content) c.in-Ok-moved.state c.moved.new.cache c.moved.ensures.looked.agrees
 
 pub returns-in-Ok-moved-clause-settled : goal.returns-in-Ok-moved-clause-settled
-returns-in-Ok-moved-clause-settled g c = 
-    settled_led _ (g.D.Disk.reads_as c.read_store.new.disk) _ (g.D.Disk.images c.read_store.new.disk) _ c.node.inside.kept c.node.inside.log.place c.node.inside.state c.in-Ok-moved.state c.node.inside.cache c.moved.new.cache
-    c.read_store.ensures.left.others (g.met.D.Disk.content_rests _ _ c.moved.ensures.looked.content).reads (λ image left. ((g.met.D.Disk.content_rests _ _ c.moved.ensures.looked.content).images image).0 left) (subst (λ (v : NodeValue). IfSome (g.D.Disk.reads_as c.args.disk.now) (IsReadFrom v (g.D.Disk.reads_as c.read_store.new.disk) (g.D.Disk.images c.read_store.new.disk))) (sym c.node.view_is) c.in-Ok.ensures.read)
+returns-in-Ok-moved-clause-settled g c =
+    settled_led g.D.Disk.reads_as g.D.Disk.images _ _ c.node.inside.kept c.node.inside.log.place c.node.inside.state c.node.inside.cache _ c.node.view_is
+    c.read_store.ensures.left.others c.in-Ok.ensures.read c.in-Ok.ensures.cells g.D.Disk.moment g.D.Disk.left_since _ (g.met.D.Disk.content_rests _ _ c.moved.ensures.looked.content) c.in-Ok-moved.state c.moved.new.cache
 
 pub returns-in-Ok-moved-clause-one_image : goal.returns-in-Ok-moved-clause-one_image
-returns-in-Ok-moved-clause-one_image g c = 
-    one_still (g.D.Disk.reads_as c.read_store.new.disk) _ (g.D.Disk.images c.read_store.new.disk) _ (g.met.D.Disk.content_rests _ _ c.moved.ensures.looked.content).reads (λ image left. ((g.met.D.Disk.content_rests _ _ c.moved.ensures.looked.content).images image).0 left) c.in-Ok.ensures.one_image
+returns-in-Ok-moved-clause-one_image g c =
+    one_still g.D.Disk.reads_as g.D.Disk.images g.D.Disk.moment g.D.Disk.left_since _ _ (g.met.D.Disk.content_rests _ _ c.moved.ensures.looked.content) c.in-Ok.ensures.one_image
 
 pub returns-in-Ok-moved-clause-on : goal.returns-in-Ok-moved-clause-on
-returns-in-Ok-moved-clause-on g c sound = 
-    on_led _ (g.D.Disk.reads_as c.read_store.new.disk) _ (g.D.Disk.images c.read_store.new.disk) _ c.node.inside.kept c.node.inside.log.place c.node.inside.state c.in-Ok-moved.state c.node.inside.cache c.moved.new.cache
-    c.read_store.ensures.left.others (g.met.D.Disk.content_rests _ _ c.moved.ensures.looked.content).reads (λ image left. ((g.met.D.Disk.content_rests _ _ c.moved.ensures.looked.content).images image).0 left) (subst (λ (v : NodeValue). IfSome (g.D.Disk.reads_as c.args.disk.now) (IsReadFrom v (g.D.Disk.reads_as c.read_store.new.disk) (g.D.Disk.images c.read_store.new.disk))) (sym c.node.view_is) c.in-Ok.ensures.read)
-    c.tip-tip.result (c.tip-tip.ensures.of_blocks c.node.inside.kept.chain.blocks c.tree.ensures.indexed) (λ some joined. c.in-Ok-moved.ensures.cells some joined (subst (λ (v : NodeValue). AreOf v.chain.blocks 0 (rows v.cells)) (sym c.node.view_is) c.in-Ok.ensures.cells)) (g.D.Disk.images c.args.disk.now) (g.met.D.Disk.reads_image c.args.disk.now) sound (subst (λ (v : NodeValue). IfSome (g.D.Disk.reads_as c.args.disk.now) (λ _. IsOnlyImage v.chain (g.D.Disk.reads_as c.read_store.new.disk) (g.D.Disk.images c.read_store.new.disk))) (sym c.node.view_is) (c.in-Ok.ensures.image sound)) c.moved.ensures.looked.agrees
+returns-in-Ok-moved-clause-on g c sound =
+    on_led g.D.Disk.reads_as g.D.Disk.images _ _ c.node.inside.kept c.node.inside.log.place c.node.inside.state c.node.inside.cache _ c.node.view_is
+    c.read_store.ensures.left.others c.in-Ok.ensures.read c.in-Ok.ensures.cells g.D.Disk.moment g.D.Disk.left_since _ (g.met.D.Disk.content_rests _ _ c.moved.ensures.looked.content) c.in-Ok-moved.state c.moved.new.cache
+    c.tip-tip.result (c.tip-tip.ensures.of_blocks c.node.inside.kept.chain.blocks c.tree.ensures.indexed) c.in-Ok-moved.ensures.cells
+    (g.met.D.Disk.reads_image c.args.disk.now) sound (c.in-Ok.ensures.image sound) c.moved.ensures.looked.agrees
 
 pub returns-in-Ok-moved-clause-sound : goal.returns-in-Ok-moved-clause-sound
-returns-in-Ok-moved-clause-sound g c now told is = 
-    sound_led _ (g.D.Disk.reads_as c.read_store.new.disk) _ (g.D.Disk.images c.read_store.new.disk) _ c.node.inside.kept c.node.inside.log.place c.node.inside.state c.in-Ok-moved.state c.node.inside.cache c.moved.new.cache
-    c.read_store.ensures.left.others (g.met.D.Disk.content_rests _ _ c.moved.ensures.looked.content).reads (λ image left. ((g.met.D.Disk.content_rests _ _ c.moved.ensures.looked.content).images image).0 left) (subst (λ (v : NodeValue). IfSome (g.D.Disk.reads_as c.args.disk.now) (IsReadFrom v (g.D.Disk.reads_as c.read_store.new.disk) (g.D.Disk.images c.read_store.new.disk))) (sym c.node.view_is) c.in-Ok.ensures.read)
-    c.tip-tip.result (c.tip-tip.ensures.of_blocks c.node.inside.kept.chain.blocks c.tree.ensures.indexed) (λ some joined. c.in-Ok-moved.ensures.cells some joined (subst (λ (v : NodeValue). AreOf v.chain.blocks 0 (rows v.cells)) (sym c.node.view_is) c.in-Ok.ensures.cells)) now told is
+returns-in-Ok-moved-clause-sound g c =
+    sound_led g.D.Disk.reads_as g.D.Disk.images _ _ c.node.inside.kept c.node.inside.log.place c.node.inside.state c.node.inside.cache _ c.node.view_is
+    c.read_store.ensures.left.others c.in-Ok.ensures.read c.in-Ok.ensures.cells g.D.Disk.moment g.D.Disk.left_since _ (g.met.D.Disk.content_rests _ _ c.moved.ensures.looked.content) c.in-Ok-moved.state c.moved.new.cache
+    c.tip-tip.result (c.tip-tip.ensures.of_blocks c.node.inside.kept.chain.blocks c.tree.ensures.indexed) c.in-Ok-moved.ensures.cells
 
 pub returns-in-Ok-moved-clause-moments : goal.returns-in-Ok-moved-clause-moments
-returns-in-Ok-moved-clause-moments g c now chain told keeps sound = 
+returns-in-Ok-moved-clause-moments g c now chain told keeps sound =
     leaves_also g.D.Disk.moment g.D.Disk.left_since _ _ _ _ ((leaves_on g.D.Disk.reads_as g.D.Disk.images g.D.Disk.moment g.D.Disk.left_since g.met.D.Disk.counts_now _ _ _ c.read_store.ensures.left (g.met.D.Disk.content_rests _ _ c.moved.ensures.looked.content)).keeps now told)
     (stands_while_opened (g.D.Disk.images c.args.disk.now) sound (g.D.Disk.reads_as c.args.disk.now) now chain (g.met.D.Disk.reads_image c.args.disk.now) told keeps)
 
 pub returns-in-Ok-moved-clause-cause : goal.returns-in-Ok-moved-clause-cause
-returns-in-Ok-moved-clause-cause g c = 
+returns-in-Ok-moved-clause-cause g c =
     led_counts _ _ _ (answer_still _ _ _ _ c.in-Ok.ensures.cause) c.moved.ensures.looked.cause
     (λ stop. absurd (none_stopped _ (sym (ap stop_of c.in-Ok-moved.is) ∙ stop))) (λ e. absurd (ok_err _ _ e))
 
 pub returns-in-Ok-moved-clause-most : goal.returns-in-Ok-moved-clause-most
-returns-in-Ok-moved-clause-most g c now told = 
-    moved_to_open c.node.inside.kept now c.tip-tip.result _ _
-    (on_told (λ image. store_of image ≡ Keeps c.node.inside.kept.chain) (g.D.Disk.reads_as c.args.disk.now) (g.D.Disk.reads_as c.args.disk.now) now refl told (keeps_led _ (g.D.Disk.reads_as c.read_store.new.disk) _ (g.D.Disk.images c.read_store.new.disk) _ c.node.inside.kept c.node.inside.log.place c.node.inside.state c.node.inside.state c.node.inside.cache c.moved.new.cache
-    c.read_store.ensures.left.others (g.met.D.Disk.content_rests _ _ c.moved.ensures.looked.content).reads (λ image left. ((g.met.D.Disk.content_rests _ _ c.moved.ensures.looked.content).images image).0 left) (subst (λ (v : NodeValue). IfSome (g.D.Disk.reads_as c.args.disk.now) (IsReadFrom v (g.D.Disk.reads_as c.read_store.new.disk) (g.D.Disk.images c.read_store.new.disk))) (sym c.node.view_is) c.in-Ok.ensures.read)))
-    (c.tip-tip.ensures.of_blocks c.node.inside.kept.chain.blocks c.tree.ensures.indexed) c.moved.ensures.most
+returns-in-Ok-moved-clause-most g c =
+    moved_to_open g.D.Disk.reads_as g.D.Disk.images _ _ c.node.inside.kept c.node.inside.log.place c.node.inside.state c.node.inside.cache _ c.node.view_is
+    c.read_store.ensures.left.others c.in-Ok.ensures.read c.in-Ok.ensures.cells
+    c.tip-tip.result _ _ (c.tip-tip.ensures.of_blocks c.node.inside.kept.chain.blocks c.tree.ensures.indexed) c.moved.ensures.most
 
 pub returns-in-Err-moved-clause-not_a_store : goal.returns-in-Err-moved-clause-not_a_store
-returns-in-Err-moved-clause-not_a_store g c same = 
+returns-in-Err-moved-clause-not_a_store g c same =
     let found = c.stop_of_move.ensures.damaged (same_stop _ _ same) in
-    not_led (g.D.Disk.reads_as c.args.disk.now) (g.D.Disk.reads_as c.read_store.new.disk) (g.D.Disk.images c.read_store.new.disk) c.node.inside.kept c.node.inside.log.place c.node.inside.state c.node.inside.cache c.read_store.ensures.left.others (subst (λ (v : NodeValue). IfSome (g.D.Disk.reads_as c.args.disk.now) (IsReadFrom v (g.D.Disk.reads_as c.read_store.new.disk) (g.D.Disk.images c.read_store.new.disk))) (sym c.node.view_is) c.in-Ok.ensures.read)
-    (λ some joined. c.moved.ensures.undamaged some joined (subst (λ (v : NodeValue). AreOf v.chain.blocks 0 (rows v.cells)) (sym c.node.view_is) c.in-Ok.ensures.cells) found.0 (c.in-Err-moved.is ∙ ap Err found.1))
+    not_led g.D.Disk.reads_as g.D.Disk.images _ _ c.node.inside.kept c.node.inside.log.place c.node.inside.state c.node.inside.cache _ c.node.view_is
+    c.read_store.ensures.left.others c.in-Ok.ensures.read c.in-Ok.ensures.cells
+    (λ some joined cells. c.moved.ensures.undamaged some joined cells found.0 (c.in-Err-moved.is ∙ ap Err found.1))
 
 pub returns-in-Err-moved-clause-no_log : goal.returns-in-Err-moved-clause-no_log
-returns-in-Err-moved-clause-no_log g c = 
+returns-in-Err-moved-clause-no_log g c =
     (leaves_on g.D.Disk.reads_as g.D.Disk.images g.D.Disk.moment g.D.Disk.left_since g.met.D.Disk.counts_now _ _ _ c.read_store.ensures.left (g.met.D.Disk.content_rests _ _ c.moved.ensures.looked.content)).no_log
 
 pub returns-in-Err-moved-clause-rests : goal.returns-in-Err-moved-clause-rests
-returns-in-Err-moved-clause-rests g c = 
+returns-in-Err-moved-clause-rests g c =
     (leaves_on g.D.Disk.reads_as g.D.Disk.images g.D.Disk.moment g.D.Disk.left_since g.met.D.Disk.counts_now _ _ _ c.read_store.ensures.left (g.met.D.Disk.content_rests _ _ c.moved.ensures.looked.content)).rests
 
 pub returns-in-Err-moved-clause-keeps : goal.returns-in-Err-moved-clause-keeps
-returns-in-Err-moved-clause-keeps g c = 
+returns-in-Err-moved-clause-keeps g c =
     (leaves_on g.D.Disk.reads_as g.D.Disk.images g.D.Disk.moment g.D.Disk.left_since g.met.D.Disk.counts_now _ _ _ c.read_store.ensures.left (g.met.D.Disk.content_rests _ _ c.moved.ensures.looked.content)).keeps
 
 pub returns-in-Err-moved-clause-others : goal.returns-in-Err-moved-clause-others
-returns-in-Err-moved-clause-others g c = 
+returns-in-Err-moved-clause-others g c =
     (leaves_on g.D.Disk.reads_as g.D.Disk.images g.D.Disk.moment g.D.Disk.left_since g.met.D.Disk.counts_now _ _ _ c.read_store.ensures.left (g.met.D.Disk.content_rests _ _ c.moved.ensures.looked.content)).others
 
 pub returns-in-Err-moved-clause-moments : goal.returns-in-Err-moved-clause-moments
-returns-in-Err-moved-clause-moments g c now chain told keeps sound = 
+returns-in-Err-moved-clause-moments g c now chain told keeps sound =
     leaves_also g.D.Disk.moment g.D.Disk.left_since _ _ _ _ ((leaves_on g.D.Disk.reads_as g.D.Disk.images g.D.Disk.moment g.D.Disk.left_since g.met.D.Disk.counts_now _ _ _ c.read_store.ensures.left (g.met.D.Disk.content_rests _ _ c.moved.ensures.looked.content)).keeps now told)
     (stands_while_opened (g.D.Disk.images c.args.disk.now) sound (g.D.Disk.reads_as c.args.disk.now) now chain (g.met.D.Disk.reads_image c.args.disk.now) told keeps)
 
 pub returns-in-Err-moved-clause-cause : goal.returns-in-Err-moved-clause-cause
-returns-in-Err-moved-clause-cause g c = 
+returns-in-Err-moved-clause-cause g c =
     led_counts _ _ _ (answer_still _ _ _ _ c.in-Ok.ensures.cause) c.moved.ensures.looked.cause
     (λ stop. ap Err (c.stop_of_move.ensures.fault.1 (same_Some _ _ (sym (ap stop_of c.in-Err-moved.is) ∙ stop))))
     (λ fault. ap stop_of c.in-Err-moved.is ∙ ap Some (c.stop_of_move.ensures.fault.0 (same_stop _ _ fault)))
 
 pub returns-in-Err-moved-clause-most : goal.returns-in-Err-moved-clause-most
-returns-in-Err-moved-clause-most g c now told = 
-    moved_to_open c.node.inside.kept now c.tip-tip.result _ _
-    (on_told (λ image. store_of image ≡ Keeps c.node.inside.kept.chain) (g.D.Disk.reads_as c.args.disk.now) (g.D.Disk.reads_as c.args.disk.now) now refl told (keeps_led _ (g.D.Disk.reads_as c.read_store.new.disk) _ (g.D.Disk.images c.read_store.new.disk) _ c.node.inside.kept c.node.inside.log.place c.node.inside.state c.node.inside.state c.node.inside.cache c.moved.new.cache
-    c.read_store.ensures.left.others (g.met.D.Disk.content_rests _ _ c.moved.ensures.looked.content).reads (λ image left. ((g.met.D.Disk.content_rests _ _ c.moved.ensures.looked.content).images image).0 left) (subst (λ (v : NodeValue). IfSome (g.D.Disk.reads_as c.args.disk.now) (IsReadFrom v (g.D.Disk.reads_as c.read_store.new.disk) (g.D.Disk.images c.read_store.new.disk))) (sym c.node.view_is) c.in-Ok.ensures.read)))
-    (c.tip-tip.ensures.of_blocks c.node.inside.kept.chain.blocks c.tree.ensures.indexed) c.moved.ensures.most
+returns-in-Err-moved-clause-most g c =
+    moved_to_open g.D.Disk.reads_as g.D.Disk.images _ _ c.node.inside.kept c.node.inside.log.place c.node.inside.state c.node.inside.cache _ c.node.view_is
+    c.read_store.ensures.left.others c.in-Ok.ensures.read c.in-Ok.ensures.cells
+    c.tip-tip.result _ _ (c.tip-tip.ensures.of_blocks c.node.inside.kept.chain.blocks c.tree.ensures.indexed) c.moved.ensures.most
 
 pub returns-in-Err-moved-clause-kept : goal.returns-in-Err-moved-clause-kept
 returns-in-Err-moved-clause-kept g c = tt
