@@ -1,60 +1,20 @@
--- Sound areas, and the images that stand for a chain with them.
-use Rattle.std.proofs.Common.{◌≡◌, ℕ, ◌+◌, ◌≤◌, ◌%◌, Bool, true, false, List, [], ◌∷◌, ◌++◌, length, Option, Some, refl, sym, ap, ◌∙◌, subst, arith}
-use Rattle.std.specs.Prelude.{◌==◌, if◌then◌else◌, IsSomeAnd}
-use Rattle.std.proofs.lemmas.Bool.{eqb-true, eqb-false, ne_eqb}
-use Rattle.std.proofs.lemmas.List.{length-append}
+-- The images that stand for a chain, by what stands in their areas of snapshots.
+use Rattle.std.proofs.Common.{◌≡◌, ℕ, Bool, true, false, List, [], ◌∷◌, ◌++◌, length, Some, refl, sym, ap, ◌∙◌, subst, arith}
+use Rattle.std.specs.Prelude.{◌==◌, if◌then◌else◌}
+use Rattle.std.proofs.lemmas.Bool.{ne_eqb}
 use Rattle.codec_defs.specs.Schema.{Block}
-use Rattle.outside.specs.declared.disk.Area.{Area}
 use Rattle.outside.specs.declared.disk.Area.TheVariants.{Log, SnapA, SnapB}
 use Rattle.outside.specs.Image.{Image, with_content}
-use Rattle.chain_defs.specs.Kept.{block_hash}
 use Rattle.verdict_defs.specs.Verdict.{verdict, joins, kept_after}
 use Rattle.verdict_defs.specs.Chain.{Chain, chain_after}
 use Rattle.verdict_defs.specs.Laws.{CanJoin}
 use Rattle.verdict_defs.proofs.VerdictLaws.{joins-exactly, keeps-what-joins, kept_after-stays}
 use Rattle.log_defs.specs.Log.{LogContent, log_of}
-use Rattle.snapshot_defs.specs.Snapshot.{Snapshot, snapshot_bytes, has_open_gate, Holds, area_of, IsOfBlocks, HoldsSound, IsSoundArea}
-use Rattle.snapshot_defs.proofs.Fields.{head_of, head-length, rows_bytes, in-parts}
-use Rattle.snapshot_defs.proofs.SnapshotLaws.{bytes-tell-snapshots, opens-its-gate, finds-itself}
+use Rattle.snapshot_defs.specs.Snapshot.{has_open_gate, area_of, IsSoundArea}
+use Rattle.snapshot_defs.proofs.AreaLaws.{closed-is-sound, held-is-sound, none-in-the-log, sound-holds-its-own}
 use Rattle.snapshot_defs.proofs.StayLaws.{stays-sound}
 use Rattle.store_defs.specs.Store.{NoLog, Keeps, store_of, store_of_log, chain_of, StandsFor, IsSound}
-use Rattle.store_defs.specs.SnapshotLaws.{ClosedIsSound, HeldIsSound, ItsBytesAreSound, SoundHoldsItsOwn, SoundHasItsNumber, StaysSoundAfterAnItem, IsOfItsTip, NoneInTheLog, AreasTakeTurns, IsLogOf, StandsByParts, StandsByItsLog, StandsWithoutSnapshots, StandsWithSoundArea, StandsWithClosedArea, StandsWithSnapshot, StandsWhereItSaysTheSame, SoundStandsForTheSame, StandsForWhatItKeeps, NumbersDiffer}
-
--- ---- An area
-
-not_both : (b : Bool) → b ≡ false → b ≡ true → ⊥
-not_both false closed opens = absurd (cc)
-not_both true closed opens = absurd (cc)
-
-pub closed_is_sound : ClosedIsSound
-closed_is_sound kept area bytes closed opens = absurd (not_both (has_open_gate bytes) closed opens)
-
-pub held_is_sound : HeldIsSound
-held_is_sound kept bytes s holds of_blocks opens = (s, record { holds = holds; here = refl; of_blocks = of_blocks })
-
-pub its_bytes_are_sound : ItsBytesAreSound
-its_bytes_are_sound kept s after form of_blocks = held_is_sound kept (snapshot_bytes s ++ after) s (finds-itself s after form) of_blocks
-
-pub sound_holds_its_own : SoundHoldsItsOwn
-sound_holds_its_own kept area bytes s sound holds =
-    let it : (found : Snapshot) × HoldsSound kept area bytes found = sound (opens-its-gate bytes s holds).gate in
-    let same : it.0 ≡ s = bytes-tell-snapshots bytes it.0 s it.1.holds holds in
-    (ap (λ (x : Snapshot). area_of x.number) (sym same) ∙ it.1.here, subst (IsOfBlocks kept) same it.1.of_blocks)
-
--- bytes that hold a snapshot have what comes before its rows
-long_enough : (bytes : List ℕ) (s : Snapshot) → Holds bytes s → 49 ≤ length bytes
-long_enough bytes s holds =
-    omega (
-      arith,
-      ap length (holds.parts ∙ in-parts s holds.after),
-      head-length s.number s.tip s.hash (length s.rows) holds.form.hash,
-      length-append (head_of s) (rows_bytes s.rows ++ holds.after),
-    )
-
-pub sound_has_its_number : SoundHasItsNumber
-sound_has_its_number kept area bytes sound opens =
-    let it : (found : Snapshot) × HoldsSound kept area bytes found = sound opens in
-    (ap area_of (opens-its-gate bytes it.0 it.1.holds).number ∙ it.1.here, long_enough bytes it.0 it.1.holds)
+use Rattle.store_defs.specs.SnapshotLaws.{StaysSoundAfterAnItem, IsLogOf, StandsByParts, StandsByItsLog, StandsWithoutSnapshots, StandsWithSoundArea, StandsWithClosedArea, StandsWithSnapshot, StandsWhereItSaysTheSame, SoundStandsForTheSame, StandsForWhatItKeeps, NumbersDiffer}
 
 pub stays_sound_after_an_item : StaysSoundAfterAnItem
 stays_sound_after_an_item chain item area bytes sound = by_joins (joins (verdict chain.spec chain.blocks item)) refl
@@ -65,43 +25,6 @@ stays_sound_after_an_item chain item area bytes sound = by_joins (joins (verdict
         let can : CanJoin chain.spec chain.blocks item = (joins-exactly chain.spec chain.blocks item).0 joins_now in
         let after : kept_after chain.spec chain.blocks item ≡ chain.blocks ++ can.block ∷ [] = ((keeps-what-joins chain.spec chain.blocks item).0 can).1 in
         subst (λ (blocks : List Block). IsSoundArea blocks area bytes) (sym after) (stays-sound chain.blocks can.block area bytes sound)
-
-pub is_of_its_tip : IsOfItsTip
-is_of_its_tip kept s tip rows there hash same lists = record {
-  tip = subst (λ (found : Option Block). IsSomeAnd found (λ b. block_hash b ≡ s.hash)) (sym there) hash;
-  rows = record {
-    rising = lists.rising;
-    each = λ o row. (λ has. sym (same o) ∙ (lists.each o row).0 has, λ found. (lists.each o row).1 (same o ∙ found));
-  };
-}
-
--- ---- Areas in turn
-
-abbrev area_by : Bool → Area
-area_by odd = if odd then SnapA else SnapB
-
-log_of_none : (odd : Bool) → area_by odd ≡ Log → ⊥
-log_of_none true is = absurd (cc)
-log_of_none false is = absurd (cc)
-
-pub none_in_the_log : NoneInTheLog
-none_in_the_log number is = log_of_none (number % 2 == 1) is
-
-same_parity : (one other : Bool) → area_by one ≡ area_by other → one ≡ other
-same_parity true true is = refl
-same_parity false false is = refl
-same_parity true false is = absurd (cc)
-same_parity false true is = absurd (cc)
-
-pub areas_take_turns : AreasTakeTurns
-areas_take_turns number is = by ((number + 1) % 2 == 1) refl
-  where
-    same : ((number + 1) % 2 == 1) ≡ (number % 2 == 1)
-    same = same_parity ((number + 1) % 2 == 1) (number % 2 == 1) is
-
-    by : (odd : Bool) → ((number + 1) % 2 == 1) ≡ odd → ⊥
-    by true next = omega (arith, eqb-true ((number + 1) % 2) 1 next, eqb-true (number % 2) 1 (sym same ∙ next))
-    by false next = omega (arith, eqb-false ((number + 1) % 2) 1 next, eqb-false (number % 2) 1 (sym same ∙ next))
 
 -- ---- An image
 
@@ -122,7 +45,7 @@ stands_by_parts chain image = (
 pub stands_by_its_log : StandsByItsLog
 stands_by_its_log chain image closed_a closed_b = (
   log_there chain image,
-  λ is. stands_of chain image is (closed_is_sound chain.blocks SnapA image.snap_a closed_a) (closed_is_sound chain.blocks SnapB image.snap_b closed_b),
+  λ is. stands_of chain image is (closed-is-sound chain.blocks SnapA image.snap_a closed_a) (closed-is-sound chain.blocks SnapB image.snap_b closed_b),
 )
 
 pub stands_without_snapshots : StandsWithoutSnapshots
@@ -137,11 +60,11 @@ stands_with_sound_area chain image SnapB bytes stands no_log sound =
 
 pub stands_with_closed_area : StandsWithClosedArea
 stands_with_closed_area chain image area bytes stands no_log closed =
-    stands_with_sound_area chain image area bytes stands no_log (closed_is_sound chain.blocks area bytes closed)
+    stands_with_sound_area chain image area bytes stands no_log (closed-is-sound chain.blocks area bytes closed)
 
 pub stands_with_snapshot : StandsWithSnapshot
 stands_with_snapshot chain image bytes s stands holds of_blocks =
-    stands_with_sound_area chain image (area_of s.number) bytes stands (none_in_the_log s.number) (held_is_sound chain.blocks bytes s holds of_blocks)
+    stands_with_sound_area chain image (area_of s.number) bytes stands (none-in-the-log s.number) (held-is-sound chain.blocks bytes s holds of_blocks)
 
 log_says : (chain : Chain) (bytes other : List ℕ) → IsLogOf chain bytes → log_of other ≡ log_of bytes → IsLogOf chain other
 log_says chain bytes other is same = record { log = is.log; is_log = same ∙ is.is_log; keeps = is.keeps; joined = is.joined }
@@ -195,5 +118,5 @@ two_areas is = absurd (cc)
 
 pub numbers_differ : NumbersDiffer
 numbers_differ chain image one other stands holds also same =
-    two_areas (sym (sound_holds_its_own chain.blocks SnapA image.snap_a one stands.snap_a holds).0 ∙ ap area_of same
-    ∙ (sound_holds_its_own chain.blocks SnapB image.snap_b other stands.snap_b also).0)
+    two_areas (sym (sound-holds-its-own chain.blocks SnapA image.snap_a one stands.snap_a holds).here ∙ ap area_of same
+    ∙ (sound-holds-its-own chain.blocks SnapB image.snap_b other stands.snap_b also).here)

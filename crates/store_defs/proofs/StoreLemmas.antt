@@ -22,7 +22,8 @@ use Rattle.store_defs.specs.StoreLaws.{StandsAsItSays, StandsAfterAnItem, Stands
 use Rattle.log_defs.proofs.Contents.{counts_its_records, gives_the_parts, says_its_records, adds_a_block, said}
 use Rattle.snapshot_defs.specs.Snapshot.{has_open_gate, IsSoundArea}
 use Rattle.store_defs.proofs.Joining.{takes_what_joins}
-use Rattle.store_defs.proofs.SnapshotLemmas.{closed_is_sound, stays_sound_after_an_item}
+use Rattle.snapshot_defs.proofs.AreaLaws.{closed-is-sound}
+use Rattle.store_defs.proofs.SnapshotLemmas.{stays_sound_after_an_item}
 
 pub stands_as_it_says : StandsAsItSays
 stands_as_it_says chain image bytes stands same = record {
@@ -125,7 +126,7 @@ no_more limit = le-leb 0 limit (omega arith)
 pub stands_for_the_genesis : StandsForTheGenesis
 stands_for_the_genesis specification genesis image place good_spec good_item rest no_a no_b =
     let empty_is_sound : (area : Area) (bytes : List ℕ) → bytes ≡ [] → IsSoundArea (chain_of_genesis specification genesis).blocks area bytes =
-    λ area bytes none. closed_is_sound (chain_of_genesis specification genesis).blocks area bytes (ap has_open_gate none) in
+    λ area bytes none. closed-is-sound (chain_of_genesis specification genesis).blocks area bytes (ap has_open_gate none) in
     let one : Record = record { kind = 1; body = specification } in
     let two : Record = record { kind = 2; body = genesis } in
     let first : are_first one two ≡ true =
