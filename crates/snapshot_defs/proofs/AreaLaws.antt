@@ -1,14 +1,15 @@
 -- Where snapshots go, and sound areas.
-use Rattle.std.proofs.Common.{◌≡◌, ℕ, ◌+◌, ◌≤◌, ◌%◌, Bool, true, false, List, ◌++◌, length, Option, refl, sym, ap, ◌∙◌, subst, arith}
+use Rattle.std.proofs.Common.{◌≡◌, ℕ, ◌+◌, ◌≤◌, ◌%◌, Bool, true, false, List, ◌++◌, length, Option, Some, None, refl, sym, ap, ◌∙◌, subst, arith}
 use Rattle.std.specs.Prelude.{◌==◌, if◌then◌else◌, IsSomeAnd}
 use Rattle.std.proofs.lemmas.Bool.{eqb-true, eqb-false, eq-eqb, ne_eqb}
 use Rattle.std.proofs.lemmas.List.{length-append}
-use Rattle.chain_defs.specs.Kept.{block_hash}
 use Rattle.codec_defs.specs.Schema.{Block}
+use Rattle.chain_defs.specs.Kept.{block_hash}
+use Rattle.cell_defs.specs.Row.{live_row}
 use Rattle.outside.specs.declared.disk.Area.{Area}
 use Rattle.outside.specs.declared.disk.Area.TheVariants.{Log, SnapA, SnapB}
 use Rattle.snapshot_defs.specs.Snapshot.{Snapshot, snapshot_bytes, has_open_gate, Holds, area_of, IsOfBlocks, HoldsSound}
-use Rattle.snapshot_defs.specs.Laws.{GoesByParity, NoneInTheLog, AreasTakeTurns, ClosedIsSound, HeldIsSound, ItsBytesAreSound, SoundHoldsItsOwn, SoundHasItsNumber, IsOfItsTip}
+use Rattle.snapshot_defs.specs.Laws.{GoesByParity, NoneInTheLog, AreasTakeTurns, ClosedIsSound, HeldIsSound, ItsBytesAreSound, SoundHoldsItsOwn, SoundHasItsNumber, IsOfItsTip, TellsItsRows}
 use Rattle.snapshot_defs.proofs.Fields.{head_of, head-length, rows_bytes, in-parts}
 use Rattle.snapshot_defs.proofs.SnapshotLaws.{bytes-tell-snapshots, opens-its-gate, finds-itself}
 
@@ -93,3 +94,14 @@ is-of-its-tip kept s tip rows there hash same lists = record {
     each = λ o row. (λ has. sym (same o) ∙ (lists.each o row).0 has, λ found. (lists.each o row).1 (same o ∙ found));
   };
 }
+
+-- of two that have the same values one is the other
+same-values : {X : Type 0} (one other : Option X) → ((x : X) → one ≡ Some x → other ≡ Some x) → ((x : X) → other ≡ Some x → one ≡ Some x) → one ≡ other
+same-values None None there back = refl
+same-values None (Some x) there back = back x refl
+same-values (Some x) other there back = sym (there x refl)
+
+pub tells-its-rows : TellsItsRows
+tells-its-rows kept s rows is lists o =
+    same-values (rows o) (live_row kept s.tip o) (λ row has. (is.rows.each o row).0 ((lists.each o row).1 has))
+    (λ row has. (lists.each o row).0 ((is.rows.each o row).1 has))

@@ -83,3 +83,8 @@ SoundHasItsNumber = (kept : List Block) (area : Area) (bytes : List ℕ) → IsS
 abbrev pub IsOfItsTip : Type 0
 IsOfItsTip = (kept : List Block) (s : Snapshot) (tip : Block) (rows : OutPoint → Option Row) → block_at kept s.tip ≡ Some tip → block_hash tip ≡ s.hash
     → ((o : OutPoint) → rows o ≡ live_row kept s.tip o) → ListsRows rows s.rows → IsOfBlocks kept s
+
+-- Law: rows that are just those of a snapshot of the kept blocks are the rows of its tip's branch.
+abbrev pub TellsItsRows : Type 0
+TellsItsRows = (kept : List Block) (s : Snapshot) (rows : OutPoint → Option Row) → IsOfBlocks kept s → ListsRows rows s.rows
+    → (o : OutPoint) → rows o ≡ live_row kept s.tip o

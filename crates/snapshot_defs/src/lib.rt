@@ -6,7 +6,7 @@
 
 ghost use Rattle.snapshot_defs.specs.Laws.{BytesTellSnapshots, OpensItsGate, FindsItself, StaysOfBlocks, StaysSound};
 ghost use Rattle.snapshot_defs.specs.Laws.{GoesByParity, NoneInTheLog, AreasTakeTurns};
-ghost use Rattle.snapshot_defs.specs.Laws.{ClosedIsSound, HeldIsSound, ItsBytesAreSound, SoundHoldsItsOwn, SoundHasItsNumber, IsOfItsTip};
+ghost use Rattle.snapshot_defs.specs.Laws.{ClosedIsSound, HeldIsSound, ItsBytesAreSound, SoundHoldsItsOwn, SoundHasItsNumber, IsOfItsTip, TellsItsRows};
 
 /// States what bytes hold: a snapshot behind an open gate, that of which they are made and no other, whatever stands after it.
 /// It does nothing.
@@ -31,7 +31,8 @@ pub fn areas_in_turn()
 {}
 
 /// States which bytes of an area are sound: those without an open gate, and those that hold a snapshot of the kept blocks
-/// which belongs there, and no others; and which snapshot is one of the kept blocks. It does nothing.
+/// which belongs there, and no others; and that a snapshot is one of the kept blocks by its tip and the rows of the tip's
+/// branch. It does nothing.
 pub fn sound_areas()
     ensures closed_is_sound { ClosedIsSound }
     ensures held_is_sound { HeldIsSound }
@@ -39,4 +40,5 @@ pub fn sound_areas()
     ensures sound_holds_its_own { SoundHoldsItsOwn }
     ensures sound_has_its_number { SoundHasItsNumber }
     ensures is_of_its_tip { IsOfItsTip }
+    ensures tells_its_rows { TellsItsRows }
 {}

@@ -1,4 +1,4 @@
-use Rattle.snapshot_defs.proofs.AreaLaws.{closed-is-sound, held-is-sound, its-bytes-are-sound, sound-holds-its-own, sound-has-its-number, is-of-its-tip}
+use Rattle.snapshot_defs.proofs.AreaLaws.{closed-is-sound, held-is-sound, its-bytes-are-sound, sound-holds-its-own, sound-has-its-number, is-of-its-tip, tells-its-rows}
 use Rattle.snapshot_defs.proofs.sound_areas.Goals as goal
 
 pub returns : goal.returns
@@ -9,4 +9,5 @@ returns c = record {
   sound_holds_its_own = sound-holds-its-own;
   sound_has_its_number = sound-has-its-number;
   is_of_its_tip = is-of-its-tip;
+  tells_its_rows = tells-its-rows;
 }
