@@ -183,6 +183,7 @@ impl Kept {
             → (damage : Damage) → result ≡ Err (Damaged damage) → ⊥ }
         ensures asked { result ≡ Err NoMemory → WantsMemory self.now.chain block.now }
         ensures most { steps.new ≤ steps.old + (moves_on self.now.chain block.now (Some entry.parent) - 1) }
+        ensures sight { moves_on self.now.chain block.now (Some entry.parent) ≡ 0 → blocks.new ≡ blocks.old }
     {
         let parent = entry.parent;
         let hashes = match self.at_sight(alloc, block, parent) {
@@ -239,6 +240,7 @@ impl Kept {
             → (damage : Damage) → result ≡ Err (Damaged damage) → ⊥ }
         ensures asked { result ≡ Err NoMemory → WantsMemory self.now.chain block.now }
         ensures most { steps.new ≤ steps.old + (moves_of_block self.now.chain block.now - 1) }
+        ensures sight { moves_of_block self.now.chain block.now ≡ 0 → blocks.new ≡ blocks.old }
     {
         let hash = hash_of(block);
         if self.tree.find(&hash).is_some() {
@@ -252,8 +254,9 @@ impl Kept {
     }
 
     /// What is to become of an item, and the live cells where they then stand: on the parent's branch of a block that
-    /// becomes the tip, and else on the tip's. After an error they are gone. Memory is wanted only for a block that is new,
-    /// on a kept parent, and keeps the rules on a header and the limits on its length and its proposals.
+    /// becomes the tip, and else on the tip's. After an error they are gone. Where it is answered at sight nothing is asked
+    /// of the source. Memory is wanted only for a block that is new, on a kept parent, and keeps the rules on a header and
+    /// the limits on its length and its proposals.
     pub(crate) fn decide<B: Blocks, L: Ledger>(
         &self,
         alloc: Global,
@@ -273,6 +276,7 @@ impl Kept {
             → (damage : Damage) → result ≡ Err (Damaged damage) → ⊥ }
         ensures asked { result ≡ Err NoMemory → MayWantMemory self.now.chain item.now }
         ensures most { steps.new ≤ steps.old + (moves_for self.now.chain item.now - 1) }
+        ensures sight { moves_for self.now.chain item.now ≡ 0 → blocks.new ≡ blocks.old }
     {
         match BlockView::read(item) {
             None => Ok((state, Decision::Stays(Verdict::Refused(1)))),

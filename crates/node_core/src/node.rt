@@ -1,5 +1,5 @@
 // A node: what is kept of a store, and its disk.
-ghost use Rattle.std.specs.Prelude.{◌≡◌, ◌≢◌, ◌⊎◌, ◌<◌, ◌≤◌, ◌+◌, ◌-◌, ◌^◌, ◌++◌, ◌∷◌, [], ℕ, false, Err, List, Some, length, drop, slice_index, IfOk, IfErr, OnOk, IfSome, IsSome, IsTrue, pos};
+ghost use Rattle.std.specs.Prelude.{◌≡◌, ◌≢◌, ◌⊎◌, ◌<◌, ◌≤◌, ◌+◌, ◌-◌, ◌^◌, ◌++◌, ◌∷◌, [], ℕ, false, true, Err, List, Some, length, drop, slice_index, IfOk, IfErr, OnOk, IfSome, IsSome, IsTrue, pos};
 ghost use Rattle.std.specs.Option.{option_map};
 ghost use Rattle.outside.specs.Causes.{CountsFault};
 ghost use Rattle.outside.specs.Disk.{HasOneImage, OthersRead, LeavesOnly, IsOnlyRead};
@@ -32,6 +32,7 @@ ghost use Rattle.log_defs.specs.Log.{Record, records_of, end_of_log};
 ghost use Rattle.log_defs.specs.LogLaws.{HasFittingBody};
 ghost use Rattle.log_defs.specs.Rest.{IsSettled};
 ghost use Rattle.store_defs.specs.Store.{Keeps, store_of, StandsFor, IsSound, HaveOwnExts, AreJoined};
+ghost use Rattle.block_store.specs.Held.{held_at};
 ghost use Rattle.log_file.specs.Pieces.{behind_gate, block_record};
 ghost use Rattle.log_file.specs.declared.stop.LogStop.TheVariants as log_stops;
 ghost use Rattle.node_core.specs.Node.{node_of, IsItsOwn, IsSoundNode, IsSoundOn, IsOnlyImage, IsOn, LeavesAll, IsLeftByOpening, IsLeftByImport, IsSettledAfter, IsWithin, AreOfFound, AreOfTip};
@@ -213,6 +214,8 @@ fn join<D: Disk, L: Ledger>(
         → AreOfFound kept.chain.blocks (place_for kept.chain.blocks (Joins joining)) (rows state)
         → (damage : Damage) → result ≡ Err (Damaged damage) → ⊥ }
     ensures damage { (damage : Damage) → result ≡ Err (Damaged damage) → damage.area ≡ log_area }
+    ensures spec { IfOk result (λ node. node.chain.spec ≡ kept.chain.spec) }
+    ensures holds { IfOk result (λ node. IsSome (held_at node.held (length kept.chain.blocks))) }
     ensures cause { CountsFault (D.faults disk.old) (D.faults disk.new) (result ≡ Err DiskFault) }
     ensures most { steps.new ≤ steps.old + 1 }
 {
@@ -325,8 +328,9 @@ impl Node {
     /// the disk. After an `Err` the disk has the record or not. Damaged where a kept block is not what those after it say,
     /// which never comes over a chain that has joined. The live cells go to the block's parent, are judged by there, and go
     /// back unless the block becomes the tip: with its own events at most twice the distance from the tip to the parent, and
-    /// one. An item that is answered at sight, as one that is known, takes no step. Memory is wanted only for a block that
-    /// is new, on a kept parent, and keeps the rules on a header and the limits on its length and its proposals.
+    /// one. An item that is answered at sight, as one that is known, takes no step and does not call the disk. Memory is
+    /// wanted only for a block that is new, on a kept parent, and keeps the rules on a header and the limits on its length
+    /// and its proposals. A block that joins is held in memory.
     pub fn import<D: Disk, L: Ledger>(
         self,
         alloc: Global,
@@ -355,6 +359,9 @@ impl Node {
         ensures undamaged { IsSoundOn self (D.reads_as disk.old) → (damage : Damage) → result ≡ Err (Damaged damage) → ⊥ }
         ensures damage { (damage : Damage) → result ≡ Err (Damaged damage) → damage.area ≡ log_area }
         ensures cause { CountsFault (D.faults disk.old) (D.faults disk.new) (result ≡ Err DiskFault) }
+        ensures spec { IfOk result (λ answer. answer.0.chain.spec ≡ self.chain.spec) }
+        ensures holds { IfOk result (λ answer. joins answer.1 ≡ true → IsSome (held_at answer.0.held (length self.chain.blocks))) }
+        ensures sight { moves_for self.chain item.now ≡ 0 → disk.new ≡ disk.old }
         ensures asked { result ≡ Err ReadStop.NoMemory → MayWantMemory self.chain item.now }
         ensures steps { (b : Block) → decoded schema.block item.now ≡ Some b
             → place_of self.chain.blocks b.header.parent_hash ≡ tip_place self.chain.blocks → steps.new ≤ steps.old + 1 }
