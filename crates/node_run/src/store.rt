@@ -38,6 +38,7 @@ pub fn status_of_reading(stop: ReadStop) -> Status
     ensures one_of { IsOneOf opening_stops result }
     ensures none { result ≡ Status.NotAStore → (damage : Damage) × (stop ≡ ReadStop.Damaged damage) }
     ensures fault { (result ≡ Status.DiskFault) ↔ (stop ≡ ReadStop.DiskFault) }
+    ensures memory { (result ≡ Status.NoMemory) ↔ (stop ≡ ReadStop.NoMemory) }
 {
     match stop {
         ReadStop::DiskFault => Status::DiskFault,
