@@ -31,7 +31,7 @@ use Rattle.block_store.specs.Stored.{CanBeKept}
 use Rattle.block_store.specs.Laws.{NamesTheLog}
 use Rattle.genesis_defs.specs.Genesis.{broken_genesis_rule}
 use Rattle.log_defs.specs.Log.{Record, log_of}
-use Rattle.log_defs.specs.Rest.{IsSettled, HasLog, HasAppended}
+use Rattle.log_defs.specs.Rest.{IsSettled, IsAppended, HasLog}
 use Rattle.fit_laws.specs.Laws.{AreCanonical}
 use Rattle.reorg.specs.Moves.{AreOf}
 use Rattle.store_defs.specs.Store.{StandsFor, AreJoined, HasNoSnapshots, new_image}
@@ -215,9 +215,11 @@ pub record KeepsLog (reads_old reads_new : Option Image) (old new : Image → Ty
 abbrev pub IsLeftByOpening : List ℕ → (Image → Type 0) → Image → Type 0
 IsLeftByOpening bytes images image = images image ⊎ HasLog (λ log. log_of log ≡ log_of bytes) images image
 
--- What an import of an item leaves of images with these records: they, or they and one of that item, with some ext after it.
+-- What an import of an item leaves of the LOG of images with these records: they, or they and one of that item, with some ext after it. Of the
+-- areas of snapshots nothing is said.
 abbrev pub IsLeftByImport : ℕ → List Record → List ℕ → (Image → Type 0) → Image → Type 0
-IsLeftByImport place records item images image = (ext : List ℕ) × HasAppended place records (block_record item ext) images image
+IsLeftByImport place records item images image =
+    (ext : List ℕ) × ComesBy (λ old new. IsAppended place records (block_record item ext) old.log new.log) images image
 
 -- with the record of an item after them where it joined, and some ext in it, and else the same
 abbrev pub AreRecordsBehind : List Record → List ℕ → List Record → Bool → Type 0

@@ -52,6 +52,10 @@ IsClosedOr New bytes = (has_open_gate bytes ≡ false) ⊎ New bytes
 abbrev pub HasArea : Area → (List ℕ → Type 0) → (Image → Type 0) → Image → Type 0
 HasArea area P images = ComesBy (InArea area (λ old new. P new)) images
 
+-- whatever stands in it
+abbrev pub HasAnyArea : Area → (Image → Type 0) → Image → Type 0
+HasAnyArea area images = HasArea area (λ bytes. Unit {0}) images
+
 -- ---- Its body
 
 -- bytes behind an open gate, whatever follows

@@ -4,7 +4,7 @@ ghost use Rattle.std.specs.Option.{option_map};
 ghost use Rattle.outside.specs.Causes.{HasCause};
 ghost use Rattle.outside.specs.Image.{InArea};
 ghost use Rattle.outside.specs.Disk.{ComesBy, IsDurable, OthersRead, LeavesOnly};
-ghost use Rattle.snapshots.specs.Writing.{close_area, IsShut, IsAsItWasOrClosed};
+ghost use Rattle.snapshots.specs.Writing.{close_area, IsShut, IsAsItWasOrClosed, HasAnyArea};
 
 use outside::{Area, Disk, Failed, write_durably};
 
@@ -16,6 +16,8 @@ pub fn close<D: Disk>(disk: &mut D, area: Area) -> Result<(), Failed>
     // Where a crash would have left the area as it reads, it leaves it so at each moment, or without an open gate.
     ensures moments { IfSome (D.reads_as disk.old) (IsDurable area (D.images disk.old))
         → LeavesOnly D.moment D.left_since disk.old disk.new (ComesBy (InArea area IsAsItWasOrClosed) (D.images disk.old)) }
+    // Whatever it would have left, it leaves the other areas as they were.
+    ensures beside { LeavesOnly D.moment D.left_since disk.old disk.new (HasAnyArea area (D.images disk.old)) }
     ensures others { OthersRead area (D.reads_as disk.old) (D.reads_as disk.new) }
     ensures cause { HasCause (D.faults disk.old) (D.faults disk.new) result }
 {

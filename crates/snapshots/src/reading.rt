@@ -3,7 +3,7 @@ ghost use Rattle.std.specs.Prelude.{◌≡◌, ◌+◌, ◌*◌, ◌<◌, ◌≤
 ghost use Rattle.outside.specs.Causes.{CountsFault};
 ghost use Rattle.outside.specs.Image.{content};
 ghost use Rattle.outside.specs.declared.disk.ReadStop.TheVariants.{DiskFault};
-ghost use Rattle.snapshots.specs.Reading.{AreRowBytes, TellsShort, TellsSnapshot, has_tip, AreWithin};
+ghost use Rattle.snapshots.specs.Reading.{AreRowBytes, TellsShort, TellsSnapshot, row_count, has_tip, AreWithin};
 
 use crate::area::damaged;
 use crate::head::{HEAD_SIZE, Head, read_head};
@@ -80,6 +80,8 @@ pub fn read<D: Disk, L: Ledger>(
 ) -> Result<Option<(u32, u32, State)>, ReadStop>
     ensures snapshot { IfSome (D.reads_as disk.old) (λ image. TellsSnapshot area tree.now.entries (content area image) steps.old steps.new result) }
     ensures within { IfOk result (λ found. IfSome found (λ it. AreWithin tree.now.entries it.1 it.2)) }
+    // Whatever is answered, it takes no more steps than the area counts rows.
+    ensures most { IfSome (D.reads_as disk.old) (λ image. steps.new ≤ steps.old + row_count (content area image)) }
     ensures content { D.content_of disk.new ≡ D.content_of disk.old }
     ensures cause { CountsFault (D.faults disk.old) (D.faults disk.new) (result ≡ Err DiskFault) }
 {

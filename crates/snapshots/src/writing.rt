@@ -5,7 +5,7 @@ ghost use Rattle.outside.specs.Image.{content};
 ghost use Rattle.outside.specs.Disk.{IsDurable, OthersRead, LeavesOnly};
 ghost use Rattle.outside.specs.declared.disk.WriteStop.TheVariants.{DiskFault, NoMemory as no_memory};
 ghost use Rattle.cell_state.specs.State.{rows};
-ghost use Rattle.snapshots.specs.Writing.{IsShut, IsClosedOr, HasArea, HoldsNew, HoldsBody};
+ghost use Rattle.snapshots.specs.Writing.{IsShut, IsClosedOr, HasArea, HasAnyArea, HoldsNew, HoldsBody};
 
 use crate::body::body_of;
 use cell_state::State;
@@ -20,6 +20,7 @@ fn put<D: Disk>(disk: &mut D, area: Area, body: &[u8]) -> Result<(), Failed>
     ensures durable { OnOk result (IfSome (D.reads_as disk.new) (IsDurable area (D.images disk.new))) }
     ensures moments { IsShut area (D.reads_as disk.old) (D.images disk.old)
         → LeavesOnly D.moment D.left_since disk.old disk.new (HasArea area (IsClosedOr (HoldsBody body.now)) (D.images disk.old)) }
+    ensures beside { LeavesOnly D.moment D.left_since disk.old disk.new (HasAnyArea area (D.images disk.old)) }
     ensures others { OthersRead area (D.reads_as disk.old) (D.reads_as disk.new) }
     ensures cause { HasCause (D.faults disk.old) (D.faults disk.new) result }
 {
@@ -51,6 +52,7 @@ pub fn write<D: Disk>(
     // At each moment a crash leaves no open gate in the area, or the snapshot.
     ensures moments { IsShut area (D.reads_as disk.old) (D.images disk.old)
         → LeavesOnly D.moment D.left_since disk.old disk.new (HasArea area (IsClosedOr (HoldsNew number tip hash.now (rows state.now))) (D.images disk.old)) }
+    ensures beside { LeavesOnly D.moment D.left_since disk.old disk.new (HasAnyArea area (D.images disk.old)) }
     ensures others { OthersRead area (D.reads_as disk.old) (D.reads_as disk.new) }
     ensures unchanged { result ≡ Err no_memory → disk.new ≡ disk.old }
     ensures cause { CountsFault (D.faults disk.old) (D.faults disk.new) (result ≡ Err DiskFault) }
