@@ -14,6 +14,7 @@ use Rattle.log_defs.specs.Log.{Record}
 use Rattle.log_defs.specs.Rest.{IsSettled}
 use Rattle.log_file.specs.Pieces.{block_record}
 use Rattle.snapshot_defs.specs.Snapshot.{Snapshot, has_open_gate, Holds, area_of, IsOfBlocks}
+use Rattle.snapshots.specs.Writing.{IsAsItWasOrClosed}
 
 -- ---- When one is due
 
@@ -36,6 +37,15 @@ abbrev pub OthersReadBut : Option ℕ → Option Image → Option Image → Type
 OthersReadBut None old new = OthersRead Log old new
 OthersReadBut (Some number) old new =
     (log : List ℕ) × (bytes : List ℕ) × (new ≡ option_map (with_log_and (area_of number) log bytes) old)
+
+-- While a snapshot is taken, its area is as it was, has no open gate, or has the new one.
+abbrev pub IsTaken : (List ℕ → Type 0) → List ℕ → List ℕ → Type 0
+IsTaken New old new = IsAsItWasOrClosed old new ⊎ New new
+
+-- only the area of the snapshot that is due reads otherwise
+abbrev pub OnlySnapshotReads : Option ℕ → Option Image → Option Image → Type 0
+OnlySnapshotReads None old new = new ≡ old
+OnlySnapshotReads (Some number) old new = OthersRead (area_of number) old new
 
 -- The area of a number holds the snapshot with this number of the tip of these blocks.
 pub record HasSnapshot (kept : List Block) (number : ℕ) (now : Image) : Type 0 where

@@ -20,6 +20,7 @@ mod node;
 mod over_disk;
 mod queries;
 mod recorded;
+mod snapshot;
 
 pub use block_judge::Judged;
 pub use log_file::LogStop;

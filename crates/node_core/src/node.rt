@@ -37,6 +37,8 @@ ghost use Rattle.log_file.specs.Pieces.{behind_gate, block_record};
 ghost use Rattle.log_file.specs.declared.stop.LogStop.TheVariants as log_stops;
 ghost use Rattle.node_core.specs.Node.{node_of, IsItsOwn, IsSoundNode, IsSoundOn, IsOnlyImage, IsOn, LeavesAll, IsLeftByImport, IsSettledAfter, IsWithin, AreOfFound, AreOfTip};
 ghost use Rattle.node_core.specs.Opening.{LeavesStore, IsReadFrom};
+ghost use Rattle.outside.specs.declared.disk.WriteStop.TheVariants as write_stops;
+ghost use Rattle.node_core.specs.Snapshot.{snapshot_at, OthersReadBut, HasSnapshot, LacksSnapshot};
 ghost use Rattle.node_core.specs.Steps.{moves_for, moves_to_open};
 ghost use Rattle.node_core.specs.Judging.{IsReadyItem, IsDecided, MayWantMemory, place_for};
 ghost use Rattle.node_core.specs.Queries.{IsHeaderAt, IsBlockAt, IsLiveCell, IsFetched};
@@ -48,6 +50,7 @@ use crate::gathering::Gathering;
 use crate::kept::Kept;
 use crate::over_disk;
 use crate::queries::{Fetched, HeaderAt, Live};
+use crate::snapshot::{take_snapshot, to_tip};
 use block_judge::Judged;
 use block_store::{Cache, KeptBody};
 use cell_model::{Ext, OutPoint};
@@ -56,7 +59,7 @@ use chain_tree::{Entry, Tree};
 use epochs::Spec;
 use log_file::{Body, Log, LogStop, append, rec_behind};
 use mol_schema::TxView;
-use outside::{Disk, NoMemory, ReadStop, Steps};
+use outside::{Disk, NoMemory, ReadStop, Steps, WriteStop};
 use std::alloc::Global;
 use std::marker::Model;
 use std::sync::ledger::Ledger;
@@ -134,6 +137,18 @@ fn stop_of_move(stop: ReadStop) -> LogStop
         ReadStop::Damaged(_) => LogStop::NotAStore,
         ReadStop::DiskFault => LogStop::DiskFault,
         ReadStop::NoMemory => LogStop::NoMemory,
+    }
+}
+
+/// Why an import is stopped where its snapshot was not written.
+fn stop_of_snapshot(stop: WriteStop) -> ReadStop
+    ensures damaged { (damage : Damage) → result ≡ Damaged damage → ⊥ }
+    ensures fault { (result ≡ DiskFault) ↔ (stop ≡ write_stops.DiskFault) }
+    ensures memory { (result ≡ ReadStop.NoMemory) ↔ (stop ≡ write_stops.NoMemory) }
+{
+    match stop {
+        WriteStop::DiskFault => ReadStop::DiskFault,
+        WriteStop::NoMemory => ReadStop::NoMemory,
     }
 }
 
@@ -269,8 +284,8 @@ fn join<D: Disk, L: Ledger>(
 }
 
 impl Node {
-    /// Opens the store on a disk. LOG is read once, from front to back; then the live cells go from the genesis to the tip, by
-    /// the blocks of its branch. After `Ok` a crash leaves each area as it reads. Also a log whose blocks have not joined may
+    /// Opens the store on a disk. LOG is read once, from front to back; then the live cells go to the tip, from the open
+    /// snapshot with the greater number or from the genesis, by the blocks on the way. After `Ok` a crash leaves each area as it reads. Also a log whose blocks have not joined may
     /// be answered as no store. Whatever is answered, a crash leaves what it might have left before, or a log that says what
     /// it said. `held` is how many blocks the node holds in memory at most, those that were used last.
     pub fn open<D: Disk, L: Ledger>(
@@ -293,7 +308,7 @@ impl Node {
         ensures moments { (now : Image) (chain : Chain) → D.reads_as disk.old ≡ Some now → store_of now ≡ Keeps chain → ((image : Image) → D.images disk.old image → IsSound image)
             → LeavesOnly D.moment D.left_since disk.old disk.new (λ image. D.images disk.old image ⊎ StandsFor chain image) }
         ensures cause { CountsFault (D.faults disk.old) (D.faults disk.new) (result ≡ Err LogStop.DiskFault) }
-        ensures most { (now : Image) → D.reads_as disk.old ≡ Some now → steps.new ≤ steps.old + moves_to_open (store_of now) }
+        ensures most { (now : Image) → D.reads_as disk.old ≡ Some now → steps.new ≤ steps.old + moves_to_open now }
     {
         let node = match read_store(alloc, disk, held) {
             Ok(node) => node,
@@ -306,8 +321,7 @@ impl Node {
             body,
             mut cache,
         } = node;
-        let tip = kept.tree().tip();
-        match over_disk::moved(alloc, disk, &mut cache, &kept, state, 0, tip, steps) {
+        match to_tip(alloc, disk, &mut cache, &kept, state, steps) {
             Ok(state) => Ok(Node {
                 kept,
                 state,
@@ -328,8 +342,72 @@ impl Node {
     /// back unless the block becomes the tip: with its own events at most twice the distance from the tip to the parent, and
     /// one. An item that is answered at sight, as one that is known, takes no step and does not call the disk. Memory is
     /// wanted only for a block that is new, on a kept parent, and keeps the rules on a header and the limits on its length
-    /// and its proposals. A block that joins is held in memory.
+    /// and its proposals. A block that joins is held in memory. Where as many blocks have joined as a multiple of 1,000,
+    /// siblings counted, the snapshot of the tip is taken before the answer; without memory for it the block's record stays.
     pub fn import<D: Disk, L: Ledger>(
+        self,
+        alloc: Global,
+        disk: &mut D,
+        item: &[u8],
+        steps: &mut Steps<L>,
+    ) -> Result<(Node, Verdict), ReadStop>
+        requires size { length item.now < 2 ^ 31 }
+        requires own { IsItsOwn self (D.reads_as disk.old) (D.images disk.old) }
+        ensures own { IfOk result (λ answer. IsItsOwn answer.0 (D.reads_as disk.new) (D.images disk.new)) }
+        ensures verdict { IsSoundOn self (D.reads_as disk.old) → IfOk result (λ answer. answer.1 ≡ verdict_over self.chain item.now) }
+        ensures kept { IsSoundOn self (D.reads_as disk.old) → IfOk result (λ answer. answer.0.chain ≡ chain_after self.chain item.now) }
+        ensures sound { IsSoundOn self (D.reads_as disk.old) → IfOk result (λ answer. IsSoundNode answer.0) }
+        ensures on { IsOn self (D.reads_as disk.old) (D.images disk.old) → IfOk result (λ answer. IsOn answer.0 (D.reads_as disk.new) (D.images disk.new)) }
+        ensures moments { IsOn self (D.reads_as disk.old) (D.images disk.old)
+            → LeavesOnly D.moment D.left_since disk.old disk.new (λ image. StandsFor self.chain image ⊎ StandsFor (chain_after self.chain item.now) image) }
+        ensures settled { (records : List Record) → IsSettled self.place records (D.reads_as disk.old) (D.images disk.old)
+            → IfOk result (λ answer. IsSettledAfter records item.now answer.1 answer.0.place (D.reads_as disk.new) (D.images disk.new)) }
+        ensures keeps { (records : List Record) → IsSettled self.place records (D.reads_as disk.old) (D.images disk.old)
+            → LeavesOnly D.moment D.left_since disk.old disk.new (IsLeftByImport self.place records item.now (D.images disk.old)) }
+        // No area but LOG reads otherwise, and no area of a snapshot unless one is due, and then its own alone.
+        ensures others { OthersReadBut (snapshot_at (length self.chain.blocks)) (D.reads_as disk.old) (D.reads_as disk.new) }
+        // Where one is due, it is there before the answer: that of the new tip.
+        ensures snapshot { (number : ℕ) → IsSoundOn self (D.reads_as disk.old) → joins (verdict_over self.chain item.now) ≡ true
+            → snapshot_at (length self.chain.blocks) ≡ Some number
+            → IfOk result (λ answer. IfSome (D.reads_as disk.new) (HasSnapshot answer.0.chain.blocks number)) }
+        ensures still { IsSoundOn self (D.reads_as disk.old) → joins (verdict_over self.chain item.now) ≡ false
+            → D.content_of disk.new ≡ D.content_of disk.old }
+        ensures unwritten { IfOk result (λ answer. joins answer.1 ≡ false → D.content_of disk.new ≡ D.content_of disk.old) }
+        // Without a fault the disk is as it was, but where memory was wanted for a snapshot: then the block's record is there.
+        ensures untouched { IfErr result (λ stop. stop ≢ DiskFault → (D.content_of disk.new ≡ D.content_of disk.old)
+            ⊎ LacksSnapshot (length self.chain.blocks) self.place item.now stop (D.reads_as disk.old) (D.reads_as disk.new) (D.images disk.old) (D.images disk.new)) }
+        ensures undamaged { IsSoundOn self (D.reads_as disk.old) → (damage : Damage) → result ≡ Err (Damaged damage) → ⊥ }
+        ensures damage { (damage : Damage) → result ≡ Err (Damaged damage) → damage.area ≡ log_area }
+        ensures cause { CountsFault (D.faults disk.old) (D.faults disk.new) (result ≡ Err DiskFault) }
+        ensures spec { IfOk result (λ answer. answer.0.chain.spec ≡ self.chain.spec) }
+        ensures holds { IfOk result (λ answer. joins answer.1 ≡ true → IsSome (held_at answer.0.held (length self.chain.blocks))) }
+        ensures sight { moves_for self.chain item.now ≡ 0 → disk.new ≡ disk.old }
+        ensures asked { result ≡ Err ReadStop.NoMemory → MayWantMemory self.chain item.now }
+        ensures steps { (b : Block) → decoded schema.block item.now ≡ Some b
+            → place_of self.chain.blocks b.header.parent_hash ≡ tip_place self.chain.blocks → steps.new ≤ steps.old + 1 }
+        ensures most { steps.new ≤ steps.old + moves_for self.chain item.now }
+        ensures stays { IfOk result (λ answer. joins answer.1 ≡ false → steps.new ≤ steps.old + (moves_for self.chain item.now - 1)) }
+    {
+        // as many as joined once it does: all that are kept but the genesis
+        let joined = self.kept.tree().len();
+        let (next, verdict) = match self.import_block(alloc, disk, item, steps) {
+            Ok(answer) => answer,
+            Err(stop) => return Err(stop),
+        };
+        if !verdict.joins() {
+            return Ok((next, verdict));
+        }
+        match take_snapshot(alloc, disk, joined, &next.kept, &next.state) {
+            Ok(()) => Ok((next, verdict)),
+            Err(stop) => {
+                drop(next);
+                Err(stop_of_snapshot(stop))
+            }
+        }
+    }
+
+    /// Judges an item over the kept blocks, and where it joins keeps it and puts its record on the disk. No snapshot is taken.
+    fn import_block<D: Disk, L: Ledger>(
         self,
         alloc: Global,
         disk: &mut D,
@@ -361,6 +439,7 @@ impl Node {
         ensures holds { IfOk result (λ answer. joins answer.1 ≡ true → IsSome (held_at answer.0.held (length self.chain.blocks))) }
         ensures sight { moves_for self.chain item.now ≡ 0 → disk.new ≡ disk.old }
         ensures asked { result ≡ Err ReadStop.NoMemory → MayWantMemory self.chain item.now }
+        ensures new { IfOk result (λ answer. joins answer.1 ≡ true → MayWantMemory self.chain item.now × (1 ≤ moves_for self.chain item.now)) }
         ensures steps { (b : Block) → decoded schema.block item.now ≡ Some b
             → place_of self.chain.blocks b.header.parent_hash ≡ tip_place self.chain.blocks → steps.new ≤ steps.old + 1 }
         ensures most { steps.new ≤ steps.old + moves_for self.chain item.now }

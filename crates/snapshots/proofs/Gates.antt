@@ -13,7 +13,7 @@ use Rattle.outside.specs.Image.{Image, InArea, content, with_content}
 use Rattle.outside.specs.Disk.{written, write_area, Torn, ComesBy, Follows, IsDurable, SameImages, OthersRead}
 use Rattle.outside.proofs.Images.{own_content}
 use Rattle.snapshot_defs.specs.Snapshot.{has_open_gate}
-use Rattle.snapshots.specs.Writing.{IsClosed, IsShut, IsAsItWasOrClosed, IsClosedOr, HasArea, HoldsBody, HoldsNew, IsBodyOf}
+use Rattle.snapshots.specs.Writing.{IsClosed, IsShut, IsAsItWasOrClosed, IsClosedOr, HasArea, HasAnyArea, HoldsBody, HoldsNew, IsBodyOf}
 
 no-some : IsSome {T = Image} None → ⊥
 no-some some = cc
@@ -48,6 +48,18 @@ others-then area old mid new first second = (second.0, second.1 ∙ ap (option_m
 pub others-written : (area : Area) (at : ℕ) (piece : List ℕ) (old new : Option Image) → new ≡ option_map (write_area area at piece) old → OthersRead area old new
 others-written area at piece None new wrote = ([], wrote)
 others-written area at piece (Some image) new wrote = (written at piece (content area image), wrote)
+
+-- ---- The other areas
+
+pub any-here : (area : Area) (images : Image → Type 0) (image : Image) → images image → HasAnyArea area images image
+any-here area images image left = (image, left, (content area image, tt, own_content area image))
+
+pub any-after : (area : Area) (at size : ℕ) (images images1 : Image → Type 0) → ((image : Image) → images1 image → HasAnyArea area images image)
+    → (image : Image) → ComesBy (InArea area (Torn at size)) images1 image → HasAnyArea area images image
+any-after area at size images images1 before image (mid, left, (bytes, done, is)) = from (before mid left)
+  where
+    from : HasAnyArea area images mid → HasAnyArea area images image
+    from (first, there, (other, any, was)) = (first, there, (bytes, tt, is ∙ ap (with_content area bytes) was ∙ with-twice area bytes other first))
 
 -- ---- Gates
 

@@ -159,6 +159,17 @@ told-no-rows area entries (Some image) mid head found before after stop is same 
     damaged-as area entries (content area image) before after stop is (no-rows entries (content area image) found head h here refused)
     (later, omega (arith, most, here.0))
 
+-- no step
+pub none-taken : (reads : Option Image) (area : Area) (before : ℕ) → IfSome reads (λ image. before ≤ before + row_count (content area image))
+none-taken None area before = tt
+none-taken (Some image) area before = omega arith
+
+-- no more steps than were counted
+pub few-taken : (reads : Option Image) (area : Area) (head : Head) (before after : ℕ) → IfSome reads (λ image. IsHead (content area image) head)
+    → after ≤ before + head.count → IfSome reads (λ image. after ≤ before + row_count (content area image))
+few-taken None area head before after h most = tt
+few-taken (Some image) area head before after h most = subst (λ (n : ℕ). after ≤ before + n) h.counted most
+
 with-space : (bytes : List ℕ) (head : Head) → IsHead bytes head → HasSpaceFor head.count bytes → HasSpaceFor (row_count bytes) bytes
 with-space bytes head h space = subst (λ (n : ℕ). HasSpaceFor n bytes) h.counted space
 

@@ -1,5 +1,5 @@
 use Rattle.std.proofs.Common.{rules}
-use Rattle.snapshots.proofs.Whole.{told-no-head, told-other-tip, told-short, told-no-rows, told-all, within, its-head}
+use Rattle.snapshots.proofs.Whole.{told-no-head, told-other-tip, told-short, told-no-rows, told-all, within, its-head, none-taken, few-taken}
 use Rattle.snapshots.proofs.reading.read.Goals as goal
 
 pub returns-in-Err-clause-snapshot : goal.returns-in-Err-clause-snapshot
@@ -34,3 +34,23 @@ returns-in-Ok-None-state_of-clause-snapshot g c =
     c.args.steps.now c.state_of.new.steps _ c.damaged-in-Ok-None-state_of.ensures
     (g.met.D.Disk.content_rests c.args.disk.now c.read_head.new.disk c.in-Ok-Some.ensures.content).reads (its-head c.args.area (g.D.Disk.reads_as c.args.disk.now) c.in-Ok-Some.field-0 c.in-Ok-Some.head c.in-Ok-Some.field-0-is c.in-Ok-Some.ensures.head) (search rules)
     (search rules) c.in-Ok-None-state_of.ensures.later (search rules)
+
+pub returns-in-Err-clause-most : goal.returns-in-Err-clause-most
+returns-in-Err-clause-most g c = none-taken (g.D.Disk.reads_as c.args.disk.now) c.args.area c.args.steps.now
+
+pub returns-then-not-is_kept-clause-most : goal.returns-then-not-is_kept-clause-most
+returns-then-not-is_kept-clause-most g c = none-taken (g.D.Disk.reads_as c.args.disk.now) c.args.area c.args.steps.now
+
+pub returns-in-Err-read_rows-clause-most : goal.returns-in-Err-read_rows-clause-most
+returns-in-Err-read_rows-clause-most g c = none-taken (g.D.Disk.reads_as c.args.disk.now) c.args.area c.args.steps.now
+
+pub returns-in-Ok-None-clause-most : goal.returns-in-Ok-None-clause-most
+returns-in-Ok-None-clause-most g c = none-taken (g.D.Disk.reads_as c.args.disk.now) c.args.area c.args.steps.now
+
+pub returns-in-Ok-Some-state_of-clause-most : goal.returns-in-Ok-Some-state_of-clause-most
+returns-in-Ok-Some-state_of-clause-most g c =
+    few-taken (g.D.Disk.reads_as c.args.disk.now) c.args.area c.in-Ok-Some.head c.args.steps.now c.state_of.new.steps (its-head c.args.area (g.D.Disk.reads_as c.args.disk.now) c.in-Ok-Some.field-0 c.in-Ok-Some.head c.in-Ok-Some.field-0-is c.in-Ok-Some.ensures.head) (search rules)
+
+pub returns-in-Ok-None-state_of-clause-most : goal.returns-in-Ok-None-state_of-clause-most
+returns-in-Ok-None-state_of-clause-most g c =
+    few-taken (g.D.Disk.reads_as c.args.disk.now) c.args.area c.in-Ok-Some.head c.args.steps.now c.state_of.new.steps (its-head c.args.area (g.D.Disk.reads_as c.args.disk.now) c.in-Ok-Some.field-0 c.in-Ok-Some.head c.in-Ok-Some.field-0-is c.in-Ok-Some.ensures.head) (search rules)

@@ -21,7 +21,7 @@ use Rattle.node_core.proofs.RecordedLemmas.{read-here}
 use Rattle.node_core.proofs.SightLemmas.{wants-joining}
 use Rattle.node_core.proofs.StepLemmas.{moves-of-chain, moves-on-tip, moves-joining}
 use Rattle.node_core.proofs.StayingLemmas.{of-told, sound-on, sound-joined, not_stopped, stopped-counts, settled-looked, only-looked, own-looked, on-looked, others-looked, moments-looked, keeps-looked, others-then, moments-then, keeps-then}
-use Rattle.node_core.proofs.node.Node.import.Goals as goal
+use Rattle.node_core.proofs.node.Node.import_block.Goals as goal
 
 pub decide-decided-requires : goal.decide-decided-requires
 decide-decided-requires g c = record {
