@@ -17,3 +17,5 @@ pub mod KeepingLemmas
 pub mod StayingLemmas
 pub mod QueryLemmas
 pub mod RecordedLemmas
+pub mod SnapshotLemmas
+pub mod LoadingLemmas

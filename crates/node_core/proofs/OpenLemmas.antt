@@ -1,6 +1,6 @@
 -- A store that is opened: what its image keeps, what its disk stands for then, and what opening leaves of the disk.
-use Rattle.std.proofs.Common.{◌≡◌, ℕ, ◌+◌, ◌*◌, ◌^◌, ◌≤◌, Bool, cond, List, [], ◌∷◌, length, drop, Option, Some, None, refl, sym, ap, ◌∙◌, subst, inl, inr, ◌⊎◌, arith}
-use Rattle.std.specs.Prelude.{◌≢◌, ◌==◌, IfSome, IsSome, slice_index, Result, Ok, Err, IsOk}
+use Rattle.std.proofs.Common.{◌≡◌, ℕ, ◌+◌, ◌*◌, ◌^◌, ◌≤◌, Bool, true, false, cond, List, [], ◌∷◌, length, drop, Option, Some, None, refl, sym, ap, ◌∙◌, subst, inl, inr, ◌⊎◌, arith}
+use Rattle.std.specs.Prelude.{◌≢◌, ◌==◌, nat_lt, IfSome, IsSome, slice_index, Result, Ok, Err, IsOk}
 use Rattle.std.specs.Option.{option_map}
 use Rattle.std.proofs.lemmas.Bool.{ne_eqb}
 use Rattle.std.proofs.lemmas.List.{length-map}
@@ -12,8 +12,6 @@ use Rattle.outside.specs.Causes.{Rose, CountsFault}
 use Rattle.outside.specs.Disk.{NoneNew, IsDurable, HasOneImage, OthersRead, LeavesOnly, IsAsBefore, IsOnlyRead}
 use Rattle.outside.proofs.Moments.{leaves_also, leaves_then, now_too}
 use Rattle.chain_defs.specs.Kept.{kept_limit}
-use Rattle.chain_defs.specs.Tip.{tip_place}
-use Rattle.chain_defs.specs.Branch.{distance}
 use Rattle.cell_state.specs.State.{StateValue, rows}
 use Rattle.reorg.specs.Moves.{AreOf}
 use Rattle.time_defs.specs.Specification.{Specification}
@@ -31,9 +29,12 @@ use Rattle.log_file.specs.Opening.{IsOpened, NameBodies, kept_records}
 use Rattle.log_file.proofs.Settling.{others_kept, others_on}
 use Rattle.block_store.specs.Held.{Holds, AgreesWith}
 use Rattle.block_store.specs.Stored.{CanBeKept}
-use Rattle.node_core.specs.Node.{KeptValue, NodeValue, kept_of, node_of, stored_of, CountFees, IsWithin, IsReadBy, IsOf, IsItsOwn, IsSoundNode, IsOnlyImage, IsOn, IsLeftByOpening}
+use Rattle.node_core.specs.Node.{KeptValue, NodeValue, kept_of, node_of, stored_of, CountFees, IsWithin, IsReadBy, IsOf, IsItsOwn, IsSoundNode, IsOnlyImage, IsOn, IsLeftByOpening, AreOfTip}
 use Rattle.node_core.specs.Opening.{SaysTheSame, LeavesStore, IsReadFrom}
-use Rattle.node_core.specs.Steps.{distance_to, moves_to_open}
+use Rattle.store_defs.specs.SnapshotLaws.{HasSoundAreas}
+use Rattle.codec_defs.specs.Schema.{Block}
+use Rattle.node_core.specs.Snapshot.{number_in, area_with, newest}
+use Rattle.node_core.specs.Steps.{moves_by, moves_over, moves_to_open}
 use Rattle.node_core.proofs.KeepingLemmas.{left_by_opening}
 use Rattle.node_core.proofs.RecordedLemmas.{paired-kept, same_image}
 use Rattle.node_core.proofs.OpeningLemmas.{joined-log, joined-chain, records-are, can-be-kept, chain-opened, counted-opened, joined-opened, rated-opened}
@@ -394,6 +395,20 @@ module _ {D : Type 0} (reads_as : D → Option Image) (images : D → Image → 
 
 -- ---- A node that was read, by its parts
 
+-- what an area of snapshots counts does not hang on LOG
+moves_same : (kept : List Block) (now : Image) (bytes : List ℕ) → moves_by kept (with_content Log bytes now) (newest now) ≡ moves_by kept now (newest now)
+moves_same kept now bytes = by (number_in now.snap_a) (number_in now.snap_b)
+  where
+    either : (less : Bool) → moves_by kept (with_content Log bytes now) (cond less (Some SnapB) (Some SnapA)) ≡ moves_by kept now (cond less (Some SnapB) (Some SnapA))
+    either true = refl
+    either false = refl
+
+    by : (a b : Option ℕ) → moves_by kept (with_content Log bytes now) (area_with a b) ≡ moves_by kept now (area_with a b)
+    by None None = refl
+    by (Some a) None = refl
+    by None (Some b) = refl
+    by (Some a) (Some b) = either (nat_lt a b)
+
 module _ {D : Type 0} (reads_as : D → Option Image) (images : D → Image → Type 0) (old mid : D)
     (kept : KeptValue) (place : ℕ) (cells : StateValue) (held : List (ℕ × Stored)) (node : NodeValue) (is : node_of kept place cells held ≡ node)
     (others : OthersRead Log (reads_as old) (reads_as mid)) (read : IfSome (reads_as old) (IsReadFrom node (reads_as mid) (images mid)))
@@ -415,17 +430,29 @@ module _ {D : Type 0} (reads_as : D → Option Image) (images : D → Image → 
   pub keeps_led : IfSome (reads_as old) (λ now. store_of now ≡ Keeps kept.chain)
   keeps_led = if_told (λ now. store_of now ≡ Keeps kept.chain) (reads_as old) (λ now told. (from_at now told).keeps)
 
-  -- from the genesis to the tip
-  pub moved_to_open : (tip before after : ℕ) → tip_place kept.chain.blocks ≡ Some tip → after ≤ before + distance kept.chain.blocks 0 tip
-      → (now : Image) → reads_as old ≡ Some now → after ≤ before + moves_to_open (store_of now)
-  moved_to_open tip before after at_tip most now told =
-      subst (λ (s : Store). after ≤ before + moves_to_open s) (sym (from_at now told).keeps)
-      (subst (λ (n : ℕ). after ≤ before + n) (sym (ap (distance_to kept.chain.blocks 0) at_tip)) most)
+  -- LOG alone was mended
+  told_mid : (now : Image) → reads_as old ≡ Some now → reads_as mid ≡ Some (with_content Log others.0 now)
+  told_mid now told = others.1 ∙ ap (option_map (with_content Log others.0)) told
+
+  -- from a snapshot, or from the genesis, to the tip
+  pub moved_to_open : (before after : ℕ)
+      → ((there : Image) → reads_as mid ≡ Some there → after ≤ before + moves_by kept.chain.blocks there (newest there))
+      → (now : Image) → reads_as old ≡ Some now → after ≤ before + moves_to_open now
+  moved_to_open before after most now told =
+      subst (λ (s : Store). after ≤ before + moves_over now s) (sym (from_at now told).keeps)
+      (subst (λ (n : ℕ). after ≤ before + n) (moves_same kept.chain.blocks now others.0) (most (with_content Log others.0 now) (told_mid now told)))
+
+  -- the areas of a sound image are sound over what was read
+  areas_there : (now : Image) → reads_as old ≡ Some now → IsSound now → HasSoundAreas kept.chain.blocks (with_content Log others.0 now)
+  areas_there now told sound =
+      let stands : StandsFor kept.chain now = stands_now now kept.chain sound (from_at now told).keeps in
+      record { snap_a = stands.snap_a; snap_b = stands.snap_b }
 
   -- where the blocks do not fit, the image is not sound
-  pub not_led : (IsSome (reads_as mid) → AreJoined kept.chain kept.exts → AreOf kept.chain.blocks 0 (rows cells) → ⊥) → IfSome (reads_as old) (λ now. IsSound now → ⊥)
+  pub not_led : ((there : Image) → reads_as mid ≡ Some there → HasSoundAreas kept.chain.blocks there → AreJoined kept.chain kept.exts
+      → AreOf kept.chain.blocks 0 (rows cells) → ⊥) → IfSome (reads_as old) (λ now. IsSound now → ⊥)
   not_led never = if_told (λ now. IsSound now → ⊥) (reads_as old) (λ now told sound.
-      never (tells_still (reads_as old) (reads_as mid) now told others) ((from_at now told).joined sound) first_at)
+      never (with_content Log others.0 now) (told_mid now told) (areas_there now told sound) ((from_at now told).joined sound) first_at)
 
   -- ---- Whose live cells were led to the tip
 
@@ -441,15 +468,14 @@ module _ {D : Type 0} (reads_as : D → Option Image) (images : D → Image → 
         of_still reads_as images moment left_since mid new rests kept place cells next held later (from_at was.0 was.1).of agrees)
 
     -- where the blocks of its image have joined
-    module _ (tip : ℕ) (at_tip : tip_place kept.chain.blocks ≡ Some tip)
-        (moved : IsSome (reads_as mid) → AreJoined kept.chain kept.exts → AreOf kept.chain.blocks 0 (rows cells) → AreOf kept.chain.blocks tip (rows next)) where
+    module _ (moved : (there : Image) → reads_as mid ≡ Some there → HasSoundAreas kept.chain.blocks there → AreJoined kept.chain kept.exts
+        → AreOf kept.chain.blocks 0 (rows cells) → AreOfTip kept.chain.blocks (rows next)) where
       pub sound_led : (now : Image) → reads_as old ≡ Some now → IsSound now → IsSoundNode (node_of kept place next later)
       sound_led now told sound =
           let joined = (from_at now told).joined sound in
           record {
             joined = joined;
-            live = λ other at. subst (λ (n : ℕ). AreOf kept.chain.blocks n (rows next)) (same_Some tip other (sym at_tip ∙ at))
-                (moved (tells_still (reads_as old) (reads_as mid) now told others) joined first_at);
+            live = moved (with_content Log others.0 now) (told_mid now told) (areas_there now told sound) joined first_at;
           }
 
       pub on_led : IfSome (reads_as old) (images old) → ((image : Image) → images old image → IsSound image)

@@ -17,6 +17,7 @@ ghost use Rattle.outside.specs.declared.disk.Area.TheVariants.{Log};
 ghost use Rattle.outside.specs.declared.disk.Damage.{Damage as a_damage};
 ghost use Rattle.outside.specs.declared.disk.ReadStop.TheVariants.{DiskFault, Damaged};
 ghost use Rattle.verdict_defs.specs.Laws.{MayJoin};
+ghost use Rattle.fit_laws.specs.Laws.{AreCanonical};
 ghost use Rattle.store_defs.specs.Store.{IsJoined};
 ghost use Rattle.node_core.specs.Node.{kept_with, AreOfFound, AreOfTip};
 ghost use Rattle.node_core.specs.Judging.{IsReady, is_above, place_for};
@@ -207,6 +208,7 @@ impl Kept {
     pub(crate) fn tree(&self) -> &Tree
         ensures entries { result.now.entries ≡ self.now.entries }
         ensures indexed { IndexesBlocks self.now.chain.blocks result.now.entries }
+        ensures canonical { AreCanonical self.now.chain.blocks }
     {
         &self.tree
     }

@@ -1,5 +1,5 @@
 // When a snapshot is taken, and which one is loaded where a store is opened.
-ghost use Rattle.std.specs.Prelude.{◌≡◌, ◌<◌, ◌≤◌, ◌+◌, ℕ, Ok, Err, Some, None, List, length, IfOk, IfErr, OnOk, IfSome, IsSome};
+ghost use Rattle.std.specs.Prelude.{◌≡◌, ◌<◌, ◌≤◌, ◌+◌, ℕ, Err, Some, None, length, IfOk, IsOk, OnOk, IfSome, IsSome};
 ghost use Rattle.outside.specs.Causes.{CountsFault};
 ghost use Rattle.outside.specs.Image.{Image, InArea, content};
 ghost use Rattle.outside.specs.Disk.{ComesBy, IsDurable, OthersRead, LeavesOnly, AreaKept};
@@ -83,7 +83,7 @@ pub(crate) fn take_snapshot<D: Disk>(
 ) -> Result<(), WriteStop>
     ensures taken { (number : ℕ) → snapshot_at joined ≡ Some number → AreOfTip kept.now.chain.blocks (rows state.now)
         → OnOk result (IfSome (D.reads_as disk.new) (HasSnapshot kept.now.chain.blocks number)) }
-    ensures none { snapshot_at joined ≡ None → (result ≡ Ok (())) × (disk.new ≡ disk.old) }
+    ensures none { snapshot_at joined ≡ None → IsOk result × (disk.new ≡ disk.old) }
     // Over the one image of what is kept: an image stands for it at each moment, and after `Ok` one does.
     ensures moments { AreOfTip kept.now.chain.blocks (rows state.now) → IsOnlyImage kept.now.chain (D.reads_as disk.old) (D.images disk.old)
         → LeavesOnly D.moment D.left_since disk.old disk.new (StandsFor kept.now.chain) }

@@ -14,7 +14,7 @@ use Rattle.report_defs.specs.Survival.{NoneJoins}
 use Rattle.item_reader.specs.Items.{Gave, IsPartial, IsItemAt}
 use Rattle.item_reader.proofs.Reading.{few_partial}
 use Rattle.node_core.specs.Node.{NodeValue, IsSoundNode, IsSoundOn}
-use Rattle.node_core.specs.Steps.{moves_for, moves_to_tip, steps_over, moves_to_open}
+use Rattle.node_core.specs.Steps.{moves_for, steps_over, moves_to_open}
 use Rattle.node_run.specs.Import.{AreGiven}
 use Rattle.node_run.proofs.LineLemmas.{concat-push}
 use Rattle.node_run.proofs.ImportLemmas.{Whole, all-push, steps-push}
@@ -108,10 +108,6 @@ stays_there chain now items item is stays = ap (λ (k : Chain). joins (verdict_o
 
 -- ---- A store that was opened
 
-pub opened_in : (chain : Chain) (now : Image) (before after : ℕ) → StandsFor chain now → after ≤ before + moves_to_open (store_of now)
-    → after ≤ before + moves_to_tip chain.blocks
-opened_in chain now before after stands most = subst (λ (s : Store). after ≤ before + moves_to_open s) (store_of_stands chain now stands) most
-
 -- the chain that was opened is the one that the disk read as, and the node is sound
 pub opened_over : (before after : Option Image) (opened : NodeValue) (chain : Chain) (now : Image)
     → IfSome before (λ image. store_of image ≡ Keeps opened.chain) → TellsAsBefore before after → (IsSound now → IsSoundNode opened) → before ≡ Some now → StandsFor chain now
@@ -126,12 +122,12 @@ none_over opened chain items same none = subst (λ (k : Chain). NoneJoins k item
 
 pub counted_over : (before after : Option Image) (opened : NodeValue) (chain : Chain) (now : Image) (items : List (List ℕ)) (steps_old steps_now steps_new : ℕ)
     → IfSome before (λ image. store_of image ≡ Keeps opened.chain) → TellsAsBefore before after → (IsSound now → IsSoundNode opened) → before ≡ Some now → StandsFor chain now
-    → steps_now ≤ steps_old + moves_to_open (store_of now) → (IsSoundOn opened after → steps_new ≤ steps_now + steps_over opened.chain items)
-    → steps_new ≤ steps_old + moves_to_tip chain.blocks + steps_over chain items
+    → steps_now ≤ steps_old + moves_to_open now → (IsSoundOn opened after → steps_new ≤ steps_now + steps_over opened.chain items)
+    → steps_new ≤ steps_old + moves_to_open now + steps_over chain items
 counted_over before after opened chain now items steps_old steps_now steps_new kept as_before sound told stands most counts =
     let over = opened_over before after opened chain now kept as_before sound told stands in
     omega (
       arith,
-      opened_in chain now steps_old steps_now stands most,
+      most,
       subst (λ (k : Chain). steps_new ≤ steps_now + steps_over k items) over.0 (counts over.1),
     )

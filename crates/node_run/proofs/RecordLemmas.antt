@@ -19,7 +19,7 @@ use Rattle.verdict_defs.specs.Chain.{Chain}
 use Rattle.store_defs.specs.Store.{NoLog, Keeps, store_of, store_of_log}
 use Rattle.node_core.specs.Node.{IsLeftByOpening, IsLeftByImport, AreRecordsBehind, IsSettledAfter}
 use Rattle.log_defs.specs.Log.{Record, LogContent, magic, records_of, log_of, content_of_records, are_first, blocks_over, record_limit}
-use Rattle.log_defs.specs.Rest.{IsAtRest, IsSettled, HasAppended}
+use Rattle.log_defs.specs.Rest.{IsAtRest, IsSettled, IsAppended}
 use Rattle.log_file.specs.Pieces.{block_record}
 use Rattle.report_defs.specs.Survival.{AreOfSome, GoesOn, KeepsRecords}
 
@@ -51,17 +51,18 @@ pub at_rest_goes_on : (items : List (List ℕ)) (records added : List Record) (p
 at_rest_goes_on items records added place bytes some rest = record { begins = rest.begins; added = added; some = some; holds = rest.holds }
 
 pub appended_goes_on : (items : List (List ℕ)) (item ext : List ℕ) (records added : List Record) (place : ℕ) (images : Image → Type 0) (image : Image)
-    → AreOfSome items added → HasAppended place (records ++ added) (block_record item ext) images image → GoesOn (items ++ item ∷ []) records image.log
-appended_goes_on items item ext records added place images image some (before, left, (bytes, appended, is)) =
-    subst (λ (i : Image). GoesOn (items ++ item ∷ []) records i.log) (sym is) (elim appended.rest [
-      | inl rest ↦ at_rest_goes_on (items ++ item ∷ []) records added place bytes (some_more items item added some) rest
+    → AreOfSome items added → ComesBy (λ old new. IsAppended place (records ++ added) (block_record item ext) old.log new.log) images image
+    → GoesOn (items ++ item ∷ []) records image.log
+appended_goes_on items item ext records added place images image some (before, left, appended) =
+    elim appended.rest [
+      | inl rest ↦ at_rest_goes_on (items ++ item ∷ []) records added place image.log (some_more items item added some) rest
       | inr rest ↦ record {
         begins = rest.begins;
         added = added ++ block_record item ext ∷ [];
         some = some_push items item ext added some;
         holds = rest.holds ∙ append_assoc records added (block_record item ext ∷ []);
       }
-    ])
+    ]
 
 -- ---- A log that says what another says
 

@@ -17,7 +17,7 @@ ghost use Rattle.report_defs.specs.Survival.{NoneJoins, GoesOn, KeepsRecords};
 ghost use Rattle.report_defs.specs.declared.command.Command.TheVariants.{Import};
 ghost use Rattle.item_reader.specs.Items.{Gave, IsNext};
 ghost use Rattle.node_core.specs.Node.{IsItsOwn, IsSoundNode, IsSoundOn, IsOn, IsLeftByImport, IsSettledAfter};
-ghost use Rattle.node_core.specs.Steps.{moves_for, moves_to_tip, steps_over};
+ghost use Rattle.node_core.specs.Steps.{moves_for, moves_to_open, steps_over};
 ghost use Rattle.node_run.specs.Output.{Took, Transfers};
 ghost use Rattle.node_run.specs.Store.{Delivers};
 ghost use Rattle.node_run.specs.Import.{IsAnswered, AreImported, line_over, item_stops};
@@ -203,7 +203,7 @@ pub fn import<S: Source, K: Sink, D: Disk, L: Ledger>(
     ensures out_faults { CountsFault (K.faults out.old) (K.faults out.new) (result ≡ Status.SinkFault) }
     ensures disk_faults { CountsFault (D.faults disk.old) (D.faults disk.new) (result ≡ Status.DiskFault) }
     ensures steps { Gave (S.left input.old) (S.left input.new) (λ given. (now : Image) (chain : Chain) → D.reads_as disk.old ≡ Some now → StandsFor chain now
-        → steps.new ≤ steps.old + moves_to_tip chain.blocks + steps_over chain (split_of reports.import_limits given).items) }
+        → steps.new ≤ steps.old + moves_to_open now + steps_over chain (split_of reports.import_limits given).items) }
     ensures records { Gave (S.left input.old) (S.left input.new) (λ given. (now : Image) (chain : Chain) → D.reads_as disk.old ≡ Some now → store_of now ≡ Keeps chain
         → KeepsRecords (split_of reports.import_limits given).items now (D.images disk.old) (D.images disk.new) (D.left_since disk.new (D.moment disk.old))) }
     ensures still { Gave (S.left input.old) (S.left input.new) (λ given. (now : Image) (chain : Chain) → D.reads_as disk.old ≡ Some now → StandsFor chain now

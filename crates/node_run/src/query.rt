@@ -248,7 +248,7 @@ pub fn query<K: Sink, D: Disk, L: Ledger>(
     ensures disk_faults { CountsFault (D.faults disk.old) (D.faults disk.new) (result ≡ Status.DiskFault) }
     ensures rests { (now : Image) → D.reads_as disk.old ≡ Some now → slice_index now.log (end_of_log now.log) ≢ 1
         → IsOnlyRead D.reads_as D.images D.moment D.left_since disk.old disk.new }
-    ensures most { (now : Image) → D.reads_as disk.old ≡ Some now → steps.new ≤ steps.old + moves_to_open (store_of now) }
+    ensures most { (now : Image) → D.reads_as disk.old ≡ Some now → steps.new ≤ steps.old + moves_to_open now }
 {
     let mut node = match open(alloc, disk, steps) {
         Ok(node) => node,

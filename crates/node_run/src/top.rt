@@ -13,7 +13,7 @@ ghost use Rattle.report_defs.specs.Status.{IsOneOf};
 ghost use Rattle.report_defs.specs.Promise.{statuses_of};
 ghost use Rattle.report_defs.specs.Survival.{IsPromised, CallsNoDisk, OpensStore, AsksStore, KeepsRecords, NoneJoins, items_of, as_before};
 ghost use Rattle.item_reader.specs.Items.{Gave};
-ghost use Rattle.node_core.specs.Steps.{moves_to_open, moves_to_tip, steps_over};
+ghost use Rattle.node_core.specs.Steps.{moves_to_open, steps_over};
 ghost use Rattle.node_run.specs.Output.{Transfers};
 
 use crate::import::import;
@@ -84,14 +84,15 @@ pub fn run<S: Source, K: Sink, D: Disk, L: Ledger>(
         (λ given. (now : Image) (chain : Chain) → D.reads_as disk.old ≡ Some now → StandsFor chain now → slice_index now.log (end_of_log now.log) ≢ 1
         → NoneJoins chain (split_of import_limits given).items → IsOnlyRead D.reads_as D.images D.moment D.left_since disk.old disk.new) }
 
-    // Only a command that opens the store counts steps: a query or question at most one for each block after the genesis on the branch of the tip, and an import
-    // over a store that is sound at most these, and for each item that is not answered at sight one and those from the tip to its parent and back.
+    // Only a command that opens the store counts steps: a query or question at most one for each row of the snapshot that is loaded and those from its tip to
+    // the tip, or those from the genesis; an import over a store that is sound at most these, and for each item that is not answered at sight one and those
+    // from the tip to its parent and back.
     ensures steps { (OpensStore (grammar.command_of (map string_bytes words.now)) → ⊥) → steps.new ≡ steps.old }
     ensures query_steps { (now : Image) → D.reads_as disk.old ≡ Some now → AsksStore (grammar.command_of (map string_bytes words.now))
-        → steps.new ≤ steps.old + moves_to_open (store_of now) }
+        → steps.new ≤ steps.old + moves_to_open now }
     ensures import_steps { grammar.command_of (map string_bytes words.now) ≡ Some Command.Import → Gave (S.left input.old) (S.left input.new)
         (λ given. (now : Image) (chain : Chain) → D.reads_as disk.old ≡ Some now → StandsFor chain now
-        → steps.new ≤ steps.old + moves_to_tip chain.blocks + steps_over chain (split_of import_limits given).items) }
+        → steps.new ≤ steps.old + moves_to_open now + steps_over chain (split_of import_limits given).items) }
 {
     match command_of(words) {
         Some(Command::Init) => init(alloc, input, out, disk),

@@ -42,119 +42,111 @@ returns-in-Err-clause-on g c = λ _. tt
 pub returns-in-Err-clause-sound : goal.returns-in-Err-clause-sound
 returns-in-Err-clause-sound g c = λ _ _ _. tt
 
-pub moved-requires-clause-from : goal.moved-requires-clause-from
-moved-requires-clause-from g c =
-    omega (arith, c.tip-tip.ensures.within, len-same c.node.inside.kept.chain.blocks _ c.tree.ensures.indexed)
-
-pub moved-requires-clause-to : goal.moved-requires-clause-to
-moved-requires-clause-to g c =
-    omega (arith, c.tip-tip.ensures.within, len-same c.node.inside.kept.chain.blocks _ c.tree.ensures.indexed)
-
-pub moved-requires-clause-own : goal.moved-requires-clause-own
-moved-requires-clause-own g c =
+pub to_tip-requires-clause-own : goal.to_tip-requires-clause-own
+to_tip-requires-clause-own g c =
     own_read g.D.Disk.reads_as g.D.Disk.images _ _ c.node.inside.kept c.node.inside.log.place c.node.inside.state c.node.inside.cache _ c.node.view_is
     c.read_store.ensures.left.others c.in-Ok.ensures.read c.in-Ok.ensures.cells
 
 pub invariant_of-result : goal.invariant_of-result
 invariant_of-result g c = c.node.invariant
 
-pub returns-in-Ok-moved-clause-kept : goal.returns-in-Ok-moved-clause-kept
-returns-in-Ok-moved-clause-kept g c =
+pub returns-in-Ok-to_tip-clause-kept : goal.returns-in-Ok-to_tip-clause-kept
+returns-in-Ok-to_tip-clause-kept g c =
     keeps_led g.D.Disk.reads_as g.D.Disk.images _ _ c.node.inside.kept c.node.inside.log.place c.node.inside.state c.node.inside.cache _ c.node.view_is
     c.read_store.ensures.left.others c.in-Ok.ensures.read c.in-Ok.ensures.cells
 
-pub returns-in-Ok-moved-clause-not_a_store : goal.returns-in-Ok-moved-clause-not_a_store
-returns-in-Ok-moved-clause-not_a_store g c = λ e. absurd (ok_err _ _ e)
+pub returns-in-Ok-to_tip-clause-not_a_store : goal.returns-in-Ok-to_tip-clause-not_a_store
+returns-in-Ok-to_tip-clause-not_a_store g c = λ e. absurd (ok_err _ _ e)
 
-pub returns-in-Ok-moved-clause-left : goal.returns-in-Ok-moved-clause-left
-returns-in-Ok-moved-clause-left g c =
-    leaves_on g.D.Disk.reads_as g.D.Disk.images g.D.Disk.moment g.D.Disk.left_since g.met.D.Disk.counts_now _ _ _ c.read_store.ensures.left (g.met.D.Disk.content_rests _ _ c.moved.ensures.looked.content)
+pub returns-in-Ok-to_tip-clause-left : goal.returns-in-Ok-to_tip-clause-left
+returns-in-Ok-to_tip-clause-left g c =
+    leaves_on g.D.Disk.reads_as g.D.Disk.images g.D.Disk.moment g.D.Disk.left_since g.met.D.Disk.counts_now _ _ _ c.read_store.ensures.left (g.met.D.Disk.content_rests _ _ c.to_tip.ensures.content)
 
-pub returns-in-Ok-moved-clause-own : goal.returns-in-Ok-moved-clause-own
-returns-in-Ok-moved-clause-own g c =
+pub returns-in-Ok-to_tip-clause-own : goal.returns-in-Ok-to_tip-clause-own
+returns-in-Ok-to_tip-clause-own g c =
     own_led g.D.Disk.reads_as g.D.Disk.images _ _ c.node.inside.kept c.node.inside.log.place c.node.inside.state c.node.inside.cache _ c.node.view_is
-    c.read_store.ensures.left.others c.in-Ok.ensures.read c.in-Ok.ensures.cells g.D.Disk.moment g.D.Disk.left_since _ (g.met.D.Disk.content_rests _ _ c.moved.ensures.looked.content) c.in-Ok-moved.state c.moved.new.cache c.moved.ensures.looked.agrees
+    c.read_store.ensures.left.others c.in-Ok.ensures.read c.in-Ok.ensures.cells g.D.Disk.moment g.D.Disk.left_since _ (g.met.D.Disk.content_rests _ _ c.to_tip.ensures.content) c.in-Ok-to_tip.state c.to_tip.new.cache c.to_tip.ensures.agrees
 
-pub returns-in-Ok-moved-clause-settled : goal.returns-in-Ok-moved-clause-settled
-returns-in-Ok-moved-clause-settled g c =
+pub returns-in-Ok-to_tip-clause-settled : goal.returns-in-Ok-to_tip-clause-settled
+returns-in-Ok-to_tip-clause-settled g c =
     settled_led g.D.Disk.reads_as g.D.Disk.images _ _ c.node.inside.kept c.node.inside.log.place c.node.inside.state c.node.inside.cache _ c.node.view_is
-    c.read_store.ensures.left.others c.in-Ok.ensures.read c.in-Ok.ensures.cells g.D.Disk.moment g.D.Disk.left_since _ (g.met.D.Disk.content_rests _ _ c.moved.ensures.looked.content) c.in-Ok-moved.state c.moved.new.cache
+    c.read_store.ensures.left.others c.in-Ok.ensures.read c.in-Ok.ensures.cells g.D.Disk.moment g.D.Disk.left_since _ (g.met.D.Disk.content_rests _ _ c.to_tip.ensures.content) c.in-Ok-to_tip.state c.to_tip.new.cache
 
-pub returns-in-Ok-moved-clause-one_image : goal.returns-in-Ok-moved-clause-one_image
-returns-in-Ok-moved-clause-one_image g c =
-    one_still g.D.Disk.reads_as g.D.Disk.images g.D.Disk.moment g.D.Disk.left_since _ _ (g.met.D.Disk.content_rests _ _ c.moved.ensures.looked.content) c.in-Ok.ensures.one_image
+pub returns-in-Ok-to_tip-clause-one_image : goal.returns-in-Ok-to_tip-clause-one_image
+returns-in-Ok-to_tip-clause-one_image g c =
+    one_still g.D.Disk.reads_as g.D.Disk.images g.D.Disk.moment g.D.Disk.left_since _ _ (g.met.D.Disk.content_rests _ _ c.to_tip.ensures.content) c.in-Ok.ensures.one_image
 
-pub returns-in-Ok-moved-clause-on : goal.returns-in-Ok-moved-clause-on
-returns-in-Ok-moved-clause-on g c sound =
+pub returns-in-Ok-to_tip-clause-on : goal.returns-in-Ok-to_tip-clause-on
+returns-in-Ok-to_tip-clause-on g c sound =
     on_led g.D.Disk.reads_as g.D.Disk.images _ _ c.node.inside.kept c.node.inside.log.place c.node.inside.state c.node.inside.cache _ c.node.view_is
-    c.read_store.ensures.left.others c.in-Ok.ensures.read c.in-Ok.ensures.cells g.D.Disk.moment g.D.Disk.left_since _ (g.met.D.Disk.content_rests _ _ c.moved.ensures.looked.content) c.in-Ok-moved.state c.moved.new.cache
-    c.tip-tip.result (c.tip-tip.ensures.of_blocks c.node.inside.kept.chain.blocks c.tree.ensures.indexed) c.in-Ok-moved.ensures.cells
-    (g.met.D.Disk.reads_image c.args.disk.now) sound (c.in-Ok.ensures.image sound) c.moved.ensures.looked.agrees
+    c.read_store.ensures.left.others c.in-Ok.ensures.read c.in-Ok.ensures.cells g.D.Disk.moment g.D.Disk.left_since _ (g.met.D.Disk.content_rests _ _ c.to_tip.ensures.content) c.in-Ok-to_tip.state c.to_tip.new.cache
+    c.in-Ok-to_tip.ensures.cells
+    (g.met.D.Disk.reads_image c.args.disk.now) sound (c.in-Ok.ensures.image sound) c.to_tip.ensures.agrees
 
-pub returns-in-Ok-moved-clause-sound : goal.returns-in-Ok-moved-clause-sound
-returns-in-Ok-moved-clause-sound g c =
+pub returns-in-Ok-to_tip-clause-sound : goal.returns-in-Ok-to_tip-clause-sound
+returns-in-Ok-to_tip-clause-sound g c =
     sound_led g.D.Disk.reads_as g.D.Disk.images _ _ c.node.inside.kept c.node.inside.log.place c.node.inside.state c.node.inside.cache _ c.node.view_is
-    c.read_store.ensures.left.others c.in-Ok.ensures.read c.in-Ok.ensures.cells g.D.Disk.moment g.D.Disk.left_since _ (g.met.D.Disk.content_rests _ _ c.moved.ensures.looked.content) c.in-Ok-moved.state c.moved.new.cache
-    c.tip-tip.result (c.tip-tip.ensures.of_blocks c.node.inside.kept.chain.blocks c.tree.ensures.indexed) c.in-Ok-moved.ensures.cells
+    c.read_store.ensures.left.others c.in-Ok.ensures.read c.in-Ok.ensures.cells g.D.Disk.moment g.D.Disk.left_since _ (g.met.D.Disk.content_rests _ _ c.to_tip.ensures.content) c.in-Ok-to_tip.state c.to_tip.new.cache
+    c.in-Ok-to_tip.ensures.cells
 
-pub returns-in-Ok-moved-clause-moments : goal.returns-in-Ok-moved-clause-moments
-returns-in-Ok-moved-clause-moments g c now chain told keeps sound =
-    leaves_also g.D.Disk.moment g.D.Disk.left_since _ _ _ _ ((leaves_on g.D.Disk.reads_as g.D.Disk.images g.D.Disk.moment g.D.Disk.left_since g.met.D.Disk.counts_now _ _ _ c.read_store.ensures.left (g.met.D.Disk.content_rests _ _ c.moved.ensures.looked.content)).stays now told)
+pub returns-in-Ok-to_tip-clause-moments : goal.returns-in-Ok-to_tip-clause-moments
+returns-in-Ok-to_tip-clause-moments g c now chain told keeps sound =
+    leaves_also g.D.Disk.moment g.D.Disk.left_since _ _ _ _ ((leaves_on g.D.Disk.reads_as g.D.Disk.images g.D.Disk.moment g.D.Disk.left_since g.met.D.Disk.counts_now _ _ _ c.read_store.ensures.left (g.met.D.Disk.content_rests _ _ c.to_tip.ensures.content)).stays now told)
     (stands_while_opened (g.D.Disk.images c.args.disk.now) sound (g.D.Disk.reads_as c.args.disk.now) now chain (g.met.D.Disk.reads_image c.args.disk.now) told keeps)
 
-pub returns-in-Ok-moved-clause-cause : goal.returns-in-Ok-moved-clause-cause
-returns-in-Ok-moved-clause-cause g c =
-    led_counts _ _ _ (answer_still _ _ _ _ c.in-Ok.ensures.cause) c.moved.ensures.looked.cause
-    (λ stop. absurd (none_stopped _ (sym (ap stop_of c.in-Ok-moved.is) ∙ stop))) (λ e. absurd (ok_err _ _ e))
+pub returns-in-Ok-to_tip-clause-cause : goal.returns-in-Ok-to_tip-clause-cause
+returns-in-Ok-to_tip-clause-cause g c =
+    led_counts _ _ _ (answer_still _ _ _ _ c.in-Ok.ensures.cause) c.to_tip.ensures.cause
+    (λ stop. absurd (none_stopped _ (sym (ap stop_of c.in-Ok-to_tip.is) ∙ stop))) (λ e. absurd (ok_err _ _ e))
 
-pub returns-in-Ok-moved-clause-most : goal.returns-in-Ok-moved-clause-most
-returns-in-Ok-moved-clause-most g c =
+pub returns-in-Ok-to_tip-clause-most : goal.returns-in-Ok-to_tip-clause-most
+returns-in-Ok-to_tip-clause-most g c =
     moved_to_open g.D.Disk.reads_as g.D.Disk.images _ _ c.node.inside.kept c.node.inside.log.place c.node.inside.state c.node.inside.cache _ c.node.view_is
     c.read_store.ensures.left.others c.in-Ok.ensures.read c.in-Ok.ensures.cells
-    c.tip-tip.result _ _ (c.tip-tip.ensures.of_blocks c.node.inside.kept.chain.blocks c.tree.ensures.indexed) c.moved.ensures.most
+    _ _ c.to_tip.ensures.most
 
-pub returns-in-Err-moved-clause-not_a_store : goal.returns-in-Err-moved-clause-not_a_store
-returns-in-Err-moved-clause-not_a_store g c same =
+pub returns-in-Err-to_tip-clause-not_a_store : goal.returns-in-Err-to_tip-clause-not_a_store
+returns-in-Err-to_tip-clause-not_a_store g c same =
     let found = c.stop_of_move.ensures.damaged (same_stop _ _ same) in
     not_led g.D.Disk.reads_as g.D.Disk.images _ _ c.node.inside.kept c.node.inside.log.place c.node.inside.state c.node.inside.cache _ c.node.view_is
     c.read_store.ensures.left.others c.in-Ok.ensures.read c.in-Ok.ensures.cells
-    (λ some joined cells. c.moved.ensures.undamaged some joined cells found.0 (c.in-Err-moved.is ∙ ap Err found.1))
+    (λ there at areas joined cells. c.to_tip.ensures.undamaged there at areas joined cells found.0 (c.in-Err-to_tip.is ∙ ap Err found.1))
 
-pub returns-in-Err-moved-clause-left : goal.returns-in-Err-moved-clause-left
-returns-in-Err-moved-clause-left g c =
-    leaves_on g.D.Disk.reads_as g.D.Disk.images g.D.Disk.moment g.D.Disk.left_since g.met.D.Disk.counts_now _ _ _ c.read_store.ensures.left (g.met.D.Disk.content_rests _ _ c.moved.ensures.looked.content)
+pub returns-in-Err-to_tip-clause-left : goal.returns-in-Err-to_tip-clause-left
+returns-in-Err-to_tip-clause-left g c =
+    leaves_on g.D.Disk.reads_as g.D.Disk.images g.D.Disk.moment g.D.Disk.left_since g.met.D.Disk.counts_now _ _ _ c.read_store.ensures.left (g.met.D.Disk.content_rests _ _ c.to_tip.ensures.content)
 
-pub returns-in-Err-moved-clause-moments : goal.returns-in-Err-moved-clause-moments
-returns-in-Err-moved-clause-moments g c now chain told keeps sound =
-    leaves_also g.D.Disk.moment g.D.Disk.left_since _ _ _ _ ((leaves_on g.D.Disk.reads_as g.D.Disk.images g.D.Disk.moment g.D.Disk.left_since g.met.D.Disk.counts_now _ _ _ c.read_store.ensures.left (g.met.D.Disk.content_rests _ _ c.moved.ensures.looked.content)).stays now told)
+pub returns-in-Err-to_tip-clause-moments : goal.returns-in-Err-to_tip-clause-moments
+returns-in-Err-to_tip-clause-moments g c now chain told keeps sound =
+    leaves_also g.D.Disk.moment g.D.Disk.left_since _ _ _ _ ((leaves_on g.D.Disk.reads_as g.D.Disk.images g.D.Disk.moment g.D.Disk.left_since g.met.D.Disk.counts_now _ _ _ c.read_store.ensures.left (g.met.D.Disk.content_rests _ _ c.to_tip.ensures.content)).stays now told)
     (stands_while_opened (g.D.Disk.images c.args.disk.now) sound (g.D.Disk.reads_as c.args.disk.now) now chain (g.met.D.Disk.reads_image c.args.disk.now) told keeps)
 
-pub returns-in-Err-moved-clause-cause : goal.returns-in-Err-moved-clause-cause
-returns-in-Err-moved-clause-cause g c =
-    led_counts _ _ _ (answer_still _ _ _ _ c.in-Ok.ensures.cause) c.moved.ensures.looked.cause
-    (λ stop. ap Err (c.stop_of_move.ensures.fault.1 (same_Some _ _ (sym (ap stop_of c.in-Err-moved.is) ∙ stop))))
-    (λ fault. ap stop_of c.in-Err-moved.is ∙ ap Some (c.stop_of_move.ensures.fault.0 (same_stop _ _ fault)))
+pub returns-in-Err-to_tip-clause-cause : goal.returns-in-Err-to_tip-clause-cause
+returns-in-Err-to_tip-clause-cause g c =
+    led_counts _ _ _ (answer_still _ _ _ _ c.in-Ok.ensures.cause) c.to_tip.ensures.cause
+    (λ stop. ap Err (c.stop_of_move.ensures.fault.1 (same_Some _ _ (sym (ap stop_of c.in-Err-to_tip.is) ∙ stop))))
+    (λ fault. ap stop_of c.in-Err-to_tip.is ∙ ap Some (c.stop_of_move.ensures.fault.0 (same_stop _ _ fault)))
 
-pub returns-in-Err-moved-clause-most : goal.returns-in-Err-moved-clause-most
-returns-in-Err-moved-clause-most g c =
+pub returns-in-Err-to_tip-clause-most : goal.returns-in-Err-to_tip-clause-most
+returns-in-Err-to_tip-clause-most g c =
     moved_to_open g.D.Disk.reads_as g.D.Disk.images _ _ c.node.inside.kept c.node.inside.log.place c.node.inside.state c.node.inside.cache _ c.node.view_is
     c.read_store.ensures.left.others c.in-Ok.ensures.read c.in-Ok.ensures.cells
-    c.tip-tip.result _ _ (c.tip-tip.ensures.of_blocks c.node.inside.kept.chain.blocks c.tree.ensures.indexed) c.moved.ensures.most
+    _ _ c.to_tip.ensures.most
 
-pub returns-in-Err-moved-clause-kept : goal.returns-in-Err-moved-clause-kept
-returns-in-Err-moved-clause-kept g c = tt
+pub returns-in-Err-to_tip-clause-kept : goal.returns-in-Err-to_tip-clause-kept
+returns-in-Err-to_tip-clause-kept g c = tt
 
-pub returns-in-Err-moved-clause-own : goal.returns-in-Err-moved-clause-own
-returns-in-Err-moved-clause-own g c = tt
+pub returns-in-Err-to_tip-clause-own : goal.returns-in-Err-to_tip-clause-own
+returns-in-Err-to_tip-clause-own g c = tt
 
-pub returns-in-Err-moved-clause-settled : goal.returns-in-Err-moved-clause-settled
-returns-in-Err-moved-clause-settled g c = tt
+pub returns-in-Err-to_tip-clause-settled : goal.returns-in-Err-to_tip-clause-settled
+returns-in-Err-to_tip-clause-settled g c = tt
 
-pub returns-in-Err-moved-clause-one_image : goal.returns-in-Err-moved-clause-one_image
-returns-in-Err-moved-clause-one_image g c = tt
+pub returns-in-Err-to_tip-clause-one_image : goal.returns-in-Err-to_tip-clause-one_image
+returns-in-Err-to_tip-clause-one_image g c = tt
 
-pub returns-in-Err-moved-clause-on : goal.returns-in-Err-moved-clause-on
-returns-in-Err-moved-clause-on g c = λ _. tt
+pub returns-in-Err-to_tip-clause-on : goal.returns-in-Err-to_tip-clause-on
+returns-in-Err-to_tip-clause-on g c = λ _. tt
 
-pub returns-in-Err-moved-clause-sound : goal.returns-in-Err-moved-clause-sound
-returns-in-Err-moved-clause-sound g c = λ _ _ _. tt
+pub returns-in-Err-to_tip-clause-sound : goal.returns-in-Err-to_tip-clause-sound
+returns-in-Err-to_tip-clause-sound g c = λ _ _ _. tt

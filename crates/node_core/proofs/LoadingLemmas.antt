@@ -1,0 +1,200 @@
+-- Which snapshot an opening loads, and what it reads there.
+use Rattle.std.proofs.Common.{◌≡◌, ℕ, zero, suc, ◌+◌, ◌<◌, ◌≤◌, ◌^◌, Bool, true, false, cond, List, ◌∷◌, ◌++◌, length, Option, Some, None, Ok, Err, refl, sym, ap, ◌∙◌, subst, inl, inr, ◌⊎◌, arith}
+use Rattle.std.specs.Prelude.{IfSome, IsSomeAnd, IfOk, Result, IsTrue, nat_lt, slice_get}
+use Rattle.std.specs.List.{All}
+use Rattle.std.specs.Str.{bytes_eq}
+use Rattle.std.proofs.lemmas.Option.{same_Some}
+use Rattle.std.proofs.lemmas.Nat.{from_le_bytes-to_le_bytes_4}
+use Rattle.outside.specs.declared.disk.Area.{Area}
+use Rattle.outside.specs.declared.disk.Area.TheVariants.{Log, SnapA, SnapB}
+use Rattle.outside.specs.declared.disk.Damage.{Damage}
+use Rattle.outside.specs.declared.disk.ReadStop.{ReadStop}
+use Rattle.outside.specs.declared.disk.ReadStop.TheVariants.{DiskFault, NoMemory, Damaged}
+use Rattle.outside.specs.Image.{Image, content}
+use Rattle.codec_defs.specs.Schema.{OutPoint, Block}
+use Rattle.chain_defs.specs.Kept.{block_at, block_hash}
+use Rattle.chain_defs.specs.Tip.{tip_place}
+use Rattle.cell_defs.specs.Ext.{count_at}
+use Rattle.cell_defs.specs.Row.{Row}
+use Rattle.cell_state.specs.State.{StateValue, rows}
+use Rattle.chain_tree.specs.declared.entry.Entry.{Entry}
+use Rattle.chain_tree.specs.Entries.{entry_at}
+use Rattle.chain_tree.specs.Blocks.{Describes, IndexesBlocks}
+use Rattle.chain_tree.proofs.BlockLemmas.{len-same}
+use Rattle.fit_laws.specs.Laws.{AreCanonical}
+use Rattle.verdict_defs.specs.Chain.{Chain}
+use Rattle.reorg.specs.Moves.{AreOf}
+use Rattle.reorg_laws.specs.Laws.{IsKeptRow}
+use Rattle.reorg_laws.proofs.HeldLaws.{snapshot-rows-are-kept}
+use Rattle.snapshot_defs.specs.Snapshot.{Snapshot, body_bytes, snapshot_bytes, has_open_gate, Holds, IsOfBlocks, IsSoundArea, HoldsSound}
+use Rattle.snapshot_defs.proofs.AreaLaws.{sound-holds-its-own, sound-has-its-number, tells-its-rows}
+use Rattle.snapshot_defs.proofs.SnapshotLaws.{opens-its-gate}
+use Rattle.snapshots.specs.Reading.{TellsNumber, TellsSnapshot, IsRead, IsDamaged, IsOfTree, has_hash, has_tip, row_count, AreWithin}
+use Rattle.snapshots.specs.Rows.{IsHeld}
+use Rattle.store_defs.specs.Store.{IsJoined}
+use Rattle.store_defs.specs.SnapshotLaws.{HasSoundAreas}
+use Rattle.node_core.specs.Snapshot.{number_in, area_with, newest, tip_in}
+use Rattle.node_core.specs.Steps.{distance_to, moves_from, moves_by}
+
+true-false : true ≡ false → ⊥
+true-false is = cc
+
+-- ---- The number in an area
+
+number-told : (area : Area) (bytes : List ℕ) (found : Option ℕ) → TellsNumber area bytes (Ok found) → found ≡ number_in bytes
+number-told area bytes None closed = sym (ap (λ (b : Bool). cond b (Some (count_at bytes 1)) None) closed)
+number-told area bytes (Some number) told =
+    ap (λ (n : ℕ). Some n) told.2 ∙ sym (ap (λ (b : Bool). cond b (Some (count_at bytes 1)) None) told.0)
+
+pub newest-told : (reads mid : Option Image) (a b : Option ℕ) (found : Option Area) → mid ≡ reads
+    → IfSome reads (λ image. TellsNumber SnapA (content SnapA image) (Ok a)) → IfSome mid (λ image. TellsNumber SnapB (content SnapB image) (Ok b))
+    → found ≡ area_with a b → IfSome reads (λ now. found ≡ newest now)
+newest-told None mid a b found same first second is = tt
+newest-told (Some now) mid a b found same first second is =
+    let later : TellsNumber SnapB now.snap_b (Ok b) = subst (λ (o : Option Image). IfSome o (λ image. TellsNumber SnapB (content SnapB image) (Ok b))) same second in
+    is ∙ (λ t. area_with (number-told SnapA now.snap_a a first t) (number-told SnapB now.snap_b b later t))
+
+-- the number of a sound area is not damaged
+number-sound : (kept : List Block) (area : Area) (bytes : List ℕ) (damage : Damage) → IsSoundArea kept area bytes → TellsNumber area bytes (Err (Damaged damage)) → ⊥
+number-sound kept area bytes damage sound told =
+    let long = (sound-has-its-number kept area bytes sound told.0).1 in
+    let short = told.1 in
+    absurd (omega (arith, long, short))
+
+pub number-undamaged : (kept : List Block) (area : Area) (reads mid : Option Image) (now : Image) (stop : ReadStop) (damage : Damage) → mid ≡ reads → reads ≡ Some now
+    → IsSoundArea kept area (content area now) → IfSome mid (λ image. TellsNumber area (content area image) (Err stop)) → stop ≡ Damaged damage → ⊥
+number-undamaged kept area reads mid now stop damage same told sound tells is =
+    let here : TellsNumber area (content area now) (Err stop) = subst (λ (o : Option Image). IfSome o (λ image. TellsNumber area (content area image) (Err stop))) (same ∙ told) tells in
+    number-sound kept area (content area now) damage sound (subst (λ (s : ReadStop). TellsNumber area (content area now) (Err s)) is here)
+
+-- ---- The area that is loaded
+
+-- An area of snapshots that is the newest: its gate is open, and it is sound where both are.
+record IsNewest (now : Image) (area : Area) : Type 0 where
+  gate : has_open_gate (content area now) ≡ true
+  sound : (kept : List Block) → HasSoundAreas kept now → IsSoundArea kept area (content area now)
+
+gate-of : (bytes : List ℕ) (number : ℕ) → number_in bytes ≡ Some number → has_open_gate bytes ≡ true
+gate-of bytes number is = by (has_open_gate bytes) is
+  where
+    by : (b : Bool) → cond b (Some (count_at bytes 1)) None ≡ Some number → b ≡ true
+    by true some = refl
+    by false some = absurd (cc)
+
+newest-a : (now : Image) (number : ℕ) → number_in now.snap_a ≡ Some number → IsNewest now SnapA
+newest-a now number is = record { gate = gate-of now.snap_a number is; sound = λ kept both. both.snap_a }
+
+newest-b : (now : Image) (number : ℕ) → number_in now.snap_b ≡ Some number → IsNewest now SnapB
+newest-b now number is = record { gate = gate-of now.snap_b number is; sound = λ kept both. both.snap_b }
+
+is-newest : (now : Image) (area : Area) → newest now ≡ Some area → IsNewest now area
+is-newest now area is = by (number_in now.snap_a) (number_in now.snap_b) refl refl is
+  where
+    at-a : (number : ℕ) → number_in now.snap_a ≡ Some number → Some SnapA ≡ Some area → IsNewest now area
+    at-a number first same = subst (IsNewest now) (same_Some SnapA area same) (newest-a now number first)
+
+    at-b : (number : ℕ) → number_in now.snap_b ≡ Some number → Some SnapB ≡ Some area → IsNewest now area
+    at-b number second same = subst (IsNewest now) (same_Some SnapB area same) (newest-b now number second)
+
+    either : (less : Bool) (a b : ℕ) → number_in now.snap_a ≡ Some a → number_in now.snap_b ≡ Some b → cond less (Some SnapB) (Some SnapA) ≡ Some area → IsNewest now area
+    either true a b first second same = at-b b second same
+    either false a b first second same = at-a a first same
+
+    by : (a b : Option ℕ) → number_in now.snap_a ≡ a → number_in now.snap_b ≡ b → area_with a b ≡ Some area → IsNewest now area
+    by None None first second none = absurd (cc)
+    by (Some a) None first second same = at-a a first same
+    by None (Some b) first second same = at-b b second same
+    by (Some a) (Some b) first second same = either (nat_lt a b) a b first second same
+
+-- ---- What is read there
+
+-- The rows of the snapshot that a sound area holds are those of its tip's branch.
+rows-of-sound : (kept : List Block) (area : Area) (entries : List Entry) (bytes : List ℕ) (before after number tip : ℕ) (state : StateValue) (s : Snapshot)
+    → IsSoundArea kept area bytes → IsRead entries bytes before after number tip state s → AreOf kept tip (rows state)
+rows-of-sound kept area entries bytes before after number tip state s sound is o =
+    let belongs = sound-holds-its-own kept area bytes s sound is.holds in
+    subst (λ (n : ℕ). AreOf kept n (rows state)) (sym is.tip_is) (tells-its-rows kept s (rows state) belongs.of_blocks is.rows) o
+
+pub rows-loaded : (kept : List Block) (area : Area) (entries : List Entry) (reads : Option Image) (now : Image) (before after number tip : ℕ) (state : StateValue)
+    → reads ≡ Some now → newest now ≡ Some area → HasSoundAreas kept now
+    → IfSome reads (λ image. TellsSnapshot area entries (content area image) before after (Ok (Some (number, tip, state)))) → AreOf kept tip (rows state)
+rows-loaded kept area entries reads now before after number tip state told is both tells = from here
+  where
+    here : TellsSnapshot area entries (content area now) before after (Ok (Some (number, tip, state)))
+    here = subst (λ (o : Option Image). IfSome o (λ image. TellsSnapshot area entries (content area image) before after (Ok (Some (number, tip, state))))) told tells
+
+    from : TellsSnapshot area entries (content area now) before after (Ok (Some (number, tip, state))) → AreOf kept tip (rows state)
+    from (s, read) = rows-of-sound kept area entries (content area now) before after number tip state s ((is-newest now area is).sound kept both) read
+
+-- its gate is not closed
+pub never-closed : (area : Area) (entries : List Entry) (reads : Option Image) (now : Image) (before after : ℕ) → reads ≡ Some now → newest now ≡ Some area
+    → IfSome reads (λ image. TellsSnapshot area entries (content area image) before after (Ok None)) → ⊥
+never-closed area entries reads now before after told is tells =
+    let here : TellsSnapshot area entries (content area now) before after (Ok None) =
+    subst (λ (o : Option Image). IfSome o (λ image. TellsSnapshot area entries (content area image) before after (Ok None))) told tells in
+    true-false (sym (is-newest now area is).gate ∙ here.0)
+
+-- ---- A sound area is not damaged
+
+held-all : (kept : ℕ) (list : List (OutPoint × Row)) → All (λ (it : OutPoint × Row). IsKeptRow kept it.1) list → All (IsHeld kept) list
+held-all kept list all = ?
+
+has-its-tip : (kept : List Block) (entries : List Entry) (tip : ℕ) (hash : List ℕ) → IndexesBlocks kept entries
+    → IsSomeAnd (block_at kept tip) (λ b. block_hash b ≡ hash) → has_tip entries tip hash ≡ true
+has-its-tip kept entries tip hash indexed is = ?
+
+of-tree : (chain : Chain) (entries : List Entry) (s : Snapshot) → IndexesBlocks chain.blocks entries → IsJoined chain → AreCanonical chain.blocks
+    → IsOfBlocks chain.blocks s → IsOfTree entries s
+of-tree chain entries s indexed joined canonical of = record {
+  tip = has-its-tip chain.blocks entries s.tip s.hash indexed of.tip;
+  rows = subst (λ (n : ℕ). All (IsHeld n) s.rows) (sym (len-same chain.blocks entries indexed))
+      (held-all (length chain.blocks) s.rows (snapshot-rows-are-kept chain s joined canonical of));
+}
+
+pub never-damaged : (chain : Chain) (area : Area) (entries : List Entry) (reads : Option Image) (now : Image) (before after : ℕ) (stop : ReadStop) (damage : Damage)
+    → IndexesBlocks chain.blocks entries → AreCanonical chain.blocks → IsJoined chain
+    → reads ≡ Some now → newest now ≡ Some area → HasSoundAreas chain.blocks now
+    → IfSome reads (λ image. TellsSnapshot area entries (content area image) before after (Err stop)) → stop ≡ Damaged damage → ⊥
+never-damaged chain area entries reads now before after stop damage indexed canonical joined told is both tells at =
+    from here.0 ((is-newest now area is).sound chain.blocks both (is-newest now area is).gate)
+  where
+    here : TellsSnapshot area entries (content area now) before after (Err (Damaged damage))
+    here = subst (λ (s : ReadStop). TellsSnapshot area entries (content area now) before after (Err s)) at
+        (subst (λ (o : Option Image). IfSome o (λ image. TellsSnapshot area entries (content area image) before after (Err stop))) told tells)
+
+    from : IsDamaged entries (content area now) → (s : Snapshot) × HoldsSound chain.blocks area (content area now) s → ⊥
+    from damaged (s, sound) = damaged.none s sound.holds (of-tree chain entries s indexed joined canonical sound.of_blocks)
+
+-- ---- Steps
+
+-- the place of the tip stands behind the number
+tip-held : (s : Snapshot) (after : List ℕ) → s.number < 2 ^ 32 → s.tip < 2 ^ 32 → tip_in (snapshot_bytes s ++ after) ≡ s.tip
+unfolding body_bytes
+tip-held s after fits small = from_le_bytes-to_le_bytes_4 s.tip small
+
+tip-of : (bytes : List ℕ) (s : Snapshot) → Holds bytes s → tip_in bytes ≡ s.tip
+tip-of bytes s holds = ap tip_in holds.parts ∙ tip-held s holds.after holds.form.number holds.form.tip
+
+pub led-from : (kept : List Block) (area : Area) (entries : List Entry) (reads : Option Image) (now : Image) (before after number tip : ℕ) (state : StateValue)
+    → reads ≡ Some now → IfSome reads (λ image. after ≤ before + row_count (content area image))
+    → IfSome reads (λ image. TellsSnapshot area entries (content area image) before after (Ok (Some (number, tip, state))))
+    → after + distance_to kept tip (tip_place kept) ≤ before + moves_by kept now (Some area)
+led-from kept area entries reads now before after number tip state told most tells = from here
+  where
+    few : after ≤ before + row_count (content area now)
+    few = subst (λ (o : Option Image). IfSome o (λ image. after ≤ before + row_count (content area image))) told most
+
+    here : TellsSnapshot area entries (content area now) before after (Ok (Some (number, tip, state)))
+    here = subst (λ (o : Option Image). IfSome o (λ image. TellsSnapshot area entries (content area image) before after (Ok (Some (number, tip, state))))) told tells
+
+    from : TellsSnapshot area entries (content area now) before after (Ok (Some (number, tip, state)))
+        → after + distance_to kept tip (tip_place kept) ≤ before + moves_by kept now (Some area)
+    from (s, read) =
+        let same : tip ≡ tip_in (content area now) = read.tip_is ∙ sym (tip-of (content area now) s read.holds) in
+        subst (λ (n : ℕ). after + distance_to kept n (tip_place kept) ≤ before + moves_by kept now (Some area)) (sym same) (omega (arith, few))
+
+pub most-from : (kept : List Block) (area : Area) (reads : Option Image) (now : Image) (before after : ℕ) → reads ≡ Some now
+    → IfSome reads (λ image. after ≤ before + row_count (content area image)) → after ≤ before + moves_by kept now (Some area)
+most-from kept area reads now before after told most =
+    let few : after ≤ before + row_count (content area now) = subst (λ (o : Option Image). IfSome o (λ image. after ≤ before + row_count (content area image))) told most in
+    omega (arith, few)
