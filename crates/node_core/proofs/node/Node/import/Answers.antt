@@ -479,3 +479,16 @@ returns-in-Err-join-clause-asked g c = λ _.
     let chain_is : c.self.inside.kept.chain ≡ c.args.self.chain = ap (λ (v : NodeValue). v.chain) c.self.view_is in
     let ready : IsReadyItem c.args.self.chain c.args.item.now (Joins c.in-Joins.joining) = ready_on c.self.inside.kept.chain c.args.self.chain c.args.item.now c.in-Ok.decided.1 (Joins c.in-Joins.joining) chain_is c.in-Joins.is c.in-Ok.ensures.ready in
     wants-joining c.args.self.chain c.args.item.now c.in-Joins.joining ready
+
+pub returns-in-Err-clause-found : goal.returns-in-Err-clause-found
+returns-in-Err-clause-found g c = tt
+
+pub returns-in-Err-join-clause-found : goal.returns-in-Err-join-clause-found
+returns-in-Err-join-clause-found g c = tt
+
+pub returns-in-Stays-clause-found : goal.returns-in-Stays-clause-found
+returns-in-Stays-clause-found g c = c.in-Ok.ensures.looked.found (λ _ e. not_stopped _ e) ∙ ap (λ (v : NodeValue). v.damages) c.self.view_is
+
+pub returns-in-Ok-join-clause-found : goal.returns-in-Ok-join-clause-found
+returns-in-Ok-join-clause-found g c =
+    c.in-Ok-join.ensures.found ∙ c.in-Ok.ensures.looked.found (λ _ e. not_stopped _ e) ∙ ap (λ (v : NodeValue). v.damages) c.self.view_is
