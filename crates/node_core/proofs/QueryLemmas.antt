@@ -23,7 +23,7 @@ use Rattle.cell_model.specs.Copies.{NamesOutput}
 use Rattle.cell_model.proofs.CopyLemmas.{in-hand}
 use Rattle.tx_rules.proofs.BranchLemmas.{PlaceOfHeight, place-of-height, branch-long, branch-block, number-on-branch}
 use Rattle.node_core.specs.Node.{AreOfTip}
-use Rattle.node_core.specs.Queries.{IsLiveRow}
+use Rattle.node_core.specs.Queries.{LiveValue, IsLiveRow, IsLiveCell}
 
 abbrev branch_at : List Block → Option ℕ → List Block
 branch_at kept None = []
@@ -54,6 +54,11 @@ module _ (kept : List Block) (entries : List Entry) (tip : ℕ) (indexed : Index
 -- where it has one there is one
 pub no-block : (blocks : List Block) (height : ℕ) → height < length blocks → block_at blocks height ≡ None → ⊥
 no-block blocks height below none = let there = slice_get-below blocks height below in absurd (cc (sym none ∙ there.1))
+
+-- so a place that was found has one
+pub has-none : (kept : List Block) (place height : ℕ) → place < length kept → block_at kept place ≡ block_at (best_branch kept) height
+    → block_at (best_branch kept) height ≡ None → ⊥
+has-none kept place height within same none = no-block kept place within (same ∙ none)
 
 -- the block in hand of a source that tells the stored blocks, once that of a place was taken
 pub block-told : (stored : List Stored) (kept : List Block) (place : ℕ) (b : Block) (told : Option (List Stored)) (hand : Option ℕ) → blocks_of stored ≡ kept
@@ -166,6 +171,10 @@ module _ (stored : List Stored) (found : OutPoint → Option Row) (tip : ℕ)
           its_row = same_Some row (row_on (blocks_of stored) tip cell) (sym some ∙ by-cell (Some cell) at);
         },
       )
+
+-- a cell that is found is live
+pub not-live : (kept : List Block) (o : OutPoint) (told : LiveValue) → IsLiveCell kept o (Some told) → IsLiveCell kept o None → ⊥
+not-live kept o told found none = let live = found.1.live in absurd (cc (sym none ∙ live))
 
 -- the block of a live row
 pub made-of : (stored : List Stored) (entries : List Entry) (o : OutPoint) (cell : Cell) (row : Row) → IndexesBlocks (blocks_of stored) entries

@@ -98,8 +98,7 @@ node_of kept place cells cache = record {
 
 -- ---- What a disk has of it
 
--- LOG has what is kept, and just that, after the record of some specification: the entries name the bodies of its blocks, and what is held in
--- memory for an entry is its block with its ext.
+-- LOG has what is kept, and just that, after some specification: a log can keep it, the entries name its bodies, and what is held in memory is of it.
 pub record IsReadBy (kept : KeptValue) (held : List (ℕ × Stored)) (image : Image) : Type 0 where
   pub specification : List ℕ
   pub names : NamesTheLog image.log specification (kept_records (stored_of kept)) kept.entries
@@ -153,8 +152,8 @@ pub record IsOn (node : NodeValue) (reads : Option Image) (images : Image → Ty
   pub of : IsOf node reads images
   pub sound : IsSoundNode node
 
--- What a call leaves that only reads kept blocks on a disk, and finds there: the disk as it was, and in memory what is the disk's. Damage is in LOG,
--- a fault is counted, and damage that is found is answered: a call with any other answer found none.
+-- What a call leaves that only reads kept blocks on a disk: the disk as it was, in memory what is the disk's, damage in LOG alone, and faults counted.
+-- Damage that is found is answered: a call with any other answer found none.
 pub record HasLooked {S C : Type 0} (content_of : S → C) (reads_as : S → Option Image) (faults : S → ℕ) (old new : S) (kept : KeptValue)
     (before after : CacheValue) (stop : Option ReadStop) : Type 0 where
   pub content : content_of new ≡ content_of old
@@ -163,7 +162,7 @@ pub record HasLooked {S C : Type 0} (content_of : S → C) (reads_as : S → Opt
   pub cause : CountsFault (faults old) (faults new) (stop ≡ Some DiskFault)
   pub found : ((damage : Damage) → stop ≡ Some (Damaged damage) → ⊥) → after.damages ≡ before.damages
 
--- the same of a node and its own disk: the node differs in what it holds in memory alone, and in its count of damage
+-- the same of a node and its own disk: the node differs in what it holds in memory and in its count of damage alone
 pub record LeavesAll {S C : Type 0} (content_of : S → C) (reads_as : S → Option Image) (images : S → Image → Type 0) (faults : S → ℕ) (old new : S)
     (before after : NodeValue) (stop : Option ReadStop) : Type 0 where
   pub content : content_of new ≡ content_of old

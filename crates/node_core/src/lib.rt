@@ -5,8 +5,8 @@
 //! puts its record on the disk, so that at each moment a crash leaves the chain before the item or after it; `check` judges
 //! a transaction alone; `tip`, `tree` and `state` tell what is kept, and `header`, `block`, `live`, `fetch` and
 //! `counted` what queries ask of the best branch. [`judge`] accepts a specification and a genesis, and
-//! [`NewStore`] makes a store of them. The kept blocks in memory are apart from the disk, in kept.rt. By which rules a
-//! block is judged is left to `block_judge`, how records lie in the log to `log_file`, what an item is cut from, and the
+//! [`NewStore`] makes a store of them. What is looked up of the kept blocks is in kept.rt, and each call over the
+//! disk makes a source of blocks of it, in over_disk.rt. By which rules a block is judged is left to `block_judge`, how records lie in the log to `log_file`, what an item is cut from, and the
 //! lines that tell of verdicts, to `node_run`.
 #![tactic(auto)]
 
@@ -24,5 +24,5 @@ mod recorded;
 pub use block_judge::Judged;
 pub use log_file::LogStop;
 pub use new_store::{NewStop, NewStore, judge};
-pub use node::Node;
+pub use node::{HELD, Node};
 pub use queries::{Fetched, HeaderAt, Live};

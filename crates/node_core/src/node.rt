@@ -1,8 +1,8 @@
 // A node: what is kept of a store, and its disk.
-ghost use Rattle.std.specs.Prelude.{◌≡◌, ◌≢◌, ◌⊎◌, ◌<◌, ◌≤◌, ◌+◌, ◌-◌, ◌^◌, ◌++◌, ◌∷◌, [], ℕ, false, Err, List, Some, length, drop, slice_index, IfOk, IfErr, OnOk, IfSome, IsSome, IsTrue, pos};
+ghost use Rattle.std.specs.Prelude.{◌≡◌, ◌≢◌, ◌⊎◌, ◌↔◌, ◌<◌, ◌≤◌, ◌+◌, ◌-◌, ◌^◌, ◌++◌, ◌∷◌, [], ℕ, false, Ok, Err, List, None, Some, length, drop, IfOk, IfErr, OnOk, IfSome, IsSome, IsTrue, pos};
 ghost use Rattle.std.specs.Option.{option_map};
 ghost use Rattle.outside.specs.Causes.{CountsFault};
-ghost use Rattle.outside.specs.Disk.{HasOneImage, OthersRead, LeavesOnly, IsOnlyRead};
+ghost use Rattle.outside.specs.Disk.{HasOneImage, OthersRead, LeavesOnly};
 ghost use Rattle.outside.specs.Image.{Image};
 ghost use Rattle.outside.specs.declared.disk.Area.TheVariants.{Log as log_area};
 ghost use Rattle.outside.specs.declared.disk.Damage.{Damage};
@@ -28,13 +28,13 @@ ghost use Rattle.verdict_defs.specs.Chain.{Chain, verdict_over, chain_after};
 ghost use Rattle.verdict_defs.specs.Verdict.{joins};
 ghost use Rattle.verdict_defs.specs.Trial.{trial_on};
 ghost use Rattle.verdict_defs.specs.declared.trial.Trial.TheVariants.{Passes, Refused};
-ghost use Rattle.log_defs.specs.Log.{Record, records_of, end_of_log};
+ghost use Rattle.log_defs.specs.Log.{Record, records_of};
 ghost use Rattle.log_defs.specs.LogLaws.{HasFittingBody};
 ghost use Rattle.log_defs.specs.Rest.{IsSettled};
 ghost use Rattle.store_defs.specs.Store.{Keeps, store_of, StandsFor, IsSound, HaveOwnExts, AreJoined};
 ghost use Rattle.log_file.specs.Pieces.{behind_gate, block_record};
 ghost use Rattle.log_file.specs.declared.stop.LogStop.TheVariants as log_stops;
-ghost use Rattle.node_core.specs.Node.{node_of, IsItsOwn, IsSoundNode, IsSoundOn, IsOnlyImage, IsOn, LeavesAll, IsLeftByOpening, IsLeftByImport, IsSettledAfter, IsWithin, AreOfFound, AreOfTip};
+ghost use Rattle.node_core.specs.Node.{node_of, IsItsOwn, IsSoundNode, IsSoundOn, IsOnlyImage, IsOn, LeavesAll, IsLeftByImport, IsSettledAfter, IsWithin, AreOfFound, AreOfTip};
 ghost use Rattle.node_core.specs.Opening.{LeavesStore, IsReadFrom};
 ghost use Rattle.node_core.specs.Steps.{moves_for, moves_to_open};
 ghost use Rattle.node_core.specs.Judging.{IsReadyItem, IsDecided, MayWantMemory, place_for};
@@ -60,6 +60,9 @@ use std::alloc::Global;
 use std::marker::Model;
 use std::sync::ledger::Ledger;
 use verdict_defs::Verdict;
+
+/// How many blocks the node of a command holds in memory beside those on its disk, the ones that were used last.
+pub const HELD: usize = 64;
 
 /// The most bytes of an ext: with an item below 2^31 bytes its record's length fits four bytes.
 const EXT_LIMIT: usize = (1 << 31) - 4;
@@ -123,7 +126,8 @@ impl Model for Node {
 /// Why a log is not opened where the live cells did not reach the tip.
 fn stop_of_move(stop: ReadStop) -> LogStop
     ensures damaged { result ≡ log_stops.NotAStore → (damage : Damage) × (stop ≡ Damaged damage) }
-    ensures fault { (result ≡ log_stops.DiskFault → stop ≡ DiskFault) × (stop ≡ DiskFault → result ≡ log_stops.DiskFault) }
+    ensures fault { (result ≡ log_stops.DiskFault) ↔ (stop ≡ DiskFault) }
+    ensures memory { (result ≡ log_stops.NoMemory) ↔ (stop ≡ ReadStop.NoMemory) }
 {
     match stop {
         ReadStop::Damaged(_) => LogStop::NotAStore,
@@ -277,16 +281,10 @@ impl Node {
         requires { 1 ≤ held }
         ensures kept { IfOk result (λ node. IfSome (D.reads_as disk.old) (λ now. store_of now ≡ Keeps node.chain)) }
         ensures not_a_store { result ≡ Err LogStop.NotAStore → IfSome (D.reads_as disk.old) (λ now. IsSound now → ⊥) }
-        ensures no_log { (now : Image) → D.reads_as disk.old ≡ Some now → ((chain : Chain) → store_of now ≡ Keeps chain → ⊥)
-            → IsOnlyRead D.reads_as D.images D.moment D.left_since disk.old disk.new }
-        ensures rests { (now : Image) → D.reads_as disk.old ≡ Some now → slice_index now.log (end_of_log now.log) ≢ 1
-            → IsOnlyRead D.reads_as D.images D.moment D.left_since disk.old disk.new }
+        ensures left { LeavesStore D.reads_as D.images D.moment D.left_since disk.old disk.new }
         ensures own { IfOk result (λ node. IsItsOwn node (D.reads_as disk.new) (D.images disk.new)) }
         ensures settled { IfOk result (λ node. IfSome (D.reads_as disk.old) (λ now.
             IsSettled node.place (records_of (drop 8 now.log)) (D.reads_as disk.new) (D.images disk.new))) }
-        ensures keeps { (now : Image) → D.reads_as disk.old ≡ Some now
-            → LeavesOnly D.moment D.left_since disk.old disk.new (IsLeftByOpening now.log (D.images disk.old)) }
-        ensures others { OthersRead log_area (D.reads_as disk.old) (D.reads_as disk.new) }
         ensures one_image { OnOk result (HasOneImage (D.reads_as disk.new) (D.images disk.new)) }
         ensures on { ((image : Image) → D.images disk.old image → IsSound image)
             → IfOk result (λ node. IfSome (D.reads_as disk.old) (λ _. IsOn node (D.reads_as disk.new) (D.images disk.new))) }
@@ -438,6 +436,7 @@ impl Node {
         requires own { IsItsOwn self.old (D.reads_as disk.old) (D.images disk.old) }
         ensures left { LeavesAll D.content_of D.reads_as D.images D.faults disk.old disk.new self.old self.new (stop_of result) }
         ensures header { IsSome (D.reads_as disk.old) → IfOk result (IsHeaderAt self.old.chain.blocks height) }
+        ensures none { block_at (best_branch self.old.chain.blocks) height ≡ None → (result ≡ Ok None) × (disk.new ≡ disk.old) }
         ensures undamaged { IsSome (D.reads_as disk.old) → (damage : Damage) → result ≡ Err (Damaged damage) → ⊥ }
     {
         over_disk::header(alloc, disk, &mut self.cache, &self.kept, height)
@@ -454,6 +453,7 @@ impl Node {
         ensures left { LeavesAll D.content_of D.reads_as D.images D.faults disk.old disk.new self.old self.new (stop_of result) }
         ensures block { IsSome (D.reads_as disk.old)
             → IfOk result (λ found. IsBlockAt self.old.chain.blocks height (option_map (λ bytes. bytes.items) found)) }
+        ensures none { block_at (best_branch self.old.chain.blocks) height ≡ None → (result ≡ Ok None) × (disk.new ≡ disk.old) }
         ensures undamaged { IsSome (D.reads_as disk.old) → (damage : Damage) → result ≡ Err (Damaged damage) → ⊥ }
     {
         over_disk::block(alloc, disk, &mut self.cache, &self.kept, height)
@@ -476,6 +476,8 @@ impl Node {
         requires own { IsItsOwn self.old (D.reads_as disk.old) (D.images disk.old) }
         ensures left { LeavesAll D.content_of D.reads_as D.images D.faults disk.old disk.new self.old self.new (stop_of result) }
         ensures fetched { AreOfTip self.old.chain.blocks (rows self.old.cells) → IsSome (D.reads_as disk.old) → IfOk result (IsFetched self.old.chain.blocks o) }
+        ensures none { AreOfTip self.old.chain.blocks (rows self.old.cells) → IsLiveCell self.old.chain.blocks o None
+            → (result ≡ Ok None) × (disk.new ≡ disk.old) }
         ensures undamaged { AreOfTip self.old.chain.blocks (rows self.old.cells) → IsSome (D.reads_as disk.old)
             → (damage : Damage) → result ≡ Err (Damaged damage) → ⊥ }
     {

@@ -1,9 +1,10 @@
 // What is kept, over its disk: each call makes a source of kept blocks of the disk and the cache, and lets it go.
-ghost use Rattle.std.specs.Prelude.{◌≡◌, ◌≤◌, ◌<◌, ◌+◌, ◌-◌, length, Err, IfOk, OnOk, IfSome, IsSome};
+ghost use Rattle.std.specs.Prelude.{◌≡◌, ◌≤◌, ◌<◌, ◌+◌, ◌-◌, length, Ok, Err, None, IfOk, OnOk, IfSome, IsSome};
 ghost use Rattle.std.specs.Option.{option_map};
 ghost use Rattle.outside.specs.declared.disk.Damage.{Damage as a_damage};
 ghost use Rattle.outside.specs.declared.disk.ReadStop.TheVariants.{NoMemory, Damaged};
 ghost use Rattle.chain_defs.specs.Branch.{distance};
+ghost use Rattle.chain_defs.specs.Kept.{block_at};
 ghost use Rattle.chain_defs.specs.Tip.{best_branch};
 ghost use Rattle.chain_tree.specs.Reading.{stop_of};
 ghost use Rattle.cell_state.specs.State.{rows};
@@ -18,7 +19,7 @@ ghost use Rattle.store_defs.specs.Store.{AreJoined};
 ghost use Rattle.node_core.specs.Node.{IsReadBy, HasLooked, AreOfFound, AreOfTip};
 ghost use Rattle.node_core.specs.Steps.{moves_for};
 ghost use Rattle.node_core.specs.Judging.{IsReadyItem, IsDecided, MayWantMemory, place_for};
-ghost use Rattle.node_core.specs.Queries.{IsHeaderAt, IsBlockAt, IsFetched};
+ghost use Rattle.node_core.specs.Queries.{IsHeaderAt, IsBlockAt, IsLiveCell, IsFetched};
 
 use crate::deciding::Decision;
 use crate::kept::Kept;
@@ -117,6 +118,7 @@ pub(crate) fn header<D: Disk>(
     requires own { IfSome (D.reads_as disk.old) (IsReadBy kept.now cache.old.held) }
     ensures looked { HasLooked D.content_of D.reads_as D.faults disk.old disk.new kept.now cache.old cache.new (stop_of result) }
     ensures header { IsSome (D.reads_as disk.old) → IfOk result (IsHeaderAt kept.now.chain.blocks height) }
+    ensures none { block_at (best_branch kept.now.chain.blocks) height ≡ None → (result ≡ Ok None) × (disk.new ≡ disk.old) }
     ensures undamaged { IsSome (D.reads_as disk.old) → (damage : a_damage) → result ≡ Err (Damaged damage) → ⊥ }
 {
     let mut store = Store::new(alloc, disk, &kept.tree, cache);
@@ -134,6 +136,7 @@ pub(crate) fn block<D: Disk>(
     requires own { IfSome (D.reads_as disk.old) (IsReadBy kept.now cache.old.held) }
     ensures looked { HasLooked D.content_of D.reads_as D.faults disk.old disk.new kept.now cache.old cache.new (stop_of result) }
     ensures block { IsSome (D.reads_as disk.old) → IfOk result (λ found. IsBlockAt kept.now.chain.blocks height (option_map (λ bytes. bytes.items) found)) }
+    ensures none { block_at (best_branch kept.now.chain.blocks) height ≡ None → (result ≡ Ok None) × (disk.new ≡ disk.old) }
     ensures undamaged { IsSome (D.reads_as disk.old) → (damage : a_damage) → result ≡ Err (Damaged damage) → ⊥ }
 {
     let mut store = Store::new(alloc, disk, &kept.tree, cache);
@@ -152,6 +155,7 @@ pub(crate) fn fetch<D: Disk>(
     requires own { IfSome (D.reads_as disk.old) (IsReadBy kept.now cache.old.held) }
     ensures looked { HasLooked D.content_of D.reads_as D.faults disk.old disk.new kept.now cache.old cache.new (stop_of result) }
     ensures fetched { IsSome (D.reads_as disk.old) → AreOfTip kept.now.chain.blocks (rows state.now) → IfOk result (IsFetched kept.now.chain.blocks o) }
+    ensures none { AreOfTip kept.now.chain.blocks (rows state.now) → IsLiveCell kept.now.chain.blocks o None → (result ≡ Ok None) × (disk.new ≡ disk.old) }
     ensures undamaged { IsSome (D.reads_as disk.old) → AreOfTip kept.now.chain.blocks (rows state.now)
         → (damage : a_damage) → result ≡ Err (Damaged damage) → ⊥ }
 {

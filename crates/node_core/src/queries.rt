@@ -1,5 +1,5 @@
 // What queries ask of the kept blocks and of the live cells of the tip.
-ghost use Rattle.std.specs.Prelude.{◌≡◌, ◌≢◌, ◌≤◌, ◌<◌, ◌+◌, List, length, None, Some, Err, IfOk, IsOk, IfSome, IsSome, pos};
+ghost use Rattle.std.specs.Prelude.{◌≡◌, ◌≢◌, ◌≤◌, ◌<◌, ◌+◌, List, length, None, Some, Ok, Err, IfOk, IsOk, IfSome, IsSome, pos};
 ghost use Rattle.std.specs.Option.{option_map, option_and_then};
 ghost use Rattle.codec_defs.specs.Shape.{encoded};
 ghost use Rattle.codec_defs.specs.Schema as schema;
@@ -134,6 +134,7 @@ impl Kept {
         requires counts { B.count blocks.old ≡ length self.now.chain.blocks }
         ensures read { HasRead B.told B.count B.loans_of B.faults B.damages blocks.old blocks.new (stop_of result) }
         ensures header { B.told blocks.old ≡ Some (stored_of self.now) → IfOk result (IsHeaderAt self.now.chain.blocks height) }
+        ensures none { block_at (best_branch self.now.chain.blocks) height ≡ None → (result ≡ Ok None) × (blocks.new ≡ blocks.old) }
         ensures undamaged { IsSome (B.told blocks.old) → (damage : a_damage) → result ≡ Err (Damaged damage) → ⊥ }
     {
         let Some(place) = self.place_at(height) else {
@@ -160,6 +161,7 @@ impl Kept {
         ensures read { HasRead B.told B.count B.loans_of B.faults B.damages blocks.old blocks.new (stop_of result) }
         ensures block { B.told blocks.old ≡ Some (stored_of self.now)
             → IfOk result (λ found. IsBlockAt self.now.chain.blocks height (option_map (λ bytes. bytes.items) found)) }
+        ensures none { block_at (best_branch self.now.chain.blocks) height ≡ None → (result ≡ Ok None) × (blocks.new ≡ blocks.old) }
         ensures undamaged { IsSome (B.told blocks.old) → (damage : a_damage) → result ≡ Err (Damaged damage) → ⊥ }
     {
         let Some(place) = self.place_at(height) else {
@@ -204,6 +206,8 @@ impl Kept {
         ensures read { HasRead B.told B.count B.loans_of B.faults B.damages blocks.old blocks.new (stop_of result) }
         ensures fetched { B.told blocks.old ≡ Some (stored_of self.now) → AreOfTip self.now.chain.blocks (rows state.now)
             → IfOk result (IsFetched self.now.chain.blocks o) }
+        ensures none { AreOfTip self.now.chain.blocks (rows state.now) → IsLiveCell self.now.chain.blocks o None
+            → (result ≡ Ok None) × (blocks.new ≡ blocks.old) }
         ensures undamaged { B.told blocks.old ≡ Some (stored_of self.now) → AreOfTip self.now.chain.blocks (rows state.now)
             → (damage : a_damage) → result ≡ Err (Damaged damage) → ⊥ }
     {

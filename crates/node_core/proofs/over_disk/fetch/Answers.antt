@@ -43,3 +43,9 @@ returns-clause-undamaged g c = λ some.
     let same = ap (λ (t : TreeValue). t.entries) c.new-store.ensures.tree ∙ ap (λ (v : KeptValue). v.entries) c.kept.view_is in
     c.fetch.ensures.undamaged (tells-kept c.args.kept.now c.new-store.result.tree.now.entries c.args.cache.now.held (g.D.Disk.reads_as c.new-store.result.disk.now)
     (g.D.Disk.reads_as c.args.disk.now) same (ap g.D.Disk.reads_as c.new-store.ensures.disk) c.requires.own some)
+
+pub returns-clause-none : goal.returns-clause-none
+returns-clause-none g c = λ at_tip dead.
+    let still = c.fetch.ensures.none at_tip dead in
+    let disk = c.disk-1.given.1 (sym c.new-store.ensures.its_disk ∙ sym (ap (λ it. it.0) c.fetch.ensures.read.loans)) in
+    (still.0, disk ∙ ap (λ store. store.disk.now) still.1 ∙ c.new-store.ensures.disk)

@@ -1,4 +1,4 @@
-use Rattle.std.proofs.Common.{◌≡◌, ℕ, List, Some, sym, ap, ◌∙◌, subst, rules}
+use Rattle.std.proofs.Common.{◌≡◌, ℕ, List, Some, refl, sym, ap, ◌∙◌, subst, rules}
 use Rattle.std.specs.Option.{option_and_then}
 use Rattle.outside.proofs.Endings.{handed, no_answer, memory_undamaged}
 use Rattle.codec_defs.specs.Shape.{IsA}
@@ -8,7 +8,7 @@ use Rattle.chain_defs.specs.Kept.{block_at}
 use Rattle.chain_tree.specs.Told.{blocks_of}
 use Rattle.chain_tree.proofs.ReadLemmas.{unread, read_short}
 use Rattle.node_core.specs.Node.{stored_of}
-use Rattle.node_core.proofs.QueryLemmas.{block-told}
+use Rattle.node_core.proofs.QueryLemmas.{block-told, has-none}
 use Rattle.node_core.proofs.RecordedLemmas.{blocks-told}
 use Rattle.node_core.proofs.kept.Kept.block.Goals as goal
 
@@ -16,6 +16,7 @@ pub returns-in_default : goal.returns-in_default
 returns-in_default g c = record {
   read = unread c.args.blocks.now;
   block = λ tells. sym c.place_at.ensures.block ∙ ap (option_and_then (block_at c.args.self.now.chain.blocks)) c.in_default.is;
+  none = λ empty. (refl, refl);
   undamaged = λ tells damage same. no_answer _ _ same;
 }
 
@@ -23,6 +24,7 @@ pub returns-in-Err : goal.returns-in-Err
 returns-in-Err g c = record {
   read = c.in-Err.ensures.read;
   block = λ tells. tt;
+  none = λ empty. absurd (has-none c.args.self.now.chain.blocks c.in-Some.place c.args.height c.in-Some.ensures.within c.in-Some.ensures.block empty);
   undamaged = λ tells damage same. c.in-Err.ensures.undamaged tells damage (handed c.in-Err.stop _ same);
 }
 
@@ -30,6 +32,7 @@ pub returns-in_default-to_vec : goal.returns-in_default-to_vec
 returns-in_default-to_vec g c = record {
   read = read_short c.in-Ok.ensures.read;
   block = λ tells. tt;
+  none = λ empty. absurd (has-none c.args.self.now.chain.blocks c.in-Some.place c.args.height c.in-Some.ensures.within c.in-Some.ensures.block empty);
   undamaged = λ tells damage same. memory_undamaged damage same;
 }
 
@@ -51,3 +54,6 @@ returns-clause-block g c = λ tells.
       sym c.in-Some.ensures.block ∙ there,
       subst (λ (bytes : List ℕ). IsA schema.block bytes c.block.result) (sym copied) c.bytes.ensures,
     )
+
+pub returns-clause-none : goal.returns-clause-none
+returns-clause-none g c = λ empty. absurd (has-none c.args.self.now.chain.blocks c.in-Some.place c.args.height c.in-Some.ensures.within c.in-Some.ensures.block empty)

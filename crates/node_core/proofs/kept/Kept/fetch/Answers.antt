@@ -1,4 +1,4 @@
-use Rattle.std.proofs.Common.{◌≡◌, List, Option, sym, ap, ◌∙◌, subst, arith}
+use Rattle.std.proofs.Common.{◌≡◌, List, Option, refl, sym, ap, ◌∙◌, subst, arith}
 use Rattle.outside.proofs.Endings.{handed, no_answer}
 use Rattle.codec_defs.specs.Schema.{Block}
 use Rattle.cell_defs.specs.Row.{Row}
@@ -6,7 +6,7 @@ use Rattle.chain_tree.specs.Told.{blocks_of}
 use Rattle.chain_tree.proofs.ReadLemmas.{unread}
 use Rattle.node_core.specs.Node.{stored_of}
 use Rattle.node_core.specs.Queries.{LiveValue, IsLiveRow, IsLiveCell}
-use Rattle.node_core.proofs.QueryLemmas.{names-of}
+use Rattle.node_core.proofs.QueryLemmas.{names-of, not-live}
 use Rattle.node_core.proofs.RecordedLemmas.{blocks-told}
 use Rattle.node_core.proofs.kept.Kept.fetch.Goals as goal
 
@@ -19,6 +19,7 @@ pub returns-in_default : goal.returns-in_default
 returns-in_default g c = record {
   read = unread c.args.blocks.now;
   fetched = λ tells at_tip. subst (λ (found : Option LiveValue). IsLiveCell c.args.self.now.chain.blocks c.args.o found) c.in_default.is (c.live.ensures.live at_tip);
+  none = λ at_tip dead. (refl, refl);
   undamaged = λ tells at_tip damage same. no_answer _ _ same;
 }
 
@@ -26,6 +27,7 @@ pub returns-in-Err : goal.returns-in-Err
 returns-in-Err g c = record {
   read = c.in-Err.ensures.read;
   fetched = λ tells at_tip. tt;
+  none = λ at_tip dead. absurd (not-live c.args.self.now.chain.blocks c.args.o c.in-Some.live (c.in-Some.ensures.live at_tip) dead);
   undamaged = λ tells at_tip damage same.
       let seen = blocks-told c.args.self.now _ _ tells (g.met.B.Blocks.told_all c.args.blocks.now) c.requires.counts in
       let live = c.in-Some.ensures.live at_tip in
@@ -55,3 +57,6 @@ returns-clause-fetched g c = λ tells at_tip.
       c.in-Ok.ensures.copied (stored_of c.args.self.now) live.0 tells names,
       ap (λ (l : LiveValue). l.height) c.live-2.view_is ∙ live.2,
     )
+
+pub returns-clause-none : goal.returns-clause-none
+returns-clause-none g c = λ at_tip dead. absurd (not-live c.args.self.now.chain.blocks c.args.o c.in-Some.live (c.in-Some.ensures.live at_tip) dead)

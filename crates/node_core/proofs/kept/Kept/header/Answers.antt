@@ -1,4 +1,4 @@
-use Rattle.std.proofs.Common.{◌≡◌, List, Option, Some, sym, ap, ◌∙◌, subst}
+use Rattle.std.proofs.Common.{◌≡◌, List, Option, Some, refl, sym, ap, ◌∙◌, subst}
 use Rattle.std.specs.Prelude.{IsSomeAnd}
 use Rattle.std.specs.Option.{option_and_then}
 use Rattle.outside.proofs.Endings.{handed, no_answer}
@@ -9,7 +9,7 @@ use Rattle.chain_tree.specs.Told.{blocks_of}
 use Rattle.chain_tree.proofs.ReadLemmas.{unread}
 use Rattle.node_core.specs.Node.{KeptValue}
 use Rattle.node_core.proofs.DecidingLemmas.{within-entries}
-use Rattle.node_core.proofs.QueryLemmas.{block-told}
+use Rattle.node_core.proofs.QueryLemmas.{block-told, has-none}
 use Rattle.node_core.proofs.RecordedLemmas.{tells-stored}
 use Rattle.node_core.proofs.kept.Kept.header.Goals as goal
 
@@ -21,6 +21,7 @@ pub returns-in_default : goal.returns-in_default
 returns-in_default g c = record {
   read = unread c.args.blocks.now;
   header = λ tells. sym c.place_at.ensures.block ∙ ap (option_and_then (block_at c.args.self.now.chain.blocks)) c.in_default.is;
+  none = λ empty. (refl, refl);
   undamaged = λ tells damage same. no_answer _ _ same;
 }
 
@@ -28,6 +29,7 @@ pub returns-in-Err : goal.returns-in-Err
 returns-in-Err g c = record {
   read = c.in-Err.ensures.read;
   header = λ tells. tt;
+  none = λ empty. absurd (has-none c.args.self.now.chain.blocks c.in-Some.place c.args.height c.in-Some.ensures.within c.in-Some.ensures.block empty);
   undamaged = λ tells damage same. c.in-Err.ensures.undamaged tells damage (handed c.in-Err.stop _ same);
 }
 
@@ -49,3 +51,6 @@ returns-clause-header g c = λ tells.
     subst (λ (found : Option Block). IsSomeAnd found (λ block. Describes block c.entry.result.now)) (ap (λ (blocks : List Block). block_at blocks c.in-Some.place) seen ∙ there)
     (c.entry.ensures.of_block (blocks_of stored) c.self.invariant.indexed) in
     (c.block.result, sym c.in-Some.ensures.block ∙ there, is.hash, c.header_of.ensures)
+
+pub returns-clause-none : goal.returns-clause-none
+returns-clause-none g c = λ empty. absurd (has-none c.args.self.now.chain.blocks c.in-Some.place c.args.height c.in-Some.ensures.within c.in-Some.ensures.block empty)

@@ -11,17 +11,8 @@ use Rattle.node_core.proofs.node.Node.open.Goals as goal
 pub returns-in-Err-clause-not_a_store : goal.returns-in-Err-clause-not_a_store
 returns-in-Err-clause-not_a_store g c same = c.in-Err.ensures.not_a_store (ap Err (same_stop _ _ same))
 
-pub returns-in-Err-clause-no_log : goal.returns-in-Err-clause-no_log
-returns-in-Err-clause-no_log g c = c.read_store.ensures.left.no_log
-
-pub returns-in-Err-clause-rests : goal.returns-in-Err-clause-rests
-returns-in-Err-clause-rests g c = c.read_store.ensures.left.rests
-
-pub returns-in-Err-clause-keeps : goal.returns-in-Err-clause-keeps
-returns-in-Err-clause-keeps g c = c.read_store.ensures.left.keeps
-
-pub returns-in-Err-clause-others : goal.returns-in-Err-clause-others
-returns-in-Err-clause-others g c = c.read_store.ensures.left.others
+pub returns-in-Err-clause-left : goal.returns-in-Err-clause-left
+returns-in-Err-clause-left g c = c.read_store.ensures.left
 
 pub returns-in-Err-clause-moments : goal.returns-in-Err-clause-moments
 returns-in-Err-clause-moments g c now chain told keeps sound =
@@ -76,21 +67,9 @@ returns-in-Ok-moved-clause-kept g c =
 pub returns-in-Ok-moved-clause-not_a_store : goal.returns-in-Ok-moved-clause-not_a_store
 returns-in-Ok-moved-clause-not_a_store g c = λ e. absurd (ok_err _ _ e)
 
-pub returns-in-Ok-moved-clause-no_log : goal.returns-in-Ok-moved-clause-no_log
-returns-in-Ok-moved-clause-no_log g c =
-    (leaves_on g.D.Disk.reads_as g.D.Disk.images g.D.Disk.moment g.D.Disk.left_since g.met.D.Disk.counts_now _ _ _ c.read_store.ensures.left (g.met.D.Disk.content_rests _ _ c.moved.ensures.looked.content)).no_log
-
-pub returns-in-Ok-moved-clause-rests : goal.returns-in-Ok-moved-clause-rests
-returns-in-Ok-moved-clause-rests g c =
-    (leaves_on g.D.Disk.reads_as g.D.Disk.images g.D.Disk.moment g.D.Disk.left_since g.met.D.Disk.counts_now _ _ _ c.read_store.ensures.left (g.met.D.Disk.content_rests _ _ c.moved.ensures.looked.content)).rests
-
-pub returns-in-Ok-moved-clause-keeps : goal.returns-in-Ok-moved-clause-keeps
-returns-in-Ok-moved-clause-keeps g c =
-    (leaves_on g.D.Disk.reads_as g.D.Disk.images g.D.Disk.moment g.D.Disk.left_since g.met.D.Disk.counts_now _ _ _ c.read_store.ensures.left (g.met.D.Disk.content_rests _ _ c.moved.ensures.looked.content)).keeps
-
-pub returns-in-Ok-moved-clause-others : goal.returns-in-Ok-moved-clause-others
-returns-in-Ok-moved-clause-others g c =
-    (leaves_on g.D.Disk.reads_as g.D.Disk.images g.D.Disk.moment g.D.Disk.left_since g.met.D.Disk.counts_now _ _ _ c.read_store.ensures.left (g.met.D.Disk.content_rests _ _ c.moved.ensures.looked.content)).others
+pub returns-in-Ok-moved-clause-left : goal.returns-in-Ok-moved-clause-left
+returns-in-Ok-moved-clause-left g c =
+    leaves_on g.D.Disk.reads_as g.D.Disk.images g.D.Disk.moment g.D.Disk.left_since g.met.D.Disk.counts_now _ _ _ c.read_store.ensures.left (g.met.D.Disk.content_rests _ _ c.moved.ensures.looked.content)
 
 pub returns-in-Ok-moved-clause-own : goal.returns-in-Ok-moved-clause-own
 returns-in-Ok-moved-clause-own g c =
@@ -142,21 +121,9 @@ returns-in-Err-moved-clause-not_a_store g c same =
     c.read_store.ensures.left.others c.in-Ok.ensures.read c.in-Ok.ensures.cells
     (λ some joined cells. c.moved.ensures.undamaged some joined cells found.0 (c.in-Err-moved.is ∙ ap Err found.1))
 
-pub returns-in-Err-moved-clause-no_log : goal.returns-in-Err-moved-clause-no_log
-returns-in-Err-moved-clause-no_log g c =
-    (leaves_on g.D.Disk.reads_as g.D.Disk.images g.D.Disk.moment g.D.Disk.left_since g.met.D.Disk.counts_now _ _ _ c.read_store.ensures.left (g.met.D.Disk.content_rests _ _ c.moved.ensures.looked.content)).no_log
-
-pub returns-in-Err-moved-clause-rests : goal.returns-in-Err-moved-clause-rests
-returns-in-Err-moved-clause-rests g c =
-    (leaves_on g.D.Disk.reads_as g.D.Disk.images g.D.Disk.moment g.D.Disk.left_since g.met.D.Disk.counts_now _ _ _ c.read_store.ensures.left (g.met.D.Disk.content_rests _ _ c.moved.ensures.looked.content)).rests
-
-pub returns-in-Err-moved-clause-keeps : goal.returns-in-Err-moved-clause-keeps
-returns-in-Err-moved-clause-keeps g c =
-    (leaves_on g.D.Disk.reads_as g.D.Disk.images g.D.Disk.moment g.D.Disk.left_since g.met.D.Disk.counts_now _ _ _ c.read_store.ensures.left (g.met.D.Disk.content_rests _ _ c.moved.ensures.looked.content)).keeps
-
-pub returns-in-Err-moved-clause-others : goal.returns-in-Err-moved-clause-others
-returns-in-Err-moved-clause-others g c =
-    (leaves_on g.D.Disk.reads_as g.D.Disk.images g.D.Disk.moment g.D.Disk.left_since g.met.D.Disk.counts_now _ _ _ c.read_store.ensures.left (g.met.D.Disk.content_rests _ _ c.moved.ensures.looked.content)).others
+pub returns-in-Err-moved-clause-left : goal.returns-in-Err-moved-clause-left
+returns-in-Err-moved-clause-left g c =
+    leaves_on g.D.Disk.reads_as g.D.Disk.images g.D.Disk.moment g.D.Disk.left_since g.met.D.Disk.counts_now _ _ _ c.read_store.ensures.left (g.met.D.Disk.content_rests _ _ c.moved.ensures.looked.content)
 
 pub returns-in-Err-moved-clause-moments : goal.returns-in-Err-moved-clause-moments
 returns-in-Err-moved-clause-moments g c now chain told keeps sound =
