@@ -1,6 +1,6 @@
 -- What a disk has of the kept blocks once one more is kept, and its record stands behind the others.
 use Rattle.std.proofs.Common.{◌≡◌, ℕ, suc, ◌+◌, ◌<◌, List, [], ◌∷◌, ◌++◌, length, drop, Option, Some, None, refl, sym, ap, ◌∙◌, subst, arith}
-use Rattle.std.specs.Prelude.{IfSome, IsTrue}
+use Rattle.std.specs.Prelude.{is_some, IfSome, IsSome, IsTrue}
 use Rattle.std.specs.Option.{option_map}
 use Rattle.std.proofs.lemmas.List.{length-map}
 use Rattle.std.proofs.lemmas.Option.{same_Some}
@@ -24,7 +24,7 @@ use Rattle.log_file.specs.Pieces.{block_record, Names}
 use Rattle.log_file.specs.Grammar.{record_of}
 use Rattle.log_file.specs.Opening.{NameBodies, kept_records}
 use Rattle.log_file.specs.declared.log.Rec.{Rec}
-use Rattle.block_store.specs.Held.{CacheValue, OnlyAdds, AgreesWith}
+use Rattle.block_store.specs.Held.{CacheValue, held_at, OnlyAdds, AgreesWith}
 use Rattle.block_store.specs.Stored.{later_record, CanBeKept}
 use Rattle.block_store.proofs.LogLemmas.{follows_the_log, adds_a_record}
 use Rattle.block_store.proofs.AgreeLemmas.{keeps_after_append}
@@ -180,3 +180,8 @@ adds-here place count found it old new at is adds =
 -- one that is put has an ext of the form of one
 pub has-form : (found it : Stored) (ext : List ℕ) → found ≡ it → it.ext ≡ ext → IsTrue (is_ext ext) → IsTrue (is_ext found.ext)
 has-form found it ext is beside form = subst (λ (l : List ℕ). IsTrue (is_ext l)) (sym (ap (λ (one : Stored). one.ext) is ∙ beside)) form
+
+-- what is held for the place that it was put under
+pub held_next : (held : List (ℕ × Stored)) (place count : ℕ) (found : Stored) → place ≡ count → held_at held place ≡ Some found → IsSome (held_at held count)
+held_next held place count found at is =
+    subst (λ (n : ℕ). IsSome (held_at held n)) at (ap is_some is)

@@ -183,6 +183,7 @@ impl Kept {
             → (damage : Damage) → result ≡ Err (Damaged damage) → ⊥ }
         ensures asked { result ≡ Err NoMemory → WantsMemory self.now.chain block.now }
         ensures most { steps.new ≤ steps.old + (moves_on self.now.chain block.now (Some entry.parent) - 1) }
+        ensures sight { moves_on self.now.chain block.now (Some entry.parent) ≡ 0 → blocks.new ≡ blocks.old }
     {
         let parent = entry.parent;
         let hashes = match self.at_sight(alloc, block, parent) {
@@ -239,6 +240,7 @@ impl Kept {
             → (damage : Damage) → result ≡ Err (Damaged damage) → ⊥ }
         ensures asked { result ≡ Err NoMemory → WantsMemory self.now.chain block.now }
         ensures most { steps.new ≤ steps.old + (moves_of_block self.now.chain block.now - 1) }
+        ensures sight { moves_of_block self.now.chain block.now ≡ 0 → blocks.new ≡ blocks.old }
     {
         let hash = hash_of(block);
         if self.tree.find(&hash).is_some() {
@@ -273,6 +275,7 @@ impl Kept {
             → (damage : Damage) → result ≡ Err (Damaged damage) → ⊥ }
         ensures asked { result ≡ Err NoMemory → MayWantMemory self.now.chain item.now }
         ensures most { steps.new ≤ steps.old + (moves_for self.now.chain item.now - 1) }
+        ensures sight { moves_for self.now.chain item.now ≡ 0 → blocks.new ≡ blocks.old }
     {
         match BlockView::read(item) {
             None => Ok((state, Decision::Stays(Verdict::Refused(1)))),

@@ -1,5 +1,5 @@
 // A node: what is kept of a store, and its disk.
-ghost use Rattle.std.specs.Prelude.{◌≡◌, ◌≢◌, ◌⊎◌, ◌↔◌, ◌<◌, ◌≤◌, ◌+◌, ◌-◌, ◌^◌, ◌++◌, ◌∷◌, [], ℕ, false, Ok, Err, List, None, Some, length, drop, IfOk, IfErr, OnOk, IfSome, IsSome, IsTrue, pos};
+ghost use Rattle.std.specs.Prelude.{◌≡◌, ◌≢◌, ◌⊎◌, ◌↔◌, ◌<◌, ◌≤◌, ◌+◌, ◌-◌, ◌^◌, ◌++◌, ◌∷◌, [], ℕ, false, Ok, Err, List, None, Some, length, drop, IfOk, IfErr, OnOk, IfSome, IsSome, IsTrue, pos, true};
 ghost use Rattle.std.specs.Option.{option_map};
 ghost use Rattle.outside.specs.Causes.{CountsFault};
 ghost use Rattle.outside.specs.Disk.{HasOneImage, OthersRead, LeavesOnly};
@@ -32,6 +32,7 @@ ghost use Rattle.log_defs.specs.Log.{Record, records_of};
 ghost use Rattle.log_defs.specs.LogLaws.{HasFittingBody};
 ghost use Rattle.log_defs.specs.Rest.{IsSettled};
 ghost use Rattle.store_defs.specs.Store.{Keeps, store_of, StandsFor, IsSound, HaveOwnExts, AreJoined};
+ghost use Rattle.block_store.specs.Held.{held_at};
 ghost use Rattle.log_file.specs.Pieces.{behind_gate, block_record};
 ghost use Rattle.log_file.specs.declared.stop.LogStop.TheVariants as log_stops;
 ghost use Rattle.node_core.specs.Node.{node_of, IsItsOwn, IsSoundNode, IsSoundOn, IsOnlyImage, IsOn, LeavesAll, IsLeftByImport, IsSettledAfter, IsWithin, AreOfFound, AreOfTip};
@@ -218,6 +219,8 @@ fn join<D: Disk, L: Ledger>(
         → AreOfFound kept.chain.blocks (place_for kept.chain.blocks (Joins joining)) (rows state)
         → (damage : Damage) → result ≡ Err (Damaged damage) → ⊥ }
     ensures damage { (damage : Damage) → result ≡ Err (Damaged damage) → damage.area ≡ log_area }
+    ensures spec { IfOk result (λ node. node.chain.spec ≡ kept.chain.spec) }
+    ensures holds { IfOk result (λ node. IsSome (held_at node.held (length kept.chain.blocks))) }
     ensures found { IfOk result (λ node. node.damages ≡ cache.damages) }
     ensures cause { CountsFault (D.faults disk.old) (D.faults disk.new) (result ≡ Err DiskFault) }
     ensures most { steps.new ≤ steps.old + 1 }
@@ -357,6 +360,9 @@ impl Node {
         ensures damage { (damage : Damage) → result ≡ Err (Damaged damage) → damage.area ≡ log_area }
         ensures found { IfOk result (λ answer. answer.0.damages ≡ self.damages) }
         ensures cause { CountsFault (D.faults disk.old) (D.faults disk.new) (result ≡ Err DiskFault) }
+        ensures spec { IfOk result (λ answer. answer.0.chain.spec ≡ self.chain.spec) }
+        ensures holds { IfOk result (λ answer. joins answer.1 ≡ true → IsSome (held_at answer.0.held (length self.chain.blocks))) }
+        ensures sight { moves_for self.chain item.now ≡ 0 → disk.new ≡ disk.old }
         ensures asked { result ≡ Err ReadStop.NoMemory → MayWantMemory self.chain item.now }
         ensures steps { (b : Block) → decoded schema.block item.now ≡ Some b
             → place_of self.chain.blocks b.header.parent_hash ≡ tip_place self.chain.blocks → steps.new ≤ steps.old + 1 }

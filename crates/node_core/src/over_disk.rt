@@ -80,6 +80,7 @@ pub(crate) fn decide<D: Disk, L: Ledger>(
         → (damage : a_damage) → result ≡ Err (Damaged damage) → ⊥ }
     ensures asked { result ≡ Err NoMemory → MayWantMemory kept.now.chain item.now }
     ensures most { steps.new ≤ steps.old + (moves_for kept.now.chain item.now - 1) }
+    ensures sight { moves_for kept.now.chain item.now ≡ 0 → disk.new ≡ disk.old }
 {
     let mut store = Store::new(alloc, disk, &kept.tree, cache);
     kept.decide(alloc, &mut store, state, item, steps)

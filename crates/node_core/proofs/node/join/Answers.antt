@@ -12,11 +12,11 @@ use Rattle.log_file.specs.Grammar.{record_of}
 use Rattle.log_file.specs.Opening.{kept_records}
 use Rattle.log_file.proofs.Creating.{others_same}
 use Rattle.log_file.proofs.Exits.{fault_counts}
-use Rattle.node_core.specs.Node.{node_of, kept_with, stored_of, IsOnlyImage}
+use Rattle.node_core.specs.Node.{KeptValue, node_of, kept_with, stored_of, IsOnlyImage}
 use Rattle.node_core.proofs.WritingLemmas.{piece_long}
 use Rattle.node_core.proofs.ImportLemmas.{can_join, record_is, form_is, is_ext_for, place_limit, is_after, own_after, few_after, within_after}
 use Rattle.node_core.proofs.DiskLemmas.{counts_none, stands_either, only_after, before_calls}
-use Rattle.node_core.proofs.AppendLemmas.{as-many, place-next, named_by, of_told, own_there, own_next, adds-here, has-form}
+use Rattle.node_core.proofs.AppendLemmas.{as-many, place-next, named_by, of_told, own_there, own_next, adds-here, has-form, held_next}
 use Rattle.node_core.proofs.KeepingLemmas.{started_import}
 use Rattle.node_core.proofs.node.join.Goals as goal
 
@@ -380,6 +380,15 @@ returns-in-Ok-append-clause-cause g c = counts_none _ _ (c.in-Ok-append.ensures.
 
 pub returns-in-Ok-append-clause-most : goal.returns-in-Ok-append-clause-most
 returns-in-Ok-append-clause-most g c = c.join.ensures.most
+
+pub returns-in-Ok-append-clause-spec : goal.returns-in-Ok-append-clause-spec
+returns-in-Ok-append-clause-spec g c = ap (λ (k : KeptValue). k.chain.spec) (c.in-Ok-join.ensures.kept c.requires.ready.0 c.requires.ready.1)
+
+pub returns-in-Ok-append-clause-holds : goal.returns-in-Ok-append-clause-holds
+returns-in-Ok-append-clause-holds g c =
+    held_next c.put.new.self.held c.len-place.result (length c.args.kept.chain.blocks) c.in-Ok-of.held
+    (place-next c.kept.inside.spec c.kept.inside.blocks.stored c.kept.inside.tree.entries c.args.kept c.len-place.result c.kept.view_is c.kept.invariant.indexed
+    c.len-place.ensures.len) c.in-Ok-put.ensures.held
 
 pub returns-in-Err-clause-found : goal.returns-in-Err-clause-found
 returns-in-Err-clause-found g c = tt
