@@ -36,6 +36,11 @@ moves-passed : (chain : Chain) (b : Block) (parent : ℕ) → broken_at_sight ch
     → moves_on chain b (Some parent) ≡ moves_at chain.blocks parent + 1
 moves-passed chain b parent passed = ap (λ (o : Option ℕ). cond (is_some o) 0 (moves_at chain.blocks parent + 1)) passed
 
+-- so it may take some
+pub takes-some : (chain : Chain) (b : Block) (parent : ℕ) → broken_at_sight chain.spec (branch chain.blocks parent) b ≡ None
+    → moves_on chain b (Some parent) ≡ 0 → ⊥
+takes-some chain b parent passed none = omega (arith, none, moves-passed chain b parent passed)
+
 module _ (chain : Chain) (b : Block) (parent tip before : ℕ) (passed : broken_at_sight chain.spec (branch chain.blocks parent) b ≡ None)
     (at : tip_place chain.blocks ≡ Some tip) where
   there_and_back : moves_on chain b (Some parent) ≡ 2 * distance chain.blocks tip parent + 1

@@ -254,8 +254,9 @@ impl Kept {
     }
 
     /// What is to become of an item, and the live cells where they then stand: on the parent's branch of a block that
-    /// becomes the tip, and else on the tip's. After an error they are gone. Memory is wanted only for a block that is new,
-    /// on a kept parent, and keeps the rules on a header and the limits on its length and its proposals.
+    /// becomes the tip, and else on the tip's. After an error they are gone. Where it is answered at sight nothing is asked
+    /// of the source. Memory is wanted only for a block that is new, on a kept parent, and keeps the rules on a header and
+    /// the limits on its length and its proposals.
     pub(crate) fn decide<B: Blocks, L: Ledger>(
         &self,
         alloc: Global,

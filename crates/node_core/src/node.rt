@@ -329,8 +329,9 @@ impl Node {
     /// the disk. After an `Err` the disk has the record or not. Damaged where a kept block is not what those after it say,
     /// which never comes over a chain that has joined. The live cells go to the block's parent, are judged by there, and go
     /// back unless the block becomes the tip: with its own events at most twice the distance from the tip to the parent, and
-    /// one. An item that is answered at sight, as one that is known, takes no step. Memory is wanted only for a block that
-    /// is new, on a kept parent, and keeps the rules on a header and the limits on its length and its proposals.
+    /// one. An item that is answered at sight, as one that is known, takes no step and does not call the disk. Memory is
+    /// wanted only for a block that is new, on a kept parent, and keeps the rules on a header and the limits on its length
+    /// and its proposals. A block that joins is held in memory.
     pub fn import<D: Disk, L: Ledger>(
         self,
         alloc: Global,

@@ -1,6 +1,7 @@
-use Rattle.std.proofs.Common.{sym, refl}
+use Rattle.std.proofs.Common.{sym, refl, ap, ◌∙◌}
 use Rattle.outside.proofs.Endings.{no_answer}
 use Rattle.chain_tree.proofs.ReadLemmas.{unread}
+use Rattle.node_core.specs.Steps.{moves_of}
 use Rattle.node_core.proofs.DecidingLemmas.{verdict-no-block, decided-else, ready-else}
 use Rattle.node_core.proofs.StepLemmas.{no-step, moves-of-item}
 use Rattle.node_core.proofs.kept.Kept.decide.Goals as goal
@@ -31,6 +32,9 @@ returns-in-None-clause-asked g c = λ e. absurd (no_answer _ _ e)
 pub returns-in-None-clause-most : goal.returns-in-None-clause-most
 returns-in-None-clause-most g c = no-step _ _
 
+pub returns-in-None-clause-sight : goal.returns-in-None-clause-sight
+returns-in-None-clause-sight g c = λ _. refl
+
 -- ---- A block
 
 pub returns-in-Some-clause-read : goal.returns-in-Some-clause-read
@@ -56,3 +60,6 @@ returns-in-Some-clause-asked g c = λ e. (c.in-Some.block, sym c.in-Some.ensures
 pub returns-in-Some-clause-most : goal.returns-in-Some-clause-most
 returns-in-Some-clause-most g c =
     moves-of-item c.args.self.now.chain c.args.item.now c.in-Some.block _ _ (sym c.in-Some.ensures.value) c.decide_block.ensures.most
+
+pub returns-in-Some-clause-sight : goal.returns-in-Some-clause-sight
+returns-in-Some-clause-sight g c = λ none. c.decide_block.ensures.sight (ap (moves_of c.args.self.now.chain) c.in-Some.ensures.value ∙ none)

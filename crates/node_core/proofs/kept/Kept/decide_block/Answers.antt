@@ -44,6 +44,9 @@ returns-then-is_some-clause-asked g c = λ e. absurd (no_answer _ _ e)
 pub returns-then-is_some-clause-most : goal.returns-then-is_some-clause-most
 returns-then-is_some-clause-most g c = no-step _ _
 
+pub returns-then-is_some-clause-sight : goal.returns-then-is_some-clause-sight
+returns-then-is_some-clause-sight g c = λ _. refl
+
 -- ---- Its parent is not
 
 pub returns-in_default-clause-read : goal.returns-in_default-clause-read
@@ -63,6 +66,9 @@ returns-in_default-clause-asked g c = λ e. absurd (no_answer _ _ e)
 
 pub returns-in_default-clause-most : goal.returns-in_default-clause-most
 returns-in_default-clause-most g c = no-step _ _
+
+pub returns-in_default-clause-sight : goal.returns-in_default-clause-sight
+returns-in_default-clause-sight g c = λ _. refl
 
 -- ---- On its parent
 
@@ -94,3 +100,13 @@ returns-clause-most g c =
     }) in
     subst (λ (n : ℕ). c.decide_on.new.steps ≤ c.args.steps.now + (n - 1))
     (moves-on-parent c.args.self.now.chain c.args.block.now c.entry_on-entry.result.parent on.new on.on_kept) c.decide_on.ensures.most
+
+pub returns-clause-sight : goal.returns-clause-sight
+returns-clause-sight g c = λ none.
+    let kept = blocks_of c.self.inside.blocks.stored in
+    let on = subst (λ (v : KeptValue). IsEntryOn v.chain.blocks c.args.block.now c.entry_on-entry.result) c.self.view_is (record {
+      new = sym (c.find.ensures.of_blocks kept c.self.invariant.indexed ∙ ap (place_of kept) c.hash_of-hash.ensures) ∙ none-there c.find.result (sym c.is_some.ensures ∙ c.if-is_some.false);
+      on_kept = sym (c.in-Some.ensures.of_blocks kept c.self.invariant.indexed ∙ ap (place_of kept) c.parent_hash.ensures) ∙ ap Some (sym c.entry_on-entry.ensures.parent);
+      describes = c.entry_on-entry.ensures.describes;
+    }) in
+    c.decide_on.ensures.sight (moves-on-parent c.args.self.now.chain c.args.block.now c.entry_on-entry.result.parent on.new on.on_kept ∙ none)

@@ -1,4 +1,4 @@
-use Rattle.std.proofs.Common.{◌≡◌, Some, sym, ap, ◌∙◌}
+use Rattle.std.proofs.Common.{◌≡◌, Some, refl, sym, ap, ◌∙◌}
 use Rattle.std.specs.Prelude.{Err}
 use Rattle.chain_defs.specs.Branch.{branch}
 use Rattle.chain_defs.specs.Tip.{tip_place}
@@ -11,6 +11,7 @@ use Rattle.verdict_defs.specs.declared.verdict.Verdict.TheVariants.{Refused}
 use Rattle.node_core.specs.Node.{KeptValue}
 use Rattle.node_core.proofs.DecidingLemmas.{within-blocks, verdict-refused}
 use Rattle.node_core.proofs.SightLemmas.{first-at-sight, wants-passed}
+use Rattle.node_core.proofs.StepLemmas.{takes-some}
 use Rattle.node_core.proofs.JoiningLemmas.{at-parent, at-tip}
 use Rattle.node_core.proofs.SourceLemmas.{tells-on, same_stop}
 use Rattle.node_core.proofs.kept.Kept.decide_on.Goals as goal
@@ -142,3 +143,31 @@ returns-in-Err-judge_on-clause-asked g c = λ _.
 pub returns-clause-asked : goal.returns-clause-asked
 returns-clause-asked g c = λ _.
     wants-passed c.args.self.now.chain c.args.block.now c.args.entry.parent c.requires.entry.new c.requires.entry.on_kept c.in-Ok.ensures.passed.sight
+
+-- ---- Nothing is read where it is answered at sight
+
+pub returns-in-Err-Broken-clause-sight : goal.returns-in-Err-Broken-clause-sight
+returns-in-Err-Broken-clause-sight g c = λ _. refl
+
+pub returns-in-Err-Read-clause-sight : goal.returns-in-Err-Read-clause-sight
+returns-in-Err-Read-clause-sight g c = λ _. refl
+
+pub returns-in-Err-clause-sight : goal.returns-in-Err-clause-sight
+returns-in-Err-clause-sight g c = λ none.
+    absurd (takes-some c.args.self.now.chain c.args.block.now c.args.entry.parent c.in-Ok.ensures.passed.sight none)
+
+pub returns-in-Err-judge_on-clause-sight : goal.returns-in-Err-judge_on-clause-sight
+returns-in-Err-judge_on-clause-sight g c = λ none.
+    absurd (takes-some c.args.self.now.chain c.args.block.now c.args.entry.parent c.in-Ok.ensures.passed.sight none)
+
+pub returns-then-is_tip_next-clause-sight : goal.returns-then-is_tip_next-clause-sight
+returns-then-is_tip_next-clause-sight g c = λ none.
+    absurd (takes-some c.args.self.now.chain c.args.block.now c.args.entry.parent c.in-Ok.ensures.passed.sight none)
+
+pub returns-in-Ok-moved-2-clause-sight : goal.returns-in-Ok-moved-2-clause-sight
+returns-in-Ok-moved-2-clause-sight g c = λ none.
+    absurd (takes-some c.args.self.now.chain c.args.block.now c.args.entry.parent c.in-Ok.ensures.passed.sight none)
+
+pub returns-clause-sight : goal.returns-clause-sight
+returns-clause-sight g c = λ none.
+    absurd (takes-some c.args.self.now.chain c.args.block.now c.args.entry.parent c.in-Ok.ensures.passed.sight none)

@@ -1,8 +1,10 @@
-use Rattle.std.proofs.Common.{◌≡◌, ◌⊎◌, ℕ, Err, Some, refl, sym, ap, ◌∙◌, subst, arith}
+use Rattle.std.proofs.Common.{◌≡◌, ◌⊎◌, ℕ, length, Err, Some, refl, sym, ap, ◌∙◌, subst, arith}
+use Rattle.std.specs.Prelude.{IsSome}
 use Rattle.outside.specs.Disk.{LeavesOnly}
 use Rattle.cell_defs.specs.Ext.{ext_bytes}
 use Rattle.cell_state.specs.State.{rows}
 use Rattle.log_defs.specs.Rest.{IsSettled}
+use Rattle.block_store.specs.Held.{held_at}
 use Rattle.log_file.proofs.Exits.{no_error, same_stop, stop_counts, answer_counts, answer_still, counts_on}
 use Rattle.store_defs.specs.Store.{StandsFor}
 use Rattle.verdict_defs.specs.Chain.{Chain, chain_after, verdict_over}
@@ -10,6 +12,7 @@ use Rattle.verdict_defs.specs.Verdict.{joins}
 use Rattle.verdict_defs.specs.declared.verdict.Verdict.TheVariants.{Joined}
 use Rattle.node_core.specs.declared.deciding.Decision.{Decision}
 use Rattle.node_core.specs.declared.deciding.Decision.TheVariants.{Joins, Stays}
+use Rattle.node_core.specs.Steps.{moves_for}
 use Rattle.node_core.specs.Judging.{IsReadyItem, IsDecided, MayWantMemory, place_for}
 use Rattle.node_core.specs.Node.{NodeValue, node_of, IsItsOwn, IsSoundOn, IsOn, IsLeftByImport, AreOfFound}
 use Rattle.node_core.proofs.ImportLemmas.{joined_stays_not, ready_on, verdict_is, stays_so}
@@ -479,6 +482,55 @@ returns-in-Err-join-clause-asked g c = λ _.
     let chain_is : c.self.inside.kept.chain ≡ c.args.self.chain = ap (λ (v : NodeValue). v.chain) c.self.view_is in
     let ready : IsReadyItem c.args.self.chain c.args.item.now (Joins c.in-Joins.joining) = ready_on c.self.inside.kept.chain c.args.self.chain c.args.item.now c.in-Ok.decided.1 (Joins c.in-Joins.joining) chain_is c.in-Joins.is c.in-Ok.ensures.ready in
     wants-joining c.args.self.chain c.args.item.now c.in-Joins.joining ready
+
+-- ---- At sight
+
+pub returns-in-Err-clause-sight : goal.returns-in-Err-clause-sight
+returns-in-Err-clause-sight g c = λ none. c.decide-decided.ensures.sight (ap (λ (v : NodeValue). moves_for v.chain c.args.item.now) c.self.view_is ∙ none)
+
+pub returns-in-Stays-clause-sight : goal.returns-in-Stays-clause-sight
+returns-in-Stays-clause-sight g c = λ none. c.decide-decided.ensures.sight (ap (λ (v : NodeValue). moves_for v.chain c.args.item.now) c.self.view_is ∙ none)
+
+pub returns-in-Ok-join-clause-sight : goal.returns-in-Ok-join-clause-sight
+returns-in-Ok-join-clause-sight g c = λ none.
+    let chain_is : c.self.inside.kept.chain ≡ c.args.self.chain = ap (λ (v : NodeValue). v.chain) c.self.view_is in
+    let ready : IsReadyItem c.args.self.chain c.args.item.now (Joins c.in-Joins.joining) = ready_on c.self.inside.kept.chain c.args.self.chain c.args.item.now c.in-Ok.decided.1 (Joins c.in-Joins.joining) chain_is c.in-Joins.is c.in-Ok.ensures.ready in
+    absurd (omega (arith, none, moves-joining c.args.self.chain c.args.item.now c.in-Joins.joining ready))
+
+pub returns-in-Err-join-clause-sight : goal.returns-in-Err-join-clause-sight
+returns-in-Err-join-clause-sight g c = λ none.
+    let chain_is : c.self.inside.kept.chain ≡ c.args.self.chain = ap (λ (v : NodeValue). v.chain) c.self.view_is in
+    let ready : IsReadyItem c.args.self.chain c.args.item.now (Joins c.in-Joins.joining) = ready_on c.self.inside.kept.chain c.args.self.chain c.args.item.now c.in-Ok.decided.1 (Joins c.in-Joins.joining) chain_is c.in-Joins.is c.in-Ok.ensures.ready in
+    absurd (omega (arith, none, moves-joining c.args.self.chain c.args.item.now c.in-Joins.joining ready))
+
+-- ---- What is kept, and what is held
+
+pub returns-in-Err-clause-spec : goal.returns-in-Err-clause-spec
+returns-in-Err-clause-spec g c = tt
+
+pub returns-in-Err-join-clause-spec : goal.returns-in-Err-join-clause-spec
+returns-in-Err-join-clause-spec g c = tt
+
+pub returns-in-Stays-clause-spec : goal.returns-in-Stays-clause-spec
+returns-in-Stays-clause-spec g c = ap (λ (v : NodeValue). v.chain.spec) c.self.view_is
+
+pub returns-in-Ok-join-clause-spec : goal.returns-in-Ok-join-clause-spec
+returns-in-Ok-join-clause-spec g c = c.in-Ok-join.ensures.spec ∙ ap (λ (v : NodeValue). v.chain.spec) c.self.view_is
+
+pub returns-in-Err-clause-holds : goal.returns-in-Err-clause-holds
+returns-in-Err-clause-holds g c = tt
+
+pub returns-in-Err-join-clause-holds : goal.returns-in-Err-join-clause-holds
+returns-in-Err-join-clause-holds g c = tt
+
+pub returns-in-Stays-clause-holds : goal.returns-in-Stays-clause-holds
+returns-in-Stays-clause-holds g c = λ e.
+    let ready : IsReadyItem c.self.inside.kept.chain c.args.item.now (Stays c.in-Stays.verdict) = ready_on c.self.inside.kept.chain c.self.inside.kept.chain c.args.item.now c.in-Ok.decided.1 (Stays c.in-Stays.verdict) refl c.in-Stays.is c.in-Ok.ensures.ready in
+    absurd (joined_stays_not (sym e ∙ ready))
+
+pub returns-in-Ok-join-clause-holds : goal.returns-in-Ok-join-clause-holds
+returns-in-Ok-join-clause-holds g c = λ _.
+    subst (λ (v : NodeValue). IsSome (held_at c.in-Ok-join.next.held (length v.chain.blocks))) c.self.view_is c.in-Ok-join.ensures.holds
 
 pub returns-in-Err-clause-found : goal.returns-in-Err-clause-found
 returns-in-Err-clause-found g c = tt
