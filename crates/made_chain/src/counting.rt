@@ -9,7 +9,7 @@ ghost use Rattle.node_core.specs.Node.{IsItsOwn, IsSoundNode, IsSoundOn};
 ghost use Rattle.report_defs.specs.Simulation.{live_cells, height_of, counts_over, generated_counts};
 
 use chain_gen::{Made, make};
-use node_core::{Node, judge};
+use node_core::{HELD, Node, judge};
 use outside::{Disk, NoMemory, Steps};
 use outside_mem::MemDisk;
 use report_defs::Counts;
@@ -20,9 +20,6 @@ use verdict_defs::Verdict;
 
 /// More bytes than an item of a node has. No generated item comes near it.
 const SIZE_BOUND: usize = 1 << 31;
-
-/// How many blocks the node holds in memory beside those on its disk.
-const HELD: usize = 64;
 
 /// One for an item that joined, and none for any other.
 fn one_if_joined(verdict: &Verdict) -> u64

@@ -5,9 +5,9 @@
 //! puts its record on the disk, so that at each moment a crash leaves the chain before the item or after it; `check` judges
 //! a transaction alone; `tip`, `tree` and `state` tell what is kept, and `header`, `block`, `live`, `fetch` and
 //! `counted` what queries ask of the best branch. [`judge`] accepts a specification and a genesis, and
-//! [`NewStore`] makes a store of them. What is looked up of the kept blocks is in kept.rt, and each call over the
-//! disk makes a source of blocks of it, in over_disk.rt. By which rules a block is judged is left to `block_judge`, how records lie in the log to `log_file`, what an item is cut from, and the
-//! lines that tell of verdicts, to `node_run`.
+//! [`NewStore`] makes a store of them. What is looked up of the kept blocks is in kept.rt, and each call over the disk makes
+//! a source of blocks, in over_disk.rt. By which rules a block is judged is left to `block_judge`, how records lie in the
+//! log to `log_file`, what an item is cut from, and the lines that tell of verdicts, to `node_run`.
 #![tactic(auto)]
 
 mod area;

@@ -62,7 +62,7 @@ use std::marker::Model;
 use std::sync::ledger::Ledger;
 use verdict_defs::Verdict;
 
-/// How many blocks the node of a command holds in memory beside those on its disk, the ones that were used last.
+/// How many blocks a command's node holds in memory beside those on its disk: the ones that were used last.
 pub const HELD: usize = 64;
 
 /// The most bytes of an ext: with an item below 2^31 bytes its record's length fits four bytes.

@@ -1,26 +1,24 @@
 // The store that a command works on.
-ghost use Rattle.std.specs.Prelude.{◌≡◌, ◌≢◌, ◌⊎◌, ◌↔◌, ◌+◌, ◌≤◌, ◌∷◌, [], Err, Some, drop, slice_index, IfOk, IfSome};
+ghost use Rattle.std.specs.Prelude.{◌≡◌, ◌⊎◌, ◌↔◌, ◌+◌, ◌≤◌, ◌∷◌, [], Err, Some, drop, IfOk, IfSome};
 ghost use Rattle.outside.specs.Causes.{CountsFault};
-ghost use Rattle.outside.specs.Disk.{LeavesOnly, IsOnlyRead};
+ghost use Rattle.outside.specs.Disk.{LeavesOnly};
 ghost use Rattle.outside.specs.declared.disk.Damage.{Damage};
 ghost use Rattle.outside.specs.Image.{Image};
 ghost use Rattle.verdict_defs.specs.Chain.{Chain};
-ghost use Rattle.log_defs.specs.Log.{records_of, end_of_log};
+ghost use Rattle.log_defs.specs.Log.{records_of};
 ghost use Rattle.log_defs.specs.Rest.{IsSettled};
 ghost use Rattle.store_defs.specs.Store.{Keeps, store_of, StandsFor, IsSound, TellsAsBefore};
 ghost use Rattle.report_defs.specs.Status.{IsOneOf};
-ghost use Rattle.node_core.specs.Node.{IsItsOwn, IsSoundNode, IsOn, IsLeftByOpening};
+ghost use Rattle.node_core.specs.Node.{IsItsOwn, IsSoundNode, IsOn};
+ghost use Rattle.node_core.specs.Opening.{LeavesStore};
 ghost use Rattle.node_core.specs.Steps.{moves_to_open};
 ghost use Rattle.node_run.specs.Store.{opening_stops};
 
-use node_core::{LogStop, Node};
+use node_core::{HELD, LogStop, Node};
 use outside::{Disk, ReadStop, Steps, WriteStop};
 use report_defs::Status;
 use std::alloc::Global;
 use std::sync::ledger::Ledger;
-
-/// How many blocks a node holds in memory beside those on its disk, the ones that were used last.
-const HELD: usize = 64;
 
 /// The status of a stop of opening.
 fn status_of_opening(stop: LogStop) -> Status
@@ -68,16 +66,11 @@ pub fn open<D: Disk, L: Ledger>(
     ensures one_of { (status : Status) → result ≡ Err status → IsOneOf opening_stops status }
     ensures kept { IfOk result (λ node. IfSome (D.reads_as disk.old) (λ now. store_of now ≡ Keeps node.chain)) }
     ensures not_a_store { result ≡ Err Status.NotAStore → IfSome (D.reads_as disk.old) (λ now. IsSound now → ⊥) }
-    ensures no_log { (now : Image) → D.reads_as disk.old ≡ Some now → ((chain : Chain) → store_of now ≡ Keeps chain → ⊥)
-        → IsOnlyRead D.reads_as D.images D.moment D.left_since disk.old disk.new }
-    ensures rests { (now : Image) → D.reads_as disk.old ≡ Some now → slice_index now.log (end_of_log now.log) ≢ 1
-        → IsOnlyRead D.reads_as D.images D.moment D.left_since disk.old disk.new }
+    ensures left { LeavesStore D.reads_as D.images D.moment D.left_since disk.old disk.new }
     ensures told { TellsAsBefore (D.reads_as disk.old) (D.reads_as disk.new) }
     ensures own { IfOk result (λ node. IsItsOwn node (D.reads_as disk.new) (D.images disk.new)) }
     ensures settled { IfOk result (λ node. IfSome (D.reads_as disk.old) (λ now.
         IsSettled node.place (records_of (drop 8 now.log)) (D.reads_as disk.new) (D.images disk.new))) }
-    ensures keeps { (now : Image) → D.reads_as disk.old ≡ Some now
-        → LeavesOnly D.moment D.left_since disk.old disk.new (IsLeftByOpening now.log (D.images disk.old)) }
     ensures on { ((image : Image) → D.images disk.old image → IsSound image)
         → IfOk result (λ node. IfSome (D.reads_as disk.old) (λ _. IsOn node (D.reads_as disk.new) (D.images disk.new))) }
     ensures sound { (now : Image) → D.reads_as disk.old ≡ Some now → IsSound now → IfOk result IsSoundNode }

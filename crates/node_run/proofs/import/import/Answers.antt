@@ -169,7 +169,7 @@ pub returns-in-Err-clause-status : goal.returns-in-Err-clause-status
 returns-in-Err-clause-status g c = import_opening c.in-Err.status (c.in-Err.ensures.one_of c.in-Err.status refl)
 
 pub returns-in-Err-clause-no_log : goal.returns-in-Err-clause-no_log
-returns-in-Err-clause-no_log g c = c.in-Err.ensures.no_log
+returns-in-Err-clause-no_log g c = c.in-Err.ensures.left.no_log
 
 pub returns-in-Err-clause-input_faults : goal.returns-in-Err-clause-input_faults
 returns-in-Err-clause-input_faults g c = no_fault _ _ refl (opening_no_input c.in-Err.status (c.in-Err.ensures.one_of c.in-Err.status refl))
@@ -250,7 +250,7 @@ pub returns-clause-told : goal.returns-clause-told
 returns-clause-told g c = c.in-Ok-import_items.ensures.told ∙ c.in-Ok.ensures.told
 
 pub returns-in-Err-clause-still : goal.returns-in-Err-clause-still
-returns-in-Err-clause-still g c = ([], gives_none (g.S.Source.left c.args.input.now), λ now chain told stands rests none. c.in-Err.ensures.rests now told rests)
+returns-in-Err-clause-still g c = ([], gives_none (g.S.Source.left c.args.input.now), λ now chain told stands rests none. c.in-Err.ensures.left.rests now told rests)
 
 pub returns-in-Err-import_items-clause-still : goal.returns-in-Err-import_items-clause-still
 returns-in-Err-import_items-clause-still g c =
@@ -261,7 +261,7 @@ returns-in-Err-import_items-clause-still g c =
           let over = opened_over (g.D.Disk.reads_as c.args.disk.now) (g.D.Disk.reads_as c.open.new.disk) c.in-Ok.node chain now c.in-Ok.ensures.kept c.in-Ok.ensures.told
           (c.in-Ok.ensures.sound now told) told stands in
           only_read_then g.D.Disk.reads_as g.D.Disk.images g.D.Disk.moment g.D.Disk.left_since c.args.disk.now c.open.new.disk c.import_items.new.disk
-          (c.in-Ok.ensures.rests now told rests) (g.met.D.Disk.content_rests c.open.new.disk c.import_items.new.disk
+          (c.in-Ok.ensures.left.rests now told rests) (g.met.D.Disk.content_rests c.open.new.disk c.import_items.new.disk
           (came.2 over.1 (none_over c.in-Ok.node.chain chain (split_of import_limits came.0).items over.0 none))),
     )
 
@@ -274,7 +274,7 @@ returns-in-Err-answer_to_end-clause-still g c =
           let over = opened_over (g.D.Disk.reads_as c.args.disk.now) (g.D.Disk.reads_as c.open.new.disk) c.in-Ok.node chain now c.in-Ok.ensures.kept c.in-Ok.ensures.told
           (c.in-Ok.ensures.sound now told) told stands in
           only_read_then g.D.Disk.reads_as g.D.Disk.images g.D.Disk.moment g.D.Disk.left_since c.args.disk.now c.open.new.disk c.import_items.new.disk
-          (c.in-Ok.ensures.rests now told rests) (g.met.D.Disk.content_rests c.open.new.disk c.import_items.new.disk
+          (c.in-Ok.ensures.left.rests now told rests) (g.met.D.Disk.content_rests c.open.new.disk c.import_items.new.disk
           (came.2 over.1 (none_over c.in-Ok.node.chain chain (split_of import_limits came.0).items over.0 none))),
     )
 
@@ -287,7 +287,7 @@ returns-clause-still g c =
           let over = opened_over (g.D.Disk.reads_as c.args.disk.now) (g.D.Disk.reads_as c.open.new.disk) c.in-Ok.node chain now c.in-Ok.ensures.kept c.in-Ok.ensures.told
           (c.in-Ok.ensures.sound now told) told stands in
           only_read_then g.D.Disk.reads_as g.D.Disk.images g.D.Disk.moment g.D.Disk.left_since c.args.disk.now c.open.new.disk c.import_items.new.disk
-          (c.in-Ok.ensures.rests now told rests) (g.met.D.Disk.content_rests c.open.new.disk c.import_items.new.disk
+          (c.in-Ok.ensures.left.rests now told rests) (g.met.D.Disk.content_rests c.open.new.disk c.import_items.new.disk
           (came.2 over.1 (none_over c.in-Ok.node.chain chain (split_of import_limits came.0).items over.0 none))),
     )
 
@@ -297,7 +297,7 @@ returns-in-Err-clause-records g c = (
   gives_none (g.S.Source.left c.args.input.now),
   λ now chain told keeps.
       opening_keeps g.D.Disk.images g.D.Disk.moment g.D.Disk.left_since g.met.D.Disk.counts_now c.args.disk.now c.open.new.disk (split_of import_limits []).items now chain keeps
-      (c.in-Err.ensures.keeps now told),
+      (c.in-Err.ensures.left.keeps now told),
 )
 
 pub returns-in-Err-import_items-clause-records : goal.returns-in-Err-import_items-clause-records
@@ -309,7 +309,7 @@ returns-in-Err-import_items-clause-records g c =
           let settled = if_told (g.D.Disk.reads_as c.args.disk.now)
           (λ image. IsSettled c.in-Ok.node.place (records_of (drop 8 image.log)) (g.D.Disk.reads_as c.open.new.disk) (g.D.Disk.images c.open.new.disk)) now c.in-Ok.ensures.settled told in
           imported_keeps g.D.Disk.images g.D.Disk.moment g.D.Disk.left_since g.met.D.Disk.counts_now c.args.disk.now c.open.new.disk c.import_items.new.disk
-          (split_of import_limits came.0).items now chain keeps (c.in-Ok.ensures.keeps now told) (came.2 (records_of (drop 8 now.log)) settled),
+          (split_of import_limits came.0).items now chain keeps (c.in-Ok.ensures.left.keeps now told) (came.2 (records_of (drop 8 now.log)) settled),
     )
 
 pub returns-in-Err-answer_to_end-clause-records : goal.returns-in-Err-answer_to_end-clause-records
@@ -321,7 +321,7 @@ returns-in-Err-answer_to_end-clause-records g c =
           let settled = if_told (g.D.Disk.reads_as c.args.disk.now)
           (λ image. IsSettled c.in-Ok.node.place (records_of (drop 8 image.log)) (g.D.Disk.reads_as c.open.new.disk) (g.D.Disk.images c.open.new.disk)) now c.in-Ok.ensures.settled told in
           imported_keeps g.D.Disk.images g.D.Disk.moment g.D.Disk.left_since g.met.D.Disk.counts_now c.args.disk.now c.open.new.disk c.import_items.new.disk
-          (split_of import_limits came.0).items now chain keeps (c.in-Ok.ensures.keeps now told) (came.2 (records_of (drop 8 now.log)) settled),
+          (split_of import_limits came.0).items now chain keeps (c.in-Ok.ensures.left.keeps now told) (came.2 (records_of (drop 8 now.log)) settled),
     )
 
 pub returns-clause-records : goal.returns-clause-records
@@ -333,5 +333,5 @@ returns-clause-records g c =
           let settled = if_told (g.D.Disk.reads_as c.args.disk.now)
           (λ image. IsSettled c.in-Ok.node.place (records_of (drop 8 image.log)) (g.D.Disk.reads_as c.open.new.disk) (g.D.Disk.images c.open.new.disk)) now c.in-Ok.ensures.settled told in
           imported_keeps g.D.Disk.images g.D.Disk.moment g.D.Disk.left_since g.met.D.Disk.counts_now c.args.disk.now c.open.new.disk c.import_items.new.disk
-          (split_of import_limits came.0).items now chain keeps (c.in-Ok.ensures.keeps now told) (came.2 (records_of (drop 8 now.log)) settled),
+          (split_of import_limits came.0).items now chain keeps (c.in-Ok.ensures.left.keeps now told) (came.2 (records_of (drop 8 now.log)) settled),
     )

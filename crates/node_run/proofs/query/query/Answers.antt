@@ -35,13 +35,13 @@ returns-in-Err-clause-status g c = query_opening c.in-Err.status (c.in-Err.ensur
 
 pub returns-in-Err-clause-records : goal.returns-in-Err-clause-records
 returns-in-Err-clause-records g c = λ now chain told keeps.
-    opening_keeps g.D.Disk.images g.D.Disk.moment g.D.Disk.left_since g.met.D.Disk.counts_now c.args.disk.now c.open.new.disk [] now chain keeps (c.in-Err.ensures.keeps now told)
+    opening_keeps g.D.Disk.images g.D.Disk.moment g.D.Disk.left_since g.met.D.Disk.counts_now c.args.disk.now c.open.new.disk [] now chain keeps (c.in-Err.ensures.left.keeps now told)
 
 pub returns-in-Err-clause-told : goal.returns-in-Err-clause-told
 returns-in-Err-clause-told g c = c.in-Err.ensures.told
 
 pub returns-in-Err-clause-no_log : goal.returns-in-Err-clause-no_log
-returns-in-Err-clause-no_log g c = c.in-Err.ensures.no_log
+returns-in-Err-clause-no_log g c = c.in-Err.ensures.left.no_log
 
 pub returns-in-Err-clause-out_faults : goal.returns-in-Err-clause-out_faults
 returns-in-Err-clause-out_faults g c = no_fault _ _ refl (opening_no_sink c.in-Err.status (c.in-Err.ensures.one_of c.in-Err.status refl))
@@ -50,7 +50,7 @@ pub returns-in-Err-clause-disk_faults : goal.returns-in-Err-clause-disk_faults
 returns-in-Err-clause-disk_faults g c = counts-as c.in-Err.ensures.cause (λ e. ap Err e) (same_stop _ _)
 
 pub returns-in-Err-clause-rests : goal.returns-in-Err-clause-rests
-returns-in-Err-clause-rests g c = c.in-Err.ensures.rests
+returns-in-Err-clause-rests g c = c.in-Err.ensures.left.rests
 
 pub returns-in-Err-clause-most : goal.returns-in-Err-clause-most
 returns-in-Err-clause-most g c = c.in-Err.ensures.most
@@ -81,7 +81,7 @@ pub returns-clause-records : goal.returns-clause-records
 returns-clause-records g c = λ now chain told keeps.
     opening_keeps g.D.Disk.images g.D.Disk.moment g.D.Disk.left_since g.met.D.Disk.counts_now c.args.disk.now c.find_and_tell-status.new.disk [] now chain keeps
     (leaves_looked g.D.Disk.content_of g.D.Disk.reads_as g.D.Disk.images g.D.Disk.moment g.D.Disk.left_since g.met.D.Disk.content_rests g.met.D.Disk.counts_now
-    c.args.disk.now c.open.new.disk c.find_and_tell-status.new.disk _ (c.in-Ok.ensures.keeps now told) c.find_and_tell-status.ensures.disk.content)
+    c.args.disk.now c.open.new.disk c.find_and_tell-status.new.disk _ (c.in-Ok.ensures.left.keeps now told) c.find_and_tell-status.ensures.disk.content)
 
 pub returns-clause-told : goal.returns-clause-told
 returns-clause-told g c =
@@ -100,7 +100,7 @@ returns-clause-disk_faults g c = behind (c.in-Ok.ensures.cause.unchanged (no_ans
 pub returns-clause-rests : goal.returns-clause-rests
 returns-clause-rests g c = λ now told other.
     only_read_looked g.D.Disk.content_of g.D.Disk.reads_as g.D.Disk.images g.D.Disk.moment g.D.Disk.left_since g.met.D.Disk.content_rests g.met.D.Disk.counts_now
-    c.args.disk.now c.open.new.disk c.find_and_tell-status.new.disk (c.in-Ok.ensures.rests now told other) c.find_and_tell-status.ensures.disk.content
+    c.args.disk.now c.open.new.disk c.find_and_tell-status.new.disk (c.in-Ok.ensures.left.rests now told other) c.find_and_tell-status.ensures.disk.content
 
 pub returns-clause-most : goal.returns-clause-most
 returns-clause-most g c = c.in-Ok.ensures.most

@@ -39,12 +39,12 @@ pub returns-clause-no_log : goal.returns-clause-no_log
 returns-clause-no_log g c = λ now told none. absurd (opened_there (g.D.Disk.reads_as c.args.disk.now) c.in-Ok.node.chain now c.in-Ok.ensures.kept told none)
 
 pub returns-in-Err-clause-rests : goal.returns-in-Err-clause-rests
-returns-in-Err-clause-rests g c = c.in-Err.ensures.rests
+returns-in-Err-clause-rests g c = c.in-Err.ensures.left.rests
 
 pub returns-clause-rests : goal.returns-clause-rests
 returns-clause-rests g c = λ now told other.
     only_read_looked g.D.Disk.content_of g.D.Disk.reads_as g.D.Disk.images g.D.Disk.moment g.D.Disk.left_since g.met.D.Disk.content_rests g.met.D.Disk.counts_now
-    c.args.disk.now c.open.new.disk c.read_and_tell-status.new.disk (c.in-Ok.ensures.rests now told other) c.read_and_tell-status.ensures.disk.content
+    c.args.disk.now c.open.new.disk c.read_and_tell-status.new.disk (c.in-Ok.ensures.left.rests now told other) c.read_and_tell-status.ensures.disk.content
 
 pub returns-in-Err-clause-most : goal.returns-in-Err-clause-most
 returns-in-Err-clause-most g c = c.in-Err.ensures.most
@@ -62,10 +62,10 @@ returns-clause-told g c =
 
 pub returns-in-Err-clause-records : goal.returns-in-Err-clause-records
 returns-in-Err-clause-records g c = λ now chain told keeps.
-    opening_keeps g.D.Disk.images g.D.Disk.moment g.D.Disk.left_since g.met.D.Disk.counts_now c.args.disk.now c.open.new.disk [] now chain keeps (c.in-Err.ensures.keeps now told)
+    opening_keeps g.D.Disk.images g.D.Disk.moment g.D.Disk.left_since g.met.D.Disk.counts_now c.args.disk.now c.open.new.disk [] now chain keeps (c.in-Err.ensures.left.keeps now told)
 
 pub returns-clause-records : goal.returns-clause-records
 returns-clause-records g c = λ now chain told keeps.
     opening_keeps g.D.Disk.images g.D.Disk.moment g.D.Disk.left_since g.met.D.Disk.counts_now c.args.disk.now c.read_and_tell-status.new.disk [] now chain keeps
     (leaves_looked g.D.Disk.content_of g.D.Disk.reads_as g.D.Disk.images g.D.Disk.moment g.D.Disk.left_since g.met.D.Disk.content_rests g.met.D.Disk.counts_now
-    c.args.disk.now c.open.new.disk c.read_and_tell-status.new.disk _ (c.in-Ok.ensures.keeps now told) c.read_and_tell-status.ensures.disk.content)
+    c.args.disk.now c.open.new.disk c.read_and_tell-status.new.disk _ (c.in-Ok.ensures.left.keeps now told) c.read_and_tell-status.ensures.disk.content)

@@ -31,11 +31,11 @@ returns-in-Err-clause-cause g c =
     counts-as c.in-Err.ensures.cause
     (λ e. ap Err (c.status_of_opening.ensures.fault.0 (same_stop _ _ e))) (λ e. ap Err (c.status_of_opening.ensures.fault.1 (same_stop _ _ e)))
 
-pub returns-in-Ok-clause-rests : goal.returns-in-Ok-clause-rests
-returns-in-Ok-clause-rests g c = c.in-Ok.ensures.rests
+pub returns-in-Ok-clause-left : goal.returns-in-Ok-clause-left
+returns-in-Ok-clause-left g c = c.in-Ok.ensures.left
 
-pub returns-in-Err-clause-rests : goal.returns-in-Err-clause-rests
-returns-in-Err-clause-rests g c = c.in-Err.ensures.rests
+pub returns-in-Err-clause-left : goal.returns-in-Err-clause-left
+returns-in-Err-clause-left g c = c.in-Err.ensures.left
 
 pub returns-in-Ok-clause-most : goal.returns-in-Ok-clause-most
 returns-in-Ok-clause-most g c = c.in-Ok.ensures.most
@@ -56,19 +56,13 @@ pub returns-in-Err-clause-sound : goal.returns-in-Err-clause-sound
 returns-in-Err-clause-sound g c = λ _ _ _. tt
 
 pub returns-in-Ok-clause-told : goal.returns-in-Ok-clause-told
-returns-in-Ok-clause-told g c = tells_as_before Log _ _ c.in-Ok.ensures.others
+returns-in-Ok-clause-told g c = tells_as_before Log _ _ c.in-Ok.ensures.left.others
 
 pub returns-in-Err-clause-told : goal.returns-in-Err-clause-told
-returns-in-Err-clause-told g c = tells_as_before Log _ _ c.in-Err.ensures.others
+returns-in-Err-clause-told g c = tells_as_before Log _ _ c.in-Err.ensures.left.others
 
 pub returns-in-Ok-clause-settled : goal.returns-in-Ok-clause-settled
 returns-in-Ok-clause-settled g c = c.in-Ok.ensures.settled
 
 pub returns-in-Err-clause-settled : goal.returns-in-Err-clause-settled
 returns-in-Err-clause-settled g c = tt
-
-pub returns-in-Ok-clause-keeps : goal.returns-in-Ok-clause-keeps
-returns-in-Ok-clause-keeps g c = c.in-Ok.ensures.keeps
-
-pub returns-in-Err-clause-keeps : goal.returns-in-Err-clause-keeps
-returns-in-Err-clause-keeps g c = c.in-Err.ensures.keeps
