@@ -8,7 +8,6 @@ use Rattle.outside.specs.declared.disk.Area.TheVariants.{Log}
 use Rattle.outside.specs.Image.{Image}
 use Rattle.outside.specs.Disk.{SameImages, OthersRead, LeavesOnly, IsAsBefore}
 use Rattle.outside.proofs.Moments.{leaves_also, leaves_then}
-use Rattle.chain_tree.specs.Told.{Stored}
 use Rattle.cell_state.specs.State.{StateValue, rows}
 use Rattle.verdict_defs.specs.Chain.{Chain, chain_after}
 use Rattle.log_defs.specs.Log.{Record}
