@@ -9,7 +9,7 @@ branch to one end, on another to another, and on a third not at all. After each 
 one that is refused, one that joins beside the tip's branch and one that becomes the tip,
 `cell` is asked for each cell. What it says is a replay of the tip's branch from the
 genesis, in a dict, by docs/RULES.md ("Cells"). Then all blocks are imported in one run,
-where a block is judged over what those before it left. At last an import, a `check`, a
+where a block is judged over what those before it left. At last three imports, a `check`, a
 `header` and a `cell` are run over disks of which one call fails, each call in its turn:
 none may answer anything else, and nothing that was kept is lost. Nothing is taken from
 the program.
@@ -144,7 +144,9 @@ def main():
     asks(chain.best[-1])
     emit('faults', INIT_CALLS, LEAST_CALLS)
     begins()
-    imports(chain.items)
+    # the last run is opened on one branch, and reads the blocks of the other from the disk where it judges on them
+    for first, end in ((0, 7), (7, 12), (12, None)):
+        imports(chain.items[first:end])
     # its input is spent on the tip's branch
     emit(NAME, 'check', 1, LEFT.item, b'refused J20\n')
     root = next(it for it in ancestors(chain.best[-1]) if it.number == 1)

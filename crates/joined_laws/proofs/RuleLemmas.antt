@@ -60,6 +60,12 @@ behind-forms : (spec : Specification) (branch : List Block) (b : Block) → firs
 unfolding all_rules
 behind-forms spec branch b unbroken = All-drop (λ rule. IsTrue rule.1) 14 (all_rules spec branch b) (all-hold spec branch b unbroken)
 
+-- J31
+pub reward-unbroken : (spec : Specification) (branch : List Block) (b : Block) → first_broken spec branch b ≡ None → IsTrue (pays_reward spec branch b)
+reward-unbroken spec branch b unbroken =
+    All-head (λ rule. IsTrue rule.1) (31, pays_reward spec branch b) ((32, has_next_dao spec branch b) ∷ [])
+    (holds-behind (rules_of_transactions spec branch b) (end_rules spec branch b) (behind-forms spec branch b unbroken))
+
 -- J32
 pub dao-unbroken : (spec : Specification) (branch : List Block) (b : Block) → first_broken spec branch b ≡ None → IsTrue (has_next_dao spec branch b)
 dao-unbroken spec branch b unbroken =

@@ -24,14 +24,14 @@ use Rattle.store_defs.proofs.JoinedLemmas.{is_kept_of_joined}
 
 -- ---- In the genesis
 
-outputs-hold : (t : Transaction) (i : ℕ) (output : CellOutput) → IsTrue (outputs_hold_their_own t) → slice_get t.raw.outputs i ≡ Some output
+pub outputs-hold : (t : Transaction) (i : ℕ) (output : CellOutput) → IsTrue (outputs_hold_their_own t) → slice_get t.raw.outputs i ≡ Some output
     → IsTrue (holds_its_own output (data_of t i))
 outputs-hold t i output hold there =
     let at : 0 + i ≡ i = omega arith in
     subst (λ (k : ℕ). IsTrue (holds_its_own output (data_of t k))) at
     (all-at (output_holds_its_own t) 0 t.raw.outputs i output hold there)
 
-genesis-holds : (b : Block) (o : OutPoint) (cell : Cell) → IsTrue (all_hold_capacity b) → IsOutputOf b o cell
+pub genesis-holds : (b : Block) (o : OutPoint) (cell : Cell) → IsTrue (all_hold_capacity b) → IsOutputOf b o cell
     → IsTrue (holds_its_own cell.output cell.content)
 genesis-holds b o cell all is =
     subst (λ (content : List ℕ). IsTrue (holds_its_own cell.output content)) is.content
@@ -45,16 +45,16 @@ plain-untyped t i output plain there typed =
     false≢true (sym (ap not typed)
     ∙ every-at (λ (x : CellOutput). not (is_some x.type_script)) t.raw.outputs i output (and_parts _ _ (and_parts _ _ plain).0).1 there)
 
-first-formed : (live : OutPoint → Option Cell) (number : ℕ) (txs : List Transaction) (t : Transaction) → IsTrue (is_first_well_formed live number txs)
+pub first-formed : (live : OutPoint → Option Cell) (number : ℕ) (txs : List Transaction) (t : Transaction) → IsTrue (is_first_well_formed live number txs)
     → slice_get txs 0 ≡ Some t → IsTrue (is_well_formed_cellbase live number t)
 first-formed live number [] t formed there = absurd (cc)
 first-formed live number (first ∷ later) t formed there =
     subst (λ (x : Transaction). IsTrue (is_well_formed_cellbase live number x)) (same_Some first t there) formed
 
-formed-plain : (live : OutPoint → Option Cell) (number : ℕ) (t : Transaction) → IsTrue (is_well_formed_cellbase live number t) → IsTrue (has_plain_output t)
+pub formed-plain : (live : OutPoint → Option Cell) (number : ℕ) (t : Transaction) → IsTrue (is_well_formed_cellbase live number t) → IsTrue (has_plain_output t)
 formed-plain live number t formed = (and_parts _ _ (and_parts _ _ (and_parts _ _ formed).0).0).1
 
-rest-at : {X : Type 0} (xs : List X) (i : ℕ) (x : X) → slice_get xs (suc i) ≡ Some x → slice_get (drop 1 xs) i ≡ Some x
+pub rest-at : {X : Type 0} (xs : List X) (i : ℕ) (x : X) → slice_get xs (suc i) ≡ Some x → slice_get (drop 1 xs) i ≡ Some x
 rest-at [] i x there = absurd (cc)
 rest-at (y ∷ ys) i x there = there
 

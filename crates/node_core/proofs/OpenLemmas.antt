@@ -21,6 +21,7 @@ use Rattle.verdict_defs.specs.Chain.{Chain}
 use Rattle.log_defs.specs.Log.{Record, LogContent, content_of_records, log_of, records_of, end_of_log}
 use Rattle.log_defs.specs.Rest.{IsAtRest, IsSettled, HasLog}
 use Rattle.log_defs.proofs.Contents.{says_its_records}
+use Rattle.store_defs.proofs.SnapshotLemmas.{stands_where_it_says_the_same, stands_for_what_it_keeps}
 use Rattle.store_defs.specs.Store.{Store, NoLog, Keeps, store_of, store_of_log, chain_of, StandsFor, IsSound, AreJoined}
 use Rattle.chain_tree.specs.declared.entry.Entry.{Entry}
 use Rattle.chain_tree.specs.Blocks.{AreRated}
@@ -31,11 +32,11 @@ use Rattle.log_file.proofs.Settling.{others_kept, others_on}
 use Rattle.block_store.specs.Held.{CacheValue, Holds, AgreesWith}
 use Rattle.block_store.specs.Stored.{CanBeKept}
 use Rattle.node_core.specs.Node.{KeptValue, NodeValue, kept_of, node_of, stored_of, CountFees, IsWithin, IsReadBy, IsOf, IsItsOwn, IsSoundNode, IsOnlyImage, IsOn, IsLeftByOpening}
-use Rattle.node_core.specs.Opening.{LeavesStore, IsReadFrom}
+use Rattle.node_core.specs.Opening.{SaysTheSame, LeavesStore, IsReadFrom}
 use Rattle.node_core.specs.Steps.{distance_to, moves_to_open}
 use Rattle.node_core.proofs.KeepingLemmas.{left_by_opening}
 use Rattle.node_core.proofs.RecordedLemmas.{paired-kept, same_image}
-use Rattle.node_core.proofs.OpeningLemmas.{same_chain, joined-log, joined-chain, records-are, can-be-kept, chain-opened, counted-opened, joined-opened, rated-opened}
+use Rattle.node_core.proofs.OpeningLemmas.{joined-log, joined-chain, records-are, can-be-kept, chain-opened, counted-opened, joined-opened, rated-opened}
 
 -- ---- What is said of what a disk reads as
 
@@ -172,6 +173,29 @@ not_sound None mid same none stopped = tt
 not_sound {Stopped} (Some now) mid same none stopped =
     no_log_sound now (subst (λ (o : Option Image). IfSome o (λ now. Stopped → log_of now.log ≡ None)) same none stopped)
 
+-- ---- What a crash leaves
+
+abbrev SaysSo : Image → List ℕ → Type 0
+SaysSo now bytes = log_of bytes ≡ log_of now.log
+
+-- an image of before, or one whose log says what it said
+abbrev LeftSo : (Image → Type 0) → Image → Image → Type 0
+LeftSo images now image = images image ⊎ HasLog (SaysSo now) images image
+
+snaps_as_read : (images1 : Image → Type 0) (now : Image) → IsDurable SnapA images1 now → IsDurable SnapB images1 now
+    → (image : Image) → LeftSo images1 now image → (image.snap_a ≡ now.snap_a) × (image.snap_b ≡ now.snap_b)
+snaps_as_read images1 now durable_a durable_b image (inl here) = (durable_a image here, durable_b image here)
+snaps_as_read images1 now durable_a durable_b image (inr (before, here, (bytes, says, is))) =
+    (ap (λ (i : Image). i.snap_a) is ∙ durable_a before here, ap (λ (i : Image). i.snap_b) is ∙ durable_b before here)
+
+-- the areas of snapshots were synced before
+says_the_same : (images images1 : Image → Type 0) (now : Image) → NoneNew images images1 → IsDurable SnapA images1 now → IsDurable SnapB images1 now
+    → (image : Image) → LeftSo images1 now image → images image ⊎ SaysTheSame now image
+says_the_same images images1 now none_new durable_a durable_b image (inl here) = inl (none_new image here)
+says_the_same images images1 now none_new durable_a durable_b image (inr (before, here, (bytes, says, is))) =
+    let snaps = snaps_as_read images1 now durable_a durable_b image (inr (before, here, (bytes, says, is))) in
+    inr (record { says = ap (λ (i : Image). log_of i.log) is ∙ says; snap_a = snaps.0; snap_b = snaps.1 })
+
 -- ---- What opening leaves of a disk
 
 module _ {D : Type 0} (reads_as : D → Option Image) (images : D → Image → Type 0) (moment : D → ℕ) (left_since : D → ℕ → Image → Type 0) where
@@ -191,16 +215,18 @@ module _ {D : Type 0} (reads_as : D → Option Image) (images : D → Image → 
     no_log = λ now told nothing. record { reads = same; images = none_new; moments = moments };
     rests = λ now told closed. record { reads = same; images = none_new; moments = moments };
     keeps = λ now told. leaves_also moment left_since old new (images old) (IsLeftByOpening now.log (images old)) moments (λ image left. inl left);
+    stays = λ now told. leaves_also moment left_since old new (images old) (λ image. images old image ⊎ SaysTheSame now image) moments (λ image left. inl left);
     others = others_kept (reads_as old) (reads_as new) same;
   }
 
   -- and then its log was read
   pub leaves_read : (old mid new : D) → reads_as mid ≡ reads_as old → NoneNew (images old) (images mid) → LeavesOnly moment left_since old mid (images old)
+      → IfSome (reads_as mid) (IsDurable SnapA (images mid)) → IfSome (reads_as mid) (IsDurable SnapB (images mid))
       → IfSome (reads_as mid) (λ now. log_of now.log ≡ None → IsOnlyRead reads_as images moment left_since mid new)
       → IfSome (reads_as mid) (λ now. slice_index now.log (end_of_log now.log) ≢ 1 → IsOnlyRead reads_as images moment left_since mid new)
       → IfSome (reads_as mid) (λ now. LeavesOnly moment left_since mid new (λ image. images mid image ⊎ HasLog (λ bytes. log_of bytes ≡ log_of now.log) (images mid) image))
       → OthersRead Log (reads_as mid) (reads_as new) → LeavesStore reads_as images moment left_since old new
-  leaves_read old mid new same none_new moments no_log rests keeps others = record {
+  leaves_read old mid new same none_new moments durable_a durable_b no_log rests keeps others = record {
     no_log = λ now told nothing. only_read-then old mid new same none_new moments
         (on_told (λ image. log_of image.log ≡ None → IsOnlyRead reads_as images moment left_since mid new) (reads_as old) (reads_as mid) now same told no_log
         (no_log_in now nothing));
@@ -214,6 +240,14 @@ module _ {D : Type 0} (reads_as : D → Option Image) (images : D → Image → 
         (on_told (λ was. LeavesOnly moment left_since mid new (λ image. images mid image ⊎ HasLog (λ bytes. log_of bytes ≡ log_of was.log) (images mid) image))
         (reads_as old) (reads_as mid) now same told keeps)
         (left_by_opening now.log (images old) (images mid) none_new));
+    stays = λ now told. leaves_then moment left_since old mid new (λ image. images old image ⊎ SaysTheSame now image)
+        (leaves_also moment left_since old mid (images old) (λ image. images old image ⊎ SaysTheSame now image) moments (λ image left. inl left))
+        (leaves_also moment left_since mid new (λ image. images mid image ⊎ HasLog (λ bytes. log_of bytes ≡ log_of now.log) (images mid) image)
+        (λ image. images old image ⊎ SaysTheSame now image)
+        (on_told (λ was. LeavesOnly moment left_since mid new (λ image. images mid image ⊎ HasLog (λ bytes. log_of bytes ≡ log_of was.log) (images mid) image))
+        (reads_as old) (reads_as mid) now same told keeps)
+        (says_the_same (images old) (images mid) now none_new (on_told (IsDurable SnapA (images mid)) (reads_as old) (reads_as mid) now same told durable_a)
+        (on_told (IsDurable SnapB (images mid)) (reads_as old) (reads_as mid) now same told durable_b)));
     others = others_on (reads_as old) (reads_as mid) (reads_as new) same others;
   }
 
@@ -236,6 +270,9 @@ module _ {D : Type 0} (reads_as : D → Option Image) (images : D → Image → 
     keeps = λ now told. leaves_then moment left_since old mid new (IsLeftByOpening now.log (images old)) (first.keeps now told)
         (leaves_also moment left_since mid new (images mid) (IsLeftByOpening now.log (images old)) second.moments
         (now_too moment left_since images counts_now old mid (IsLeftByOpening now.log (images old)) (first.keeps now told)));
+    stays = λ now told. leaves_then moment left_since old mid new (λ image. images old image ⊎ SaysTheSame now image) (first.stays now told)
+        (leaves_also moment left_since mid new (images mid) (λ image. images old image ⊎ SaysTheSame now image) second.moments
+        (now_too moment left_since images counts_now old mid (λ image. images old image ⊎ SaysTheSame now image) (first.stays now told)));
     others = subst (OthersRead Log (reads_as old)) (sym second.reads) first.others;
   }
 
@@ -251,94 +288,7 @@ told_before None new (bytes, wrote) some = absurd (no_some (subst IsSome wrote s
     no_some some = absurd (cc)
 told_before (Some now) new others some = (now, refl)
 
--- ---- What a crash leaves
-
-abbrev SaysSo : Image → List ℕ → Type 0
-SaysSo now bytes = log_of bytes ≡ log_of now.log
-
--- an image of before, or one whose log says what it said
-abbrev LeftSo : (Image → Type 0) → Image → Image → Type 0
-LeftSo images now image = images image ⊎ HasLog (SaysSo now) images image
-
-module _ (images0 images1 : Image → Type 0) (none_new : NoneNew images0 images1) (sound : (image : Image) → images0 image → IsSound image) where
-  no_snaps : (image : Image) → IsSound image → (image.snap_a ≡ []) × (image.snap_b ≡ [])
-  no_snaps image (chain, stands) = (stands.no_snap_a, stands.no_snap_b)
-
-  left_snaps : (now image : Image) → LeftSo images1 now image → (image.snap_a ≡ []) × (image.snap_b ≡ [])
-  left_snaps now image (inl here) = no_snaps image (sound image (none_new image here))
-  left_snaps now image (inr (before, here, (bytes, says, is))) =
-      let snaps = no_snaps before (sound before (none_new before here)) in
-      (ap (λ (i : Image). i.snap_a) is ∙ snaps.0, ap (λ (i : Image). i.snap_b) is ∙ snaps.1)
-
-  chain_so : (now : Image) (chain : Chain) (log : LogContent) → log_of now.log ≡ Some log → store_of now ≡ Keeps chain → chain_of log ≡ chain
-  chain_so now chain log is keeps = same_chain (chain_of log) chain (sym (store_keeps now log is) ∙ keeps)
-
-  says_so : (now image : Image) → HasLog (SaysSo now) images1 image → log_of image.log ≡ log_of now.log
-  says_so now image (before, here, (bytes, says, is)) = ap (λ (i : Image). log_of i.log) is ∙ says
-
-  stands_so : (now image : Image) (chain : Chain) → IsSound now → store_of now ≡ Keeps chain → HasLog (SaysSo now) images1 image → StandsFor chain image
-  stands_so now image chain (kept, stands) keeps left =
-      let snaps = left_snaps now image (inr left) in
-      record {
-        log = stands.log;
-        is_log = says_so now image left ∙ stands.is_log;
-        keeps = chain_so now chain stands.log stands.is_log keeps;
-        joined = stands.joined;
-        no_snap_a = snaps.0;
-        no_snap_b = snaps.1;
-      }
-
-  -- when it is opened
-  only_at : (images2 : Image → Type 0) (reads2 : Option Image) (place : ℕ) (chain : Chain) (now : Image) (log : LogContent) → IsSound now
-      → log_of now.log ≡ Some log → content_of_records (records_of (drop 8 now.log)) ≡ Some log → chain_of log ≡ chain
-      → IfSome reads2 images2 → IsSettled place (records_of (drop 8 now.log)) reads2 images2 → ((image : Image) → images2 image → LeftSo images1 now image)
-      → IsOnlyImage chain reads2 images2
-  only_at images2 reads2 place chain now log is_sound is_log says keeps read2 settled left =
-      let mine = left_snaps now settled.now (left settled.now (subst (λ (o : Option Image). IfSome o images2) settled.told read2)) in
-      record {
-        now = settled.now;
-        told = settled.told;
-        one = λ image here.
-            let snaps = left_snaps now image (left image here) in
-            same_image image settled.now (settled.durable image here) (snaps.0 ∙ sym mine.0) (snaps.1 ∙ sym mine.1);
-        stands = record {
-          log = log;
-          is_log = says_its_records place (records_of (drop 8 now.log)) settled.now.log settled.rest ∙ says;
-          keeps = keeps;
-          joined = joined-log now log is_sound is_log;
-          no_snap_a = mine.0;
-          no_snap_b = mine.1;
-        };
-      }
-
-  pub opened_only : (images2 : Image → Type 0) (reads0 reads1 reads2 : Option Image) (place : ℕ) (kept : KeptValue) (spec : Specification) (stored : List Stored) (entries : List Entry)
-      → kept ≡ kept_of spec stored entries → IfSome reads0 images0 → IfSome reads2 images2 → reads1 ≡ reads0 → IfSome reads1 (Opened spec stored entries)
-      → IfSome reads1 (λ now. IsSettled place (records_of (drop 8 now.log)) reads2 images2)
-      → IfSome reads1 (λ now. (image : Image) → images2 image → LeftSo images1 now image)
-      → IfSome reads0 (λ _. IsOnlyImage kept.chain reads2 images2)
-  opened_only images2 reads0 reads1 reads2 place kept spec stored entries of read0 read2 same opened settled left =
-      if_told (λ _. IsOnlyImage kept.chain reads2 images2) reads0 (λ now told.
-      let found = on_told (Opened spec stored entries) reads0 reads1 now same told opened in
-      only_at images2 reads2 place kept.chain now found.0 (sound now (at_some images0 reads0 now told read0)) found.1.is_log found.1.says
-      (chain-opened now.log found.0 kept spec stored entries of found.1) read2
-      (on_told (λ image. IsSettled place (records_of (drop 8 image.log)) reads2 images2) reads0 reads1 now same told settled)
-      (on_told (λ was. (image : Image) → images2 image → LeftSo images1 was image) reads0 reads1 now same told left))
-
--- at each moment
-pub stands_while_opened : (images : Image → Type 0) → ((image : Image) → images image → IsSound image) → (reads : Option Image) (now : Image) (chain : Chain)
-    → IfSome reads images → reads ≡ Some now → store_of now ≡ Keeps chain → (image : Image) → IsLeftByOpening now.log images image
-    → images image ⊎ StandsFor chain image
-stands_while_opened images sound reads now chain read told keeps image (inl here) = inl here
-stands_while_opened images sound reads now chain read told keeps image (inr left) =
-    inr (stands_so images images (λ _ here. here) sound now image chain (sound now (at_some images reads now told read)) keeps left)
-
 -- ---- The image that is left where each area was synced
-
-snaps_as_read : (images1 : Image → Type 0) (now : Image) → IsDurable SnapA images1 now → IsDurable SnapB images1 now
-    → (image : Image) → LeftSo images1 now image → (image.snap_a ≡ now.snap_a) × (image.snap_b ≡ now.snap_b)
-snaps_as_read images1 now durable_a durable_b image (inl here) = (durable_a image here, durable_b image here)
-snaps_as_read images1 now durable_a durable_b image (inr (before, here, (bytes, says, is))) =
-    (ap (λ (i : Image). i.snap_a) is ∙ durable_a before here, ap (λ (i : Image). i.snap_b) is ∙ durable_b before here)
 
 one_as_read : (images1 images2 : Image → Type 0) (reads2 : Option Image) (now : Image) (place : ℕ) (records : List Record) (bytes : List ℕ)
     → IsDurable SnapA images1 now → IsDurable SnapB images1 now → reads2 ≡ Some (with_content Log bytes now) → IsSettled place records reads2 images2
@@ -356,6 +306,47 @@ pub one_after : (reads1 reads2 : Option Image) (images1 images2 : Image → Type
 one_after None reads2 images1 images2 place durable_a durable_b (bytes, wrote) settled left = subst (λ (o : Option Image). HasOneImage o images2) (sym wrote) tt
 one_after (Some now) reads2 images1 images2 place durable_a durable_b (bytes, wrote) settled left =
     one_as_read images1 images2 reads2 now place (records_of (drop 8 now.log)) bytes durable_a durable_b wrote settled left
+
+-- ---- The chain that it stands for
+
+-- a sound image that keeps a chain stands for it
+stands_now : (now : Image) (chain : Chain) → IsSound now → store_of now ≡ Keeps chain → StandsFor chain now
+stands_now now chain sound keeps = (stands_for_what_it_keeps chain now).1 (sound, keeps)
+
+only_at : (images2 : Image → Type 0) (reads2 : Option Image) (place : ℕ) (chain : Chain) (now : Image) (log : LogContent) (bytes : List ℕ) → StandsFor chain now
+    → log_of now.log ≡ Some log → content_of_records (records_of (drop 8 now.log)) ≡ Some log → reads2 ≡ Some (with_content Log bytes now)
+    → IsSettled place (records_of (drop 8 now.log)) reads2 images2 → HasOneImage reads2 images2 → IsOnlyImage chain reads2 images2
+only_at images2 reads2 place chain now log bytes stands is_log says wrote settled one =
+    let same : settled.now ≡ with_content Log bytes now = same_Some settled.now (with_content Log bytes now) (sym settled.told ∙ wrote) in
+    record {
+      now = settled.now;
+      told = settled.told;
+      one = at_some (λ image. (other : Image) → images2 other → other ≡ image) reads2 settled.now settled.told one;
+      stands = stands_where_it_says_the_same chain now settled.now stands
+          (says_its_records place (records_of (drop 8 now.log)) settled.now.log settled.rest ∙ says ∙ sym is_log)
+          (ap (λ (i : Image). i.snap_a) same) (ap (λ (i : Image). i.snap_b) same);
+    }
+
+pub opened_only : (images0 images2 : Image → Type 0) → ((image : Image) → images0 image → IsSound image)
+    → (reads0 reads1 reads2 : Option Image) (place : ℕ) (kept : KeptValue) (spec : Specification) (stored : List Stored) (entries : List Entry)
+    → kept ≡ kept_of spec stored entries → IfSome reads0 images0 → reads1 ≡ reads0 → IfSome reads1 (Opened spec stored entries) → OthersRead Log reads1 reads2
+    → IfSome reads1 (λ now. IsSettled place (records_of (drop 8 now.log)) reads2 images2) → HasOneImage reads2 images2
+    → IfSome reads0 (λ _. IsOnlyImage kept.chain reads2 images2)
+opened_only images0 images2 sound reads0 reads1 reads2 place kept spec stored entries of read0 same opened (bytes, wrote) settled one =
+    if_told (λ _. IsOnlyImage kept.chain reads2 images2) reads0 (λ now told.
+    let found = on_told (Opened spec stored entries) reads0 reads1 now same told opened in
+    let keeps : store_of now ≡ Keeps kept.chain = store_keeps now found.0 found.1.is_log ∙ ap Keeps (chain-opened now.log found.0 kept spec stored entries of found.1) in
+    only_at images2 reads2 place kept.chain now found.0 bytes (stands_now now kept.chain (sound now (at_some images0 reads0 now told read0)) keeps) found.1.is_log found.1.says
+    (wrote ∙ ap (option_map (with_content Log bytes)) (same ∙ told))
+    (on_told (λ image. IsSettled place (records_of (drop 8 image.log)) reads2 images2) reads0 reads1 now same told settled) one)
+
+-- at each moment
+pub stands_while_opened : (images : Image → Type 0) → ((image : Image) → images image → IsSound image) → (reads : Option Image) (now : Image) (chain : Chain)
+    → IfSome reads images → reads ≡ Some now → store_of now ≡ Keeps chain → (image : Image) → images image ⊎ SaysTheSame now image
+    → images image ⊎ StandsFor chain image
+stands_while_opened images sound reads now chain read told keeps image (inl here) = inl here
+stands_while_opened images sound reads now chain read told keeps image (inr same) =
+    inr (stands_where_it_says_the_same chain now image (stands_now now chain (sound now (at_some images reads now told read)) keeps) same.says same.snap_a same.snap_b)
 
 -- ---- A disk that was looked at
 

@@ -1,5 +1,5 @@
 // A node: what is kept of a store, and its disk.
-ghost use Rattle.std.specs.Prelude.{◌≡◌, ◌≢◌, ◌⊎◌, ◌↔◌, ◌<◌, ◌≤◌, ◌+◌, ◌-◌, ◌^◌, ◌++◌, ◌∷◌, [], ℕ, false, Ok, Err, List, None, Some, length, drop, IfOk, IfErr, OnOk, IfSome, IsSome, IsTrue, pos, true};
+ghost use Rattle.std.specs.Prelude.{◌≡◌, ◌≢◌, ◌⊎◌, ◌↔◌, ◌<◌, ◌≤◌, ◌+◌, ◌-◌, ◌^◌, ◌++◌, ◌∷◌, [], ℕ, false, true, Ok, Err, List, None, Some, length, drop, IfOk, IfErr, OnOk, IfSome, IsSome, IsTrue, pos};
 ghost use Rattle.std.specs.Option.{option_map};
 ghost use Rattle.outside.specs.Causes.{CountsFault};
 ghost use Rattle.outside.specs.Disk.{HasOneImage, OthersRead, LeavesOnly};

@@ -51,7 +51,7 @@ blocks-of-places kept (p ∷ ps) height within =
     by_height b is rest (suc n) = rest n
 
 -- it stands at the place of the height
-at-height : (kept : List Block) (parent height : ℕ) (b : Block) → parent < length kept → block_at (branch kept parent) height ≡ Some b
+pub at-height : (kept : List Block) (parent height : ℕ) (b : Block) → parent < length kept → block_at (branch kept parent) height ≡ Some b
     → block_at kept (slice_index (branch_places kept parent) height) ≡ Some b
 unfolding branch_places
 at-height kept parent height b below there =

@@ -3,3 +3,4 @@ pub mod BranchLemmas
 pub mod SpentLemmas
 pub mod FitLaws
 pub mod WayLaws
+pub mod HeldLaws

@@ -1,8 +1,9 @@
-//! What `go_to` of reorg asks of kept blocks holds of a chain of canonical blocks that has joined with its own exts beside
-//! it. Laws as contracts of functions that do nothing.
+//! What `go_to` of reorg asks of kept blocks, and what is asked of a snapshot that is read, holds of a chain of canonical
+//! blocks that has joined with its own exts beside it. Laws as contracts of functions that do nothing.
 #![tactic(auto)]
 
 ghost use Rattle.reorg_laws.specs.Laws.{KeptAreCanonical, StoredAreCanonical, ExtsFit, JoinedExtsFit, JoinedCanBeTakenBack};
+ghost use Rattle.reorg_laws.specs.Laws.{CellsHoldTheirOwn, RowsAreKept, SnapshotRowsAreKept};
 
 /// States that the blocks of a chain are canonical: with the genesis alone, after any item, and where an image stands for
 /// it. It does nothing.
@@ -22,4 +23,12 @@ pub fn own_exts()
 /// nothing.
 pub fn way_of_joined()
     ensures can_be_taken_back { JoinedCanBeTakenBack }
+{}
+
+/// States of a chain of canonical blocks that has joined: each live cell of a branch holds what it occupies, so each row of
+/// a branch, and each of a snapshot of the blocks, is one of a kept block and occupies at most its capacity. It does nothing.
+pub fn rows_of_joined()
+    ensures cells_hold_their_own { CellsHoldTheirOwn }
+    ensures rows_are_kept { RowsAreKept }
+    ensures snapshot_rows_are_kept { SnapshotRowsAreKept }
 {}

@@ -65,7 +65,28 @@ fn import<D: Disk, L: Ledger>(
     }
 }
 
-/// The verdicts on the blocks of a chain, and the number of live cells after them, where a node holds so many blocks.
+/// The verdicts on items that are imported one after the other, and the number of live cells after them.
+fn verdicts_on<D: Disk, L: Ledger>(
+    alloc: Global,
+    disk: &mut D,
+    opened: Node,
+    items: &[Vec<u8>],
+    steps: &mut Steps<L>,
+) -> Option<(Vec<Verdict>, u64)>
+    requires { IsItsOwn opened (D.reads_as disk.old) (D.images disk.old) }
+{
+    let mut node = opened;
+    let mut found = Vec::new(alloc);
+    'items: for item in items {
+        let (next, verdict) = import(alloc, disk, node, item, steps)?;
+        node = next;
+        found.push(verdict).ok()?;
+    }
+    let rows = node.state().rows();
+    Some((found, rows))
+}
+
+/// The same of a chain over its genesis, where a node holds so many blocks.
 fn verdicts<L: Ledger>(
     alloc: Global,
     made: &Made,
@@ -75,15 +96,8 @@ fn verdicts<L: Ledger>(
     requires { 1 ≤ held }
 {
     let mut disk = MemDisk::new(alloc, Vec::new(alloc));
-    let mut node = open_new(alloc, &mut disk, made, held, steps)?;
-    let mut found = Vec::new(alloc);
-    'items: for item in &made.blocks {
-        let (next, verdict) = import(alloc, &mut disk, node, item, steps)?;
-        node = next;
-        found.push(verdict).ok()?;
-    }
-    let rows = node.state().rows();
-    Some((found, rows))
+    let node = open_new(alloc, &mut disk, made, held, steps)?;
+    verdicts_on(alloc, &mut disk, node, &made.blocks, steps)
 }
 
 fn are_same(one: &Verdict, other: &Verdict) -> bool {

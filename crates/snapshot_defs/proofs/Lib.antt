@@ -1,3 +1,4 @@
 pub mod Fields
 pub mod SnapshotLaws
 pub mod StayLaws
+pub mod AreaLaws

@@ -1,10 +1,12 @@
 //! Snapshots by their bytes: the live cells of a branch as an area of the disk keeps them, an open gate, and when an area is
 //! that of some kept blocks. Definitions, and as contracts of functions that do nothing the laws that bytes hold at most one
-//! snapshot, whatever follows it, and that a snapshot stays one of the kept blocks as others join. How one is read and written
-//! is left to `snapshots`.
+//! snapshot, whatever follows it, that a snapshot stays one of the kept blocks as others join, to which area it goes, and which
+//! bytes of an area are sound. How one is read and written is left to `snapshots`.
 #![tactic(auto)]
 
 ghost use Rattle.snapshot_defs.specs.Laws.{BytesTellSnapshots, OpensItsGate, FindsItself, StaysOfBlocks, StaysSound};
+ghost use Rattle.snapshot_defs.specs.Laws.{GoesByParity, NoneInTheLog, AreasTakeTurns};
+ghost use Rattle.snapshot_defs.specs.Laws.{ClosedIsSound, HeldIsSound, ItsBytesAreSound, SoundHoldsItsOwn, SoundHasItsNumber, IsOfItsTip, TellsItsRows};
 
 /// States what bytes hold: a snapshot behind an open gate, that of which they are made and no other, whatever stands after it.
 /// It does nothing.
@@ -19,4 +21,24 @@ pub fn bytes_of_snapshots()
 pub fn snapshots_stay()
     ensures stays_of_blocks { StaysOfBlocks }
     ensures stays_sound { StaysSound }
+{}
+
+/// States to which area a snapshot goes: by its number to two of them in turn, never to the log. It does nothing.
+pub fn areas_in_turn()
+    ensures goes_by_parity { GoesByParity }
+    ensures none_in_the_log { NoneInTheLog }
+    ensures areas_take_turns { AreasTakeTurns }
+{}
+
+/// States which bytes of an area are sound: those without an open gate, and those that hold a snapshot of the kept blocks
+/// which belongs there, and no others; and that a snapshot is one of the kept blocks by its tip and the rows of the tip's
+/// branch. It does nothing.
+pub fn sound_areas()
+    ensures closed_is_sound { ClosedIsSound }
+    ensures held_is_sound { HeldIsSound }
+    ensures its_bytes_are_sound { ItsBytesAreSound }
+    ensures sound_holds_its_own { SoundHoldsItsOwn }
+    ensures sound_has_its_number { SoundHasItsNumber }
+    ensures is_of_its_tip { IsOfItsTip }
+    ensures tells_its_rows { TellsItsRows }
 {}

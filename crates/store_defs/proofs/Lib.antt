@@ -1,4 +1,5 @@
 pub mod Joining
+pub mod SnapshotLemmas
 pub mod StoreLemmas
 pub mod JoinedLemmas
 pub mod ExtLemmas

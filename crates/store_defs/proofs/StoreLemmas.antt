@@ -4,11 +4,13 @@ use Rattle.std.specs.Prelude.{◌&&◌, ◌==◌, is_none, slice_get}
 use Rattle.std.proofs.lemmas.Bool.{le-leb, and_from}
 use Rattle.std.proofs.lemmas.List.{length_push, take-append-le, take_all}
 use Rattle.codec_defs.specs.Schema.{Block}
+use Rattle.outside.specs.declared.disk.Area.{Area}
+use Rattle.outside.specs.declared.disk.Area.TheVariants.{SnapA, SnapB}
 use Rattle.chain_defs.proofs.KeptLaws.{slice_get-pushed}
 use Rattle.time_defs.specs.Specification.{specification_of}
 use Rattle.verdict_defs.specs.Verdict.{kept_after}
 use Rattle.chain_defs.specs.Kept.{kept_limit, blocks_of_item}
-use Rattle.verdict_defs.specs.Chain.{Chain, chain_after}
+use Rattle.verdict_defs.specs.Chain.{Chain, chain_of_genesis, chain_after}
 use Rattle.verdict_defs.specs.Laws.{CanJoin}
 use Rattle.verdict_defs.proofs.VerdictLaws.{keeps-what-joins}
 use Rattle.genesis_defs.specs.Genesis.{broken_genesis_rule}
@@ -18,7 +20,10 @@ use Rattle.store_defs.specs.JoinLaws.{record_over}
 use Rattle.store_defs.specs.Store.{HasJoined, EachHasJoined, chain_of, chain_before, ext_over}
 use Rattle.store_defs.specs.StoreLaws.{StandsAsItSays, StandsAfterAnItem, StandsForTheGenesis}
 use Rattle.log_defs.proofs.Contents.{counts_its_records, gives_the_parts, says_its_records, adds_a_block, said}
+use Rattle.snapshot_defs.specs.Snapshot.{has_open_gate, IsSoundArea}
 use Rattle.store_defs.proofs.Joining.{takes_what_joins}
+use Rattle.snapshot_defs.proofs.AreaLaws.{closed-is-sound}
+use Rattle.store_defs.proofs.SnapshotLemmas.{stays_sound_after_an_item}
 
 pub stands_as_it_says : StandsAsItSays
 stands_as_it_says chain image bytes stands same = record {
@@ -26,8 +31,8 @@ stands_as_it_says chain image bytes stands same = record {
   is_log = same ∙ stands.is_log;
   keeps = stands.keeps;
   joined = stands.joined;
-  no_snap_a = stands.no_snap_a;
-  no_snap_b = stands.no_snap_b;
+  snap_a = stands.snap_a;
+  snap_b = stands.snap_b;
 }
 
 -- ---- Room
@@ -109,8 +114,8 @@ stands_after_an_item chain item image bytes place next records stands can short 
       is_log = says_its_records next (records ++ r ∷ []) bytes more ∙ adds_a_block records r log can.block says takes room;
       keeps = keeps_after chain item log stands.keeps can count short;
       joined = each_joined_after chain item log stands.keeps can count short stands.joined;
-      no_snap_a = stands.no_snap_a;
-      no_snap_b = stands.no_snap_b;
+      snap_a = stays_sound_after_an_item chain item SnapA image.snap_a stands.snap_a;
+      snap_b = stays_sound_after_an_item chain item SnapB image.snap_b stands.snap_b;
     }
 
 -- ---- A new log
@@ -120,6 +125,8 @@ no_more limit = le-leb 0 limit (omega arith)
 
 pub stands_for_the_genesis : StandsForTheGenesis
 stands_for_the_genesis specification genesis image place good_spec good_item rest no_a no_b =
+    let empty_is_sound : (area : Area) (bytes : List ℕ) → bytes ≡ [] → IsSoundArea (chain_of_genesis specification genesis).blocks area bytes =
+    λ area bytes none. closed-is-sound (chain_of_genesis specification genesis).blocks area bytes (ap has_open_gate none) in
     let one : Record = record { kind = 1; body = specification } in
     let two : Record = record { kind = 2; body = genesis } in
     let first : are_first one two ≡ true =
@@ -132,6 +139,6 @@ stands_for_the_genesis specification genesis image place good_spec good_item res
           ∙ ap (λ (t : Bool). cond t (said one two [] (Some (blocks_of_item genesis))) None) test;
       keeps = refl;
       joined = λ at r there. absurd (cc);
-      no_snap_a = no_a;
-      no_snap_b = no_b;
+      snap_a = empty_is_sound SnapA image.snap_a no_a;
+      snap_b = empty_is_sound SnapB image.snap_b no_b;
     }

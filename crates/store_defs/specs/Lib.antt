@@ -1,3 +1,4 @@
 pub mod Store
 pub mod JoinLaws
 pub mod StoreLaws
+pub mod SnapshotLaws

@@ -1,5 +1,6 @@
 -- What an image of the disk keeps, and when it is sound (docs/STORE.md).
 use Rattle.std.specs.Prelude.{◌≡◌, ℕ, ◌+◌, ◌<◌, ◌==◌, List, [], slice_get, length, take, Option, Some, None, is_some, if◌then◌else◌}
+use Rattle.outside.specs.declared.disk.Area.TheVariants.{SnapA, SnapB}
 use Rattle.outside.specs.Image.{Image}
 use Rattle.codec_defs.specs.Shape.{decoded}
 use Rattle.codec_defs.specs.Schema.{Block, block}
@@ -12,6 +13,7 @@ use Rattle.verdict_defs.specs.Chain.{Chain, chain_after}
 use Rattle.verdict_defs.specs.Laws.{MayJoin}
 use Rattle.genesis_defs.specs.Genesis.{genesis_rules}
 use Rattle.log_defs.specs.Log.{LogContent, Record, log_of, parts_of_body, new_log}
+use Rattle.snapshot_defs.specs.Snapshot.{IsSoundArea}
 
 -- What stands in the folder when a run begins.
 pub data Store : Type 0 where
@@ -89,20 +91,21 @@ chain_before log count = record { spec = specification_of log.specification; blo
 abbrev pub EachHasJoined : LogContent → Type 0
 EachHasJoined log = (place : ℕ) (r : Record) → slice_get log.records place ≡ Some r → HasJoined (chain_before log (place + 1)) r (chain_before log (place + 2))
 
--- An image stands for a chain: its log keeps just this, each block behind the genesis joined over those before it, and no snapshot is there.
+-- An image stands for a chain: its log keeps just this, each block behind the genesis joined over those before it; and where the gate of an area of
+-- snapshots is open, the area holds a snapshot of the chain's blocks that belongs there.
 pub record StandsFor (chain : Chain) (image : Image) : Type 0 where
   pub log : LogContent
   pub is_log : log_of image.log ≡ Some log
   pub keeps : chain_of log ≡ chain
   pub joined : EachHasJoined log
-  pub no_snap_a : image.snap_a ≡ []
-  pub no_snap_b : image.snap_b ≡ []
+  pub snap_a : IsSoundArea chain.blocks SnapA image.snap_a
+  pub snap_b : IsSoundArea chain.blocks SnapB image.snap_b
 
 -- a disk tells what it reads as exactly where it told before
 abbrev pub TellsAsBefore : Option Image → Option Image → Type 0
 TellsAsBefore old new = is_some new ≡ is_some old
 
--- no snapshot is there
+-- no snapshot is there: both areas are empty
 abbrev pub HasNoSnapshots : Image → Type 0
 HasNoSnapshots image = (image.snap_a ≡ []) × (image.snap_b ≡ [])
 

@@ -23,7 +23,7 @@ returns-in-Err-clause-cause g c = fault_counts _ _ _ _ c.in-Err.ensures.cause
 pub returns-in-Err-open-clause-left : goal.returns-in-Err-open-clause-left
 returns-in-Err-open-clause-left g c =
     leaves_read g.D.Disk.reads_as g.D.Disk.images g.D.Disk.moment g.D.Disk.left_since _ _ _ c.in-Ok.ensures.same c.in-Ok.ensures.images c.in-Ok.ensures.moments
-    c.open.ensures.no_log c.open.ensures.rests c.open.ensures.moments c.open.ensures.others
+    c.in-Ok.ensures.snap_a c.in-Ok.ensures.snap_b c.open.ensures.no_log c.open.ensures.rests c.open.ensures.moments c.open.ensures.others
 
 pub returns-in-Err-open-clause-not_a_store : goal.returns-in-Err-open-clause-not_a_store
 returns-in-Err-open-clause-not_a_store g c same =
@@ -35,7 +35,7 @@ returns-in-Err-open-clause-cause g c = counts_on _ _ _ (c.in-Ok.ensures.cause.un
 pub returns-in-Err-into_kept-clause-left : goal.returns-in-Err-into_kept-clause-left
 returns-in-Err-into_kept-clause-left g c =
     leaves_read g.D.Disk.reads_as g.D.Disk.images g.D.Disk.moment g.D.Disk.left_since _ _ _ c.in-Ok.ensures.same c.in-Ok.ensures.images c.in-Ok.ensures.moments
-    c.open.ensures.no_log c.open.ensures.rests c.open.ensures.moments c.open.ensures.others
+    c.in-Ok.ensures.snap_a c.in-Ok.ensures.snap_b c.open.ensures.no_log c.open.ensures.rests c.open.ensures.moments c.open.ensures.others
 
 pub returns-in-Err-into_kept-clause-not_a_store : goal.returns-in-Err-into_kept-clause-not_a_store
 returns-in-Err-into_kept-clause-not_a_store g c same =
@@ -50,7 +50,7 @@ returns-in-Err-into_kept-clause-cause g c =
 pub returns-in-Err-new-clause-left : goal.returns-in-Err-new-clause-left
 returns-in-Err-new-clause-left g c =
     leaves_read g.D.Disk.reads_as g.D.Disk.images g.D.Disk.moment g.D.Disk.left_since _ _ _ c.in-Ok.ensures.same c.in-Ok.ensures.images c.in-Ok.ensures.moments
-    c.open.ensures.no_log c.open.ensures.rests c.open.ensures.moments c.open.ensures.others
+    c.in-Ok.ensures.snap_a c.in-Ok.ensures.snap_b c.open.ensures.no_log c.open.ensures.rests c.open.ensures.moments c.open.ensures.others
 
 pub returns-in-Err-new-clause-not_a_store : goal.returns-in-Err-new-clause-not_a_store
 returns-in-Err-new-clause-not_a_store g c = λ e. absurd (not_wrong e)
@@ -67,7 +67,7 @@ invariant_of-result g c =
 pub returns-in-Ok-new-clause-left : goal.returns-in-Ok-new-clause-left
 returns-in-Ok-new-clause-left g c =
     leaves_read g.D.Disk.reads_as g.D.Disk.images g.D.Disk.moment g.D.Disk.left_since _ _ _ c.in-Ok.ensures.same c.in-Ok.ensures.images c.in-Ok.ensures.moments
-    c.open.ensures.no_log c.open.ensures.rests c.open.ensures.moments c.open.ensures.others
+    c.in-Ok.ensures.snap_a c.in-Ok.ensures.snap_b c.open.ensures.no_log c.open.ensures.rests c.open.ensures.moments c.open.ensures.others
 
 pub returns-in-Ok-new-clause-read : goal.returns-in-Ok-new-clause-read
 returns-in-Ok-new-clause-read g c =
@@ -84,9 +84,10 @@ returns-in-Ok-new-clause-one_image g c =
 
 pub returns-in-Ok-new-clause-image : goal.returns-in-Ok-new-clause-image
 returns-in-Ok-new-clause-image g c sound =
-    opened_only _ _ c.in-Ok.ensures.images sound _ _ _ _ c.in-Ok-open.opened.log.place c.in-Ok-into_kept.kept.0 c.in-Ok-open.opened.spec c.open.new.visitor.stored c.in-Ok-open.opened.tree.entries
-    c.in-Ok-into_kept.ensures.kept (g.met.D.Disk.reads_image c.args.disk.now) (g.met.D.Disk.reads_image c.open.new.disk) c.in-Ok.ensures.same c.in-Ok-open.ensures.opened
-    c.in-Ok-open.ensures.settled (if_some_also _ _ _ c.open.ensures.moments (λ now left. now_too g.D.Disk.moment g.D.Disk.left_since g.D.Disk.images g.met.D.Disk.counts_now _ _ _ left))
+    opened_only _ _ sound _ _ _ c.in-Ok-open.opened.log.place c.in-Ok-into_kept.kept.0 c.in-Ok-open.opened.spec c.open.new.visitor.stored c.in-Ok-open.opened.tree.entries
+    c.in-Ok-into_kept.ensures.kept (g.met.D.Disk.reads_image c.args.disk.now) c.in-Ok.ensures.same c.in-Ok-open.ensures.opened c.open.ensures.others c.in-Ok-open.ensures.settled
+    (one_after _ _ _ _ c.in-Ok-open.opened.log.place c.in-Ok.ensures.snap_a c.in-Ok.ensures.snap_b c.open.ensures.others c.in-Ok-open.ensures.settled
+    (if_some_also _ _ _ c.open.ensures.moments (λ now left. now_too g.D.Disk.moment g.D.Disk.left_since g.D.Disk.images g.met.D.Disk.counts_now _ _ _ left)))
 
 pub returns-in-Ok-new-clause-cause : goal.returns-in-Ok-new-clause-cause
 returns-in-Ok-new-clause-cause g c =

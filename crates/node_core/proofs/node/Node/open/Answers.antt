@@ -16,7 +16,7 @@ returns-in-Err-clause-left g c = c.read_store.ensures.left
 
 pub returns-in-Err-clause-moments : goal.returns-in-Err-clause-moments
 returns-in-Err-clause-moments g c now chain told keeps sound =
-    leaves_also g.D.Disk.moment g.D.Disk.left_since _ _ _ _ (c.read_store.ensures.left.keeps now told)
+    leaves_also g.D.Disk.moment g.D.Disk.left_since _ _ _ _ (c.read_store.ensures.left.stays now told)
     (stands_while_opened (g.D.Disk.images c.args.disk.now) sound (g.D.Disk.reads_as c.args.disk.now) now chain (g.met.D.Disk.reads_image c.args.disk.now) told keeps)
 
 pub returns-in-Err-clause-cause : goal.returns-in-Err-clause-cause
@@ -100,7 +100,7 @@ returns-in-Ok-moved-clause-sound g c =
 
 pub returns-in-Ok-moved-clause-moments : goal.returns-in-Ok-moved-clause-moments
 returns-in-Ok-moved-clause-moments g c now chain told keeps sound =
-    leaves_also g.D.Disk.moment g.D.Disk.left_since _ _ _ _ ((leaves_on g.D.Disk.reads_as g.D.Disk.images g.D.Disk.moment g.D.Disk.left_since g.met.D.Disk.counts_now _ _ _ c.read_store.ensures.left (g.met.D.Disk.content_rests _ _ c.moved.ensures.looked.content)).keeps now told)
+    leaves_also g.D.Disk.moment g.D.Disk.left_since _ _ _ _ ((leaves_on g.D.Disk.reads_as g.D.Disk.images g.D.Disk.moment g.D.Disk.left_since g.met.D.Disk.counts_now _ _ _ c.read_store.ensures.left (g.met.D.Disk.content_rests _ _ c.moved.ensures.looked.content)).stays now told)
     (stands_while_opened (g.D.Disk.images c.args.disk.now) sound (g.D.Disk.reads_as c.args.disk.now) now chain (g.met.D.Disk.reads_image c.args.disk.now) told keeps)
 
 pub returns-in-Ok-moved-clause-cause : goal.returns-in-Ok-moved-clause-cause
@@ -127,7 +127,7 @@ returns-in-Err-moved-clause-left g c =
 
 pub returns-in-Err-moved-clause-moments : goal.returns-in-Err-moved-clause-moments
 returns-in-Err-moved-clause-moments g c now chain told keeps sound =
-    leaves_also g.D.Disk.moment g.D.Disk.left_since _ _ _ _ ((leaves_on g.D.Disk.reads_as g.D.Disk.images g.D.Disk.moment g.D.Disk.left_since g.met.D.Disk.counts_now _ _ _ c.read_store.ensures.left (g.met.D.Disk.content_rests _ _ c.moved.ensures.looked.content)).keeps now told)
+    leaves_also g.D.Disk.moment g.D.Disk.left_since _ _ _ _ ((leaves_on g.D.Disk.reads_as g.D.Disk.images g.D.Disk.moment g.D.Disk.left_since g.met.D.Disk.counts_now _ _ _ c.read_store.ensures.left (g.met.D.Disk.content_rests _ _ c.moved.ensures.looked.content)).stays now told)
     (stands_while_opened (g.D.Disk.images c.args.disk.now) sound (g.D.Disk.reads_as c.args.disk.now) now chain (g.met.D.Disk.reads_image c.args.disk.now) told keeps)
 
 pub returns-in-Err-moved-clause-cause : goal.returns-in-Err-moved-clause-cause
