@@ -8,8 +8,11 @@
 mod claim;
 mod folder;
 mod folder_disk;
+mod pieces;
+mod stored_file;
 mod streams;
 
 pub use claim::Claim;
 pub use folder_disk::FolderDisk;
+pub use stored_file::StoredFile;
 pub use streams::{StdinSource, StdoutSink};
