@@ -7,8 +7,8 @@ use Rattle.std.proofs.lemmas.Bool.{cases_lt}
 use borrow.Rule.Slice.PartMut.{put_mid, post_of}
 use Rattle.outside.specs.Causes.{Rose, HasCause}
 use Rattle.outside.specs.Disk.{written, Torn, Cut}
-use Rattle.outside.proofs.Torn.{torn_same}
-use Rattle.outside_os.specs.Files.{Held, Becomes, Changes, Writes, Tears, WrittenInPart, WritesInPart, GivesAll}
+use Rattle.outside.proofs.Torn.{torn_same, cut_same}
+use Rattle.outside_os.specs.Files.{Held, Becomes, Changes, Writes, Tears, CutsInPart, WrittenInPart, WritesInPart, GivesAll}
 
 -- ---- A read made again
 
@@ -317,3 +317,6 @@ pub ends_writing : (old new : Held) (before now at done : ℕ) (piece : List ℕ
     → length piece ≤ done → Changes (Writes at piece) old new
 ends_writing old new before now at done piece so_far all =
     changes_as (WritesInPart at piece done) (Writes at piece) (λ a b. written_whole at done piece a b (omega (arith, all, so_far.within))) old new so_far.written
+
+pub nothing_cut : (len : ℕ) (held : Held) → Changes (CutsInPart len) held held
+nothing_cut len held = changes_none (CutsInPart len) (λ a within. cut_same len a) held

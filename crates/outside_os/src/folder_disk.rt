@@ -5,6 +5,7 @@ ghost use Rattle.outside.specs.Causes.{counted, up_to_last, within_last};
 
 use crate::claim::Claim;
 use crate::folder::Folder;
+use crate::stored_file::StoredFile;
 use crate::streams::fail;
 use outside::{Area, Disk, Failed};
 use std::marker::Model;
@@ -15,18 +16,27 @@ use std::rt::Files;
 /// another one on it fails at each call, and changes nothing. After a failed `sync` each call fails.
 /// A clause sees how often it has failed.
 #[derive(Drop)]
-pub struct FolderDisk<R: Files + Drop> {
+pub struct FolderDisk<R: Files + Drop>
+where
+    R::File: StoredFile,
+{
     folder: Folder<R>,
     failed: u64,
 }
 
-impl<R: Files + Drop> Model for FolderDisk<R> {
+impl<R: Files + Drop> Model for FolderDisk<R>
+where
+    R::File: StoredFile,
+{
     ghost Value = { ℕ };
 
     ghost view = { λ disk. disk.failed };
 }
 
-impl<R: Files + Drop> FolderDisk<R> {
+impl<R: Files + Drop> FolderDisk<R>
+where
+    R::File: StoredFile,
+{
     pub fn new(rt: R, folder: String) -> FolderDisk<R>
         ensures { result ≡ 0 }
     {
@@ -39,7 +49,7 @@ impl<R: Files + Drop> FolderDisk<R> {
 
 impl<R: Files + Drop> Disk for FolderDisk<R>
 where
-    R::File: Claim,
+    R::File: Claim + StoredFile,
 {
     ghost reads_as = { λ _. None };
 
