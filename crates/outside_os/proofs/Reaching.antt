@@ -1,10 +1,10 @@
 -- A call on the file of an area, which is taken from its place and put back.
 use Rattle.std.proofs.Common.{◌≡◌, ℕ, Bool, true, false, List, Option, None, Some, Result, Ok, Err, refl, sym, subst, ◌∙◌, ap, rules}
-use Rattle.std.specs.Prelude.{IfSome, IfOk, OnErr, OnOk, IsErr, IsSome}
+use Rattle.std.specs.Prelude.{IfSome, IfOk, OnErr, OnOk, IsErr, IsOk, IsSome, is_err}
 use Rattle.outside.specs.declared.disk.Area.{Area}
 use Rattle.outside.specs.declared.disk.Area.TheVariants.{Log, SnapA, SnapB}
 use Rattle.outside.specs.Causes.{Rose, HasCause}
-use Rattle.outside_os.specs.Files.{Held, OpenFile, Opened, OthersStay, IsLent, KeepsAll, Reaches, FailsAt, file_of, with_file}
+use Rattle.outside_os.specs.Files.{Held, OpenFile, Opened, Stays, OthersStay, IsLent, KeepsAll, Reaches, FailsAt, file_of, with_file}
 
 pub ok_then : {A E : Type 0} (answer : Result A E) (P Q : A → Type 0) → ((a : A) → P a → Q a) → IfOk answer P → IfOk answer Q
 ok_then (Ok a) P Q then holds = then a holds
@@ -81,3 +81,36 @@ fails_before area old new does same keeps = record {
         × (old.is_doubtful ≡ false → IsSome old.log → Rose before.failures now.failures))
     unchanged None kept = tt
     unchanged (Some before) kept = (before, kept.0, same before.held, λ doubt log. absurd (kept.1 doubt log))
+
+pub done_from : {A E : Type 0} (answer : Result A E) (P : Type 0) → (IsOk answer → P) → OnOk answer P
+done_from (Ok a) P then = then refl
+done_from (Err _) P then = tt
+
+pub when_done : {A E : Type 0} (answer : Result A E) (P : Type 0) → OnOk answer P → IsOk answer → P
+when_done (Ok a) P holds done = holds
+when_done (Err _) P holds done = absurd (cc)
+
+-- the files are the same, whatever is known of failed syncs
+others_as : (area : Area) (old mid now : Opened) → now.log ≡ mid.log → now.snap_a ≡ mid.snap_a → now.snap_b ≡ mid.snap_b → OthersStay area old mid → OthersStay area old now
+others_as area old mid now log snap_a snap_b others = record {
+  log = λ apart. subst (Stays old.log) (sym log) (others.log apart);
+  snap_a = λ apart. subst (Stays old.snap_a) (sym snap_a) (others.snap_a apart);
+  snap_b = λ apart. subst (Stays old.snap_b) (sym snap_b) (others.snap_b apart);
+}
+
+pub lent_as : (area : Area) (file : OpenFile) (old mid now : Opened) → now.log ≡ mid.log → now.snap_a ≡ mid.snap_a → now.snap_b ≡ mid.snap_b → now.is_doubtful ≡ false
+    → IsLent area file old mid → IsLent area file old now
+lent_as area file old mid now log snap_a snap_b still lending = record {
+  was = lending.was;
+  others = others_as area old mid now log snap_a snap_b lending.others;
+  no_doubt = lending.no_doubt;
+  still_none = still;
+}
+
+pub others_lent : (area : Area) (file : OpenFile) (old mid now : Opened) → now.log ≡ mid.log → now.snap_a ≡ mid.snap_a → now.snap_b ≡ mid.snap_b
+    → IsLent area file old mid → OthersStay area old now
+others_lent area file old mid now log snap_a snap_b lending = others_as area old mid now log snap_a snap_b lending.others
+
+pub no_err : {A E : Type 0} (answer : Result A E) → IsOk answer → is_err answer ≡ false
+no_err (Ok a) done = refl
+no_err (Err _) done = absurd (cc)

@@ -134,3 +134,8 @@ HasRead at room given before after = (after ≡ before) × IfSome before.reads_a
 
 abbrev pub IsSynced : Held → Held → Type 0
 IsSynced before after = after ≡ after_sync before
+
+-- A `FolderDisk`: its files, and how often it has failed.
+pub record FolderState : Type 0 where
+  pub files : Opened
+  pub failed : ℕ

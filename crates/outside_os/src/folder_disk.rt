@@ -1,5 +1,6 @@
 // The disk as files of a folder.
-ghost use Rattle.std.specs.Prelude.{◌≡◌, ◌≤◌, ℕ, None, length, IfOk, OnOk, OnErr};
+ghost use Rattle.std.specs.Prelude.{◌≡◌, ◌≤◌, ◌+◌, ◌^◌, None, true, length, take, IsSome, IfOk, OnOk, OnErr};
+ghost use Rattle.outside_os.specs.Files.{Changes, Writes, Tears, Shortens, CutsInPart, Same, HasLength, HasRead, IsSynced, Reaches, FailsAt, file_of, nothing_opened};
 ghost use Rattle.std.proofs.Common.{lit≤, refl};
 ghost use Rattle.outside.specs.Causes.{counted, up_to_last, within_last};
 
@@ -28,9 +29,11 @@ impl<R: Files + Drop> Model for FolderDisk<R>
 where
     R::File: StoredFile,
 {
-    ghost Value = { ℕ };
+    ghost use Rattle.outside_os.specs.Files.{FolderState};
 
-    ghost view = { λ disk. disk.failed };
+    ghost Value = { FolderState };
+
+    ghost view = { λ disk. record { files = disk.folder; failed = disk.failed } };
 }
 
 impl<R: Files + Drop> FolderDisk<R>
@@ -38,7 +41,8 @@ where
     R::File: StoredFile,
 {
     pub fn new(rt: R, folder: String) -> FolderDisk<R>
-        ensures { result ≡ 0 }
+        ensures files { result.files ≡ nothing_opened }
+        ensures failed { result.failed ≡ 0 }
     {
         FolderDisk {
             folder: Folder::new(rt, folder),
@@ -59,7 +63,7 @@ where
 
     ghost left_since = { λ _ _ _. ⊥ };
 
-    ghost faults = { up_to_last };
+    ghost faults = { λ disk. up_to_last disk.failed };
 
     ghost Content = { Unit {0} };
 
@@ -75,15 +79,18 @@ where
 
     ghost images_told = { λ _ _ left. absurd left };
 
-    ghost last_fault = { λ disk. within_last disk };
+    ghost last_fault = { λ disk. within_last disk.failed };
 
     ghost counts_now = { λ _ _ _ _ left. absurd left };
 
     ghost only_now = { λ _ _ left. absurd left };
 
     fn len(&mut self, area: Area) -> Result<u64, Failed>
-        ensures unchanged { OnOk result (self.new ≡ self.old) }
-        ensures counted { OnErr result (self.new ≡ counted self.old) }
+        ensures length { IfOk result (λ n. Reaches area (HasLength n) self.old.files self.new.files) }
+        ensures kept { OnErr result (FailsAt area Same self.old.files self.new.files) }
+        ensures doubt { self.new.files.is_doubtful ≡ self.old.files.is_doubtful }
+        ensures unchanged { OnOk result (self.new.failed ≡ self.old.failed) }
+        ensures counted { OnErr result (self.new.failed ≡ counted self.old.failed) }
     {
         match self.folder.len(area) {
             Ok(n) => Ok(n),
@@ -93,8 +100,11 @@ where
 
     fn read(&mut self, area: Area, at: u64, into: &mut [u8]) -> Result<usize, Failed>
         ensures fits { IfOk result (λ n. n ≤ length into.new) }
-        ensures unchanged { OnOk result (self.new ≡ self.old) }
-        ensures counted { OnErr result (self.new ≡ counted self.old) }
+        ensures given { IfOk result (λ n. Reaches area (HasRead at (length into.new) (take n into.new)) self.old.files self.new.files) }
+        ensures kept { OnErr result (FailsAt area Same self.old.files self.new.files) }
+        ensures doubt { self.new.files.is_doubtful ≡ self.old.files.is_doubtful }
+        ensures unchanged { OnOk result (self.new.failed ≡ self.old.failed) }
+        ensures counted { OnErr result (self.new.failed ≡ counted self.old.failed) }
     {
         match self.folder.read(area, at, into) {
             Ok(n) => Ok(n),
@@ -103,8 +113,12 @@ where
     }
 
     fn write(&mut self, area: Area, at: u64, piece: &[u8]) -> Result<(), Failed>
-        ensures unchanged { OnOk result (self.new ≡ self.old) }
-        ensures counted { OnErr result (self.new ≡ counted self.old) }
+        requires limit { at + length piece.now ≤ 2 ^ 62 }
+        ensures written_in_file { OnOk result (Reaches area (Changes (Writes at piece.now)) self.old.files self.new.files) }
+        ensures torn { OnErr result (FailsAt area (Changes (Tears at (length piece.now))) self.old.files self.new.files) }
+        ensures doubt { self.new.files.is_doubtful ≡ self.old.files.is_doubtful }
+        ensures unchanged { OnOk result (self.new.failed ≡ self.old.failed) }
+        ensures counted { OnErr result (self.new.failed ≡ counted self.old.failed) }
     {
         match self.folder.write(area, at, piece) {
             Ok(()) => Ok(()),
@@ -113,8 +127,11 @@ where
     }
 
     fn cut(&mut self, area: Area, len: u64) -> Result<(), Failed>
-        ensures unchanged { OnOk result (self.new ≡ self.old) }
-        ensures counted { OnErr result (self.new ≡ counted self.old) }
+        ensures cut_in_file { OnOk result (Reaches area (Changes (Shortens len)) self.old.files self.new.files) }
+        ensures in_part { OnErr result (FailsAt area (Changes (CutsInPart len)) self.old.files self.new.files) }
+        ensures doubt { self.new.files.is_doubtful ≡ self.old.files.is_doubtful }
+        ensures unchanged { OnOk result (self.new.failed ≡ self.old.failed) }
+        ensures counted { OnErr result (self.new.failed ≡ counted self.old.failed) }
     {
         match self.folder.cut(area, len) {
             Ok(()) => Ok(()),
@@ -123,8 +140,11 @@ where
     }
 
     fn sync(&mut self, area: Area) -> Result<(), Failed>
-        ensures unchanged { OnOk result (self.new ≡ self.old) }
-        ensures counted { OnErr result (self.new ≡ counted self.old) }
+        ensures synced { OnOk result (Reaches area IsSynced self.old.files self.new.files) }
+        ensures kept_file { OnErr result (FailsAt area Same self.old.files self.new.files) }
+        ensures doubt { OnErr result (IsSome self.old.files.log → IsSome (file_of area self.old.files) → self.new.files.is_doubtful ≡ true) }
+        ensures unchanged { OnOk result (self.new.failed ≡ self.old.failed) }
+        ensures counted { OnErr result (self.new.failed ≡ counted self.old.failed) }
     {
         match self.folder.sync(area) {
             Ok(()) => Ok(()),
