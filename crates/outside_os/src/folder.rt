@@ -1,5 +1,6 @@
 // The files of a folder, and the calls on them.
-ghost use Rattle.std.specs.Prelude.{◌≡◌, ◌≤◌, ◌+◌, ◌^◌, Some, true, length, take, IsSome, IfOk, OnOk, OnErr};
+ghost use Rattle.std.specs.Prelude.{◌≡◌, ◌≤◌, Some, true, length, take, IsSome, IfOk, OnOk, OnErr};
+ghost use Rattle.outside.specs.Disk.{IsWithinLimit};
 ghost use Rattle.outside_os.specs.Files.{Changes, Writes, Tears, Shortens, CutsInPart, Same, HasLength, HasRead, IsSynced, Reaches, FailsAt, IsLent, KeepsAll, file_of, with_file, nothing_opened};
 
 use crate::claim::Claim;
@@ -161,7 +162,7 @@ where
     }
 
     pub(crate) fn write(&mut self, area: Area, at: u64, piece: &[u8]) -> io::Result<()>
-        requires { at + length piece.now ≤ 2 ^ 62 }
+        requires { IsWithinLimit at (length piece.now) }
         ensures written { OnOk result (Reaches area (Changes (Writes at piece.now)) self.old self.new) }
         ensures torn { OnErr result (FailsAt area (Changes (Tears at (length piece.now))) self.old self.new) }
         ensures doubt { self.new.is_doubtful ≡ self.old.is_doubtful }

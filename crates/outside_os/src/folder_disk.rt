@@ -1,8 +1,9 @@
 // The disk as files of a folder.
-ghost use Rattle.std.specs.Prelude.{◌≡◌, ◌≤◌, ◌+◌, ◌^◌, None, true, length, take, IsSome, IfOk, OnOk, OnErr};
+ghost use Rattle.std.specs.Prelude.{◌≡◌, ◌≤◌, None, true, length, take, IsSome, IfOk, OnOk, OnErr};
 ghost use Rattle.outside_os.specs.Files.{Changes, Writes, Tears, Shortens, CutsInPart, Same, HasLength, HasRead, IsSynced, Reaches, FailsAt, file_of, nothing_opened};
 ghost use Rattle.std.proofs.Common.{lit≤, refl};
 ghost use Rattle.outside.specs.Causes.{counted, up_to_last, within_last};
+ghost use Rattle.outside.specs.Disk.{IsWithinLimit};
 
 use crate::claim::Claim;
 use crate::folder::Folder;
@@ -113,7 +114,7 @@ where
     }
 
     fn write(&mut self, area: Area, at: u64, piece: &[u8]) -> Result<(), Failed>
-        requires limit { at + length piece.now ≤ 2 ^ 62 }
+        requires limit { IsWithinLimit at (length piece.now) }
         ensures written_in_file { OnOk result (Reaches area (Changes (Writes at piece.now)) self.old.files self.new.files) }
         ensures torn { OnErr result (FailsAt area (Changes (Tears at (length piece.now))) self.old.files self.new.files) }
         ensures doubt { self.new.files.is_doubtful ≡ self.old.files.is_doubtful }

@@ -1,6 +1,7 @@
 // A piece read or written whole, whatever the file does in part.
-ghost use Rattle.std.specs.Prelude.{◌≡◌, ◌+◌, ◌^◌, ◌<◌, ◌≤◌, true, IsErr, length, take, drop, IfSome, IfOk, OnOk, OnErr};
+ghost use Rattle.std.specs.Prelude.{◌≡◌, ◌<◌, ◌≤◌, true, IsErr, length, take, drop, IfSome, IfOk, OnOk, OnErr};
 ghost use Rattle.outside.specs.Causes.{Rose};
+ghost use Rattle.outside.specs.Disk.{IsWithinLimit};
 ghost use Rattle.outside_os.specs.Files.{Changes, Writes, WritesInPart, Tears, GivesAll};
 
 use crate::stored_file::StoredFile;
@@ -83,7 +84,7 @@ pub(crate) fn read_full<F: StoredFile>(
 
 /// Writes all of `piece` over what is there, and past the end. After an Err any part of its range may have other bytes.
 pub(crate) fn write_all<F: StoredFile>(file: &mut F, at: u64, piece: &[u8]) -> io::Result<()>
-    requires { at + length piece.now ≤ 2 ^ 62 }
+    requires { IsWithinLimit at (length piece.now) }
     ensures written { OnOk result (Changes (Writes at piece.now) (F.held file.old) (F.held file.new)) }
     ensures torn { OnErr result (Changes (Tears at (length piece.now)) (F.held file.old) (F.held file.new)) }
     ensures later { F.failures file.old ≤ F.failures file.new }
