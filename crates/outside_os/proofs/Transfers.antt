@@ -12,10 +12,11 @@ use Rattle.outside_os.specs.Files.{Held, Becomes, Changes, Writes, Tears, CutsIn
 
 -- ---- A read made again
 
-pub record IsRead {E : Type 0} (old new : Held) (before now at : ℕ) (answer : Result ℕ E) (into : List ℕ) : Type 0 where
+pub record IsRead {E : Type 0} (old new : Held) (before now at last : ℕ) (answer : Result ℕ E) (into : List ℕ) : Type 0 where
   pub fits : IfOk answer (λ n. n ≤ length into)
   pub given : IfOk answer (λ n. IfSome old.reads_as (λ bytes. take n into ≡ take n (drop at bytes)))
   pub some : IfOk answer (λ n. n ≡ 0 → 0 < length into → IfSome old.reads_as (λ bytes. length bytes ≤ at))
+  pub within_word : IfSome old.reads_as (λ bytes. length bytes ≤ last)
   pub same : new ≡ old
   pub later : before ≤ now
   pub rose : OnErr answer (Rose before now)
@@ -52,12 +53,12 @@ given_beyond at n m place last bytes into part tail within fits so_far is short 
 
 -- one read more, which wrote into the part of `into` behind what was given
 pub read_further : (a b c : Held) (before now later at place last n m : ℕ) (into part : List ℕ) → ReadSoFar a b before now at n into
-    → length part ≡ length into - n → m ≤ length part → place ≡ min (at + n) last → IfSome a.reads_as (λ bytes. length bytes ≤ last)
+    → length part ≡ length into - n → m ≤ length part → place ≡ min (at + n) last → IfSome b.reads_as (λ bytes. length bytes ≤ last)
     → IfSome b.reads_as (λ bytes. take m part ≡ take m (drop place bytes)) → c ≡ b → now ≤ later
     → ReadSoFar a c before later at (n + m) (put_mid n (length into - n) into part)
 read_further a b c before now later at place last n m into part so_far size fits is short gives same rises = record {
   within = omega (arith, so_far.within, size, fits, whole, length-append part (post_of n (length into - n) into));
-  given = both a.reads_as so_far.given short (subst (λ (held : Held). IfSome held.reads_as (λ bytes. take m part ≡ take m (drop place bytes))) so_far.same gives);
+  given = both a.reads_as so_far.given (subst (λ (held : Held). IfSome held.reads_as (λ bytes. length bytes ≤ last)) so_far.same short) (subst (λ (held : Held). IfSome held.reads_as (λ bytes. take m part ≡ take m (drop place bytes))) so_far.same gives);
   same = same ∙ so_far.same;
   later = omega (arith, so_far.later, rises);
 }
@@ -88,10 +89,10 @@ read_whole a b before now at n into so_far all = ends a.reads_as so_far.given
 
 -- all was read that is there
 pub read_to_end : (a b : Held) (before now at place last n : ℕ) (into : List ℕ) → ReadSoFar a b before now at n into
-    → place ≡ min (at + n) last → IfSome a.reads_as (λ bytes. length bytes ≤ last) → IfSome b.reads_as (λ bytes. length bytes ≤ place)
+    → place ≡ min (at + n) last → IfSome b.reads_as (λ bytes. length bytes ≤ last) → IfSome b.reads_as (λ bytes. length bytes ≤ place)
     → IfSome a.reads_as (GivesAll at (length into) (take n into))
 read_to_end a b before now at place last n into so_far is short none =
-    ends a.reads_as so_far.given short (subst (λ (held : Held). IfSome held.reads_as (λ bytes. length bytes ≤ place)) so_far.same none)
+    ends a.reads_as so_far.given (subst (λ (held : Held). IfSome held.reads_as (λ bytes. length bytes ≤ last)) so_far.same short) (subst (λ (held : Held). IfSome held.reads_as (λ bytes. length bytes ≤ place)) so_far.same none)
   where
     ends : (reads : Option (List ℕ)) → IfSome reads (λ bytes. take n into ≡ take n (drop at bytes)) → IfSome reads (λ bytes. length bytes ≤ last)
         → IfSome reads (λ bytes. length bytes ≤ place) → IfSome reads (GivesAll at (length into) (take n into))

@@ -1,5 +1,5 @@
 // A piece read or written whole, whatever the file does in part.
-ghost use Rattle.std.specs.Prelude.{◌≡◌, ◌<◌, ◌≤◌, true, IsErr, length, take, drop, IfSome, IfOk, OnOk, OnErr};
+ghost use Rattle.std.specs.Prelude.{◌≡◌, ◌-◌, ◌^◌, ◌<◌, ◌≤◌, true, IsErr, length, take, drop, IfSome, IfOk, OnOk, OnErr};
 ghost use Rattle.outside.specs.Causes.{Rose};
 ghost use Rattle.outside.specs.Disk.{IsWithinLimit};
 ghost use Rattle.outside_os.specs.Files.{Changes, Writes, WritesInPart, Tears, GivesAll};
@@ -22,6 +22,7 @@ fn read_some<F: StoredFile>(file: &mut F, at: u64, into: &mut [u8]) -> io::Resul
     ensures fits { IfOk result (λ n. n ≤ length into.new) }
     ensures given { IfOk result (λ n. IfSome (F.held file.old).reads_as (λ bytes. take n into.new ≡ take n (drop at bytes))) }
     ensures some { IfOk result (λ n. n ≡ 0 → 0 < length into.new → IfSome (F.held file.old).reads_as (λ bytes. length bytes ≤ at)) }
+    ensures within_word { IfSome (F.held file.old).reads_as (λ bytes. length bytes ≤ 2 ^ 64 - 1) }
     ensures same { F.held file.new ≡ F.held file.old }
     ensures later { F.failures file.old ≤ F.failures file.new }
     ensures rose { OnErr result (Rose (F.failures file.old) (F.failures file.new)) }

@@ -27,6 +27,7 @@ pub trait StoredFile {
         ensures fits { IfOk result (λ n. n ≤ length into.new) }
         ensures given { IfOk result (λ n. IfSome (held self.old).reads_as (λ bytes. take n into.new ≡ take n (drop at bytes))) }
         ensures some { IfOk result (λ n. n ≡ 0 → 0 < length into.new → IfSome (held self.old).reads_as (λ bytes. length bytes ≤ at)) }
+        ensures within_word { IfSome (held self.old).reads_as (λ bytes. length bytes ≤ 2 ^ 64 - 1) }
         ensures same { held self.new ≡ held self.old }
         ensures cause { HasCause (failures self.old) (failures self.new) result };
 
@@ -50,9 +51,6 @@ pub trait StoredFile {
         ensures synced { OnOk result (held self.new ≡ after_sync (held self.old)) }
         ensures same { OnErr result (held self.new ≡ held self.old) }
         ensures cause { HasCause (failures self.old) (failures self.new) result };
-
-    /// A length is a machine word.
-    ghost within_word: { (file : Self) → IfSome (held file).reads_as (λ bytes. length bytes ≤ 2 ^ 64 - 1) };
 }
 
 /// What follows is trusted: no clause of std's tells what a `File` reads as, nor how often it has failed.
@@ -62,8 +60,6 @@ impl StoredFile for File {
     ghost held = { λ _. record { reads_as = None; synced = None } };
 
     ghost failures = { λ _. 2 ^ 64 - 1 };
-
-    ghost within_word = { λ _. tt };
 
     fn len(&mut self) -> io::Result<u64> {
         Ok(self.metadata()?.len())

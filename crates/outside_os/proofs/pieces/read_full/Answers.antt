@@ -9,4 +9,4 @@ loop-given-preserved g c =
     let into = c.loop-given.into in
     let n = c.loop-given.given in
     let size = c.read_some.auto.into ∙ ap length (take_rest into n) ∙ length-drop n into in
-    read_further _ _ _ _ _ _ _ _ (2 ^ 64 - 1) _ _ _ c.read_some.new.into c.loop-given.invariant size read.fits c.saturating_add-place.ensures (g.met.F.StoredFile.within_word c.args.file.now) read.given read.same read.later
+    read_further _ _ _ _ _ _ _ _ (2 ^ 64 - 1) _ _ _ c.read_some.new.into c.loop-given.invariant size read.fits c.saturating_add-place.ensures read.within_word read.given read.same read.later
