@@ -18,6 +18,7 @@
 
 mod area;
 mod disk;
+mod failing_writes;
 mod fake_file;
 mod files;
 mod memory;
