@@ -16,7 +16,7 @@ use std::rt::Files;
 /// A folder that has the areas as files, `log.bin`, `snap_a.bin` and `snap_b.bin`. Each is opened at its first use,
 /// and made where it is missing; the folder has to be there. From the first call on the folder is this disk's alone:
 /// another one on it fails at each call, and changes nothing. After a failed `sync` each call fails.
-/// A clause sees how often it has failed.
+/// A clause sees what its files hold, and how often it has failed.
 #[derive(Drop)]
 pub struct FolderDisk<R: Files + Drop>
 where

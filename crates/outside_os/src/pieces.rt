@@ -73,7 +73,7 @@ pub(crate) fn read_full<F: StoredFile>(
         let place = at.saturating_add(given as u64);
         let n = match read_some(file, place, &mut into[given..]) {
             Ok(n) => n,
-            Err(error) => return Err(error),
+            Err(failure) => return Err(failure),
         };
         if n == 0 {
             break;
