@@ -1,9 +1,9 @@
 -- A call on the file of an area, which is taken from its place and put back.
-use Rattle.std.proofs.Common.{◌≡◌, ℕ, Bool, true, false, List, Option, None, Some, Result, Ok, Err, refl, sym, subst, ◌∙◌, ap, rules}
+use Rattle.std.proofs.Common.{◌≡◌, false, Option, None, Some, Result, Ok, Err, refl, sym, subst, ◌∙◌, ap}
 use Rattle.std.specs.Prelude.{IfSome, IfOk, OnErr, OnOk, IsErr, IsOk, IsSome, is_err}
 use Rattle.outside.specs.declared.disk.Area.{Area}
 use Rattle.outside.specs.declared.disk.Area.TheVariants.{Log, SnapA, SnapB}
-use Rattle.outside.specs.Causes.{Rose, HasCause}
+use Rattle.outside.specs.Causes.{Rose}
 use Rattle.outside_os.specs.Files.{Held, OpenFile, Opened, Stays, OthersStay, IsLent, KeepsAll, Reaches, FailsAt, file_of, with_file}
 
 pub ok_then : {A E : Type 0} (answer : Result A E) (P Q : A → Type 0) → ((a : A) → P a → Q a) → IfOk answer P → IfOk answer Q

@@ -1,12 +1,12 @@
 -- Reads and writes of a file, one after another.
-use Rattle.std.proofs.Common.{◌∷◌, ⊎_elim, ◌≡◌, ℕ, ◌+◌, ◌-◌, ◌^◌, ◌<◌, ◌≤◌, min, max, List, [], ◌++◌, Option, None, Some, Result, Ok, Err, length, take, drop, refl, sym, subst, ◌∙◌, ap, append_assoc, append-nil, take-append-drop, length-append, length-drop, arith}
-use Rattle.std.specs.Prelude.{IfSome, IfOk, OnOk, OnErr, IsErr}
+use Rattle.std.proofs.Common.{⊎_elim, ◌≡◌, ℕ, ◌+◌, ◌-◌, ◌<◌, ◌≤◌, min, max, List, ◌++◌, Option, None, Some, Result, Ok, Err, length, take, drop, refl, sym, subst, ◌∙◌, ap, append_assoc, append-nil, take-append-drop, length-append, length-drop, arith}
+use Rattle.std.specs.Prelude.{IfSome, IfOk, OnErr, IsErr}
 use Rattle.std.proofs.Math.Seq.{take-add, take-append-add}
 use Rattle.std.proofs.lemmas.List.{take_at, drop_at, take_all, drop_all, take-append-le, take-take, length-take, length-take-le, drop-drop}
 use Rattle.std.proofs.lemmas.Bool.{cases_lt}
 use borrow.Rule.Slice.PartMut.{put_mid, post_of}
 use Rattle.outside.specs.Causes.{Rose, HasCause}
-use Rattle.outside.specs.Disk.{written, Torn, Cut}
+use Rattle.outside.specs.Disk.{written, Torn}
 use Rattle.outside.proofs.Torn.{torn_same, cut_same}
 use Rattle.outside_os.specs.Files.{Held, Becomes, Changes, Writes, Tears, CutsInPart, WrittenInPart, WritesInPart, GivesAll}
 
@@ -156,7 +156,7 @@ written_behind : (at far : ℕ) (piece bytes : List ℕ) → at ≤ length bytes
 written_behind at far piece bytes within beyond =
     let lost : ℕ = far - (at + length piece) in
     let rest : drop (at + length piece) (written at piece bytes) ≡ drop (at + length piece) bytes =
-        drop_at (take at bytes ++ piece) (drop (at + length piece) bytes) (at + length piece) (piece_end at piece bytes within) in
+    drop_at (take at bytes ++ piece) (drop (at + length piece) bytes) (at + length piece) (piece_end at piece bytes within) in
     let sum : far ≡ at + length piece + lost = omega (arith, beyond) in
     ap (λ (k : ℕ). drop k (written at piece bytes)) sum ∙ sym (drop-drop lost (at + length piece) (written at piece bytes)) ∙ ap (drop lost) rest
     ∙ drop-drop lost (at + length piece) bytes ∙ ap (λ (k : ℕ). drop k bytes) (sym sum)
@@ -220,7 +220,7 @@ written_whole : (at done : ℕ) (piece a b : List ℕ) → done ≡ length piece
 written_whole at done piece a b is part start =
     let whole : WrittenInPart at piece done a b = part start in
     let front : take (at + length piece) b ≡ take at a ++ piece =
-        ap (λ (k : ℕ). take (at + k) b) (sym is) ∙ whole.front ∙ ap (λ (l : List ℕ). take at a ++ l) (take_all done piece (omega (arith, is))) in
+    ap (λ (k : ℕ). take (at + k) b) (sym is) ∙ whole.front ∙ ap (λ (l : List ℕ). take at a ++ l) (take_all done piece (omega (arith, is))) in
     sym (take-append-drop (at + length piece) b) ∙ ap (λ (l : List ℕ). l ++ drop (at + length piece) b) front ∙ ap (λ (l : List ℕ). take at a ++ piece ++ l) whole.torn.after
 
 written_none : (at : ℕ) (piece a : List ℕ) → WritesInPart at piece 0 a a

@@ -46,10 +46,10 @@ where
     ghost Value = { Opened };
 
     ghost view = { λ folder. record {
-        log = option_map (λ file. record { held = R.File.held file; failures = R.File.failures file }) folder.log;
-        snap_a = option_map (λ file. record { held = R.File.held file; failures = R.File.failures file }) folder.snap_a;
-        snap_b = option_map (λ file. record { held = R.File.held file; failures = R.File.failures file }) folder.snap_b;
-        is_doubtful = folder.is_doubtful;
+      log = option_map (λ file. record { held = R.File.held file; failures = R.File.failures file }) folder.log;
+      snap_a = option_map (λ file. record { held = R.File.held file; failures = R.File.failures file }) folder.snap_a;
+      snap_b = option_map (λ file. record { held = R.File.held file; failures = R.File.failures file }) folder.snap_b;
+      is_doubtful = folder.is_doubtful;
     } };
 }
 

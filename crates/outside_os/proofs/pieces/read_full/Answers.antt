@@ -1,6 +1,6 @@
-use Rattle.std.proofs.Common.{◌-◌, ◌^◌, length, ◌∙◌, ap, length-drop, refl, rules}
+use Rattle.std.proofs.Common.{◌-◌, ◌^◌, length, ◌∙◌, ap, length-drop}
 use Rattle.std.proofs.lemmas.List.{take_rest}
-use Rattle.outside_os.proofs.Transfers.{read_further, read_whole, read_to_end}
+use Rattle.outside_os.proofs.Transfers.{read_further}
 use Rattle.outside_os.proofs.pieces.read_full.Goals as goal
 
 pub loop-given-preserved : goal.loop-given-preserved

@@ -18,4 +18,4 @@ returns-clause-torn g c =
     let write = c.write_all-answer.ensures in
     err_then c.write_all-answer.result _
     (λ fails. fails_at _ _ _ _ _ _ _ lent.was lent.others lent.no_doubt c.give_back.ensures
-        (when_err c.write_all-answer.result _ write.torn fails) (when_err c.write_all-answer.result _ write.rose fails))
+    (when_err c.write_all-answer.result _ write.torn fails) (when_err c.write_all-answer.result _ write.rose fails))
