@@ -5,17 +5,8 @@ ghost use Rattle.outside.specs.Disk.{IsWithinLimit};
 ghost use Rattle.outside_os.specs.Files.{Changes, Writes, WritesInPart, Tears, GivesAll};
 
 use crate::stored_file::StoredFile;
-use crate::streams::{TRIES, is_interrupted};
+use crate::streams::{TRIES, was_interrupted};
 use std::io;
-
-fn was_interrupted<T>(answer: &io::Result<T>) -> bool
-    ensures { result ≡ true → IsErr answer.now }
-{
-    match answer {
-        Ok(_) => false,
-        Err(error) => is_interrupted(error),
-    }
-}
 
 /// One read, made again where it was interrupted.
 fn read_some<F: StoredFile>(file: &mut F, at: u64, into: &mut [u8]) -> io::Result<usize>
