@@ -6,10 +6,13 @@ use row_table::Row;
 use std::alloc::Global;
 
 const BEFORE: &[u8] = b"abcdefgh";
+
 const AT: usize = 4;
+
 const PIECE: &[u8] = b"12345678";
 // the calls of a turn: what was there is cut, BEFORE is written, its length asked for, PIECE is written, which fails, and all is read
 const CALLS: u64 = 5;
+
 const FAILING: u64 = 3;
 
 /// How many writes left the range as it was, cut off in it, whole, or with other bytes in it.
@@ -70,7 +73,9 @@ fn write_one<D: Disk>(disk: &mut D, left: &mut Left) -> Result<bool, Failed> {
 fn failing(alloc: Global, turns: u64) -> Option<Vec<u64>> {
     let mut numbers = Vec::new(alloc);
     for turn in 0..turns {
-        numbers.push(turn.checked_mul(CALLS)?.checked_add(FAILING)?).ok()?;
+        numbers
+            .push(turn.checked_mul(CALLS)?.checked_add(FAILING)?)
+            .ok()?;
     }
     Some(numbers)
 }
