@@ -8,7 +8,7 @@ use borrow.Rule.Slice.PartMut.{put_mid, post_of}
 use Rattle.outside.specs.Causes.{Rose, HasCause}
 use Rattle.outside.specs.Disk.{written, Torn}
 use Rattle.outside.proofs.Torn.{torn_same, cut_same}
-use Rattle.outside_os.specs.Files.{Held, Becomes, Changes, Writes, Tears, CutsInPart, WrittenInPart, WritesInPart, GivesAll}
+use Rattle.outside_os.specs.Files.{Held, Becomes, Changes, Writes, Tears, CutsInPart, WrittenInPart, WritesInPart}
 
 -- ---- A read made again
 
@@ -77,29 +77,6 @@ read_further a b c before now later at place last n m into part so_far size fits
         → IfSome reads (λ bytes. take (n + m) (put_mid n (length into - n) into part) ≡ take (n + m) (drop at bytes))
     both None earlier bound one = tt
     both (Some bytes) earlier bound one = given_beyond at n m place last bytes into part (post_of n (length into - n) into) so_far.within fits earlier is bound one
-
--- all was read that fits
-pub read_whole : (a b : Held) (before now at n : ℕ) (into : List ℕ) → ReadSoFar a b before now at n into → length into ≤ n
-    → IfSome a.reads_as (GivesAll at (length into) (take n into))
-read_whole a b before now at n into so_far all = ends a.reads_as so_far.given
-  where
-    ends : (reads : Option (List ℕ)) → IfSome reads (λ bytes. take n into ≡ take n (drop at bytes)) → IfSome reads (GivesAll at (length into) (take n into))
-    ends None given = tt
-    ends (Some bytes) given = given ∙ ap (λ (k : ℕ). take k (drop at bytes)) (omega (arith, so_far.within, all))
-
--- all was read that is there
-pub read_to_end : (a b : Held) (before now at place last n : ℕ) (into : List ℕ) → ReadSoFar a b before now at n into
-    → place ≡ min (at + n) last → IfSome b.reads_as (λ bytes. length bytes ≤ last) → IfSome b.reads_as (λ bytes. length bytes ≤ place)
-    → IfSome a.reads_as (GivesAll at (length into) (take n into))
-read_to_end a b before now at place last n into so_far is short none =
-    ends a.reads_as so_far.given (subst (λ (held : Held). IfSome held.reads_as (λ bytes. length bytes ≤ last)) so_far.same short) (subst (λ (held : Held). IfSome held.reads_as (λ bytes. length bytes ≤ place)) so_far.same none)
-  where
-    ends : (reads : Option (List ℕ)) → IfSome reads (λ bytes. take n into ≡ take n (drop at bytes)) → IfSome reads (λ bytes. length bytes ≤ last)
-        → IfSome reads (λ bytes. length bytes ≤ place) → IfSome reads (GivesAll at (length into) (take n into))
-    ends None given bound end = tt
-    ends (Some bytes) given bound end =
-        let few : length (drop at bytes) ≤ n = omega (arith, length-drop at bytes, end, is) in
-        given ∙ take_all n (drop at bytes) few ∙ sym (take_all (length into) (drop at bytes) (omega (arith, few, so_far.within)))
 
 -- ---- Steps of a file, one after the other
 
