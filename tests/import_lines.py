@@ -514,8 +514,9 @@ class Trial:
         self.counts = {name: collections.Counter() for name in RUNS}
 
     def row(self, name, columns):
-        if name in ('folder', 'failing', 'list'):
-            self.store, self.put, self.disk_fails = None, b'', name != 'folder'
+        if name in ('folder', 'failing', 'list', 'faults'):
+            # (a run of `faults` has the row's text where its disk does not fail)
+            self.store, self.put, self.disk_fails = None, b'', name in ('failing', 'list')
         elif name == 'put':
             if columns[0] == 'log':
                 self.put = bytes_of(columns[1])

@@ -134,6 +134,10 @@ kept-put (Some image) after entries old new e it entry same there read adds kept
           (ap (option_and_then (stored_of image e)) there ∙ read ∙ ap (λ (one : Stored). Some one) (sym put.1))
     ])
 
+pub kept-counted : (reads : Option Image) (entries : List Entry) (old new : List (ℕ × Stored)) → new ≡ old
+    → IfSome reads (IsKept entries old) → IfSome reads (IsKept entries new)
+kept-counted reads entries old new same kept = subst (λ (held : List (ℕ × Stored)). IfSome reads (IsKept entries held)) (sym same) kept
+
 -- where all is told, LOG has a block for each entry
 pub told-there : (reads : Option Image) (entries : List Entry) (e : ℕ) → e < length entries → IsSome (told_by reads entries)
     → IfSome reads (λ image. stored_at image entries e ≡ None) → ⊥

@@ -7,6 +7,11 @@ use Rattle.chain_tree.specs.Told.{Stored}
 use Rattle.chain_tree.specs.declared.entry.Entry.{Entry}
 use Rattle.block_store.specs.Stored.{stored_at}
 
+-- What clauses see of a cache: the blocks that it holds, the last used first, and how often damage was found as a block was read for it.
+pub record CacheValue : Type 0 where
+  pub held : List (ℕ × Stored)
+  pub damages : ℕ
+
 -- the one that is found for an entry
 abbrev pub held_at : List (ℕ × Stored) → ℕ → Option Stored
 held_at held e = lookup (nat_eq e) held

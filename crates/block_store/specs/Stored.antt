@@ -1,5 +1,5 @@
 -- What LOG says of the kept blocks, each at the place that its entry names (docs/STORE.md, "The log" and "Kept blocks read by their places").
-use Rattle.std.specs.Prelude.{◌≡◌, ℕ, zero, suc, ◌<◌, ◌==◌, List, [], ◌∷◌, All, map, length, take, drop, slice_get, Option, Some, None, IfSome, IsTrue, if◌then◌else◌}
+use Rattle.std.specs.Prelude.{◌≡◌, ℕ, zero, suc, ◌<◌, ◌==◌, List, [], ◌∷◌, All, length, take, drop, slice_get, Option, Some, None, IfSome, IsTrue, if◌then◌else◌}
 use Rattle.std.specs.Option.{option_map, option_and_then}
 use Rattle.std.proofs.Common.{refl, ap}
 use Rattle.codec_defs.specs.Shape.{encoded, decoded}
@@ -10,7 +10,6 @@ use Rattle.log_defs.specs.Log.{Record, parts_of_body}
 use Rattle.log_defs.specs.LogLaws.{HasFittingBody}
 use Rattle.log_file.specs.Pieces.{block_record}
 use Rattle.log_file.specs.Opening.{kept_records}
-use Rattle.log_file.specs.Grammar.{record_of}
 use Rattle.chain_tree.specs.Told.{Stored}
 use Rattle.chain_tree.specs.declared.entry.Entry.{Entry}
 use Rattle.chain_tree.specs.Entries.{entry_at}

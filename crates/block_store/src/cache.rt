@@ -1,64 +1,82 @@
 // Bodies in memory, those that were used last.
 ghost use Rattle.std.specs.Prelude.{◌≡◌, ◌≤◌, ◌<◌, List, [], Option, Some, is_some, IfOk, IfSome, OnOk, OnErr, IsSome, IsTrue};
 ghost use Rattle.cell_defs.specs.Ext.{is_ext};
+ghost use Rattle.outside.specs.Causes.{Rose};
 ghost use Rattle.outside.specs.Image.{Image};
+ghost use Rattle.outside.specs.declared.disk.Damage.{Damage};
+ghost use Rattle.outside.specs.declared.disk.ReadStop.TheVariants.{Damaged};
 ghost use Rattle.chain_tree.specs.declared.entry.Entry.{Entry};
 ghost use Rattle.block_store.specs.Held.{held_at, Holds, NothingNew, OnlyAdds, IsKept};
 
 use crate::body::KeptBody;
 use lru::LruCache;
-use outside::NoMemory;
+use outside::{NoMemory, ReadStop};
 use std::alloc::Global;
 use std::marker::Model;
 use std::num::NonZeroUsize;
 
 /// The bodies of entries, each by the entry's place, up to a number of them: the one that was used longest ago makes
-/// room. Clauses see the blocks with their exts, the last used first.
+/// room. It counts how often damage was found as a body was read for it. Clauses see the blocks with their exts, the
+/// last used first, and the count.
 #[derive(Drop)]
 pub struct Cache {
     bodies: LruCache<u32, KeptBody>,
+    damages: u64,
 }
 
 impl Model for Cache {
-    ghost use Rattle.std.specs.Prelude.{ℕ, List};
-    ghost use Rattle.chain_tree.specs.Told.{Stored};
-    ghost use Rattle.block_store.specs.Held.{HaveForm};
+    ghost use Rattle.block_store.specs.Held.{CacheValue, HaveForm};
 
-    ghost Value = { List (ℕ × Stored) };
+    ghost Value = { CacheValue };
 
-    ghost view = { λ cache. cache.bodies.entries };
+    ghost view = { λ cache. record { held = cache.bodies.entries; damages = cache.damages } };
 
     ghost invariant = { λ cache. HaveForm cache.bodies.entries };
 }
 
+/// A count of damage after a stop, as far as a count goes.
+fn counted(damages: u64, stop: ReadStop) -> u64
+    ensures rose { (damage : Damage) → stop ≡ Damaged damage → Rose damages result }
+    ensures same { ((damage : Damage) → stop ≡ Damaged damage → ⊥) → result ≡ damages }
+{
+    match stop {
+        ReadStop::Damaged(_) => damages.saturating_add(1),
+        ReadStop::DiskFault => damages,
+        ReadStop::NoMemory => damages,
+    }
+}
+
 impl Cache {
-    /// An empty cache for so many bodies.
+    /// An empty cache for so many bodies, for which no damage was found yet.
     pub fn new(alloc: Global, blocks: usize) -> Result<Cache, NoMemory>
         requires { 1 ≤ blocks }
-        ensures empty { IfOk result (λ cache. cache ≡ []) }
-        ensures agrees { (entries : List Entry) (reads : Option Image) → IfOk result (λ cache. IfSome reads (IsKept entries cache)) }
+        ensures empty { IfOk result (λ cache. cache.held ≡ []) }
+        ensures undamaged { IfOk result (λ cache. cache.damages ≡ 0) }
+        ensures agrees { (entries : List Entry) (reads : Option Image) → IfOk result (λ cache. IfSome reads (IsKept entries cache.held)) }
     {
         let Some(most) = NonZeroUsize::new(blocks) else {
             unreachable!()
         };
         Ok(Cache {
             bodies: LruCache::new(alloc, most)?,
+            damages: 0,
         })
     }
 
     /// Whether a body is held for an entry. If so it is now the last used.
     pub(crate) fn promote(&mut self, e: u32) -> bool
-        ensures held { result ≡ is_some (held_at self.old e) }
-        ensures still { IsTrue result → IsSome (held_at self.new e) }
-        ensures only { NothingNew self.old self.new }
+        ensures held { result ≡ is_some (held_at self.old.held e) }
+        ensures still { IsTrue result → IsSome (held_at self.new.held e) }
+        ensures only { NothingNew self.old.held self.new.held }
+        ensures damages { self.new.damages ≡ self.old.damages }
     {
         self.bodies.promote(&e)
     }
 
     /// The body that is held for an entry.
     pub(crate) fn body(&self, e: u32) -> &KeptBody
-        requires { IsSome (held_at self.now e) }
-        ensures holds { Holds self.now e result.now }
+        requires { IsSome (held_at self.now.held e) }
+        ensures holds { Holds self.now.held e result.now }
         ensures form { 0 < e → IsTrue (is_ext result.now.ext) }
     {
         match self.bodies.peek(&e) {
@@ -70,11 +88,21 @@ impl Cache {
     /// Takes a body for an entry. Out of memory, nothing has changed.
     pub fn put(&mut self, e: u32, body: KeptBody) -> Result<(), NoMemory>
         requires form { 0 < e → IsTrue (is_ext body.ext) }
-        ensures held { OnOk result (held_at self.new e ≡ Some body) }
-        ensures only { OnlyAdds e body self.old self.new }
+        ensures held { OnOk result (held_at self.new.held e ≡ Some body) }
+        ensures only { OnlyAdds e body self.old.held self.new.held }
+        ensures damages { self.new.damages ≡ self.old.damages }
         ensures err { OnErr result (self.new ≡ self.old) }
     {
         self.bodies.put(e, body)?;
         Ok(())
+    }
+
+    /// Counts a stop of a reading where it is damage.
+    pub(crate) fn count(&mut self, stop: ReadStop)
+        ensures held { self.new.held ≡ self.old.held }
+        ensures rose { (damage : Damage) → stop ≡ Damaged damage → Rose self.old.damages self.new.damages }
+        ensures same { ((damage : Damage) → stop ≡ Damaged damage → ⊥) → self.new.damages ≡ self.old.damages }
+    {
+        self.damages = counted(self.damages, stop);
     }
 }

@@ -85,17 +85,18 @@ pub(crate) fn load<D: Disk>(
     e: u32,
 ) -> Result<(), ReadStop>
     requires within { e < length tree.now.entries }
-    requires kept { IfSome (D.reads_as disk.old) (IsKept tree.now.entries cache.old) }
+    requires kept { IfSome (D.reads_as disk.old) (IsKept tree.now.entries cache.old.held) }
     ensures content { D.content_of disk.new ≡ D.content_of disk.old }
     ensures same { D.reads_as disk.new ≡ D.reads_as disk.old }
-    ensures kept { IfSome (D.reads_as disk.new) (IsKept tree.now.entries cache.new) }
-    ensures held { OnOk result (IsSome (held_at cache.new e)) }
-    ensures found { IsSome (held_at cache.old e) → IsOk result }
-    ensures uncalled { IsSome (held_at cache.old e) → disk.new ≡ disk.old }
+    ensures kept { IfSome (D.reads_as disk.new) (IsKept tree.now.entries cache.new.held) }
+    ensures held { OnOk result (IsSome (held_at cache.new.held e)) }
+    ensures found { IsSome (held_at cache.old.held e) → IsOk result }
+    ensures uncalled { IsSome (held_at cache.old.held e) → disk.new ≡ disk.old }
     ensures missing { IfSome (D.reads_as disk.old) (λ image. (damage : Damage) → result ≡ Err (damaged damage) → stored_at image tree.now.entries e ≡ None) }
     ensures place { (damage : Damage) → result ≡ Err (damaged damage)
         → IsSomeAnd (entry_at tree.now.entries e) (λ entry. damage ≡ record { area = log_area; at = entry.at }) }
     ensures cause { CountsFault (D.faults disk.old) (D.faults disk.new) (result ≡ Err disk_fault) }
+    ensures damages { cache.new.damages ≡ cache.old.damages }
 {
     if cache.promote(e) {
         return Ok(());

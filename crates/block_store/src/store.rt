@@ -19,7 +19,7 @@ use outside::{Disk, ReadStop};
 use std::alloc::Global;
 
 /// The kept blocks of a tree, as LOG has them. It borrows the disk, the tree of the entries, and a cache of what was
-/// read before.
+/// read before, which counts the damage that it finds.
 #[derive(Drop)]
 pub struct Store<'d, D: Disk> {
     alloc: Global,
@@ -28,35 +28,20 @@ pub struct Store<'d, D: Disk> {
     cache: &'d mut Cache,
     /// The place of the entry in hand, whose body the cache holds.
     hand: Option<u32>,
-    /// How often it has found damage.
-    damages: u64,
-    ghost kept: { IfSome (D.reads_as disk.now) (IsKept tree.now.entries cache.now) } by { Prim.hlevel props },
-    ghost held: { IsInHand (length tree.now.entries) cache.now hand } by { Prim.hlevel props },
-}
-
-/// A count of damage after a stop, as far as a count goes.
-fn counted(damages: u64, stop: ReadStop) -> u64
-    ensures rose { (damage : Damage) → stop ≡ Damaged damage → Rose damages result }
-    ensures same { ((damage : Damage) → stop ≡ Damaged damage → ⊥) → result ≡ damages }
-{
-    match stop {
-        ReadStop::Damaged(_) => damages.saturating_add(1),
-        ReadStop::DiskFault => damages,
-        ReadStop::NoMemory => damages,
-    }
+    ghost kept: { IfSome (D.reads_as disk.now) (IsKept tree.now.entries cache.now.held) } by { Prim.hlevel props },
+    ghost held: { IsInHand (length tree.now.entries) cache.now.held hand } by { Prim.hlevel props },
 }
 
 impl<'d, D: Disk> Store<'d, D> {
     /// Over a disk, a tree and a cache that holds nothing but what LOG has.
     pub fn new(alloc: Global, disk: &'d mut D, tree: &'d Tree, cache: &'d mut Cache) -> Store<'d, D>
-        requires { IfSome (D.reads_as disk.old) (IsKept tree.now.entries cache.old) }
+        requires { IfSome (D.reads_as disk.old) (IsKept tree.now.entries cache.old.held) }
         ensures disk { result.disk.now ≡ disk.old }
         ensures its_disk { result.disk.ghost_name ≡ disk.entry.ghost_name }
         ensures cache { result.cache.now ≡ cache.old }
         ensures its_cache { result.cache.ghost_name ≡ cache.entry.ghost_name }
         ensures tree { result.tree.now ≡ tree.now }
         ensures hand { result.hand ≡ None }
-        ensures undamaged { result.damages ≡ 0 }
     {
         Store {
             alloc,
@@ -64,7 +49,6 @@ impl<'d, D: Disk> Store<'d, D> {
             tree,
             cache,
             hand: None,
-            damages: 0,
         }
     }
 }
@@ -81,7 +65,7 @@ impl<'d, D: Disk> Blocks for Store<'d, D> {
 
     ghost faults = { λ it. D.faults it.disk.now };
 
-    ghost damages = { λ it. it.damages };
+    ghost damages = { λ it. it.cache.now.damages };
 
     ghost Loans = { ℕ × ℕ × D.Content × List Entry };
 
@@ -89,7 +73,7 @@ impl<'d, D: Disk> Blocks for Store<'d, D> {
 
     ghost told_all = { λ it. tells_all (D.reads_as it.disk.now) it.tree.now.entries };
 
-    ghost hand_within = { λ it. hand_below (length it.tree.now.entries) it.cache.now it.hand it.held };
+    ghost hand_within = { λ it. hand_below (length it.tree.now.entries) it.cache.now.held it.hand it.held };
 
     ghost last_fault = { λ it. D.last_fault it.disk.now };
 
@@ -98,18 +82,18 @@ impl<'d, D: Disk> Blocks for Store<'d, D> {
         ensures read { HasRead {L = ℕ × ℕ × D.Content × List Entry}
             (λ it. told_by (D.reads_as it.disk.now) it.tree.now.entries) (λ it. length it.tree.now.entries)
             (λ it. (it.disk.ghost_name, it.cache.ghost_name, D.content_of it.disk.now, it.tree.now.entries))
-            (λ it. D.faults it.disk.now) (λ it. it.damages) self.old self.new (stop_of result) }
+            (λ it. D.faults it.disk.now) (λ it. it.cache.now.damages) self.old self.new (stop_of result) }
         ensures taken { OnOk result (self.new.hand ≡ Some e) }
         ensures dropped { OnErr result (self.new.hand ≡ None) }
-        ensures counted { (damage : Damage) → result ≡ Err (Damaged damage) → Rose self.old.damages self.new.damages }
+        ensures counted { (damage : Damage) → result ≡ Err (Damaged damage) → Rose self.old.cache.now.damages self.new.cache.now.damages }
         ensures undamaged { IsSome (told_by (D.reads_as self.old.disk.now) self.old.tree.now.entries)
             → (damage : Damage) → result ≡ Err (Damaged damage) → ⊥ }
         ensures place { (damage : Damage) → result ≡ Err (Damaged damage)
             → IsSomeAnd (entry_at self.old.tree.now.entries e) (λ entry. damage ≡ record { area = log_area; at = entry.at }) }
         ensures missing { IfSome (D.reads_as self.old.disk.now) (λ image. (damage : Damage) → result ≡ Err (Damaged damage)
             → stored_at image self.old.tree.now.entries e ≡ None) }
-        ensures found { IsSome (held_at self.old.cache.now e) → IsOk result }
-        ensures uncalled { IsSome (held_at self.old.cache.now e) → self.new.disk.now ≡ self.old.disk.now }
+        ensures found { IsSome (held_at self.old.cache.now.held e) → IsOk result }
+        ensures uncalled { IsSome (held_at self.old.cache.now.held e) → self.new.disk.now ≡ self.old.disk.now }
     {
         self.hand = None;
         match load(self.alloc, self.disk, self.tree, self.cache, e) {
@@ -118,7 +102,7 @@ impl<'d, D: Disk> Blocks for Store<'d, D> {
                 Ok(())
             }
             Err(stop) => {
-                self.damages = counted(self.damages, stop);
+                self.cache.count(stop);
                 Err(stop)
             }
         }

@@ -24,7 +24,7 @@ use Rattle.log_file.specs.Pieces.{block_record, Names}
 use Rattle.log_file.specs.Grammar.{record_of}
 use Rattle.log_file.specs.Opening.{NameBodies, kept_records}
 use Rattle.log_file.specs.declared.log.Rec.{Rec}
-use Rattle.block_store.specs.Held.{held_at, OnlyAdds, AgreesWith}
+use Rattle.block_store.specs.Held.{CacheValue, held_at, OnlyAdds, AgreesWith}
 use Rattle.block_store.specs.Stored.{later_record, CanBeKept}
 use Rattle.block_store.proofs.LogLemmas.{follows_the_log, adds_a_record}
 use Rattle.block_store.proofs.AgreeLemmas.{keeps_after_append}
@@ -64,11 +64,11 @@ named_by entry rec = record entry { at = rec.at; len = rec.len }
 
 -- ---- The log with its record
 
-module _ (kept next : KeptValue) (b : Block) (item ext : List ℕ) (entry : Entry) (rec : Rec) (place : ℕ) (held later : List (ℕ × Stored))
+module _ (kept next : KeptValue) (b : Block) (item ext : List ℕ) (entry : Entry) (rec : Rec) (place : ℕ) (cache later : CacheValue)
     (is : next ≡ kept_with kept b ext entry) (many : length kept.exts ≡ length kept.chain.blocks) (some : 0 < length kept.chain.blocks)
     (canonical : decoded block item ≡ Some b) (form : IsTrue (is_ext ext)) (fits : HasFittingBody (block_record item ext))
     (names : Names rec place (block_record item ext)) (at : entry.at ≡ rec.at) (len : entry.len ≡ rec.len)
-    (adds : OnlyAdds (length kept.chain.blocks) (record { block = b; ext = ext }) held later) where
+    (adds : OnlyAdds (length kept.chain.blocks) (record { block = b; ext = ext }) cache.held later.held) where
   abbrev one_more : Stored
   one_more = record { block = b; ext = ext }
 
@@ -92,7 +92,7 @@ module _ (kept next : KeptValue) (b : Block) (item ext : List ℕ) (entry : Entr
       ap (λ (r : Record). kept_records (stored_of kept) ++ r ∷ []) record_is
       ∙ sym (adds_a_record (stored_of kept) one_more stored_some).0 ∙ ap kept_records (sym stored_is)
 
-  module _ (image now : Image) (read : IsReadBy kept held image) (ends : end_of_log image.log ≡ place)
+  module _ (image now : Image) (read : IsReadBy kept cache.held image) (ends : end_of_log image.log ≡ place)
       (holds : records_of (drop 8 now.log) ≡ (record_of 1 read.specification ∷ kept_records (stored_of kept)) ++ block_record item ext ∷ []) where
     all_records : records_of (drop 8 now.log) ≡ record_of 1 read.specification ∷ kept_records (stored_of next)
     all_records = holds ∙ ap (λ (records : List Record). record_of 1 read.specification ∷ records) records_are
@@ -111,14 +111,14 @@ module _ (kept next : KeptValue) (b : Block) (item ext : List ℕ) (entry : Entr
         ((adds_a_record (stored_of kept) one_more stored_some).1 read.can (subst (λ (bytes : List ℕ). decoded block bytes ≡ Some b) bytes_are canonical) form
         (subst HasFittingBody record_is fits))
 
-    agrees_next : AgreesWith (stored_of next) later
+    agrees_next : AgreesWith (stored_of next) later.held
     agrees_next =
-        subst (λ (stored : List Stored). AgreesWith stored later) (sym stored_is)
-        (keeps_after_append (stored_of kept) one_more held later read.agrees
-        (subst (λ (n : ℕ). OnlyAdds n one_more held later) (sym stored_many) adds))
+        subst (λ (stored : List Stored). AgreesWith stored later.held) (sym stored_is)
+        (keeps_after_append (stored_of kept) one_more cache.held later.held read.agrees
+        (subst (λ (n : ℕ). OnlyAdds n one_more cache.held later.held) (sym stored_many) adds))
 
     -- LOG has what is kept then
-    read_next : IsReadBy next later now
+    read_next : IsReadBy next later.held now
     read_next = record {
       specification = read.specification;
       names = record { holds = all_records; named = named_next };
@@ -128,11 +128,11 @@ module _ (kept next : KeptValue) (b : Block) (item ext : List ℕ) (entry : Entr
 
   module _ (cells cells1 : StateValue) (end : ℕ) (reads reads1 : Option Image) (images images1 : Image → Type 0)
       (after : (records : List Record) → IsSettled place records reads images → IsSettled end (records ++ block_record item ext ∷ []) reads1 images1) where
-    settled_then : (of : IsOf (node_of kept place cells held) reads images)
+    settled_then : (of : IsOf (node_of kept place cells cache) reads images)
         → IsSettled end ((record_of 1 of.read.specification ∷ kept_records (stored_of kept)) ++ block_record item ext ∷ []) reads1 images1
     settled_then of = after (record_of 1 of.read.specification ∷ kept_records (stored_of kept)) of.settled
 
-    of_next : IsOf (node_of kept place cells held) reads images → IsOf (node_of next end cells1 later) reads1 images1
+    of_next : IsOf (node_of kept place cells cache) reads images → IsOf (node_of next end cells1 later) reads1 images1
     unfolding read_next
     of_next of =
         let then = settled_then of in
@@ -143,20 +143,20 @@ module _ (kept next : KeptValue) (b : Block) (item ext : List ℕ) (entry : Entr
           settled = subst (λ (records : List Record). IsSettled end (record_of 1 of.read.specification ∷ records) reads1 images1) records_are then;
         }
       where
-        ends_there : (there : IsOf (node_of kept place cells held) reads images) → end_of_log there.now.log ≡ place
+        ends_there : (there : IsOf (node_of kept place cells cache) reads images) → end_of_log there.now.log ≡ place
         ends_there there =
             subst (λ (image : Image). end_of_log image.log ≡ place) (same_Some there.settled.now there.now (sym there.settled.told ∙ there.told))
             there.settled.rest.ends
 
     -- so the disk is its own then
-    pub own_next : IsItsOwn (node_of kept place cells held) reads images → OthersRead Log reads reads1 → IsItsOwn (node_of next end cells1 later) reads1 images1
+    pub own_next : IsItsOwn (node_of kept place cells cache) reads images → OthersRead Log reads reads1 → IsItsOwn (node_of next end cells1 later) reads1 images1
     own_next own others = by_read reads refl
       where
         by_read : (found : Option Image) → reads ≡ found → IsItsOwn (node_of next end cells1 later) reads1 images1
         by_read None none =
             subst (λ (o : Option Image). IsItsOwn (node_of next end cells1 later) o images1) (sym (others.1 ∙ ap (option_map (with_content Log others.0)) none)) tt
         by_read (Some image) told =
-            let of = of_next (subst (λ (o : Option Image). IfSome o (λ _. IsOf (node_of kept place cells held) reads images)) told own) in
+            let of = of_next (subst (λ (o : Option Image). IfSome o (λ _. IsOf (node_of kept place cells cache) reads images)) told own) in
             subst (λ (o : Option Image). IfSome o (λ _. IsOf (node_of next end cells1 later) reads1 images1)) (sym of.told) of
 
 -- what a disk has of a node where it tells

@@ -27,7 +27,7 @@ use Rattle.chain_tree.specs.Told.{Stored}
 use Rattle.log_file.specs.Grammar.{record_of, AreBlocks}
 use Rattle.log_file.specs.Opening.{IsOpened, NameBodies, kept_records}
 use Rattle.log_file.proofs.Settling.{others_kept, others_on}
-use Rattle.block_store.specs.Held.{Holds, AgreesWith}
+use Rattle.block_store.specs.Held.{CacheValue, Holds, AgreesWith}
 use Rattle.block_store.specs.Stored.{CanBeKept}
 use Rattle.node_core.specs.Node.{KeptValue, NodeValue, kept_of, node_of, stored_of, CountFees, IsWithin, IsReadBy, IsOf, IsItsOwn, IsSoundNode, IsOnlyImage, IsOn, IsLeftByOpening, AreOfTip}
 use Rattle.node_core.specs.Opening.{SaysTheSame, LeavesStore, IsReadFrom}
@@ -86,7 +86,7 @@ nothing-held e it there = let within = there.1 in omega arith
 -- LOG has what is kept, where it was opened so
 module _ (now : Image) (log : LogContent) (kept : KeptValue) (spec : Specification) (stored : List Stored) (entries : List Entry)
     (of : kept ≡ kept_of spec stored entries) (is : IsOpened now.log log spec stored entries) (are : AreBlocks stored entries)
-    (held : List (ℕ × Stored)) (none : held ≡ []) where
+    (cache : CacheValue) (none : cache.held ≡ []) where
   stored_is : stored_of kept ≡ stored
   stored_is = ap stored_of of ∙ paired-kept stored
 
@@ -97,7 +97,7 @@ module _ (now : Image) (log : LogContent) (kept : KeptValue) (spec : Specificati
   all_records =
       records-are (records_of (drop 8 now.log)) log is.says ∙ ap (λ (l : List Record). record_of 1 log.specification ∷ l) held_is
 
-  read_by : (place : ℕ) (image : Image) → IsAtRest place (records_of (drop 8 now.log)) image.log → IsReadBy kept held image
+  read_by : (place : ℕ) (image : Image) → IsAtRest place (records_of (drop 8 now.log)) image.log → IsReadBy kept cache.held image
   read_by place image rest = record {
     specification = log.specification;
     names = record {
@@ -111,7 +111,7 @@ module _ (now : Image) (log : LogContent) (kept : KeptValue) (spec : Specificati
   }
 
   read_from : (place : ℕ) (cells : StateValue) (reads : Option Image) (images : Image → Type 0)
-      → IsSettled place (records_of (drop 8 now.log)) reads images → IsReadFrom (node_of kept place cells held) reads images now
+      → IsSettled place (records_of (drop 8 now.log)) reads images → IsReadFrom (node_of kept place cells cache) reads images now
   unfolding read_by
   read_from place cells reads images settled = record {
     keeps = store_keeps now log is.is_log ∙ ap Keeps (chain-opened now.log log kept spec stored entries of is);
@@ -135,12 +135,12 @@ if_told P (Some now) here = here now refl
 
 module _ (reads mid : Option Image) (spec : Specification) (stored : List Stored) (entries : List Entry)
     (same : mid ≡ reads) (opened : IfSome mid (Opened spec stored entries)) (are : AreBlocks stored entries) where
-  pub opened_read : (kept : KeptValue) → kept ≡ kept_of spec stored entries → (held : List (ℕ × Stored)) → held ≡ [] → (place : ℕ) (cells : StateValue)
+  pub opened_read : (kept : KeptValue) → kept ≡ kept_of spec stored entries → (cache : CacheValue) → cache.held ≡ [] → (place : ℕ) (cells : StateValue)
       (final : Option Image) (images : Image → Type 0) → IfSome mid (λ now. IsSettled place (records_of (drop 8 now.log)) final images)
-      → IfSome reads (IsReadFrom (node_of kept place cells held) final images)
-  opened_read kept of held none place cells final images settled = if_told (IsReadFrom (node_of kept place cells held) final images) reads (λ now told.
+      → IfSome reads (IsReadFrom (node_of kept place cells cache) final images)
+  opened_read kept of cache none place cells final images settled = if_told (IsReadFrom (node_of kept place cells cache) final images) reads (λ now told.
       let found = on_told (Opened spec stored entries) reads mid now same told opened in
-      read_from now found.0 kept spec stored entries of found.1 are held none place cells final images
+      read_from now found.0 kept spec stored entries of found.1 are cache none place cells final images
       (on_told (λ image. IsSettled place (records_of (drop 8 image.log)) final images) reads mid now same told settled))
 
   -- where the blocks of a log have not joined, the image is not sound
@@ -365,11 +365,11 @@ module _ {D : Type 0} (reads_as : D → Option Image) (images : D → Image → 
   }
 
   -- what is held in memory may be other then
-  of_still : (kept : KeptValue) (place : ℕ) (cells next : StateValue) (held later : List (ℕ × Stored)) → IsOf (node_of kept place cells held) (reads_as mid) (images mid)
-      → IfSome (reads_as new) (IsReadBy kept later) → IsOf (node_of kept place next later) (reads_as new) (images new)
-  of_still kept place cells next held later of read =
+  of_still : (kept : KeptValue) (place : ℕ) (cells next : StateValue) (cache later : CacheValue) → IsOf (node_of kept place cells cache) (reads_as mid) (images mid)
+      → IfSome (reads_as new) (IsReadBy kept later.held) → IsOf (node_of kept place next later) (reads_as new) (images new)
+  of_still kept place cells next cache later of read =
       let told : reads_as new ≡ Some of.now = rests.reads ∙ of.told in
-      let now = at_some (IsReadBy kept later) (reads_as new) of.now told read in
+      let now = at_some (IsReadBy kept later.held) (reads_as new) of.now told read in
       record {
         now = of.now;
         told = told;
@@ -410,10 +410,10 @@ moves_same kept now bytes = by (number_in now.snap_a) (number_in now.snap_b)
     by (Some a) (Some b) = either (nat_lt a b)
 
 module _ {D : Type 0} (reads_as : D → Option Image) (images : D → Image → Type 0) (old mid : D)
-    (kept : KeptValue) (place : ℕ) (cells : StateValue) (held : List (ℕ × Stored)) (node : NodeValue) (is : node_of kept place cells held ≡ node)
+    (kept : KeptValue) (place : ℕ) (cells : StateValue) (cache : CacheValue) (node : NodeValue) (is : node_of kept place cells cache ≡ node)
     (others : OthersRead Log (reads_as old) (reads_as mid)) (read : IfSome (reads_as old) (IsReadFrom node (reads_as mid) (images mid)))
     (first : AreOf node.chain.blocks 0 (rows node.cells)) where
-  from_at : (now : Image) → reads_as old ≡ Some now → IsReadFrom (node_of kept place cells held) (reads_as mid) (images mid) now
+  from_at : (now : Image) → reads_as old ≡ Some now → IsReadFrom (node_of kept place cells cache) (reads_as mid) (images mid) now
   from_at now told = subst (λ (n : NodeValue). IsReadFrom n (reads_as mid) (images mid) now) (sym is)
       (at_some (IsReadFrom node (reads_as mid) (images mid)) (reads_as old) now told read)
 
@@ -421,11 +421,11 @@ module _ {D : Type 0} (reads_as : D → Option Image) (images : D → Image → 
   first_at = subst (λ (n : NodeValue). AreOf n.chain.blocks 0 (rows n.cells)) (sym is) first
 
   -- what is asked of the disk to read blocks there
-  pub own_read : IfSome (reads_as mid) (IsReadBy kept held)
-  own_read = if_told (IsReadBy kept held) (reads_as mid) (λ now told.
+  pub own_read : IfSome (reads_as mid) (IsReadBy kept cache.held)
+  own_read = if_told (IsReadBy kept cache.held) (reads_as mid) (λ now told.
       let was = told_before (reads_as old) (reads_as mid) others (subst IsSome (sym told) refl) in
       let from = from_at was.0 was.1 in
-      subst (IsReadBy kept held) (same_Some from.of.now now (sym from.of.told ∙ told)) from.of.read)
+      subst (IsReadBy kept cache.held) (same_Some from.of.now now (sym from.of.told ∙ told)) from.of.read)
 
   pub keeps_led : IfSome (reads_as old) (λ now. store_of now ≡ Keeps kept.chain)
   keeps_led = if_told (λ now. store_of now ≡ Keeps kept.chain) (reads_as old) (λ now told. (from_at now told).keeps)
@@ -457,15 +457,15 @@ module _ {D : Type 0} (reads_as : D → Option Image) (images : D → Image → 
   -- ---- Whose live cells were led to the tip
 
   module _ (moment : D → ℕ) (left_since : D → ℕ → Image → Type 0) (new : D) (rests : IsAsBefore reads_as images moment left_since mid new)
-      (next : StateValue) (later : List (ℕ × Stored)) where
+      (next : StateValue) (later : CacheValue) where
     pub settled_led : IfSome (reads_as old) (λ now. IsSettled place (records_of (drop 8 now.log)) (reads_as new) (images new))
     settled_led = if_told (λ now. IsSettled place (records_of (drop 8 now.log)) (reads_as new) (images new)) (reads_as old) (λ now told.
         settled_still reads_as images moment left_since mid new rests place (records_of (drop 8 now.log)) (from_at now told).settled)
 
-    pub own_led : IfSome (reads_as new) (IsReadBy kept later) → IsItsOwn (node_of kept place next later) (reads_as new) (images new)
+    pub own_led : IfSome (reads_as new) (IsReadBy kept later.held) → IsItsOwn (node_of kept place next later) (reads_as new) (images new)
     own_led agrees = if_told (λ _. IsOf (node_of kept place next later) (reads_as new) (images new)) (reads_as new) (λ now told.
         let was = told_before (reads_as old) (reads_as mid) others (subst IsSome (sym (sym rests.reads ∙ told)) refl) in
-        of_still reads_as images moment left_since mid new rests kept place cells next held later (from_at was.0 was.1).of agrees)
+        of_still reads_as images moment left_since mid new rests kept place cells next cache later (from_at was.0 was.1).of agrees)
 
     -- where the blocks of its image have joined
     module _ (moved : (there : Image) → reads_as mid ≡ Some there → HasSoundAreas kept.chain.blocks there → AreJoined kept.chain kept.exts
@@ -479,13 +479,13 @@ module _ {D : Type 0} (reads_as : D → Option Image) (images : D → Image → 
           }
 
       pub on_led : IfSome (reads_as old) (images old) → ((image : Image) → images old image → IsSound image)
-          → IfSome (reads_as old) (λ _. IsOnlyImage node.chain (reads_as mid) (images mid)) → IfSome (reads_as new) (IsReadBy kept later)
+          → IfSome (reads_as old) (λ _. IsOnlyImage node.chain (reads_as mid) (images mid)) → IfSome (reads_as new) (IsReadBy kept later.held)
           → IfSome (reads_as old) (λ _. IsOn (node_of kept place next later) (reads_as new) (images new))
       on_led here sound only agrees = if_told (λ _. IsOn (node_of kept place next later) (reads_as new) (images new)) (reads_as old) (λ now told. record {
         image = only_still reads_as images moment left_since mid new rests kept.chain
             (subst (λ (n : NodeValue). IsOnlyImage n.chain (reads_as mid) (images mid)) (sym is)
             (at_some (λ _. IsOnlyImage node.chain (reads_as mid) (images mid)) (reads_as old) now told only));
-        of = of_still reads_as images moment left_since mid new rests kept place cells next held later (from_at now told).of agrees;
+        of = of_still reads_as images moment left_since mid new rests kept place cells next cache later (from_at now told).of agrees;
         sound = sound_led now told (sound now (at_some (images old) (reads_as old) now told here));
       })
 

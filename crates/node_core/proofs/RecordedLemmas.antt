@@ -15,6 +15,7 @@ use Rattle.chain_tree.specs.Told.{Stored, blocks_of}
 use Rattle.cell_model.specs.ListBlocks.{stored_from}
 use Rattle.cell_model.proofs.ListLemmas.{stored_from-push, decoding-is}
 use Rattle.cell_state.specs.State.{StateValue}
+use Rattle.block_store.specs.Held.{CacheValue}
 use Rattle.node_core.specs.Node.{RecordedValue, KeptValue, NodeValue, kept_of, kept_in, node_of, exts_of, paired, stored_of, IsReadBy, IsItsOwn, HasLooked, LeavesAll}
 
 -- blocks and exts of a list are its own, one beside the other
@@ -63,19 +64,19 @@ read-own : (node : NodeValue) (reads : Option Image) (images : Image → Type 0)
 read-own node None images own = tt
 read-own node (Some image) images own = subst (IsReadBy (kept_in node) node.held) (same_Some own.now image (sym own.told)) own.read
 
-pub read-here : (kept : KeptValue) (place : ℕ) (cells : StateValue) (held : List (ℕ × Stored)) (node : NodeValue) (reads : Option Image) (images : Image → Type 0)
-    → node_of kept place cells held ≡ node → IsItsOwn node reads images → IfSome reads (IsReadBy kept held)
-read-here kept place cells held node reads images whole own =
-    read-own (node_of kept place cells held) reads images (subst (λ (it : NodeValue). IsItsOwn it reads images) (sym whole) own)
+pub read-here : (kept : KeptValue) (place : ℕ) (cells : StateValue) (cache : CacheValue) (node : NodeValue) (reads : Option Image) (images : Image → Type 0)
+    → node_of kept place cells cache ≡ node → IsItsOwn node reads images → IfSome reads (IsReadBy kept cache.held)
+read-here kept place cells cache node reads images whole own =
+    read-own (node_of kept place cells cache) reads images (subst (λ (it : NodeValue). IsItsOwn it reads images) (sym whole) own)
 
 -- and the disk stays its own while it is read
-own-later : (node : NodeValue) (later : List (ℕ × Stored)) (before after : Option Image) (old new : Image → Type 0) → after ≡ before → SameImages old new
-    → IsItsOwn node before old → IfSome after (IsReadBy (kept_in node) later) → IsItsOwn (record node { held = later }) after new
+own-later : (node : NodeValue) (later : CacheValue) (before after : Option Image) (old new : Image → Type 0) → after ≡ before → SameImages old new
+    → IsItsOwn node before old → IfSome after (IsReadBy (kept_in node) later.held) → IsItsOwn (record node { held = later.held; damages = later.damages }) after new
 own-later node later None after old new same images own read =
-    subst (λ (reads : Option Image). IsItsOwn (record node { held = later }) reads new) (sym same) tt
+    subst (λ (reads : Option Image). IsItsOwn (record node { held = later.held; damages = later.damages }) reads new) (sym same) tt
 own-later node later (Some image) after old new same images own read =
-    let now : IsReadBy (kept_in node) later image = subst (λ (reads : Option Image). IfSome reads (IsReadBy (kept_in node) later)) same read in
-    subst (λ (reads : Option Image). IsItsOwn (record node { held = later }) reads new) (sym same) (record {
+    let now : IsReadBy (kept_in node) later.held image = subst (λ (reads : Option Image). IfSome reads (IsReadBy (kept_in node) later.held)) same read in
+    subst (λ (reads : Option Image). IsItsOwn (record node { held = later.held; damages = later.damages }) reads new) (sym same) (record {
       now = own.now;
       told = own.told;
       read = record { specification = own.read.specification; names = own.read.names; can = own.read.can; agrees = now.agrees };
@@ -91,16 +92,17 @@ own-later node later (Some image) after old new same images own read =
 
 module _ {S C : Type 0} (content_of : S → C) (reads_as : S → Option Image) (images : S → Image → Type 0) (moment : S → ℕ) (left_since : S → ℕ → Image → Type 0)
     (faults : S → ℕ) (rests : (old new : S) → content_of new ≡ content_of old → IsAsBefore reads_as images moment left_since old new) where
-  pub leaves-all : (old new : S) (kept : KeptValue) (place : ℕ) (cells : StateValue) (held later : List (ℕ × Stored)) (before : NodeValue) (stop : Option ReadStop)
-      → node_of kept place cells held ≡ before → IsItsOwn before (reads_as old) (images old) → HasLooked content_of reads_as faults old new kept later stop
+  pub leaves-all : (old new : S) (kept : KeptValue) (place : ℕ) (cells : StateValue) (cache later : CacheValue) (before : NodeValue) (stop : Option ReadStop)
+      → node_of kept place cells cache ≡ before → IsItsOwn before (reads_as old) (images old) → HasLooked content_of reads_as faults old new kept cache later stop
       → LeavesAll content_of reads_as images faults old new before (node_of kept place cells later) stop
-  leaves-all old new kept place cells held later before stop whole own looked =
+  leaves-all old new kept place cells cache later before stop whole own looked =
       let as_before = rests old new looked.content in
       record {
         content = looked.content;
-        node = ap (λ (node : NodeValue). record node { held = later }) whole;
-        own = own-later (node_of kept place cells held) later (reads_as old) (reads_as new) (images old) (images new) as_before.reads as_before.images
+        node = ap (λ (node : NodeValue). record node { held = later.held; damages = later.damages }) whole;
+        own = own-later (node_of kept place cells cache) later (reads_as old) (reads_as new) (images old) (images new) as_before.reads as_before.images
             (subst (λ (node : NodeValue). IsItsOwn node (reads_as old) (images old)) (sym whole) own) looked.agrees;
         damage = looked.damage;
         cause = looked.cause;
+        found = λ other. looked.found other ∙ ap (λ (node : NodeValue). node.damages) whole;
       }

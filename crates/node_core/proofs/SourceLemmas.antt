@@ -15,7 +15,7 @@ use Rattle.chain_tree.specs.Blocks.{IndexesBlocks}
 use Rattle.chain_tree.proofs.BlockLemmas.{len-same}
 use Rattle.store_defs.specs.Store.{AreJoined}
 use Rattle.block_store.specs.Stored.{told_by}
-use Rattle.block_store.specs.Held.{IsKept}
+use Rattle.block_store.specs.Held.{CacheValue, IsKept}
 use Rattle.block_store.proofs.LogLemmas.{tells_the_log}
 use Rattle.block_store.proofs.AgreeLemmas.{agrees_always}
 use Rattle.node_core.specs.Node.{KeptValue, kept_of, stored_of, TellsJoined, IsReadBy, HasLooked}
@@ -98,14 +98,16 @@ same-entries {C = C} same = ap (λ (loans : ℕ × ℕ × C × List Entry). loan
 
 -- What a look leaves, where the content is the same and what is held then is what LOG has.
 pub has-looked : {S C : Type 0} {content_of : S → C} {reads_as : S → Option Image} {faults : S → ℕ} {old new : S} {stop : Option ReadStop}
-    (kept : KeptValue) (entries : List Entry) (held later : List (ℕ × Stored)) → entries ≡ kept.entries → content_of new ≡ content_of old
-    → reads_as new ≡ reads_as old → IfSome (reads_as old) (IsReadBy kept held) → IfSome (reads_as new) (IsKept entries later)
+    (kept : KeptValue) (entries : List Entry) (cache later : CacheValue) → entries ≡ kept.entries → content_of new ≡ content_of old
+    → reads_as new ≡ reads_as old → IfSome (reads_as old) (IsReadBy kept cache.held) → IfSome (reads_as new) (IsKept entries later.held)
     → ((damage : Damage) → stop ≡ Some (Damaged damage) → damage.area ≡ Log) → CountsFault (faults old) (faults new) (stop ≡ Some DiskFault)
-    → HasLooked content_of reads_as faults old new kept later stop
-has-looked {reads_as = reads_as} {new = new} kept entries held later same content reads own is_kept damage cause = record {
+    → (((damage : Damage) → stop ≡ Some (Damaged damage) → ⊥) → later.damages ≡ cache.damages)
+    → HasLooked content_of reads_as faults old new kept cache later stop
+has-looked {reads_as = reads_as} {new = new} kept entries cache later same content reads own is_kept damage cause found = record {
   content = content;
-  agrees = read-later kept held later (reads_as new) (subst (λ (o : Option Image). IfSome o (IsReadBy kept held)) (sym reads) own)
-      (subst (λ (es : List Entry). IfSome (reads_as new) (IsKept es later)) same is_kept);
+  agrees = read-later kept cache.held later.held (reads_as new) (subst (λ (o : Option Image). IfSome o (IsReadBy kept cache.held)) (sym reads) own)
+      (subst (λ (es : List Entry). IfSome (reads_as new) (IsKept es later.held)) same is_kept);
   damage = damage;
   cause = cause;
+  found = found;
 }

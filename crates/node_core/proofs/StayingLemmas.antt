@@ -8,7 +8,6 @@ use Rattle.outside.specs.declared.disk.Area.TheVariants.{Log}
 use Rattle.outside.specs.Image.{Image}
 use Rattle.outside.specs.Disk.{SameImages, OthersRead, LeavesOnly, IsAsBefore}
 use Rattle.outside.proofs.Moments.{leaves_also, leaves_then}
-use Rattle.chain_tree.specs.Told.{Stored}
 use Rattle.cell_state.specs.State.{StateValue, rows}
 use Rattle.verdict_defs.specs.Chain.{Chain, chain_after}
 use Rattle.log_defs.specs.Log.{Record}
@@ -17,6 +16,7 @@ use Rattle.log_file.proofs.Exits.{same_stop}
 use Rattle.log_file.proofs.Settling.{others_kept, others_on}
 use Rattle.store_defs.specs.Store.{StandsFor, IsJoined, HaveOwnExts}
 use Rattle.store_defs.proofs.JoinedLemmas.{joined_after}
+use Rattle.block_store.specs.Held.{CacheValue}
 use Rattle.node_core.specs.Node.{KeptValue, NodeValue, node_of, IsReadBy, IsOf, IsItsOwn, IsSoundNode, IsSoundOn, IsOnlyImage, IsOn, IsLeftByImport, AreOfTip}
 use Rattle.node_core.proofs.KeepingLemmas.{left_there}
 
@@ -40,10 +40,10 @@ module _ (before after : Option Image) (old new : Image → Type 0) (same : afte
   }
 
   -- it stays a node's own, whatever its live cells are, with what is held in memory
-  of-same : (kept : KeptValue) (place : ℕ) (cells next : StateValue) (held later : List (ℕ × Stored)) → IsOf (node_of kept place cells held) before old
-      → IfSome after (IsReadBy kept later) → IsOf (node_of kept place next later) after new
-  of-same kept place cells next held later of read =
-      let here : IsReadBy kept later of.now = subst (λ (o : Option Image). IfSome o (IsReadBy kept later)) (same ∙ of.told) read in
+  of-same : (kept : KeptValue) (place : ℕ) (cells next : StateValue) (cache later : CacheValue) → IsOf (node_of kept place cells cache) before old
+      → IfSome after (IsReadBy kept later.held) → IsOf (node_of kept place next later) after new
+  of-same kept place cells next cache later of read =
+      let here : IsReadBy kept later.held of.now = subst (λ (o : Option Image). IfSome o (IsReadBy kept later.held)) (same ∙ of.told) read in
       record {
         now = of.now;
         told = same ∙ of.told;
@@ -52,13 +52,13 @@ module _ (before after : Option Image) (old new : Image → Type 0) (same : afte
       }
 
 own-same : (before after : Option Image) (old new : Image → Type 0) → after ≡ before → SameImages old new
-    → (kept : KeptValue) (place : ℕ) (cells next : StateValue) (held later : List (ℕ × Stored)) → IsItsOwn (node_of kept place cells held) before old
-    → IfSome after (IsReadBy kept later) → IsItsOwn (node_of kept place next later) after new
-own-same None after old new same images kept place cells next held later own read =
+    → (kept : KeptValue) (place : ℕ) (cells next : StateValue) (cache later : CacheValue) → IsItsOwn (node_of kept place cells cache) before old
+    → IfSome after (IsReadBy kept later.held) → IsItsOwn (node_of kept place next later) after new
+own-same None after old new same images kept place cells next cache later own read =
     subst (λ (reads : Option Image). IfSome reads (λ _. IsOf (node_of kept place next later) after new)) (sym same) tt
-own-same (Some image) after old new same images kept place cells next held later own read =
+own-same (Some image) after old new same images kept place cells next cache later own read =
     subst (λ (reads : Option Image). IfSome reads (λ _. IsOf (node_of kept place next later) after new)) (sym same)
-    (of-same (Some image) after old new same images kept place cells next held later own read)
+    (of-same (Some image) after old new same images kept place cells next cache later own read)
 
 -- ---- Why a call was stopped
 
@@ -106,17 +106,17 @@ module _ {S C : Type 0} (content_of : S → C) (reads_as : S → Option Image) (
   pub only-looked : (chain : Chain) → IsOnlyImage chain (reads_as old) (images old) → IsOnlyImage chain (reads_as mid) (images mid)
   only-looked = only-same (reads_as old) (reads_as mid) (images old) (images mid) as-before.reads as-before.images
 
-  pub own-looked : (kept : KeptValue) (place : ℕ) (cells next : StateValue) (held later : List (ℕ × Stored))
-      → IsItsOwn (node_of kept place cells held) (reads_as old) (images old) → IfSome (reads_as mid) (IsReadBy kept later)
+  pub own-looked : (kept : KeptValue) (place : ℕ) (cells next : StateValue) (cache later : CacheValue)
+      → IsItsOwn (node_of kept place cells cache) (reads_as old) (images old) → IfSome (reads_as mid) (IsReadBy kept later.held)
       → IsItsOwn (node_of kept place next later) (reads_as mid) (images mid)
   own-looked = own-same (reads_as old) (reads_as mid) (images old) (images mid) as-before.reads as-before.images
 
-  pub on-looked : (kept : KeptValue) (place : ℕ) (cells next : StateValue) (held later : List (ℕ × Stored))
-      → IsOn (node_of kept place cells held) (reads_as old) (images old) → IfSome (reads_as mid) (IsReadBy kept later) → AreOfTip kept.chain.blocks (rows next)
+  pub on-looked : (kept : KeptValue) (place : ℕ) (cells next : StateValue) (cache later : CacheValue)
+      → IsOn (node_of kept place cells cache) (reads_as old) (images old) → IfSome (reads_as mid) (IsReadBy kept later.held) → AreOfTip kept.chain.blocks (rows next)
       → IsOn (node_of kept place next later) (reads_as mid) (images mid)
-  on-looked kept place cells next held later on read live = record {
+  on-looked kept place cells next cache later on read live = record {
     image = only-looked kept.chain on.image;
-    of = of-same (reads_as old) (reads_as mid) (images old) (images mid) as-before.reads as-before.images kept place cells next held later on.of read;
+    of = of-same (reads_as old) (reads_as mid) (images old) (images mid) as-before.reads as-before.images kept place cells next cache later on.of read;
     sound = record { joined = on.sound.joined; live = live };
   }
 

@@ -26,7 +26,7 @@ use Rattle.verdict_defs.specs.Chain.{Chain, chain_of_genesis}
 use Rattle.log_file.specs.Pieces.{block_record}
 use Rattle.log_file.specs.Grammar.{record_of}
 use Rattle.log_file.specs.Opening.{kept_records}
-use Rattle.block_store.specs.Held.{AgreesWith}
+use Rattle.block_store.specs.Held.{CacheValue, AgreesWith}
 use Rattle.block_store.specs.Stored.{CanBeKept}
 use Rattle.block_store.specs.Laws.{NamesTheLog}
 use Rattle.genesis_defs.specs.Genesis.{broken_genesis_rule}
@@ -72,7 +72,7 @@ abbrev pub stored_of : KeptValue → List Stored
 stored_of kept = paired kept.chain.blocks kept.exts
 
 -- A node: its chain, the exts of its blocks, and their entries, which say where in LOG each block lies; the offset where the records of its log end;
--- its live cells; and the blocks that it holds in memory, each with its ext, by their places.
+-- its live cells; the blocks that it holds in memory, each with its ext, by their places; and how often damage was found as it read its blocks.
 pub record NodeValue : Type 0 where
   pub chain : Chain
   pub exts : List (List ℕ)
@@ -80,13 +80,21 @@ pub record NodeValue : Type 0 where
   pub place : ℕ
   pub cells : StateValue
   pub held : List (ℕ × Stored)
+  pub damages : ℕ
 
 abbrev pub kept_in : NodeValue → KeptValue
 kept_in node = record { chain = node.chain; exts = node.exts; entries = node.entries }
 
-abbrev pub node_of : KeptValue → ℕ → StateValue → List (ℕ × Stored) → NodeValue
-node_of kept place cells held =
-    record { chain = kept.chain; exts = kept.exts; entries = kept.entries; place = place; cells = cells; held = held }
+abbrev pub node_of : KeptValue → ℕ → StateValue → CacheValue → NodeValue
+node_of kept place cells cache = record {
+  chain = kept.chain;
+  exts = kept.exts;
+  entries = kept.entries;
+  place = place;
+  cells = cells;
+  held = cache.held;
+  damages = cache.damages;
+}
 
 -- ---- What a disk has of it
 
@@ -145,21 +153,24 @@ pub record IsOn (node : NodeValue) (reads : Option Image) (images : Image → Ty
   pub sound : IsSoundNode node
 
 -- What a call leaves that only reads kept blocks on a disk: the disk as it was, in memory what is the disk's, damage in LOG alone, and faults counted.
+-- Damage that is found is answered: a call with any other answer found none.
 pub record HasLooked {S C : Type 0} (content_of : S → C) (reads_as : S → Option Image) (faults : S → ℕ) (old new : S) (kept : KeptValue)
-    (held : List (ℕ × Stored)) (stop : Option ReadStop) : Type 0 where
+    (before after : CacheValue) (stop : Option ReadStop) : Type 0 where
   pub content : content_of new ≡ content_of old
-  pub agrees : IfSome (reads_as new) (IsReadBy kept held)
+  pub agrees : IfSome (reads_as new) (IsReadBy kept after.held)
   pub damage : (damage : Damage) → stop ≡ Some (Damaged damage) → damage.area ≡ Log
   pub cause : CountsFault (faults old) (faults new) (stop ≡ Some DiskFault)
+  pub found : ((damage : Damage) → stop ≡ Some (Damaged damage) → ⊥) → after.damages ≡ before.damages
 
--- the same of a node and its own disk: the node differs in what it holds in memory alone, damage is in LOG alone, and faults are counted
+-- the same of a node and its own disk: the node differs in what it holds in memory and in its count of damage alone
 pub record LeavesAll {S C : Type 0} (content_of : S → C) (reads_as : S → Option Image) (images : S → Image → Type 0) (faults : S → ℕ) (old new : S)
     (before after : NodeValue) (stop : Option ReadStop) : Type 0 where
   pub content : content_of new ≡ content_of old
-  pub node : after ≡ record before { held = after.held }
+  pub node : after ≡ record before { held = after.held; damages = after.damages }
   pub own : IsItsOwn after (reads_as new) (images new)
   pub damage : (damage : Damage) → stop ≡ Some (Damaged damage) → damage.area ≡ Log
   pub cause : CountsFault (faults old) (faults new) (stop ≡ Some DiskFault)
+  pub found : ((damage : Damage) → stop ≡ Some (Damaged damage) → ⊥) → after.damages ≡ before.damages
 
 -- The ext of each block after the genesis counts a fee for each transaction of the block after the first.
 abbrev pub CountFees : List Stored → Type 0

@@ -104,7 +104,7 @@ fn fill(alloc: Global, body: &mut Body, item: &[u8], ext: &Ext) -> Result<Vec<u8
 }
 
 /// What is kept of a store, and the live cells of the tip. The bytes of its blocks lie on the disk. Clauses see the chain, the
-/// exts, the entries, where the records of its log end, the live cells, and what is held in memory.
+/// exts, the entries, where the records of its log end, the live cells, what is held in memory, and how often damage was found.
 #[derive(Drop)]
 pub struct Node {
     kept: Kept,
@@ -162,6 +162,7 @@ fn read_store<D: Disk>(alloc: Global, disk: &mut D, held: usize) -> Result<Node,
     ensures one_image { OnOk result (HasOneImage (D.reads_as disk.new) (D.images disk.new)) }
     ensures image { ((image : Image) → D.images disk.old image → IsSound image)
         → IfOk result (λ node. IfSome (D.reads_as disk.old) (λ _. IsOnlyImage node.chain (D.reads_as disk.new) (D.images disk.new))) }
+    ensures found { IfOk result (λ node. node.damages ≡ 0) }
     ensures cause { CountsFault (D.faults disk.old) (D.faults disk.new) (result ≡ Err LogStop.DiskFault) }
 {
     match sync_snapshots(disk) {
@@ -235,6 +236,7 @@ fn join<D: Disk, L: Ledger>(
     ensures damage { (damage : Damage) → result ≡ Err (Damaged damage) → damage.area ≡ log_area }
     ensures spec { IfOk result (λ node. node.chain.spec ≡ kept.chain.spec) }
     ensures holds { IfOk result (λ node. IsSome (held_at node.held (length kept.chain.blocks))) }
+    ensures found { IfOk result (λ node. node.damages ≡ cache.damages) }
     ensures cause { CountsFault (D.faults disk.old) (D.faults disk.new) (result ≡ Err DiskFault) }
     ensures most { steps.new ≤ steps.old + 1 }
 {
@@ -307,6 +309,7 @@ impl Node {
         ensures sound { (now : Image) → D.reads_as disk.old ≡ Some now → IsSound now → IfOk result IsSoundNode }
         ensures moments { (now : Image) (chain : Chain) → D.reads_as disk.old ≡ Some now → store_of now ≡ Keeps chain → ((image : Image) → D.images disk.old image → IsSound image)
             → LeavesOnly D.moment D.left_since disk.old disk.new (λ image. D.images disk.old image ⊎ StandsFor chain image) }
+        ensures found { IfOk result (λ node. node.damages ≡ 0) }
         ensures cause { CountsFault (D.faults disk.old) (D.faults disk.new) (result ≡ Err LogStop.DiskFault) }
         ensures most { (now : Image) → D.reads_as disk.old ≡ Some now → steps.new ≤ steps.old + moves_to_open now }
     {
@@ -434,6 +437,7 @@ impl Node {
         ensures untouched { IfErr result (λ stop. stop ≢ DiskFault → D.content_of disk.new ≡ D.content_of disk.old) }
         ensures undamaged { IsSoundOn self (D.reads_as disk.old) → (damage : Damage) → result ≡ Err (Damaged damage) → ⊥ }
         ensures damage { (damage : Damage) → result ≡ Err (Damaged damage) → damage.area ≡ log_area }
+        ensures found { IfOk result (λ answer. answer.0.damages ≡ self.damages) }
         ensures cause { CountsFault (D.faults disk.old) (D.faults disk.new) (result ≡ Err DiskFault) }
         ensures spec { IfOk result (λ answer. answer.0.chain.spec ≡ self.chain.spec) }
         ensures holds { IfOk result (λ answer. joins answer.1 ≡ true → IsSome (held_at answer.0.held (length self.chain.blocks))) }

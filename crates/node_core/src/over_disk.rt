@@ -46,8 +46,8 @@ pub(crate) fn moved<D: Disk, L: Ledger>(
 ) -> Result<State, ReadStop>
     requires from { from < length kept.now.chain.blocks }
     requires to { to < length kept.now.chain.blocks }
-    requires own { IfSome (D.reads_as disk.old) (IsReadBy kept.now cache.old) }
-    ensures looked { HasLooked D.content_of D.reads_as D.faults disk.old disk.new kept.now cache.new (stop_of result) }
+    requires own { IfSome (D.reads_as disk.old) (IsReadBy kept.now cache.old.held) }
+    ensures looked { HasLooked D.content_of D.reads_as D.faults disk.old disk.new kept.now cache.old cache.new (stop_of result) }
     ensures cells { IsSome (D.reads_as disk.old) → AreJoined kept.now.chain kept.now.exts → AreOf kept.now.chain.blocks from (rows state)
         → IfOk result (λ there. AreOf kept.now.chain.blocks to (rows there)) }
     ensures undamaged { IsSome (D.reads_as disk.old) → AreJoined kept.now.chain kept.now.exts → AreOf kept.now.chain.blocks from (rows state)
@@ -69,8 +69,8 @@ pub(crate) fn decide<D: Disk, L: Ledger>(
     item: &[u8],
     steps: &mut Steps<L>,
 ) -> Result<(State, Decision), ReadStop>
-    requires own { IfSome (D.reads_as disk.old) (IsReadBy kept.now cache.old) }
-    ensures looked { HasLooked D.content_of D.reads_as D.faults disk.old disk.new kept.now cache.new (stop_of result) }
+    requires own { IfSome (D.reads_as disk.old) (IsReadBy kept.now cache.old.held) }
+    ensures looked { HasLooked D.content_of D.reads_as D.faults disk.old disk.new kept.now cache.old cache.new (stop_of result) }
     ensures ready { IfOk result (λ it. IsReadyItem kept.now.chain item.now it.1) }
     ensures cells { IsSome (D.reads_as disk.old) → AreJoined kept.now.chain kept.now.exts → AreOfTip kept.now.chain.blocks (rows state)
         → IfOk result (λ it. AreOfFound kept.now.chain.blocks (place_for kept.now.chain.blocks it.1) (rows it.0)) }
@@ -95,8 +95,8 @@ pub(crate) fn check<D: Disk>(
     state: &State,
     tx: &TxView<'_>,
 ) -> Result<(u64, u64), Judged>
-    requires own { IfSome (D.reads_as disk.old) (IsReadBy kept.now cache.old) }
-    ensures looked { HasLooked D.content_of D.reads_as D.faults disk.old disk.new kept.now cache.new (read_stop_of result) }
+    requires own { IfSome (D.reads_as disk.old) (IsReadBy kept.now cache.old.held) }
+    ensures looked { HasLooked D.content_of D.reads_as D.faults disk.old disk.new kept.now cache.old cache.new (read_stop_of result) }
     ensures passes { IsSome (D.reads_as disk.old) → AreJoined kept.now.chain kept.now.exts → AreOfTip kept.now.chain.blocks (rows state.now)
         → IfOk result (λ it. trial_on kept.now.chain.spec (best_branch kept.now.chain.blocks) tx.now ≡ Passes it.0 it.1) }
     ensures broken { IsSome (D.reads_as disk.old) → AreJoined kept.now.chain kept.now.exts → AreOfTip kept.now.chain.blocks (rows state.now)
@@ -116,8 +116,8 @@ pub(crate) fn header<D: Disk>(
     kept: &Kept,
     height: u64,
 ) -> Result<Option<HeaderAt>, ReadStop>
-    requires own { IfSome (D.reads_as disk.old) (IsReadBy kept.now cache.old) }
-    ensures looked { HasLooked D.content_of D.reads_as D.faults disk.old disk.new kept.now cache.new (stop_of result) }
+    requires own { IfSome (D.reads_as disk.old) (IsReadBy kept.now cache.old.held) }
+    ensures looked { HasLooked D.content_of D.reads_as D.faults disk.old disk.new kept.now cache.old cache.new (stop_of result) }
     ensures header { IsSome (D.reads_as disk.old) → IfOk result (IsHeaderAt kept.now.chain.blocks height) }
     ensures none { block_at (best_branch kept.now.chain.blocks) height ≡ None → (result ≡ Ok None) × (disk.new ≡ disk.old) }
     ensures undamaged { IsSome (D.reads_as disk.old) → (damage : a_damage) → result ≡ Err (Damaged damage) → ⊥ }
@@ -134,8 +134,8 @@ pub(crate) fn block<D: Disk>(
     kept: &Kept,
     height: u64,
 ) -> Result<Option<Vec<u8>>, ReadStop>
-    requires own { IfSome (D.reads_as disk.old) (IsReadBy kept.now cache.old) }
-    ensures looked { HasLooked D.content_of D.reads_as D.faults disk.old disk.new kept.now cache.new (stop_of result) }
+    requires own { IfSome (D.reads_as disk.old) (IsReadBy kept.now cache.old.held) }
+    ensures looked { HasLooked D.content_of D.reads_as D.faults disk.old disk.new kept.now cache.old cache.new (stop_of result) }
     ensures block { IsSome (D.reads_as disk.old) → IfOk result (λ found. IsBlockAt kept.now.chain.blocks height (option_map (λ bytes. bytes.items) found)) }
     ensures none { block_at (best_branch kept.now.chain.blocks) height ≡ None → (result ≡ Ok None) × (disk.new ≡ disk.old) }
     ensures undamaged { IsSome (D.reads_as disk.old) → (damage : a_damage) → result ≡ Err (Damaged damage) → ⊥ }
@@ -153,8 +153,8 @@ pub(crate) fn fetch<D: Disk>(
     state: &State,
     o: OutPoint,
 ) -> Result<Option<Fetched>, ReadStop>
-    requires own { IfSome (D.reads_as disk.old) (IsReadBy kept.now cache.old) }
-    ensures looked { HasLooked D.content_of D.reads_as D.faults disk.old disk.new kept.now cache.new (stop_of result) }
+    requires own { IfSome (D.reads_as disk.old) (IsReadBy kept.now cache.old.held) }
+    ensures looked { HasLooked D.content_of D.reads_as D.faults disk.old disk.new kept.now cache.old cache.new (stop_of result) }
     ensures fetched { IsSome (D.reads_as disk.old) → AreOfTip kept.now.chain.blocks (rows state.now) → IfOk result (IsFetched kept.now.chain.blocks o) }
     ensures none { AreOfTip kept.now.chain.blocks (rows state.now) → IsLiveCell kept.now.chain.blocks o None → (result ≡ Ok None) × (disk.new ≡ disk.old) }
     ensures undamaged { IsSome (D.reads_as disk.old) → AreOfTip kept.now.chain.blocks (rows state.now)

@@ -7,7 +7,7 @@ use Rattle.outside.specs.declared.disk.Area.{Area}
 use Rattle.outside_mem.specs.declared.history.Recorded.{Recorded}
 use Rattle.outside.specs.Image.{Image, content, InArea}
 use Rattle.outside.specs.Disk.{write_area, Torn, Cut, Follows, OthersRead, Elapses}
-use Rattle.outside_mem.specs.MemoryDisk.{Step, Wrote, Shortened, Synced, reads, Leaves, MayLeave, LeftSince, LeavesExactly, LeavesSynced, FailsInPart, step_of, steps_of}
+use Rattle.outside_mem.specs.MemoryDisk.{Step, Wrote, Shortened, Synced, reads, Leaves, MayLeave, LeftSince, LeavesExactly, LeavesSynced, FailsInPart, WritesInPart, step_of, steps_of}
 use Rattle.outside.proofs.Images.{own_content}
 use Rattle.outside.proofs.Torn.{torn_same, tears_to_the_written, cuts_to_any_length}
 
@@ -95,11 +95,6 @@ module _ (area : Area) (relation : List ℕ → List ℕ → Type 0) (same : (by
       (image, subst (λ (steps : List Step). MayLeave steps image) none left, (content area image, same (content area image), own_content area image))
   follows_in_part old new (inr part) image left = (part.2 image).0 left
 
-pub fails_write_others : {E : Type 0} (old new : List Step) (area : Area) (at : ℕ) (piece : List ℕ) (lost : ℕ) (result : Result (Unit {0}) E)
-    → OnOk result (new ≡ Wrote area at piece lost ∷ old) → OnErr result (new ≡ old) → OthersRead area (Some (reads old)) (Some (reads new))
-fails_write_others old new area at piece lost result one none =
-    fails_others old new (Wrote area at piece lost) area result one none (write_others old area at piece lost)
-
 pub fails_cut_others : {E : Type 0} (old new : List Step) (area : Area) (len left : ℕ) (result : Result (Unit {0}) E)
     → OnOk result (new ≡ Shortened area len left ∷ old) → OnErr result (new ≡ old) → OthersRead area (Some (reads old)) (Some (reads new))
 fails_cut_others old new area len left result one none =
@@ -108,3 +103,16 @@ fails_cut_others old new area len left result one none =
 -- a call that made no step
 pub others_same : (area : Area) (old new : List Step) → new ≡ old → OthersRead area (Some (reads old)) (Some (reads new))
 others_same area old new none = (content area (reads old), ap (λ (steps : List Step). Some (reads steps)) none ∙ ap Some (own_content area (reads old)))
+
+-- a write that was to fail wrote some bytes, or none
+pub writes_in_part : {E : Type 0} (old new : List Step) (area : Area) (at size : ℕ) (result : Result (Unit {0}) E)
+    → OnOk result (WritesInPart area at size old new) → OnErr result (new ≡ old) → FailsInPart (InArea area (Torn at size)) old new
+writes_in_part old new area at size (Ok _) (made, lost, sum, one) none =
+    inr (Wrote area at made lost, one, subst (λ (steps : List Step). LeavesExactly (InArea area (Torn at size)) old steps) (sym one) (write_exact_of old area at made lost size sum))
+writes_in_part old new area at size (Err _) one none = inl none
+
+pub writes_others : {E : Type 0} (old new : List Step) (area : Area) (at size : ℕ) (result : Result (Unit {0}) E)
+    → OnOk result (WritesInPart area at size old new) → OnErr result (new ≡ old) → OthersRead area (Some (reads old)) (Some (reads new))
+writes_others old new area at size (Ok _) (made, lost, sum, one) none =
+    subst (λ (steps : List Step). OthersRead area (Some (reads old)) (Some (reads steps))) (sym one) (write_others old area at made lost)
+writes_others old new area at size (Err _) one none = others_same area old new none

@@ -69,6 +69,10 @@ LeavesSynced area old new = (image : Image) → MayLeave new image ↔ (MayLeave
 abbrev pub FailsInPart : (Image → Image → Type 0) → List Step → List Step → Type 0
 FailsInPart step old new = (new ≡ old) ⊎ ((made : Step) × (new ≡ made ∷ old) × LeavesExactly step old new)
 
+-- a failed write of so many bytes that made one step, which wrote some bytes and was to write others
+abbrev pub WritesInPart : Area → ℕ → ℕ → List Step → List Step → Type 0
+WritesInPart area at size old new = (made : List ℕ) × (lost : ℕ) × (length made + lost ≡ size) × (new ≡ Wrote area at made lost ∷ old)
+
 -- the record that the code keeps, oldest first
 abbrev pub step_of : Recorded → Step
 step_of (Write area at piece lost) = Wrote area at piece.value.items lost

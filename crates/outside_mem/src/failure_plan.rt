@@ -7,6 +7,16 @@ ghost use Rattle.outside_mem.specs.Memory.{Plan, fresh_plan, fails_next, after_c
 use outside::Failed;
 use std::marker::Model;
 
+/// What a write that fails leaves of its range.
+#[derive(Clone, Copy)]
+pub(crate) enum Tear {
+    /// The front half, and nothing behind it.
+    Front,
+    Whole,
+    /// Other bytes in the front half, and all behind it.
+    OtherBytes,
+}
+
 /// Which calls fail. The numbers of calls and of failures stop at `u64::MAX`.
 #[derive(Drop)]
 pub(crate) struct FailurePlan {
@@ -45,6 +55,15 @@ impl FailurePlan {
             return Err(Failed);
         }
         Ok(())
+    }
+
+    /// What the call that has failed now leaves, if it is a write: each kind in its turn.
+    pub(crate) fn tear(&self) -> Tear {
+        match self.failed % 3 {
+            1 => Tear::Front,
+            2 => Tear::Whole,
+            _ => Tear::OtherBytes,
+        }
     }
 }
 

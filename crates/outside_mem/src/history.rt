@@ -1,9 +1,10 @@
 // Areas in memory, and the record of the calls that changed them.
 ghost use Rattle.std.specs.Prelude.{◌≡◌, ◌+◌, ◌^◌, ◌<◌, ◌≤◌, [], ◌∷◌, length, OnOk, OnErr};
 ghost use Rattle.outside.specs.Image.{content};
-ghost use Rattle.outside_mem.specs.MemoryDisk.{Wrote, Shortened, Synced, reads};
+ghost use Rattle.outside_mem.specs.MemoryDisk.{Wrote, Shortened, Synced, WritesInPart, reads};
 
 use crate::areas::Areas;
+use crate::failure_plan::Tear;
 use outside::{Area, NoMemory};
 use std::alloc::Global;
 use std::marker::Model;
@@ -73,6 +74,30 @@ impl History {
         self.recorded
             .push_reserved(Recorded::Write(area, at, written, lost));
         Ok(())
+    }
+
+    /// Does a write that fails, as far as it comes. Without memory it changes nothing.
+    pub(crate) fn write_in_part(
+        &mut self,
+        tear: Tear,
+        area: Area,
+        at: u64,
+        piece: &[u8],
+    ) -> Result<(), NoMemory>
+        requires { at ≤ length (content area (reads self.old)) }
+        ensures in_part { OnOk result (WritesInPart area at (length piece.now) self.old self.new) }
+        ensures kept { OnErr result (self.new ≡ self.old) }
+    {
+        let half = piece.len() / 2;
+        match tear {
+            Tear::Front => self.write(area, at, &piece[..half], piece.len() - half),
+            Tear::Whole => self.write(area, at, piece, 0),
+            Tear::OtherBytes => {
+                let mut torn = piece.to_vec(self.alloc)?;
+                torn[..piece.len() - half].fill(b'?');
+                self.write(area, at, &torn, 0)
+            }
+        }
     }
 
     /// Cuts to `len` and `left` more bytes. Without memory it changes nothing.

@@ -134,10 +134,8 @@ impl Disk for MemDisk {
         ensures cause { HasCause (disk_faults self.old) (disk_faults self.new) result }
     {
         if self.plan.call().is_err() {
-            let half = piece.len() / 2;
-            let _ = self
-                .history
-                .write(area, at, &piece[..half], piece.len() - half);
+            let tear = self.plan.tear();
+            let _ = self.history.write_in_part(tear, area, at, piece);
             return Err(Failed);
         }
         if self.history.write(area, at, piece, 0).is_err() {

@@ -1,12 +1,16 @@
 // The files of a folder, and the calls on them.
-ghost use Rattle.std.specs.Prelude.{◌≤◌, length, IfOk};
+ghost use Rattle.std.specs.Prelude.{◌≡◌, ◌≤◌, Some, true, length, take, IsSome, IfOk, OnOk, OnErr};
+ghost use Rattle.outside.specs.Disk.{IsWithinLimit};
+ghost use Rattle.outside_os.specs.Files.{Changes, Writes, Tears, Shortens, CutsInPart, Same, HasLength, HasRead, IsSynced, Reaches, FailsAt, IsLent, KeepsAll, file_of, with_file, nothing_opened};
 
 use crate::claim::Claim;
-use crate::streams::{TRIES, is_interrupted};
+use crate::pieces::{read_full, write_all};
+use crate::stored_file::StoredFile;
 use outside::Area;
 use std::fs::{File, OpenFile, OpenOptions};
 use std::io;
-use std::io::{ErrorKind, Read, Seek, SeekFrom, Write};
+use std::io::ErrorKind;
+use std::marker::Model;
 use std::rt::Files;
 
 fn name_of(area: Area) -> &'static str {
@@ -19,7 +23,10 @@ fn name_of(area: Area) -> &'static str {
 
 /// A folder with a file for each area, which is opened at its first use, and made where it is missing.
 #[derive(Drop)]
-pub(crate) struct Folder<R: Files + Drop> {
+pub(crate) struct Folder<R: Files + Drop>
+where
+    R::File: StoredFile,
+{
     rt: R,
     path: String,
     log: Option<R::File>,
@@ -29,8 +36,30 @@ pub(crate) struct Folder<R: Files + Drop> {
     is_doubtful: bool,
 }
 
-impl<R: Files + Drop> Folder<R> {
-    pub(crate) fn new(rt: R, path: String) -> Folder<R> {
+impl<R: Files + Drop> Model for Folder<R>
+where
+    R::File: StoredFile,
+{
+    ghost use Rattle.outside_os.specs.Files.{Opened};
+    ghost use Rattle.std.specs.Option.{option_map};
+
+    ghost Value = { Opened };
+
+    ghost view = { λ folder. record {
+      log = option_map (λ file. record { held = R.File.held file; failures = R.File.failures file }) folder.log;
+      snap_a = option_map (λ file. record { held = R.File.held file; failures = R.File.failures file }) folder.snap_a;
+      snap_b = option_map (λ file. record { held = R.File.held file; failures = R.File.failures file }) folder.snap_b;
+      is_doubtful = folder.is_doubtful;
+    } };
+}
+
+impl<R: Files + Drop> Folder<R>
+where
+    R::File: StoredFile,
+{
+    pub(crate) fn new(rt: R, path: String) -> Folder<R>
+        ensures { result ≡ nothing_opened }
+    {
         Folder {
             rt,
             path,
@@ -41,18 +70,21 @@ impl<R: Files + Drop> Folder<R> {
         }
     }
 
-    fn slot(&mut self, area: Area) -> &mut Option<R::File> {
+    /// Puts the file of an area back into its place.
+    fn give_back(&mut self, area: Area, file: R::File)
+        ensures { self.new ≡ with_file area (Some (record { held = R.File.held file; failures = R.File.failures file })) self.old }
+    {
         match area {
-            Area::Log => &mut self.log,
-            Area::SnapA => &mut self.snap_a,
-            Area::SnapB => &mut self.snap_b,
+            Area::Log => self.log = Some(file),
+            Area::SnapA => self.snap_a = Some(file),
+            Area::SnapB => self.snap_b = Some(file),
         }
     }
 }
 
 impl<R: Files + Drop> Folder<R>
 where
-    R::File: Claim,
+    R::File: Claim + StoredFile,
 {
     /// Opens the file of an area, which is empty where it was missing. Its name is safe then: an earlier run may
     /// have made it and ended before it was.
@@ -74,69 +106,102 @@ where
         Ok(file)
     }
 
-    /// The file of an area. The log is opened before the others: who has it claimed has the folder.
-    fn file(&mut self, area: Area) -> io::Result<&mut R::File> {
+    /// Takes the file of an area from its place. The log is opened before the others: who has it claimed has the folder.
+    fn lend(&mut self, area: Area) -> io::Result<R::File>
+        ensures lent { IfOk result (λ file. IsLent area (record { held = R.File.held file; failures = R.File.failures file }) self.old self.new) }
+        ensures kept { OnErr result (KeepsAll area self.old self.new) }
+    {
         if self.is_doubtful {
             return Err(io::Error::from(ErrorKind::Other));
         }
         if self.log.is_none() {
-            self.log = Some(self.open(Area::Log)?);
+            let log = match self.open(Area::Log) {
+                Ok(log) => log,
+                Err(error) => return Err(error),
+            };
+            self.log = Some(log);
         }
-        if self.slot(area).is_none() {
-            let file = self.open(area)?;
-            *self.slot(area) = Some(file);
-        }
-        match self.slot(area) {
+        let held = match area {
+            Area::Log => self.log.take(),
+            Area::SnapA => self.snap_a.take(),
+            Area::SnapB => self.snap_b.take(),
+        };
+        match held {
             Some(file) => Ok(file),
-            None => Err(io::Error::from(ErrorKind::NotFound)),
+            None => self.open(area),
         }
     }
 
-    pub(crate) fn len(&mut self, area: Area) -> io::Result<u64> {
-        Ok(self.file(area)?.metadata()?.len())
+    pub(crate) fn len(&mut self, area: Area) -> io::Result<u64>
+        ensures length { IfOk result (λ n. Reaches area (HasLength n) self.old self.new) }
+        ensures kept { OnErr result (FailsAt area Same self.old self.new) }
+        ensures doubt { self.new.is_doubtful ≡ self.old.is_doubtful }
+    {
+        let mut file = match self.lend(area) {
+            Ok(file) => file,
+            Err(error) => return Err(error),
+        };
+        let answer = file.len();
+        self.give_back(area, file);
+        answer
     }
 
     pub(crate) fn read(&mut self, area: Area, at: u64, into: &mut [u8]) -> io::Result<usize>
         ensures fits { IfOk result (λ n. n ≤ length into.new) }
+        ensures given { IfOk result (λ n. Reaches area (HasRead at (length into.new) (take n into.new)) self.old self.new) }
+        ensures kept { OnErr result (FailsAt area Same self.old self.new) }
+        ensures doubt { self.new.is_doubtful ≡ self.old.is_doubtful }
     {
-        let file = self.file(area)?;
-        file.seek(SeekFrom::Start(at))?;
-        read_full(file, into)
-    }
-
-    pub(crate) fn write(&mut self, area: Area, at: u64, piece: &[u8]) -> io::Result<()> {
-        let file = self.file(area)?;
-        file.seek(SeekFrom::Start(at))?;
-        file.write_all(piece)
-    }
-
-    pub(crate) fn cut(&mut self, area: Area, len: u64) -> io::Result<()> {
-        self.file(area)?.set_len(len)
-    }
-
-    pub(crate) fn sync(&mut self, area: Area) -> io::Result<()> {
-        let synced = self.file(area)?.sync_data();
-        self.is_doubtful = synced.is_err();
-        synced
-    }
-}
-
-/// Fills `into`, unless the file ends first, and answers how many bytes it gave. A read that was interrupted gave
-/// nothing, and is made again.
-fn read_full<F: Read>(file: &mut F, into: &mut [u8]) -> io::Result<usize>
-    ensures fits { IfOk result (λ n. n ≤ length into.new) }
-{
-    let mut given = 0;
-    for _ in 0..TRIES {
-        if given >= into.len() {
-            return Ok(given);
-        }
-        match file.read(&mut into[given..]) {
-            Ok(0) => return Ok(given),
-            Ok(n) => given += n,
-            Err(error) if is_interrupted(&error) => {}
+        let mut file = match self.lend(area) {
+            Ok(file) => file,
             Err(error) => return Err(error),
-        }
+        };
+        let answer = read_full(&mut file, at, into);
+        self.give_back(area, file);
+        answer
     }
-    Err(io::Error::from(ErrorKind::Interrupted))
+
+    pub(crate) fn write(&mut self, area: Area, at: u64, piece: &[u8]) -> io::Result<()>
+        requires { IsWithinLimit at (length piece.now) }
+        ensures written { OnOk result (Reaches area (Changes (Writes at piece.now)) self.old self.new) }
+        ensures torn { OnErr result (FailsAt area (Changes (Tears at (length piece.now))) self.old self.new) }
+        ensures doubt { self.new.is_doubtful ≡ self.old.is_doubtful }
+    {
+        let mut file = match self.lend(area) {
+            Ok(file) => file,
+            Err(error) => return Err(error),
+        };
+        let answer = write_all(&mut file, at, piece);
+        self.give_back(area, file);
+        answer
+    }
+
+    pub(crate) fn cut(&mut self, area: Area, len: u64) -> io::Result<()>
+        ensures cut { OnOk result (Reaches area (Changes (Shortens len)) self.old self.new) }
+        ensures in_part { OnErr result (FailsAt area (Changes (CutsInPart len)) self.old self.new) }
+        ensures doubt { self.new.is_doubtful ≡ self.old.is_doubtful }
+    {
+        let mut file = match self.lend(area) {
+            Ok(file) => file,
+            Err(error) => return Err(error),
+        };
+        let answer = file.cut(len);
+        self.give_back(area, file);
+        answer
+    }
+
+    pub(crate) fn sync(&mut self, area: Area) -> io::Result<()>
+        ensures synced { OnOk result (Reaches area IsSynced self.old self.new) }
+        ensures kept { OnErr result (FailsAt area Same self.old self.new) }
+        ensures doubt { OnErr result (IsSome self.old.log → IsSome (file_of area self.old) → self.new.is_doubtful ≡ true) }
+    {
+        let mut file = match self.lend(area) {
+            Ok(file) => file,
+            Err(error) => return Err(error),
+        };
+        let answer = file.sync();
+        self.is_doubtful = answer.is_err();
+        self.give_back(area, file);
+        answer
+    }
 }

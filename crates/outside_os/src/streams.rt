@@ -1,16 +1,27 @@
 // The standard streams.
-ghost use Rattle.std.specs.Prelude.{◌≡◌, ◌≤◌, ◌<◌, ℕ, None, length, IsErr, IfOk, OnOk, OnErr};
+ghost use Rattle.std.specs.Prelude.{◌≡◌, ◌≤◌, ◌<◌, ℕ, None, true, length, IsErr, IfOk, OnOk, OnErr};
+ghost use Rattle.std.specs.Io.KnownBytes.{ReadConsumes};
 ghost use Rattle.outside.specs.Causes.{counted, up_to_last, within_last};
 
 use outside::{Failed, Sink, Source};
+use std::io;
 use std::io::{Error, ErrorKind, Read};
 use std::marker::Model;
 
 // How often a call is made again that the system interrupts: no run makes so many, and so each call returns.
 pub(crate) const TRIES: u64 = u64::MAX;
 
-pub(crate) fn is_interrupted(error: &Error) -> bool {
+fn is_interrupted(error: &Error) -> bool {
     error.kind() == ErrorKind::Interrupted
+}
+
+pub(crate) fn was_interrupted<T>(answer: &io::Result<T>) -> bool
+    ensures { result ≡ true → IsErr answer.now }
+{
+    match answer {
+        Ok(_) => false,
+        Err(error) => is_interrupted(error),
+    }
 }
 
 pub(crate) fn fail(failed: &mut u64) -> Failed
@@ -18,6 +29,21 @@ pub(crate) fn fail(failed: &mut u64) -> Failed
 {
     *failed = failed.saturating_add(1);
     Failed
+}
+
+/// One read of a reader. One that was interrupted gave nothing, and is made again.
+fn read_some<B: Read>(reader: &mut B, into: &mut [u8]) -> io::Result<usize>
+    ensures fits { IfOk result (λ n. n ≤ length into.new) }
+    ensures bytes { ReadConsumes (B.remaining reader.old) (B.remaining reader.new) result into.new }
+{
+    let mut answer = reader.read(into);
+    for _ in 0..TRIES {
+        if !was_interrupted(&answer) {
+            break;
+        }
+        answer = reader.read(into);
+    }
+    answer
 }
 
 /// Standard input. A clause sees how often it has failed.
@@ -48,20 +74,17 @@ impl<R: Input + Drop> Source for StdinSource<R> {
 
     ghost last_fault = { within_last };
 
-    /// One read of the system. One that was interrupted gave nothing, and is made again.
+    /// One read of the system, of a reader of its own: no clause of std's ties one reader to the next.
     fn read(&mut self, into: &mut [u8]) -> Result<usize, Failed>
         ensures fits { IfOk result (λ n. n ≤ length into.new) }
         ensures unchanged { OnOk result (self.new ≡ self.old) }
         ensures counted { OnErr result (self.new ≡ counted self.old) }
     {
-        for _ in 0..TRIES {
-            match self.rt.reader().read(into) {
-                Ok(n) => return Ok(n),
-                Err(error) if is_interrupted(&error) => {}
-                Err(_) => break,
-            }
+        let mut reader = self.rt.reader();
+        match read_some(&mut reader, into) {
+            Ok(n) => Ok(n),
+            Err(_) => Err(fail(&mut self.failed)),
         }
-        Err(fail(&mut self.failed))
     }
 }
 

@@ -2,7 +2,7 @@
 
 use crate::area::{area_of, is_count, is_done, is_read};
 use outside::{Area, Disk};
-use outside_os::{Claim, FolderDisk};
+use outside_os::{Claim, FolderDisk, StoredFile};
 use row_table::Row;
 use std::alloc::Global;
 use std::rt::Files;
@@ -17,7 +17,7 @@ fn agrees_on_read<R: Files + Drop>(
     row: &mut Row,
 ) -> Option<bool>
 where
-    R::File: Claim,
+    R::File: Claim + StoredFile,
 {
     let at = row.number()?;
     let mut into = [b'-'; 6];
@@ -32,7 +32,7 @@ fn agrees_on_write<R: Files + Drop>(
     row: &mut Row,
 ) -> Option<bool>
 where
-    R::File: Claim,
+    R::File: Claim + StoredFile,
 {
     let at = row.number()?;
     let piece = row.bytes(alloc)?;
@@ -48,7 +48,7 @@ fn agrees_on_cut<R: Files + Drop>(
     row: &mut Row,
 ) -> Option<bool>
 where
-    R::File: Claim,
+    R::File: Claim + StoredFile,
 {
     let at = row.number()?;
     is_done(disk.cut(area, at).is_ok(), row)
@@ -60,7 +60,7 @@ fn agrees_on_sync<R: Files + Drop>(
     row: &mut Row,
 ) -> Option<bool>
 where
-    R::File: Claim,
+    R::File: Claim + StoredFile,
 {
     is_done(disk.sync(area).is_ok(), row)
 }
@@ -73,7 +73,7 @@ pub(crate) fn agrees<R: Files + Drop>(
     row: &mut Row,
 ) -> Option<bool>
 where
-    R::File: Claim,
+    R::File: Claim + StoredFile,
 {
     let area = area_of(row.word())?;
     match call {
@@ -89,7 +89,7 @@ where
 /// Whether each call of a disk fails.
 pub(crate) fn is_refused<R: Files + Drop>(disk: &mut FolderDisk<R>) -> bool
 where
-    R::File: Claim,
+    R::File: Claim + StoredFile,
 {
     let mut into = [0];
     disk.len(Area::Log).is_err()

@@ -9,14 +9,17 @@
 //! of the calls that fail.
 //!
 //! The other rows are about the adapters of `outside_os` over a system that is a fake, call by call, and on real files: which
-//! bytes they move, what they answer, and which calls they make. No clause tells these. `system` makes a new fake, with what
-//! its calls do in order and the bytes of its file and of its input, and behind the list they succeed: `N` moves at most so
-//! many bytes, `interrupted`, `broken` and `pipe` fail. `noted` has the calls that were made since the last `noted`. `real`
+//! bytes they move, what they answer, and which calls they make. Clauses tell the bytes of a file; that the system's own files are such files, which calls are made and what the streams move they do not tell. `system` makes a new fake, with what
+//! its calls do in order and the bytes that each of its files begins with and its input gives, and behind the list they succeed:
+//! `N` moves at most so many bytes, `interrupted`, `broken` and `pipe` fail, `torn` and `torn_interrupted` write half and fail.
+//! `holds` has the bytes of the file that was changed last. `noted` has the calls that were made since the last `noted`. `real`
 //! goes to a disk on real files; `open` makes a new one on a folder.
 #![tactic(auto)]
 
 mod area;
 mod disk;
+mod failing_writes;
+mod fake_file;
 mod files;
 mod memory;
 mod memory_disk;
@@ -50,6 +53,8 @@ fn turn_of(word: &str) -> Option<Turn> {
         "interrupted" => Some(Turn::Errs(ErrorKind::Interrupted)),
         "broken" => Some(Turn::Errs(ErrorKind::Other)),
         "pipe" => Some(Turn::Errs(ErrorKind::BrokenPipe)),
+        "torn" => Some(Turn::Tears(ErrorKind::Other)),
+        "torn_interrupted" => Some(Turn::Tears(ErrorKind::Interrupted)),
         digits => Some(Turn::Moves(digits.parse().ok()?)),
     }
 }

@@ -2,7 +2,7 @@
 
 use crate::area::{are_bytes, is_number};
 use crate::memory_streams::Trickle;
-use crate::{memory_disk, memory_streams};
+use crate::{failing_writes, memory_disk, memory_streams};
 use outside_mem::{MemDisk, MemSink, MemSource};
 use row_table::Row;
 use std::alloc::Global;
@@ -58,6 +58,7 @@ impl Memory {
             "taken" => are_bytes(alloc, self.sink.0.taken(), row),
             "sink_starved" => is_number(self.sink.0.starved(), row),
             "disk_starved" => is_number(self.disk.starved(), row),
+            "failing_writes" => failing_writes::agrees(alloc, row),
             "no_disk" => memory_disk::agrees_on_none(row),
             call => memory_disk::agrees(alloc, &mut self.disk, call, row),
         }

@@ -1,14 +1,11 @@
 // A system that is a fake: its calls go by a list, and it notes them.
 ghost use Rattle.std.specs.Prelude.{◌≤◌, length, IfOk};
 
-use outside_os::Claim;
 use std::alloc::{Allocator, Global};
 use std::cell::{Cell, RefCell};
 use std::fmt::Display;
-use std::fs::{Metadata, OpenFile, OpenOptions};
 use std::io;
-use std::io::{BufRead, ErrorKind, Input, Lines, Print, Read, Seek, SeekFrom, Write};
-use std::rt::Files;
+use std::io::{BufRead, ErrorKind, Input, Lines, Print, Read};
 
 /// What the system does at one call.
 #[derive(Clone, Copy)]
@@ -16,25 +13,24 @@ pub(crate) enum Turn {
     /// Moves as many bytes as fit, at most so many.
     Moves(usize),
     Errs(ErrorKind),
+    /// A write does half of its piece and fails.
+    Tears(ErrorKind),
 }
 
-/// A system with one file, which all names open, and whose bytes standard input gives. Behind the list its calls succeed.
+/// A system whose files begin with the same bytes, which standard input gives too. Behind the list its calls succeed.
 #[derive(Drop)]
 pub(crate) struct System {
     turns: RefCell<Vec<Turn>>,
     calls: Cell<usize>,
     noted: RefCell<String>,
     bytes: RefCell<Vec<u8>>,
+    shown: RefCell<Vec<u8>>,
     at: Cell<usize>,
     taken: RefCell<Vec<u8>>,
 }
 
 fn taken_twice() -> io::Error {
     io::Error::other("taken twice")
-}
-
-fn not_asked_for<T>() -> io::Result<T> {
-    Err(io::Error::other("not asked for"))
 }
 
 impl System {
@@ -44,6 +40,7 @@ impl System {
             calls: Cell::new(0),
             noted: RefCell::new(String::new(alloc)),
             bytes: RefCell::new(Vec::new(alloc)),
+            shown: RefCell::new(Vec::new(alloc)),
             at: Cell::new(0),
             taken: RefCell::new(Vec::new(alloc)),
         }
@@ -101,12 +98,34 @@ impl System {
     }
 
     /// How many of `most` bytes this call moves.
-    fn next(&self, call: &str, most: usize) -> io::Result<usize> {
+    pub(crate) fn next(&self, call: &str, most: usize) -> io::Result<usize> {
         self.note(call)?;
         match self.turn()? {
             None => Ok(most),
             Some(Turn::Moves(n)) => Ok(most.min(n)),
-            Some(Turn::Errs(kind)) => Err(io::Error::from(kind)),
+            Some(Turn::Errs(kind) | Turn::Tears(kind)) => Err(io::Error::from(kind)),
+        }
+    }
+
+    /// What the call does, and that it is made.
+    pub(crate) fn begin_call(&self, call: &str) -> io::Result<Turn> {
+        self.note(call)?;
+        Ok(match self.turn()? {
+            Some(turn) => turn,
+            None => Turn::Moves(usize::MAX),
+        })
+    }
+
+    /// What `holds` is asked of then: the bytes of the file that was changed last.
+    pub(crate) fn show(&self, bytes: &[u8]) {
+        let _ = fill(&self.shown, bytes);
+    }
+
+    /// The bytes that a file begins with.
+    pub(crate) fn first_bytes(&self) -> io::Result<Vec<u8>> {
+        match self.bytes.try_borrow() {
+            Ok(bytes) => Ok(bytes.clone()?),
+            Err(_) => Err(taken_twice()),
         }
     }
 
@@ -123,18 +142,11 @@ impl System {
     }
 
     pub(crate) fn holds(&self, bytes: &[u8]) -> bool {
-        is_filled(&self.bytes, bytes)
+        is_filled(&self.shown, bytes)
     }
 
     pub(crate) fn has_taken(&self, bytes: &[u8]) -> bool {
         is_filled(&self.taken, bytes)
-    }
-
-    fn len(&self) -> usize {
-        match self.bytes.try_borrow() {
-            Ok(held) => held.len(),
-            Err(_) => 0,
-        }
     }
 
     /// Gives bytes from the place on.
@@ -151,22 +163,6 @@ impl System {
         buf[..n].copy_from_slice(&left[..n]);
         self.at.set(at + n);
         Ok(n)
-    }
-
-    /// Writes bytes at the place.
-    fn put(&self, piece: &[u8]) -> io::Result<()> {
-        let Ok(mut bytes) = self.bytes.try_borrow_mut() else {
-            return Err(taken_twice());
-        };
-        for byte in piece {
-            let at = self.at.get();
-            match bytes.get_mut(at) {
-                Some(place) => *place = *byte,
-                None => bytes.push(*byte)?,
-            }
-            self.at.set(at.saturating_add(1));
-        }
-        Ok(())
     }
 }
 
@@ -191,68 +187,17 @@ fn is_filled(held: &RefCell<Vec<u8>>, bytes: &[u8]) -> bool {
 #[derive(Clone, Copy)]
 pub(crate) struct Runtime<'a>(pub(crate) &'a System);
 
-/// A file that was opened, and standard input.
+/// Standard input.
 #[derive(Drop)]
-pub(crate) struct Opened<'a>(&'a System);
+pub(crate) struct StandardInput<'a>(&'a System);
 
-impl Claim for Opened<'_> {
-    fn claim(&self) -> io::Result<()> {
-        self.0.next("claim", 0)?;
-        Ok(())
-    }
-}
-
-impl OpenFile for Opened<'_> {
-    fn metadata(&self) -> io::Result<Metadata> {
-        self.0.next("metadata", 0)?;
-        Ok(Metadata::of_file(self.0.len() as u64))
-    }
-
-    fn set_len(&self, size: u64) -> io::Result<()> {
-        self.0.next("set_len", 0)?;
-        match self.0.bytes.try_borrow_mut() {
-            Ok(mut bytes) => bytes.truncate(size as usize),
-            Err(_) => return Err(taken_twice()),
-        }
-        Ok(())
-    }
-
-    fn sync_all(&self) -> io::Result<()> {
-        self.0.next("sync_all", 0)?;
-        Ok(())
-    }
-
-    fn sync_data(&self) -> io::Result<()> {
-        self.0.next("sync_data", 0)?;
-        Ok(())
-    }
-
-    fn try_clone(&self) -> io::Result<Self> {
-        self.0.next("clone", 0)?;
-        Ok(Opened(self.0))
-    }
-}
-
-impl Seek for Opened<'_> {
-    fn seek(&mut self, to: SeekFrom) -> io::Result<u64> {
-        self.0.next("seek", 0)?;
-        match to {
-            SeekFrom::Start(at) => {
-                self.0.at.set(at as usize);
-                Ok(at)
-            }
-            _ => not_asked_for(),
-        }
-    }
-}
-
-impl Read for Opened<'_> {
+impl Read for StandardInput<'_> {
     fn read(&mut self, buf: &mut [u8]) -> io::Result<usize> {
         self.0.give(buf)
     }
 }
 
-impl BufRead for Opened<'_> {
+impl BufRead for StandardInput<'_> {
     fn fill_buf(&mut self) -> io::Result<&[u8]> {
         Err(io::Error::other("not asked for"))
     }
@@ -260,31 +205,19 @@ impl BufRead for Opened<'_> {
     fn consume(&mut self, amount: usize) {}
 }
 
-impl Write for Opened<'_> {
-    fn write(&mut self, buf: &[u8]) -> io::Result<usize> {
-        let n = self.0.next("write", buf.len())?.min(buf.len());
-        self.0.put(&buf[..n])?;
-        Ok(n)
-    }
-
-    fn flush(&mut self) -> io::Result<()> {
-        Ok(())
-    }
-}
-
 impl<'a> Input for Runtime<'a> {
-    type Reader = Opened<'a>;
+    type Reader = StandardInput<'a>;
 
     fn read_line<A: Allocator + Clone>(&self, buf: &mut String<A>) -> io::Result<usize> {
         Err(io::Error::other("not asked for"))
     }
 
-    fn lines<A: Allocator>(&self, alloc: A) -> Lines<Opened<'a>, A> {
+    fn lines<A: Allocator>(&self, alloc: A) -> Lines<StandardInput<'a>, A> {
         self.reader().lines(alloc)
     }
 
-    fn reader(&self) -> Opened<'a> {
-        Opened(self.0)
+    fn reader(&self) -> StandardInput<'a> {
+        StandardInput(self.0)
     }
 }
 
@@ -308,61 +241,5 @@ impl Print for Runtime<'_> {
             Err(_) => return Err(taken_twice()),
         }
         Ok(n)
-    }
-}
-
-#[derive(Drop)]
-pub(crate) struct NoNames;
-
-impl Read for NoNames {
-    fn read(&mut self, buf: &mut [u8]) -> io::Result<usize> {
-        Ok(0)
-    }
-}
-
-impl<'a> Files for Runtime<'a> {
-    type File = Opened<'a>;
-
-    type Dir = NoNames;
-
-    fn open_file(&self, how: &OpenOptions, path: &str) -> io::Result<Opened<'a>> {
-        self.0.next(path, 0)?;
-        Ok(Opened(self.0))
-    }
-
-    fn open_dir(&self, path: &str) -> io::Result<NoNames> {
-        not_asked_for()
-    }
-
-    fn metadata(&self, path: &str) -> io::Result<Metadata> {
-        not_asked_for()
-    }
-
-    fn symlink_metadata(&self, path: &str) -> io::Result<Metadata> {
-        not_asked_for()
-    }
-
-    fn copy(&self, from: &str, to: &str) -> io::Result<u64> {
-        not_asked_for()
-    }
-
-    fn rename(&self, from: &str, to: &str) -> io::Result<()> {
-        not_asked_for()
-    }
-
-    fn remove_file(&self, path: &str) -> io::Result<()> {
-        not_asked_for()
-    }
-
-    fn create_dir(&self, path: &str) -> io::Result<()> {
-        not_asked_for()
-    }
-
-    fn remove_dir(&self, path: &str) -> io::Result<()> {
-        not_asked_for()
-    }
-
-    fn remove_dir_all<B: Allocator>(&self, alloc: B, path: &str) -> io::Result<()> {
-        not_asked_for()
     }
 }

@@ -121,11 +121,11 @@ fn run_rows<L: Ledger>(rt: HostRuntime, blank: Blank) -> io::Result<ExitCode>
     let of_hostile = agreed_hostile(rt.alloc(), &mut steps)?;
     println!(rt; "{of_hostile} of 4 rows made here agree")?;
     let of_chain = caches::agreed(rt.alloc(), &mut steps).unwrap_or(0);
-    println!(rt; "{of_chain} of 2000 generated blocks have one verdict, whatever a node holds in memory")?;
+    println!(rt;
+        "{of_chain} of 2000 generated blocks have one verdict, whatever a node holds in memory"
+    )?;
     let all = all_rows_agree(rt, &mut steps)?;
-    Ok(ExitCode::from(u8::from(
-        !all || of_hostile != 4 || of_chain != 2000,
-    )))
+    Ok(ExitCode::from(u8::from(!all || of_hostile != 4 || of_chain != 2000)))
 }
 
 fn main(rt: HostRuntime) -> io::Result<ExitCode> {

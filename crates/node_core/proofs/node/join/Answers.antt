@@ -325,7 +325,7 @@ returns-in-Ok-append-clause-own g c =
     own_next c.args.kept c.in-Ok-join.joined.0 ready.0 c.args.item.now ext (named_by c.args.joining.entry c.rec_behind-rec.result) c.rec_behind-rec.result c.args.log.place c.args.cache c.put.new.self kept
     (as-many c.kept.inside.spec c.kept.inside.blocks.stored c.kept.inside.tree.entries c.args.kept c.kept.view_is) (omega (arith, below)) ready.1
     c.in-Ok.ensures.form c.in-Ok.ensures.fits (c.rec_behind-rec.ensures (block_record c.args.item.now ext) filled) refl refl
-    (adds-here c.len-place.result (length c.args.kept.chain.blocks) c.in-Ok-of.held _ c.args.cache c.put.new.self
+    (adds-here c.len-place.result (length c.args.kept.chain.blocks) c.in-Ok-of.held _ c.args.cache.held c.put.new.self.held
     (place-next c.kept.inside.spec c.kept.inside.blocks.stored c.kept.inside.tree.entries c.args.kept c.len-place.result c.kept.view_is c.kept.invariant.indexed
     c.len-place.ensures.len) held c.put.ensures.only)
     c.args.state c.in-Ok-join.joined.1 c.in-Ok-append.log.place (g.D.Disk.reads_as c.args.disk.now) (g.D.Disk.reads_as c.append.new.disk)
@@ -386,6 +386,24 @@ returns-in-Ok-append-clause-spec g c = ap (λ (k : KeptValue). k.chain.spec) (c.
 
 pub returns-in-Ok-append-clause-holds : goal.returns-in-Ok-append-clause-holds
 returns-in-Ok-append-clause-holds g c =
-    held_next c.put.new.self c.len-place.result (length c.args.kept.chain.blocks) c.in-Ok-of.held
+    held_next c.put.new.self.held c.len-place.result (length c.args.kept.chain.blocks) c.in-Ok-of.held
     (place-next c.kept.inside.spec c.kept.inside.blocks.stored c.kept.inside.tree.entries c.args.kept c.len-place.result c.kept.view_is c.kept.invariant.indexed
     c.len-place.ensures.len) c.in-Ok-put.ensures.held
+
+pub returns-in-Err-clause-found : goal.returns-in-Err-clause-found
+returns-in-Err-clause-found g c = tt
+
+pub returns-in-Err-of-clause-found : goal.returns-in-Err-of-clause-found
+returns-in-Err-of-clause-found g c = tt
+
+pub returns-in-Err-put-clause-found : goal.returns-in-Err-put-clause-found
+returns-in-Err-put-clause-found g c = tt
+
+pub returns-in-Err-join-clause-found : goal.returns-in-Err-join-clause-found
+returns-in-Err-join-clause-found g c = tt
+
+pub returns-in-Err-append-clause-found : goal.returns-in-Err-append-clause-found
+returns-in-Err-append-clause-found g c = tt
+
+pub returns-in-Ok-append-clause-found : goal.returns-in-Ok-append-clause-found
+returns-in-Ok-append-clause-found g c = c.put.ensures.damages

@@ -92,3 +92,18 @@ returns-in-Ok-new-clause-image g c sound =
 pub returns-in-Ok-new-clause-cause : goal.returns-in-Ok-new-clause-cause
 returns-in-Ok-new-clause-cause g c =
     counts_on _ _ _ (c.in-Ok.ensures.cause.unchanged refl) (answer_counts _ _ _ _ (answer_still _ _ _ _ c.in-Ok-open.ensures.cause))
+
+pub returns-in-Err-clause-found : goal.returns-in-Err-clause-found
+returns-in-Err-clause-found g c = tt
+
+pub returns-in-Err-open-clause-found : goal.returns-in-Err-open-clause-found
+returns-in-Err-open-clause-found g c = tt
+
+pub returns-in-Err-into_kept-clause-found : goal.returns-in-Err-into_kept-clause-found
+returns-in-Err-into_kept-clause-found g c = tt
+
+pub returns-in-Err-new-clause-found : goal.returns-in-Err-new-clause-found
+returns-in-Err-new-clause-found g c = tt
+
+pub returns-in-Ok-new-clause-found : goal.returns-in-Ok-new-clause-found
+returns-in-Ok-new-clause-found g c = c.in-Ok-new.ensures.undamaged

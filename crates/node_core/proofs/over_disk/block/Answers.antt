@@ -3,13 +3,14 @@ use Rattle.outside.proofs.Endings.{behind, is_told}
 use Rattle.chain_tree.specs.Entries.{TreeValue}
 use Rattle.chain_tree.specs.Reading.{stop_of}
 use Rattle.chain_tree.specs.Told.{blocks_of}
+use Rattle.block_store.specs.Held.{CacheValue}
 use Rattle.node_core.specs.Node.{KeptValue, HasLooked}
 use Rattle.node_core.proofs.SourceLemmas.{kept-on, counts-blocks, tells-kept, same-content, same-entries, has-looked}
 use Rattle.node_core.proofs.over_disk.block.Goals as goal
 
 pub new-store-requires : goal.new-store-requires
 new-store-requires g c =
-    kept-on c.args.kept.now c.kept.inside.tree.entries c.args.cache.now (g.D.Disk.reads_as c.args.disk.now) (ap (λ (v : KeptValue). v.entries) c.kept.view_is) c.requires.own
+    kept-on c.args.kept.now c.kept.inside.tree.entries c.args.cache.now.held (g.D.Disk.reads_as c.args.disk.now) (ap (λ (v : KeptValue). v.entries) c.kept.view_is) c.requires.own
 
 pub block-requires : goal.block-requires
 block-requires g c = record {
@@ -24,22 +25,23 @@ returns-clause-looked g c =
     let loans = c.block.ensures.read.loans in
     let disk = c.disk-1.given.1 (sym c.new-store.ensures.its_disk ∙ sym (ap (λ it. it.0) loans)) in
     let cache = c.cache-1.given.1 (sym c.new-store.ensures.its_cache ∙ sym (ap (λ it. it.1) loans)) in
-    subst (λ now. HasLooked g.D.Disk.content_of g.D.Disk.reads_as g.D.Disk.faults c.args.disk.now now c.args.kept.now c.cache-1.given.0 (stop_of c.block.result)) (sym disk)
-    (subst (λ held. HasLooked g.D.Disk.content_of g.D.Disk.reads_as g.D.Disk.faults c.args.disk.now c.block.new.blocks.disk.now c.args.kept.now held (stop_of c.block.result)) (sym cache)
+    subst (λ now. HasLooked g.D.Disk.content_of g.D.Disk.reads_as g.D.Disk.faults c.args.disk.now now c.args.kept.now c.args.cache.now c.cache-1.given.0 (stop_of c.block.result)) (sym disk)
+    (subst (λ after. HasLooked g.D.Disk.content_of g.D.Disk.reads_as g.D.Disk.faults c.args.disk.now c.block.new.blocks.disk.now c.args.kept.now c.args.cache.now after (stop_of c.block.result)) (sym cache)
     (has-looked c.args.kept.now c.block.new.blocks.tree.now.entries c.args.cache.now _ (same-entries c.block.ensures.read.loans ∙ same) content
     (g.met.D.Disk.content_rests _ _ content).reads c.requires.own c.block.new.blocks.kept c.block.ensures.read.damage
-    (behind (ap g.D.Disk.faults c.new-store.ensures.disk) c.block.ensures.read.cause)))
+    (behind (ap g.D.Disk.faults c.new-store.ensures.disk) c.block.ensures.read.cause)
+    (λ other. c.block.ensures.read.found other ∙ ap (λ (it : CacheValue). it.damages) c.new-store.ensures.cache)))
 
 pub returns-clause-block : goal.returns-clause-block
 returns-clause-block g c = λ some.
     let same = ap (λ (t : TreeValue). t.entries) c.new-store.ensures.tree ∙ ap (λ (v : KeptValue). v.entries) c.kept.view_is in
-    c.block.ensures.block (tells-kept c.args.kept.now c.new-store.result.tree.now.entries c.args.cache.now (g.D.Disk.reads_as c.new-store.result.disk.now)
+    c.block.ensures.block (tells-kept c.args.kept.now c.new-store.result.tree.now.entries c.args.cache.now.held (g.D.Disk.reads_as c.new-store.result.disk.now)
     (g.D.Disk.reads_as c.args.disk.now) same (ap g.D.Disk.reads_as c.new-store.ensures.disk) c.requires.own some)
 
 pub returns-clause-undamaged : goal.returns-clause-undamaged
 returns-clause-undamaged g c = λ some.
     let same = ap (λ (t : TreeValue). t.entries) c.new-store.ensures.tree ∙ ap (λ (v : KeptValue). v.entries) c.kept.view_is in
-    c.block.ensures.undamaged (is_told _ _ (tells-kept c.args.kept.now c.new-store.result.tree.now.entries c.args.cache.now (g.D.Disk.reads_as c.new-store.result.disk.now)
+    c.block.ensures.undamaged (is_told _ _ (tells-kept c.args.kept.now c.new-store.result.tree.now.entries c.args.cache.now.held (g.D.Disk.reads_as c.new-store.result.disk.now)
     (g.D.Disk.reads_as c.args.disk.now) same (ap g.D.Disk.reads_as c.new-store.ensures.disk) c.requires.own some))
 
 pub returns-clause-none : goal.returns-clause-none

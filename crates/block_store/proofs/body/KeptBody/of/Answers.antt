@@ -1,8 +1,7 @@
-use Rattle.std.proofs.Common.{◌≡◌, ◌-◌, ◌++◌, ℕ, List, length, take, drop, Some, ap, sym, subst, refl, ◌∙◌, arith, rules}
+use Rattle.std.proofs.Common.{◌≡◌, ◌-◌, ◌++◌, ℕ, List, length, take, drop, ap, sym, subst, ◌∙◌, arith, rules}
 use Rattle.std.proofs.Math.Seq.{take-append_seam, drop-append_seam}
 use Rattle.std.proofs.lemmas.List.{length-append}
-use Rattle.codec_defs.specs.Shape.{decoded}
-use Rattle.codec_defs.specs.Schema.{Block, block}
+use Rattle.codec_defs.specs.Schema.{block}
 use Rattle.codec_defs.proofs.ShapeLaws.{IsA-decoded}
 use Rattle.cell_model.specs.ListBlocks.{ids_of, IsCanonical}
 use Rattle.cell_model.proofs.ListLemmas.{canonical-decoded, decoding-is}

@@ -1,14 +1,20 @@
-use Rattle.std.proofs.Common.{◌≡◌, Option, Some, None, Err, refl, ap}
+use Rattle.std.proofs.Common.{◌≡◌, Option, Some, None, Err, refl, ap, ◌∙◌}
 use Rattle.outside.specs.Image.{Image}
 use Rattle.outside.specs.declared.disk.Damage.{Damage}
 use Rattle.outside.specs.declared.disk.ReadStop.TheVariants.{Damaged}
 use Rattle.chain_tree.specs.Entries.{entry_at}
 use Rattle.block_store.specs.Stored.{stored_at, told_by}
-use Rattle.block_store.proofs.StoredLemmas.{told-there, of_damage, in_log, failed, stopped, stopped-back}
+use Rattle.block_store.proofs.StoredLemmas.{kept-counted, told-there, of_damage, in_log, failed, stopped, stopped-back}
 use Rattle.block_store.proofs.store.StoreBlocks.bring.Goals as goal
 
 pub invariant_of-self : goal.invariant_of-self
 invariant_of-self g c = record { kept = c.in-Ok.ensures.kept; held = (c.requires.within, c.in-Ok.ensures.held) }
+
+pub invariant_of-self-in-Err : goal.invariant_of-self-in-Err
+invariant_of-self-in-Err g c = record {
+  kept = kept-counted _ c.args.self.now.tree.now.entries _ _ c.count.ensures.held c.load.ensures.kept;
+  held = tt;
+}
 
 pub returns-in-Err-clause-read : goal.returns-in-Err-clause-read
 returns-in-Err-clause-read g c =
@@ -24,7 +30,7 @@ returns-in-Err-clause-read g c =
         rose = λ is. its.cause.rose (stopped-back Unit _ _ is);
         unchanged = λ other. its.cause.unchanged (λ is. other (stopped Unit _ _ is));
       };
-      found = λ other. c.counted-self.ensures.same (λ damage is. other damage (ap (λ stop. Some stop) is));
+      found = λ other. c.count.ensures.same (λ damage is. other damage (ap (λ stop. Some stop) is)) ∙ its.damages;
     }
 
 pub returns-in-Err-clause-undamaged : goal.returns-in-Err-clause-undamaged

@@ -531,3 +531,16 @@ returns-in-Stays-clause-holds g c = λ e.
 pub returns-in-Ok-join-clause-holds : goal.returns-in-Ok-join-clause-holds
 returns-in-Ok-join-clause-holds g c = λ _.
     subst (λ (v : NodeValue). IsSome (held_at c.in-Ok-join.next.held (length v.chain.blocks))) c.self.view_is c.in-Ok-join.ensures.holds
+
+pub returns-in-Err-clause-found : goal.returns-in-Err-clause-found
+returns-in-Err-clause-found g c = tt
+
+pub returns-in-Err-join-clause-found : goal.returns-in-Err-join-clause-found
+returns-in-Err-join-clause-found g c = tt
+
+pub returns-in-Stays-clause-found : goal.returns-in-Stays-clause-found
+returns-in-Stays-clause-found g c = c.in-Ok.ensures.looked.found (λ _ e. not_stopped _ e) ∙ ap (λ (v : NodeValue). v.damages) c.self.view_is
+
+pub returns-in-Ok-join-clause-found : goal.returns-in-Ok-join-clause-found
+returns-in-Ok-join-clause-found g c =
+    c.in-Ok-join.ensures.found ∙ c.in-Ok.ensures.looked.found (λ _ e. not_stopped _ e) ∙ ap (λ (v : NodeValue). v.damages) c.self.view_is

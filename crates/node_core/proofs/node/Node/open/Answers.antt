@@ -4,6 +4,7 @@ use Rattle.std.proofs.lemmas.Option.{same_Some}
 use Rattle.chain_tree.proofs.BlockLemmas.{len-same}
 use Rattle.chain_tree.specs.Reading.{stop_of}
 use Rattle.log_file.proofs.Exits.{stop_counts, answer_still}
+use Rattle.node_core.specs.Node.{NodeValue}
 use Rattle.node_core.proofs.OpenLemmas.{leaves_on, stands_while_opened, own_read, keeps_led, settled_led, own_led, one_still, sound_led, on_led, not_led, moved_to_open, led_counts, none_stopped, no_step, ok_err, same_stop}
 use Rattle.node_core.proofs.node.Node.open.Goals as goal
 
@@ -150,3 +151,14 @@ returns-in-Err-to_tip-clause-on g c = λ _. tt
 
 pub returns-in-Err-to_tip-clause-sound : goal.returns-in-Err-to_tip-clause-sound
 returns-in-Err-to_tip-clause-sound g c = λ _ _ _. tt
+
+pub returns-in-Err-clause-found : goal.returns-in-Err-clause-found
+returns-in-Err-clause-found g c = tt
+
+pub returns-in-Err-to_tip-clause-found : goal.returns-in-Err-to_tip-clause-found
+returns-in-Err-to_tip-clause-found g c = tt
+
+pub returns-in-Ok-to_tip-clause-found : goal.returns-in-Ok-to_tip-clause-found
+returns-in-Ok-to_tip-clause-found g c =
+    c.to_tip.ensures.found (λ _ stop. none_stopped _ (sym (ap stop_of c.in-Ok-to_tip.is) ∙ stop))
+    ∙ ap (λ (v : NodeValue). v.damages) c.node.view_is ∙ c.in-Ok.ensures.found
