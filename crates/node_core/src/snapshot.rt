@@ -1,5 +1,5 @@
 // When a snapshot is taken, and which one is loaded where a store is opened.
-ghost use Rattle.std.specs.Prelude.{◌≡◌, ◌<◌, ◌≤◌, ◌+◌, ℕ, Err, Some, None, length, IfOk, IsOk, OnOk, IfSome, IsSome};
+ghost use Rattle.std.specs.Prelude.{◌≡◌, ◌<◌, ◌≤◌, ◌+◌, ℕ, List, Err, Some, None, length, IfOk, IsOk, OnOk, IfSome, IsSome};
 ghost use Rattle.outside.specs.Causes.{CountsFault};
 ghost use Rattle.outside.specs.Image.{Image, InArea, content};
 ghost use Rattle.outside.specs.Disk.{ComesBy, IsDurable, OthersRead, LeavesOnly, AreaKept};
@@ -212,13 +212,14 @@ pub(crate) fn to_tip<D: Disk, L: Ledger>(
     genesis: State,
     steps: &mut Steps<L>,
 ) -> Result<State, ReadStop>
-    requires own { IfSome (D.reads_as disk.old) (IsReadBy kept.now cache.old) }
+    requires own { IfSome (D.reads_as disk.old) (IsReadBy kept.now cache.old.held) }
     ensures cells { (now : Image) → D.reads_as disk.old ≡ Some now → HasSoundAreas kept.now.chain.blocks now → AreJoined kept.now.chain kept.now.exts
         → AreOf kept.now.chain.blocks 0 (rows genesis) → IfOk result (λ there. AreOfTip kept.now.chain.blocks (rows there)) }
     ensures undamaged { (now : Image) → D.reads_as disk.old ≡ Some now → HasSoundAreas kept.now.chain.blocks now → AreJoined kept.now.chain kept.now.exts
         → AreOf kept.now.chain.blocks 0 (rows genesis) → (damage : a_damage) → result ≡ Err (read_stops.Damaged damage) → ⊥ }
-    ensures agrees { IfSome (D.reads_as disk.new) (IsReadBy kept.now cache.new) }
+    ensures agrees { IfSome (D.reads_as disk.new) (IsReadBy kept.now cache.new.held) }
     ensures content { D.content_of disk.new ≡ D.content_of disk.old }
+    ensures found { ((damage : a_damage) → result ≡ Err (read_stops.Damaged damage) → ⊥) → cache.new.damages ≡ cache.old.damages }
     ensures cause { CountsFault (D.faults disk.old) (D.faults disk.new) (result ≡ Err read_stops.DiskFault) }
     ensures most { (now : Image) → D.reads_as disk.old ≡ Some now → steps.new ≤ steps.old + moves_by kept.now.chain.blocks now (newest now) }
 {

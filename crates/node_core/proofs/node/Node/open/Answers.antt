@@ -160,5 +160,5 @@ returns-in-Err-to_tip-clause-found g c = tt
 
 pub returns-in-Ok-to_tip-clause-found : goal.returns-in-Ok-to_tip-clause-found
 returns-in-Ok-to_tip-clause-found g c =
-    c.to_tip.ensures.found (λ _ stop. none_stopped _ (sym (ap stop_of c.in-Ok-to_tip.is) ∙ stop))
+    c.to_tip.ensures.found (λ _ stop. none_stopped _ (sym (ap stop_of c.in-Ok-to_tip.is) ∙ ap stop_of stop))
     ∙ ap (λ (v : NodeValue). v.damages) c.node.view_is ∙ c.in-Ok.ensures.found
