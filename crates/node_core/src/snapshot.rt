@@ -1,5 +1,5 @@
 // When a snapshot is taken, and which one is loaded where a store is opened.
-ghost use Rattle.std.specs.Prelude.{◌≡◌, ◌<◌, ◌≤◌, ◌+◌, ℕ, Err, Some, None, length, IfOk, IsOk, OnOk, IfSome, IsSome};
+ghost use Rattle.std.specs.Prelude.{◌≡◌, ◌<◌, ◌≤◌, ◌+◌, ℕ, List, Err, Some, None, length, IfOk, IsOk, OnOk, IfSome, IsSome};
 ghost use Rattle.outside.specs.Causes.{CountsFault};
 ghost use Rattle.outside.specs.Image.{Image, InArea, content};
 ghost use Rattle.outside.specs.Disk.{ComesBy, IsDurable, OthersRead, LeavesOnly, AreaKept};
@@ -160,7 +160,10 @@ fn load_from<D: Disk, L: Ledger>(
     ensures most { (now : Image) → D.reads_as disk.old ≡ Some now → steps.new ≤ steps.old + moves_by kept.now.chain.blocks now (Some area) }
 {
     match read(alloc, disk, area, kept.tree(), steps) {
-        Ok(Some((_, tip, state))) => Ok((tip, state)),
+        Ok(Some(loaded)) => {
+            let (_, tip, state) = loaded;
+            Ok((tip, state))
+        }
         Ok(None) => Err(ReadStop::Damaged(Damage { area, at: 0 })),
         Err(stop) => Err(stop),
     }
