@@ -1,9 +1,10 @@
 -- Which snapshot an opening loads, and what it reads there.
 use Rattle.std.proofs.Common.{◌≡◌, ℕ, zero, suc, ◌+◌, ◌<◌, ◌≤◌, ◌^◌, Bool, true, false, cond, List, ◌∷◌, ◌++◌, length, Option, Some, None, Ok, Err, refl, sym, ap, ◌∙◌, subst, inl, inr, ◌⊎◌, arith}
-use Rattle.std.specs.Prelude.{IfSome, IsSomeAnd, IfOk, Result, IsTrue, nat_lt, slice_get}
+use Rattle.std.specs.Prelude.{IfSome, IsSomeAnd, IfOk, Result, IsTrue, nat_lt, slice_get, slice_index_or}
 use Rattle.std.specs.List.{All}
 use Rattle.std.specs.Str.{bytes_eq}
-use Rattle.std.proofs.lemmas.Option.{same_Some}
+use Rattle.std.proofs.lemmas.Option.{same_Some, slice_get_within}
+use Rattle.std.proofs.lemmas.Slice.Eq.{bytes_eq-Decides}
 use Rattle.std.proofs.lemmas.Nat.{from_le_bytes-to_le_bytes_4}
 use Rattle.outside.specs.declared.disk.Area.{Area}
 use Rattle.outside.specs.declared.disk.Area.TheVariants.{Log, SnapA, SnapB}
@@ -20,7 +21,8 @@ use Rattle.cell_state.specs.State.{StateValue, rows}
 use Rattle.chain_tree.specs.declared.entry.Entry.{Entry}
 use Rattle.chain_tree.specs.Entries.{entry_at}
 use Rattle.chain_tree.specs.Blocks.{Describes, IndexesBlocks}
-use Rattle.chain_tree.proofs.BlockLemmas.{len-same}
+use Rattle.chain_defs.proofs.KeptLaws.{slice_get-below}
+use Rattle.chain_tree.proofs.BlockLemmas.{len-same, described}
 use Rattle.fit_laws.specs.Laws.{AreCanonical}
 use Rattle.verdict_defs.specs.Chain.{Chain}
 use Rattle.reorg.specs.Moves.{AreOf}
@@ -106,6 +108,10 @@ is-newest now area is = by (number_in now.snap_a) (number_in now.snap_b) refl re
     by None (Some b) first second same = at-b b second same
     by (Some a) (Some b) first second same = either (nat_lt a b) a b first second same
 
+pub newest-at : (reads : Option Image) (now : Image) (found : Option Area) (area : Area) → reads ≡ Some now → IfSome reads (λ image. found ≡ newest image)
+    → found ≡ Some area → newest now ≡ Some area
+newest-at reads now found area told is at = sym (subst (λ (o : Option Image). IfSome o (λ image. found ≡ newest image)) told is) ∙ at
+
 -- ---- What is read there
 
 -- The rows of the snapshot that a sound area holds are those of its tip's branch.
@@ -137,11 +143,22 @@ never-closed area entries reads now before after told is tells =
 -- ---- A sound area is not damaged
 
 held-all : (kept : ℕ) (list : List (OutPoint × Row)) → All (λ (it : OutPoint × Row). IsKeptRow kept it.1) list → All (IsHeld kept) list
-held-all kept list all = ?
+held-all kept list all k d within =
+    let is : IsKeptRow kept (slice_index_or list k d).1 = all k d within in record { block = is.block; occupied = is.occupied }
 
 has-its-tip : (kept : List Block) (entries : List Entry) (tip : ℕ) (hash : List ℕ) → IndexesBlocks kept entries
     → IsSomeAnd (block_at kept tip) (λ b. block_hash b ≡ hash) → has_tip entries tip hash ≡ true
-has-its-tip kept entries tip hash indexed is = ?
+has-its-tip kept entries tip hash indexed is = by (block_at kept tip) refl is
+  where
+    by : (found : Option Block) → block_at kept tip ≡ found → IsSomeAnd found (λ b. block_hash b ≡ hash) → has_tip entries tip hash ≡ true
+    by None there none = absurd none
+    by (Some b) there same =
+        let within : tip < length entries = subst (λ (n : ℕ). tip < n) (sym (len-same kept entries indexed)) (slice_get_within kept tip b there) in
+        let found = slice_get-below entries tip within in
+        let at = described kept entries tip found.0 indexed.each found.1 in
+        let block : at.block ≡ b = same_Some at.block b (sym at.there ∙ there) in
+        let hashes : found.0.hash ≡ hash = at.is.hash ∙ ap block_hash block ∙ same in
+        ap (λ (e : Option Entry). has_hash e hash) found.1 ∙ (bytes_eq-Decides found.0.hash hash).1 hashes
 
 of-tree : (chain : Chain) (entries : List Entry) (s : Snapshot) → IndexesBlocks chain.blocks entries → IsJoined chain → AreCanonical chain.blocks
     → IsOfBlocks chain.blocks s → IsOfTree entries s
@@ -151,16 +168,16 @@ of-tree chain entries s indexed joined canonical of = record {
       (held-all (length chain.blocks) s.rows (snapshot-rows-are-kept chain s joined canonical of));
 }
 
-pub never-damaged : (chain : Chain) (area : Area) (entries : List Entry) (reads : Option Image) (now : Image) (before after : ℕ) (stop : ReadStop) (damage : Damage)
-    → IndexesBlocks chain.blocks entries → AreCanonical chain.blocks → IsJoined chain
+pub never-damaged : (chain : Chain) (area : Area) (entries : List Entry) (reads : Option Image) (now : Image) (before after : ℕ) (result : Result (Option (ℕ × ℕ × StateValue)) ReadStop)
+    (damage : Damage) → IndexesBlocks chain.blocks entries → AreCanonical chain.blocks → IsJoined chain
     → reads ≡ Some now → newest now ≡ Some area → HasSoundAreas chain.blocks now
-    → IfSome reads (λ image. TellsSnapshot area entries (content area image) before after (Err stop)) → stop ≡ Damaged damage → ⊥
-never-damaged chain area entries reads now before after stop damage indexed canonical joined told is both tells at =
+    → IfSome reads (λ image. TellsSnapshot area entries (content area image) before after result) → result ≡ Err (Damaged damage) → ⊥
+never-damaged chain area entries reads now before after result damage indexed canonical joined told is both tells at =
     from here.0 ((is-newest now area is).sound chain.blocks both (is-newest now area is).gate)
   where
     here : TellsSnapshot area entries (content area now) before after (Err (Damaged damage))
-    here = subst (λ (s : ReadStop). TellsSnapshot area entries (content area now) before after (Err s)) at
-        (subst (λ (o : Option Image). IfSome o (λ image. TellsSnapshot area entries (content area image) before after (Err stop))) told tells)
+    here = subst (TellsSnapshot area entries (content area now) before after) at
+        (subst (λ (o : Option Image). IfSome o (λ image. TellsSnapshot area entries (content area image) before after result)) told tells)
 
     from : IsDamaged entries (content area now) → (s : Snapshot) × HoldsSound chain.blocks area (content area now) s → ⊥
     from damaged (s, sound) = damaged.none s sound.holds (of-tree chain entries s indexed joined canonical sound.of_blocks)
@@ -198,3 +215,24 @@ pub most-from : (kept : List Block) (area : Area) (reads : Option Image) (now : 
 most-from kept area reads now before after told most =
     let few : after ≤ before + row_count (content area now) = subst (λ (o : Option Image). IfSome o (λ image. after ≤ before + row_count (content area image))) told most in
     omega (arith, few)
+
+-- ---- The answer of a reading
+
+module _ (kept : List Block) (area : Area) (entries : List Entry) (reads : Option Image) (before after : ℕ) (found : Option (ℕ × ℕ × StateValue)) where
+  abbrev Tells : Option (ℕ × ℕ × StateValue) → Type 0
+  Tells answer = IfSome reads (λ image. TellsSnapshot area entries (content area image) before after (Ok answer))
+
+  pub loaded-within : (it : ℕ × ℕ × StateValue) → found ≡ Some it → IndexesBlocks kept entries → IfSome found (λ it. AreWithin entries it.1 it.2) → it.1 < length kept
+  loaded-within it is indexed within =
+      let here : AreWithin entries it.1 it.2 = subst (λ (o : Option (ℕ × ℕ × StateValue)). IfSome o (λ it. AreWithin entries it.1 it.2)) is within in
+      omega (arith, here.tip_is, len-same kept entries indexed)
+
+  pub loaded-cells : (it : ℕ × ℕ × StateValue) → found ≡ Some it → Tells found → (now : Image) → reads ≡ Some now → newest now ≡ Some area → HasSoundAreas kept now
+      → AreOf kept it.1 (rows it.2)
+  loaded-cells (number, tip, state) is tells now told newest_is both =
+      rows-loaded kept area entries reads now before after number tip state told newest_is both (subst Tells is tells)
+
+  pub loaded-led : (it : ℕ × ℕ × StateValue) → found ≡ Some it → Tells found → IfSome reads (λ image. after ≤ before + row_count (content area image))
+      → (now : Image) → reads ≡ Some now → after + distance_to kept it.1 (tip_place kept) ≤ before + moves_by kept now (Some area)
+  loaded-led (number, tip, state) is tells most now told =
+      led-from kept area entries reads now before after number tip state told most (subst Tells is tells)

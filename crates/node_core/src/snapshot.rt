@@ -160,7 +160,10 @@ fn load_from<D: Disk, L: Ledger>(
     ensures most { (now : Image) → D.reads_as disk.old ≡ Some now → steps.new ≤ steps.old + moves_by kept.now.chain.blocks now (Some area) }
 {
     match read(alloc, disk, area, kept.tree(), steps) {
-        Ok(Some((_, tip, state))) => Ok((tip, state)),
+        Ok(Some(loaded)) => {
+            let (_, tip, state) = loaded;
+            Ok((tip, state))
+        }
         Ok(None) => Err(ReadStop::Damaged(Damage { area, at: 0 })),
         Err(stop) => Err(stop),
     }

@@ -1,0 +1,21 @@
+use Rattle.std.proofs.Common.{Err, ap, ◌∙◌}
+use Rattle.log_file.proofs.Exits.{same_stop}
+use Rattle.node_core.proofs.LoadingLemmas.{loaded-within, loaded-cells, loaded-led, never-damaged}
+use Rattle.node_core.proofs.snapshot.load_from.Goals as goal
+
+pub returns-in-Ok-Some-clause-within : goal.returns-in-Ok-Some-clause-within
+returns-in-Ok-Some-clause-within g c =
+    loaded-within c.args.kept.now.chain.blocks c.args.area c.tree.result.now.entries (g.D.Disk.reads_as c.args.disk.now) c.args.steps.now c.read.new.steps c.in-Ok-Some.field-0 c.in-Ok-Some.loaded c.in-Ok-Some.field-0-is c.tree.ensures.indexed c.in-Ok-Some.ensures.within
+
+pub returns-in-Ok-Some-clause-cells : goal.returns-in-Ok-Some-clause-cells
+returns-in-Ok-Some-clause-cells g c =
+    loaded-cells c.args.kept.now.chain.blocks c.args.area c.tree.result.now.entries (g.D.Disk.reads_as c.args.disk.now) c.args.steps.now c.read.new.steps c.in-Ok-Some.field-0 c.in-Ok-Some.loaded c.in-Ok-Some.field-0-is c.in-Ok-Some.ensures.snapshot
+
+pub returns-in-Ok-Some-clause-led : goal.returns-in-Ok-Some-clause-led
+returns-in-Ok-Some-clause-led g c =
+    loaded-led c.args.kept.now.chain.blocks c.args.area c.tree.result.now.entries (g.D.Disk.reads_as c.args.disk.now) c.args.steps.now c.read.new.steps c.in-Ok-Some.field-0 c.in-Ok-Some.loaded c.in-Ok-Some.field-0-is c.in-Ok-Some.ensures.snapshot c.in-Ok-Some.ensures.most
+
+pub returns-in-Err-clause-undamaged : goal.returns-in-Err-clause-undamaged
+returns-in-Err-clause-undamaged g c = λ now told is both joined damage e.
+    never-damaged c.args.kept.now.chain c.args.area c.tree.result.now.entries (g.D.Disk.reads_as c.args.disk.now) now c.args.steps.now c.read.new.steps c.read.result damage
+    c.tree.ensures.indexed c.tree.ensures.canonical joined.joined told is both c.read.ensures.snapshot (c.in-Err.is ∙ ap Err (same_stop _ _ e))

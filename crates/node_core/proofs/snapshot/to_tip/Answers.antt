@@ -1,0 +1,22 @@
+use Rattle.std.proofs.Common.{◌≡◌, ℕ, Err, Option, Some, refl, sym, ap, ◌∙◌, subst, arith}
+use Rattle.std.specs.Prelude.{IsSome}
+use Rattle.std.proofs.lemmas.Option.{same_Some}
+use Rattle.outside.specs.Image.{Image}
+use Rattle.cell_state.specs.State.{rows}
+use Rattle.chain_tree.proofs.BlockLemmas.{len-same}
+use Rattle.log_file.proofs.Exits.{same_stop}
+use Rattle.reorg.specs.Moves.{AreOf}
+use Rattle.node_core.proofs.snapshot.to_tip.Goals as goal
+
+pub moved-requires-clause-to : goal.moved-requires-clause-to
+moved-requires-clause-to g c = omega (arith, c.tip-tip.ensures.within, len-same c.args.kept.now.chain.blocks _ c.tree.ensures.indexed)
+
+pub returns-in-Ok-moved-clause-cells : goal.returns-in-Ok-moved-clause-cells
+returns-in-Ok-moved-clause-cells g c = λ now told areas joined first place at.
+    subst (λ (n : ℕ). AreOf c.args.kept.now.chain.blocks n (rows c.in-Ok-moved.state))
+    (same_Some c.tip-tip.result place (sym (c.tip-tip.ensures.of_blocks c.args.kept.now.chain.blocks c.tree.ensures.indexed) ∙ at))
+    (c.in-Ok-moved.ensures.cells (subst IsSome (sym ((g.met.D.Disk.content_rests c.args.disk.now c.load.new.disk c.load.ensures.content).reads ∙ told)) refl) joined (c.in-Ok.ensures.cells now told areas first))
+
+pub returns-in-Err-moved-clause-undamaged : goal.returns-in-Err-moved-clause-undamaged
+returns-in-Err-moved-clause-undamaged g c = λ now told areas joined first damage e.
+    c.moved.ensures.undamaged (subst IsSome (sym ((g.met.D.Disk.content_rests c.args.disk.now c.load.new.disk c.load.ensures.content).reads ∙ told)) refl) joined (c.in-Ok.ensures.cells now told areas first) damage (c.in-Err-moved.is ∙ ap Err (same_stop _ _ e))
