@@ -32,7 +32,7 @@ pub left_there : (place : ℕ) (records : List Record) (item ext : List ℕ) (re
 left_there place records item ext reads images settled image left =
     let rest : IsAtRest place records image.log = subst (IsAtRest place records) (sym (settled.durable image left)) settled.rest in
     let appended : IsAppended place records (block_record item ext) image.log image.log = record { rest = inl rest; size = omega arith } in
-    (ext, (image, left, (image.log, appended, own_content Log image)))
+    (ext, (image, left, appended))
 
 pub started_import : {D : Type 0} (moment : D → ℕ) (left_since : D → ℕ → Image → Type 0) (images : D → Image → Type 0)
     → ((disk : D) (image : Image) → left_since disk (moment disk) image → images disk image)
