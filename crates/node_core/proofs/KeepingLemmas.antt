@@ -2,15 +2,13 @@
 use Rattle.std.proofs.Common.{◌≡◌, ◌⊎◌, ℕ, false, true, List, [], ◌∷◌, ◌++◌, drop, Option, Some, None, refl, sym, ap, subst, inl, inr, arith}
 use Rattle.std.specs.Prelude.{IfSome, is_some}
 use Rattle.outside.specs.declared.disk.Area.{Area}
-use Rattle.outside.specs.declared.disk.Area.TheVariants.{Log}
 use Rattle.outside.specs.Image.{Image}
 use Rattle.outside.specs.Disk.{NoneNew, OthersRead, LeavesOnly}
-use Rattle.outside.proofs.Images.{own_content}
 use Rattle.outside.proofs.Moments.{started}
 use Rattle.verdict_defs.specs.declared.verdict.Verdict.{Verdict}
 use Rattle.verdict_defs.specs.Verdict.{joins}
 use Rattle.log_defs.specs.Log.{Record, log_of, records_of}
-use Rattle.log_defs.specs.Rest.{IsAtRest, IsSettled, IsAppended, HasLog}
+use Rattle.log_defs.specs.Rest.{IsAtRest, IsSettled, IsAppended, HasAppended, HasLog}
 use Rattle.store_defs.specs.Store.{TellsAsBefore}
 use Rattle.log_file.specs.Pieces.{block_record}
 use Rattle.node_core.specs.Node.{IsLeftByOpening, IsLeftByImport, AreRecordsBehind, IsSettledAfter}
@@ -33,6 +31,12 @@ left_there place records item ext reads images settled image left =
     let rest : IsAtRest place records image.log = subst (IsAtRest place records) (sym (settled.durable image left)) settled.rest in
     let appended : IsAppended place records (block_record item ext) image.log image.log = record { rest = inl rest; size = omega arith } in
     (ext, (image, left, appended))
+
+-- while its record is put behind the others
+pub left_appended : (place : ℕ) (records : List Record) (item ext : List ℕ) (images : Image → Type 0) (image : Image)
+    → HasAppended place records (block_record item ext) images image → IsLeftByImport place records item images image
+left_appended place records item ext images image (before, left, (bytes, appended, is)) =
+    (ext, (before, left, subst (IsAppended place records (block_record item ext) before.log) (sym (ap (λ (i : Image). i.log) is)) appended))
 
 pub started_import : {D : Type 0} (moment : D → ℕ) (left_since : D → ℕ → Image → Type 0) (images : D → Image → Type 0)
     → ((disk : D) (image : Image) → left_since disk (moment disk) image → images disk image)

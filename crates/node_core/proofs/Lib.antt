@@ -19,3 +19,4 @@ pub mod QueryLemmas
 pub mod RecordedLemmas
 pub mod SnapshotLemmas
 pub mod LoadingLemmas
+pub mod BesideLemmas

@@ -500,9 +500,6 @@ led_counts before mid now still counts there back = record {
   unchanged = λ never. counts.unchanged (λ first. never (there first)) ∙ still;
 }
 
-pub none_stopped : (stop : ReadStop) → ◌≡◌ {A = Option ReadStop} None (Some stop) → ⊥
-none_stopped stop is = absurd (cc)
-
 pub no_step : (before most : ℕ) → before ≤ before + most
 no_step before most = omega arith
 

@@ -107,7 +107,10 @@ module _ {D : Type 0} (reads_as : D → Option Image) (images : D → Image → 
 
 -- ---- The area of a number is none of the log
 
-log-beside : (area : Area) (bytes : List ℕ) (image : Image) → (area ≡ Log → ⊥) → (with_content area bytes image).log ≡ image.log
+pub none-log : (number : ℕ) → area_of number ≡ Log → ⊥
+none-log number is = none-in-the-log number is
+
+pub log-beside : (area : Area) (bytes : List ℕ) (image : Image) → (area ≡ Log → ⊥) → (with_content area bytes image).log ≡ image.log
 log-beside Log bytes image never = absurd (never refl)
 log-beside SnapA bytes image never = refl
 log-beside SnapB bytes image never = refl

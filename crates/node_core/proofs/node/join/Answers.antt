@@ -17,7 +17,7 @@ use Rattle.node_core.proofs.WritingLemmas.{piece_long}
 use Rattle.node_core.proofs.ImportLemmas.{can_join, record_is, form_is, is_ext_for, place_limit, is_after, own_after, few_after, within_after}
 use Rattle.node_core.proofs.DiskLemmas.{counts_none, stands_either, only_after, before_calls}
 use Rattle.node_core.proofs.AppendLemmas.{as-many, place-next, named_by, of_told, own_there, own_next, adds-here, has-form, held_next}
-use Rattle.node_core.proofs.KeepingLemmas.{started_import}
+use Rattle.node_core.proofs.KeepingLemmas.{started_import, left_appended}
 use Rattle.node_core.proofs.node.join.Goals as goal
 
 pub rec_behind-rec-requires-clause-limit : goal.rec_behind-rec-requires-clause-limit
@@ -285,7 +285,7 @@ pub returns-in-Err-append-clause-keeps : goal.returns-in-Err-append-clause-keeps
 returns-in-Err-append-clause-keeps g c = λ records settled.
     leaves_also g.D.Disk.moment g.D.Disk.left_since _ _ _ _
     (c.append.ensures.moments records (block_record c.args.item.now (ext_bytes c.args.joining.ext)) c.in-Ok.ensures.filled settled)
-    (λ image left. (ext_bytes c.args.joining.ext, left))
+    (left_appended c.args.log.place records c.args.item.now (ext_bytes c.args.joining.ext) (g.D.Disk.images c.args.disk.now))
 
 pub returns-in-Err-append-clause-others : goal.returns-in-Err-append-clause-others
 returns-in-Err-append-clause-others g c = c.append.ensures.others
@@ -308,7 +308,7 @@ pub returns-in-Ok-append-clause-keeps : goal.returns-in-Ok-append-clause-keeps
 returns-in-Ok-append-clause-keeps g c = λ records settled.
     leaves_also g.D.Disk.moment g.D.Disk.left_since _ _ _ _
     (c.append.ensures.moments records (block_record c.args.item.now (ext_bytes c.args.joining.ext)) c.in-Ok.ensures.filled settled)
-    (λ image left. (ext_bytes c.args.joining.ext, left))
+    (left_appended c.args.log.place records c.args.item.now (ext_bytes c.args.joining.ext) (g.D.Disk.images c.args.disk.now))
 
 pub returns-in-Ok-append-clause-others : goal.returns-in-Ok-append-clause-others
 returns-in-Ok-append-clause-others g c = c.append.ensures.others

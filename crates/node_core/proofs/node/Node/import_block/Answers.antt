@@ -544,3 +544,22 @@ returns-in-Stays-clause-found g c = c.in-Ok.ensures.looked.found (λ _ e. not_st
 pub returns-in-Ok-join-clause-found : goal.returns-in-Ok-join-clause-found
 returns-in-Ok-join-clause-found g c =
     c.in-Ok-join.ensures.found ∙ c.in-Ok.ensures.looked.found (λ _ e. not_stopped _ e) ∙ ap (λ (v : NodeValue). v.damages) c.self.view_is
+
+-- ---- Only a block that is new joins
+
+pub returns-in-Err-clause-new : goal.returns-in-Err-clause-new
+returns-in-Err-clause-new g c = tt
+
+pub returns-in-Err-join-clause-new : goal.returns-in-Err-join-clause-new
+returns-in-Err-join-clause-new g c = tt
+
+pub returns-in-Stays-clause-new : goal.returns-in-Stays-clause-new
+returns-in-Stays-clause-new g c = λ e.
+    let ready : IsReadyItem c.self.inside.kept.chain c.args.item.now (Stays c.in-Stays.verdict) = ready_on c.self.inside.kept.chain c.self.inside.kept.chain c.args.item.now c.in-Ok.decided.1 (Stays c.in-Stays.verdict) refl c.in-Stays.is c.in-Ok.ensures.ready in
+    absurd (joined_stays_not (sym e ∙ ready))
+
+pub returns-in-Ok-join-clause-new : goal.returns-in-Ok-join-clause-new
+returns-in-Ok-join-clause-new g c = λ _.
+    let chain_is : c.self.inside.kept.chain ≡ c.args.self.chain = ap (λ (v : NodeValue). v.chain) c.self.view_is in
+    let ready : IsReadyItem c.args.self.chain c.args.item.now (Joins c.in-Joins.joining) = ready_on c.self.inside.kept.chain c.args.self.chain c.args.item.now c.in-Ok.decided.1 (Joins c.in-Joins.joining) chain_is c.in-Joins.is c.in-Ok.ensures.ready in
+    (wants-joining c.args.self.chain c.args.item.now c.in-Joins.joining ready, omega (arith, moves-joining c.args.self.chain c.args.item.now c.in-Joins.joining ready))

@@ -1,11 +1,8 @@
-use Rattle.std.proofs.Common.{Err, Some, sym, ap, ◌∙◌, arith}
+use Rattle.std.proofs.Common.{Err, sym, ap, ◌∙◌}
 use Rattle.outside.proofs.Moments.{leaves_also}
-use Rattle.std.proofs.lemmas.Option.{same_Some}
-use Rattle.chain_tree.proofs.BlockLemmas.{len-same}
-use Rattle.chain_tree.specs.Reading.{stop_of}
 use Rattle.log_file.proofs.Exits.{stop_counts, answer_still}
 use Rattle.node_core.specs.Node.{NodeValue}
-use Rattle.node_core.proofs.OpenLemmas.{leaves_on, stands_while_opened, own_read, keeps_led, settled_led, own_led, one_still, sound_led, on_led, not_led, moved_to_open, led_counts, none_stopped, no_step, ok_err, same_stop}
+use Rattle.node_core.proofs.OpenLemmas.{leaves_on, stands_while_opened, own_read, keeps_led, settled_led, own_led, one_still, sound_led, on_led, not_led, moved_to_open, led_counts, no_step, ok_err, same_stop}
 use Rattle.node_core.proofs.node.Node.open.Goals as goal
 
 pub returns-in-Err-clause-not_a_store : goal.returns-in-Err-clause-not_a_store
@@ -43,10 +40,12 @@ returns-in-Err-clause-on g c = λ _. tt
 pub returns-in-Err-clause-sound : goal.returns-in-Err-clause-sound
 returns-in-Err-clause-sound g c = λ _ _ _. tt
 
-pub to_tip-requires-clause-own : goal.to_tip-requires-clause-own
-to_tip-requires-clause-own g c =
-    own_read g.D.Disk.reads_as g.D.Disk.images _ _ c.node.inside.kept c.node.inside.log.place c.node.inside.state c.node.inside.cache _ c.node.view_is
-    c.read_store.ensures.left.others c.in-Ok.ensures.read c.in-Ok.ensures.cells
+pub to_tip-requires : goal.to_tip-requires
+to_tip-requires g c = record {
+  own =
+      own_read g.D.Disk.reads_as g.D.Disk.images _ _ c.node.inside.kept c.node.inside.log.place c.node.inside.state c.node.inside.cache _ c.node.view_is
+      c.read_store.ensures.left.others c.in-Ok.ensures.read c.in-Ok.ensures.cells;
+}
 
 pub invariant_of-result : goal.invariant_of-result
 invariant_of-result g c = c.node.invariant
@@ -98,7 +97,7 @@ returns-in-Ok-to_tip-clause-moments g c now chain told keeps sound =
 pub returns-in-Ok-to_tip-clause-cause : goal.returns-in-Ok-to_tip-clause-cause
 returns-in-Ok-to_tip-clause-cause g c =
     led_counts _ _ _ (answer_still _ _ _ _ c.in-Ok.ensures.cause) c.to_tip.ensures.cause
-    (λ stop. absurd (none_stopped _ (sym (ap stop_of c.in-Ok-to_tip.is) ∙ stop))) (λ e. absurd (ok_err _ _ e))
+    (λ stop. absurd (ok_err _ _ (sym c.in-Ok-to_tip.is ∙ stop))) (λ e. absurd (ok_err _ _ e))
 
 pub returns-in-Ok-to_tip-clause-most : goal.returns-in-Ok-to_tip-clause-most
 returns-in-Ok-to_tip-clause-most g c =
@@ -125,8 +124,8 @@ returns-in-Err-to_tip-clause-moments g c now chain told keeps sound =
 pub returns-in-Err-to_tip-clause-cause : goal.returns-in-Err-to_tip-clause-cause
 returns-in-Err-to_tip-clause-cause g c =
     led_counts _ _ _ (answer_still _ _ _ _ c.in-Ok.ensures.cause) c.to_tip.ensures.cause
-    (λ stop. ap Err (c.stop_of_move.ensures.fault.1 (same_Some _ _ (sym (ap stop_of c.in-Err-to_tip.is) ∙ stop))))
-    (λ fault. ap stop_of c.in-Err-to_tip.is ∙ ap Some (c.stop_of_move.ensures.fault.0 (same_stop _ _ fault)))
+    (λ stop. ap Err (c.stop_of_move.ensures.fault.1 (same_stop _ _ (sym c.in-Err-to_tip.is ∙ stop))))
+    (λ fault. c.in-Err-to_tip.is ∙ ap Err (c.stop_of_move.ensures.fault.0 (same_stop _ _ fault)))
 
 pub returns-in-Err-to_tip-clause-most : goal.returns-in-Err-to_tip-clause-most
 returns-in-Err-to_tip-clause-most g c =
@@ -160,5 +159,5 @@ returns-in-Err-to_tip-clause-found g c = tt
 
 pub returns-in-Ok-to_tip-clause-found : goal.returns-in-Ok-to_tip-clause-found
 returns-in-Ok-to_tip-clause-found g c =
-    c.to_tip.ensures.found (λ _ stop. none_stopped _ (sym (ap stop_of c.in-Ok-to_tip.is) ∙ ap stop_of stop))
+    c.to_tip.ensures.found (λ _ stop. ok_err _ _ (sym c.in-Ok-to_tip.is ∙ stop))
     ∙ ap (λ (v : NodeValue). v.damages) c.node.view_is ∙ c.in-Ok.ensures.found
