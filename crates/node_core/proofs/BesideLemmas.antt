@@ -1,6 +1,6 @@
 -- A node and its disk after a snapshot was taken: LOG is as it was, and one more area may read otherwise.
-use Rattle.std.proofs.Common.{◌≡◌, ◌⊎◌, Bool, true, false, ℕ, ◌≤◌, List, [], ◌∷◌, ◌++◌, length, Option, Some, None, refl, sym, ap, ◌∙◌, subst, inl, inr, arith}
-use Rattle.std.specs.Prelude.{◌↔◌, not, IfSome, IsSome, IsOk, Result, Err}
+use Rattle.std.proofs.Common.{◌≡◌, ◌⊎◌, true, ℕ, ◌≤◌, List, [], ◌∷◌, ◌++◌, length, Option, Some, None, refl, sym, ap, ◌∙◌, subst, inl, inr, arith}
+use Rattle.std.specs.Prelude.{◌↔◌, IfSome, IsSome, IsOk, Result, Err}
 use Rattle.std.specs.Option.{option_map}
 use Rattle.outside.specs.declared.disk.ReadStop.{ReadStop}
 use Rattle.outside.specs.declared.disk.ReadStop.TheVariants as reads
@@ -154,8 +154,3 @@ no-memory result writes.NoMemory memory fault other = memory.1 refl
 pub due-some : {T E : Type 0} (due : Option ℕ) (result : Result T E) (stop : E) → (due ≡ None → IsOk result) → result ≡ Err stop → IsSome due
 due-some None result stop none is = absurd (not_ok result stop is (none refl))
 due-some (Some number) result stop none is = refl
-
--- it joins
-pub joined-so : (found joined : Bool) → not found ≡ false → found ≡ joined → joined ≡ true
-joined-so true joined is same = sym same
-joined-so false joined is same = absurd (cc)

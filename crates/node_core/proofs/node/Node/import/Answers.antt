@@ -6,7 +6,7 @@ use Rattle.node_core.specs.Node.{NodeValue, node_of, IsSoundNode, IsOn}
 use Rattle.node_core.specs.Snapshot.{snapshot_at, OthersReadBut, HasSnapshot}
 use Rattle.node_core.proofs.OpenLemmas.{led_counts, same_stop}
 use Rattle.node_core.proofs.StayingLemmas.{sound-on}
-use Rattle.node_core.proofs.BesideLemmas.{others-log, others-both, own-beside, on-beside, after-beside, behind-beside, keeps-beside, moments-beside, no-memory, due-some, joined-so}
+use Rattle.node_core.proofs.BesideLemmas.{others-log, others-both, own-beside, on-beside, after-beside, behind-beside, keeps-beside, moments-beside, no-memory, due-some}
 use Rattle.node_core.proofs.node.Node.import.Goals as goal
 
 pub returns-in-Err-clause-others : goal.returns-in-Err-clause-others
@@ -63,7 +63,7 @@ pub returns-in-Err-take_snapshot-clause-untouched : goal.returns-in-Err-take_sna
 returns-in-Err-take_snapshot-clause-untouched g c = λ other.
     let due : snapshot_at c.len-joined.result ≡ snapshot_at (length c.args.self.chain.blocks) =
     ap snapshot_at (c.len-joined.ensures.of_blocks c.self.inside.kept.chain.blocks c.tree.ensures.indexed ∙ ap (λ (v : NodeValue). length v.chain.blocks) c.self.view_is) in
-    let joined : joins c.in-Ok.answer.1 ≡ true = joined-so c.joins.result (joins c.in-Ok.answer.1) c.if-not-joins.false c.joins.ensures in
+    let joined : joins c.in-Ok.answer.1 ≡ true = sym c.joins.ensures ∙ c.if-not-joins.false in
     inr (record {
       memory = no-memory c.stop_of_snapshot.result c.in-Err-take_snapshot.stop c.stop_of_snapshot.ensures.memory c.stop_of_snapshot.ensures.fault other;
       due = subst (λ (d : Option ℕ). IsSome d) due (due-some (snapshot_at c.len-joined.result) c.take_snapshot.result c.in-Err-take_snapshot.stop
