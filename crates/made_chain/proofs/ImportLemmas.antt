@@ -6,8 +6,6 @@ use Rattle.std.specs.Option.{option_and_then}
 use Rattle.std.proofs.lemmas.List.{take_more, map-append}
 use Rattle.std.proofs.lemmas.Bool.Decides.{nat_tests}
 use Rattle.outside.specs.Image.{Image}
-use Rattle.outside.specs.Disk.{OthersRead}
-use Rattle.outside.specs.declared.disk.Area.{Area}
 use Rattle.codec_defs.specs.Schema.{OutPoint, Block}
 use Rattle.chain_defs.specs.Branch.{branch}
 use Rattle.chain_defs.specs.Kept.{block_at}
@@ -21,6 +19,7 @@ use Rattle.verdict_defs.specs.Chain.{Chain, verdict_over, chain_after, verdicts_
 use Rattle.log_defs.specs.Log.{LogContent, log_of}
 use Rattle.store_defs.specs.Store.{Keeps, store_of, store_of_log, StandsFor, IsSound}
 use Rattle.node_core.specs.Node.{NodeValue, IsNew, IsSoundOn, IsOn}
+use Rattle.node_core.specs.Snapshot.{OthersReadBut}
 use Rattle.codec_defs.specs.Shape.{encoded}
 use Rattle.codec_defs.specs.Schema as schema
 use Rattle.gen_defs.specs.Start as start
@@ -74,9 +73,10 @@ pub sound_on : (node : NodeValue) (reads : Option Image) (images : Image → Typ
 sound_on node reads images on = record { sound = on.sound; told = subst (λ (r : Option Image). IsSome r) (sym on.image.told) refl }
 
 -- what told its bytes tells them still
-pub tells_still : (area : Area) (old new : Option Image) → OthersRead area old new → IsSome old → IsSome new
-tells_still area None new others told = absurd (cc)
-tells_still area (Some now) new (bytes, is) told = subst (λ (r : Option Image). IsSome r) (sym is) refl
+pub tells_still : (due : Option ℕ) (old new : Option Image) → OthersReadBut due old new → IsSome old → IsSome new
+tells_still due None new others told = absurd (cc)
+tells_still None (Some now) new (log, is) told = subst (λ (r : Option Image). IsSome r) (sym is) refl
+tells_still (Some number) (Some now) new (log, bytes, is) told = subst (λ (r : Option Image). IsSome r) (sym is) refl
 
 -- ---- Items one after the other
 

@@ -19,3 +19,4 @@ pub mod RecordLemmas
 pub mod QueryLemmas
 pub mod SimulationLemmas
 pub mod LookLemmas
+pub mod SnapshotLemmas

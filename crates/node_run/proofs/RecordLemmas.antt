@@ -11,7 +11,7 @@ use Rattle.time_defs.specs.Specification.{broken_specification_rule}
 use Rattle.genesis_defs.specs.Genesis.{broken_genesis_rule}
 use Rattle.log_defs.proofs.Contents.{said}
 use Rattle.outside.specs.Image.{Image}
-use Rattle.outside.specs.Disk.{LeavesOnly}
+use Rattle.outside.specs.Disk.{ComesBy, LeavesOnly}
 use Rattle.outside.proofs.Moments.{started, leaves_also, leaves_then, now_too}
 use Rattle.verdict_defs.specs.declared.verdict.Verdict.{Verdict}
 use Rattle.verdict_defs.specs.Verdict.{joins}

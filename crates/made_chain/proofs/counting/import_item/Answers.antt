@@ -1,9 +1,10 @@
-use Rattle.outside.specs.declared.disk.Area.TheVariants.{Log}
+use Rattle.std.proofs.Common.{length}
+use Rattle.node_core.specs.Snapshot.{snapshot_at}
 use Rattle.made_chain.proofs.ImportLemmas.{tells_still}
 use Rattle.made_chain.proofs.counting.import_item.Goals as goal
 
 pub returns-in-Ok-clause-sound : goal.returns-in-Ok-clause-sound
 returns-in-Ok-clause-sound g c = record {
   sound = c.in-Ok.ensures.sound c.requires.sound;
-  told = tells_still Log (g.D.Disk.reads_as c.args.disk.now) (g.D.Disk.reads_as c.import.new.disk) c.import.ensures.others c.requires.sound.told;
+  told = tells_still (snapshot_at (length c.args.node.chain.blocks)) (g.D.Disk.reads_as c.args.disk.now) (g.D.Disk.reads_as c.import.new.disk) c.import.ensures.others c.requires.sound.told;
 }

@@ -1,7 +1,8 @@
 use Rattle.std.proofs.Common.{[], refl, ap, ◌∙◌, subst}
 use Rattle.std.specs.Prelude.{Err}
 use Rattle.outside.specs.declared.disk.Area.TheVariants.{Log}
-use Rattle.node_core.proofs.KeepingLemmas.{tells_as_before}
+use Rattle.node_core.specs.Snapshot.{snapshot_at}
+use Rattle.node_run.proofs.SnapshotLemmas.{tells_but}
 use Rattle.outside.proofs.Endings.{no_fault, counts-as, no_answer}
 use Rattle.outside.proofs.Streams.{takes_none}
 use Rattle.verdict_defs.specs.Chain.{verdict_over}
@@ -148,13 +149,13 @@ pub returns-in-Err-write_verdict-clause-most : goal.returns-in-Err-write_verdict
 returns-in-Err-write_verdict-clause-most g c = c.in-Ok.ensures.most
 
 pub returns-in-Err-clause-told : goal.returns-in-Err-clause-told
-returns-in-Err-clause-told g c = tells_as_before Log _ _ c.in-Err.ensures.others
+returns-in-Err-clause-told g c = tells_but (snapshot_at (length c.args.node.chain.blocks)) _ _ c.in-Err.ensures.others
 
 pub returns-in-Ok-write_verdict-clause-told : goal.returns-in-Ok-write_verdict-clause-told
-returns-in-Ok-write_verdict-clause-told g c = tells_as_before Log _ _ c.in-Ok.ensures.others
+returns-in-Ok-write_verdict-clause-told g c = tells_but (snapshot_at (length c.args.node.chain.blocks)) _ _ c.in-Ok.ensures.others
 
 pub returns-in-Err-write_verdict-clause-told : goal.returns-in-Err-write_verdict-clause-told
-returns-in-Err-write_verdict-clause-told g c = tells_as_before Log _ _ c.in-Ok.ensures.others
+returns-in-Err-write_verdict-clause-told g c = tells_but (snapshot_at (length c.args.node.chain.blocks)) _ _ c.in-Ok.ensures.others
 
 pub returns-in-Err-clause-still : goal.returns-in-Err-clause-still
 returns-in-Err-clause-still g c = c.in-Err.ensures.still
