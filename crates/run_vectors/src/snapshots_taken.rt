@@ -14,8 +14,11 @@ use std::sync::ledger::Ledger;
 
 /// Two chains over one genesis, which part below the tenth block; the second is longer.
 const SEED: u64 = 5;
+
 const BLOCKS: u32 = 1200;
+
 const OTHER_SEED: u64 = 6;
+
 const OTHER_BLOCKS: u32 = 1400;
 
 /// Imports items one after the other.
@@ -46,10 +49,7 @@ fn numbers<D: Disk>(disk: &mut D) -> Option<(u32, u32)> {
 
 fn are_same(one: &[(OutPoint, CellMeta)], other: &[(OutPoint, CellMeta)]) -> bool {
     one.len() == other.len()
-        && one
-            .iter()
-            .zip(other)
-            .all(|(first, second)| first.0 == second.0 && first.1 == second.1)
+        && one.iter().zip(other).all(|(first, second)| first.0 == second.0 && first.1 == second.1)
 }
 
 /// The live cells of a node over the store of a disk, in rising order.
@@ -73,10 +73,9 @@ fn forget<D: Disk>(disk: &mut D) -> Option<()> {
     Some(())
 }
 
-/// How many of these eight hold: which snapshots are there when 999, 1,000, 1,999 and 2,000 blocks have joined, siblings
-/// counted, the last two while the second branch is the shorter one; and over both, one and no snapshot a node that is opened
-/// has the live cells of the one that imported all blocks, after the second branch took over below each snapshot, and the tip
-/// the same height.
+/// How many of these seven hold: which snapshots are there when 999 and 1,000 blocks have joined, siblings counted, and after
+/// more than 2,000, of which the second branch took over below both; its tip stands above the first branch's; and over both, one
+/// and no snapshot a node that is opened has the live cells of the one that imported all blocks.
 pub fn agreed<L: Ledger>(alloc: Global, steps: &mut Steps<L>) -> Option<usize> {
     let made = make(alloc, SEED, BLOCKS).ok()?;
     let other = make(alloc, OTHER_SEED, OTHER_BLOCKS).ok()?;
