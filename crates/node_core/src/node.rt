@@ -381,6 +381,7 @@ impl Node {
             ⊎ LacksSnapshot (length self.chain.blocks) self.place item.now stop (D.reads_as disk.old) (D.reads_as disk.new) (D.images disk.old) (D.images disk.new)) }
         ensures undamaged { IsSoundOn self (D.reads_as disk.old) → (damage : Damage) → result ≡ Err (Damaged damage) → ⊥ }
         ensures damage { (damage : Damage) → result ≡ Err (Damaged damage) → damage.area ≡ log_area }
+        ensures found { IfOk result (λ answer. answer.0.damages ≡ self.damages) }
         ensures cause { CountsFault (D.faults disk.old) (D.faults disk.new) (result ≡ Err DiskFault) }
         ensures spec { IfOk result (λ answer. answer.0.chain.spec ≡ self.chain.spec) }
         ensures holds { IfOk result (λ answer. joins answer.1 ≡ true → IsSome (held_at answer.0.held (length self.chain.blocks))) }
