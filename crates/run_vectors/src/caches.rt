@@ -18,7 +18,7 @@ const SEED: u64 = 5;
 const BLOCKS: u32 = 2000;
 
 /// A node over a new store that holds so many blocks.
-fn open_new<D: Disk, L: Ledger>(
+pub(crate) fn open_new<D: Disk, L: Ledger>(
     alloc: Global,
     disk: &mut D,
     made: &Made,
@@ -45,7 +45,7 @@ fn open_new<D: Disk, L: Ledger>(
 }
 
 /// Imports an item.
-fn import<D: Disk, L: Ledger>(
+pub(crate) fn import<D: Disk, L: Ledger>(
     alloc: Global,
     disk: &mut D,
     node: Node,

@@ -73,10 +73,9 @@ fn forget<D: Disk>(disk: &mut D) -> Option<()> {
     Some(())
 }
 
-/// How many of these eight hold: which snapshots are there when 999, 1,000, 1,999 and 2,000 blocks have joined, siblings
-/// counted, the last two while the second branch is the shorter one; and over both, one and no snapshot a node that is opened
-/// has the live cells of the one that imported all blocks, after the second branch took over below each snapshot, and the tip
-/// the same height.
+/// How many of these seven hold: which snapshots are there when 999 and 1,000 blocks have joined, siblings counted, and after
+/// more than 2,000, of which the second branch took over below both; its tip stands above the first branch's; and over both, one
+/// and no snapshot a node that is opened has the live cells of the one that imported all blocks.
 pub fn agreed<L: Ledger>(alloc: Global, steps: &mut Steps<L>) -> Option<usize> {
     let made = make(alloc, SEED, BLOCKS).ok()?;
     let other = make(alloc, OTHER_SEED, OTHER_BLOCKS).ok()?;

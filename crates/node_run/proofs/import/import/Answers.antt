@@ -21,7 +21,7 @@ use Rattle.node_run.proofs.Exits.{same_stop}
 use Rattle.log_defs.specs.Log.{records_of}
 use Rattle.log_defs.specs.Rest.{IsSettled}
 use Rattle.node_run.proofs.RecordLemmas.{opening_keeps, imported_keeps}
-use Rattle.node_run.proofs.CountLemmas.{opened_in, counted_over, opened_over, none_over}
+use Rattle.node_run.proofs.CountLemmas.{counted_over, opened_over, none_over}
 use Rattle.node_run.proofs.import.import.Goals as goal
 
 pub returns-in-Err-clause-import : goal.returns-in-Err-clause-import
@@ -207,7 +207,7 @@ pub returns-in-Err-clause-steps : goal.returns-in-Err-clause-steps
 returns-in-Err-clause-steps g c = (
   [],
   gives_none (g.S.Source.left c.args.input.now),
-  λ now chain told stands. omega (arith, opened_in chain now _ _ stands (c.in-Err.ensures.most now told)),
+  λ now chain told stands. omega (arith, c.in-Err.ensures.most now told),
 )
 
 pub returns-in-Err-import_items-clause-steps : goal.returns-in-Err-import_items-clause-steps
