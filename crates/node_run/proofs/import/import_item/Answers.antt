@@ -1,6 +1,5 @@
-use Rattle.std.proofs.Common.{[], refl, ap, ◌∙◌, subst}
+use Rattle.std.proofs.Common.{[], length, refl, ap, ◌∙◌, subst}
 use Rattle.std.specs.Prelude.{Err}
-use Rattle.outside.specs.declared.disk.Area.TheVariants.{Log}
 use Rattle.node_core.specs.Snapshot.{snapshot_at}
 use Rattle.node_run.proofs.SnapshotLemmas.{tells_but}
 use Rattle.outside.proofs.Endings.{no_fault, counts-as, no_answer}
