@@ -97,7 +97,14 @@ pub(crate) fn take_snapshot<D: Disk>(
         return Ok(());
     };
     let tip = kept.tree().tip();
-    put(alloc, disk, number, tip, &kept.tree().entry(tip).hash, state)
+    put(
+        alloc,
+        disk,
+        number,
+        tip,
+        &kept.tree().entry(tip).hash,
+        state,
+    )
 }
 
 /// The area with the greater of two numbers.
