@@ -505,6 +505,11 @@ def bytes_of(column):
     return bytes.fromhex(digits.strip('-')) + bytes(int(zeros or 0))
 
 
+def is_open(area):
+    """Whether the gate of a snapshot's area is open."""
+    return len(area) > 1 and area[0] == 1
+
+
 class Trial:
     """The folder that the rows act on, and how many runs of each command agree, differ and so on."""
 
@@ -521,6 +526,9 @@ class Trial:
             if columns[0] == 'log':
                 self.put = bytes_of(columns[1])
                 self.store = kept_in(self.put)
+            elif is_open(bytes_of(columns[1])):
+                # what a snapshot is, is not read here
+                self.store = UNKNOWN
         elif name == 'streams':
             self.streams_fail = columns[1:] != ['-', '-']
         elif name not in ('left', 'end') and not name.startswith('#'):
