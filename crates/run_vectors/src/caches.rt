@@ -13,10 +13,9 @@ use verdict_defs::Verdict;
 /// More bytes than an item of a node has. No generated item comes near it.
 const SIZE_BOUND: usize = 1 << 31;
 
-/// The seed of the chain.
+/// The chain: its seed, and how many blocks stand after its genesis.
 const SEED: u64 = 5;
 
-/// How many blocks stand after its genesis.
 const BLOCKS: u32 = 2000;
 
 /// A node over a new store that holds so many blocks.

@@ -16,7 +16,7 @@
 //! tests/README.md says which rows scripts of tests/rows/ make. Four more rows, of two files of 1 MiB that were made to be slow
 //! to load, are made here; bench/hostile.py works out their texts.
 //! And the blocks of a generated chain are imported by a node that holds one block in memory, and by one that holds 64; and those
-//! of two branches, whose snapshots are looked at, and which is opened over both, over one and over none of them.
+//! of two branches, whose snapshot is looked at, by a node that is opened anew with it and without it.
 //! Each row is run over streams and a disk in memory. The program prints each row that differs, and how many agree; its status
 //! is 1 where one differs, or a list has no end.
 #![tactic(auto)]
@@ -127,9 +127,9 @@ fn run_rows<L: Ledger>(rt: HostRuntime, blank: Blank) -> io::Result<ExitCode>
         "{of_chain} of 2000 generated blocks have one verdict, whatever a node holds in memory"
     )?;
     let of_snapshots = snapshots_taken::agreed(rt.alloc(), &mut steps).unwrap_or(0);
-    println!(rt; "{of_snapshots} of 7 facts of the snapshots of two branches hold")?;
+    println!(rt; "{of_snapshots} of 4 facts of a snapshot over two branches hold")?;
     let all = all_rows_agree(rt, &mut steps)?;
-    Ok(ExitCode::from(u8::from(!all || of_hostile != 4 || of_chain != 2000 || of_snapshots != 7)))
+    Ok(ExitCode::from(u8::from(!all || of_hostile != 4 || of_chain != 2000 || of_snapshots != 4)))
 }
 
 fn main(rt: HostRuntime) -> io::Result<ExitCode> {
