@@ -16,12 +16,14 @@
 //! tests/README.md says which rows scripts of tests/rows/ make. Four more rows, of two files of 1 MiB that were made to be slow
 //! to load, are made here; bench/hostile.py works out their texts.
 //! And the blocks of a generated chain are imported by a node that holds one block in memory, and by one that holds 64; and those
-//! of two branches, whose snapshot is looked at, by a node that is opened anew with it and without it.
+//! of two branches, whose snapshot is looked at, by a node that is opened anew with it and without it. Of some imports the bytes
+//! that they read are counted: no hidden replay.
 //! Each row is run over streams and a disk in memory. The program prints each row that differs, and how many agree; its status
 //! is 1 where one differs, or a list has no end.
 #![tactic(auto)]
 
 mod caches;
+mod counted_reads;
 mod faulty;
 mod folder;
 mod hostile;
@@ -128,8 +130,12 @@ fn run_rows<L: Ledger>(rt: HostRuntime, blank: Blank) -> io::Result<ExitCode>
     )?;
     let of_snapshots = snapshots_taken::agreed(rt.alloc(), &mut steps).unwrap_or(0);
     println!(rt; "{of_snapshots} of 4 facts of a snapshot over two branches hold")?;
+    let of_reads = counted_reads::agreed(rt.alloc(), &mut steps).unwrap_or(0);
+    println!(rt; "{of_reads} of 99 imports far from a snapshot read little")?;
     let all = all_rows_agree(rt, &mut steps)?;
-    Ok(ExitCode::from(u8::from(!all || of_hostile != 4 || of_chain != 2000 || of_snapshots != 4)))
+    Ok(ExitCode::from(u8::from(
+        !all || of_hostile != 4 || of_chain != 2000 || of_snapshots != 4 || of_reads != 99,
+    )))
 }
 
 fn main(rt: HostRuntime) -> io::Result<ExitCode> {

@@ -1,0 +1,126 @@
+// A generated chain, imported over a disk that counts what is read of it.
+ghost use Rattle.std.specs.Prelude.{◌≤◌, ◌<◌, ◌^◌, length, IfSome};
+ghost use Rattle.node_core.specs.Node.{IsItsOwn};
+
+use crate::caches::{import, open_new};
+use chain_gen::make;
+use node_core::{HELD, Node};
+use outside::{Area, Disk, Failed, Steps};
+use outside_mem::MemDisk;
+use std::alloc::Global;
+use std::sync::ledger::Ledger;
+
+/// The seed of the chain.
+const SEED: u64 = 5;
+
+/// How many blocks stand after its genesis.
+const BLOCKS: u32 = 2000;
+
+/// The blocks whose imports are looked at: between two snapshots, and far from the one before.
+const FIRST: usize = 1900;
+
+/// The most bytes that an import of one of them may read. A replay from the snapshot before reads more than 250,000.
+const MOST: u64 = 131_072;
+
+/// A disk that hands each call on, and counts the bytes that its reads give.
+#[derive(Drop)]
+struct Counting<D> {
+    inner: D,
+    bytes: u64,
+}
+
+impl<D: Disk> Disk for Counting<D> {
+    ghost reads_as = { λ it. D.reads_as it.inner };
+
+    ghost images = { λ it. D.images it.inner };
+
+    ghost moment = { λ it. D.moment it.inner };
+
+    ghost left_since = { λ it. D.left_since it.inner };
+
+    ghost faults = { λ it. D.faults it.inner };
+
+    ghost Content = { D.Content };
+
+    ghost content_of = { λ it. D.content_of it.inner };
+
+    ghost content_rests = { λ old new same. record {
+      reads = (D.content_rests old.inner new.inner same).reads;
+      images = (D.content_rests old.inner new.inner same).images;
+      moments = record {
+        later = (D.content_rests old.inner new.inner same).moments.later;
+        each = (D.content_rests old.inner new.inner same).moments.each;
+        before = (D.content_rests old.inner new.inner same).moments.before;
+      };
+    } };
+
+    ghost reads_image = { λ it. D.reads_image it.inner };
+
+    ghost images_told = { λ it. D.images_told it.inner };
+
+    ghost last_fault = { λ it. D.last_fault it.inner };
+
+    ghost counts_now = { λ it. D.counts_now it.inner };
+
+    ghost only_now = { λ it. D.only_now it.inner };
+
+    fn len(&mut self, area: Area) -> Result<u64, Failed> {
+        self.inner.len(area)
+    }
+
+    fn read(&mut self, area: Area, at: u64, into: &mut [u8]) -> Result<usize, Failed> {
+        match self.inner.read(area, at, into) {
+            Ok(n) => {
+                self.bytes = self.bytes.saturating_add(n as u64);
+                Ok(n)
+            }
+            Err(failed) => Err(failed),
+        }
+    }
+
+    fn write(&mut self, area: Area, at: u64, piece: &[u8]) -> Result<(), Failed> {
+        self.inner.write(area, at, piece)
+    }
+
+    fn cut(&mut self, area: Area, len: u64) -> Result<(), Failed> {
+        self.inner.cut(area, len)
+    }
+
+    fn sync(&mut self, area: Area) -> Result<(), Failed> {
+        self.inner.sync(area)
+    }
+}
+
+/// How many of the items are imported with few bytes read, from the first that is looked at on.
+fn few_read<D: Disk, L: Ledger>(
+    alloc: Global,
+    disk: &mut Counting<D>,
+    opened: Node,
+    items: &[Vec<u8>],
+    steps: &mut Steps<L>,
+) -> Option<usize>
+    requires { IsItsOwn opened (D.reads_as disk.old.inner) (D.images disk.old.inner) }
+{
+    let mut node = opened;
+    let mut few = 0usize;
+    'items: for i in 0..items.len() {
+        disk.bytes = 0;
+        let (next, _) = import(alloc, disk, node, &items[i], steps)?;
+        node = next;
+        if i >= FIRST && disk.bytes <= MOST {
+            few = few.saturating_add(1);
+        }
+    }
+    Some(few)
+}
+
+/// How many of the last hundred blocks but one are imported with few bytes read.
+pub fn agreed<L: Ledger>(alloc: Global, steps: &mut Steps<L>) -> Option<usize> {
+    let made = make(alloc, SEED, BLOCKS).ok()?;
+    let mut disk = Counting {
+        inner: MemDisk::new(alloc, Vec::new(alloc)),
+        bytes: 0,
+    };
+    let node = open_new(alloc, &mut disk, &made, HELD, steps)?;
+    few_read(alloc, &mut disk, node, made.blocks.get(..1999)?, steps)
+}
