@@ -3,13 +3,12 @@ use Rattle.std.proofs.Common.{◌≡◌, ◌⊎◌, ℕ, false, true, List, [], 
 use Rattle.std.specs.Prelude.{IfSome, is_some}
 use Rattle.outside.specs.declared.disk.Area.{Area}
 use Rattle.outside.specs.Image.{Image}
-use Rattle.outside.specs.Disk.{NoneNew, OthersRead, LeavesOnly}
+use Rattle.outside.specs.Disk.{NoneNew, OthersRead, LeavesOnly, TellsAsBefore}
 use Rattle.outside.proofs.Moments.{started}
 use Rattle.verdict_defs.specs.declared.verdict.Verdict.{Verdict}
 use Rattle.verdict_defs.specs.Verdict.{joins}
 use Rattle.log_defs.specs.Log.{Record, log_of, records_of}
 use Rattle.log_defs.specs.Rest.{IsAtRest, IsSettled, IsAppended, HasAppended, HasLog}
-use Rattle.store_defs.specs.Store.{TellsAsBefore}
 use Rattle.log_file.specs.Pieces.{block_record}
 use Rattle.node_core.specs.Node.{IsLeftByOpening, IsLeftByImport, AreRecordsBehind, IsSettledAfter}
 

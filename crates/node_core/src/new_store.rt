@@ -1,11 +1,10 @@
 // A new store.
 ghost use Rattle.std.specs.Prelude.{◌≡◌, ◌<◌, ◌^◌, ℕ, Err, None, Some, length, IsSome, IfOk, OnOk};
 ghost use Rattle.outside.specs.Causes.{CountsFault};
-ghost use Rattle.outside.specs.Disk.{LeavesOnly};
+ghost use Rattle.outside.specs.Disk.{LeavesOnly, TellsAsBefore};
 ghost use Rattle.outside.specs.declared.disk.WriteStop.TheVariants.{DiskFault};
 ghost use Rattle.time_defs.specs.Specification.{broken_specification_rule};
 ghost use Rattle.genesis_defs.specs.Genesis.{broken_genesis_rule};
-ghost use Rattle.store_defs.specs.Store.{TellsAsBefore};
 ghost use Rattle.node_core.specs.Node.{IsHashOf, IsNew, KeepsLog, HasOldLogOrNoSnapshots};
 
 use crate::area::clear;

@@ -7,7 +7,8 @@ use Rattle.outside.specs.Streams.{Gives}
 use Rattle.outside.proofs.Streams.{gives_more}
 use Rattle.verdict_defs.specs.Verdict.{joins}
 use Rattle.verdict_defs.specs.Chain.{Chain, verdict_over, chain_after, chain_over}
-use Rattle.store_defs.specs.Store.{Keeps, store_of, StandsFor, IsSound, TellsAsBefore}
+use Rattle.outside.specs.Disk.{TellsAsBefore}
+use Rattle.store_defs.specs.Store.{Keeps, store_of, StandsFor, IsSound}
 use Rattle.report_defs.specs.Items.{Split, split_of}
 use Rattle.report_defs.specs.Report.{item_limit, input_limit, import_limits}
 use Rattle.report_defs.specs.Survival.{NoneJoins}

@@ -2,9 +2,9 @@
 use Rattle.std.proofs.Common.{◌≡◌, ℕ, ap, ◌∙◌}
 use Rattle.std.specs.Prelude.{Option, Some, is_some, IsSome, IfSome}
 use Rattle.outside.specs.Image.{Image}
-use Rattle.outside.specs.Disk.{IsAsBefore, IsOnlyRead}
+use Rattle.outside.specs.Disk.{IsAsBefore, IsOnlyRead, TellsAsBefore}
 use Rattle.outside.proofs.Moments.{leaves_also, leaves_then}
-use Rattle.store_defs.specs.Store.{Store, Keeps, store_of, IsSound, TellsAsBefore}
+use Rattle.store_defs.specs.Store.{Store, Keeps, store_of, IsSound}
 use Rattle.report_defs.specs.Promise.{IsSoundStoreOf}
 use Rattle.node_core.specs.Node.{NodeValue, IsSoundNode, IsSoundOn, IsOn}
 use Rattle.node_run.proofs.StoreLemmas.{opened_store}

@@ -2,12 +2,12 @@
 use Rattle.std.proofs.Common.{◌≡◌, ◌⊎◌, ℕ, ◌≤◌, List, [], ◌∷◌, length, map, get_or, Vec, Global, refl, ap, sym, ◌∙◌, subst, arith}
 use Rattle.std.specs.Prelude.{Option, Some, IfSome}
 use Rattle.outside.specs.Image.{Image}
-use Rattle.outside.specs.Disk.{LeavesOnly, IsAsBefore}
+use Rattle.outside.specs.Disk.{LeavesOnly, IsAsBefore, TellsAsBefore}
 use Rattle.codec_defs.specs.Shape.{decoded}
 use Rattle.codec_defs.specs.Schema.{Transaction, transaction}
 use Rattle.verdict_defs.specs.Chain.{Chain}
 use Rattle.verdict_defs.specs.Trial.{trial, trial_of}
-use Rattle.store_defs.specs.Store.{Keeps, store_of, StandsFor, IsSound, TellsAsBefore}
+use Rattle.store_defs.specs.Store.{Keeps, store_of, StandsFor, IsSound}
 use Rattle.report_defs.specs.declared.command.Command.TheVariants as commands
 use Rattle.report_defs.specs.declared.command.Question.{Question}
 use Rattle.report_defs.specs.declared.command.Question.TheVariants.{Check}

@@ -2,7 +2,7 @@
 use Rattle.std.proofs.Common.{ℕ, Option, Some, None, ap}
 use Rattle.std.specs.Prelude.{is_some}
 use Rattle.outside.specs.Image.{Image}
-use Rattle.store_defs.specs.Store.{TellsAsBefore}
+use Rattle.outside.specs.Disk.{TellsAsBefore}
 use Rattle.node_core.specs.Snapshot.{OthersReadBut}
 
 -- it tells as before, whatever LOG and the area of the snapshot that was due read as

@@ -1,13 +1,13 @@
 // The command `import`: blocks, each answered by a line.
 ghost use Rattle.std.specs.Prelude.{List, ◌≡◌, ◌≢◌, ◌⊎◌, ◌+◌, [], ◌∷◌, ◌<◌, ◌≤◌, ◌^◌, false, Err, Some, length, slice_index, string_bytes, IfOk, if◌then◌else◌};
 ghost use Rattle.outside.specs.Causes.{CountsFault};
-ghost use Rattle.outside.specs.Disk.{LeavesOnly, IsOnlyRead};
+ghost use Rattle.outside.specs.Disk.{LeavesOnly, IsOnlyRead, TellsAsBefore};
 ghost use Rattle.outside.specs.Image.{Image};
 ghost use Rattle.log_defs.specs.Log.{Record, end_of_log};
 ghost use Rattle.log_defs.specs.Rest.{IsSettled};
 ghost use Rattle.verdict_defs.specs.Verdict.{joins};
 ghost use Rattle.verdict_defs.specs.Chain.{Chain, verdict_over, chain_after};
-ghost use Rattle.store_defs.specs.Store.{Keeps, store_of, StandsFor, TellsAsBefore};
+ghost use Rattle.store_defs.specs.Store.{Keeps, store_of, StandsFor};
 ghost use Rattle.report_defs.specs.Items.{split_of};
 ghost use Rattle.report_defs.specs.Report as reports;
 ghost use Rattle.report_defs.specs.Status.{IsOneOf};

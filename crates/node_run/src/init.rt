@@ -1,9 +1,9 @@
 // The command `init`: a new store of a specification and a genesis.
 ghost use Rattle.std.specs.Prelude.{◌≡◌, ◌∷◌, ◌<◌, ◌^◌, ◌++◌, [], Err, Some, length, string_bytes, IfOk, IsSome};
 ghost use Rattle.outside.specs.Causes.{CountsFault};
-ghost use Rattle.outside.specs.Disk.{IsAsBefore};
+ghost use Rattle.outside.specs.Disk.{IsAsBefore, TellsAsBefore};
 ghost use Rattle.outside.specs.Image.{Image};
-ghost use Rattle.store_defs.specs.Store.{NoLog, store_of, TellsAsBefore};
+ghost use Rattle.store_defs.specs.Store.{NoLog, store_of};
 ghost use Rattle.report_defs.specs.Report as reports;
 ghost use Rattle.report_defs.specs.Status.{IsOneOf};
 ghost use Rattle.report_defs.specs.Promise.{init_statuses};

@@ -1,13 +1,13 @@
 // The store that a command works on.
 ghost use Rattle.std.specs.Prelude.{◌≡◌, ◌⊎◌, ◌↔◌, ◌+◌, ◌≤◌, ◌∷◌, [], Err, Some, drop, IfOk, IfSome};
 ghost use Rattle.outside.specs.Causes.{CountsFault};
-ghost use Rattle.outside.specs.Disk.{LeavesOnly};
+ghost use Rattle.outside.specs.Disk.{LeavesOnly, TellsAsBefore};
 ghost use Rattle.outside.specs.declared.disk.Damage.{Damage};
 ghost use Rattle.outside.specs.Image.{Image};
 ghost use Rattle.verdict_defs.specs.Chain.{Chain};
 ghost use Rattle.log_defs.specs.Log.{records_of};
 ghost use Rattle.log_defs.specs.Rest.{IsSettled};
-ghost use Rattle.store_defs.specs.Store.{Keeps, store_of, StandsFor, IsSound, TellsAsBefore};
+ghost use Rattle.store_defs.specs.Store.{Keeps, store_of, StandsFor, IsSound};
 ghost use Rattle.report_defs.specs.Status.{IsOneOf};
 ghost use Rattle.node_core.specs.Node.{IsItsOwn, IsSoundNode, IsOn};
 ghost use Rattle.node_core.specs.Opening.{LeavesStore};

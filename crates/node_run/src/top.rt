@@ -1,10 +1,10 @@
 // The one call.
 ghost use Rattle.std.specs.Prelude.{◌≡◌, ◌≢◌, ◌↔◌, ◌+◌, ◌≤◌, None, Some, map, slice_index, string_bytes};
 ghost use Rattle.outside.specs.Causes.{CountsFault};
-ghost use Rattle.outside.specs.Disk.{IsAsBefore, IsOnlyRead};
+ghost use Rattle.outside.specs.Disk.{IsAsBefore, IsOnlyRead, TellsAsBefore};
 ghost use Rattle.outside.specs.Image.{Image};
 ghost use Rattle.log_defs.specs.Log.{end_of_log};
-ghost use Rattle.store_defs.specs.Store.{NoLog, Keeps, store_of, StandsFor, TellsAsBefore};
+ghost use Rattle.store_defs.specs.Store.{NoLog, Keeps, store_of, StandsFor};
 ghost use Rattle.verdict_defs.specs.Chain.{Chain};
 ghost use Rattle.report_defs.specs.Items.{split_of};
 ghost use Rattle.report_defs.specs.Report.{import_limits};

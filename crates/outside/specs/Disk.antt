@@ -1,5 +1,5 @@
 -- What the calls of a disk do to what it reads as, and to the images that a crash may leave (docs/DECISIONS.md, "The outside").
-use Rattle.std.specs.Prelude.{◌≡◌, ◌⊎◌, ◌↔◌, ℕ, ◌+◌, ◌^◌, ◌≤◌, min, max, List, ◌++◌, length, take, drop, IfSome}
+use Rattle.std.specs.Prelude.{◌≡◌, ◌⊎◌, ◌↔◌, ℕ, ◌+◌, ◌^◌, ◌≤◌, min, max, List, ◌++◌, length, take, drop, is_some, IfSome}
 use Rattle.std.specs.Option.{option_map}
 use Rattle.std.specs.declared.option.Option.{Option}
 use Rattle.outside.specs.declared.disk.Area.{Area}
@@ -69,6 +69,10 @@ AreaKept area old new = content area new ≡ content area old
 -- whether the disk tells what it reads as is the same, and no other area reads otherwise
 abbrev pub OthersRead : Area → Option Image → Option Image → Type 0
 OthersRead area old new = (bytes : List ℕ) × (new ≡ option_map (with_content area bytes) old)
+
+-- a disk tells what it reads as exactly where it told before
+abbrev pub TellsAsBefore : Option Image → Option Image → Type 0
+TellsAsBefore old new = is_some new ≡ is_some old
 
 -- A call moves the clock on: a crash since a moment might have left what it might have left before the call, or what it may leave now.
 pub record Elapses (before now : ℕ) (past since : ℕ → Image → Type 0) (images : Image → Type 0) : Type 0 where

@@ -4,7 +4,8 @@ use Rattle.std.proofs.lemmas.List.{drop_more, take_more, take_more_set, drop-set
 use Rattle.std.specs.Prelude.{Option, Some, None, IsSome, is_some}
 use Rattle.outside.specs.Image.{Image}
 use Rattle.verdict_defs.specs.Chain.{Chain, chain_of_genesis}
-use Rattle.store_defs.specs.Store.{StandsFor, TellsAsBefore}
+use Rattle.outside.specs.Disk.{TellsAsBefore}
+use Rattle.store_defs.specs.Store.{StandsFor}
 use Rattle.report_defs.specs.declared.command.Command.{Command}
 use Rattle.report_defs.specs.declared.command.Command.TheVariants.{Init}
 use Rattle.report_defs.specs.declared.status.Status.{Status}

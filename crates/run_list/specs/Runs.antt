@@ -3,7 +3,7 @@ use Rattle.std.specs.Prelude.{◌≡◌, ℕ, List, [], ◌∷◌, Option, Some,
 use Rattle.outside.specs.Image.{Image}
 use Rattle.outside.specs.Causes.{CountsFault}
 use Rattle.outside.specs.Streams.{Gives, Takes}
-use Rattle.store_defs.specs.Store.{TellsAsBefore}
+use Rattle.outside.specs.Disk.{TellsAsBefore}
 use Rattle.report_defs.specs.declared.status.Status.{Status}
 use Rattle.report_defs.specs.declared.status.Status.TheVariants.{InputFault, SinkFault, DiskFault}
 use Rattle.report_defs.specs.Status.{IsOneOf}

@@ -1,6 +1,6 @@
 // A list of runs.
 ghost use Rattle.std.specs.Prelude.{◌≡◌, List};
-ghost use Rattle.store_defs.specs.Store.{TellsAsBefore};
+ghost use Rattle.outside.specs.Disk.{TellsAsBefore};
 ghost use Rattle.report_defs.specs.Survival.{Run};
 ghost use Rattle.report_defs.specs.Lists.{ArePromised};
 ghost use Rattle.run_list.specs.Runs.{IsRunOf, AreRunsOf};

@@ -1,5 +1,5 @@
 -- What an image of the disk keeps, and when it is sound (docs/STORE.md).
-use Rattle.std.specs.Prelude.{◌≡◌, ℕ, ◌+◌, ◌<◌, ◌==◌, List, [], slice_get, length, take, Option, Some, None, is_some, if◌then◌else◌}
+use Rattle.std.specs.Prelude.{◌≡◌, ℕ, ◌+◌, ◌<◌, ◌==◌, List, [], slice_get, length, take, Option, Some, None, if◌then◌else◌}
 use Rattle.outside.specs.declared.disk.Area.TheVariants.{SnapA, SnapB}
 use Rattle.outside.specs.Image.{Image}
 use Rattle.codec_defs.specs.Shape.{decoded}
@@ -100,10 +100,6 @@ pub record StandsFor (chain : Chain) (image : Image) : Type 0 where
   pub joined : EachHasJoined log
   pub snap_a : IsSoundArea chain.blocks SnapA image.snap_a
   pub snap_b : IsSoundArea chain.blocks SnapB image.snap_b
-
--- a disk tells what it reads as exactly where it told before
-abbrev pub TellsAsBefore : Option Image → Option Image → Type 0
-TellsAsBefore old new = is_some new ≡ is_some old
 
 -- no snapshot is there: both areas are empty
 abbrev pub HasNoSnapshots : Image → Type 0

@@ -1,10 +1,9 @@
 use Rattle.std.proofs.Common.{◌≡◌, ◌-◌, List}
-use Rattle.outside.specs.Disk.{LeavesOnly}
+use Rattle.outside.specs.Disk.{LeavesOnly, TellsAsBefore}
 use Rattle.log_defs.specs.Log.{Record}
 use Rattle.log_defs.specs.Rest.{IsSettled}
 use Rattle.report_defs.specs.Report.{input_limit}
 use Rattle.report_defs.specs.Survival.{NoneJoins}
-use Rattle.store_defs.specs.Store.{TellsAsBefore}
 use Rattle.node_core.specs.Node.{IsItsOwn, IsSoundOn, IsOn}
 use Rattle.node_run.proofs.ImportLemmas.{Whole}
 use Rattle.node_run.proofs.RecordLemmas.{HasGrown}
