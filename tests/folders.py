@@ -17,6 +17,8 @@ from encoding import as_bytes, fields_of, fixvec, uint
 from script_scene import Cell
 
 KILLS, MOST_LINES = 200, 10
+# as many joined blocks as a snapshot is taken of, and the kills while one is written
+SNAPSHOT, SNAPSHOT_KILLS = 1000, 40
 NOBODY = 65534
 
 
@@ -329,14 +331,15 @@ class Killed:
         # the block that was under way when an earlier run was killed may be kept
         return (self.chain.lines[at - 1],) + ((self.chain.known(at),) if at == self.count + 1 else ())
 
-    def import_and_kill(self):
-        """Starts some blocks back, and is killed after some lines and some moments."""
+    def import_and_kill(self, count=None):
+        """Starts some blocks back, and is killed after so many lines, or some, and some moments."""
         begin = max(0, self.count - 3)
+        count = self.dice.randrange(MOST_LINES) if count is None else count
         with file_with(b''.join(self.chain.blocks[begin:])) as given:
             process = subprocess.Popen([self.program, self.folder, 'import'], stdin=given, stdout=subprocess.PIPE,
                                        bufsize=0)
             try:
-                out = b''.join(line_of(process) for _ in range(self.dice.randrange(MOST_LINES)))
+                out = b''.join(line_of(process) for _ in range(count))
                 time.sleep(self.dice.uniform(0, 0.004))
             finally:
                 process.kill()
@@ -388,3 +391,21 @@ def check_killed_imports(program):
                     store.must_have_tip()
             must(store.count > 0, 'no block was kept')
             store.must_go_on()
+
+
+def check_imports_killed_at_a_snapshot(program):
+    """The same where the program is killed while it takes a snapshot: what it left of one is no matter."""
+    chain = chain_of(SNAPSHOT + 10)
+    kept = SNAPSHOT - 2
+    with chain.store(program) as grown, new_folder() as top:
+        must_answer(Ran([program, grown, 'import'], b''.join(chain.blocks[:kept])), 0, b''.join(chain.lines[:kept]), 'the first blocks')
+        for number in range(SNAPSHOT_KILLS):
+            folder = os.path.join(top, str(number))
+            shutil.copytree(grown, folder)
+            store = Killed(program, folder, chain)
+            store.count = kept
+            # three blocks that are known, and the last one before the snapshot
+            store.import_and_kill(4)
+            store.must_have_tip()
+            store.must_go_on()
+            shutil.rmtree(folder)

@@ -142,7 +142,7 @@ def main():
     starts(NAME + ', in one run')
     imports(chain.items)
     asks(chain.best[-1])
-    emit('faults', INIT_CALLS, LEAST_CALLS)
+    emit('faults', 'disk', INIT_CALLS, LEAST_CALLS)
     begins()
     # the last run is opened on one branch, and reads the blocks of the other from the disk where it judges on them
     for first, end in ((0, 7), (7, 12), (12, None)):

@@ -1,4 +1,4 @@
-// A list of runs that is made again and again, each time over a disk of which another call fails.
+// A list of runs that is made again and again, each time with another call of a disk, a source or a sink that fails.
 
 use crate::row::Call;
 use crate::streams::Behaviour;
@@ -9,11 +9,56 @@ use std::alloc::{AllocError, Global};
 use std::str;
 use std::sync::ledger::Ledger;
 
-/// The most calls of a disk that such a list may make.
+/// The most calls that such a list may make.
 const MOST_CALLS: u64 = 10_000;
 
-/// The number of the status of a run whose disk failed.
-const DISK_FAULT: u8 = 5;
+/// Whose calls fail: those of the disk, or those of each run's source or sink but the first run's, which makes the store.
+#[derive(Clone, Copy, PartialEq, Eq)]
+pub enum Failing {
+    Source,
+    Sink,
+    Disk,
+}
+
+impl Failing {
+    pub fn of(name: &str) -> Option<Failing> {
+        match name {
+            "source" => Some(Failing::Source),
+            "sink" => Some(Failing::Sink),
+            "disk" => Some(Failing::Disk),
+            _ => None,
+        }
+    }
+
+    /// The number of the status of a run in which such a call failed.
+    fn status(self) -> u8 {
+        match self {
+            Failing::Source => 3,
+            Failing::Sink => 4,
+            Failing::Disk => 5,
+        }
+    }
+
+    /// A disk of which the call of this number fails, where it is the disk's that fail.
+    fn disk(self, alloc: Global, call: u64) -> Result<MemDisk, AllocError> {
+        let mut calls = Vec::new(alloc);
+        if self == Failing::Disk {
+            calls.push(call)?;
+        }
+        Ok(MemDisk::new(alloc, calls))
+    }
+
+    /// Streams of which the call of this number fails, where it is theirs that fail.
+    fn streams(self, alloc: Global, call: u64) -> Result<Behaviour, AllocError> {
+        let mut behaviour = Behaviour::plain(alloc);
+        match self {
+            Failing::Source => behaviour.reads.push(call)?,
+            Failing::Sink => behaviour.writes.push(call)?,
+            Failing::Disk => {}
+        }
+        Ok(behaviour)
+    }
+}
 
 /// An input, and the run over it.
 #[derive(Drop)]
@@ -29,10 +74,11 @@ struct Answer {
     text: Vec<u8>,
 }
 
-/// Runs that are to be made over each disk: the calls from `first` on fail in turn, and in `least` disks at least one does.
+/// Runs that are to be made with each call that fails: those from `first` on fail in turn, and `least` of them are made at least.
 #[derive(Drop)]
 pub struct FaultyRuns {
     runs: Vec<Made>,
+    failing: Failing,
     first: u64,
     least: u64,
 }
@@ -63,8 +109,8 @@ fn answer_of<L: Ledger>(
     disk: &mut MemDisk,
     steps: &mut Steps<L>,
     made: &Made,
+    behaviour: &Behaviour,
 ) -> Result<Answer, AllocError> {
-    let behaviour = Behaviour::plain(alloc);
     let mut input = behaviour.source_of(&made.input, alloc)?;
     let mut out = behaviour.sink(alloc)?;
     let status = status_of(alloc, &made.wanted.words, &mut input, &mut out, disk, steps);
@@ -72,34 +118,35 @@ fn answer_of<L: Ledger>(
     Ok(Answer { status, text })
 }
 
-/// Whether a run answers as it must. Where the disk failed in it, it has the status of that and a beginning of its text, and once
+/// Whether a run answers as it must. Where a call failed in it, it has the status of that and a beginning of its text, and once
 /// more over the same disk it has all of it. Then `failed` is set.
 fn agrees_once<L: Ledger>(
     alloc: Global,
     disk: &mut MemDisk,
     steps: &mut Steps<L>,
     made: &Made,
+    behaviour: &Behaviour,
+    status: u8,
     failed: &mut bool,
 ) -> Result<bool, AllocError> {
-    let found = answer_of(alloc, disk, steps, made)?;
+    let found = answer_of(alloc, disk, steps, made, behaviour)?;
     if found.status == made.wanted.status {
         return Ok(found.text.as_slice() == made.wanted.text.as_slice());
     }
-    if *failed
-        || found.status != DISK_FAULT
-        || !made.wanted.text.starts_with(found.text.as_slice())
-    {
+    if *failed || found.status != status || !made.wanted.text.starts_with(found.text.as_slice()) {
         return Ok(false);
     }
     *failed = true;
-    let again = answer_of(alloc, disk, steps, made)?;
+    let plain = Behaviour::plain(alloc);
+    let again = answer_of(alloc, disk, steps, made, &plain)?;
     Ok(again.status == made.wanted.status && are_lines(&again.text, &made.wanted.text))
 }
 
 impl FaultyRuns {
-    pub fn new(alloc: Global, first: u64, least: u64) -> FaultyRuns {
+    pub fn new(alloc: Global, failing: Failing, first: u64, least: u64) -> FaultyRuns {
         FaultyRuns {
             runs: Vec::new(alloc),
+            failing,
             first,
             least,
         }
@@ -112,26 +159,28 @@ impl FaultyRuns {
         Ok(())
     }
 
-    /// The runs over a disk of which one call fails: None where one does not agree, and else whether that call was made.
+    /// The runs where one call fails: None where one does not agree, and else whether that call was made.
     fn pass<L: Ledger>(
         &self,
         alloc: Global,
         steps: &mut Steps<L>,
-        failing: u64,
+        call: u64,
     ) -> Result<Option<bool>, AllocError> {
-        let mut calls = Vec::new(alloc);
-        calls.push(failing)?;
-        let mut disk = MemDisk::new(alloc, calls);
+        let mut disk = self.failing.disk(alloc, call)?;
+        let faulty = self.failing.streams(alloc, call)?;
+        let plain = Behaviour::plain(alloc);
         let mut failed = false;
-        for made in &self.runs {
-            if !agrees_once(alloc, &mut disk, steps, made, &mut failed)? {
+        for (at, made) in self.runs.iter().enumerate() {
+            let behaviour = if at == 0 || failed { &plain } else { &faulty };
+            let status = self.failing.status();
+            if !agrees_once(alloc, &mut disk, steps, made, behaviour, status, &mut failed)? {
                 return Ok(None);
             }
         }
         Ok(Some(failed))
     }
 
-    /// Whether all agree over each disk, up to the first of which no call fails.
+    /// Whether all agree with each call that fails, up to the first that is not made.
     pub fn agrees<L: Ledger>(
         &self,
         alloc: Global,

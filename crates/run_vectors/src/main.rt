@@ -8,9 +8,10 @@
 //! place of LOG, SNAP_A or SNAP_B. A row `streams` has how many bytes a call of the next run's streams moves at most, and which
 //! reads and which writes fail; `left` has how many bytes of its input the last run left. After a row `list`, with numbers as
 //! `failing` has, the rows of runs up to a row `end` are one list, which is run there in one call; they say nothing of LOG. After
-//! `faults`, with a number of a call and a least count, the list is run over one new disk after the other, of which that call, the
-//! next one and so on fails: the run in which it does has status 5 and a beginning of its text, and answers as it must once more;
-//! at least so many calls fail before a disk has no such call.
+//! `faults`, with `disk`, `source` or `sink`, a number of a call and a least count, the list is run over one new disk after the
+//! other, and that call of it, or of each run's source or sink but the first run's, the next one and so on fails: the run in
+//! which it does has the status of that and a beginning of its text, and answers as it must once more; at least so many calls
+//! fail before there is no such call.
 //!
 //! What is wanted was made by programs that were written from the rules of docs/ alone, or by hand from the same rules;
 //! tests/README.md says which rows scripts of tests/rows/ make. Four more rows, of two files of 1 MiB that were made to be slow

@@ -1,6 +1,6 @@
 // What the rows act on, and what a run over it answers.
 
-use crate::faulty::FaultyRuns;
+use crate::faulty::{Failing, FaultyRuns};
 use crate::folder::{FILE_LIMIT, is_log, put};
 use crate::list::RunList;
 use crate::row::{Call, area_of, behaviour_of, bytes_of, call_of};
@@ -111,11 +111,12 @@ impl Trial {
         self.begin_folder(alloc, failing)
     }
 
-    /// A list of runs that is made over disks of which one call fails, from a number on; at least so many do.
+    /// A list of runs that is made again for each call that fails, from a number on; at least so many do.
     fn begin_faults(&mut self, alloc: Global, row: &mut Row) -> Option<bool> {
+        let failing = Failing::of(row.word())?;
         let first = row.number()?;
         let least = row.number()?;
-        self.faulty = Some(FaultyRuns::new(alloc, first, least));
+        self.faulty = Some(FaultyRuns::new(alloc, failing, first, least));
         Some(true)
     }
 

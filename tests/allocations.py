@@ -1,0 +1,134 @@
+"""Runs of the program in which one allocation is refused, each in its turn."""
+
+import contextlib
+import os
+import shutil
+import subprocess
+import sys
+
+from harness import FIRST_INIT, FIRST_LINE, Ran, first, must, must_answer, must_be, must_have_tip, new_folder, new_store
+sys.path.insert(0, os.path.join(os.path.dirname(os.path.abspath(__file__)), 'rows'))
+import branch_runs  # noqa: E402 (beside the path above)
+import stream_faults  # noqa: E402
+
+# Stands before the C library's allocations. It refuses the one whose number REFUSED gives, and at the end writes to the
+# file COUNT how many were asked for.
+SHIM = r'''
+#include <stddef.h>
+#include <stdio.h>
+#include <stdlib.h>
+extern void *__libc_malloc(size_t), *__libc_calloc(size_t, size_t), *__libc_realloc(void *, size_t), *__libc_memalign(size_t, size_t);
+static long asked, refused = -1;
+static int refuses(void) { return __atomic_fetch_add(&asked, 1, __ATOMIC_RELAXED) == refused; }
+__attribute__((constructor)) static void begin(void) {
+    const char *number = getenv("REFUSED");
+    refused = number ? atol(number) : -1;
+    asked = 0;
+}
+__attribute__((destructor)) static void end(void) {
+    long all = asked;
+    const char *name = getenv("COUNT");
+    FILE *file = name ? fopen(name, "w") : NULL;
+    if (file) { fprintf(file, "%ld", all); fclose(file); }
+}
+void *malloc(size_t n) { return refuses() ? NULL : __libc_malloc(n); }
+void *calloc(size_t n, size_t m) { return refuses() ? NULL : __libc_calloc(n, m); }
+void *realloc(void *p, size_t n) { return refuses() ? NULL : __libc_realloc(p, n); }
+void *aligned_alloc(size_t to, size_t n) { return refuses() ? NULL : __libc_memalign(to, n); }
+int posix_memalign(void **p, size_t to, size_t n) { return refuses() || !(*p = __libc_memalign(to, n)) ? 12 : 0; }
+'''
+NO_MEMORY = 6
+
+
+@contextlib.contextmanager
+def shim():
+    """The path of the library, or none where no C compiler is there."""
+    with new_folder() as folder:
+        source, library = os.path.join(folder, 'shim.c'), os.path.join(folder, 'shim.so')
+        with open(source, 'w', encoding='utf-8') as f:
+            f.write(SHIM)
+        compiler = shutil.which('cc')
+        made = compiler and subprocess.run([compiler, '-shared', '-fPIC', '-fno-builtin', '-O1', '-o', library, source],
+                                           capture_output=True).returncode == 0
+        yield library if made else None
+
+
+class Runs:
+    """Runs of the program over a folder, each of which is made again with another allocation refused."""
+
+    def __init__(self, program, library):
+        self.program, self.library = program, library
+
+    def run(self, folder, words, given, number, count):
+        environment = dict(os.environ, LD_PRELOAD=self.library, REFUSED=str(number), COUNT=count)
+        return Ran([self.program, folder] + words, given, env=environment)
+
+    def must_bear(self, store, words, given, status, text, again, what):
+        """`again` is the text of the same run once more, by whether this one answered the first of its lines and so on."""
+        with new_folder() as top:
+            count, folder, refused = os.path.join(top, 'count'), os.path.join(top, 'store'), 0
+
+            def begins():
+                shutil.rmtree(folder, ignore_errors=True)
+                shutil.copytree(store, folder) if store else os.mkdir(folder)
+
+            begins()
+            must_answer(self.run(folder, words, given, -1, count), status, text, what)
+            with open(count, encoding='utf-8') as f:
+                asked = int(f.read())
+            for number in range(asked):
+                begins()
+                ran = self.run(folder, words, given, number, count)
+                name = '%s, without allocation %d of %d' % (what, number, asked)
+                if ran.status == status:
+                    must_be(ran.out, text, name)
+                else:
+                    refused += 1
+                    must_be(ran.status, NO_MEMORY, name + ': status')
+                    must(text.startswith(ran.out), name + ': it wrote %r' % ran.out)
+                if store or not words == ['init']:
+                    after = Ran([self.program, folder] + words, given)
+                    must_be(after.status, status, name + ', and once more')
+                    must(after.out in again(ran.out), name + ', and once more: it wrote %r' % after.out)
+            must(refused, what + ': no allocation was missed')
+
+
+def check_each_allocation_refused(program):
+    """A run that misses memory says so, and what it answered stays."""
+    with shim() as library:
+        if not library or Ran([program], env=dict(os.environ, LD_PRELOAD=library)).err:
+            print('edge: no library can be put before the program here: no allocation is refused')
+            return
+        runs = Runs(program, library)
+        runs.must_bear(None, ['init'], FIRST_INIT, 0, FIRST_LINE, None, 'init')
+        with new_store(program) as store:
+            tip = (first.tip(first.GENESIS) + '\n').encode()
+            runs.must_bear(store, ['tip'], b'', 0, tip, lambda _: [tip], 'tip of a genesis')
+            runs.must_bear(store, ['import'], b'', 0, b'', lambda _: [b''], 'import of nothing')
+            block = first.child(first.SPEC, first.GENESIS)
+            runs.must_bear(store, ['import'], block.item() * 2, 0, lines_of([first.joined(block), first.known(block)]),
+                           lambda _: [lines_of([it, first.known(block)]) for it in (first.joined(block), first.known(block))],
+                           'import of a block, twice')
+        chain = stream_faults.four_blocks()
+        line = (first.genesis_line(chain.genesis) + '\n').encode()
+        with new_store(program, chain.spec.item() + chain.genesis.item(), line) as store:
+            items, lines = zip(*chain.items)
+            known = ['known ' + it.split()[2] for it in lines]
+
+            def once_more(answered):
+                count = answered.count(b'\n')
+                # the block whose line did not come may be kept or not
+                return [lines_of(known[:kept] + list(lines[kept:])) for kept in (count, count + 1)]
+
+            runs.must_bear(store, ['import'], b''.join(items), 0, lines_of(lines), once_more, 'import of two branches')
+            must_answer(Ran([program, store, 'import'], b''.join(items)), 0, lines_of(lines), 'import of two branches')
+            tip = (first.tip(chain.best[-1]) + '\n').encode()
+            runs.must_bear(store, ['tip'], b'', 0, tip, lambda _: [tip], 'tip of two branches')
+            must_have_tip(program, store, tip, 'two branches')
+            for output in branch_runs.ASKED:
+                text = (branch_runs.line_of(branch_runs.live_cells(chain.best[-1]), output) + '\n').encode()
+                runs.must_bear(store, ['cell', '0x' + output[0].hash.hex(), str(output[1])], b'', 0, text, lambda _, text=text: [text], 'cell')
+
+
+def lines_of(lines):
+    return ''.join(it + '\n' for it in lines).encode()
