@@ -7,9 +7,11 @@ use Rattle.chain_tree.specs.Told.{Stored}
 use Rattle.chain_tree.specs.declared.entry.Entry.{Entry}
 use Rattle.block_store.specs.Stored.{stored_at}
 
--- What clauses see of a cache: the blocks that it holds, the last used first, and how often damage was found as a block was read for it.
+-- What clauses see of a cache: the blocks that it holds, the last used first; how many it holds at most; and how often damage was found as a block
+-- was read for it.
 pub record CacheValue : Type 0 where
   pub held : List (ℕ × Stored)
+  pub most : ℕ
   pub damages : ℕ
 
 -- the one that is found for an entry

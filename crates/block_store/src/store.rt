@@ -92,6 +92,7 @@ impl<'d, D: Disk> Blocks for Store<'d, D> {
             → IsSomeAnd (entry_at self.old.tree.now.entries e) (λ entry. damage ≡ record { area = log_area; at = entry.at }) }
         ensures missing { IfSome (D.reads_as self.old.disk.now) (λ image. (damage : Damage) → result ≡ Err (Damaged damage)
             → stored_at image self.old.tree.now.entries e ≡ None) }
+        ensures most { self.new.cache.now.most ≡ self.old.cache.now.most }
         ensures found { IsSome (held_at self.old.cache.now.held e) → IsOk result }
         ensures uncalled { IsSome (held_at self.old.cache.now.held e) → self.new.disk.now ≡ self.old.disk.now }
     {
