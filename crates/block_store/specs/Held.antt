@@ -14,6 +14,15 @@ pub record CacheValue : Type 0 where
   pub most : ℕ
   pub damages : ℕ
 
+-- What a store of kept blocks has on loan, by the names of the loans, and what stays of it while blocks are read: the content of its disk, the
+-- entries of its tree, and how many blocks its cache holds at most.
+pub record Lent (C : Type 0) : Type 0 where
+  pub disk : ℕ
+  pub cache : ℕ
+  pub content : C
+  pub entries : List Entry
+  pub most : ℕ
+
 -- the one that is found for an entry
 abbrev pub held_at : List (ℕ × Stored) → ℕ → Option Stored
 held_at held e = lookup (nat_eq e) held

@@ -1,5 +1,5 @@
 // Bodies in memory, those that were used last.
-ghost use Rattle.std.specs.Prelude.{◌≡◌, ◌≤◌, ◌<◌, List, [], Option, Some, is_some, nat_eq, IfOk, IfSome, OnOk, OnErr, IsSome, IsTrue};
+ghost use Rattle.std.specs.Prelude.{◌≡◌, ◌≤◌, ◌<◌, List, [], length, Option, Some, is_some, nat_eq, IfOk, IfSome, OnOk, OnErr, IsSome, IsTrue};
 ghost use Rattle.lru.specs.LruCache.{lru_cache, promoted, put_entries};
 ghost use Rattle.cell_defs.specs.Ext.{is_ext};
 ghost use Rattle.outside.specs.Causes.{Rose};
@@ -103,8 +103,16 @@ impl Cache {
         Ok(())
     }
 
+    /// How many bodies are held: no more than it was made for.
+    pub fn count(&self) -> usize
+        ensures count { result ≡ length self.now.held }
+        ensures most { length self.now.held ≤ self.now.most }
+    {
+        self.bodies.len()
+    }
+
     /// Counts a stop of a reading where it is damage.
-    pub(crate) fn count(&mut self, stop: ReadStop)
+    pub(crate) fn note(&mut self, stop: ReadStop)
         ensures held { self.new.held ≡ self.old.held }
         ensures most { self.new.most ≡ self.old.most }
         ensures rose { (damage : Damage) → stop ≡ Damaged damage → Rose self.old.damages self.new.damages }
