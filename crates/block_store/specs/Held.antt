@@ -7,10 +7,21 @@ use Rattle.chain_tree.specs.Told.{Stored}
 use Rattle.chain_tree.specs.declared.entry.Entry.{Entry}
 use Rattle.block_store.specs.Stored.{stored_at}
 
--- What clauses see of a cache: the blocks that it holds, the last used first, and how often damage was found as a block was read for it.
+-- What clauses see of a cache: the blocks that it holds, the last used first; how many it holds at most; and how often damage was found as a block
+-- was read for it.
 pub record CacheValue : Type 0 where
   pub held : List (ℕ × Stored)
+  pub most : ℕ
   pub damages : ℕ
+
+-- What a store of kept blocks has on loan, by the names of the loans, and what stays of it while blocks are read: the content of its disk, the
+-- entries of its tree, and how many blocks its cache holds at most.
+pub record Lent (C : Type 0) : Type 0 where
+  pub disk : ℕ
+  pub cache : ℕ
+  pub content : C
+  pub entries : List Entry
+  pub most : ℕ
 
 -- the one that is found for an entry
 abbrev pub held_at : List (ℕ × Stored) → ℕ → Option Stored

@@ -1,5 +1,6 @@
 // Bodies in memory, those that were used last.
-ghost use Rattle.std.specs.Prelude.{◌≡◌, ◌≤◌, ◌<◌, List, [], Option, Some, is_some, IfOk, IfSome, OnOk, OnErr, IsSome, IsTrue};
+ghost use Rattle.std.specs.Prelude.{◌≡◌, ◌≤◌, ◌<◌, List, [], length, Option, Some, is_some, nat_eq, IfOk, IfSome, OnOk, OnErr, IsSome, IsTrue};
+ghost use Rattle.lru.specs.LruCache.{lru_cache, promoted, put_entries};
 ghost use Rattle.cell_defs.specs.Ext.{is_ext};
 ghost use Rattle.outside.specs.Causes.{Rose};
 ghost use Rattle.outside.specs.Image.{Image};
@@ -17,7 +18,7 @@ use std::num::NonZeroUsize;
 
 /// The bodies of entries, each by the entry's place, up to a number of them: the one that was used longest ago makes
 /// room. It counts how often damage was found as a body was read for it. Clauses see the blocks with their exts, the
-/// last used first, and the count.
+/// last used first, how many there may be, and the count.
 #[derive(Drop)]
 pub struct Cache {
     bodies: LruCache<u32, KeptBody>,
@@ -29,7 +30,7 @@ impl Model for Cache {
 
     ghost Value = { CacheValue };
 
-    ghost view = { λ cache. record { held = cache.bodies.entries; damages = cache.damages } };
+    ghost view = { λ cache. record { held = cache.bodies.entries; most = cache.bodies.cap; damages = cache.damages } };
 
     ghost invariant = { λ cache. HaveForm cache.bodies.entries };
 }
@@ -51,6 +52,7 @@ impl Cache {
     pub fn new(alloc: Global, blocks: usize) -> Result<Cache, NoMemory>
         requires { 1 ≤ blocks }
         ensures empty { IfOk result (λ cache. cache.held ≡ []) }
+        ensures most { IfOk result (λ cache. cache.most ≡ blocks) }
         ensures undamaged { IfOk result (λ cache. cache.damages ≡ 0) }
         ensures agrees { (entries : List Entry) (reads : Option Image) → IfOk result (λ cache. IfSome reads (IsKept entries cache.held)) }
     {
@@ -68,6 +70,8 @@ impl Cache {
         ensures held { result ≡ is_some (held_at self.old.held e) }
         ensures still { IsTrue result → IsSome (held_at self.new.held e) }
         ensures only { NothingNew self.old.held self.new.held }
+        ensures order { self.new.held ≡ promoted (nat_eq e) self.old.held }
+        ensures most { self.new.most ≡ self.old.most }
         ensures damages { self.new.damages ≡ self.old.damages }
     {
         self.bodies.promote(&e)
@@ -90,6 +94,8 @@ impl Cache {
         requires form { 0 < e → IsTrue (is_ext body.ext) }
         ensures held { OnOk result (held_at self.new.held e ≡ Some body) }
         ensures only { OnlyAdds e body self.old.held self.new.held }
+        ensures order { OnOk result (self.new.held ≡ put_entries nat_eq (lru_cache self.old.held self.old.most) e body) }
+        ensures most { self.new.most ≡ self.old.most }
         ensures damages { self.new.damages ≡ self.old.damages }
         ensures err { OnErr result (self.new ≡ self.old) }
     {
@@ -97,9 +103,18 @@ impl Cache {
         Ok(())
     }
 
+    /// How many bodies are held: no more than it was made for.
+    pub fn count(&self) -> usize
+        ensures count { result ≡ length self.now.held }
+        ensures most { length self.now.held ≤ self.now.most }
+    {
+        self.bodies.len()
+    }
+
     /// Counts a stop of a reading where it is damage.
-    pub(crate) fn count(&mut self, stop: ReadStop)
+    pub(crate) fn note(&mut self, stop: ReadStop)
         ensures held { self.new.held ≡ self.old.held }
+        ensures most { self.new.most ≡ self.old.most }
         ensures rose { (damage : Damage) → stop ≡ Damaged damage → Rose self.old.damages self.new.damages }
         ensures same { ((damage : Damage) → stop ≡ Damaged damage → ⊥) → self.new.damages ≡ self.old.damages }
     {

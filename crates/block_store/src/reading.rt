@@ -97,6 +97,7 @@ pub(crate) fn load<D: Disk>(
         → IsSomeAnd (entry_at tree.now.entries e) (λ entry. damage ≡ record { area = log_area; at = entry.at }) }
     ensures cause { CountsFault (D.faults disk.old) (D.faults disk.new) (result ≡ Err disk_fault) }
     ensures damages { cache.new.damages ≡ cache.old.damages }
+    ensures most { cache.new.most ≡ cache.old.most }
 {
     if cache.promote(e) {
         return Ok(());

@@ -9,7 +9,7 @@ ghost use Rattle.chain_tree.specs.declared.entry.Entry.{Entry};
 ghost use Rattle.chain_tree.specs.Entries.{entry_at};
 ghost use Rattle.chain_tree.specs.Reading.{HasRead, stop_of};
 ghost use Rattle.block_store.specs.Stored.{stored_at, told_by};
-ghost use Rattle.block_store.specs.Held.{held_at, IsKept, IsInHand};
+ghost use Rattle.block_store.specs.Held.{Lent, held_at, IsKept, IsInHand};
 
 use crate::cache::Cache;
 use crate::reading::load;
@@ -67,9 +67,15 @@ impl<'d, D: Disk> Blocks for Store<'d, D> {
 
     ghost damages = { λ it. it.cache.now.damages };
 
-    ghost Loans = { ℕ × ℕ × D.Content × List Entry };
+    ghost Loans = { Lent D.Content };
 
-    ghost loans_of = { λ it. (it.disk.ghost_name, it.cache.ghost_name, D.content_of it.disk.now, it.tree.now.entries) };
+    ghost loans_of = { λ it. record {
+      disk = it.disk.ghost_name;
+      cache = it.cache.ghost_name;
+      content = D.content_of it.disk.now;
+      entries = it.tree.now.entries;
+      most = it.cache.now.most;
+    } };
 
     ghost told_all = { λ it. tells_all (D.reads_as it.disk.now) it.tree.now.entries };
 
@@ -79,9 +85,9 @@ impl<'d, D: Disk> Blocks for Store<'d, D> {
 
     fn bring(&mut self, e: u32) -> Result<(), ReadStop>
         requires within { e < length self.old.tree.now.entries }
-        ensures read { HasRead {L = ℕ × ℕ × D.Content × List Entry}
+        ensures read { HasRead {L = Lent D.Content}
             (λ it. told_by (D.reads_as it.disk.now) it.tree.now.entries) (λ it. length it.tree.now.entries)
-            (λ it. (it.disk.ghost_name, it.cache.ghost_name, D.content_of it.disk.now, it.tree.now.entries))
+            (λ it. record { disk = it.disk.ghost_name; cache = it.cache.ghost_name; content = D.content_of it.disk.now; entries = it.tree.now.entries; most = it.cache.now.most })
             (λ it. D.faults it.disk.now) (λ it. it.cache.now.damages) self.old self.new (stop_of result) }
         ensures taken { OnOk result (self.new.hand ≡ Some e) }
         ensures dropped { OnErr result (self.new.hand ≡ None) }
@@ -102,7 +108,7 @@ impl<'d, D: Disk> Blocks for Store<'d, D> {
                 Ok(())
             }
             Err(stop) => {
-                self.cache.count(stop);
+                self.cache.note(stop);
                 Err(stop)
             }
         }

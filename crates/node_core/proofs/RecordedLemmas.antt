@@ -71,12 +71,12 @@ read-here kept place cells cache node reads images whole own =
 
 -- and the disk stays its own while it is read
 own-later : (node : NodeValue) (later : CacheValue) (before after : Option Image) (old new : Image → Type 0) → after ≡ before → SameImages old new
-    → IsItsOwn node before old → IfSome after (IsReadBy (kept_in node) later.held) → IsItsOwn (record node { held = later.held; damages = later.damages }) after new
+    → IsItsOwn node before old → IfSome after (IsReadBy (kept_in node) later.held) → IsItsOwn (record node { held = later.held; most = later.most; damages = later.damages }) after new
 own-later node later None after old new same images own read =
-    subst (λ (reads : Option Image). IsItsOwn (record node { held = later.held; damages = later.damages }) reads new) (sym same) tt
+    subst (λ (reads : Option Image). IsItsOwn (record node { held = later.held; most = later.most; damages = later.damages }) reads new) (sym same) tt
 own-later node later (Some image) after old new same images own read =
     let now : IsReadBy (kept_in node) later.held image = subst (λ (reads : Option Image). IfSome reads (IsReadBy (kept_in node) later.held)) same read in
-    subst (λ (reads : Option Image). IsItsOwn (record node { held = later.held; damages = later.damages }) reads new) (sym same) (record {
+    subst (λ (reads : Option Image). IsItsOwn (record node { held = later.held; most = later.most; damages = later.damages }) reads new) (sym same) (record {
       now = own.now;
       told = own.told;
       read = record { specification = own.read.specification; names = own.read.names; can = own.read.can; agrees = now.agrees };
@@ -99,7 +99,7 @@ module _ {S C : Type 0} (content_of : S → C) (reads_as : S → Option Image) (
       let as_before = rests old new looked.content in
       record {
         content = looked.content;
-        node = ap (λ (node : NodeValue). record node { held = later.held; damages = later.damages }) whole;
+        node = (λ i. record (node_of kept place cells later) { most = looked.most i }) ∙ ap (λ (node : NodeValue). record node { held = later.held; damages = later.damages }) whole;
         own = own-later (node_of kept place cells cache) later (reads_as old) (reads_as new) (images old) (images new) as_before.reads as_before.images
             (subst (λ (node : NodeValue). IsItsOwn node (reads_as old) (images old)) (sym whole) own) looked.agrees;
         damage = looked.damage;

@@ -88,25 +88,18 @@ pub counts-blocks : (kept blocks : List Block) (entries others : List Entry) →
     → length others ≡ length blocks
 counts-blocks kept blocks entries others seen indexed same = omega (arith, ap length same, ap length seen, len-same kept entries indexed)
 
--- the loans of a store hold the content of its disk
-pub same-content : {C : Type 0} {first last : ℕ × ℕ × C × List Entry} → last ≡ first → last.2 ≡ first.2
-same-content {C = C} same = ap (λ (loans : ℕ × ℕ × C × List Entry). loans.2) same
-
--- and its entries
-pub same-entries : {C : Type 0} {first last : ℕ × ℕ × C × List Entry} → last ≡ first → last.3 ≡ first.3
-same-entries {C = C} same = ap (λ (loans : ℕ × ℕ × C × List Entry). loans.3) same
-
 -- What a look leaves, where the content is the same and what is held then is what LOG has.
 pub has-looked : {S C : Type 0} {content_of : S → C} {reads_as : S → Option Image} {faults : S → ℕ} {old new : S} {stop : Option ReadStop}
     (kept : KeptValue) (entries : List Entry) (cache later : CacheValue) → entries ≡ kept.entries → content_of new ≡ content_of old
-    → reads_as new ≡ reads_as old → IfSome (reads_as old) (IsReadBy kept cache.held) → IfSome (reads_as new) (IsKept entries later.held)
+    → reads_as new ≡ reads_as old → IfSome (reads_as old) (IsReadBy kept cache.held) → IfSome (reads_as new) (IsKept entries later.held) → later.most ≡ cache.most
     → ((damage : Damage) → stop ≡ Some (Damaged damage) → damage.area ≡ Log) → CountsFault (faults old) (faults new) (stop ≡ Some DiskFault)
     → (((damage : Damage) → stop ≡ Some (Damaged damage) → ⊥) → later.damages ≡ cache.damages)
     → HasLooked content_of reads_as faults old new kept cache later stop
-has-looked {reads_as = reads_as} {new = new} kept entries cache later same content reads own is_kept damage cause found = record {
+has-looked {reads_as = reads_as} {new = new} kept entries cache later same content reads own is_kept most damage cause found = record {
   content = content;
   agrees = read-later kept cache.held later.held (reads_as new) (subst (λ (o : Option Image). IfSome o (IsReadBy kept cache.held)) (sym reads) own)
       (subst (λ (es : List Entry). IfSome (reads_as new) (IsKept es later.held)) same is_kept);
+  most = most;
   damage = damage;
   cause = cause;
   found = found;

@@ -72,7 +72,8 @@ abbrev pub stored_of : KeptValue → List Stored
 stored_of kept = paired kept.chain.blocks kept.exts
 
 -- A node: its chain, the exts of its blocks, and their entries, which say where in LOG each block lies; the offset where the records of its log end;
--- its live cells; the blocks that it holds in memory, each with its ext, by their places; and how often damage was found as it read its blocks.
+-- its live cells; the blocks that it holds in memory, each with its ext, by their places, and how many at most; and how often damage was found as it
+-- read its blocks.
 pub record NodeValue : Type 0 where
   pub chain : Chain
   pub exts : List (List ℕ)
@@ -80,6 +81,7 @@ pub record NodeValue : Type 0 where
   pub place : ℕ
   pub cells : StateValue
   pub held : List (ℕ × Stored)
+  pub most : ℕ
   pub damages : ℕ
 
 abbrev pub kept_in : NodeValue → KeptValue
@@ -93,6 +95,7 @@ node_of kept place cells cache = record {
   place = place;
   cells = cells;
   held = cache.held;
+  most = cache.most;
   damages = cache.damages;
 }
 
@@ -152,12 +155,14 @@ pub record IsOn (node : NodeValue) (reads : Option Image) (images : Image → Ty
   pub of : IsOf node reads images
   pub sound : IsSoundNode node
 
--- What a call leaves that only reads kept blocks on a disk: the disk as it was, in memory what is the disk's, damage in LOG alone, and faults counted.
+-- What a call leaves that only reads kept blocks on a disk: the disk as it was, in memory what is the disk's, and as much at most as before, damage in
+-- LOG alone, and faults counted.
 -- Damage that is found is answered: a call with any other answer found none.
 pub record HasLooked {S C : Type 0} (content_of : S → C) (reads_as : S → Option Image) (faults : S → ℕ) (old new : S) (kept : KeptValue)
     (before after : CacheValue) (stop : Option ReadStop) : Type 0 where
   pub content : content_of new ≡ content_of old
   pub agrees : IfSome (reads_as new) (IsReadBy kept after.held)
+  pub most : after.most ≡ before.most
   pub damage : (damage : Damage) → stop ≡ Some (Damaged damage) → damage.area ≡ Log
   pub cause : CountsFault (faults old) (faults new) (stop ≡ Some DiskFault)
   pub found : ((damage : Damage) → stop ≡ Some (Damaged damage) → ⊥) → after.damages ≡ before.damages

@@ -1,5 +1,7 @@
 // A new store.
 ghost use Rattle.std.specs.Prelude.{◌≡◌, ◌<◌, ◌^◌, ℕ, Err, None, Some, length, IsSome, IfOk, OnOk};
+ghost use Rattle.codec_defs.specs.Shape.{decoded};
+ghost use Rattle.codec_defs.specs.Schema as schema;
 ghost use Rattle.outside.specs.Causes.{CountsFault};
 ghost use Rattle.outside.specs.Disk.{LeavesOnly, TellsAsBefore};
 ghost use Rattle.outside.specs.declared.disk.WriteStop.TheVariants.{DiskFault};
@@ -44,7 +46,8 @@ impl<'a> Model for NewStore<'a> {
     ghost invariant = { λ new. AreJudged new.spec.now new.genesis.now new.hash };
 }
 
-/// Judges a specification by S1 to S7, and then a genesis by G1 to G7 (docs/RULES.md).
+/// Judges a specification by S1 to S7, and then a genesis by G1 to G7 (docs/RULES.md). Memory is wanted only where the
+/// specification breaks none and the genesis is a block.
 pub fn judge<'a>(alloc: Global, spec: &'a [u8], genesis: &'a [u8]) -> Result<NewStore<'a>, NewStop>
     requires spec { length spec.now < 2 ^ 32 }
     requires genesis { length genesis.now < 2 ^ 32 }
@@ -54,6 +57,7 @@ pub fn judge<'a>(alloc: Global, spec: &'a [u8], genesis: &'a [u8]) -> Result<New
     ensures bad_spec { (rule : ℕ) → result ≡ Err (NewStop.BadSpec rule) → broken_specification_rule spec.now ≡ Some rule }
     ensures bad_genesis { (rule : ℕ) → result ≡ Err (NewStop.BadGenesis rule)
         → (broken_specification_rule spec.now ≡ None) × (broken_genesis_rule genesis.now ≡ Some rule) }
+    ensures asked { result ≡ Err NewStop.NoMemory → (broken_specification_rule spec.now ≡ None) × IsSome (decoded schema.block genesis.now) }
 {
     if let Err(rule) = Spec::read(spec) {
         return Err(NewStop::BadSpec(rule));

@@ -163,6 +163,7 @@ fn read_store<D: Disk>(alloc: Global, disk: &mut D, held: usize) -> Result<Node,
     ensures image { ((image : Image) → D.images disk.old image → IsSound image)
         → IfOk result (λ node. IfSome (D.reads_as disk.old) (λ _. IsOnlyImage node.chain (D.reads_as disk.new) (D.images disk.new))) }
     ensures found { IfOk result (λ node. node.damages ≡ 0) }
+    ensures room { IfOk result (λ node. node.most ≡ held) }
     ensures cause { CountsFault (D.faults disk.old) (D.faults disk.new) (result ≡ Err LogStop.DiskFault) }
 {
     match sync_snapshots(disk) {
@@ -237,6 +238,7 @@ fn join<D: Disk, L: Ledger>(
     ensures spec { IfOk result (λ node. node.chain.spec ≡ kept.chain.spec) }
     ensures holds { IfOk result (λ node. IsSome (held_at node.held (length kept.chain.blocks))) }
     ensures found { IfOk result (λ node. node.damages ≡ cache.damages) }
+    ensures room { IfOk result (λ node. node.most ≡ cache.most) }
     ensures cause { CountsFault (D.faults disk.old) (D.faults disk.new) (result ≡ Err DiskFault) }
     ensures most { steps.new ≤ steps.old + 1 }
 {
@@ -310,6 +312,7 @@ impl Node {
         ensures moments { (now : Image) (chain : Chain) → D.reads_as disk.old ≡ Some now → store_of now ≡ Keeps chain → ((image : Image) → D.images disk.old image → IsSound image)
             → LeavesOnly D.moment D.left_since disk.old disk.new (λ image. D.images disk.old image ⊎ StandsFor chain image) }
         ensures found { IfOk result (λ node. node.damages ≡ 0) }
+        ensures room { IfOk result (λ node. node.most ≡ held) }
         ensures cause { CountsFault (D.faults disk.old) (D.faults disk.new) (result ≡ Err LogStop.DiskFault) }
         ensures most { (now : Image) → D.reads_as disk.old ≡ Some now → steps.new ≤ steps.old + moves_to_open now }
     {
@@ -382,6 +385,7 @@ impl Node {
         ensures undamaged { IsSoundOn self (D.reads_as disk.old) → (damage : Damage) → result ≡ Err (Damaged damage) → ⊥ }
         ensures damage { (damage : Damage) → result ≡ Err (Damaged damage) → damage.area ≡ log_area }
         ensures found { IfOk result (λ answer. answer.0.damages ≡ self.damages) }
+        ensures room { IfOk result (λ answer. answer.0.most ≡ self.most) }
         ensures cause { CountsFault (D.faults disk.old) (D.faults disk.new) (result ≡ Err DiskFault) }
         ensures spec { IfOk result (λ answer. answer.0.chain.spec ≡ self.chain.spec) }
         ensures holds { IfOk result (λ answer. joins answer.1 ≡ true → IsSome (held_at answer.0.held (length self.chain.blocks))) }
@@ -439,6 +443,7 @@ impl Node {
         ensures undamaged { IsSoundOn self (D.reads_as disk.old) → (damage : Damage) → result ≡ Err (Damaged damage) → ⊥ }
         ensures damage { (damage : Damage) → result ≡ Err (Damaged damage) → damage.area ≡ log_area }
         ensures found { IfOk result (λ answer. answer.0.damages ≡ self.damages) }
+        ensures room { IfOk result (λ answer. answer.0.most ≡ self.most) }
         ensures cause { CountsFault (D.faults disk.old) (D.faults disk.new) (result ≡ Err DiskFault) }
         ensures spec { IfOk result (λ answer. answer.0.chain.spec ≡ self.chain.spec) }
         ensures holds { IfOk result (λ answer. joins answer.1 ≡ true → IsSome (held_at answer.0.held (length self.chain.blocks))) }
@@ -612,6 +617,14 @@ impl Node {
         ensures { result.now ≡ self.now.cells }
     {
         &self.state
+    }
+
+    /// How many blocks it holds in memory: at most as many as it was opened for.
+    pub fn held(&self) -> usize
+        ensures count { result ≡ length self.now.held }
+        ensures most { length self.now.held ≤ self.now.most }
+    {
+        self.cache.count()
     }
 
     /// The specification of the chain.

@@ -230,6 +230,7 @@ pub(crate) fn to_tip<D: Disk, L: Ledger>(
     ensures agrees { IfSome (D.reads_as disk.new) (IsReadBy kept.now cache.new.held) }
     ensures content { D.content_of disk.new ≡ D.content_of disk.old }
     ensures found { ((damage : a_damage) → result ≡ Err (read_stops.Damaged damage) → ⊥) → cache.new.damages ≡ cache.old.damages }
+    ensures room { cache.new.most ≡ cache.old.most }
     ensures cause { CountsFault (D.faults disk.old) (D.faults disk.new) (result ≡ Err read_stops.DiskFault) }
     ensures most { (now : Image) → D.reads_as disk.old ≡ Some now → steps.new ≤ steps.old + moves_by kept.now.chain.blocks now (newest now) }
 {

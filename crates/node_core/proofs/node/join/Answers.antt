@@ -407,3 +407,21 @@ returns-in-Err-append-clause-found g c = tt
 
 pub returns-in-Ok-append-clause-found : goal.returns-in-Ok-append-clause-found
 returns-in-Ok-append-clause-found g c = c.put.ensures.damages
+
+pub returns-in-Err-clause-room : goal.returns-in-Err-clause-room
+returns-in-Err-clause-room g c = tt
+
+pub returns-in-Err-of-clause-room : goal.returns-in-Err-of-clause-room
+returns-in-Err-of-clause-room g c = tt
+
+pub returns-in-Err-put-clause-room : goal.returns-in-Err-put-clause-room
+returns-in-Err-put-clause-room g c = tt
+
+pub returns-in-Err-join-clause-room : goal.returns-in-Err-join-clause-room
+returns-in-Err-join-clause-room g c = tt
+
+pub returns-in-Err-append-clause-room : goal.returns-in-Err-append-clause-room
+returns-in-Err-append-clause-room g c = tt
+
+pub returns-in-Ok-append-clause-room : goal.returns-in-Ok-append-clause-room
+returns-in-Ok-append-clause-room g c = c.put.ensures.most

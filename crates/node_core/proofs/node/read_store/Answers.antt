@@ -107,3 +107,18 @@ returns-in-Err-new-clause-found g c = tt
 
 pub returns-in-Ok-new-clause-found : goal.returns-in-Ok-new-clause-found
 returns-in-Ok-new-clause-found g c = c.in-Ok-new.ensures.undamaged
+
+pub returns-in-Err-clause-room : goal.returns-in-Err-clause-room
+returns-in-Err-clause-room g c = tt
+
+pub returns-in-Err-open-clause-room : goal.returns-in-Err-open-clause-room
+returns-in-Err-open-clause-room g c = tt
+
+pub returns-in-Err-into_kept-clause-room : goal.returns-in-Err-into_kept-clause-room
+returns-in-Err-into_kept-clause-room g c = tt
+
+pub returns-in-Err-new-clause-room : goal.returns-in-Err-new-clause-room
+returns-in-Err-new-clause-room g c = tt
+
+pub returns-in-Ok-new-clause-room : goal.returns-in-Ok-new-clause-room
+returns-in-Ok-new-clause-room g c = c.in-Ok-new.ensures.most

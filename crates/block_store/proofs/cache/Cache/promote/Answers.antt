@@ -1,4 +1,4 @@
-use Rattle.std.proofs.Common.{sym}
+use Rattle.std.proofs.Common.{refl, sym}
 use Rattle.block_store.proofs.HeldLemmas.{promoted-new, promoted-found, nothing_new-form}
 use Rattle.block_store.proofs.cache.Cache.promote.Goals as goal
 
@@ -10,3 +10,6 @@ returns-clause-still c = rw c.promote.ensures.entries (promoted-found c.self.ins
 
 pub returns-clause-only : goal.returns-clause-only
 returns-clause-only c = rw (sym c.self.view_is) (rw c.promote.ensures.entries (promoted-new c.self.inside.bodies.entries c.args.e))
+
+pub returns-clause-order : goal.returns-clause-order
+returns-clause-order c = rw (sym c.self.view_is) (rw c.promote.ensures.entries refl)

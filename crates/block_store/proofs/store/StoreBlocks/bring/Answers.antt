@@ -12,7 +12,7 @@ invariant_of-self g c = record { kept = c.in-Ok.ensures.kept; held = (c.requires
 
 pub invariant_of-self-in-Err : goal.invariant_of-self-in-Err
 invariant_of-self-in-Err g c = record {
-  kept = kept-counted _ c.args.self.now.tree.now.entries _ _ c.count.ensures.held c.load.ensures.kept;
+  kept = kept-counted _ c.args.self.now.tree.now.entries _ _ c.note.ensures.held c.load.ensures.kept;
   held = tt;
 }
 
@@ -20,17 +20,18 @@ pub returns-in-Err-clause-read : goal.returns-in-Err-clause-read
 returns-in-Err-clause-read g c =
     let it = c.args.self.now in
     let its = c.in-Err.ensures in
+    let most = c.note.ensures.most ∙ its.most in
     record {
       told = ap (λ (reads : Option Image). told_by reads it.tree.now.entries) its.same;
       count = refl;
-      loans = λ i. (it.disk.ghost_name, it.cache.ghost_name, its.content i, it.tree.now.entries);
+      loans = λ i. record { disk = it.disk.ghost_name; cache = it.cache.ghost_name; content = its.content i; entries = it.tree.now.entries; most = most i };
       damage = λ damage is. in_log (entry_at it.tree.now.entries c.args.e) damage (its.place damage (stopped-back Unit _ _ is));
       cause = record {
         later = its.cause.later;
         rose = λ is. its.cause.rose (stopped-back Unit _ _ is);
         unchanged = λ other. its.cause.unchanged (λ is. other (stopped Unit _ _ is));
       };
-      found = λ other. c.count.ensures.same (λ damage is. other damage (ap (λ stop. Some stop) is)) ∙ its.damages;
+      found = λ other. c.note.ensures.same (λ damage is. other damage (ap (λ stop. Some stop) is)) ∙ its.damages;
     }
 
 pub returns-in-Err-clause-undamaged : goal.returns-in-Err-clause-undamaged

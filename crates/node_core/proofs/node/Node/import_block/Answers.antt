@@ -545,6 +545,20 @@ pub returns-in-Ok-join-clause-found : goal.returns-in-Ok-join-clause-found
 returns-in-Ok-join-clause-found g c =
     c.in-Ok-join.ensures.found ∙ c.in-Ok.ensures.looked.found (λ _ e. not_stopped _ e) ∙ ap (λ (v : NodeValue). v.damages) c.self.view_is
 
+-- ---- It holds as many blocks at most
+
+pub returns-in-Err-clause-room : goal.returns-in-Err-clause-room
+returns-in-Err-clause-room g c = tt
+
+pub returns-in-Err-join-clause-room : goal.returns-in-Err-join-clause-room
+returns-in-Err-join-clause-room g c = tt
+
+pub returns-in-Stays-clause-room : goal.returns-in-Stays-clause-room
+returns-in-Stays-clause-room g c = c.in-Ok.ensures.looked.most ∙ ap (λ (v : NodeValue). v.most) c.self.view_is
+
+pub returns-in-Ok-join-clause-room : goal.returns-in-Ok-join-clause-room
+returns-in-Ok-join-clause-room g c = c.in-Ok-join.ensures.room ∙ c.in-Ok.ensures.looked.most ∙ ap (λ (v : NodeValue). v.most) c.self.view_is
+
 -- ---- Only a block that is new joins
 
 pub returns-in-Err-clause-new : goal.returns-in-Err-clause-new

@@ -161,3 +161,12 @@ pub returns-in-Ok-to_tip-clause-found : goal.returns-in-Ok-to_tip-clause-found
 returns-in-Ok-to_tip-clause-found g c =
     c.to_tip.ensures.found (λ _ stop. ok_err _ _ (sym c.in-Ok-to_tip.is ∙ stop))
     ∙ ap (λ (v : NodeValue). v.damages) c.node.view_is ∙ c.in-Ok.ensures.found
+
+pub returns-in-Err-clause-room : goal.returns-in-Err-clause-room
+returns-in-Err-clause-room g c = tt
+
+pub returns-in-Err-to_tip-clause-room : goal.returns-in-Err-to_tip-clause-room
+returns-in-Err-to_tip-clause-room g c = tt
+
+pub returns-in-Ok-to_tip-clause-room : goal.returns-in-Ok-to_tip-clause-room
+returns-in-Ok-to_tip-clause-room g c = c.to_tip.ensures.room ∙ ap (λ (v : NodeValue). v.most) c.node.view_is ∙ c.in-Ok.ensures.room
