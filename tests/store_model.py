@@ -58,7 +58,8 @@ class Chain:
             _, _, _, inputs, outputs, data = fields_of(raw)
             # what a cellbase has in the place of an input is no cell
             spends = [it[8:] for it in items_of(inputs, 44)] if at else []
-            points = [ckbhash(raw) + uint(index, 4) for index in range(len(fields_of(outputs)))]
+            name = ckbhash(raw)
+            points = [name + uint(index, 4) for index in range(len(fields_of(outputs)))]
             found.append((spends, [(point, row(point, place, at, output, content[4:]))
                                    for point, output, content in zip(points, fields_of(outputs), fields_of(data))]))
         return found
