@@ -1,10 +1,10 @@
--- Runs one after the other.
+-- Calls one after the other.
 use Rattle.std.proofs.Common.{◌≡◌, ℕ, List, [], ◌∷◌, ◌++◌, ◌+◌, ◌<◌, ◌≤◌, length, get_or, set, take, drop, length-set, refl, sym, ap, ◌∙◌, subst, arith}
 use Rattle.std.proofs.lemmas.List.{drop_more, take_more, take_more_set, drop-set-lt, take_all}
-use Rattle.std.specs.Prelude.{Option, Some, None, IsSome, is_some}
+use Rattle.std.specs.Prelude.{Option, Some, None, IsSome, is_some, IfSome}
 use Rattle.outside.specs.Image.{Image}
 use Rattle.verdict_defs.specs.Chain.{Chain, chain_of_genesis}
-use Rattle.outside.specs.Disk.{TellsAsBefore}
+use Rattle.outside.specs.Disk.{HasOneImage, TellsAsBefore}
 use Rattle.store_defs.specs.Store.{StandsFor}
 use Rattle.report_defs.specs.declared.command.Command.{Command}
 use Rattle.report_defs.specs.declared.command.Command.TheVariants.{Init}
@@ -13,7 +13,8 @@ use Rattle.report_defs.specs.declared.status.Status.TheVariants.{Done}
 use Rattle.report_defs.specs.Survival.{Each, Run, IsDone, IsLeftBy, KeepsDisk, IsNewStore, IsPromised}
 use Rattle.report_defs.specs.Lists.{AreReplayed, BeginsStore, ArePromised}
 use Rattle.run_list.specs.declared.list.Call.{Call}
-use Rattle.run_list.specs.Runs.{IsRunOf, AreRunsOf}
+use Rattle.run_list.specs.declared.list.Stop.{Stop}
+use Rattle.run_list.specs.Runs.{IsRunWith, IsCallOf, AreCallsOf}
 
 -- a disk that tells afterwards where it told before
 tells_on : (old new : Option Image) → TellsAsBefore old new → IsSome old → IsSome new
@@ -29,6 +30,20 @@ no_runs reads at_start = record {
   from_past = λ told genesis past by. record { survives = by; answers = tt };
   from_init = λ told. tt;
 }
+
+-- What is promised over the images to come is promised over those that they come from.
+carried : (reads then : Option Image) (at_start next at_end : Image → Type 0) (runs : List Run) → (IsSome reads → IsSome then)
+    → (IsSome reads → (image : Image) → next image → at_start image) → ArePromised then next at_end runs → ArePromised reads at_start at_end runs
+carried reads then at_start next at_end runs tells from promised = record {
+  from_past = λ told genesis past by. promised.from_past (tells told) genesis past (λ image here. by image (from told image here));
+  from_init = λ told. promised.from_init (tells told);
+}
+
+-- a crash takes one of the images
+crash_takes : (reads : Option Image) (at_exit images : Image → Type 0) → IfSome reads at_exit → HasOneImage reads images → IsSome reads
+    → (image : Image) → images image → at_exit image
+crash_takes None at_exit images among one told image here = absurd (cc)
+crash_takes (Some now) at_exit images among one told image here = subst at_exit (sym (one image here)) among
 
 -- One run more before the others.
 module _ (reads between : Option Image) (at_start at_exit meanwhile at_end : Image → Type 0) (left : Option (List ℕ)) (status : Status) (run : Run) (later : List Run)
@@ -69,29 +84,54 @@ module _ (reads between : Option Image) (at_start at_exit meanwhile at_end : Ima
   }
 
 module _ {S K D : Type 0} (left : S → Option (List ℕ)) (input_faults : S → ℕ) (taken_by : K → Option (List ℕ)) (out_faults : K → ℕ)
-    (reads_as : D → Option Image) (images : D → Image → Type 0) (moment : D → ℕ) (left_since : D → ℕ → Image → Type 0) (disk_faults : D → ℕ) where
-  abbrev IsRun : Call S K → Call S K → D → D → Run → Type 0
-  IsRun = IsRunOf left input_faults taken_by out_faults reads_as images moment left_since disk_faults
+    (reads_as : D → Option Image) (images : D → Image → Type 0) (moment : D → ℕ) (left_since : D → ℕ → Image → Type 0) (disk_faults : D → ℕ)
+    (armed_for : D → Option ℕ) where
+  abbrev IsWith : Option Stop → Call S K → Call S K → D → D → Run → Type 0
+  IsWith = IsRunWith left input_faults taken_by out_faults reads_as images moment left_since disk_faults armed_for
 
-  abbrev AreRuns : List (Call S K) → List (Call S K) → D → D → List Run → Type 0
-  AreRuns = AreRunsOf left input_faults taken_by out_faults reads_as images moment left_since disk_faults
+  abbrev IsCall : Call S K → Call S K → D → D → Run → Type 0
+  IsCall = IsCallOf left input_faults taken_by out_faults reads_as images moment left_since disk_faults armed_for
+
+  abbrev AreCalls : List (Call S K) → List (Call S K) → D → D → List Run → Type 0
+  AreCalls = AreCallsOf left input_faults taken_by out_faults reads_as images moment left_since disk_faults armed_for
+
+  -- the disk tells after a call where it told before it
+  told_with : (stop : Option Stop) (before after : Call S K) (old new : D) (run : Run) → IsWith stop before after old new run → TellsAsBefore (reads_as old) (reads_as new)
+  told_with None before after old new run is = is.told
+  told_with (Some stop) before after old new run (armed, arms, exit, is, crashed) = crashed.told ∙ (is.told ∙ ap is_some arms.as_before.reads)
+
+  -- what the calls after one promise, it promises with them
+  one_call : (stop : Option Stop) (before after : Call S K) (old between new : D) (run : Run) (later : List Run) → IsWith stop before after old between run
+      → ArePromised (reads_as between) (images between) (images new) later → ArePromised (reads_as old) (images old) (images new) (run ∷ later)
+  one_call None before after old between new run later is rest =
+      one_before (reads_as old) (reads_as between) (images old) (images between) (left_since between (moment old)) (images new) (left after.input) is.status run later
+      is.ended is.promised rest (tells_on (reads_as old) (reads_as between) is.told)
+  one_call (Some stop) before after old between new run later (armed, arms, exit, is, crashed) rest =
+      let tells = tells_on (reads_as exit) (reads_as between) crashed.told in
+      let at_exit : ArePromised (reads_as exit) (images exit) (images new) later =
+      carried (reads_as exit) (reads_as between) (images exit) (images between) (images new) later tells
+      (λ told. crash_takes (reads_as between) (images exit) (images between) crashed.among crashed.one_image (tells told)) rest in
+      let over_armed : ArePromised (reads_as armed) (images armed) (images new) (run ∷ later) =
+      one_before (reads_as armed) (reads_as exit) (images armed) (images exit) (left_since exit (moment armed)) (images new) (left after.input) is.status run later
+      is.ended is.promised at_exit (tells_on (reads_as armed) (reads_as exit) is.told) in
+      carried (reads_as old) (reads_as armed) (images old) (images armed) (images new) (run ∷ later)
+      (tells_on (reads_as old) (reads_as armed) (ap is_some arms.as_before.reads)) (λ told image here. (arms.as_before.images image).0 here) over_armed
 
   -- what a list of runs promises follows from what each of them does
-  are_promised : (befores afters : List (Call S K)) (old new : D) (runs : List Run) → AreRuns befores afters old new runs
+  are_promised : (befores afters : List (Call S K)) (old new : D) (runs : List Run) → AreCalls befores afters old new runs
       → ArePromised (reads_as old) (images old) (images new) runs
   are_promised [] [] old new [] same = subst (λ (d : D). ArePromised (reads_as old) (images old) (images d) []) (sym same) (no_runs (reads_as old) (images old))
   are_promised (before ∷ befores) (after ∷ afters) old new (run ∷ runs) (between, is, rest) =
-      one_before (reads_as old) (reads_as between) (images old) (images between) (left_since between (moment old)) (images new) (left after.input) is.status run runs
-      is.ended is.promised (are_promised befores afters between new runs rest) (tells_on (reads_as old) (reads_as between) is.told)
+      one_call before.stop before after old between new run runs is (are_promised befores afters between new runs rest)
   are_promised [] [] old new (run ∷ runs) never = absurd never
   are_promised [] (after ∷ afters) old new runs never = absurd never
   are_promised (before ∷ befores) [] old new runs never = absurd never
   are_promised (before ∷ befores) (after ∷ afters) old new [] never = absurd never
 
   -- the disk tells after them where it told before
-  tell_on : (befores afters : List (Call S K)) (old new : D) (runs : List Run) → AreRuns befores afters old new runs → TellsAsBefore (reads_as old) (reads_as new)
+  tell_on : (befores afters : List (Call S K)) (old new : D) (runs : List Run) → AreCalls befores afters old new runs → TellsAsBefore (reads_as old) (reads_as new)
   tell_on [] [] old new [] same = ap (λ (d : D). is_some (reads_as d)) same
-  tell_on (before ∷ befores) (after ∷ afters) old new (run ∷ runs) (between, is, rest) = tell_on befores afters between new runs rest ∙ is.told
+  tell_on (before ∷ befores) (after ∷ afters) old new (run ∷ runs) (between, is, rest) = tell_on befores afters between new runs rest ∙ told_with before.stop before after old between run is
   tell_on [] [] old new (run ∷ runs) never = absurd never
   tell_on [] (after ∷ afters) old new runs never = absurd never
   tell_on (before ∷ befores) [] old new runs never = absurd never
@@ -99,9 +139,9 @@ module _ {S K D : Type 0} (left : S → Option (List ℕ)) (input_faults : S →
 
   -- one run more after the others
   one_after : (befores afters : List (Call S K)) (before after : Call S K) (old between new : D) (runs : List Run) (run : Run)
-      → AreRuns befores afters old between runs → IsRun before after between new run
-      → AreRuns (befores ++ before ∷ []) (afters ++ after ∷ []) old new (runs ++ run ∷ [])
-  one_after [] [] before after old between new [] run same is = (new, subst (λ (d : D). IsRun before after d new run) same is, refl)
+      → AreCalls befores afters old between runs → IsCall before after between new run
+      → AreCalls (befores ++ before ∷ []) (afters ++ after ∷ []) old new (runs ++ run ∷ [])
+  one_after [] [] before after old between new [] run same is = (new, subst (λ (d : D). IsCall before after d new run) same is, refl)
   one_after (first ∷ befores) (then ∷ afters) before after old between new (one ∷ runs) run (next, was, rest) is =
       (next, was, one_after befores afters before after next between new runs run rest is)
   one_after [] [] before after old between new (one ∷ runs) run never is = absurd never
@@ -112,8 +152,8 @@ module _ {S K D : Type 0} (left : S → Option (List ℕ)) (input_faults : S →
   -- One call more of a list was run: the others are as they were.
   pub next_call : (befores now : List (Call S K)) (at : ℕ) (before after any : Call S K) (old between new : D) → at < length now → length now ≡ length befores
       → drop at now ≡ drop at befores → before ≡ get_or now at any
-      → (runs : List Run) × AreRuns (take at befores) (take at now) old between runs → (run : Run) × IsRun before after between new run
-      → ((runs : List Run) × AreRuns (take (at + 1) befores) (take (at + 1) (set now at after)) old new runs)
+      → (runs : List Run) × AreCalls (take at befores) (take at now) old between runs → (run : Run) × IsCall before after between new run
+      → ((runs : List Run) × AreCalls (take (at + 1) befores) (take (at + 1) (set now at after)) old new runs)
       × (length (set now at after) ≡ length befores) × (drop (at + 1) (set now at after) ≡ drop (at + 1) befores)
   next_call befores now at before after any old between new within long same is runs run =
       let both : get_or now at any ∷ drop (at + 1) now ≡ get_or befores at any ∷ drop (at + 1) befores =
@@ -123,8 +163,8 @@ module _ {S K D : Type 0} (left : S → Option (List ℕ)) (input_faults : S →
       take_more befores at any (omega (arith, within, long)) ∙ ap (λ (call : Call S K). take at befores ++ call ∷ []) first in (
         (
           runs.0 ++ run.0 ∷ [],
-          subst (λ (l : List (Call S K)). AreRuns l (take (at + 1) (set now at after)) old new (runs.0 ++ run.0 ∷ [])) (sym taken)
-              (subst (λ (l : List (Call S K)). AreRuns (take at befores ++ before ∷ []) l old new (runs.0 ++ run.0 ∷ [])) (sym (take_more_set now at after within))
+          subst (λ (l : List (Call S K)). AreCalls l (take (at + 1) (set now at after)) old new (runs.0 ++ run.0 ∷ [])) (sym taken)
+              (subst (λ (l : List (Call S K)). AreCalls (take at befores ++ before ∷ []) l old new (runs.0 ++ run.0 ∷ [])) (sym (take_more_set now at after within))
               (one_after (take at befores) (take at now) before after old between new runs.0 run.0 runs.1 run.1)),
         ),
         length-set now at after ∙ long,
@@ -132,19 +172,19 @@ module _ {S K D : Type 0} (left : S → Option (List ℕ)) (input_faults : S →
       )
 
   all_runs : (befores now : List (Call S K)) (at : ℕ) (old new : D) (runs : List Run) → length now ≤ at → length now ≡ length befores
-      → AreRuns (take at befores) (take at now) old new runs → AreRuns befores now old new runs
+      → AreCalls (take at befores) (take at now) old new runs → AreCalls befores now old new runs
   all_runs befores now at old new runs past long are =
-      subst (λ (l : List (Call S K)). AreRuns l now old new runs) (take_all at befores (omega (arith, past, long)))
-      (subst (λ (l : List (Call S K)). AreRuns (take at befores) l old new runs) (take_all at now past) are)
+      subst (λ (l : List (Call S K)). AreCalls l now old new runs) (take_all at befores (omega (arith, past, long)))
+      (subst (λ (l : List (Call S K)). AreCalls (take at befores) l old new runs) (take_all at now past) are)
 
   -- All calls were run.
   pub all_calls : (befores now : List (Call S K)) (at : ℕ) (old new : D) → length now ≤ at → length now ≡ length befores
-      → (runs : List Run) × AreRuns (take at befores) (take at now) old new runs
-      → (runs : List Run) × AreRuns befores now old new runs × ArePromised (reads_as old) (images old) (images new) runs
+      → (runs : List Run) × AreCalls (take at befores) (take at now) old new runs
+      → (runs : List Run) × AreCalls befores now old new runs × ArePromised (reads_as old) (images old) (images new) runs
   all_calls befores now at old new past long runs =
       let are = all_runs befores now at old new runs.0 past long runs.1 in
       (runs.0, are, are_promised befores now old new runs.0 are)
 
   pub all_tell : (befores now : List (Call S K)) (at : ℕ) (old new : D) → length now ≤ at → length now ≡ length befores
-      → (runs : List Run) × AreRuns (take at befores) (take at now) old new runs → TellsAsBefore (reads_as old) (reads_as new)
+      → (runs : List Run) × AreCalls (take at befores) (take at now) old new runs → TellsAsBefore (reads_as old) (reads_as new)
   all_tell befores now at old new past long runs = tell_on befores now old new runs.0 (all_runs befores now at old new runs.0 past long runs.1)

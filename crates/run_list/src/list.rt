@@ -1,34 +1,45 @@
-// A list of runs.
+// A list of runs over a disk that crashes between them.
 ghost use Rattle.std.specs.Prelude.{◌≡◌, List};
 ghost use Rattle.outside.specs.Disk.{TellsAsBefore};
 ghost use Rattle.report_defs.specs.Survival.{Run};
 ghost use Rattle.report_defs.specs.Lists.{ArePromised};
-ghost use Rattle.run_list.specs.Runs.{IsRunOf, AreRunsOf};
+ghost use Rattle.run_list.specs.Runs.{IsRunOf, IsStoppedRunOf, IsCallOf, AreCallsOf};
 
 use node_run::{Status, run};
-use outside::{Disk, Sink, Source, Steps};
+use outside::{Crashing, Sink, Source, Steps};
 use std::alloc::Global;
 use std::sync::ledger::Ledger;
 
-/// A run that is asked for: its words, its streams, and the status that it ended with, None until it was run.
+/// A stop of a run: the disk lets this many calls of `write`, `cut` and `sync` through, or all of them, and after the run it is
+/// left as a crash leaves it. `pick` chooses among the images that the crash may leave.
+#[derive(Clone, Copy, Debug, PartialEq, Eq)]
+pub struct Stop {
+    pub pass: Option<u64>,
+    pub pick: u64,
+}
+
+/// A run that is asked for: its words, its streams, where it is stopped if it is, and the status that it ended with, None until it
+/// was run.
 #[derive(Drop)]
 pub struct Call<S, K> {
     pub words: Vec<String>,
     pub input: S,
     pub out: K,
+    pub stop: Option<Stop>,
     pub status: Option<Status>,
 }
 
-/// Runs each call, one after the other over one disk, and leaves in each the status that it ended with.
-pub fn run_all<S: Source, K: Sink, D: Disk, L: Ledger>(
+/// Runs each call, one after the other over one disk, and leaves in each the status that it ended with. A run that is stopped has the
+/// disk armed before it, and the disk crashes after it, whatever the run ended with.
+pub fn run_all<S: Source, K: Sink, D: Crashing, L: Ledger>(
     alloc: Global,
     calls: &mut [Call<S, K>],
     disk: &mut D,
     steps: &mut Steps<L>,
 )
-    // The calls were a list of runs, each as `run` promises, and all together as a list does.
+    // The calls were a list of runs, each as `run` promises, with a crash after each that is stopped, and all together as a list does.
     ensures runs { (runs : List Run)
-        × AreRunsOf S.left S.faults K.taken K.faults D.reads_as D.images D.moment D.left_since D.faults calls.old calls.new disk.old disk.new runs
+        × AreCallsOf S.left S.faults K.taken K.faults D.reads_as D.images D.moment D.left_since D.faults D.armed calls.old calls.new disk.old disk.new runs
         × ArePromised (D.reads_as disk.old) (D.images disk.old) (D.images disk.new) runs }
 
     // The disk tells what it reads as after the last run exactly where it told before the first.
@@ -39,15 +50,48 @@ pub fn run_all<S: Source, K: Sink, D: Disk, L: Ledger>(
     }
 }
 
-// Runs one call.
-fn run_call<S: Source, K: Sink, D: Disk, L: Ledger>(
+// Runs one call, and stops it where it is to be stopped.
+fn run_call<S: Source, K: Sink, D: Crashing, L: Ledger>(
     alloc: Global,
     call: &mut Call<S, K>,
     disk: &mut D,
     steps: &mut Steps<L>,
 )
     ensures runs { (run : Run)
-        × IsRunOf S.left S.faults K.taken K.faults D.reads_as D.images D.moment D.left_since D.faults call.old call.new disk.old disk.new run }
+        × IsCallOf S.left S.faults K.taken K.faults D.reads_as D.images D.moment D.left_since D.faults D.armed call.old call.new disk.old disk.new run }
+{
+    let stop = call.stop;
+    match stop {
+        None => run_once(alloc, call, disk, steps),
+        Some(stop) => run_stopped(alloc, call, &stop, disk, steps),
+    }
+}
+
+// Runs one call over an armed disk, which crashes after it.
+fn run_stopped<S: Source, K: Sink, D: Crashing, L: Ledger>(
+    alloc: Global,
+    call: &mut Call<S, K>,
+    stop: &Stop,
+    disk: &mut D,
+    steps: &mut Steps<L>,
+)
+    ensures runs { (run : Run)
+        × IsStoppedRunOf S.left S.faults K.taken K.faults D.reads_as D.images D.moment D.left_since D.faults D.armed stop.now call.old call.new disk.old disk.new run }
+{
+    disk.arm(stop.pass);
+    run_once(alloc, call, disk, steps);
+    disk.crash(stop.pick);
+}
+
+// Runs one call.
+fn run_once<S: Source, K: Sink, D: Crashing, L: Ledger>(
+    alloc: Global,
+    call: &mut Call<S, K>,
+    disk: &mut D,
+    steps: &mut Steps<L>,
+)
+    ensures runs { (run : Run)
+        × IsRunOf S.left S.faults K.taken K.faults D.reads_as D.images D.moment D.left_since D.faults D.armed call.old call.new disk.old disk.new run }
 {
     let status = run(
         alloc,

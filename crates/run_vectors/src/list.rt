@@ -35,6 +35,7 @@ fn run_of(
         words: words_of(alloc, words)?,
         input: behaviour.source_of(input, alloc)?,
         out: behaviour.sink(alloc)?,
+        stop: None,
         status: None,
     })
 }

@@ -1,7 +1,7 @@
 use Rattle.std.proofs.Common.{refl, ap, map, string_bytes}
 use Rattle.std.specs.Prelude.{Some}
 use Rattle.report_defs.specs.Words.{command_of}
-use Rattle.run_list.proofs.list.run_call.Goals as goal
+use Rattle.run_list.proofs.list.run_once.Goals as goal
 
 pub returns : goal.returns
 returns g c =
@@ -11,6 +11,7 @@ returns g c =
         record { command = command_of (map string_bytes c.deref.result.now); given = kept.0; taken = kept.1; status = Some c.run-status.result },
         record {
           words = refl;
+          stop = refl;
           command = ap (λ words. command_of (map string_bytes words)) c.deref.ensures.value;
           given = kept.2;
           taken = kept.3;
