@@ -1,7 +1,7 @@
 -- The cost of loading, and a program that runs alone.
 use Rattle.std.proofs.Common.{◌≡◌, ℕ, ◌+◌, ◌<◌, ◌≤◌, true, false, List, inl, inr, refl, ap, ◌∙◌, subst, arith}
 use Rattle.std.proofs.Math.Path.{fun_ext}
-use Rattle.std.specs.Prelude.{Option, Some, None, Result, Ok, Err, nat_lt}
+use Rattle.std.specs.Prelude.{Option, Some, None, Result, Ok, Err, IfOk, OnErr, nat_lt}
 use Rattle.std.proofs.lemmas.Bool.Decides.{nat_tests}
 use Rattle.outside.specs.Causes.{CountsFault, Rose}
 use Rattle.outside.specs.declared.disk.Damage.{Damage}
@@ -9,21 +9,26 @@ use Rattle.outside.specs.declared.disk.ReadStop.{ReadStop}
 use Rattle.outside.specs.declared.disk.ReadStop.TheVariants as read_stop
 use Rattle.vm_defs.specs.declared.outcome.Outcome.TheVariants.{Spent}
 use Rattle.vm_defs.specs.Alone.{answer_ecall, syscall_number}
-use Rattle.vm_defs.specs.Elf.{Program, Segment, load_elf}
+use Rattle.vm_defs.specs.Elf.{Program, Segment, load_elf, segments}
 use Rattle.vm_defs.specs.Memory.{Memory}
 use Rattle.vm_defs.specs.Step.{Machine, charged, step_of}
 use Rattle.vm_defs.specs.Program.{Answer, Ended, execution, loading_cycles, new_machine, run, run_loaded}
 use Rattle.sys_defs.specs.Table as table
 use Rattle.sys_defs.specs.Table.{deed_of}
-use Rattle.sys_defs.specs.World.{nothing}
+use Rattle.sys_defs.specs.World.{Items, nothing}
 use Rattle.sys_defs.specs.Answer.{syscall}
 use Rattle.sys_laws.proofs.AloneLaws.{runs-alone}
+use Rattle.vm_mem.specs.Pages.{IsAllocated}
+use Rattle.vm_step.specs.Running.{RunningMachine}
 use Rattle.elf_load.specs.Placing.{HoldsBytes}
 use Rattle.vm_sys.specs.Running.{LoadsBy, RunWants, RunWantsPage}
+use Rattle.vm_sys.proofs.RunLemmas.{wants-beyond}
 use Rattle.program_run.specs.declared.program.Execution.{Execution}
+use Rattle.program_run.specs.declared.program.Execution.TheVariants as executions
+use Rattle.program_run.specs.declared.program.Started.TheVariants as started
 use Rattle.program_run.specs.declared.program.Stopped.{Stopped}
 use Rattle.program_run.specs.declared.program.Stopped.TheVariants.{Loading, Running}
-use Rattle.program_run.specs.Program.{ProgramWants, ProgramWantsPage}
+use Rattle.program_run.specs.Program.{IsJudged, IsReady, IsStarted, KeepsBudget, PaysForLoading, ProgramWants, ProgramWantsPage, execution_of}
 
 -- ---- the cost of loading
 
@@ -48,6 +53,84 @@ ran-loaded answer budget program cost ended is within ran =
     let start = new_machine program.memory program.pc budget in
     let paid : nat_lt budget (0 + loading_cycles program.file_bytes) ≡ false = grind (arith, nat_tests, is, within) in
     rw paid (ran ∙ ap (λ (n : ℕ). run answer (charged start n)) is)
+
+-- ---- what a file begins as
+
+-- a file that begins as a machine holds the program of that machine
+ready-program : (budget : ℕ) (segs : List Segment) (loaded : Result Program ℕ) (ready : RunningMachine)
+    → IsStarted budget segs loaded (started.Ready ready) → (program : Program) × (loaded ≡ Ok program) × IsReady budget segs program ready
+ready-program budget segs (Ok program) ready is = (program, refl, is)
+ready-program budget segs (Err condition) ready is = absurd is
+
+ready-execution : (answer : Answer) (budget : ℕ) (file : List ℕ) (ready : RunningMachine)
+    → IsStarted budget (segments file) (load_elf file) (started.Ready ready) → Ok (run answer ready.machine) ≡ execution answer budget file
+unfolding execution
+ready-execution answer budget file ready is =
+    let found = ready-program budget (segments file) (load_elf file) ready is in
+    let ran : run answer ready.machine ≡ run_loaded answer budget found.0 =
+    ran-loaded answer budget found.0 (loading_cycles found.0.file_bytes) (run answer ready.machine) refl found.2.paid
+    (ap (run answer) found.2.machine) in
+    rw (found.1) (ap Ok ran)
+
+pub ready-came : (answer : Answer) (budget : ℕ) (file : List ℕ) (ready : RunningMachine)
+    → IsStarted budget (segments file) (load_elf file) (started.Ready ready) → (result : Result Execution Stopped)
+    → IfOk result (λ came. execution_of came ≡ Ok (run answer ready.machine))
+    → IfOk result (λ came. execution_of came ≡ execution answer budget file)
+ready-came answer budget file ready is (Ok came) ran = ran ∙ ready-execution answer budget file ready is
+ready-came answer budget file ready is (Err stop) ran = tt
+
+pub ready-judged : (budget : ℕ) (segs : List Segment) (loaded : Result Program ℕ) (ready : RunningMachine)
+    → IsStarted budget segs loaded (started.Ready ready) → (result : Result Execution Stopped)
+    → ((program : Program) → IfOk result (IsJudged (Ok program))) → IfOk result (IsJudged loaded)
+ready-judged budget segs (Ok program) ready is result judged = judged program
+ready-judged budget segs (Err condition) ready is result judged = absurd is
+
+pub ready-within : (budget : ℕ) (segs : List Segment) (loaded : Result Program ℕ) (ready : RunningMachine)
+    → IsStarted budget segs loaded (started.Ready ready) → (result : Result Execution Stopped)
+    → IfOk result (KeepsBudget ready.machine.budget) → IfOk result (KeepsBudget budget)
+ready-within budget segs (Ok program) ready is result within =
+    let same : ready.machine.budget ≡ budget =
+    ap (λ (machine : Machine). machine.budget) is.machine ∙ start-budget program.memory program.pc budget (loading_cycles program.file_bytes) in
+    subst (λ (most : ℕ). IfOk result (KeepsBudget most)) same within
+ready-within budget segs (Err condition) ready is result within = absurd is
+
+pub ready-paid : (budget : ℕ) (segs : List Segment) (loaded : Result Program ℕ) (ready : RunningMachine)
+    → IsStarted budget segs loaded (started.Ready ready) → PaysForLoading budget loaded
+ready-paid budget segs (Ok program) ready is = is.paid
+ready-paid budget segs (Err condition) ready is = absurd is
+
+pub ready-wants : (items : Items) (budget : ℕ) (segs : List Segment) (loaded : Result Program ℕ) (ready : RunningMachine)
+    → IsStarted budget segs loaded (started.Ready ready) → RunWants items (IsAllocated ready.allocated) ready.machine
+    → ProgramWants items budget segs loaded
+ready-wants items budget segs (Ok program) ready is wants =
+    subst (RunWants items (λ page. HoldsBytes page segs)) is.machine
+    (wants-beyond items (IsAllocated ready.allocated) (λ page. HoldsBytes page segs) ready.machine is.allocated wants)
+ready-wants items budget segs (Err condition) ready is wants = absurd is
+
+pub spent-came : (answer : Answer) (budget : ℕ) (file : List ℕ) (loaded : Result Program ℕ) (cycles : ℕ) → loaded ≡ load_elf file
+    → IsStarted budget (segments file) loaded (started.Spent cycles) → Ok (Spent, cycles) ≡ execution answer budget file
+spent-came answer budget file (Ok program) cycles held is = spent-loading answer budget file program cycles held is.0 is.1
+spent-came answer budget file (Err condition) cycles held is = absurd is
+
+pub spent-judged : (budget : ℕ) (segs : List Segment) (loaded : Result Program ℕ) (cycles : ℕ)
+    → IsStarted budget segs loaded (started.Spent cycles) → IsJudged loaded (executions.Ended Spent cycles)
+spent-judged budget segs (Ok program) cycles is = tt
+spent-judged budget segs (Err condition) cycles is = absurd is
+
+pub bad-elf-came : (answer : Answer) (budget : ℕ) (file : List ℕ) (loaded : Result Program ℕ) (condition : ℕ) → loaded ≡ load_elf file
+    → IsStarted budget (segments file) loaded (started.BadElf condition) → Err condition ≡ execution answer budget file
+unfolding execution
+bad-elf-came answer budget file (Ok program) condition held is = absurd is
+bad-elf-came answer budget file (Err expected) condition held is = rw (← held, is) refl
+
+pub bad-elf-judged : (budget : ℕ) (segs : List Segment) (loaded : Result Program ℕ) (condition : ℕ)
+    → IsStarted budget segs loaded (started.BadElf condition) → IsJudged loaded (executions.BadElf condition)
+bad-elf-judged budget segs (Ok program) condition is = absurd is
+bad-elf-judged budget segs (Err expected) condition is = is
+
+pub on-err : {A B P : Type 0} (result : Result A B) → P → OnErr result P
+on-err (Ok value) holds = tt
+on-err (Err stop) holds = holds
 
 -- ---- what a program did not end with
 

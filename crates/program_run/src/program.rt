@@ -1,18 +1,19 @@
 // A program's run: what alone touches the machine.
-ghost use Rattle.std.specs.Prelude.{◌≡◌, ℕ, ◌^◌, ◌≤◌, Some, Ok, Err, IfOk, OnErr, IsSome};
+ghost use Rattle.std.specs.Prelude.{◌≡◌, ℕ, ◌^◌, ◌≤◌, Some, Ok, Err, true, IfOk, OnErr, IsSome};
 ghost use Rattle.outside.specs.Causes.{CountsFault};
 ghost use Rattle.outside.specs.declared.disk.Area.TheVariants.{Log};
 ghost use Rattle.outside.specs.declared.disk.Damage.{Damage};
 ghost use Rattle.outside.specs.declared.disk.ReadStop.TheVariants as read_stop;
-ghost use Rattle.vm_defs.specs.Elf.{load_elf, segments};
+ghost use Rattle.vm_defs.specs.Elf.{Program, load_elf, segments};
 ghost use Rattle.vm_defs.specs.Alone as alone;
 ghost use Rattle.vm_defs.specs.Program as programs;
-ghost use Rattle.vm_defs.specs.Program.{execution, run_loaded};
+ghost use Rattle.vm_defs.specs.Program.{execution};
 ghost use Rattle.vm_mem.specs.Pages.{IsAllocated};
+ghost use Rattle.vm_sys.specs.Running.{RunWants};
 ghost use Rattle.sys_defs.specs.World.{Items};
 ghost use Rattle.sys_defs.specs.Answer.{syscall};
 ghost use Rattle.elf_load.specs.Placing.{HoldsBytes};
-ghost use Rattle.program_run.specs.Program.{IsJudged, KeepsBudget, PaysForLoading, ProgramWants, ProgramWantsPage, execution_of};
+ghost use Rattle.program_run.specs.Program.{IsJudged, IsStarted, KeepsBudget, PaysForLoading, ProgramWants, ProgramWantsPage, execution_of};
 
 use elf_load::{Judged, judge};
 use outside::{NoMemory, ReadStop};
@@ -28,6 +29,17 @@ pub enum Execution {
     /// Its program ended, after so many cycles.
     Ended { outcome: Outcome, cycles: u64 },
     /// It is no program: the number of the first condition that it meets.
+    BadElf(u8),
+}
+
+/// A program before its first step.
+#[derive(Drop)]
+pub enum Started {
+    /// Its machine, with the program in memory, and its loading paid for.
+    Ready(Machine),
+    /// Its loading alone passes the budget, and costs so many cycles.
+    Spent { cycles: u64 },
+    /// The file is no program: the number of the first condition that it meets.
     BadElf(u8),
 }
 
@@ -73,7 +85,6 @@ pub fn execute(alloc: Global, file: &[u8], budget: u64) -> Result<Execution, Out
 ///
 /// The file is judged, paid for and placed as by [`execute`], before the world is asked for anything. Over any world a
 /// file is no program where it meets a condition, and a program that exits did so within the budget.
-#[tactic(auto, unfolding(vm_defs::specs::Program::execution))]
 pub fn execute_in<W: World>(
     alloc: Global,
     file: &[u8],
@@ -94,56 +105,62 @@ pub fn execute_in<W: World>(
     ensures undamaged { IsSome (W.told world.old) → (damage : Damage) → result ≡ Err (Stopped.Running (read_stop.Damaged damage)) → ⊥ }
     ensures damage { (damage : Damage) → result ≡ Err (Stopped.Running (read_stop.Damaged damage)) → damage.area ≡ Log }
 {
+    match start(alloc, file, budget) {
+        Ok(Started::Ready(machine)) => run_started(machine, world),
+        Ok(Started::Spent { cycles }) => Ok(Execution::Ended {
+            outcome: Outcome::Spent,
+            cycles,
+        }),
+        Ok(Started::BadElf(condition)) => Ok(Execution::BadElf(condition)),
+        Err(_) => Err(Stopped::Loading),
+    }
+}
+
+/// The program of a file before its first step: the file is judged, its loading is paid for, and only then is memory
+/// taken and the program placed there.
+pub fn start(alloc: Global, file: &[u8], budget: u64) -> Result<Started, NoMemory>
+    requires { budget ≤ 2 ^ 40 }
+    ensures started { IfOk result (IsStarted budget (segments file.now) (load_elf file.now)) }
+    ensures paid { OnErr result (PaysForLoading budget (load_elf file.now)) }
+{
     let judged = match judge(file) {
         Ok(judged) => judged,
-        Err(condition) => return Ok(Execution::BadElf(condition)),
+        Err(condition) => return Ok(Started::BadElf(condition)),
     };
     let cost = loading_cycles(judged.file_bytes());
     if cost > budget {
-        return Ok(Execution::Ended {
-            outcome: Outcome::Spent,
-            cycles: cost,
-        });
+        return Ok(Started::Spent { cycles: cost });
     }
-    run_judged(alloc, &judged, budget, cost, world)
+    let memory = match loaded(alloc, &judged) {
+        Ok(memory) => memory,
+        Err(stop) => return Err(stop),
+    };
+    let machine = Machine::new(memory, judged.pc(), cost, budget);
+    Ok(Started::Ready(machine))
 }
 
-/// Places a file that was judged, and runs its program with the cost of loading paid.
-fn run_judged<W: World>(
-    alloc: Global,
-    judged: &Judged,
-    budget: u64,
-    cost: u64,
-    world: &mut W,
-) -> Result<Execution, Stopped>
-    requires bound { budget ≤ 2 ^ 40 }
-    requires cost { cost ≡ programs.loading_cycles judged.now.program.file_bytes }
-    requires paid { cost ≤ budget }
+/// Runs a program from its first step to its end.
+fn run_started<W: World>(mut machine: Machine, world: &mut W) -> Result<Execution, Stopped>
+    requires { machine.goes_on ≡ true }
     ensures told { W.told world.new ≡ W.told world.old }
     ensures loans { W.loans_of world.new ≡ W.loans_of world.old }
-    ensures came { (items : Items) → W.told world.old ≡ Some items → IfOk result (λ came. execution_of came ≡ Ok (run_loaded (syscall items) budget judged.now.program)) }
-    ensures elf { IfOk result (IsJudged (Ok judged.now.program)) }
-    ensures within { IfOk result (KeepsBudget budget) }
-    ensures loading { result ≡ Err Stopped.Loading → world.new ≡ world.old }
-    ensures running { (items : Items) → W.told world.old ≡ Some items → result ≡ Err (Stopped.Running read_stop.NoMemory) → ProgramWants items budget judged.now.segments (Ok judged.now.program) }
+    ensures came { (items : Items) → W.told world.old ≡ Some items → IfOk result (λ came. execution_of came ≡ Ok (programs.run (syscall items) machine.machine)) }
+    ensures elf { (program : Program) → IfOk result (IsJudged (Ok program)) }
+    ensures within { IfOk result (KeepsBudget machine.machine.budget) }
+    ensures loading { result ≡ Err Stopped.Loading → ⊥ }
+    ensures running { (items : Items) → W.told world.old ≡ Some items → result ≡ Err (Stopped.Running read_stop.NoMemory) → RunWants items (IsAllocated machine.allocated) machine.machine }
     ensures cause { CountsFault (W.faults world.old) (W.faults world.new) (result ≡ Err (Stopped.Running read_stop.DiskFault)) }
     ensures answered { ((damage : Damage) → result ≡ Err (Stopped.Running (read_stop.Damaged damage)) → ⊥) → W.damages world.new ≡ W.damages world.old }
     ensures undamaged { IsSome (W.told world.old) → (damage : Damage) → result ≡ Err (Stopped.Running (read_stop.Damaged damage)) → ⊥ }
     ensures damage { (damage : Damage) → result ≡ Err (Stopped.Running (read_stop.Damaged damage)) → damage.area ≡ Log }
 {
-    let memory = match loaded(alloc, judged) {
-        Ok(memory) => memory,
-        Err(_) => return Err(Stopped::Loading),
-    };
-    let mut machine = Machine::new(memory, judged.pc(), cost, budget);
-    let outcome = match run(&mut machine, world) {
-        Ok(outcome) => outcome,
-        Err(stop) => return Err(Stopped::Running(stop)),
-    };
-    Ok(Execution::Ended {
-        outcome,
-        cycles: machine.cycles(),
-    })
+    match run(&mut machine, world) {
+        Ok(outcome) => Ok(Execution::Ended {
+            outcome,
+            cycles: machine.cycles(),
+        }),
+        Err(stop) => Err(Stopped::Running(stop)),
+    }
 }
 
 /// The memory that the program of a file begins with.

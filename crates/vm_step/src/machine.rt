@@ -164,6 +164,13 @@ impl Machine {
         self.place.cycles
     }
 
+    /// The program counter: the address of the next instruction.
+    pub fn pc(&self) -> u64
+        ensures { result ≡ self.now.machine.pc }
+    {
+        self.place.pc
+    }
+
     /// The machine's memory, to be read and written.
     pub fn memory_mut(&mut self) -> &mut Memory
         ensures* lends { sem 𝓛 (LendsMemory self.entry result) }
