@@ -5,11 +5,13 @@
 #![tactic(auto)]
 
 mod areas;
+mod choices;
 mod failure_plan;
 mod history;
 mod mem_disk;
 mod memory;
 mod no_disk;
+mod tears;
 
 pub use mem_disk::MemDisk;
 pub use memory::{MemSink, MemSource};

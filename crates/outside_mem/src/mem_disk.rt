@@ -214,7 +214,7 @@ impl Crashing for MemDisk {
         ensures among { IfSome (Some (reads self.new.steps)) (MayLeave self.old.steps) }
         ensures one_image { HasOneImage (Some (reads self.new.steps)) (MayLeave self.new.steps) }
     {
-        self.history.crash();
+        self.history.crash(pick);
         self.plan.arm(None);
     }
 }
