@@ -140,18 +140,8 @@ fn crash_and_count<D: Crashing>(disk: &mut D, left: &mut Left, pick: u64) -> Res
     Ok(())
 }
 
-fn of_kind(left: &Left, kind: &str) -> Option<u64> {
-    match kind {
-        "torn" => Some(left.torn),
-        "past_end" => Some(left.past_end),
-        "cut_in_part" => Some(left.cut_in_part),
-        "as_read" => Some(left.as_read),
-        "as_before" => Some(left.as_before),
-        _ => None,
-    }
-}
-
-/// How many picks, from 0 on, a kind, and how many crashes at least leave something of it; none leaves what it may not.
+/// How many picks, from 0 on, and of how many crashes at least what they leave is torn, ends past an end, is a cut in part, is
+/// all as it read, and is as it was before. None leaves what it may not.
 pub(crate) fn agrees(alloc: Global, row: &mut Row) -> Option<bool> {
     let picks = row.number()?;
     let mut disk = MemDisk::new(alloc, Vec::new(alloc));
@@ -166,6 +156,10 @@ pub(crate) fn agrees(alloc: Global, row: &mut Row) -> Option<bool> {
     'picks: for pick in 0..picks {
         crash_and_count(&mut disk, &mut left, pick).ok()?;
     }
-    let met = of_kind(&left, row.word())?;
-    Some(left.odd == 0 && met >= row.number()?)
+    let torn = left.torn >= row.number()?;
+    let past_end = left.past_end >= row.number()?;
+    let cut_in_part = left.cut_in_part >= row.number()?;
+    let as_read = left.as_read >= row.number()?;
+    let as_before = left.as_before >= row.number()?;
+    Some(left.odd == 0 && torn && past_end && cut_in_part && as_read && as_before)
 }
