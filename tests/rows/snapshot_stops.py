@@ -29,7 +29,7 @@ FIRST_CALL, CALLS = 5000, 60
 def main():
     spec, genesis, blocks, _, _ = chaingen.make(5, EVERY + 1)
     chain = Chain(spec, genesis, blocks)
-    emit('faults', FIRST_CALL, CALLS)
+    emit('faults', 'disk', FIRST_CALL, CALLS)
     emit(NAME, 'init', 0, chain.init, b'genesis 0x%s\n' % chain.hashes[0].hex().encode())
     for first, last in ((1, EVERY - 1), (EVERY, EVERY + 1)):
         emit(NAME, 'import', 0, b''.join(chain.blocks[first:last + 1]),
