@@ -9,9 +9,9 @@ use Rattle.verdict_defs.specs.Chain.{Chain, chain_over}
 use Rattle.store_defs.specs.Store.{StandsFor}
 use Rattle.node_core.specs.Node.{IsOnlyImage}
 use Rattle.node_core.specs.Steps.{moves_to_open, steps_over}
-use Rattle.sessions.specs.declared.playing.Session.{Session}
-use Rattle.sessions.specs.declared.playing.End.{End}
-use Rattle.sessions.specs.declared.playing.End.TheVariants.{Whole, DiskFault, NoMemory}
+use Rattle.sessions.specs.declared.plan.Session.{Session}
+use Rattle.sessions.specs.declared.outcome.End.{End}
+use Rattle.sessions.specs.declared.outcome.End.TheVariants.{Whole, DiskFault, NoMemory}
 
 -- ---- Sessions and their conditions
 

@@ -5,6 +5,10 @@
 //! `node_core`'s, and what a crash leaves is the disk's own choice (`Crashing` of `outside`).
 #![tactic(auto)]
 
+mod outcome;
+mod plan;
 mod playing;
 
-pub use playing::{End, Played, Session, play, session};
+pub use outcome::{End, Played};
+pub use plan::Session;
+pub use playing::{play, session};

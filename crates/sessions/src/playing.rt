@@ -1,43 +1,18 @@
 // Sessions over one disk, each of which ends in a crash.
-ghost use Rattle.std.specs.Prelude.{◌≡◌, ◌×◌, ◌+◌, ◌≤◌, map, All, IfOk, OnErr, IsSome};
+ghost use Rattle.std.specs.Prelude.{◌≡◌, ◌↔◌, ◌+◌, ◌≤◌, length, map, All, IfOk, OnErr, IsSome};
 ghost use Rattle.outside.specs.Causes.{CountsFault, up_to_last};
+ghost use Rattle.outside.specs.Image.{Image};
 ghost use Rattle.verdict_defs.specs.Chain.{Chain};
 ghost use Rattle.node_core.specs.Node.{IsOnlyImage, IsOn};
 ghost use Rattle.node_core.specs.Steps.{moves_to_open, steps_over};
 ghost use Rattle.sessions.specs.Sessions.{items_in, items_of, AreShort, IsShort, HasSoundImage, KeepsPrefix, IsEndOf, IsSession, ArePlayed, IsKeptAfter, fault_ends};
 
+use crate::outcome::{End, Played};
+use crate::plan::Session;
 use node_core::{HELD, LogStop, Node};
 use outside::{Crashing, Disk, NoMemory, ReadStop, Steps};
 use std::alloc::Global;
 use std::sync::ledger::Ledger;
-
-/// What a session imports, and how it is stopped.
-#[derive(Drop)]
-pub struct Session {
-    /// Items, each a block, of fewer than 2^31 bytes.
-    pub items: Vec<Vec<u8>>,
-    /// How many calls of `write`, `cut` and `sync` the disk lets through before every call fails. None: it lets all through.
-    pub pass: Option<u64>,
-    /// Which of the images that a crash may leave is left.
-    pub pick: u64,
-}
-
-/// How a session ended.
-#[derive(Clone, Copy, Debug, PartialEq, Eq)]
-pub enum End {
-    /// The store was opened, and every item got a verdict.
-    Whole,
-    DiskFault,
-    NoMemory,
-}
-
-/// What came of sessions, one entry for each.
-#[derive(Drop)]
-pub struct Played {
-    /// How many of its items got a verdict.
-    pub acked: Vec<u64>,
-    pub ends: Vec<End>,
-}
 
 /// Arms the disk, opens its store, imports the items up to the first stop, and crashes, in this order. Answers how many items got
 /// a verdict, and how it ended. An item that was stopped may have been kept.
