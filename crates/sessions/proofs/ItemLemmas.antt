@@ -1,6 +1,6 @@
 -- A store that was opened, and its items one after the other.
-use Rattle.std.proofs.Common.{◌≡◌, ◌⊎◌, inl, inr, ℕ, ◌+◌, ◌<◌, ◌≤◌, List, [], ◌∷◌, ◌++◌, Vec, Global, map, length, take, drop, get_or, refl, ap, sym, ◌∙◌, subst, arith}
-use Rattle.std.specs.Prelude.{Option, Some, None, IfSome, IsSome, is_some}
+use Rattle.std.proofs.Common.{◌≡◌, ◌⊎◌, inl, inr, ℕ, ◌+◌, ◌<◌, ◌≤◌, List, [], ◌∷◌, ◌++◌, Vec, Global, length, take, drop, get_or, refl, ap, sym, ◌∙◌, subst, arith}
+use Rattle.std.specs.Prelude.{Option, Some, None, Result, Err, IfSome, IsSome, is_some}
 use Rattle.std.proofs.lemmas.List.{take_more, drop_more, get_or-map, length-map, take_all}
 use Rattle.outside.specs.Image.{Image}
 use Rattle.outside.specs.Disk.{LeavesOnly, OthersRead}
@@ -15,7 +15,7 @@ use Rattle.node_core.specs.Snapshot.{OthersReadBut}
 use Rattle.node_core.specs.Steps.{moves_for, steps_over}
 use Rattle.sessions.specs.declared.outcome.End.{End}
 use Rattle.sessions.specs.declared.outcome.End.TheVariants.{Whole}
-use Rattle.sessions.specs.Sessions.{items_in, IsKeptCount, KeepsPrefix, IsEndOf}
+use Rattle.sessions.specs.Sessions.{items_in, KeepsPrefix, IsEndOf}
 
 -- ---- A disk that tells
 
@@ -40,9 +40,12 @@ module _ (chain : Chain) (reads : Option Image) (images : Image → Type 0) (onl
   pub only_sound : (image : Image) → images image → IsSound image
   only_sound image left = (chain, only_stands image left)
 
+  pub only_keeps : store_of only.now ≡ Keeps chain
+  only_keeps = ((stands_for_what_it_keeps chain only.now).0 only.stands).1
+
   -- the node's chain is the one that the disk stands for
   pub only_opened : (opened : Chain) → IfSome reads (λ now. store_of now ≡ Keeps opened) → opened ≡ chain
-  only_opened opened kept = same opened chain (sym there ∙ ((stands_for_what_it_keeps chain only.now).0 only.stands).1)
+  only_opened opened kept = same opened chain (sym there ∙ only_keeps)
     where
       there : store_of only.now ≡ Keeps opened
       there = subst (λ (r : Option Image). IfSome r (λ now. store_of now ≡ Keeps opened)) only.told kept
@@ -100,9 +103,9 @@ module _ (items : List (List ℕ)) (i : ℕ) (item : List ℕ) (within : i < len
   pub steps_left : (now : Chain) → steps_over now (drop i items) ≡ moves_for now item + steps_over (chain_after now item) (drop (i + 1) items)
   steps_left now = ap (steps_over now) one_fewer
 
-pub all_keep : (chain now : Chain) (items : List (List ℕ)) (i : ℕ) → length items ≤ i → i ≤ length items → now ≡ chain_over chain (take i items)
+pub all_keep : (chain now : Chain) (items : List (List ℕ)) (i : ℕ) → length items ≤ i → now ≡ chain_over chain (take i items)
     → (image : Image) → StandsFor now image → KeepsPrefix chain items (length items) image
-all_keep chain now items i past within is image stands = (
+all_keep chain now items i past is image stands = (
   length items,
   record { acknowledged = omega arith; one_more = omega arith; most = omega arith },
   subst (λ (k : Chain). StandsFor k image) (is ∙ ap (chain_over chain) (take_all i items past ∙ sym (take_all (length items) items (omega arith)))) stands,
@@ -135,6 +138,9 @@ module _ {D : Type 0} (images : D → Image → Type 0) (moment : D → ℕ) (le
       one_of (inr stands) = stands
 
 -- ---- How it ends
+
+pub same_error : {T E : Type 0} (one other : E) → ◌≡◌ {A = Result T E} (Err one) (Err other) → one ≡ other
+same_error one other same = cc
 
 pub ends_early : (size acked : ℕ) (end : End) → acked < size → (end ≡ Whole → ⊥) → IsEndOf size acked end
 ends_early size acked end early stopped = record {

@@ -1,9 +1,10 @@
-use Rattle.std.proofs.Common.{◌≡◌, ◌+◌, ◌<◌, length, drop, get_or, ap, ◌∙◌, arith}
-use Rattle.outside.proofs.Endings.{no_answer}
+use Rattle.std.proofs.Common.{◌≡◌, ℕ, ◌+◌, ◌<◌, ◌≤◌, length, drop, get_or, ap, ◌∙◌, subst, arith}
+use Rattle.std.specs.Prelude.{Err}
+use Rattle.outside.proofs.Endings.{counts-as, behind, no_answer}
 use Rattle.verdict_defs.specs.Chain.{Chain}
 use Rattle.node_core.specs.Steps.{steps_over}
-use Rattle.sessions.specs.Sessions.{items_in}
-use Rattle.sessions.proofs.ItemLemmas.{on_sound, one_in, as_many, chain_more, steps_left, stopped_import}
+use Rattle.sessions.specs.Sessions.{items_in, KeepsPrefix}
+use Rattle.sessions.proofs.ItemLemmas.{only_stands, all_keep, same_error, on_sound, one_in, as_many, chain_more, steps_left, stopped_import}
 use Rattle.sessions.proofs.playing.import_items.Goals as goal
 
 pub returns-in-Err-clause-kept : goal.returns-in-Err-clause-kept
@@ -46,3 +47,18 @@ importing-preserved g c =
       left = omega (arith, c.in-Ok.ensures.most, left, same, c.importing.invariant.left);
       within = omega (arith, c.importing-test.true);
     }
+
+pub returns-in-Err-clause-fault : goal.returns-in-Err-clause-fault
+returns-in-Err-clause-fault g c =
+    behind c.importing.invariant.unchanged
+    (counts-as c.in-Err.ensures.cause (λ e. ap Err (c.end_of_import.ensures.fault.0 e)) (λ e. c.end_of_import.ensures.fault.1 (same_error _ _ e)))
+
+pub returns-clause-kept : goal.returns-clause-kept
+returns-clause-kept g c = λ image left.
+    let items = c.args.items.now in
+    let chain = c.args.opened.chain in
+    let now = c.importing.node.chain in
+    let past : length (items_in items) ≤ c.importing.i = omega (arith, c.importing-test.false, as_many items) in
+    let stands = only_stands now (g.D.Disk.reads_as c.importing.disk) (g.D.Disk.images c.importing.disk) c.importing.invariant.on.image image left in
+    subst (λ (n : ℕ). KeepsPrefix chain (items_in items) n image) (as_many items)
+    (all_keep chain now (items_in items) c.importing.i past c.importing.invariant.kept image stands)
