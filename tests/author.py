@@ -21,6 +21,7 @@ from harness import SCRIPT, SCRIPTS, TOP, Wrong, must, must_be, new_folder  # no
 import script_machine  # noqa: E402
 
 COMPILER = 'riscv64-unknown-elf-gcc'
+TRACER = os.path.join(TOP, 'ckbtrace')
 # what stands in docs/MACHINE.md of this version of the compiler; another makes other cycles
 VERSION = '12.2.0'
 BUDGET = '10000000'
@@ -57,7 +58,7 @@ def interpreter(folder):
 
 
 class Machine:
-    """Runs a file by `exec` and by the interpreter, whose lines must be one."""
+    """Runs a file by `exec`, by `ckbtrace` and by the interpreter, whose lines must be one."""
 
     def __init__(self, folder):
         self.rvref = interpreter(folder)
@@ -66,6 +67,10 @@ class Machine:
         with open(path, 'rb') as f:
             ran = subprocess.run([SCRIPT, 'any', 'exec', budget], stdin=f, stdout=subprocess.PIPE, stderr=subprocess.DEVNULL)
         line = ran.stdout.decode().rstrip('\n')
+        with open(path, 'rb') as f:
+            ran = subprocess.run([TRACER, budget], stdin=f, stdout=subprocess.PIPE, stderr=subprocess.DEVNULL)
+        traced = [it for it in ran.stdout.decode().splitlines() if not it.startswith('text ')]
+        must_be(traced[0], line, 'the page of %s' % path)
         # the interpreter reads no file above 1 MiB
         if os.path.getsize(path) <= 1 << 20:
             must_be(line, printed([self.rvref, path, budget], None).rstrip('\n'), 'the line of %s' % path)
@@ -97,9 +102,9 @@ def commands_of(page):
         text = text[text.index('\n## Building a program\n'):]
     for block in re.findall(r'(?m)(?:^    \S.*\n)+', text):
         lines = [line[4:] for line in block.splitlines()]
-        if not lines[0].startswith(('sh examples/', './ckbdev ')):
+        if not lines[0].startswith(('sh examples/', './ckbdev ', './ckbtrace ')):
             continue
-        at = [i for i, line in enumerate(lines) if line.startswith(('sh ', './ckbdev '))] + [len(lines)]
+        at = [i for i, line in enumerate(lines) if line.startswith(('sh ', './ckbdev ', './ckbtrace '))] + [len(lines)]
         for start, end in zip(at, at[1:]):
             yield lines[start], ''.join(line + '\n' for line in lines[start + 1:end])
 
@@ -109,7 +114,7 @@ def without_cycles(text):
 
 
 def check_pages(machine, folder):
-    for name in ('ckbdev', 'examples', 'bench'):
+    for name in ('ckbdev', 'ckbtrace', 'examples', 'bench'):
         os.symlink(os.path.join(TOP, name), os.path.join(folder, name))
     version = printed([COMPILER, '-dumpversion'], None).strip()
     kept = (lambda text: text) if version == VERSION else without_cycles

@@ -25,6 +25,7 @@ import json_texts  # noqa: E402
 import script  # noqa: E402
 import stored  # noqa: E402
 import streams  # noqa: E402
+import tracing  # noqa: E402
 from harness import TOP, Wrong  # noqa: E402
 
 
@@ -37,7 +38,7 @@ def main():
     a.add_argument('--program')
     a.add_argument('words', nargs='*')
     a = a.parse_args()
-    modules = streams, json_texts, folders, allocations, chain_snapshots, script, stored
+    modules = streams, json_texts, folders, allocations, chain_snapshots, script, tracing, stored
     checks = [it for module in modules for it in checks_of(module)]
     checks = [it for it in checks if not a.words or any(word in it[0] for word in a.words)]
     program = a.program and os.path.abspath(a.program)

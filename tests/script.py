@@ -303,7 +303,7 @@ def check_script_survives_a_broken_build(_):
             for pid in (process.pid, *build):
                 os.kill(pid, number)
             process.communicate(timeout=SECONDS)
-            must(not os.path.exists(it.at('build/stamp')), 'a build that was interrupted left a stamp')
+            must(not os.path.exists(it.at('build/ckbdev.stamp')), 'a build that was interrupted left a stamp')
         it.must_run(b'one', it.builds() + 1, 'after broken builds')
         must_be(it.copies(), [], 'what is left of broken builds')
 

@@ -1,7 +1,9 @@
 #!/usr/bin/env python3
-"""Builds the program ckbdev for the script of that name, and says on standard error how far it is.
+"""Builds a program for the script of its name, and says on standard error how far it is.
 
-The gate's build is taken where `rt ci` in this checkout made and ran one of these
+    tools/build.py [NAME]
+
+NAME is ckbdev or ckbtrace; without a word it is ckbdev. The gate's build is taken where `rt ci` in this checkout made and ran one of these
 sources. Else, where earlier checks left their work in each crate, `rt run` goes on
 from it. Else the crates below the program, without tests and must-fail edits, go
 through `rt ci` in a copy of their own: it proves them from nothing, on all
@@ -23,12 +25,13 @@ import tempfile
 import time
 
 TOP = os.path.dirname(os.path.dirname(os.path.abspath(__file__)))
-NAME = 'ckbdev'
+PROGRAMS = ('ckbdev', 'ckbtrace')
+NAME = (sys.argv[1:] or PROGRAMS)[0]
 OUT = os.path.join(TOP, 'crates', NAME, 'out')
 BUILD = os.path.join(TOP, 'build')
-PROGRAM, STAMP = os.path.join(BUILD, NAME), os.path.join(BUILD, 'stamp')
+PROGRAM, STAMP = os.path.join(BUILD, NAME), os.path.join(BUILD, NAME + '.stamp')
 # what `rt version` printed
-PROVED_WITH = os.path.join(BUILD, 'proved-with')
+PROVED_WITH = os.path.join(BUILD, NAME + '.proved-with')
 SOURCES = ('src', 'specs', 'proofs')
 STORED_RUN = ('args', 'stdin', 'stdout', 'status')
 
@@ -38,7 +41,7 @@ class Failed(Exception):
 
 
 def say(text):
-    print('ckbdev: ' + text, file=sys.stderr, flush=True)
+    print(NAME + ': ' + text, file=sys.stderr, flush=True)
 
 
 def uses_of_crates():
@@ -236,8 +239,8 @@ def built_over_work():
 
 def built_anew(uses, room):
     crates = crates_below(uses)
-    say('building: proving the program and the crates below it, %d in all; about a quarter of an hour where there '
-        'are four processors, once' % len(crates))
+    say('building: proving the program and the crates below it, %d in all; %s where there are four processors, once'
+        % (len(crates), 'about a quarter of an hour' if NAME == PROGRAMS[0] else 'some minutes'))
     copy_to(room, uses)
     run(['rt', 'ci'], room, crates)
     return os.path.join(room, 'crates', NAME, 'out', NAME)
@@ -268,6 +271,9 @@ def build():
 
 
 def main():
+    if sys.argv[2:] or NAME not in PROGRAMS:
+        say('there is no such program')
+        return 2
     # so that what was started ends, and the copy goes, where this is stopped
     for number in (signal.SIGTERM, signal.SIGHUP):
         signal.signal(number, lambda number, _: sys.exit(128 + number))
