@@ -59,7 +59,8 @@ def put(folder, image):
 def must_import(program, folder, chain, first, last, what, known=()):
     """The blocks from a place to another join, but for those that are known."""
     ran = Ran([program, folder, 'import'], b''.join(chain.blocks[first:last + 1]))
-    must_answer(ran, 0, b''.join(chain.known(it) if it in known else chain.line(b'joined', it) for it in range(first, last + 1)), what)
+    lines = [chain.known(it) if it in known else chain.line(b'joined', it) for it in range(first, last + 1)]
+    must_answer(ran, 0, b''.join(lines), what)
 
 
 def must_answer_as_replayed(program, folder, chain, count, what):
@@ -70,8 +71,8 @@ def must_answer_as_replayed(program, folder, chain, count, what):
 
 
 def check_snapshots_of_a_chain(program):
-    """One at each 1,000 blocks, in turns: behind them the opening that loads one and goes to another branch answers as a replay, and
-    what it has is the next snapshot."""
+    """One at each 1,000 blocks, in turns. Behind the third an opening that goes from it to another branch answers as a replay, and what
+    it has then is the next snapshot."""
     chain = chain_of(4 * EVERY)
     must(chain.tip(EVERY) != EVERY and chain.tip(2 * EVERY) == 2 * EVERY, 'the first is of another block, the second of its own')
     must(chain.tip(3 * EVERY) < PARTS < chain.tip(OVER), 'the branch of the third is left behind it')

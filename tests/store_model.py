@@ -134,8 +134,8 @@ class Chain:
 
     @functools.lru_cache(maxsize=None)
     def answers(self, count, other=0):
-        """Out-points that a wrong set of live cells would lack or have, with what `cell` prints of each behind so many blocks: of the
-        cells that the newest blocks made, on the tip's branch and on that of the tip behind fewer blocks."""
+        """Out-points that a wrong set of live cells would lack or have, with what `cell` prints of each behind so many
+        blocks: those that the newest blocks made, on the tip's branch and on that of the tip behind fewer blocks."""
         points = [point for point, _ in self.events[self.tip(count)][0][1]]
         for place in dict.fromkeys((self.tip(count), count, self.tip(other or count))):
             coins = []

@@ -23,7 +23,7 @@ from store_model import Chain  # noqa: E402
 NAME = 'stops of a snapshot'
 EVERY = 1000
 # a number of a call before those of the import that takes the snapshot, and how many calls there are from it on
-FIRST_CALL, CALLS = 5000, 60
+FIRST_CALL, CALLS = 4868, 60
 
 
 def main():
