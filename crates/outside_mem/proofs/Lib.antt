@@ -1,1 +1,3 @@
+pub mod OtherBytes
+pub mod Remains
 pub mod MemoryDisk

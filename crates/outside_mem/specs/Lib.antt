@@ -1,2 +1,4 @@
 pub mod Memory
+pub mod Stored
 pub mod MemoryDisk
+pub mod Remains

@@ -11,7 +11,7 @@ pub record Plan : Type 0 where
   pub calls : ℕ
   pub failed : ℕ
 
--- no call was made yet
+-- no call was made yet, and nothing is armed; a stream stays so
 abbrev pub fresh_plan : List ℕ → Plan
 fresh_plan failing = record { failing = failing; armed = None; calls = 0; failed = 0 }
 

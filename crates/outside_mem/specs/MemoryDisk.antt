@@ -1,5 +1,5 @@
 -- What contracts see of a `MemDisk`: the calls that changed it, and what follows from them (docs/DECISIONS.md, "The outside").
-use Rattle.std.specs.Prelude.{◌≡◌, ◌⊎◌, ◌↔◌, ℕ, ◌+◌, ◌≤◌, nat_le, List, [], ◌∷◌, length, map, reverse, Some, if◌then◌else◌}
+use Rattle.std.specs.Prelude.{◌≡◌, ◌⊎◌, ◌↔◌, ℕ, ◌+◌, ◌-◌, ◌≤◌, nat_le, List, [], ◌∷◌, length, map, reverse, Some, if◌then◌else◌}
 use Rattle.std.proofs.Common.{inl, inr, sym, ap, subst}
 use Rattle.std.proofs.Math.Nat.{lt_irrefl, le_refl}
 use Rattle.outside.specs.declared.disk.Area.{Area}
@@ -9,6 +9,7 @@ use Rattle.outside.specs.Causes.{up_to_last}
 use Rattle.outside.specs.Image.{Image, content, InArea}
 use Rattle.outside.specs.Disk.{write_area, cut_area, Torn, Cut, ComesBy, IsAsBefore}
 use Rattle.outside_mem.specs.Memory.{Plan}
+use Rattle.outside_mem.specs.Stored.{image_of}
 
 -- A call that changed the disk, or what a crash may leave of it, or a crash.
 pub data Step : Type 0 where
@@ -84,10 +85,10 @@ BeginsAnew old new = ((old ≡ []) × (new ≡ [])) ⊎ ((image : Image) × MayL
 
 -- the record that the code keeps, oldest first
 abbrev pub step_of : Recorded → Step
-step_of (Write area at piece lost) = Wrote area at piece.value.items lost
+step_of (Write area at piece size) = Wrote area at piece.value.items (size - length piece.value.items)
 step_of (CutShort area len left) = Shortened area len left
 step_of (Sync area) = Synced area
-step_of (Crash areas) = Crashed areas.value
+step_of (Crash areas) = Crashed (image_of areas.value)
 
 abbrev pub steps_of : List Recorded → List Step
 steps_of recorded = reverse (map step_of recorded)

@@ -1,9 +1,14 @@
-// Three areas of bytes in memory.
-ghost use Rattle.std.specs.Prelude.{◌≡◌, ◌≤◌, length, take, OnOk, OnErr};
-ghost use Rattle.outside.specs.Image.{Image, content};
-ghost use Rattle.outside.specs.Disk.{written, write_area, cut_area};
-ghost use Rattle.outside_mem.specs.MemoryDisk.{empty};
+// Three areas of bytes in memory, with what a crash may leave of them.
+ghost use Rattle.std.specs.Prelude.{◌≡◌, ◌≤◌, ◌+◌, ◌<◌, ◌^◌, List, ℕ, length, take, OnOk, OnErr};
+ghost use Rattle.outside.specs.declared.disk.Area.{Area};
+ghost use Rattle.outside.specs.Disk.{written};
+ghost use Rattle.outside_mem.specs.Stored.{Stored, Parts, part, with_part, shown, nothing, after_write, after_cut, after_sync, IsSettled};
+ghost use Rattle.outside_mem.specs.MemoryDisk.{steps_of};
+ghost use Rattle.outside_mem.specs.Remains.{HoldsIn, Holds, LeavesIn};
 
+use crate::choices::Choices;
+use crate::history::Recorded;
+use crate::tears::tear;
 use outside::{Area, NoMemory};
 use std::alloc::Global;
 use std::marker::Model;
@@ -11,60 +16,177 @@ use std::marker::Model;
 /// The bytes of the three areas.
 #[derive(Drop)]
 pub(crate) struct Areas {
-    log: Vec<u8>,
-    snap_a: Vec<u8>,
-    snap_b: Vec<u8>,
+    log: Part,
+    snap_a: Part,
+    snap_b: Part,
+}
+
+/// The bytes of one area. Behind the `len` that it reads as lies what was cut since the last sync. A crash leaves `least`
+/// of them at least.
+#[derive(Drop)]
+pub(crate) struct Part {
+    bytes: Vec<u8>,
+    len: usize,
+    least: usize,
 }
 
 impl Model for Areas {
-    ghost use Rattle.outside.specs.Image.{Image};
+    ghost use Rattle.outside_mem.specs.Stored.{Parts};
 
-    ghost Value = { Image };
+    ghost Value = { Parts };
 
-    ghost view = { λ areas. record { log = areas.log.items; snap_a = areas.snap_a.items; snap_b = areas.snap_b.items } };
+    ghost view = { λ areas. record { log = areas.log; snap_a = areas.snap_a; snap_b = areas.snap_b } };
+}
+
+impl Model for Part {
+    ghost use Rattle.outside_mem.specs.Stored.{Stored};
+
+    ghost Value = { Stored };
+
+    ghost view = { λ part. record { bytes = part.bytes.items; len = part.len; least = part.least } };
 }
 
 impl Areas {
     pub(crate) fn new(alloc: Global) -> Areas
-        ensures { result ≡ empty }
+        ensures { result ≡ record { log = nothing; snap_a = nothing; snap_b = nothing } }
     {
         Areas {
-            log: Vec::new(alloc),
-            snap_a: Vec::new(alloc),
-            snap_b: Vec::new(alloc),
+            log: Part::new(alloc),
+            snap_a: Part::new(alloc),
+            snap_b: Part::new(alloc),
         }
     }
 
     pub(crate) fn bytes(&self, area: Area) -> &[u8]
-        ensures { result.now ≡ content area self.now }
+        requires { (part area self.now).len ≤ length (part area self.now).bytes }
+        ensures { result.now ≡ shown (part area self.now) }
     {
         match area {
-            Area::Log => &self.log,
-            Area::SnapA => &self.snap_a,
-            Area::SnapB => &self.snap_b,
+            Area::Log => self.log.shown(),
+            Area::SnapA => self.snap_a.shown(),
+            Area::SnapB => self.snap_b.shown(),
         }
     }
 
     /// Writes over what is there, and past the end. Without memory it changes nothing.
     pub(crate) fn write(&mut self, area: Area, at: usize, piece: &[u8]) -> Result<(), NoMemory>
-        requires { at ≤ length (content area self.old) }
-        ensures written { OnOk result (self.new ≡ write_area area at piece.now self.old) }
+        requires { at ≤ length (part area self.old).bytes }
+        ensures written { OnOk result (self.new ≡ with_part area (after_write at piece.now (part area self.old)) self.old) }
         ensures kept { OnErr result (self.new ≡ self.old) }
     {
         match area {
-            Area::Log => write_over(&mut self.log, at, piece),
-            Area::SnapA => write_over(&mut self.snap_a, at, piece),
-            Area::SnapB => write_over(&mut self.snap_b, at, piece),
+            Area::Log => self.log.write(at, piece),
+            Area::SnapA => self.snap_a.write(at, piece),
+            Area::SnapB => self.snap_b.write(at, piece),
         }
     }
 
-    pub(crate) fn cut(&mut self, area: Area, len: usize)
-        ensures { self.new ≡ cut_area area len self.old }
+    /// Cuts to `len` and `left` more bytes.
+    pub(crate) fn cut(&mut self, area: Area, len: usize, left: usize)
+        requires { len + left < 2 ^ 64 }
+        ensures { self.new ≡ with_part area (after_cut len left (part area self.old)) self.old }
     {
         match area {
-            Area::Log => self.log.truncate(len),
-            Area::SnapA => self.snap_a.truncate(len),
-            Area::SnapB => self.snap_b.truncate(len),
+            Area::Log => self.log.cut(len, left),
+            Area::SnapA => self.snap_a.cut(len, left),
+            Area::SnapB => self.snap_b.cut(len, left),
+        }
+    }
+
+    pub(crate) fn sync(&mut self, area: Area)
+        ensures { self.new ≡ with_part area (after_sync (part area self.old)) self.old }
+    {
+        match area {
+            Area::Log => self.log.sync(),
+            Area::SnapA => self.snap_a.sync(),
+            Area::SnapB => self.snap_b.sync(),
+        }
+    }
+
+    /// Leaves of each area what a crash may leave after these calls.
+    pub(crate) fn crash(&mut self, recorded: &[Recorded], choices: &mut Choices)
+        requires { Holds (steps_of recorded.now) self.old }
+        ensures leaves { (area : Area) → LeavesIn area (steps_of recorded.now) (part area self.new).bytes }
+        ensures settled { (area : Area) → IsSettled (part area self.new) }
+    {
+        self.log.crash(Area::Log, recorded, choices);
+        self.snap_a.crash(Area::SnapA, recorded, choices);
+        self.snap_b.crash(Area::SnapB, recorded, choices);
+    }
+}
+
+impl Part {
+    fn new(alloc: Global) -> Part
+        ensures { result ≡ nothing }
+    {
+        Part {
+            bytes: Vec::new(alloc),
+            len: 0,
+            least: 0,
+        }
+    }
+
+    fn shown(&self) -> &[u8]
+        requires { self.now.len ≤ length self.now.bytes }
+        ensures { result.now ≡ shown self.now }
+    {
+        &self.bytes[..self.len]
+    }
+
+    fn write(&mut self, at: usize, piece: &[u8]) -> Result<(), NoMemory>
+        requires { at ≤ length self.old.bytes }
+        ensures written { OnOk result (self.new ≡ after_write at piece.now self.old) }
+        ensures kept { OnErr result (self.new ≡ self.old) }
+    {
+        write_over(&mut self.bytes, at, piece)?;
+        self.len = self.len.max(at + piece.len());
+        Ok(())
+    }
+
+    fn cut(&mut self, len: usize, left: usize)
+        requires { len + left < 2 ^ 64 }
+        ensures { self.new ≡ after_cut len left self.old }
+    {
+        self.len = self.len.min(len + left);
+        self.least = self.least.min(len);
+    }
+
+    fn sync(&mut self)
+        ensures { self.new ≡ after_sync self.old }
+    {
+        self.bytes.truncate(self.len);
+        self.least = self.len;
+    }
+
+    /// As it reads; or of a length that a crash may leave, with other bytes in the writes that no sync has followed.
+    fn crash(&mut self, area: Area, recorded: &[Recorded], choices: &mut Choices)
+        requires { HoldsIn area (steps_of recorded.now) self.old }
+        ensures leaves { LeavesIn area (steps_of recorded.now) self.new.bytes }
+        ensures settled { IsSettled self.new }
+    {
+        let as_read = choices.below(4) == 0;
+        let kept = if as_read {
+            self.len
+        } else {
+            self.some_length(choices)
+        };
+        self.bytes.truncate(kept);
+        if !as_read {
+            tear(&mut self.bytes, area, recorded, choices);
+        }
+        self.len = self.bytes.len();
+        self.least = self.len;
+    }
+
+    /// A length that a crash may leave: the least, all with the end that was cut, or one between.
+    fn some_length(&self, choices: &mut Choices) -> usize
+        requires { self.now.least ≤ length self.now.bytes }
+        ensures { self.now.least ≤ result }
+    {
+        match choices.below(4) {
+            0 => self.least,
+            1 => self.bytes.len(),
+            _ => self.least + choices.below(self.bytes.len() - self.least + 1),
         }
     }
 }

@@ -4,6 +4,7 @@ ghost use Rattle.outside.specs.Image.{content};
 ghost use Rattle.outside_mem.specs.MemoryDisk.{Wrote, Shortened, Synced, WritesInPart, BeginsAnew, reads};
 
 use crate::areas::Areas;
+use crate::choices::Choices;
 use crate::failure_plan::Tear;
 use outside::{Area, NoMemory};
 use std::alloc::Global;
@@ -13,7 +14,7 @@ use std::snapshot::Snapshot;
 /// A call that changed the areas. What it wrote lies in them, and here for clauses alone.
 #[derive(Drop)]
 pub(crate) enum Recorded {
-    /// Where it wrote, what, and how many bytes after it that it did not come to.
+    /// Where it wrote, what, and how many bytes it was to write.
     Write(Area, u64, Snapshot<Vec<u8>>, usize),
     /// The length that it cut to, and how many bytes after it that it left.
     Cut(Area, u64, u64),
@@ -32,13 +33,14 @@ pub(crate) struct History {
 
 impl Model for History {
     ghost use Rattle.std.specs.Prelude.{◌≡◌, List};
-    ghost use Rattle.outside_mem.specs.MemoryDisk.{Step, steps_of, reads};
+    ghost use Rattle.outside_mem.specs.MemoryDisk.{Step, steps_of};
+    ghost use Rattle.outside_mem.specs.Remains.{Holds};
 
     ghost Value = { List Step };
 
     ghost view = { λ history. steps_of history.recorded.items };
 
-    ghost invariant = { λ history. history.areas ≡ reads (steps_of history.recorded.items) };
+    ghost invariant = { λ history. Holds (steps_of history.recorded.items) history.areas };
 }
 
 impl History {
@@ -66,15 +68,17 @@ impl History {
         piece: &[u8],
         lost: usize,
     ) -> Result<(), NoMemory>
-        requires { at ≤ length (content area (reads self.old)) }
+        requires within { at ≤ length (content area (reads self.old)) }
+        requires limit { length piece.now + lost < 2 ^ 64 }
         ensures recorded { OnOk result (self.new ≡ Wrote area at piece.now lost ∷ self.old) }
         ensures kept { OnErr result (self.new ≡ self.old) }
     {
         self.recorded.reserve(1)?;
         let written = Snapshot::of(&piece.to_vec(self.alloc)?);
         self.areas.write(area, at as usize, piece)?;
+        let size = piece.len() + lost;
         self.recorded
-            .push_reserved(Recorded::Write(area, at, written, lost));
+            .push_reserved(Recorded::Write(area, at, written, size));
         Ok(())
     }
 
@@ -109,7 +113,7 @@ impl History {
         ensures kept { OnErr result (self.new ≡ self.old) }
     {
         self.recorded.reserve(1)?;
-        self.areas.cut(area, (len + left) as usize);
+        self.areas.cut(area, len as usize, left as usize);
         self.recorded.push_reserved(Recorded::Cut(area, len, left));
         Ok(())
     }
@@ -120,17 +124,20 @@ impl History {
         ensures kept { OnErr result (self.new ≡ self.old) }
     {
         self.recorded.reserve(1)?;
+        self.areas.sync(area);
         self.recorded.push_reserved(Recorded::Sync(area));
         Ok(())
     }
 
     /// Leaves one of the images that a crash now may leave. It needs no memory: the record becomes shorter.
-    pub(crate) fn crash(&mut self)
+    pub(crate) fn crash(&mut self, pick: u64)
         ensures { BeginsAnew self.old self.new }
     {
         if self.recorded.is_empty() {
             return;
         }
+        let mut choices = Choices::new(pick);
+        self.areas.crash(&self.recorded, &mut choices);
         self.recorded.clear();
         self.recorded
             .push_reserved(Recorded::Crash(Snapshot::of(&self.areas)));

@@ -116,7 +116,7 @@ impl Disk for MemDisk {
         requires limit { IsWithinLimit at (length piece.now) }
         requires within { IfSome (Some (reads self.old.steps)) (BeginsWithin area at) }
 
-        // It fails exactly at the calls that are listed, or out of memory.
+        // It fails exactly at the calls that are listed, behind a spent arm, or out of memory.
         ensures listed { IsTrue (fails_next self.old.plan) → IsErr result }
         ensures counted { self.new.plan ≡ after_change self.old.plan }
         ensures starved { self.new.starved
@@ -214,7 +214,7 @@ impl Crashing for MemDisk {
         ensures among { IfSome (Some (reads self.new.steps)) (MayLeave self.old.steps) }
         ensures one_image { HasOneImage (Some (reads self.new.steps)) (MayLeave self.new.steps) }
     {
-        self.history.crash();
+        self.history.crash(pick);
         self.plan.arm(None);
     }
 }

@@ -1,0 +1,319 @@
+-- What is stored of each area stands for the steps, and a crash may leave each long enough front of it, with other bytes in
+-- its writes.
+use Rattle.std.proofs.Common.{◌≡◌, ◌⊎◌, inl, inr, ℕ, ◌+◌, ◌<◌, ◌≤◌, max, List, [], ◌∷◌, ◌++◌, Bool, true, false, length, take, drop, slice_set, refl, sym, ◌∙◌, ap, subst, arith, if◌then◌else◌, length-append, length-drop}
+use Rattle.std.specs.Prelude.{nat_le}
+use Rattle.std.proofs.lemmas.Bool.Decides.{nat_tests}
+use Rattle.std.proofs.lemmas.List.{take_all, length-take-le}
+use Rattle.outside.specs.declared.disk.Area.{Area}
+use Rattle.outside.specs.declared.disk.Area.TheVariants.{Log, SnapA, SnapB}
+use Rattle.outside.specs.Image.{Image, content, with_content, InArea}
+use Rattle.outside.specs.Disk.{written, write_area, Torn, Cut, ComesBy, AreaKept}
+use Rattle.outside.proofs.Torn.{torn_same, cut_same, tears_to_the_written}
+use Rattle.outside_mem.specs.declared.history.Recorded.{Recorded}
+use Rattle.outside_mem.specs.Stored.{Stored, Parts, part, with_part, shown, image_of, nothing, after_write, after_cut, after_sync, IsSettled}
+use Rattle.outside_mem.specs.MemoryDisk.{Step, Wrote, Shortened, Synced, Crashed, empty, reads, Leaves, step_of, steps_of}
+use Rattle.outside_mem.specs.Remains.{LeftBy, LeavesIn, HoldsIn, Holds, MayTear}
+use Rattle.outside_mem.proofs.MemoryDisk.{steps_of-push}
+use Rattle.outside_mem.proofs.OtherBytes.{torn_both, torn_again, cut_both, torn_front, cut_front, take_take, shown_written}
+
+-- ---- Images by their areas
+
+abbrev number : Area → ℕ
+number Log = 0
+number SnapA = 1
+number SnapB = 2
+
+own : (area : Area) (bytes : List ℕ) (image : Image) → content area (with_content area bytes image) ≡ bytes
+own Log bytes image = refl
+own SnapA bytes image = refl
+own SnapB bytes image = refl
+
+restored : (area : Area) (bytes : List ℕ) (image : Image) → image ≡ with_content area (content area image) (with_content area bytes image)
+restored Log bytes image = refl
+restored SnapA bytes image = refl
+restored SnapB bytes image = refl
+
+same_or_kept : (area other : Area) (bytes : List ℕ) (image : Image) → (other ≡ area) ⊎ AreaKept area image (with_content other bytes image)
+same_or_kept Log Log bytes image = inl refl
+same_or_kept Log SnapA bytes image = inr refl
+same_or_kept Log SnapB bytes image = inr refl
+same_or_kept SnapA Log bytes image = inr refl
+same_or_kept SnapA SnapA bytes image = inl refl
+same_or_kept SnapA SnapB bytes image = inr refl
+same_or_kept SnapB Log bytes image = inr refl
+same_or_kept SnapB SnapA bytes image = inr refl
+same_or_kept SnapB SnapB bytes image = inl refl
+
+same_image : (image now : Image) → ((area : Area) → content area image ≡ content area now) → image ≡ now
+same_image image now each = λ i. record { log = each Log i; snap_a = each SnapA i; snap_b = each SnapB i }
+
+empty_in : (area : Area) → content area empty ≡ []
+empty_in Log = refl
+empty_in SnapA = refl
+empty_in SnapB = refl
+
+-- ---- What the steps leave of an image is what they leave of each area
+
+from_before : (relation : List ℕ → List ℕ → Type 0) → ((bytes : List ℕ) → relation bytes bytes) → (left : List ℕ → Type 0) (area other : Area) (bytes : List ℕ)
+    → LeftBy area other relation left bytes → (before : List ℕ) × left before × relation before bytes
+from_before relation same left area other bytes (inl is) = (bytes, is, same bytes)
+from_before relation same left area other bytes (inr by) = by.1
+
+comes_by : (steps : List Step) (other : Area) (relation : List ℕ → List ℕ → Type 0) → ((bytes : List ℕ) → relation bytes bytes) → (image : Image)
+    → ((area : Area) → LeftBy area other relation (LeavesIn area steps) (content area image))
+    → ((before : Image) → ((area : Area) → LeavesIn area steps (content area before)) → Leaves steps before)
+    → ComesBy (InArea other relation) (Leaves steps) image
+comes_by steps other relation same image each joined =
+    let from : (before : List ℕ) × LeavesIn other steps before × relation before (content other image)
+    = from_before relation same (LeavesIn other steps) other other (content other image) (each other) in
+    let before : Image = with_content other from.0 image in
+    let here : LeavesIn other steps (content other before) = subst (LeavesIn other steps) (sym (own other from.0 image)) from.1 in
+    let also : (area : Area) → other ≡ area → LeavesIn area steps (content area before)
+    = λ area is. subst (λ (a : Area). LeavesIn a steps (content a before)) is here in
+    let all : (area : Area) → LeavesIn area steps (content area before) = λ area. elim (same_or_kept area other from.0 image) [
+      | inl is ↦ also area is
+      | inr kept ↦ elim (each area) [
+        | inl left ↦ subst (LeavesIn area steps) (sym kept) left
+        | inr by ↦ also area by.0
+      ]
+    ] in
+    (before, joined before all, (content other image, subst (λ (bytes : List ℕ). relation bytes (content other image)) (sym (own other from.0 image)) from.2, restored other from.0 image))
+
+leaves_each : (steps : List Step) (image : Image) → ((area : Area) → LeavesIn area steps (content area image)) → Leaves steps image
+leaves_each [] image each = same_image image empty (λ area. each area ∙ sym (empty_in area))
+leaves_each (Wrote other at piece lost ∷ earlier) image each =
+    comes_by earlier other (Torn at (length piece + lost)) (torn_same at (length piece + lost)) image each (leaves_each earlier)
+leaves_each (Shortened other len left ∷ earlier) image each = comes_by earlier other (Cut len) (cut_same len) image each (leaves_each earlier)
+leaves_each (Synced other ∷ earlier) image each = (leaves_each earlier image (λ area. (each area).1), (each other).0 refl)
+leaves_each (Crashed left ∷ earlier) image each = same_image image left each
+
+-- ---- Each step keeps what is stored
+
+written_long : (at len : ℕ) (piece bytes : List ℕ) → at ≤ len → len ≤ length bytes → max len (at + length piece) ≤ length (written at piece bytes)
+written_long at len piece bytes in_shown within = omega (
+  arith,
+  in_shown,
+  within,
+  length-append (take at bytes ++ piece) (drop (at + length piece) bytes),
+  length-append (take at bytes) piece,
+  length-take-le at bytes (omega (arith, in_shown, within)),
+  length-drop (at + length piece) bytes,
+)
+
+read_written : (area : Area) (at : ℕ) (piece : List ℕ) (image : Image) (test : Bool) → nat_le at (length (content area image)) ≡ test
+    → at ≤ length (content area image) → content area (if test then write_area area at piece image else image) ≡ written at piece (content area image)
+read_written area at piece image true is within = own area (written at piece (content area image)) image
+read_written area at piece image false is within = let none : ⊥ = grind (arith, nat_tests) in absurd none
+
+read_other : (area other : Area) (bytes : List ℕ) (image : Image) (test : Bool) → AreaKept area image (with_content other bytes image)
+    → content area (if test then with_content other bytes image else image) ≡ content area image
+read_other area other bytes image true kept = kept
+read_other area other bytes image false kept = refl
+
+shown_length : (area : Area) (steps : List Step) (stored : Stored) → HoldsIn area steps stored → length (content area (reads steps)) ≡ stored.len
+shown_length area steps stored holds = ap length (sym holds.as_read) ∙ length-take-le stored.len stored.bytes holds.within
+
+hold_write : (area : Area) (steps : List Step) (stored : Stored) (at : ℕ) (piece : List ℕ) (lost : ℕ) → at ≤ stored.len → HoldsIn area steps stored
+    → HoldsIn area (Wrote area at piece lost ∷ steps) (after_write at piece stored)
+hold_write area steps stored at piece lost in_shown holds = record {
+  as_read = shown_written at stored.len piece stored.bytes in_shown holds.within ∙ ap (written at piece) holds.as_read
+      ∙ sym (read_written area at piece (reads steps) (nat_le at (length (content area (reads steps)))) refl (omega (arith, in_shown, shown_length area steps stored holds)));
+  at_least = omega (arith, holds.at_least);
+  within = written_long at stored.len piece stored.bytes in_shown holds.within;
+  leaves = λ kept enough. inr (
+    refl,
+    (
+      take kept stored.bytes,
+      holds.leaves kept enough,
+      torn_front at (length piece + lost) kept stored.bytes (written at piece stored.bytes) (tears_to_the_written at lost piece stored.bytes (omega (arith, in_shown, holds.within))),
+    ),
+  );
+}
+
+hold_cut : (area : Area) (steps : List Step) (stored : Stored) (len left : ℕ) → HoldsIn area steps stored
+    → HoldsIn area (Shortened area len left ∷ steps) (after_cut len left stored)
+hold_cut area steps stored len left holds = record {
+  as_read = take_take (len + left) stored.len stored.bytes ∙ ap (take (len + left)) holds.as_read ∙ sym (own area (take (len + left) (content area (reads steps))) (reads steps));
+  at_least = omega (arith, holds.at_least);
+  within = omega (arith, holds.within);
+  leaves = λ kept enough. inr (refl, (take (max stored.least kept) stored.bytes, holds.leaves (max stored.least kept) (omega arith), cut_front len stored.least kept stored.bytes enough));
+}
+
+hold_sync : (area : Area) (steps : List Step) (stored : Stored) → HoldsIn area steps stored → HoldsIn area (Synced area ∷ steps) (after_sync stored)
+hold_sync area steps stored holds =
+    let size : length (shown stored) ≡ stored.len = length-take-le stored.len stored.bytes holds.within in
+    let all : (kept : ℕ) → stored.len ≤ kept → take kept (shown stored) ≡ shown stored = λ kept enough. take_all kept (shown stored) (omega (arith, size, enough)) in
+    record {
+      as_read = all stored.len (omega arith) ∙ holds.as_read;
+      at_least = omega arith;
+      within = omega (arith, size);
+      leaves = λ kept enough. (λ is. all kept enough ∙ holds.as_read, subst (LeavesIn area steps) (sym (all kept enough)) (holds.leaves stored.len holds.at_least));
+    }
+
+-- what a step in one area does to what is stored of another
+abbrev Frames : Area → List Step → Step → Type 0
+Frames area steps step = (other : Area) (stored : Stored) → (area ≡ other → ⊥) → ((bytes : List ℕ) (image : Image) → AreaKept other image (with_content area bytes image))
+    → HoldsIn other steps stored → HoldsIn other (step ∷ steps) stored
+
+frame_write : (area : Area) (steps : List Step) (at : ℕ) (piece : List ℕ) (lost : ℕ) → Frames area steps (Wrote area at piece lost)
+frame_write area steps at piece lost other stored apart kept holds = record {
+  as_read = holds.as_read ∙ sym (read_other other area (written at piece (content area (reads steps))) (reads steps) (nat_le at (length (content area (reads steps)))) (kept (written at piece (content area (reads steps))) (reads steps)));
+  at_least = holds.at_least;
+  within = holds.within;
+  leaves = λ n enough. inl (holds.leaves n enough);
+}
+
+frame_cut : (area : Area) (steps : List Step) (len left : ℕ) → Frames area steps (Shortened area len left)
+frame_cut area steps len left other stored apart kept holds = record {
+  as_read = holds.as_read ∙ sym (kept (take (len + left) (content area (reads steps))) (reads steps));
+  at_least = holds.at_least;
+  within = holds.within;
+  leaves = λ n enough. inl (holds.leaves n enough);
+}
+
+frame_sync : (area : Area) (steps : List Step) → Frames area steps (Synced area)
+frame_sync area steps other stored apart kept holds = record {
+  as_read = holds.as_read;
+  at_least = holds.at_least;
+  within = holds.within;
+  leaves = λ n enough. (λ is. absurd (apart is), holds.leaves n enough);
+}
+
+hold_all : (steps : List Step) (step : Step) (area : Area) (parts : Parts) (stored : Stored) → Holds steps parts → HoldsIn area (step ∷ steps) stored → Frames area steps step
+    → Holds (step ∷ steps) (with_part area stored parts)
+hold_all steps step Log parts stored holds new frame Log = new
+hold_all steps step Log parts stored holds new frame SnapA = frame SnapA parts.snap_a (λ is. absurd (omega (arith, ap number is))) (λ bytes image. refl) (holds SnapA)
+hold_all steps step Log parts stored holds new frame SnapB = frame SnapB parts.snap_b (λ is. absurd (omega (arith, ap number is))) (λ bytes image. refl) (holds SnapB)
+hold_all steps step SnapA parts stored holds new frame Log = frame Log parts.log (λ is. absurd (omega (arith, ap number is))) (λ bytes image. refl) (holds Log)
+hold_all steps step SnapA parts stored holds new frame SnapA = new
+hold_all steps step SnapA parts stored holds new frame SnapB = frame SnapB parts.snap_b (λ is. absurd (omega (arith, ap number is))) (λ bytes image. refl) (holds SnapB)
+hold_all steps step SnapB parts stored holds new frame Log = frame Log parts.log (λ is. absurd (omega (arith, ap number is))) (λ bytes image. refl) (holds Log)
+hold_all steps step SnapB parts stored holds new frame SnapA = frame SnapA parts.snap_a (λ is. absurd (omega (arith, ap number is))) (λ bytes image. refl) (holds SnapA)
+hold_all steps step SnapB parts stored holds new frame SnapB = new
+
+pub write_holds : (steps : List Step) (area : Area) (at : ℕ) (piece : List ℕ) (lost : ℕ) (parts : Parts) → at ≤ length (content area (reads steps)) → Holds steps parts
+    → Holds (Wrote area at piece lost ∷ steps) (with_part area (after_write at piece (part area parts)) parts)
+write_holds steps area at piece lost parts within holds =
+    let in_shown : at ≤ (part area parts).len = omega (arith, within, shown_length area steps (part area parts) (holds area)) in
+    hold_all steps (Wrote area at piece lost) area parts (after_write at piece (part area parts)) holds
+    (hold_write area steps (part area parts) at piece lost in_shown (holds area)) (frame_write area steps at piece lost)
+
+pub cut_holds : (steps : List Step) (area : Area) (len left : ℕ) (parts : Parts) → Holds steps parts
+    → Holds (Shortened area len left ∷ steps) (with_part area (after_cut len left (part area parts)) parts)
+cut_holds steps area len left parts holds =
+    hold_all steps (Shortened area len left) area parts (after_cut len left (part area parts)) holds
+    (hold_cut area steps (part area parts) len left (holds area)) (frame_cut area steps len left)
+
+pub sync_holds : (steps : List Step) (area : Area) (parts : Parts) → Holds steps parts
+    → Holds (Synced area ∷ steps) (with_part area (after_sync (part area parts)) parts)
+sync_holds steps area parts holds =
+    hold_all steps (Synced area) area parts (after_sync (part area parts)) holds (hold_sync area steps (part area parts) (holds area)) (frame_sync area steps)
+
+-- ---- At first, and after a crash
+
+abbrev no_parts : Parts
+no_parts = record { log = nothing; snap_a = nothing; snap_b = nothing }
+
+hold_nothing : (area : Area) → content area empty ≡ [] → HoldsIn area [] nothing
+hold_nothing area is = record {
+  as_read = take_all 0 [] (omega arith) ∙ sym is;
+  at_least = omega arith;
+  within = omega arith;
+  leaves = λ kept enough. take_all kept [] (omega arith);
+}
+
+pub starts : Holds [] no_parts
+starts Log = hold_nothing Log refl
+starts SnapA = hold_nothing SnapA refl
+starts SnapB = hold_nothing SnapB refl
+
+shown_of : (area : Area) (parts : Parts) → content area (image_of parts) ≡ shown (part area parts)
+shown_of Log parts = refl
+shown_of SnapA parts = refl
+shown_of SnapB parts = refl
+
+all_shown : (stored : Stored) → IsSettled stored → shown stored ≡ stored.bytes
+all_shown stored settled = take_all stored.len stored.bytes (omega (arith, settled.0))
+
+hold_crash : (area : Area) (left : Image) (stored : Stored) → content area left ≡ shown stored → IsSettled stored → HoldsIn area (Crashed left ∷ []) stored
+hold_crash area left stored is settled = record {
+  as_read = sym is;
+  at_least = omega (arith, settled.0, settled.1);
+  within = omega (arith, settled.0);
+  leaves = λ kept enough. take_all kept stored.bytes (omega (arith, enough, settled.1)) ∙ sym (all_shown stored settled) ∙ sym is;
+}
+
+pub crash_holds : (parts : Parts) → ((area : Area) → IsSettled (part area parts)) → Holds (Crashed (image_of parts) ∷ []) parts
+crash_holds parts settled area = hold_crash area (image_of parts) (part area parts) (shown_of area parts) (settled area)
+
+pub crash_leaves : (steps : List Step) (parts : Parts) → ((area : Area) → LeavesIn area steps (part area parts).bytes) → ((area : Area) → IsSettled (part area parts))
+    → Leaves steps (image_of parts)
+crash_leaves steps parts left settled =
+    leaves_each steps (image_of parts) (λ area. subst (LeavesIn area steps) (sym (shown_of area parts ∙ all_shown (part area parts) (settled area))) (left area))
+
+-- ---- Other bytes in a write
+
+pub tears_write : (area other : Area) (earlier : List Step) (at : ℕ) (piece : List ℕ) (lost i : ℕ) → other ≡ area → at ≤ i → i < at + (length piece + lost)
+    → MayTear area (Wrote other at piece lost ∷ earlier) i
+tears_write area other earlier at piece lost i is from to bytes byte (inl left) =
+    inr (is, (bytes, left, torn_again at (length piece + lost) i byte bytes bytes from to (torn_same at (length piece + lost) bytes)))
+tears_write area other earlier at piece lost i is from to bytes byte (inr by) =
+    inr (is, (by.1.0, by.1.1, torn_again at (length piece + lost) i byte by.1.0 bytes from to by.1.2))
+
+-- a step behind the write that did not make the area durable
+pub tears_behind_write : (area other : Area) (earlier : List Step) (at : ℕ) (piece : List ℕ) (lost i : ℕ) → MayTear area earlier i → MayTear area (Wrote other at piece lost ∷ earlier) i
+tears_behind_write area other earlier at piece lost i may bytes byte (inl left) = inl (may bytes byte left)
+tears_behind_write area other earlier at piece lost i may bytes byte (inr by) =
+    inr (by.0, (slice_set by.1.0 i byte, may by.1.0 byte by.1.1, torn_both at (length piece + lost) i byte by.1.0 bytes by.1.2))
+
+pub tears_behind_cut : (area other : Area) (earlier : List Step) (len left i : ℕ) → MayTear area earlier i → MayTear area (Shortened other len left ∷ earlier) i
+tears_behind_cut area other earlier len left i may bytes byte (inl is) = inl (may bytes byte is)
+tears_behind_cut area other earlier len left i may bytes byte (inr by) =
+    inr (by.0, (slice_set by.1.0 i byte, may by.1.0 byte by.1.1, cut_both len i byte by.1.0 bytes by.1.2))
+
+pub tears_behind_sync : (area other : Area) (earlier : List Step) (i : ℕ) → (other ≡ area → ⊥) → MayTear area earlier i → MayTear area (Synced other ∷ earlier) i
+tears_behind_sync area other earlier i apart may bytes byte left = (λ is. absurd (apart is), may bytes byte left.1)
+
+-- ---- The same of the record that the code keeps
+
+-- where one call more was recorded
+pub holds_recorded : (recorded before now : List Recorded) (one : Recorded) (parts : Parts) → before ≡ recorded → now ≡ before ++ one ∷ []
+    → Holds (step_of one ∷ steps_of recorded) parts → Holds (steps_of now) parts
+holds_recorded recorded before now one parts same is holds =
+    subst (λ (steps : List Step). Holds steps parts) (sym (ap steps_of is ∙ steps_of-push before one ∙ ap (λ (l : List Recorded). step_of one ∷ steps_of l) same)) holds
+
+pub write_recorded : (steps : List Step) (area : Area) (at : ℕ) (piece written : List ℕ) (lost : ℕ) (parts new : Parts) → written ≡ piece
+    → at ≤ length (content area (reads steps)) → Holds steps parts → new ≡ with_part area (after_write at piece (part area parts)) parts
+    → Holds (Wrote area at written lost ∷ steps) new
+write_recorded steps area at piece written lost parts new same within holds is =
+    subst (λ (bytes : List ℕ). Holds (Wrote area at bytes lost ∷ steps) new) (sym same)
+    (subst (Holds (Wrote area at piece lost ∷ steps)) (sym is) (write_holds steps area at piece lost parts within holds))
+
+pub cut_recorded : (steps : List Step) (area : Area) (len left : ℕ) (parts new : Parts) → Holds steps parts
+    → new ≡ with_part area (after_cut len left (part area parts)) parts → Holds (Shortened area len left ∷ steps) new
+cut_recorded steps area len left parts new holds is = subst (Holds (Shortened area len left ∷ steps)) (sym is) (cut_holds steps area len left parts holds)
+
+module _ (area other : Area) (rest earlier : List Recorded) (one : Recorded) (i : ℕ) (last : rest ≡ earlier ++ one ∷ []) where
+  at_last : (step : Step) → step_of one ≡ step → MayTear area (step ∷ steps_of earlier) i → MayTear area (steps_of rest) i
+  at_last step is may = subst (λ (steps : List Step). MayTear area steps i) (sym (ap steps_of last ∙ steps_of-push earlier one ∙ ap (λ (s : Step). s ∷ steps_of earlier) is)) may
+
+  -- in the last call
+  pub tears_last : (at : ℕ) (piece : List ℕ) (lost : ℕ) → step_of one ≡ Wrote other at piece lost → other ≡ area → at ≤ i → i < at + (length piece + lost)
+      → MayTear area (steps_of rest) i
+  tears_last at piece lost is same from to = at_last (Wrote other at piece lost) is (tears_write area other (steps_of earlier) at piece lost i same from to)
+
+  -- before it
+  pub tears_before_write : (at : ℕ) (piece : List ℕ) (lost : ℕ) → step_of one ≡ Wrote other at piece lost → MayTear area (steps_of earlier) i → MayTear area (steps_of rest) i
+  tears_before_write at piece lost is may = at_last (Wrote other at piece lost) is (tears_behind_write area other (steps_of earlier) at piece lost i may)
+
+  pub tears_before_cut : (len left : ℕ) → step_of one ≡ Shortened other len left → MayTear area (steps_of earlier) i → MayTear area (steps_of rest) i
+  tears_before_cut len left is may = at_last (Shortened other len left) is (tears_behind_cut area other (steps_of earlier) len left i may)
+
+  pub tears_before_sync : step_of one ≡ Synced other → (other ≡ area → ⊥) → MayTear area (steps_of earlier) i → MayTear area (steps_of rest) i
+  tears_before_sync is apart may = at_last (Synced other) is (tears_behind_sync area other (steps_of earlier) i apart may)
+
+-- where the record was emptied but for what a crash left
+pub crashed_record : (cleared now : List Recorded) (one : Recorded) (left : Image) → cleared ≡ [] → now ≡ cleared ++ one ∷ [] → step_of one ≡ Crashed left
+    → steps_of now ≡ Crashed left ∷ []
+crashed_record cleared now one left none is crash =
+    ap steps_of is ∙ steps_of-push cleared one ∙ ap (λ (l : List Recorded). step_of one ∷ steps_of l) none ∙ ap (λ (step : Step). step ∷ []) crash
