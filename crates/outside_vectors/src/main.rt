@@ -6,7 +6,8 @@
 //! answers were worked by hand.
 //!
 //! Behind `memory` are the streams and the disk of `outside_mem`: `source`, `sink` and `disk` make new ones, with the numbers
-//! of the calls that fail.
+//! of the calls that fail. `arm` and `crash` are the disk's; `each` makes each of its five calls; `crashes` counts what crashes
+//! leave of another disk.
 //!
 //! The other rows are about the adapters of `outside_os` over a system that is a fake, call by call, and on real files: which
 //! bytes they move, what they answer, and which calls they make. Clauses tell the bytes of a file; that the system's own files are such files, which calls are made and what the streams move they do not tell. `system` makes a new fake, with what
@@ -17,6 +18,7 @@
 #![tactic(auto)]
 
 mod area;
+mod crashes;
 mod disk;
 mod failing_writes;
 mod fake_file;

@@ -2,7 +2,7 @@
 
 use crate::area::{are_bytes, is_number};
 use crate::memory_streams::Trickle;
-use crate::{failing_writes, memory_disk, memory_streams};
+use crate::{crashes, failing_writes, memory_disk, memory_streams};
 use outside_mem::{MemDisk, MemSink, MemSource};
 use row_table::Row;
 use std::alloc::Global;
@@ -59,6 +59,9 @@ impl Memory {
             "sink_starved" => is_number(self.sink.0.starved(), row),
             "disk_starved" => is_number(self.disk.starved(), row),
             "failing_writes" => failing_writes::agrees(alloc, row),
+            "crashes" => crashes::agrees(alloc, row),
+            "arm" => memory_disk::arm(&mut self.disk, row),
+            "crash" => memory_disk::crash(&mut self.disk, row),
             "no_disk" => memory_disk::agrees_on_none(row),
             call => memory_disk::agrees(alloc, &mut self.disk, call, row),
         }

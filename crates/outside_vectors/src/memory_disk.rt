@@ -1,7 +1,7 @@
 // Rows of disks in memory.
 
 use crate::area::{are_bytes, area_of, is_done, is_number};
-use outside::{Area, Disk, write_durably};
+use outside::{Area, Crashing, Disk, write_durably};
 use outside_mem::NoDisk;
 use row_table::Row;
 use std::alloc::Global;
@@ -20,6 +20,7 @@ pub(crate) fn agrees<D: Disk>(
         "write" => agrees_on_write(alloc, disk, area, row),
         "cut" => agrees_on_cut(disk, area, row),
         "sync" => agrees_on_sync(disk, area, row),
+        "each" => agrees_on_each(disk, area, row),
         "write_durably" => agrees_on_durable(alloc, disk, area, row),
         _ => None,
     }
@@ -78,6 +79,31 @@ fn agrees_on_durable<D: Disk>(
         return None;
     }
     is_done(write_durably(disk, area, 0, &piece).is_ok(), row)
+}
+
+/// How many calls that change it are let through, `-` for all.
+pub(crate) fn arm<D: Crashing>(disk: &mut D, row: &mut Row) -> Option<bool> {
+    match row.word() {
+        "-" => disk.arm(None),
+        digits => disk.arm(Some(digits.parse().ok()?)),
+    }
+    Some(true)
+}
+
+pub(crate) fn crash<D: Crashing>(disk: &mut D, row: &mut Row) -> Option<bool> {
+    disk.crash(row.number()?);
+    Some(true)
+}
+
+/// Each call in turn, and what it answers: an area.
+fn agrees_on_each<D: Disk>(disk: &mut D, area: Area, row: &mut Row) -> Option<bool> {
+    let mut into = [7; 2];
+    let len = is_done(disk.len(area).is_ok(), row)?;
+    let read = is_done(disk.read(area, 0, &mut into).is_ok(), row)?;
+    let write = is_done(disk.write(area, 0, b"x").is_ok(), row)?;
+    let cut = is_done(disk.cut(area, 0).is_ok(), row)?;
+    let sync = is_done(disk.sync(area).is_ok(), row)?;
+    Some(len && read && write && cut && sync)
 }
 
 /// Each call where no disk is: an area.
