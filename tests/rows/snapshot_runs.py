@@ -124,6 +124,13 @@ def main():
         emit(NAME, 'tip', 7, b'', b'')
         imports_nothing = chain.items[cuts[1]:]
         emit(NAME, 'import', 7, b''.join(item for item, _ in imports_nothing), b'')
+    # in the other area a gate over fewer than 5 bytes is damage too, and what stands after the number is not looked at
+    for content in (b'\1' * 2, b'\1\6\0\0'):
+        begins(items, right, content)
+        emit(NAME, 'tip', 7, b'', b'')
+    for content in (b'\1\6\0\0\0', snapshot(kept, 6, tip, count=len(rows) + 1)):
+        begins(items, right, content)
+        asks(tip)
 
 
 if __name__ == '__main__':
