@@ -18,7 +18,8 @@ import subprocess
 import sys
 
 sys.dont_write_bytecode = True
-import folders  # noqa: E402 (beside the line above)
+import chain_snapshots  # noqa: E402 (beside the line above)
+import folders  # noqa: E402
 import json_texts  # noqa: E402
 import script  # noqa: E402
 import stored  # noqa: E402
@@ -35,7 +36,7 @@ def main():
     a.add_argument('--program')
     a.add_argument('words', nargs='*')
     a = a.parse_args()
-    checks = [it for module in (streams, json_texts, folders, script, stored) for it in checks_of(module)]
+    checks = [it for module in (streams, json_texts, folders, chain_snapshots, script, stored) for it in checks_of(module)]
     checks = [it for it in checks if not a.words or any(word in it[0] for word in a.words)]
     program = a.program and os.path.abspath(a.program)
     if not program:
