@@ -88,7 +88,7 @@ class Heights:
     """What a block holds by its height alone.  Forks are one block deep and
     both their blocks commit and pay the same, so a branch has no say in it."""
 
-    def __init__(self, genesis_tx, plain, block_bytes, pairs, far):
+    def __init__(self, genesis_tx, plain, block_bytes, pairs, far, cells=0):
         self.plain, self.block_bytes, self.far = plain, block_bytes, far
         self.dep = out_point(genesis_tx[1], 0) + b'\0'
         self.coin, self.capacity = out_point(genesis_tx[1], 1), COIN
@@ -97,7 +97,8 @@ class Heights:
                       for k in range(2, 2 + 2 * pairs, 2)]
         self.first_of_pair = PAIRED
         c, ar, s, u = DAO
-        self.dao = [(c + 2 * pairs * PAIRED, ar, s, u + 2 * pairs * OCCUPIED)]
+        others = 2 * pairs + cells
+        self.dao = [(c + others * PAIRED, ar, s, u + others * OCCUPIED)]
         self.coming = {}        # height: the transactions that it commits
         self.made = {}          # height: (transactions, ids)
 
@@ -163,13 +164,14 @@ def lacking(size, txs, ids=()):
     return max(0, size - len(block(0, 0, 0, ZERO_HASH, DAO, 0, txs, list(ids))[0]))
 
 
-def genesis_transaction(data=b'', pairs=0):
-    """The program, the coin with some data, and pairs of cells."""
-    return transaction([], [cell_input(NULL_OUT_POINT)], [output(17_300_000_000), output(COIN)] + [output(PAIRED)] * (2 * pairs),
-                       [FILE, data] + [b''] * (2 * pairs), [])
+def genesis_transaction(data=b'', pairs=0, cells=0):
+    """The program, the coin with some data, pairs of cells, and cells that no transaction spends."""
+    others = 2 * pairs + cells
+    return transaction([], [cell_input(NULL_OUT_POINT)], [output(17_300_000_000), output(COIN)] + [output(PAIRED)] * others,
+                       [FILE, data] + [b''] * others, [])
 
 
-def make(seed, n, plain=False, block_bytes=0, genesis_bytes=0, pairs=0, row=False, far=W_FAR, stands_on=None):
+def make(seed, n, plain=False, block_bytes=0, genesis_bytes=0, pairs=0, row=False, far=W_FAR, stands_on=None, cells=0):
     """(specification, genesis, blocks, [(number, hash)] of genesis and blocks,
     the tip's place).  The genesis, by data of a cell, and each block, by the
     message of its cellbase, is made as long as is asked, if it is not longer.
@@ -177,10 +179,10 @@ def make(seed, n, plain=False, block_bytes=0, genesis_bytes=0, pairs=0, row=Fals
     none of the others.  In a row each block stands on the one before it; else
     some have a sibling that a later one stands on, or each stands on the place
     that `stands_on` has for it, which counts from 1.  The proposal window
-    reaches so far back."""
+    reaches so far back.  The genesis has so many cells more."""
 
-    first = genesis_transaction(bytes(lacking(genesis_bytes, [genesis_transaction(b'', pairs)])), pairs)
-    heights = Heights(first, plain, block_bytes, pairs, far)
+    first = genesis_transaction(bytes(lacking(genesis_bytes, [genesis_transaction(b'', pairs, cells)])), pairs, cells)
+    heights = Heights(first, plain, block_bytes, pairs, far, cells)
     genesis, top = block(0, 0, 1000, ZERO_HASH, heights.dao[0], 0, [first], [])
     kept = [(0, top)]
     parents = [0]
