@@ -25,7 +25,8 @@ PARTS = {
     'rule_vectors': (OTHERS, 'rule_blocks', 'windows', 'uncles', 'rewards'),
     'reorg_vectors': ('moves',),
     'store_vectors': (OTHERS, 'kept_bodies', 'snapshots'),
-    'run_vectors': (OTHERS, 'stopped_logs', 'rule_runs', OTHERS, 'reward_runs', OTHERS, 'dao_amounts', 'branch_runs', 'snapshot_runs'),
+    'run_vectors': (OTHERS, 'stopped_logs', 'rule_runs', OTHERS, 'reward_runs', OTHERS, 'dao_amounts', 'branch_runs',
+                    'snapshot_runs', 'snapshot_stops'),
     'format_vectors': (OTHERS, 'sample_blocks', OTHERS),
 }
 # scripts that make no rows by themselves, or of a folder that is not stored here

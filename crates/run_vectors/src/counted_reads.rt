@@ -19,8 +19,14 @@ const BLOCKS: u32 = 2000;
 /// The blocks whose imports are looked at: between two snapshots, and far from the one before.
 const FIRST: usize = 1900;
 
-/// The most bytes that an import of one of them may read. A replay from the snapshot before reads more than 250,000.
+/// The place of the block with which the snapshot before them is taken.
+const TAKEN: usize = 999;
+
+/// The most bytes that an import of one of them may read.
 const MOST: u64 = 131_072;
+
+/// A replay from the snapshot before reads more than so many.
+const REPLAYED: u64 = 250_000;
 
 /// A disk that hands each call on, and counts the bytes that its reads give.
 #[derive(Drop)]
@@ -114,13 +120,69 @@ fn few_read<D: Disk, L: Ledger>(
     Some(few)
 }
 
-/// How many of the last hundred blocks but one are imported with few bytes read.
-pub fn agreed<L: Ledger>(alloc: Global, steps: &mut Steps<L>) -> Option<usize> {
-    let made = make(alloc, SEED, BLOCKS).ok()?;
-    let mut disk = Counting {
+/// Reads the blocks of the best branch from a height on, as a replay does.
+fn read_branch<D: Disk>(alloc: Global, disk: &mut D, node: &mut Node, from: u64) -> Option<()>
+    requires { IsItsOwn node.old (D.reads_as disk.old) (D.images disk.old) }
+    ensures { IsItsOwn node.new (D.reads_as disk.new) (D.images disk.new) }
+{
+    let tip = node.height();
+    'heights: for height in from..tip {
+        match node.block(alloc, disk, height) {
+            Ok(_) => {}
+            Err(_) => return None,
+        }
+    }
+    Some(())
+}
+
+/// How many of the items are imported with as many bytes read as a replay reads, where the branch is read from the snapshot
+/// before them on as each is imported.
+fn replays_counted<D: Disk, L: Ledger>(
+    alloc: Global,
+    disk: &mut Counting<D>,
+    opened: Node,
+    items: &[Vec<u8>],
+    steps: &mut Steps<L>,
+) -> Option<usize>
+    requires { IsItsOwn opened (D.reads_as disk.old.inner) (D.images disk.old.inner) }
+{
+    let mut node = opened;
+    let mut from = 0;
+    let mut many = 0usize;
+    'items: for i in 0..items.len() {
+        disk.bytes = 0;
+        if i >= FIRST {
+            read_branch(alloc, disk, &mut node, from)?;
+        }
+        let (next, _) = import(alloc, disk, node, &items[i], steps)?;
+        node = next;
+        if i == TAKEN {
+            from = node.height();
+        }
+        if i >= FIRST && disk.bytes > REPLAYED {
+            many = many.saturating_add(1);
+        }
+    }
+    Some(many)
+}
+
+fn counting(alloc: Global) -> Counting<MemDisk> {
+    Counting {
         inner: MemDisk::new(alloc, Vec::new(alloc)),
         bytes: 0,
-    };
+    }
+}
+
+/// How many of the last hundred blocks but one are imported with few bytes read, and how many of them with many, where a replay is
+/// made beside each import: by the second the first is seen to be able to fail.
+pub fn agreed<L: Ledger>(alloc: Global, steps: &mut Steps<L>) -> Option<(usize, usize)> {
+    let made = make(alloc, SEED, BLOCKS).ok()?;
+    let items = made.blocks.get(..1999)?;
+    let mut disk = counting(alloc);
     let node = open_new(alloc, &mut disk, &made, HELD, steps)?;
-    few_read(alloc, &mut disk, node, made.blocks.get(..1999)?, steps)
+    let few = few_read(alloc, &mut disk, node, items, steps)?;
+    let mut disk = counting(alloc);
+    let node = open_new(alloc, &mut disk, &made, HELD, steps)?;
+    let many = replays_counted(alloc, &mut disk, node, items, steps)?;
+    Some((few, many))
 }

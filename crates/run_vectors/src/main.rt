@@ -130,11 +130,16 @@ fn run_rows<L: Ledger>(rt: HostRuntime, blank: Blank) -> io::Result<ExitCode>
     )?;
     let of_snapshots = snapshots_taken::agreed(rt.alloc(), &mut steps).unwrap_or(0);
     println!(rt; "{of_snapshots} of 4 facts of a snapshot over two branches hold")?;
-    let of_reads = counted_reads::agreed(rt.alloc(), &mut steps).unwrap_or(0);
+    let (of_reads, of_replays) = counted_reads::agreed(rt.alloc(), &mut steps).unwrap_or((0, 0));
     println!(rt; "{of_reads} of 99 imports far from a snapshot read little")?;
+    println!(rt; "{of_replays} of 99 with a replay beside them read more")?;
     let all = all_rows_agree(rt, &mut steps)?;
     Ok(ExitCode::from(u8::from(
-        !all || of_hostile != 4 || of_chain != 2000 || of_snapshots != 4 || of_reads != 99,
+        !all || of_hostile != 4
+            || of_chain != 2000
+            || of_snapshots != 4
+            || of_reads != 99
+            || of_replays != 99,
     )))
 }
 
