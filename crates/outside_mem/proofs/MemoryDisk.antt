@@ -7,7 +7,7 @@ use Rattle.outside.specs.declared.disk.Area.{Area}
 use Rattle.outside_mem.specs.declared.history.Recorded.{Recorded}
 use Rattle.outside.specs.Image.{Image, content, InArea}
 use Rattle.outside.specs.Disk.{write_area, Torn, Cut, Follows, OthersRead, Elapses}
-use Rattle.outside_mem.specs.MemoryDisk.{Step, Wrote, Shortened, Synced, reads, Leaves, MayLeave, LeftSince, LeavesExactly, LeavesSynced, FailsInPart, WritesInPart, step_of, steps_of}
+use Rattle.outside_mem.specs.MemoryDisk.{Step, Wrote, Shortened, Synced, Crashed, reads, Leaves, MayLeave, LeftSince, LeavesExactly, LeavesSynced, FailsInPart, WritesInPart, step_of, steps_of}
 use Rattle.outside.proofs.Images.{own_content}
 use Rattle.outside.proofs.Torn.{torn_same, tears_to_the_written, cuts_to_any_length}
 
@@ -29,6 +29,7 @@ reads_leave (Wrote area at piece lost ∷ earlier) = (reads earlier, reads_leave
 reads_leave (Shortened area len left ∷ earlier) =
     (reads earlier, reads_leave earlier, (take (len + left) (content area (reads earlier)), cuts_to_any_length len (len + left) (content area (reads earlier)) (omega arith), refl))
 reads_leave (Synced area ∷ earlier) = (reads_leave earlier, refl)
+reads_leave (Crashed left ∷ earlier) = refl
 
 leaves : (steps : List Step) (image : Image) → MayLeave steps image → Leaves steps image
 leaves steps image (inl now) = subst (Leaves steps) (sym now) (reads_leave steps)

@@ -4,25 +4,28 @@ use Rattle.std.proofs.Common.{inl, inr, sym, ap, subst}
 use Rattle.std.proofs.Math.Nat.{lt_irrefl, le_refl}
 use Rattle.outside.specs.declared.disk.Area.{Area}
 use Rattle.outside_mem.specs.declared.history.Recorded.{Recorded}
-use Rattle.outside_mem.specs.declared.history.Recorded.TheVariants.{Write, Cut as CutShort, Sync}
+use Rattle.outside_mem.specs.declared.history.Recorded.TheVariants.{Write, Cut as CutShort, Sync, Crash}
 use Rattle.outside.specs.Causes.{up_to_last}
 use Rattle.outside.specs.Image.{Image, content, InArea}
 use Rattle.outside.specs.Disk.{write_area, cut_area, Torn, Cut, ComesBy, IsAsBefore}
 use Rattle.outside_mem.specs.Memory.{Plan}
 
--- A call that changed the disk, or what a crash may leave of it.
+-- A call that changed the disk, or what a crash may leave of it, or a crash.
 pub data Step : Type 0 where
   -- a write of this piece, and of so many bytes after it that a failed call did not come to
   Wrote : (area : Area) (at : ℕ) (piece : List ℕ) (lost : ℕ) → Step
   -- a cut to `len`, of which a failed call left so many bytes
   Shortened : (area : Area) (len left : ℕ) → Step
   Synced : (area : Area) → Step
+  -- a crash that left this image
+  Crashed : Image → Step
 
 -- what the areas read as after a step
 abbrev pub read_after : Step → Image → Image
 read_after (Wrote area at piece lost) image = if nat_le at (length (content area image)) then write_area area at piece image else image
 read_after (Shortened area len left) image = cut_area area (len + left) image
 read_after (Synced area) image = image
+read_after (Crashed left) image = left
 
 abbrev pub empty : Image
 empty = record { log = []; snap_a = []; snap_b = [] }
@@ -32,12 +35,14 @@ abbrev pub reads : List Step → Image
 reads [] = empty
 reads (step ∷ earlier) = read_after step (reads earlier)
 
--- An image that the steps leave: each write torn, each cut in part, and after a sync only what was read.
+-- An image that the steps leave: each write torn, each cut in part, after a sync only what was read, and after a crash
+-- what it left.
 abbrev pub Leaves : List Step → Image → Type 0
 Leaves [] image = image ≡ empty
 Leaves (Wrote area at piece lost ∷ earlier) image = ComesBy (InArea area (Torn at (length piece + lost))) (Leaves earlier) image
 Leaves (Shortened area len left ∷ earlier) image = ComesBy (InArea area (Cut len)) (Leaves earlier) image
 Leaves (Synced area ∷ earlier) image = Leaves earlier image × (content area image ≡ content area (reads earlier))
+Leaves (Crashed left ∷ earlier) image = image ≡ left
 
 -- an image that a crash may leave
 abbrev pub MayLeave : List Step → Image → Type 0
@@ -73,11 +78,16 @@ FailsInPart step old new = (new ≡ old) ⊎ ((made : Step) × (new ≡ made ∷
 abbrev pub WritesInPart : Area → ℕ → ℕ → List Step → List Step → Type 0
 WritesInPart area at size old new = (made : List ℕ) × (lost : ℕ) × (length made + lost ≡ size) × (new ≡ Wrote area at made lost ∷ old)
 
+-- After a crash the record has the image that it left and no other step. Where no step was made there is none.
+abbrev pub BeginsAnew : List Step → List Step → Type 0
+BeginsAnew old new = ((old ≡ []) × (new ≡ [])) ⊎ ((image : Image) × MayLeave old image × (new ≡ Crashed image ∷ []))
+
 -- the record that the code keeps, oldest first
 abbrev pub step_of : Recorded → Step
 step_of (Write area at piece lost) = Wrote area at piece.value.items lost
 step_of (CutShort area len left) = Shortened area len left
 step_of (Sync area) = Synced area
+step_of (Crash areas) = Crashed areas.value
 
 abbrev pub steps_of : List Recorded → List Step
 steps_of recorded = reverse (map step_of recorded)

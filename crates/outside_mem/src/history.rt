@@ -1,7 +1,7 @@
 // Areas in memory, and the record of the calls that changed them.
 ghost use Rattle.std.specs.Prelude.{◌≡◌, ◌+◌, ◌^◌, ◌<◌, ◌≤◌, [], ◌∷◌, length, OnOk, OnErr};
 ghost use Rattle.outside.specs.Image.{content};
-ghost use Rattle.outside_mem.specs.MemoryDisk.{Wrote, Shortened, Synced, WritesInPart, reads};
+ghost use Rattle.outside_mem.specs.MemoryDisk.{Wrote, Shortened, Synced, WritesInPart, BeginsAnew, reads};
 
 use crate::areas::Areas;
 use crate::failure_plan::Tear;
@@ -18,9 +18,11 @@ pub(crate) enum Recorded {
     /// The length that it cut to, and how many bytes after it that it left.
     Cut(Area, u64, u64),
     Sync(Area),
+    /// What a crash left.
+    Crash(Snapshot<Areas>),
 }
 
-/// Three areas, and all that changed them since they were empty. A clause sees the steps, the newest first.
+/// Three areas, and all that changed them since they were empty or since the last crash. A clause sees the steps, the newest first.
 #[derive(Drop)]
 pub(crate) struct History {
     alloc: Global,
@@ -120,5 +122,17 @@ impl History {
         self.recorded.reserve(1)?;
         self.recorded.push_reserved(Recorded::Sync(area));
         Ok(())
+    }
+
+    /// Leaves one of the images that a crash now may leave. It needs no memory: the record becomes shorter.
+    pub(crate) fn crash(&mut self)
+        ensures { BeginsAnew self.old self.new }
+    {
+        if self.recorded.is_empty() {
+            return;
+        }
+        self.recorded.clear();
+        self.recorded
+            .push_reserved(Recorded::Crash(Snapshot::of(&self.areas)));
     }
 }

@@ -1,21 +1,21 @@
 // A disk in memory, which fails at the calls that it is told to, and knows what a crash may leave.
-ghost use Rattle.std.specs.Prelude.{◌≡◌, ◌↔◌, ◌≤◌, ◌||◌, ◌+◌, [], ◌∷◌, ℕ, List, Some, length, take, drop, min, is_ok, IsTrue, IsErr, IfSome, IfOk, OnOk, OnErr, if◌then◌else◌, refl};
+ghost use Rattle.std.specs.Prelude.{◌≡◌, ◌↔◌, ◌≤◌, ◌||◌, ◌+◌, [], ◌∷◌, ℕ, List, Some, None, length, take, drop, min, is_ok, IsTrue, IsErr, IfSome, IfOk, OnOk, OnErr, if◌then◌else◌, refl};
 ghost use Rattle.std.specs.Option.{option_map};
 ghost use Rattle.std.proofs.Common.{inl};
 ghost use Rattle.outside.specs.Causes.{counted, within_last, HasCause};
 ghost use Rattle.outside.specs.Image.{content, InArea};
-ghost use Rattle.outside.specs.Disk.{write_area, cut_area, IsWithinLimit, BeginsWithin, Torn, Cut, Follows, SameImages, NoneNew, IsDurable, OthersRead, Elapses};
-ghost use Rattle.outside_mem.specs.Memory.{fresh_plan, fails_next, after_call};
-ghost use Rattle.outside_mem.specs.MemoryDisk.{Wrote, Shortened, Synced, reads, MayLeave, LeftSince, LeavesExactly, LeavesSynced, FailsInPart, disk_faults, counts_now, only_now, Step, rests};
+ghost use Rattle.outside.specs.Disk.{write_area, cut_area, IsWithinLimit, BeginsWithin, Torn, Cut, Follows, SameImages, NoneNew, IsDurable, OthersRead, Elapses, HasOneImage};
+ghost use Rattle.outside_mem.specs.Memory.{fresh_plan, fails_next, armed_with, after_call, after_change};
+ghost use Rattle.outside_mem.specs.MemoryDisk.{Wrote, Shortened, Synced, reads, MayLeave, LeftSince, LeavesExactly, LeavesSynced, FailsInPart, BeginsAnew, disk_faults, counts_now, only_now, Step, rests};
 
 use crate::failure_plan::FailurePlan;
 use crate::history::History;
-use outside::{Area, Disk, Failed};
+use outside::{Area, Crashing, Disk, Failed};
 use std::alloc::Global;
 use std::marker::Model;
 
 /// Three areas in memory, empty at first. It fails at the calls that it is told to, and tells all that it holds.
-/// It keeps a record of its calls of `write`, `cut` and `sync`, so its images at each moment follow.
+/// It keeps a record of its calls of `write`, `cut` and `sync` since its last crash, so its images at each moment follow.
 #[derive(Drop)]
 pub struct MemDisk {
     history: History,
@@ -118,7 +118,7 @@ impl Disk for MemDisk {
 
         // It fails exactly at the calls that are listed, or out of memory.
         ensures listed { IsTrue (fails_next self.old.plan) → IsErr result }
-        ensures counted { self.new.plan ≡ after_call self.old.plan }
+        ensures counted { self.new.plan ≡ after_change self.old.plan }
         ensures starved { self.new.starved
             ≡ (if is_ok result || fails_next self.old.plan then self.old.starved else counted self.old.starved) }
         ensures recorded { OnOk result (self.new.steps ≡ Wrote area at piece.now 0 ∷ self.old.steps) }
@@ -133,7 +133,7 @@ impl Disk for MemDisk {
         ensures time { Elapses (length self.old.steps) (length self.new.steps) (LeftSince self.old.steps) (LeftSince self.new.steps) (MayLeave self.new.steps) }
         ensures cause { HasCause (disk_faults self.old) (disk_faults self.new) result }
     {
-        if self.plan.call().is_err() {
+        if self.plan.change().is_err() {
             let tear = self.plan.tear();
             let _ = self.history.write_in_part(tear, area, at, piece);
             return Err(Failed);
@@ -148,7 +148,7 @@ impl Disk for MemDisk {
     fn cut(&mut self, area: Area, len: u64) -> Result<(), Failed>
         requires { IfSome (Some (reads self.old.steps)) (λ image. len ≤ length (content area image)) }
         ensures listed { IsTrue (fails_next self.old.plan) → IsErr result }
-        ensures counted { self.new.plan ≡ after_call self.old.plan }
+        ensures counted { self.new.plan ≡ after_change self.old.plan }
         ensures starved { self.new.starved
             ≡ (if is_ok result || fails_next self.old.plan then self.old.starved else counted self.old.starved) }
         ensures recorded { OnOk result (self.new.steps ≡ Shortened area len 0 ∷ self.old.steps) }
@@ -160,7 +160,7 @@ impl Disk for MemDisk {
         ensures time { Elapses (length self.old.steps) (length self.new.steps) (LeftSince self.old.steps) (LeftSince self.new.steps) (MayLeave self.new.steps) }
         ensures cause { HasCause (disk_faults self.old) (disk_faults self.new) result }
     {
-        if self.plan.call().is_err() {
+        if self.plan.change().is_err() {
             let end = self.history.bytes(area).len() as u64 - len;
             let _ = self.history.cut(area, len, end / 2);
             return Err(Failed);
@@ -174,7 +174,7 @@ impl Disk for MemDisk {
 
     fn sync(&mut self, area: Area) -> Result<(), Failed>
         ensures listed { IsTrue (fails_next self.old.plan) → IsErr result }
-        ensures counted { self.new.plan ≡ after_call self.old.plan }
+        ensures counted { self.new.plan ≡ after_change self.old.plan }
         ensures starved { self.new.starved
             ≡ (if is_ok result || fails_next self.old.plan then self.old.starved else counted self.old.starved) }
         ensures recorded { OnOk result (self.new.steps ≡ Synced area ∷ self.old.steps) }
@@ -187,11 +187,34 @@ impl Disk for MemDisk {
         ensures time { Elapses (length self.old.steps) (length self.new.steps) (LeftSince self.old.steps) (LeftSince self.new.steps) (MayLeave self.new.steps) }
         ensures cause { HasCause (disk_faults self.old) (disk_faults self.new) result }
     {
-        self.plan.call()?;
+        self.plan.change()?;
         if self.history.sync(area).is_err() {
             self.starved = self.starved.saturating_add(1);
             return Err(Failed);
         }
         Ok(())
+    }
+}
+
+impl Crashing for MemDisk {
+    ghost armed = { λ disk. disk.plan.armed };
+
+    fn arm(&mut self, pass: Option<u64>)
+        ensures plan { self.new.plan ≡ armed_with pass self.old.plan }
+        ensures steps { self.new.steps ≡ self.old.steps }
+        ensures starved { self.new.starved ≡ self.old.starved }
+    {
+        self.plan.arm(pass);
+    }
+
+    fn crash(&mut self, pick: u64)
+        ensures anew { BeginsAnew self.old.steps self.new.steps }
+        ensures plan { self.new.plan ≡ armed_with None self.old.plan }
+        ensures starved { self.new.starved ≡ self.old.starved }
+        ensures among { IfSome (Some (reads self.new.steps)) (MayLeave self.old.steps) }
+        ensures one_image { HasOneImage (Some (reads self.new.steps)) (MayLeave self.new.steps) }
+    {
+        self.history.crash();
+        self.plan.arm(None);
     }
 }
