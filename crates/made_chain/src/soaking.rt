@@ -61,11 +61,7 @@ fn session_over(
 
 /// The sessions of a soak over these items. Session k, for k from 0 to four times their count, passes k calls of the disk, and picks
 /// the seed plus k, modulo 2^64. The last one passes all.
-fn sessions_over(
-    alloc: Global,
-    seed: u64,
-    items: &[Vec<u8>],
-) -> Result<Vec<Session>, NoMemory>
+fn sessions_over(alloc: Global, seed: u64, items: &[Vec<u8>]) -> Result<Vec<Session>, NoMemory>
     requires { length items.now ≤ 100 }
     ensures items { IfOk result (λ sessions. map items_of sessions.items ≡ replicate (4 * length items.now + 2) (items_in items.now)) }
     ensures short { IfOk result (λ sessions. All IsShort sessions.items) }
