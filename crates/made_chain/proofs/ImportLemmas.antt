@@ -18,7 +18,7 @@ use Rattle.verdict_defs.specs.Verdict.{joins}
 use Rattle.verdict_defs.specs.Chain.{Chain, verdict_over, chain_after, verdicts_over, chain_over, chain_of_genesis}
 use Rattle.log_defs.specs.Log.{LogContent, log_of}
 use Rattle.store_defs.specs.Store.{Keeps, store_of, store_of_log, StandsFor, IsSound}
-use Rattle.node_core.specs.Node.{NodeValue, IsNew, IsSoundOn, IsOn}
+use Rattle.node_core.specs.Node.{NodeValue, IsNew, IsSoundOn, IsOn, IsOnlyImage}
 use Rattle.node_core.specs.Snapshot.{OthersReadBut}
 use Rattle.codec_defs.specs.Shape.{encoded}
 use Rattle.codec_defs.specs.Schema as schema
@@ -58,6 +58,13 @@ pub opened-chain : (spec genesis : List ℕ) (reads : Option Image) (images : Im
 opened-chain spec genesis reads images chain new kept =
     let there = subst (λ (r : Option Image). IfSome r (λ now. store_of now ≡ Keeps chain)) new.told kept in
     same_chain chain (chain_of_genesis spec genesis) (sym there ∙ store_of_stands _ _ new.stands)
+
+-- what is opened of a disk that keeps a chain
+pub opened-kept : (chain opened : Chain) (reads : Option Image) (images : Image → Type 0) → IsOnlyImage chain reads images
+    → IfSome reads (λ now. store_of now ≡ Keeps opened) → opened ≡ chain
+opened-kept chain opened reads images only kept =
+    let there = subst (λ (r : Option Image). IfSome r (λ now. store_of now ≡ Keeps opened)) only.told kept in
+    same_chain opened chain (sym there ∙ store_of_stands _ _ only.stands)
 
 -- and each image is sound
 pub new-is-sound : (spec genesis : List ℕ) (reads : Option Image) (images : Image → Type 0) → IsNew spec genesis reads images

@@ -1,2 +1,3 @@
 pub mod LiveCells
 pub mod ImportLemmas
+pub mod SoakLemmas

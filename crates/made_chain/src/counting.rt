@@ -5,7 +5,7 @@ ghost use Rattle.chain_defs.specs.Tip as tips;
 ghost use Rattle.cell_defs.specs.Events.{events};
 ghost use Rattle.verdict_defs.specs.Verdict as rules;
 ghost use Rattle.verdict_defs.specs.Chain.{verdict_over, chain_after, verdicts_over, chain_over, chain_of_genesis};
-ghost use Rattle.node_core.specs.Node.{IsItsOwn, IsSoundNode, IsSoundOn};
+ghost use Rattle.node_core.specs.Node.{IsItsOwn, IsOnlyImage, IsSoundNode, IsSoundOn};
 ghost use Rattle.report_defs.specs.Simulation.{live_cells, height_of, counts_over, generated_counts};
 
 use chain_gen::{Made, make};
@@ -19,7 +19,7 @@ use std::sync::ledger::{Blank, Ledger};
 use verdict_defs::Verdict;
 
 /// More bytes than an item of a node has. No generated item comes near it.
-const SIZE_BOUND: usize = 1 << 31;
+pub const SIZE_BOUND: usize = 1 << 31;
 
 /// One for an item that joined, and none for any other.
 fn one_if_joined(verdict: &Verdict) -> u64
@@ -35,7 +35,7 @@ fn one_if_joined(verdict: &Verdict) -> u64
 
 /// Opens a new store of a specification and a genesis. `Err` is want of memory, or a rule that they break: those of a generated
 /// chain break none.
-fn open_new<D: Disk, L: Ledger>(
+pub fn open_new<D: Disk, L: Ledger>(
     alloc: Global,
     disk: &mut D,
     spec: &[u8],
@@ -46,6 +46,7 @@ fn open_new<D: Disk, L: Ledger>(
     ensures chain { IfOk result (λ node. node.chain ≡ chain_of_genesis spec.now genesis.now) }
     ensures sound { IfOk result (λ node. IsSoundOn node (D.reads_as disk.new)) }
     ensures own { IfOk result (λ node. IsItsOwn node (D.reads_as disk.new) (D.images disk.new)) }
+    ensures image { IfOk result (λ node. IsOnlyImage node.chain (D.reads_as disk.new) (D.images disk.new)) }
 {
     if spec.len() >= SIZE_BOUND || genesis.len() >= SIZE_BOUND {
         return Err(NoMemory);
@@ -117,7 +118,7 @@ fn import_all<D: Disk, L: Ledger>(
 }
 
 /// What is counted of a node, where so many items joined. The live cells are listed to be counted: the list has each once.
-fn counted(alloc: Global, node: &Node, joined: u64) -> Result<Counts, NoMemory>
+pub fn counted(alloc: Global, node: &Node, joined: u64) -> Result<Counts, NoMemory>
     requires { IsSoundNode node.now }
     ensures { IfOk result (λ counts. counts ≡ record {
       joined = joined;

@@ -4,7 +4,7 @@ use Rattle.std.specs.Prelude.{Option}
 use Rattle.report_defs.specs.declared.command.Simulation.{Simulation}
 use Rattle.report_defs.specs.declared.status.Status.{Status}
 use Rattle.report_defs.specs.declared.status.Status.TheVariants.{Done, NoMemory}
-use Rattle.report_defs.specs.Report.{Report, answer_to_simulation, report_of_simulation}
+use Rattle.report_defs.specs.Report.{Report, report_without_lines, IsAnswerToSimulation, IsReportOfSimulation}
 use Rattle.report_defs.specs.Promise.{IsPrefix, IsStoppedBeforeTheSink}
 use Rattle.node_run.specs.Import.{IsStop}
 use Rattle.node_run.specs.Output.{IsToldAnswer}
@@ -13,26 +13,26 @@ use Rattle.node_run.proofs.Statuses.{stop_not_reported, is_early, not_early}
 use Rattle.node_run.proofs.StoreLemmas.{by_function, stop_says}
 
 abbrev Said : Simulation → List ℕ → Report → Type 0
-Said simulation whole said = said ≡ report_of_simulation simulation
+Said simulation whole said = IsReportOfSimulation simulation said
 
 -- memory ran out
 pub simulation_stopped : (simulation : Simulation) (left : Option (List ℕ)) → IsSimulationTold simulation left [] NoMemory
 simulation_stopped simulation left = (stop_says (Said simulation) [] left NoMemory tt, record { unread = refl; silent = λ early. refl })
 
 -- it was told, or a part of it
-pub simulation_told : (simulation : Simulation) (left : Option (List ℕ)) (taken text : List ℕ) (result : Status) → text ≡ answer_to_simulation simulation
+pub simulation_told : (simulation : Simulation) (left : Option (List ℕ)) (taken text : List ℕ) (result : Status) → IsAnswerToSimulation simulation text
     → IsToldAnswer text Done result taken → IsSimulationTold simulation left taken result
 simulation_told simulation left taken text result is (inl told) = (
-  by_function (λ whole. report_of_simulation simulation) (Said simulation) [] left taken result (λ whole. refl) (record {
-    front = λ more at. ([], sym (told.0 ∙ is) ∙ sym (append-nil taken));
-    whole_text = λ more at reported. told.0 ∙ is;
+  by_function (λ whole. report_without_lines text Done) (Said simulation) [] left taken result (λ whole. (text, is, refl)) (record {
+    front = λ more at. ([], sym told.0 ∙ sym (append-nil taken));
+    whole_text = λ more at reported. told.0;
     same_status = λ more at reported. told.1;
   }),
   record { unread = refl; silent = λ early. absurd (is_early Done (subst IsStoppedBeforeTheSink told.1 early)) },
 )
 simulation_told simulation left taken text result is (inr failed) = (
-  by_function (λ whole. report_of_simulation simulation) (Said simulation) [] left taken result (λ whole. refl) (record {
-    front = λ more at. subst (IsPrefix taken) is failed.0.front;
+  by_function (λ whole. report_without_lines text Done) (Said simulation) [] left taken result (λ whole. (text, is, refl)) (record {
+    front = λ more at. failed.0.front;
     whole_text = λ more at reported. absurd (stop_not_reported result (subst IsStop (sym failed.1) tt) reported);
     same_status = λ more at reported. absurd (stop_not_reported result (subst IsStop (sym failed.1) tt) reported);
   }),

@@ -5,7 +5,7 @@ use Rattle.report_defs.specs.declared.command.Command.TheVariants.{Init, Import,
 use Rattle.report_defs.specs.declared.command.Standalone as files
 use Rattle.report_defs.specs.declared.command.Standalone.TheVariants.{Exec, Asm, Dis, Unjson}
 use Rattle.report_defs.specs.declared.command.Simulation as simulations
-use Rattle.report_defs.specs.declared.command.Simulation.TheVariants.{Make}
+use Rattle.report_defs.specs.declared.command.Simulation.TheVariants.{Make, Soak}
 
 -- a budget, where there is one, is within its limit
 abbrev pub IsWithinBudget : files.Standalone → Type 0
@@ -17,6 +17,7 @@ IsWithinBudget Unjson = Unit {0}
 -- a count of generated blocks is within its limit
 abbrev pub IsWithinCount : simulations.Simulation → Type 0
 IsWithinCount (Make seed count) = count ≤ 20000
+IsWithinCount (Soak seed count) = count ≤ 100
 
 abbrev pub IsWithinLimit : Command → Type 0
 IsWithinLimit Init = Unit {0}

@@ -295,11 +295,30 @@ pub fn bad_json(alloc: Global) -> Result<String, AllocError>
     String::from_str(alloc, "bad json\n")
 }
 
-/// The line of so many generated blocks, by what is counted of them.
+/// The line of so many generated blocks that were imported once, by what is counted of them.
 pub fn made_line(alloc: Global, count: u32, counted: &Counts) -> Result<String, AllocError>
     ensures { IfOk result (λ line. string_bytes line ≡ text.made_line count counted.now) }
 {
-    let mut line = String::from_str(alloc, "made ")?;
+    counts_line(alloc, "made ", count, counted)
+}
+
+/// The line of so many generated blocks that were imported again and again.
+pub fn soak_line(alloc: Global, count: u32, counted: &Counts) -> Result<String, AllocError>
+    ensures { IfOk result (λ line. string_bytes line ≡ text.soak_line count counted.now) }
+{
+    counts_line(alloc, "soak ", count, counted)
+}
+
+/// The line of so many generated blocks, by what was done with them and what is counted of them.
+fn counts_line(
+    alloc: Global,
+    done: &str,
+    count: u32,
+    counted: &Counts,
+) -> Result<String, AllocError>
+    ensures { IfOk result (λ line. string_bytes line ≡ text.counts_line done.now count counted.now) }
+{
+    let mut line = String::from_str(alloc, done)?;
     push_number(alloc, &mut line, u64::from(count))?;
     line.push_str(" joined ")?;
     push_number(alloc, &mut line, counted.joined)?;

@@ -1,16 +1,16 @@
-// Generated chains: one is put through a store in memory, and what is counted of it is told.
+// Generated chains: one is put through a store in memory, once or again and again, and what is counted of it is told.
 ghost use Rattle.std.specs.Prelude.{◌≡◌, ◌≤◌, Option, List, ℕ, IfOk, string_bytes};
 ghost use Rattle.outside.specs.Causes.{CountsFault};
-ghost use Rattle.report_defs.specs.Report.{answer_to_simulation};
+ghost use Rattle.report_defs.specs.Report.{IsAnswerToSimulation};
 ghost use Rattle.report_defs.specs.Status.{IsOneOf};
 ghost use Rattle.report_defs.specs.Promise.{simulation_statuses};
 ghost use Rattle.node_run.specs.Output.{Took};
 ghost use Rattle.node_run.specs.Simulation.{IsSimulationTold};
 ghost use Rattle.node_run.specs.Words.{IsWithinCount};
 
-use crate::lines::made_line;
+use crate::lines::{made_line, soak_line};
 use crate::output::{Answer, tell};
-use made_chain::counts_of;
+use made_chain::{counts_of, soak_counts_of};
 use outside::{NoMemory, Sink};
 use report_defs::{Simulation, Status};
 use std::alloc::Global;
@@ -18,21 +18,37 @@ use std::alloc::Global;
 /// The line of a simulation. Each has a function of its own.
 fn answer_to(alloc: Global, simulation: Simulation) -> Result<String, NoMemory>
     requires { IsWithinCount simulation }
-    ensures { IfOk result (λ text. string_bytes text ≡ answer_to_simulation simulation) }
+    ensures { IfOk result (λ text. IsAnswerToSimulation simulation (string_bytes text)) }
 {
     match simulation {
         Simulation::Make { seed, count } => make(alloc, seed, count),
+        Simulation::Soak { seed, count } => soak(alloc, seed, count),
     }
 }
 
 /// The line of the generated blocks of a seed, so many of them, that were imported.
 fn make(alloc: Global, seed: u64, count: u32) -> Result<String, NoMemory>
     requires { count ≤ 20000 }
-    ensures { IfOk result (λ text. string_bytes text ≡ answer_to_simulation (Simulation.Make seed count)) }
+    ensures { IfOk result (λ text. IsAnswerToSimulation (Simulation.Make seed count) (string_bytes text)) }
 {
     let counted = counts_of(alloc, seed, count)?;
     let line = made_line(alloc, count, &counted)?;
     Ok(line)
+}
+
+/// The line of the generated blocks of a seed, so many of them, that were imported again and again.
+fn soak(alloc: Global, seed: u64, count: u32) -> Result<String, NoMemory>
+    requires { count ≤ 100 }
+    ensures { IfOk result (λ text. IsAnswerToSimulation (Simulation.Soak seed count) (string_bytes text)) }
+{
+    let counted = match soak_counts_of(alloc, seed, count) {
+        Ok(counted) => counted,
+        Err(stop) => return Err(stop),
+    };
+    match soak_line(alloc, count, &counted) {
+        Ok(line) => Ok(line),
+        Err(_) => Err(NoMemory),
+    }
 }
 
 /// Puts a generated chain through a store in memory, and tells what is counted.

@@ -20,6 +20,9 @@ const BUDGET_LIMIT: u64 = 1 << 40;
 /// The most generated blocks.
 const MADE_LIMIT: u64 = 20_000;
 
+/// The most generated blocks that are imported again and again.
+const SOAK_LIMIT: u64 = 100;
+
 /// What the words ask for, if they are in the grammar.
 pub fn command_of(words: &[String]) -> Option<Command>
     ensures command { result ≡ grammar.command_of (map string_bytes words.now) }
@@ -139,18 +142,35 @@ fn command_at(name: &[u8], first: &str, second: &str) -> Option<Command>
     if name == b"make".as_slice() {
         return make_command(first, second);
     }
+    if name == b"soak".as_slice() {
+        return soak_command(first, second);
+    }
     None
 }
 
 /// `make`, a seed and a count.
 #[tactic(auto, unfolding(report_defs::specs::Words::made_limit))]
 fn make_command(seed: &str, count: &str) -> Option<Command>
-    ensures command { result ≡ option_map (λ made. commands.Simulation (simulations.Make made.0 made.1)) (grammar.made_of seed.now count.now) }
+    ensures command { result ≡ option_map (λ made. commands.Simulation (simulations.Make made.0 made.1)) (grammar.made_of grammar.made_limit seed.now count.now) }
     ensures within { IfSome result IsWithinLimit }
 {
     let seed = number_of(seed)?;
     let count = number_up_to(MADE_LIMIT, count)?;
     Some(Command::Simulation(Simulation::Make {
+        seed,
+        count: count as u32,
+    }))
+}
+
+/// `soak`, a seed and a count.
+#[tactic(auto, unfolding(report_defs::specs::Words::soak_limit))]
+fn soak_command(seed: &str, count: &str) -> Option<Command>
+    ensures command { result ≡ option_map (λ made. commands.Simulation (simulations.Soak made.0 made.1)) (grammar.made_of grammar.soak_limit seed.now count.now) }
+    ensures within { IfSome result IsWithinLimit }
+{
+    let seed = number_of(seed)?;
+    let count = number_up_to(SOAK_LIMIT, count)?;
+    Some(Command::Simulation(Simulation::Soak {
         seed,
         count: count as u32,
     }))

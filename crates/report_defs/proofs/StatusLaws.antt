@@ -125,4 +125,4 @@ own-status (Some (Question Check)) input (Keeps chain) said is =
     let split = split_of (question_limits Check) input in
     told question_statuses said _ is (question-end (answer_to_question Check chain split.items) (end_offset split) (end_of_whole 1 split) (of-question Check chain split.items))
 own-status (Some (Standalone command)) input store said is = of-file command input said is
-own-status (Some (Simulation simulation)) input store said is = inl (ap (λ (r : Report). r.status) is)
+own-status (Some (Simulation simulation)) input store said is = inl (ap (λ (r : Report). r.status) is.2)

@@ -29,15 +29,16 @@ use Rattle.report_defs.specs.declared.command.Question.TheVariants.{Check}
 use Rattle.report_defs.specs.declared.command.Standalone as files
 use Rattle.report_defs.specs.declared.command.Standalone.TheVariants.{Exec, Asm, Dis, Unjson}
 use Rattle.report_defs.specs.declared.command.Simulation as simulations
-use Rattle.report_defs.specs.declared.command.Simulation.TheVariants.{Make}
+use Rattle.report_defs.specs.declared.command.Simulation.TheVariants.{Make, Soak}
 use Rattle.report_defs.specs.declared.end.End.{End}
 use Rattle.report_defs.specs.declared.end.End.TheVariants.{AtEnd, Cut, BadSize, Extra}
 use Rattle.report_defs.specs.declared.status.Status.{Status}
 use Rattle.report_defs.specs.declared.status.Status.TheVariants.{Done, SomeRefused, BadWords, NotAStore, CutInput, BadSize as BadSizeStatus, StoreThere, BadGenesis, ExtraInput}
 use Rattle.report_defs.specs.Items.{Limits, Split, split_of, end_offset, whole_limits, end_of_whole}
-use Rattle.report_defs.specs.Text.{line, trial_line, tip_line, genesis_line, bad_spec_line, bad_genesis_line, cut_line, bad_size_line, extra_line, execution_line, bad_line, bad_json, made_line}
+use Rattle.report_defs.specs.Text.{line, trial_line, tip_line, genesis_line, bad_spec_line, bad_genesis_line, cut_line, bad_size_line, extra_line, execution_line, bad_line, bad_json, made_line, soak_line}
 use Rattle.report_defs.specs.Queries.{header_answer, json_answer, epoch_answer, cell_answer, dao_answer}
-use Rattle.report_defs.specs.Simulation.{generated_counts}
+use Rattle.report_defs.specs.declared.counts.Counts.{Counts}
+use Rattle.report_defs.specs.Simulation.{generated_counts, AreSoakCounts}
 
 pub record Report : Type 0 where
   -- a line for each item that is answered
@@ -231,16 +232,17 @@ IsReportOfFile command file said =
 
 -- ---- Generated chains
 
--- what is told of one that is put through a store in memory
-abbrev pub answer_to_simulation : simulations.Simulation → List ℕ
-answer_to_simulation (Make seed count) = made_line count (generated_counts seed count)
+-- What is told of one that is put through a store in memory. It is a relation, as nothing is said of the counts of a `soak` where two hashes are equal.
+abbrev pub IsAnswerToSimulation : simulations.Simulation → List ℕ → Type 0
+IsAnswerToSimulation (Make seed count) text = text ≡ made_line count (generated_counts seed count)
+IsAnswerToSimulation (Soak seed count) text = (counted : Counts) × AreSoakCounts seed count counted × (text ≡ soak_line count counted)
 
-abbrev pub report_of_simulation : simulations.Simulation → Report
-report_of_simulation simulation = report_without_lines (answer_to_simulation simulation) Done
+abbrev pub IsReportOfSimulation : simulations.Simulation → Report → Type 0
+IsReportOfSimulation simulation said = (text : List ℕ) × IsAnswerToSimulation simulation text × (said ≡ report_without_lines text Done)
 
 -- ---- A run
 
--- The report by what the words ask for, the input, and what stands in the folder. There is at most one.
+-- The report by what the words ask for, the input, and what stands in the folder. There is at most one, but for a `soak` of blocks of which two hashes are equal.
 abbrev pub IsReport : Option Command → List ℕ → Store → Report → Type 0
 IsReport None input store said = said ≡ report_without_lines [] BadWords
 IsReport (Some Init) input store said = said ≡ init_report input store
@@ -248,4 +250,4 @@ IsReport (Some Import) input store said = said ≡ report_over store (λ chain. 
 IsReport (Some (Query query)) input store said = said ≡ report_over store (report_of_query query)
 IsReport (Some (Question question)) input store said = said ≡ report_over store (λ chain. report_of_question question chain (split_of (question_limits question) input))
 IsReport (Some (Standalone command)) input store said = IsReportOfFile command input said
-IsReport (Some (Simulation simulation)) input store said = said ≡ report_of_simulation simulation
+IsReport (Some (Simulation simulation)) input store said = IsReportOfSimulation simulation said

@@ -1,15 +1,16 @@
--- What is counted where the blocks of a generated chain are imported (docs/COMMANDS.md, "make").
-use Rattle.std.specs.Prelude.{ℕ, List, [], ◌∷◌, map, length, Option, Some, None}
+-- What is counted where the blocks of a generated chain are imported (docs/COMMANDS.md, "make" and "soak").
+use Rattle.std.specs.Prelude.{◌≡◌, ℕ, ◌<◌, ◌≤◌, List, [], ◌∷◌, map, length, Option, Some, None}
 use Rattle.std.specs.List.{filter}
 use Rattle.codec_defs.specs.Shape.{encoded}
 use Rattle.codec_defs.specs.Schema.{OutPoint, Block, block}
+use Rattle.chain_defs.specs.Kept.{block_hash}
 use Rattle.chain_defs.specs.Tip.{tip, best_branch}
 use Rattle.cell_defs.specs.Cell.{Cell}
 use Rattle.cell_defs.specs.Events.{Event, Makes, Spends, events, last_naming}
 use Rattle.verdict_defs.specs.Verdict.{joins}
 use Rattle.verdict_defs.specs.Chain.{Chain, chain_of_genesis, verdicts_over, chain_over}
 use Rattle.gen_defs.specs.Start.{specification, specification_bytes, genesis}
-use Rattle.gen_defs.specs.Chain.{blocks_made}
+use Rattle.gen_defs.specs.Chain.{block_made, blocks_made}
 use Rattle.report_defs.specs.declared.counts.Counts.{Counts}
 
 -- The live cells after events, as a list: each make that no later event names.
@@ -45,3 +46,12 @@ generated_items seed count = map (encoded block) (blocks_made seed count)
 -- What is counted where they are imported over it.
 unfoldable pub generated_counts : ℕ → ℕ → Counts
 generated_counts seed count = counts_over generated_start (generated_items seed count)
+
+-- The hashes of the genesis and of the blocks of a seed, so many of them, all differ. Block 0 is the genesis.
+abbrev pub HashesDiffer : ℕ → ℕ → Type 0
+HashesDiffer seed count = (i j : ℕ) → i < j → j ≤ count → block_hash (block_made seed i) ≡ block_hash (block_made seed j) → ⊥
+
+-- What is counted where they are imported again and again, stopped at each call of the disk: the same, where these hashes differ. Where two are equal, nothing
+-- is said of it.
+abbrev pub AreSoakCounts : ℕ → ℕ → Counts → Type 0
+AreSoakCounts seed count counts = HashesDiffer seed count → counts ≡ generated_counts seed count

@@ -135,10 +135,16 @@ bad_line number = codes "bad line " ++ decimal number ++ line_feed
 abbrev pub bad_json : List ℕ
 bad_json = codes "bad json" ++ line_feed
 
--- ---- `make`
+-- ---- `make` and `soak`
 
--- the line of so many generated blocks, by what is counted of them
-abbrev pub made_line : ℕ → Counts → List ℕ
-made_line count counted =
-    codes "made " ++ decimal count ++ codes " joined " ++ decimal counted.joined ++ codes " height " ++ decimal counted.height
+-- the line of so many generated blocks, by what was done with them and what is counted of them
+abbrev pub counts_line : List ℕ → ℕ → Counts → List ℕ
+counts_line done count counted =
+    done ++ decimal count ++ codes " joined " ++ decimal counted.joined ++ codes " height " ++ decimal counted.height
     ++ codes " cells " ++ decimal counted.cells ++ line_feed
+
+abbrev pub made_line : ℕ → Counts → List ℕ
+made_line count counted = counts_line (codes "made ") count counted
+
+abbrev pub soak_line : ℕ → Counts → List ℕ
+soak_line count counted = counts_line (codes "soak ") count counted

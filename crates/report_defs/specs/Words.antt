@@ -12,7 +12,7 @@ use Rattle.report_defs.specs.declared.command.Command.TheVariants.{Init, Import,
 use Rattle.report_defs.specs.declared.command.Query.TheVariants.{Tip, Header, Json, Epoch, Cell, Dao}
 use Rattle.report_defs.specs.declared.command.Question.TheVariants.{Check}
 use Rattle.report_defs.specs.declared.command.Standalone.TheVariants.{Exec, Asm, Dis, Unjson}
-use Rattle.report_defs.specs.declared.command.Simulation.TheVariants.{Make}
+use Rattle.report_defs.specs.declared.command.Simulation.TheVariants.{Make, Soak}
 
 -- A number: decimal digits, without a sign or a leading zero but for `0` itself, at most a limit.
 unfoldable pub number_up_to : ℕ → List ℕ → Option ℕ
@@ -50,9 +50,12 @@ number_limit = 2 ^ 64 - 1
 unfoldable pub budget_limit : ℕ
 budget_limit = 2 ^ 40
 
--- the most generated blocks
+-- the most generated blocks, and the most that are imported again and again
 unfoldable pub made_limit : ℕ
 made_limit = 20000
+
+unfoldable pub soak_limit : ℕ
+soak_limit = 100
 
 -- the commands that take no argument
 abbrev pub command_alone : List ℕ → Option Command
@@ -79,16 +82,17 @@ command_with name argument =
 abbrev pub out_point_of : List ℕ → List ℕ → Option (List ℕ × ℕ)
 out_point_of hash index = option_and_then (λ tx_hash. option_map (λ number. (tx_hash, number)) (number_up_to number_limit index)) (hash_of_word hash)
 
--- a seed and a count of generated blocks
-abbrev pub made_of : List ℕ → List ℕ → Option (ℕ × ℕ)
-made_of seed count = option_and_then (λ from. option_map (λ number. (from, number)) (number_up_to made_limit count)) (number_up_to number_limit seed)
+-- a seed and a count of generated blocks, at most a limit
+abbrev pub made_of : ℕ → List ℕ → List ℕ → Option (ℕ × ℕ)
+made_of limit seed count = option_and_then (λ from. option_map (λ number. (from, number)) (number_up_to limit count)) (number_up_to number_limit seed)
 
 -- those that take two
 abbrev pub command_at : List ℕ → List ℕ → List ℕ → Option Command
 command_at name first second =
     if bytes_eq name (codes "cell") then option_map (λ o. Query (Cell o.0 o.1)) (out_point_of first second)
     else if bytes_eq name (codes "dao") then option_map (λ o. Query (Dao o.0 o.1)) (out_point_of first second)
-    else if bytes_eq name (codes "make") then option_map (λ made. Simulation (Make made.0 made.1)) (made_of first second)
+    else if bytes_eq name (codes "make") then option_map (λ made. Simulation (Make made.0 made.1)) (made_of made_limit first second)
+    else if bytes_eq name (codes "soak") then option_map (λ made. Simulation (Soak made.0 made.1)) (made_of soak_limit first second)
     else None
 
 abbrev pub command_named : List (List ℕ) → Option Command

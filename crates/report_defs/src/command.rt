@@ -57,4 +57,6 @@ pub enum Standalone {
 pub enum Simulation {
     /// `make`: the blocks of a seed, so many of them, are imported one after the other, and counted.
     Make { seed: u64, count: u32 },
+    /// `soak`: they are imported again and again over one store, stopped at each call of its disk and once not, and counted.
+    Soak { seed: u64, count: u32 },
 }

@@ -13,10 +13,12 @@ use Rattle.report_defs.specs.declared.command.Command.{Command}
 use Rattle.report_defs.specs.declared.command.Command.TheVariants.{Init, Import, Query, Question, Standalone, Simulation}
 use Rattle.report_defs.specs.declared.command.Standalone as files
 use Rattle.report_defs.specs.declared.command.Standalone.TheVariants.{Exec, Asm, Dis, Unjson}
+use Rattle.report_defs.specs.declared.command.Simulation as simulations
+use Rattle.report_defs.specs.declared.command.Simulation.TheVariants.{Make, Soak}
 use Rattle.report_defs.specs.declared.status.Status.TheVariants.{Done, SomeRefused}
-use Rattle.report_defs.specs.Text.{bad_line}
-use Rattle.report_defs.specs.Report.{Report, report_without_lines, IsBlockOf, IsAnswerToFile, IsReportOfFile, IsReport}
-use Rattle.report_defs.specs.Laws.{OneReport}
+use Rattle.report_defs.specs.Text.{bad_line, soak_line}
+use Rattle.report_defs.specs.Report.{Report, report_without_lines, IsBlockOf, IsAnswerToFile, IsReportOfFile, IsReportOfSimulation, IsReport}
+use Rattle.report_defs.specs.Laws.{IsPinnedSimulation, OneReport}
 
 module _ (one_code : OneCodeAssembles) (one_bad_line : OneLineIsFirstBad) (none_bad : NoneIsBadOfCode) (one_block : IsOneOfText form.block schema.block) where
   -- a text has the encoding of one block
@@ -48,11 +50,18 @@ module _ (one_code : OneCodeAssembles) (one_bad_line : OneLineIsFirstBad) (none_
   one-of-file command file one other (inr a) (inl b) = absurd (not-both _ _ b.0 a.0)
   one-of-file command file one other (inr a) (inr b) = one-answer command file one other a.1 b.1
 
+  one-of-simulation : (simulation : simulations.Simulation) (one other : Report) → IsPinnedSimulation simulation
+      → IsReportOfSimulation simulation one → IsReportOfSimulation simulation other → one ≡ other
+  one-of-simulation (Make seed count) one other pinned a b = a.2 ∙ ap (λ text. report_without_lines text Done) (a.1 ∙ sym b.1) ∙ sym b.2
+  one-of-simulation (Soak seed count) one other pinned a b =
+      let same : a.1.0 ≡ b.1.0 = a.1.1 pinned ∙ sym (b.1.1 pinned) in
+      a.2 ∙ ap (λ text. report_without_lines text Done) (a.1.2 ∙ ap (soak_line count) same ∙ sym b.1.2) ∙ sym b.2
+
   pub one-report : OneReport
-  one-report None input store one other a b = a ∙ sym b
-  one-report (Some Init) input store one other a b = a ∙ sym b
-  one-report (Some Import) input store one other a b = a ∙ sym b
-  one-report (Some (Query query)) input store one other a b = a ∙ sym b
-  one-report (Some (Question question)) input store one other a b = a ∙ sym b
-  one-report (Some (Standalone command)) input store one other a b = one-of-file command input one other a b
-  one-report (Some (Simulation simulation)) input store one other a b = a ∙ sym b
+  one-report None input store one other pinned a b = a ∙ sym b
+  one-report (Some Init) input store one other pinned a b = a ∙ sym b
+  one-report (Some Import) input store one other pinned a b = a ∙ sym b
+  one-report (Some (Query query)) input store one other pinned a b = a ∙ sym b
+  one-report (Some (Question question)) input store one other pinned a b = a ∙ sym b
+  one-report (Some (Standalone command)) input store one other pinned a b = one-of-file command input one other a b
+  one-report (Some (Simulation simulation)) input store one other pinned a b = one-of-simulation simulation one other pinned a b

@@ -7,8 +7,8 @@ use Rattle.chain_defs.specs.Kept.{header_hash, block_hash}
 use Rattle.gen_defs.specs.Chain.{block_after, child, block_made, blocks_made}
 use Rattle.gen_defs.specs.Laws.{ParentsAreEarlier}
 use Rattle.fit_laws.specs.Laws.{HashesHave32}
-use Rattle.report_defs.specs.Simulation.{generated_items}
-use Rattle.soak_laws.specs.Laws.{NoneHasHash, NamesNoLater, HashesDiffer, GeneratedNameNoLater}
+use Rattle.report_defs.specs.Simulation.{HashesDiffer, generated_items}
+use Rattle.soak_laws.specs.Laws.{NoneHasHash, NamesNoLater, GeneratedNameNoLater}
 use Rattle.soak_laws.proofs.HeaderLemmas.{same_hash, same_parent}
 
 names_parent : (parent : Block) (i : ℕ) → (child parent i).header.parent_hash ≡ block_hash parent

@@ -1,13 +1,12 @@
--- What imports leave that are begun again, each with the first item of one list.
-use Rattle.std.specs.Prelude.{◌≡◌, ℕ, ◌+◌, ◌<◌, ◌≤◌, List, [], ◌∷◌, length, take, max, Some}
+-- What imports leave that are begun again, each with the first item of one list (docs/COMMANDS.md, "soak").
+use Rattle.std.specs.Prelude.{◌≡◌, ℕ, ◌+◌, List, [], ◌∷◌, length, take, max, Some}
 use Rattle.std.specs.List.{filter, AllByRecursion}
 use Rattle.codec_defs.specs.Shape.{decoded}
 use Rattle.codec_defs.specs.Schema.{Block, block}
 use Rattle.chain_defs.specs.Kept.{block_hash}
 use Rattle.verdict_defs.specs.Verdict.{joins}
 use Rattle.verdict_defs.specs.Chain.{Chain, verdicts_over, chain_over}
-use Rattle.gen_defs.specs.Chain.{block_made}
-use Rattle.report_defs.specs.Simulation.{generated_items}
+use Rattle.report_defs.specs.Simulation.{HashesDiffer, generated_items}
 
 -- none of these items is a block with this hash
 abbrev pub NoneHasHash : List ℕ → List (List ℕ) → Type 0
@@ -23,10 +22,6 @@ NamesNoLater (item ∷ later) = ((b : Block) → decoded block item ≡ Some b �
 abbrev pub PrefixesReplay : Type 0
 PrefixesReplay = (chain : Chain) (items : List (List ℕ)) (j k : ℕ) → NamesNoLater items
     → chain_over (chain_over chain (take j items)) (take k items) ≡ chain_over chain (take (max j k) items)
-
--- The hashes of the genesis and of the blocks of a seed, so many of them, all differ. Block 0 is the genesis.
-abbrev pub HashesDiffer : ℕ → ℕ → Type 0
-HashesDiffer seed count = (i j : ℕ) → i < j → j ≤ count → block_hash (block_made seed i) ≡ block_hash (block_made seed j) → ⊥
 
 -- Law: the blocks of a seed are such a list where their hashes and that of the genesis all differ.
 abbrev pub GeneratedNameNoLater : Type 0
