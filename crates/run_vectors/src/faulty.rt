@@ -173,7 +173,15 @@ impl FaultyRuns {
         for (at, made) in self.runs.iter().enumerate() {
             let behaviour = if at == 0 || failed { &plain } else { &faulty };
             let status = self.failing.status();
-            if !agrees_once(alloc, &mut disk, steps, made, behaviour, status, &mut failed)? {
+            if !agrees_once(
+                alloc,
+                &mut disk,
+                steps,
+                made,
+                behaviour,
+                status,
+                &mut failed,
+            )? {
                 return Ok(None);
             }
         }
