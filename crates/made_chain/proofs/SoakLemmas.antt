@@ -83,8 +83,8 @@ counts-played replay law first chain kept now blocks lists size joined result op
     let same : length items ≡ length blocks = length-map blocks (λ (bytes : Vec ℕ Global). bytes.items) in
     let whole = subst (λ (n : ℕ). IsPlayed chain lists n kept) (many ∙ sym same) played in
     IfOk-weaker result _ _ (λ counts is names.
-        is ∙ counts-soaked law chain now items joined (reopened ∙ played-whole replay chain kept items lists (4 * length blocks) names are whole) counted
-        ∙ ap (λ (k : Chain). counts_over k items) opened) all
+    is ∙ counts-soaked law chain now items joined (reopened ∙ played-whole replay chain kept items lists (4 * length blocks) names are whole) counted
+    ∙ ap (λ (k : Chain). counts_over k items) opened) all
 
 -- of the chain of a seed
 pub counts-generated : {E : Type 0} → GeneratedNameNoLater → (seed count : ℕ) (spec genesis : List ℕ) (items : List (List ℕ)) (result : Result Counts E)
@@ -92,7 +92,7 @@ pub counts-generated : {E : Type 0} → GeneratedNameNoLater → (seed count : �
     → IfOk result (λ counts. NamesNoLater items → counts ≡ counts_over (chain_of_genesis spec genesis) items) → IfOk result (λ counts. AreSoakCounts seed count counts)
 counts-generated law seed count spec genesis items result spec_is genesis_is items_are all =
     IfOk-weaker result _ _ (λ counts is differ.
-        is (subst NamesNoLater (sym items_are) (law seed count differ)) ∙ counts-are spec genesis items seed count spec_is genesis_is items_are) all
+    is (subst NamesNoLater (sym items_are) (law seed count differ)) ∙ counts-are spec genesis items seed count spec_is genesis_is items_are) all
 
 pub as-many-generated : (seed count : ℕ) (blocks : List (Vec ℕ Global)) → items_in blocks ≡ generated_items seed count → length blocks ≡ count
 unfolding blocks_made

@@ -10,7 +10,7 @@ play_all-requires-clause-store g c = (c.in_ok-opened.opened.chain, c.in_ok-opene
 pub open_kept-requires : goal.open_kept-requires
 open_kept-requires g c =
     let played = c.in-Ok.ensures.kept c.in_ok-opened.opened.chain c.in_ok-opened.ensures.image in
-    (played.0, played.2)
+    record { store = (played.0, played.2) }
 
 pub returns : goal.returns
 returns g c =
