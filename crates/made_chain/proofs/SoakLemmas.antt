@@ -75,13 +75,13 @@ counts-soaked law chain kept items joined is counted =
     ap (counts_of_kept joined) is ∙ ap (λ (n : ℕ). counts_of_kept n (chain_over chain items)) all
 
 pub counts-played : {E : Type 0} → PrefixesReplay → JoinedAreCounted → (first chain kept now : Chain) (blocks : List (Vec ℕ Global)) (lists : List (List (List ℕ)))
-    → (joined : ℕ) (result : Result Counts E) → chain ≡ first → lists ≡ replicate (4 * length blocks + 2) (items_in blocks)
-    → IsPlayed chain lists (length blocks) kept → now ≡ kept → joined ≡ length now.blocks - length chain.blocks → IfOk result (λ counts. counts ≡ counts_of_kept joined now)
+    → (size joined : ℕ) (result : Result Counts E) → chain ≡ first → lists ≡ replicate (4 * length blocks + 2) (items_in blocks) → size ≡ length blocks
+    → IsPlayed chain lists size kept → now ≡ kept → joined ≡ length now.blocks - length chain.blocks → IfOk result (λ counts. counts ≡ counts_of_kept joined now)
     → IfOk result (λ counts. NamesNoLater (items_in blocks) → counts ≡ counts_over first (items_in blocks))
-counts-played replay law first chain kept now blocks lists joined result opened are played reopened counted all =
+counts-played replay law first chain kept now blocks lists size joined result opened are many played reopened counted all =
     let items : List (List ℕ) = items_in blocks in
-    let size : length items ≡ length blocks = length-map blocks (λ (bytes : Vec ℕ Global). bytes.items) in
-    let whole = subst (λ (n : ℕ). IsPlayed chain lists n kept) (sym size) played in
+    let same : length items ≡ length blocks = length-map blocks (λ (bytes : Vec ℕ Global). bytes.items) in
+    let whole = subst (λ (n : ℕ). IsPlayed chain lists n kept) (many ∙ sym same) played in
     IfOk-weaker result _ _ (λ counts is names.
     is ∙ counts-soaked law chain now items joined (reopened ∙ played-whole replay chain kept items lists (4 * length blocks) names are whole) counted
     ∙ ap (λ (k : Chain). counts_over k items) opened) all
