@@ -166,7 +166,7 @@ fn replays_counted<D: Disk, L: Ledger>(
     Some(many)
 }
 
-fn counting(alloc: Global) -> Counting<MemDisk> {
+fn counted_disk(alloc: Global) -> Counting<MemDisk> {
     Counting {
         inner: MemDisk::new(alloc, Vec::new(alloc)),
         bytes: 0,
@@ -178,10 +178,10 @@ fn counting(alloc: Global) -> Counting<MemDisk> {
 pub fn agreed<L: Ledger>(alloc: Global, steps: &mut Steps<L>) -> Option<(usize, usize)> {
     let made = make(alloc, SEED, BLOCKS).ok()?;
     let items = made.blocks.get(..1999)?;
-    let mut disk = counting(alloc);
+    let mut disk = counted_disk(alloc);
     let node = open_new(alloc, &mut disk, &made, HELD, steps)?;
     let few = few_read(alloc, &mut disk, node, items, steps)?;
-    let mut disk = counting(alloc);
+    let mut disk = counted_disk(alloc);
     let node = open_new(alloc, &mut disk, &made, HELD, steps)?;
     let many = replays_counted(alloc, &mut disk, node, items, steps)?;
     Some((few, many))
