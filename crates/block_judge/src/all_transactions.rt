@@ -39,7 +39,7 @@ use mol_schema::{BlockView, TxView};
 use outside::{NoMemory, ReadStop};
 use proposal_window::Proposed;
 use std::alloc::Global;
-use tx_rules::TxAt;
+use tx_rules::{Own, TxAt};
 
 /// What the transactions of a block come to: their ext, the interest that they withdraw and what the cells occupy that
 /// they spend, in shannons.
@@ -257,7 +257,7 @@ pub(crate) fn judge_transactions<C: Cells, B: Blocks>(
         spec: context.spec,
         tree: context.tree,
         parent: context.parent,
-        block: Some(BlockView::from_encoding(block.bytes())),
+        block: Some(Own::Block(BlockView::from_encoding(block.bytes()))),
     };
     let proposed = match Proposed::of(
         alloc,

@@ -15,14 +15,14 @@ use std::alloc::Global;
 /// The cells of a branch, and beside them what the transactions of a block made and spent so far. The rows are those of
 /// the branch with what was changed.
 #[derive(Drop)]
-pub(crate) struct BlockCells<'a, C: Cells> {
+pub struct BlockCells<'a, C: Cells> {
     base: &'a C,
     changed: Changes,
 }
 
 impl<'a, C: Cells> BlockCells<'a, C> {
     /// Those of the branch.
-    pub(crate) fn of(alloc: Global, base: &'a C) -> BlockCells<'a, C>
+    pub fn of(alloc: Global, base: &'a C) -> BlockCells<'a, C>
         ensures rows { (o : schema.OutPoint) → with_changes result.changed (C.rows result.base.now) o ≡ C.rows base.now o }
     {
         BlockCells {
@@ -33,7 +33,7 @@ impl<'a, C: Cells> BlockCells<'a, C> {
 
     /// Takes what the transaction at a place of the block does: it spends, but for a cellbase, and then makes. Its rows have
     /// the block's place `e`. Out of memory, a part of it may have been taken.
-    pub(crate) fn take(
+    pub fn take(
         &mut self,
         tx: &TxView<'_>,
         hash: &[u8; 32],

@@ -23,6 +23,10 @@ mod stop;
 mod transactions;
 
 pub use at_sight::judge_at_sight;
+pub use block_cells::BlockCells;
+pub use cellbase::is_cellbase;
 pub use context::{Context, NoCells};
+pub use ending::{lock_of, made_by};
 pub use judging::{dry_run, judge};
 pub use stop::Judged;
+pub use transactions::{Taken, judge_transaction};

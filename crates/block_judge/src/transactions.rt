@@ -34,13 +34,13 @@ use tx_rules::{TxAt, TxStop, resolve};
 /// A transaction that keeps its rules: its hash, its fee, the interest that it withdraws and what the cells occupy that it
 /// spends, in shannons; the cycles of its scripts, and the cells of its inputs.
 #[derive(Drop)]
-pub(crate) struct Taken {
-    pub(crate) hash: [u8; 32],
-    pub(crate) fee: u64,
-    pub(crate) interest: i128,
-    pub(crate) freed: u128,
-    pub(crate) cycles: u64,
-    pub(crate) inputs: Vec<Resolved>,
+pub struct Taken {
+    pub hash: [u8; 32],
+    pub fee: u64,
+    pub interest: i128,
+    pub freed: u128,
+    pub cycles: u64,
+    pub inputs: Vec<Resolved>,
 }
 
 /// What the cells of a transaction's inputs occupy, in shannons. It has below 2^32 of them.
@@ -69,7 +69,7 @@ fn stopped(stop: TxStop) -> Judged
 
 /// Judges a transaction within so many cycles, by J18 and J20 to J30, and by J19 where it is said whether its id is
 /// proposed.
-pub(crate) fn judge_transaction<C: Cells, B: Blocks>(
+pub fn judge_transaction<C: Cells, B: Blocks>(
     alloc: Global,
     tx: &TxView<'_>,
     at: &TxAt<'_>,

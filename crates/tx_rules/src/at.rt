@@ -3,12 +3,64 @@ ghost use Rattle.std.specs.Prelude.{◌≡◌};
 ghost use Rattle.outside.specs.declared.disk.Area.TheVariants.{Log};
 ghost use Rattle.tx_rules.specs.Seen.{log_place};
 
-use cell_model::CellMeta;
+use cell_model::{CellMeta, OutPoint, data_at, output_at};
 use chain_tree::Tree;
 use epochs::Spec;
-use mol_schema::BlockView;
+use mol_schema::{BlockView, OutputView, TxView};
 use outside::{Area, Damage};
 use std::marker::Model;
+
+/// The transactions of the block that is judged: those of a whole block, or those that stand in one so far. Clauses see a
+/// block with these transactions.
+#[derive(Drop)]
+pub enum Own<'a> {
+    Block(BlockView<'a>),
+    SoFar(&'a [TxView<'a>]),
+}
+
+impl<'a> Model for Own<'a> {
+    ghost use Rattle.codec_defs.specs.Schema.{Block};
+    ghost use Rattle.tx_rules.specs.Own.{block_of};
+
+    ghost Value = { Block };
+
+    ghost view = { λ own. block_of own };
+}
+
+impl<'a> Own<'a> {
+    ghost use Rattle.std.specs.Prelude.{◌≡◌};
+    ghost use Rattle.std.specs.Option.{option_map};
+    ghost use Rattle.cell_model.specs.Copies.{output_in};
+
+    /// The output that a row names in the block, with its data: at the out-point's index, of the transaction at the row's
+    /// place.
+    pub(crate) fn output_at(&self, o: &OutPoint, meta: &CellMeta) -> Option<(OutputView<'a>, &'a [u8])>
+        ensures { option_map (λ it. (it.0, it.1.now)) result ≡ output_in self.now meta.now.transaction o.now.index }
+    {
+        match self {
+            Own::Block(block) => output_at(block, o, meta),
+            Own::SoFar(transactions) => output_so_far(transactions, o, meta),
+        }
+    }
+}
+
+/// The same among transactions.
+fn output_so_far<'a>(
+    transactions: &[TxView<'a>],
+    o: &OutPoint,
+    meta: &CellMeta,
+) -> Option<(OutputView<'a>, &'a [u8])> {
+    if meta.tx as usize >= transactions.len() {
+        return None;
+    }
+    let tx = &transactions[meta.tx as usize];
+    let raw = tx.raw();
+    let index = o.index as usize;
+    if index >= raw.outputs_count() {
+        return None;
+    }
+    Some((raw.outputs_item(index), data_at(tx, index)))
+}
 
 /// Where a transaction is judged: on a parent in the tree, in the block that is judged or, as a dry run, alone. A row
 /// of its cells whose block is the tree's length names an output of that block.
@@ -18,7 +70,7 @@ pub struct TxAt<'a> {
     pub tree: &'a Tree,
     /// The place of the parent in the tree.
     pub parent: u32,
-    pub block: Option<BlockView<'a>>,
+    pub block: Option<Own<'a>>,
 }
 
 impl<'a> Model for TxAt<'a> {

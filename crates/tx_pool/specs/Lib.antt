@@ -1,0 +1,2 @@
+pub mod Cellbase
+pub mod Assembling
