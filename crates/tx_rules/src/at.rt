@@ -44,7 +44,7 @@ impl<'a> Own<'a> {
 
     /// Those of a block.
     pub fn of_block(block: BlockView<'a>) -> Own<'a>
-        ensures { result ≡ block }
+        ensures { result ≡ block.entry }
     {
         Own {
             held: Held::Block(block),
