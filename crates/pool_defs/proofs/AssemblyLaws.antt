@@ -1,10 +1,9 @@
 -- The laws of what becomes of the items.
-use Rattle.std.proofs.Common.{◌≡◌, ℕ, suc, ◌+◌, ◌<◌, ◌≤◌, true, Bool, ◌&&◌, List, [], ◌∷◌, ◌++◌, length, drop, Some, refl, sym, ap, ◌∙◌, subst, arith}
-use Rattle.std.specs.Prelude.{IsTrue, nat_le, slice_get}
+use Rattle.std.proofs.Common.{◌≡◌, ℕ, suc, ◌+◌, List, [], ◌∷◌, ◌++◌, length, drop, refl, sym, ap, ◌∙◌, subst, arith}
+use Rattle.std.specs.Prelude.{IsTrue}
 use Rattle.std.proofs.lemmas.List.{append-nil, append_assoc}
 use Rattle.std.proofs.lemmas.List.Elements.{All-nil}
-use Rattle.codec_defs.specs.Shape.{decoded}
-use Rattle.codec_defs.specs.Schema.{Transaction, transaction, Block, CellbaseWitness}
+use Rattle.codec_defs.specs.Schema.{Transaction, Block, CellbaseWitness}
 use Rattle.fold_defs.specs.First.{AllHold}
 use Rattle.fold_defs.specs.Fold.{keep}
 use Rattle.fold_defs.proofs.FoldLemmas.{keep-append}
@@ -12,12 +11,10 @@ use Rattle.time_defs.specs.Specification.{Specification}
 use Rattle.chain_defs.specs.Tip.{best_branch}
 use Rattle.rule_defs.specs.Body.{has_proposals}
 use Rattle.block_defs.specs.Transactions.{rules_of_transactions, rules_from}
-use Rattle.verdict_defs.specs.Chain.{Chain}
 use Rattle.pool_defs.specs.Start.{started, sealed}
-use Rattle.pool_defs.specs.Assembly.{Assembly, start, take_item, assembly, assembled, with_line, proposed, committed_at}
-use Rattle.pool_defs.specs.Laws.{LinesStay, TransactionsKeepTheirRules, CommitsStand, left_from, IsCommitted}
+use Rattle.pool_defs.specs.Assembly.{Assembly, start, take_item, assembly, assembled}
+use Rattle.pool_defs.specs.Laws.{LinesStay, TransactionsKeepTheirRules, CommitsStand, left_from}
 use Rattle.pool_defs.specs.declared.line.Line.{Line}
-use Rattle.pool_defs.specs.declared.line.Line.TheVariants.{Commit}
 use Rattle.pool_defs.proofs.StepLemmas.{by_step, keep_all}
 use Rattle.pool_defs.proofs.RulesLemmas.{rules-agree}
 use Rattle.pool_defs.proofs.ItemLemmas.{Holds, holds-next, agrees, still-committed, behind-first}
@@ -44,9 +41,10 @@ lines-stay chain witness items more =
     let branch : List Block = best_branch chain.blocks in
     let first : Assembly = start chain.spec branch witness in
     let all = lines-from chain.spec branch first items in
-    let rest = lines-from chain.spec branch (keep (take_item chain.spec branch) first items) more in
-    (ap length all.1 ∙ all.2,
-    (rest.0, ap (λ (after : Assembly). after.lines) (keep-append (take_item chain.spec branch) first items more) ∙ rest.1))
+    let rest = lines-from chain.spec branch (keep (take_item chain.spec branch) first items) more in (
+      ap length all.1 ∙ all.2,
+      (rest.0, ap (λ (after : Assembly). after.lines) (keep-append (take_item chain.spec branch) first items more) ∙ rest.1),
+    )
 
 -- ---- What holds after all items
 
@@ -93,6 +91,10 @@ unfolding assembled
 commits-stand chain witness items i paid cycles there =
     let branch : List Block = best_branch chain.blocks in
     let all : Assembly = assembly chain.spec branch witness items in
-    let found = (holds-all chain.spec branch witness items).commits i paid cycles there in
-    (found.0, found.1, found.2, found.3,
-    still-committed chain.spec branch all.block (sealed chain.spec branch all.block) [] (sym (append-nil all.block.transactions)) found.1 paid cycles found.4)
+    let found = (holds-all chain.spec branch witness items).commits i paid cycles there in (
+      found.0,
+      found.1,
+      found.2,
+      found.3,
+      still-committed chain.spec branch all.block (sealed chain.spec branch all.block) [] (sym (append-nil all.block.transactions)) found.1 paid cycles found.4,
+    )

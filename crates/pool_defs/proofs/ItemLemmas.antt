@@ -1,5 +1,5 @@
 -- What holds of an assembly after each item.
-use Rattle.std.proofs.Common.{◌≡◌, ℕ, zero, suc, ◌+◌, ◌<◌, ◌≤◌, Bool, true, false, List, [], ◌∷◌, ◌++◌, length, take, drop, Option, Some, None, refl, sym, ap, ◌∙◌, subst, ◌⊎◌, inl, inr, arith}
+use Rattle.std.proofs.Common.{◌≡◌, ℕ, ◌+◌, ◌<◌, ◌≤◌, true, List, [], ◌∷◌, ◌++◌, length, take, drop, Some, None, refl, sym, ap, ◌∙◌, subst, ◌⊎◌, inl, inr, arith}
 use Rattle.std.specs.Prelude.{IsTrue, slice_get}
 use Rattle.std.proofs.lemmas.List.{append-nil, take-append-le, take_at, length_push, length-drop, length-take-le}
 use Rattle.std.proofs.lemmas.Option.{slice_get_within}
@@ -27,7 +27,6 @@ use Rattle.pool_defs.proofs.RulesLemmas.{AgreeUpTo, hold-append, site-agrees, ru
 
 module _ (spec : Specification) (branch : List Block) (b other : Block) (more : List Transaction)
     (grown : other.transactions ≡ b.transactions ++ more) where
-
   agree-within : (place : ℕ) → place ≤ length b.transactions → take place b.transactions ≡ take place other.transactions
   agree-within place within = sym (ap (take place) grown ∙ take-append-le place b.transactions more within)
 
@@ -54,10 +53,10 @@ module _ (spec : Specification) (branch : List Block) (b other : Block) (more : 
         behind = is.behind;
         there = ap (λ (txs : List Transaction). slice_get txs is.place) grown ∙ slice_get-before b.transactions more is.place within ∙ is.there;
         kept = subst AllHold (ap (λ (s : Site). transaction_rules s (left_before spec branch b is.place) t) site
-        ∙ ap (λ (l : ℕ). transaction_rules (site_at spec branch other is.place) l t) left) is.kept;
+            ∙ ap (λ (l : ℕ). transaction_rules (site_at spec branch other is.place) l t) left) is.kept;
         fee_is = is.fee_is ∙ ap (λ (s : Site). fee s t) site;
         cycles_are = is.cycles_are ∙ ap (λ (s : Site). cycles_of (scene_of s t) (left_before spec branch b is.place)) site
-        ∙ ap (λ (l : ℕ). cycles_of (scene_of (site_at spec branch other is.place) t) l) left;
+            ∙ ap (λ (l : ℕ). cycles_of (scene_of (site_at spec branch other is.place) t) l) left;
       }
 
 -- ---- What holds after each item
@@ -83,14 +82,13 @@ behind-first [] some = absurd (omega (arith, some))
 behind-first (first ∷ later) some = omega arith
 
 module _ (spec : Specification) (branch : List Block) (done : List (List ℕ)) (item : List ℕ) (so_far : Assembly) (holds : Holds spec branch done so_far) where
-
   one-more : (line : Line) → length (so_far.lines ++ line ∷ []) ≡ length (done ++ item ∷ [])
   one-more line = length_push so_far.lines line ∙ ap (λ (n : ℕ). n + 1) holds.count ∙ sym (length_push done item)
 
   -- the commits among the lines so far, and one line more, over a block that has grown
   commits-more : (other : Block) (more : List Transaction) (line : Line) → other.transactions ≡ so_far.block.transactions ++ more
       → ((paid cycles : ℕ) → line ≡ Commit paid cycles
-          → (t : Transaction) × (decoded transaction item ≡ Some t) × IsCommitted spec branch other t paid cycles)
+      → (t : Transaction) × (decoded transaction item ≡ Some t) × IsCommitted spec branch other t paid cycles)
       → (i paid cycles : ℕ) → slice_get (so_far.lines ++ line ∷ []) i ≡ Some (Commit paid cycles)
       → (it : List ℕ) × (t : Transaction) × (slice_get (done ++ item ∷ []) i ≡ Some it) × (decoded transaction it ≡ Some t)
       × IsCommitted spec branch other t paid cycles
@@ -100,9 +98,13 @@ module _ (spec : Specification) (branch : List Block) (done : List (List ℕ)) (
           → (it : List ℕ) × (t : Transaction) × (slice_get (done ++ item ∷ []) i ≡ Some it) × (decoded transaction it ≡ Some t)
           × IsCommitted spec branch other t paid cycles
       by_place (inl before) =
-          let found = holds.commits i paid cycles before.1 in
-          (found.0, found.1, slice_get-before done (item ∷ []) i (slice_get_within done i found.0 found.2) ∙ found.2, found.3,
-          still-committed spec branch so_far.block other more grown found.1 paid cycles found.4)
+          let found = holds.commits i paid cycles before.1 in (
+            found.0,
+            found.1,
+            slice_get-before done (item ∷ []) i (slice_get_within done i found.0 found.2) ∙ found.2,
+            found.3,
+            still-committed spec branch so_far.block other more grown found.1 paid cycles found.4,
+          )
       by_place (inr at) =
           let found = last paid cycles at.1 in
           (item, found.0, ap (slice_get (done ++ item ∷ [])) (at.0 ∙ holds.count) ∙ slice_get-push done item, found.1, found.2)
@@ -160,19 +162,23 @@ module _ (spec : Specification) (branch : List Block) (done : List (List ℕ)) (
     header = holds.header;
     ids = holds.ids;
     rules = subst AllHold (sym rules_are) (hold-append (rules_from spec branch other 1 spec.max_cycles rest) (transaction_rules here so_far.left t)
-    (subst AllHold (rules-agree spec branch so_far.block other 1 spec.max_cycles rest agree) holds.rules) kept);
+        (subst AllHold (rules-agree spec branch so_far.block other 1 spec.max_cycles rest agree) holds.rules) kept);
     left = sym left_is;
     count = one-more (Commit (fee here t) (cycles_of (scene_of here t) so_far.left));
     commits = commits-more other (t ∷ []) (Commit (fee here t) (cycles_of (scene_of here t) so_far.left)) refl
-    (λ paid cycles same. (t, is, record {
-      place = length so_far.block.transactions;
-      behind = holds.some;
-      there = slice_get-push so_far.block.transactions t;
-      kept = subst AllHold (ap (λ (s : Site). transaction_rules s so_far.left t) site ∙ ap (λ (l : ℕ). transaction_rules there l t) before) kept;
-      fee_is = paid_is paid cycles same ∙ ap (λ (s : Site). fee s t) site;
-      cycles_are = cycles_is paid cycles same ∙ ap (λ (s : Site). cycles_of (scene_of s t) so_far.left) site
-      ∙ ap (λ (l : ℕ). cycles_of (scene_of there t) l) before;
-    }));
+        (λ paid cycles same. (
+          t,
+          is,
+          record {
+            place = length so_far.block.transactions;
+            behind = holds.some;
+            there = slice_get-push so_far.block.transactions t;
+            kept = subst AllHold (ap (λ (s : Site). transaction_rules s so_far.left t) site ∙ ap (λ (l : ℕ). transaction_rules there l t) before) kept;
+            fee_is = paid_is paid cycles same ∙ ap (λ (s : Site). fee s t) site;
+            cycles_are = cycles_is paid cycles same ∙ ap (λ (s : Site). cycles_of (scene_of s t) so_far.left) site
+                ∙ ap (λ (l : ℕ). cycles_of (scene_of there t) l) before;
+          },
+        ));
   }
     where
       other : Block

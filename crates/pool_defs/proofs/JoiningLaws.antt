@@ -1,6 +1,6 @@
 -- The laws of what becomes of the block.
-use Rattle.std.proofs.Common.{◌≡◌, ℕ, suc, ◌+◌, ◌-◌, ◌<◌, ◌≤◌, Bool, true, false, cond, ◌&&◌, List, [], ◌∷◌, ◌++◌, length, drop, Option, Some, None, refl, sym, ap, ◌∙◌, subst, ◌⊎◌, inl, inr, arith}
-use Rattle.std.specs.Prelude.{IsTrue, IfSome, nat_le, is_some, ◌==◌, slice_get}
+use Rattle.std.proofs.Common.{◌≡◌, ℕ, ◌+◌, ◌-◌, ◌<◌, ◌≤◌, Bool, true, false, cond, List, [], ◌∷◌, ◌++◌, length, Option, Some, None, refl, sym, ap, ◌∙◌, subst, ◌⊎◌, inl, inr, arith}
+use Rattle.std.specs.Prelude.{IsTrue, IfSome, nat_le, is_some, ◌==◌}
 use Rattle.std.specs.List.{list_any, list_all, enumerate_from}
 use Rattle.std.proofs.lemmas.Bool.Decides.{Decides-eqb}
 use Rattle.std.proofs.lemmas.Bool.{cases_lt}
@@ -28,11 +28,9 @@ use Rattle.family_defs.specs.Cellbase.{has_cellbase, forms_cellbase}
 use Rattle.block_defs.specs.Transactions.{rules_of_transactions}
 use Rattle.block_defs.specs.Rules.{all_rules, first_broken}
 use Rattle.reward_defs.specs.Rules.{pays_reward, has_next_dao, end_rules}
-use Rattle.verdict_defs.specs.Chain.{Chain}
-use Rattle.verdict_defs.specs.Laws.{CanJoin}
 use Rattle.verdict_defs.proofs.VerdictLaws.{verdict-joined}
 use Rattle.pool_defs.specs.Start.{header_after, hash_of_parent, committed, sealed}
-use Rattle.pool_defs.specs.Assembly.{Assembly, assembly, assembled, broken_by}
+use Rattle.pool_defs.specs.Assembly.{Assembly, assembly, assembled}
 use Rattle.pool_defs.specs.Laws.{IsFounded, breakable, BreaksFew, UnbrokenJoins}
 use Rattle.pool_defs.proofs.ItemLemmas.{Holds}
 use Rattle.pool_defs.proofs.AssemblyLaws.{holds-all, rules-sealed}
@@ -72,7 +70,7 @@ record Stands (kept : List Block) : Type 0 where
   number : top.header.number + 1 ≡ length (best_branch kept)
 
 best-is : (kept : List Block) (place : ℕ) → tip_place kept ≡ Some place → best_branch kept ≡ branch kept place
-best-is kept place is = ap (λ (at : Option ℕ). elim at [ | None ↦ [] | Some place ↦ branch kept place ]) is
+best-is kept place is = ap (λ (at : Option ℕ). elim at [ None ↦ [] | Some place ↦ branch kept place ]) is
 
 founded-stands : (kept : List Block) → IsFounded kept → Stands kept
 founded-stands kept founded = record {
@@ -111,7 +109,6 @@ founded-stands kept founded = record {
 
 module _ (spec : Specification) (on : List Block) (done : List (List ℕ)) (all : Assembly) (holds : Holds spec on done all) (top : Block)
     (parent : parent_of on ≡ Some top) (number : top.header.number + 1 ≡ length on) where
-
   b : Block
   b = sealed spec on all.block
 
@@ -235,7 +232,7 @@ unbroken-joins chain witness items b founded is unbroken canonical room = verdic
     parent = stands.place;
     on_kept = ap (place_of chain.blocks) (ap (λ (it : Block). it.header.parent_hash) (sym is) ∙ named) ∙ place-found chain.blocks stands.place stands.top founded.is_kept stands.there;
     unbroken = ap (λ (line : List Block). first_broken chain.spec line b) (sym stands.best)
-    ∙ ap (first_broken chain.spec (best_branch chain.blocks)) (sym is) ∙ both.1;
+        ∙ ap (first_broken chain.spec (best_branch chain.blocks)) (sym is) ∙ both.1;
     room = room;
   };
 })

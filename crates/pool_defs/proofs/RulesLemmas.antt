@@ -1,16 +1,15 @@
 -- The rules on the transactions of a block to which one more is added.
-use Rattle.std.proofs.Common.{◌≡◌, ℕ, zero, suc, ◌+◌, ◌<◌, ◌≤◌, Bool, List, [], ◌∷◌, ◌++◌, length, take, drop, Some, None, refl, sym, ap, ◌∙◌, subst, arith}
+use Rattle.std.proofs.Common.{◌≡◌, ℕ, suc, ◌+◌, ◌<◌, Bool, List, [], ◌∷◌, ◌++◌, length, take, refl, sym, ap, ◌∙◌, arith}
 use Rattle.std.specs.Prelude.{IsTrue}
-use Rattle.std.specs.List.{All}
-use Rattle.std.proofs.lemmas.List.{append-nil, append_assoc, take-append-le, length_push}
-use Rattle.std.proofs.lemmas.List.Elements.{All-nil, All-cons, All-head, All-tail}
+use Rattle.std.proofs.lemmas.List.{append-nil, append_assoc}
+use Rattle.std.proofs.lemmas.List.Elements.{All-cons, All-head, All-tail}
 use Rattle.codec_defs.specs.Schema.{OutPoint, Transaction, Block}
 use Rattle.fold_defs.specs.First.{AllHold}
 use Rattle.time_defs.specs.Specification.{Specification}
 use Rattle.cell_defs.specs.Events.{events, events_from, cell_after}
 use Rattle.tx_defs.specs.Site.{Site, site_at}
-use Rattle.block_defs.specs.Transactions.{transaction_rules, left_after, rules_from, rules_of_transactions}
-use Rattle.pool_defs.specs.Laws.{left_from, left_before}
+use Rattle.block_defs.specs.Transactions.{transaction_rules, left_after, rules_from}
+use Rattle.pool_defs.specs.Laws.{left_from}
 
 pub hold-append : (earlier later : List (ℕ × Bool)) → AllHold earlier → AllHold later → AllHold (earlier ++ later)
 hold-append [] later before after = after
@@ -65,7 +64,7 @@ rules-push spec branch b place left (first ∷ later) t =
     ap (λ (rest : List (ℕ × Bool)). transaction_rules site left first ++ rest)
     (rules-push spec branch b (suc place) (left_after site left first) later t
     ∙ ap (λ (p : ℕ). rules_from spec branch b (suc place) (left_after site left first) later
-        ++ transaction_rules (site_at spec branch b p) (left_from spec branch b (suc place) (left_after site left first) later) t) next)
+    ++ transaction_rules (site_at spec branch b p) (left_from spec branch b (suc place) (left_after site left first) later) t) next)
     ∙ sym (append_assoc (transaction_rules site left first) (rules_from spec branch b (suc place) (left_after site left first) later) _)
 
 pub left-push : (spec : Specification) (branch : List Block) (b : Block) (place left : ℕ) (txs : List Transaction) (t : Transaction)

@@ -1,7 +1,6 @@
 -- What one item comes to, case by case, and what holds of all items.
-use Rattle.std.proofs.Common.{◌≡◌, ℕ, Bool, true, false, cond, List, [], ◌∷◌, ◌++◌, Option, Some, None, refl, sym, ap, ◌∙◌, subst}
+use Rattle.std.proofs.Common.{◌≡◌, ℕ, Bool, true, false, cond, List, [], ◌∷◌, ◌++◌, Option, Some, None, refl, sym, subst}
 use Rattle.std.specs.Prelude.{IsTrue, ◌&&◌, not}
-use Rattle.std.proofs.lemmas.Bool.{and_parts}
 use Rattle.std.proofs.lemmas.List.{append-nil, append_assoc}
 use Rattle.codec_defs.specs.Shape.{decoded}
 use Rattle.codec_defs.specs.Schema.{Transaction, transaction, Block}
@@ -12,7 +11,7 @@ use Rattle.chain_defs.specs.Hashes.{proposal_id}
 use Rattle.rule_defs.specs.Body.{fits_length, has_proposals}
 use Rattle.family_defs.specs.Cellbase.{has_cellbase}
 use Rattle.block_defs.specs.Transactions.{is_proposed, transaction_rules}
-use Rattle.pool_defs.specs.Assembly.{Assembly, with_transaction, with_proposal, with_line, next_site, proposed, committed_at, propose, commit, judge, take_transaction, take_decoded, take_item}
+use Rattle.pool_defs.specs.Assembly.{Assembly, with_transaction, with_proposal, with_line, next_site, proposed, committed_at, propose, judge, take_decoded, take_item}
 use Rattle.pool_defs.specs.declared.line.Line.{Line}
 use Rattle.pool_defs.specs.declared.line.Line.TheVariants.{Commit, Propose, Refused, Later}
 
@@ -27,11 +26,10 @@ changes_nothing Later = true
 module _ (spec : Specification) (branch : List Block) (so_far : Assembly) (item : List ℕ) (P : Assembly → Type 0)
     (same : (line : Line) → changes_nothing line ≡ true → P (with_line so_far line))
     (proposes : (t : Transaction) → decoded transaction item ≡ Some t → IsTrue (has_proposals spec (with_proposal so_far.block (proposal_id t)))
-        → P (proposed so_far (proposal_id t)))
+    → P (proposed so_far (proposal_id t)))
     (commits : (t : Transaction) → decoded transaction item ≡ Some t
-        → first_failing (transaction_rules (next_site spec branch so_far.block) so_far.left t) ≡ None
-        → P (committed_at (next_site spec branch so_far.block) so_far t)) where
-
+    → first_failing (transaction_rules (next_site spec branch so_far.block) so_far.left t) ≡ None
+    → P (committed_at (next_site spec branch so_far.block) so_far t)) where
   by_proposing : (t : Transaction) → decoded transaction item ≡ Some t → (fits ids : Bool)
       → has_proposals spec (with_proposal so_far.block (proposal_id t)) ≡ ids
       → P (cond (fits && ids) (proposed so_far (proposal_id t)) (with_line so_far Later))
@@ -52,14 +50,14 @@ module _ (spec : Specification) (branch : List Block) (so_far : Assembly) (item 
 
   by_window : (t : Transaction) → decoded transaction item ≡ Some t → (waits : Bool)
       → P (cond waits (propose spec so_far t)
-          (judge spec branch so_far t (first_failing (transaction_rules (next_site spec branch so_far.block) so_far.left t))))
+      (judge spec branch so_far t (first_failing (transaction_rules (next_site spec branch so_far.block) so_far.left t))))
   by_window t is true =
       by_proposing t is (fits_length spec (with_proposal so_far.block (proposal_id t))) (has_proposals spec (with_proposal so_far.block (proposal_id t))) refl
   by_window t is false = by_rule t is (first_failing (transaction_rules (next_site spec branch so_far.block) so_far.left t)) refl
 
   by_place : (t : Transaction) → decoded transaction item ≡ Some t → (repeats : Bool)
       → P (cond repeats (with_line so_far (Refused 16)) (cond (not (is_proposed spec branch t)) (propose spec so_far t)
-          (judge spec branch so_far t (first_failing (transaction_rules (next_site spec branch so_far.block) so_far.left t)))))
+      (judge spec branch so_far t (first_failing (transaction_rules (next_site spec branch so_far.block) so_far.left t)))))
   by_place t is true = same (Refused 16) refl
   by_place t is false = by_window t is (not (is_proposed spec branch t))
 

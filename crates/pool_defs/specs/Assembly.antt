@@ -1,6 +1,6 @@
 -- The block that is assembled of a list of items, each a transaction, and what becomes of each (docs/RULES.md, "A block that is assembled").
-use Rattle.std.specs.Prelude.{ℕ, Bool, ◌&&◌, not, List, [], ◌∷◌, ◌++◌, length, Option, Some, None, is_some, if◌then◌else◌}
-use Rattle.codec_defs.specs.Shape.{encoded, decoded}
+use Rattle.std.specs.Prelude.{ℕ, ◌&&◌, not, List, [], ◌∷◌, ◌++◌, length, Option, Some, None, is_some, if◌then◌else◌}
+use Rattle.codec_defs.specs.Shape.{decoded}
 use Rattle.codec_defs.specs.Schema.{Transaction, transaction, Block, CellbaseWitness}
 use Rattle.fold_defs.specs.First.{first_failing}
 use Rattle.fold_defs.specs.Fold.{keep}

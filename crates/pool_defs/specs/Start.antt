@@ -1,5 +1,5 @@
 -- The block that is assembled before anything is put into it, and its header once all is (docs/RULES.md, "A block that is assembled").
-use Rattle.std.specs.Prelude.{ℕ, ◌+◌, ◌-◌, ◌^◌, nat_lt, List, [], ◌∷◌, map, length, replicate, Option, Some, None, if◌then◌else◌}
+use Rattle.std.specs.Prelude.{ℕ, ◌+◌, ◌^◌, nat_lt, List, [], ◌∷◌, map, length, replicate, Option, Some, None, if◌then◌else◌}
 use Rattle.codec_defs.specs.Shape.{encoded}
 use Rattle.codec_defs.specs.Schema.{CellInput, CellOutput, Transaction, Header, Block, CellbaseWitness, cellbase_witness}
 use Rattle.time_defs.specs.Epochs.{epoch_field}
