@@ -1,2 +1,2 @@
-pub mod Cellbase
 pub mod Assembling
+pub mod Draft

@@ -16,7 +16,8 @@ ghost use Rattle.verdict_defs.specs.declared.verdict.Verdict.TheVariants.{Joined
 ghost use Rattle.pool_defs.specs.Assembly.{assembled};
 ghost use Rattle.tx_pool.specs.Assembling.{IsAssembled, chain_on, most_items, most_bytes};
 
-use crate::draft::{Draft, cellbase_on};
+use crate::cellbase::cellbase_after;
+use crate::draft::Draft;
 use blake2b_ckb::ckbhash;
 use block_judge::{Context, Judged, NoCells, judge, judge_at_sight};
 use cell_model::Cells;
@@ -95,7 +96,14 @@ pub fn assemble<'a, C: Cells, B: Blocks>(
     ensures undamaged { (stored : List Stored) → B.told blocks.old ≡ Some stored → StandsForAll stored (seen C.rows context.now)
         → (damage : Damage) → result ≡ Err (Damaged damage) → ⊥ }
 {
-    let cellbase = match cellbase_on(alloc, context, blocks, witness) {
+    let cellbase = match cellbase_after(
+        alloc,
+        context.spec,
+        context.tree,
+        blocks,
+        context.parent,
+        witness,
+    ) {
         Ok(cellbase) => cellbase,
         Err(stop) => return Err(stop),
     };

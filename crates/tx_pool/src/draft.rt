@@ -1,16 +1,16 @@
 // The block so far, and what one item more comes to.
-use crate::cellbase::{cellbase, owed};
-use crate::header::{NONE, commitments_of, header_with};
 use blake2b_ckb::ckbhash;
+use block_rules::{proposals_hash, transactions_root, uncles_hash};
 use block_judge::{BlockCells, Context, Judged, Taken, is_cellbase, judge_transaction, made_by};
 use cell_model::{Cells, proposal_id};
 use chain_tree::Blocks;
 use dao_math::{Dao, DaoMove, next_field};
-use epochs::{primary, share};
+use epochs::{epoch_of, field, primary, share};
 use mol_schema::{BlockView, TxView};
 use mol_write::Builder;
 use outside::{NoMemory, ReadStop};
 use pool_defs::Line;
+use pool_rows::{Commitments, header_row, timestamp_after};
 use proposal_window::Proposed;
 use std::alloc::Global;
 use std::collections::HashSet;
@@ -207,30 +207,50 @@ impl<'a, C: Cells> Draft<'a, C> {
         fields.table()
     }
 
-    /// The encoding of the block, whose header commits to it.
-    pub(crate) fn sealed(&self, alloc: Global, context: &Context<'a, C>) -> Result<Vec<u8>, NoMemory> {
-        let header = header_with(alloc, context.spec, context.tree, context.parent, &NONE)?;
-        let open = self.block_with(alloc, &header)?;
-        let commitments = commitments_of(alloc, &BlockView::from_encoding(&open), self.dao(context))?;
-        let header = header_with(alloc, context.spec, context.tree, context.parent, &commitments)?;
-        self.block_with(alloc, &header)
+    /// The encoding of the header that commits to this.
+    fn header(
+        &self,
+        alloc: Global,
+        context: &Context<'a, C>,
+        commitments: &Commitments,
+    ) -> Result<Vec<u8>, NoMemory> {
+        let before = context.tree.entry(context.parent);
+        let number = before.number + 1;
+        header_row(
+            alloc,
+            context.spec.compact_target,
+            timestamp_after(context.tree.median(context.parent)),
+            number,
+            field(epoch_of(context.spec.epoch_length, number)),
+            &before.hash,
+            commitments,
+        )
     }
-}
 
-/// The encoding of the cellbase of the block after a context's parent, with this witness.
-pub(crate) fn cellbase_on<C: Cells, B: Blocks>(
-    alloc: Global,
-    context: &Context<'_, C>,
-    blocks: &mut B,
-    witness: &mol_schema::CellbaseWitnessView<'_>,
-) -> Result<Vec<u8>, ReadStop> {
-    let output = match owed(alloc, context.spec, context.tree, blocks, context.parent) {
-        Ok(output) => output,
-        Err(stop) => return Err(stop),
-    };
-    let height = context.tree.entry(context.parent).number + 1;
-    match cellbase(alloc, height, &output, witness) {
-        Ok(bytes) => Ok(bytes),
-        Err(_) => Err(ReadStop::NoMemory),
+    /// The encoding of the block, whose header commits to it. What it commits to is read off the block whose header commits
+    /// to nothing.
+    pub(crate) fn sealed(
+        &self,
+        alloc: Global,
+        context: &Context<'a, C>,
+    ) -> Result<Vec<u8>, NoMemory> {
+        let nothing = Commitments {
+            transactions_root: [0; 32],
+            proposals_hash: [0; 32],
+            uncles_hash: [0; 32],
+            dao: [0; 32],
+        };
+        let open = self.block_with(alloc, &self.header(alloc, context, &nothing)?)?;
+        let block = BlockView::from_encoding(&open);
+        let commitments = Commitments {
+            transactions_root: transactions_root(alloc, &block)?,
+            proposals_hash: proposals_hash(&block),
+            uncles_hash: uncles_hash(&block),
+            dao: match self.dao(context) {
+                Some(field) => field.write(),
+                None => [0; 32],
+            },
+        };
+        self.block_with(alloc, &self.header(alloc, context, &commitments)?)
     }
 }

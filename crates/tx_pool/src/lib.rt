@@ -9,6 +9,5 @@
 mod assembling;
 mod cellbase;
 mod draft;
-mod header;
 
 pub use assembling::{Assembled, assemble};
