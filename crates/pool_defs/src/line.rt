@@ -7,6 +7,6 @@ pub enum Line {
     Propose,
     /// The first rule that it breaks, J1, J16, J18 or J20 to J30.
     Refused(u8),
-    /// A later block may propose it, if its id is proposed already or found no place, or hold it.
+    /// It is left for a later block: its id is in the block already, or its id or itself found no place there.
     Later,
 }
