@@ -257,7 +257,7 @@ pub(crate) fn judge_transactions<C: Cells, B: Blocks>(
         spec: context.spec,
         tree: context.tree,
         parent: context.parent,
-        block: Some(Own::Block(BlockView::from_encoding(block.bytes()))),
+        block: Some(Own::of_block(BlockView::from_encoding(block.bytes()))),
     };
     let proposed = match Proposed::of(
         alloc,

@@ -308,4 +308,23 @@ impl Kept {
         };
         dry_run(alloc, &context, blocks, tx)
     }
+
+    pub(crate) fn assemble<B: Blocks>(
+        &self,
+        alloc: Global,
+        blocks: &mut B,
+        state: &State,
+        witness: &mol_schema::CellbaseWitnessView<'_>,
+        items: &[Vec<u8>],
+    ) -> Result<tx_pool::Assembled, ReadStop>
+    {
+        let context = Context {
+            spec: &self.spec,
+            tree: &self.tree,
+            uncles: &self.uncles,
+            cells: state,
+            parent: self.tree.tip(),
+        };
+        tx_pool::assemble(alloc, &context, blocks, witness, items)
+    }
 }

@@ -506,6 +506,17 @@ impl Node {
         over_disk::check(alloc, disk, &mut self.cache, &self.kept, &self.state, tx)
     }
 
+    pub fn assemble<D: Disk>(
+        &mut self,
+        alloc: Global,
+        disk: &mut D,
+        witness: &mol_schema::CellbaseWitnessView<'_>,
+        items: &[Vec<u8>],
+    ) -> Result<tx_pool::Assembled, ReadStop>
+    {
+        over_disk::assemble(alloc, disk, &mut self.cache, &self.kept, &self.state, witness, items)
+    }
+
     /// The height of the tip.
     pub fn height(&self) -> u64
         ensures { result + 1 ≡ length (best_branch self.now.chain.blocks) }

@@ -163,3 +163,17 @@ pub(crate) fn fetch<D: Disk>(
     let mut store = Store::new(alloc, disk, &kept.tree, cache);
     kept.fetch(alloc, &mut store, state, o)
 }
+
+pub(crate) fn assemble<D: Disk>(
+    alloc: Global,
+    disk: &mut D,
+    cache: &mut Cache,
+    kept: &Kept,
+    state: &State,
+    witness: &mol_schema::CellbaseWitnessView<'_>,
+    items: &[Vec<u8>],
+) -> Result<tx_pool::Assembled, ReadStop>
+{
+    let mut store = Store::new(alloc, disk, &kept.tree, cache);
+    kept.assemble(alloc, &mut store, state, witness, items)
+}

@@ -145,7 +145,7 @@ impl<'a, C: Cells> Draft<'a, C> {
             spec: context.spec,
             tree: context.tree,
             parent: context.parent,
-            block: Some(Own::SoFar(&self.transactions)),
+            block: Some(Own::so_far(&self.transactions)),
         };
         match judge_transaction(alloc, tx, &at, true, &self.cells, blocks, self.left) {
             Ok(taken) => match self.commit(context, tx, &taken) {

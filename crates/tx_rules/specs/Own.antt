@@ -1,8 +1,8 @@
 -- The transactions of the block that is judged, as a block.
 use Rattle.std.specs.Prelude.{ℕ, List, []}
 use Rattle.codec_defs.specs.Schema.{Header, Transaction, Block}
-use Rattle.tx_rules.specs.declared.at.Own.{Own}
-use Rattle.tx_rules.specs.declared.at.Own.TheVariants as own
+use Rattle.tx_rules.specs.declared.at.Held.{Held}
+use Rattle.tx_rules.specs.declared.at.Held.TheVariants.{Block as whole, Apart as apart}
 
 -- a header at which nothing looks
 abbrev pub no_header : Header
@@ -24,6 +24,6 @@ no_header = record {
 abbrev pub of_transactions : List Transaction → Block
 of_transactions transactions = record { header = no_header; uncles = []; transactions = transactions; proposals = [] }
 
-abbrev pub block_of : Own → Block
-block_of (own.Block b) = b
-block_of (own.SoFar transactions) = of_transactions transactions.now
+abbrev pub block_of : Held → Block
+block_of (whole b) = b
+block_of (apart transactions) = of_transactions transactions.now

@@ -105,7 +105,7 @@ fn answer_at(
         spec: &chain.spec,
         tree: &chain.tree,
         parent: chain.tree.len() - 1,
-        block: Some(Own::Block(block)),
+        block: Some(Own::of_block(block)),
     };
     answer(alloc, &tx, &at, state, &mut chain.blocks)
 }
