@@ -10,7 +10,7 @@ use Rattle.script_defs.specs.Scene.{scene_of}
 use Rattle.script_defs.specs.Rules.{script_rules}
 use Rattle.rule_defs.specs.Header.{header_rules}
 use Rattle.rule_defs.specs.Body.{body_rules}
-use Rattle.family_defs.specs.Rules.{family_rules, family_rules_over, no_cell}
+use Rattle.family_defs.specs.Rules.{uncle_and_cellbase_rules, uncle_and_cellbase_rules_over, no_cell}
 use Rattle.reward_defs.specs.Rules.{end_rules}
 use Rattle.block_defs.specs.Transactions.{rules_of_transactions}
 
@@ -18,7 +18,7 @@ use Rattle.block_defs.specs.Transactions.{rules_of_transactions}
 unfoldable pub all_rules : Specification → List Block → Block → List (ℕ × Bool)
 all_rules spec branch b =
     header_rules spec branch b
-    ++ (body_rules spec b ++ (family_rules spec branch b ++ (rules_of_transactions spec branch b ++ end_rules spec branch b)))
+    ++ (body_rules spec b ++ (uncle_and_cellbase_rules spec branch b ++ (rules_of_transactions spec branch b ++ end_rules spec branch b)))
 
 -- The first rule that it breaks.
 unfoldable pub first_broken : Specification → List Block → Block → Option ℕ
@@ -28,7 +28,7 @@ first_broken spec branch b = first_failing (all_rules spec branch b)
 
 -- The rules that ask for no live cell, J4 to J17. Of J17 this is all but that the output of the cellbase is not live.
 abbrev pub sight_rules : Specification → List Block → Block → List (ℕ × Bool)
-sight_rules spec branch b = header_rules spec branch b ++ (body_rules spec b ++ family_rules_over no_cell spec branch b)
+sight_rules spec branch b = header_rules spec branch b ++ (body_rules spec b ++ uncle_and_cellbase_rules_over no_cell spec branch b)
 
 -- The first of these that it breaks.
 unfoldable pub broken_at_sight : Specification → List Block → Block → Option ℕ

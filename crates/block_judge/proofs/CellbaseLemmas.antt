@@ -36,9 +36,9 @@ pub any-here : (test : Transaction → Bool) (txs : List Transaction) (i : ℕ) 
     → list_any test (drop i txs) ≡ true
 any-here test txs i tx there passes = ap (list_any test) (drop-there txs i tx there) ∙ or_left (test tx) (list_any test (drop (i + 1) txs)) passes
 
-pub any-behind : (test : Transaction → Bool) (txs : List Transaction) (i : ℕ) (tx : Transaction) → slice_get txs i ≡ Some tx → test tx ≡ false
+pub any-after_cellbase : (test : Transaction → Bool) (txs : List Transaction) (i : ℕ) (tx : Transaction) → slice_get txs i ≡ Some tx → test tx ≡ false
     → list_any test (drop i txs) ≡ list_any test (drop (i + 1) txs)
-any-behind test txs i tx there fails =
+any-after_cellbase test txs i tx there fails =
     ap (list_any test) (drop-there txs i tx there) ∙ ap (λ (t : Bool). t || list_any test (drop (i + 1) txs)) fails
 
 -- the first is a cellbase and no later one is

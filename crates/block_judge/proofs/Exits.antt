@@ -14,8 +14,8 @@ use Rattle.script_run.specs.declared.stop.ScriptStop.TheVariants as running_stop
 use Rattle.script_run.specs.Running as running
 use Rattle.rule_names.specs.Number.{rule_number}
 use Rattle.rule_names.specs.declared.rule.Rule.{Rule}
-use Rattle.block_judge.specs.declared.stop.Judged.{Judged}
-use Rattle.block_judge.specs.declared.stop.Judged.TheVariants.{Broken, Read}
+use Rattle.block_judge.specs.declared.stop.JudgeStop.{JudgeStop}
+use Rattle.block_judge.specs.declared.stop.JudgeStop.TheVariants.{Broken, Read}
 use Rattle.block_judge.specs.Stops.{of_resolving, AnswersRunning, stop_in}
 
 -- ---- One error is another
@@ -24,21 +24,21 @@ abbrev stop_or : {T E : Type 0} → E → Result T E → E
 stop_or other (Ok it) = other
 stop_or other (Err stop) = stop
 
-abbrev read_or : ReadStop → Judged → ReadStop
+abbrev read_or : ReadStop → JudgeStop → ReadStop
 read_or other (Broken rule) = other
 read_or other (Read stop) = stop
 
-abbrev number_or : ℕ → Judged → ℕ
+abbrev number_or : ℕ → JudgeStop → ℕ
 number_or other (Broken rule) = rule_number rule
 number_or other (Read stop) = other
 
 pub same_stop : {T E : Type 0} {stop given : E} → ◌≡◌ {A = Result T E} (Err stop) (Err given) → stop ≡ given
 same_stop {stop = stop} same = ap (stop_or stop) same
 
-pub same_rule : {T : Type 0} {rule given : Rule} → ◌≡◌ {A = Result T Judged} (Err (Broken rule)) (Err (Broken given)) → rule_number rule ≡ rule_number given
+pub same_rule : {T : Type 0} {rule given : Rule} → ◌≡◌ {A = Result T JudgeStop} (Err (Broken rule)) (Err (Broken given)) → rule_number rule ≡ rule_number given
 same_rule {rule = rule} same = ap (number_or (rule_number rule)) (same_stop same)
 
-pub same_read : {T : Type 0} {stop given : ReadStop} → ◌≡◌ {A = Result T Judged} (Err (Read stop)) (Err (Read given)) → stop ≡ given
+pub same_read : {T : Type 0} {stop given : ReadStop} → ◌≡◌ {A = Result T JudgeStop} (Err (Read stop)) (Err (Read given)) → stop ≡ given
 same_read {stop = stop} same = ap (read_or stop) (same_stop same)
 
 -- an error is that of the step that gave it
@@ -48,7 +48,7 @@ as_step {T = T} {E = E} same = ap as_error (same_stop same)
     as_error : E → Result T E
     as_error it = Err it
 
-pub as_read : {T U : Type 0} {stop given : ReadStop} → ◌≡◌ {A = Result U Judged} (Err (Read stop)) (Err (Read given)) → ◌≡◌ {A = Result T ReadStop} (Err stop) (Err given)
+pub as_read : {T U : Type 0} {stop given : ReadStop} → ◌≡◌ {A = Result U JudgeStop} (Err (Read stop)) (Err (Read given)) → ◌≡◌ {A = Result T ReadStop} (Err stop) (Err given)
 as_read {T = T} same = ap as_error (same_read same)
   where
     as_error : ReadStop → Result T ReadStop
@@ -60,7 +60,7 @@ abbrev IsFine : {T E : Type 0} → Result T E → Type 0
 IsFine (Ok it) = ⊤
 IsFine (Err stop) = ⊥
 
-abbrev IsRead : Judged → Type 0
+abbrev IsRead : JudgeStop → Type 0
 IsRead (Broken rule) = ⊥
 IsRead (Read stop) = ⊤
 
@@ -78,17 +78,17 @@ pub no_error : {T E : Type 0} {value : T} {stop : E} → ◌≡◌ {A = Result T
 no_error {T = T} {E = E} same = subst (λ (it : Result T E). IsFine it) same tt
 
 -- what could not be read breaks no rule
-pub no_rule : {T : Type 0} {stop : ReadStop} {rule : Rule} → ◌≡◌ {A = Result T Judged} (Err (Read stop)) (Err (Broken rule)) → ⊥
+pub no_rule : {T : Type 0} {stop : ReadStop} {rule : Rule} → ◌≡◌ {A = Result T JudgeStop} (Err (Read stop)) (Err (Broken rule)) → ⊥
 no_rule same = subst IsRead (same_stop same) tt
 
-pub no_read : {T : Type 0} {rule : Rule} {stop : ReadStop} → ◌≡◌ {A = Result T Judged} (Err (Broken rule)) (Err (Read stop)) → ⊥
+pub no_read : {T : Type 0} {rule : Rule} {stop : ReadStop} → ◌≡◌ {A = Result T JudgeStop} (Err (Broken rule)) (Err (Read stop)) → ⊥
 no_read same = subst IsRead (sym (same_stop same)) tt
 
 -- want of memory is no damage
 pub not_damage : {damage : Damage} → Damaged damage ≡ NoMemory → ⊥
 not_damage same = subst IsMemory (sym same) tt
 
-pub no_damage : {T : Type 0} {damage : Damage} → ◌≡◌ {A = Result T Judged} (Err (Read NoMemory)) (Err (Read (Damaged damage))) → ⊥
+pub no_damage : {T : Type 0} {damage : Damage} → ◌≡◌ {A = Result T JudgeStop} (Err (Read NoMemory)) (Err (Read (Damaged damage))) → ⊥
 no_damage same = not_damage (sym (same_read same))
 
 pub not_both : {test : Bool} → test ≡ true → test ≡ false → ⊥
@@ -102,11 +102,11 @@ module _ {S L : Type 0} {tells : S → Option (List Stored)} {counts : S → ℕ
       → HasRead tells counts loans_of faults damages old new other
   read_as {old = old} {new = new} same read = subst (λ (it : Option ReadStop). HasRead tells counts loans_of faults damages old new it) same read
 
-pub resolving-stop : (stop : TxStop) (judged : Judged) → judged ≡ of_resolving stop → resolving.read_stop stop ≡ stop_in judged
+pub resolving-stop : (stop : TxStop) (judged : JudgeStop) → judged ≡ of_resolving stop → resolving.read_stop stop ≡ stop_in judged
 resolving-stop (resolving_stop.Broken rule) judged is = sym (ap stop_in is)
 resolving-stop (resolving_stop.Read stop) judged is = sym (ap stop_in is)
 
-pub running-stop : (stop : ScriptStop) (judged : Judged) → AnswersRunning stop judged → running.read_stop_of (Err stop) ≡ stop_in judged
+pub running-stop : (stop : ScriptStop) (judged : JudgeStop) → AnswersRunning stop judged → running.read_stop_of (Err stop) ≡ stop_in judged
 running-stop (running_stop.Failed failure) (Broken rule) is = refl
 running-stop (running_stop.Failed failure) (Read stop) is = absurd is
 running-stop (running_stop.Read stop) judged is = sym (ap stop_in is)

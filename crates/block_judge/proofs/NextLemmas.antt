@@ -56,11 +56,11 @@ spent-next stored at rows site t copies taken e old before new placed is last sa
 
 -- the cycles of a block are few
 pub few-cycles : (cycles : ℕ) → IsTrue (keeps_s5 cycles) → cycles ≤ 2 ^ 40
-few-cycles cycles keeps = let within = behind (nat_le 1 cycles) (nat_le cycles (2 ^ 40)) keeps in grind (arith, nat_tests, within)
+few-cycles cycles keeps = let within = after_cellbase (nat_le 1 cycles) (nat_le cycles (2 ^ 40)) keeps in grind (arith, nat_tests, within)
   where
-    behind : (a b : Bool) → IsTrue (a && b) → IsTrue b
-    behind true b both = both
-    behind false b both = absurd (cc)
+    after_cellbase : (a b : Bool) → IsTrue (a && b) → IsTrue b
+    after_cellbase true b both = both
+    after_cellbase false b both = absurd (cc)
 
 -- ---- So far
 

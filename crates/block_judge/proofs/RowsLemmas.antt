@@ -13,8 +13,8 @@ use Rattle.rule_names.specs.Number.{rule_number}
 use Rattle.rule_names.specs.declared.rule.Rule.{Rule}
 use Rattle.rule_names.specs.declared.rule.Rule.TheVariants.{TransactionForm, Inputs}
 use Rattle.rule_names.proofs.NumberLemmas.{same-number}
-use Rattle.block_judge.specs.declared.stop.Judged.{Judged}
-use Rattle.block_judge.specs.declared.stop.Judged.TheVariants.{Broken, Read}
+use Rattle.block_judge.specs.declared.stop.JudgeStop.{JudgeStop}
+use Rattle.block_judge.specs.declared.stop.JudgeStop.TheVariants.{Broken, Read}
 use Rattle.block_judge.specs.Stops.{of_resolving}
 use Rattle.block_judge.specs.ByRows.{StopsByRows, SaysByRows}
 use Rattle.block_judge.proofs.Exits.{not_both}
@@ -88,7 +88,7 @@ stops-by-rows {T = T} proposed rows t (resolving.Broken rule) result named follo
     by_tried (inr (inr within)) = by_rest (rule_number rule - 20) (omega (arith, within.0))
 
 -- a stop behind both
-pub later-by-rows : (form spends : Bool) (stop : Judged) → (form ≡ true) × (spends ≡ true) → ((rule : Rule) → stop ≡ Broken rule → 20 < rule_number rule)
+pub later-by-rows : (form spends : Bool) (stop : JudgeStop) → (form ≡ true) × (spends ≡ true) → ((rule : Rule) → stop ≡ Broken rule → 20 < rule_number rule)
     → StopsByRows form spends stop
 later-by-rows form spends (Broken rule) kept later = inr (kept.0, inr (later rule refl, kept.1))
 later-by-rows form spends (Read NoMemory) kept later = tt
@@ -96,14 +96,14 @@ later-by-rows form spends (Read DiskFault) kept later = kept
 later-by-rows form spends (Read (Damaged damage)) kept later = kept
 
 -- an answer that is handed on says the same
-pub handed-by-rows : {T U : Type 0} (form spends : Bool) (stop : Judged) (step : Result T Judged) (result : Result U Judged) → step ≡ Err stop
+pub handed-by-rows : {T U : Type 0} (form spends : Bool) (stop : JudgeStop) (step : Result T JudgeStop) (result : Result U JudgeStop) → step ≡ Err stop
     → IsErrAnd result (λ it. it ≡ stop) → SaysByRows form spends step → SaysByRows form spends result
 handed-by-rows form spends stop step (Ok it) was is says = absurd is
 handed-by-rows {T = T} form spends stop step (Err given) was is says =
-    subst (λ (r : Result T Judged). SaysByRows form spends r) (was ∙ ap as_error (sym is)) says
+    subst (λ (r : Result T JudgeStop). SaysByRows form spends r) (was ∙ ap as_error (sym is)) says
   where
-    as_error : Judged → Result T Judged
+    as_error : JudgeStop → Result T JudgeStop
     as_error it = Err it
 
-pub taken-by-rows : {T : Type 0} (form spends : Bool) (ok : T) (step : Result T Judged) → step ≡ Ok ok → SaysByRows form spends step → (form ≡ true) × (spends ≡ true)
-taken-by-rows {T = T} form spends ok step was says = subst (λ (r : Result T Judged). SaysByRows form spends r) was says
+pub taken-by-rows : {T : Type 0} (form spends : Bool) (ok : T) (step : Result T JudgeStop) → step ≡ Ok ok → SaysByRows form spends step → (form ≡ true) × (spends ≡ true)
+taken-by-rows {T = T} form spends ok step was says = subst (λ (r : Result T JudgeStop). SaysByRows form spends r) was says

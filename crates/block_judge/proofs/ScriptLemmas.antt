@@ -12,7 +12,7 @@ use Rattle.script_run.specs.declared.stop.ScriptStop.TheVariants as running
 use Rattle.script_run.specs.Running.{IsOutcome}
 use Rattle.rule_names.specs.Number.{rule_number}
 use Rattle.rule_names.specs.declared.rule.Rule.{Rule}
-use Rattle.block_judge.specs.declared.stop.Judged.TheVariants.{Broken, Read}
+use Rattle.block_judge.specs.declared.stop.JudgeStop.TheVariants.{Broken, Read}
 use Rattle.block_judge.specs.Standing.{IsScriptRule}
 use Rattle.block_judge.specs.Stops.{AnswersRunning}
 

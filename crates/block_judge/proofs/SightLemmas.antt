@@ -19,12 +19,12 @@ use Rattle.family_defs.specs.Uncles.{has_uncles}
 use Rattle.family_defs.specs.Cellbase.{has_cellbase, begins_with_cellbase, forms_cellbase}
 use Rattle.block_defs.specs.Transactions.{rules_of_transactions}
 use Rattle.reward_defs.specs.Rules.{end_rules}
-use Rattle.family_defs.specs.Rules.{family_rules, family_rules_over, no_cell}
+use Rattle.family_defs.specs.Rules.{uncle_and_cellbase_rules, uncle_and_cellbase_rules_over, no_cell}
 use Rattle.block_defs.specs.Rules.{all_rules, first_broken, broken_at_sight}
 use Rattle.rule_names.specs.Number.{rule_number}
 use Rattle.rule_names.specs.declared.rule.Rule.{Rule}
-use Rattle.block_judge.specs.declared.stop.Judged.{Judged}
-use Rattle.block_judge.specs.declared.stop.Judged.TheVariants.{Broken, Read}
+use Rattle.block_judge.specs.declared.stop.JudgeStop.{JudgeStop}
+use Rattle.block_judge.specs.declared.stop.JudgeStop.TheVariants.{Broken, Read}
 use Rattle.block_judge.specs.ByRows.{StopsByForm}
 
 -- ---- At sight
@@ -74,40 +74,40 @@ body-asks spec b kept =
 pub breaks-header : (spec : Specification) (on : List Block) (b : Block) (rule : ℕ) → Some rule ≡ first_failing (header_rules spec on b)
     → broken_at_sight spec on b ≡ Some rule
 unfolding broken_at_sight
-breaks-header spec on b rule is = first_failing-append-fails rule (header_rules spec on b) (body_rules spec b ++ family_rules_over no_cell spec on b) (sym is)
+breaks-header spec on b rule is = first_failing-append-fails rule (header_rules spec on b) (body_rules spec b ++ uncle_and_cellbase_rules_over no_cell spec on b) (sym is)
 
 pub breaks-body : (spec : Specification) (on : List Block) (b : Block) (rule : ℕ) → None ≡ first_failing (header_rules spec on b)
     → Some rule ≡ first_failing (body_rules spec b) → broken_at_sight spec on b ≡ Some rule
 unfolding broken_at_sight
 breaks-body spec on b rule header is =
-    first_failing-append-holds (header_rules spec on b) (body_rules spec b ++ family_rules_over no_cell spec on b) ((finds_none (header_rules spec on b)).0 (sym header))
-    ∙ first_failing-append-fails rule (body_rules spec b) (family_rules_over no_cell spec on b) (sym is)
+    first_failing-append-holds (header_rules spec on b) (body_rules spec b ++ uncle_and_cellbase_rules_over no_cell spec on b) ((finds_none (header_rules spec on b)).0 (sym header))
+    ∙ first_failing-append-fails rule (body_rules spec b) (uncle_and_cellbase_rules_over no_cell spec on b) (sym is)
 
 pub leaves-family : (spec : Specification) (on : List Block) (b : Block) → None ≡ first_failing (header_rules spec on b) → None ≡ first_failing (body_rules spec b)
-    → broken_at_sight spec on b ≡ first_failing (family_rules_over no_cell spec on b)
+    → broken_at_sight spec on b ≡ first_failing (uncle_and_cellbase_rules_over no_cell spec on b)
 unfolding broken_at_sight
 leaves-family spec on b header body =
-    first_failing-append-holds (header_rules spec on b) (body_rules spec b ++ family_rules_over no_cell spec on b) ((finds_none (header_rules spec on b)).0 (sym header))
-    ∙ first_failing-append-holds (body_rules spec b) (family_rules_over no_cell spec on b) ((finds_none (body_rules spec b)).0 (sym body))
+    first_failing-append-holds (header_rules spec on b) (body_rules spec b ++ uncle_and_cellbase_rules_over no_cell spec on b) ((finds_none (header_rules spec on b)).0 (sym header))
+    ∙ first_failing-append-holds (body_rules spec b) (uncle_and_cellbase_rules_over no_cell spec on b) ((finds_none (body_rules spec b)).0 (sym body))
 
 pub breaks-15 : (live : OutPoint → Option Cell) (spec : Specification) (on : List Block) (b : Block) → has_uncles spec on b ≡ false
-    → first_failing (family_rules_over live spec on b) ≡ Some 15
+    → first_failing (uncle_and_cellbase_rules_over live spec on b) ≡ Some 15
 breaks-15 live spec on b uncles = first_failing-fails 15 (has_uncles spec on b) _ uncles
 
 pub breaks-16 : (live : OutPoint → Option Cell) (spec : Specification) (on : List Block) (b : Block) → has_uncles spec on b ≡ true → has_cellbase b ≡ false
-    → first_failing (family_rules_over live spec on b) ≡ Some 16
+    → first_failing (uncle_and_cellbase_rules_over live spec on b) ≡ Some 16
 breaks-16 live spec on b uncles cellbase = first_failing-holds 15 (has_uncles spec on b) _ uncles ∙ first_failing-fails 16 (has_cellbase b) _ cellbase
 
 leaves-17 : (live : OutPoint → Option Cell) (spec : Specification) (on : List Block) (b : Block) (later : List (ℕ × Bool)) → has_uncles spec on b ≡ true
-    → has_cellbase b ≡ true → first_failing (family_rules_over live spec on b ++ later) ≡ first_failing ((17, forms_cellbase live b) ∷ later)
+    → has_cellbase b ≡ true → first_failing (uncle_and_cellbase_rules_over live spec on b ++ later) ≡ first_failing ((17, forms_cellbase live b) ∷ later)
 leaves-17 live spec on b later uncles cellbase = first_failing-holds 15 (has_uncles spec on b) _ uncles ∙ first_failing-holds 16 (has_cellbase b) _ cellbase
 
 pub breaks-17 : (live : OutPoint → Option Cell) (spec : Specification) (on : List Block) (b : Block) → has_uncles spec on b ≡ true → has_cellbase b ≡ true
-    → forms_cellbase live b ≡ false → first_failing (family_rules_over live spec on b) ≡ Some 17
+    → forms_cellbase live b ≡ false → first_failing (uncle_and_cellbase_rules_over live spec on b) ≡ Some 17
 breaks-17 live spec on b uncles cellbase form = leaves-17 live spec on b [] uncles cellbase ∙ first_failing-fails 17 (forms_cellbase live b) [] form
 
 pub keeps-family : (live : OutPoint → Option Cell) (spec : Specification) (on : List Block) (b : Block) → has_uncles spec on b ≡ true → has_cellbase b ≡ true
-    → forms_cellbase live b ≡ true → first_failing (family_rules_over live spec on b) ≡ None
+    → forms_cellbase live b ≡ true → first_failing (uncle_and_cellbase_rules_over live spec on b) ≡ None
 keeps-family live spec on b uncles cellbase form =
     leaves-17 live spec on b [] uncles cellbase ∙ first_failing-holds 17 (forms_cellbase live b) [] form ∙ first_failing-none
 
@@ -156,14 +156,14 @@ passed spec on b kept =
     let header : List (ℕ × Bool) = header_rules spec on b in
     let body : List (ℕ × Bool) = body_rules spec b in
     let last : List (ℕ × Bool) = rules_of_transactions spec on b ++ end_rules spec on b in
-    let others : first_failing (body ++ family_rules_over no_cell spec on b) ≡ None = kept-later header (body ++ family_rules_over no_cell spec on b) kept in
-    let family : first_failing (family_rules_over no_cell spec on b) ≡ None = kept-later body (family_rules_over no_cell spec on b) others in
+    let others : first_failing (body ++ uncle_and_cellbase_rules_over no_cell spec on b) ≡ None = kept-later header (body ++ uncle_and_cellbase_rules_over no_cell spec on b) kept in
+    let family : first_failing (uncle_and_cellbase_rules_over no_cell spec on b) ≡ None = kept-later body (uncle_and_cellbase_rules_over no_cell spec on b) others in
     let uncles : has_uncles spec on b ≡ true = kept-head 15 (has_uncles spec on b) _ family in
     let after_15 = sym (first_failing-holds 15 (has_uncles spec on b) ((16, has_cellbase b) ∷ (17, forms_cellbase no_cell b) ∷ []) uncles) ∙ family in
     let cellbase : has_cellbase b ≡ true = kept-head 16 (has_cellbase b) _ after_15 in
-    first_failing-append-holds header (body ++ (family_rules spec on b ++ last))
-    ((finds_none header).0 (kept-first header (body ++ family_rules_over no_cell spec on b) kept))
-    ∙ first_failing-append-holds body (family_rules spec on b ++ last) ((finds_none body).0 (kept-first body (family_rules_over no_cell spec on b) others))
+    first_failing-append-holds header (body ++ (uncle_and_cellbase_rules spec on b ++ last))
+    ((finds_none header).0 (kept-first header (body ++ uncle_and_cellbase_rules_over no_cell spec on b) kept))
+    ∙ first_failing-append-holds body (uncle_and_cellbase_rules spec on b ++ last) ((finds_none body).0 (kept-first body (uncle_and_cellbase_rules_over no_cell spec on b) others))
     ∙ leaves-17 (live_cell on) spec on b last uncles cellbase
 
 pub first-cellbase : (spec : Specification) (on : List Block) (b : Block) → broken_at_sight spec on b ≡ None → forms_cellbase (live_cell on) b ≡ false
@@ -191,6 +191,6 @@ at-end spec on b kept form judged =
 -- ---- Answers over any source of blocks
 
 -- a stop after J17, where the cellbase has its form
-pub stops-after : (form : Bool) (stop : Judged) → form ≡ true → ((rule : Rule) → stop ≡ Broken rule → 17 < rule_number rule) → StopsByForm form stop
+pub stops-after : (form : Bool) (stop : JudgeStop) → form ≡ true → ((rule : Rule) → stop ≡ Broken rule → 17 < rule_number rule) → StopsByForm form stop
 stops-after form (Broken rule) kept later = inr (later rule refl, kept)
 stops-after form (Read stop) kept later = kept

@@ -40,7 +40,7 @@ events-push place [] t height =
     let at : place ≡ place + 0 = omega arith in append-nil (events_of t height place) ∙ ap (events_of t height) at
 events-push place (first ∷ later) t height =
     let at : (place + 1) + length later ≡ place + length (first ∷ later) = omega arith in
-    ap (λ (behind : List Event). events_of first height place ++ behind) (events-push (place + 1) later t height)
+    ap (λ (after_cellbase : List Event). events_of first height place ++ after_cellbase) (events-push (place + 1) later t height)
     ∙ sym (append_assoc (events_of first height place) (events_from (place + 1) later height) (events_of t height ((place + 1) + length later)))
     ∙ ap (λ (n : ℕ). (events_of first height place ++ events_from (place + 1) later height) ++ events_of t height n) at
 
@@ -136,7 +136,7 @@ site-in_block stored at b count before rows judged placed stands after = record 
         ≡ cell_left (option_or last (last_naming o (events (branch (blocks_of stored) at.parent))))
     seen-by o last is =
         ap cell_left (last_naming-append o (events (branch (blocks_of stored) at.parent)) done
-        ∙ ap (λ (behind : Option Event). option_or behind (last_naming o (events (branch (blocks_of stored) at.parent)))) is)
+        ∙ ap (λ (after_cellbase : Option Event). option_or after_cellbase (last_naming o (events (branch (blocks_of stored) at.parent)))) is)
 
     sees : (o : OutPoint) (last : Option Event) → last_naming o done ≡ last
         → row_or (length at.entries) (before o) (last_naming o done)

@@ -18,8 +18,8 @@ use Rattle.tx_rules.specs.declared.resolving.TxStop.{TxStop}
 use Rattle.tx_rules.specs.declared.resolving.TxStop.TheVariants as resolving
 use Rattle.rule_names.specs.Number.{rule_number}
 use Rattle.rule_names.specs.declared.rule.Rule.{Rule}
-use Rattle.block_judge.specs.declared.stop.Judged.{Judged}
-use Rattle.block_judge.specs.declared.stop.Judged.TheVariants.{Broken, Read}
+use Rattle.block_judge.specs.declared.stop.JudgeStop.{JudgeStop}
+use Rattle.block_judge.specs.declared.stop.JudgeStop.TheVariants.{Broken, Read}
 use Rattle.block_judge.specs.Standing.{IsTriedAlone, IsTriedOnTransaction}
 use Rattle.block_judge.specs.Stops.{of_resolving}
 use Rattle.block_judge.proofs.Exits.{not_both}
@@ -77,11 +77,11 @@ leaves-scripts site t scripts proposed is =
 -- ---- Steps
 
 -- an error that is handed on is that of the step
-pub handed-on : {T U : Type 0} (stop given : Judged) (step : Result T Judged) (result : Result U Judged) → step ≡ Err stop
+pub handed-on : {T U : Type 0} (stop given : JudgeStop) (step : Result T JudgeStop) (result : Result U JudgeStop) → step ≡ Err stop
     → IsErrAnd result (λ it. it ≡ stop) → result ≡ Err given → step ≡ Err given
-handed-on {T = T} {U = U} stop given step result was is same = was ∙ ap as_error (sym (subst (λ (r : Result U Judged). IsErrAnd r (λ it. it ≡ stop)) same is))
+handed-on {T = T} {U = U} stop given step result was is same = was ∙ ap as_error (sym (subst (λ (r : Result U JudgeStop). IsErrAnd r (λ it. it ≡ stop)) same is))
   where
-    as_error : Judged → Result T Judged
+    as_error : JudgeStop → Result T JudgeStop
     as_error it = Err it
 
 -- What a transaction resolves to is that of the one that it holds.

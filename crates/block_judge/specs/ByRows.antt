@@ -5,8 +5,8 @@ use Rattle.codec_defs.specs.Schema.{OutPoint}
 use Rattle.cell_defs.specs.Cell.{Cell}
 use Rattle.cell_defs.specs.Row.{Row}
 use Rattle.rule_names.specs.Number.{rule_number}
-use Rattle.block_judge.specs.declared.stop.Judged.{Judged}
-use Rattle.block_judge.specs.declared.stop.Judged.TheVariants.{Broken, Read}
+use Rattle.block_judge.specs.declared.stop.JudgeStop.{JudgeStop}
+use Rattle.block_judge.specs.declared.stop.JudgeStop.TheVariants.{Broken, Read}
 
 -- The rows have one just for each cell that is live.
 abbrev pub TellLive : (OutPoint → Option Row) → (OutPoint → Option Cell) → Type 0
@@ -15,18 +15,18 @@ TellLive rows live = (o : OutPoint) → is_some (rows o) ≡ is_some (live o)
 -- ---- On a block that has passed at sight, by the form of its cellbase over the live cells
 
 -- J17 is answered just where the cellbase does not have this form, and anything else only where it has it, want of memory too.
-abbrev pub StopsByForm : Bool → Judged → Type 0
+abbrev pub StopsByForm : Bool → JudgeStop → Type 0
 StopsByForm form (Broken rule) = ((rule_number rule ≡ 17) × (form ≡ false)) ⊎ ((17 < rule_number rule) × (form ≡ true))
 StopsByForm form (Read stop) = form ≡ true
 
-abbrev pub SaysByForm : {T : Type 0} → Bool → Result T Judged → Type 0
+abbrev pub SaysByForm : {T : Type 0} → Bool → Result T JudgeStop → Type 0
 SaysByForm form (Ok it) = form ≡ true
 SaysByForm form (Err stop) = StopsByForm form stop
 
 -- ---- On a transaction alone, by its form and by whether the rows have a cell of its own for each input
 
 -- Each of the two is answered just where it is the first that is broken. Memory may be wanted before that is known.
-abbrev pub StopsByRows : Bool → Bool → Judged → Type 0
+abbrev pub StopsByRows : Bool → Bool → JudgeStop → Type 0
 StopsByRows form spends (Broken rule) =
     ((rule_number rule ≡ 18) × (form ≡ false))
     ⊎ ((form ≡ true) × (((rule_number rule ≡ 20) × (spends ≡ false)) ⊎ ((20 < rule_number rule) × (spends ≡ true))))
@@ -34,6 +34,6 @@ StopsByRows form spends (Read NoMemory) = ⊤
 StopsByRows form spends (Read DiskFault) = (form ≡ true) × (spends ≡ true)
 StopsByRows form spends (Read (Damaged damage)) = (form ≡ true) × (spends ≡ true)
 
-abbrev pub SaysByRows : {T : Type 0} → Bool → Bool → Result T Judged → Type 0
+abbrev pub SaysByRows : {T : Type 0} → Bool → Bool → Result T JudgeStop → Type 0
 SaysByRows form spends (Ok it) = (form ≡ true) × (spends ≡ true)
 SaysByRows form spends (Err stop) = StopsByRows form spends stop

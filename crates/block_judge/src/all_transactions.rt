@@ -21,7 +21,7 @@ ghost use Rattle.block_defs.specs.Ext.{ext_of, rows_spent};
 ghost use Rattle.reward_defs.specs.Field.{freed_by, freed_from, interest_from};
 ghost use Rattle.rule_names.specs.Number.{rule_number};
 ghost use Rattle.rule_names.specs.declared.rule.Rule.{Rule};
-ghost use Rattle.block_judge.specs.declared.stop.Judged.TheVariants.{Broken, Read};
+ghost use Rattle.block_judge.specs.declared.stop.JudgeStop.TheVariants.{Broken, Read};
 ghost use Rattle.block_judge.specs.Changes.{with_changes};
 ghost use Rattle.block_judge.specs.Progress.{AreProposed, CanMove};
 ghost use Rattle.block_judge.specs.Standing.{IsTriedOnTransaction, StandsFor, seen};
@@ -31,8 +31,8 @@ use crate::block_cells::BlockCells;
 use crate::context::Context;
 use crate::known::hash_of;
 use crate::spent::push_spent;
-use crate::stop::Judged;
-use crate::transactions::{Taken, judge_transaction};
+use crate::stop::JudgeStop;
+use crate::transactions::{PassedTransaction, judge_transaction};
 use cell_model::{Cells, Ext, proposal_id};
 use chain_tree::Blocks;
 use mol_schema::{BlockView, TxView};
@@ -70,7 +70,7 @@ fn push_fee(fees: &mut Vec<u64>, fee: u64) -> Result<(), NoMemory>
 
 /// Puts what an ext has of a transaction after what is there: its fee, and the rows of its inputs that kept blocks made,
 /// of which there are `e`.
-fn push_ext(ext: &mut Ext, taken: &Taken, e: u32) -> Result<(), NoMemory>
+fn push_ext(ext: &mut Ext, taken: &PassedTransaction, e: u32) -> Result<(), NoMemory>
     ensures fees { OnOk result (ext.new.fees ≡ ext.old.fees ++ taken.now.fee ∷ []) }
     ensures spent { OnOk result (ext.new.spent ≡ ext.old.spent ++ filter (λ it. nat_lt it.1.block e) (map row_in taken.now.inputs.items)) }
 {
@@ -80,7 +80,7 @@ fn push_ext(ext: &mut Ext, taken: &Taken, e: u32) -> Result<(), NoMemory>
 
 impl<'a, C: Cells> Progress<'a, C> {
     /// That of the cellbase alone, which comes with its hash: it takes no cycles, and the ext has nothing of it.
-    fn behind(
+    fn after_cellbase(
         alloc: Global,
         cellbase: &TxView<'_>,
         hash: &[u8; 32],
@@ -114,7 +114,13 @@ impl<'a, C: Cells> Progress<'a, C> {
     }
 
     /// Takes what a transaction at a place after the cellbase does, which keeps its rules.
-    fn take(&mut self, tx: &TxView<'_>, taken: &Taken, place: u32, e: u32) -> Result<(), NoMemory>
+    fn take(
+        &mut self,
+        tx: &TxView<'_>,
+        taken: &PassedTransaction,
+        place: u32,
+        e: u32,
+    ) -> Result<(), NoMemory>
         requires hash { taken.now.hash ≡ transaction_hash tx.now }
         requires cycles { taken.now.cycles ≤ self.old.left }
         requires few { place < 2 ^ 30 }
@@ -149,7 +155,7 @@ impl<'a, C: Cells> Progress<'a, C> {
         proposed: &Proposed,
         blocks: &mut B,
         place: u32,
-    ) -> Result<(), Judged>
+    ) -> Result<(), JudgeStop>
         requires placed { IsPlaced at.now }
         requires hash { hash.now ≡ transaction_hash tx.now }
         requires left { self.old.left ≤ 2 ^ 40 }
@@ -206,7 +212,7 @@ impl<'a, C: Cells> Progress<'a, C> {
         };
         match self.take(tx, &taken, place, at.tree.len()) {
             Ok(()) => Ok(()),
-            Err(_) => Err(Judged::Read(ReadStop::NoMemory)),
+            Err(_) => Err(JudgeStop::Read(ReadStop::NoMemory)),
         }
     }
 }
@@ -219,7 +225,7 @@ pub(crate) fn judge_transactions<C: Cells, B: Blocks>(
     blocks: &mut B,
     block: &BlockView<'_>,
     hashes: &[[u8; 32]],
-) -> Result<Outcome, Judged>
+) -> Result<Outcome, JudgeStop>
     requires parent { context.now.parent < length context.now.tree.now.entries }
     requires few { length context.now.tree.now.entries < 2 ^ 24 }
     requires rated { AreRated context.now.tree.now.entries }
@@ -268,13 +274,13 @@ pub(crate) fn judge_transactions<C: Cells, B: Blocks>(
         at.height(),
     ) {
         Ok(proposed) => proposed,
-        Err(stop) => return Err(Judged::Read(stop)),
+        Err(stop) => return Err(JudgeStop::Read(stop)),
     };
     let cellbase = block.transactions_item(0);
     let hash = hash_of(block, hashes, &cellbase, 0);
-    let mut progress = match Progress::behind(alloc, &cellbase, &hash, &at, context.cells) {
+    let mut progress = match Progress::after_cellbase(alloc, &cellbase, &hash, &at, context.cells) {
         Ok(progress) => progress,
-        Err(_) => return Err(Judged::Read(ReadStop::NoMemory)),
+        Err(_) => return Err(JudgeStop::Read(ReadStop::NoMemory)),
     };
     'later: for place in 1..count {
         let tx = block.transactions_item(place);

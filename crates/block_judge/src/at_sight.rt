@@ -10,14 +10,14 @@ ghost use Rattle.chain_tree.specs.Blocks.{IndexesBlocks};
 ghost use Rattle.rule_defs.specs.Header.{header_rules as rules_on_header};
 ghost use Rattle.rule_defs.specs.Body.{fits_length};
 ghost use Rattle.uncle_rules.specs.Embedded.{IndexesUncles};
-ghost use Rattle.family_defs.specs.Rules.{family_rules_over, no_cell};
+ghost use Rattle.family_defs.specs.Rules.{uncle_and_cellbase_rules_over, no_cell};
 ghost use Rattle.block_defs.specs.Rules.{broken_at_sight};
 ghost use Rattle.rule_names.specs.Number.{rule_number};
-ghost use Rattle.block_judge.specs.declared.stop.Judged.TheVariants.{Broken, Read};
+ghost use Rattle.block_judge.specs.declared.stop.JudgeStop.TheVariants.{Broken, Read};
 
 use crate::cellbase::{forms_cellbase, has_cellbase};
 use crate::context::{Context, NoCells};
-use crate::stop::Judged;
+use crate::stop::JudgeStop;
 use block_rules::Checked;
 use mol_schema::BlockView;
 use outside::ReadStop;
@@ -31,7 +31,7 @@ fn judge_family(
     context: &Context<'_, NoCells>,
     block: &BlockView<'_>,
     hashes: &[[u8; 32]],
-) -> Result<(), Judged>
+) -> Result<(), JudgeStop>
     requires parent { context.now.parent < length context.now.tree.now.entries }
     requires hashes { hashes.now ≡ map transaction_hash block.now.transactions }
     ensures tried { (rule : Rule) → result ≡ Err (Broken rule) → (15 ≤ rule_number rule) × (rule_number rule ≤ 17) }
@@ -39,9 +39,9 @@ fn judge_family(
     ensures some { IfOk result (λ _. 0 < length block.now.transactions) }
     ensures broken { (kept : List Block) → IndexesBlocks kept context.now.tree.now.entries → IndexesUncles kept context.now.uncles.now
         → (rule : Rule) → result ≡ Err (Broken rule)
-        → first_failing (family_rules_over no_cell context.now.spec.now (branch kept context.now.parent) block.now) ≡ Some (rule_number rule) }
+        → first_failing (uncle_and_cellbase_rules_over no_cell context.now.spec.now (branch kept context.now.parent) block.now) ≡ Some (rule_number rule) }
     ensures unbroken { (kept : List Block) → IndexesBlocks kept context.now.tree.now.entries → IndexesUncles kept context.now.uncles.now
-        → IfOk result (λ _. first_failing (family_rules_over no_cell context.now.spec.now (branch kept context.now.parent) block.now) ≡ None) }
+        → IfOk result (λ _. first_failing (uncle_and_cellbase_rules_over no_cell context.now.spec.now (branch kept context.now.parent) block.now) ≡ None) }
 {
     let has_uncles = match uncles_ok(
         alloc,
@@ -52,20 +52,20 @@ fn judge_family(
         block,
     ) {
         Ok(has) => has,
-        Err(_) => return Err(Judged::Read(ReadStop::NoMemory)),
+        Err(_) => return Err(JudgeStop::Read(ReadStop::NoMemory)),
     };
     if !has_uncles {
-        return Err(Judged::Broken(Rule::Uncles));
+        return Err(JudgeStop::Broken(Rule::Uncles));
     }
     let begins = match has_cellbase(alloc, block, hashes) {
         Ok(begins) => begins,
-        Err(_) => return Err(Judged::Read(ReadStop::NoMemory)),
+        Err(_) => return Err(JudgeStop::Read(ReadStop::NoMemory)),
     };
     if !begins {
-        return Err(Judged::Broken(Rule::Cellbase));
+        return Err(JudgeStop::Broken(Rule::Cellbase));
     }
     if !forms_cellbase(context.cells, block, hashes) {
-        return Err(Judged::Broken(Rule::CellbaseForm));
+        return Err(JudgeStop::Broken(Rule::CellbaseForm));
     }
     Ok(())
 }
@@ -78,7 +78,7 @@ pub fn judge_at_sight(
     alloc: Global,
     context: &Context<'_, NoCells>,
     block: &BlockView<'_>,
-) -> Result<Vec<[u8; 32]>, Judged>
+) -> Result<Vec<[u8; 32]>, JudgeStop>
     requires parent { context.now.parent < length context.now.tree.now.entries }
     ensures hashes { IfOk result (λ hashes. hashes.items ≡ map transaction_hash block.now.transactions) }
     ensures some { IfOk result (λ _. 0 < length block.now.transactions) }
@@ -102,12 +102,12 @@ pub fn judge_at_sight(
         context.parent,
         &block.header(),
     ) {
-        return Err(Judged::Broken(rule));
+        return Err(JudgeStop::Broken(rule));
     }
     let hashes = match block_rules::check(alloc, context.spec, block) {
         Ok(Checked::Kept(hashes)) => hashes,
-        Ok(Checked::Broken(rule)) => return Err(Judged::Broken(rule)),
-        Err(_) => return Err(Judged::Read(ReadStop::NoMemory)),
+        Ok(Checked::Broken(rule)) => return Err(JudgeStop::Broken(rule)),
+        Err(_) => return Err(JudgeStop::Read(ReadStop::NoMemory)),
     };
     match judge_family(alloc, context, block, &hashes) {
         Ok(()) => Ok(hashes),

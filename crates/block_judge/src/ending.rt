@@ -17,13 +17,13 @@ ghost use Rattle.reward_defs.specs.Field as field;
 ghost use Rattle.reward_defs.specs.Rules as rules;
 ghost use Rattle.rewards.specs.Own.{HaveOwnFees};
 ghost use Rattle.rule_names.specs.Number.{rule_number};
-ghost use Rattle.block_judge.specs.declared.stop.Judged.TheVariants.{Broken, Read};
+ghost use Rattle.block_judge.specs.declared.stop.JudgeStop.TheVariants.{Broken, Read};
 ghost use Rattle.block_judge.specs.Progress.{AreMoved};
 ghost use Rattle.block_judge.specs.Stops.{read_stop_of};
 
 use crate::all_transactions::Outcome;
 use crate::context::Context;
-use crate::stop::Judged;
+use crate::stop::JudgeStop;
 use cell_model::{Cells, data_at, occupied};
 use chain_tree::{Blocks, Tree};
 use dao_math::{Dao, DaoMove, next_field};
@@ -218,7 +218,7 @@ pub(crate) fn judge_end<C: Cells, B: Blocks>(
     blocks: &mut B,
     block: &BlockView<'_>,
     outcome: &Outcome,
-) -> Result<(), Judged>
+) -> Result<(), JudgeStop>
     requires parent { context.now.parent < length context.now.tree.now.entries }
     requires few { length context.now.tree.now.entries < 2 ^ 24 }
     requires rated { AreRated context.now.tree.now.entries }
@@ -245,11 +245,11 @@ pub(crate) fn judge_end<C: Cells, B: Blocks>(
         block,
     ) {
         Ok(true) => {}
-        Ok(false) => return Err(Judged::Broken(Rule::Reward)),
-        Err(stop) => return Err(Judged::Read(stop)),
+        Ok(false) => return Err(JudgeStop::Broken(Rule::Reward)),
+        Err(stop) => return Err(JudgeStop::Read(stop)),
     }
     if !has_next_dao(context.spec, context.tree, context.parent, block, outcome) {
-        return Err(Judged::Broken(Rule::DaoField));
+        return Err(JudgeStop::Broken(Rule::DaoField));
     }
     Ok(())
 }

@@ -20,7 +20,7 @@ ghost use Rattle.time_defs.specs.Dao.{is_rated};
 ghost use Rattle.block_defs.specs.Rules.{first_broken, broken_in_dry_run};
 ghost use Rattle.tx_defs.specs.Site.{site_after};
 ghost use Rattle.rule_names.specs.Number.{rule_number};
-ghost use Rattle.block_judge.specs.declared.stop.Judged.TheVariants.{Broken, Read};
+ghost use Rattle.block_judge.specs.declared.stop.JudgeStop.TheVariants.{Broken, Read};
 ghost use Rattle.block_judge.specs.ByRows.{SaysByForm, SaysByRows, TellLive};
 ghost use Rattle.block_judge.specs.Standing.{PassesAtSight, IsTried, IsTriedAlone, StandsFor, StandsForAll, seen};
 ghost use Rattle.block_judge.specs.Stops.{read_stop_of};
@@ -29,7 +29,7 @@ use crate::all_transactions::judge_transactions;
 use crate::cellbase::forms_cellbase;
 use crate::context::Context;
 use crate::ending::judge_end;
-use crate::stop::Judged;
+use crate::stop::JudgeStop;
 use crate::transactions::judge_transaction;
 use cell_model::{Cells, Ext};
 use chain_tree::Blocks;
@@ -48,7 +48,7 @@ pub fn judge<C: Cells, B: Blocks>(
     blocks: &mut B,
     block: &BlockView<'_>,
     hashes: &[[u8; 32]],
-) -> Result<Ext, Judged>
+) -> Result<Ext, JudgeStop>
     requires parent { context.now.parent < length context.now.tree.now.entries }
     requires few { length context.now.tree.now.entries < 2 ^ 24 }
     requires rated { AreRated context.now.tree.now.entries }
@@ -79,7 +79,7 @@ pub fn judge<C: Cells, B: Blocks>(
         → StandsForAll stored (seen C.rows context.now) → (damage : Damage) → result ≡ Err (Read (Damaged damage)) → ⊥ }
 {
     if !forms_cellbase(context.cells, block, hashes) {
-        return Err(Judged::Broken(Rule::CellbaseForm));
+        return Err(JudgeStop::Broken(Rule::CellbaseForm));
     }
     let outcome = match judge_transactions(alloc, context, blocks, block, hashes) {
         Ok(outcome) => outcome,
@@ -101,7 +101,7 @@ pub fn dry_run<C: Cells, B: Blocks>(
     context: &Context<'_, C>,
     blocks: &mut B,
     tx: &TxView<'_>,
-) -> Result<(u64, u64), Judged>
+) -> Result<(u64, u64), JudgeStop>
     requires parent { context.now.parent < length context.now.tree.now.entries }
     requires few { length context.now.tree.now.entries < 2 ^ 24 }
     requires rated { AreRated context.now.tree.now.entries }

@@ -25,4 +25,4 @@ mod transactions;
 pub use at_sight::judge_at_sight;
 pub use context::{Context, NoCells};
 pub use judging::{dry_run, judge};
-pub use stop::Judged;
+pub use stop::JudgeStop;

@@ -14,11 +14,11 @@ ghost use Rattle.script_defs.specs.Scene.{scene_of};
 ghost use Rattle.script_defs.specs.Rules.{script_rules, cycles_of};
 ghost use Rattle.script_defs.specs.Rules as rules;
 ghost use Rattle.rule_names.specs.Number.{rule_number};
-ghost use Rattle.block_judge.specs.declared.stop.Judged.TheVariants.{Broken, Read};
+ghost use Rattle.block_judge.specs.declared.stop.JudgeStop.TheVariants.{Broken, Read};
 ghost use Rattle.block_judge.specs.Standing.{IsScriptRule};
 ghost use Rattle.block_judge.specs.Stops.{AnswersRunning, read_stop_of};
 
-use crate::stop::Judged;
+use crate::stop::JudgeStop;
 use cell_model::ResolvedTx;
 use chain_tree::Blocks;
 use rule_names::Rule;
@@ -40,12 +40,12 @@ fn rule_of(failure: Failure) -> Rule
 }
 
 /// What a stop of the scripts is answered as.
-fn stopped(stop: ScriptStop) -> Judged
+fn stopped(stop: ScriptStop) -> JudgeStop
     ensures { AnswersRunning stop result }
 {
     match stop {
-        ScriptStop::Failed(failure) => Judged::Broken(rule_of(failure)),
-        ScriptStop::Read(stop) => Judged::Read(stop),
+        ScriptStop::Failed(failure) => JudgeStop::Broken(rule_of(failure)),
+        ScriptStop::Read(stop) => JudgeStop::Read(stop),
     }
 }
 
@@ -56,7 +56,7 @@ pub(crate) fn run_scripts<B: Blocks>(
     resolved: &ResolvedTx<'_>,
     blocks: &mut B,
     left: u64,
-) -> Result<u64, Judged>
+) -> Result<u64, JudgeStop>
     requires left { left ≤ 2 ^ 40 }
     requires counts { B.count blocks.old ≡ length at.now.entries }
     requires formed { IsFormed at.now.entries resolved.now.tx resolved.now }

@@ -18,13 +18,13 @@ ghost use Rattle.script_defs.specs.Scene.{scene_of};
 ghost use Rattle.script_defs.specs.Rules.{script_rules, cycles_of};
 ghost use Rattle.rule_names.specs.Number.{rule_number};
 ghost use Rattle.rule_names.specs.declared.rule.Rule.{Rule};
-ghost use Rattle.block_judge.specs.declared.stop.Judged.TheVariants.{Broken, Read};
+ghost use Rattle.block_judge.specs.declared.stop.JudgeStop.TheVariants.{Broken, Read};
 ghost use Rattle.block_judge.specs.ByRows.{SaysByRows};
 ghost use Rattle.block_judge.specs.Standing.{IsTriedAlone, IsTriedOnTransaction};
 ghost use Rattle.block_judge.specs.Stops.{of_resolving, read_stop_of};
 
 use crate::scripts::run_scripts;
-use crate::stop::Judged;
+use crate::stop::JudgeStop;
 use cell_model::{Cells, Resolved};
 use chain_tree::Blocks;
 use mol_schema::TxView;
@@ -34,7 +34,7 @@ use tx_rules::{TxAt, TxStop, resolve};
 /// A transaction that keeps its rules: its hash, its fee, the interest that it withdraws and what the cells occupy that it
 /// spends, in shannons; the cycles of its scripts, and the cells of its inputs.
 #[derive(Drop)]
-pub(crate) struct Taken {
+pub(crate) struct PassedTransaction {
     pub(crate) hash: [u8; 32],
     pub(crate) fee: u64,
     pub(crate) interest: i128,
@@ -58,12 +58,12 @@ fn freed_with(tx: &TxView<'_>, inputs: &[Resolved]) -> u128
 }
 
 /// What a stop of resolving is answered as.
-fn stopped(stop: TxStop) -> Judged
+fn stopped(stop: TxStop) -> JudgeStop
     ensures { result ≡ of_resolving stop }
 {
     match stop {
-        TxStop::Broken(rule) => Judged::Broken(rule),
-        TxStop::Read(stop) => Judged::Read(stop),
+        TxStop::Broken(rule) => JudgeStop::Broken(rule),
+        TxStop::Read(stop) => JudgeStop::Read(stop),
     }
 }
 
@@ -77,7 +77,7 @@ pub(crate) fn judge_transaction<C: Cells, B: Blocks>(
     cells: &C,
     blocks: &mut B,
     left: u64,
-) -> Result<Taken, Judged>
+) -> Result<PassedTransaction, JudgeStop>
     requires placed { IsPlaced at.now }
     requires left { left ≤ 2 ^ 40 }
     requires counts { B.count blocks.old ≡ length at.now.entries }
@@ -120,7 +120,7 @@ pub(crate) fn judge_transaction<C: Cells, B: Blocks>(
             return Err(stop);
         }
     };
-    Ok(Taken {
+    Ok(PassedTransaction {
         hash: ok.resolved.hash,
         fee: ok.fee,
         interest: ok.interest,

@@ -11,7 +11,7 @@ use Rattle.codec_defs.proofs.ShapeLaws.{IsA-decoded}
 use Rattle.codec_defs.proofs.RowLaws.{block-check}
 use Rattle.chain_tree.specs.Told.{Stored, blocks_of}
 use Rattle.cell_defs.specs.Ext.{is_ext}
-use Rattle.cell_model.specs.ListBlocks.{ListBlocksValue, place_among, place_in_hand, contents, IsCanonical, IsExtFor, AreKept, stored_from, ids_of, all_ids, id_lists}
+use Rattle.cell_model.specs.ListBlocks.{ListBlocksValue, place_among, current_place, contents, IsCanonical, IsExtFor, AreKept, stored_from, ids_of, all_ids, id_lists}
 
 -- ---- A canonical block is the one that is taken out of its bytes
 
@@ -182,14 +182,14 @@ ids_more blocks more_blocks ids more_ids bytes one are blocks_grow ids_grow is =
 
 -- the entry in hand
 pub by_hand : (P : Stored → Type 0) (it : ListBlocksValue) (place : ℕ) (entry : Stored) → it.hand ≡ Some place → place < length it.stored
-    → slice_get it.stored place ≡ Some entry → P entry → IfSome (place_in_hand it) (λ e. IfSome (slice_get it.stored e) P)
+    → slice_get it.stored place ≡ Some entry → P entry → IfSome (current_place it) (λ e. IfSome (slice_get it.stored e) P)
 by_hand P it place entry taken within there holds =
-    let place_is : place_in_hand it ≡ Some place =
+    let place_is : current_place it ≡ Some place =
     ap (place_among (length it.stored)) taken ∙ ap (λ (b : Bool). if b then Some place else None) (lt-ltb place (length it.stored) within) in
     subst (λ (o : Option ℕ). IfSome o (λ e. IfSome (slice_get it.stored e) P)) (sym place_is) (at_entry P it.stored place entry there holds)
 
 -- what is so of the place in hand
-pub of_hand : (P : ℕ → Type 0) (it : ListBlocksValue) (place : ℕ) → it.hand ≡ Some place → place < length it.stored → IfSome (place_in_hand it) P → P place
+pub of_hand : (P : ℕ → Type 0) (it : ListBlocksValue) (place : ℕ) → it.hand ≡ Some place → place < length it.stored → IfSome (current_place it) P → P place
 of_hand P it place taken within holds =
     subst (λ (o : Option ℕ). IfSome o P)
     (ap (place_among (length it.stored)) taken ∙ ap (λ (b : Bool). if b then Some place else None) (lt-ltb place (length it.stored) within)) holds

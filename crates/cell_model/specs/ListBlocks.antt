@@ -20,8 +20,8 @@ place_among len None = None
 place_among len (Some place) = if nat_lt place len then Some place else None
 
 -- the place of the one in hand, which is one of them
-abbrev pub place_in_hand : ListBlocksValue → Option ℕ
-place_in_hand it = place_among (length it.stored) it.hand
+abbrev pub current_place : ListBlocksValue → Option ℕ
+current_place it = place_among (length it.stored) it.hand
 
 -- the bytes in each of several vectors
 abbrev pub contents : List (Vec ℕ Global) → List (List ℕ)
@@ -77,5 +77,5 @@ pub among-within : (len : ℕ) (hand : Option ℕ) → IfSome (place_among len h
 among-within len None = tt
 among-within len (Some place) = tested-within place len (nat_lt place len) refl
 
-pub hand_is_within : (it : ListBlocksValue) → IfSome (place_in_hand it) (λ e. e < length it.stored)
+pub hand_is_within : (it : ListBlocksValue) → IfSome (current_place it) (λ e. e < length it.stored)
 hand_is_within it = among-within (length it.stored) it.hand

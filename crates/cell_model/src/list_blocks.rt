@@ -4,7 +4,7 @@ ghost use Rattle.std.specs.List.{All};
 ghost use Rattle.codec_defs.specs.Shape.{decoded};
 ghost use Rattle.codec_defs.specs.Schema as schema;
 ghost use Rattle.chain_tree.specs.Told.{blocks_of};
-ghost use Rattle.cell_model.specs.ListBlocks.{place_in_hand, contents, id_lists, ids_of, all_ids, IsCanonical, IsExtFor, AreKept};
+ghost use Rattle.cell_model.specs.ListBlocks.{current_place, contents, id_lists, ids_of, all_ids, IsCanonical, IsExtFor, AreKept};
 
 use crate::hashes::{proposal_id, tx_hash};
 use chain_tree::Blocks;
@@ -109,13 +109,13 @@ impl ListBlocks {
 
 impl Blocks for ListBlocks {
     ghost use Rattle.std.proofs.Common.{refl, lit≤};
-    ghost use Rattle.cell_model.specs.ListBlocks.{place_in_hand, hand_is_within};
+    ghost use Rattle.cell_model.specs.ListBlocks.{current_place, hand_is_within};
 
     ghost told = { λ it. Some it.stored };
 
     ghost count = { λ it. length it.stored };
 
-    ghost in_hand = { place_in_hand };
+    ghost in_hand = { current_place };
 
     ghost faults = { λ _. 0 };
 

@@ -111,7 +111,7 @@ fn put_type_hash(bytes: &mut Vec<u8>, hash: &Option<[u8; 32]>) -> Result<(), NoM
 }
 
 /// Puts what a row with its out-point begins with, up to its lock hash, after what is there.
-fn put_front(bytes: &mut Vec<u8>, o: &OutPoint, meta: &CellMeta) -> Result<(), NoMemory>
+fn put_fixed_fields(bytes: &mut Vec<u8>, o: &OutPoint, meta: &CellMeta) -> Result<(), NoMemory>
     ensures written { OnOk result (bytes.new.items ≡ bytes.old.items ++ (o.now.tx_hash ++ to_le_bytes w32 o.now.index ++ to_le_bytes w32 meta.now.block
         ++ to_le_bytes w32 meta.now.transaction ++ to_le_bytes w64 meta.now.capacity ++ to_le_bytes w64 meta.now.occupied)) }
     ensures hash { OnOk result (length o.now.tx_hash ≡ 32) }
@@ -131,7 +131,7 @@ pub fn put_row(bytes: &mut Vec<u8>, o: &OutPoint, meta: &CellMeta) -> Result<(),
     ensures size { OnOk result (length (exts.row_bytes (o.now, meta.now)) ≡ 161) }
     ensures form { OnOk result (IsTrue (exts.is_row (exts.row_bytes (o.now, meta.now)))) }
 {
-    put_front(bytes, o, meta)?;
+    put_fixed_fields(bytes, o, meta)?;
     bytes.extend_from_slice(&meta.lock_hash)?;
     put_type_hash(bytes, &meta.type_hash)?;
     bytes.extend_from_slice(&meta.data_hash)?;

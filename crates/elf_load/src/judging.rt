@@ -18,12 +18,12 @@ use vm_mem::Memory;
 
 /// A file that meets none of the conditions. Contracts see the program that it holds, and its segments.
 #[derive(Drop)]
-pub struct Judged<'a> {
+pub struct ValidElf<'a> {
     file: &'a [u8],
     file_bytes: u64,
 }
 
-impl<'a> Model for Judged<'a> {
+impl<'a> Model for ValidElf<'a> {
     ghost use Rattle.vm_defs.specs.Elf.{program_of, segments};
     ghost use Rattle.elf_load.specs.Judging.{IsJudged, JudgedFile};
 
@@ -38,7 +38,7 @@ impl<'a> Model for Judged<'a> {
 ///
 /// `Err` has the number of the first of the conditions E 1 to E 8 that the file meets (docs/MACHINE.md, "A program
 /// as an ELF file"). The cost is one pass over the program headers, with at most 1,024 pages looked up for each.
-pub fn judge<'a>(file: &'a [u8]) -> Result<Judged<'a>, u8>
+pub fn judge<'a>(file: &'a [u8]) -> Result<ValidElf<'a>, u8>
     ensures program { program_in result ≡ load_elf file.now }
     ensures segments { IfOk result (λ judged. judged.segments ≡ segments file.now) }
 {
@@ -49,10 +49,10 @@ pub fn judge<'a>(file: &'a [u8]) -> Result<Judged<'a>, u8>
         Ok(file_bytes) => file_bytes,
         Err(condition) => return Err(condition),
     };
-    Ok(Judged { file, file_bytes })
+    Ok(ValidElf { file, file_bytes })
 }
 
-impl<'a> Judged<'a> {
+impl<'a> ValidElf<'a> {
     /// The address of its first instruction. It is taken as it stands in the file.
     #[tactic(auto, unfolding(vm_defs::specs::Elf::program_of))]
     pub fn pc(&self) -> u64

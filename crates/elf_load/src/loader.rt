@@ -21,7 +21,7 @@ pub struct Entry {
 /// Loads the program of a file into new memory: judges the file, and then places it.
 ///
 /// `Bad` has the number of the first of the conditions E 1 to E 8 that the file meets, as `judge` answers it, and
-/// memory is then unchanged. `NoMemory` comes only for a file that meets none, as from `Judged::place`.
+/// memory is then unchanged. `NoMemory` comes only for a file that meets none, as from `ValidElf::place`.
 pub fn load(file: &[u8], memory: &mut Memory) -> Result<Entry, ElfStop>
     requires { memory.old.memory ≡ new_memory }
     ensures loads { Loads (load_elf file.now) memory.new.memory result }

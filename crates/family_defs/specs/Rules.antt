@@ -9,12 +9,12 @@ use Rattle.family_defs.specs.Uncles.{has_uncles}
 use Rattle.family_defs.specs.Cellbase.{has_cellbase, forms_cellbase}
 
 -- The rules on a block that stands on this branch, genesis to its parent, under the specification of its chain, where these cells are live.
-abbrev pub family_rules_over : (OutPoint → Option Cell) → Specification → List Block → Block → List (ℕ × Bool)
-family_rules_over live spec branch b = (15, has_uncles spec branch b) ∷ (16, has_cellbase b) ∷ (17, forms_cellbase live b) ∷ []
+abbrev pub uncle_and_cellbase_rules_over : (OutPoint → Option Cell) → Specification → List Block → Block → List (ℕ × Bool)
+uncle_and_cellbase_rules_over live spec branch b = (15, has_uncles spec branch b) ∷ (16, has_cellbase b) ∷ (17, forms_cellbase live b) ∷ []
 
 -- The same over the live cells of the branch.
-abbrev pub family_rules : Specification → List Block → Block → List (ℕ × Bool)
-family_rules spec branch b = family_rules_over (live_cell branch) spec branch b
+abbrev pub uncle_and_cellbase_rules : Specification → List Block → Block → List (ℕ × Bool)
+uncle_and_cellbase_rules spec branch b = uncle_and_cellbase_rules_over (live_cell branch) spec branch b
 
 -- no cell is live
 abbrev pub no_cell : OutPoint → Option Cell

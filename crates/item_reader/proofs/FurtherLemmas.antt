@@ -4,7 +4,7 @@ use Rattle.std.specs.Prelude.{Option, Some, None}
 use Rattle.std.specs.List.{concat}
 use Rattle.std.proofs.lemmas.Bool.Decides.{nat_tests}
 use Rattle.report_defs.specs.declared.end.End.TheVariants.{AtEnd, Extra}
-use Rattle.report_defs.specs.Items.{Limits, Split, IsItem, AreItems, IsWithin, end_at, split_of, ReadsNoFurther, EndsTheReading, bytes_to_tell}
+use Rattle.report_defs.specs.Items.{Limits, Split, IsItem, AreItems, IsWithin, end_at, split_of, ReadsNoFurther, EndsTheReading, bytes_at_end}
 use Rattle.report_defs.proofs.ItemLemmas.{split_of-is, end_at-nothing}
 use Rattle.item_reader.specs.Items.{IsPartial, IsItemAt}
 
@@ -29,7 +29,7 @@ module _ (limits : Limits) (items : List (List ℕ)) (all : AreItems limits 0 it
   pub partial_no_further : (limit offset : ℕ) (given whole : List ℕ) → whole ≡ concat items ++ given → limits.item (length items) ≡ Some limit
       → offset ≡ length (concat items) → IsPartial limit limits.input offset given → ReadsNoFurther limits whole
   partial_no_further limit offset given whole whole_is limit_is offset_is partial =
-      subst (λ (s : Split). EndsTheReading limits s) (sym split) (λ at. partial.word at ∙ sym (ap bytes_to_tell limit_is))
+      subst (λ (s : Split). EndsTheReading limits s) (sym split) (λ at. partial.word at ∙ sym (ap bytes_at_end limit_is))
     where
       split : split_of limits whole ≡ record { items = items; rest = given; end = partial.end }
       split = split_of-is limits whole (record { items = items; rest = given; end = partial.end }) (record {
@@ -51,7 +51,7 @@ module _ (limits : Limits) (items : List (List ℕ)) (all : AreItems limits 0 it
   -- a byte behind them where no item is taken
   pub byte_no_further : (byte whole : List ℕ) → whole ≡ concat items ++ byte → limits.item (length items) ≡ None → length byte ≡ 1 → ReadsNoFurther limits whole
   byte_no_further byte whole whole_is none_is one =
-      subst (λ (s : Split). EndsTheReading limits s) (sym split) (λ at. one ∙ sym (ap bytes_to_tell none_is))
+      subst (λ (s : Split). EndsTheReading limits s) (sym split) (λ at. one ∙ sym (ap bytes_at_end none_is))
     where
       split : split_of limits whole ≡ record { items = items; rest = byte; end = Extra }
       split = split_of-is limits whole (record { items = items; rest = byte; end = Extra }) (record {

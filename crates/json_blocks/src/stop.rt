@@ -4,6 +4,8 @@ ghost use Rattle.json_blocks.specs.declared.stop.JsonStop.TheVariants.{NoMemory 
 
 use outside::NoMemory;
 use std::alloc::{AllocError, AllocFailed};
+use std::error::Error;
+use std::fmt;
 
 /// Why a text is not read as a block.
 #[derive(Clone, Copy, PartialEq, Eq, Debug, Drop)]
@@ -36,3 +38,14 @@ impl<T: Drop> From<AllocFailed<T>> for JsonStop {
         JsonStop::NoMemory
     }
 }
+
+impl fmt::Display for JsonStop {
+    fn fmt<W: fmt::Write>(&self, f: &mut fmt::Formatter<W>) -> fmt::Result {
+        match self {
+            JsonStop::Bad => write!(f, "the text is no block"),
+            JsonStop::NoMemory => write!(f, "out of memory"),
+        }
+    }
+}
+
+impl Error for JsonStop {}

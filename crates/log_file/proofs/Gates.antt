@@ -14,14 +14,14 @@ use Rattle.log_defs.specs.LogLaws.{HasFittingBody}
 use Rattle.log_defs.specs.Rest.{IsAtRest, IsBeforeOrAfter, IsSettled, IsNoLonger, IsAppended, HasAppended}
 use Rattle.log_defs.proofs.Records.{record_length}
 use Rattle.log_defs.proofs.Resting.{rest_kept, rest_grown}
-use Rattle.log_file.specs.Pieces.{behind_gate}
+use Rattle.log_file.specs.Pieces.{after_gate}
 
 -- ---- The bytes of a log
 
-pub piece_length : (r : Record) → length (behind_gate r) ≡ length (record_bytes r)
+pub piece_length : (r : Record) → length (after_gate r) ≡ length (record_bytes r)
 piece_length r = omega (arith, record_length r, length-append (to_le_bytes w32 (length r.body)) (r.body ++ 0 ∷ []), length-append r.body (0 ∷ []))
 
-body_fits : (r : Record) (piece : List ℕ) → piece ≡ behind_gate r → length piece < 2 ^ 32 + 6 → HasFittingBody r
+body_fits : (r : Record) (piece : List ℕ) → piece ≡ after_gate r → length piece < 2 ^ 32 + 6 → HasFittingBody r
 body_fits r piece same short = omega (arith, ap length same, piece_length r, record_length r, short)
 
 -- whatever is written behind a gate that is not open, the log is at rest
@@ -37,16 +37,16 @@ torn_kept place size records bytes other rest h =
 record IsStaged (place : ℕ) (records : List Record) (r : Record) (bytes : List ℕ) : Type 0 where
   rest : IsAtRest place records bytes
   tail : List ℕ
-  behind : drop (place + 1) bytes ≡ behind_gate r ++ tail
+  behind : drop (place + 1) bytes ≡ after_gate r ++ tail
 
 written_rest : (at : ℕ) (piece bytes : List ℕ) → at ≤ length bytes → drop at (written at piece bytes) ≡ piece ++ drop (at + length piece) bytes
 written_rest at piece bytes within =
     let rest : List ℕ = drop (at + length piece) bytes in
     ap (drop at) (append_assoc (take at bytes) piece rest) ∙ drop_at (take at bytes) (piece ++ rest) at (length-take-le at bytes within)
 
-staged : (place : ℕ) (records : List Record) (r : Record) (bytes : List ℕ) → IsAtRest place records bytes → IsStaged place records r (written (place + 1) (behind_gate r) bytes)
+staged : (place : ℕ) (records : List Record) (r : Record) (bytes : List ℕ) → IsAtRest place records bytes → IsStaged place records r (written (place + 1) (after_gate r) bytes)
 staged place records r bytes rest =
-    let piece : List ℕ = behind_gate r in
+    let piece : List ℕ = after_gate r in
     let within : place + 1 ≤ length bytes = omega (arith, rest.there) in
     record {
       rest = torn_kept place (length piece + 0) records bytes (written (place + 1) piece bytes) rest (tears_to_the_written (place + 1) 0 piece bytes within);
@@ -55,7 +55,7 @@ staged place records r bytes rest =
     }
 
 -- the record, once its gate is open
-opened : (r : Record) (gate : ℕ) (after tail : List ℕ) → gate ≡ 1 → after ≡ behind_gate r ++ tail → gate ∷ after ≡ record_bytes r ++ 0 ∷ tail
+opened : (r : Record) (gate : ℕ) (after tail : List ℕ) → gate ≡ 1 → after ≡ after_gate r ++ tail → gate ∷ after ≡ record_bytes r ++ 0 ∷ tail
 opened r gate after tail open_gate behind =
     let end : r.body ++ 0 ∷ [] ++ tail ≡ r.body ++ (0 ∷ tail) = append_assoc r.body (0 ∷ []) tail in
     (λ i. open_gate i ∷ behind i) ∙ ap (λ (l : List ℕ). 1 ∷ r.kind ∷ (to_le_bytes w32 (length r.body) ++ l)) end
@@ -86,7 +86,7 @@ gate_written place records r bytes fits s =
 -- ---- Images
 
 -- what a crash leaves while the record is written
-pub leaves_while_written : (place : ℕ) (records : List Record) (r : Record) (piece : List ℕ) (reads : Option Image) (images : Image → Type 0) → piece ≡ behind_gate r
+pub leaves_while_written : (place : ℕ) (records : List Record) (r : Record) (piece : List ℕ) (reads : Option Image) (images : Image → Type 0) → piece ≡ after_gate r
     → IsSettled place records reads images
     → (image : Image) → ComesBy (InArea Log (Torn (place + 1) (length piece))) images image → HasAppended place records r images image
 leaves_while_written place records r piece reads images same settled image (before, left, (bytes, torn, is)) =
@@ -105,12 +105,12 @@ record IsBetween (place : ℕ) (records : List Record) (r : Record) (reads : Opt
   staged : IsStaged place records r now.log
   durable : IsDurable Log images now
 
-between : (place : ℕ) (records : List Record) (r : Record) (piece : List ℕ) (reads reads1 : Option Image) (images images1 : Image → Type 0) → piece ≡ behind_gate r
+between : (place : ℕ) (records : List Record) (r : Record) (piece : List ℕ) (reads reads1 : Option Image) (images images1 : Image → Type 0) → piece ≡ after_gate r
     → IsSettled place records reads images → reads1 ≡ option_map (write_area Log (place + 1) piece) reads → IfSome reads1 (IsDurable Log images1)
     → IsBetween place records r reads1 images1
 between place records r piece reads reads1 images images1 is settled wrote durable =
-    let now1 : Image = write_area Log (place + 1) (behind_gate r) settled.now in
-    let told : reads1 ≡ Some now1 = wrote ∙ ap (λ (p : List ℕ). option_map (write_area Log (place + 1) p) reads) is ∙ ap (option_map (write_area Log (place + 1) (behind_gate r))) settled.told in
+    let now1 : Image = write_area Log (place + 1) (after_gate r) settled.now in
+    let told : reads1 ≡ Some now1 = wrote ∙ ap (λ (p : List ℕ). option_map (write_area Log (place + 1) p) reads) is ∙ ap (option_map (write_area Log (place + 1) (after_gate r))) settled.told in
     record {
       now = now1;
       told = told;
@@ -119,7 +119,7 @@ between place records r piece reads reads1 images images1 is settled wrote durab
     }
 
 -- what a crash leaves while the gate opens
-pub leaves_while_opened : (place : ℕ) (records : List Record) (r : Record) (piece : List ℕ) (reads reads1 : Option Image) (images images1 : Image → Type 0) → piece ≡ behind_gate r
+pub leaves_while_opened : (place : ℕ) (records : List Record) (r : Record) (piece : List ℕ) (reads reads1 : Option Image) (images images1 : Image → Type 0) → piece ≡ after_gate r
     → length piece < 2 ^ 32 + 6 → IsSettled place records reads images → reads1 ≡ option_map (write_area Log (place + 1) piece) reads → IfSome reads1 (IsDurable Log images1)
     → Follows (InArea Log (Torn (place + 1) (length piece))) images images1
     → (image : Image) → ComesBy (InArea Log (Torn place 1)) images1 image → HasAppended place records r images image
@@ -141,7 +141,7 @@ leaves_while_opened place records r piece reads reads1 images images1 same short
         } in
         (before, first, (bytes, appended, is ∙ ap (with_content Log bytes) was))
 
-pub settles_after : (place : ℕ) (records : List Record) (r : Record) (piece : List ℕ) (reads reads1 reads2 : Option Image) (images images1 images2 : Image → Type 0) → piece ≡ behind_gate r
+pub settles_after : (place : ℕ) (records : List Record) (r : Record) (piece : List ℕ) (reads reads1 reads2 : Option Image) (images images1 images2 : Image → Type 0) → piece ≡ after_gate r
     → length piece < 2 ^ 32 + 6 → IsSettled place records reads images → reads1 ≡ option_map (write_area Log (place + 1) piece) reads → IfSome reads1 (IsDurable Log images1)
     → reads2 ≡ option_map (write_area Log place (1 ∷ [])) reads1 → IfSome reads2 (IsDurable Log images2)
     → IsSettled (place + length piece) (records ++ r ∷ []) reads2 images2

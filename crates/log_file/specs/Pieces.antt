@@ -12,8 +12,8 @@ abbrev pub block_record : List ℕ → List ℕ → Record
 block_record item ext = record { kind = 3; body = body_of_parts item ext }
 
 -- What is written behind a record's gate: the record, and behind it a gate that is not open.
-abbrev pub behind_gate : Record → List ℕ
-behind_gate r = r.kind ∷ (to_le_bytes w32 (length r.body) ++ (r.body ++ 0 ∷ []))
+abbrev pub after_gate : Record → List ℕ
+after_gate r = r.kind ∷ (to_le_bytes w32 (length r.body) ++ (r.body ++ 0 ∷ []))
 
 -- how a record that begins at a place is named
 abbrev pub Names : Rec → ℕ → Record → Type 0

@@ -6,17 +6,17 @@ ghost use Rattle.outside.specs.Disk.{OthersRead, LeavesOnly};
 ghost use Rattle.outside.specs.declared.disk.Area.TheVariants.{Log as log_area};
 ghost use Rattle.log_defs.specs.Log.{Record};
 ghost use Rattle.log_defs.specs.Rest.{IsSettled, IsNoLonger, HasAppended};
-ghost use Rattle.log_file.specs.Pieces.{behind_gate, Names};
+ghost use Rattle.log_file.specs.Pieces.{after_gate, Names};
 
 use crate::body::Body;
 use crate::log::{Log, Rec};
 use outside::{Area, Disk, Failed, write_durably};
 
 /// How the record of `body` is named once it stands behind the others.
-pub fn rec_behind(log: &Log, body: &Body) -> Rec
+pub fn next_rec(log: &Log, body: &Body) -> Rec
     requires limit { log.now.place ≤ 2 ^ 61 }
     requires filled { 6 ≤ length body.now }
-    ensures { (r : Record) → body.now ≡ behind_gate r → Names result log.now.place r }
+    ensures { (r : Record) → body.now ≡ after_gate r → Names result log.now.place r }
 {
     let piece = body.piece();
     Rec {
@@ -36,15 +36,15 @@ pub fn append<D: Disk>(log: Log, disk: &mut D, body: &Body) -> Result<(Log, Rec)
 
     // Whatever records the log holds: at each moment a crash leaves those, or those and the new one, and nothing but
     // what was there and one byte behind them; and after `Ok` the latter.
-    ensures settled { (records : List Record) (r : Record) → body.now ≡ behind_gate r → IsSettled log.place records (D.reads_as disk.old) (D.images disk.old)
+    ensures settled { (records : List Record) (r : Record) → body.now ≡ after_gate r → IsSettled log.place records (D.reads_as disk.old) (D.images disk.old)
         → IfOk result (λ answer. IsSettled answer.0.place (records ++ r ∷ []) (D.reads_as disk.new) (D.images disk.new)) }
-    ensures moments { (records : List Record) (r : Record) → body.now ≡ behind_gate r → IsSettled log.place records (D.reads_as disk.old) (D.images disk.old)
+    ensures moments { (records : List Record) (r : Record) → body.now ≡ after_gate r → IsSettled log.place records (D.reads_as disk.old) (D.images disk.old)
         → LeavesOnly D.moment D.left_since disk.old disk.new (HasAppended log.place records r (D.images disk.old)) }
 
     ensures place { IfOk result (λ answer. answer.0.place ≡ log.place + length body.now) }
     ensures there { IfOk result (λ answer. IfSome (D.reads_as disk.new) (λ image. answer.0.place < length image.log)) }
     ensures size { IfSome (D.reads_as disk.old) (λ image. IfOk result (λ answer. IfSome (D.reads_as disk.new) (λ now. IsNoLonger answer.0.place image.log now.log))) }
-    ensures named { (r : Record) → body.now ≡ behind_gate r → IfOk result (λ answer. Names answer.1 log.place r) }
+    ensures named { (r : Record) → body.now ≡ after_gate r → IfOk result (λ answer. Names answer.1 log.place r) }
     ensures others { OthersRead log_area (D.reads_as disk.old) (D.reads_as disk.new) }
     ensures cause { HasCause (D.faults disk.old) (D.faults disk.new) result }
 {
@@ -58,7 +58,7 @@ pub fn append<D: Disk>(log: Log, disk: &mut D, body: &Body) -> Result<(Log, Rec)
         Ok(()) => {}
         Err(failed) => return Err(failed),
     }
-    let rec = rec_behind(&log, body);
+    let rec = next_rec(&log, body);
     Ok((
         Log {
             place: log.place + size as u64,

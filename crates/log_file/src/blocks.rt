@@ -49,7 +49,7 @@ fn entry_of(block: &BlockView<'_>, parent: u32, at: u64, len: u32) -> Entry
 
 /// The entry of a block that may stand behind those of a tree: its parent is there, its number is that one's plus 1,
 /// and its hash is new.
-fn entry_behind(tree: &Tree, block: &BlockView<'_>, at: u64, len: u32) -> Option<Entry>
+fn next_entry(tree: &Tree, block: &BlockView<'_>, at: u64, len: u32) -> Option<Entry>
     requires { length tree.now.entries < 2 ^ 32 }
     ensures may_stand { (kept : List Block) → IndexesBlocks kept tree.now.entries → may_stand_on kept block.now ≡ is_some result }
     ensures describes { IfSome result (λ entry. Describes block.now entry) }
@@ -95,7 +95,7 @@ fn judged<'a>(tree: &Tree, kind: u8, body: &'a [u8], at: u64) -> Option<Found<'a
         return None;
     }
     let block = BlockView::read(item)?;
-    let entry = entry_behind(tree, &block, at, body.len() as u32)?;
+    let entry = next_entry(tree, &block, at, body.len() as u32)?;
     Some(Found { block, ext, entry })
 }
 

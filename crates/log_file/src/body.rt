@@ -4,7 +4,7 @@ ghost use Rattle.std.specs.Prelude.{◌≡◌, ◌+◌, ◌<◌, ◌^◌, ◌++�
 ghost use Rattle.std.specs.Option.{option_map};
 ghost use Rattle.std.specs.Int.{w32, to_le_bytes};
 ghost use Rattle.log_defs.specs.Log.{parts_of_body, body_of_parts};
-ghost use Rattle.log_file.specs.Pieces.{block_record, behind_gate};
+ghost use Rattle.log_file.specs.Pieces.{block_record, after_gate};
 
 use crate::number::read_count;
 use outside::NoMemory;
@@ -39,7 +39,7 @@ pub(crate) fn put_header(bytes: &mut Vec<u8>, kind: u8, len: u32) -> Result<(), 
 /// The record of a block with its ext, and a closed gate, behind what is there.
 fn put_block(piece: &mut Vec<u8>, block: &[u8], ext: &[u8]) -> Result<(), NoMemory>
     requires { 4 + length block.now + length ext.now < 2 ^ 32 }
-    ensures { OnOk result (piece.new.items ≡ piece.old.items ++ behind_gate (block_record block.now ext.now)) }
+    ensures { OnOk result (piece.new.items ≡ piece.old.items ++ after_gate (block_record block.now ext.now)) }
 {
     put_header(piece, 3, (4 + block.len() + ext.len()) as u32)?;
     piece.extend_from_slice(&(block.len() as u32).to_le_bytes())?;
@@ -78,7 +78,7 @@ impl Body {
     /// Makes the record of a block with its ext, and drops the one before. Out of memory, it is unchanged.
     pub fn fill(&mut self, alloc: Global, block: &[u8], ext: &[u8]) -> Result<(), NoMemory>
         requires { 4 + length block.now + length ext.now < 2 ^ 32 }
-        ensures filled { OnOk result (self.new ≡ behind_gate (block_record block.now ext.now)) }
+        ensures filled { OnOk result (self.new ≡ after_gate (block_record block.now ext.now)) }
         ensures err { OnErr result (self.new ≡ self.old) }
     {
         let mut piece = match Vec::with_capacity(alloc, 10 + block.len() + ext.len()) {

@@ -24,7 +24,7 @@ mod records;
 mod stop;
 mod visitor;
 
-pub use appending::{append, rec_behind};
+pub use appending::{append, next_rec};
 pub use body::{Body, parts};
 pub use creation::create;
 pub use ext::ext_form;

@@ -12,7 +12,7 @@ ghost use Rattle.log_file.specs.Opening.{IsOpened, mended};
 use crate::grammar::is_open;
 use crate::log::Log;
 use crate::reading::Reader;
-use crate::records::{read_blocks, read_front};
+use crate::records::{read_blocks, read_head};
 use crate::stop::LogStop;
 use crate::visitor::Visitor;
 use chain_tree::Tree;
@@ -63,7 +63,7 @@ fn read_log<D: Disk, V: Visitor>(
     ensures cause { CountsFault (D.faults disk.old) (D.faults disk.new) (result ≡ Err LogStop.DiskFault) }
 {
     let mut reader = Reader::new(alloc, len);
-    let (spec, mut tree) = match read_front(alloc, disk, &mut reader, visitor) {
+    let (spec, mut tree) = match read_head(alloc, disk, &mut reader, visitor) {
         Ok(front) => front,
         Err(stop) => return Err(stop),
     };

@@ -18,7 +18,7 @@ const PIECE: u64 = 1 << 18;
 
 /// Reads LOG from `at` on into a buffer, where these first bytes were read before. Answers how many there are with
 /// those.
-fn read_behind<D: Disk>(
+fn read_after<D: Disk>(
     disk: &mut D,
     at: u64,
     front: &[u8],
@@ -59,7 +59,7 @@ fn read_piece<D: Disk>(
         Ok(bytes) => bytes,
         Err(_) => return Err(LogStop::NoMemory),
     };
-    match read_behind(disk, at, front, &mut bytes) {
+    match read_after(disk, at, front, &mut bytes) {
         Ok(n) => {
             bytes.truncate(n);
             Ok(bytes)

@@ -106,7 +106,7 @@ fn read_genesis<D: Disk, V: Visitor>(
 }
 
 /// Reads the front of a log, up to its genesis.
-pub(crate) fn read_front<D: Disk, V: Visitor>(
+pub(crate) fn read_head<D: Disk, V: Visitor>(
     alloc: Global,
     disk: &mut D,
     reader: &mut Reader,

@@ -4,6 +4,8 @@ ghost use Rattle.log_file.specs.declared.stop.LogStop.TheVariants.{DiskFault, No
 
 use outside::{Failed, NoMemory};
 use std::alloc::{AllocError, AllocFailed};
+use std::error::Error;
+use std::fmt;
 
 /// Why a log was not opened.
 #[derive(Clone, Copy, Debug, PartialEq, Eq)]
@@ -45,3 +47,15 @@ impl<T: Drop> From<AllocFailed<T>> for LogStop {
         LogStop::NoMemory
     }
 }
+
+impl fmt::Display for LogStop {
+    fn fmt<W: fmt::Write>(&self, f: &mut fmt::Formatter<W>) -> fmt::Result {
+        match self {
+            LogStop::DiskFault => write!(f, "the disk could not be read or written"),
+            LogStop::NotAStore => write!(f, "LOG is no log of a store"),
+            LogStop::NoMemory => write!(f, "out of memory"),
+        }
+    }
+}
+
+impl Error for LogStop {}

@@ -16,7 +16,7 @@ use Rattle.cell_model.specs.ListBlocks.{stored_from}
 use Rattle.cell_model.proofs.ListLemmas.{stored_from-push, decoding-is}
 use Rattle.cell_state.specs.State.{StateValue}
 use Rattle.block_store.specs.Held.{CacheValue}
-use Rattle.node_core.specs.Node.{RecordedValue, KeptValue, NodeValue, kept_of, kept_in, node_of, exts_of, paired, stored_of, IsReadBy, IsItsOwn, HasLooked, LeavesAll}
+use Rattle.node_core.specs.Node.{RecordedValue, KeptValue, NodeValue, kept_of, kept_in, node_of, exts_of, paired, stored_of, IsReadBy, IsItsOwn, HasOnlyRead, LeavesAll}
 
 -- blocks and exts of a list are its own, one beside the other
 pub paired-kept : (stored : List Stored) → paired (blocks_of stored) (exts_of stored) ≡ stored
@@ -93,7 +93,7 @@ own-later node later (Some image) after old new same images own read =
 module _ {S C : Type 0} (content_of : S → C) (reads_as : S → Option Image) (images : S → Image → Type 0) (moment : S → ℕ) (left_since : S → ℕ → Image → Type 0)
     (faults : S → ℕ) (rests : (old new : S) → content_of new ≡ content_of old → IsAsBefore reads_as images moment left_since old new) where
   pub leaves-all : (old new : S) (kept : KeptValue) (place : ℕ) (cells : StateValue) (cache later : CacheValue) (before : NodeValue) (stop : Option ReadStop)
-      → node_of kept place cells cache ≡ before → IsItsOwn before (reads_as old) (images old) → HasLooked content_of reads_as faults old new kept cache later stop
+      → node_of kept place cells cache ≡ before → IsItsOwn before (reads_as old) (images old) → HasOnlyRead content_of reads_as faults old new kept cache later stop
       → LeavesAll content_of reads_as images faults old new before (node_of kept place cells later) stop
   leaves-all old new kept place cells cache later before stop whole own looked =
       let as_before = rests old new looked.content in

@@ -12,7 +12,7 @@ use Rattle.rule_defs.specs.Header.{header_rules}
 use Rattle.rule_defs.specs.Body.{body_rules}
 use Rattle.family_defs.specs.Uncles.{has_uncles}
 use Rattle.family_defs.specs.Cellbase.{has_cellbase, has_since, has_plain_output, names_lock, is_first_well_formed, forms_cellbase}
-use Rattle.family_defs.specs.Rules.{family_rules, family_rules_over, no_cell}
+use Rattle.family_defs.specs.Rules.{uncle_and_cellbase_rules, uncle_and_cellbase_rules_over, no_cell}
 use Rattle.reward_defs.specs.Rules.{end_rules}
 use Rattle.block_defs.specs.Transactions.{rules_of_transactions}
 use Rattle.block_defs.specs.Rules.{all_rules, first_broken, broken_at_sight}
@@ -79,9 +79,9 @@ pub first-at-sight : (spec : Specification) (on : List Block) (b : Block) (rule 
 unfolding broken_at_sight first_broken all_rules
 first-at-sight spec on b rule is =
     let rest : List (ℕ × Bool) = rules_of_transactions spec on b ++ end_rules spec on b in
-    after-others (header_rules spec on b) (body_rules spec b ++ family_rules_over no_cell spec on b) (body_rules spec b ++ (family_rules spec on b ++ rest)) rule
-    (after-others (body_rules spec b) (family_rules_over no_cell spec on b) (family_rules spec on b ++ rest) rule
-    (λ here. first_failing-append-fails rule (family_rules spec on b) rest
+    after-others (header_rules spec on b) (body_rules spec b ++ uncle_and_cellbase_rules_over no_cell spec on b) (body_rules spec b ++ (uncle_and_cellbase_rules spec on b ++ rest)) rule
+    (after-others (body_rules spec b) (uncle_and_cellbase_rules_over no_cell spec on b) (uncle_and_cellbase_rules spec on b ++ rest) rule
+    (λ here. first_failing-append-fails rule (uncle_and_cellbase_rules spec on b) rest
     (family-over-more (has_uncles spec on b) (has_cellbase b) (forms_cellbase no_cell b) (forms_cellbase (live_cell on) b) rule
     (cellbase-over-more (live_cell on) b) here))) is
 
@@ -96,7 +96,7 @@ earlier-unbroken ((n, false) ∷ earlier) later is = absurd (cc)
 -- a block that passes at sight breaks none of them
 pub header-at-sight : (spec : Specification) (on : List Block) (b : Block) → broken_at_sight spec on b ≡ None → first_failing (header_rules spec on b) ≡ None
 unfolding broken_at_sight
-header-at-sight spec on b is = earlier-unbroken (header_rules spec on b) (body_rules spec b ++ family_rules_over no_cell spec on b) is
+header-at-sight spec on b is = earlier-unbroken (header_rules spec on b) (body_rules spec b ++ uncle_and_cellbase_rules_over no_cell spec on b) is
 
 later-unbroken : (earlier later : List (ℕ × Bool)) → first_failing (earlier ++ later) ≡ None → first_failing later ≡ None
 unfolding first_failing
@@ -108,8 +108,8 @@ later-unbroken ((n, false) ∷ earlier) later is = absurd (cc)
 body-at-sight : (spec : Specification) (on : List Block) (b : Block) → broken_at_sight spec on b ≡ None → first_failing (body_rules spec b) ≡ None
 unfolding broken_at_sight
 body-at-sight spec on b is =
-    earlier-unbroken (body_rules spec b) (family_rules_over no_cell spec on b)
-    (later-unbroken (header_rules spec on b) (body_rules spec b ++ family_rules_over no_cell spec on b) is)
+    earlier-unbroken (body_rules spec b) (uncle_and_cellbase_rules_over no_cell spec on b)
+    (later-unbroken (header_rules spec on b) (body_rules spec b ++ uncle_and_cellbase_rules_over no_cell spec on b) is)
 
 -- ---- Where memory may be wanted
 

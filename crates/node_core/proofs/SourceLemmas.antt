@@ -18,7 +18,7 @@ use Rattle.block_store.specs.Stored.{told_by}
 use Rattle.block_store.specs.Held.{CacheValue, IsKept}
 use Rattle.block_store.proofs.LogLemmas.{tells_the_log}
 use Rattle.block_store.proofs.AgreeLemmas.{agrees_always}
-use Rattle.node_core.specs.Node.{KeptValue, kept_of, stored_of, TellsJoined, IsReadBy, HasLooked}
+use Rattle.node_core.specs.Node.{KeptValue, kept_of, stored_of, TellsJoined, IsReadBy, HasOnlyRead}
 use Rattle.node_core.proofs.RecordedLemmas.{tells-stored}
 
 pub told-stored : (spec : Specification) (stored : List Stored) (entries : List Entry) (kept : KeptValue) (told : Option (List Stored))
@@ -94,7 +94,7 @@ pub has-looked : {S C : Type 0} {content_of : S → C} {reads_as : S → Option 
     → reads_as new ≡ reads_as old → IfSome (reads_as old) (IsReadBy kept cache.held) → IfSome (reads_as new) (IsKept entries later.held) → later.most ≡ cache.most
     → ((damage : Damage) → stop ≡ Some (Damaged damage) → damage.area ≡ Log) → CountsFault (faults old) (faults new) (stop ≡ Some DiskFault)
     → (((damage : Damage) → stop ≡ Some (Damaged damage) → ⊥) → later.damages ≡ cache.damages)
-    → HasLooked content_of reads_as faults old new kept cache later stop
+    → HasOnlyRead content_of reads_as faults old new kept cache later stop
 has-looked {reads_as = reads_as} {new = new} kept entries cache later same content reads own is_kept most damage cause found = record {
   content = content;
   agrees = read-later kept cache.held later.held (reads_as new) (subst (λ (o : Option Image). IfSome o (IsReadBy kept cache.held)) (sym reads) own)

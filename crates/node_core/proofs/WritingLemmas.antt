@@ -4,7 +4,7 @@ use Rattle.std.proofs.lemmas.Nat.{from_le_bytes-to_le_bytes_4}
 use Rattle.cell_defs.specs.Ext.{Ext, ext_bytes, count_at}
 use Rattle.log_defs.specs.Log.{Record}
 use Rattle.log_defs.proofs.Records.{record_length}
-use Rattle.log_file.specs.Pieces.{behind_gate}
+use Rattle.log_file.specs.Pieces.{after_gate}
 use Rattle.log_file.proofs.Gates.{piece_length}
 
 -- the count at the front is that of the fees
@@ -13,5 +13,5 @@ unfolding ext_bytes
 counts_fees ext bytes is few = ap (λ (l : List ℕ). count_at l 0) is ∙ from_le_bytes-to_le_bytes_4 (length ext.fees) few
 
 -- no piece is shorter than its header
-pub piece_long : (r : Record) (piece : List ℕ) → piece ≡ behind_gate r → 6 ≤ length piece
+pub piece_long : (r : Record) (piece : List ℕ) → piece ≡ after_gate r → 6 ≤ length piece
 piece_long r piece is = omega (arith, ap length is, piece_length r, record_length r)

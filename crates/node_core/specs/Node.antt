@@ -158,7 +158,7 @@ pub record IsOn (node : NodeValue) (reads : Option Image) (images : Image → Ty
 -- What a call leaves that only reads kept blocks on a disk: the disk as it was, in memory what is the disk's, and as much at most as before, damage in
 -- LOG alone, and faults counted.
 -- Damage that is found is answered: a call with any other answer found none.
-pub record HasLooked {S C : Type 0} (content_of : S → C) (reads_as : S → Option Image) (faults : S → ℕ) (old new : S) (kept : KeptValue)
+pub record HasOnlyRead {S C : Type 0} (content_of : S → C) (reads_as : S → Option Image) (faults : S → ℕ) (old new : S) (kept : KeptValue)
     (before after : CacheValue) (stop : Option ReadStop) : Type 0 where
   pub content : content_of new ≡ content_of old
   pub agrees : IfSome (reads_as new) (IsReadBy kept after.held)

@@ -9,7 +9,7 @@ ghost use Rattle.outside.specs.declared.disk.ReadStop.TheVariants.{DiskFault, Da
 ghost use Rattle.block_defs.specs.Rules.{broken_at_sight};
 ghost use Rattle.rule_names.specs.Number.{rule_number};
 ghost use Rattle.rule_names.specs.declared.rule.Rule.{Rule};
-ghost use Rattle.block_judge.specs.declared.stop.Judged.TheVariants.{Broken, Read};
+ghost use Rattle.block_judge.specs.declared.stop.JudgeStop.TheVariants.{Broken, Read};
 ghost use Rattle.verdict_defs.specs.Trial.{trial_on};
 ghost use Rattle.verdict_defs.specs.declared.trial.Trial.TheVariants.{Passes, Refused};
 ghost use Rattle.node_core.specs.Steps.{moves_on, moves_of_block, moves_for};
@@ -22,7 +22,7 @@ ghost use Rattle.node_core.specs.Judging.{IsEntryOn, IsOnParent, HasPassed, IsDe
 
 use crate::entry::{entry_on, hash_of, parent_hash};
 use crate::kept::{Kept, is_above_tip};
-use block_judge::{Context, Judged, NoCells, dry_run, judge, judge_at_sight};
+use block_judge::{Context, JudgeStop, NoCells, dry_run, judge, judge_at_sight};
 use cell_model::Ext;
 use cell_state::State;
 use chain_tree::{Blocks, Entry};
@@ -91,7 +91,7 @@ impl Kept {
         alloc: Global,
         block: &BlockView<'_>,
         parent: u32,
-    ) -> Result<Vec<[u8; 32]>, Judged>
+    ) -> Result<Vec<[u8; 32]>, JudgeStop>
         requires { place_of self.now.chain.blocks block.now.header.parent_hash ≡ Some parent }
         ensures passed { IfOk result (λ hashes. HasPassed self.now.chain parent block.now hashes.items) }
         ensures broken { (rule : Rule) → result ≡ Err (Broken rule) → broken_at_sight self.now.chain.spec (branch self.now.chain.blocks parent) block.now ≡ Some (rule_number rule) }
@@ -138,8 +138,8 @@ impl Kept {
             parent,
         };
         match judge(alloc, &context, blocks, block, hashes) {
-            Err(Judged::Broken(rule)) => Ok(Decision::Stays(Verdict::Refused(rule.number()))),
-            Err(Judged::Read(stop)) => Err(stop),
+            Err(JudgeStop::Broken(rule)) => Ok(Decision::Stays(Verdict::Refused(rule.number()))),
+            Err(JudgeStop::Read(stop)) => Err(stop),
             Ok(ext) => {
                 if has_room(self.tree.len()) {
                     Ok(Decision::Joins(Joining { entry, ext }))
@@ -188,10 +188,10 @@ impl Kept {
         let parent = entry.parent;
         let hashes = match self.at_sight(alloc, block, parent) {
             Ok(hashes) => hashes,
-            Err(Judged::Broken(rule)) => {
+            Err(JudgeStop::Broken(rule)) => {
                 return Ok((state, Decision::Stays(Verdict::Refused(rule.number()))));
             }
-            Err(Judged::Read(stop)) => {
+            Err(JudgeStop::Read(stop)) => {
                 drop(state);
                 return Err(stop);
             }
@@ -291,7 +291,7 @@ impl Kept {
         blocks: &mut B,
         state: &State,
         tx: &TxView<'_>,
-    ) -> Result<(u64, u64), Judged>
+    ) -> Result<(u64, u64), JudgeStop>
         requires counts { B.count blocks.old ≡ length self.now.chain.blocks }
         ensures read { HasRead B.told B.count B.loans_of B.faults B.damages blocks.old blocks.new (read_stop_of result) }
         ensures passes { TellsJoined self.now (B.told blocks.old) → AreOfTip self.now.chain.blocks (rows state.now) → IfOk result (λ it. trial_on self.now.chain.spec (best_branch self.now.chain.blocks) tx.now ≡ Passes it.0 it.1) }

@@ -22,7 +22,7 @@ mod queries;
 mod recorded;
 mod snapshot;
 
-pub use block_judge::Judged;
+pub use block_judge::JudgeStop;
 pub use log_file::LogStop;
 pub use new_store::{NewStop, NewStore, judge};
 pub use node::{HELD, Node};

@@ -16,6 +16,8 @@ use log_file::genesis_ok;
 use mol_schema::BlockView;
 use outside::{Area, Disk, WriteStop};
 use std::alloc::Global;
+use std::error::Error;
+use std::fmt;
 use std::marker::Model;
 
 /// Why no store is made of a specification and a genesis.
@@ -27,6 +29,18 @@ pub enum NewStop {
     BadGenesis(u8),
     NoMemory,
 }
+
+impl fmt::Display for NewStop {
+    fn fmt<W: fmt::Write>(&self, f: &mut fmt::Formatter<W>) -> fmt::Result {
+        match self {
+            NewStop::BadSpec(number) => write!(f, "the specification breaks S{number}"),
+            NewStop::BadGenesis(number) => write!(f, "the genesis breaks G{number}"),
+            NewStop::NoMemory => write!(f, "out of memory"),
+        }
+    }
+}
+
+impl Error for NewStop {}
 
 /// A specification and a genesis that keep their rules.
 #[derive(Drop)]

@@ -23,7 +23,7 @@ ghost use Rattle.chain_tree.specs.Reading.{stop_of};
 ghost use Rattle.rule_names.specs.Number.{rule_number};
 ghost use Rattle.rule_names.specs.declared.rule.Rule.{Rule};
 ghost use Rattle.block_judge.specs.Stops.{read_stop_of};
-ghost use Rattle.block_judge.specs.declared.stop.Judged.TheVariants.{Broken, Read};
+ghost use Rattle.block_judge.specs.declared.stop.JudgeStop.TheVariants.{Broken, Read};
 ghost use Rattle.verdict_defs.specs.Chain.{Chain, verdict_over, chain_after};
 ghost use Rattle.verdict_defs.specs.Verdict.{joins};
 ghost use Rattle.verdict_defs.specs.Trial.{trial_on};
@@ -33,7 +33,7 @@ ghost use Rattle.log_defs.specs.LogLaws.{HasFittingBody};
 ghost use Rattle.log_defs.specs.Rest.{IsSettled};
 ghost use Rattle.store_defs.specs.Store.{Keeps, store_of, StandsFor, IsSound, HaveOwnExts, AreJoined};
 ghost use Rattle.block_store.specs.Held.{held_at};
-ghost use Rattle.log_file.specs.Pieces.{behind_gate, block_record};
+ghost use Rattle.log_file.specs.Pieces.{after_gate, block_record};
 ghost use Rattle.log_file.specs.declared.stop.LogStop.TheVariants as log_stops;
 ghost use Rattle.node_core.specs.Node.{node_of, IsItsOwn, IsSoundNode, IsSoundOn, IsOnlyImage, IsOn, LeavesAll, IsLeftByImport, IsSettledAfter, IsWithin, AreOfFound, AreOfTip};
 ghost use Rattle.node_core.specs.Opening.{LeavesStore, IsReadFrom};
@@ -51,13 +51,13 @@ use crate::kept::Kept;
 use crate::over_disk;
 use crate::queries::{Fetched, HeaderAt, Live};
 use crate::snapshot::{take_snapshot, to_tip};
-use block_judge::Judged;
+use block_judge::JudgeStop;
 use block_store::{Cache, KeptBody};
 use cell_model::{Ext, OutPoint};
 use cell_state::State;
 use chain_tree::{Entry, Tree};
 use epochs::Spec;
-use log_file::{Body, Log, LogStop, append, rec_behind};
+use log_file::{Body, Log, LogStop, append, next_rec};
 use mol_schema::TxView;
 use outside::{Disk, NoMemory, ReadStop, Steps, WriteStop};
 use std::alloc::Global;
@@ -94,7 +94,7 @@ fn fill(alloc: Global, body: &mut Body, item: &[u8], ext: &Ext) -> Result<Vec<u8
     ensures bytes { IfOk result (λ bytes. bytes.items ≡ ext_bytes ext.now) }
     ensures form { IfOk result (λ bytes. IsTrue (is_ext bytes.items)) }
     ensures fees { IfOk result (λ bytes. count_at bytes.items 0 ≡ length ext.now.fees) }
-    ensures filled { OnOk result (body.new ≡ behind_gate (block_record item.now (ext_bytes ext.now))) }
+    ensures filled { OnOk result (body.new ≡ after_gate (block_record item.now (ext_bytes ext.now))) }
     ensures short { OnOk result (length body.new < 2 ^ 33) }
     ensures fits { IfOk result (λ bytes. HasFittingBody (block_record item.now bytes.items)) }
 {
@@ -249,7 +249,7 @@ fn join<D: Disk, L: Ledger>(
             return Err(ReadStop::NoMemory);
         }
     };
-    let rec = rec_behind(&log, &body);
+    let rec = next_rec(&log, &body);
     let held = match KeptBody::of(alloc, item, &ext) {
         Ok(held) => held,
         Err(_) => {
@@ -499,7 +499,7 @@ impl Node {
         alloc: Global,
         disk: &mut D,
         tx: &TxView<'_>,
-    ) -> Result<(u64, u64), Judged>
+    ) -> Result<(u64, u64), JudgeStop>
         requires own { IsItsOwn self.old (D.reads_as disk.old) (D.images disk.old) }
         ensures left { LeavesAll D.content_of D.reads_as D.images D.faults disk.old disk.new self.old self.new (read_stop_of result) }
         ensures passes { IsSoundOn self.old (D.reads_as disk.old)

@@ -12,11 +12,11 @@ ghost use Rattle.reorg.specs.Moves.{AreOf};
 ghost use Rattle.rule_names.specs.Number.{rule_number};
 ghost use Rattle.rule_names.specs.declared.rule.Rule.{Rule};
 ghost use Rattle.block_judge.specs.Stops.{read_stop_of};
-ghost use Rattle.block_judge.specs.declared.stop.Judged.TheVariants.{Broken, Read};
+ghost use Rattle.block_judge.specs.declared.stop.JudgeStop.TheVariants.{Broken, Read};
 ghost use Rattle.verdict_defs.specs.Trial.{trial_on};
 ghost use Rattle.verdict_defs.specs.declared.trial.Trial.TheVariants.{Passes, Refused};
 ghost use Rattle.store_defs.specs.Store.{AreJoined};
-ghost use Rattle.node_core.specs.Node.{IsReadBy, HasLooked, AreOfFound, AreOfTip};
+ghost use Rattle.node_core.specs.Node.{IsReadBy, HasOnlyRead, AreOfFound, AreOfTip};
 ghost use Rattle.node_core.specs.Steps.{moves_for};
 ghost use Rattle.node_core.specs.Judging.{IsReadyItem, IsDecided, MayWantMemory, place_for};
 ghost use Rattle.node_core.specs.Queries.{IsHeaderAt, IsBlockAt, IsLiveCell, IsFetched};
@@ -24,7 +24,7 @@ ghost use Rattle.node_core.specs.Queries.{IsHeaderAt, IsBlockAt, IsLiveCell, IsF
 use crate::deciding::Decision;
 use crate::kept::Kept;
 use crate::queries::{Fetched, HeaderAt};
-use block_judge::Judged;
+use block_judge::JudgeStop;
 use block_store::{Cache, Store};
 use cell_model::OutPoint;
 use cell_state::State;
@@ -47,7 +47,7 @@ pub(crate) fn moved<D: Disk, L: Ledger>(
     requires from { from < length kept.now.chain.blocks }
     requires to { to < length kept.now.chain.blocks }
     requires own { IfSome (D.reads_as disk.old) (IsReadBy kept.now cache.old.held) }
-    ensures looked { HasLooked D.content_of D.reads_as D.faults disk.old disk.new kept.now cache.old cache.new (stop_of result) }
+    ensures looked { HasOnlyRead D.content_of D.reads_as D.faults disk.old disk.new kept.now cache.old cache.new (stop_of result) }
     ensures cells { IsSome (D.reads_as disk.old) → AreJoined kept.now.chain kept.now.exts → AreOf kept.now.chain.blocks from (rows state)
         → IfOk result (λ there. AreOf kept.now.chain.blocks to (rows there)) }
     ensures undamaged { IsSome (D.reads_as disk.old) → AreJoined kept.now.chain kept.now.exts → AreOf kept.now.chain.blocks from (rows state)
@@ -70,7 +70,7 @@ pub(crate) fn decide<D: Disk, L: Ledger>(
     steps: &mut Steps<L>,
 ) -> Result<(State, Decision), ReadStop>
     requires own { IfSome (D.reads_as disk.old) (IsReadBy kept.now cache.old.held) }
-    ensures looked { HasLooked D.content_of D.reads_as D.faults disk.old disk.new kept.now cache.old cache.new (stop_of result) }
+    ensures looked { HasOnlyRead D.content_of D.reads_as D.faults disk.old disk.new kept.now cache.old cache.new (stop_of result) }
     ensures ready { IfOk result (λ it. IsReadyItem kept.now.chain item.now it.1) }
     ensures cells { IsSome (D.reads_as disk.old) → AreJoined kept.now.chain kept.now.exts → AreOfTip kept.now.chain.blocks (rows state)
         → IfOk result (λ it. AreOfFound kept.now.chain.blocks (place_for kept.now.chain.blocks it.1) (rows it.0)) }
@@ -94,9 +94,9 @@ pub(crate) fn check<D: Disk>(
     kept: &Kept,
     state: &State,
     tx: &TxView<'_>,
-) -> Result<(u64, u64), Judged>
+) -> Result<(u64, u64), JudgeStop>
     requires own { IfSome (D.reads_as disk.old) (IsReadBy kept.now cache.old.held) }
-    ensures looked { HasLooked D.content_of D.reads_as D.faults disk.old disk.new kept.now cache.old cache.new (read_stop_of result) }
+    ensures looked { HasOnlyRead D.content_of D.reads_as D.faults disk.old disk.new kept.now cache.old cache.new (read_stop_of result) }
     ensures passes { IsSome (D.reads_as disk.old) → AreJoined kept.now.chain kept.now.exts → AreOfTip kept.now.chain.blocks (rows state.now)
         → IfOk result (λ it. trial_on kept.now.chain.spec (best_branch kept.now.chain.blocks) tx.now ≡ Passes it.0 it.1) }
     ensures broken { IsSome (D.reads_as disk.old) → AreJoined kept.now.chain kept.now.exts → AreOfTip kept.now.chain.blocks (rows state.now)
@@ -117,7 +117,7 @@ pub(crate) fn header<D: Disk>(
     height: u64,
 ) -> Result<Option<HeaderAt>, ReadStop>
     requires own { IfSome (D.reads_as disk.old) (IsReadBy kept.now cache.old.held) }
-    ensures looked { HasLooked D.content_of D.reads_as D.faults disk.old disk.new kept.now cache.old cache.new (stop_of result) }
+    ensures looked { HasOnlyRead D.content_of D.reads_as D.faults disk.old disk.new kept.now cache.old cache.new (stop_of result) }
     ensures header { IsSome (D.reads_as disk.old) → IfOk result (IsHeaderAt kept.now.chain.blocks height) }
     ensures none { block_at (best_branch kept.now.chain.blocks) height ≡ None → (result ≡ Ok None) × (disk.new ≡ disk.old) }
     ensures undamaged { IsSome (D.reads_as disk.old) → (damage : a_damage) → result ≡ Err (Damaged damage) → ⊥ }
@@ -135,7 +135,7 @@ pub(crate) fn block<D: Disk>(
     height: u64,
 ) -> Result<Option<Vec<u8>>, ReadStop>
     requires own { IfSome (D.reads_as disk.old) (IsReadBy kept.now cache.old.held) }
-    ensures looked { HasLooked D.content_of D.reads_as D.faults disk.old disk.new kept.now cache.old cache.new (stop_of result) }
+    ensures looked { HasOnlyRead D.content_of D.reads_as D.faults disk.old disk.new kept.now cache.old cache.new (stop_of result) }
     ensures block { IsSome (D.reads_as disk.old) → IfOk result (λ found. IsBlockAt kept.now.chain.blocks height (option_map (λ bytes. bytes.items) found)) }
     ensures none { block_at (best_branch kept.now.chain.blocks) height ≡ None → (result ≡ Ok None) × (disk.new ≡ disk.old) }
     ensures undamaged { IsSome (D.reads_as disk.old) → (damage : a_damage) → result ≡ Err (Damaged damage) → ⊥ }
@@ -154,7 +154,7 @@ pub(crate) fn fetch<D: Disk>(
     o: OutPoint,
 ) -> Result<Option<Fetched>, ReadStop>
     requires own { IfSome (D.reads_as disk.old) (IsReadBy kept.now cache.old.held) }
-    ensures looked { HasLooked D.content_of D.reads_as D.faults disk.old disk.new kept.now cache.old cache.new (stop_of result) }
+    ensures looked { HasOnlyRead D.content_of D.reads_as D.faults disk.old disk.new kept.now cache.old cache.new (stop_of result) }
     ensures fetched { IsSome (D.reads_as disk.old) → AreOfTip kept.now.chain.blocks (rows state.now) → IfOk result (IsFetched kept.now.chain.blocks o) }
     ensures none { AreOfTip kept.now.chain.blocks (rows state.now) → IsLiveCell kept.now.chain.blocks o None → (result ≡ Ok None) × (disk.new ≡ disk.old) }
     ensures undamaged { IsSome (D.reads_as disk.old) → AreOfTip kept.now.chain.blocks (rows state.now)

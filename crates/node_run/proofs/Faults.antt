@@ -8,7 +8,7 @@ use Rattle.report_defs.specs.declared.end.End.TheVariants.{AtEnd, Cut, BadSize, 
 use Rattle.report_defs.specs.declared.status.Status.{Status}
 use Rattle.report_defs.specs.declared.status.Status.TheVariants.{Done, SomeRefused, InputFault, DiskFault, NoMemory}
 use Rattle.report_defs.specs.Report.{status_of_end}
-use Rattle.node_run.specs.Output.{IsToldAnswer}
+use Rattle.node_run.specs.Output.{IsWrittenAnswer}
 
 -- what a failed call did to the count
 pub failed_counts : {T E Fault : Type 0} (before now : ℕ) (error : E) → HasCause {T = T} before now (Err error) → Fault → CountsFault before now Fault
@@ -40,7 +40,7 @@ end_no_fault false BadSize = tt
 end_no_fault true Extra = tt
 end_no_fault false Extra = tt
 
-pub told_no_fault : (text : List ℕ) (status result : Status) (taken : List ℕ) → IsNoFault status → IsToldAnswer text status result taken → IsNoFault result
+pub told_no_fault : (text : List ℕ) (status result : Status) (taken : List ℕ) → IsNoFault status → IsWrittenAnswer text status result taken → IsNoFault result
 told_no_fault text status result taken none (inl told) = subst IsNoFault (sym told.1) none
 told_no_fault text status result taken none (inr failed) = subst IsNoFault (sym failed.1) tt
 

@@ -16,7 +16,7 @@ use Rattle.report_defs.specs.Promise.{IsPrefix, WritesInOrder, AreWholeLines, Im
 use Rattle.report_defs.specs.Survival.{Each, IsFront, KeepsStore}
 use Rattle.report_defs.proofs.ItemLemmas.{split_of-is, split_of-append}
 use Rattle.item_reader.proofs.Reading.{few_partial}
-use Rattle.node_run.specs.Output.{MatchesReportOf, IsPartOf, IsToldAnswer}
+use Rattle.node_run.specs.Output.{MatchesReportOf, IsPartOf, IsWrittenAnswer}
 use Rattle.node_run.specs.Import.{AreGiven, KeepsSome, IsEnded, IsStopped, IsStop, line_over, text_over}
 use Rattle.node_run.specs.declared.import.Ended.{Ended}
 use Rattle.node_run.proofs.LineLemmas.{prefix_refl, prefix_trans, prefix_front, prefix_behind, lines-push, lines-append, lines_front, but_the_last, take_all, take_front, front_of_all, front_of_part}
@@ -181,7 +181,7 @@ module _ (chain : Chain) (left : Option (List ℕ)) (ended : Ended) (items : Lis
   at_end : IsOneOf (Done ∷ SomeRefused ∷ []) last_status → IsAtEnd left
   at_end told = end.ends.to_end (only_at_end ended.refused ended.end told)
 
-  pub ended_import : (written : List ℕ) (status : Status) → IsToldAnswer (closing_of_end ended.offset ended.end) last_status status written
+  pub ended_import : (written : List ℕ) (status : Status) → IsWrittenAnswer (closing_of_end ended.offset ended.end) last_status status written
       → MatchesReportOf (report_on chain) given left (taken ++ written) status × ImportsInOrder chain given left (taken ++ written) status
   ended_import written status (inl told) =
       let split = split_is items rest given are in (

@@ -26,7 +26,7 @@ use Rattle.item_reader.proofs.FurtherLemmas.{items_no_further}
 use Rattle.node_run.specs.Store.{Delivers}
 use Rattle.node_run.specs.Import.{IsStop}
 use Rattle.node_run.specs.Init.{StandsAlone, new_statuses}
-use Rattle.node_run.specs.Output.{MatchesReportOf, IsSaid, IsToldAnswer, early_ends}
+use Rattle.node_run.specs.Output.{MatchesReportOf, IsSaid, IsWrittenAnswer, early_ends}
 use Rattle.node_run.proofs.ImportLemmas.{item_limit-is}
 use Rattle.node_run.proofs.StoreLemmas.{if_told, stop_says, by_function}
 use Rattle.node_run.proofs.Tables.{held, lacks, among}
@@ -240,7 +240,7 @@ new_no_input_fault = lacks new_statuses InputFault refl
 
 -- ---- What was told of a store that was made, or of a rule that is broken
 
-pub told_new : (text : List ℕ) (status result : Status) (taken : List ℕ) → IsOneOf (Done ∷ BadGenesis ∷ []) status → IsToldAnswer text status result taken
+pub told_new : (text : List ℕ) (status result : Status) (taken : List ℕ) → IsOneOf (Done ∷ BadGenesis ∷ []) status → IsWrittenAnswer text status result taken
     → IsOneOf new_statuses result
 told_new text status result taken one (inl told) =
     subst (λ (s : Status). IsOneOf new_statuses s) (sym told.1)
@@ -248,12 +248,12 @@ told_new text status result taken one (inl told) =
 told_new text status result taken one (inr failed) = inr (inl failed.1)
 
 -- what was answered and is no fault of the sink was told
-pub told_as : (wanted : Status) (text : List ℕ) (status result : Status) (taken : List ℕ) → (SinkFault ≡ wanted → ⊥) → IsToldAnswer text status result taken
+pub told_as : (wanted : Status) (text : List ℕ) (status result : Status) (taken : List ℕ) → (SinkFault ≡ wanted → ⊥) → IsWrittenAnswer text status result taken
     → result ≡ wanted → status ≡ wanted
 told_as wanted text status result taken other (inl told) same = sym told.1 ∙ same
 told_as wanted text status result taken other (inr failed) same = absurd (other (sym failed.1 ∙ same))
 
-pub told_no_disk_fault : (text : List ℕ) (status result : Status) (taken : List ℕ) → IsOneOf (Done ∷ BadGenesis ∷ []) status → IsToldAnswer text status result taken
+pub told_no_disk_fault : (text : List ℕ) (status result : Status) (taken : List ℕ) → IsOneOf (Done ∷ BadGenesis ∷ []) status → IsWrittenAnswer text status result taken
     → result ≡ DiskFault → ⊥
 told_no_disk_fault text status result taken one told same =
     lacks (Done ∷ BadGenesis ∷ []) DiskFault refl status one

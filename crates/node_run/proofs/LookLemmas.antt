@@ -10,8 +10,8 @@ use Rattle.outside.proofs.Endings.{no_fault, counts-as}
 use Rattle.outside.proofs.Moments.{leaves_also, leaves_then, now_too}
 use Rattle.rule_names.specs.declared.rule.Rule.{Rule}
 use Rattle.block_judge.specs.Stops.{stop_in}
-use Rattle.block_judge.specs.declared.stop.Judged.{Judged}
-use Rattle.block_judge.specs.declared.stop.Judged.TheVariants.{Broken, Read}
+use Rattle.block_judge.specs.declared.stop.JudgeStop.{JudgeStop}
+use Rattle.block_judge.specs.declared.stop.JudgeStop.TheVariants.{Broken, Read}
 use Rattle.verdict_defs.specs.Chain.{Chain}
 use Rattle.store_defs.specs.Store.{Keeps, store_of, StandsFor, IsSound}
 use Rattle.report_defs.specs.declared.status.Status.{Status}
@@ -19,7 +19,7 @@ use Rattle.report_defs.specs.declared.status.Status.TheVariants.{DiskFault, NoMe
 use Rattle.report_defs.specs.Status.{IsOneOf}
 use Rattle.report_defs.specs.Survival.{Each, KeepsStore}
 use Rattle.node_core.specs.Node.{NodeValue, IsOn, LeavesAll}
-use Rattle.node_run.specs.Store.{OnlyLooks, opening_stops}
+use Rattle.node_run.specs.Store.{OnlyReads, opening_stops}
 use Rattle.node_run.proofs.DiskLemmas.{only_read_then}
 use Rattle.node_run.proofs.Exits.{same_stop}
 use Rattle.node_run.proofs.StoreLemmas.{if_told, keeps_opened, keeps_read}
@@ -29,16 +29,16 @@ use Rattle.node_run.proofs.Tables.{held}
 
 module _ {S C : Type 0} {content_of : S → C} {faults : S → ℕ} {old new : S} where
   -- the same of another answer that is given just where the first is
-  pub looks_as : {First Fault : Type 0} → OnlyLooks content_of faults old new First → (Fault → First) → (First → Fault) → OnlyLooks content_of faults old new Fault
+  pub looks_as : {First Fault : Type 0} → OnlyReads content_of faults old new First → (Fault → First) → (First → Fault) → OnlyReads content_of faults old new Fault
   looks_as looks from to = record { content = looks.content; cause = counts-as looks.cause from to }
 
   -- where nothing failed
-  pub looks_well : {First Fault : Type 0} → OnlyLooks content_of faults old new First → (First → ⊥) → (Fault → ⊥) → OnlyLooks content_of faults old new Fault
+  pub looks_well : {First Fault : Type 0} → OnlyReads content_of faults old new First → (First → ⊥) → (Fault → ⊥) → OnlyReads content_of faults old new Fault
   looks_well looks none no_more = looks_as looks (λ fault. absurd (no_more fault)) (λ first. absurd (none first))
 
   module _ {reads_as : S → Option Image} {images : S → Image → Type 0} {before after : NodeValue} where
     -- a node found what was asked
-    pub looks_found : {Fault : Type 0} → LeavesAll content_of reads_as images faults old new before after None → (Fault → ⊥) → OnlyLooks content_of faults old new Fault
+    pub looks_found : {Fault : Type 0} → LeavesAll content_of reads_as images faults old new before after None → (Fault → ⊥) → OnlyReads content_of faults old new Fault
     looks_found left none = record {
       content = left.content;
       cause = counts-as left.cause (λ fault. absurd (none fault)) (λ stop. absurd (no_stop stop));
@@ -49,26 +49,26 @@ module _ {S C : Type 0} {content_of : S → C} {faults : S → ℕ} {old new : S
 
     -- it was stopped
     pub looks_stopped : {T : Type 0} (stop : ReadStop) (status : Status) → LeavesAll content_of reads_as images faults old new before after (Some stop)
-        → (status ≡ DiskFault) ↔ (stop ≡ stops.DiskFault) → OnlyLooks content_of faults old new (◌≡◌ {A = Result T Status} (Err status) (Err DiskFault))
+        → (status ≡ DiskFault) ↔ (stop ≡ stops.DiskFault) → OnlyReads content_of faults old new (◌≡◌ {A = Result T Status} (Err status) (Err DiskFault))
     looks_stopped stop status left fault = record {
       content = left.content;
       cause = counts-as left.cause (λ is. ap Some (fault.0 (same_stop _ _ is))) (λ is. ap Err (fault.1 (same_Some stop stops.DiskFault is)));
     }
 
     -- where a node judged, a broken rule is no stop
-    pub looks_judged : {Fault : Type 0} {judged : Judged} {rule : Rule} → LeavesAll content_of reads_as images faults old new before after (stop_in judged)
-        → judged ≡ Broken rule → (Fault → ⊥) → OnlyLooks content_of faults old new Fault
-    looks_judged left is none = looks_found (subst (λ (j : Judged). LeavesAll content_of reads_as images faults old new before after (stop_in j)) is left) none
+    pub looks_judged : {Fault : Type 0} {judged : JudgeStop} {rule : Rule} → LeavesAll content_of reads_as images faults old new before after (stop_in judged)
+        → judged ≡ Broken rule → (Fault → ⊥) → OnlyReads content_of faults old new Fault
+    looks_judged left is none = looks_found (subst (λ (j : JudgeStop). LeavesAll content_of reads_as images faults old new before after (stop_in j)) is left) none
 
     -- and what is not read is one
-    pub looks_stopped_judging : {T : Type 0} {judged : Judged} (stop : ReadStop) (status : Status)
+    pub looks_stopped_judging : {T : Type 0} {judged : JudgeStop} (stop : ReadStop) (status : Status)
         → LeavesAll content_of reads_as images faults old new before after (stop_in judged) → judged ≡ Read stop
-        → (status ≡ DiskFault) ↔ (stop ≡ stops.DiskFault) → OnlyLooks content_of faults old new (◌≡◌ {A = Result T Status} (Err status) (Err DiskFault))
+        → (status ≡ DiskFault) ↔ (stop ≡ stops.DiskFault) → OnlyReads content_of faults old new (◌≡◌ {A = Result T Status} (Err status) (Err DiskFault))
     looks_stopped_judging stop status left is =
-        looks_stopped stop status (subst (λ (j : Judged). LeavesAll content_of reads_as images faults old new before after (stop_in j)) is left)
+        looks_stopped stop status (subst (λ (j : JudgeStop). LeavesAll content_of reads_as images faults old new before after (stop_in j)) is left)
 
 -- nothing was looked at
-pub looks_not : {S C Fault : Type 0} {content_of : S → C} {faults : S → ℕ} (disk : S) → (Fault → ⊥) → OnlyLooks content_of faults disk disk Fault
+pub looks_not : {S C Fault : Type 0} {content_of : S → C} {faults : S → ℕ} (disk : S) → (Fault → ⊥) → OnlyReads content_of faults disk disk Fault
 looks_not disk none = record { content = refl; cause = no_fault _ _ refl none }
 
 -- ---- What stops it

@@ -22,7 +22,7 @@ use Rattle.item_reader.proofs.FurtherLemmas.{items_no_further}
 use Rattle.node_core.specs.Node.{NodeValue, IsSoundNode, IsSoundOn, IsOn}
 use Rattle.node_run.specs.Question.{IsAnswerTo, full, AnswersQuestion, DeliversAnswer}
 use Rattle.node_run.specs.Import.{IsStop}
-use Rattle.node_run.specs.Output.{IsSaid, IsToldAnswer}
+use Rattle.node_run.specs.Output.{IsSaid, IsWrittenAnswer}
 use Rattle.node_run.specs.Store.{opening_stops}
 use Rattle.node_run.proofs.DiskLemmas.{opened_sound, found_sound}
 use Rattle.node_run.proofs.LookLemmas.{keeps_looked}
@@ -81,7 +81,7 @@ question_early question chain left given taken end offset status here said =
 -- its items were judged
 pub question_judged : (question : Question) (chain : Chain) (left : Option (List ℕ)) (items : List (List ℕ)) (given taken text : List ℕ) (status result : Status)
     → IsWhole (question_items question) left items given → IsAnswerTo question chain items text status → IsOneOf (Done ∷ SomeRefused ∷ []) status
-    → IsToldAnswer text status result taken → AnswersQuestion question chain given left taken result
+    → IsWrittenAnswer text status result taken → AnswersQuestion question chain given left taken result
 question_judged question chain left items given taken text status result whole answer one told =
     let report = answer_to_question question chain items in
     let said : IsSaid report result taken = told_said report text status result taken answer.text_is answer.status_is told in

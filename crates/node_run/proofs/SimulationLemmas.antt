@@ -7,7 +7,7 @@ use Rattle.report_defs.specs.declared.status.Status.TheVariants.{Done, NoMemory}
 use Rattle.report_defs.specs.Report.{Report, report_without_lines, IsAnswerToSimulation, IsReportOfSimulation}
 use Rattle.report_defs.specs.Promise.{IsPrefix, IsStoppedBeforeTheSink}
 use Rattle.node_run.specs.Import.{IsStop}
-use Rattle.node_run.specs.Output.{IsToldAnswer}
+use Rattle.node_run.specs.Output.{IsWrittenAnswer}
 use Rattle.node_run.specs.Simulation.{IsSimulationTold}
 use Rattle.node_run.proofs.Statuses.{stop_not_reported, is_early, not_early}
 use Rattle.node_run.proofs.StoreLemmas.{by_function, stop_says}
@@ -21,7 +21,7 @@ simulation_stopped simulation left = (stop_says (Said simulation) [] left NoMemo
 
 -- it was told, or a part of it
 pub simulation_told : (simulation : Simulation) (left : Option (List ℕ)) (taken text : List ℕ) (result : Status) → IsAnswerToSimulation simulation text
-    → IsToldAnswer text Done result taken → IsSimulationTold simulation left taken result
+    → IsWrittenAnswer text Done result taken → IsSimulationTold simulation left taken result
 simulation_told simulation left taken text result is (inl told) = (
   by_function (λ whole. report_without_lines text Done) (Said simulation) [] left taken result (λ whole. (text, is, refl)) (record {
     front = λ more at. ([], sym told.0 ∙ sym (append-nil taken));

@@ -10,7 +10,7 @@ use Rattle.report_defs.specs.Report.{status_of_end}
 use Rattle.report_defs.specs.Promise.{IsReported, reported, ended_early, IsStoppedBeforeTheSink, import_statuses, query_statuses, question_statuses}
 use Rattle.item_reader.specs.Items.{IsReadingStop}
 use Rattle.node_run.specs.Import.{IsStop}
-use Rattle.node_run.specs.Output.{IsToldAnswer, IsWritingStop, early_ends}
+use Rattle.node_run.specs.Output.{IsWrittenAnswer, IsWritingStop, early_ends}
 use Rattle.node_run.specs.Store.{opening_stops}
 use Rattle.node_run.proofs.Tables.{held, lacks, among, apart}
 
@@ -104,7 +104,7 @@ import_end refused ends.BadSize = held import_statuses BadSize refl
 import_end refused ends.Extra = held import_statuses ExtraInput refl
 
 pub import_told : (text : List ℕ) (refused : Bool) (end : End) (status result : Status) (taken : List ℕ)
-    → status ≡ status_of_end (if refused then SomeRefused else Done) end → IsToldAnswer text status result taken → IsOneOf import_statuses result
+    → status ≡ status_of_end (if refused then SomeRefused else Done) end → IsWrittenAnswer text status result taken → IsOneOf import_statuses result
 import_told text refused end status result taken is (inl told) = subst (λ (s : Status). IsOneOf import_statuses s) (sym (told.1 ∙ is)) (import_end refused end)
 import_told text refused end status result taken is (inr failed) = inr (inr (inr (inl failed.1)))
 
@@ -117,7 +117,7 @@ question_opening = among opening_stops question_statuses refl
 -- ---- An answer that was told
 
 -- it has its own status, or that of the sink
-pub told_one : (statuses : List Status) (text : List ℕ) (status result : Status) (taken : List ℕ) → IsOneOf statuses status → IsToldAnswer text status result taken
+pub told_one : (statuses : List Status) (text : List ℕ) (status result : Status) (taken : List ℕ) → IsOneOf statuses status → IsWrittenAnswer text status result taken
     → IsOneOf (SinkFault ∷ statuses) result
 told_one statuses text status result taken one (inl told) = inr (subst (λ (s : Status). IsOneOf statuses s) (sym told.1) one)
 told_one statuses text status result taken one (inr failed) = inl failed.1

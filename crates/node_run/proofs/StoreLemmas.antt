@@ -21,7 +21,7 @@ use Rattle.report_defs.specs.Report.{Report, report_without_lines, text_of, IsRe
 use Rattle.report_defs.specs.Promise.{IsPrefix, MatchesReport, KeepsOrder, IsSoundStoreOf, Finds, FindsNoStore, IsStoppedBeforeTheSink}
 use Rattle.report_defs.specs.Survival.{Each, IsFront, KeepsStore, KeepsDisk}
 use Rattle.node_run.specs.Import.{IsStop, KeepsSome}
-use Rattle.node_run.specs.Output.{MatchesReportOf, IsToldAnswer}
+use Rattle.node_run.specs.Output.{MatchesReportOf, IsWrittenAnswer}
 use Rattle.node_run.specs.Store.{Delivers, IsQueryTold, opening_stops}
 use Rattle.node_run.proofs.LineLemmas.{front_of_all, front_of_none, take_all}
 use Rattle.node_run.proofs.Statuses.{stop_not_reported, opening_reported, opening_stop, is_early, not_early}
@@ -248,7 +248,7 @@ query_stopped query chain left status stop = (
 
 -- it was told, or a part of it
 pub query_told : (query : Query) (chain : Chain) (left : Option (List ℕ)) (taken text : List ℕ) (result : Status) → text ≡ answer_to_query query chain
-    → IsToldAnswer text Done result taken → IsQueryTold query chain left taken result
+    → IsWrittenAnswer text Done result taken → IsQueryTold query chain left taken result
 query_told query chain left taken text result is (inl told) = (
   record {
     front = λ more at. ([], sym (told.0 ∙ is) ∙ sym (append-nil taken));

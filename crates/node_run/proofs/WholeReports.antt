@@ -17,7 +17,7 @@ use Rattle.item_reader.specs.Whole.{IsWhole, EndsEarly}
 use Rattle.item_reader.proofs.Reading.{left_nothing}
 use Rattle.item_reader.proofs.FurtherLemmas.{items_no_further}
 use Rattle.node_run.specs.Import.{IsStop}
-use Rattle.node_run.specs.Output.{MatchesReportOf, IsSaid, IsToldAnswer, IsWritingStop}
+use Rattle.node_run.specs.Output.{MatchesReportOf, IsSaid, IsWrittenAnswer, IsWritingStop}
 use Rattle.node_run.proofs.Statuses.{Have, each_of, IsEarly, is_early, not_early, stop_not_reported, stop_not_ended, writing_stops}
 
 -- ---- The report
@@ -95,7 +95,7 @@ end_no_stop ends.Extra stop = stop
 -- ---- A report that was told, or a part of it
 
 pub told_said : (report : Report) (text : List ℕ) (status result : Status) (taken : List ℕ) → text ≡ text_of report → status ≡ report.status
-    → IsToldAnswer text status result taken → IsSaid report result taken
+    → IsWrittenAnswer text status result taken → IsSaid report result taken
 told_said report text status result taken text_is status_is (inl told) = inl (told.0 ∙ text_is, told.1 ∙ status_is)
 told_said report text status result taken text_is status_is (inr failed) =
     inr (record {

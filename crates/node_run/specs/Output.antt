@@ -32,8 +32,8 @@ IsWritten text (Ok v) taken = taken ≡ text
 IsWritten text (Err status) taken = IsPartOf text taken
 
 -- a text was taken and its status answered, or the sink failed
-abbrev pub IsToldAnswer : List ℕ → Status → Status → List ℕ → Type 0
-IsToldAnswer text status result taken = ((taken ≡ text) × (result ≡ status)) ⊎ (IsPartOf text taken × (result ≡ SinkFault))
+abbrev pub IsWrittenAnswer : List ℕ → Status → Status → List ℕ → Type 0
+IsWrittenAnswer text status result taken = ((taken ≡ text) × (result ≡ status)) ⊎ (IsPartOf text taken × (result ≡ SinkFault))
 
 -- what stops a run when its input was read
 abbrev pub IsWritingStop : Status → Type 0

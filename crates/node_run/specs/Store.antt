@@ -23,7 +23,7 @@ pub record Delivers (command : Command) (reads : Option Image) (at_start at_exit
   pub disk : (now : Image) → reads ≡ Some now → KeepsDisk (Some command) now at_start at_exit meanwhile given taken status
 
 -- What a call leaves of the disk that only looks at it: all as it was, and a failure counted where it is answered.
-pub record OnlyLooks {S C : Type 0} (content_of : S → C) (faults : S → ℕ) (old new : S) (failed : Type 0) : Type 0 where
+pub record OnlyReads {S C : Type 0} (content_of : S → C) (faults : S → ℕ) (old new : S) (failed : Type 0) : Type 0 where
   pub content : content_of new ≡ content_of old
   pub cause : CountsFault (faults old) (faults new) failed
 

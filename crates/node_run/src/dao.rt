@@ -16,7 +16,7 @@ ghost use Rattle.report_defs.specs.Text as text;
 ghost use Rattle.report_defs.specs.declared.command.Query.TheVariants as queries;
 ghost use Rattle.report_defs.specs.declared.dao.DaoState.TheVariants as states;
 ghost use Rattle.report_defs.specs.Status.{IsOneOf};
-ghost use Rattle.node_run.specs.Store.{OnlyLooks, finding_stops, opening_stops};
+ghost use Rattle.node_run.specs.Store.{OnlyReads, finding_stops, opening_stops};
 ghost use Rattle.node_run.specs.Queries.{IsCopied, IsCopyFound, IsLiveIn};
 
 use crate::lines::{deposit_line, none_line, not_dao_line, withdrawing_line};
@@ -42,7 +42,7 @@ pub fn dao<D: Disk>(
     index: u64,
 ) -> Result<Vec<u8>, Status>
     requires own { IsItsOwn node.old (D.reads_as disk.old) (D.images disk.old) }
-    ensures disk { OnlyLooks D.content_of D.faults disk.old disk.new (result ≡ Err Status.DiskFault) }
+    ensures disk { OnlyReads D.content_of D.faults disk.old disk.new (result ≡ Err Status.DiskFault) }
     ensures text { IsSoundOn node.old (D.reads_as disk.old) → IfOk result (λ text. text.items ≡ reports.answer_to_query (queries.Dao tx_hash index) node.old.chain) }
     ensures stop { (status : Status) → result ≡ Err status → IsOneOf opening_stops status }
     ensures sound { IsSoundOn node.old (D.reads_as disk.old) → result ≡ Err Status.NotAStore → ⊥ }
@@ -66,7 +66,7 @@ fn fetch_cell<D: Disk>(
     index: u64,
 ) -> Result<Option<Fetched>, Status>
     requires own { IsItsOwn node.old (D.reads_as disk.old) (D.images disk.old) }
-    ensures disk { OnlyLooks D.content_of D.faults disk.old disk.new (result ≡ Err Status.DiskFault) }
+    ensures disk { OnlyReads D.content_of D.faults disk.old disk.new (result ≡ Err Status.DiskFault) }
     ensures chain { node.new.chain ≡ node.old.chain }
     ensures found { IsSoundOn node.old (D.reads_as disk.old) → IfOk result (IsCopyFound (cell_at_tip node.old.chain tx_hash index)) }
     ensures stop { (status : Status) → result ≡ Err status → IsOneOf opening_stops status }

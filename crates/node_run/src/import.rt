@@ -23,7 +23,7 @@ ghost use Rattle.node_run.specs.Store.{Delivers};
 ghost use Rattle.node_run.specs.Import.{IsAnswered, AreImported, line_over, item_stops};
 
 use crate::lines::{closing_of_end, verdict_line};
-use crate::output::{Answer, status_of_end, tell, write_text};
+use crate::output::{Answer, status_of_end, write_answer, write_text};
 use crate::store::{open, status_of_reading};
 use item_reader::{Next, next_item};
 use node_core::Node;
@@ -222,5 +222,5 @@ pub fn import<S: Source, K: Sink, D: Disk, L: Ledger>(
         Ok(answer) => answer,
         Err(_) => return Status::NoMemory,
     };
-    tell(out, &answer)
+    write_answer(out, &answer)
 }

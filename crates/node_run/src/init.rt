@@ -14,7 +14,7 @@ ghost use Rattle.node_run.specs.Store.{Delivers};
 ghost use Rattle.node_run.specs.Init.{StandsAlone, new_statuses, text_of_stop};
 
 use crate::lines::{bad_genesis_line, bad_spec_line, genesis_line};
-use crate::output::{Answer, tell, tell_early};
+use crate::output::{Answer, write_answer, write_early_end};
 use crate::store::status_of_writing;
 use item_reader::{Whole, read_whole};
 use node_core::{NewStop, judge};
@@ -85,7 +85,7 @@ fn make<D: Disk>(
 }
 
 /// Makes the store, unless a rule is broken, and tells so.
-fn make_and_tell<K: Sink, D: Disk>(
+fn make_and_answer<K: Sink, D: Disk>(
     alloc: Global,
     out: &mut K,
     disk: &mut D,
@@ -103,7 +103,7 @@ fn make_and_tell<K: Sink, D: Disk>(
     ensures disk_faults { CountsFault (D.faults disk.old) (D.faults disk.new) (result ≡ Status.DiskFault) }
 {
     match make(alloc, disk, specification, genesis) {
-        Ok(answer) => tell(out, &answer),
+        Ok(answer) => write_answer(out, &answer),
         Err(status) => status,
     }
 }
@@ -134,8 +134,8 @@ pub fn init<S: Source, K: Sink, D: Disk>(
         return Status::StoreThere;
     }
     match read_whole(alloc, input, &[SPEC_LIMIT, GENESIS_LIMIT]) {
-        Ok(Whole::Items(items)) => make_and_tell(alloc, out, disk, &items[0], &items[1]),
-        Ok(Whole::Early { end, offset }) => tell_early(alloc, out, end, offset),
+        Ok(Whole::Items(items)) => make_and_answer(alloc, out, disk, &items[0], &items[1]),
+        Ok(Whole::Early { end, offset }) => write_early_end(alloc, out, end, offset),
         Err(status) => status,
     }
 }

@@ -3,7 +3,7 @@ ghost use Rattle.std.specs.Prelude.{◌≡◌, Err, string_bytes};
 ghost use Rattle.outside.specs.Causes.{CountsFault};
 ghost use Rattle.report_defs.specs.Report as reports;
 ghost use Rattle.report_defs.specs.Status.{IsOneOf};
-ghost use Rattle.node_run.specs.Output.{Took, IsWritten, IsToldAnswer, IsSaid, early_ends};
+ghost use Rattle.node_run.specs.Output.{Took, IsWritten, IsWrittenAnswer, IsSaid, early_ends};
 
 use crate::lines::closing_of_end;
 use outside::{Sink, write_all};
@@ -30,9 +30,9 @@ pub fn write_text<K: Sink>(out: &mut K, text: &[u8]) -> Result<(), Status>
 }
 
 /// Writes bytes, and answers this status.
-pub fn tell_bytes<K: Sink>(out: &mut K, bytes: &[u8], status: Status) -> Status
+pub fn write_bytes<K: Sink>(out: &mut K, bytes: &[u8], status: Status) -> Status
     requires { status ≡ Status.SinkFault → ⊥ }
-    ensures told { Took (K.taken out.old) (K.taken out.new) (IsToldAnswer bytes.now status result) }
+    ensures told { Took (K.taken out.old) (K.taken out.new) (IsWrittenAnswer bytes.now status result) }
     ensures faults { CountsFault (K.faults out.old) (K.faults out.new) (result ≡ Status.SinkFault) }
 {
     match write_text(out, bytes) {
@@ -42,12 +42,12 @@ pub fn tell_bytes<K: Sink>(out: &mut K, bytes: &[u8], status: Status) -> Status
 }
 
 /// Writes an answer's text, and answers its status.
-pub fn tell<K: Sink>(out: &mut K, answer: &Answer) -> Status
+pub fn write_answer<K: Sink>(out: &mut K, answer: &Answer) -> Status
     requires { answer.now.status ≡ Status.SinkFault → ⊥ }
-    ensures told { Took (K.taken out.old) (K.taken out.new) (IsToldAnswer (string_bytes answer.now.text) answer.now.status result) }
+    ensures told { Took (K.taken out.old) (K.taken out.new) (IsWrittenAnswer (string_bytes answer.now.text) answer.now.status result) }
     ensures faults { CountsFault (K.faults out.old) (K.faults out.new) (result ≡ Status.SinkFault) }
 {
-    tell_bytes(out, answer.text.as_bytes(), answer.status)
+    write_bytes(out, answer.text.as_bytes(), answer.status)
 }
 
 /// The status of an input whose reading ends so, which is another's where it ends between two items.
@@ -63,7 +63,7 @@ pub fn status_of_end(whole: Status, end: End) -> Status
 }
 
 /// What is said of an input that ends early.
-pub fn tell_early<K: Sink>(alloc: Global, out: &mut K, end: End, offset: u64) -> Status
+pub fn write_early_end<K: Sink>(alloc: Global, out: &mut K, end: End, offset: u64) -> Status
     requires { end ≡ End.AtEnd → ⊥ }
     ensures said { Took (K.taken out.old) (K.taken out.new) (IsSaid (reports.report_of_end offset end) result) }
     ensures faults { CountsFault (K.faults out.old) (K.faults out.new) (result ≡ Status.SinkFault) }
@@ -78,5 +78,5 @@ pub fn tell_early<K: Sink>(alloc: Global, out: &mut K, end: End, offset: u64) ->
         text,
         status: status_of_end(Status::Done, end),
     };
-    tell(out, &answer)
+    write_answer(out, &answer)
 }

@@ -23,11 +23,11 @@ ghost use Rattle.node_core.specs.Node.{IsItsOwn, IsSoundOn, AreOfTip};
 ghost use Rattle.node_core.specs.Queries.{IsHeaderAt};
 ghost use Rattle.node_run.specs.Output.{Took};
 ghost use Rattle.node_run.specs.Queries.{IsCellFound};
-ghost use Rattle.node_run.specs.Store.{Delivers, IsQueryTold, OnlyLooks, opening_stops};
+ghost use Rattle.node_run.specs.Store.{Delivers, IsQueryTold, OnlyReads, opening_stops};
 
 use crate::dao::dao;
 use crate::lines::{epoch_line, header_line, live_line, none_line, tip_line};
-use crate::output::tell_bytes;
+use crate::output::write_bytes;
 use crate::store::{open, status_of_reading};
 use cell_model::OutPoint;
 use epochs::epoch_of;
@@ -47,7 +47,7 @@ fn answer_to<D: Disk>(
     query: Query,
 ) -> Result<Vec<u8>, Status>
     requires own { IsItsOwn node.old (D.reads_as disk.old) (D.images disk.old) }
-    ensures disk { OnlyLooks D.content_of D.faults disk.old disk.new (result ≡ Err Status.DiskFault) }
+    ensures disk { OnlyReads D.content_of D.faults disk.old disk.new (result ≡ Err Status.DiskFault) }
     ensures text { IsSoundOn node.old (D.reads_as disk.old) → IfOk result (λ text. text.items ≡ reports.answer_to_query query node.old.chain) }
     ensures stop { (status : Status) → result ≡ Err status → IsOneOf opening_stops status }
     ensures sound { IsSoundOn node.old (D.reads_as disk.old) → result ≡ Err Status.NotAStore → ⊥ }
@@ -90,7 +90,7 @@ fn header<D: Disk>(
     height: u64,
 ) -> Result<Vec<u8>, Status>
     requires own { IsItsOwn node.old (D.reads_as disk.old) (D.images disk.old) }
-    ensures disk { OnlyLooks D.content_of D.faults disk.old disk.new (result ≡ Err Status.DiskFault) }
+    ensures disk { OnlyReads D.content_of D.faults disk.old disk.new (result ≡ Err Status.DiskFault) }
     ensures text { IsSome (D.reads_as disk.old) → IfOk result (λ text. text.items ≡ reports.answer_to_query (queries.Header height) node.old.chain) }
     ensures stop { (status : Status) → result ≡ Err status → IsOneOf opening_stops status }
     ensures sound { IsSome (D.reads_as disk.old) → result ≡ Err Status.NotAStore → ⊥ }
@@ -125,7 +125,7 @@ fn json<D: Disk>(
     height: u64,
 ) -> Result<Vec<u8>, Status>
     requires own { IsItsOwn node.old (D.reads_as disk.old) (D.images disk.old) }
-    ensures disk { OnlyLooks D.content_of D.faults disk.old disk.new (result ≡ Err Status.DiskFault) }
+    ensures disk { OnlyReads D.content_of D.faults disk.old disk.new (result ≡ Err Status.DiskFault) }
     ensures text { IsSome (D.reads_as disk.old) → IfOk result (λ text. text.items ≡ reports.answer_to_query (queries.Json height) node.old.chain) }
     ensures stop { (status : Status) → result ≡ Err status → IsOneOf opening_stops status }
     ensures sound { IsSome (D.reads_as disk.old) → result ≡ Err Status.NotAStore → ⊥ }
@@ -207,7 +207,7 @@ fn cell_line_of(alloc: Global, found: &Option<Live>) -> Result<String, AllocErro
 }
 
 /// Finds the answer and writes it.
-fn find_and_tell<K: Sink, D: Disk>(
+fn find_and_answer<K: Sink, D: Disk>(
     alloc: Global,
     out: &mut K,
     disk: &mut D,
@@ -218,14 +218,14 @@ fn find_and_tell<K: Sink, D: Disk>(
     ensures told { Took (K.taken out.old) (K.taken out.new) (λ taken. IsSoundOn node.old (D.reads_as disk.old)
         → (left : Option (List ℕ)) → IsQueryTold query node.old.chain left taken result) }
     ensures status { IsOneOf query_statuses result }
-    ensures disk { OnlyLooks D.content_of D.faults disk.old disk.new (result ≡ Status.DiskFault) }
+    ensures disk { OnlyReads D.content_of D.faults disk.old disk.new (result ≡ Status.DiskFault) }
     ensures faults { CountsFault (K.faults out.old) (K.faults out.new) (result ≡ Status.SinkFault) }
 {
     let text = match answer_to(alloc, disk, node, query) {
         Ok(text) => text,
         Err(status) => return status,
     };
-    tell_bytes(out, &text, Status::Done)
+    write_bytes(out, &text, Status::Done)
 }
 
 /// Asks the store.
@@ -254,7 +254,7 @@ pub fn query<K: Sink, D: Disk, L: Ledger>(
         Ok(node) => node,
         Err(status) => return status,
     };
-    let status = find_and_tell(alloc, out, disk, &mut node, asked);
+    let status = find_and_answer(alloc, out, disk, &mut node, asked);
     drop(node);
     status
 }

@@ -17,15 +17,15 @@ ghost use Rattle.item_reader.specs.Whole.{IsReadWhole};
 ghost use Rattle.node_core.specs.Steps.{moves_to_open};
 ghost use Rattle.node_run.specs.Output.{Transfers};
 ghost use Rattle.node_core.specs.Node.{IsItsOwn, IsSoundOn};
-ghost use Rattle.node_run.specs.Store.{OnlyLooks, opening_stops};
+ghost use Rattle.node_run.specs.Store.{OnlyReads, opening_stops};
 ghost use Rattle.node_run.specs.Question.{IsAnswerTo, AnswersQuestion, DeliversAnswer};
 
 use crate::lines::trial_line;
-use crate::output::{Answer, tell, tell_early};
+use crate::output::{Answer, write_answer, write_early_end};
 use crate::store::{open, status_of_reading};
 use item_reader::{Whole, read_whole};
 use mol_schema::TxView;
-use node_core::{Judged, Node};
+use node_core::{JudgeStop, Node};
 use outside::{Disk, NoMemory, Sink, Source, Steps};
 use report_defs::{Question, Status};
 use std::alloc::Global;
@@ -55,7 +55,7 @@ fn answer_to<D: Disk>(
 ) -> Result<Answer, Status>
     requires items { length items.now ≡ length (reports.question_items question) }
     requires own { IsItsOwn node.old (D.reads_as disk.old) (D.images disk.old) }
-    ensures disk { OnlyLooks D.content_of D.faults disk.old disk.new (result ≡ Err Status.DiskFault) }
+    ensures disk { OnlyReads D.content_of D.faults disk.old disk.new (result ≡ Err Status.DiskFault) }
     ensures answer { IsSoundOn node.old (D.reads_as disk.old) → IfOk result (λ answer. IsAnswerTo question node.old.chain (map (λ item. item.items) items.now) (string_bytes answer.text) answer.status) }
     ensures one_of { IfOk result (λ answer. IsOneOf (Status.Done ∷ Status.SomeRefused ∷ []) answer.status) }
     ensures stop { (status : Status) → result ≡ Err status → IsOneOf opening_stops status }
@@ -74,7 +74,7 @@ fn check<D: Disk>(
     item: &[u8],
 ) -> Result<Answer, Status>
     requires own { IsItsOwn node.old (D.reads_as disk.old) (D.images disk.old) }
-    ensures disk { OnlyLooks D.content_of D.faults disk.old disk.new (result ≡ Err Status.DiskFault) }
+    ensures disk { OnlyReads D.content_of D.faults disk.old disk.new (result ≡ Err Status.DiskFault) }
     ensures answer { IsSoundOn node.old (D.reads_as disk.old) → IfOk result (λ answer. IsAnswerTo Question.Check node.old.chain (item.now ∷ []) (string_bytes answer.text) answer.status) }
     ensures one_of { IfOk result (λ answer. IsOneOf (Status.Done ∷ Status.SomeRefused ∷ []) answer.status) }
     ensures stop { (status : Status) → result ≡ Err status → IsOneOf opening_stops status }
@@ -98,7 +98,7 @@ fn judge_item<D: Disk>(
     item: &[u8],
 ) -> Result<Trial, Status>
     requires own { IsItsOwn node.old (D.reads_as disk.old) (D.images disk.old) }
-    ensures disk { OnlyLooks D.content_of D.faults disk.old disk.new (result ≡ Err Status.DiskFault) }
+    ensures disk { OnlyReads D.content_of D.faults disk.old disk.new (result ≡ Err Status.DiskFault) }
     ensures trial { IsSoundOn node.old (D.reads_as disk.old) → IfOk result (λ tried. tried ≡ trials.trial node.old.chain item.now) }
     ensures stop { (status : Status) → result ≡ Err status → IsOneOf opening_stops status }
     ensures sound { IsSoundOn node.old (D.reads_as disk.old) → result ≡ Err Status.NotAStore → ⊥ }
@@ -108,8 +108,8 @@ fn judge_item<D: Disk>(
     };
     match node.check(alloc, disk, &tx) {
         Ok((fee, cycles)) => Ok(Trial::Passes(fee, cycles)),
-        Err(Judged::Broken(rule)) => Ok(Trial::Refused(rule.number())),
-        Err(Judged::Read(stop)) => Err(status_of_reading(stop)),
+        Err(JudgeStop::Broken(rule)) => Ok(Trial::Refused(rule.number())),
+        Err(JudgeStop::Read(stop)) => Err(status_of_reading(stop)),
     }
 }
 
@@ -128,7 +128,7 @@ fn answer_of_trial(alloc: Global, tried: &Trial) -> Result<Answer, NoMemory>
 }
 
 /// Reads what the question is about, finds the answer, and tells it.
-fn read_and_tell<S: Source, K: Sink, D: Disk>(
+fn read_and_answer<S: Source, K: Sink, D: Disk>(
     alloc: Global,
     input: &mut S,
     out: &mut K,
@@ -140,17 +140,17 @@ fn read_and_tell<S: Source, K: Sink, D: Disk>(
     ensures answered { Transfers (S.left input.old) (S.left input.new) (K.taken out.old) (K.taken out.new)
         (λ given taken. IsSoundOn node.old (D.reads_as disk.old) → AnswersQuestion question node.old.chain given (S.left input.new) taken result) }
     ensures status { IsOneOf question_statuses result }
-    ensures disk { OnlyLooks D.content_of D.faults disk.old disk.new (result ≡ Status.DiskFault) }
+    ensures disk { OnlyReads D.content_of D.faults disk.old disk.new (result ≡ Status.DiskFault) }
     ensures input_faults { CountsFault (S.faults input.old) (S.faults input.new) (result ≡ Status.InputFault) }
     ensures out_faults { CountsFault (K.faults out.old) (K.faults out.new) (result ≡ Status.SinkFault) }
 {
     let items = match read_items(alloc, input, question) {
         Ok(Whole::Items(items)) => items,
-        Ok(Whole::Early { end, offset }) => return tell_early(alloc, out, end, offset),
+        Ok(Whole::Early { end, offset }) => return write_early_end(alloc, out, end, offset),
         Err(status) => return status,
     };
     match answer_to(alloc, disk, node, question, &items) {
-        Ok(answer) => tell(out, &answer),
+        Ok(answer) => write_answer(out, &answer),
         Err(status) => status,
     }
 }
@@ -184,7 +184,7 @@ pub fn question<S: Source, K: Sink, D: Disk, L: Ledger>(
         Ok(node) => node,
         Err(status) => return status,
     };
-    let status = read_and_tell(alloc, input, out, disk, &mut node, asked);
+    let status = read_and_answer(alloc, input, out, disk, &mut node, asked);
     drop(node);
     status
 }

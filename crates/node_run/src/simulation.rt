@@ -9,7 +9,7 @@ ghost use Rattle.node_run.specs.Simulation.{IsSimulationTold};
 ghost use Rattle.node_run.specs.Words.{IsWithinCount};
 
 use crate::lines::{made_line, soak_line};
-use crate::output::{Answer, tell};
+use crate::output::{Answer, write_answer};
 use made_chain::{counts_of, soak_counts_of};
 use outside::{NoMemory, Sink};
 use report_defs::{Simulation, Status};
@@ -66,5 +66,5 @@ pub fn simulate<K: Sink>(alloc: Global, out: &mut K, simulation: Simulation) -> 
         text,
         status: Status::Done,
     };
-    tell(out, &answer)
+    write_answer(out, &answer)
 }

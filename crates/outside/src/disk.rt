@@ -6,6 +6,8 @@ ghost use Rattle.outside.specs.Image.{Image, content, InArea};
 ghost use Rattle.outside.specs.Disk.{write_area, cut_area, IsWithinLimit, BeginsWithin, Torn, Cut, Follows, SameImages, NoneNew, IsDurable, OthersRead, Elapses, IsAsBefore};
 
 use crate::Failed;
+use std::error::Error;
+use std::fmt;
 
 /// The parts of a disk, each a run of bytes with a length of its own.
 #[derive(Clone, Copy, Debug, PartialEq, Eq)]
@@ -15,11 +17,28 @@ pub enum Area {
     SnapB,
 }
 
+impl fmt::Display for Area {
+    fn fmt<W: fmt::Write>(&self, f: &mut fmt::Formatter<W>) -> fmt::Result {
+        match self {
+            Area::Log => write!(f, "LOG"),
+            Area::SnapA => write!(f, "SNAP_A"),
+            Area::SnapB => write!(f, "SNAP_B"),
+        }
+    }
+}
+
 /// Where the bytes of a disk are not what they should be: the area, and the offset in it.
 #[derive(Clone, Copy, Debug, PartialEq, Eq)]
 pub struct Damage {
     pub area: Area,
     pub at: u64,
+}
+
+impl fmt::Display for Damage {
+    fn fmt<W: fmt::Write>(&self, f: &mut fmt::Formatter<W>) -> fmt::Result {
+        let (area, at) = (self.area, self.at);
+        write!(f, "{area} is damaged at {at}")
+    }
 }
 
 /// Why something could not be read from a disk.
@@ -30,12 +49,35 @@ pub enum ReadStop {
     Damaged(Damage),
 }
 
+impl fmt::Display for ReadStop {
+    fn fmt<W: fmt::Write>(&self, f: &mut fmt::Formatter<W>) -> fmt::Result {
+        match self {
+            ReadStop::DiskFault => write!(f, "the disk could not be read"),
+            ReadStop::NoMemory => write!(f, "out of memory"),
+            ReadStop::Damaged(damage) => write!(f, "{damage}"),
+        }
+    }
+}
+
+impl Error for ReadStop {}
+
 /// Why something could not be written to a disk.
 #[derive(Clone, Copy, Debug, PartialEq, Eq)]
 pub enum WriteStop {
     DiskFault,
     NoMemory,
 }
+
+impl fmt::Display for WriteStop {
+    fn fmt<W: fmt::Write>(&self, f: &mut fmt::Formatter<W>) -> fmt::Result {
+        match self {
+            WriteStop::DiskFault => write!(f, "the disk could not be read or written"),
+            WriteStop::NoMemory => write!(f, "out of memory"),
+        }
+    }
+}
+
+impl Error for WriteStop {}
 
 /// Three areas of bytes, which a crash may leave otherwise than they read: what was not synced since it was
 /// written may hold any bytes, and what was cut may still be there.

@@ -14,7 +14,7 @@ use Rattle.vm_defs.specs.Memory.{Memory}
 use Rattle.vm_defs.specs.Step.{Machine, charged, step_of}
 use Rattle.vm_defs.specs.Program.{Answer, Ended, execution, loading_cycles, new_machine, run, run_loaded}
 use Rattle.sys_defs.specs.Table as table
-use Rattle.sys_defs.specs.Table.{deed_of}
+use Rattle.sys_defs.specs.Table.{action_of}
 use Rattle.sys_defs.specs.World.{Items, nothing}
 use Rattle.sys_defs.specs.Answer.{syscall}
 use Rattle.sys_laws.proofs.AloneLaws.{runs-alone}
@@ -172,7 +172,7 @@ pub is-alone : syscall nothing ≡ answer_ecall
 is-alone = fun_ext runs-alone
 
 -- no syscall loads where nothing is shown
-loads-nothing : (machine : Machine) (deed : Option table.Deed) → LoadsBy nothing machine deed → ⊥
+loads-nothing : (machine : Machine) (deed : Option table.Action) → LoadsBy nothing machine deed → ⊥
 loads-nothing machine (Some table.Loads) loads = loads refl
 loads-nothing machine (Some table.LoadsField) loads = loads refl
 loads-nothing machine (Some table.LoadsCode) loads = loads refl
@@ -183,7 +183,7 @@ loads-nothing machine None loads = loads
 wants-alone : (HasMemory : ℕ → Type 0) (start : Machine) → RunWants nothing HasMemory start → RunWantsPage answer_ecall HasMemory start
 wants-alone HasMemory start wants = elim wants [
   | inl page ↦ subst (λ (answer : Answer). RunWantsPage answer HasMemory start) is-alone page
-  | inr loads ↦ absurd (loads-nothing (step_of loads.reached).1 (deed_of (syscall_number (step_of loads.reached).1)) loads.item)
+  | inr loads ↦ absurd (loads-nothing (step_of loads.reached).1 (action_of (syscall_number (step_of loads.reached).1)) loads.item)
 ]
 
 pub program-wants-alone : (budget : ℕ) (segments : List Segment) (program : Result Program ℕ) → ProgramWants nothing budget segments program

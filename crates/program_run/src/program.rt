@@ -15,9 +15,11 @@ ghost use Rattle.sys_defs.specs.Answer.{syscall};
 ghost use Rattle.elf_load.specs.Placing.{HoldsBytes};
 ghost use Rattle.program_run.specs.Program.{IsJudged, IsStarted, KeepsBudget, PaysForLoading, ProgramWants, ProgramWantsPage, execution_of};
 
-use elf_load::{Judged, judge};
+use elf_load::{ValidElf, judge};
 use outside::{NoMemory, ReadStop};
 use std::alloc::Global;
+use std::error::Error;
+use std::fmt;
 use vm_defs::Outcome;
 use vm_mem::Memory;
 use vm_step::Machine;
@@ -52,6 +54,17 @@ pub enum OutOfMemory {
     Running,
 }
 
+impl fmt::Display for OutOfMemory {
+    fn fmt<W: fmt::Write>(&self, f: &mut fmt::Formatter<W>) -> fmt::Result {
+        match self {
+            OutOfMemory::Loading => write!(f, "out of memory before the first step"),
+            OutOfMemory::Running => write!(f, "out of memory at a step"),
+        }
+    }
+}
+
+impl Error for OutOfMemory {}
+
 /// Why a file was not run to its end.
 #[derive(Clone, Copy, Debug, PartialEq, Eq)]
 pub enum Stopped {
@@ -60,6 +73,17 @@ pub enum Stopped {
     /// Memory was wanted at a step or by a syscall, or what surrounds the script could not be read.
     Running(ReadStop),
 }
+
+impl fmt::Display for Stopped {
+    fn fmt<W: fmt::Write>(&self, f: &mut fmt::Formatter<W>) -> fmt::Result {
+        match self {
+            Stopped::Loading => write!(f, "out of memory before the first step"),
+            Stopped::Running(stop) => write!(f, "at a step: {stop}"),
+        }
+    }
+}
+
+impl Error for Stopped {}
 
 /// Runs the program of a file to its end, within a budget in cycles.
 ///
@@ -164,7 +188,7 @@ fn run_started<W: World>(mut machine: Machine, world: &mut W) -> Result<Executio
 }
 
 /// The memory that the program of a file begins with.
-fn loaded(alloc: Global, judged: &Judged) -> Result<Memory, NoMemory>
+fn loaded(alloc: Global, judged: &ValidElf) -> Result<Memory, NoMemory>
     ensures memory { IfOk result (λ memory. memory.memory ≡ judged.now.program.memory) }
     ensures allocated { IfOk result (λ memory. (page : ℕ) → HoldsBytes page judged.now.segments → IsAllocated memory.allocated page) }
 {

@@ -6,7 +6,7 @@ use Rattle.std.proofs.lemmas.List.{take-append-le}
 use Rattle.std.proofs.lemmas.List.Folds.{concat-append}
 use Rattle.std.proofs.lemmas.Bool.Decides.{nat_tests}
 use Rattle.std.proofs.lemmas.Grind.{common_steps}
-use Rattle.report_defs.specs.Items.{Limits, IsItem, IsTaken, AreItems, IsWithin, size_word, end_at, Split, IsSplit, SplitsAreOne, split_of, split_from, put_front}
+use Rattle.report_defs.specs.Items.{Limits, IsItem, IsTaken, AreItems, IsWithin, size_word, end_at, Split, IsSplit, SplitsAreOne, split_of, split_from, with_first_item}
 use Rattle.report_defs.specs.declared.end.End.{End}
 use Rattle.report_defs.specs.declared.end.End.TheVariants.{AtEnd, Cut, BadSize, Extra}
 
@@ -48,7 +48,7 @@ split_from-end n limits place offset bytes end ends = rw (ends, split_from) refl
 -- where an item stands, the split is that of what follows with the item before it
 pub split_from-item : (n : ℕ) (limits : Limits) (place offset : ℕ) (item more : List ℕ) → IsTaken (limits.item place) item
     → IsWithin limits.input (offset + length item)
-    → split_from (suc n) limits place offset (item ++ more) ≡ put_front item (split_from n limits (place + 1) (offset + length item) more)
+    → split_from (suc n) limits place offset (item ++ more) ≡ with_first_item item (split_from n limits (place + 1) (offset + length item) more)
 split_from-item n limits place offset item more taken fits =
     let sized = taken_size (limits.item place) item taken in
     let word : size_word (item ++ more) ≡ length item = size_word-append item more sized.1 ∙ sized.0 in
@@ -72,7 +72,7 @@ split_from-is (suc n) limits place offset (item ∷ items) rest end all fits end
     let first : IsWithin limits.input (offset + length item) = within_less limits.input (offset + length item) (offset + length (item ++ concat items)) (omega (arith, long)) fits in
     rw append_assoc
     (split_from-item n limits place offset item (concat items ++ rest) all.0 first
-    ∙ ap (put_front item) (split_from-is n limits (place + 1) (offset + length item) items rest end all.1 (rw there at fits) (rw (count, there) at ends) (omega (arith, long, enough, least))))
+    ∙ ap (with_first_item item) (split_from-is n limits (place + 1) (offset + length item) items rest end all.1 (rw there at fits) (rw (count, there) at ends) (omega (arith, long, enough, least))))
 
 -- `split_of` gives each split of an input
 pub split_of-is : (limits : Limits) (input : List ℕ) (split : Split) → IsSplit limits input split → split_of limits input ≡ split
@@ -180,7 +180,7 @@ pub record Splits (limits : Limits) (place offset : ℕ) (bytes : List ℕ) (spl
   pub ends : end_at (limits.item (place + length split.items)) limits.input (offset + length (concat split.items)) split.rest ≡ Some split.end
 
 splits_front : (limits : Limits) (place offset : ℕ) (item bytes : List ℕ) (split : Split) → IsTaken (limits.item place) item
-    → Splits limits (place + 1) (offset + length item) bytes split → Splits limits place offset (item ++ bytes) (put_front item split)
+    → Splits limits (place + 1) (offset + length item) bytes split → Splits limits place offset (item ++ bytes) (with_first_item item split)
 splits_front limits place offset item bytes split taken after =
     let long : length (item ++ concat split.items) ≡ length item + length (concat split.items) = length-append item (concat split.items) in
     let there : offset + length (item ++ concat split.items) ≡ (offset + length item) + length (concat split.items) = omega (arith, long) in

@@ -95,8 +95,8 @@ end_of_whole needed split = if nat_lt (length split.items) needed then end_of_ne
 -- ---- The split of an input
 
 -- the split with an item before it
-abbrev pub put_front : List ℕ → Split → Split
-put_front item split = record { items = item ∷ split.items; rest = split.rest; end = split.end }
+abbrev pub with_first_item : List ℕ → Split → Split
+with_first_item item split = record { items = item ∷ split.items; rest = split.rest; end = split.end }
 
 -- the items from a place and an offset on, at most so many
 abbrev pub split_from : ℕ → Limits → ℕ → ℕ → List ℕ → Split
@@ -105,7 +105,7 @@ split_from (suc most) limits place offset bytes = elim (end_at (limits.item plac
   | Some end ↦ record { items = []; rest = bytes; end = end }
   | None ↦
       let size = size_word bytes in
-      put_front (take size bytes) (split_from most limits (place + 1) (offset + size) (drop size bytes))
+      with_first_item (take size bytes) (split_from most limits (place + 1) (offset + size) (drop size bytes))
 ]
 
 -- the split of an input
@@ -115,12 +115,12 @@ split_of limits input = split_from (suc (length input)) limits 0 0 input
 -- ---- How far an input was read
 
 -- how many bytes tell that the reading ends at an item's place: those of its size word, or one where no item is taken
-abbrev pub bytes_to_tell : Option ℕ → ℕ
-bytes_to_tell None = 1
-bytes_to_tell (Some limit) = 4
+abbrev pub bytes_at_end : Option ℕ → ℕ
+bytes_at_end None = 1
+bytes_at_end (Some limit) = 4
 
 abbrev pub EndsTheReading : Limits → Split → Type 0
-EndsTheReading limits split = IsAtWord split.end → length split.rest ≡ bytes_to_tell (limits.item (length split.items))
+EndsTheReading limits split = IsAtWord split.end → length split.rest ≡ bytes_at_end (limits.item (length split.items))
 
 -- nothing is read after the size word, or the first byte too many, at which the reading ends
 abbrev pub ReadsNoFurther : Limits → List ℕ → Type 0

@@ -6,7 +6,7 @@ ghost use Rattle.rule_names.specs.Number.{rule_number, rule_numbers};
 use std::fmt;
 
 /// A rule on a block, in the order in which they are tried. [`Rule::text`] says what each asks for.
-#[derive(Clone, Copy)]
+#[derive(Clone, Copy, Debug)]
 pub enum Rule {
     Encoding,
     Known,

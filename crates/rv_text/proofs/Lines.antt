@@ -3,7 +3,7 @@ use Rattle.std.proofs.Common.{◌≡◌, ◌≢◌, inl, inr, ℕ, ◌+◌, ◌-
 use Rattle.std.specs.Prelude.{nat_le}
 use Rattle.std.proofs.lemmas.List.{drop-drop, drop_all}
 use Rattle.std.proofs.lemmas.Bool.Decides.{nat_tests}
-use Rattle.text_defs.specs.Assembly.{in_front, lines_of, IsLineOf, IsBad, Assembles, IsFirstBad}
+use Rattle.text_defs.specs.Assembly.{with_first_byte, lines_of, IsLineOf, IsBad, Assembles, IsFirstBad}
 use Rattle.rv_text.specs.Stops.{TellsOf, TellsOfLine}
 use Rattle.rv_text.specs.declared.assembly.AssemblyStop.{AssemblyStop}
 use Rattle.rv_text.specs.declared.assembly.AssemblyStop.TheVariants.{BadLine, NoMemory}
@@ -61,7 +61,7 @@ first-empty c cs =
     rw test refl
 
 split-here : (b : Bool) (c e : ℕ) (cs : List ℕ) → lines_of cs ≡ take e cs ∷ left (e + 1) cs
-    → cond b ([] ∷ lines_of cs) (in_front c (lines_of cs)) ≡ take (cond b 0 (e + 1)) (c ∷ cs) ∷ left (cond b 0 (e + 1) + 1) (c ∷ cs)
+    → cond b ([] ∷ lines_of cs) (with_first_byte c (lines_of cs)) ≡ take (cond b 0 (e + 1)) (c ∷ cs) ∷ left (cond b 0 (e + 1) + 1) (c ∷ cs)
 split-here true c e cs so = first-empty c cs
 split-here false c e cs so = rw so (one-more c e cs)
 

@@ -10,7 +10,7 @@ use Rattle.isa_defs.specs.Row.{encoded_in}
 use Rattle.isa_defs.specs.Table.{full_forms}
 use Rattle.isa_defs.specs.Compressed.{compressed_forms}
 use Rattle.isa_defs.specs.Decode.{decode, with_length}
-use Rattle.text_defs.specs.Listing.{data_of, hex_byte, front, line, lines_from, dis}
+use Rattle.text_defs.specs.Listing.{data_of, hex_byte, first_part, line, lines_from, dis}
 
 mapped : (n : ℕ) (o : Option Ins) (d : Ins × ℕ) → 0 < n → option_map (with_length n) o ≡ Some d → 0 < d.1
 mapped n None d some e = absurd (cc)
@@ -44,7 +44,7 @@ two-bytes code old middle high new more m h e =
 -- ---- the lines
 
 one-line : (most at : ℕ) (code : List ℕ) → 0 < length code
-    → lines_from (suc most) at code ≡ line at (front code).0 ++ lines_from most (at + (front code).1) (drop (front code).1 code)
+    → lines_from (suc most) at code ≡ line at (first_part code).0 ++ lines_from most (at + (first_part code).1) (drop (first_part code).1 code)
 unfolding lines_from
 one-line most at [] some = absurd (omega arith)
 one-line most at (c ∷ cs) some = refl
@@ -59,7 +59,7 @@ unfolding dis
 begun code = (length code, omega arith, refl)
 
 pub gone-on : (code out text out' : List ℕ) (at most n : ℕ) → at < length code → length code ≤ at + most
-    → dis code ≡ out ++ lines_from most at (drop at code) → text ≡ line at (front (drop at code)).0 → n ≡ (front (drop at code)).1 → 0 < n
+    → dis code ≡ out ++ lines_from most at (drop at code) → text ≡ line at (first_part (drop at code)).0 → n ≡ (first_part (drop at code)).1 → 0 < n
     → out' ≡ out ++ text → (m : ℕ) × (length code ≤ at + n + m) × (dis code ≡ out' ++ lines_from m (at + n) (drop (at + n) code))
 gone-on code out text out' at zero n more enough so t l some o = absurd (omega arith)
 gone-on code out text out' at (suc m) n more enough so t l some o =
@@ -67,7 +67,7 @@ gone-on code out text out' at (suc m) n more enough so t l some o =
     let rest : List ℕ = drop at code in
     let step : lines_from (suc m) at rest ≡ text ++ lines_from m (at + n) (drop (at + n) code) =
     one-line m at rest left
-    ∙ ap (λ x. x ++ lines_from m (at + (front rest).1) (drop (front rest).1 rest)) (sym t)
+    ∙ ap (λ x. x ++ lines_from m (at + (first_part rest).1) (drop (first_part rest).1 rest)) (sym t)
     ∙ ap (λ k. text ++ lines_from m (at + k) (drop k rest)) (sym l)
     ∙ ap (λ x. text ++ lines_from m (at + n) x) (drop-drop n at code) in (
       m,

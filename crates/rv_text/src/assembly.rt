@@ -11,14 +11,27 @@ ghost use Rattle.rv_text.specs.Reading.{line_end};
 use crate::encode::word;
 use crate::read::read_line;
 use std::alloc::{AllocError, Global};
+use std::error::Error;
+use std::fmt;
 
 /// Why a text has no words.
-#[derive(Clone, Copy)]
+#[derive(Clone, Copy, Debug, PartialEq, Eq)]
 pub enum AssemblyStop {
     /// The line of this number is the first that is not skipped and is no instruction's text. All lines count, from 1.
     BadLine(u64),
     NoMemory,
 }
+
+impl fmt::Display for AssemblyStop {
+    fn fmt<W: fmt::Write>(&self, f: &mut fmt::Formatter<W>) -> fmt::Result {
+        match self {
+            AssemblyStop::BadLine(number) => write!(f, "line {number} is no instruction"),
+            AssemblyStop::NoMemory => write!(f, "out of memory"),
+        }
+    }
+}
+
+impl Error for AssemblyStop {}
 
 /// The words of a text, lowest byte first: one for each line but those that are empty or begin with `#`.
 pub fn assemble(alloc: Global, text: &[u8]) -> Result<Vec<u8>, AssemblyStop>

@@ -2,7 +2,7 @@
 ghost use Rattle.std.specs.Prelude.{◌≡◌, ◌+◌, ◌-◌, ◌<◌, ◌≤◌, ◌++◌, length, slice_index, IfOk, IfSome, false};
 ghost use Rattle.std.specs.Fmt.{digit_glyph};
 ghost use Rattle.text_defs.specs.Listing as listing;
-ghost use Rattle.text_defs.specs.Listing.{data_of, front, hex_byte, instruction_of, line, word_of};
+ghost use Rattle.text_defs.specs.Listing.{data_of, first_part, hex_byte, instruction_of, line, word_of};
 
 use crate::shown::text_of;
 use crate::text::Text;
@@ -30,25 +30,25 @@ pub fn dis(alloc: Global, code: &[u8]) -> Result<Vec<u8>, AllocError>
 /// The line of what stands in front, and how many bytes that has.
 fn line_of(offset: usize, code: &[u8]) -> (Text, usize)
     requires { 0 < length code.now }
-    ensures text { result.0 ≡ line offset (front code.now).0 }
-    ensures length { result.1 ≡ (front code.now).1 }
+    ensures text { result.0 ≡ line offset (first_part code.now).0 }
+    ensures length { result.1 ≡ (first_part code.now).1 }
     ensures some { 0 < result.1 }
     ensures within { result.1 ≤ length code.now }
 {
     let mut text = Text::new();
     text.append_number(offset as u64);
     text.push(b' ');
-    let length = append_front(&mut text, code);
+    let length = append_first_part(&mut text, code);
     text.push(b'\n');
     (text, length)
 }
 
-#[tactic(auto, unfolding(text_defs::specs::Listing::front))]
-fn append_front(text: &mut Text, code: &[u8]) -> usize
+#[tactic(auto, unfolding(text_defs::specs::Listing::first_part))]
+fn append_first_part(text: &mut Text, code: &[u8]) -> usize
     requires some { 0 < length code.now }
     requires room { length text.old ≤ 21 }
-    ensures text { text.new ≡ text.old ++ (front code.now).0 }
-    ensures length { result ≡ (front code.now).1 }
+    ensures text { text.new ≡ text.old ++ (first_part code.now).0 }
+    ensures length { result ≡ (first_part code.now).1 }
     ensures some { 0 < result }
     ensures within { result ≤ length code.now }
     ensures room { length text.new ≤ length text.old + 80 }

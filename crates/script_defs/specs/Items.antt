@@ -8,7 +8,7 @@ use Rattle.codec_defs.specs.Schema.{Header, header, CellInput, cell_input, CellO
 use Rattle.chain_defs.specs.Hashes.{transaction_hash}
 use Rattle.cell_defs.specs.Cell.{script_hash, data_hash, occupied_by, data_of}
 use Rattle.time_defs.specs.Epochs.{epoch_number}
-use Rattle.sys_defs.specs.Table.{Deed, Exits, Debugs, Loads, LoadsField, LoadsCode, Shown, Syscall, syscalls}
+use Rattle.sys_defs.specs.Table.{Action, Exits, Debugs, Loads, LoadsField, LoadsCode, Shown, Syscall, syscalls}
 use Rattle.sys_defs.specs.Table as table
 use Rattle.sys_defs.specs.World.{Call, Item, Here, NoIndex, Missing, Unknown, Items}
 use Rattle.script_defs.specs.Scene.{Scene, ShownCell}
@@ -118,28 +118,28 @@ listed scene group call at (Some bytes) = elim (source_of call.source) [
 ]
 
 -- What syscalls ask of cells, of headers, of inputs. The table has no row by which they would be asked for otherwise.
-abbrev pub cells_asked : Deed → ℕ → Asked OutputWithData
+abbrev pub cells_asked : Action → ℕ → Asked OutputWithData
 cells_asked LoadsField number = field cell_fields number
 cells_asked Loads number = whole (λ cell. encoded cell_output cell.output)
 cells_asked LoadsCode number = None
 cells_asked Exits number = None
 cells_asked Debugs number = None
 
-abbrev pub headers_asked : ℕ → Deed → ℕ → Asked Header
+abbrev pub headers_asked : ℕ → Action → ℕ → Asked Header
 headers_asked epoch_length LoadsField number = field (header_fields epoch_length) number
 headers_asked epoch_length Loads number = whole (encoded header)
 headers_asked epoch_length LoadsCode number = None
 headers_asked epoch_length Exits number = None
 headers_asked epoch_length Debugs number = None
 
-abbrev pub inputs_asked : Deed → ℕ → Asked CellInput
+abbrev pub inputs_asked : Action → ℕ → Asked CellInput
 inputs_asked LoadsField number = field input_fields number
 inputs_asked Loads number = whole (encoded cell_input)
 inputs_asked LoadsCode number = None
 inputs_asked Exits number = None
 inputs_asked Debugs number = None
 
-abbrev pub shown_item : Scene → Group → Call → Deed → Shown → Item
+abbrev pub shown_item : Scene → Group → Call → Action → Shown → Item
 shown_item scene group call deed table.Nothing = Unknown
 shown_item scene group call deed table.TransactionBytes = Here (encoded transaction scene.transaction)
 shown_item scene group call deed table.ScriptBytes = Here (encoded script group.script)

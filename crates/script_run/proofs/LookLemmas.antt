@@ -21,16 +21,16 @@ use Rattle.script_defs.specs.Sources.{Place, place_in_source, source_of}
 use Rattle.script_run.specs.declared.bytes.CellPart.{CellPart}
 use Rattle.script_run.specs.declared.bytes.HeaderPart.{HeaderPart}
 use Rattle.script_run.specs.declared.bytes.InputPart.{InputPart}
-use Rattle.script_run.specs.declared.bytes.Look.{Look}
+use Rattle.script_run.specs.declared.bytes.Lookup.{Lookup}
 use Rattle.script_run.specs.declared.sources.Place as code
 use Rattle.script_run.specs.declared.sources.Target.{Target}
 use Rattle.script_run.specs.declared.sources.Target.TheVariants.{At}
 use Rattle.script_run.specs.Places.{place_meaning, target_meaning}
-use Rattle.script_run.specs.Looks.{HasHashes, IsFound, cell_part, header_among, header_part, input_part}
+use Rattle.script_run.specs.Lookups.{HasHashes, IsFound, cell_part, header_among, header_part, input_part}
 use Rattle.script_run.specs.Shown.{IsShownAs, output_row, output_rows}
 use Rattle.script_run.proofs.PlaceLemmas.{Beside, beside, beside-none, some-is}
 
-pub found : (headers : ℕ → Option Header) (epoch_length : ℕ) (item other : Item) (look : Look) → item ≡ other → IsFound headers epoch_length other look
+pub found : (headers : ℕ → Option Header) (epoch_length : ℕ) (item other : Item) (look : Lookup) → item ≡ other → IsFound headers epoch_length other look
     → IsFound headers epoch_length item look
 found headers epoch_length item other look same is = subst (λ (it : Item). IsFound headers epoch_length it look) (sym same) is
 
@@ -49,7 +49,7 @@ none-there R f xs ys i zip none = ap (λ (o : Option _). answer (option_map f o)
 pub one-there : {A : Type 0} (f : A → Option (List ℕ)) (xs : List A) (i : ℕ) (x : A) → slice_get xs i ≡ Some x → answer (option_map f (slice_get xs i)) ≡ answer (Some (f x))
 one-there f xs i x here = ap (λ (o : Option _). answer (option_map f o)) here
 
-pub shown-copy : (headers : ℕ → Option Header) (epoch_length : ℕ) (cells : List ShownCell) (copies : List ResolvedValue) (i : ℕ) (copy : ResolvedValue) (part : CellPart) (look : Look)
+pub shown-copy : (headers : ℕ → Option Header) (epoch_length : ℕ) (cells : List ShownCell) (copies : List ResolvedValue) (i : ℕ) (copy : ResolvedValue) (part : CellPart) (look : Lookup)
     → AllZip IsShownAs copies cells → slice_get copies i ≡ Some copy
     → ((cell : ShownCell) → IsShownAs copy cell → IsFound headers epoch_length (answer (Some (cell_part part (output_of cell)))) look)
     → IsFound headers epoch_length (answer (option_map (λ cell. cell_part part (output_of cell)) (slice_get cells i))) look

@@ -14,7 +14,7 @@ use Rattle.chain_tree.specs.Told.{Stored}
 use Rattle.tx_defs.specs.Site.{all_there}
 use Rattle.sys_defs.specs.World.{Items}
 use Rattle.script_defs.specs.Scene.{Scene, ShownCell}
-use Rattle.script_run.specs.Looks.{ShowsHeaders, items_of, items_told, kept_header}
+use Rattle.script_run.specs.Lookups.{ShowsHeaders, items_of, items_told, kept_header}
 use Rattle.script_run.specs.Showing.{cell_shown, cells_shown, has_hashes, header_of, headers_shown, is_whole, same_hash, scene_shown, scene_with}
 use Rattle.script_run.specs.Shown.{GroupValue, IsShownAs, Shows}
 use Rattle.script_run.proofs.PlaceLemmas.{some-is, zip-lengths, zip-map}

@@ -16,7 +16,7 @@ use Rattle.script_defs.specs.Groups.{Group}
 use Rattle.script_defs.specs.Items.{cell_at, cell_fields, field, header_at, header_fields, input_at, input_fields, item_of_row, items, listed, whole, witness_at}
 use Rattle.script_run.specs.declared.bytes.CellPart.TheVariants.{Output, Data}
 use Rattle.script_run.specs.declared.bytes.InputPart.TheVariants.{Whole}
-use Rattle.script_run.specs.Looks.{cell_part, input_part, items_of}
+use Rattle.script_run.specs.Lookups.{cell_part, input_part, items_of}
 use Rattle.script_run.specs.Shown.{GroupValue, HasItsHash}
 
 at-number : (scene : Scene) (it : GroupValue) (call : Call) (n : ℕ) → call.number ≡ n

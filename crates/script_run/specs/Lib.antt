@@ -3,5 +3,5 @@ pub mod Shown
 pub mod Grouping
 pub mod Locating
 pub mod Places
-pub mod Looks
+pub mod Lookups
 pub mod Running

@@ -1,6 +1,6 @@
 // What is found for a script, and its bytes.
 ghost use Rattle.std.specs.Prelude.{◌≡◌};
-ghost use Rattle.script_run.specs.Looks.{bytes_of};
+ghost use Rattle.script_run.specs.Lookups.{bytes_of};
 
 /// The bytes of an item: a part of the transaction or of a cell as it lies, or the few that are computed or read.
 #[derive(Clone, Copy)]
@@ -73,7 +73,7 @@ pub(crate) enum Load {
 
 /// What comes of a call, as far as no kept block is read.
 #[derive(Clone, Copy)]
-pub(crate) enum Look<'a> {
+pub(crate) enum Lookup<'a> {
     Here(Bytes<'a>),
     /// It is in the header of the block at a place of the tree.
     InBlock(u32, HeaderPart),

@@ -9,11 +9,11 @@ ghost use Rattle.cell_defs.specs.Cell.{data_of, occupied_by};
 ghost use Rattle.script_defs.specs.Scene.{Scene, ShownCell};
 ghost use Rattle.script_defs.specs.Items as defs;
 ghost use Rattle.script_defs.specs.Items.{OutputWithData, answer, field, cell_fields, header_fields, input_fields, item_at, listed, output_of, whole};
-ghost use Rattle.script_run.specs.Looks.{HasHashes, IsFound, ShowsHeaders, cell_part, header_among, header_part, input_part, items_of, load_meaning};
+ghost use Rattle.script_run.specs.Lookups.{HasHashes, IsFound, ShowsHeaders, cell_part, header_among, header_part, input_part, items_of, load_meaning};
 ghost use Rattle.script_run.specs.Places.{place_meaning};
 ghost use Rattle.script_run.specs.Shown.{GroupValue, IsShownAs, Shows, output_rows};
 
-use crate::bytes::{Bytes, CellPart, HeaderPart, InputPart, Load, Look};
+use crate::bytes::{Bytes, CellPart, HeaderPart, InputPart, Load, Lookup};
 use crate::groups::Group;
 use crate::shown::{ShownTx, output_at};
 use crate::sources::{Place, Target, target_of};
@@ -24,21 +24,21 @@ use vm_sys::Call;
 const SHANNONS_PER_BYTE: u64 = 100_000_000;
 
 /// What a call asks for. A source or a field that there is not comes first, then an index, then what is missing.
-pub(crate) fn sought<'a>(tx: &ShownTx<'a>, group: &Group<'a>, call: &Call) -> Look<'a>
+pub(crate) fn look_up<'a>(tx: &ShownTx<'a>, group: &Group<'a>, call: &Call) -> Lookup<'a>
     ensures { (headers : ℕ → Option Header) (scene : Scene) → Shows tx.now.it scene → ShowsHeaders headers tx.now.it scene → scene.epoch_length ≡ tx.now.epoch_length
         → IsFound headers tx.now.epoch_length (items_of scene group.now call.now) result }
 {
     let it = tx.it;
     match load_of(call) {
-        Load::Transaction => Look::Here(Bytes::Slice(it.tx.bytes())),
-        Load::Script => Look::Here(Bytes::Slice(group.script.bytes())),
-        Load::TxHash => Look::Here(Bytes::Hash(it.hash)),
-        Load::ScriptHash => Look::Here(Bytes::Hash(group.hash)),
+        Load::Transaction => Lookup::Here(Bytes::Slice(it.tx.bytes())),
+        Load::Script => Lookup::Here(Bytes::Slice(group.script.bytes())),
+        Load::TxHash => Lookup::Here(Bytes::Hash(it.hash)),
+        Load::ScriptHash => Lookup::Here(Bytes::Hash(group.hash)),
         Load::Cell(part) => cell(tx, group, call, part),
         Load::Header(part) => header(it, group, call, part),
         Load::Input(part) => input(it, group, call, part),
         Load::Witness => witness(it, group, call),
-        Load::Nothing => Look::Unknown,
+        Load::Nothing => Lookup::Unknown,
     }
 }
 
@@ -108,22 +108,27 @@ fn input_field(number: u64) -> Option<InputPart>
 // ---- Cells
 
 /// A part of the cell that a call names, where there is such a part.
-fn cell<'a>(tx: &ShownTx<'a>, group: &Group<'_>, call: &Call, part: Option<CellPart>) -> Look<'a>
+fn cell<'a>(tx: &ShownTx<'a>, group: &Group<'_>, call: &Call, part: Option<CellPart>) -> Lookup<'a>
     ensures { (headers : ℕ → Option Header) (length : ℕ) (scene : Scene) → Shows tx.now.it scene
         → IsFound headers length (listed scene group.now.group call.now (defs.cell_at scene) (option_map cell_part part)) result }
 {
     let Some(part) = part else {
-        return Look::Unknown;
+        return Lookup::Unknown;
     };
     let it = tx.it;
     match target_of(it, group, call.source, call.index) {
-        Target::NoSource => Look::Unknown,
-        Target::NoIndex => Look::NoIndex,
+        Target::NoSource => Lookup::Unknown,
+        Target::NoIndex => Lookup::NoIndex,
         Target::At(place) => cell_at(it, &tx.outputs, place, part),
     }
 }
 
-fn cell_at<'a>(tx: &'a ResolvedTx<'a>, rows: &[CellMeta], place: Place, part: CellPart) -> Look<'a>
+fn cell_at<'a>(
+    tx: &'a ResolvedTx<'a>,
+    rows: &[CellMeta],
+    place: Place,
+    part: CellPart,
+) -> Lookup<'a>
     requires { rows.now ≡ output_rows tx.now.tx }
     ensures { (headers : ℕ → Option Header) (length : ℕ) (scene : Scene) → Shows tx.now scene
         → IsFound headers length (item_at (defs.cell_at scene) (cell_part part) (Some (place_meaning place))) result }
@@ -132,33 +137,33 @@ fn cell_at<'a>(tx: &'a ResolvedTx<'a>, rows: &[CellMeta], place: Place, part: Ce
         Place::Input(i) => part_of_copy(&tx.inputs, i, part),
         Place::Output(i) => part_of_output(&tx.tx, rows, i, part),
         Place::CellDep(i) => part_of_copy(&tx.deps, i, part),
-        Place::HeaderDep(_) => Look::NoIndex,
+        Place::HeaderDep(_) => Lookup::NoIndex,
     }
 }
 
 /// A part of the cell at a place of a list of copies.
-fn part_of_copy<'a>(copies: &'a [Resolved], i: usize, part: CellPart) -> Look<'a>
+fn part_of_copy<'a>(copies: &'a [Resolved], i: usize, part: CellPart) -> Lookup<'a>
     ensures { (headers : ℕ → Option Header) (length : ℕ) (cells : List ShownCell) → AllZip IsShownAs copies.now cells
         → IsFound headers length (answer (option_map (λ cell. cell_part part (output_of cell)) (slice_get cells i))) result }
 {
     if i >= copies.len() {
-        return Look::NoIndex;
+        return Lookup::NoIndex;
     }
     let copy = &copies[i];
     match OutputView::read(&copy.output) {
-        None => Look::Broken,
+        None => Lookup::Broken,
         Some(output) => part_of(&output, &copy.content, &copy.meta, part),
     }
 }
 
 /// A part of an output of a transaction.
-fn part_of_output<'a>(tx: &TxView<'a>, rows: &[CellMeta], i: usize, part: CellPart) -> Look<'a>
+fn part_of_output<'a>(tx: &TxView<'a>, rows: &[CellMeta], i: usize, part: CellPart) -> Lookup<'a>
     requires { rows.now ≡ output_rows tx.now }
     ensures { (headers : ℕ → Option Header) (length : ℕ)
         → IsFound headers length (answer (option_map (λ output. cell_part part (record { output = output; content = data_of tx.now i })) (slice_get tx.now.raw.outputs i))) result }
 {
     if i >= rows.len() {
-        return Look::NoIndex;
+        return Lookup::NoIndex;
     }
     let output = output_at(tx, i);
     part_of(&output, data_at(tx, i), &rows[i], part)
@@ -170,7 +175,7 @@ fn part_of<'a>(
     content: &'a [u8],
     row: &CellMeta,
     part: CellPart,
-) -> Look<'a>
+) -> Lookup<'a>
     ensures { (headers : ℕ → Option Header) (length : ℕ) (cell : OutputWithData) → output.now ≡ cell.output → content.now ≡ cell.content → HasHashes row.now cell
         → IsFound headers length (answer (Some (cell_part part cell))) result }
 {
@@ -178,35 +183,35 @@ fn part_of<'a>(
         CellPart::Output => slice(output.bytes()),
         CellPart::Data => slice(content),
         CellPart::Capacity => number(output.capacity()),
-        CellPart::DataHash => Look::Here(Bytes::Hash(row.data_hash)),
+        CellPart::DataHash => Lookup::Here(Bytes::Hash(row.data_hash)),
         CellPart::Lock => slice(output.lock().bytes()),
-        CellPart::LockHash => Look::Here(Bytes::Hash(row.lock_hash)),
+        CellPart::LockHash => Lookup::Here(Bytes::Hash(row.lock_hash)),
         CellPart::TypeScript => match output.type_script() {
-            None => Look::Missing,
+            None => Lookup::Missing,
             Some(script) => slice(script.bytes()),
         },
         CellPart::TypeHash => match row.type_hash {
-            None => Look::Missing,
-            Some(hash) => Look::Here(Bytes::Hash(hash)),
+            None => Lookup::Missing,
+            Some(hash) => Lookup::Here(Bytes::Hash(hash)),
         },
         CellPart::Occupied => occupied(output, content),
     }
 }
 
-fn slice(bytes: &[u8]) -> Look<'_>
+fn slice(bytes: &[u8]) -> Lookup<'_>
     ensures { (headers : ℕ → Option Header) (length : ℕ) → IsFound headers length (Here bytes.now) result }
 {
-    Look::Here(Bytes::Slice(bytes))
+    Lookup::Here(Bytes::Slice(bytes))
 }
 
-fn number<'a>(n: u64) -> Look<'a>
+fn number<'a>(n: u64) -> Lookup<'a>
     ensures { (headers : ℕ → Option Header) (length : ℕ) → IsFound headers length (Here (to_le_bytes w64 n)) result }
 {
-    Look::Here(Bytes::Number(n.to_le_bytes()))
+    Lookup::Here(Bytes::Number(n.to_le_bytes()))
 }
 
 /// What an output occupies with its data, in shannons, of which the lowest 64 bits are shown.
-fn occupied<'a>(output: &OutputView<'_>, content: &[u8]) -> Look<'a>
+fn occupied<'a>(output: &OutputView<'_>, content: &[u8]) -> Lookup<'a>
     ensures { (headers : ℕ → Option Header) (length : ℕ) → IsFound headers length (Here (to_le_bytes w64 (occupied_by output.now content.now))) result }
 {
     number(occupied_bytes(output, content).wrapping_mul(SHANNONS_PER_BYTE))
@@ -231,27 +236,27 @@ fn header<'a>(
     group: &Group<'_>,
     call: &Call,
     part: Option<HeaderPart>,
-) -> Look<'a>
+) -> Lookup<'a>
     ensures { (headers : ℕ → Option Header) (length : ℕ) (scene : Scene) → Shows tx.now scene → ShowsHeaders headers tx.now scene
         → IsFound headers length (listed scene group.now.group call.now (defs.header_at scene) (option_map (λ part h. Some (header_part length part h)) part)) result }
 {
     let Some(part) = part else {
-        return Look::Unknown;
+        return Lookup::Unknown;
     };
     match target_of(tx, group, call.source, call.index) {
-        Target::NoSource => Look::Unknown,
-        Target::NoIndex => Look::NoIndex,
+        Target::NoSource => Lookup::Unknown,
+        Target::NoIndex => Lookup::NoIndex,
         Target::At(place) => header_at(tx, place, part),
     }
 }
 
-fn header_at<'a>(tx: &ResolvedTx<'_>, place: Place, part: HeaderPart) -> Look<'a>
+fn header_at<'a>(tx: &ResolvedTx<'_>, place: Place, part: HeaderPart) -> Lookup<'a>
     ensures { (headers : ℕ → Option Header) (length : ℕ) (scene : Scene) → ShowsHeaders headers tx.now scene
         → IsFound headers length (item_at (defs.header_at scene) (λ h. Some (header_part length part h)) (Some (place_meaning place))) result }
 {
     match place {
         Place::Input(i) => header_of_copy(&tx.headers, &tx.inputs, i, part),
-        Place::Output(_) => Look::NoIndex,
+        Place::Output(_) => Lookup::NoIndex,
         Place::CellDep(i) => header_of_copy(&tx.headers, &tx.deps, i, part),
         Place::HeaderDep(i) => header_of_dep(&tx.headers, i, part),
     }
@@ -259,19 +264,19 @@ fn header_at<'a>(tx: &ResolvedTx<'_>, place: Place, part: HeaderPart) -> Look<'a
 
 /// A part of the header of the block that made the cell at a place of a list of copies, where the block is among those
 /// of the header deps.
-fn header_of_copy<'a>(places: &[u32], copies: &[Resolved], i: usize, part: HeaderPart) -> Look<'a>
+fn header_of_copy<'a>(places: &[u32], copies: &[Resolved], i: usize, part: HeaderPart) -> Lookup<'a>
     ensures { (headers : ℕ → Option Header) (length : ℕ) (cells : List ShownCell) (shown : List Header) → AllZip (λ place it. headers place ≡ Some it) places.now shown
         → AllZip (λ copy cell. cell.header ≡ header_among places.now headers copy.row.block) copies.now cells
         → IsFound headers length (answer (option_map (λ cell. option_and_then (λ h. Some (header_part length part h)) cell.header) (slice_get cells i))) result }
 {
     if i >= copies.len() {
-        return Look::NoIndex;
+        return Lookup::NoIndex;
     }
     let place = made_in(&copies[i]);
     if places.contains(&place) {
-        Look::InBlock(place, part)
+        Lookup::InBlock(place, part)
     } else {
-        Look::Missing
+        Lookup::Missing
     }
 }
 
@@ -283,14 +288,14 @@ fn made_in(copy: &Resolved) -> u32
 }
 
 /// A part of the header of a header dep.
-fn header_of_dep<'a>(places: &[u32], i: usize, part: HeaderPart) -> Look<'a>
+fn header_of_dep<'a>(places: &[u32], i: usize, part: HeaderPart) -> Lookup<'a>
     ensures { (headers : ℕ → Option Header) (length : ℕ) (shown : List Header) → AllZip (λ place it. headers place ≡ Some it) places.now shown
         → IsFound headers length (answer (option_map (λ h. Some (header_part length part h)) (slice_get shown i))) result }
 {
     if i >= places.len() {
-        return Look::NoIndex;
+        return Lookup::NoIndex;
     }
-    Look::InBlock(places[i], part)
+    Lookup::InBlock(places[i], part)
 }
 
 // ---- Inputs and witnesses
@@ -301,20 +306,20 @@ fn input<'a>(
     group: &Group<'_>,
     call: &Call,
     part: Option<InputPart>,
-) -> Look<'a>
+) -> Lookup<'a>
     ensures { (headers : ℕ → Option Header) (length : ℕ) (scene : Scene) → Shows tx.now scene
         → IsFound headers length (listed scene group.now.group call.now (defs.input_at scene) (option_map input_part part)) result }
 {
     let Some(part) = part else {
-        return Look::Unknown;
+        return Lookup::Unknown;
     };
     match target_of(tx, group, call.source, call.index) {
-        Target::NoSource => Look::Unknown,
-        Target::NoIndex => Look::NoIndex,
+        Target::NoSource => Lookup::Unknown,
+        Target::NoIndex => Lookup::NoIndex,
         Target::At(Place::Input(i)) => part_of_input(&tx.tx, i, part),
-        Target::At(Place::Output(_)) => Look::NoIndex,
-        Target::At(Place::CellDep(_)) => Look::NoIndex,
-        Target::At(Place::HeaderDep(_)) => Look::NoIndex,
+        Target::At(Place::Output(_)) => Lookup::NoIndex,
+        Target::At(Place::CellDep(_)) => Lookup::NoIndex,
+        Target::At(Place::HeaderDep(_)) => Lookup::NoIndex,
     }
 }
 
@@ -330,11 +335,11 @@ pub(crate) fn input_at<'a>(tx: &TxView<'a>, i: usize) -> Option<InputView<'a>>
     }
 }
 
-fn part_of_input<'a>(tx: &TxView<'a>, i: usize, part: InputPart) -> Look<'a>
+fn part_of_input<'a>(tx: &TxView<'a>, i: usize, part: InputPart) -> Lookup<'a>
     ensures { (headers : ℕ → Option Header) (length : ℕ) → IsFound headers length (answer (option_map (input_part part) (slice_get tx.now.raw.inputs i))) result }
 {
     let Some(input) = input_at(tx, i) else {
-        return Look::NoIndex;
+        return Lookup::NoIndex;
     };
     match part {
         InputPart::Whole => slice(input.bytes()),
@@ -344,25 +349,25 @@ fn part_of_input<'a>(tx: &TxView<'a>, i: usize, part: InputPart) -> Look<'a>
 }
 
 /// The witness at the place of the input or output that a call names.
-fn witness<'a>(tx: &ResolvedTx<'a>, group: &Group<'_>, call: &Call) -> Look<'a>
+fn witness<'a>(tx: &ResolvedTx<'a>, group: &Group<'_>, call: &Call) -> Lookup<'a>
     ensures { (headers : ℕ → Option Header) (length : ℕ) (scene : Scene) → Shows tx.now scene
         → IsFound headers length (listed scene group.now.group call.now (defs.witness_at scene) (whole (λ witness. witness))) result }
 {
     match target_of(tx, group, call.source, call.index) {
-        Target::NoSource => Look::Unknown,
-        Target::NoIndex => Look::NoIndex,
+        Target::NoSource => Lookup::Unknown,
+        Target::NoIndex => Lookup::NoIndex,
         Target::At(Place::Input(i)) => witness_at(&tx.tx, i),
         Target::At(Place::Output(i)) => witness_at(&tx.tx, i),
-        Target::At(Place::CellDep(_)) => Look::NoIndex,
-        Target::At(Place::HeaderDep(_)) => Look::NoIndex,
+        Target::At(Place::CellDep(_)) => Lookup::NoIndex,
+        Target::At(Place::HeaderDep(_)) => Lookup::NoIndex,
     }
 }
 
-fn witness_at<'a>(tx: &TxView<'a>, i: usize) -> Look<'a>
+fn witness_at<'a>(tx: &TxView<'a>, i: usize) -> Lookup<'a>
     ensures { (headers : ℕ → Option Header) (length : ℕ) → IsFound headers length (answer (option_map Some (slice_get tx.now.witnesses i))) result }
 {
     if i >= tx.witnesses_count() {
-        return Look::NoIndex;
+        return Lookup::NoIndex;
     }
     slice(tx.witnesses_item(i))
 }

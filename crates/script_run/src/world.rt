@@ -10,16 +10,16 @@ ghost use Rattle.chain_tree.specs.Reading.{HasRead, stop_of};
 ghost use Rattle.codec_defs.specs.Schema.{Block, Header, header};
 ghost use Rattle.codec_defs.specs.Shape.{IsA};
 ghost use Rattle.time_defs.specs.Epochs.{epoch_number};
-ghost use Rattle.script_run.specs.Looks.{bytes_of, header_part};
+ghost use Rattle.script_run.specs.Lookups.{bytes_of, header_part};
 ghost use Rattle.script_defs.specs.Scene.{Scene};
 ghost use Rattle.script_defs.specs.Items.{items};
 ghost use Rattle.script_run.specs.Running.{ExitsWithin};
 ghost use Rattle.script_run.specs.Showing.{scene_shown};
 ghost use Rattle.script_run.specs.Shown.{HasItsHash};
 
-use crate::bytes::{Bytes, HeaderPart, Look};
+use crate::bytes::{Bytes, HeaderPart, Lookup};
 use crate::groups::Group;
-use crate::items::sought;
+use crate::items::look_up;
 use crate::shown::ShownTx;
 use crate::stop::damaged;
 use chain_tree::{Blocks, Tree};
@@ -44,7 +44,7 @@ impl<'a, 'w, 'b, B: Blocks> World for GroupWorld<'a, 'w, 'b, B> {
     ghost use Rattle.std.specs.Prelude.{ℕ, List, Option};
     ghost use Rattle.std.specs.Option.{option_map};
     ghost use Rattle.chain_tree.specs.Told.{Stored};
-    ghost use Rattle.script_run.specs.Looks.{bytes_of, items_told};
+    ghost use Rattle.script_run.specs.Lookups.{bytes_of, items_told};
 
     ghost told = { λ world. items_told world.tx.now.epoch_length world.tx.now.it world.group.now (B.told world.blocks.now) };
 
@@ -62,12 +62,12 @@ impl<'a, 'w, 'b, B: Blocks> World for GroupWorld<'a, 'w, 'b, B> {
 
     fn find(&mut self, call: Call) -> Result<Found, ReadStop> {
         let tx = self.tx;
-        match sought(tx, self.group, &call) {
-            Look::Here(bytes) => {
+        match look_up(tx, self.group, &call) {
+            Lookup::Here(bytes) => {
                 self.hand = Some(bytes);
                 Ok(Found::Here)
             }
-            Look::InBlock(place, part) => {
+            Lookup::InBlock(place, part) => {
                 match read_header(self.tree, self.blocks, place, part, tx.epoch_length) {
                     Ok(bytes) => {
                         self.hand = Some(bytes);
@@ -76,10 +76,10 @@ impl<'a, 'w, 'b, B: Blocks> World for GroupWorld<'a, 'w, 'b, B> {
                     Err(stop) => Err(stop),
                 }
             }
-            Look::NoIndex => Ok(Found::NoIndex),
-            Look::Missing => Ok(Found::Missing),
-            Look::Unknown => Ok(Found::Unknown),
-            Look::Broken => Err(damaged()),
+            Lookup::NoIndex => Ok(Found::NoIndex),
+            Lookup::Missing => Ok(Found::Missing),
+            Lookup::Unknown => Ok(Found::Unknown),
+            Lookup::Broken => Err(damaged()),
         }
     }
 

@@ -9,6 +9,8 @@ ghost use Rattle.since_rules.specs.Rules.{IsMature, HasFault};
 
 use crate::fields::{Metric, is_relative, metric_of, reserved_of, since_value};
 use epochs::{span_over, well_formed};
+use std::error::Error;
+use std::fmt;
 use std::marker::Model;
 
 /// Where an input is spent, and since when its cell is there. Times are in milliseconds.
@@ -44,6 +46,17 @@ pub enum SinceFault {
     /// It is valid, and not met yet.
     Immature,
 }
+
+impl fmt::Display for SinceFault {
+    fn fmt<W: fmt::Write>(&self, f: &mut fmt::Formatter<W>) -> fmt::Result {
+        match self {
+            SinceFault::Invalid => write!(f, "the since is not valid"),
+            SinceFault::Immature => write!(f, "the since is not met yet"),
+        }
+    }
+}
+
+impl Error for SinceFault {}
 
 /// Whether a since is met.
 pub fn meets(since: u64, at: &SinceAt) -> Result<(), SinceFault>

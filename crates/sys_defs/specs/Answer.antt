@@ -9,7 +9,7 @@ use Rattle.vm_defs.specs.Memory as memory
 use Rattle.vm_defs.specs.Step.{Machine, register, with_register, charged, is_spent, fault_number}
 use Rattle.vm_defs.specs.Program.{Answer, loading_cycles}
 use Rattle.vm_defs.specs.Alone.{exit_code, syscall_number}
-use Rattle.sys_defs.specs.Table.{Deed, Exits, Debugs, Loads, LoadsField, LoadsCode, deed_of}
+use Rattle.sys_defs.specs.Table.{Action, Exits, Debugs, Loads, LoadsField, LoadsCode, action_of}
 use Rattle.sys_defs.specs.World.{Call, Item, Here, NoIndex, Missing, Unknown, Items}
 
 -- ---- arguments
@@ -18,7 +18,7 @@ abbrev pub argument : Machine → ℕ → ℕ
 argument machine i = register machine (10 + i)
 
 -- what a call asks for: the index in a3, the source in a4, the field in a5; for code the index in a4 and the source in a5
-abbrev pub asks : Machine → Deed → Call
+abbrev pub asks : Machine → Action → Call
 asks machine LoadsField = record { number = syscall_number machine; index = argument machine 3; source = argument machine 4; field = argument machine 5 }
 asks machine LoadsCode = record { number = syscall_number machine; index = argument machine 4; source = argument machine 5; field = 0 }
 asks machine Loads = record { number = syscall_number machine; index = argument machine 3; source = argument machine 4; field = 0 }
@@ -91,7 +91,7 @@ loads_code machine item =
 -- ---- all syscalls
 
 -- what is done with an item that is there
-abbrev pub with_bytes : Deed → Machine → List ℕ → Answered
+abbrev pub with_bytes : Action → Machine → List ℕ → Answered
 with_bytes LoadsCode machine item = loads_code machine item
 with_bytes Loads machine item = loads_part machine item
 with_bytes LoadsField machine item = loads_part machine item
@@ -99,23 +99,23 @@ with_bytes Exits machine item = (None, machine)
 with_bytes Debugs machine item = (None, machine)
 
 -- with what a call is answered; where there is no item memory is not touched
-abbrev pub with_item : Deed → Machine → Item → Answered
+abbrev pub with_item : Action → Machine → Item → Answered
 with_item deed machine Unknown = (Some (Fault 5), machine)
 with_item deed machine NoIndex = results machine 1
 with_item deed machine Missing = results machine 2
 with_item deed machine (Here item) = with_bytes deed machine item
 
-abbrev pub does : Items → Machine → Deed → Answered
+abbrev pub does : Items → Machine → Action → Answered
 does items machine Exits = (Some (Exit (exit_code (argument machine 0))), machine)
 does items machine Debugs = (None, machine)
 does items machine Loads = with_item Loads machine (items (asks machine Loads))
 does items machine LoadsField = with_item LoadsField machine (items (asks machine LoadsField))
 does items machine LoadsCode = with_item LoadsCode machine (items (asks machine LoadsCode))
 
-abbrev pub does_any : Items → Machine → Option Deed → Answered
+abbrev pub does_any : Items → Machine → Option Action → Answered
 does_any items machine None = (Some (Fault 5), machine)
 does_any items machine (Some deed) = does items machine deed
 
 -- What a syscall does over what surrounds the script.
 unfoldable pub syscall : Items → Answer
-syscall items machine = does_any items machine (deed_of (syscall_number machine))
+syscall items machine = does_any items machine (action_of (syscall_number machine))

@@ -4,17 +4,17 @@ use Rattle.std.specs.Option.{option_map}
 use Rattle.std.specs.List.{find}
 
 -- What a syscall does.
-pub data Deed : Type 0 where
+pub data Action : Type 0 where
   -- it ends the program with the low byte of a0, as a signed number
-  Exits : Deed
+  Exits : Action
   -- nothing is read or changed
-  Debugs : Deed
+  Debugs : Action
   -- it loads an item into memory, in part
-  Loads : Deed
+  Loads : Action
   -- it loads a field of an item, in part
-  LoadsField : Deed
+  LoadsField : Action
   -- it loads an item into memory as code
-  LoadsCode : Deed
+  LoadsCode : Action
 
 -- The items that a script is shown.
 pub data Shown : Type 0 where
@@ -31,10 +31,10 @@ pub data Shown : Type 0 where
 
 pub record Syscall : Type 0 where
   pub number : ℕ
-  pub deed : Deed
+  pub deed : Action
   pub shown : Shown
 
-abbrev pub row : ℕ → Deed → Shown → Syscall
+abbrev pub row : ℕ → Action → Shown → Syscall
 row number deed shown = record { number = number; deed = deed; shown = shown }
 
 -- Any other number is fault 5.
@@ -58,5 +58,5 @@ syscalls =
     ∷ []
 
 -- what the syscall of a number does
-unfoldable pub deed_of : ℕ → Option Deed
-deed_of number = option_map (λ syscall. syscall.deed) (find (λ syscall. syscall.number == number) syscalls)
+unfoldable pub action_of : ℕ → Option Action
+action_of number = option_map (λ syscall. syscall.deed) (find (λ syscall. syscall.number == number) syscalls)

@@ -10,7 +10,7 @@ use Rattle.vm_defs.specs.Memory as memory
 use Rattle.vm_defs.specs.Step.{Machine, with_register, charged, is_spent}
 use Rattle.vm_defs.specs.Program.{KeepsAccount, loading_cycles}
 use Rattle.vm_defs.specs.Alone.{syscall_number}
-use Rattle.sys_defs.specs.Table.{Deed, Exits, Debugs, Loads, LoadsField, LoadsCode, deed_of}
+use Rattle.sys_defs.specs.Table.{Action, Exits, Debugs, Loads, LoadsField, LoadsCode, action_of}
 use Rattle.sys_defs.specs.World.{Item, Here, NoIndex, Missing, Unknown, Items}
 use Rattle.sys_defs.specs.Answer.{Answered, argument, results, paid_for, with_part, with_length, within_word, loads_part, code_bytes, with_code, with_content, loads_code, with_bytes, with_item, does, does_any, syscall}
 use Rattle.sys_laws.specs.Laws.{SyscallsKeepAccount}
@@ -110,20 +110,20 @@ loads_code-keeps machine item =
 
 -- ---- all syscalls
 
-bytes-keep : (deed : Deed) (machine : Machine) (item : List ℕ) → Keeps machine (with_bytes deed machine item)
+bytes-keep : (deed : Action) (machine : Machine) (item : List ℕ) → Keeps machine (with_bytes deed machine item)
 bytes-keep LoadsCode machine item = loads_code-keeps machine item
 bytes-keep Loads machine item = loads_part-keeps machine item
 bytes-keep LoadsField machine item = loads_part-keeps machine item
 bytes-keep Exits machine item = same-keeps machine None
 bytes-keep Debugs machine item = same-keeps machine None
 
-item-keeps : (deed : Deed) (machine : Machine) (item : Item) → Keeps machine (with_item deed machine item)
+item-keeps : (deed : Action) (machine : Machine) (item : Item) → Keeps machine (with_item deed machine item)
 item-keeps deed machine Unknown = same-keeps machine _
 item-keeps deed machine NoIndex = results-keeps machine 1
 item-keeps deed machine Missing = results-keeps machine 2
 item-keeps deed machine (Here item) = bytes-keep deed machine item
 
-deed-keeps : (items : Items) (machine : Machine) (deed : Option Deed) → Keeps machine (does_any items machine deed)
+deed-keeps : (items : Items) (machine : Machine) (deed : Option Action) → Keeps machine (does_any items machine deed)
 deed-keeps items machine None = same-keeps machine _
 deed-keeps items machine (Some Exits) = same-keeps machine _
 deed-keeps items machine (Some Debugs) = same-keeps machine None
@@ -133,7 +133,7 @@ deed-keeps items machine (Some LoadsCode) = item-keeps LoadsCode machine _
 
 pub syscall-keeps : (items : Items) (machine : Machine) → Keeps machine (syscall items machine)
 unfolding syscall
-syscall-keeps items machine = deed-keeps items machine (deed_of (syscall_number machine))
+syscall-keeps items machine = deed-keeps items machine (action_of (syscall_number machine))
 
 pub syscalls-keep-account : SyscallsKeepAccount
 syscalls-keep-account items = record {

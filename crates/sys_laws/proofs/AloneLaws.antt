@@ -5,7 +5,7 @@ use Rattle.std.proofs.lemmas.Bool.Decides.{nat_tests}
 use Rattle.vm_defs.specs.declared.outcome.Outcome.TheVariants.{Exit, Fault}
 use Rattle.vm_defs.specs.Step.{Machine}
 use Rattle.vm_defs.specs.Alone.{exit_code, first_argument, syscall_number}
-use Rattle.sys_defs.specs.Table.{syscalls, deed_of}
+use Rattle.sys_defs.specs.Table.{syscalls, action_of}
 use Rattle.sys_defs.specs.World.{nothing}
 use Rattle.sys_defs.specs.Answer.{Answered, does_any, syscall}
 use Rattle.sys_laws.specs.Laws.{RunsAlone}
@@ -26,10 +26,10 @@ alone machine number =
     else (Some (Fault 5), machine)
 
 abbrev IsAlone : Machine → ℕ → Type 0
-IsAlone machine number = does_any nothing machine (deed_of number) ≡ alone machine number
+IsAlone machine number = does_any nothing machine (action_of number) ≡ alone machine number
 
 number-alone : (machine : Machine) (number : ℕ) → IsAlone machine number
-unfolding deed_of syscalls
+unfolding action_of syscalls
 number-alone machine number =
     is_or P 93 number refl (λ r0 exits.
     is_or P 2051 number refl (λ r1 o1.

@@ -6,13 +6,13 @@ use Rattle.isa_defs.specs.Instruction.{FitsFormat}
 use Rattle.text_defs.specs.Text.{show, IsWord}
 
 -- The lines of a text: each ends with a line feed, and the last one with the text.
-abbrev pub in_front : ℕ → List (List ℕ) → List (List ℕ)
-in_front c [] = (c ∷ []) ∷ []
-in_front c (line ∷ lines) = (c ∷ line) ∷ lines
+abbrev pub with_first_byte : ℕ → List (List ℕ) → List (List ℕ)
+with_first_byte c [] = (c ∷ []) ∷ []
+with_first_byte c (line ∷ lines) = (c ∷ line) ∷ lines
 
 unfoldable pub lines_of : List ℕ → List (List ℕ)
 lines_of [] = [] ∷ []
-lines_of (c ∷ cs) = if c == 10 then [] ∷ lines_of cs else in_front c (lines_of cs)
+lines_of (c ∷ cs) = if c == 10 then [] ∷ lines_of cs else with_first_byte c (lines_of cs)
 
 -- an empty line, and one that begins with `#`
 abbrev pub IsSkipped : List ℕ → Type 0

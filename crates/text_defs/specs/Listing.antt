@@ -34,8 +34,8 @@ part_of (Some decoded) code = (show decoded.0, decoded.1)
 part_of None code = data_of code
 
 -- the text of what stands in front, and how many bytes it has
-unfoldable pub front : List ℕ → List ℕ × ℕ
-front code = part_of (instruction_of code) code
+unfoldable pub first_part : List ℕ → List ℕ × ℕ
+first_part code = part_of (instruction_of code) code
 
 abbrev pub line : ℕ → List ℕ → List ℕ
 line offset text = decimal offset ++ (codes " " ++ (text ++ (10 ∷ [])))
@@ -45,8 +45,8 @@ unfoldable pub lines_from : ℕ → ℕ → List ℕ → List ℕ
 lines_from zero offset code = []
 lines_from (suc most) offset [] = []
 lines_from (suc most) offset (c ∷ cs) =
-    line offset (front (c ∷ cs)).0
-    ++ lines_from most (offset + (front (c ∷ cs)).1) (drop (front (c ∷ cs)).1 (c ∷ cs))
+    line offset (first_part (c ∷ cs)).0
+    ++ lines_from most (offset + (first_part (c ∷ cs)).1) (drop (first_part (c ∷ cs)).1 (c ∷ cs))
 
 -- each line takes a byte or more, so that there are no more lines than bytes
 unfoldable pub dis : List ℕ → List ℕ

@@ -39,6 +39,8 @@ use mol_schema::TxView;
 use outside::{Damage, NoMemory, ReadStop};
 use rule_names::Rule;
 use std::alloc::Global;
+use std::error::Error;
+use std::fmt;
 
 /// A transaction that keeps J18 to J27.
 #[derive(Drop)]
@@ -52,13 +54,24 @@ pub struct TxOk<'a> {
 }
 
 /// Why a transaction was not resolved.
-#[derive(Clone, Copy)]
+#[derive(Clone, Copy, Debug)]
 pub enum TxStop {
     /// The first rule that it breaks, one of J18 to J27.
     Broken(Rule),
     /// The kept blocks could not be read, or there was no memory.
     Read(ReadStop),
 }
+
+impl fmt::Display for TxStop {
+    fn fmt<W: fmt::Write>(&self, f: &mut fmt::Formatter<W>) -> fmt::Result {
+        match self {
+            TxStop::Broken(rule) => write!(f, "{rule} is broken"),
+            TxStop::Read(stop) => write!(f, "{stop}"),
+        }
+    }
+}
+
+impl Error for TxStop {}
 
 /// What is found of a transaction that keeps J18 to J25: its hash, the rows of the cells of its inputs and of
 /// its resolved deps, and the places of its header deps.

@@ -1,3 +1,6 @@
+use std::error::Error;
+use std::fmt;
+
 /// How many bytes memory has, from address 0 on (RFC 0003).
 pub const MEMORY_SIZE: u64 = 4_194_304;
 
@@ -35,3 +38,15 @@ pub enum MemFault {
     /// A byte that would be run lies in a page of data.
     RunData,
 }
+
+impl fmt::Display for MemFault {
+    fn fmt<W: fmt::Write>(&self, f: &mut fmt::Formatter<W>) -> fmt::Result {
+        match self {
+            MemFault::Range => write!(f, "the range ends past memory"),
+            MemFault::WriteCode => write!(f, "a write to a page of code"),
+            MemFault::RunData => write!(f, "a run from a page of data"),
+        }
+    }
+}
+
+impl Error for MemFault {}

@@ -1,3 +1,5 @@
+use std::error::Error;
+use std::fmt;
 use vm_defs::MemFault;
 
 /// Why a store was not made.
@@ -6,3 +8,14 @@ pub enum MemStop {
     Fault(MemFault),
     NoMemory,
 }
+
+impl fmt::Display for MemStop {
+    fn fmt<W: fmt::Write>(&self, f: &mut fmt::Formatter<W>) -> fmt::Result {
+        match self {
+            MemStop::Fault(fault) => write!(f, "{fault}"),
+            MemStop::NoMemory => write!(f, "out of memory"),
+        }
+    }
+}
+
+impl Error for MemStop {}

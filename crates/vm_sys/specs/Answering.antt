@@ -11,7 +11,7 @@ use Rattle.vm_mem.specs.declared.stop.MemStop.TheVariants as mem_stop
 use Rattle.vm_mem.specs.Pages.{IsAllocated, IsUnder}
 use Rattle.vm_step.specs.Running.{RunningMachine}
 use Rattle.sys_defs.specs.Table as table
-use Rattle.sys_defs.specs.Table.{deed_of}
+use Rattle.sys_defs.specs.Table.{action_of}
 use Rattle.sys_defs.specs.World.{Item, Items, Here, NoIndex, Missing, Unknown}
 use Rattle.sys_defs.specs.Answer.{Answered, argument, asks}
 use Rattle.vm_defs.specs.Alone.{syscall_number}
@@ -75,26 +75,26 @@ PartTouches machine item page = IsUnder page (argument machine 1) 8
 abbrev pub ContentTouches : Machine → ℕ → Type 0
 ContentTouches machine page = IsUnder page (argument machine 0) (argument machine 3)
 
-abbrev pub BytesTouch : table.Deed → Machine → List ℕ → ℕ → Type 0
+abbrev pub BytesTouch : table.Action → Machine → List ℕ → ℕ → Type 0
 BytesTouch table.Loads machine item page = PartTouches machine item page
 BytesTouch table.LoadsField machine item page = PartTouches machine item page
 BytesTouch table.LoadsCode machine item page = ContentTouches machine page
 BytesTouch table.Exits machine item page = ⊥
 BytesTouch table.Debugs machine item page = ⊥
 
-abbrev pub ItemTouches : table.Deed → Machine → Item → ℕ → Type 0
+abbrev pub ItemTouches : table.Action → Machine → Item → ℕ → Type 0
 ItemTouches deed machine (Here item) page = BytesTouch deed machine item page
 ItemTouches deed machine NoIndex page = ⊥
 ItemTouches deed machine Missing page = ⊥
 ItemTouches deed machine Unknown page = ⊥
 
-abbrev pub DeedTouches : Items → Machine → Option table.Deed → ℕ → Type 0
-DeedTouches items machine (Some deed) page = ItemTouches deed machine (items (asks machine deed)) page
-DeedTouches items machine None page = ⊥
+abbrev pub ActionTouches : Items → Machine → Option table.Action → ℕ → Type 0
+ActionTouches items machine (Some deed) page = ItemTouches deed machine (items (asks machine deed)) page
+ActionTouches items machine None page = ⊥
 
 -- a byte that the syscall stores lies in the page
 abbrev pub CallTouches : Items → Machine → ℕ → Type 0
-CallTouches items machine page = DeedTouches items machine (deed_of (syscall_number machine)) page
+CallTouches items machine page = ActionTouches items machine (action_of (syscall_number machine)) page
 
 -- no page is allocated but those that were and those that are touched
 abbrev pub AddsPages : List Bool → List Bool → (ℕ → Type 0) → Type 0

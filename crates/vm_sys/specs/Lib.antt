@@ -1,4 +1,4 @@
-pub mod Deeds
+pub mod Actions
 pub mod Finding
 pub mod Answering
 pub mod Running

@@ -9,7 +9,7 @@ use Rattle.vm_defs.specs.Program.{Answer, Reaches, answered, stop_of}
 use Rattle.vm_defs.specs.Step.{Machine, step_of}
 use Rattle.vm_step.specs.Running.{RunningMachine, Touches, next_range}
 use Rattle.sys_defs.specs.Table as table
-use Rattle.sys_defs.specs.Table.{deed_of}
+use Rattle.sys_defs.specs.Table.{action_of}
 use Rattle.sys_defs.specs.World.{Item, Items, Unknown}
 use Rattle.sys_defs.specs.Answer.{asks, syscall}
 use Rattle.vm_sys.specs.declared.syscall.Sys.{Sys}
@@ -18,7 +18,7 @@ use Rattle.vm_sys.specs.declared.syscall.Sys.TheVariants.{Done, Exit, Fault, Spe
 -- ---- where a run wants memory
 
 -- the deed loads an item, from a source and of a field that there is
-abbrev pub LoadsBy : Items → Machine → Option table.Deed → Type 0
+abbrev pub LoadsBy : Items → Machine → Option table.Action → Type 0
 LoadsBy items machine (Some table.Loads) = items (asks machine table.Loads) ≢ Unknown
 LoadsBy items machine (Some table.LoadsField) = items (asks machine table.LoadsField) ≢ Unknown
 LoadsBy items machine (Some table.LoadsCode) = items (asks machine table.LoadsCode) ≢ Unknown
@@ -28,7 +28,7 @@ LoadsBy items machine None = ⊥
 
 -- the syscall that the machine makes does
 abbrev pub LoadsItem : Items → Machine → Type 0
-LoadsItem items machine = LoadsBy items machine (deed_of (syscall_number machine))
+LoadsItem items machine = LoadsBy items machine (action_of (syscall_number machine))
 
 -- one of so many first steps of a run stores to the page
 pub record IsStoredBefore (answer : Answer) (end : ℕ) (start : Machine) (page : ℕ) : Type 0 where

@@ -2,7 +2,7 @@
 ghost use Rattle.std.specs.Prelude.{◌≡◌};
 ghost use Rattle.sys_defs.specs.Table as table;
 ghost use Rattle.sys_defs.specs.Answer.{asks};
-ghost use Rattle.vm_sys.specs.Deeds.{form_meaning, meaning_of_any};
+ghost use Rattle.vm_sys.specs.Actions.{form_meaning, meaning_of_any};
 
 use std::marker::Model;
 use vm_step::Machine;
@@ -51,33 +51,33 @@ pub(crate) enum Form {
 
 /// What a syscall does.
 #[derive(Clone, Copy, Debug, PartialEq, Eq)]
-pub(crate) enum Deed {
+pub(crate) enum Action {
     Exits,
     Debugs,
     Loads(Form),
 }
 
 /// What the syscall of a number does (RFC 0009).
-#[tactic(auto, unfolding(sys_defs::specs::Table::deed_of, sys_defs::specs::Table::syscalls))]
-pub(crate) fn deed_of(number: u64) -> Option<Deed>
-    ensures { meaning_of_any result ≡ table.deed_of number }
+#[tactic(auto, unfolding(sys_defs::specs::Table::action_of, sys_defs::specs::Table::syscalls))]
+pub(crate) fn action_of(number: u64) -> Option<Action>
+    ensures { meaning_of_any result ≡ table.action_of number }
 {
     match number {
-        93 => Some(Deed::Exits),
-        2051 => Some(Deed::Loads(Form::Part)),
-        2052 => Some(Deed::Loads(Form::Part)),
-        2061 => Some(Deed::Loads(Form::Part)),
-        2062 => Some(Deed::Loads(Form::Part)),
-        2071 => Some(Deed::Loads(Form::Part)),
-        2072 => Some(Deed::Loads(Form::Part)),
-        2073 => Some(Deed::Loads(Form::Part)),
-        2074 => Some(Deed::Loads(Form::Part)),
-        2081 => Some(Deed::Loads(Form::Field)),
-        2082 => Some(Deed::Loads(Form::Field)),
-        2083 => Some(Deed::Loads(Form::Field)),
-        2091 => Some(Deed::Loads(Form::Code)),
-        2092 => Some(Deed::Loads(Form::Part)),
-        2177 => Some(Deed::Debugs),
+        93 => Some(Action::Exits),
+        2051 => Some(Action::Loads(Form::Part)),
+        2052 => Some(Action::Loads(Form::Part)),
+        2061 => Some(Action::Loads(Form::Part)),
+        2062 => Some(Action::Loads(Form::Part)),
+        2071 => Some(Action::Loads(Form::Part)),
+        2072 => Some(Action::Loads(Form::Part)),
+        2073 => Some(Action::Loads(Form::Part)),
+        2074 => Some(Action::Loads(Form::Part)),
+        2081 => Some(Action::Loads(Form::Field)),
+        2082 => Some(Action::Loads(Form::Field)),
+        2083 => Some(Action::Loads(Form::Field)),
+        2091 => Some(Action::Loads(Form::Code)),
+        2092 => Some(Action::Loads(Form::Part)),
+        2177 => Some(Action::Debugs),
         _ => None,
     }
 }

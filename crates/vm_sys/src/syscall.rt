@@ -10,11 +10,11 @@ ghost use Rattle.sys_defs.specs.World as items_of;
 ghost use Rattle.sys_defs.specs.Answer.{asks, results, syscall, with_item, with_bytes};
 ghost use Rattle.vm_defs.specs.Alone as alone;
 ghost use Rattle.vm_mem.specs.Pages.{IsAllocated};
-ghost use Rattle.vm_sys.specs.Deeds.{form_meaning};
+ghost use Rattle.vm_sys.specs.Actions.{form_meaning};
 ghost use Rattle.vm_sys.specs.Answering.{AddsPages, BytesTouch, CallTouches, HoldsPart, IsAnswer, IsAnswerOfSome, WhereCutOff, ItemTouches, goes_on_of};
 ghost use Rattle.vm_sys.specs.Running.{LoadsItem};
 
-use super::call::{A0, A7, Deed, Form, asked, deed_of};
+use super::call::{A0, A7, Action, Form, action_of, asked};
 use super::loading::{load_code, load_part};
 use super::world::{Found, World};
 use outside::ReadStop;
@@ -65,14 +65,14 @@ pub fn handle<W: World>(machine: &mut Machine, world: &mut W) -> Sys
     ensures pages_kept { (page : ℕ) → IsAllocated machine.old.allocated page → IsAllocated machine.new.allocated page }
     ensures pages_added { (items : Items) → W.told world.old ≡ Some items → AddsPages machine.old.allocated machine.new.allocated (CallTouches items machine.old.machine) }
 {
-    let deed = match deed_of(machine.reg(A7)) {
+    let deed = match action_of(machine.reg(A7)) {
         Some(deed) => deed,
         None => return Sys::Fault(UNKNOWN),
     };
     match deed {
-        Deed::Exits => Sys::Exit(low_byte(machine.reg(A0))),
-        Deed::Debugs => Sys::Done,
-        Deed::Loads(form) => load(machine, world, form),
+        Action::Exits => Sys::Exit(low_byte(machine.reg(A0))),
+        Action::Debugs => Sys::Done,
+        Action::Loads(form) => load(machine, world, form),
     }
 }
 

@@ -53,8 +53,8 @@ returns-in-Err g c = record {
   undamaged = λ stored tells stands damage same. c.in-Err.ensures.undamaged stored tells stands.indexed damage (as_read same);
 }
 
-pub returns-in-Err-behind : goal.returns-in-Err-behind
-returns-in-Err-behind g c = record {
+pub returns-in-Err-after_cellbase : goal.returns-in-Err-after_cellbase
+returns-in-Err-after_cellbase g c = record {
   read = read_short c.in-Ok.ensures.read;
   rule = λ rule same. absurd (no_rule same);
   fees = tt;
@@ -69,19 +69,19 @@ returns-in-Err-behind g c = record {
 pub later-init : goal.later-init
 later-init g c = record {
   read = c.in-Ok.ensures.read;
-  left = c.in-Ok-behind.ensures.few;
+  left = c.in-Ok-after_cellbase.ensures.few;
   within = omega (arith, c.requires.some);
-  moves = can-move-none 1 c.in-Ok-behind.progress.interest c.in-Ok-behind.progress.freed c.in-Ok-behind.ensures.interest c.in-Ok-behind.ensures.freed;
-  fees = omega (arith, ap length c.in-Ok-behind.ensures.fees);
+  moves = can-move-none 1 c.in-Ok-after_cellbase.progress.interest c.in-Ok-after_cellbase.progress.freed c.in-Ok-after_cellbase.ensures.interest c.in-Ok-after_cellbase.ensures.freed;
+  fees = omega (arith, ap length c.in-Ok-after_cellbase.ensures.fees);
   rows = rows-after_more _ c.args.block.now 0 c.transactions_item-cellbase.result (g.C.Cells.rows c.args.context.now.cells.now) (g.C.Cells.rows c.args.context.now.cells.now) _
       (rows-after_none _ c.args.block.now (g.C.Cells.rows c.args.context.now.cells.now) (g.C.Cells.rows c.args.context.now.cells.now) (λ o. refl)) c.transactions_item-cellbase.ensures
-      (λ height o above. c.in-Ok-behind.ensures.rows height o above);
+      (λ height o above. c.in-Ok-after_cellbase.ensures.rows height o above);
   judged = λ stored tells stands.
-      judged-none c.args.context.now.spec.now (blocks_of stored) c.args.context.now.parent c.args.block.now c.in-Ok-behind.progress.left c.in-Ok-behind.progress.ext
-      c.in-Ok-behind.ensures.left c.in-Ok-behind.ensures.fees c.in-Ok-behind.ensures.spent;
+      judged-none c.args.context.now.spec.now (blocks_of stored) c.args.context.now.parent c.args.block.now c.in-Ok-after_cellbase.progress.left c.in-Ok-after_cellbase.progress.ext
+      c.in-Ok-after_cellbase.ensures.left c.in-Ok-after_cellbase.ensures.fees c.in-Ok-after_cellbase.ensures.spent;
   moved = λ stored tells stands.
-      moved-none c.args.context.now.spec.now (branch (blocks_of stored) c.args.context.now.parent) c.args.block.now c.in-Ok-behind.progress.interest c.in-Ok-behind.progress.freed
-      c.in-Ok-behind.ensures.interest c.in-Ok-behind.ensures.freed;
+      moved-none c.args.context.now.spec.now (branch (blocks_of stored) c.args.context.now.parent) c.args.block.now c.in-Ok-after_cellbase.progress.interest c.in-Ok-after_cellbase.progress.freed
+      c.in-Ok-after_cellbase.ensures.interest c.in-Ok-after_cellbase.ensures.freed;
 }
 
 pub later-preserved : goal.later-preserved

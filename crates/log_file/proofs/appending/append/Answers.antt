@@ -88,4 +88,4 @@ returns-clause-others g c =
     (others_written c.args.log.place (1 ∷ []) _ _ c.in-Ok-write_durably.ensures.written)
 
 pub returns-clause-named : goal.returns-clause-named
-returns-clause-named g c = c.rec_behind-rec.ensures
+returns-clause-named g c = c.next_rec-rec.ensures

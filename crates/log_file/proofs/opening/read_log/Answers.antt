@@ -8,15 +8,15 @@ use Rattle.log_file.proofs.opening.read_log.Goals as goal
 pub returns-in-Err-read_blocks-clause-not_a_store : goal.returns-in-Err-read_blocks-clause-not_a_store
 returns-in-Err-read_blocks-clause-not_a_store g c =
     let front = c.in-Ok.ensures in
-    told_wrong_blocks _ _ c.in-Ok.front.0 c.args.len c.new-reader.result c.read_front.new.reader (blocks_with (g.V.Visitor.visited c.read_front.new.visitor) c.in-Ok.front.1.entries) _ _
+    told_wrong_blocks _ _ c.in-Ok.front.0 c.args.len c.new-reader.result c.read_head.new.reader (blocks_with (g.V.Visitor.visited c.read_head.new.visitor) c.in-Ok.front.1.entries) _ _
     (λ e. ap Err (same_stop _ _ e)) front.as_before.reads c.requires.len c.new-reader.ensures.reading front.found (c.in-Err-read_blocks.ensures.wrong c.in-Ok.front.0)
 
 all_read : (g : _) (c : goal.After-drop-reader-inside-2 g) → IfSome (g.D.Disk.reads_as c.args.disk.now) (λ image. IsRead image.log c.in-Ok.front.0 c.read_blocks.new.reader
     (blocks_with (g.V.Visitor.visited c.read_blocks.new.visitor) c.read_blocks.new.tree.entries))
 all_read g c =
     let front = c.in-Ok.ensures in
-    told_read _ _ c.in-Ok.front.0 c.args.len c.new-reader.result c.read_front.new.reader c.read_blocks.new.reader
-    (blocks_with (g.V.Visitor.visited c.read_front.new.visitor) c.in-Ok.front.1.entries) (blocks_with (g.V.Visitor.visited c.read_blocks.new.visitor) c.read_blocks.new.tree.entries)
+    told_read _ _ c.in-Ok.front.0 c.args.len c.new-reader.result c.read_head.new.reader c.read_blocks.new.reader
+    (blocks_with (g.V.Visitor.visited c.read_head.new.visitor) c.in-Ok.front.1.entries) (blocks_with (g.V.Visitor.visited c.read_blocks.new.visitor) c.read_blocks.new.tree.entries)
     front.as_before.reads c.requires.len c.new-reader.ensures.reading front.start front.found (c.in-Ok-read_blocks.ensures.found c.in-Ok.front.0)
 
 pub returns-clause-opened : goal.returns-clause-opened
@@ -90,8 +90,8 @@ returns-clause-cause g c = counts_on _ _ _ (answer_still _ _ _ _ c.in-Ok.ensures
 pub returns-clause-blocks : goal.returns-clause-blocks
 returns-clause-blocks g c = c.in-Ok-read_blocks.ensures.blocks
 
-pub read_front-requires : goal.read_front-requires
-read_front-requires g c = record { start = c.new-reader.ensures.at.at; none = c.requires.none }
+pub read_head-requires : goal.read_head-requires
+read_head-requires g c = record { start = c.new-reader.ensures.at.at; none = c.requires.none }
 
 pub read_blocks-requires : goal.read_blocks-requires
 read_blocks-requires g c = c.in-Ok.ensures.blocks

@@ -7,7 +7,7 @@ use Rattle.chain_defs.proofs.KeptLaws.{place_of-below}
 use Rattle.cell_defs.specs.Ext.{ext_bytes, is_ext, count_at}
 use Rattle.verdict_defs.specs.Chain.{Chain, chain_after}
 use Rattle.store_defs.specs.JoinLaws.{record_over}
-use Rattle.log_file.specs.Pieces.{behind_gate, block_record}
+use Rattle.log_file.specs.Pieces.{after_gate, block_record}
 use Rattle.log_file.specs.Grammar.{record_of}
 use Rattle.log_file.specs.Opening.{kept_records}
 use Rattle.log_file.proofs.Creating.{others_same}
@@ -20,12 +20,12 @@ use Rattle.node_core.proofs.AppendLemmas.{as-many, place-next, named_by, of_told
 use Rattle.node_core.proofs.KeepingLemmas.{started_import, left_appended}
 use Rattle.node_core.proofs.node.join.Goals as goal
 
-pub rec_behind-rec-requires-clause-limit : goal.rec_behind-rec-requires-clause-limit
-rec_behind-rec-requires-clause-limit g c =
+pub next_rec-rec-requires-clause-limit : goal.next_rec-rec-requires-clause-limit
+next_rec-rec-requires-clause-limit g c =
     place_limit (length c.args.kept.chain.blocks) c.args.log.place (omega (arith, c.requires.ready.2.ready.room)) c.requires.within
 
-pub rec_behind-rec-requires-clause-filled : goal.rec_behind-rec-requires-clause-filled
-rec_behind-rec-requires-clause-filled g c =
+pub next_rec-rec-requires-clause-filled : goal.next_rec-rec-requires-clause-filled
+next_rec-rec-requires-clause-filled g c =
     piece_long (block_record c.args.item.now (ext_bytes c.args.joining.ext)) c.fill.new.body c.in-Ok.ensures.filled
 
 pub join-requires-clause-canonical : goal.join-requires-clause-canonical
@@ -274,8 +274,8 @@ returns-in-Err-append-clause-moments g c = λ decided only.
     let records = record_of 1 of.read.specification ∷ kept_records (stored_of c.args.kept) in
     let can = can_join c.args.kept.chain c.args.item.now c.args.joining decided in
     let form = form_is c.args.kept.chain c.args.item.now c.in-Ok.ext.items c.args.joining decided c.in-Ok.ensures.bytes c.in-Ok.ensures.form in
-    let filled : c.fill.new.body ≡ behind_gate (record_over c.args.kept.chain c.args.item.now) =
-    c.in-Ok.ensures.filled ∙ ap behind_gate (record_is c.args.kept.chain c.args.item.now c.args.joining decided) in
+    let filled : c.fill.new.body ≡ after_gate (record_over c.args.kept.chain c.args.item.now) =
+    c.in-Ok.ensures.filled ∙ ap after_gate (record_is c.args.kept.chain c.args.item.now c.args.joining decided) in
     leaves_also g.D.Disk.moment g.D.Disk.left_since _ _ _ _
     (c.append.ensures.moments records (record_over c.args.kept.chain c.args.item.now) filled of.settled)
     (stands_either c.args.kept.chain (g.D.Disk.reads_as c.args.disk.now) (g.D.Disk.images c.args.disk.now) only c.args.log.place records of.settled
@@ -297,8 +297,8 @@ returns-in-Ok-append-clause-moments g c = λ decided only.
     let records = record_of 1 of.read.specification ∷ kept_records (stored_of c.args.kept) in
     let can = can_join c.args.kept.chain c.args.item.now c.args.joining decided in
     let form = form_is c.args.kept.chain c.args.item.now c.in-Ok.ext.items c.args.joining decided c.in-Ok.ensures.bytes c.in-Ok.ensures.form in
-    let filled : c.fill.new.body ≡ behind_gate (record_over c.args.kept.chain c.args.item.now) =
-    c.in-Ok.ensures.filled ∙ ap behind_gate (record_is c.args.kept.chain c.args.item.now c.args.joining decided) in
+    let filled : c.fill.new.body ≡ after_gate (record_over c.args.kept.chain c.args.item.now) =
+    c.in-Ok.ensures.filled ∙ ap after_gate (record_is c.args.kept.chain c.args.item.now c.args.joining decided) in
     leaves_also g.D.Disk.moment g.D.Disk.left_since _ _ _ _
     (c.append.ensures.moments records (record_over c.args.kept.chain c.args.item.now) filled of.settled)
     (stands_either c.args.kept.chain (g.D.Disk.reads_as c.args.disk.now) (g.D.Disk.images c.args.disk.now) only c.args.log.place records of.settled
@@ -318,13 +318,13 @@ returns-in-Ok-append-clause-own g c =
     let ready = c.requires.ready in
     let ext = c.in-Ok.ext.items in
     let below = place_of-below c.args.kept.chain.blocks ready.0.header.parent_hash c.args.joining.entry.parent ready.2.ready.entry.on_kept in
-    let filled : c.fill.new.body ≡ behind_gate (block_record c.args.item.now c.in-Ok.ext.items) =
-    c.in-Ok.ensures.filled ∙ ap (λ (bytes : List ℕ). behind_gate (block_record c.args.item.now bytes)) (sym c.in-Ok.ensures.bytes) in
-    let kept = c.in-Ok-join.ensures.kept ready.0 ready.1 ∙ ap (λ (bytes : List ℕ). kept_with c.args.kept ready.0 bytes (named_by c.args.joining.entry c.rec_behind-rec.result)) c.deref-2.ensures.value in
+    let filled : c.fill.new.body ≡ after_gate (block_record c.args.item.now c.in-Ok.ext.items) =
+    c.in-Ok.ensures.filled ∙ ap (λ (bytes : List ℕ). after_gate (block_record c.args.item.now bytes)) (sym c.in-Ok.ensures.bytes) in
+    let kept = c.in-Ok-join.ensures.kept ready.0 ready.1 ∙ ap (λ (bytes : List ℕ). kept_with c.args.kept ready.0 bytes (named_by c.args.joining.entry c.next_rec-rec.result)) c.deref-2.ensures.value in
     let held = c.in-Ok-of.ensures ready.0 ready.1 ∙ ap (λ (bytes : List ℕ). record { block = ready.0; ext = bytes }) c.deref.ensures.value in
-    own_next c.args.kept c.in-Ok-join.joined.0 ready.0 c.args.item.now ext (named_by c.args.joining.entry c.rec_behind-rec.result) c.rec_behind-rec.result c.args.log.place c.args.cache c.put.new.self kept
+    own_next c.args.kept c.in-Ok-join.joined.0 ready.0 c.args.item.now ext (named_by c.args.joining.entry c.next_rec-rec.result) c.next_rec-rec.result c.args.log.place c.args.cache c.put.new.self kept
     (as-many c.kept.inside.spec c.kept.inside.blocks.stored c.kept.inside.tree.entries c.args.kept c.kept.view_is) (omega (arith, below)) ready.1
-    c.in-Ok.ensures.form c.in-Ok.ensures.fits (c.rec_behind-rec.ensures (block_record c.args.item.now ext) filled) refl refl
+    c.in-Ok.ensures.form c.in-Ok.ensures.fits (c.next_rec-rec.ensures (block_record c.args.item.now ext) filled) refl refl
     (adds-here c.len-place.result (length c.args.kept.chain.blocks) c.in-Ok-of.held _ c.args.cache.held c.put.new.self.held
     (place-next c.kept.inside.spec c.kept.inside.blocks.stored c.kept.inside.tree.entries c.args.kept c.len-place.result c.kept.view_is c.kept.invariant.indexed
     c.len-place.ensures.len) held c.put.ensures.only)
@@ -351,8 +351,8 @@ returns-in-Ok-append-clause-image g c = λ decided only.
     let records = record_of 1 of.read.specification ∷ kept_records (stored_of c.args.kept) in
     let can = can_join c.args.kept.chain c.args.item.now c.args.joining decided in
     let form = form_is c.args.kept.chain c.args.item.now c.in-Ok.ext.items c.args.joining decided c.in-Ok.ensures.bytes c.in-Ok.ensures.form in
-    let filled : c.fill.new.body ≡ behind_gate (record_over c.args.kept.chain c.args.item.now) =
-    c.in-Ok.ensures.filled ∙ ap behind_gate (record_is c.args.kept.chain c.args.item.now c.args.joining decided) in
+    let filled : c.fill.new.body ≡ after_gate (record_over c.args.kept.chain c.args.item.now) =
+    c.in-Ok.ensures.filled ∙ ap after_gate (record_is c.args.kept.chain c.args.item.now c.args.joining decided) in
     let kept : c.in-Ok-join.joined.0.chain ≡ chain_after c.args.kept.chain c.args.item.now =
     is_after c.args.kept c.in-Ok-join.joined.0 c.args.kept.chain c.args.item.now c.deref-2.result.now _ c.args.joining refl c.in-Ok-join.ensures.kept decided in
     subst (λ (chain : Chain). IsOnlyImage chain (g.D.Disk.reads_as c.append.new.disk) (g.D.Disk.images c.append.new.disk)) (sym kept)

@@ -4,7 +4,7 @@ use Rattle.chain_tree.specs.Entries.{TreeValue}
 use Rattle.chain_tree.specs.Told.{blocks_of}
 use Rattle.block_judge.specs.Stops.{read_stop_of}
 use Rattle.block_store.specs.Held.{CacheValue}
-use Rattle.node_core.specs.Node.{KeptValue, HasLooked}
+use Rattle.node_core.specs.Node.{KeptValue, HasOnlyRead}
 use Rattle.node_core.proofs.SourceLemmas.{kept-on, counts-blocks, tells-joined, has-looked}
 use Rattle.node_core.proofs.over_disk.check.Goals as goal
 
@@ -25,8 +25,8 @@ returns-clause-looked g c =
     let loans = c.check.ensures.read.loans in
     let disk = c.disk-1.given.1 (sym c.new-store.ensures.its_disk ∙ sym (ap (λ it. it.disk) loans)) in
     let cache = c.cache-1.given.1 (sym c.new-store.ensures.its_cache ∙ sym (ap (λ it. it.cache) loans)) in
-    subst (λ now. HasLooked g.D.Disk.content_of g.D.Disk.reads_as g.D.Disk.faults c.args.disk.now now c.args.kept.now c.args.cache.now c.cache-1.given.0 (read_stop_of c.check.result)) (sym disk)
-    (subst (λ after. HasLooked g.D.Disk.content_of g.D.Disk.reads_as g.D.Disk.faults c.args.disk.now c.check.new.blocks.disk.now c.args.kept.now c.args.cache.now after (read_stop_of c.check.result)) (sym cache)
+    subst (λ now. HasOnlyRead g.D.Disk.content_of g.D.Disk.reads_as g.D.Disk.faults c.args.disk.now now c.args.kept.now c.args.cache.now c.cache-1.given.0 (read_stop_of c.check.result)) (sym disk)
+    (subst (λ after. HasOnlyRead g.D.Disk.content_of g.D.Disk.reads_as g.D.Disk.faults c.args.disk.now c.check.new.blocks.disk.now c.args.kept.now c.args.cache.now after (read_stop_of c.check.result)) (sym cache)
     (has-looked c.args.kept.now c.check.new.blocks.tree.now.entries c.args.cache.now _ (ap (λ it. it.entries) c.check.ensures.read.loans ∙ same) content
     (g.met.D.Disk.content_rests _ _ content).reads c.requires.own c.check.new.blocks.kept (ap (λ it. it.most) loans ∙ ap (λ (it : CacheValue). it.most) c.new-store.ensures.cache) c.check.ensures.read.damage
     (behind (ap g.D.Disk.faults c.new-store.ensures.disk) c.check.ensures.read.cause)

@@ -9,7 +9,7 @@ use Rattle.report_defs.specs.declared.status.Status.TheVariants.{Done, SomeRefus
 use Rattle.report_defs.specs.Items.{split_of}
 use Rattle.report_defs.specs.Report.{import_limits, closing_of_end, status_of_end}
 use Rattle.node_core.specs.Node.{IsSoundOn, IsOn}
-use Rattle.node_run.specs.Output.{IsToldAnswer}
+use Rattle.node_run.specs.Output.{IsWrittenAnswer}
 use Rattle.node_run.specs.Import.{text_over}
 use Rattle.node_run.proofs.Faults.{then_counts, IsNoFault, end_no_fault, told_no_fault, no_input_there, no_disk_there, IsMemory}
 use Rattle.node_run.proofs.ImportLemmas.{items_stop_import}
@@ -98,31 +98,31 @@ returns-in-Err-answer_to_end-clause-import g c =
 pub returns-clause-import : goal.returns-clause-import
 returns-clause-import g c =
     let came = c.in-Ok-import_items.ensures.imported in
-    let told = c.tell.ensures.told in
+    let told = c.write_answer.ensures.told in
     let chain = c.in-Ok.node.chain in
     let left = g.S.Source.left c.import_items.new.input in
     let reads = g.D.Disk.reads_as c.args.disk.now in
     let ended = c.in-Ok-import_items.ended in
     let answer = c.in-Ok-answer_to_end.answer in
-    let last : IsToldAnswer (closing_of_end ended.offset ended.end) (status_of_end (if ended.refused then SomeRefused else Done) ended.end) c.tell.result told.0 =
-    subst (λ text. IsToldAnswer text (status_of_end (if ended.refused then SomeRefused else Done) ended.end) c.tell.result told.0) c.in-Ok-answer_to_end.ensures.text
-    (subst (λ (s : Status). IsToldAnswer (string_bytes answer.text) s c.tell.result told.0) c.in-Ok-answer_to_end.ensures.status told.2) in (
+    let last : IsWrittenAnswer (closing_of_end ended.offset ended.end) (status_of_end (if ended.refused then SomeRefused else Done) ended.end) c.write_answer.result told.0 =
+    subst (λ text. IsWrittenAnswer text (status_of_end (if ended.refused then SomeRefused else Done) ended.end) c.write_answer.result told.0) c.in-Ok-answer_to_end.ensures.text
+    (subst (λ (s : Status). IsWrittenAnswer (string_bytes answer.text) s c.write_answer.result told.0) c.in-Ok-answer_to_end.ensures.status told.2) in (
       came.0,
       came.1 ++ told.0,
       came.2,
-      takes_more (g.K.Sink.taken c.args.out.now) (g.K.Sink.taken c.import_items.new.out) (g.K.Sink.taken c.tell.new.out) came.1 told.0 came.3 told.1,
+      takes_more (g.K.Sink.taken c.args.out.now) (g.K.Sink.taken c.import_items.new.out) (g.K.Sink.taken c.write_answer.new.out) came.1 told.0 came.3 told.1,
       delivers_over (IsSoundOn c.in-Ok.node (g.D.Disk.reads_as c.open.new.disk)) Import reads chain (g.D.Disk.images c.args.disk.now) (g.D.Disk.images c.import_items.new.disk)
-          (g.D.Disk.left_since c.import_items.new.disk (g.D.Disk.moment c.args.disk.now)) left came.0 (came.1 ++ told.0) c.tell.result (λ store found. found) c.in-Ok.ensures.kept
+          (g.D.Disk.left_since c.import_items.new.disk (g.D.Disk.moment c.args.disk.now)) left came.0 (came.1 ++ told.0) c.write_answer.result (λ store found. found) c.in-Ok.ensures.kept
           (λ store found. found_sound c.in-Ok.node reads (g.D.Disk.reads_as c.open.new.disk) store c.in-Ok.ensures.kept c.in-Ok.ensures.told c.in-Ok.ensures.sound found)
           (report_on chain) (λ whole. refl)
-          (λ sound. let are = came.4 sound in ended_import chain left ended are.items are.rest came.0 came.1 are.are_given are.came.1 told.0 c.tell.result last)
+          (λ sound. let are = came.4 sound in ended_import chain left ended are.items are.rest came.0 came.1 are.are_given are.came.1 told.0 c.write_answer.result last)
           (keeps_opened reads chain (split_of import_limits came.0).items (g.D.Disk.images c.args.disk.now) (g.D.Disk.images c.import_items.new.disk)
-          (g.D.Disk.left_since c.import_items.new.disk (g.D.Disk.moment c.args.disk.now)) (came.1 ++ told.0) c.tell.result c.in-Ok.ensures.kept
+          (g.D.Disk.left_since c.import_items.new.disk (g.D.Disk.moment c.args.disk.now)) (came.1 ++ told.0) c.write_answer.result c.in-Ok.ensures.kept
           (λ now known keeps sound.
           let on = if_told reads (λ _. IsOn c.in-Ok.node (g.D.Disk.reads_as c.open.new.disk) (g.D.Disk.images c.open.new.disk)) now (c.in-Ok.ensures.on sound) known in
           let are = came.4 (sound_on c.in-Ok.node (g.D.Disk.reads_as c.open.new.disk) (g.D.Disk.images c.open.new.disk) on) in
           keeps_all_given g.D.Disk.images g.D.Disk.moment g.D.Disk.left_since g.met.D.Disk.counts_now c.args.disk.now c.open.new.disk c.import_items.new.disk chain
-          are.items are.before are.rest came.0 (came.1 ++ told.0) c.tell.result are.are_given are.came.0 told.0 (ap (λ bs. bs ++ told.0) are.came.1.lines)
+          are.items are.before are.rest came.0 (came.1 ++ told.0) c.write_answer.result are.are_given are.came.0 told.0 (ap (λ bs. bs ++ told.0) are.came.1.lines)
           (c.in-Ok.ensures.moments now chain known keeps sound) (are.exit on) (are.moments on))),
     )
 
@@ -154,16 +154,16 @@ returns-clause-input_faults g c =
     let own : IsNoFault c.in-Ok-answer_to_end.answer.status =
     subst IsNoFault (sym c.in-Ok-answer_to_end.ensures.status) (end_no_fault c.in-Ok-import_items.ended.refused c.in-Ok-import_items.ended.end) in
     no_fault _ _ (c.in-Ok-import_items.ensures.input_faults.unchanged (no_answer _ _))
-    (no_input_there c.tell.result
-    (told_no_fault (string_bytes c.in-Ok-answer_to_end.answer.text) c.in-Ok-answer_to_end.answer.status c.tell.result c.tell.ensures.told.0 own c.tell.ensures.told.2))
+    (no_input_there c.write_answer.result
+    (told_no_fault (string_bytes c.in-Ok-answer_to_end.answer.text) c.in-Ok-answer_to_end.answer.status c.write_answer.result c.write_answer.ensures.told.0 own c.write_answer.ensures.told.2))
 
 pub returns-clause-disk_faults : goal.returns-clause-disk_faults
 returns-clause-disk_faults g c =
     let own : IsNoFault c.in-Ok-answer_to_end.answer.status =
     subst IsNoFault (sym c.in-Ok-answer_to_end.ensures.status) (end_no_fault c.in-Ok-import_items.ended.refused c.in-Ok-import_items.ended.end) in
     no_fault _ _ (c.in-Ok-import_items.ensures.disk_faults.unchanged (no_answer _ _) ∙ c.in-Ok.ensures.cause.unchanged (no_answer _ _))
-    (no_disk_there c.tell.result
-    (told_no_fault (string_bytes c.in-Ok-answer_to_end.answer.text) c.in-Ok-answer_to_end.answer.status c.tell.result c.tell.ensures.told.0 own c.tell.ensures.told.2))
+    (no_disk_there c.write_answer.result
+    (told_no_fault (string_bytes c.in-Ok-answer_to_end.answer.text) c.in-Ok-answer_to_end.answer.status c.write_answer.result c.write_answer.ensures.told.0 own c.write_answer.ensures.told.2))
 
 pub returns-in-Err-clause-status : goal.returns-in-Err-clause-status
 returns-in-Err-clause-status g c = import_opening c.in-Err.status (c.in-Err.ensures.one_of c.in-Err.status refl)
@@ -196,12 +196,12 @@ returns-in-Err-answer_to_end-clause-disk_faults g c =
 pub returns-clause-status : goal.returns-clause-status
 returns-clause-status g c =
     import_told (string_bytes c.in-Ok-answer_to_end.answer.text) c.in-Ok-import_items.ended.refused c.in-Ok-import_items.ended.end
-    c.in-Ok-answer_to_end.answer.status c.tell.result c.tell.ensures.told.0 c.in-Ok-answer_to_end.ensures.status c.tell.ensures.told.2
+    c.in-Ok-answer_to_end.answer.status c.write_answer.result c.write_answer.ensures.told.0 c.in-Ok-answer_to_end.ensures.status c.write_answer.ensures.told.2
 
 pub returns-clause-out_faults : goal.returns-clause-out_faults
 returns-clause-out_faults g c =
-    then_counts (g.K.Sink.faults c.args.out.now) (g.K.Sink.faults c.import_items.new.out) (g.K.Sink.faults c.tell.new.out)
-    (c.in-Ok-import_items.ensures.out_faults.unchanged (no_answer _ _)) c.tell.ensures.faults (λ e. e) (λ e. e)
+    then_counts (g.K.Sink.faults c.args.out.now) (g.K.Sink.faults c.import_items.new.out) (g.K.Sink.faults c.write_answer.new.out)
+    (c.in-Ok-import_items.ensures.out_faults.unchanged (no_answer _ _)) c.write_answer.ensures.faults (λ e. e) (λ e. e)
 
 pub returns-in-Err-clause-steps : goal.returns-in-Err-clause-steps
 returns-in-Err-clause-steps g c = (

@@ -41,8 +41,8 @@ returns-then-length-ne0-clause-init g c =
     )
 
 -- the items that were read, as they are handed on
-pub make_and_tell-requires-clause-specification : goal.make_and_tell-requires-clause-specification
-make_and_tell-requires-clause-specification g c =
+pub make_and_answer-requires-clause-specification : goal.make_and_answer-requires-clause-specification
+make_and_answer-requires-clause-specification g c =
     let read = c.in-Ok-Items.ensures.read in
     let left = g.S.Source.left c.read_whole.new.input in
     let both : IsWhole init_items left (c.deref.result.now ∷ c.deref-in-Ok-Items.result.now ∷ []) read.0 =
@@ -50,8 +50,8 @@ make_and_tell-requires-clause-specification g c =
     c.in-Ok-Items.field-0-is read.2 c.index.ensures c.index-in-Ok-Items.ensures c.deref.ensures.value c.deref-in-Ok-Items.ensures.value in
     omega (arith, item_limit-is, both.all.0.most)
 
-pub make_and_tell-requires-clause-genesis : goal.make_and_tell-requires-clause-genesis
-make_and_tell-requires-clause-genesis g c =
+pub make_and_answer-requires-clause-genesis : goal.make_and_answer-requires-clause-genesis
+make_and_answer-requires-clause-genesis g c =
     let read = c.in-Ok-Items.ensures.read in
     let left = g.S.Source.left c.read_whole.new.input in
     let both : IsWhole init_items left (c.deref.result.now ∷ c.deref-in-Ok-Items.result.now ∷ []) read.0 =
@@ -63,7 +63,7 @@ pub returns-in-Ok-Items-clause-init : goal.returns-in-Ok-Items-clause-init
 returns-in-Ok-Items-clause-init g c =
     let read = c.in-Ok-Items.ensures.read in
     let left = g.S.Source.left c.read_whole.new.input in
-    let said = c.make_and_tell.ensures.said in
+    let said = c.make_and_answer.ensures.said in
     let both : IsWhole init_items left (c.deref.result.now ∷ c.deref-in-Ok-Items.result.now ∷ []) read.0 =
     both_read left c.in-Ok-Items.field-0 c.in-Ok-Items.items read.0 c.index.result.now c.index-in-Ok-Items.result.now c.deref.result.now c.deref-in-Ok-Items.result.now
     c.in-Ok-Items.field-0-is read.2 c.index.ensures c.index-in-Ok-Items.ensures c.deref.ensures.value c.deref-in-Ok-Items.ensures.value in (
@@ -71,10 +71,10 @@ returns-in-Ok-Items-clause-init g c =
       said.0,
       read.1,
       said.1,
-      init_both (g.D.Disk.reads_as c.args.disk.now) (g.D.Disk.images c.args.disk.now) (g.D.Disk.images c.make_and_tell.new.disk)
-          (g.D.Disk.left_since c.make_and_tell.new.disk (g.D.Disk.moment c.args.disk.now)) left read.0 said.0 c.deref.result.now c.deref-in-Ok-Items.result.now c.make_and_tell.result
+      init_both (g.D.Disk.reads_as c.args.disk.now) (g.D.Disk.images c.args.disk.now) (g.D.Disk.images c.make_and_answer.new.disk)
+          (g.D.Disk.left_since c.make_and_answer.new.disk (g.D.Disk.moment c.args.disk.now)) left read.0 said.0 c.deref.result.now c.deref-in-Ok-Items.result.now c.make_and_answer.result
           (λ store found. finds_no_log (g.D.Disk.reads_as c.args.disk.now) c.in-Ok.length store c.in-Ok.ensures.length (omega (arith, c.if-length-ne0.false)) found)
-          both said.2 (λ now told done. c.make_and_tell.ensures.made (subst IsSome (sym (c.in-Ok.ensures.same ∙ told)) refl) done),
+          both said.2 (λ now told done. c.make_and_answer.ensures.made (subst IsSome (sym (c.in-Ok.ensures.same ∙ told)) refl) done),
     )
 
 pub returns-in-Ok-Items-clause-there : goal.returns-in-Ok-Items-clause-there
@@ -86,7 +86,7 @@ returns-in-Ok-Items-clause-as_before g c = λ told.
     let one = one_call g.D.Disk.reads_as g.D.Disk.images g.D.Disk.moment g.D.Disk.left_since g.met.D.Disk.only_now c.args.disk.now c.len.new.self
     c.in-Ok.ensures.same c.in-Ok.ensures.images c.in-Ok.ensures.time in
     subst (λ d. IsAsBefore g.D.Disk.reads_as g.D.Disk.images g.D.Disk.moment g.D.Disk.left_since c.args.disk.now d)
-    (sym (c.make_and_tell.ensures.unmade (as_before_new c.make_and_tell.result c.make_and_tell.ensures.status told))) one
+    (sym (c.make_and_answer.ensures.unmade (as_before_new c.make_and_answer.result c.make_and_answer.ensures.status told))) one
 
 pub returns-in-Ok-Early-clause-init : goal.returns-in-Ok-Early-clause-init
 returns-in-Ok-Early-clause-init g c =
@@ -94,13 +94,13 @@ returns-in-Ok-Early-clause-init g c =
     let left = g.S.Source.left c.read_whole.new.input in
     let early : EndsEarly init_items left c.in-Ok-Early.end c.in-Ok-Early.offset read.0 =
     subst (λ (w : Whole). IsReadWhole init_items left (Ok w) read.0) c.in-Ok-Early.field-0-is (known_limits left (Ok c.in-Ok-Early.field-0) read.0 read.2) in
-    let said = c.tell_early.ensures.said in (
+    let said = c.write_early_end.ensures.said in (
       read.0,
       said.0,
       read.1,
       said.1,
       init_early (g.D.Disk.reads_as c.args.disk.now) (g.D.Disk.images c.args.disk.now) (g.D.Disk.images c.len.new.self)
-          (g.D.Disk.left_since c.len.new.self (g.D.Disk.moment c.args.disk.now)) left read.0 said.0 c.in-Ok-Early.end c.in-Ok-Early.offset c.tell_early.result
+          (g.D.Disk.left_since c.len.new.self (g.D.Disk.moment c.args.disk.now)) left read.0 said.0 c.in-Ok-Early.end c.in-Ok-Early.offset c.write_early_end.result
           (λ store found. finds_no_log (g.D.Disk.reads_as c.args.disk.now) c.in-Ok.length store c.in-Ok.ensures.length (omega (arith, c.if-length-ne0.false)) found)
           early said.2,
     )
@@ -164,19 +164,19 @@ pub returns-then-length-ne0-clause-disk_faults : goal.returns-then-length-ne0-cl
 returns-then-length-ne0-clause-disk_faults g c = no_fault _ _ (c.in-Ok.ensures.cause.unchanged refl) (λ e. cc)
 
 pub returns-in-Ok-Items-clause-status : goal.returns-in-Ok-Items-clause-status
-returns-in-Ok-Items-clause-status g c = init_new c.make_and_tell.result c.make_and_tell.ensures.status
+returns-in-Ok-Items-clause-status g c = init_new c.make_and_answer.result c.make_and_answer.ensures.status
 
 pub returns-in-Ok-Items-clause-input_faults : goal.returns-in-Ok-Items-clause-input_faults
-returns-in-Ok-Items-clause-input_faults g c = no_fault _ _ (c.in-Ok-Items.ensures.faults.unchanged (no_answer _ _)) (new_no_input_fault c.make_and_tell.result c.make_and_tell.ensures.status)
+returns-in-Ok-Items-clause-input_faults g c = no_fault _ _ (c.in-Ok-Items.ensures.faults.unchanged (no_answer _ _)) (new_no_input_fault c.make_and_answer.result c.make_and_answer.ensures.status)
 
 pub returns-in-Ok-Items-clause-out_faults : goal.returns-in-Ok-Items-clause-out_faults
-returns-in-Ok-Items-clause-out_faults g c = c.make_and_tell.ensures.out_faults
+returns-in-Ok-Items-clause-out_faults g c = c.make_and_answer.ensures.out_faults
 
 pub returns-in-Ok-Items-clause-disk_faults : goal.returns-in-Ok-Items-clause-disk_faults
-returns-in-Ok-Items-clause-disk_faults g c = then_counts _ _ _ (c.in-Ok.ensures.cause.unchanged refl) c.make_and_tell.ensures.disk_faults (λ e. e) (λ e. e)
+returns-in-Ok-Items-clause-disk_faults g c = then_counts _ _ _ (c.in-Ok.ensures.cause.unchanged refl) c.make_and_answer.ensures.disk_faults (λ e. e) (λ e. e)
 
 pub returns-in-Ok-Early-clause-status : goal.returns-in-Ok-Early-clause-status
-returns-in-Ok-Early-clause-status g c = init_ended c.tell_early.result c.tell_early.ensures.one_of
+returns-in-Ok-Early-clause-status g c = init_ended c.write_early_end.result c.write_early_end.ensures.one_of
 
 pub returns-in-Ok-Early-clause-there : goal.returns-in-Ok-Early-clause-there
 returns-in-Ok-Early-clause-there g c = λ now told other.
@@ -189,13 +189,13 @@ returns-in-Ok-Early-clause-as_before g c = λ told.
     c.in-Ok.ensures.same c.in-Ok.ensures.images c.in-Ok.ensures.time
 
 pub returns-in-Ok-Early-clause-input_faults : goal.returns-in-Ok-Early-clause-input_faults
-returns-in-Ok-Early-clause-input_faults g c = no_fault _ _ (c.in-Ok-Early.ensures.faults.unchanged (no_answer _ _)) (lacks early_ends InputFault refl c.tell_early.result c.tell_early.ensures.one_of)
+returns-in-Ok-Early-clause-input_faults g c = no_fault _ _ (c.in-Ok-Early.ensures.faults.unchanged (no_answer _ _)) (lacks early_ends InputFault refl c.write_early_end.result c.write_early_end.ensures.one_of)
 
 pub returns-in-Ok-Early-clause-out_faults : goal.returns-in-Ok-Early-clause-out_faults
-returns-in-Ok-Early-clause-out_faults g c = c.tell_early.ensures.faults
+returns-in-Ok-Early-clause-out_faults g c = c.write_early_end.ensures.faults
 
 pub returns-in-Ok-Early-clause-disk_faults : goal.returns-in-Ok-Early-clause-disk_faults
-returns-in-Ok-Early-clause-disk_faults g c = no_fault _ _ (c.in-Ok.ensures.cause.unchanged refl) c.tell_early.ensures.disk
+returns-in-Ok-Early-clause-disk_faults g c = no_fault _ _ (c.in-Ok.ensures.cause.unchanged refl) c.write_early_end.ensures.disk
 
 pub returns-in-Err-read_whole-clause-status : goal.returns-in-Err-read_whole-clause-status
 returns-in-Err-read_whole-clause-status g c = init_reading c.in-Err-read_whole.status c.in-Err-read_whole.ensures.read.2.0
@@ -226,7 +226,7 @@ pub returns-then-length-ne0-clause-told : goal.returns-then-length-ne0-clause-to
 returns-then-length-ne0-clause-told g c = ap is_some c.in-Ok.ensures.same
 
 pub returns-in-Ok-Items-clause-told : goal.returns-in-Ok-Items-clause-told
-returns-in-Ok-Items-clause-told g c = c.make_and_tell.ensures.told ∙ ap is_some c.in-Ok.ensures.same
+returns-in-Ok-Items-clause-told g c = c.make_and_answer.ensures.told ∙ ap is_some c.in-Ok.ensures.same
 
 pub returns-in-Ok-Early-clause-told : goal.returns-in-Ok-Early-clause-told
 returns-in-Ok-Early-clause-told g c = ap is_some c.in-Ok.ensures.same

@@ -59,48 +59,48 @@ returns-in-Err-clause-most g c = c.in-Err.ensures.most
 
 pub returns-clause-query : goal.returns-clause-query
 returns-clause-query g c =
-    let told = c.find_and_tell-status.ensures.told in
-    let looked = c.find_and_tell-status.ensures.disk.content in
+    let told = c.find_and_answer-status.ensures.told in
+    let looked = c.find_and_answer-status.ensures.disk.content in
     let node = c.in-Ok.node in (
       told.0,
       told.1,
       λ left.
           delivers_over (IsSoundOn node (g.D.Disk.reads_as c.open.new.disk)) (Query c.args.asked) (g.D.Disk.reads_as c.args.disk.now) node.chain
-          (g.D.Disk.images c.args.disk.now) (g.D.Disk.images c.find_and_tell-status.new.disk)
-          (g.D.Disk.left_since c.find_and_tell-status.new.disk (g.D.Disk.moment c.args.disk.now)) left [] told.0 c.find_and_tell-status.result (λ store found. found) c.in-Ok.ensures.kept
+          (g.D.Disk.images c.args.disk.now) (g.D.Disk.images c.find_and_answer-status.new.disk)
+          (g.D.Disk.left_since c.find_and_answer-status.new.disk (g.D.Disk.moment c.args.disk.now)) left [] told.0 c.find_and_answer-status.result (λ store found. found) c.in-Ok.ensures.kept
           (λ store found. found_sound node (g.D.Disk.reads_as c.args.disk.now) (g.D.Disk.reads_as c.open.new.disk) store c.in-Ok.ensures.kept c.in-Ok.ensures.told c.in-Ok.ensures.sound found)
           (λ whole. report_of_query c.args.asked node.chain) (λ whole. refl) (λ sound. told.2 sound left)
           (keeps_looked g.D.Disk.content_of g.D.Disk.reads_as g.D.Disk.images g.D.Disk.moment g.D.Disk.left_since g.met.D.Disk.content_rests g.met.D.Disk.counts_now
-          c.args.disk.now c.open.new.disk c.find_and_tell-status.new.disk node told.0 c.find_and_tell-status.result c.in-Ok.ensures.kept c.in-Ok.ensures.on c.in-Ok.ensures.moments looked),
+          c.args.disk.now c.open.new.disk c.find_and_answer-status.new.disk node told.0 c.find_and_answer-status.result c.in-Ok.ensures.kept c.in-Ok.ensures.on c.in-Ok.ensures.moments looked),
     )
 
 pub returns-clause-status : goal.returns-clause-status
-returns-clause-status g c = c.find_and_tell-status.ensures.status
+returns-clause-status g c = c.find_and_answer-status.ensures.status
 
 pub returns-clause-records : goal.returns-clause-records
 returns-clause-records g c = λ now chain told keeps.
-    opening_keeps g.D.Disk.images g.D.Disk.moment g.D.Disk.left_since g.met.D.Disk.counts_now c.args.disk.now c.find_and_tell-status.new.disk [] now chain keeps
+    opening_keeps g.D.Disk.images g.D.Disk.moment g.D.Disk.left_since g.met.D.Disk.counts_now c.args.disk.now c.find_and_answer-status.new.disk [] now chain keeps
     (leaves_looked g.D.Disk.content_of g.D.Disk.reads_as g.D.Disk.images g.D.Disk.moment g.D.Disk.left_since g.met.D.Disk.content_rests g.met.D.Disk.counts_now
-    c.args.disk.now c.open.new.disk c.find_and_tell-status.new.disk _ (c.in-Ok.ensures.left.keeps now told) c.find_and_tell-status.ensures.disk.content)
+    c.args.disk.now c.open.new.disk c.find_and_answer-status.new.disk _ (c.in-Ok.ensures.left.keeps now told) c.find_and_answer-status.ensures.disk.content)
 
 pub returns-clause-told : goal.returns-clause-told
 returns-clause-told g c =
     tells_looked g.D.Disk.content_of g.D.Disk.reads_as g.D.Disk.images g.D.Disk.moment g.D.Disk.left_since g.met.D.Disk.content_rests
-    c.args.disk.now c.open.new.disk c.find_and_tell-status.new.disk c.in-Ok.ensures.told c.find_and_tell-status.ensures.disk.content
+    c.args.disk.now c.open.new.disk c.find_and_answer-status.new.disk c.in-Ok.ensures.told c.find_and_answer-status.ensures.disk.content
 
 pub returns-clause-no_log : goal.returns-clause-no_log
 returns-clause-no_log g c = λ now told none. absurd (opened_there (g.D.Disk.reads_as c.args.disk.now) c.in-Ok.node.chain now c.in-Ok.ensures.kept told none)
 
 pub returns-clause-out_faults : goal.returns-clause-out_faults
-returns-clause-out_faults g c = c.find_and_tell-status.ensures.faults
+returns-clause-out_faults g c = c.find_and_answer-status.ensures.faults
 
 pub returns-clause-disk_faults : goal.returns-clause-disk_faults
-returns-clause-disk_faults g c = behind (c.in-Ok.ensures.cause.unchanged (no_answer _ _)) c.find_and_tell-status.ensures.disk.cause
+returns-clause-disk_faults g c = behind (c.in-Ok.ensures.cause.unchanged (no_answer _ _)) c.find_and_answer-status.ensures.disk.cause
 
 pub returns-clause-rests : goal.returns-clause-rests
 returns-clause-rests g c = λ now told other.
     only_read_looked g.D.Disk.content_of g.D.Disk.reads_as g.D.Disk.images g.D.Disk.moment g.D.Disk.left_since g.met.D.Disk.content_rests g.met.D.Disk.counts_now
-    c.args.disk.now c.open.new.disk c.find_and_tell-status.new.disk (c.in-Ok.ensures.left.rests now told other) c.find_and_tell-status.ensures.disk.content
+    c.args.disk.now c.open.new.disk c.find_and_answer-status.new.disk (c.in-Ok.ensures.left.rests now told other) c.find_and_answer-status.ensures.disk.content
 
 pub returns-clause-most : goal.returns-clause-most
 returns-clause-most g c = c.in-Ok.ensures.most

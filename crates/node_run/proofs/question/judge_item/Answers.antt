@@ -1,7 +1,7 @@
 use Rattle.std.proofs.Common.{ap, sym, ◌∙◌}
 use Rattle.std.specs.Prelude.{Some, None, Err}
 use Rattle.outside.proofs.Endings.{no_answer}
-use Rattle.block_judge.specs.declared.stop.Judged.TheVariants.{Read}
+use Rattle.block_judge.specs.declared.stop.JudgeStop.TheVariants.{Read}
 use Rattle.verdict_defs.specs.declared.trial.Trial.TheVariants.{Refused}
 use Rattle.node_run.proofs.Exits.{same_stop}
 use Rattle.node_run.proofs.LookLemmas.{looks_not, looks_found, looks_judged, looks_stopped_judging}

@@ -21,19 +21,19 @@ returns-in-Err-clause-question g c = (
 
 pub returns-clause-question : goal.returns-clause-question
 returns-clause-question g c =
-    let said = c.read_and_tell-status.ensures.answered in
-    let left = g.S.Source.left c.read_and_tell-status.new.input in (
+    let said = c.read_and_answer-status.ensures.answered in
+    let left = g.S.Source.left c.read_and_answer-status.new.input in (
       said.0,
       said.1,
       said.2,
       said.3,
       question_opened g.D.Disk.reads_as g.D.Disk.images g.D.Disk.moment g.D.Disk.left_since g.met.D.Disk.counts_now g.D.Disk.content_of g.met.D.Disk.content_rests
-          c.args.asked c.args.disk.now c.open.new.disk c.read_and_tell-status.new.disk c.in-Ok.node left said.0 said.1 c.read_and_tell-status.result
-          c.in-Ok.ensures.kept c.in-Ok.ensures.on c.in-Ok.ensures.moments c.in-Ok.ensures.sound c.in-Ok.ensures.told c.read_and_tell-status.ensures.disk.content said.4,
+          c.args.asked c.args.disk.now c.open.new.disk c.read_and_answer-status.new.disk c.in-Ok.node left said.0 said.1 c.read_and_answer-status.result
+          c.in-Ok.ensures.kept c.in-Ok.ensures.on c.in-Ok.ensures.moments c.in-Ok.ensures.sound c.in-Ok.ensures.told c.read_and_answer-status.ensures.disk.content said.4,
     )
 
 pub returns-clause-disk_faults : goal.returns-clause-disk_faults
-returns-clause-disk_faults g c = behind (c.in-Ok.ensures.cause.unchanged (no_answer _ _)) c.read_and_tell-status.ensures.disk.cause
+returns-clause-disk_faults g c = behind (c.in-Ok.ensures.cause.unchanged (no_answer _ _)) c.read_and_answer-status.ensures.disk.cause
 
 pub returns-clause-no_log : goal.returns-clause-no_log
 returns-clause-no_log g c = λ now told none. absurd (opened_there (g.D.Disk.reads_as c.args.disk.now) c.in-Ok.node.chain now c.in-Ok.ensures.kept told none)
@@ -44,7 +44,7 @@ returns-in-Err-clause-rests g c = c.in-Err.ensures.left.rests
 pub returns-clause-rests : goal.returns-clause-rests
 returns-clause-rests g c = λ now told other.
     only_read_looked g.D.Disk.content_of g.D.Disk.reads_as g.D.Disk.images g.D.Disk.moment g.D.Disk.left_since g.met.D.Disk.content_rests g.met.D.Disk.counts_now
-    c.args.disk.now c.open.new.disk c.read_and_tell-status.new.disk (c.in-Ok.ensures.left.rests now told other) c.read_and_tell-status.ensures.disk.content
+    c.args.disk.now c.open.new.disk c.read_and_answer-status.new.disk (c.in-Ok.ensures.left.rests now told other) c.read_and_answer-status.ensures.disk.content
 
 pub returns-in-Err-clause-most : goal.returns-in-Err-clause-most
 returns-in-Err-clause-most g c = c.in-Err.ensures.most
@@ -58,7 +58,7 @@ returns-in-Err-clause-told g c = c.in-Err.ensures.told
 pub returns-clause-told : goal.returns-clause-told
 returns-clause-told g c =
     tells_looked g.D.Disk.content_of g.D.Disk.reads_as g.D.Disk.images g.D.Disk.moment g.D.Disk.left_since g.met.D.Disk.content_rests
-    c.args.disk.now c.open.new.disk c.read_and_tell-status.new.disk c.in-Ok.ensures.told c.read_and_tell-status.ensures.disk.content
+    c.args.disk.now c.open.new.disk c.read_and_answer-status.new.disk c.in-Ok.ensures.told c.read_and_answer-status.ensures.disk.content
 
 pub returns-in-Err-clause-records : goal.returns-in-Err-clause-records
 returns-in-Err-clause-records g c = λ now chain told keeps.
@@ -66,6 +66,6 @@ returns-in-Err-clause-records g c = λ now chain told keeps.
 
 pub returns-clause-records : goal.returns-clause-records
 returns-clause-records g c = λ now chain told keeps.
-    opening_keeps g.D.Disk.images g.D.Disk.moment g.D.Disk.left_since g.met.D.Disk.counts_now c.args.disk.now c.read_and_tell-status.new.disk [] now chain keeps
+    opening_keeps g.D.Disk.images g.D.Disk.moment g.D.Disk.left_since g.met.D.Disk.counts_now c.args.disk.now c.read_and_answer-status.new.disk [] now chain keeps
     (leaves_looked g.D.Disk.content_of g.D.Disk.reads_as g.D.Disk.images g.D.Disk.moment g.D.Disk.left_since g.met.D.Disk.content_rests g.met.D.Disk.counts_now
-    c.args.disk.now c.open.new.disk c.read_and_tell-status.new.disk _ (c.in-Ok.ensures.left.keeps now told) c.read_and_tell-status.ensures.disk.content)
+    c.args.disk.now c.open.new.disk c.read_and_answer-status.new.disk _ (c.in-Ok.ensures.left.keeps now told) c.read_and_answer-status.ensures.disk.content)

@@ -19,14 +19,14 @@ pub returns-in-Err-clause-faults : goal.returns-in-Err-clause-faults
 returns-in-Err-clause-faults g c = no_fault _ _ refl (λ e. cc)
 
 pub returns-clause-text : goal.returns-clause-text
-returns-clause-text g c = let told = c.tell.ensures.told in (
+returns-clause-text g c = let told = c.write_answer.ensures.told in (
   told.0,
   told.1,
-  λ left. simulation_told c.args.simulation left told.0 (string_bytes c.in-Ok.text) c.tell.result c.in-Ok.ensures told.2,
+  λ left. simulation_told c.args.simulation left told.0 (string_bytes c.in-Ok.text) c.write_answer.result c.in-Ok.ensures told.2,
 )
 
 pub returns-clause-status : goal.returns-clause-status
 returns-clause-status g c =
-    let told = c.tell.ensures.told in
-    among (SinkFault ∷ Done ∷ []) simulation_statuses refl c.tell.result
-    (told_one (Done ∷ []) (string_bytes c.in-Ok.text) Done c.tell.result told.0 (inl refl) told.2)
+    let told = c.write_answer.ensures.told in
+    among (SinkFault ∷ Done ∷ []) simulation_statuses refl c.write_answer.result
+    (told_one (Done ∷ []) (string_bytes c.in-Ok.text) Done c.write_answer.result told.0 (inl refl) told.2)

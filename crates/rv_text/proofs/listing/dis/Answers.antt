@@ -1,6 +1,6 @@
 use Rattle.std.proofs.Common.{◌≡◌, ℕ, List, ◌++◌, drop, length, ap, sym, subst, ◌∙◌, ◌≤◌, length-drop, arith}
 use Rattle.std.proofs.lemmas.List.{take_rest}
-use Rattle.text_defs.specs.Listing.{front, line, lines_from}
+use Rattle.text_defs.specs.Listing.{first_part, line, lines_from}
 use Rattle.rv_text.proofs.ListingLaws.{begun, gone-on, ended}
 use Rattle.rv_text.proofs.listing.dis.Goals as goal
 
@@ -12,8 +12,8 @@ loop-at-init c =
 pub loop-at-preserved : goal.loop-at-preserved
 loop-at-preserved c =
     let so = c.loop-at.invariant in
-    let T : List ℕ → Type 0 = λ xs. c.line_of-line.result.0 ≡ line c.loop-at.at (front xs).0 in
-    let N : List ℕ → Type 0 = λ xs. c.line_of-line.result.1 ≡ (front xs).1 in
+    let T : List ℕ → Type 0 = λ xs. c.line_of-line.result.0 ≡ line c.loop-at.at (first_part xs).0 in
+    let N : List ℕ → Type 0 = λ xs. c.line_of-line.result.1 ≡ (first_part xs).1 in
     let rest = take_rest c.args.code.now c.loop-at.at in
     let L : List ℕ → Type 0 = λ xs. c.line_of-line.result.1 ≤ length xs in
     let within : c.line_of-line.result.1 ≤ length (drop c.loop-at.at c.args.code.now) = subst L rest c.line_of-line.ensures.within in

@@ -4,7 +4,7 @@ use Rattle.cell_model.specs.Copies.{ResolvedTxValue}
 use Rattle.sys_defs.specs.World.{Call}
 use Rattle.script_defs.specs.Items.{cell_at, listed}
 use Rattle.script_run.specs.declared.bytes.CellPart.{CellPart}
-use Rattle.script_run.specs.Looks.{cell_part}
+use Rattle.script_run.specs.Lookups.{cell_part}
 use Rattle.script_run.specs.Shown.{Shows, ShownTxValue}
 use Rattle.script_run.proofs.LookLemmas.{found, listed-to}
 use Rattle.script_run.proofs.items.cell.Goals as goal

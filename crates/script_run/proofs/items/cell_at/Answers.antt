@@ -7,7 +7,7 @@ use Rattle.codec_defs.specs.Schema.{CellOutput, Transaction}
 use Rattle.cell_model.specs.Copies.{ResolvedValue, ResolvedTxValue}
 use Rattle.script_defs.specs.Items.{OutputWithData, answer, cell_at, item_at, output_of}
 use Rattle.script_run.specs.declared.sources.Place.{Place}
-use Rattle.script_run.specs.Looks.{cell_part}
+use Rattle.script_run.specs.Lookups.{cell_part}
 use Rattle.script_run.specs.Places.{place_meaning}
 use Rattle.script_run.specs.Shown.{IsShownAs}
 use Rattle.script_run.proofs.LookLemmas.{found, mapped}

@@ -4,7 +4,7 @@ use Rattle.std.specs.List.{AllZip}
 use Rattle.cell_model.specs.Copies.{ResolvedTxValue}
 use Rattle.script_defs.specs.Items.{header_at, item_at}
 use Rattle.script_run.specs.declared.sources.Place.{Place}
-use Rattle.script_run.specs.Looks.{header_part}
+use Rattle.script_run.specs.Lookups.{header_part}
 use Rattle.script_run.specs.Places.{place_meaning}
 use Rattle.script_run.proofs.LookLemmas.{found, mapped, made-as}
 use Rattle.script_run.proofs.items.header_at.Goals as goal

@@ -7,7 +7,7 @@ use Rattle.sys_defs.specs.World.{Call}
 use Rattle.script_defs.specs.Items.{answer, input_at, listed}
 use Rattle.script_run.specs.declared.bytes.InputPart.{InputPart}
 use Rattle.script_run.specs.declared.sources.Place.TheVariants.{Input}
-use Rattle.script_run.specs.Looks.{input_part}
+use Rattle.script_run.specs.Lookups.{input_part}
 use Rattle.script_run.specs.declared.sources.Target.TheVariants.{At}
 use Rattle.script_run.proofs.LookLemmas.{found, listed-to, mapped}
 use Rattle.script_run.proofs.items.input.Goals as goal

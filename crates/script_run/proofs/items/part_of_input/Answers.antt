@@ -3,7 +3,7 @@ use Rattle.std.specs.Prelude.{slice_get}
 use Rattle.codec_defs.specs.Schema.{out_point}
 use Rattle.codec_defs.specs.Shape.{encoded}
 use Rattle.script_defs.specs.Items.{u64_bytes}
-use Rattle.script_run.specs.Looks.{input_part}
+use Rattle.script_run.specs.Lookups.{input_part}
 use Rattle.script_run.proofs.LookLemmas.{found, one-there, input-here}
 use Rattle.script_run.specs.declared.bytes.InputPart.TheVariants.{Whole, OutPoint, Since}
 use Rattle.script_run.proofs.items.part_of_input.Goals as goal

@@ -4,7 +4,7 @@ use Rattle.std.proofs.lemmas.Option.{slice_get_past}
 use Rattle.cell_defs.specs.Cell.{data_of}
 use Rattle.cell_defs.specs.Row.{Row}
 use Rattle.script_defs.specs.Items.{answer}
-use Rattle.script_run.specs.Looks.{cell_part}
+use Rattle.script_run.specs.Lookups.{cell_part}
 use Rattle.script_run.specs.Shown.{output_rows}
 use Rattle.script_run.proofs.LookLemmas.{found, as-many-rows, its-row, row-hashes, one-there}
 use Rattle.script_run.proofs.items.part_of_output.Goals as goal

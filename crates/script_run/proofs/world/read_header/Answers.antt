@@ -3,7 +3,7 @@ use Rattle.std.specs.Prelude.{Option, Err, IsSome, List}
 use Rattle.codec_defs.specs.Schema.{Block}
 use Rattle.chain_tree.specs.Told.{Stored}
 use Rattle.cell_model.proofs.CopyLemmas.{in-hand}
-use Rattle.script_run.specs.Looks.{bytes_of, header_part}
+use Rattle.script_run.specs.Lookups.{bytes_of, header_part}
 use Rattle.script_run.proofs.ReadLemmas.{some-stop}
 use Rattle.script_run.proofs.world.read_header.Goals as goal
 

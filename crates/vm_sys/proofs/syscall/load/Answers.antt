@@ -4,7 +4,7 @@ use Rattle.sys_defs.specs.World.{Here, Item, Unknown}
 use Rattle.sys_defs.specs.Answer.{asks, with_item}
 use Rattle.vm_sys.specs.declared.syscall.Sys.TheVariants.{Fault}
 use Rattle.vm_sys.specs.Answering.{IsAnswer}
-use Rattle.vm_sys.specs.Deeds.{form_meaning}
+use Rattle.vm_sys.specs.Actions.{form_meaning}
 use Rattle.vm_sys.proofs.Exits.{counts-as, item-found, known-before, no-stop, none-held, same-answer, same-stop}
 use Rattle.vm_sys.proofs.syscall.load.Goals as goal
 

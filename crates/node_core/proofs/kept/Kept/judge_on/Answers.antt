@@ -6,7 +6,7 @@ use Rattle.chain_defs.proofs.KeptLaws.{place_of-below}
 use Rattle.chain_tree.specs.Told.{blocks_of}
 use Rattle.chain_tree.proofs.ReadLemmas.{read_so}
 use Rattle.block_judge.specs.Stops.{stop_in}
-use Rattle.block_judge.specs.declared.stop.Judged.TheVariants.{Read}
+use Rattle.block_judge.specs.declared.stop.JudgeStop.TheVariants.{Read}
 use Rattle.block_defs.specs.Ext.{ext_of}
 use Rattle.block_defs.specs.Rules.{first_broken, broken_at_sight}
 use Rattle.verdict_defs.specs.Chain.{Chain}

@@ -2,8 +2,8 @@ use Rattle.std.proofs.Common.{◌≡◌, refl, sym, ap, ◌∙◌}
 use Rattle.std.specs.Prelude.{Err}
 use Rattle.outside.specs.declared.disk.ReadStop.TheVariants.{NoMemory}
 use Rattle.sys_defs.specs.World.{Here, NoIndex, Missing, Unknown}
-use Rattle.script_run.specs.declared.bytes.Look.TheVariants as look
-use Rattle.script_run.specs.Looks.{bytes_of, header_part, items_told}
+use Rattle.script_run.specs.declared.bytes.Lookup.TheVariants as look
+use Rattle.script_run.specs.Lookups.{bytes_of, header_part, items_told}
 use Rattle.chain_tree.specs.Reading.{stop_of}
 use Rattle.script_run.specs.Shown.{ShownTxValue}
 use Rattle.script_run.proofs.ReadLemmas.{counted-as, counted-stop, damage-no-fault, damage-no-want, damage-of-log, no-error, none-counted, not-there, some-stop}
@@ -17,7 +17,7 @@ returns-in-Here g c =
       told = refl;
       loans = refl;
       here = λ _. refl;
-      found = by-look world.tx.now.epoch_length world.tx.now.it world.group.now (g.B.Blocks.told world.blocks.now) c.args.call c.sought.result (look.Here c.in-Here.bytes) c.sought.ensures c.in-Here.is
+      found = by-look world.tx.now.epoch_length world.tx.now.it world.group.now (g.B.Blocks.told world.blocks.now) c.args.call c.look_up.result (look.Here c.in-Here.bytes) c.look_up.ensures c.in-Here.is
           (λ items. items c.args.call ≡ Here (bytes_of c.in-Here.bytes)) (λ stored scene told is. is);
       known = not-wanted (items_told world.tx.now.epoch_length world.tx.now.it world.group.now (g.B.Blocks.told world.blocks.now)) c.args.call _ (no-error _ _);
       cause = none-counted _ _ (no-error _ _);
@@ -33,7 +33,7 @@ returns-in-NoIndex g c =
       told = refl;
       loans = refl;
       here = λ is. absurd (cc);
-      found = by-look world.tx.now.epoch_length world.tx.now.it world.group.now (g.B.Blocks.told world.blocks.now) c.args.call c.sought.result look.NoIndex c.sought.ensures c.in-NoIndex.is
+      found = by-look world.tx.now.epoch_length world.tx.now.it world.group.now (g.B.Blocks.told world.blocks.now) c.args.call c.look_up.result look.NoIndex c.look_up.ensures c.in-NoIndex.is
           (λ items. items c.args.call ≡ NoIndex) (λ stored scene told is. is);
       known = not-wanted (items_told world.tx.now.epoch_length world.tx.now.it world.group.now (g.B.Blocks.told world.blocks.now)) c.args.call _ (no-error _ _);
       cause = none-counted _ _ (no-error _ _);
@@ -49,7 +49,7 @@ returns-in-Missing g c =
       told = refl;
       loans = refl;
       here = λ is. absurd (cc);
-      found = by-look world.tx.now.epoch_length world.tx.now.it world.group.now (g.B.Blocks.told world.blocks.now) c.args.call c.sought.result look.Missing c.sought.ensures c.in-Missing.is
+      found = by-look world.tx.now.epoch_length world.tx.now.it world.group.now (g.B.Blocks.told world.blocks.now) c.args.call c.look_up.result look.Missing c.look_up.ensures c.in-Missing.is
           (λ items. items c.args.call ≡ Missing) (λ stored scene told is. is);
       known = not-wanted (items_told world.tx.now.epoch_length world.tx.now.it world.group.now (g.B.Blocks.told world.blocks.now)) c.args.call _ (no-error _ _);
       cause = none-counted _ _ (no-error _ _);
@@ -65,7 +65,7 @@ returns-in-Unknown g c =
       told = refl;
       loans = refl;
       here = λ is. absurd (cc);
-      found = by-look world.tx.now.epoch_length world.tx.now.it world.group.now (g.B.Blocks.told world.blocks.now) c.args.call c.sought.result look.Unknown c.sought.ensures c.in-Unknown.is
+      found = by-look world.tx.now.epoch_length world.tx.now.it world.group.now (g.B.Blocks.told world.blocks.now) c.args.call c.look_up.result look.Unknown c.look_up.ensures c.in-Unknown.is
           (λ items. items c.args.call ≡ Unknown) (λ stored scene told is. is);
       known = not-wanted (items_told world.tx.now.epoch_length world.tx.now.it world.group.now (g.B.Blocks.told world.blocks.now)) c.args.call _ (no-error _ _);
       cause = none-counted _ _ (no-error _ _);
@@ -86,7 +86,7 @@ returns-in-Broken g c =
       cause = none-counted _ _ (damage-no-fault c.damaged.result _ c.damaged.ensures);
       answered = λ none. refl;
       undamaged = λ some damage is.
-          not-broken world.tx.now.epoch_length world.tx.now.it world.group.now (g.B.Blocks.told world.blocks.now) c.args.call c.sought.result c.sought.ensures c.in-Broken.is some;
+          not-broken world.tx.now.epoch_length world.tx.now.it world.group.now (g.B.Blocks.told world.blocks.now) c.args.call c.look_up.result c.look_up.ensures c.in-Broken.is some;
       damage = λ damage is. damage-of-log c.damaged.result damage c.damaged.ensures is;
     }
 
@@ -100,7 +100,7 @@ returns-in-Ok g c =
       told = ap (items_told world.tx.now.epoch_length world.tx.now.it world.group.now) read.told;
       loans = λ t. (world.blocks.ghost_name, read.loans t, read.told t, read.count t);
       here = λ _. refl;
-      found = by-look world.tx.now.epoch_length world.tx.now.it world.group.now (g.B.Blocks.told world.blocks.now) c.args.call c.sought.result (look.InBlock place part) c.sought.ensures c.in-InBlock.is
+      found = by-look world.tx.now.epoch_length world.tx.now.it world.group.now (g.B.Blocks.told world.blocks.now) c.args.call c.look_up.result (look.InBlock place part) c.look_up.ensures c.in-InBlock.is
           (λ items. items c.args.call ≡ Here (bytes_of c.in-Ok.bytes))
           (λ stored scene told is.
           let k = kept stored place _ is in
@@ -123,13 +123,13 @@ returns-in-Err g c =
       loans = λ t. (world.blocks.ghost_name, read.loans t, read.told t, read.count t);
       here = tt;
       found = tt;
-      known = by-look world.tx.now.epoch_length world.tx.now.it world.group.now (g.B.Blocks.told world.blocks.now) c.args.call c.sought.result (look.InBlock place part) c.sought.ensures c.in-InBlock.is
+      known = by-look world.tx.now.epoch_length world.tx.now.it world.group.now (g.B.Blocks.told world.blocks.now) c.args.call c.look_up.result (look.InBlock place part) c.look_up.ensures c.in-InBlock.is
           (λ items. items c.args.call ≡ Unknown → Err c.in-Err.stop ≡ Err NoMemory → ⊥)
           (λ stored scene told is unknown no_memory. let k = kept stored place _ is in here-or-unknown _ _ k.holds unknown);
       cause = counted-stop _ _ c.in-Err.stop read.cause;
       answered = λ none. read.found (λ damage is. none damage (ap Err (some-stop _ _ is)));
       undamaged = λ some damage is.
-          let t = block-told world.tx.now.epoch_length world.tx.now.it world.group.now (g.B.Blocks.told world.blocks.now) c.args.call c.sought.result place part c.sought.ensures c.in-InBlock.is some in
+          let t = block-told world.tx.now.epoch_length world.tx.now.it world.group.now (g.B.Blocks.told world.blocks.now) c.args.call c.look_up.result place part c.look_up.ensures c.in-InBlock.is some in
           c.in-Err.ensures.undamaged t.stored t.made t.told_are t.there damage (ap stop_of is);
       damage = λ damage is. read.damage damage (ap stop_of is);
     }

@@ -1,5 +1,5 @@
 use Rattle.std.proofs.Common.{rules}
-use Rattle.log_file.proofs.blocks.entry_behind.Goals as goal
+use Rattle.log_file.proofs.blocks.next_entry.Goals as goal
 
 pub returns-clause-may_stand : goal.returns-clause-may_stand
 returns-clause-may_stand c = search rules

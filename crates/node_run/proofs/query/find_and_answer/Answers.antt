@@ -9,7 +9,7 @@ use Rattle.node_run.proofs.Tables.{lacks}
 use Rattle.node_run.proofs.StoreLemmas.{query_stopped, query_told}
 use Rattle.node_run.proofs.Statuses as statuses
 use Rattle.node_run.proofs.Statuses.{opening_stop, opening_no_sink, query_opening, told_one}
-use Rattle.node_run.proofs.query.find_and_tell.Goals as goal
+use Rattle.node_run.proofs.query.find_and_answer.Goals as goal
 
 pub returns-in-Err-clause-told : goal.returns-in-Err-clause-told
 returns-in-Err-clause-told g c = (
@@ -31,19 +31,19 @@ pub returns-in-Err-clause-faults : goal.returns-in-Err-clause-faults
 returns-in-Err-clause-faults g c = no_fault _ _ refl (opening_no_sink c.in-Err.status (c.in-Err.ensures.stop c.in-Err.status refl))
 
 pub returns-clause-told : goal.returns-clause-told
-returns-clause-told g c = let told = c.tell_bytes.ensures.told in (
+returns-clause-told g c = let told = c.write_bytes.ensures.told in (
   told.0,
   told.1,
-  λ sound left. query_told c.args.query c.args.node.now.chain left told.0 c.deref.result.now c.tell_bytes.result (c.deref.ensures.value ∙ c.in-Ok.ensures.text sound) told.2,
+  λ sound left. query_told c.args.query c.args.node.now.chain left told.0 c.deref.result.now c.write_bytes.result (c.deref.ensures.value ∙ c.in-Ok.ensures.text sound) told.2,
 )
 
 pub returns-clause-status : goal.returns-clause-status
 returns-clause-status g c =
-    let told = c.tell_bytes.ensures.told in
-    statuses.query_told c.tell_bytes.result (told_one (Done ∷ []) c.deref.result.now Done c.tell_bytes.result told.0 (inl refl) told.2)
+    let told = c.write_bytes.ensures.told in
+    statuses.query_told c.write_bytes.result (told_one (Done ∷ []) c.deref.result.now Done c.write_bytes.result told.0 (inl refl) told.2)
 
 pub returns-clause-disk : goal.returns-clause-disk
 returns-clause-disk g c = looks_well c.in-Ok.ensures.disk (no_answer _ _) (λ e.
-    let told = c.tell_bytes.ensures.told in
-    lacks (SinkFault ∷ Done ∷ []) DiskFault refl c.tell_bytes.result
-    (told_one (Done ∷ []) c.deref.result.now Done c.tell_bytes.result told.0 (inl refl) told.2) e)
+    let told = c.write_bytes.ensures.told in
+    lacks (SinkFault ∷ Done ∷ []) DiskFault refl c.write_bytes.result
+    (told_one (Done ∷ []) c.deref.result.now Done c.write_bytes.result told.0 (inl refl) told.2) e)

@@ -8,42 +8,42 @@ use Rattle.node_run.proofs.Exits.{same_stop}
 use Rattle.node_run.proofs.Statuses.{disk_stops}
 use Rattle.node_run.proofs.WholeReports.{told_said}
 use Rattle.node_run.proofs.InitLemmas.{told_new, told_as, told_no_disk_fault, IsMakingStop, making_stop, making_stopped}
-use Rattle.node_run.proofs.init.make_and_tell.Goals as goal
+use Rattle.node_run.proofs.init.make_and_answer.Goals as goal
 
 -- ---- The store was made, or a rule is broken
 
 pub returns-in-Ok-clause-said : goal.returns-in-Ok-clause-said
 returns-in-Ok-clause-said g c =
-    let told = c.tell.ensures.told in (
+    let told = c.write_answer.ensures.told in (
       told.0,
       told.1,
-      told_said (report_of_new c.args.specification.now c.args.genesis.now) (string_bytes c.in-Ok.answer.text) c.in-Ok.answer.status c.tell.result told.0
+      told_said (report_of_new c.args.specification.now c.args.genesis.now) (string_bytes c.in-Ok.answer.text) c.in-Ok.answer.status c.write_answer.result told.0
           c.in-Ok.ensures.text c.in-Ok.ensures.status told.2,
     )
 
 pub returns-in-Ok-clause-status : goal.returns-in-Ok-clause-status
 returns-in-Ok-clause-status g c =
-    told_new (string_bytes c.in-Ok.answer.text) c.in-Ok.answer.status c.tell.result c.tell.ensures.told.0
-    c.in-Ok.ensures.one_of c.tell.ensures.told.2
+    told_new (string_bytes c.in-Ok.answer.text) c.in-Ok.answer.status c.write_answer.result c.write_answer.ensures.told.0
+    c.in-Ok.ensures.one_of c.write_answer.ensures.told.2
 
 pub returns-in-Ok-clause-made : goal.returns-in-Ok-clause-made
 returns-in-Ok-clause-made g c = λ there done.
-    c.in-Ok.ensures.made there (told_as Done (string_bytes c.in-Ok.answer.text) c.in-Ok.answer.status c.tell.result c.tell.ensures.told.0
-    (λ e. cc) c.tell.ensures.told.2 done)
+    c.in-Ok.ensures.made there (told_as Done (string_bytes c.in-Ok.answer.text) c.in-Ok.answer.status c.write_answer.result c.write_answer.ensures.told.0
+    (λ e. cc) c.write_answer.ensures.told.2 done)
 
 pub returns-in-Ok-clause-unmade : goal.returns-in-Ok-clause-unmade
 returns-in-Ok-clause-unmade g c = λ bad.
-    c.in-Ok.ensures.unmade (told_as BadGenesis (string_bytes c.in-Ok.answer.text) c.in-Ok.answer.status c.tell.result c.tell.ensures.told.0
-    (λ e. cc) c.tell.ensures.told.2 bad)
+    c.in-Ok.ensures.unmade (told_as BadGenesis (string_bytes c.in-Ok.answer.text) c.in-Ok.answer.status c.write_answer.result c.write_answer.ensures.told.0
+    (λ e. cc) c.write_answer.ensures.told.2 bad)
 
 pub returns-in-Ok-clause-out_faults : goal.returns-in-Ok-clause-out_faults
-returns-in-Ok-clause-out_faults g c = c.tell.ensures.faults
+returns-in-Ok-clause-out_faults g c = c.write_answer.ensures.faults
 
 pub returns-in-Ok-clause-disk_faults : goal.returns-in-Ok-clause-disk_faults
 returns-in-Ok-clause-disk_faults g c =
     no_fault _ _ (c.in-Ok.ensures.cause.unchanged (no_answer _ _))
-    (told_no_disk_fault (string_bytes c.in-Ok.answer.text) c.in-Ok.answer.status c.tell.result c.tell.ensures.told.0
-    c.in-Ok.ensures.one_of c.tell.ensures.told.2)
+    (told_no_disk_fault (string_bytes c.in-Ok.answer.text) c.in-Ok.answer.status c.write_answer.result c.write_answer.ensures.told.0
+    c.in-Ok.ensures.one_of c.write_answer.ensures.told.2)
 
 -- ---- The making was stopped
 

@@ -1,5 +1,5 @@
 use Rattle.log_file.proofs.Pieces.{told_front}
-use Rattle.log_file.proofs.reading.read_behind.Goals as goal
+use Rattle.log_file.proofs.reading.read_after.Goals as goal
 
 pub returns-clause-bytes : goal.returns-clause-bytes
 returns-clause-bytes g c =

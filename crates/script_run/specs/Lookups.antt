@@ -26,8 +26,8 @@ use Rattle.script_run.specs.declared.bytes.InputPart.{InputPart}
 use Rattle.script_run.specs.declared.bytes.InputPart.TheVariants as input
 use Rattle.script_run.specs.declared.bytes.Load.{Load}
 use Rattle.script_run.specs.declared.bytes.Load.TheVariants as load
-use Rattle.script_run.specs.declared.bytes.Look.{Look}
-use Rattle.script_run.specs.declared.bytes.Look.TheVariants.{Here, InBlock, NoIndex, Missing, Unknown, Broken}
+use Rattle.script_run.specs.declared.bytes.Lookup.{Lookup}
+use Rattle.script_run.specs.declared.bytes.Lookup.TheVariants.{Here, InBlock, NoIndex, Missing, Unknown, Broken}
 
 abbrev pub bytes_of : Bytes → List ℕ
 bytes_of (Slice bytes) = bytes.now
@@ -80,7 +80,7 @@ pub record ShowsHeaders (headers : ℕ → Option Header) (it : ResolvedTxValue)
 -- ---- What is found
 
 -- What is found is the item, with what the headers of kept blocks say. A copy that is no output is none.
-abbrev pub IsFound : (ℕ → Option Header) → ℕ → Item → Look → Type 0
+abbrev pub IsFound : (ℕ → Option Header) → ℕ → Item → Lookup → Type 0
 IsFound headers epoch_length item (Here bytes) = item ≡ world.Here (bytes_of bytes)
 IsFound headers epoch_length item (InBlock place part) = IsSomeAnd (headers place) (λ h. item ≡ world.Here (header_part epoch_length part h))
 IsFound headers epoch_length item NoIndex = item ≡ world.NoIndex

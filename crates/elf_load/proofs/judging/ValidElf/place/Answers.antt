@@ -1,5 +1,5 @@
 use Rattle.vm_defs.specs.Elf.{program_of}
-use Rattle.elf_load.proofs.judging.Judged.place.Goals as goal
+use Rattle.elf_load.proofs.judging.ValidElf.place.Goals as goal
 
 pub returns-clause-placed : goal.returns-clause-placed
 unfolding program_of

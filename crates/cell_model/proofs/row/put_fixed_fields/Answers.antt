@@ -3,7 +3,7 @@ use Rattle.std.specs.Int.{w32, w64, to_le_bytes}
 use Rattle.codec_defs.specs.Schema.{OutPoint}
 use Rattle.cell_defs.specs.Row.{Row}
 use Rattle.cell_model.proofs.RowLemmas.{put_more}
-use Rattle.cell_model.proofs.row.put_front.Goals as goal
+use Rattle.cell_model.proofs.row.put_fixed_fields.Goals as goal
 
 pub returns : goal.returns
 returns c =

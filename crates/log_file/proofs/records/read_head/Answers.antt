@@ -2,7 +2,7 @@ use Rattle.std.proofs.Common.{Err, ap}
 use Rattle.log_file.specs.Grammar.{blocks_with}
 use Rattle.log_file.proofs.Exits.{on_each, no_error, stop_counts, answer_counts, answer_still, counts_on, as_before_then, same_stop}
 use Rattle.log_file.proofs.Front.{told_wrong_start, told_wrong_spec, told_wrong_genesis, told_begun}
-use Rattle.log_file.proofs.records.read_front.Goals as goal
+use Rattle.log_file.proofs.records.read_head.Goals as goal
 
 pub returns-in-Err-clause-wrong : goal.returns-in-Err-clause-wrong
 returns-in-Err-clause-wrong g c = told_wrong_start _ c.args.reader.now _ _ (λ e. ap Err (same_stop _ _ e)) c.in-Err.ensures.wrong

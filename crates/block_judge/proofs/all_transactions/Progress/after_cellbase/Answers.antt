@@ -4,7 +4,7 @@ use Rattle.cell_defs.specs.Row.{row_after}
 use Rattle.block_judge.specs.Changes.{with_changes}
 use Rattle.block_judge.proofs.ChangeLemmas.{row_after-same}
 use Rattle.block_judge.proofs.NextLemmas.{few-cycles}
-use Rattle.block_judge.proofs.all_transactions.Progress.behind.Goals as goal
+use Rattle.block_judge.proofs.all_transactions.Progress.after_cellbase.Goals as goal
 
 pub returns-clause-rows : goal.returns-clause-rows
 returns-clause-rows g c height o above =

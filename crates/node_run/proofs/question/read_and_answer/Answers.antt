@@ -17,14 +17,14 @@ use Rattle.node_run.proofs.WholeReports.{whole_no_further}
 use Rattle.node_run.proofs.Statuses as statuses
 use Rattle.node_run.proofs.Statuses.{reading_stops, opening_stop, told_one}
 use Rattle.node_run.proofs.Exits.{same_stop}
-use Rattle.node_run.proofs.question.read_and_tell.Goals as goal
+use Rattle.node_run.proofs.question.read_and_answer.Goals as goal
 
 -- ---- The input ends early
 
 pub returns-in-Ok-Early-clause-answered : goal.returns-in-Ok-Early-clause-answered
 returns-in-Ok-Early-clause-answered g c =
     let read = c.in-Ok-Early.ensures.read in
-    let said = c.tell_early.ensures.said in
+    let said = c.write_early_end.ensures.said in
     let left = g.S.Source.left c.read_items.new.input in
     let early : EndsEarly (question_items c.args.question) left c.in-Ok-Early.end c.in-Ok-Early.offset read.0 =
     subst (λ (w : Whole). IsReadWhole (question_items c.args.question) left (Ok w) read.0) c.in-Ok-Early.field-0-is read.2 in (
@@ -32,21 +32,21 @@ returns-in-Ok-Early-clause-answered g c =
       said.0,
       read.1,
       said.1,
-      λ sound. question_early c.args.question c.args.node.now.chain left read.0 said.0 c.in-Ok-Early.end c.in-Ok-Early.offset c.tell_early.result early said.2,
+      λ sound. question_early c.args.question c.args.node.now.chain left read.0 said.0 c.in-Ok-Early.end c.in-Ok-Early.offset c.write_early_end.result early said.2,
     )
 
 pub returns-in-Ok-Early-clause-status : goal.returns-in-Ok-Early-clause-status
-returns-in-Ok-Early-clause-status g c = statuses.question_early c.tell_early.result c.tell_early.ensures.one_of
+returns-in-Ok-Early-clause-status g c = statuses.question_early c.write_early_end.result c.write_early_end.ensures.one_of
 
 pub returns-in-Ok-Early-clause-disk : goal.returns-in-Ok-Early-clause-disk
-returns-in-Ok-Early-clause-disk g c = looks_not c.args.disk.now (lacks early_ends DiskFault refl c.tell_early.result c.tell_early.ensures.one_of)
+returns-in-Ok-Early-clause-disk g c = looks_not c.args.disk.now (lacks early_ends DiskFault refl c.write_early_end.result c.write_early_end.ensures.one_of)
 
 pub returns-in-Ok-Early-clause-input_faults : goal.returns-in-Ok-Early-clause-input_faults
 returns-in-Ok-Early-clause-input_faults g c =
-    no_fault _ _ (c.in-Ok-Early.ensures.faults.unchanged (no_answer _ _)) (lacks early_ends InputFault refl c.tell_early.result c.tell_early.ensures.one_of)
+    no_fault _ _ (c.in-Ok-Early.ensures.faults.unchanged (no_answer _ _)) (lacks early_ends InputFault refl c.write_early_end.result c.write_early_end.ensures.one_of)
 
 pub returns-in-Ok-Early-clause-out_faults : goal.returns-in-Ok-Early-clause-out_faults
-returns-in-Ok-Early-clause-out_faults g c = c.tell_early.ensures.faults
+returns-in-Ok-Early-clause-out_faults g c = c.write_early_end.ensures.faults
 
 -- ---- The reading was stopped
 
@@ -120,7 +120,7 @@ returns-clause-out_faults g c =
 pub returns-in-Ok-clause-answered : goal.returns-in-Ok-clause-answered
 returns-in-Ok-clause-answered g c =
     let read = c.in-Ok-Items.ensures.read in
-    let told = c.tell.ensures.told in
+    let told = c.write_answer.ensures.told in
     let left = g.S.Source.left c.read_items.new.input in
     let items = map (λ item. item.items) c.deref.result.now in
     let whole : IsWhole (question_items c.args.question) left (map (λ item. item.items) c.in-Ok-Items.items.items) read.0 =
@@ -130,25 +130,25 @@ returns-in-Ok-clause-answered g c =
       told.0,
       read.1,
       told.1,
-      λ sound. question_judged c.args.question c.args.node.now.chain left items read.0 told.0 (string_bytes c.in-Ok.answer.text) c.in-Ok.answer.status c.tell.result
+      λ sound. question_judged c.args.question c.args.node.now.chain left items read.0 told.0 (string_bytes c.in-Ok.answer.text) c.in-Ok.answer.status c.write_answer.result
           here (c.in-Ok.ensures.answer sound) c.in-Ok.ensures.one_of told.2,
     )
 
 pub returns-in-Ok-clause-status : goal.returns-in-Ok-clause-status
 returns-in-Ok-clause-status g c =
-    statuses.question_told c.tell.result (told_one (Done ∷ SomeRefused ∷ []) (string_bytes c.in-Ok.answer.text) c.in-Ok.answer.status c.tell.result
-    c.tell.ensures.told.0 c.in-Ok.ensures.one_of c.tell.ensures.told.2)
+    statuses.question_told c.write_answer.result (told_one (Done ∷ SomeRefused ∷ []) (string_bytes c.in-Ok.answer.text) c.in-Ok.answer.status c.write_answer.result
+    c.write_answer.ensures.told.0 c.in-Ok.ensures.one_of c.write_answer.ensures.told.2)
 
 pub returns-in-Ok-clause-disk : goal.returns-in-Ok-clause-disk
 returns-in-Ok-clause-disk g c = looks_well c.in-Ok.ensures.disk (no_answer _ _)
-    (lacks (SinkFault ∷ Done ∷ SomeRefused ∷ []) DiskFault refl c.tell.result (told_one (Done ∷ SomeRefused ∷ []) (string_bytes c.in-Ok.answer.text) c.in-Ok.answer.status c.tell.result
-    c.tell.ensures.told.0 c.in-Ok.ensures.one_of c.tell.ensures.told.2))
+    (lacks (SinkFault ∷ Done ∷ SomeRefused ∷ []) DiskFault refl c.write_answer.result (told_one (Done ∷ SomeRefused ∷ []) (string_bytes c.in-Ok.answer.text) c.in-Ok.answer.status c.write_answer.result
+    c.write_answer.ensures.told.0 c.in-Ok.ensures.one_of c.write_answer.ensures.told.2))
 
 pub returns-in-Ok-clause-input_faults : goal.returns-in-Ok-clause-input_faults
 returns-in-Ok-clause-input_faults g c =
     no_fault _ _ (c.in-Ok-Items.ensures.faults.unchanged (no_answer _ _))
-    (lacks (SinkFault ∷ Done ∷ SomeRefused ∷ []) InputFault refl c.tell.result (told_one (Done ∷ SomeRefused ∷ []) (string_bytes c.in-Ok.answer.text) c.in-Ok.answer.status c.tell.result
-    c.tell.ensures.told.0 c.in-Ok.ensures.one_of c.tell.ensures.told.2))
+    (lacks (SinkFault ∷ Done ∷ SomeRefused ∷ []) InputFault refl c.write_answer.result (told_one (Done ∷ SomeRefused ∷ []) (string_bytes c.in-Ok.answer.text) c.in-Ok.answer.status c.write_answer.result
+    c.write_answer.ensures.told.0 c.in-Ok.ensures.one_of c.write_answer.ensures.told.2))
 
 pub returns-in-Ok-clause-out_faults : goal.returns-in-Ok-clause-out_faults
-returns-in-Ok-clause-out_faults g c = c.tell.ensures.faults
+returns-in-Ok-clause-out_faults g c = c.write_answer.ensures.faults

@@ -6,10 +6,10 @@ use Rattle.chain_defs.specs.Hashes.{transaction_hash}
 use Rattle.cell_model.specs.Copies.{ResolvedTxValue}
 use Rattle.sys_defs.specs.World.{Here}
 use Rattle.script_defs.specs.Items.{header_at, listed}
-use Rattle.script_run.specs.Looks.{ShowsHeaders, header_part}
+use Rattle.script_run.specs.Lookups.{ShowsHeaders, header_part}
 use Rattle.script_run.specs.Shown.{GroupValue, Shows, ShownTxValue}
 use Rattle.script_run.proofs.LookLemmas.{found}
-use Rattle.script_run.proofs.items.sought.Goals as goal
+use Rattle.script_run.proofs.items.look_up.Goals as goal
 
 pub returns-in-Transaction : goal.returns-in-Transaction
 returns-in-Transaction c headers scene shows among same =
