@@ -4,6 +4,7 @@ ghost use Rattle.std.specs.Prelude.{◌≡◌, ◌≢◌, ◌⊎◌, ℕ, ◌^�
 ghost use Rattle.vm_defs.specs.Program.{new_machine};
 ghost use Rattle.vm_defs.specs.Step.{charged, is_spent, register, step_of, with_register};
 ghost use Rattle.vm_mem.specs.Pages.{IsAllocated};
+ghost use Rattle.vm_mem.specs.Slots.{IsKept};
 ghost use Rattle.vm_step.specs.Lending.{LendsMemory};
 ghost use Rattle.vm_step.specs.Running.{HasRoom, IsStep, IsStoredTo, LeavesRoom, Stops, Touches, goes_on_after, machine_at, next_range};
 
@@ -11,7 +12,7 @@ use super::fault::{NO_INSTRUCTION, fault_number};
 use super::place::Place;
 use std::marker::Model;
 use vm_defs::Step;
-use vm_mem::{Memory, kept_form};
+use vm_mem::{Memory, Slot, kept_form};
 
 const STACK_POINTER: u64 = 0x3f_fff0;
 
@@ -22,7 +23,7 @@ const STACK_POINTER: u64 = 0x3f_fff0;
 #[derive(Drop)]
 pub struct Machine {
     pub(crate) memory: Memory,
-    // x0 is never written, so that it reads as 0.
+    // x0 is made 0 again after each write, so that it reads as 0.
     pub(crate) registers: [u64; 32],
     pub(crate) place: Place,
     pub(crate) budget: u64,
@@ -106,9 +107,10 @@ impl Machine {
         ensures pages_added { (page : ℕ) → IsAllocated self.new.allocated page → IsAllocated self.old.allocated page ⊎ IsStoredTo self.old.machine page }
     {
         let mut place = self.place;
+        let mut slot = self.memory.slot(place.pc);
         'steps: loop {
-            match self.go(&mut place) {
-                Step::Went => {}
+            match self.go(&mut place, slot) {
+                Step::Went => slot = self.memory.slot(place.pc),
                 answer => {
                     self.place = place;
                     return answer;
@@ -152,9 +154,8 @@ impl Machine {
         requires { i < 32 }
         ensures { self.new ≡ record self.old { machine = with_register self.old.machine i value } }
     {
-        if i != 0 {
-            self.registers[i as usize] = value;
-        }
+        self.registers[i as usize] = value;
+        self.registers[0] = 0;
     }
 
     /// The cycles so far.
@@ -179,12 +180,14 @@ impl Machine {
         &mut self.memory
     }
 
-    // One step of a run. An instruction that is kept has its effect at once, and any other step is made by `step`. The effect
-    // stands here twice, so that the next program counter waits for no length.
+    // One step of a run, with the slot of the program counter, which is looked up at the end of the step before: so what
+    // an instruction answers is looked at where it is made. One that is kept has its effect at once, and any other step is
+    // made by `step`. The effect stands here twice, so that the next program counter waits for no length.
     #[inline(always)]
-    fn go(&mut self, place: &mut Place) -> Step
+    fn go(&mut self, place: &mut Place, slot: Slot) -> Step
         requires goes_on { self.old.goes_on ≡ true }
         requires within { place.old.cycles ≤ self.old.machine.budget }
+        requires kept { slot.at ≡ place.old.pc → IsKept self.old.machine.memory slot }
         ensures steps { IsStep (step_of (machine_at self.old place.old)) (machine_at self.old place.old) (machine_at self.new place.new) result }
         ensures goes_on { self.new.goes_on ≡ goes_on_after result }
         ensures within { self.new.goes_on ≡ true → place.new.cycles ≤ self.new.machine.budget }
@@ -193,7 +196,6 @@ impl Machine {
         ensures pages_kept { (page : ℕ) → IsAllocated self.old.allocated page → IsAllocated self.new.allocated page }
         ensures pages_added { (page : ℕ) → IsAllocated self.new.allocated page → IsAllocated self.old.allocated page ⊎ Touches (next_range (machine_at self.old place.old)) page }
     {
-        let slot = self.memory.slot(place.pc);
         if u64::from(slot.at) != place.pc {
             return self.step_apart(place);
         }

@@ -1,5 +1,6 @@
 use Rattle.std.proofs.Common.{ap, subst, sym, ◌∙◌}
 use Rattle.vm_mem.specs.Pages.{IsAllocated}
+use Rattle.vm_mem.specs.Slots.{IsKept}
 use Rattle.vm_step.specs.Running.{RunningMachine, LeavesRoom, Stops, goes_on_after, machine_at, with_place}
 use Rattle.vm_step.proofs.Going.{added-more, fewer-left, going-more, leaves-room, stops}
 use Rattle.vm_step.proofs.machine.Machine.run.Goals as goal
@@ -14,6 +15,8 @@ steps-preserved c =
       going-more c.args.self.now (with_place c.steps.self c.steps.place) (with_place c.go.new.self c.go.new.place) c.go.result
           c.steps.invariant.0 c.in-Went.is c.go.ensures.steps c.go.ensures.pages_kept c.go.ensures.pages_added c.go.ensures.allocated on,
       c.go.ensures.within on,
+      λ at-is. subst (λ (running : RunningMachine). IsKept running.machine.memory c.slot-slot-in-Went.result) c.self-in-steps.view_is
+          (c.slot-slot-in-Went.ensures at-is),
     )
 
 pub returns-in_default : goal.returns-in_default
