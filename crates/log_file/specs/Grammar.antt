@@ -38,7 +38,7 @@ ext_in r = elim (parts_of_body r.body) [
   | Some parts ↦ parts.1
 ]
 
--- The record is that of this block, some bytes of which it is, with this ext.
+-- the record is that of this canonical block with this ext
 pub record HoldsBlock (r : Record) (block : Block) (ext : List ℕ) : Type 0 where
   pub canonical : IsCanonical block
   pub form : IsTrue (is_ext ext)

@@ -11,7 +11,7 @@ ghost use Rattle.window_defs.specs.Window as window;
 
 use chain_tree::{Blocks, Tree};
 use mol_schema::{BlockView, UncleView};
-use outside::{Area, Damage, NoMemory, ReadStop};
+use outside::{Damage, NoMemory, ReadStop};
 use std::alloc::Global;
 
 /// A proposal id of a block.

@@ -17,7 +17,7 @@ use crate::ids::ids_at;
 use crate::proposers::window_of;
 use chain_tree::{Blocks, Tree};
 use epochs::Spec;
-use outside::{Area, Damage, NoMemory, ReadStop};
+use outside::{Damage, NoMemory, ReadStop};
 use std::alloc::Global;
 use std::collections::HashSet;
 use std::marker::Model;

@@ -11,7 +11,7 @@ ghost use Rattle.window_defs.specs.Window as window;
 
 use chain_tree::{Blocks, Tree};
 use mol_schema::{BlockView, UncleView};
-use outside::{Area, Damage, ReadStop};
+use outside::{Damage, ReadStop};
 
 /// Whether the id is among the block's own.
 fn is_own(block: &BlockView<'_>, id: &[u8]) -> bool

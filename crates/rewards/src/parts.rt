@@ -19,7 +19,7 @@ use crate::proposals::proposed_by;
 use chain_tree::{Blocks, Tree};
 use dao_math::{Dao, miner_share};
 use epochs::{Spec, primary, share};
-use outside::{Area, Damage, ReadStop};
+use outside::{Damage, ReadStop};
 use std::alloc::Global;
 
 /// What the block at a height is issued: its primary share, and the miner's part of its secondary share.

@@ -1,5 +1,5 @@
 // What surrounds the script of a group, and the run of its code there.
-ghost use Rattle.std.specs.Prelude.{◌≡◌, ◌^◌, ◌*◌, ◌<◌, ◌≤◌, List, Some, Err, IfOk, IsSomeAnd, length, slice_get};
+ghost use Rattle.std.specs.Prelude.{◌≡◌, ◌^◌, ◌*◌, ◌<◌, ◌≤◌, List, Some, Err, IfOk, length, slice_get};
 ghost use Rattle.outside.specs.declared.disk.Damage.{Damage};
 ghost use Rattle.outside.specs.declared.disk.ReadStop.TheVariants.{Damaged};
 ghost use Rattle.vm_defs.specs.Program.{execution};
@@ -7,7 +7,7 @@ ghost use Rattle.sys_defs.specs.Answer.{syscall};
 ghost use Rattle.program_run.specs.Program.{execution_of};
 ghost use Rattle.chain_tree.specs.Told.{Stored};
 ghost use Rattle.chain_tree.specs.Reading.{HasRead, stop_of};
-ghost use Rattle.codec_defs.specs.Schema.{Block, Header, header};
+ghost use Rattle.codec_defs.specs.Schema.{Header, header};
 ghost use Rattle.codec_defs.specs.Shape.{IsA};
 ghost use Rattle.time_defs.specs.Epochs.{epoch_number};
 ghost use Rattle.script_run.specs.Lookups.{bytes_of, header_part};
