@@ -3,3 +3,4 @@ pub mod Stops
 pub mod ByRows
 pub mod Changes
 pub mod Progress
+pub mod Appending

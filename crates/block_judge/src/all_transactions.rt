@@ -22,7 +22,6 @@ ghost use Rattle.reward_defs.specs.Field.{freed_by, freed_from, interest_from};
 ghost use Rattle.rule_names.specs.Number.{rule_number};
 ghost use Rattle.rule_names.specs.declared.rule.Rule.{Rule};
 ghost use Rattle.block_judge.specs.declared.stop.JudgeStop.TheVariants.{Broken, Read};
-ghost use Rattle.block_judge.specs.Changes.{with_changes};
 ghost use Rattle.block_judge.specs.Progress.{AreProposed, CanMove};
 ghost use Rattle.block_judge.specs.Standing.{IsTriedOnTransaction, StandsFor, seen};
 ghost use Rattle.block_judge.specs.Stops.{read_stop_of};
@@ -39,7 +38,7 @@ use mol_schema::{BlockView, TxView};
 use outside::{NoMemory, ReadStop};
 use proposal_window::Proposed;
 use std::alloc::Global;
-use tx_rules::TxAt;
+use tx_rules::{Own, TxAt};
 
 /// What the transactions of a block come to: their ext, the interest that they withdraw and what the cells occupy that
 /// they spend, in shannons.
@@ -95,8 +94,7 @@ impl<'a, C: Cells> Progress<'a, C> {
         ensures interest { IfOk result (λ progress. progress.interest ≡ pos 0) }
         ensures freed { IfOk result (λ progress. progress.freed ≡ 0) }
         ensures rows { IfOk result (λ progress. (height : ℕ) (o : OutPoint) → 0 < height
-            → with_changes progress.cells.changed (C.rows progress.cells.base.now) o
-            ≡ row_after (length at.now.entries) (events_of cellbase.now height 0) (C.rows cells.now) o) }
+            → progress.cells o ≡ row_after (length at.now.entries) (events_of cellbase.now height 0) (C.rows cells.now) o) }
     {
         let spec = at.spec;
         let mut cells = BlockCells::of(alloc, cells);
@@ -134,8 +132,7 @@ impl<'a, C: Cells> Progress<'a, C> {
         ensures fees { OnOk result (self.new.ext.fees ≡ self.old.ext.fees ++ taken.now.fee ∷ []) }
         ensures spent { OnOk result (self.new.ext.spent ≡ self.old.ext.spent ++ filter (λ it. nat_lt it.1.block e) (map row_in taken.now.inputs.items)) }
         ensures rows { OnOk result ((height : ℕ) (o : OutPoint) → 0 < height
-            → with_changes self.new.cells.changed (C.rows self.new.cells.base.now) o
-            ≡ row_after e (events_of tx.now height place) (with_changes self.old.cells.changed (C.rows self.old.cells.base.now)) o) }
+            → self.new.cells o ≡ row_after e (events_of tx.now height place) self.old.cells o) }
     {
         self.cells.take(tx, &taken.hash, place, e)?;
         push_ext(&mut self.ext, taken, e)?;
@@ -168,33 +165,32 @@ impl<'a, C: Cells> Progress<'a, C> {
         ensures moved { OnOk result (CanMove (place + 1) self.new.interest self.new.freed) }
         ensures fees { OnOk result (length self.new.ext.fees ≡ length self.old.ext.fees + 1) }
         ensures rows { OnOk result ((height : ℕ) (o : OutPoint) → 0 < height
-            → with_changes self.new.cells.changed (C.rows self.new.cells.base.now) o
-            ≡ row_after (length at.now.entries) (events_of tx.now height place) (with_changes self.old.cells.changed (C.rows self.old.cells.base.now)) o) }
+            → self.new.cells o ≡ row_after (length at.now.entries) (events_of tx.now height place) self.old.cells o) }
 
         // At the site that its cells make.
         ensures broken { (stored : List Stored) (site : Site) → B.told blocks.old ≡ Some stored
-            → IsSiteOf stored at.now (with_changes self.old.cells.changed (C.rows self.old.cells.base.now)) site → AreProposed site.spec site.branch proposed.now
+            → IsSiteOf stored at.now self.old.cells site → AreProposed site.spec site.branch proposed.now
             → (rule : Rule) → result ≡ Err (Broken rule) → first_failing (transaction_rules site self.old.left tx.now) ≡ Some (rule_number rule) }
         ensures unbroken { (stored : List Stored) (site : Site) → B.told blocks.old ≡ Some stored
-            → IsSiteOf stored at.now (with_changes self.old.cells.changed (C.rows self.old.cells.base.now)) site → AreProposed site.spec site.branch proposed.now
+            → IsSiteOf stored at.now self.old.cells site → AreProposed site.spec site.branch proposed.now
             → OnOk result (first_failing (transaction_rules site self.old.left tx.now) ≡ None) }
         ensures cycles { (stored : List Stored) (site : Site) → B.told blocks.old ≡ Some stored
-            → IsSiteOf stored at.now (with_changes self.old.cells.changed (C.rows self.old.cells.base.now)) site
+            → IsSiteOf stored at.now self.old.cells site
             → OnOk result (self.new.left ≡ left_after site self.old.left tx.now) }
         ensures fee { (stored : List Stored) (site : Site) → B.told blocks.old ≡ Some stored
-            → IsSiteOf stored at.now (with_changes self.old.cells.changed (C.rows self.old.cells.base.now)) site
+            → IsSiteOf stored at.now self.old.cells site
             → OnOk result (self.new.ext.fees ≡ self.old.ext.fees ++ capacity.fee site tx.now ∷ []) }
         ensures spends { (stored : List Stored) (site : Site) → B.told blocks.old ≡ Some stored
-            → IsSiteOf stored at.now (with_changes self.old.cells.changed (C.rows self.old.cells.base.now)) site
+            → IsSiteOf stored at.now self.old.cells site
             → OnOk result (self.new.ext.spent ≡ self.old.ext.spent ++ rows_spent (blocks_of stored) at.now.parent site tx.now) }
         ensures interest { (stored : List Stored) (site : Site) → B.told blocks.old ≡ Some stored
-            → IsSiteOf stored at.now (with_changes self.old.cells.changed (C.rows self.old.cells.base.now)) site
+            → IsSiteOf stored at.now self.old.cells site
             → OnOk result (self.new.interest ≡ self.old.interest +ℤ capacity.interest site tx.now) }
         ensures freed { (stored : List Stored) (site : Site) → B.told blocks.old ≡ Some stored
-            → IsSiteOf stored at.now (with_changes self.old.cells.changed (C.rows self.old.cells.base.now)) site
+            → IsSiteOf stored at.now self.old.cells site
             → OnOk result (self.new.freed ≡ self.old.freed + freed_by site tx.now) }
         ensures undamaged { (stored : List Stored) (site : Site) → B.told blocks.old ≡ Some stored
-            → IsSiteOf stored at.now (with_changes self.old.cells.changed (C.rows self.old.cells.base.now)) site
+            → IsSiteOf stored at.now self.old.cells site
             → (damage : Damage) → result ≡ Err (Read (Damaged damage)) → ⊥ }
     {
         let is_proposed = proposed.contains(&proposal_id(hash));
@@ -263,7 +259,7 @@ pub(crate) fn judge_transactions<C: Cells, B: Blocks>(
         spec: context.spec,
         tree: context.tree,
         parent: context.parent,
-        block: Some(BlockView::from_encoding(block.bytes())),
+        block: Some(Own::of_block(BlockView::from_encoding(block.bytes()))),
     };
     let proposed = match Proposed::of(
         alloc,

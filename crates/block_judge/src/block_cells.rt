@@ -4,26 +4,37 @@ ghost use Rattle.codec_defs.specs.Schema as schema;
 ghost use Rattle.cell_defs.specs.Events.{events_of};
 ghost use Rattle.cell_defs.specs.Row.{row_after};
 ghost use Rattle.chain_defs.specs.Hashes.{transaction_hash};
-ghost use Rattle.block_judge.specs.Changes.{with_changes};
 
 use crate::changes::Changes;
 use cell_model::{CellMeta, Cells, OutPoint};
 use mol_schema::TxView;
 use outside::NoMemory;
 use std::alloc::Global;
+use std::marker::Model;
 
-/// The cells of a branch, and beside them what the transactions of a block made and spent so far. The rows are those of
-/// the branch with what was changed.
+/// The cells of a branch, and beside them what the transactions of a block made and spent so far. Clauses see their rows:
+/// those of the branch with what was changed.
 #[derive(Drop)]
-pub(crate) struct BlockCells<'a, C: Cells> {
+pub struct BlockCells<'a, C: Cells> {
     base: &'a C,
     changed: Changes,
 }
 
+impl<'a, C: Cells> Model for BlockCells<'a, C> {
+    ghost use Rattle.std.specs.Prelude.{Option};
+    ghost use Rattle.codec_defs.specs.Schema as schema;
+    ghost use Rattle.cell_defs.specs.Row.{Row};
+    ghost use Rattle.block_judge.specs.Changes.{with_changes};
+
+    ghost Value = { schema.OutPoint → Option Row };
+
+    ghost view = { λ cells. with_changes cells.changed (C.rows cells.base.now) };
+}
+
 impl<'a, C: Cells> BlockCells<'a, C> {
     /// Those of the branch.
-    pub(crate) fn of(alloc: Global, base: &'a C) -> BlockCells<'a, C>
-        ensures rows { (o : schema.OutPoint) → with_changes result.changed (C.rows result.base.now) o ≡ C.rows base.now o }
+    pub fn of(alloc: Global, base: &'a C) -> BlockCells<'a, C>
+        ensures rows { (o : schema.OutPoint) → result o ≡ C.rows base.now o }
     {
         BlockCells {
             base,
@@ -33,7 +44,7 @@ impl<'a, C: Cells> BlockCells<'a, C> {
 
     /// Takes what the transaction at a place of the block does: it spends, but for a cellbase, and then makes. Its rows have
     /// the block's place `e`. Out of memory, a part of it may have been taken.
-    pub(crate) fn take(
+    pub fn take(
         &mut self,
         tx: &TxView<'_>,
         hash: &[u8; 32],
@@ -42,8 +53,7 @@ impl<'a, C: Cells> BlockCells<'a, C> {
     ) -> Result<(), NoMemory>
         requires hash { hash.now ≡ transaction_hash tx.now }
         ensures rows { OnOk result ((height : ℕ) (o : schema.OutPoint) → 0 < height
-            → with_changes self.new.changed (C.rows self.new.base.now) o
-            ≡ row_after e (events_of tx.now height place) (with_changes self.old.changed (C.rows self.old.base.now)) o) }
+            → self.new o ≡ row_after e (events_of tx.now height place) self.old o) }
     {
         let is_cellbase = place == 0;
         if !is_cellbase {
@@ -54,7 +64,7 @@ impl<'a, C: Cells> BlockCells<'a, C> {
 }
 
 impl<'a, C: Cells> Cells for BlockCells<'a, C> {
-    ghost rows = { λ cells. with_changes cells.changed (C.rows cells.base.now) };
+    ghost rows = { λ cells. cells };
 
     fn get(&self, o: &OutPoint) -> Option<CellMeta> {
         match self.changed.get(o) {

@@ -26,7 +26,7 @@ fn is_null(o: &OutPointView<'_>) -> bool
 }
 
 /// Whether a transaction has exactly one input, which names no output.
-fn is_cellbase(tx: &TxView<'_>) -> bool
+pub fn is_cellbase(tx: &TxView<'_>) -> bool
     ensures { result ≡ rules.is_cellbase tx.now }
 {
     let raw = tx.raw();

@@ -35,7 +35,7 @@ use rule_names::Rule;
 use std::alloc::Global;
 
 /// The lock in the first witness of a block's cellbase.
-fn lock_of<'a>(block: &BlockView<'a>) -> Option<ScriptView<'a>>
+pub fn lock_of<'a>(block: &BlockView<'a>) -> Option<ScriptView<'a>>
     ensures { result ≡ payment.lock_of (Some block.now) }
 {
     if block.transactions_count() == 0 {
@@ -149,7 +149,7 @@ fn occupied_output(output: &OutputView<'_>, content: &[u8]) -> u64
 }
 
 /// What the cells occupy that a transaction makes, in shannons. It has below 2^30 of them.
-fn made_by(tx: &TxView<'_>) -> u128
+pub fn made_by(tx: &TxView<'_>) -> u128
     ensures made { result ≡ field.made_by tx.now }
     ensures fits { result < 2 ^ 94 }
 {

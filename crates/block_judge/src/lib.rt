@@ -9,6 +9,7 @@
 #![tactic(auto)]
 
 mod all_transactions;
+mod appending;
 mod at_sight;
 mod block_cells;
 mod cellbase;
@@ -22,7 +23,12 @@ mod spent;
 mod stop;
 mod transactions;
 
+pub use appending::judge_appended;
 pub use at_sight::judge_at_sight;
+pub use block_cells::BlockCells;
+pub use cellbase::is_cellbase;
 pub use context::{Context, NoCells};
+pub use ending::{lock_of, made_by};
 pub use judging::{dry_run, judge};
 pub use stop::JudgeStop;
+pub use transactions::PassedTransaction;

@@ -34,13 +34,13 @@ use tx_rules::{TxAt, TxStop, resolve};
 /// A transaction that keeps its rules: its hash, its fee, the interest that it withdraws and what the cells occupy that it
 /// spends, in shannons; the cycles of its scripts, and the cells of its inputs.
 #[derive(Drop)]
-pub(crate) struct PassedTransaction {
-    pub(crate) hash: [u8; 32],
-    pub(crate) fee: u64,
-    pub(crate) interest: i128,
-    pub(crate) freed: u128,
-    pub(crate) cycles: u64,
-    pub(crate) inputs: Vec<Resolved>,
+pub struct PassedTransaction {
+    pub hash: [u8; 32],
+    pub fee: u64,
+    pub interest: i128,
+    pub freed: u128,
+    pub cycles: u64,
+    pub inputs: Vec<Resolved>,
 }
 
 /// What the cells of a transaction's inputs occupy, in shannons. It has below 2^32 of them.

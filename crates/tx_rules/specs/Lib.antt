@@ -1,3 +1,4 @@
+pub mod Own
 pub mod At
 pub mod Copying
 pub mod Members

@@ -1,14 +1,100 @@
 // Where a transaction is judged.
 ghost use Rattle.std.specs.Prelude.{◌≡◌};
+ghost use Rattle.std.specs.Option.{option_map};
 ghost use Rattle.outside.specs.declared.disk.Area.TheVariants.{Log};
+ghost use Rattle.cell_model.specs.Copies.{output_in};
+ghost use Rattle.tx_rules.specs.Own.{of_transactions};
 ghost use Rattle.tx_rules.specs.Seen.{log_place};
 
-use cell_model::CellMeta;
+use cell_model::{CellMeta, OutPoint, data_at, output_at};
 use chain_tree::Tree;
 use epochs::Spec;
-use mol_schema::BlockView;
+use mol_schema::{BlockView, OutputView, TxView};
 use outside::{Area, Damage};
 use std::marker::Model;
+
+/// Where transactions stand: in a whole block, or apart.
+#[derive(Drop)]
+enum Held<'a> {
+    Block(BlockView<'a>),
+    Apart(&'a [TxView<'a>]),
+}
+
+/// The transactions of the block that is judged: those of a whole block, or those that were put into one so far. Clauses see
+/// a block with these transactions.
+#[derive(Drop)]
+pub struct Own<'a> {
+    held: Held<'a>,
+}
+
+impl<'a> Model for Own<'a> {
+    ghost use Rattle.codec_defs.specs.Schema.{Block};
+    ghost use Rattle.tx_rules.specs.Own.{block_of};
+
+    ghost Value = { Block };
+
+    ghost view = { λ own. block_of own.held };
+}
+
+impl<'a> Own<'a> {
+    ghost use Rattle.std.specs.Prelude.{◌≡◌};
+    ghost use Rattle.std.specs.Option.{option_map};
+    ghost use Rattle.cell_model.specs.Copies.{output_in};
+    ghost use Rattle.tx_rules.specs.Own.{of_transactions};
+
+    /// Those of a block.
+    pub fn of_block(block: BlockView<'a>) -> Own<'a>
+        ensures { result ≡ block.entry }
+    {
+        Own {
+            held: Held::Block(block),
+        }
+    }
+
+    /// Those that were put into a block so far, in their order.
+    pub fn so_far(transactions: &'a [TxView<'a>]) -> Own<'a>
+        ensures { result ≡ of_transactions transactions.now }
+    {
+        Own {
+            held: Held::Apart(transactions),
+        }
+    }
+
+    /// The output that a row names in the block, with its data: at the out-point's index, of the transaction at the row's
+    /// place.
+    pub(crate) fn output_at(
+        &self,
+        o: &OutPoint,
+        meta: &CellMeta,
+    ) -> Option<(OutputView<'a>, &'a [u8])>
+        ensures { option_map (λ it. (it.0, it.1.now)) result ≡ output_in self.now meta.now.transaction o.now.index }
+    {
+        match &self.held {
+            Held::Block(block) => output_at(block, o, meta),
+            Held::Apart(transactions) => output_apart(transactions, o, meta),
+        }
+    }
+}
+
+/// The same among transactions that stand apart.
+fn output_apart<'a>(
+    transactions: &[TxView<'a>],
+    o: &OutPoint,
+    meta: &CellMeta,
+) -> Option<(OutputView<'a>, &'a [u8])>
+    ensures { option_map (λ it. (it.0, it.1.now)) result ≡ output_in (of_transactions transactions.now) meta.now.transaction o.now.index }
+{
+    if meta.tx as usize >= transactions.len() {
+        return None;
+    }
+    let tx = &transactions[meta.tx as usize];
+    let raw = tx.raw();
+    let index = o.index as usize;
+    if index >= raw.outputs_count() {
+        return None;
+    }
+    Some((raw.outputs_item(index), data_at(tx, index)))
+}
 
 /// Where a transaction is judged: on a parent in the tree, in the block that is judged or, as a dry run, alone. A row
 /// of its cells whose block is the tree's length names an output of that block.
@@ -18,7 +104,7 @@ pub struct TxAt<'a> {
     pub tree: &'a Tree,
     /// The place of the parent in the tree.
     pub parent: u32,
-    pub block: Option<BlockView<'a>>,
+    pub block: Option<Own<'a>>,
 }
 
 impl<'a> Model for TxAt<'a> {

@@ -15,7 +15,7 @@ ghost use Rattle.tx_rules.specs.At.{IsPlaced, IsSiteOf, AreSeen, found_row};
 ghost use Rattle.tx_rules.specs.Copying.{IsFoundAt, IsBlockAt, IsCopyOfRow, CopiesItsRow, AreTaken, row_in, HoldsOutput};
 ghost use Rattle.tx_rules.specs.Outcome.{Copies};
 
-use crate::at::{TxAt, damage_of};
+use crate::at::{Own, TxAt, damage_of};
 use cell_model::{CellMeta, OutPoint, Resolved, copy_of, fetch, output_at};
 use chain_tree::Blocks;
 use mol_schema::BlockView;
@@ -77,6 +77,33 @@ fn copy_read(
     }
 }
 
+/// The same of the transactions of the block that is judged.
+fn copy_named(
+    alloc: Global,
+    at: &TxAt<'_>,
+    own: &Own<'_>,
+    o: OutPoint,
+    meta: CellMeta,
+) -> Result<Resolved, ReadStop>
+    ensures out_point { IfOk result (λ copy. copy.out_point ≡ o) }
+    ensures row { IfOk result (λ copy. copy.row ≡ meta) }
+    ensures output { IfOk result HoldsOutput }
+    ensures copied { (cell : Cell) → output_in own.now meta.transaction o.index ≡ Some (cell.output, cell.content) → IfOk result (IsCopyOf cell) }
+    ensures exact { IfOk result (CopiesOutput (output_in own.now meta.transaction o.index)) }
+    ensures undamaged { (cell : Cell) → output_in own.now meta.transaction o.index ≡ Some (cell.output, cell.content)
+        → (damage : Damage) → result ≡ Err (Damaged damage) → ⊥ }
+    ensures damage { (damage : Damage) → result ≡ Err (Damaged damage) → damage.area ≡ Log }
+    ensures unread { result ≡ Err DiskFault → ⊥ }
+{
+    let Some((output, content)) = own.output_at(&o, &meta) else {
+        return Err(ReadStop::Damaged(damage_of(at, &meta)));
+    };
+    match copy_of(alloc, o, meta, &output, content) {
+        Ok(copy) => Ok(copy),
+        Err(NoMemory) => Err(ReadStop::NoMemory),
+    }
+}
+
 /// A copy of an output of the block that is judged.
 fn copy_own(alloc: Global, at: &TxAt<'_>, o: OutPoint, meta: CellMeta) -> Result<Resolved, ReadStop>
     ensures out_point { IfOk result (λ copy. copy.out_point ≡ o) }
@@ -90,10 +117,10 @@ fn copy_own(alloc: Global, at: &TxAt<'_>, o: OutPoint, meta: CellMeta) -> Result
     ensures damage { (damage : Damage) → result ≡ Err (Damaged damage) → damage.area ≡ Log }
     ensures unread { result ≡ Err DiskFault → ⊥ }
 {
-    let Some(block) = &at.block else {
+    let Some(own) = &at.block else {
         return Err(ReadStop::Damaged(damage_of(at, &meta)));
     };
-    copy_read(alloc, at, block, o, meta)
+    copy_named(alloc, at, own, o, meta)
 }
 
 /// A copy of the cell of a row. Damaged where the row's block is none that the transaction sees, or has no such output.

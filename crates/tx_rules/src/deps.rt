@@ -15,7 +15,7 @@ ghost use Rattle.tx_defs.specs.Resolving.{cells_of_dep, dep_cells};
 ghost use Rattle.tx_rules.specs.At.{IsPlaced, IsSiteOf, found_row, place_of_height};
 ghost use Rattle.tx_rules.specs.Members.{Adds, rows_of, member_rows};
 
-use crate::at::{TxAt, damage_of};
+use crate::at::{Own, TxAt, damage_of};
 use crate::inputs::find_row;
 use cell_model::{CellMeta, Cells, OutPoint, output_at};
 use chain_tree::Blocks;
@@ -111,6 +111,31 @@ fn add_kept_group<C: Cells, B: Blocks>(
     add_group_in(at, cells, &block, o, meta, found)
 }
 
+/// The same among the transactions of the block that is judged.
+fn add_group_named<C: Cells>(
+    at: &TxAt<'_>,
+    cells: &C,
+    own: &Own<'_>,
+    o: &OutPoint,
+    meta: &CellMeta,
+    found: &mut Vec<(OutPoint, CellMeta)>,
+) -> Result<bool, ReadStop>
+    ensures rows { (output : CellOutput) (content : List ℕ) → output_in own.now meta.now.transaction o.now.index ≡ Some (output, content)
+        → IfOk result (λ all. Adds found.old.items all found.new.items (member_rows (C.rows cells.now) content)) }
+    ensures undamaged { (output : CellOutput) (content : List ℕ) → output_in own.now meta.now.transaction o.now.index ≡ Some (output, content)
+        → (damage : Damage) → result ≡ Err (Damaged damage) → ⊥ }
+    ensures damage { (damage : Damage) → result ≡ Err (Damaged damage) → damage.area ≡ Log }
+    ensures no_fault { result ≡ Err DiskFault → ⊥ }
+{
+    let Some((_, content)) = own.output_at(o, meta) else {
+        return Err(ReadStop::Damaged(damage_of(at, meta)));
+    };
+    match add_group(cells, content, found) {
+        Ok(all) => Ok(all),
+        Err(NoMemory) => Err(ReadStop::NoMemory),
+    }
+}
+
 /// The same for a row of the block that is judged.
 fn add_own_group<C: Cells>(
     at: &TxAt<'_>,
@@ -132,7 +157,7 @@ fn add_own_group<C: Cells>(
     }
     match &at.block {
         None => Err(ReadStop::Damaged(damage_of(at, meta))),
-        Some(block) => add_group_in(at, cells, block, o, meta, found),
+        Some(own) => add_group_named(at, cells, own, o, meta, found),
     }
 }
 

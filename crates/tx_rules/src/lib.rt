@@ -27,5 +27,5 @@ mod outputs;
 mod resolving;
 mod withdrawals;
 
-pub use at::TxAt;
+pub use at::{Own, TxAt};
 pub use resolving::{TxOk, TxStop, resolve};

@@ -8,7 +8,7 @@ use outside::Steps;
 use std::alloc::Global;
 use std::string::String;
 use std::sync::ledger::Ledger;
-use tx_rules::{TxAt, TxOk, TxStop, resolve};
+use tx_rules::{Own, TxAt, TxOk, TxStop, resolve};
 
 /// Adds a word, after a comma but for the first.
 fn add_word(text: &mut String, word: &str) -> Option<()> {
@@ -105,7 +105,7 @@ fn answer_at(
         spec: &chain.spec,
         tree: &chain.tree,
         parent: chain.tree.len() - 1,
-        block: Some(block),
+        block: Some(Own::of_block(block)),
     };
     answer(alloc, &tx, &at, state, &mut chain.blocks)
 }

@@ -1,0 +1,21 @@
+-- A transaction put at the end of those that stand in a block so far, and what it is judged over.
+use Rattle.std.specs.Prelude.{◌≡◌, List, length, Option}
+use Rattle.codec_defs.specs.Schema.{OutPoint, Transaction, Block}
+use Rattle.time_defs.specs.Specification.{Specification}
+use Rattle.chain_defs.specs.Branch.{branch}
+use Rattle.chain_tree.specs.Told.{Stored, blocks_of}
+use Rattle.cell_defs.specs.Events.{events_from}
+use Rattle.cell_defs.specs.Row.{Row, row_after}
+use Rattle.tx_defs.specs.Site.{Site, site_at}
+use Rattle.tx_rules.specs.Own.{of_transactions}
+use Rattle.block_judge.specs.Standing.{ContextValue, StandsFor}
+
+-- where the next transaction stands of a block after a branch that has these so far
+abbrev pub next_site : Specification → List Block → List Transaction → Site
+next_site spec branch so_far = site_at spec branch (of_transactions so_far) (length so_far)
+
+-- The context stands for kept blocks, and the rows are those after these transactions of a block on its parent, the cellbase first.
+pub record SeesSoFar (stored : List Stored) (on : ContextValue) (so_far : List Transaction) (rows : OutPoint → Option Row) : Type 0 where
+  pub stands : StandsFor stored on
+  pub rows_are : (o : OutPoint)
+      → rows o ≡ row_after (length on.entries) (events_from 0 so_far (length (branch (blocks_of stored) on.parent))) on.rows o

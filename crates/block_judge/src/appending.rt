@@ -1,0 +1,88 @@
+// J18 and J20 to J30: a transaction put at the end of those that stand in a block so far.
+ghost use Rattle.std.specs.Prelude.{◌≡◌, ◌<◌, ◌≤◌, ◌^◌, List, None, Some, Err, IfOk, IsTrue, length, map, nat_abs};
+ghost use Rattle.fold_defs.specs.First.{first_failing};
+ghost use Rattle.outside.specs.declared.disk.Damage.{Damage};
+ghost use Rattle.outside.specs.declared.disk.ReadStop.TheVariants.{Damaged};
+ghost use Rattle.chain_defs.specs.Branch.{branch};
+ghost use Rattle.chain_defs.specs.Hashes.{transaction_hash};
+ghost use Rattle.chain_tree.specs.Blocks.{AreRated};
+ghost use Rattle.chain_tree.specs.Told.{Stored, blocks_of};
+ghost use Rattle.chain_tree.specs.Reading.{HasRead};
+ghost use Rattle.tx_defs.specs.Capacity as capacity;
+ghost use Rattle.tx_defs.specs.Resolving.{inputs};
+ghost use Rattle.tx_rules.specs.At.{found_row};
+ghost use Rattle.tx_rules.specs.Copying.{row_in};
+ghost use Rattle.block_defs.specs.Transactions.{is_proposed, transaction_rules};
+ghost use Rattle.reward_defs.specs.Field.{freed_by};
+ghost use Rattle.script_defs.specs.Scene.{scene_of};
+ghost use Rattle.script_defs.specs.Rules.{cycles_of};
+ghost use Rattle.rule_names.specs.Number.{rule_number};
+ghost use Rattle.rule_names.specs.declared.rule.Rule.{Rule};
+ghost use Rattle.block_judge.specs.declared.stop.JudgeStop.TheVariants.{Broken, Read};
+ghost use Rattle.block_judge.specs.Appending.{SeesSoFar, next_site};
+ghost use Rattle.block_judge.specs.Standing.{IsTriedAlone, seen};
+ghost use Rattle.block_judge.specs.Stops.{read_stop_of};
+
+use crate::context::Context;
+use crate::stop::JudgeStop;
+use crate::transactions::{PassedTransaction, judge_transaction};
+use cell_model::Cells;
+use chain_tree::Blocks;
+use mol_schema::TxView;
+use std::alloc::Global;
+use tx_rules::{Own, TxAt};
+
+/// Judges a transaction as the next one of a block on the context's parent that has these so far, the cellbase first, within
+/// so many cycles: by J18 and J20 to J30. The cells are those that it sees, as [`BlockCells`](crate::BlockCells) has them.
+/// Damaged as `judge` is.
+pub fn judge_appended<C: Cells, S: Cells, B: Blocks>(
+    alloc: Global,
+    context: &Context<'_, C>,
+    so_far: &[TxView<'_>],
+    cells: &S,
+    blocks: &mut B,
+    tx: &TxView<'_>,
+    left: u64,
+) -> Result<PassedTransaction, JudgeStop>
+    requires parent { context.now.parent < length context.now.tree.now.entries }
+    requires few { length context.now.tree.now.entries < 2 ^ 24 }
+    requires rated { AreRated context.now.tree.now.entries }
+    requires counts { B.count blocks.old ≡ length context.now.tree.now.entries }
+    requires left { left ≤ 2 ^ 40 }
+    ensures read { HasRead B.told B.count B.loans_of B.faults B.damages blocks.old blocks.new (read_stop_of result) }
+    ensures tried { (rule : Rule) → result ≡ Err (Broken rule) → IsTriedAlone (rule_number rule) }
+    ensures hash { IfOk result (λ passed. passed.hash ≡ transaction_hash tx.now) }
+    ensures within { IfOk result (λ passed. passed.cycles ≤ left) }
+    ensures interest_fits { IfOk result (λ passed. nat_abs passed.interest < 2 ^ 96) }
+    ensures freed_fits { IfOk result (λ passed. passed.freed < 2 ^ 96) }
+
+    // Over kept blocks that are told, with the cells after the transactions so far. J19 is kept where its id is proposed.
+    ensures broken { (stored : List Stored) → B.told blocks.old ≡ Some stored → SeesSoFar stored (seen C.rows context.now) so_far.now (S.rows cells.now)
+        → IsTrue (is_proposed context.now.spec.now (branch (blocks_of stored) context.now.parent) tx.now)
+        → (rule : Rule) → result ≡ Err (Broken rule)
+        → first_failing (transaction_rules (next_site context.now.spec.now (branch (blocks_of stored) context.now.parent) so_far.now) left tx.now) ≡ Some (rule_number rule) }
+    ensures unbroken { (stored : List Stored) → B.told blocks.old ≡ Some stored → SeesSoFar stored (seen C.rows context.now) so_far.now (S.rows cells.now)
+        → IsTrue (is_proposed context.now.spec.now (branch (blocks_of stored) context.now.parent) tx.now)
+        → IfOk result (λ _. first_failing (transaction_rules (next_site context.now.spec.now (branch (blocks_of stored) context.now.parent) so_far.now) left tx.now) ≡ None) }
+    ensures fee { (stored : List Stored) → B.told blocks.old ≡ Some stored → SeesSoFar stored (seen C.rows context.now) so_far.now (S.rows cells.now)
+        → IfOk result (λ passed. passed.fee ≡ capacity.fee (next_site context.now.spec.now (branch (blocks_of stored) context.now.parent) so_far.now) tx.now) }
+    ensures interest { (stored : List Stored) → B.told blocks.old ≡ Some stored → SeesSoFar stored (seen C.rows context.now) so_far.now (S.rows cells.now)
+        → IfOk result (λ passed. passed.interest ≡ capacity.interest (next_site context.now.spec.now (branch (blocks_of stored) context.now.parent) so_far.now) tx.now) }
+    ensures freed { (stored : List Stored) → B.told blocks.old ≡ Some stored → SeesSoFar stored (seen C.rows context.now) so_far.now (S.rows cells.now)
+        → IfOk result (λ passed. passed.freed ≡ freed_by (next_site context.now.spec.now (branch (blocks_of stored) context.now.parent) so_far.now) tx.now) }
+    ensures cycles { (stored : List Stored) → B.told blocks.old ≡ Some stored → SeesSoFar stored (seen C.rows context.now) so_far.now (S.rows cells.now)
+        → IfOk result (λ passed. passed.cycles ≡ cycles_of (scene_of (next_site context.now.spec.now (branch (blocks_of stored) context.now.parent) so_far.now) tx.now) left) }
+    ensures spends { (stored : List Stored) → B.told blocks.old ≡ Some stored → SeesSoFar stored (seen C.rows context.now) so_far.now (S.rows cells.now)
+        → IfOk result (λ passed. map row_in passed.inputs.items ≡ map (found_row (blocks_of stored) context.now.parent)
+        (inputs (next_site context.now.spec.now (branch (blocks_of stored) context.now.parent) so_far.now) tx.now)) }
+    ensures undamaged { (stored : List Stored) → B.told blocks.old ≡ Some stored → SeesSoFar stored (seen C.rows context.now) so_far.now (S.rows cells.now)
+        → (damage : Damage) → result ≡ Err (Read (Damaged damage)) → ⊥ }
+{
+    let at = TxAt {
+        spec: context.spec,
+        tree: context.tree,
+        parent: context.parent,
+        block: Some(Own::so_far(so_far)),
+    };
+    judge_transaction(alloc, tx, &at, true, cells, blocks, left)
+}
