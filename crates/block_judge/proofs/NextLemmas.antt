@@ -22,7 +22,7 @@ use Rattle.tx_defs.specs.Capacity.{fee, fees_from}
 use Rattle.tx_defs.specs.Rules.{has_form, form_rules, cell_rules}
 use Rattle.script_defs.specs.Scene.{scene_of}
 use Rattle.script_defs.specs.Rules.{script_rules}
-use Rattle.block_defs.specs.Transactions.{transaction_rules, left_after, rules_from, rules_of_transactions}
+use Rattle.block_defs.specs.Transactions.{is_proposed, transaction_rules, left_after, rules_from, rules_of_transactions}
 use Rattle.block_defs.specs.Ext.{rows_spent, spent_from, ext_of}
 use Rattle.block_defs.specs.Rules.{broken_in_dry_run}
 use Rattle.block_judge.specs.Progress.{AreProposed}
@@ -38,6 +38,12 @@ by-proposed site left t proposed ids id hash answer hash_is id_is asked are is =
     ap (λ (b : Bool). first_failing (form_rules t ++ (19, b) ∷ cell_rules site t ++ script_rules (scene_of site t) left))
     (sym (asked ∙ ap (λ (l : List ℕ). list_any (bytes_eq l) ids) (id_is ∙ ap (take 10) hash_is) ∙ are (take 10 (transaction_hash t))))
     ∙ is
+
+-- the same of one whose id is known to be proposed
+pub rules-asked : (site : Site) (left : ℕ) (t : Transaction) → IsTrue (is_proposed site.spec site.branch t)
+    → form_rules t ++ (19, true) ∷ cell_rules site t ++ script_rules (scene_of site t) left ≡ transaction_rules site left t
+rules-asked site left t proposed =
+    ap (λ (b : Bool). form_rules t ++ (19, b) ∷ cell_rules site t ++ script_rules (scene_of site t) left) (sym proposed)
 
 pub proposed-here : (spec : Specification) (on : List Block) (ids : List (List ℕ)) (height : ℕ)
     → ((id : List ℕ) → list_any (bytes_eq id) ids ≡ is_some (earliest spec on id height)) → height ≡ length on → AreProposed spec on ids

@@ -3,7 +3,7 @@ use Rattle.std.proofs.Common.{◌≡◌, ℕ, ◌+◌, ◌-◌, ◌<◌, inl, in
 use Rattle.std.specs.Prelude.{slice_get, slice_index, IsSome, IsTrue}
 use Rattle.std.specs.Option.{option_map, option_or}
 use Rattle.std.proofs.lemmas.Bool.{lt-ltb, le-ltb}
-use Rattle.std.proofs.lemmas.List.{append-nil, append_assoc, length-take}
+use Rattle.std.proofs.lemmas.List.{append-nil, append_assoc, length-take, take_all}
 use Rattle.std.proofs.lemmas.Option.{slice_get_within, same_Some}
 use Rattle.codec_defs.specs.Schema.{OutPoint, Transaction, Block}
 use Rattle.chain_defs.specs.Kept.{block_at}
@@ -18,8 +18,10 @@ use Rattle.cell_defs.specs.Row.{Row, row_of, row_or, row_on, row_after, live_row
 use Rattle.cell_laws.proofs.EventLemmas.{last_naming-append, made-last}
 use Rattle.cell_laws.proofs.OutputLaws.{IsMadeIn, made-in-block, cells-are-outputs, seen-cells-are-outputs}
 use Rattle.tx_rules.specs.At.{AtValue, IsSiteOf, IsMade, place_of_height}
+use Rattle.tx_rules.specs.Own.{of_transactions}
 use Rattle.tx_rules.proofs.AllThere.{take-push}
 use Rattle.tx_defs.specs.Site.{site_at, site_after}
+use Rattle.block_judge.specs.Appending.{next_site}
 use Rattle.block_judge.specs.Standing.{Stands}
 use Rattle.block_judge.proofs.ChangeLemmas.{row_after-nil, row_after-append, row_after-same}
 
@@ -108,25 +110,23 @@ live-seen kept parent o = by_cell (cell_after (events (branch kept parent)) o) r
 
 -- ---- The site of a transaction
 
--- In a block, behind so many others of it.
-pub site-in_block : (stored : List Stored) (at : AtValue) (b : Block) (count : ℕ) (before rows : OutPoint → Option Row) → at.block ≡ Some b
-    → at.parent < length at.entries → Stands stored at.entries at.parent before → AreRowsAfter (length at.entries) b count before rows
+-- In a block, by the cells after so many others of it.
+site-over : (stored : List Stored) (at : AtValue) (b : Block) (count : ℕ) (before rows : OutPoint → Option Row) → at.block ≡ Some b
+    → Stands stored at.entries at.parent before
+    → ((o : OutPoint) → rows o ≡ row_after (length at.entries) (events_from 0 (take count b.transactions) (length (branch (blocks_of stored) at.parent))) before o)
     → IsSiteOf stored at rows (site_at at.spec (branch (blocks_of stored) at.parent) b count)
 unfolding cell_after row_after
-site-in_block stored at b count before rows judged placed stands after = record {
+site-over stored at b count before rows judged stands after = record {
   indexed = stands.indexed;
   spec = refl;
   on_branch = refl;
-  sees = λ o. after (length (branch (blocks_of stored) at.parent)) o some ∙ sees o (last_naming o done) refl;
+  sees = λ o. after o ∙ sees o (last_naming o done) refl;
   made = made;
   typed = typed;
 }
   where
     long : length at.entries ≡ length (blocks_of stored)
     long = len-same (blocks_of stored) at.entries stands.indexed
-
-    some : 0 < length (branch (blocks_of stored) at.parent)
-    some = branch-some (blocks_of stored) at.parent (omega (arith, placed, long))
 
     done : List Event
     done = events_from 0 (take count b.transactions) (length (branch (blocks_of stored) at.parent))
@@ -179,6 +179,25 @@ site-in_block stored at b count before rows judged placed stands after = record 
             let again : other.height ≡ cell.height = ap (λ (c : Cell). c.height) same in
             absurd (omega (arith, height, again, below))
         by_last (Some (Spends other)) is = absurd (none-some cell (sym (seen-by o (Some (Spends other)) is) ∙ seen))
+
+-- After so many others of a block.
+pub site-in_block : (stored : List Stored) (at : AtValue) (b : Block) (count : ℕ) (before rows : OutPoint → Option Row) → at.block ≡ Some b
+    → at.parent < length at.entries → Stands stored at.entries at.parent before → AreRowsAfter (length at.entries) b count before rows
+    → IsSiteOf stored at rows (site_at at.spec (branch (blocks_of stored) at.parent) b count)
+site-in_block stored at b count before rows judged placed stands after =
+    let long = len-same (blocks_of stored) at.entries stands.indexed in
+    let some = branch-some (blocks_of stored) at.parent (omega (arith, placed, long)) in
+    site-over stored at b count before rows judged stands (λ o. after (length (branch (blocks_of stored) at.parent)) o some)
+
+-- At the end of a block that has these so far.
+pub site-next : (stored : List Stored) (at : AtValue) (so_far : List Transaction) (before rows : OutPoint → Option Row) → at.block ≡ Some (of_transactions so_far)
+    → Stands stored at.entries at.parent before
+    → ((o : OutPoint) → rows o ≡ row_after (length at.entries) (events_from 0 so_far (length (branch (blocks_of stored) at.parent))) before o)
+    → IsSiteOf stored at rows (next_site at.spec (branch (blocks_of stored) at.parent) so_far)
+site-next stored at so_far before rows judged stands after =
+    site-over stored at (of_transactions so_far) (length so_far) before rows judged stands (λ o. after o
+    ∙ ap (λ (these : List Transaction). row_after (length at.entries) (events_from 0 these (length (branch (blocks_of stored) at.parent))) before o)
+    (sym (take_all (length so_far) so_far (omega arith))))
 
 -- Alone, after the last block.
 pub site-alone : (stored : List Stored) (at : AtValue) (rows : OutPoint → Option Row) → Stands stored at.entries at.parent rows

@@ -69,12 +69,12 @@ fn push_fee(fees: &mut Vec<u64>, fee: u64) -> Result<(), NoMemory>
 
 /// Puts what an ext has of a transaction after what is there: its fee, and the rows of its inputs that kept blocks made,
 /// of which there are `e`.
-fn push_ext(ext: &mut Ext, taken: &PassedTransaction, e: u32) -> Result<(), NoMemory>
-    ensures fees { OnOk result (ext.new.fees ≡ ext.old.fees ++ taken.now.fee ∷ []) }
-    ensures spent { OnOk result (ext.new.spent ≡ ext.old.spent ++ filter (λ it. nat_lt it.1.block e) (map row_in taken.now.inputs.items)) }
+fn push_ext(ext: &mut Ext, passed: &PassedTransaction, e: u32) -> Result<(), NoMemory>
+    ensures fees { OnOk result (ext.new.fees ≡ ext.old.fees ++ passed.now.fee ∷ []) }
+    ensures spent { OnOk result (ext.new.spent ≡ ext.old.spent ++ filter (λ it. nat_lt it.1.block e) (map row_in passed.now.inputs.items)) }
 {
-    push_fee(&mut ext.fees, taken.fee)?;
-    push_spent(&mut ext.spent, &taken.inputs, e)
+    push_fee(&mut ext.fees, passed.fee)?;
+    push_spent(&mut ext.spent, &passed.inputs, e)
 }
 
 impl<'a, C: Cells> Progress<'a, C> {
@@ -115,30 +115,31 @@ impl<'a, C: Cells> Progress<'a, C> {
     fn take(
         &mut self,
         tx: &TxView<'_>,
-        taken: &PassedTransaction,
+        hash: &[u8; 32],
+        passed: &PassedTransaction,
         place: u32,
         e: u32,
     ) -> Result<(), NoMemory>
-        requires hash { taken.now.hash ≡ transaction_hash tx.now }
-        requires cycles { taken.now.cycles ≤ self.old.left }
+        requires hash { hash.now ≡ transaction_hash tx.now }
+        requires cycles { passed.now.cycles ≤ self.old.left }
         requires few { place < 2 ^ 30 }
         requires moved { CanMove place self.old.interest self.old.freed }
-        requires moves { CanMove 1 taken.now.interest taken.now.freed }
+        requires moves { CanMove 1 passed.now.interest passed.now.freed }
         ensures moved { OnOk result (CanMove (place + 1) self.new.interest self.new.freed) }
-        ensures interest { OnOk result (self.new.interest ≡ self.old.interest +ℤ taken.now.interest) }
-        ensures freed { OnOk result (self.new.freed ≡ self.old.freed + taken.now.freed) }
+        ensures interest { OnOk result (self.new.interest ≡ self.old.interest +ℤ passed.now.interest) }
+        ensures freed { OnOk result (self.new.freed ≡ self.old.freed + passed.now.freed) }
         ensures within { self.new.left ≤ self.old.left }
-        ensures left { OnOk result (self.new.left ≡ self.old.left - taken.now.cycles) }
-        ensures fees { OnOk result (self.new.ext.fees ≡ self.old.ext.fees ++ taken.now.fee ∷ []) }
-        ensures spent { OnOk result (self.new.ext.spent ≡ self.old.ext.spent ++ filter (λ it. nat_lt it.1.block e) (map row_in taken.now.inputs.items)) }
+        ensures left { OnOk result (self.new.left ≡ self.old.left - passed.now.cycles) }
+        ensures fees { OnOk result (self.new.ext.fees ≡ self.old.ext.fees ++ passed.now.fee ∷ []) }
+        ensures spent { OnOk result (self.new.ext.spent ≡ self.old.ext.spent ++ filter (λ it. nat_lt it.1.block e) (map row_in passed.now.inputs.items)) }
         ensures rows { OnOk result ((height : ℕ) (o : OutPoint) → 0 < height
             → self.new.cells o ≡ row_after e (events_of tx.now height place) self.old.cells o) }
     {
-        self.cells.take(tx, &taken.hash, place, e)?;
-        push_ext(&mut self.ext, taken, e)?;
-        self.left -= taken.cycles;
-        self.interest += taken.interest;
-        self.freed += taken.freed;
+        self.cells.take(tx, hash, place, e)?;
+        push_ext(&mut self.ext, passed, e)?;
+        self.left -= passed.cycles;
+        self.interest += passed.interest;
+        self.freed += passed.freed;
         Ok(())
     }
 
@@ -194,19 +195,20 @@ impl<'a, C: Cells> Progress<'a, C> {
             → (damage : Damage) → result ≡ Err (Read (Damaged damage)) → ⊥ }
     {
         let is_proposed = proposed.contains(&proposal_id(hash));
-        let taken = match judge_transaction(
+        let passed = match judge_transaction(
             alloc,
             tx,
+            *hash,
             at,
             is_proposed,
             &self.cells,
             blocks,
             self.left,
         ) {
-            Ok(taken) => taken,
+            Ok(passed) => passed,
             Err(stop) => return Err(stop),
         };
-        match self.take(tx, &taken, place, at.tree.len()) {
+        match self.take(tx, hash, &passed, place, at.tree.len()) {
             Ok(()) => Ok(()),
             Err(_) => Err(JudgeStop::Read(ReadStop::NoMemory)),
         }

@@ -32,8 +32,8 @@ use mol_schema::TxView;
 use std::alloc::Global;
 use tx_rules::{Own, TxAt};
 
-/// Judges a transaction as the next one of a block on the context's parent that has these so far, the cellbase first, within
-/// so many cycles: by J18 and J20 to J30. The cells are those that it sees, as [`BlockCells`](crate::BlockCells) has them.
+/// Judges a transaction, which comes with its hash, as the next one of a block on the context's parent that has these so far,
+/// the cellbase first, within so many cycles: by J18 and J20 to J30. The cells are those that it sees, as [`BlockCells`](crate::BlockCells) has them.
 /// Damaged as `judge` is.
 pub fn judge_appended<C: Cells, S: Cells, B: Blocks>(
     alloc: Global,
@@ -42,16 +42,17 @@ pub fn judge_appended<C: Cells, S: Cells, B: Blocks>(
     cells: &S,
     blocks: &mut B,
     tx: &TxView<'_>,
+    hash: [u8; 32],
     left: u64,
 ) -> Result<PassedTransaction, JudgeStop>
     requires parent { context.now.parent < length context.now.tree.now.entries }
     requires few { length context.now.tree.now.entries < 2 ^ 24 }
     requires rated { AreRated context.now.tree.now.entries }
     requires counts { B.count blocks.old ≡ length context.now.tree.now.entries }
+    requires hash { hash ≡ transaction_hash tx.now }
     requires left { left ≤ 2 ^ 40 }
     ensures read { HasRead B.told B.count B.loans_of B.faults B.damages blocks.old blocks.new (read_stop_of result) }
     ensures tried { (rule : Rule) → result ≡ Err (Broken rule) → IsTriedAlone (rule_number rule) }
-    ensures hash { IfOk result (λ passed. passed.hash ≡ transaction_hash tx.now) }
     ensures within { IfOk result (λ passed. passed.cycles ≤ left) }
     ensures interest_fits { IfOk result (λ passed. nat_abs passed.interest < 2 ^ 96) }
     ensures freed_fits { IfOk result (λ passed. passed.freed < 2 ^ 96) }
@@ -84,5 +85,5 @@ pub fn judge_appended<C: Cells, S: Cells, B: Blocks>(
         parent: context.parent,
         block: Some(Own::so_far(so_far)),
     };
-    judge_transaction(alloc, tx, &at, true, cells, blocks, left)
+    judge_transaction(alloc, tx, hash, &at, true, cells, blocks, left)
 }

@@ -31,7 +31,7 @@ use crate::context::Context;
 use crate::ending::judge_end;
 use crate::stop::JudgeStop;
 use crate::transactions::judge_transaction;
-use cell_model::{Cells, Ext};
+use cell_model::{Cells, Ext, tx_hash};
 use chain_tree::Blocks;
 use mol_schema::{BlockView, TxView};
 use rule_names::Rule;
@@ -131,8 +131,18 @@ pub fn dry_run<C: Cells, B: Blocks>(
         parent: context.parent,
         block: None,
     };
-    match judge_transaction(alloc, tx, &at, true, context.cells, blocks, spec.max_cycles) {
-        Ok(taken) => Ok((taken.fee, taken.cycles)),
+    let hash = tx_hash(tx);
+    match judge_transaction(
+        alloc,
+        tx,
+        hash,
+        &at,
+        true,
+        context.cells,
+        blocks,
+        spec.max_cycles,
+    ) {
+        Ok(passed) => Ok((passed.fee, passed.cycles)),
         Err(stop) => Err(stop),
     }
 }

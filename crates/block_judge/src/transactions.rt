@@ -31,11 +31,10 @@ use mol_schema::TxView;
 use std::alloc::Global;
 use tx_rules::{TxAt, TxStop, resolve};
 
-/// A transaction that keeps its rules: its hash, its fee, the interest that it withdraws and what the cells occupy that it
-/// spends, in shannons; the cycles of its scripts, and the cells of its inputs.
+/// A transaction that keeps its rules: its fee, the interest that it withdraws and what the cells occupy that it spends, in
+/// shannons; the cycles of its scripts, and the cells of its inputs.
 #[derive(Drop)]
 pub struct PassedTransaction {
-    pub hash: [u8; 32],
     pub fee: u64,
     pub interest: i128,
     pub freed: u128,
@@ -67,25 +66,26 @@ fn stopped(stop: TxStop) -> JudgeStop
     }
 }
 
-/// Judges a transaction within so many cycles, by J18 and J20 to J30, and by J19 where it is said whether its id is
-/// proposed.
+/// Judges a transaction, which comes with its hash, within so many cycles, by J18 and J20 to J30, and by J19 where it is said
+/// whether its id is proposed.
 pub(crate) fn judge_transaction<C: Cells, B: Blocks>(
     alloc: Global,
     tx: &TxView<'_>,
+    hash: [u8; 32],
     at: &TxAt<'_>,
     proposed: bool,
     cells: &C,
     blocks: &mut B,
     left: u64,
 ) -> Result<PassedTransaction, JudgeStop>
+    requires hash { hash ≡ transaction_hash tx.now }
     requires placed { IsPlaced at.now }
     requires left { left ≤ 2 ^ 40 }
     requires counts { B.count blocks.old ≡ length at.now.entries }
     ensures read { HasRead B.told B.count B.loans_of B.faults B.damages blocks.old blocks.new (read_stop_of result) }
-    ensures hash { IfOk result (λ taken. taken.hash ≡ transaction_hash tx.now) }
-    ensures within { IfOk result (λ taken. taken.cycles ≤ left) }
-    ensures interest_fits { IfOk result (λ taken. nat_abs taken.interest < 2 ^ 96) }
-    ensures freed_fits { IfOk result (λ taken. taken.freed < 2 ^ 96) }
+    ensures within { IfOk result (λ passed. passed.cycles ≤ left) }
+    ensures interest_fits { IfOk result (λ passed. nat_abs passed.interest < 2 ^ 96) }
+    ensures freed_fits { IfOk result (λ passed. passed.freed < 2 ^ 96) }
     ensures rule { (rule : Rule) → result ≡ Err (Broken rule) → IsTriedOnTransaction (rule_number rule) }
     // J18 and J20 over any source of blocks.
     ensures by_rows { proposed ≡ true → SaysByRows (has_form tx.now) (spends_rows (C.rows cells.now) tx.now) result }
@@ -96,19 +96,19 @@ pub(crate) fn judge_transaction<C: Cells, B: Blocks>(
     ensures unbroken { (stored : List Stored) (site : Site) → B.told blocks.old ≡ Some stored → IsSiteOf stored at.now (C.rows cells.now) site
         → IfOk result (λ _. first_failing (form_rules tx.now ++ (19, proposed) ∷ cell_rules site tx.now ++ script_rules (scene_of site tx.now) left) ≡ None) }
     ensures fee { (stored : List Stored) (site : Site) → B.told blocks.old ≡ Some stored → IsSiteOf stored at.now (C.rows cells.now) site
-        → IfOk result (λ taken. taken.fee ≡ fee site tx.now) }
+        → IfOk result (λ passed. passed.fee ≡ fee site tx.now) }
     ensures interest { (stored : List Stored) (site : Site) → B.told blocks.old ≡ Some stored → IsSiteOf stored at.now (C.rows cells.now) site
-        → IfOk result (λ taken. taken.interest ≡ interest site tx.now) }
+        → IfOk result (λ passed. passed.interest ≡ interest site tx.now) }
     ensures freed { (stored : List Stored) (site : Site) → B.told blocks.old ≡ Some stored → IsSiteOf stored at.now (C.rows cells.now) site
-        → IfOk result (λ taken. taken.freed ≡ freed_by site tx.now) }
+        → IfOk result (λ passed. passed.freed ≡ freed_by site tx.now) }
     ensures cycles { (stored : List Stored) (site : Site) → B.told blocks.old ≡ Some stored → IsSiteOf stored at.now (C.rows cells.now) site
-        → IfOk result (λ taken. taken.cycles ≡ cycles_of (scene_of site tx.now) left) }
+        → IfOk result (λ passed. passed.cycles ≡ cycles_of (scene_of site tx.now) left) }
     ensures spends { (stored : List Stored) (site : Site) → B.told blocks.old ≡ Some stored → IsSiteOf stored at.now (C.rows cells.now) site
-        → IfOk result (λ taken. map row_in taken.inputs.items ≡ map (found_row (blocks_of stored) at.now.parent) (inputs site tx.now)) }
+        → IfOk result (λ passed. map row_in passed.inputs.items ≡ map (found_row (blocks_of stored) at.now.parent) (inputs site tx.now)) }
     ensures undamaged { (stored : List Stored) (site : Site) → B.told blocks.old ≡ Some stored → IsSiteOf stored at.now (C.rows cells.now) site
         → (damage : Damage) → result ≡ Err (Read (Damaged damage)) → ⊥ }
 {
-    let ok = match resolve(alloc, tx, at, proposed, cells, blocks) {
+    let ok = match resolve(alloc, tx, hash, at, proposed, cells, blocks) {
         Ok(ok) => ok,
         Err(stop) => return Err(stopped(stop)),
     };
@@ -121,7 +121,6 @@ pub(crate) fn judge_transaction<C: Cells, B: Blocks>(
         }
     };
     Ok(PassedTransaction {
-        hash: ok.resolved.hash,
         fee: ok.fee,
         interest: ok.interest,
         freed: freed_with(tx, &ok.resolved.inputs),

@@ -33,7 +33,7 @@ use crate::headers::header_places;
 use crate::inputs::{are_inputs_distinct, live_inputs};
 use crate::outputs::makes_good_cells;
 use crate::withdrawals::names_deposits;
-use cell_model::{CellMeta, Cells, OutPoint, Resolved, ResolvedTx, tx_hash};
+use cell_model::{CellMeta, Cells, OutPoint, Resolved, ResolvedTx};
 use chain_tree::Blocks;
 use mol_schema::TxView;
 use outside::{Damage, NoMemory, ReadStop};
@@ -73,11 +73,10 @@ impl fmt::Display for TxStop {
 
 impl Error for TxStop {}
 
-/// What is found of a transaction that keeps J18 to J25: its hash, the rows of the cells of its inputs and of
-/// its resolved deps, and the places of its header deps.
+/// What is found of a transaction that keeps J18 to J25: the rows of the cells of its inputs and of its resolved deps, and
+/// the places of its header deps.
 #[derive(Drop)]
 struct Finding {
-    hash: [u8; 32],
     spent: Vec<(OutPoint, CellMeta)>,
     named: Vec<(OutPoint, CellMeta)>,
     places: Vec<u32>,
@@ -228,15 +227,17 @@ fn paid_by(
     }
 }
 
-/// J18 to J25, which take no copy of a cell.
+/// J18 to J25, which take no copy of a cell. The transaction comes with its hash.
 fn find<C: Cells, B: Blocks>(
     alloc: Global,
     tx: &TxView<'_>,
+    hash: [u8; 32],
     at: &TxAt<'_>,
     proposed: bool,
     cells: &C,
     blocks: &mut B,
 ) -> Result<Finding, TxStop>
+    requires hash { hash ≡ transaction_hash tx.now }
     requires placed { IsPlaced at.now }
     requires counts { B.count blocks.old ≡ length at.now.entries }
     ensures read { HasRead B.told B.count B.loans_of B.faults B.damages blocks.old blocks.new (read_stop_of result) }
@@ -247,7 +248,6 @@ fn find<C: Cells, B: Blocks>(
     ensures found { (stored : List Stored) (site : Site) → B.told blocks.old ≡ Some stored → IsSiteOf stored at.now (C.rows cells.now) site
         → IfOk result (λ it. AreFound (blocks_of stored) at.now.parent site tx.now it.spent.items it.named.items it.places.items) }
     ensures form { IfOk result (λ _. IsTrue (defs.has_form tx.now)) }
-    ensures hash { IfOk result (λ it. it.hash ≡ transaction_hash tx.now) }
     ensures spent { IfOk result (λ it. input_rows (C.rows cells.now) tx.now ≡ Some it.spent.items) }
     ensures headers { IfOk result (λ it. AllZip (λ hash place. place_of_hash at.now.entries hash ≡ Some place) tx.now.raw.header_deps it.places.items) }
 {
@@ -259,10 +259,8 @@ fn find<C: Cells, B: Blocks>(
         Ok(named) => named,
         Err(stop) => return Err(stop),
     };
-    let hash = tx_hash(tx);
     match try_cells(tx, hash, at, cells, &spent, &named) {
         Ok(()) => Ok(Finding {
-            hash,
             spent,
             named,
             places,
@@ -319,16 +317,18 @@ fn copy_cells<B: Blocks>(
     }
 }
 
-/// Tries the rules on one transaction, in their order. It is told whether the transaction's id is proposed (J19): that it
-/// is, where nothing is asked of a proposal.
+/// Tries the rules on one transaction, which comes with its hash, in their order. It is told whether the transaction's id is
+/// proposed (J19): that it is, where nothing is asked of a proposal.
 pub fn resolve<'a, C: Cells, B: Blocks>(
     alloc: Global,
     tx: &TxView<'a>,
+    hash: [u8; 32],
     at: &TxAt<'_>,
     proposed: bool,
     cells: &C,
     blocks: &mut B,
 ) -> Result<TxOk<'a>, TxStop>
+    requires hash { hash ≡ transaction_hash tx.now }
     requires placed { IsPlaced at.now }
     requires counts { B.count blocks.old ≡ length at.now.entries }
     ensures read { HasRead B.told B.count B.loans_of B.faults B.damages blocks.old blocks.new (read_stop_of result) }
@@ -354,7 +354,7 @@ pub fn resolve<'a, C: Cells, B: Blocks>(
     ensures undamaged { (stored : List Stored) (site : Site) → B.told blocks.old ≡ Some stored → IsSiteOf stored at.now (C.rows cells.now) site
         → (damage : Damage) → result ≡ Err (TxStop.Read (Damaged damage)) → ⊥ }
 {
-    let found = match find(alloc, tx, at, proposed, cells, blocks) {
+    let found = match find(alloc, tx, hash, at, proposed, cells, blocks) {
         Ok(found) => found,
         Err(stop) => return Err(stop),
     };
@@ -364,7 +364,7 @@ pub fn resolve<'a, C: Cells, B: Blocks>(
     };
     let resolved = ResolvedTx {
         tx: TxView::from_encoding(tx.bytes()),
-        hash: found.hash,
+        hash,
         inputs: copied.inputs,
         deps: copied.deps,
         headers: found.places,

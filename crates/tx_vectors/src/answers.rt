@@ -73,7 +73,8 @@ fn answer(
     if !is_placed(at) || blocks.len() != at.tree.len() {
         return None;
     }
-    text_of(alloc, &resolve(alloc, tx, at, true, state, blocks))
+    let resolved = resolve(alloc, tx, tx_hash(tx), at, true, state, blocks);
+    text_of(alloc, &resolved)
 }
 
 /// What a transaction is answered alone, after the last block.

@@ -2,7 +2,6 @@ use Rattle.std.proofs.Common.{◌≡◌, ◌+◌, ◌^◌, ◌≤◌, List, leng
 use Rattle.chain_defs.specs.Branch.{branch}
 use Rattle.chain_tree.specs.Told.{Stored, blocks_of}
 use Rattle.chain_tree.specs.Reading.{HasRead}
-use Rattle.block_judge.specs.Changes.{with_changes}
 use Rattle.block_judge.specs.Progress.{CanMove}
 use Rattle.block_judge.specs.Standing.{Stands}
 use Rattle.block_judge.proofs.SiteLemmas.{AreRowsAfter}
@@ -19,8 +18,7 @@ invariant-later g l = record {
   moves : CanMove l.place l.progress.interest l.progress.freed;
   within : l.place ≤ length l.block.transactions;
   fees : length l.progress.ext.fees + 1 ≡ l.place;
-  rows : AreRowsAfter (length l.context.tree.now.entries) l.block l.place (g.C.Cells.rows l.context.cells.now)
-      (with_changes l.progress.cells.changed (g.C.Cells.rows l.progress.cells.base.now));
+  rows : AreRowsAfter (length l.context.tree.now.entries) l.block l.place (g.C.Cells.rows l.context.cells.now) l.progress.cells;
   judged : (stored : List Stored) → g.B.Blocks.told l.fn.blocks ≡ Some stored → Stands stored l.context.tree.now.entries l.context.parent (g.C.Cells.rows l.context.cells.now)
       → IsJudgedTo l.context.spec.now (blocks_of stored) l.context.parent l.block l.place l.progress.left l.progress.ext;
   moved : (stored : List Stored) → g.B.Blocks.told l.fn.blocks ≡ Some stored → Stands stored l.context.tree.now.entries l.context.parent (g.C.Cells.rows l.context.cells.now)

@@ -20,7 +20,6 @@ use Rattle.block_judge.proofs.transactions.judge_transaction.Goals as goal
 pub returns-in-Err : goal.returns-in-Err
 returns-in-Err g c = record {
   read = read_as (resolving-stop c.in-Err.stop c.stopped.result c.stopped.ensures) c.in-Err.ensures.read;
-  hash = tt;
   within = tt;
   interest_fits = tt;
   freed_fits = tt;
@@ -49,7 +48,6 @@ returns-in-Err g c = record {
 pub returns-in-Err-run_scripts : goal.returns-in-Err-run_scripts
 returns-in-Err-run_scripts g c = record {
   read = read_on c.in-Ok.ensures.read c.in-Err-run_scripts.ensures.read;
-  hash = tt;
   within = tt;
   interest_fits = tt;
   freed_fits = tt;
@@ -82,7 +80,6 @@ returns-in-Err-run_scripts g c = record {
 pub returns : goal.returns
 returns g c = record {
   read = read_on c.in-Ok.ensures.read c.in-Ok-run_scripts.ensures.read;
-  hash = ap (λ (ok : TxOk). ok.resolved.hash) c.ok.view_is ∙ c.in-Ok.ensures.formed.hash;
   within = c.in-Ok-run_scripts.ensures.within;
   interest_fits =
       subst (λ (z : ℤ). nat_abs z < 2 ^ 96)

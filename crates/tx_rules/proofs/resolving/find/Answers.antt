@@ -27,7 +27,6 @@ returns-in-Err g c = record {
       (c.in-Err.ensures.tells stored c.args.at.now site is);
   found = λ stored site told is. tt;
   form = tt;
-  hash = tt;
   spent = tt;
   headers = tt;
 }
@@ -43,7 +42,6 @@ returns-in-Err-named_rows g c = record {
       (stops-front (naming_rules site c.args.tx.now) (using_rules site c.args.tx.now) c.in-Err-named_rows.stop (c.in-Err-named_rows.ensures.tells stored site told is));
   found = λ stored site told is. tt;
   form = tt;
-  hash = tt;
   spent = tt;
   headers = tt;
 }
@@ -65,7 +63,6 @@ returns-in-Err-try_cells g c = record {
       (c.in-Err-try_cells.ensures.tells stored site is spent named));
   found = λ stored site told is. tt;
   form = tt;
-  hash = tt;
   spent = tt;
   headers = tt;
 }
@@ -89,7 +86,6 @@ returns-in-Ok-try_cells g c = record {
     places_are = c.in-Ok-named_rows.ensures.places stored site told is;
   };
   form = c.in-Ok.ensures.form;
-  hash = c.tx_hash-hash.ensures;
   spent = c.in-Ok.ensures.rows;
   headers = c.in-Ok-named_rows.ensures.headers;
 }

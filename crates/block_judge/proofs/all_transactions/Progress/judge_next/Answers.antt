@@ -8,7 +8,7 @@ use Rattle.block_judge.proofs.NextLemmas.{by-proposed, spent-next}
 use Rattle.block_judge.proofs.all_transactions.Progress.judge_next.Goals as goal
 
 pub take-requires-clause-moves : goal.take-requires-clause-moves
-take-requires-clause-moves g c = can-move-one c.in-Ok.taken.interest c.in-Ok.taken.freed c.in-Ok.ensures.interest_fits c.in-Ok.ensures.freed_fits
+take-requires-clause-moves g c = can-move-one c.in-Ok.passed.interest c.in-Ok.passed.freed c.in-Ok.ensures.interest_fits c.in-Ok.ensures.freed_fits
 
 pub returns-in-Err : goal.returns-in-Err
 returns-in-Err g c = record {
