@@ -149,7 +149,7 @@ fn occupied_output(output: &OutputView<'_>, content: &[u8]) -> u64
 }
 
 /// What the cells occupy that a transaction makes, in shannons. It has below 2^30 of them.
-pub fn made_by(tx: &TxView<'_>) -> u128
+fn made_by(tx: &TxView<'_>) -> u128
     ensures made { result ≡ field.made_by tx.now }
     ensures fits { result < 2 ^ 94 }
 {
@@ -161,8 +161,8 @@ pub fn made_by(tx: &TxView<'_>) -> u128
     made
 }
 
-/// What the cells occupy that a block makes, those of its cellbase too.
-fn made_in(block: &BlockView<'_>) -> u128
+/// What the cells occupy that a block makes, those of its cellbase too, in shannons.
+pub fn made_in(block: &BlockView<'_>) -> u128
     ensures { result ≡ sum_by field.made_by block.now.transactions }
 {
     let mut made: u128 = 0;

@@ -28,7 +28,7 @@ pub use at_sight::judge_at_sight;
 pub use block_cells::BlockCells;
 pub use cellbase::is_cellbase;
 pub use context::{Context, NoCells};
-pub use ending::{lock_of, made_by};
+pub use ending::{lock_of, made_in};
 pub use judging::{dry_run, judge};
 pub use stop::JudgeStop;
 pub use transactions::PassedTransaction;
