@@ -4,7 +4,8 @@
 //! live cell, exactly by `broken_at_sight` of `block_defs`. Of a block that breaks none of them, [`judge`], over a source of
 //! kept blocks with their fees, answers the first of all rules that it breaks, exactly by `first_broken`, or its ext. The
 //! cells that the block makes and spends stand beside those of the branch, which it neither copies nor changes. [`dry_run`]
-//! judges a transaction after the parent and answers its fee and its cycles. That an item is a block, new, and on a kept
+//! judges a transaction after the parent and answers its fee and its cycles; [`judge_appended`] judges one as the next of a
+//! block that is put together, over the [`BlockCells`] that those before it leave. That an item is a block, new, and on a kept
 //! parent (J1 to J3), and what becomes of it, is left to the layer above.
 #![tactic(auto)]
 

@@ -1,7 +1,7 @@
 //! What a transaction is answered, alone after the last block or in the next one.
 
 use crate::kept::{Chain, is_placed};
-use cell_model::{ListBlocks, Resolved};
+use cell_model::{ListBlocks, Resolved, tx_hash};
 use cell_state::State;
 use mol_schema::{BlockView, TxView};
 use outside::Steps;
@@ -89,7 +89,36 @@ pub(crate) fn alone(alloc: Global, chain: &mut Chain, bytes: &[u8]) -> Option<St
     answer(alloc, &tx, &at, &chain.state, &mut chain.blocks)
 }
 
-/// What the transaction at a place of the next block is answered, over the live cells before it.
+/// The transactions of a block before a place.
+fn so_far<'a>(alloc: Global, block: &BlockView<'a>, place: usize) -> Option<Vec<TxView<'a>>> {
+    let mut transactions = Vec::new(alloc);
+    for i in 0..block.transactions_count() {
+        if i < place {
+            transactions.push(block.transactions_item(i)).ok()?;
+        }
+    }
+    Some(transactions)
+}
+
+/// What a transaction is answered in the next block, of which these are at hand.
+fn answer_in(
+    alloc: Global,
+    chain: &mut Chain,
+    state: &State,
+    own: Own<'_>,
+    tx: &TxView<'_>,
+) -> Option<String> {
+    let at = TxAt {
+        spec: &chain.spec,
+        tree: &chain.tree,
+        parent: chain.tree.len() - 1,
+        block: Some(own),
+    };
+    answer(alloc, tx, &at, state, &mut chain.blocks)
+}
+
+/// What the transaction at a place of the next block is answered, over the live cells before it: the same in the whole block
+/// and where those before it stand apart, or None.
 fn answer_at(
     alloc: Global,
     chain: &mut Chain,
@@ -102,13 +131,13 @@ fn answer_at(
         return None;
     }
     let tx = block.transactions_item(place);
-    let at = TxAt {
-        spec: &chain.spec,
-        tree: &chain.tree,
-        parent: chain.tree.len() - 1,
-        block: Some(Own::of_block(block)),
-    };
-    answer(alloc, &tx, &at, state, &mut chain.blocks)
+    let first = so_far(alloc, &block, place)?;
+    let apart = answer_in(alloc, chain, state, Own::so_far(&first), &tx)?;
+    let whole = answer_in(alloc, chain, state, Own::of_block(block), &tx)?;
+    if apart.as_str() != whole.as_str() {
+        return None;
+    }
+    Some(whole)
 }
 
 /// What the transaction of the next block after those of its front is answered.
