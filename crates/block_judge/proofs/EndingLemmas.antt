@@ -101,7 +101,7 @@ movement-same spec on b primary secondary interest made freed first second all m
     rw (first, second, all, interest_is, freed_is) refl
 
 -- the field before a block is that of its parent's entry
-field-before : (kept : List Block) (entries : List Entry) (parent : ℕ) (entry : Entry) → IndexesBlocks kept entries → entry_at entries parent ≡ Some entry
+pub field-before : (kept : List Block) (entries : List Entry) (parent : ℕ) (entry : Entry) → IndexesBlocks kept entries → entry_at entries parent ≡ Some entry
     → field_at (branch kept parent) (length (branch kept parent) - 1) ≡ field_of_bytes entry.dao
 field-before kept entries parent entry indexes there =
     let here : DescribedAt kept parent entry = described kept entries parent entry indexes.each there in
