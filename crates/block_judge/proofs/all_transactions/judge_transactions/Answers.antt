@@ -7,6 +7,7 @@ use Rattle.chain_tree.specs.Told.{Stored, blocks_of}
 use Rattle.tx_defs.specs.Site.{Site, site_at}
 use Rattle.tx_rules.specs.At.{AtValue}
 use Rattle.rule_names.specs.Number.{rule_number}
+use Rattle.block_judge.specs.BlockCells.{rows_in}
 use Rattle.block_judge.specs.Standing.{Stands}
 use Rattle.block_judge.proofs.MovedLemmas.{can-move-none, moved-none, moved-more, moved-all}
 use Rattle.chain_tree.proofs.ReadLemmas.{unread, read_on, read_short}
@@ -91,13 +92,13 @@ later-preserved g c = record {
   moves = c.in-Ok-judge_next.ensures.moved;
   fees = omega (arith, c.in-Ok-judge_next.ensures.fees, c.later.invariant.fees);
   rows = rows-after_more _ c.args.block.now c.later.place c.transactions_item-tx.result (g.C.Cells.rows c.args.context.now.cells.now)
-      c.later.progress.cells _
+      (rows_in g.C.Cells.rows c.later.progress.cells) _
       c.later.invariant.rows c.transactions_item-tx.ensures (λ height o above. c.in-Ok-judge_next.ensures.rows height o above);
   judged = λ stored tells stands.
       let at : AtValue = record { spec = c.args.context.now.spec.now; entries = c.args.context.now.tree.now.entries; parent = c.args.context.now.parent; block = Some c.from_encoding.result } in
       let site : Site = site_at c.args.context.now.spec.now (branch (blocks_of stored) c.args.context.now.parent) c.args.block.now c.later.place in
       let is = site-in_block stored at c.args.block.now c.later.place (g.C.Cells.rows c.args.context.now.cells.now)
-      c.later.progress.cells
+      (rows_in g.C.Cells.rows c.later.progress.cells)
       (ap Some (c.from_encoding.ensures c.args.block.now c.bytes.ensures)) c.requires.parent stands c.later.invariant.rows in
       let proposed = proposed-here c.args.context.now.spec.now (branch (blocks_of stored) c.args.context.now.parent) c.in-Ok.proposed c.height.result
       (c.in-Ok.ensures.proposed stored tells stands.indexed) (c.height.ensures.height stored _ site is) in
@@ -111,7 +112,7 @@ later-preserved g c = record {
       let at : AtValue = record { spec = c.args.context.now.spec.now; entries = c.args.context.now.tree.now.entries; parent = c.args.context.now.parent; block = Some c.from_encoding.result } in
       let site : Site = site_at c.args.context.now.spec.now (branch (blocks_of stored) c.args.context.now.parent) c.args.block.now c.later.place in
       let is = site-in_block stored at c.args.block.now c.later.place (g.C.Cells.rows c.args.context.now.cells.now)
-      c.later.progress.cells
+      (rows_in g.C.Cells.rows c.later.progress.cells)
       (ap Some (c.from_encoding.ensures c.args.block.now c.bytes.ensures)) c.requires.parent stands c.later.invariant.rows in
       moved-more c.args.context.now.spec.now (branch (blocks_of stored) c.args.context.now.parent) c.args.block.now c.later.place c.transactions_item-tx.result
       c.later.progress.interest c.judge_next.new.self.interest c.later.progress.freed c.judge_next.new.self.freed (c.later.invariant.moved stored tells stands)
@@ -128,7 +129,7 @@ returns-in-Err-judge_next g c =
       broken = λ stored tells stands rule same.
           let site : Site = site_at c.args.context.now.spec.now (branch (blocks_of stored) c.args.context.now.parent) c.args.block.now c.later.place in
           let is = site-in_block stored at c.args.block.now c.later.place (g.C.Cells.rows c.args.context.now.cells.now)
-          c.later.progress.cells
+          (rows_in g.C.Cells.rows c.later.progress.cells)
           (ap Some (c.from_encoding.ensures c.args.block.now c.bytes.ensures)) c.requires.parent stands c.later.invariant.rows in
           let proposed = proposed-here c.args.context.now.spec.now (branch (blocks_of stored) c.args.context.now.parent) c.in-Ok.proposed c.height.result
           (c.in-Ok.ensures.proposed stored tells stands.indexed) (c.height.ensures.height stored _ site is) in
@@ -142,7 +143,7 @@ returns-in-Err-judge_next g c =
       undamaged = λ stored tells stands damage same.
           let site : Site = site_at c.args.context.now.spec.now (branch (blocks_of stored) c.args.context.now.parent) c.args.block.now c.later.place in
           let is = site-in_block stored at c.args.block.now c.later.place (g.C.Cells.rows c.args.context.now.cells.now)
-          c.later.progress.cells
+          (rows_in g.C.Cells.rows c.later.progress.cells)
           (ap Some (c.from_encoding.ensures c.args.block.now c.bytes.ensures)) c.requires.parent stands c.later.invariant.rows in
           c.in-Err-judge_next.ensures.undamaged stored site (c.later.invariant.read.told ∙ tells) is damage (as_step same);
     }
