@@ -348,7 +348,7 @@ def the_greatest_timestamp():
 def times_that_differ():
     """The timestamp goes by the median, and not by the tip's own."""
     chain = Chain(timestamp=50)
-    for time in (90, 51, 200, 60, 61):
+    for time in (90, 300, 91, 200, 95):
         chain.imports(timed(chain, time))
     chain.assembles(wanted='block')
     return chain
