@@ -60,7 +60,7 @@ done_no_stop status one = each_of (λ s. IsEarly s → ⊥) (Done ∷ SomeRefuse
 pub question_stopped : (question : Question) (chain : Chain) (left : Option (List ℕ)) (given : List ℕ) (status : Status) → IsStop status
     → ReadsNoFurther (question_limits question) given → AnswersQuestion question chain given left [] status
 question_stopped question chain left given status stop no_further =
-    let says = whole_stopped (question_items question) (answer_to_question question chain) (Done ∷ SomeRefused ∷ []) (tt, (tt, tt)) left given status stop no_further in
+    let says = whole_stopped (question_items question) 1 (answer_to_question question chain) (Done ∷ SomeRefused ∷ []) (tt, (tt, tt)) left given status stop no_further in
     record {
       text = says.0;
       order = says.1;
@@ -69,9 +69,9 @@ question_stopped question chain left given status stop no_further =
 
 -- the input ends early
 pub question_early : (question : Question) (chain : Chain) (left : Option (List ℕ)) (given taken : List ℕ) (end : End) (offset : ℕ) (status : Status)
-    → EndsEarly (question_items question) left end offset given → IsSaid (report_of_end offset end) status taken → AnswersQuestion question chain given left taken status
+    → EndsEarly (question_items question) 1 left end offset given → IsSaid (report_of_end offset end) status taken → AnswersQuestion question chain given left taken status
 question_early question chain left given taken end offset status here said =
-    let says = whole_early (question_items question) (answer_to_question question chain) (Done ∷ SomeRefused ∷ []) (tt, (tt, tt)) left given taken end offset status here said in
+    let says = whole_early (question_items question) 1 (answer_to_question question chain) (Done ∷ SomeRefused ∷ []) (tt, (tt, tt)) left given taken end offset status here said in
     record {
       text = says.0;
       order = says.1;
@@ -80,18 +80,18 @@ question_early question chain left given taken end offset status here said =
 
 -- its items were judged
 pub question_judged : (question : Question) (chain : Chain) (left : Option (List ℕ)) (items : List (List ℕ)) (given taken text : List ℕ) (status result : Status)
-    → IsWhole (question_items question) left items given → IsAnswerTo question chain items text status → IsOneOf (Done ∷ SomeRefused ∷ []) status
+    → IsWhole (question_items question) 1 left items given → IsAnswerTo question chain items text status → IsOneOf (Done ∷ SomeRefused ∷ []) status
     → IsWrittenAnswer text status result taken → AnswersQuestion question chain given left taken result
 question_judged question chain left items given taken text status result whole answer one told =
     let report = answer_to_question question chain items in
     let said : IsSaid report result taken = told_said report text status result taken answer.text_is answer.status_is told in
     let never : IsEarly report.status → ⊥ = λ early. done_no_stop status one (subst IsEarly (sym answer.status_is) early) in
-    let says = whole_judged (question_items question) (answer_to_question question chain) (Done ∷ SomeRefused ∷ []) (tt, (tt, tt)) left items given taken result whole said never in
+    let says = whole_judged (question_items question) 1 (answer_to_question question chain) (Done ∷ SomeRefused ∷ []) (tt, (tt, tt)) left items given taken result whole said never in
     record {
       text = says.0;
       order = says.1;
       answers = λ done. all_said report result taken said (done_judged result done)
-          ∙ sym (ap (λ (r : Report). text_of r) (report_of_all (question_items question) (answer_to_question question chain) left items given whole));
+          ∙ sym (ap (λ (r : Report). text_of r) (report_of_all (question_items question) 1 (answer_to_question question chain) left items given whole));
     }
 
 -- ---- What is delivered of a store
