@@ -1,0 +1,5 @@
+pub mod StepLemmas
+pub mod RulesLemmas
+pub mod ItemLemmas
+pub mod AssemblyLaws
+pub mod JoiningLaws

@@ -1,0 +1,3 @@
+pub mod Start
+pub mod Assembly
+pub mod Laws

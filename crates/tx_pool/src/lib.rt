@@ -1,0 +1,6 @@
+//! A stub of the assembling.
+#![tactic(auto)]
+
+mod assembling;
+
+pub use assembling::{Assembled, assemble};
