@@ -68,9 +68,18 @@ fn whole_at(items: Vec<Vec<u8>>, offset: u64, end: End) -> Whole
 {
     match end {
         End::AtEnd => Whole::Items(items),
-        End::Cut => Whole::Early { end: End::Cut, offset },
-        End::BadSize => Whole::Early { end: End::BadSize, offset },
-        End::Extra => Whole::Early { end: End::Extra, offset },
+        End::Cut => Whole::Early {
+            end: End::Cut,
+            offset,
+        },
+        End::BadSize => Whole::Early {
+            end: End::BadSize,
+            offset,
+        },
+        End::Extra => Whole::Early {
+            end: End::Extra,
+            offset,
+        },
     }
 }
 

@@ -1,4 +1,4 @@
-use Rattle.std.proofs.Common.{◌∷◌, [], refl, ap, ◌∙◌, sym, subst, length, map}
+use Rattle.std.proofs.Common.{◌∷◌, [], refl, ap, ◌∙◌, sym, subst, length, map, arith}
 use Rattle.std.specs.Prelude.{Ok, Err, string_bytes}
 use Rattle.std.proofs.lemmas.List.{length-map}
 use Rattle.outside.proofs.Endings.{no_fault, counts-as, no_answer}
@@ -76,13 +76,21 @@ returns-in-Err-clause-out_faults g c = no_fault _ _ refl (λ e. subst IsReadingS
 
 -- ---- The items were read
 
+pub answer_to-requires-clause-some : goal.answer_to-requires-clause-some
+answer_to-requires-clause-some g c =
+    let read = c.in-Ok-Items.ensures.read in
+    let left = g.S.Source.left c.read_items.new.input in
+    let whole : IsWhole (question_items c.args.question) 1 left (map (λ item. item.items) c.in-Ok-Items.items.items) read.0 =
+    subst (λ (w : Whole). IsReadWhole (question_items c.args.question) 1 left (Ok w) read.0) c.in-Ok-Items.field-0-is read.2 in
+    omega (arith, whole.count, ap length c.deref.ensures.value, length-map c.in-Ok-Items.items.items (λ item. item.items))
+
 pub answer_to-requires-clause-items : goal.answer_to-requires-clause-items
 answer_to-requires-clause-items g c =
     let read = c.in-Ok-Items.ensures.read in
     let left = g.S.Source.left c.read_items.new.input in
     let whole : IsWhole (question_items c.args.question) 1 left (map (λ item. item.items) c.in-Ok-Items.items.items) read.0 =
     subst (λ (w : Whole). IsReadWhole (question_items c.args.question) 1 left (Ok w) read.0) c.in-Ok-Items.field-0-is read.2 in
-    ap length c.deref.ensures.value ∙ sym (length-map c.in-Ok-Items.items.items (λ item. item.items)) ∙ whole.count
+    rw (c.deref.ensures.value) whole.all
 
 -- no answer was found
 pub returns-clause-answered : goal.returns-clause-answered
